@@ -1,68 +1,73 @@
 //! The steps on the global epoch and the announcements.
 #![tactic(auto, unfolding(nm_model::specs::Step::refusal, nm_model::specs::Step::reply, nm_model::specs::Step::write, nm_model::specs::Learning::learn, nm_model::specs::Runs::applied))]
 
-ghost use Rattle.std.specs.Prelude.{◌≡◌, ◌≢◌, ◌<◌, length, None, OnOk, OnErr, IfErr};
+ghost use Rattle.std.specs.Prelude.{◌<◌, length};
 ghost use Rattle.nm_model.specs.declared.event.Event.TheVariants as event;
-ghost use Rattle.nm_model.specs.Runs.{refusal_of, reply_of, applied};
-ghost use Rattle.nm_model.specs.Answers.{IsAnswer, IsRefusedAs, IsShaped};
+ghost use Rattle.nm_model.specs.Runs.{refusal_of};
+ghost use Rattle.nm_model.specs.Answers.{IsShaped};
+ghost use Rattle.nm_machine.specs.Admission.{Admits, IsAdmitted, Applies, AppliesOrKeeps};
 
 use crate::machine::Machine;
 use nm_edge::{Key, LAST_NUMBER};
 use nm_model::event::Op;
 use nm_model::reply::{Refused, Reply};
+use std::alloc::AllocError;
 
 impl Machine {
-    pub fn sight(&mut self, worker: usize) -> Result<Reply, Refused>
+    pub(crate) fn sight(&mut self, worker: usize) -> Result<Reply, AllocError>
         requires { worker < length self.old.workers }
-        ensures outcome { IsAnswer (refusal_of self.old worker event.Sight)
-            (reply_of self.old worker event.Sight) result }
-        ensures ok { OnOk result (self.new ≡ applied self.old worker event.Sight) }
-        ensures err { OnErr result (self.new ≡ self.old) }
+        ensures { AppliesOrKeeps self.old self.new worker event.Sight result }
     {
         let epoch = self.epoch;
-        let worker = &mut self.workers[worker];
-        let reply = worker.sight(epoch)?;
-        Ok(reply)
+        self.workers[worker].sight(epoch)
     }
 
-    /// As a sight, where it can confirm a pin.
-    pub fn sight_for(&mut self, worker: usize, op: Op, key: Key) -> Result<Reply, Refused>
-        requires { worker < length self.old.workers }
-        ensures outcome { IsAnswer (refusal_of self.old worker (event.SightFor op key))
-            (reply_of self.old worker (event.SightFor op key)) result }
-        ensures ok { OnOk result (self.new ≡ applied self.old worker (event.SightFor op key)) }
-        ensures err { OnErr result (self.new ≡ self.old) }
+    /// Whether a sight can confirm a pin.
+    pub(crate) fn may_sight_for(&self, worker: usize, op: Op, key: Key) -> Result<(), Refused>
+        requires { worker < length self.now.workers }
+        ensures { Admits (refusal_of self.now worker (event.SightFor op key)) result }
     {
         let brief = self.workers[worker].brief();
         if brief.note.is_none() || brief.pin.is_some() {
             return Err(Refused::NotReady);
         }
+        Ok(())
+    }
+
+    /// As a sight.
+    pub(crate) fn sight_for(&mut self, worker: usize, op: Op, key: Key) -> Result<Reply, AllocError>
+        requires { worker < length self.old.workers }
+        ensures { AppliesOrKeeps self.old self.new worker (event.SightFor op key) result }
+    {
         self.sight(worker)
     }
 
-    pub fn announce(&mut self, worker: usize) -> Result<Reply, Refused>
-        requires shaped { IsShaped self.old }
-        requires is_there { worker < length self.old.workers }
-        ensures outcome { IsAnswer (refusal_of self.old worker event.Announce)
-            (reply_of self.old worker event.Announce) result }
-        ensures ok { OnOk result (self.new ≡ applied self.old worker event.Announce) }
-        ensures err { OnErr result (self.new ≡ self.old) }
+    /// Whether there is an epoch to announce.
+    pub(crate) fn may_announce(&self, worker: usize) -> Result<(), Refused>
+        requires { worker < length self.now.workers }
+        ensures { Admits (refusal_of self.now worker event.Announce) result }
     {
         let brief = self.workers[worker].brief();
-        let (Some(epoch), None) = (brief.seen, brief.pin) else {
+        if brief.seen.is_none() || brief.pin.is_some() {
             return Err(Refused::NotReady);
-        };
+        }
+        Ok(())
+    }
+
+    pub(crate) fn announce(&mut self, worker: usize) -> Reply
+        requires { IsAdmitted self.old worker event.Announce }
+        ensures { Applies self.old self.new worker event.Announce result }
+    {
+        let epoch = self.workers[worker].brief().seen.unwrap_or(0);
         self.notes[worker] = Some(epoch);
         self.workers[worker].announce(epoch);
-        Ok(Reply::Announced(epoch))
+        Reply::Announced(epoch)
     }
 
     /// Whether the announcement may be cleared.
-    pub fn may_leave(&self, worker: usize) -> Result<(), Refused>
+    pub(crate) fn may_leave(&self, worker: usize) -> Result<(), Refused>
         requires { worker < length self.now.workers }
-        ensures allowed { OnOk result (refusal_of self.now worker event.Leave ≡ None) }
-        ensures refused { IfErr result (IsRefusedAs (refusal_of self.now worker event.Leave)) }
-        ensures not_memory { IfErr result (λ why. why ≢ Refused.NoMemory) }
+        ensures { Admits (refusal_of self.now worker event.Leave) result }
     {
         if self.workers[worker].brief().unlabelled {
             return Err(Refused::NotReady);
@@ -70,39 +75,29 @@ impl Machine {
         Ok(())
     }
 
-    pub fn leave(&mut self, worker: usize) -> Result<Reply, Refused>
+    pub(crate) fn leave(&mut self, worker: usize) -> Reply
         requires shaped { IsShaped self.old }
         requires is_there { worker < length self.old.workers }
-        ensures outcome { IsAnswer (refusal_of self.old worker event.Leave)
-            (reply_of self.old worker event.Leave) result }
-        ensures ok { OnOk result (self.new ≡ applied self.old worker event.Leave) }
-        ensures err { OnErr result (self.new ≡ self.old) }
+        ensures { Applies self.old self.new worker event.Leave result }
     {
-        self.may_leave(worker)?;
         self.notes[worker] = None;
         self.workers[worker].leave();
-        Ok(Reply::Departed)
+        Reply::Departed
     }
 
     /// As a leave.
-    pub fn leave_with(&mut self, worker: usize, answer: bool) -> Result<Reply, Refused>
+    pub(crate) fn leave_with(&mut self, worker: usize, answer: bool) -> Reply
         requires shaped { IsShaped self.old }
         requires is_there { worker < length self.old.workers }
-        ensures outcome { IsAnswer (refusal_of self.old worker (event.LeaveWith answer))
-            (reply_of self.old worker (event.LeaveWith answer)) result }
-        ensures ok { OnOk result (self.new ≡ applied self.old worker (event.LeaveWith answer)) }
-        ensures err { OnErr result (self.new ≡ self.old) }
+        ensures { Applies self.old self.new worker (event.LeaveWith answer) result }
     {
         self.leave(worker)
     }
 
-    pub fn scan(&mut self, worker: usize, other: u32) -> Result<Reply, Refused>
-        requires shaped { IsShaped self.old }
-        requires is_there { worker < length self.old.workers }
-        ensures outcome { IsAnswer (refusal_of self.old worker (event.Scan other))
-            (reply_of self.old worker (event.Scan other)) result }
-        ensures ok { OnOk result (self.new ≡ applied self.old worker (event.Scan other)) }
-        ensures err { OnErr result (self.new ≡ self.old) }
+    /// Whether the announcement of another worker may be read.
+    pub(crate) fn may_scan(&self, worker: usize, other: u32) -> Result<(), Refused>
+        requires { worker < length self.now.workers }
+        ensures { Admits (refusal_of self.now worker (event.Scan other)) result }
     {
         if other >= self.layout.workers() {
             return Err(Refused::NoWorker);
@@ -110,16 +105,21 @@ impl Machine {
         if self.workers[worker].brief().seen.is_none() {
             return Err(Refused::NotReady);
         }
-        let note = self.notes[other as usize];
-        Ok(self.workers[worker].scan(other as usize, note))
+        Ok(())
     }
 
-    pub fn advance(&mut self, worker: usize) -> Result<Reply, Refused>
-        requires { worker < length self.old.workers }
-        ensures outcome { IsAnswer (refusal_of self.old worker event.Advance)
-            (reply_of self.old worker event.Advance) result }
-        ensures ok { OnOk result (self.new ≡ applied self.old worker event.Advance) }
-        ensures err { OnErr result (self.new ≡ self.old) }
+    pub(crate) fn scan(&mut self, worker: usize, other: u32) -> Reply
+        requires { IsAdmitted self.old worker (event.Scan other) }
+        ensures { Applies self.old self.new worker (event.Scan other) result }
+    {
+        let note = self.notes[other as usize];
+        self.workers[worker].scan(other as usize, note)
+    }
+
+    /// Whether the worker has seen all others at its epoch, or idle.
+    pub(crate) fn may_advance(&self, worker: usize) -> Result<(), Refused>
+        requires { worker < length self.now.workers }
+        ensures { Admits (refusal_of self.now worker event.Advance) result }
     {
         let brief = self.workers[worker].brief();
         let seen = brief.seen.ok_or(Refused::NotReady)?;
@@ -132,12 +132,19 @@ impl Machine {
         if seen >= LAST_NUMBER {
             return Err(Refused::Spent);
         }
-        if seen != self.epoch {
+        Ok(())
+    }
+
+    pub(crate) fn advance(&mut self, worker: usize) -> Reply
+        requires { IsAdmitted self.old worker event.Advance }
+        ensures { Applies self.old self.new worker event.Advance result }
+    {
+        if self.workers[worker].brief().seen != Some(self.epoch) {
             self.workers[worker].moved(self.epoch);
-            return Ok(Reply::Behind(self.epoch));
+            return Reply::Behind(self.epoch);
         }
         self.epoch += 1;
         self.workers[worker].moved(self.epoch);
-        Ok(Reply::Moved(self.epoch))
+        Reply::Moved(self.epoch)
     }
 }

@@ -1,31 +1,30 @@
 //! A worker that resigns.
 #![tactic(auto, unfolding(nm_model::specs::Learning::learn, nm_model::specs::Step::write, nm_model::specs::Runs::applied))]
 
-ghost use Rattle.std.specs.Prelude.{◌≡◌, ◌≢◌, ◌<◌, length, OnOk, OnErr, IfErr};
+ghost use Rattle.std.specs.Prelude.{◌≡◌, ◌<◌};
 ghost use Rattle.nm_model.specs.declared.event.Event.TheVariants as event;
-ghost use Rattle.nm_model.specs.Runs.{join_refusal, is_no_worker, refusal_of, reply_of, applied};
-ghost use Rattle.nm_model.specs.Answers.{IsAnswer, IsRefusedAs, IsShaped};
+ghost use Rattle.nm_model.specs.Runs.{is_no_worker, refusal_of};
+ghost use Rattle.nm_model.specs.Answers.{IsShaped};
+ghost use Rattle.nm_machine.specs.Admission.{Admits, IsAdmitted, AppliesOrKeeps};
 
 use crate::machine::Machine;
 use nm_model::ledgers::Ledgers;
 use nm_model::reply::{Refused, Reply};
+use std::alloc::AllocError;
 
 impl Machine {
     /// Whether there is no such worker, or it has resigned.
-    pub fn is_no_worker(&self, worker: u32) -> bool
+    pub(crate) fn is_no_worker(&self, worker: u32) -> bool
         requires { IsShaped self.now }
         ensures { result ≡ is_no_worker self.now worker }
     {
         worker >= self.layout.workers() || self.workers[worker as usize].is_gone()
     }
 
-    // Whether a worker may pass its ledgers to this one.
-    fn may_join(&self, worker: u32, leaver: u32) -> Result<(), Refused>
+    /// Whether a worker may pass its ledgers to this one.
+    pub(crate) fn may_join(&self, worker: u32, leaver: u32) -> Result<(), Refused>
         requires { IsShaped self.now }
-        ensures allowed { OnOk result (join_refusal self.now worker leaver ≡ None) }
-        ensures refused { IfErr result (IsRefusedAs (join_refusal self.now worker leaver)) }
-        ensures is_there { OnOk result (leaver < self.now.layout.workers) }
-        ensures apart { OnOk result (leaver ≢ worker) }
+        ensures { Admits (refusal_of self.now worker (event.Join leaver)) result }
     {
         if leaver == worker || self.is_no_worker(leaver) {
             return Err(Refused::NoWorker);
@@ -37,15 +36,10 @@ impl Machine {
         Ok(())
     }
 
-    pub fn join(&mut self, worker: u32, leaver: u32) -> Result<Reply, Refused>
-        requires shaped { IsShaped self.old }
-        requires is_there { worker < length self.old.workers }
-        ensures outcome { IsAnswer (refusal_of self.old worker (event.Join leaver))
-            (reply_of self.old worker (event.Join leaver)) result }
-        ensures ok { OnOk result (self.new ≡ applied self.old worker (event.Join leaver)) }
-        ensures err { OnErr result (self.new ≡ self.old) }
+    pub(crate) fn join(&mut self, worker: u32, leaver: u32) -> Result<Reply, AllocError>
+        requires { IsAdmitted self.old worker (event.Join leaver) }
+        ensures { AppliesOrKeeps self.old self.new worker (event.Join leaver) result }
     {
-        self.may_join(worker, leaver)?;
         let heir = worker as usize;
         let leaver = leaver as usize;
         let told = self.workers[leaver].ledgers_in(self.alloc)?;

@@ -20,16 +20,6 @@ fn put_key(found: &mut Vec<Key>, key: Option<Key>) -> Result<(), AllocError>
 }
 
 impl Machine {
-    // The words of a node.
-    fn node(&self, slot: u32) -> Node
-        ensures { result ≡ node self.now.memory slot }
-    {
-        match self.nodes.get(slot as usize) {
-            Some(node) => *node,
-            None => Node::blank(),
-        }
-    }
-
     // The part below an edge of a slot.
     fn part_below(&self, slot: u32, side: Side, depth: u32) -> Subtree
         ensures { result ≡ record { slot = child self.now.memory slot side; depth = depth } }

@@ -1,11 +1,12 @@
 //! All words of the tree, and what each worker knows.
 ghost use Rattle.std.specs.Prelude.{◌≡◌, ◌<◌, length, IfOk, OnOk, OnErr};
-ghost use Rattle.nm_model.specs.Memory.{named, put_edge};
+ghost use Rattle.nm_model.specs.Memory.{node, edge, named, put_node, put_edge};
 ghost use Rattle.nm_model.specs.Step.{outside};
 ghost use Rattle.nm_model.specs.Runs.{start, refused, reply_of, applied};
 ghost use Rattle.std.specs.Option.{option_copied};
 ghost use Rattle.nm_model.specs.Reports.{holder, ledger_of};
 ghost use Rattle.nm_model.specs.Answers.{IsAnswer, IsShaped};
+ghost use Rattle.nm_machine.specs.Admission.{Admits, IsAdmitted, AppliesOrKeeps};
 
 use crate::worker::Worker;
 use nm_edge::{Edge, Layout, NodeId, Side};
@@ -99,30 +100,112 @@ impl Machine {
     }
 
     /// Whether a slot is not one of `least` to the number of nodes.
-    pub fn is_outside(&self, least: u32, slot: u32) -> bool
+    pub(crate) fn is_outside(&self, least: u32, slot: u32) -> bool
         ensures { result ≡ outside least self.now.layout.nodes slot }
     {
         slot < least || self.layout.nodes() < slot
     }
 
+    /// The words of a node.
+    pub(crate) fn node(&self, slot: u32) -> Node
+        ensures { result ≡ node self.now.memory slot }
+    {
+        match self.nodes.get(slot as usize) {
+            Some(node) => *node,
+            None => Node::blank(),
+        }
+    }
+
+    /// The edge of a slot on a side.
+    pub(crate) fn edge(&self, slot: u32, side: Side) -> Edge
+        ensures { result ≡ edge self.now.memory slot side }
+    {
+        self.node(slot).edge(side)
+    }
+
     /// A slot with the birth that it has now.
-    pub fn named(&self, slot: u32) -> NodeId
+    pub(crate) fn named(&self, slot: u32) -> NodeId
         ensures { result ≡ named self.now.memory slot }
     {
-        let birth = match self.nodes.get(slot as usize) {
-            Some(node) => node.birth,
-            None => 0,
-        };
+        let birth = self.node(slot).birth;
         NodeId { slot, birth }
     }
 
+    /// Stores the words of a node.
+    pub(crate) fn put_node(&mut self, slot: u32, node: Node)
+        requires { slot < length self.old.memory.nodes }
+        ensures { self.new ≡ record self.old { memory = put_node self.old.memory slot node } }
+    {
+        self.nodes[slot as usize] = node;
+    }
+
     /// Stores an edge.
-    pub fn put_edge(&mut self, slot: u32, side: Side, edge: Edge)
+    pub(crate) fn put_edge(&mut self, slot: u32, side: Side, edge: Edge)
         requires { slot < length self.old.memory.nodes }
         ensures { self.new ≡ record self.old { memory = put_edge self.old.memory slot side edge } }
     {
-        let slot = slot as usize;
-        self.nodes[slot] = self.nodes[slot].with_edge(side, edge);
+        let node = self.node(slot).with_edge(side, edge);
+        self.put_node(slot, node);
+    }
+
+    /// Whether a worker is there, and its event not refused.
+    #[tactic(auto, unfolding(nm_model::specs::Runs::refused))]
+    pub fn admit(&mut self, worker: u32, event: &Event) -> Result<(), Refused>
+        requires { IsShaped self.old }
+        ensures admits { Admits (refused self.old worker event.now) result }
+        ensures same { self.new ≡ self.old }
+    {
+        if self.is_no_worker(worker) {
+            return Err(Refused::NoWorker);
+        }
+        let number = worker as usize;
+        match *event {
+            Event::Sight => Ok(()),
+            Event::SightFor(op, key) => self.may_sight_for(number, op, key),
+            Event::Announce => self.may_announce(number),
+            Event::Leave | Event::LeaveWith(_) => self.may_leave(number),
+            Event::Scan(other) => self.may_scan(number, other),
+            Event::Advance => self.may_advance(number),
+            Event::Claim(slot) => self.may_claim(number, slot),
+            Event::Give(slot) => self.may_give(number, slot),
+            Event::Look(slot, field) => self.may_look(number, slot, field),
+            Event::Fill(slot, field, value) => self.may_fill(number, slot, field, value),
+            Event::Link(parent, side, leaf, new) => self.may_link(number, parent, side, leaf, new),
+            Event::Flag(parent, side, leaf) => self.may_flag(number, parent, side, leaf),
+            Event::Tag(parent, side) => self.may_tag(number, parent, side),
+            Event::Splice(ancestor, side, successor, parent, keep) => {
+                self.may_splice(number, ancestor, side, successor, parent, keep)
+            }
+            Event::Join(leaver) => self.may_join(worker, leaver),
+        }
+    }
+
+    /// One event that is admitted.
+    pub fn step(&mut self, worker: u32, event: &Event) -> Result<Reply, AllocError>
+        requires { IsAdmitted self.old worker event.now }
+        ensures { AppliesOrKeeps self.old self.new worker event.now result }
+    {
+        let number = worker as usize;
+        match *event {
+            Event::Sight => self.sight(number),
+            Event::SightFor(op, key) => self.sight_for(number, op, key),
+            Event::Announce => Ok(self.announce(number)),
+            Event::Leave => Ok(self.leave(number)),
+            Event::LeaveWith(answer) => Ok(self.leave_with(number, answer)),
+            Event::Scan(other) => Ok(self.scan(number, other)),
+            Event::Advance => Ok(self.advance(number)),
+            Event::Claim(slot) => self.claim(number, slot),
+            Event::Give(slot) => self.give(number, slot),
+            Event::Look(slot, field) => self.look(number, slot, field),
+            Event::Fill(slot, field, value) => Ok(self.fill(number, slot, field, value)),
+            Event::Link(parent, side, leaf, new) => self.link(number, parent, side, leaf, new),
+            Event::Flag(parent, side, leaf) => self.flag(number, parent, side, leaf),
+            Event::Tag(parent, side) => self.tag(number, parent, side),
+            Event::Splice(ancestor, side, successor, parent, keep) => {
+                self.splice(number, ancestor, side, successor, parent, keep)
+            }
+            Event::Join(leaver) => self.join(worker, leaver),
+        }
     }
 
     /// One event.
@@ -134,29 +217,7 @@ impl Machine {
         ensures ok { OnOk result (self.new ≡ applied self.old worker event) }
         ensures err { OnErr result (self.new ≡ self.old) }
     {
-        if self.is_no_worker(worker) {
-            return Err(Refused::NoWorker);
-        }
-        let number = worker as usize;
-        match event {
-            Event::Sight => self.sight(number),
-            Event::SightFor(op, key) => self.sight_for(number, op, key),
-            Event::Announce => self.announce(number),
-            Event::Leave => self.leave(number),
-            Event::LeaveWith(answer) => self.leave_with(number, answer),
-            Event::Scan(other) => self.scan(number, other),
-            Event::Advance => self.advance(number),
-            Event::Claim(slot) => self.claim(number, slot),
-            Event::Give(slot) => self.give(number, slot),
-            Event::Look(slot, field) => self.look(number, slot, field),
-            Event::Fill(slot, field, value) => self.fill(number, slot, field, value),
-            Event::Link(parent, side, leaf, new) => self.link(number, parent, side, leaf, new),
-            Event::Flag(parent, side, leaf) => self.flag(number, parent, side, leaf),
-            Event::Tag(parent, side) => self.tag(number, parent, side),
-            Event::Splice(ancestor, side, successor, parent, keep) => {
-                self.splice(number, ancestor, side, successor, parent, keep)
-            }
-            Event::Join(leaver) => self.join(worker, leaver),
-        }
+        self.admit(worker, &event)?;
+        Ok(self.step(worker, &event)?)
     }
 }

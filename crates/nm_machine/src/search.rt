@@ -8,13 +8,14 @@ ghost use Rattle.nm_model.specs.declared.event.Field.TheVariants as field;
 ghost use Rattle.nm_model.specs.declared.reply.Reply.TheVariants as reply;
 ghost use Rattle.nm_model.specs.Searches.{is_node, idle, begun, left, look_for, linked, flagged, spliced, is_flagged_in, searched};
 ghost use Rattle.nm_model.specs.Rooms.{HasRoom, HasRoomFor};
-ghost use Rattle.nm_model.specs.Ordered.{has_removed, shows_call, shows_place, links_in_order, flags_in_order};
+ghost use Rattle.nm_model.specs.Ordered.{has_removed, shows_call, shows_place, links_in_order, flags_in_order, disorder};
+ghost use Rattle.nm_machine.specs.Admission.{Admits};
 
 use crate::worker::Worker;
 use nm_edge::{Edge, Key, Layout, NodeId, Side};
 use nm_model::arrivals::{self, Arrival, Call};
 use nm_model::event::{Event, Field, Op};
-use nm_model::reply::Reply;
+use nm_model::reply::{Refused, Reply};
 use std::alloc::{AllocError, Global};
 use std::marker::Model;
 
@@ -71,13 +72,16 @@ impl Search {
         }
     }
 
-    /// Asks for the memory of one more arrival.
-    pub fn make_room(&mut self) -> Result<(), AllocError>
+    /// Asks for the memory that an event takes: a look that of one more arrival.
+    pub fn make_room(&mut self, event: &Event) -> Result<(), AllocError>
         ensures same { self.new.tells ≡ self.old.tells }
-        ensures room { OnOk result (HasRoom self.new) }
+        ensures room { OnOk result (HasRoomFor event.now self.new) }
     {
-        self.walks.reserve(1)?;
-        self.later.reserve(1)
+        if let Event::Look(..) = event {
+            self.walks.reserve(1)?;
+            self.later.reserve(1)?;
+        }
+        Ok(())
     }
 
     // No pin stands, or a new one for this operation.
@@ -235,8 +239,8 @@ impl Search {
         }
     }
 
-    /// Whether the log shows this answer of the operation.
-    pub fn shows(&self, answer: bool) -> bool
+    // Whether the log shows this answer of the operation.
+    fn shows(&self, answer: bool) -> bool
         ensures { result ≡ shows_call self.now.tells self.now.tells.call answer }
     {
         let Some(Call { op, key }) = self.call else {
@@ -254,8 +258,8 @@ impl Search {
         }
     }
 
-    /// Whether the operation has linked or flagged, so that it owes an answer.
-    pub fn owes_answer(&self) -> bool
+    // Whether the operation has linked or flagged, so that it owes an answer.
+    fn owes_answer(&self) -> bool
         ensures { result ≡ (self.now.tells.linked || is_some self.now.tells.flagged) }
     {
         self.linked || self.flagged.is_some()
@@ -286,8 +290,8 @@ impl Search {
         }
     }
 
-    /// Whether the operation is an insert that may link here: once, where a walk of it came.
-    pub fn may_link(
+    // Whether the operation is an insert that may link here: once, where a walk of it came.
+    fn may_link(
         &self,
         layout: Layout,
         worker: &Worker,
@@ -313,8 +317,8 @@ impl Search {
             && self.shows_place(layout, worker, key, parent, side, slot, new)
     }
 
-    /// Whether the operation is a delete that may flag here: one leaf, where a walk of it ended.
-    pub fn may_flag(&self, parent: u32, side: Side, leaf: u32) -> bool
+    // Whether the operation is a delete that may flag here: one leaf, where a walk of it ended.
+    fn may_flag(&self, parent: u32, side: Side, leaf: u32) -> bool
         ensures { result ≡ flags_in_order self.now.tells self.now.tells.call parent side leaf }
     {
         let Some(
@@ -327,5 +331,24 @@ impl Search {
             return false;
         };
         self.flagged.is_none() && arrivals::may_flag(&self.walks, key, parent, side, leaf)
+    }
+
+    /// Whether an event that a plain core allows is in order: a link or a flag where a walk of the
+    /// own operation came, a leave that owes no answer or gives one that the log shows.
+    pub fn admit(&self, layout: Layout, worker: &Worker, event: &Event) -> Result<(), Refused>
+        ensures { Admits (disorder layout worker.now self.now.tells event.now) result }
+    {
+        match *event {
+            Event::Link(parent, side, slot, new)
+                if !self.may_link(layout, worker, parent, side, slot, new) => {
+                Err(Refused::NotOrdered)
+            }
+            Event::Flag(parent, side, leaf) if !self.may_flag(parent, side, leaf) => {
+                Err(Refused::NotOrdered)
+            }
+            Event::Leave if self.owes_answer() => Err(Refused::NoAnswer),
+            Event::LeaveWith(answer) if !self.shows(answer) => Err(Refused::NoAnswer),
+            _ => Ok(()),
+        }
     }
 }

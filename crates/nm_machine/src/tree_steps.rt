@@ -1,13 +1,13 @@
 //! The steps on the edges of the tree.
 #![tactic(auto, unfolding(nm_model::specs::Step::refusal, nm_model::specs::Step::reply, nm_model::specs::Step::write, nm_model::specs::Learning::learn, nm_model::specs::Runs::applied))]
 
-ghost use Rattle.std.specs.Prelude.{◌≡◌, ◌≢◌, ◌<◌, ◌≤◌, true, length, map, is_some, OnOk, OnErr, IfOk, IfErr};
+ghost use Rattle.std.specs.Prelude.{◌≡◌, ◌<◌, true, length, map, is_some, IfOk};
 ghost use Rattle.nm_model.specs.declared.event.Event.TheVariants as event;
 ghost use Rattle.nm_model.specs.Memory.{named};
-ghost use Rattle.nm_model.specs.Knowledge.{knows, way};
+ghost use Rattle.nm_model.specs.Knowledge.{way};
 ghost use Rattle.nm_model.specs.Step.{cut_nodes};
-ghost use Rattle.nm_model.specs.Runs.{of, refusal_of, reply_of, applied};
-ghost use Rattle.nm_model.specs.Answers.{IsAnswer, IsRefusedAs, IsShaped};
+ghost use Rattle.nm_model.specs.Runs.{of, refusal_of};
+ghost use Rattle.nm_machine.specs.Admission.{Admits, IsAdmitted, AppliesOrKeeps};
 
 use crate::machine::Machine;
 use nm_edge::{Edge, NodeId, Side};
@@ -17,7 +17,7 @@ use std::alloc::AllocError;
 
 impl Machine {
     /// Whether the exchange may be tried.
-    pub fn may_link(
+    pub(crate) fn may_link(
         &self,
         worker: usize,
         parent: u32,
@@ -25,15 +25,8 @@ impl Machine {
         leaf: u32,
         new: u32,
     ) -> Result<(), Refused>
-        requires shaped { IsShaped self.now }
-        requires is_there { worker < length self.now.workers }
-        ensures allowed { OnOk result
-            (refusal_of self.now worker (event.Link parent side leaf new) ≡ None) }
-        ensures refused { IfErr result
-            (IsRefusedAs (refusal_of self.now worker (event.Link parent side leaf new))) }
-        ensures not_memory { IfErr result (λ why. why ≢ Refused.NoMemory) }
-        ensures slot { OnOk result (parent ≤ self.now.layout.nodes) }
-        ensures known { OnOk result (knows (of self.now worker) parent ≡ true) }
+        requires { worker < length self.now.workers }
+        ensures { Admits (refusal_of self.now worker (event.Link parent side leaf new)) result }
     {
         if self.is_outside(1, parent) || self.is_outside(1, leaf) || self.is_outside(6, new) {
             return Err(Refused::NoSlot);
@@ -54,24 +47,18 @@ impl Machine {
         Ok(())
     }
 
-    pub fn link(
+    pub(crate) fn link(
         &mut self,
         worker: usize,
         parent: u32,
         side: Side,
         leaf: u32,
         new: u32,
-    ) -> Result<Reply, Refused>
-        requires shaped { IsShaped self.old }
-        requires is_there { worker < length self.old.workers }
-        ensures outcome { IsAnswer (refusal_of self.old worker (event.Link parent side leaf new))
-            (reply_of self.old worker (event.Link parent side leaf new)) result }
-        ensures ok { OnOk result
-            (self.new ≡ applied self.old worker (event.Link parent side leaf new)) }
-        ensures err { OnErr result (self.new ≡ self.old) }
+    ) -> Result<Reply, AllocError>
+        requires { IsAdmitted self.old worker (event.Link parent side leaf new) }
+        ensures { AppliesOrKeeps self.old self.new worker (event.Link parent side leaf new) result }
     {
-        self.may_link(worker, parent, side, leaf, new)?;
-        let found = self.nodes[parent as usize].edge(side);
+        let found = self.edge(parent, side);
         if !found.is_to(leaf) {
             self.workers[worker].read_edge(parent, side, found)?;
             return Ok(Reply::Lost(found));
@@ -82,17 +69,15 @@ impl Machine {
     }
 
     /// Whether the exchange may be tried.
-    pub fn may_flag(&self, worker: usize, parent: u32, side: Side, leaf: u32) -> Result<(), Refused>
-        requires shaped { IsShaped self.now }
-        requires is_there { worker < length self.now.workers }
-        ensures allowed { OnOk result
-            (refusal_of self.now worker (event.Flag parent side leaf) ≡ None) }
-        ensures refused { IfErr result
-            (IsRefusedAs (refusal_of self.now worker (event.Flag parent side leaf))) }
-        ensures not_memory { IfErr result (λ why. why ≢ Refused.NoMemory) }
-        ensures slot { OnOk result (parent ≤ self.now.layout.nodes) }
-        ensures known { OnOk result (knows (of self.now worker) parent ≡ true) }
-        ensures leaf { OnOk result (leaf ≢ 0) }
+    pub(crate) fn may_flag(
+        &self,
+        worker: usize,
+        parent: u32,
+        side: Side,
+        leaf: u32,
+    ) -> Result<(), Refused>
+        requires { worker < length self.now.workers }
+        ensures { Admits (refusal_of self.now worker (event.Flag parent side leaf)) result }
     {
         if self.is_outside(1, parent) || self.is_outside(6, leaf) {
             return Err(Refused::NoSlot);
@@ -107,23 +92,17 @@ impl Machine {
         Ok(())
     }
 
-    pub fn flag(
+    pub(crate) fn flag(
         &mut self,
         worker: usize,
         parent: u32,
         side: Side,
         leaf: u32,
-    ) -> Result<Reply, Refused>
-        requires shaped { IsShaped self.old }
-        requires is_there { worker < length self.old.workers }
-        ensures outcome { IsAnswer (refusal_of self.old worker (event.Flag parent side leaf))
-            (reply_of self.old worker (event.Flag parent side leaf)) result }
-        ensures ok { OnOk result
-            (self.new ≡ applied self.old worker (event.Flag parent side leaf)) }
-        ensures err { OnErr result (self.new ≡ self.old) }
+    ) -> Result<Reply, AllocError>
+        requires { IsAdmitted self.old worker (event.Flag parent side leaf) }
+        ensures { AppliesOrKeeps self.old self.new worker (event.Flag parent side leaf) result }
     {
-        self.may_flag(worker, parent, side, leaf)?;
-        let edge = self.nodes[parent as usize].edge(side);
+        let edge = self.edge(parent, side);
         if !edge.is_to(leaf) {
             self.workers[worker].read_edge(parent, side, edge)?;
             return Ok(Reply::Lost(edge));
@@ -135,15 +114,10 @@ impl Machine {
         Ok(Reply::Flagged(node))
     }
 
-    // Whether the exchange may be tried.
-    fn may_tag(&self, worker: usize, parent: u32, side: Side) -> Result<(), Refused>
-        requires shaped { IsShaped self.now }
-        requires is_there { worker < length self.now.workers }
-        ensures allowed { OnOk result (refusal_of self.now worker (event.Tag parent side) ≡ None) }
-        ensures refused { IfErr result
-            (IsRefusedAs (refusal_of self.now worker (event.Tag parent side))) }
-        ensures slot { OnOk result (parent ≤ self.now.layout.nodes) }
-        ensures known { OnOk result (knows (of self.now worker) parent ≡ true) }
+    /// Whether the exchange may be tried.
+    pub(crate) fn may_tag(&self, worker: usize, parent: u32, side: Side) -> Result<(), Refused>
+        requires { worker < length self.now.workers }
+        ensures { Admits (refusal_of self.now worker (event.Tag parent side)) result }
     {
         if self.is_outside(1, parent) {
             return Err(Refused::NoSlot);
@@ -161,23 +135,23 @@ impl Machine {
         Ok(())
     }
 
-    pub fn tag(&mut self, worker: usize, parent: u32, side: Side) -> Result<Reply, Refused>
-        requires shaped { IsShaped self.old }
-        requires is_there { worker < length self.old.workers }
-        ensures outcome { IsAnswer (refusal_of self.old worker (event.Tag parent side))
-            (reply_of self.old worker (event.Tag parent side)) result }
-        ensures ok { OnOk result (self.new ≡ applied self.old worker (event.Tag parent side)) }
-        ensures err { OnErr result (self.new ≡ self.old) }
+    pub(crate) fn tag(
+        &mut self,
+        worker: usize,
+        parent: u32,
+        side: Side,
+    ) -> Result<Reply, AllocError>
+        requires { IsAdmitted self.old worker (event.Tag parent side) }
+        ensures { AppliesOrKeeps self.old self.new worker (event.Tag parent side) result }
     {
-        self.may_tag(worker, parent, side)?;
-        let edge = self.nodes[parent as usize].edge(side);
+        let edge = self.edge(parent, side);
         self.workers[worker].read_edge(parent, side, edge.tagged())?;
         self.put_edge(parent, side, edge.tagged());
         Ok(Reply::Was(edge))
     }
 
-    // Whether the exchange may be tried.
-    fn may_splice(
+    /// Whether the exchange may be tried.
+    pub(crate) fn may_splice(
         &mut self,
         worker: usize,
         ancestor: u32,
@@ -186,18 +160,9 @@ impl Machine {
         parent: u32,
         keep: Side,
     ) -> Result<(), Refused>
-        requires shaped { IsShaped self.old }
-        requires is_there { worker < length self.old.workers }
-        ensures allowed { OnOk result
-            (refusal_of self.old worker (event.Splice ancestor side successor parent keep) ≡ None) }
-        ensures refused { IfErr result
-            (IsRefusedAs (refusal_of self.old worker
-            (event.Splice ancestor side successor parent keep))) }
-        ensures slot { OnOk result (ancestor ≤ self.old.layout.nodes) }
-        ensures known { OnOk result (knows (of self.old worker) ancestor ≡ true) }
+        requires { worker < length self.old.workers }
+        ensures admits { Admits (refusal_of self.old worker (event.Splice ancestor side successor parent keep)) result }
         ensures same { self.new ≡ self.old }
-        ensures leads { OnOk result
-            (is_some (way self.old.layout.nodes (of self.old worker) successor parent) ≡ true) }
     {
         if self.is_outside(1, ancestor)
             || self.is_outside(6, successor)
@@ -255,7 +220,7 @@ impl Machine {
         Ok(nodes)
     }
 
-    pub fn splice(
+    pub(crate) fn splice(
         &mut self,
         worker: usize,
         ancestor: u32,
@@ -263,19 +228,11 @@ impl Machine {
         successor: u32,
         parent: u32,
         keep: Side,
-    ) -> Result<Reply, Refused>
-        requires shaped { IsShaped self.old }
-        requires is_there { worker < length self.old.workers }
-        ensures outcome { IsAnswer
-            (refusal_of self.old worker (event.Splice ancestor side successor parent keep))
-            (reply_of self.old worker (event.Splice ancestor side successor parent keep)) result }
-        ensures ok { OnOk result
-            (self.new ≡ applied self.old worker
-            (event.Splice ancestor side successor parent keep)) }
-        ensures err { OnErr result (self.new ≡ self.old) }
+    ) -> Result<Reply, AllocError>
+        requires { IsAdmitted self.old worker (event.Splice ancestor side successor parent keep) }
+        ensures { AppliesOrKeeps self.old self.new worker (event.Splice ancestor side successor parent keep) result }
     {
-        self.may_splice(worker, ancestor, side, successor, parent, keep)?;
-        let edge = self.nodes[ancestor as usize].edge(side);
+        let edge = self.edge(ancestor, side);
         if !edge.is_to(successor) {
             self.workers[worker].read_edge(ancestor, side, edge)?;
             return Ok(Reply::Lost(edge));

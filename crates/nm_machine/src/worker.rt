@@ -6,10 +6,11 @@ ghost use Rattle.nm_model.specs.declared.reply.Reply.TheVariants.{BirthIs};
 ghost use Rattle.nm_model.specs.Maps.{put, without, is_number};
 ghost use Rattle.nm_model.specs.Ledgers.{held, front_of, free};
 ghost use Rattle.nm_model.specs.Knowledge.{newcomer, unfilled, knows, is_private, seen_of, draft_of, beside, read, is_null, is_flagged, is_tagged, knows_leaf, way};
-ghost use Rattle.nm_model.specs.Learning.{saw, labelling, pinned, rooted, moved, learn_sight, learn_scan, looked, met, read_edge, linked_in, cutting, inheriting, resigned};
+ghost use Rattle.nm_model.specs.Learning.{saw, labelling, pinned, rooted, moved, learn_sight, learn_scan, looked, met, filled_in, read_edge, linked_in, cutting, inheriting, resigned};
 ghost use Rattle.nm_model.specs.Reports.{in_queues};
 ghost use Rattle.nm_model.specs.Ordered.{new_leaf};
-ghost use Rattle.nm_model.specs.Step.{reply_sight, reply_scan, reply_look, others_scanned, node_of, node_linked, is_leaf_draft, is_linkable, may_be_over, first, free_checks};
+ghost use Rattle.nm_model.specs.Step.{is_edge, reply_sight, reply_scan, reply_look, others_scanned, node_of, node_linked, is_leaf_draft, is_linkable, may_be_over, first, free_checks};
+ghost use Rattle.nm_machine.specs.Admission.{Admits};
 
 use crate::known::Known;
 use nm_edge::{Edge, Key, Layout, NodeId, Side};
@@ -281,12 +282,9 @@ impl Worker {
         self.drafts.remove(slot);
     }
 
-    /// The node at the front of a queue, where it may be freed.
-    pub fn may_free(&self, slot: u32) -> Result<NodeId, Refused>
-        ensures ok { IfOk result (λ node. node ≡ node_of (front_of self.now.ledgers slot)) }
-        ensures allowed { OnOk result (first (free_checks self.now slot) ≡ None) }
-        ensures refused { IfErr result (λ why. first (free_checks self.now slot) ≡ Some why) }
-        ensures not_memory { IfErr result (λ why. why ≢ Refused.NoMemory) }
+    /// Whether a slot is the front of a queue, and may be freed.
+    pub fn may_free(&self, slot: u32) -> Result<(), Refused>
+        ensures { Admits (first (free_checks self.now slot)) result }
     {
         let entry = self.ledgers.find(slot).ok_or(Refused::NotPrivate)?;
         let seen = self.brief.seen.ok_or(Refused::NotReady)?;
@@ -297,7 +295,17 @@ impl Worker {
         if front.is_young(seen) {
             return Err(Refused::TooYoung);
         }
-        Ok(front.node)
+        Ok(())
+    }
+
+    /// The node at the front of a queue that is of this slot.
+    pub fn front(&self, slot: u32) -> NodeId
+        ensures { result ≡ node_of (front_of self.now.ledgers slot) }
+    {
+        match self.ledgers.front(slot) {
+            Some(front) => front.node,
+            None => NodeId { slot: 0, birth: 0 },
+        }
     }
 
     /// The node at the front of a queue was freed.
@@ -364,10 +372,13 @@ impl Worker {
     }
 
     /// A field of a private slot was stored.
-    pub fn fill(&mut self, slot: u32, draft: Draft)
-        requires { is_private self.old slot ≡ true }
-        ensures { self.new ≡ record self.old { drafts = put self.old.drafts slot draft } }
+    pub fn fill(&mut self, slot: u32, field: Field, value: u64)
+        requires private { is_private self.old slot ≡ true }
+        requires fits { is_edge field ≡ true → value < 2 ^ 32 }
+        ensures { self.new ≡ record self.old
+            { drafts = put self.old.drafts slot (filled_in (draft_of self.old slot) field value) } }
     {
+        let draft = self.draft(slot).filled_in(field, value);
         self.drafts.replace(slot, draft);
     }
 
