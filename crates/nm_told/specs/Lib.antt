@@ -4,3 +4,4 @@ pub mod PuttingBack
 pub mod Adding
 pub mod Taking
 pub mod Tallies
+pub mod Queues
