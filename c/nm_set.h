@@ -221,9 +221,9 @@ nm_outcome nm_set_worker(nm_handle *set, nm_handle *worker, uint32_t number);
 nm_outcome nm_set_attach(nm_handle *set, nm_handle *worker);
 
 /* Ends the set when all its workers are at home. NM_DONE, and the handle owns the report from then
- * on. NM_AWAY, NM_NO_MEMORY: the handle owns the set still; behind the latter its workers may have
- * been gathered, so that only this function goes on. Behind NM_AWAY nm_set_away tells whom it
- * misses. */
+ * on. NM_AWAY, NM_NO_MEMORY: the handle owns the set still; behind the latter its workers were
+ * gathered, so that only this function goes on. Behind NM_AWAY it is as it was, and nm_set_away
+ * tells whom it misses. */
 nm_outcome nm_set_close(nm_handle *set);
 
 /* Whether a close would miss the worker of a number, since some handle has it. NM_YES; NM_NO, also
@@ -393,8 +393,8 @@ nm_outcome nm_worker_resign(nm_handle *worker, uint32_t leaver);
  * that goes on from all that this worker had seen, its own answers among them; that the report of
  * nm_set_close is so too is shown by tests. The worker may be held or have a pending key. NM_AWAY:
  * the handle of the set, or of another worker, is open still, and this one owns the worker as it
- * was. NM_NO_MEMORY: it owns the worker as it was, or the set, whose workers were gathered then: of
- * that this function tells NM_KIND, and nm_set_close goes on. */
+ * was. NM_NO_MEMORY: it owns the set, whose workers were gathered then: of that this function tells
+ * NM_KIND, and nm_set_close goes on. */
 nm_outcome nm_worker_end(nm_handle *worker);
 
 /* ---- the report of a set that was closed ----

@@ -1087,8 +1087,8 @@ public:
     // ---- the end ----
 
     // Ends the set, once that and its other workers have ended; this is closed then. NM_AWAY while
-    // one of them is open. NM_NO_MEMORY: this call can be made again, and may be the only one that
-    // goes on. What is proved of the report stands at nm_worker_end.
+    // one of them is open. NM_NO_MEMORY: this call can be made again, and is the only one that goes
+    // on. What is proved of the report stands at nm_worker_end.
     Report close_set() {
         Report report;
         detail::answered(is_open() ? seats_->end_by(number_, report.handle_) : NM_CLOSED);

@@ -66,26 +66,22 @@ static void tend(nm_handle *worker) {
 }
 
 /* Behind a close that was refused memory, the workers are gathered, so that nothing but close goes
- * on; or the set gives them out as before. */
+ * on. */
 static void end(nm_handle *set) {
     nm_outcome told;
     while ((told = nm_set_close(set)) == NM_NO_MEMORY) {
         nm_handle worker = NM_CLOSED_HANDLE;
-        nm_outcome taken = nm_set_worker(set, &worker, 0);
-        CHECK(taken == NM_CLOSING || (taken == NM_DONE && nm_drop(&worker) == NM_DONE));
+        CHECK(nm_set_worker(set, &worker, 0) == NM_CLOSING);
     }
     CHECK(told == NM_DONE);
 }
 
-/* Behind an end that was refused memory the handle owns its worker as before, or the set, whose
- * workers were gathered. */
+/* Behind an end that was refused memory the handle owns the set, whose workers were gathered. */
 static void end_by(nm_handle *worker) {
     nm_outcome told;
     uint32_t number;
-    while ((told = nm_worker_end(worker)) == NM_NO_MEMORY) {
-        nm_outcome numbered = nm_worker_number(worker, &number);
-        CHECK(numbered == NM_KIND || (numbered == NM_DONE && number == 1));
-    }
+    while ((told = nm_worker_end(worker)) == NM_NO_MEMORY)
+        CHECK(nm_worker_number(worker, &number) == NM_KIND);
     if (told == NM_KIND)
         end(worker);
     else

@@ -42,7 +42,7 @@ letter_sync : IsSync letter.the_row
 letter_sync = search (sendable, crosses, note_sync) depth 20
 
 home_sync : IsSync home.the_row
-home_sync = search (sendable, crosses, tree.the_sync, counted.the_sync, resident_crosses.the_send, resident_sync, letter_crosses.the_send, letter_sync) depth 40
+home_sync = search (sendable, crosses, tree.the_sync, counted.the_sync, resident_crosses.the_send, resident_sync, letter_crosses.the_send, letter_sync, worker_sync) depth 60
 
 pub member_send : IsSend member.the_row
 member_send = search (sendable, crosses, home_crosses.the_send, home_sync, worker_crosses.the_send) depth 40

@@ -1,5 +1,5 @@
 -- A set that is closed, or left open, by what its tree has told.
-use Rattle.std.proofs.Common.{◌≡◌, ◌∙◌, ◌⊎◌, false, true, List, [], ◌∷◌, ◌++◌, append-nil, refl, sym, ap, subst, inl, inr}
+use Rattle.std.proofs.Common.{◌≡◌, ◌∙◌, ◌+◌, ◌≤◌, ℕ, false, true, inr, List, [], ◌∷◌, ◌++◌, append-nil, length, length-append, refl, sym, ap, subst, arith}
 use Rattle.std.specs.Prelude.{Result, Ok, Err, IfOk, IfErr}
 use Rattle.nm_pool.specs.declared.placement.Fit.{Fit}
 use Rattle.nm_steps.specs.Steps.{Board}
@@ -14,8 +14,8 @@ use Rattle.nm_set.specs.declared.home.Site.{Site}
 use Rattle.nm_set.specs.declared.set.State.{State}
 use Rattle.nm_set.specs.declared.set.State.TheVariants.{Open, Closing}
 use Rattle.nm_set.specs.Seats.{AreOwn, BeginsWith, IsOwn, Seated, Standing}
-use Rattle.nm_set.specs.Ends.{EndsSet, HasGathered, IsLeftOpen, IsTreesReason, set_of}
-use Rattle.nm_set.specs.States.{site_of, standing_of, closing_set, open_set}
+use Rattle.nm_set.specs.Ends.{EndsSet, HasGathered, IsLeftOpen, IsTreesReason, SaysEnded, set_of}
+use Rattle.nm_set.specs.States.{MayGather, closing_set, open_set, room_for_one, site_of, standing_of}
 
 -- ---- workers of a tree
 
@@ -35,6 +35,11 @@ pub tree_of : (s : State) (kept : List Hand) → (standing_of s kept).board ≡ 
 tree_of (Open home) kept = refl
 tree_of (Closing site) kept = refl
 
+-- with one that was kept there is room still
+pub room_behind : (state : State) (kept : List Hand) (w : Hand) (room : ℕ) → length kept + room_for_one state ≤ room → MayGather state (kept ++ w ∷ []) room
+room_behind (Open home) kept w room enough = inr (let size = length-append kept (w ∷ []) in omega (arith, size, enough))
+room_behind (Closing site) kept w room enough = tt
+
 -- how the workers that were gathered come from the set's
 pub record Gathers (s : Standing) (site : Site) (all : List Hand) : Type 0 where
   pub board : s.board ≡ site.tree
@@ -51,6 +56,9 @@ ended s site all g r closed =
     let C : List Hand → Type 0 = λ ws. IsClosed site.tree ws r.queues.items r.keys.items r.free r.reached in
     let D : Board → Type 0 = λ b. IsClosed b (s.kept ++ g.home) r.queues.items r.keys.items r.free r.reached in
     record { home = g.home; own = subst B (sym g.board) (subst O g.are g.own); none = g.none; closed = subst D (sym g.board) (subst C g.are closed) }
+
+pub says_ended : (s : Standing) (r : Report) → EndsSet s r → SaysEnded s r
+says_ended s r e = record { home = e.home; none = e.none; says = e.closed.says }
 
 -- it keeps them, where its tree was not closed
 pub kept_all : (s : Standing) (site : Site) (all : List Hand) → Gathers s site all → (t : Standing) → t ≡ closing_set site all → (x : Reason) → IsCloseReason site.tree all x → HasGathered s x t
@@ -74,7 +82,7 @@ left s site all g t is why (of_tree, told, reason) = subst (λ (w : CloseReason)
   where
     by : (x : Reason) → IsCloseReason site.tree all x → IsLeftOpen s (Rattle.nm_set.specs.Ends.told_reason x) t
     by (tree.NotAll given made) so = kept_all s site all g t is (tree.NotAll given made) so
-    by tree.NoMemory so = inr (kept_all s site all g t is tree.NoMemory so)
+    by tree.NoMemory so = kept_all s site all g t is tree.NoMemory so
 
 -- of a set whose workers had been gathered before
 pub had_gathered : (s : Standing) (site : Site) (kept : List Hand) → closing_set site kept ≡ s → AreOwn site.tree kept → Gathers s site kept
@@ -112,9 +120,8 @@ gathered_with m site all tree fit begins own = gathered_now (set_of m) site (m.h
     fits = ap (λ (f : Fit). record { board = m.board; fit = f; closing = false; kept = m.hand ∷ [] }) (sym fit)
 
 -- and of one that is as it was
-pub as_before : (s t : Standing) (site : Site) (kept : List Hand) → open_set site kept ≡ s → t ≡ open_set site kept → (why : CloseReason) → (why ≡ because.Away) ⊎ (why ≡ because.NoMemory) → IsLeftOpen s why t
-as_before s t site kept is same why (inl e) = subst (λ (w : CloseReason). IsLeftOpen s w t) (sym e) (ap (λ (u : Standing). u.closing) (sym is), same ∙ is)
-as_before s t site kept is same why (inr e) = subst (λ (w : CloseReason). IsLeftOpen s w t) (sym e) (inl (ap (λ (u : Standing). u.closing) (sym is), same ∙ is))
+pub as_before : (s t : Standing) (site : Site) (kept : List Hand) → open_set site kept ≡ s → t ≡ open_set site kept → (why : CloseReason) → why ≡ because.Away → IsLeftOpen s why t
+as_before s t site kept is same why e = subst (λ (w : CloseReason). IsLeftOpen s w t) (sym e) (ap (λ (u : Standing). u.closing) (sym is), same ∙ is)
 
 -- ---- from one clause to another
 

@@ -1,20 +1,26 @@
 -- The end of a set.
-use Rattle.std.specs.Prelude.{◌≡◌, ◌⊎◌, List, [], ◌∷◌, ◌++◌, true, false}
+use Rattle.std.specs.Prelude.{◌≡◌, List, [], ◌∷◌, ◌++◌, true, false}
 use Rattle.nm_steps.specs.Steps.{Board}
 use Rattle.nm_tree.specs.declared.closing.CloseReason.{CloseReason as Reason}
 use Rattle.nm_tree.specs.declared.closing.CloseReason.TheVariants as tree
 use Rattle.nm_tree.specs.declared.closing.Report.{Report}
-use Rattle.nm_tree.specs.Closing.{IsClosed, IsCloseReason}
+use Rattle.nm_tree.specs.Closing.{IsClosed, IsCloseReason, SaysClosed}
 use Rattle.nm_tree.specs.Workers.{Hand}
 use Rattle.nm_set.specs.declared.ending.EndError.{EndError}
-use Rattle.nm_set.specs.declared.ending.EndError.TheVariants.{Away, NoMemory, Gathered}
+use Rattle.nm_set.specs.declared.ending.EndError.TheVariants.{Away, Gathered}
 use Rattle.nm_set.specs.declared.fault.CloseReason.{CloseReason}
 use Rattle.nm_set.specs.declared.fault.CloseReason.TheVariants as because
 use Rattle.nm_set.specs.Seats.{AreOwn, Seated, Standing}
 
--- The tree of the set was closed with the workers that the set kept, each as it came, and then with
--- those that were at home; which these had been is not said, but that there are none where a
--- refused close had gathered all
+-- What a caller has of a set that was ended: its tree was closed with the workers that the set kept,
+-- each as it came, and then with those that were at home; which these had been is not said, but that
+-- there are none where a refused close had gathered all
+pub record SaysEnded (s : Standing) (r : Report) : Type 0 where
+  pub home : List Hand
+  pub none : s.closing ≡ true → home ≡ []
+  pub says : SaysClosed s.board (s.kept ++ home) r.queues.items r.keys.items r.free r.reached
+
+-- the same, with the run that ends with the tree's words, for who changes something
 pub record EndsSet (s : Standing) (r : Report) : Type 0 where
   pub home : List Hand
   pub own : AreOwn s.board (s.kept ++ home)
@@ -50,7 +56,7 @@ IsAsBefore s t = (s.closing ≡ false) × (t ≡ s)
 abbrev pub IsLeftOpen : Standing → CloseReason → Standing → Type 0
 IsLeftOpen s because.Away t = IsAsBefore s t
 IsLeftOpen s (because.NotAll given made) t = HasGathered s (tree.NotAll given made) t
-IsLeftOpen s because.NoMemory t = IsAsBefore s t ⊎ HasGathered s tree.NoMemory t
+IsLeftOpen s because.NoMemory t = HasGathered s tree.NoMemory t
 
 -- ---- the end by the last member
 
@@ -68,6 +74,5 @@ EndsMember m r = EndsSet (set_of m) r
 -- the reason that is told
 abbrev pub IsNotEnded : Seated → EndError → Type 0
 IsNotEnded m (Away n) = n ≡ m
-IsNotEnded m (NoMemory n) = n ≡ m
 IsNotEnded m (Gathered e) = (why : Reason) × (e.reason ≡ told_reason why)
     × HasGathered (set_of m) why e.set

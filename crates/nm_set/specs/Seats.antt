@@ -1,5 +1,5 @@
 -- Members of a set, and the seats where its workers are while nobody has them.
-use Rattle.std.specs.Prelude.{◌≡◌, ◌⊎◌, ◌<◌, ◌≤◌, ℕ, suc, Bool, true, false, List, [], ◌∷◌, ◌++◌, None, IsSome, Result, Ok, Err}
+use Rattle.std.specs.Prelude.{◌≡◌, ◌⊎◌, ◌+◌, ◌<◌, ◌≤◌, ℕ, suc, length, Bool, true, false, List, [], ◌∷◌, ◌++◌, None, IsSome, Result, Ok, Err}
 use Rattle.nm_steps.specs.Steps.{Board, IsOf}
 use Rattle.nm_pool.specs.declared.placement.Fit.{Fit}
 use Rattle.nm_tree.specs.Calls.{LeavesUnpin}
@@ -71,6 +71,10 @@ AreNewMembers b f k (m ∷ ms) = IsNewMember b f k m × AreNewMembers b f (suc k
 abbrev pub AreSeats : Site → ℕ → List (Site × ℕ) → Type 0
 AreSeats b i [] = Unit {0}
 AreSeats b i (s ∷ ss) = (s ≡ (b, i)) × AreSeats b (suc i) ss
+
+-- nobody is kept, or there is room for all workers of that tree behind those that are
+abbrev pub HasRoom : Board → List Hand → ℕ → Type 0
+HasRoom b kept room = (kept ≡ []) ⊎ (length kept + b.layout.workers ≤ room)
 
 -- the second list goes on from the first
 abbrev pub BeginsWith : List Hand → List Hand → Type 0

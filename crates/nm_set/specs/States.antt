@@ -1,11 +1,11 @@
 -- Where a set stands.
-use Rattle.std.specs.Prelude.{true, false, List}
+use Rattle.std.specs.Prelude.{ℕ, ◌+◌, true, false, List}
 use Rattle.std.specs.Arc.{arc_value}
 use Rattle.nm_tree.specs.Workers.{Hand}
 use Rattle.nm_set.specs.declared.home.Site.{Site}
 use Rattle.nm_set.specs.declared.set.State.{State}
 use Rattle.nm_set.specs.declared.set.State.TheVariants.{Open, Closing}
-use Rattle.nm_set.specs.Seats.{Standing}
+use Rattle.nm_set.specs.Seats.{HasRoom, Standing}
 
 -- the tree, and its fit
 abbrev pub site_of : State → Site
@@ -23,3 +23,13 @@ closing_set site kept = record { board = site.tree; fit = site.fit; closing = tr
 abbrev pub standing_of : State → List Hand → Standing
 standing_of (Open home) kept = open_set (arc_value home) kept
 standing_of (Closing site) kept = closing_set site kept
+
+-- the room for one worker that is kept, and for all that are gathered behind it
+abbrev pub room_for_one : State → ℕ
+room_for_one (Open home) = 1 + (arc_value home).tree.layout.workers
+room_for_one (Closing site) = 1
+
+-- the workers of an open set can be gathered behind those that it keeps, with no growth
+abbrev pub MayGather : State → List Hand → ℕ → Type 0
+MayGather (Open home) kept room = HasRoom (arc_value home).tree kept room
+MayGather (Closing site) kept room = Unit {0}

@@ -1,6 +1,6 @@
 //! The end of a set by its last member.
 ghost use Rattle.std.specs.Prelude.{IfOk, IfErr};
-ghost use Rattle.nm_set.specs.Ends.{EndsMember, IsNotEnded};
+ghost use Rattle.nm_set.specs.Ends.{EndsMember, IsNotEnded, SaysEnded, set_of};
 
 use crate::member::Member;
 use crate::set::CloseError;
@@ -12,8 +12,6 @@ pub enum EndError {
     /// The `Set` is not dropped, or another member is not closed, or is being closed at this
     /// moment. The member is as it was.
     Away(Member),
-    /// The room for the workers was refused. The member is as it was.
-    NoMemory(Member),
     /// The tree was not closed, for the reason that is told, behind the point where all workers
     /// were gathered. The set keeps the member's worker and then those that were at home; only
     /// `Set::close` goes on with it.
@@ -27,18 +25,16 @@ impl Member {
     /// worked, and of all that its worker has done; no value is compared, and the call has no
     /// condition, as `Set::keep` has. The worker may be held or have a pending key.
     ///
-    /// `Away`, `NoMemory`: the member is as it was; of two members that call this at the same
-    /// moment both may be told `Away`. `Gathered`: see `EndError`; where the `Set` kept workers
-    /// (`Set::keep`) as it was dropped, this is so, since the tree is not given all its workers.
+    /// `Away`: the member is as it was; of two members that call this at the same moment both may
+    /// be told so. `Gathered`: see `EndError`; where the `Set` kept workers (`Set::keep`) as it was
+    /// dropped, this is so, since the tree is not given all its workers.
     pub fn end(self) -> Result<Report, EndError>
+        ensures says { IfOk result (SaysEnded (set_of self)) }
         ensures ended { IfOk result (EndsMember self) }
         ensures refused { IfErr result (IsNotEnded self) }
     {
         let (home, guest) = self.apart();
-        let Ok(workers) = home.room_with_one() else {
-            return Err(EndError::NoMemory(Member::back(home, guest)));
-        };
-        let gathered = match home.gather(guest, workers) {
+        let gathered = match home.gather(guest) {
             Ok(gathered) => gathered,
             Err((home, guest)) => return Err(EndError::Away(Member::back(home, guest))),
         };

@@ -1,8 +1,8 @@
 //! The home of a tree's workers: a seat for each of them, where it is while nobody has it.
-ghost use Rattle.std.specs.Prelude.{◌≡◌, ◌<◌, ◌≤◌, ◌+◌, ◌↔◌, [], length, None, IfNone, IfOk, IfSome, IsErrOf, vec_capacity};
+ghost use Rattle.std.specs.Prelude.{◌≡◌, ◌<◌, ◌≤◌, ◌+◌, ◌^◌, ◌↔◌, ◌∷◌, [], length, None, IfNone, IfOk, IfSome, IsErrOf, vec_capacity};
 ghost use Rattle.nm_tree.specs.Workers.{AreNew, HaveFit};
 ghost use Rattle.nm_set.specs.Posts.{HasTally};
-ghost use Rattle.nm_set.specs.Seats.{AreOwn, BeginsWith, IsOwn, IsResident};
+ghost use Rattle.nm_set.specs.Seats.{AreOwn, AreSeats, BeginsWith, HasRoom, IsOwn, IsResident};
 
 use crate::posting::Post;
 use crate::seat::{AtHome, Guest, Seat, leave, retire, stand_up};
@@ -23,10 +23,12 @@ pub(crate) struct Site {
 pub(crate) struct Home {
     site: Site,
     seats: Vec<Seat>,
+    // Room for all workers and one more, which the end of the set takes: so it asks for none.
+    room: Vec<Worker>,
 }
 
 impl Model for Home {
-    ghost use Rattle.std.specs.Prelude.{◌≡◌, length};
+    ghost use Rattle.std.specs.Prelude.{◌≡◌, ◌≤◌, ◌+◌, [], length, vec_capacity};
     ghost use Rattle.nm_set.specs.Seats.{AreSeats};
     ghost use Rattle.nm_set.specs.declared.home.Site.{Site};
 
@@ -35,7 +37,8 @@ impl Model for Home {
     ghost view = { λ h. h.site };
 
     ghost invariant = { λ h. AreSeats h.site 0 h.seats.items
-        × (length h.seats.items ≡ h.site.tree.layout.workers) };
+        × (length h.seats.items ≡ h.site.tree.layout.workers) × (h.room.items ≡ [])
+        × (1 + h.site.tree.layout.workers ≤ vec_capacity h.room) };
 }
 
 /// Why a worker is not at home.
@@ -53,6 +56,7 @@ impl Home {
         requires all { site.tree.layout.workers ≡ workers }
         ensures { IfOk result (λ home. home ≡ site) }
     {
+        let room = Vec::with_capacity(alloc, 1 + workers as usize)?;
         let mut seats = Vec::with_capacity(alloc, workers as usize)?;
         let mut place = (site, 0);
         for number in 0..workers {
@@ -60,7 +64,7 @@ impl Home {
             seats.push(Seat::vacant(&place))?;
         }
         let (site, _) = place;
-        Ok(Home { site, seats })
+        Ok(Home { site, seats, room })
     }
 
     /// Takes a worker from its seat.
@@ -126,30 +130,31 @@ impl Home {
         Some(self.seats.get(number as usize)?.post())
     }
 
-    /// Room for a worker that is away, and for all that may be at home.
-    pub(crate) fn room_with_one(&self) -> Result<Vec<Worker>, AllocError>
-        ensures empty { IfOk result (λ ws. ws.items ≡ []) }
-        ensures room { IfOk result (λ ws. 1 + self.now.tree.layout.workers ≤ vec_capacity ws) }
-    {
-        Vec::with_capacity(*self.seats.allocator(), 1 + self.seats.len())
-    }
-
-    /// The tree, and some workers with those that are at home behind them. There is room for all.
-    pub(crate) fn gather(self, workers: Vec<Worker>) -> (Site, Vec<Worker>)
-        requires own { AreOwn self.tree workers.items }
-        requires room { length workers.items + self.tree.layout.workers ≤ vec_capacity workers }
+    /// The tree, and the workers that were kept with those that are at home behind them.
+    pub(crate) fn gather(self, kept: Vec<Worker>) -> (Site, Vec<Worker>)
+        requires own { AreOwn self.tree kept.items }
+        requires room { HasRoom self.tree kept.items (vec_capacity kept) }
         ensures site { result.0 ≡ self }
         ensures own { AreOwn self.tree result.1.items }
-        ensures kept { BeginsWith workers.items result.1.items }
+        ensures kept { BeginsWith kept.items result.1.items }
     {
-        let Home { site, seats } = self;
-        let mut workers = workers;
-        for seat in seats {
-            let Some(guest) = leave(seat) else {
-                continue;
-            };
-            guest.stay_with(&mut workers);
-        }
+        let Home { site, seats, room } = self;
+        let workers = if kept.is_empty() { room } else { kept };
+        let workers = gather_from(&site, seats, workers);
+        (site, workers)
+    }
+
+    /// The tree, and one worker that is away, with those that are at home behind it.
+    pub(crate) fn gather_behind(self, guest: Guest) -> (Site, Vec<Worker>)
+        requires own { IsOwn self.tree guest.worker }
+        ensures site { result.0 ≡ self }
+        ensures own { AreOwn self.tree result.1.items }
+        ensures first { BeginsWith (guest.worker ∷ []) result.1.items }
+    {
+        let Home { site, seats, room } = self;
+        let mut workers = room;
+        guest.stay_with(&mut workers);
+        let workers = gather_from(&site, seats, workers);
         (site, workers)
     }
 
@@ -162,8 +167,28 @@ impl Home {
 
     /// How many workers the tree has.
     pub(crate) fn workers(&self) -> usize
-        ensures { result ≡ self.now.tree.layout.workers }
+        ensures count { result ≡ self.now.tree.layout.workers }
+        ensures few { 1 + result < 2 ^ 64 }
     {
         self.seats.len()
     }
+}
+
+/// Workers, with those that sit on these seats behind them. There is room for all.
+fn gather_from(site: &Site, seats: Vec<Seat>, workers: Vec<Worker>) -> Vec<Worker>
+    requires seats { AreSeats site.now 0 seats.items }
+    requires own { AreOwn site.now.tree workers.items }
+    requires room { length workers.items + length seats.items ≤ vec_capacity workers }
+    ensures own { AreOwn site.now.tree result.items }
+    ensures kept { BeginsWith workers.items result.items }
+{
+    let _site = site;
+    let mut workers = workers;
+    for seat in seats {
+        let Some(guest) = leave(seat) else {
+            continue;
+        };
+        guest.stay_with(&mut workers);
+    }
+    workers
 }

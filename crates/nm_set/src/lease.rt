@@ -1,5 +1,5 @@
 //! What a member has of its home: the tree for its calls, and the way back to its seat.
-ghost use Rattle.std.specs.Prelude.{◌≡◌, ◌<◌, ◌≤◌, ◌+◌, ◌↔◌, List, ◌∷◌, [], None, IfErr, IfNone, IfOk, IfSome, IsErrOf, vec_capacity};
+ghost use Rattle.std.specs.Prelude.{◌≡◌, ◌<◌, ◌≤◌, ◌↔◌, List, ◌∷◌, [], None, IfErr, IfNone, IfOk, IfSome, IsErrOf};
 ghost use Rattle.std.specs.Arc.{arc_value};
 ghost use Rattle.nm_set.specs.Posts.{HasTally};
 ghost use Rattle.nm_set.specs.Seats.{BeginsWith, IsOwn, IsResident};
@@ -10,8 +10,8 @@ use crate::gathering::Gathered;
 use crate::home::{Absence, Home};
 use crate::posting::Post;
 use crate::seat::{AtHome, Guest};
-use nm_tree::{Tree, Worker};
-use std::alloc::{AllocError, Global};
+use nm_tree::Tree;
+use std::alloc::Global;
 use std::marker::Model;
 use std::sync::Arc;
 
@@ -87,24 +87,10 @@ impl Lease {
         self
     }
 
-    /// Room for a worker that is away, and for all that may be at home.
-    pub(crate) fn room_with_one(&self) -> Result<Vec<Worker>, AllocError>
-        ensures empty { IfOk result (λ ws. ws.items ≡ []) }
-        ensures room { IfOk result (λ ws. 1 + self.now.tree.layout.workers ≤ vec_capacity ws) }
-    {
-        self.home.room_with_one()
-    }
-
     /// The tree, with this worker, as it is, and then all that are at home, where nobody else has
-    /// the home. There is room for all.
-    pub(crate) fn gather(
-        self,
-        guest: Guest,
-        workers: Vec<Worker>,
-    ) -> Result<Gathered, (Lease, Guest)>
+    /// the home.
+    pub(crate) fn gather(self, guest: Guest) -> Result<Gathered, (Lease, Guest)>
         requires own { IsOwn self.tree guest.worker }
-        requires empty { workers.items ≡ [] }
-        requires room { 1 + self.tree.layout.workers ≤ vec_capacity workers }
         ensures gathered { IfOk result
             (λ g. (ws : List Hand) × (g ≡ closing_set self ws)
             × BeginsWith (guest.worker ∷ []) ws) }
@@ -113,9 +99,7 @@ impl Lease {
         let Self { home } = self;
         match Arc::try_unwrap(home) {
             Ok(home) => {
-                let mut workers = workers;
-                guest.stay_with(&mut workers);
-                let (site, workers) = home.gather(workers);
+                let (site, workers) = home.gather_behind(guest);
                 Ok(Gathered::of(site, workers))
             }
             Err(home) => Err((Lease { home }, guest)),

@@ -425,6 +425,7 @@ impl Member {
     pub(crate) fn stay_with(self, workers: &mut Vec<Worker>)
         requires { length workers.old.items < vec_capacity workers.old }
         ensures items { workers.new.items ≡ workers.old.items ++ self.hand ∷ [] }
+        ensures capacity { vec_capacity workers.new ≡ vec_capacity workers.old }
         ensures own { IsOwn self.board self.hand }
     {
         let (home, guest) = self.apart();

@@ -1,13 +1,13 @@
 //! Sets: a tree that gives out its workers as members, and is closed when all of them are at home,
 //! or with the set.
-ghost use Rattle.std.specs.Prelude.{◌≡◌, ◌<◌, ◌≤◌, ◌↔◌, ◌⊎◌, ◌++◌, ◌∷◌, [], true, false, length, IfOk, IfErr, IsErrOf, OnOk, OnErr};
+ghost use Rattle.std.specs.Prelude.{◌≡◌, ◌<◌, ◌≤◌, ◌↔◌, ◌⊎◌, ◌++◌, ◌∷◌, [], true, false, length, IfOk, IfErr, IsErrOf, OnOk, OnErr, vec_capacity};
 ghost use Rattle.std.specs.Arc.{arc_value};
 ghost use Rattle.nm_edge.specs.Layouts.{in_radix, spaced};
 ghost use Rattle.nm_tree.specs.Closing.{IsClosed};
 ghost use Rattle.nm_tree.specs.Workers.{AreNew, HaveFit};
-ghost use Rattle.nm_set.specs.Seats.{AreOwn, BeginsWith, IsResident, IsAnyResident, TellsAway};
-ghost use Rattle.nm_set.specs.Ends.{EndsSet, IsLeftOpen, IsTreesReason, told_reason};
-ghost use Rattle.nm_set.specs.States.{open_set, closing_set};
+ghost use Rattle.nm_set.specs.Seats.{AreOwn, HasRoom, IsResident, IsAnyResident, TellsAway};
+ghost use Rattle.nm_set.specs.Ends.{EndsSet, IsLeftOpen, IsTreesReason, SaysEnded, told_reason};
+ghost use Rattle.nm_set.specs.States.{open_set, closing_set, room_for_one};
 
 use crate::attach::take_any;
 use crate::fault::{CloseReason, MemberFault};
@@ -29,6 +29,19 @@ pub(crate) enum State {
     Closing(Site),
 }
 
+impl State {
+    /// How many workers there must be room for, so that one is kept and all that are at home can be
+    /// gathered behind it.
+    fn room_for_one(&self) -> usize
+        ensures { result ≡ room_for_one self.now }
+    {
+        match self {
+            State::Open(home) => 1 + home.workers(),
+            State::Closing(_) => 1,
+        }
+    }
+}
+
 /// A set of keys, the whole numbers up to 2^64 - 4, which threads share by its members.
 #[derive(Drop)]
 pub struct Set {
@@ -38,18 +51,20 @@ pub struct Set {
 }
 
 impl Model for Set {
+    ghost use Rattle.std.specs.Prelude.{vec_capacity};
     ghost use Rattle.nm_set.specs.Seats.{AreOwn, Standing};
-    ghost use Rattle.nm_set.specs.States.{site_of, standing_of};
+    ghost use Rattle.nm_set.specs.States.{MayGather, site_of, standing_of};
 
     ghost Value = { Standing };
 
     ghost view = { λ s. standing_of s.state s.kept.items };
 
-    ghost invariant = { λ s. AreOwn (site_of s.state).tree s.kept.items };
+    ghost invariant = { λ s. AreOwn (site_of s.state).tree s.kept.items
+        × MayGather s.state s.kept.items (vec_capacity s.kept) };
 }
 
-/// A set was not closed. Behind `Away` it is as it was; behind the others its workers may have been
-/// gathered, so that only `close` goes on. No worker is lost: those that it keeps are as they came.
+/// A set was not closed. Behind `Away` it is as it was; behind the others its workers were gathered,
+/// so that only `close` goes on. No worker is lost: those that it keeps are as they came.
 #[derive(Drop)]
 pub struct CloseError {
     pub reason: CloseReason,
@@ -222,7 +237,7 @@ impl Set {
         ensures same { OnErr result (self.new ≡ self.old) }
         ensures refused { IfErr result (λ e. e.member ≡ member) }
     {
-        match self.kept.reserve(1) {
+        match self.kept.reserve(self.state.room_for_one()) {
             Ok(()) => {
                 member.stay_with(&mut self.kept);
                 Ok(())
@@ -237,17 +252,21 @@ impl Set {
     ///
     /// `Away`: a member is neither closed nor kept; the set is as it was. `NotAll`, `NoMemory`: see
     /// `CloseReason`; the set keeps all workers that it has gathered, and `close` can be called
-    /// again.
+    /// again. So the set that is handed back tells which it was.
     pub fn close(self) -> Result<Report, CloseError>
+        ensures says { IfOk result (SaysEnded self) }
         ensures closed { IfOk result (EndsSet self) }
         ensures refused { IfErr result (λ e. IsLeftOpen self e.reason e.set) }
     {
         let Set { state, kept } = self;
         match state {
             State::Closing(site) => end(site, kept),
-            State::Open(home) => match gather(home, kept) {
-                Ok((site, workers)) => end(site, workers),
-                Err(error) => Err(error),
+            State::Open(home) => match Arc::try_unwrap(home) {
+                Ok(home) => {
+                    let (site, workers) = home.gather(kept);
+                    end(site, workers)
+                }
+                Err(home) => Err(left_open(home, kept)),
             },
         }
     }
@@ -271,35 +290,15 @@ fn settle(alloc: Global, site: Site, workers: Vec<Worker>, seats: u32) -> Result
     }
 }
 
-/// The tree, with the workers that were kept and then all that are at home, where no member has the
-/// home too.
-fn gather(home: Arc<Home, Global>, kept: Vec<Worker>) -> Result<(Site, Vec<Worker>), CloseError>
+/// An open set that is as it was, since others have its home.
+fn left_open(home: Arc<Home, Global>, kept: Vec<Worker>) -> CloseError
     requires own { AreOwn (arc_value home).tree kept.items }
-    ensures site { IfOk result (λ g. g.0 ≡ arc_value home) }
-    ensures all { IfOk result (λ g. AreOwn (arc_value home).tree g.1.items
-        × BeginsWith kept.items g.1.items) }
-    ensures reason { IfErr result
-        (λ e. (e.reason ≡ CloseReason.Away) ⊎ (e.reason ≡ CloseReason.NoMemory)) }
-    ensures refused { IfErr result (λ e. e.set ≡ open_set (arc_value home) kept.items) }
-{
-    let mut workers = kept;
-    if workers.reserve(home.workers()).is_err() {
-        return Err(left_open(home, workers, CloseReason::NoMemory));
-    }
-    match Arc::try_unwrap(home) {
-        Ok(home) => Ok(home.gather(workers)),
-        Err(home) => Err(left_open(home, workers, CloseReason::Away)),
-    }
-}
-
-/// An open set that is as it was.
-fn left_open(home: Arc<Home, Global>, kept: Vec<Worker>, reason: CloseReason) -> CloseError
-    requires own { AreOwn (arc_value home).tree kept.items }
-    ensures told { result.reason ≡ reason }
+    requires room { HasRoom (arc_value home).tree kept.items (vec_capacity kept) }
+    ensures told { result.reason ≡ CloseReason.Away }
     ensures set { result.set ≡ open_set (arc_value home) kept.items }
 {
     CloseError {
-        reason,
+        reason: CloseReason::Away,
         set: Set {
             state: State::Open(home),
             kept,

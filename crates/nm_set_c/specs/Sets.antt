@@ -151,7 +151,7 @@ EndsHandle old new o = IsRefused old new o
 abbrev pub IsEndedBy : Seated → Owner → Outcome → Type 0
 IsEndedBy m new o =
     ((o ≡ outcome.Done) × (r : Report) × (new ≡ Ended r) × EndsMember m r)
-    ⊎ ((((o ≡ outcome.Away) ⊎ (o ≡ outcome.NoMemory)) × (new ≡ Worker m))
+    ⊎ (((o ≡ outcome.Away) × (new ≡ Worker m))
     ⊎ ((why : Reason) × (o ≡ of_reason (told_reason why)) × (t : Standing) × (new ≡ Set t)
     × HasGathered (set_of m) why t))
 

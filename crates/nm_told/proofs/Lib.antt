@@ -16,5 +16,8 @@ pub mod OneMember
 pub mod RadixLookups
 pub mod ReadNodes
 pub mod Schedulers
+pub mod RunSums
+pub mod AddedUp
+pub mod Working
 mod AnswersInRuns
 mod Counting

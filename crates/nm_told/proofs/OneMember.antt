@@ -27,7 +27,7 @@ use Rattle.nm_tree.specs.Workers.{Hand, log_held_of}
 use Rattle.nm_tree.proofs.JoinsAlone.{told_in_part}
 use Rattle.nm_tree.proofs.TurnTotals.{wins_flags}
 use Rattle.nm_set.specs.Seats.{IsOwn, Standing}
-use Rattle.nm_set.specs.Ends.{EndsSet}
+use Rattle.nm_set.specs.Ends.{SaysEnded}
 use Rattle.nm_told.specs.Adding.{HasAdded}
 use Rattle.nm_told.specs.Meanwhile.{NoneDeleted}
 use Rattle.nm_told.proofs.StayingKeys.{stays_where_none_deleted}
@@ -137,8 +137,8 @@ module _ (b : Board) (z : Hand) (home : List Hand) (k : ℕ) (queues : List Held
       (stays_where_none_deleted b.layout added.start.view.past v.past is.turns v.number k added.key answer on is.headline.plain_set none_deleted, omega (arith, key))
 
 -- of a set that kept that worker alone
-pub reported : (s : Standing) (z : Hand) (k : ℕ) (r : Report) → s.kept ≡ z ∷ [] → s.board.layout.workers ≡ 1 → IsOwn s.board z → HasSeenTurns z.pass.view → HasAdded k z → EndsSet s r → Contains r.keys.items k
+pub reported : (s : Standing) (z : Hand) (k : ℕ) (r : Report) → s.kept ≡ z ∷ [] → s.board.layout.workers ≡ 1 → IsOwn s.board z → HasSeenTurns z.pass.view → HasAdded k z → SaysEnded s r → Contains r.keys.items k
 reported s z k r kept one own seen added e =
     let C : List Hand → Type 0 = λ ws. SaysClosed s.board ws r.queues.items r.keys.items r.free r.reached in
     let ws = ap (λ (us : List Hand). us ++ e.home) kept in
-    has_key s.board z e.home k r.queues.items r.keys.items r.free r.reached one own seen added (subst C ws e.closed.says)
+    has_key s.board z e.home k r.queues.items r.keys.items r.free r.reached one own seen added (subst C ws e.says)

@@ -5,3 +5,4 @@ pub mod PuttingBack
 pub mod Adding
 pub mod Taking
 pub mod Tallies
+pub mod Queues

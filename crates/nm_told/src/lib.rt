@@ -14,6 +14,7 @@ mod radix;
 mod reading;
 mod rejoining;
 mod sets;
+mod sharing;
 mod threads;
 mod trees;
 
@@ -32,6 +33,7 @@ pub use radix::look_in_radix;
 pub use reading::look_where_told;
 pub use rejoining::{Found, add_then_rejoin};
 pub use sets::insert_then_report;
+pub use sharing::{Shared, add_tasks, share_tasks, take_tasks};
 pub use threads::{Inserted, find_both, insert_both, insert_both_then_find};
 pub use trees::{
     delete_then_miss, insert_then_find, insert_then_find_alone, look_told, tell_worker,

@@ -14,4 +14,4 @@ returns-in-Ok-close c =
     let kept : s.kept ≡ hand ∷ [] = ap (λ (x : Standing). x.kept) is ∙ ap (λ (ws : List Hand). ws ++ hand ∷ []) c.requires.new in
     let one = subst (λ (b : Board). b.layout.workers ≡ 1) (sym board) c.requires.one in
     let own = subst (λ (b : Board). IsOwn b hand) (c.requires.own ∙ sym board) c.is_of_a_run.ensures.own in
-    reported s hand c.args.key c.in-Ok-close.report kept one own c.is_of_a_run.ensures.turns c.requires.added c.in-Ok-close.ensures.closed
+    reported s hand c.args.key c.in-Ok-close.report kept one own c.is_of_a_run.ensures.turns c.requires.added c.in-Ok-close.ensures.says

@@ -1,9 +1,10 @@
-use Rattle.std.proofs.Common.{◌≡◌, ◌∙◌, List, [], ◌∷◌, ◌++◌, sym, ap, subst}
+use Rattle.std.proofs.Common.{rules, ◌≡◌, ◌≤◌, ◌+◌, ◌∙◌, List, [], ◌∷◌, ◌++◌, length, sym, ap, subst}
+use Rattle.std.specs.Prelude.{vec_capacity}
 use Rattle.nm_steps.specs.Steps.{Board}
 use Rattle.nm_tree.specs.Workers.{Hand}
 use Rattle.nm_set.specs.Seats.{AreOwn, IsOwn, Standing}
-use Rattle.nm_set.specs.States.{site_of}
-use Rattle.nm_set.proofs.SetEnds.{own_and, tree_of}
+use Rattle.nm_set.specs.States.{MayGather, room_for_one, site_of}
+use Rattle.nm_set.proofs.SetEnds.{own_and, room_behind, tree_of}
 use Rattle.nm_set.proofs.set.Set.keep.Goals as goal
 
 pub invariant_of-self : goal.invariant_of-self
@@ -14,4 +15,8 @@ invariant_of-self c =
     let more = c.stay_with.ensures.items ∙ ap (λ (ws : List Hand). ws ++ hand ∷ []) c.in-Ok.ensures.items in
     let same : c.args.member.board ≡ tree = c.requires.own ∙ (ap (λ (s : Standing). s.board) (sym c.self.view_is) ∙ tree_of c.self.inside.state before) in
     let own = subst (λ (b : Board). IsOwn b hand) same c.stay_with.ensures.own in
-    subst (AreOwn tree) (sym more) (own_and tree before hand c.self.invariant own)
+    let room = vec_capacity c.stay_with.new.workers in
+    let enough : length before + room_for_one c.self.inside.state ≤ room = search (rules, c.room_for_one.ensures, c.stay_with.ensures.capacity, c.in-Ok.ensures.ok, c.reserve.ensures.items) in (
+      subst (AreOwn tree) (sym more) (own_and tree before hand c.self.invariant.0 own),
+      subst (λ (ws : List Hand). MayGather c.self.inside.state ws room) (sym more) (room_behind c.self.inside.state before hand room enough),
+    )
