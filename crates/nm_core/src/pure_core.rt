@@ -1,5 +1,5 @@
 //! The core: the machine from its opening on.
-ghost use Rattle.std.specs.Prelude.{◌≡◌, ◌≢◌, ◌<◌, ◌≤◌, ◌⊎◌, ◌↔◌, IfOk, IfErr, OnOk, OnErr, IsErrOf, IsSome, None, All, take, length};
+ghost use Rattle.std.specs.Prelude.{◌≡◌, ◌<◌, ◌≤◌, ◌⊎◌, ◌↔◌, IfOk, IfErr, OnOk, OnErr, IsErrOf, IsSome, None, All, take, length};
 ghost use Rattle.std.specs.Option.{option_copied};
 ghost use Rattle.nm_model.specs.Runs.{reply_of};
 ghost use Rattle.nm_model.specs.Ordered.{opening_of, plain, ordered, HasKey, IsReached, refused_in, applied_in, next_in, outcome_in, after_in, trace_in};
