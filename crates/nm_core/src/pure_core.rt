@@ -86,10 +86,10 @@ impl Core {
         Ok(Core::of(alloc, layout_of(nodes, workers)?, true)?)
     }
 
-    /// The opening of a core of that layout, an ordered one or a plain one. In a core of a radix tree
-    /// a link may be over an internal node; an ordered one allows it where a walk of the worker's own
-    /// operation came within the ranges of the nodes above, to a leaf or to a node without the key
-    /// in its range.
+    /// The opening of a core of that layout, an ordered one or a plain one. In a core of a radix
+    /// tree a link may be over an internal node; an ordered one allows it where a walk of the
+    /// worker's own operation came within the ranges of the nodes above, to a leaf or to a node
+    /// without the key in its range.
     pub fn of(alloc: Global, layout: Layout, is_ordered: bool) -> Result<Core, AllocError>
         ensures opening { IfOk result (λ core. core ≡ opening_of layout is_ordered) }
     {
