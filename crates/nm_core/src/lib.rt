@@ -3,7 +3,7 @@
 
 mod pure_core;
 
-ghost use Rattle.std.specs.Prelude.{◌≡◌, [], ◌∷◌, Some};
+ghost use Rattle.std.specs.Prelude.{[], ◌∷◌};
 ghost use Rattle.nm_core.specs.RadixSchedules.{parent_cut};
 ghost use Rattle.nm_model.specs.Schedules.{IsAsWorked, IsAsWorkedInOrder};
 ghost use Rattle.nm_model.specs.Schedules as worked;

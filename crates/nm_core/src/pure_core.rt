@@ -1,5 +1,5 @@
 //! The core: the machine from its opening on.
-ghost use Rattle.std.specs.Prelude.{◌≡◌, ◌≢◌, ◌<◌, ◌≤◌, ◌⊎◌, ◌↔◌, IfOk, IfErr, OnOk, OnErr, IsErrOf, IsSome, None, All, take, length};
+ghost use Rattle.std.specs.Prelude.{◌≡◌, ◌<◌, ◌≤◌, ◌⊎◌, ◌↔◌, IfOk, IfErr, OnOk, OnErr, IsErrOf, IsSome, None, All, take, length};
 ghost use Rattle.std.specs.Option.{option_copied};
 ghost use Rattle.nm_model.specs.Runs.{reply_of};
 ghost use Rattle.nm_model.specs.Ordered.{opening_of, plain, ordered, HasKey, IsReached, refused_in, applied_in, next_in, outcome_in, after_in, trace_in};
@@ -86,10 +86,10 @@ impl Core {
         Ok(Core::of(alloc, layout_of(nodes, workers)?, true)?)
     }
 
-    /// The opening of a core of that layout, an ordered one or a plain one. In a core of a radix tree
-    /// a link may be over an internal node; an ordered one allows it where a walk of the worker's own
-    /// operation came within the ranges of the nodes above, to a leaf or to a node without the key
-    /// in its range.
+    /// The opening of a core of that layout, an ordered one or a plain one. In a core of a radix
+    /// tree a link may be over an internal node; an ordered one allows it where a walk of the
+    /// worker's own operation came within the ranges of the nodes above, to a leaf or to a node
+    /// without the key in its range.
     pub fn of(alloc: Global, layout: Layout, is_ordered: bool) -> Result<Core, AllocError>
         ensures opening { IfOk result (λ core. core ≡ opening_of layout is_ordered) }
     {

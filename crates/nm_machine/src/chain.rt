@@ -3,6 +3,7 @@ ghost use Rattle.std.specs.Prelude.{◌≡◌, ◌++◌, [], ◌∷◌, is_some,
 ghost use Rattle.nm_model.specs.Knowledge.{read, slot_read, leads_on, onward, way, cut_by};
 ghost use Rattle.nm_model.specs.Step.{is_frozen, kept};
 
+use crate::known::{goes_by, slot_read};
 use crate::worker::Worker;
 use nm_edge::{Edge, Layout, Side};
 use std::alloc::{AllocError, Global};
@@ -12,9 +13,7 @@ impl Worker {
     fn leads_on(&self, slot: u32, side: Side) -> bool
         ensures { result ≡ leads_on self.now slot side }
     {
-        self.knows_tagged(slot, side)
-            && self.knows_flagged(slot, side.other())
-            && !self.knows_flagged(slot, side)
+        goes_by(&self.seen(slot), side)
     }
 
     // The side on which the chain goes on.
@@ -34,10 +33,7 @@ impl Worker {
     fn slot_read(&self, slot: u32, side: Side) -> u32
         ensures { result ≡ slot_read (read self.now slot side) }
     {
-        match self.read(slot, side) {
-            Some(edge) => edge.slot(),
-            None => 0,
-        }
+        slot_read(self.read(slot, side))
     }
 
     /// Whether a chain of known tagged edges with flagged twins leads from the successor to the

@@ -151,7 +151,7 @@ impl Known {
 }
 
 // Whether a chain goes on from a node by its edge on a side.
-fn goes_by(seen: &Seen, side: Side) -> bool
+pub(crate) fn goes_by(seen: &Seen, side: Side) -> bool
     ensures { result ≡ goes_by (read_on seen.now side) (read_on seen.now (other side)) }
 {
     seen.on(side).is_some_and(Edge::tag)
@@ -160,7 +160,7 @@ fn goes_by(seen: &Seen, side: Side) -> bool
 }
 
 // The slot to which an edge led when it was read; 0 where it was not.
-fn slot_read(edge: Option<Edge>) -> u32
+pub(crate) fn slot_read(edge: Option<Edge>) -> u32
     ensures { result ≡ slot_read edge }
 {
     match edge {

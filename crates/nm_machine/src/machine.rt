@@ -148,7 +148,8 @@ impl Machine {
         self.put_node(slot, node);
     }
 
-    /// Whether a worker is there, and its event not refused.
+    /// Whether an event is admitted: its worker is there, and no refusal holds. What is found of a
+    /// chain is kept, where there is memory.
     #[tactic(auto, unfolding(nm_model::specs::Runs::refused))]
     pub fn admit(&mut self, worker: u32, event: &Event) -> Result<(), Refused>
         requires { IsShaped self.old }

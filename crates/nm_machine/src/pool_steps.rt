@@ -4,7 +4,6 @@
 ghost use Rattle.std.specs.Prelude.{◌<◌, length};
 ghost use Rattle.nm_model.specs.declared.event.Event.TheVariants as event;
 ghost use Rattle.nm_model.specs.Runs.{refusal_of};
-ghost use Rattle.nm_model.specs.Answers.{IsShaped};
 ghost use Rattle.nm_machine.specs.Admission.{Admits, IsAdmitted, Applies, AppliesOrKeeps};
 
 use crate::machine::Machine;
@@ -14,7 +13,7 @@ use nm_model::reply::{Refused, Reply};
 use std::alloc::AllocError;
 
 impl Machine {
-    /// Whether there is such a slot in the pool, or may be.
+    /// Whether the pool has such a slot, free or not.
     pub(crate) fn may_claim(&self, worker: usize, slot: u32) -> Result<(), Refused>
         ensures { Admits (refusal_of self.now worker (event.Claim slot)) result }
     {

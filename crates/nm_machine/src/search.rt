@@ -265,8 +265,8 @@ impl Search {
         self.linked || self.flagged.is_some()
     }
 
-    // Whether a walk for the key came to where the new nodes put it beside a slot: it ended there, at
-    // a leaf, or in a radix tree each node above has the key in its range.
+    // Whether a walk for the key came to where the new nodes put it beside a slot: it ended there,
+    // at a leaf, or in a radix tree each node above has the key in its range.
     fn shows_place(
         &self,
         layout: Layout,

@@ -161,7 +161,8 @@ impl Machine {
         keep: Side,
     ) -> Result<(), Refused>
         requires { worker < length self.old.workers }
-        ensures admits { Admits (refusal_of self.old worker (event.Splice ancestor side successor parent keep)) result }
+        ensures admits { Admits
+            (refusal_of self.old worker (event.Splice ancestor side successor parent keep)) result }
         ensures same { self.new ≡ self.old }
     {
         if self.is_outside(1, ancestor)
@@ -230,7 +231,8 @@ impl Machine {
         keep: Side,
     ) -> Result<Reply, AllocError>
         requires { IsAdmitted self.old worker (event.Splice ancestor side successor parent keep) }
-        ensures { AppliesOrKeeps self.old self.new worker (event.Splice ancestor side successor parent keep) result }
+        ensures { AppliesOrKeeps self.old self.new worker
+            (event.Splice ancestor side successor parent keep) result }
     {
         let edge = self.edge(ancestor, side);
         if !edge.is_to(successor) {

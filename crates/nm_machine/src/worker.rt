@@ -1,5 +1,5 @@
 //! What one worker knows, and how its events add to it.
-ghost use Rattle.std.specs.Prelude.{◌≡◌, ◌≢◌, ◌<◌, ◌==◌, ◌^◌, true, false, not, ◌&&◌, unwrap_or, replicate, length, [], Some, None, is_some, IfOk, IfErr, OnOk, OnErr};
+ghost use Rattle.std.specs.Prelude.{◌≡◌, ◌<◌, ◌==◌, ◌^◌, true, false, not, ◌&&◌, unwrap_or, replicate, length, [], Some, None, is_some, IfOk, OnOk, OnErr};
 ghost use Rattle.std.specs.Option.{option_copied};
 ghost use Rattle.nm_model.specs.declared.event.Field.TheVariants.{Birth};
 ghost use Rattle.nm_model.specs.declared.reply.Reply.TheVariants.{BirthIs};
@@ -227,7 +227,7 @@ impl Worker {
     }
 
     // What is known of a node.
-    fn seen(&self, slot: u32) -> Seen
+    pub(crate) fn seen(&self, slot: u32) -> Seen
         ensures { result ≡ seen_of self.now slot }
     {
         match self.known.get(slot) {
