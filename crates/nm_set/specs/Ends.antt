@@ -12,9 +12,9 @@ use Rattle.nm_set.specs.declared.fault.CloseReason.{CloseReason}
 use Rattle.nm_set.specs.declared.fault.CloseReason.TheVariants as because
 use Rattle.nm_set.specs.Seats.{AreOwn, Seated, Standing}
 
--- What a caller has of a set that was ended: its tree was closed with the workers that the set kept,
--- each as it came, and then with those that were at home; which these had been is not said, but that
--- there are none where a refused close had gathered all
+-- What a caller has of a set that was ended: its tree was closed with the workers that the set
+-- kept, each as it came, and then with those that were at home; which these had been is not said,
+-- but that there are none where a refused close had gathered all
 pub record SaysEnded (s : Standing) (r : Report) : Type 0 where
   pub home : List Hand
   pub none : s.closing ≡ true → home ≡ []

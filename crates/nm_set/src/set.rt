@@ -30,8 +30,8 @@ pub(crate) enum State {
 }
 
 impl State {
-    /// How many workers there must be room for, so that one is kept and all that are at home can be
-    /// gathered behind it.
+    /// How many workers there must be room for, so that one is kept and all that are at home can
+    /// be gathered behind it.
     fn room_for_one(&self) -> usize
         ensures { result ≡ room_for_one self.now }
     {
@@ -63,8 +63,8 @@ impl Model for Set {
         × MayGather s.state s.kept.items (vec_capacity s.kept) };
 }
 
-/// A set was not closed. Behind `Away` it is as it was; behind the others its workers were gathered,
-/// so that only `close` goes on. No worker is lost: those that it keeps are as they came.
+/// A set was not closed. Behind `Away` it is as it was; behind the others its workers were
+/// gathered, so that only `close` goes on. No worker is lost: those that it keeps are as they came.
 #[derive(Drop)]
 pub struct CloseError {
     pub reason: CloseReason,

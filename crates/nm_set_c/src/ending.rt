@@ -43,8 +43,8 @@ fn end(owner: Owner) -> (Owner, Outcome)
 /// Ends the set by its last worker, once its own handle was dropped and all its other workers are
 /// closed: `Member::end` of `nm_set`. `Done`, and the handle owns the report from then on, which is
 /// told of the tree on which this worker has worked, and of all that it has done. `Away`: the
-/// handle of the set or that of another worker is open still, and the worker is as it was. `NotAll`,
-/// `NoMemory`: all workers were gathered; the handle owns the set from then on, and only
+/// handle of the set or that of another worker is open still, and the worker is as it was.
+/// `NotAll`, `NoMemory`: all workers were gathered; the handle owns the set from then on, and only
 /// `nm_set_close` goes on. `Closed`, `InUse`, `Kind`.
 #[unsafe(no_mangle)]
 pub extern "C" fn nm_worker_end(alloc: Global, worker: &mut Handle) -> i32

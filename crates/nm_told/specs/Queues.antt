@@ -1,4 +1,4 @@
--- A queue of tasks that members share: what they have added, what they have taken, and what is left.
+-- A queue of tasks that members share: what they have added, what they have taken, what is left.
 use Rattle.std.specs.Prelude.{◌≡◌, ◌+◌, ℕ, List, None, length, sum_by}
 use Rattle.nm_calls.specs.Won.{HasWon, won_flags, won_links}
 use Rattle.nm_steps.specs.Steps.{Board, HasSeenAllOf, IsSamePass}

@@ -80,8 +80,8 @@ fn three_of(members: Vec<Member>) -> Option<(Member, Member, Member)>
     Some((first, second, third))
 }
 
-/// Closes a set that keeps all its members. `None`: memory was refused. Else what they have added is
-/// what they have taken and what is left.
+/// Closes a set that keeps all its members. `None`: memory was refused. Else what they have added
+/// is what they have taken and what is left.
 fn close_with_all(set: Set, first: Member, second: Member, third: Member) -> Option<Report>
     requires new { set.kept ≡ [] }
     requires three { set.board.layout.workers ≡ 3 }
