@@ -1,17 +1,9 @@
 -- Lines with what their events were answered.
-use Rattle.std.proofs.Common.{◌≡◌, ℕ, ◌+◌, ◌≤◌, true, false, List, [], ◌∷◌, ◌++◌, length, drop, Result, Ok, Err, refl, sym, ap, ◌∙◌, append_assoc, inl, inr}
-use Rattle.std.specs.Prelude.{◌==◌}
-use Rattle.std.specs.List.{onto_first}
-use Rattle.std.proofs.lemmas.Bool.{cases_Bool}
+use Rattle.std.proofs.Common.{◌≡◌, ℕ, ◌+◌, ◌≤◌, List, [], ◌∷◌, ◌++◌, length, drop, refl, sym, ◌∙◌}
 use Rattle.std.proofs.lemmas.List.{append-nil, drop_all}
 use Rattle.nm_model.specs.declared.trace.Turn.{Turn}
-use Rattle.nm_files.specs.declared.fault.Reason.{Reason}
-use Rattle.nm_files.specs.declared.fault.RunFault.{RunFault}
 use Rattle.nm_files.specs.declared.fault.RunFault.TheVariants as run
-use Rattle.nm_files.specs.Chain.{◌>>=◌}
 use Rattle.nm_replay.specs.Output.{lines_with}
-use Rattle.nm_files.specs.Lines.{pieces}
-use Rattle.nm_files.specs.Files.{Fault, Fails, checked, cut_off, entries_from, file_from}
 
 pub no_replies : (lines : List (List ℕ)) → lines_with lines [] ≡ []
 no_replies [] = refl
