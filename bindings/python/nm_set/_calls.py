@@ -160,3 +160,8 @@ def first_wrong(keys: memoryview, is_signed: bool) -> int:
     if not len(view) or (min(view) >= 0 and max(view) <= MOST_KEY):
         return -1
     return next(at for at, key in enumerate(view) if not 0 <= key <= MOST_KEY)
+
+
+def answers(found: memoryview) -> list[bool]:
+    """Of each byte whether it is not 0."""
+    return [byte != 0 for byte in found]

@@ -13,7 +13,7 @@ from numbers import Number
 from typing import Any, NoReturn, Optional, SupportsIndex, TypeVar
 
 from . import _library as c
-from ._backend import Calls, first_wrong
+from ._backend import Calls, answers, first_wrong
 from ._faults import MOST_KEY, Closed, Full, InUse, fault, key_fault
 
 _T = TypeVar("_T")
@@ -165,7 +165,7 @@ class Keys(MutableSet):  # type: ignore[type-arg]
                 at += self._calls.contains_some(words, at, found)
             except (Closed, InUse):
                 at += self._again(self._calls.contains_some, words, at, found)
-        return [byte != 0 for byte in found] if out is None else out
+        return answers(found) if out is None else out
 
     def _change_many(self, keys: Iterable[SupportsIndex], name: str) -> int:
         words, at, changed = words_of(keys), 0, 0

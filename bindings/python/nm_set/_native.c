@@ -519,6 +519,22 @@ static PyObject *first_wrong(PyObject *module, PyObject *args) {
     return PyLong_FromSsize_t(at < count ? at : -1);
 }
 
+/* Of each byte whether it is not 0. */
+static PyObject *answers(PyObject *module, PyObject *object) {
+    Py_buffer found;
+    (void)module;
+    if (PyObject_GetBuffer(object, &found, PyBUF_SIMPLE) < 0) {
+        return NULL;
+    }
+    const unsigned char *bytes = found.buf;
+    PyObject *list = PyList_New(found.len);
+    for (Py_ssize_t at = 0; list && at < found.len; at++) {
+        PyList_SetItem(list, at, PyBool_FromLong(bytes[at]));
+    }
+    PyBuffer_Release(&found);
+    return list;
+}
+
 /* Where the functions of the library are, and what makes the exceptions. */
 static PyObject *bind(PyObject *module, PyObject *args) {
     unsigned long long contains, insert, remove, pop_first, pop_last, next, prev;
@@ -547,6 +563,7 @@ static PyObject *bind(PyObject *module, PyObject *args) {
 }
 
 static PyMethodDef functions[] = {
+    {"answers", answers, METH_O, NULL},
     {"bind", bind, METH_VARARGS, NULL},
     {"first_wrong", first_wrong, METH_VARARGS, NULL},
     {NULL, NULL, 0, NULL},
