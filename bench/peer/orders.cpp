@@ -22,9 +22,10 @@
 
 #if __has_include(<cds/init.h>)
 #define HAS_CDS 1
-#include <cds/container/skip_list_set_rcu.h>
 #include <cds/init.h>
 #include <cds/urcu/general_buffered.h>
+// Behind its reclamation.
+#include <cds/container/skip_list_set_rcu.h>
 #endif
 
 namespace {
@@ -120,6 +121,12 @@ private:
 #ifdef HAS_CDS
 using Rcu = cds::urcu::gc<cds::urcu::general_buffered<>>;
 
+// A thread that libcds knows, as often as it says so.
+struct Attached {
+    Attached() { cds::threading::Manager::attachThread(); }
+    ~Attached() { cds::threading::Manager::detachThread(); }
+};
+
 class Skip {
 public:
     Skip(std::size_t, std::size_t) {}
@@ -137,6 +144,7 @@ public:
         }
 
     private:
+        Attached attached_;
         typename cds::container::SkipListSet<Rcu, Key> &set_;
     };
 
@@ -208,14 +216,8 @@ double in_threads(Set &set, std::size_t threads, std::size_t turns, Turn turn) {
         std::vector<std::thread> started;
         for (std::size_t number = 0; number < threads; number++)
             started.emplace_back([&, number] {
-#ifdef HAS_CDS
-                cds::threading::Manager::attachThread();
-#endif
                 typename Set::Access access(set, number);
                 for (std::size_t made = 0; made < turns / threads; made++) turn(access);
-#ifdef HAS_CDS
-                cds::threading::Manager::detachThread();
-#endif
             });
         for (auto &thread : started) thread.join();
     });
@@ -288,9 +290,8 @@ int main(int count, char **words) {
         cds::Initialize();
         {
             Rcu rcu;
-            cds::threading::Manager::attachThread();
+            Attached attached;
             serve<Skip>();
-            cds::threading::Manager::detachThread();
         }
         cds::Terminate();
     }

@@ -17,7 +17,7 @@ pub enum Fit {
     /// From slot 6 upwards at each claim: first fit.
     Lowest,
     /// From the first slot of a row of 64 upwards, and round: the row of the slot which the worker
-    /// gave back last or, since then, found: next fit.
+    /// found last or, since then, gave back first: next fit.
     Near,
 }
 
@@ -29,8 +29,11 @@ pub enum Fit {
 #[derive(Drop)]
 pub struct Placement {
     fit: Fit,
-    // The slot in whose row a near worker looks first.
+    // The slot in whose row a near worker looks first: the one that it found last or, where some were
+    // given back since then, the first of these. What goes first came first, so the others lie behind
+    // it, and not before, where a claim would come only once it had gone round.
     cursor: u32,
+    is_given: bool,
 }
 
 impl Model for Placement {
@@ -47,7 +50,11 @@ impl Placement {
     pub fn new(fit: Fit, cursor: u32) -> Placement
         ensures { result ≡ fit }
     {
-        Placement { fit, cursor }
+        Placement {
+            fit,
+            cursor,
+            is_given: false,
+        }
     }
 
     /// Which fit it is.
@@ -57,11 +64,24 @@ impl Placement {
         self.fit
     }
 
-    /// Remembers a slot that was given back: a near claim looks in its row first.
+    /// Remembers a slot that was given back, the first one since the last claim: a near claim looks in
+    /// its row first.
     pub fn keep(&mut self, slot: u32)
         ensures { self.new ≡ self.old }
     {
+        if !self.is_given {
+            self.cursor = slot;
+        }
+        self.is_given = true;
+    }
+
+    /// Remembers a slot that was found: a near claim looks on from its row.
+    #[inline(always)]
+    fn found(&mut self, slot: u32)
+        ensures { self.new ≡ self.old }
+    {
         self.cursor = slot;
+        self.is_given = false;
     }
 
     /// The slot from which to look on, of those from 6 to `nodes`: the first of the cursor's row.
@@ -121,12 +141,12 @@ fn claim_near(shared: &Shared, pass: &mut Pass, placement: &mut Placement) -> Op
     let nodes = shared.layout().nodes();
     let first = placement.first(nodes);
     if let Some(node) = claim_between(shared, pass, first, nodes + 1) {
-        placement.cursor = node.slot;
+        placement.found(node.slot);
         return Some(node);
     }
     let Some(node) = claim_by_rows(shared, pass, FIRST_SLOT, first) else {
         return None;
     };
-    placement.cursor = node.slot;
+    placement.found(node.slot);
     Some(node)
 }

@@ -54,7 +54,7 @@ impl Tree {
     }
 
     /// The same, but a worker looks for a free slot first in one row of 64, that of the slot which
-    /// it gave back last or, since then, found further on, and then from there upwards, and round.
+    /// it found last or, since then, gave back first, and then from there upwards, and round.
     /// So a claim takes few steps where most slots are free, and which slot a new node takes is not
     /// told beforehand.
     ///
