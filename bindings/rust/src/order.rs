@@ -1,6 +1,8 @@
 //! The keys in order, and what is made of single calls for keys.
 
 use crate::fault::Fault;
+use crate::set::Set;
+use crate::worker::Worker;
 use crate::MOST_KEY;
 use std::fmt;
 use std::iter::FusedIterator;
@@ -15,6 +17,27 @@ pub trait Calls {
     /// Whether a key was in the set; it is not now.
     fn take(&mut self, key: u64) -> Result<bool, Fault>;
 }
+
+/// These calls have other names where a user finds them, the same for a set as for a worker.
+macro_rules! calls_of {
+    ($($whose:ty),*) => {$(
+        impl Calls for $whose {
+            fn least_from(&mut self, key: u64) -> Result<Option<u64>, Fault> {
+                self.at_least(key)
+            }
+
+            fn greatest_to(&mut self, key: u64) -> Result<Option<u64>, Fault> {
+                self.at_most(key)
+            }
+
+            fn take(&mut self, key: u64) -> Result<bool, Fault> {
+                self.remove(key)
+            }
+        }
+    )*};
+}
+
+calls_of!(&Set, &mut Worker);
 
 /// Takes a key away. One that is told to be unfinished goes by this call and no other.
 fn take(calls: &mut impl Calls, key: u64) -> Result<(), Fault> {

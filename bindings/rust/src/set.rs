@@ -4,7 +4,7 @@ use crate::fault::Fault;
 use crate::ffi::Handle;
 use crate::key::checked;
 use crate::options::Options;
-use crate::order::{self, Calls, Range};
+use crate::order::{self, Range};
 use crate::pool::Pool;
 use crate::report::Report;
 use crate::tending::tended;
@@ -341,19 +341,5 @@ impl Set {
     /// on. `Closed`: it was closed before.
     pub fn close(&self) -> Result<Report, Fault> {
         self.0.end()
-    }
-}
-
-impl Calls for &Set {
-    fn least_from(&mut self, key: u64) -> Result<Option<u64>, Fault> {
-        self.at_least(key)
-    }
-
-    fn greatest_to(&mut self, key: u64) -> Result<Option<u64>, Fault> {
-        self.at_most(key)
-    }
-
-    fn take(&mut self, key: u64) -> Result<bool, Fault> {
-        self.remove(key)
     }
 }

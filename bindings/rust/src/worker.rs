@@ -4,7 +4,7 @@ use crate::fault::{answer, Fault};
 use crate::ffi::{Handle, Ledger};
 use crate::key::checked;
 use crate::numbers::Numbers;
-use crate::order::{self, Calls, Range};
+use crate::order::{self, Range};
 use crate::pool::{this_thread, Pool};
 use crate::set::Set;
 use crate::tending::{found, lookups_of, tended, Advance};
@@ -360,20 +360,6 @@ impl Worker {
         let (mut links, mut flags) = (0, 0);
         let is_left = answer(self.handle().read(number, &mut links, &mut flags))?;
         Ok(is_left.then_some(Posted { links, flags }))
-    }
-}
-
-impl Calls for &mut Worker {
-    fn least_from(&mut self, key: u64) -> Result<Option<u64>, Fault> {
-        self.at_least(key)
-    }
-
-    fn greatest_to(&mut self, key: u64) -> Result<Option<u64>, Fault> {
-        self.at_most(key)
-    }
-
-    fn take(&mut self, key: u64) -> Result<bool, Fault> {
-        self.remove(key)
     }
 }
 

@@ -29,10 +29,12 @@ pub enum Fit {
 #[derive(Drop)]
 pub struct Placement {
     fit: Fit,
-    // The slot in whose row a near worker looks first: the one that it found last or, where some were
-    // given back since then, the first of these. What goes first came first, so the others lie behind
-    // it, and not before, where a claim would come only once it had gone round.
+    // The slot in whose row a near worker looks first: the one that it found last or, where some
+    // were given back since then, the first of these. Nodes are given back in the order in which
+    // they were cut off, so the others mostly lie ahead of the first; from the last one on a claim
+    // would come to them only once it had gone round.
     cursor: u32,
+    // Whether some were given back since the last claim.
     is_given: bool,
 }
 
@@ -64,8 +66,8 @@ impl Placement {
         self.fit
     }
 
-    /// Remembers a slot that was given back, the first one since the last claim: a near claim looks in
-    /// its row first.
+    /// Remembers a slot that was given back where it is the first one since the last claim: a near
+    /// claim looks in its row first.
     pub fn keep(&mut self, slot: u32)
         ensures { self.new ≡ self.old }
     {
