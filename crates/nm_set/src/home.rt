@@ -18,6 +18,26 @@ pub(crate) struct Site {
     pub(crate) fit: Fit,
 }
 
+impl Site {
+    /// Workers, with those that sit on these seats behind them. There is room for all.
+    fn gather_from(&self, seats: Vec<Seat>, workers: Vec<Worker>) -> Vec<Worker>
+        requires seats { AreSeats self.now 0 seats.items }
+        requires own { AreOwn self.now.tree workers.items }
+        requires room { length workers.items + length seats.items ≤ vec_capacity workers }
+        ensures own { AreOwn self.now.tree result.items }
+        ensures kept { BeginsWith workers.items result.items }
+    {
+        let mut workers = workers;
+        for seat in seats {
+            let Some(guest) = leave(seat) else {
+                continue;
+            };
+            guest.stay_with(&mut workers);
+        }
+        workers
+    }
+}
+
 /// A tree, with a seat for each of its workers, in the order of their numbers.
 #[derive(Drop)]
 pub(crate) struct Home {
@@ -140,7 +160,7 @@ impl Home {
     {
         let Home { site, seats, room } = self;
         let workers = if kept.is_empty() { room } else { kept };
-        let workers = gather_from(&site, seats, workers);
+        let workers = site.gather_from(seats, workers);
         (site, workers)
     }
 
@@ -154,7 +174,7 @@ impl Home {
         let Home { site, seats, room } = self;
         let mut workers = room;
         guest.stay_with(&mut workers);
-        let workers = gather_from(&site, seats, workers);
+        let workers = site.gather_from(seats, workers);
         (site, workers)
     }
 
@@ -172,23 +192,4 @@ impl Home {
     {
         self.seats.len()
     }
-}
-
-/// Workers, with those that sit on these seats behind them. There is room for all.
-fn gather_from(site: &Site, seats: Vec<Seat>, workers: Vec<Worker>) -> Vec<Worker>
-    requires seats { AreSeats site.now 0 seats.items }
-    requires own { AreOwn site.now.tree workers.items }
-    requires room { length workers.items + length seats.items ≤ vec_capacity workers }
-    ensures own { AreOwn site.now.tree result.items }
-    ensures kept { BeginsWith workers.items result.items }
-{
-    let _site = site;
-    let mut workers = workers;
-    for seat in seats {
-        let Some(guest) = leave(seat) else {
-            continue;
-        };
-        guest.stay_with(&mut workers);
-    }
-    workers
 }
