@@ -371,15 +371,16 @@ nm_outcome nm_worker_ledger(nm_handle *worker, nm_ledger *ledger);
  * tests show. Both take no step on the tree, no lock and no memory. */
 
 /* Leaves a note of all that the worker has seen, in place of its earlier one, and writes how many
- * links and flags it has won so far (nm_ledger has them too). NM_DONE; NM_BUSY: a reader has the
- * earlier note at this moment; call again. */
-nm_outcome nm_worker_post(nm_handle *worker, uint64_t *links, uint64_t *flags);
+ * keys it has inserted and removed so far; a delete that is pending does not count. NM_DONE;
+ * NM_BUSY: a reader has the earlier note at this moment; call again. */
+nm_outcome nm_worker_post(nm_handle *worker, uint64_t *inserted, uint64_t *removed);
 
 /* Hears the note that the worker of a number has left, and leaves it there for others: all that
  * this worker is asked from then on comes behind all that that one had seen when it left the note.
- * NM_YES, and how many links and flags that one had won then; NM_NO: it has left none. NM_NUMBER;
- * NM_BUSY: another worker is at that note at this moment; call again. */
-nm_outcome nm_worker_read(nm_handle *worker, uint32_t number, uint64_t *links, uint64_t *flags);
+ * NM_YES, and how many keys that one had inserted and removed then; NM_NO: it has left none.
+ * NM_NUMBER; NM_BUSY: another worker is at that note at this moment; call again. */
+nm_outcome nm_worker_read(nm_handle *worker, uint32_t number, uint64_t *inserted,
+                          uint64_t *removed);
 
 /* ---- the end of a worker ---- */
 

@@ -797,10 +797,10 @@ struct Collected {
     std::uint64_t freed;
 };
 
-// The links and the flags that a worker had won when it left a note.
-struct Won {
-    std::uint64_t links;
-    std::uint64_t flags;
+// How many keys a worker had inserted and removed when it left a note.
+struct Posted {
+    std::uint64_t inserted;
+    std::uint64_t removed;
 };
 
 // How many slots are free, and how many are reached from the root, without the five fixed ones.
@@ -1068,19 +1068,19 @@ public:
 
     // ---- notes ----
 
-    // Leaves a note of all that it has seen: what it has won so far. NM_BUSY where a reader has its
-    // earlier note at this moment.
-    [[nodiscard]] nm_outcome try_post(Won &won) noexcept {
+    // Leaves a note of all that it has seen: what it has done so far. NM_BUSY where a reader has
+    // its earlier note at this moment.
+    [[nodiscard]] nm_outcome try_post(Posted &posted) noexcept {
         return ask([&](nm_handle *worker) {
-            return nm_worker_post(worker, &won.links, &won.flags);
+            return nm_worker_post(worker, &posted.inserted, &posted.removed);
         });
     }
 
-    // Hears the note of the worker of a number: what that one had won then. NM_NO where it has left
-    // none; NM_BUSY, as of `try_post`.
-    [[nodiscard]] nm_outcome try_read(std::uint32_t number, Won &won) noexcept {
+    // Hears the note of the worker of a number: what that one had done then. NM_NO where it has
+    // left none; NM_BUSY, as of `try_post`.
+    [[nodiscard]] nm_outcome try_read(std::uint32_t number, Posted &posted) noexcept {
         return ask([&](nm_handle *worker) {
-            return nm_worker_read(worker, number, &won.links, &won.flags);
+            return nm_worker_read(worker, number, &posted.inserted, &posted.removed);
         });
     }
 

@@ -1,7 +1,6 @@
 /* Notes in threads. Each of four threads inserts keys, leaves a note after each, and then says in a
- * number of the program's own how many links that told of. Each reads the notes of the others: one
- * that was read after that number tells of no fewer links, and finds the keys of that many inserts.
- */
+ * number of the program's own how many keys that told of. Each reads the notes of the others: one
+ * that was read after that number tells of no fewer keys, and finds those of that many inserts. */
 #include "holds.h"
 #include "nm_set.h"
 
@@ -18,20 +17,20 @@ static atomic_uint_fast64_t left[THREADS], started, busy;
 
 /* A thread that finds another one at the post calls again. */
 static void post(nm_handle *worker, uint64_t wanted) {
-    uint64_t links = 0, flags = 0;
+    uint64_t inserted = 0, removed = 0;
     nm_outcome told;
-    while ((told = nm_worker_post(worker, &links, &flags)) == NM_BUSY)
+    while ((told = nm_worker_post(worker, &inserted, &removed)) == NM_BUSY)
         atomic_fetch_add(&busy, 1), sched_yield();
-    CHECK(told == NM_DONE && links == wanted && flags == 0);
+    CHECK(told == NM_DONE && inserted == wanted && removed == 0);
 }
 
-static uint64_t read_links(nm_handle *worker, uint32_t number) {
-    uint64_t links = 0, flags = 0;
+static uint64_t read_inserted(nm_handle *worker, uint32_t number) {
+    uint64_t inserted = 0, removed = 0;
     nm_outcome told;
-    while ((told = nm_worker_read(worker, number, &links, &flags)) == NM_BUSY)
+    while ((told = nm_worker_read(worker, number, &inserted, &removed)) == NM_BUSY)
         atomic_fetch_add(&busy, 1), sched_yield();
-    CHECK(told == NM_YES ? links > 0 && flags == 0 : told == NM_NO && links == 0);
-    return links;
+    CHECK(told == NM_YES ? inserted > 0 && removed == 0 : told == NM_NO && inserted == 0);
+    return inserted;
 }
 
 /* The keys of a thread, in the order in which it inserts them: scattered, since keys in their order
@@ -42,9 +41,11 @@ static uint64_t key_of(uint64_t thread, uint64_t index) {
 
 /* Reads the note of another thread. */
 static void look(nm_handle *worker, uint64_t other) {
-    uint64_t least = atomic_load(&left[other]), links = read_links(worker, (uint32_t)other * APART);
-    CHECK(links >= least && links <= KEYS);
-    if (links > 0) CHECK(nm_worker_try_contains(worker, key_of(other, links - 1), TRIES) == NM_YES);
+    uint64_t least = atomic_load(&left[other]);
+    uint64_t inserted = read_inserted(worker, (uint32_t)other * APART);
+    CHECK(inserted >= least && inserted <= KEYS);
+    if (inserted > 0)
+        CHECK(nm_worker_try_contains(worker, key_of(other, inserted - 1), TRIES) == NM_YES);
 }
 
 static void *work(void *given) {
@@ -71,7 +72,7 @@ int main(void) {
         CHECK(pthread_create(&made[i], NULL, work, (void *)(uintptr_t)i) == 0);
     for (int i = 0; i < THREADS; i++) CHECK(pthread_join(made[i], NULL) == 0);
     CHECK(nm_set_worker(&set, &worker, 1) == NM_DONE);
-    for (uint32_t i = 0; i < THREADS; i++) CHECK(read_links(&worker, i * APART) == KEYS);
+    for (uint32_t i = 0; i < THREADS; i++) CHECK(read_inserted(&worker, i * APART) == KEYS);
     CHECK(nm_drop(&worker) == NM_DONE && nm_set_close(&set) == NM_DONE && nm_drop(&set) == NM_DONE);
     printf("%d notes were left and read; %" PRIuFAST64 " calls found another thread at the post\n",
         THREADS * KEYS, (uint_fast64_t)busy);

@@ -301,28 +301,28 @@ static void away(void) {
     CHECK(nm_drop(&leaver) == NM_DONE && nm_drop(&heir) == NM_DONE && nm_drop(&set) == NM_DONE);
 }
 
-/* A note is heard as often as it is read, tells what its worker had won when it left it, and is the
+/* A note is heard as often as it is read, tells what its worker had done when it left it, and is the
  * latest one. */
 static void notes(void) {
     nm_handle set = NM_CLOSED_HANDLE, writer = NM_CLOSED_HANDLE, reader = NM_CLOSED_HANDLE;
-    uint64_t links = NOT_WRITTEN, flags = NOT_WRITTEN;
+    uint64_t inserted = NOT_WRITTEN, removed = NOT_WRITTEN;
     CHECK(nm_set_near(&set, 64, 2) == NM_DONE && nm_set_worker(&set, &writer, 1) == NM_DONE &&
           nm_set_worker(&set, &reader, 0) == NM_DONE);
-    CHECK(nm_worker_read(&reader, 1, &links, &flags) == NM_NO &&
-          nm_worker_read(&reader, 2, &links, &flags) == NM_NUMBER);
-    CHECK(links == NOT_WRITTEN && flags == NOT_WRITTEN);
+    CHECK(nm_worker_read(&reader, 1, &inserted, &removed) == NM_NO &&
+          nm_worker_read(&reader, 2, &inserted, &removed) == NM_NUMBER);
+    CHECK(inserted == NOT_WRITTEN && removed == NOT_WRITTEN);
     CHECK(nm_worker_try_insert(&writer, 5, TRIES) == NM_YES &&
           nm_worker_try_insert(&writer, 6, TRIES) == NM_YES);
-    CHECK(nm_worker_post(&writer, &links, &flags) == NM_DONE && links == 2 && flags == 0);
+    CHECK(nm_worker_post(&writer, &inserted, &removed) == NM_DONE && inserted == 2 && removed == 0);
     CHECK(nm_worker_try_remove(&writer, 5, TRIES) == NM_YES);
     for (int turn = 0; turn < 3; turn++)
-        CHECK(nm_worker_read(&reader, 1, &links, &flags) == NM_YES && links == 2 && flags == 0);
+        CHECK(nm_worker_read(&reader, 1, &inserted, &removed) == NM_YES && inserted == 2 && removed == 0);
     CHECK(nm_worker_try_contains(&reader, 6, TRIES) == NM_YES &&
-          nm_worker_read(&writer, 1, &links, &flags) == NM_YES && links == 2);
-    CHECK(nm_worker_post(&writer, &links, &flags) == NM_DONE && links == 2 && flags == 1);
-    CHECK(nm_worker_read(&reader, 1, &links, &flags) == NM_YES && links == 2 && flags == 1);
-    CHECK(nm_drop(&writer) == NM_DONE && nm_worker_read(&reader, 1, &links, &flags) == NM_YES &&
-          links == 2 && flags == 1);
+          nm_worker_read(&writer, 1, &inserted, &removed) == NM_YES && inserted == 2);
+    CHECK(nm_worker_post(&writer, &inserted, &removed) == NM_DONE && inserted == 2 && removed == 1);
+    CHECK(nm_worker_read(&reader, 1, &inserted, &removed) == NM_YES && inserted == 2 && removed == 1);
+    CHECK(nm_drop(&writer) == NM_DONE && nm_worker_read(&reader, 1, &inserted, &removed) == NM_YES &&
+          inserted == 2 && removed == 1);
     CHECK(nm_drop(&reader) == NM_DONE && nm_set_close(&set) == NM_DONE && nm_drop(&set) == NM_DONE);
 }
 

@@ -161,13 +161,14 @@ void a_worker_ends_its_set() {
 void notes_are_heard() {
     nm::Set set = near_set(64, 2);
     nm::Worker writer = set.worker(1), reader = set.worker(0);
-    nm::Won won{77, 77};
-    CHECK(reader.try_read(1, won) == NM_NO && reader.try_read(2, won) == NM_NUMBER &&
-          won.links == 77);
-    CHECK(writer.insert(5) && writer.try_post(won) == NM_DONE && won.links == 1 && won.flags == 0);
-    CHECK(writer.remove(5) && reader.try_read(1, won) == NM_YES && won.flags == 0);
-    CHECK(writer.try_post(won) == NM_DONE && won.flags == 1);
-    CHECK(reader.try_read(1, won) == NM_YES && won.flags == 1);
+    nm::Posted posted{77, 77};
+    CHECK(reader.try_read(1, posted) == NM_NO && reader.try_read(2, posted) == NM_NUMBER &&
+          posted.inserted == 77);
+    CHECK(writer.insert(5) && writer.try_post(posted) == NM_DONE && posted.inserted == 1 &&
+          posted.removed == 0);
+    CHECK(writer.remove(5) && reader.try_read(1, posted) == NM_YES && posted.removed == 0);
+    CHECK(writer.try_post(posted) == NM_DONE && posted.removed == 1);
+    CHECK(reader.try_read(1, posted) == NM_YES && posted.removed == 1);
 }
 
 // The calls that answer an outcome, of a set for one key.

@@ -2,6 +2,7 @@
 // names the set; then each line of standard input is a row: what is done, how many keys stand, and
 // how many threads do it. What each row does is told in bench/orders.
 #include "nm_set.h"
+#include "plain.hpp"
 
 #include <algorithm>
 #include <atomic>
@@ -10,6 +11,7 @@
 #include <cstdint>
 #include <cstdio>
 #include <cstdlib>
+#include <deque>
 #include <iostream>
 #include <mutex>
 #include <numeric>
@@ -60,13 +62,10 @@ public:
             }
         }
         bool remove(Key key) { return is_yes(nm_worker_remove(worker_, key, &nm_usual_habit)); }
-        std::optional<Key> least() {
-            Key found;
-            for (;;) {
-                auto told = nm_worker_next(worker_, 0, 64, &found);
-                if (told == NM_YES) return found;
-                if (told == NM_NO) return std::nullopt;
-            }
+        std::optional<Key> pop_first() {
+            Key taken;
+            if (is_yes(nm_worker_pop_first(worker_, &nm_usual_habit, &taken))) return taken;
+            return std::nullopt;
         }
 
     private:
@@ -83,6 +82,38 @@ private:
     };
     nm_handle set_ = NM_CLOSED_HANDLE;
     std::vector<Worker> workers_;
+};
+
+// The same radix tree in plain C++, behind handles.
+class Plain {
+public:
+    Plain(std::size_t keys, std::size_t threads)
+        : set_(4 * keys + 16384 * threads, static_cast<unsigned>(threads)) {
+        for (unsigned number = 0; number < threads; number++) workers_.emplace_back(set_, number);
+    }
+    class Access {
+    public:
+        Access(Plain &set, std::size_t number) : handle_(set.workers_[number].handle) {}
+        bool contains(Key key) { return handle_.contains(key); }
+        bool add(Key key) { return handle_.add(key); }
+        bool remove(Key key) { return handle_.remove(key); }
+        std::optional<Key> pop_first() {
+            Key taken = handle_.pop_first();
+            if (taken == plain::infinity_0) return std::nullopt;
+            return taken;
+        }
+
+    private:
+        plain::Handle &handle_;
+    };
+
+private:
+    struct alignas(64) Worker {
+        Worker(plain::Set &set, unsigned number) : handle(set, number) {}
+        plain::Handle handle;
+    };
+    plain::Set set_;
+    std::deque<Worker> workers_;
 };
 
 class Locked {
@@ -103,10 +134,10 @@ public:
             std::lock_guard<std::mutex> lock(set_.mutex_);
             return set_.keys_.erase(key) != 0;
         }
-        std::optional<Key> least() {
+        std::optional<Key> pop_first() {
             std::lock_guard<std::mutex> lock(set_.mutex_);
             if (set_.keys_.empty()) return std::nullopt;
-            return *set_.keys_.begin();
+            return set_.keys_.extract(set_.keys_.begin()).value();
         }
 
     private:
@@ -136,14 +167,19 @@ public:
         bool contains(Key key) { return set_.contains(key); }
         bool add(Key key) { return set_.insert(key); }
         bool remove(Key key) { return set_.erase(key); }
+        std::optional<Key> pop_first() {
+            while (auto found = least())
+                if (set_.erase(*found)) return found;
+            return std::nullopt;
+        }
+
+    private:
         std::optional<Key> least() {
             typename Keys::rcu_lock lock;
             auto first = set_.begin();
             if (first == set_.end()) return std::nullopt;
             return *first;
         }
-
-    private:
         Attached attached_;
         typename cds::container::SkipListSet<Rcu, Key> &set_;
     };
@@ -252,7 +288,8 @@ template <class Set> double windowed(std::size_t window, std::size_t threads) {
     });
 }
 
-// A scheduler: a turn adds the next timestamp and takes the least one that stands.
+// A scheduler: a turn adds the next timestamp and takes the least one that stands, of which there is
+// always one.
 template <class Set> double scheduled(std::size_t standing, std::size_t threads) {
     Set set(standing, threads);
     std::atomic<Key> clock{standing + 1};
@@ -260,10 +297,7 @@ template <class Set> double scheduled(std::size_t standing, std::size_t threads)
     for (Key time = 1; time <= standing; time++) must(access.add(time));
     return in_threads(set, threads, 200000, [&](auto &access) {
         must(access.add(clock.fetch_add(1)));
-        for (;;) {
-            auto least = access.least();
-            if (least && access.remove(*least)) break;
-        }
+        must(access.pop_first().has_value());
     });
 }
 
@@ -284,6 +318,7 @@ template <class Set> void serve() {
 int main(int count, char **words) {
     std::string name = count > 1 ? words[1] : "";
     if (name == "set") serve<Proved>();
+    else if (name == "plain") serve<Plain>();
     else if (name == "locked") serve<Locked>();
 #ifdef HAS_CDS
     else if (name == "skip") {

@@ -98,6 +98,21 @@ public:
         return found == key;
     }
 
+    // The least key; infinity_0 where there is none.
+    std::uint64_t least() {
+        pin();
+        std::uint64_t slot = Edge::slot(set_.nodes_[2].left.load()), found;
+        for (;;) {
+            Node &node = set_.nodes_[slot];
+            std::uint64_t left = node.left.load();
+            found = node.key.load();
+            if (left < Edge::to(1)) break;
+            slot = Edge::slot(left);
+        }
+        leave();
+        return found;
+    }
+
     // Whether the key was not in the set. False too where no slots were free.
     bool add(std::uint64_t key) {
         tend();
@@ -272,10 +287,19 @@ public:
     bool add(std::uint64_t key) { return take() && give(worker_.add(key)); }
     bool remove(std::uint64_t key) { return take() && give(worker_.remove(key)); }
 
+    // As the set's pop_first: looks for the least key and removes it, until it has removed one;
+    // infinity_0 where there is none.
+    std::uint64_t pop_first() {
+        if (!take()) return infinity_0;
+        std::uint64_t found = worker_.least();
+        while (found != infinity_0 && !worker_.remove(found)) found = worker_.least();
+        return give(found);
+    }
+
 private:
     bool take() { return in_use_.exchange(1) == 0; }
 
-    bool give(bool answer) {
+    template <class Answer> Answer give(Answer answer) {
         in_use_.store(0);
         return answer;
     }

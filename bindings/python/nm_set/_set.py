@@ -95,12 +95,12 @@ class Ledger:
 
 @dataclass(frozen=True)
 class Posted:
-    """What a worker had won when it left a note."""
+    """What a worker had done when it left a note."""
 
-    links: int
-    """Its links: one for each key that it had added."""
-    flags: int
-    """Its flags: one for each key that it had discarded, a pending one too."""
+    added: int
+    """How many keys it had added."""
+    discarded: int
+    """How many keys it had discarded, without a pending one."""
 
 
 def _rest(handle: c.Handle, habit: c.HabitWords) -> None:
@@ -651,24 +651,24 @@ class Worker(Keys):
 
     def post(self) -> Posted:
         """Leaves a note of all that the worker has seen, in place of its earlier one, and tells
-        what it has won so far. No answer of the set depends on notes: they are for who proves
+        what it has done so far. No answer of the set depends on notes: they are for who proves
         something of the order of two workers' calls. It raises `Contention` where a reader has the
         earlier note at this moment."""
-        links, flags = c_uint64(), c_uint64()
-        self._told(c.quick.nm_worker_post, links, flags)
-        return Posted(links.value, flags.value)
+        added, discarded = c_uint64(), c_uint64()
+        self._told(c.quick.nm_worker_post, added, discarded)
+        return Posted(added.value, discarded.value)
 
     def read(self, number: SupportsIndex) -> Optional[Posted]:
-        """Hears the note that the worker of a number has left, and tells what that one had won
+        """Hears the note that the worker of a number has left, and tells what that one had done
         then, or None where it has left none: all that this worker is asked from now on comes behind
         all that that one had seen. It raises `Contention` where another worker is at that note at
         this moment."""
         writer = operator.index(number)
         if not 0 <= writer < self._set.workers:
             raise OutOfRange(f"the set has workers 0 to {self._set.workers - 1}, and none {writer}")
-        links, flags = c_uint64(), c_uint64()
-        is_left = self._told(c.quick.nm_worker_read, writer, links, flags)
-        return Posted(links.value, flags.value) if is_left else None
+        added, discarded = c_uint64(), c_uint64()
+        is_left = self._told(c.quick.nm_worker_read, writer, added, discarded)
+        return Posted(added.value, discarded.value) if is_left else None
 
     def close(self) -> None:
         """The worker goes back to its set; its discard is finished where the bound allows, and its

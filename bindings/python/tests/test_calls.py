@@ -161,10 +161,10 @@ class Notes(unittest.TestCase):
                     with self.assertRaises(nm_set.OutOfRange):
                         reader.read(number)
                 writer.add(5)
-                self.assertEqual(writer.post(), nm_set.Posted(links=1, flags=0))
-                self.assertEqual(reader.read(0), nm_set.Posted(links=1, flags=0))
+                self.assertEqual(writer.post(), nm_set.Posted(added=1, discarded=0))
+                self.assertEqual(reader.read(0), nm_set.Posted(added=1, discarded=0))
                 writer.discard(5)
-                self.assertEqual(reader.read(0), nm_set.Posted(links=1, flags=0))
+                self.assertEqual(reader.read(0), nm_set.Posted(added=1, discarded=0))
                 self.assertEqual((writer.post(), reader.read(0)), (nm_set.Posted(1, 1),) * 2)
 
 

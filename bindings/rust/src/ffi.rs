@@ -114,8 +114,13 @@ extern "C" {
     fn nm_worker_collect(worker: *mut Word, epoch: *mut u64, freed: *mut u64) -> c_int;
     fn nm_worker_pending(worker: *mut Word, key: *mut u64) -> c_int;
     fn nm_worker_ledger(worker: *mut Word, ledger: *mut Ledger) -> c_int;
-    fn nm_worker_post(worker: *mut Word, links: *mut u64, flags: *mut u64) -> c_int;
-    fn nm_worker_read(worker: *mut Word, number: u32, links: *mut u64, flags: *mut u64) -> c_int;
+    fn nm_worker_post(worker: *mut Word, inserted: *mut u64, removed: *mut u64) -> c_int;
+    fn nm_worker_read(
+        worker: *mut Word,
+        number: u32,
+        inserted: *mut u64,
+        removed: *mut u64,
+    ) -> c_int;
     fn nm_report_slots(report: *mut Word, free: *mut u32, reached: *mut u32) -> c_int;
     fn nm_report_keys(report: *mut Word, count: *mut u64) -> c_int;
     fn nm_report_key(report: *mut Word, index: u64, key: *mut u64) -> c_int;
@@ -189,8 +194,8 @@ impl Handle {
         collect = nm_worker_collect(epoch: &mut u64, freed: &mut u64);
         pending = nm_worker_pending(key: &mut u64);
         ledger = nm_worker_ledger(ledger: &mut Ledger);
-        post = nm_worker_post(links: &mut u64, flags: &mut u64);
-        read = nm_worker_read(number: u32, links: &mut u64, flags: &mut u64);
+        post = nm_worker_post(inserted: &mut u64, removed: &mut u64);
+        read = nm_worker_read(number: u32, inserted: &mut u64, removed: &mut u64);
 
         slots = nm_report_slots(free: &mut u32, reached: &mut u32);
         keys = nm_report_keys(count: &mut u64);

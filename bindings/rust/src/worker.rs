@@ -66,13 +66,13 @@ pub struct Behind {
     pub workers: Numbers,
 }
 
-/// What a worker had won when it left a note.
+/// What a worker had done when it left a note.
 #[derive(Clone, Copy, Debug, Default, PartialEq, Eq)]
 pub struct Posted {
-    /// Its links: one for each key that it had inserted.
-    pub links: u64,
-    /// Its flags: one for each key that it had removed, a pending one too.
-    pub flags: u64,
+    /// How many keys it had inserted.
+    pub inserted: u64,
+    /// How many keys it had removed, without a pending one.
+    pub removed: u64,
 }
 
 /// A pin of the epoch by a worker, which ends as this is dropped: see [`Worker::pin`].
@@ -341,15 +341,15 @@ impl Worker {
     // ---- notes between workers ----
 
     /// Leaves a note of all that the worker has seen, in place of its earlier one, and tells what
-    /// it has won so far. No answer of the set depends on notes: they are for who proves something
+    /// it has done so far. No answer of the set depends on notes: they are for who proves something
     /// of the order of two workers' calls. `Busy`: a reader has the earlier note at this moment.
     pub fn post(&mut self) -> Result<Posted, Fault> {
-        let (mut links, mut flags) = (0, 0);
-        answer(self.handle().post(&mut links, &mut flags))?;
-        Ok(Posted { links, flags })
+        let (mut inserted, mut removed) = (0, 0);
+        answer(self.handle().post(&mut inserted, &mut removed))?;
+        Ok(Posted { inserted, removed })
     }
 
-    /// Hears the note that the worker of a number has left, and tells what that one had won then:
+    /// Hears the note that the worker of a number has left, and tells what that one had done then:
     /// all that this worker is asked from now on comes behind all that that one had seen. None
     /// where it has left no note. `Number`; `Busy`: another worker is at that note at this moment.
     pub fn read(&mut self, number: u32) -> Result<Option<Posted>, Fault> {
@@ -357,9 +357,9 @@ impl Worker {
         if number >= workers {
             return Err(Fault::Number { number, workers });
         }
-        let (mut links, mut flags) = (0, 0);
-        let is_left = answer(self.handle().read(number, &mut links, &mut flags))?;
-        Ok(is_left.then_some(Posted { links, flags }))
+        let (mut inserted, mut removed) = (0, 0);
+        let is_left = answer(self.handle().read(number, &mut inserted, &mut removed))?;
+        Ok(is_left.then_some(Posted { inserted, removed }))
     }
 }
 

@@ -228,19 +228,19 @@ fn a_worker_reads_the_note_of_another_one() {
         )
     );
     assert_eq!(writer.insert(5), Ok(true));
-    let won = |links, flags| Posted { links, flags };
+    let done = |inserted, removed| Posted { inserted, removed };
     assert_eq!(
         (writer.post(), reader.read(0)),
-        (Ok(won(1, 0)), Ok(Some(won(1, 0))))
+        (Ok(done(1, 0)), Ok(Some(done(1, 0))))
     );
     assert_eq!((reader.contains(5), writer.remove(5)), (Ok(true), Ok(true)));
     assert_eq!(
         (reader.read(0), writer.post()),
-        (Ok(Some(won(1, 0))), Ok(won(1, 1)))
+        (Ok(Some(done(1, 0))), Ok(done(1, 1)))
     );
     assert_eq!(
         (reader.read(0), reader.contains(5)),
-        (Ok(Some(won(1, 1))), Ok(false))
+        (Ok(Some(done(1, 1))), Ok(false))
     );
 }
 

@@ -1,33 +1,53 @@
 -- Workers that go home: what of them stays as it was, and why one that is there does not resign.
-use Rattle.std.proofs.Common.{◌≡◌, ◌∙◌, true≢false, [], ◌∷◌, inl, inr, sym, ap, subst, arith}
-use Rattle.std.specs.Prelude.{None, IsSome}
+use Rattle.std.proofs.Common.{◌≡◌, ◌∙◌, ◌+◌, ℕ, cond, true≢false, [], ◌∷◌, inl, inr, refl, sym, ap, subst, arith}
+use Rattle.std.specs.Prelude.{Option, None, Some, IsSome, is_some}
+use Rattle.nm_edge.specs.declared.node.NodeId.{NodeId}
 use Rattle.nm_model.specs.declared.event.Event.TheVariants.{Leave}
 use Rattle.nm_model.specs.declared.reply.Reply.TheVariants.{Departed}
-use Rattle.nm_steps.specs.Steps.{Stand}
+use Rattle.nm_order.specs.Logs.{part_of}
+use Rattle.nm_steps.specs.Steps.{Stand, HasSeen}
+use Rattle.nm_calls.specs.declared.deleting.Unfinished.{Unfinished}
 use Rattle.nm_calls.specs.Won.{capped, won_links, won_flags}
 use Rattle.nm_calls.proofs.Adding.{adds_these}
 use Rattle.nm_tree.specs.Resigning.{IsReason}
-use Rattle.nm_tree.specs.Workers.{Hand}
+use Rattle.nm_tree.specs.Workers.{Hand, IsAs, IsBetweenCalls}
+use Rattle.nm_tree.proofs.FlaggedSeen.{none_seen}
 use Rattle.nm_tree.specs.declared.resigning.ResignReason.{ResignReason as Reason}
 use Rattle.nm_tree.specs.declared.resigning.ResignReason.TheVariants as tree
 use Rattle.nm_set.specs.declared.posting.Posted.{Posted}
-use Rattle.nm_set.specs.Posts.{HasTally}
+use Rattle.nm_set.specs.Posts.{IsTallyOf, pending_by}
 use Rattle.nm_set.specs.Seats.{IsLetGo}
 
 pub free_then : (w z : Hand) → IsLetGo w z → z.held ≡ None
 free_then w z (inl (free, is)) = ap (λ (u : Hand). u.held) is ∙ free
 free_then w z (inr (held, left)) = left.held
 
+-- a worker of which no delete is pending has done as much as it has won
+rests : (w : Hand) → HasSeen w.pass.view → IsBetweenCalls w → w.pending ≡ None → pending_by w.pass.view.number w.pass.view.past ≡ 0
+rests w seen between none = ap (λ (o : Option NodeId). cond (is_some o) 1 0) (none_seen w.pass w.pending w.held seen between.stands none)
+
+-- nothing is pending of a worker that its caller holds
+held_rests : (p : Stand) (u : Option Unfinished) (e : Option ℕ) → IsAs p u e → IsSome e → u ≡ None
+held_rests p None e is held = refl
+held_rests p (Some n) (Some epoch) is held = absurd is
+held_rests p (Some n) None is held = absurd (true≢false (sym held))
+
 -- an unpin wins nothing
-pub won_before : (p : Posted) (w z : Hand) → IsLetGo w z → HasTally p z.pass.view.log → HasTally p w.pass.view.log
-won_before p w z (inl (free, is)) t = subst (λ (u : Hand). HasTally p u.pass.view.log) is t
-won_before p w z (inr (held, left)) t =
+pub done_before : (p : Posted) (w z : Hand) → HasSeen w.pass.view → HasSeen z.pass.view → IsBetweenCalls w → IsBetweenCalls z → IsLetGo w z → IsTallyOf z p → IsTallyOf w p
+done_before p w z seen sees between stands (inl (free, is)) t = subst (λ (u : Hand). IsTallyOf u p) is t
+done_before p w z seen sees between stands (inr (held, left)) t =
     let adds = adds_these ((Leave, Departed) ∷ []) w.pass.view.log z.pass.view.log (ap (λ (q : Stand). q.view.log) left.step) in
     let l = adds.links in
     let f = adds.flags in
-    let links : won_links z.pass.view.log ≡ won_links w.pass.view.log = omega (arith, l) in
-    let flags : won_flags z.pass.view.log ≡ won_flags w.pass.view.log = omega (arith, f) in
-    record { links = t.links ∙ ap capped links; flags = t.flags ∙ ap capped flags }
+    let links : won_links (part_of z.pass.view.number z.pass.view.past) ≡ won_links (part_of w.pass.view.number w.pass.view.past)
+        = ap won_links sees.is_part ∙ (omega (arith, l) ∙ ap won_links (sym seen.is_part)) in
+    let flags : won_flags (part_of z.pass.view.number z.pass.view.past) ≡ won_flags (part_of w.pass.view.number w.pass.view.past)
+        = ap won_flags sees.is_part ∙ (omega (arith, f) ∙ ap won_flags (sym seen.is_part)) in
+    let pending = rests z sees stands left.pending ∙ sym (rests w seen between (held_rests w.pass w.pending w.held between.stands held)) in
+    record {
+      inserted = t.inserted ∙ ap capped links;
+      removed = ap (λ (n : ℕ). p.removed + n) (sym pending) ∙ (t.removed ∙ ap capped flags);
+    }
 
 -- a worker that is not held does not resign for one reason alone
 pub has_pending : (w : Hand) (why : Reason) → w.held ≡ None → IsReason w why → IsSome w.pending

@@ -1,26 +1,35 @@
 -- Notes that workers leave on their posts, for the others of their set.
-use Rattle.std.specs.Prelude.{◌≡◌, ◌⊎◌, ◌<◌, ◌≤◌, ℕ, List, Option, Some, None, Result, Ok, Err}
+use Rattle.std.specs.Prelude.{◌≡◌, ◌⊎◌, ◌<◌, ◌≤◌, ◌+◌, ℕ, List, ◌++◌, Option, Some, None, Result, Ok, Err, is_some, if◌then◌else◌}
 use Rattle.nm_model.specs.declared.trace.Turn.{Turn}
-use Rattle.nm_model.specs.Walks.{Entry}
 use Rattle.nm_order.specs.Logs.{part_of}
 use Rattle.nm_steps.specs.Rules.{Extends}
 use Rattle.nm_steps.specs.Steps.{Board, Notice, HasHeard, HasSeenAllOf}
+use Rattle.nm_busy.specs.Pending.{leaf_after}
 use Rattle.nm_calls.specs.Won.{capped, won_links, won_flags}
 use Rattle.nm_tree.specs.Workers.{Hand}
 use Rattle.nm_set.specs.declared.fault.PostFault.{PostFault}
 use Rattle.nm_set.specs.declared.fault.PostFault.TheVariants as posting
 use Rattle.nm_set.specs.declared.posting.Posted.{Posted}
 
--- by that log so many links and flags were won, each counted as far as 64 bits go
-pub record HasTally (p : Posted) (log : List Entry) : Type 0 where
-  pub links : p.links ≡ capped (won_links log)
-  pub flags : p.flags ≡ capped (won_flags log)
+-- one, where a delete of worker i is pending by these turns
+abbrev pub pending_by : ℕ → List Turn → ℕ
+pending_by i turns = if is_some (leaf_after i None turns) then 1 else 0
 
--- what was seen goes on from what worker i had seen when it had won just so many links and flags
+-- by these turns worker i has inserted and removed so many keys, each counted as far as 64 bits go:
+-- the links that it has won, and the flags, but for one of a delete that is pending
+pub record HasTally (i : ℕ) (p : Posted) (turns : List Turn) : Type 0 where
+  pub inserted : p.inserted ≡ capped (won_links (part_of i turns))
+  pub removed : p.removed + pending_by i turns ≡ capped (won_flags (part_of i turns))
+
+-- that is what this worker has done so far
+abbrev pub IsTallyOf : Hand → Posted → Type 0
+IsTallyOf w p = HasTally w.pass.view.number p w.pass.view.past
+
+-- what was seen goes on from what worker i had seen when it had inserted and removed just so many
 pub record ComesBehind (i : ℕ) (p : Posted) (seen : List Turn) : Type 0 where
   pub before : List Turn
   pub goes_on : Extends seen before
-  pub tally : HasTally p (part_of i before)
+  pub tally : HasTally i p before
 
 -- a note of that tree which comes behind what worker i had won then
 pub record IsLetter (b : Board) (i : ℕ) (p : Posted) (note : Notice) : Type 0 where
@@ -47,3 +56,27 @@ Hears b i w z (Err posting.Number) = ⊥
 abbrev pub ReadsNote : Board → ℕ → Hand → Hand → Result (Option Posted) PostFault → Type 0
 ReadsNote b i w z r = ((i < b.layout.workers) × Hears b i w z r)
     ⊎ ((b.layout.workers ≤ i) × (r ≡ Err posting.Number) × (z ≡ w))
+
+-- ---- the order of two workers
+
+-- by these turns worker i has inserted nothing, and removed nothing
+pub record HasWonNothing (i : ℕ) (turns : List Turn) : Type 0 where
+  pub links : won_links (part_of i turns) ≡ 0
+  pub flags : won_flags (part_of i turns) ≡ 0
+
+-- what was seen goes on from all that worker i had inserted and removed by the turns `told`: from
+-- these, or from a beginning of them behind which worker i has won nothing, and by which none of its
+-- deletes was pending
+pub record HasHeardAll (i : ℕ) (told seen : List Turn) : Type 0 where
+  pub before : List Turn
+  pub goes_on : Extends seen before
+  pub all : Extends before told
+      ⊎ ((more : List Turn) × (told ≡ before ++ more) × HasWonNothing i more × (leaf_after i None before ≡ None))
+
+-- of two workers of one run, a reader that was told of as many keys as worker i had inserted and
+-- removed, with none pending, has heard of all of them, where 64 bits count them
+abbrev pub LettersAreInOrder : Type 0
+LettersAreInOrder = (run told seen : List Turn) (i : ℕ) (p q : Posted) → Extends run told
+    → Extends run seen → HasTally i p told → leaf_after i None told ≡ None → ComesBehind i q seen
+    → p.inserted ≤ q.inserted → p.removed ≤ q.removed → p.inserted < 18446744073709551615
+    → p.removed < 18446744073709551615 → HasHeardAll i told seen

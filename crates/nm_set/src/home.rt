@@ -1,7 +1,7 @@
 //! The home of a tree's workers: a seat for each of them, where it is while nobody has it.
 ghost use Rattle.std.specs.Prelude.{◌≡◌, ◌<◌, ◌≤◌, ◌+◌, ◌^◌, ◌↔◌, ◌∷◌, [], length, None, IfNone, IfOk, IfSome, IsErrOf, vec_capacity};
 ghost use Rattle.nm_tree.specs.Workers.{AreNew, HaveFit};
-ghost use Rattle.nm_set.specs.Posts.{HasTally};
+ghost use Rattle.nm_set.specs.Posts.{IsTallyOf};
 ghost use Rattle.nm_set.specs.Seats.{AreOwn, AreSeats, BeginsWith, HasRoom, IsOwn, IsResident};
 
 use crate::posting::Post;
@@ -118,7 +118,7 @@ impl Home {
         requires own { IsOwn self.now.tree guest.worker }
         requires fit { guest.worker.fit ≡ self.now.fit }
         requires free { guest.worker.held ≡ None }
-        ensures { HasTally result guest.worker.pass.view.log }
+        ensures { IsTallyOf guest.worker result }
     {
         let Some(seat) = self.seats.get(guest.worker.number() as usize) else {
             unreachable!()

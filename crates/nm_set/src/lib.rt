@@ -28,7 +28,7 @@ pub use nm_tree::{
     Advance, Behind, Collected, Counts, Entry, Fault as CallFault, HeldQueue, NewError,
     PinFault as CallPinFault, Query, Report,
 };
-pub use posting::Posted;
+pub use posting::{Posted, letters_are_in_order};
 pub use seat::AtHome;
 pub use set::{CloseError, KeepError, Set};
 pub use tended::Habit;

@@ -13,7 +13,7 @@ ghost use Rattle.nm_tree.specs.Calls.{LeavesHas, SaysHas, LeavesInsert, SaysInse
 ghost use Rattle.nm_set.specs.Asked.{Asked, AskedToPin, AskedToUnpin};
 ghost use Rattle.nm_set.specs.InTurns.{AskedMany};
 ghost use Rattle.nm_set.specs.NextKeys.{AskedNext, AskedPrev};
-ghost use Rattle.nm_set.specs.Posts.{HasTally, ReadsNote};
+ghost use Rattle.nm_set.specs.Posts.{IsTallyOf, ReadsNote};
 ghost use Rattle.nm_set.specs.Seats.{IsLetGo, IsOwn, IsResident, IsStaying, told_absence};
 
 use crate::fault::{Fault, NotHeld, PinFault, PostFault, ResignReason};
@@ -90,11 +90,13 @@ impl Member {
         ensures seen { HasSeen self.now.hand.pass.view }
         ensures turns { HasSeenTurns self.now.hand.pass.view }
         ensures idle { IsIdle self.now.hand }
+        ensures between { IsBetweenCalls self.now.hand }
         ensures run { IsOfRun self.now.hand.pass.view.layout self.now.hand.pass.view.number
             self.now.hand.pass.view.log }
         ensures fits { IsLayout self.now.hand.pass.view.layout }
     {
         self.guest.worker.is_of_a_run();
+        self.guest.worker.is_between_calls();
     }
 
     /// Whether the set has the key: `Tree::has` of `nm_tree`.
@@ -314,7 +316,7 @@ impl Member {
     }
 
     /// Leaves a note of all that the worker has seen on its post, in place of its earlier one, for
-    /// any other member of this set to `read`: what it has won so far. No step, no lock and no
+    /// any other member of this set to `read`: what it has done so far. No step, no lock and no
     /// memory.
     ///
     /// `None`: a reader has the earlier note at this moment, and that stays.
@@ -323,7 +325,7 @@ impl Member {
     /// a post is in no clause.
     pub fn post(&mut self) -> Option<Posted>
         ensures same { self.new ≡ self.old }
-        ensures tally { IfSome result (λ p. HasTally p self.old.hand.pass.view.log) }
+        ensures tally { IfSome result (IsTallyOf self.old.hand) }
     {
         let post = self.home.post_of(self.guest.worker.number())?;
         leave_letter(self.home.tree(), post, &mut self.guest.worker)
@@ -331,8 +333,9 @@ impl Member {
 
     /// The worker hears the note that the worker of a number has left by `post`, and leaves it
     /// there for others: all that it is asked from then on comes behind all that the other one had
-    /// seen when it left the note. What that one had won by then; `None` where it has left none. No
-    /// step, no lock and no memory.
+    /// seen when it left the note. What that one had done by then; `None` where it has left none. No
+    /// step, no lock and no memory. A reader that is told of as many keys as the other one had
+    /// inserted and removed has heard of all of them: `letters_are_in_order`.
     ///
     /// `Number`: the tree has no worker of that number. `Busy`: another member is at that post at
     /// this moment. Nothing has changed.
@@ -389,12 +392,14 @@ impl Member {
 
     /// The worker goes home, with all that it holds or has pending, and can be taken again by
     /// `Set::member`. It goes unpinned: a pin of the caller ends as by `unpin`. Else nothing of its
-    /// tree changes: what it has won as it sits down is what it had won before.
+    /// tree changes: what it has done as it sits down is what it had done before.
     pub fn close(self) -> AtHome
-        ensures { HasTally result self.hand.pass.view.log }
+        ensures { IsTallyOf self.hand result }
     {
         let mut member = self;
+        member.is_of_a_run();
         member.let_go();
+        member.is_of_a_run();
         let (home, guest) = member.apart();
         home.receive(guest)
     }

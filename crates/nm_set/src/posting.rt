@@ -3,7 +3,7 @@
 
 ghost use Rattle.std.specs.Prelude.{◌≡◌, IfSome};
 ghost use Rattle.nm_steps.specs.Steps.{IsOf};
-ghost use Rattle.nm_set.specs.Posts.{HasTally, Hears, IsLetter};
+ghost use Rattle.nm_set.specs.Posts.{Hears, IsLetter, IsTallyOf, LettersAreInOrder};
 
 use crate::fault::PostFault;
 use crate::home::Site;
@@ -11,16 +11,17 @@ use counted_slot::{Counted, FREE, Fits, MARKED, PRESENT, TAKEN};
 use nm_steps::Note;
 use nm_tree::{Tree, Worker};
 
-/// What a worker had won when it left a note, or went home.
+/// What a worker had done when it left a note, or went home.
 #[derive(Clone, Copy, Debug, PartialEq, Eq)]
 pub struct Posted {
-    /// Its links: one for each key that it had inserted.
-    pub links: u64,
-    /// Its flags: one for each key that it had deleted, a pending one too.
-    pub flags: u64,
+    /// How many keys it had inserted: the links that it had won.
+    pub inserted: u64,
+    /// How many keys it had removed: the flags that it had won. A delete that was pending does not
+    /// count.
+    pub removed: u64,
 }
 
-/// A note, with what the worker that left it had won by then.
+/// A note, with what the worker that left it had done by then.
 #[derive(Drop)]
 pub(crate) struct Letter {
     note: Note,
@@ -45,14 +46,14 @@ pub(crate) fn empty_post(place: &(Site, u32)) -> Post
 }
 
 /// A worker leaves a letter on its own post, in place of its earlier one, with a note of all that
-/// it has seen: what it has won so far. `None`: a reader has the earlier one at this moment, and
+/// it has seen: what it has done so far. `None`: a reader has the earlier one at this moment, and
 /// that stays.
 pub(crate) fn leave_letter(tree: &Tree, post: &Post, worker: &mut Worker) -> Option<Posted>
     requires own { IsOf tree.now worker.old.pass }
     requires tree { post.now.0.tree ≡ tree.now }
     requires number { post.now.1 ≡ worker.old.pass.view.number }
     ensures same { worker.new ≡ worker.old }
-    ensures tally { IfSome result (λ p. HasTally p worker.old.pass.view.log) }
+    ensures tally { IfSome result (IsTallyOf worker.old) }
 {
     worker.is_of_a_run();
     let posted = tally_of(worker);
@@ -64,19 +65,31 @@ pub(crate) fn leave_letter(tree: &Tree, post: &Post, worker: &mut Worker) -> Opt
     }
 }
 
-/// What a worker has won so far.
+/// What a worker has done so far.
 pub(crate) fn tally_of(worker: &Worker) -> Posted
-    ensures { HasTally result worker.now.pass.view.log }
+    ensures { IsTallyOf worker.now result }
 {
+    worker.is_of_a_run();
     let counts = worker.ledger();
+    let removed = match worker.pending() {
+        Some(_) => counts.flags.saturating_sub(1),
+        None => counts.flags,
+    };
     Posted {
-        links: counts.links,
-        flags: counts.flags,
+        inserted: counts.links,
+        removed,
     }
 }
 
+/// Of two workers of one run, a reader that was told of as many keys as the writer had inserted and
+/// removed has heard of all of them: what it has seen then goes on from what the writer had seen, or
+/// from a beginning of that behind which the writer has won nothing.
+pub fn letters_are_in_order()
+    ensures { LettersAreInOrder }
+{}
+
 /// A worker hears the letter on a post and leaves it there, with a note of all that it has seen
-/// then: what had been won. `None`: no letter was left.
+/// then: what had been done. `None`: no letter was left.
 pub(crate) fn read_letter(
     tree: &Tree,
     post: &Post,

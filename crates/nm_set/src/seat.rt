@@ -2,7 +2,7 @@
 ghost use Rattle.std.specs.Prelude.{◌≡◌, ◌<◌, ◌∷◌, [], ◌++◌, length, vec_capacity, option_map, None, IfOk, IfErr, IfSome, IsSome};
 ghost use Rattle.nm_steps.specs.Steps.{IsOf};
 ghost use Rattle.nm_tree.specs.Resigning.{HasResigned};
-ghost use Rattle.nm_set.specs.Posts.{HasTally};
+ghost use Rattle.nm_set.specs.Posts.{IsTallyOf};
 ghost use Rattle.nm_set.specs.Seats.{IsResident};
 
 use crate::home::Site;
@@ -85,11 +85,11 @@ pub(crate) struct Guest {
 /// What keeps a guest whole. It says nothing else.
 struct Seal {}
 
-/// That a worker has gone home, and what it had won as it sat down. It is made there, and nowhere
+/// That a worker has gone home, and what it had done as it sat down. It is made there, and nowhere
 /// else.
 #[derive(Drop)]
 pub struct AtHome {
-    won: Posted,
+    done: Posted,
 }
 
 impl Model for AtHome {
@@ -97,15 +97,15 @@ impl Model for AtHome {
 
     ghost Value = { Posted };
 
-    ghost view = { λ a. a.won };
+    ghost view = { λ a. a.done };
 }
 
 impl AtHome {
-    /// What the worker had won as it sat down.
-    pub fn won(&self) -> Posted
+    /// What the worker had done as it sat down.
+    pub fn done(&self) -> Posted
         ensures { result ≡ self.now }
     {
-        self.won
+        self.done
     }
 }
 
@@ -136,15 +136,15 @@ impl Guest {
         worker
     }
 
-    /// The worker sits down on its seat, with what it has won so far. Only the worker that sits
+    /// The worker sits down on its seat, with what it has done so far. Only the worker that sits
     /// there leaves it empty, so that it is empty when that one comes home: where it were not,
     /// which no clause can tell of a seat, the worker would end here.
     pub(crate) fn sit_down(self, seat: &Seat) -> AtHome
         requires { IsResident seat.now.0.tree seat.now.0.fit seat.now.1 self.worker }
-        ensures { HasTally result self.worker.pass.view.log }
+        ensures { IsTallyOf self.worker result }
     {
         let at_home = AtHome {
-            won: tally_of(&self.worker),
+            done: tally_of(&self.worker),
         };
         let resident = self.at_home();
         let (found, claim) = seat.chair.turn(PRESENT, TAKEN);

@@ -1,7 +1,7 @@
 -- Notes that workers leave for each other: m is the worker before the call, n the worker after it,
 -- and o the outcome that is told.
 use Rattle.std.specs.Prelude.{◌≡◌, ℕ, Option, Some, None, Result, Ok, Err}
-use Rattle.nm_set.specs.Posts.{HasTally, ReadsNote}
+use Rattle.nm_set.specs.Posts.{IsTallyOf, ReadsNote}
 use Rattle.nm_set.specs.Seats.{Seated}
 use Rattle.nm_set.specs.declared.fault.PostFault.{PostFault}
 use Rattle.nm_set.specs.declared.fault.PostFault.TheVariants as posting
@@ -11,8 +11,10 @@ use Rattle.nm_set_c.specs.declared.outcome.Outcome.TheVariants as outcome
 
 -- two numbers are written, or stay as they were
 abbrev pub AreWritten : Option Posted → ℕ → ℕ → ℕ → ℕ → Type 0
-AreWritten (Some p) old_links links old_flags flags = (links ≡ p.links) × (flags ≡ p.flags)
-AreWritten None old_links links old_flags flags = (links ≡ old_links) × (flags ≡ old_flags)
+AreWritten (Some p) old_inserted inserted old_removed removed =
+    (inserted ≡ p.inserted) × (removed ≡ p.removed)
+AreWritten None old_inserted inserted old_removed removed =
+    (inserted ≡ old_inserted) × (removed ≡ old_removed)
 
 -- ---- a note that is left
 
@@ -21,17 +23,17 @@ abbrev pub of_post : Option Posted → Outcome
 of_post (Some p) = outcome.Done
 of_post None = outcome.Busy
 
--- what the worker has won so far, where the note was left
+-- what the worker has done so far, where the note was left
 abbrev pub IsTally : Option Posted → Seated → Type 0
-IsTally (Some p) m = HasTally p m.hand.pass.view.log
+IsTally (Some p) m = IsTallyOf m.hand p
 IsTally None m = Unit {0}
 
 -- `DoesPost`, `DoesRead`: a note is left, or heard, and its numbers are written
-pub record DoesPost (old_links links old_flags flags : ℕ) (m n : Seated)
+pub record DoesPost (old_inserted inserted old_removed removed : ℕ) (m n : Seated)
     (o : Outcome) : Type 0 where
   pub left : Option Posted
   pub told : o ≡ of_post left
-  pub written : AreWritten left old_links links old_flags flags
+  pub written : AreWritten left old_inserted inserted old_removed removed
   pub tally : IsTally left m
   pub same : n ≡ m
 
@@ -48,10 +50,10 @@ abbrev pub heard_by : Result (Option Posted) PostFault → Option Posted
 heard_by (Ok heard) = heard
 heard_by (Err why) = None
 
-pub record DoesRead (number old_links links old_flags flags : ℕ) (m n : Seated)
+pub record DoesRead (number old_inserted inserted old_removed removed : ℕ) (m n : Seated)
     (o : Outcome) : Type 0 where
   pub answer : Result (Option Posted) PostFault
   pub told : o ≡ of_read answer
-  pub written : AreWritten (heard_by answer) old_links links old_flags flags
+  pub written : AreWritten (heard_by answer) old_inserted inserted old_removed removed
   pub board : n.board ≡ m.board
   pub heard : ReadsNote m.board number m.hand n.hand answer

@@ -14,18 +14,18 @@ use crate::owner::Owner;
 use nm_set::{Member, PostFault};
 use std::alloc::Global;
 
-/// Leaves a note of all that the worker has seen, in place of its earlier one, and writes the links
-/// and the flags that it has won so far: `Done`: `Member::post` of `nm_set`. `Busy`: a reader has
+/// Leaves a note of all that the worker has seen, in place of its earlier one, and writes how many
+/// keys it has inserted and removed so far: `Done`: `Member::post` of `nm_set`. `Busy`: a reader has
 /// the earlier note at this moment. `Closed`, `InUse`, `Kind`.
 #[unsafe(no_mangle)]
 pub extern "C" fn nm_worker_post(
     alloc: Global,
     worker: &mut Handle,
-    links: &mut u64,
-    flags: &mut u64,
+    inserted: &mut u64,
+    removed: &mut u64,
 ) -> i32
-    ensures { IsCodeOf (OfWorker (DoesPost links.old links.new flags.old flags.new)
-        ((links.new ≡ links.old) × (flags.new ≡ flags.old)) (held_by worker.old)
+    ensures { IsCodeOf (OfWorker (DoesPost inserted.old inserted.new removed.old removed.new)
+        ((inserted.new ≡ inserted.old) × (removed.new ≡ removed.old)) (held_by worker.old)
         (held_by worker.new)) result }
 {
     let mut owner = match worker.claim(alloc) {
@@ -33,39 +33,39 @@ pub extern "C" fn nm_worker_post(
         Err(told) => return told.code(),
     };
     let outcome = match &mut *owner {
-        Owner::Worker(member) => post(member, links, flags),
+        Owner::Worker(member) => post(member, inserted, removed),
         _ => Outcome::Kind,
     };
     worker.put(owner);
     outcome.code()
 }
 
-fn post(member: &mut Member, links: &mut u64, flags: &mut u64) -> Outcome
-    ensures { DoesPost links.old links.new flags.old flags.new member.old member.new result }
+fn post(member: &mut Member, inserted: &mut u64, removed: &mut u64) -> Outcome
+    ensures { DoesPost inserted.old inserted.new removed.old removed.new member.old member.new result }
 {
     match member.post() {
         Some(posted) => {
-            *links = posted.links;
-            *flags = posted.flags;
+            *inserted = posted.inserted;
+            *removed = posted.removed;
             Outcome::Done
         }
         None => Outcome::Busy,
     }
 }
 
-/// Hears the note that the worker of a number has left, and writes the links and the flags that
-/// that one had won then: `Yes`; `No`, where it has left none: `Member::read` of `nm_set`.
+/// Hears the note that the worker of a number has left, and writes how many keys that one had
+/// inserted and removed then: `Yes`; `No`, where it has left none: `Member::read` of `nm_set`.
 /// `Number`; `Busy`: another worker is at that note at this moment. `Closed`, `InUse`, `Kind`.
 #[unsafe(no_mangle)]
 pub extern "C" fn nm_worker_read(
     alloc: Global,
     worker: &mut Handle,
     number: u32,
-    links: &mut u64,
-    flags: &mut u64,
+    inserted: &mut u64,
+    removed: &mut u64,
 ) -> i32
-    ensures { IsCodeOf (OfWorker (DoesRead number links.old links.new flags.old flags.new)
-        ((links.new ≡ links.old) × (flags.new ≡ flags.old)) (held_by worker.old)
+    ensures { IsCodeOf (OfWorker (DoesRead number inserted.old inserted.new removed.old removed.new)
+        ((inserted.new ≡ inserted.old) × (removed.new ≡ removed.old)) (held_by worker.old)
         (held_by worker.new)) result }
 {
     let mut owner = match worker.claim(alloc) {
@@ -73,20 +73,20 @@ pub extern "C" fn nm_worker_read(
         Err(told) => return told.code(),
     };
     let outcome = match &mut *owner {
-        Owner::Worker(member) => read(member, number, links, flags),
+        Owner::Worker(member) => read(member, number, inserted, removed),
         _ => Outcome::Kind,
     };
     worker.put(owner);
     outcome.code()
 }
 
-fn read(member: &mut Member, number: u32, links: &mut u64, flags: &mut u64) -> Outcome
-    ensures { DoesRead number links.old links.new flags.old flags.new member.old member.new result }
+fn read(member: &mut Member, number: u32, inserted: &mut u64, removed: &mut u64) -> Outcome
+    ensures { DoesRead number inserted.old inserted.new removed.old removed.new member.old member.new result }
 {
     match member.read(number) {
         Ok(Some(posted)) => {
-            *links = posted.links;
-            *flags = posted.flags;
+            *inserted = posted.inserted;
+            *removed = posted.removed;
             Outcome::Yes
         }
         Ok(None) => Outcome::No,

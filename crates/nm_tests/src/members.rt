@@ -212,7 +212,7 @@ fn the_last_member_ends_its_set(rt: HostRuntime) -> Result<(), Fail> {
     Ok(())
 }
 
-/// A note is heard as often as it is read, and tells what its worker had won; a set tells which
+/// A note is heard as often as it is read, and tells what its worker had done; a set tells which
 /// workers a close would miss.
 #[test]
 fn members_leave_notes(rt: HostRuntime) -> Result<(), Fail> {
@@ -224,7 +224,10 @@ fn members_leave_notes(rt: HostRuntime) -> Result<(), Fail> {
         (Ok(None), Err(PostFault::Number))
     );
     assert_eq!(rt; writer.try_insert(key(&rt, 5), TRIES), Ok(true));
-    let won = Posted { links: 1, flags: 0 };
+    let won = Posted {
+        inserted: 1,
+        removed: 0,
+    };
     assert_eq!(rt; writer.post(), Some(won));
     assert_eq!(rt;
         (reader.read(1), reader.read(1)),

@@ -43,6 +43,7 @@ use Rattle.nm_steps.proofs.Growing.{goes_on_through}
 use Rattle.nm_calls.specs.Moments.{AnswerHasMoment}
 use Rattle.nm_calls.specs.Won.{won_links, won_flags}
 use Rattle.nm_tree.proofs.Taking.{no_shorter}
+use Rattle.nm_set.proofs.Letters.{begins}
 use Rattle.nm_told.proofs.AnswersInRuns.{AnsweredBy, answered_by}
 use Rattle.nm_told.proofs.Counting.{fewer, flagged_once, linked_once, none_in, no_sum}
 use Rattle.nm_told.proofs.Replayed.{missed}
@@ -79,16 +80,6 @@ at_most f (suc n) u b none few = by (at_most f n u b (λ v less. none v (omega (
         omega (arith, nothing, last)
 
 -- ---- first parts
-
--- the shorter of two first parts begins the other
-begins : {X : Type 0} (xs ys us vs : List X) → xs ++ us ≡ ys ++ vs → length xs ≤ length ys → (more : List X) × (ys ≡ xs ++ more)
-begins {X = X} [] ys us vs e less = (ys, refl)
-begins {X = X} (x ∷ xs) [] us vs e less = absurd (omega (arith, less))
-begins {X = X} (x ∷ xs) (y ∷ ys) us vs e less =
-    let head : x ≡ y = cc in
-    let tail : xs ++ us ≡ ys ++ vs = cc in
-    let rest = begins xs ys us vs tail (omega (arith, less)) in
-    (rest.0, ap (λ (zs : List X). y ∷ zs) rest.1 ∙ ap (λ (z : X). z ∷ (xs ++ rest.0)) (sym head))
 
 none_first : {X : Type 0} (xs ys : List X) → xs ++ ys ≡ [] → xs ≡ []
 none_first {X = X} [] ys e = refl

@@ -19,5 +19,7 @@ pub mod Schedulers
 pub mod RunSums
 pub mod AddedUp
 pub mod Working
+pub mod InsertMoments
+pub mod LettersRead
 mod AnswersInRuns
 mod Counting

@@ -31,7 +31,8 @@ use Rattle.nm_set.specs.Ends.{SaysEnded}
 use Rattle.nm_told.specs.Adding.{HasAdded}
 use Rattle.nm_told.specs.Meanwhile.{NoneDeleted}
 use Rattle.nm_told.proofs.StayingKeys.{stays_where_none_deleted}
-use Rattle.nm_told.proofs.Unmade.{Won, answered_none, answers_below, no_call_then, some_in, unmade, who_won}
+use Rattle.nm_set.proofs.Letters.{some_in}
+use Rattle.nm_told.proofs.Unmade.{Won, answered_none, answers_below, no_call_then, unmade, who_won}
 
 -- ---- what a counter tells
 

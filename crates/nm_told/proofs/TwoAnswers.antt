@@ -12,7 +12,7 @@ use Rattle.nm_order.specs.Legal.{Gives}
 use Rattle.nm_order.specs.History.{Act, IsAmong, Replays, nothing, changed}
 use Rattle.nm_steps.specs.Rules.{Extends}
 use Rattle.nm_theorem.specs.EachRun.{IsTrueDelete}
-use Rattle.nm_theorem.specs.Histories.{Called, IsAct, IsHistory, HasHistory, AnswerStands}
+use Rattle.nm_theorem.specs.Histories.{Called, IsAct, IsHistory, HasHistory, AnswerStands, called_in}
 use Rattle.nm_theorem.specs.Histories.IsAct.{IsAnswered, IsPending}
 use Rattle.nm_told.specs.Meanwhile.{IsMissedWhereNoneInserted, IsToldThen, IsTrueInsert, OnlyWithin, NoneDeleted, NoneInserted, IsAnsweredThen}
 use Rattle.nm_told.proofs.Replayed.{still, still_out, added, taken, found, missed}
@@ -22,7 +22,7 @@ use Rattle.nm_told.proofs.Replayed.{still, still_out, added, taken, found, misse
 abbrev pub Ascend : List Act → Type 0
 Ascend acts = AllPairs (λ (x y : Act). x.moment ≤ y.moment) acts
 
-index_of : (acts : List Act) (a : Act) → IsAmong acts a → (i : ℕ) × (i < length acts) × ((d : Act) → slice_index_or acts i d ≡ a)
+pub index_of : (acts : List Act) (a : Act) → IsAmong acts a → (i : ℕ) × (i < length acts) × ((d : Act) → slice_index_or acts i d ≡ a)
 index_of [] a there = absurd there
 index_of (b ∷ acts) a (inl is) = (0, omega arith, λ d. is)
 index_of (b ∷ acts) a (inr there) = let r = index_of acts a there in let less = r.1 in (suc r.0, omega (arith, less), r.2)
@@ -66,21 +66,27 @@ module _ (k : ℕ) (later : Op) (Is : (ℕ → Type 0) → Type 0) (undoes : Act
       behind acts (changed S x.op x.key x.answer) last r.2 (others_ascend x acts up) a b makes (λ c there undone. none c (inr there) undone) at among less o e
 
   module _ (L : Layout) (op : Op) (makes : (T : ℕ → Type 0) → Is (changed T op k true)) (start first second seen last : List Turn) (w u : ℕ) (answer : Bool)
-      (s : AnswerStands L start first w op k true) (look : AnswerStands L second seen u later k answer) (told : length first ≤ length second) (on : Extends last first) (further : Extends last seen) where
-    pub answered_then : HasHistory L last → OnlyWithin L start last undoes → answer ≡ so
-    answered_then (acts, h) none =
+      (s : AnswerStands L start first w op k true) (look : AnswerStands L second seen u later k answer) (on : Extends last first) (further : Extends last seen) where
+    -- where the first call has its moment before the later one began
+    pub answered_behind : (acts : List Act) → IsHistory L last acts → ((a : Act) → IsAmong acts a → a.worker ≡ w → called_in a ≡ record { pin = s.pin; op = op; key = k } → a.moment < length first → a.moment ≤ length second)
+        → OnlyWithin L start last undoes → answer ≡ so
+    answered_behind acts h before none =
         let a = s.each on.more acts (subst (λ (ts : List Turn). IsHistory L ts acts) on.is h) in
         let b = look.each further.more acts (subst (λ (ts : List Turn). IsHistory L ts acts) further.is h) in
         let starts = s.begins in
         let begins = look.begins in
         let early = a.5 in
-        let late = a.6 in
         let behind_pin = b.5 in
+        let sooner = before a.0 a.1 a.2 a.3 a.6 in
         let makes_so : (T : ℕ → Type 0) → Is (changed T a.0.op a.0.key a.0.answer)
         = λ T. subst (λ (x : Op × (ℕ × Bool)). Is (changed T x.0 x.1.0 x.1.1)) (λ i. (sym (ap (λ (c : Called). c.op) a.3) i, (sym (ap (λ (c : Called). c.key) a.3) i, sym a.4 i))) (makes T) in
         sym b.4 ∙ behind acts nothing (InSet (words_after L last)) h.replays h.in_order a.0 b.0 makes_so
         (λ c there undone. let within = none acts h c there undone in omega (arith, within, starts, early))
-        a.1 b.1 (omega (arith, told, begins, late, behind_pin)) (ap (λ (c : Called). c.op) b.3) (ap (λ (c : Called). c.key) b.3)
+        a.1 b.1 (omega (arith, sooner, begins, behind_pin)) (ap (λ (c : Called). c.op) b.3) (ap (λ (c : Called). c.key) b.3)
+
+    -- so where the later one began behind all that the first one's worker had seen
+    pub answered_then : length first ≤ length second → HasHistory L last → OnlyWithin L start last undoes → answer ≡ so
+    answered_then told (acts, h) none = answered_behind acts h (λ a among own call late. omega (arith, late, told)) none
 
 -- ---- an insert, and a delete
 
@@ -98,12 +104,18 @@ gone k later only = record {
 
 pub inserted_then_found : IsAnsweredThen NoneDeleted Insert true
 inserted_then_found L start first second seen last w u k answer s look told on further =
-    answered_then k Has (λ S. S k) (IsTrueDelete k) true (there k) L Insert (λ T. added T k Insert k true refl refl refl) start first second seen last w u answer s look told on further
+    answered_then k Has (λ S. S k) (IsTrueDelete k) true (there k) L Insert (λ T. added T k Insert k true refl refl refl) start first second seen last w u answer s look on further told
+
+-- an insert that has its moment before the look-up began
+pub inserted_before_found : (L : Layout) (start first second seen last : List Turn) (w u k : ℕ) (answer : Bool) (s : AnswerStands L start first w Insert k true) → AnswerStands L second seen u Has k answer → Extends last first → Extends last seen
+    → (acts : List Act) → IsHistory L last acts → ((a : Act) → IsAmong acts a → a.worker ≡ w → called_in a ≡ record { pin = s.pin; op = Insert; key = k } → a.moment < length first → a.moment ≤ length second) → NoneDeleted L start last k → answer ≡ true
+inserted_before_found L start first second seen last w u k answer s look on further =
+    answered_behind k Has (λ S. S k) (IsTrueDelete k) true (there k) L Insert (λ T. added T k Insert k true refl refl refl) start first second seen last w u answer s look on further
 
 -- a later call that is answered true only where the key is there
 gone_then : (later : Op) → ((S : ℕ → Type 0) (k : ℕ) → Gives S later k true → S k) → IsToldThen NoneInserted Delete later false
 gone_then later only L start first second seen last w u k answer s look told on further =
-    answered_then k later (λ S. S k → ⊥) (IsTrueInsert k) false (gone k later (λ S. only S k)) L Delete (λ T. taken T k Delete k true refl refl refl) start first second seen last w u answer s look told on further
+    answered_then k later (λ S. S k → ⊥) (IsTrueInsert k) false (gone k later (λ S. only S k)) L Delete (λ T. taken T k Delete k true refl refl refl) start first second seen last w u answer s look on further told
 
 pub deleted_then_missed : IsAnsweredThen NoneInserted Delete false
 deleted_then_missed = gone_then Has (λ S k there'. there')

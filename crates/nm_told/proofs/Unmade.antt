@@ -23,6 +23,7 @@ use Rattle.nm_theorem.specs.Histories.IsAct.{IsAnswered, IsPending}
 use Rattle.nm_theorem.proofs.HistoriesOfRuns.{call_join}
 use Rattle.nm_tree.specs.Running.{AreOfWorkers, TrueAnswersHaveWon, WinsIn, wins}
 use Rattle.nm_tree.proofs.JoinsAlone.{told_in_part}
+use Rattle.nm_set.proofs.Letters.{some_in}
 
 -- ---- a worker that has won an exchange
 
@@ -63,15 +64,6 @@ who_won op w (t ∷ ts) is = by (or_cases ((t.worker == w) && wins op t.event t.
     by (inr there) rest = let m = rest there in record { made = later_made w t ts m.made; won = m.won }
 
 -- so it is counted in the worker's part
-pub some_in : {X : Type 0} (p : X → Bool) (xs : List X) (x : X) → In xs x → p x ≡ true → 1 ≤ length (filter p xs)
-some_in p [] x there is = absurd there
-some_in p (y ∷ ys) x (inl at) is = let e = ap (λ (b : Bool). length (cond b (y ∷ filter p ys) (filter p ys))) (ap p (sym at) ∙ is) in omega (arith, e)
-some_in p (y ∷ ys) x (inr there) is = go (p y) (some_in p ys x there is)
-  where
-    go : (b : Bool) → 1 ≤ length (filter p ys) → 1 ≤ length (cond b (y ∷ filter p ys) (filter p ys))
-    go true rest = omega (arith, rest)
-    go false rest = rest
-
 pub none_won : (op : Op) (is_such : Entry → Bool) (table : (e : Event) (r : Reply) → wins op e (Ok r) ≡ is_such (e, r)) (w : ℕ) (turns : List Turn) → length (filter is_such (part_of w turns)) ≡ 0 → WinsIn op w turns → ⊥
 none_won op is_such table w turns none won =
     let x : Won op w turns = who_won op w turns won in

@@ -8,8 +8,8 @@ use Rattle.nm_set_c.proofs.notes.nm_worker_read.Goals.{in-Worker, in_default}
 
 pub returns : goal.returns
 returns c =
-    let Same : Type 0 = (c.match-deref_mut.links ≡ c.args.links.now) × (c.match-deref_mut.flags ≡ c.args.flags.now) in
+    let Same : Type 0 = (c.match-deref_mut.inserted ≡ c.args.inserted.now) × (c.match-deref_mut.removed ≡ c.args.removed.now) in
     elim c.match-deref_mut.branch [
-      | in-Worker w ↦ (w.read-outcome.result, search rules, told_worker (DoesRead c.args.number c.args.links.now c.match-deref_mut.links c.args.flags.now c.match-deref_mut.flags) Same (held_by c.args.worker.now) (held_by c.put.new.self) w.in-Worker.member w.read-outcome.new.member w.read-outcome.result (search rules) (search rules) (search rules))
-      | in_default w ↦ (Kind, search rules, other_worker (DoesRead c.args.number c.args.links.now c.match-deref_mut.links c.args.flags.now c.match-deref_mut.flags) Same (held_by c.args.worker.now) (held_by c.put.new.self) c.deref_mut.result.now w.in_default.not-Worker (search rules) (search rules) (w.links-is, w.flags-is))
+      | in-Worker w ↦ (w.read-outcome.result, search rules, told_worker (DoesRead c.args.number c.args.inserted.now c.match-deref_mut.inserted c.args.removed.now c.match-deref_mut.removed) Same (held_by c.args.worker.now) (held_by c.put.new.self) w.in-Worker.member w.read-outcome.new.member w.read-outcome.result (search rules) (search rules) (search rules))
+      | in_default w ↦ (Kind, search rules, other_worker (DoesRead c.args.number c.args.inserted.now c.match-deref_mut.inserted c.args.removed.now c.match-deref_mut.removed) Same (held_by c.args.worker.now) (held_by c.put.new.self) c.deref_mut.result.now w.in_default.not-Worker (search rules) (search rules) (w.inserted-is, w.removed-is))
     ]
