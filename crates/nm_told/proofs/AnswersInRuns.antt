@@ -42,7 +42,7 @@ module _ (L : Layout) (fits : IsLayout L) (events : List (ℕ × Event)) (keys :
   split : trace_in (ordered L) events ≡ before ++ answer_turn w answer ∷ later
   split = goes_on ∙ (ap (λ (ts : List Turn). ts ++ later) s.are ∙ append_assoc before (answer_turn w answer ∷ []) later)
 
-  pub p : Parts (ordered L) events before (answer_turn w answer ∷ later)
+  p : Parts (ordered L) events before (answer_turn w answer ∷ later)
   p = parts_of (ordered L) events before (answer_turn w answer ∷ later) split
 
   h : Head (after_in (ordered L) p.early) p.late (answer_turn w answer) later
@@ -60,7 +60,7 @@ module _ (L : Layout) (fits : IsLayout L) (events : List (ℕ × Event)) (keys :
   keyed : All (λ t. HasKey t.1) p.early
   keyed = first_keys p.early p.late (subst (λ (us : List (ℕ × Event)). All (λ t. HasKey t.1) us) p.all keys)
 
-  pub call : (s.pin ≡ pin_of L p.early w) × IsCalled (after_in (ordered L) p.early) w op k
+  call : (s.pin ≡ pin_of L p.early w) × IsCalled (after_in (ordered L) p.early) w op k
   call = called_is L (enough_of L fits) w p.early keyed (record { pin = s.pin; op = op; key = k }) (ap (call_begun w) (sym p.first_is) ∙ s.call)
 
   may : MayAnswer (after_in (ordered L) p.early) w op k answer
@@ -72,3 +72,8 @@ module _ (L : Layout) (fits : IsLayout L) (events : List (ℕ × Event)) (keys :
     short = let size = p.size in let l = ap (λ (ts : List Turn). length ts) s.are in let m = length-append before (answer_turn w answer ∷ []) in omega (arith, size, l, m);
     pinned = let e = call.0 in let b = s.begins in omega (arith, e, b);
   }
+
+  -- its pin is the call's
+  pub pinned_so : s.pin ≡ pin_of L answered_by.is.before w
+  unfolding answered_by
+  pinned_so = call.0

@@ -33,7 +33,7 @@ use Rattle.nm_tree.proofs.JoinsAlone.{told_in_part}
 use Rattle.nm_tree.proofs.Taking.{no_shorter}
 use Rattle.nm_set.specs.Posts.{HasHeardAll, HasWonNothing}
 use Rattle.nm_set.proofs.Letters.{some_in}
-use Rattle.nm_told.proofs.AnswersInRuns.{AnsweredBy, answered_by, call}
+use Rattle.nm_told.proofs.AnswersInRuns.{AnsweredBy, answered_by, pinned_so}
 use Rattle.nm_told.proofs.TwoAnswers.{index_of}
 
 -- an element behind some first ones, and within so many more
@@ -69,25 +69,25 @@ same_act acts once a b there among own pin = by (cases_lt i.0 j.0) (cases_lt j.0
 
 module _ (L : Layout) (fits : IsLayout L) (events : List (ℕ × Event)) (keys : All (λ t. HasKey t.1) events) (was now later : List Turn) (goes_on : trace_in (ordered L) events ≡ now ++ later)
     (w k : ℕ) (s : AnswerStands L was now w Insert k true) where
-  a : AnsweredBy L events was now w Insert k true
+  abbrev a : AnsweredBy L events was now w Insert k true
   a = answered_by L fits events keys was now later goes_on w Insert k true s
 
-  ins : HasWonInsert L a.is.before w k
+  abbrev ins : HasWonInsert L a.is.before w k
   ins = a.is.moment
 
-  event : ℕ × Event
+  abbrev event : ℕ × Event
   event = (w, Link ins.parent ins.side ins.leaf ins.new)
 
-  link : Turn
+  abbrev link : Turn
   link = record { worker = w; event = Link ins.parent ins.side ins.leaf ins.new; outcome = Ok (Linked ins.linked) }
 
-  xs : List Turn
+  abbrev pub xs : List Turn
   xs = trace_in (ordered L) ins.before
 
-  behind : List (ℕ × Event)
+  abbrev behind : List (ℕ × Event)
   behind = ins.since ++ (w, LeaveWith true) ∷ a.is.since
 
-  ys : List Turn
+  abbrev ys : List Turn
   ys = trace_in (next_in (after_in (ordered L) ins.before) event) behind
 
   whole : events ≡ ins.before ++ event ∷ behind
@@ -106,6 +106,7 @@ module _ (L : Layout) (fits : IsLayout L) (events : List (ℕ × Event)) (keys :
   not_anew = λ i. list_any begins_anew (cond (eq-eqb w w refl i) (logged_by (record { worker = w; event = event.1; outcome = ins.won i })) [])
 
   pin_stood : pin_of L a.is.before w ≡ pin_of L ins.before w
+  unfolding after_in
   pin_stood = ap (λ (us : List (ℕ × Event)). pin_of L us w) (ins.is_run ∙ sym (append_assoc ins.before (event ∷ []) ins.since))
       ∙ (pin_stays L (ins.before ++ event ∷ []) ins.since w (subst (λ (c : Configuration). PinStands w (trace_in c ins.since)) (sym (after_in-append (ordered L) ins.before (event ∷ []))) ins.stands)
       ∙ (pin_more L ins.before event w ∙ ap (λ (b : Bool). cond b (length ins.before) (pin_of L ins.before w)) not_anew))
@@ -116,7 +117,7 @@ module _ (L : Layout) (fits : IsLayout L) (events : List (ℕ × Event)) (keys :
       let b = h.links xs ys w ins.parent ins.side ins.leaf ins.new ins.linked split in
       let begun : call_begun w xs ≡ Some (called_in b.0) = subst (λ (u : ℕ). call_begun u xs ≡ Some (called_in b.0)) b.2 b.4.0 in
       let pin : b.0.pin ≡ pin_of L ins.before w = (called_is L (enough_of L fits) w ins.before keyed (called_in b.0) begun).0 in
-      let was_pin : s.pin ≡ pin_of L a.is.before w = (call L fits events keys was now later goes_on w Insert k true s).0 in
+      let was_pin = pinned_so L fits events keys was now later goes_on w Insert k true s in
       ap (λ (y : Act). y.moment) (same_act acts h.once x b.0 among b.1 (own ∙ sym b.2) (ap (λ (c : Called). c.pin) called ∙ (was_pin ∙ (pin_stood ∙ sym pin)))) ∙ b.3
 
   -- it lies in what a reader has seen that has heard of all that its worker had done by its answer

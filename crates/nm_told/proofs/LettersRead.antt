@@ -1,6 +1,6 @@
 -- What a member finds that has read what another one had left.
 use Rattle.std.proofs.Common.{◌≡◌, ◌<◌, ◌≤◌, ◌+◌, inl, inr, ℕ, Bool, true, List, sym, ap, subst, ◌∙◌, arith}
-use Rattle.std.specs.Prelude.{Option, Some, None, Result, Ok, IfOk, IfSome, is_some}
+use Rattle.std.specs.Prelude.{Option, Some, None, Result, Ok, Err, IfOk, IfSome, is_some}
 use Rattle.std.specs.Result.{result_ok}
 use Rattle.nm_edge.specs.Layouts.{Layout, IsLayout}
 use Rattle.nm_model.specs.declared.event.Op.TheVariants.{Has, Insert}
@@ -86,7 +86,7 @@ module _ (law : LettersAreInOrder) (k : ℕ) (w z x v : Hand) (p : Posted) (answ
       law v.pass.view.past z.pass.view.past look.start.view.past i p look.told on (goes_on_through v.pass.view.past x.pass.view.past look.start.view.past further look.past.goes_on) tally
       (subst (λ (n : ℕ). leaf_after n None z.pass.view.past ≡ None) number wrote.rests) look.behind (omega (arith, one, some)) (omega (arith, none)) (omega (arith, one)) (omega (arith, none))
 
-  L : Layout
+  abbrev pub L : Layout
   L = v.pass.view.layout
 
   inserts : AnswerStands L w.pass.view.past z.pass.view.past i Insert k true
@@ -103,3 +103,11 @@ module _ (law : LettersAreInOrder) (k : ℕ) (w z x v : Hand) (p : Posted) (answ
       let at = at_link L fits seen.events seen.keys w.pass.view.past z.pass.view.past on.more (sym seen.are ∙ on.is) i k inserts acts.0 (subst (λ (ts : List Turn). IsHistory L ts acts.0) seen.are acts.1) a among own call in
       let far = heard_of L fits seen.events seen.keys w.pass.view.past z.pass.view.past on.more (sym seen.are ∙ on.is) i k inserts look.start.view.past all in
       omega (arith, at, far)) none'
+
+-- so where the note was left, and the key was asked for
+pub finds : LettersAreInOrder → (k : ℕ) (w z x v : Hand) (p : Posted) (o : Option Bool) → HasWritten k w z p → won_links w.pass.view.log ≡ 0 → won_flags w.pass.view.log ≡ 0 → IfSome o (HasLookedBehind w.pass.view.number k x)
+    → HasSeen z.pass.view → HasSeen v.pass.view → HasSeenTurns v.pass.view → IsLayout v.pass.view.layout → Extends v.pass.view.past z.pass.view.past → Extends v.pass.view.past x.pass.view.past → z.pass.view.layout ≡ v.pass.view.layout → x.pass.view.layout ≡ v.pass.view.layout
+    → NoneDeleted v.pass.view.layout w.pass.view.past v.pass.view.past k → IfSome o (λ b. b ≡ true)
+finds law k w z x v p None wrote unlinked unflagged looks saw seen turns fits on further layout layout' none' = tt
+finds law k w z x v p (Some answer) wrote unlinked unflagged looks saw seen turns fits on further layout layout' none' =
+    found_where_told law k w z x v p answer wrote unlinked unflagged looks saw seen turns fits on further layout layout' none'

@@ -117,8 +117,14 @@ pub fn insert_while_read<R: Threads + Sync>(
     second.hear(note);
     second.is_of_a_run();
     letters_are_in_order();
-    Reading {
-        member: second,
-        found: if posted.is_some() { found } else { None },
+    match posted {
+        Some(_) => Reading {
+            member: second,
+            found,
+        },
+        None => Reading {
+            member: second,
+            found: None,
+        },
     }
 }
