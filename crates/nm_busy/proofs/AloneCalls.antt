@@ -1,8 +1,7 @@
 -- A call alone is answered.
-use Rattle.std.proofs.Common.{◌≡◌, ◌≢◌, ℕ, zero, suc, ◌+◌, ◌≤◌, inl, inr, ◌⊎◌, ◌==◌, Bool, true, false, cond, not, ◌&&◌, ◌||◌, List, [], ◌∷◌, ◌++◌, append_assoc, refl, sym, ap, subst, ◌∙◌, arith, true≢false}
-use Rattle.std.specs.Prelude.{Option, None, Result, Ok, Err, All}
+use Rattle.std.proofs.Common.{◌≡◌, ℕ, zero, suc, ◌+◌, ◌≤◌, inl, inr, ◌==◌, Bool, true, false, cond, not, ◌&&◌, ◌||◌, List, [], ◌∷◌, ◌++◌, append_assoc, refl, sym, ap, subst, ◌∙◌, arith, true≢false}
+use Rattle.std.specs.Prelude.{Option, Result, Ok, Err, All}
 use Rattle.std.specs.List.{list_any}
-use native.Mathlib.Decide.{ℕ_discrete}
 use Rattle.std.proofs.lemmas.Bool.{or_parts, eq-eqb, false_from_ne_true, and_from}
 use Rattle.std.proofs.lemmas.List.{append-nil, append_cancel_left}
 use Rattle.std.proofs.lemmas.List.Folds.{list_any-append}
@@ -65,11 +64,13 @@ use Rattle.nm_progress.proofs.CountedTries.{known_longer}
 use Rattle.nm_order.specs.Totals.{NothingIsPending}
 use Rattle.nm_busy.specs.Pending.{NonePends}
 use Rattle.nm_busy.proofs.PendingTurns.{nothing_is_pending}
-use Rattle.nm_busy.specs.Alone.{IsAlone, LookupsAloneAreAnswered, InsertsAloneAreAnswered, DeletesAloneAreNotBusy}
-use Rattle.nm_busy.specs.Lookups.{WasReshaped}
+use Rattle.nm_busy.specs.Alone.{IsAlone, LookupsAloneAreAnswered, InsertsAloneAreAnswered, DeletesAloneAreNotBusy, ManyAloneAreAnswered, NextsAloneAreAnswered, PrevsAloneAreAnswered}
+use Rattle.nm_busy.specs.Lookups.{WasBusy, WasReshaped}
 use Rattle.nm_busy.specs.Pins.{WasMovedPast}
+use Rattle.nm_busy.specs.Walked.{ManyWereBusy, NearWasBusy}
 use Rattle.nm_busy.proofs.LostPins.{part-append}
 use Rattle.nm_busy.proofs.LostLookups.{busy_lookups_were_disturbed}
+use Rattle.nm_busy.proofs.LostWalked.{busy_many_were_disturbed, busy_nexts_were_disturbed, busy_prevs_were_disturbed}
 use Rattle.nm_busy.proofs.Hindered.{Hinders}
 use Rattle.nm_busy.proofs.HinderedTries.{IsLostInsert, IsLostFlag, insert_longer, flag_longer, link_plain, flag_plain, bare_at}
 use Rattle.nm_busy.proofs.HinderedCalls.{moved}
@@ -102,24 +103,48 @@ own_events w [] own i d below = absurd (omega (arith, below))
 own_events w (t ∷ ts) own zero d below = own 0 t (omega arith)
 own_events w (t ∷ ts) own (suc i) d below = own_events w ts (λ j e l. own (suc j) e (omega (arith, l))) i d (omega (arith, below))
 
+-- so none has moved the epoch on, nor linked or cut off a node
+none_moved : (p q : Stand) (n : ℕ) → IsAlone p q → WasMovedPast p q n → n ≡ 0
+none_moved p q n alone m =
+    let same_is = same_turns p.view.past m.turns alone.turns q.view.past m.is alone.is in
+    let none = ap (λ (l : List Turn). number_of (moves_of_others p.view.number) l) same_is ∙ own_none p.view.number moves alone.turns alone.own in
+    let few = m.moved in
+    omega (arith, none, few)
+
+none_reshaped : (p q : Stand) (n : ℕ) → IsAlone p q → WasReshaped p q n → n ≡ 0
+none_reshaped p q n alone m =
+    let same_is = same_turns p.view.past m.turns alone.turns q.view.past m.is alone.is in
+    let none = ap (λ (l : List Turn). number_of (reshapes_of_others p.view.number) l) same_is ∙ own_none p.view.number is_reshape alone.turns alone.own in
+    let few = m.reshaped in
+    omega (arith, none, few)
+
 pub lookups_alone_are_answered : LookupsAloneAreAnswered
 lookups_alone_are_answered k tries p q seen_p seen_q enough same on alone missed = by (busy_lookups_were_disturbed k tries p q seen_p seen_q enough same on missed)
   where
-    c : Configuration
-    c = after_in (ordered p.view.layout) (events_of p.view.past)
-
-    by : (tries ≡ 0) ⊎ WasMovedPast p q tries ⊎ WasReshaped p q tries → tries ≡ 0
+    by : WasBusy p q tries → tries ≡ 0
     by (inl none) = none
-    by (inr (inl m)) =
-        let same_is = same_turns p.view.past m.turns alone.turns q.view.past m.is alone.is in
-        let none = ap (λ (l : List Turn). number_of (moves_of_others p.view.number) l) same_is ∙ own_none p.view.number moves alone.turns alone.own in
-        let few = m.moved in
-        omega (arith, none, few)
-    by (inr (inr m)) =
-        let same_is = same_turns p.view.past m.turns alone.turns q.view.past m.is alone.is in
-        let none = ap (λ (l : List Turn). number_of (reshapes_of_others p.view.number) l) same_is ∙ own_none p.view.number is_reshape alone.turns alone.own in
-        let few = m.reshaped in
-        omega (arith, none, few)
+    by (inr (inl m)) = none_moved p q tries alone m
+    by (inr (inr m)) = none_reshaped p q tries alone m
+
+-- ---- under a plain pin
+
+pub many_alone : (p q : Stand) (tries : ℕ) → IsAlone p q → ManyWereBusy p q tries → tries ≡ 0
+many_alone p q tries alone (inl none) = none
+many_alone p q tries alone (inr (inl m)) = none_moved p q tries alone m
+many_alone p q tries alone (inr (inr m)) = let none = none_reshaped p q 1 alone m.1 in absurd (omega (arith, none))
+
+pub near_alone : (p q : Stand) (tries : ℕ) → IsAlone p q → NearWasBusy p q tries → tries ≤ 1
+near_alone p q tries alone (inl so) = let none = many_alone p q tries alone so in omega (arith, none)
+near_alone p q tries alone (inr (times, half, m)) = let none = none_reshaped p q times alone m in omega (arith, half, none)
+
+pub many_alone_are_answered : ManyAloneAreAnswered
+many_alone_are_answered ks tries p q seen_p seen_q enough same on missed alone = many_alone p q tries alone (busy_many_were_disturbed ks tries p q seen_p seen_q enough same on missed)
+
+pub nexts_alone_are_answered : NextsAloneAreAnswered
+nexts_alone_are_answered k tries p q seen_p seen_q enough same on missed alone = near_alone p q tries alone (busy_nexts_were_disturbed k tries p q seen_p seen_q enough same on missed)
+
+pub prevs_alone_are_answered : PrevsAloneAreAnswered
+prevs_alone_are_answered k tries p q seen_p seen_q enough same on missed alone = near_alone p q tries alone (busy_prevs_were_disturbed k tries p q seen_p seen_q enough same on missed)
 
 -- ---- entries that change no edge
 
@@ -286,7 +311,7 @@ module _ (L : Layout) (enough : 5 ≤ L.nodes) where
         three [] a b e = refl
         three (x ∷ l) a b e = ap (λ (l : List Entry). x ∷ l) (three l a b e)
 
-        by : OnPath L enough w c o ts keys reshapes_none n t → Reached c.state.memory s.parent
+        by : OnPath L enough w c o ts keys reshapes_none k n t → Reached c.state.memory s.parent
         by p = record { path = p.sides; ends = p.ends ∙ sym at; is_slot = λ z. p.is_slot (sym at ∙ z) }
           where
             at : s.parent ≡ t.edge.slot

@@ -1,6 +1,6 @@
 -- What hinders a worker while its log grows: each part of it that is hindered so often adds as many
 -- such turns to a run.
-use Rattle.std.proofs.Common.{◌≡◌, ℕ, zero, suc, ◌+◌, ◌*◌, ◌≤◌, ◌==◌, Bool, true, false, cond, not, ◌&&◌, ◌||◌, List, [], ◌∷◌, ◌++◌, append_assoc, refl, sym, ap, subst, ◌∙◌, arith, true≢false}
+use Rattle.std.proofs.Common.{◌≡◌, ℕ, ◌+◌, ◌*◌, ◌≤◌, ◌==◌, Bool, true, false, cond, not, ◌&&◌, ◌||◌, List, [], ◌∷◌, ◌++◌, append_assoc, refl, sym, ap, subst, ◌∙◌, arith, true≢false}
 use Rattle.std.specs.Prelude.{Ok, All}
 use Rattle.std.proofs.lemmas.Bool.{eq-eqb}
 use Rattle.std.proofs.lemmas.List.{append_cancel_left}
@@ -12,7 +12,7 @@ use Rattle.nm_model.specs.declared.trace.Turn.{Turn}
 use Rattle.nm_model.specs.Knowledge.{Knowledge}
 use Rattle.nm_model.specs.Runs.{of}
 use Rattle.nm_model.specs.Walks.{Entry}
-use Rattle.nm_model.specs.Ordered.{Configuration, ordered, next_in, outcome_in, after_in, trace_in}
+use Rattle.nm_model.specs.Ordered.{Configuration, ordered, after_in, trace_in}
 use Rattle.nm_order.specs.Intervals.{HasKey}
 use Rattle.nm_order.specs.Logs.{part_of, known_after, known_by}
 use Rattle.nm_order.proofs.OrderedLaws.{IsOrdered, each_ordered}
@@ -30,7 +30,7 @@ use Rattle.nm_progress.proofs.LostTries.{later_keys}
 use Rattle.nm_progress.proofs.CountedTries.{known_longer, own_turn, lost_count, hindrances_are_paid}
 use Rattle.nm_progress.proofs.SplitTurns.{SplitTurn, split_turn, ordered_after, part_teaches, turn_in, number_split, number-append}
 use Rattle.nm_busy.specs.Lost.{WasHindered}
-use Rattle.nm_busy.proofs.Astray.{SplitPart, split_part, one_astray}
+use Rattle.nm_busy.proofs.Astray.{SplitPart, split_part, one_astray, long_astray}
 use Rattle.nm_busy.proofs.LostPins.{part-append, turns_between}
 use Rattle.nm_busy.proofs.Parts.{Longer}
 
@@ -142,7 +142,7 @@ module _ (L : Layout) (enough : 5 ≤ L.nodes) (w : ℕ) where
     entries = l.entries;
     are = l.are;
     counted = λ c o knowing ts keys is. (
-        let led = one_astray L enough w k c o ts keys old new long (ap (λ (xs : List Entry). old ++ xs) is ∙ sym l.are) in
+        let led = one_astray L enough w c o ts keys old new (long_astray L enough w k old new long) (ap (λ (xs : List Entry). old ++ xs) is ∙ sym l.are) in
         let few = shapes_hinder w (trace_in c ts) in
         omega (arith, led, few)
         );

@@ -3,6 +3,10 @@ pub mod Parts
 pub mod WalkReads
 pub mod Astray
 pub mod LostLookups
+pub mod TurnsAstray
+pub mod Between
+pub mod NearAstray
+pub mod LostWalked
 pub mod Hindered
 pub mod MarkedReads
 pub mod HinderedTries

@@ -1,5 +1,5 @@
--- While nothing is linked or cut off, each reached node stays, with the slots to which its edges
--- lead; and no path is longer than there are slots.
+-- While nothing is linked or cut off, each reached node stays, with its key and the slots to which
+-- its edges lead; and no path is longer than there are slots.
 use Rattle.std.proofs.Common.{◌≡◌, ◌≢◌, ℕ, suc, ◌+◌, ◌<◌, ◌≤◌, inl, inr, eqb, ◌==◌, Bool, true, false, cond, not, ◌&&◌, List, length, [], ◌∷◌, ◌++◌, append_assoc, refl, sym, ap, subst, ◌∙◌, arith, true≢false}
 use Rattle.std.specs.Prelude.{Result, Ok, Err, All}
 use Rattle.std.specs.List.{list_any, IsDistinct, AllByRecursion}
@@ -10,11 +10,11 @@ use Rattle.nm_edge.specs.Edges.{Edge}
 use Rattle.nm_edge.specs.Layouts.{Layout}
 use Rattle.nm_edge.specs.declared.edge.Side.{Side}
 use Rattle.nm_edge.specs.declared.node.NodeId.{NodeId}
-use Rattle.nm_model.specs.declared.event.Field.TheVariants.{Edge as EdgeOn}
+use Rattle.nm_model.specs.declared.event.Field.TheVariants.{Key as KeyOf, Edge as EdgeOn}
 use Rattle.nm_model.specs.declared.event.Event.{Event}
 use Rattle.nm_model.specs.declared.event.Event.TheVariants.{Look, Link, Splice}
 use Rattle.nm_model.specs.declared.reply.Reply.{Reply}
-use Rattle.nm_model.specs.declared.reply.Reply.TheVariants.{EdgeIs, Cut}
+use Rattle.nm_model.specs.declared.reply.Reply.TheVariants.{KeyIs, EdgeIs, Cut}
 use Rattle.nm_model.specs.declared.reply.Refused.{Refused}
 use Rattle.nm_model.specs.declared.trace.Turn.{Turn}
 use Rattle.nm_model.specs.Memory.{edge, child}
@@ -26,11 +26,14 @@ use Rattle.nm_model.specs.Ordered.{Configuration, next_in, outcome_in, after_in,
 use Rattle.nm_laws.proofs.Trees.{follow-append, follow_none, append_cancel}
 use Rattle.nm_laws.proofs.Pictures.{alone, reached_within}
 use Rattle.nm_laws.proofs.Views.{picture}
-use Rattle.nm_order.specs.Intervals.{HasKey}
+use Rattle.nm_order.specs.Intervals.{HasKey, key}
 use Rattle.nm_order.specs.Logs.{part_of}
 use Rattle.nm_order.proofs.OrderedLaws.{IsOrdered, ordered_next, law_of_state}
 use Rattle.nm_order.proofs.RunExchanges.{first_keys}
 use Rattle.nm_order.proofs.CutTurns.{uncut_stays, cut_is_splice}
+use Rattle.nm_order.proofs.OrderedMoments.{Lasting}
+use Rattle.nm_order.proofs.SetChanges.{turn_lasts}
+use Rattle.nm_order.proofs.ToldLaws.{key_told}
 use Rattle.nm_progress.specs.Moves.{number_of}
 use Rattle.nm_progress.specs.Paid.{links_on, cuts_on}
 use Rattle.nm_progress.specs.Tries.{reshapes, reshapes_of_others}
@@ -50,9 +53,14 @@ module _ (L : Layout) (enough : 5 ≤ L.nodes) where
   pub record StaysThere (c d : Configuration) (y : ℕ) : Type 0 where
     pub reached : Reached d.state.memory y
     pub leads : (g : Side) → child d.state.memory y g ≡ child c.state.memory y g
+    pub key_is : key d.state.memory y ≡ key c.state.memory y
 
   calm_turn : (c : Configuration) (t : ℕ × Event) → HasKey t.1 → IsOrdered L c → reshapes t.1 (outcome_in c t) ≡ false → (y : ℕ) → Reached c.state.memory y → StaysThere c (next_in c t) y
-  calm_turn c t has o calm y r = record { reached = uncut_stays L enough c t o uncut y r; leads = λ g. fate g (turn_fates L enough c t o y g (unheld L enough c t has o y r)) }
+  calm_turn c t has o calm y r = record {
+    reached = uncut_stays L enough c t o uncut y r;
+    leads = λ g. fate g (turn_fates L enough c t o y g (unheld L enough c t has o y r));
+    key_is = ap (λ (l : Lasting). l.key) (turn_lasts L enough c t has o y r);
+  }
     where
       none : (links_on t.1 (outcome_in c t) ≡ false) × (cuts_on t.1 (outcome_in c t) ≡ false)
       none = or_parts (links_on t.1 (outcome_in c t)) (cuts_on t.1 (outcome_in c t)) calm
@@ -80,33 +88,43 @@ module _ (L : Layout) (enough : 5 ≤ L.nodes) where
 
   pub calm_turns : (ts : List (ℕ × Event)) → All (λ t. HasKey t.1) ts → (c : Configuration) → IsOrdered L c → number_of is_reshape (trace_in c ts) ≡ 0 → (y : ℕ) → Reached c.state.memory y → StaysThere c (after_in c ts) y
   unfolding after_in trace_in
-  calm_turns [] keys c o calm y r = record { reached = r; leads = λ g. refl }
+  calm_turns [] keys c o calm y r = record { reached = r; leads = λ g. refl; key_is = refl }
   calm_turns (t ∷ ts) keys c o calm y r =
       let parts = calm_parts (reshapes t.1 (outcome_in c t)) (number_of is_reshape (trace_in (next_in c t) ts)) calm in
       let one = calm_turn c t (keys 0 t (omega arith)) o parts.0 y r in
       let rest = calm_turns ts (λ i d below. keys (suc i) d (omega (arith, below))) (next_in c t) (ordered_next L enough c t (keys 0 t (omega arith)) o) parts.1 y one.reached in
-      record { reached = rest.reached; leads = λ g. rest.leads g ∙ one.leads g }
+      record { reached = rest.reached; leads = λ g. rest.leads g ∙ one.leads g; key_is = rest.key_is ∙ one.key_is }
 
   look_edge : (s : State) (u x : ℕ) (d : Side) (e : Edge) → reply_of s u (Look x (EdgeOn d)) ≡ EdgeIs e → edge s.memory x d ≡ e
   unfolding reply
   look_edge s u x d e is = cc
 
   -- what a look of a worker told, by the part of these turns
-  pub look_there : (w : ℕ) (ts : List (ℕ × Event)) → All (λ t. HasKey t.1) ts → (c : Configuration) → IsOrdered L c → number_of is_reshape (trace_in c ts) ≡ 0 → (xs : List Entry) (x : ℕ) (d : Side) (e : Edge) (ys : List Entry)
-      → part_of w (trace_in c ts) ≡ xs ++ (Look x (EdgeOn d), EdgeIs e) ∷ ys → Reached c.state.memory x → e.slot ≡ child c.state.memory x d
-  look_there w ts keys c o calm xs x d e ys is r = by (split_turn w ts c xs (Look x (EdgeOn d), EdgeIs e) ys is)
-    where
-      by : SplitTurn w c ts xs (Look x (EdgeOn d), EdgeIs e) ys → e.slot ≡ child c.state.memory x d
-      by a = sym (ap (λ (e : Edge). e.slot) told) ∙ (calm_turns a.before keys' c o calm' x r).leads d
-        where
-          keys' : All (λ t. HasKey t.1) a.before
-          keys' = first_keys a.before (a.turn ∷ a.since) (subst (λ (l : List (ℕ × Event)). All (λ t. HasKey t.1) l) a.is_run keys)
+  module _ (w : ℕ) (ts : List (ℕ × Event)) (keys : All (λ t. HasKey t.1) ts) (c : Configuration) (o : IsOrdered L c) (calm : number_of is_reshape (trace_in c ts) ≡ 0) (xs : List Entry) (x : ℕ) where
+    -- of a node that stays until the turn of the look
+    still : (e : Entry) (ys : List Entry) → Reached c.state.memory x → (a : SplitTurn w c ts xs e ys) → StaysThere c (after_in c a.before) x
+    still e ys r a = calm_turns a.before keys' c o calm' x r
+      where
+        keys' : All (λ t. HasKey t.1) a.before
+        keys' = first_keys a.before (a.turn ∷ a.since) (subst (λ (l : List (ℕ × Event)). All (λ t. HasKey t.1) l) a.is_run keys)
 
-          calm' : number_of is_reshape (trace_in c a.before) ≡ 0
-          calm' = let all = ap (λ (l : List (ℕ × Event)). number_of is_reshape (trace_in c l)) a.is_run in let parts = number_split is_reshape c a.before a.turn a.since in omega (arith, calm, all, parts)
+        calm' : number_of is_reshape (trace_in c a.before) ≡ 0
+        calm' = let all = ap (λ (l : List (ℕ × Event)). number_of is_reshape (trace_in c l)) a.is_run in let parts = number_split is_reshape c a.before a.turn a.since in omega (arith, calm, all, parts)
 
-          told : edge (after_in c a.before).state.memory x d ≡ e
-          told = look_edge (after_in c a.before).state a.turn.0 x d e (ap (reply_of (after_in c a.before).state a.turn.0) (sym (ap (λ (k : Entry). k.0) a.is_entry)) ∙ ap (λ (k : Entry). k.1) a.is_entry)
+    told_at : (e : Entry) (ys : List Entry) (a : SplitTurn w c ts xs e ys) → reply_of (after_in c a.before).state a.turn.0 e.0 ≡ e.1
+    told_at e ys a = ap (reply_of (after_in c a.before).state a.turn.0) (sym (ap (λ (k : Entry). k.0) a.is_entry)) ∙ ap (λ (k : Entry). k.1) a.is_entry
+
+    pub look_there : (d : Side) (e : Edge) (ys : List Entry) → part_of w (trace_in c ts) ≡ xs ++ (Look x (EdgeOn d), EdgeIs e) ∷ ys → Reached c.state.memory x → e.slot ≡ child c.state.memory x d
+    look_there d e ys is r = by (split_turn w ts c xs (Look x (EdgeOn d), EdgeIs e) ys is)
+      where
+        by : SplitTurn w c ts xs (Look x (EdgeOn d), EdgeIs e) ys → e.slot ≡ child c.state.memory x d
+        by a = sym (ap (λ (e : Edge). e.slot) (look_edge (after_in c a.before).state a.turn.0 x d e (told_at _ ys a))) ∙ (still _ ys r a).leads d
+
+    pub key_there : (k : ℕ) (ys : List Entry) → part_of w (trace_in c ts) ≡ xs ++ (Look x KeyOf, KeyIs k) ∷ ys → Reached c.state.memory x → k ≡ key c.state.memory x
+    key_there k ys is r = by (split_turn w ts c xs (Look x KeyOf, KeyIs k) ys is)
+      where
+        by : SplitTurn w c ts xs (Look x KeyOf, KeyIs k) ys → k ≡ key c.state.memory x
+        by a = key_told (after_in c a.before).state a.turn.0 x k (told_at _ ys a) ∙ (still _ ys r a).key_is
 
 -- ---- others and all
 
