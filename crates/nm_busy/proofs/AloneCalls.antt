@@ -71,7 +71,7 @@ use Rattle.nm_busy.specs.Walked.{ManyWereBusy, NearWasBusy}
 use Rattle.nm_busy.proofs.LostPins.{part-append}
 use Rattle.nm_busy.proofs.LostLookups.{busy_lookups_were_disturbed}
 use Rattle.nm_busy.proofs.LostWalked.{busy_many_were_disturbed, busy_nexts_were_disturbed, busy_prevs_were_disturbed}
-use Rattle.nm_busy.proofs.Hindered.{Hinders}
+use Rattle.nm_busy.proofs.Hindered.{Hinders, Ran, ran_on}
 use Rattle.nm_busy.proofs.HinderedTries.{IsLostInsert, IsLostFlag, insert_longer, flag_longer, link_plain, flag_plain, bare_at}
 use Rattle.nm_busy.proofs.HinderedCalls.{moved}
 use Rattle.nm_busy.proofs.Parts.{Longer, longer_these, longer_then, longer_none, plain_longer, reads_longer, help_longer, returns_longer}
@@ -341,11 +341,12 @@ module _ (L : Layout) (enough : 5 ≤ L.nodes) where
 -- ---- a call alone, by what p and q have seen
 
 -- the turns of a part of it, by worker w alone
-record AloneWalk (L : Layout) (w : ℕ) (begun walked : List Entry) : Type 0 where
+record AloneWalk (L : Layout) (enough : 5 ≤ L.nodes) (w : ℕ) (begun walked : List Entry) : Type 0 where
   from : Configuration
   is_ordered : IsOrdered L from
   is_clean : Clean from
   knows : of from.state w ≡ known_by L w begun
+  ran : Ran L enough w begun from
   turns : List (ℕ × Event)
   has_keys : All (λ t. HasKey t.1) turns
   calm : number_of changes_turn (trace_in from turns) ≡ 0
@@ -386,14 +387,14 @@ module _ (p q : Stand) (seen_p : HasSeen p.view) (seen_q : HasSeen q.view) (enou
   own_parts : (xs ys : List (ℕ × Event)) → All (λ t. t.0 ≡ p.view.number) (xs ++ ys) → All (λ t. t.0 ≡ p.view.number) xs × All (λ t. t.0 ≡ p.view.number) ys
   own_parts xs ys all = (all_before (λ t. t.0 ≡ p.view.number) xs ys all, all_behind (λ t. t.0 ≡ p.view.number) xs ys all)
 
-  alone_walk : (begun walked : List Entry) → Mute p.view.log begun → Plain begun walked → Longer walked q.view.log → AloneWalk p.view.layout p.view.number begun walked
+  alone_walk : (begun walked : List Entry) → Mute p.view.log begun → Plain begun walked → Longer walked q.view.log → AloneWalk p.view.layout enough p.view.number begun walked
   alone_walk begun walked pin walk rest = made (split_part p.view.number pin.entries (after_in (ordered p.view.layout) (events_of p.view.past)) (events_of alone.turns) (walk.entries ++ rest.entries) parts)
     where
       parts : part_of p.view.number (trace_in (after_in (ordered p.view.layout) (events_of p.view.past)) (events_of alone.turns)) ≡ pin.entries ++ (walk.entries ++ rest.entries)
       parts = append_cancel_left p.view.log _ _ (whole ∙ (rest.are ∙ (ap (λ (l : List Entry). l ++ rest.entries) (walk.are ∙ ap (λ (l : List Entry). l ++ walk.entries) pin.are)
           ∙ (append_assoc (p.view.log ++ pin.entries) walk.entries rest.entries ∙ append_assoc p.view.log pin.entries (walk.entries ++ rest.entries)))))
 
-      made : SplitPart p.view.number (after_in (ordered p.view.layout) (events_of p.view.past)) (events_of alone.turns) pin.entries (walk.entries ++ rest.entries) → AloneWalk p.view.layout p.view.number begun walked
+      made : SplitPart p.view.number (after_in (ordered p.view.layout) (events_of p.view.past)) (events_of alone.turns) pin.entries (walk.entries ++ rest.entries) → AloneWalk p.view.layout enough p.view.number begun walked
       made s = inner (split_part p.view.number walk.entries (after_in (after_in (ordered p.view.layout) (events_of p.view.past)) s.before) s.since rest.entries s.is_since)
         where
           own : All (λ t. t.0 ≡ p.view.number) s.before × All (λ t. t.0 ≡ p.view.number) s.since
@@ -410,12 +411,13 @@ module _ (p q : Stand) (seen_p : HasSeen p.view) (seen_q : HasSeen q.view) (enou
               ∙ (ap (λ (k : Knowledge). known_after p.view.number k pin.entries) (logs_tell p.view.layout (events_of p.view.past) p.view.number seen_p.worker ∙ ap (known_by p.view.layout p.view.number) (as_events p.view seen_p).is_part)
               ∙ (sym (known_longer p.view.number _ p.view.log pin.entries) ∙ ap (known_by p.view.layout p.view.number) (sym pin.are))))
 
-          inner : SplitPart p.view.number (after_in (after_in (ordered p.view.layout) (events_of p.view.past)) s.before) s.since walk.entries rest.entries → AloneWalk p.view.layout p.view.number begun walked
+          inner : SplitPart p.view.number (after_in (after_in (ordered p.view.layout) (events_of p.view.past)) s.before) s.since walk.entries rest.entries → AloneWalk p.view.layout enough p.view.number begun walked
           inner r = record {
             from = after_in (after_in (ordered p.view.layout) (events_of p.view.past)) s.before;
             is_ordered = ordered_after p.view.number p.view.layout enough s.before first (after_in (ordered p.view.layout) (events_of p.view.past)) o;
             is_clean = clean_turns p.view.layout enough s.before first (after_in (ordered p.view.layout) (events_of p.view.past)) o (mute_turns p.view.number (after_in (ordered p.view.layout) (events_of p.view.past)) s.before own.0 (ap (list_any is_edge_change) s.is_before ∙ pin.mute)) clean;
             knows = known;
+            ran = subst (λ (l : List Entry). Ran p.view.layout enough p.view.number l (after_in (after_in (ordered p.view.layout) (events_of p.view.past)) s.before)) (sym pin.are) (ran_on p.view.layout enough p.view.number p.view.log pin.entries (after_in (ordered p.view.layout) (events_of p.view.past)) (record { past = events_of p.view.past; keys = past_keys; is = refl; is_part = (as_events p.view seen_p).is_part }) s.before first s.is_before);
             turns = r.before;
             has_keys = first_keys r.before r.since (subst (λ (l : List (ℕ × Event)). All (λ t. HasKey t.1) l) r.is_run (later_keys s.before s.since more_keys));
             calm = mute_turns p.view.number (after_in (after_in (ordered p.view.layout) (events_of p.view.past)) s.before) r.before (own_parts r.before r.since (subst (λ (l : List (ℕ × Event)). All (λ t. t.0 ≡ p.view.number) l) r.is_run own.1)).0 (ap (list_any is_edge_change) r.is_before ∙ quiet_mute walk.entries walk.quiet);
@@ -462,9 +464,9 @@ module _ (p q : Stand) (seen_p : HasSeen p.view) (seen_q : HasSeen q.view) (enou
       hindered : Hinders p.view.layout enough p.view.number begun (before ++ losing exchange e ∷ []) 1
       hindered = bare_at p.view.layout enough p.view.number k r c e n begun walked before _ exchange walk plain expects (bare_walk k n begun walked r.spot c pin walk walked_rest) (longer_none _ _ refl) (log_to before (longer_then before _ q.view.log (longer_these (losing exchange e ∷ []) before _ refl) rest))
 
-      refuse : AloneWalk p.view.layout p.view.number begun (before ++ losing exchange e ∷ []) → ⊥
+      refuse : AloneWalk p.view.layout enough p.view.number begun (before ++ losing exchange e ∷ []) → ⊥
       refuse a =
-          let some = hindered.counted a.from a.is_ordered a.knows a.turns a.has_keys (append_cancel_left begun _ _ (a.is_walk ∙ hindered.are)) in
+          let some = hindered.counted a.from a.is_ordered a.knows a.ran a.turns a.has_keys (append_cancel_left begun _ _ (a.is_walk ∙ hindered.are)) in
           let few = hinders_too p.view.number (trace_in a.from a.turns) in
           let calm = a.calm in
           absurd (omega (arith, some, few, calm))

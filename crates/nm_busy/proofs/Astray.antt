@@ -1,5 +1,5 @@
 -- A walk that is as long as there are slots was led astray by a link or a splice of another worker.
-use Rattle.std.proofs.Common.{◌≡◌, ◌≢◌, ℕ, zero, suc, ◌+◌, ◌<◌, ◌≤◌, Bool, false, ◌||◌, List, length, [], ◌∷◌, ◌++◌, append_assoc, refl, sym, ap, subst, ◌∙◌, arith}
+use Rattle.std.proofs.Common.{◌≡◌, ◌≢◌, ℕ, zero, suc, ◌+◌, ◌<◌, ◌≤◌, Bool, true, false, ◌||◌, List, length, [], ◌∷◌, ◌++◌, append_assoc, refl, sym, ap, subst, ◌∙◌, arith}
 use Rattle.std.specs.Prelude.{Ok, All}
 use Rattle.std.specs.List.{list_any}
 use Rattle.std.proofs.lemmas.Bool.{or_parts}
@@ -12,7 +12,7 @@ use Rattle.nm_model.specs.declared.event.Event.{Event}
 use Rattle.nm_model.specs.declared.event.Event.TheVariants.{Look}
 use Rattle.nm_model.specs.declared.event.Field.TheVariants.{Key as KeyOf, Edge as EdgeOn}
 use Rattle.nm_model.specs.declared.reply.Reply.TheVariants.{KeyIs, EdgeIs}
-use Rattle.nm_model.specs.Memory.{child, infinity_1, infinity_2}
+use Rattle.nm_model.specs.Memory.{edge, child, infinity_1, infinity_2}
 use Rattle.nm_model.specs.Paths.{follow, Reached}
 use Rattle.nm_model.specs.Searches.{side_of}
 use Rattle.nm_model.specs.Walks.{Entry, begins_anew}
@@ -38,7 +38,7 @@ use Rattle.nm_progress.specs.Paid.{links_on, flags_on, cuts_on, tags_on}
 use Rattle.nm_progress.specs.Tries.{changes_edge, reshapes, reshapes_of_others}
 use Rattle.nm_progress.proofs.LostTries.{later_keys}
 use Rattle.nm_progress.proofs.MoreTries.{is_loud, Plain, plain_these, plain_then}
-use Rattle.nm_progress.proofs.Reshapes.{is_reshape, look_there, key_there, nobody, long_path}
+use Rattle.nm_progress.proofs.Reshapes.{is_reshape, look_there, key_there, tag_there, nobody, long_path}
 use Rattle.nm_progress.proofs.SplitTurns.{SplitTurn, split_turn, ordered_after, none_of_log, number-append}
 use Rattle.nm_busy.proofs.LostPins.{part-append}
 use Rattle.nm_busy.proofs.Parts.{Longer, longer_then, plain_longer, walk_longer, reads_plain}
@@ -107,6 +107,7 @@ module _ (L : Layout) (enough : 5 ≤ L.nodes) (w : ℕ) (c : Configuration) (o 
   pub record IsRead (x : ℕ) (on : Onward) : Type 0 where
     pub key_is : on.found ≡ key c.state.memory x
     pub leads : on.next.slot ≡ child c.state.memory x on.side
+    pub tagged : on.next.slot ≢ 0 → on.next.tag ≡ true → (edge (after_in c ts).state.memory x on.side).tag ≡ true
 
   module _ (k x : ℕ) (old mid new : List Entry) (on : Onward) (reads : Reads k x mid new on) (rest : List Entry) (whole : old ++ part_of w (trace_in c ts) ≡ new ++ rest) where
     pub behind_read : old ++ part_of w (trace_in c ts) ≡ mid ++ ((Look x KeyOf, KeyIs on.found) ∷ (Look x (EdgeOn Left), EdgeIs reads.0) ∷ (Look x (EdgeOn Right), EdgeIs reads.1) ∷ rest)
@@ -116,10 +117,15 @@ module _ (L : Layout) (enough : 5 ≤ L.nodes) (w : ℕ) (c : Configuration) (o 
     read_there longer reached = record {
       key_is = key_there L enough w ts keys c o calm longer.entries x on.found ((Look x (EdgeOn Left), EdgeIs reads.0) ∷ (Look x (EdgeOn Right), EdgeIs reads.1) ∷ rest) part reached;
       leads = ap (λ (e : Edge). e.slot) reads.4 ∙ on_side on.side;
+      tagged = λ some tag. tag_on on.side (λ none. some (ap (λ (e : Edge). e.slot) reads.4 ∙ none)) (sym (ap (λ (e : Edge). e.tag) reads.4) ∙ tag);
     }
       where
         part : part_of w (trace_in c ts) ≡ longer.entries ++ ((Look x KeyOf, KeyIs on.found) ∷ (Look x (EdgeOn Left), EdgeIs reads.0) ∷ (Look x (EdgeOn Right), EdgeIs reads.1) ∷ rest)
         part = append_cancel_left old _ _ (behind_read ∙ (ap (λ (l : List Entry). l ++ ((Look x KeyOf, KeyIs on.found) ∷ (Look x (EdgeOn Left), EdgeIs reads.0) ∷ (Look x (EdgeOn Right), EdgeIs reads.1) ∷ rest)) longer.are ∙ append_assoc old longer.entries _))
+
+        tag_on : (d : Side) → (edge_on d reads.0 reads.1).slot ≢ 0 → (edge_on d reads.0 reads.1).tag ≡ true → (edge (after_in c ts).state.memory x d).tag ≡ true
+        tag_on Left = tag_there L enough w ts keys c o calm (longer.entries ++ (Look x KeyOf, KeyIs on.found) ∷ []) x Left reads.0 ((Look x (EdgeOn Right), EdgeIs reads.1) ∷ rest) (part ∙ two longer.entries _ _) reached
+        tag_on Right = tag_there L enough w ts keys c o calm ((longer.entries ++ (Look x KeyOf, KeyIs on.found) ∷ []) ++ (Look x (EdgeOn Left), EdgeIs reads.0) ∷ []) x Right reads.1 rest (part ∙ (two longer.entries _ _ ∙ two (longer.entries ++ (Look x KeyOf, KeyIs on.found) ∷ []) _ _)) reached
 
         on_side : (d : Side) → (edge_on d reads.0 reads.1).slot ≡ child c.state.memory x d
         on_side Left = look_there L enough w ts keys c o calm (longer.entries ++ (Look x KeyOf, KeyIs on.found) ∷ []) x Left reads.0 ((Look x (EdgeOn Right), EdgeIs reads.1) ∷ rest) (part ∙ two longer.entries _ _) reached
@@ -201,15 +207,19 @@ module _ (L : Layout) (enough : 5 ≤ L.nodes) (w : ℕ) where
   strays_longer zero old new h = h
   strays_longer (suc t) old new h = longer_then old h.0 new (strays_longer t old h.0 h.1) (plain_longer h.0 new h.2.plain)
 
-  pub one_astray : (c : Configuration) (o : IsOrdered L c) (ts : List (ℕ × Event)) (keys : All (λ t. HasKey t.1) ts) (old new : List Entry) → IsAstray old new → old ++ part_of w (trace_in c ts) ≡ new → 1 ≤ number_of (reshapes_of_others w) (trace_in c ts)
-  one_astray c o ts keys old new astray whole = by (number_of (reshapes_of_others w) (trace_in c ts)) refl
+  -- then another does
+  pub by_others : (c : Configuration) (ts : List (ℕ × Event)) (old new : List Entry) → Plain old new → (number_of is_reshape (trace_in c ts) ≡ 0 → ⊥) → old ++ part_of w (trace_in c ts) ≡ new → 1 ≤ number_of (reshapes_of_others w) (trace_in c ts)
+  by_others c ts old new plain never whole = by (number_of (reshapes_of_others w) (trace_in c ts)) refl
     where
       quiet : list_any is_loud (part_of w (trace_in c ts)) ≡ false
-      quiet = ap (list_any is_loud) (append_cancel_left old _ _ (whole ∙ astray.plain.are)) ∙ astray.plain.quiet
+      quiet = ap (list_any is_loud) (append_cancel_left old _ _ (whole ∙ plain.are)) ∙ plain.quiet
 
       by : (n : ℕ) → number_of (reshapes_of_others w) (trace_in c ts) ≡ n → 1 ≤ number_of (reshapes_of_others w) (trace_in c ts)
-      by zero none = absurd (astray.never c o ts keys (nobody w (trace_in c ts) (none_of_log w (λ (e : Entry). reshapes e.0 (Ok e.1)) (trace_in c ts) (quiet_shape (part_of w (trace_in c ts)) quiet)) ∙ none) whole)
+      by zero none = absurd (never (nobody w (trace_in c ts) (none_of_log w (λ (e : Entry). reshapes e.0 (Ok e.1)) (trace_in c ts) (quiet_shape (part_of w (trace_in c ts)) quiet)) ∙ none))
       by (suc n) some = omega (arith, some)
+
+  pub one_astray : (c : Configuration) (o : IsOrdered L c) (ts : List (ℕ × Event)) (keys : All (λ t. HasKey t.1) ts) (old new : List Entry) → IsAstray old new → old ++ part_of w (trace_in c ts) ≡ new → 1 ≤ number_of (reshapes_of_others w) (trace_in c ts)
+  one_astray c o ts keys old new astray whole = by_others c ts old new astray.plain (λ calm. astray.never c o ts keys calm whole) whole
 
   pub all_astray : (t : ℕ) (c : Configuration) → IsOrdered L c → (ts : List (ℕ × Event)) → All (λ t. HasKey t.1) ts → (old new : List Entry) → Strays t old new → old ++ part_of w (trace_in c ts) ≡ new → t ≤ number_of (reshapes_of_others w) (trace_in c ts)
   all_astray zero c o ts keys old new strays whole = omega arith

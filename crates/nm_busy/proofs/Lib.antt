@@ -2,6 +2,8 @@ pub mod LostPins
 pub mod Parts
 pub mod WalkReads
 pub mod Astray
+pub mod Steady
+pub mod DeepAstray
 pub mod LostLookups
 pub mod TurnsAstray
 pub mod Between
