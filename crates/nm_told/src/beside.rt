@@ -1,4 +1,4 @@
-//! Calls of a radix tree beside others: where one is busy, others got on meanwhile.
+//! Calls of a tree beside others: where one is busy, others got on meanwhile.
 ghost use Rattle.std.specs.Prelude.{◌≡◌, true, IsErrOf};
 ghost use Rattle.nm_tree.specs.Calls.{MayCall};
 ghost use Rattle.nm_set.specs.Tended.{WasDisturbed};
@@ -10,7 +10,6 @@ use nm_tree::{Fault, Query, Tree, Worker};
 /// An insert that is busy only where others got on as often as it might try.
 pub fn insert_beside(tree: &Tree, worker: &mut Worker, key: Key, tries: u32) -> Result<bool, Fault>
     requires may { MayCall tree.now worker.old }
-    requires radix { tree.now.layout.radix ≡ true }
     ensures { IsErrOf result Fault.Busy → GotOn worker.old.pass worker.new.pass tries }
 {
     tree.insert(worker, key, tries)
@@ -19,13 +18,12 @@ pub fn insert_beside(tree: &Tree, worker: &mut Worker, key: Key, tries: u32) -> 
 /// The same of a delete.
 pub fn delete_beside(tree: &Tree, worker: &mut Worker, key: Key, tries: u32) -> Result<bool, Fault>
     requires may { MayCall tree.now worker.old }
-    requires radix { tree.now.layout.radix ≡ true }
     ensures { IsErrOf result Fault.Busy → GotOn worker.old.pass worker.new.pass tries }
 {
     tree.delete(worker, key, tries)
 }
 
-/// A look-up of several keys that is busy only where others moved the epoch on as often as it might
+/// A look-up of several keys, in a radix tree, that is busy only where others moved the epoch on as often as it might
 /// try.
 pub fn look_many_beside(
     tree: &Tree,
@@ -40,7 +38,7 @@ pub fn look_many_beside(
     tree.has_many(worker, queries, tries)
 }
 
-/// A call for the next key that is busy only where others moved the epoch on, or linked or cut off
+/// A call for the next key, in a radix tree, that is busy only where others moved the epoch on, or linked or cut off
 /// nodes, half as often as it might try.
 pub fn next_beside(
     tree: &Tree,

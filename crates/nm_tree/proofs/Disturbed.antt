@@ -15,7 +15,7 @@ use Rattle.nm_calls.specs.PlainWalks.{PlainMissed}
 use Rattle.nm_calls.specs.PrevKeys.{GiveUp as GiveUpPrev}
 use Rattle.nm_calls.specs.Deletes.{DeleteDid, IsRemoving, LosesAfterFlag, LosesEachTry}
 use Rattle.nm_busy.specs.Lookups.{WasBusy}
-use Rattle.nm_busy.specs.Lost.{WasLost, ChangeWasBusy}
+use Rattle.nm_busy.specs.Lost.{WasHindered, ChangeWasBusy}
 use Rattle.nm_busy.specs.Alone.{IsAlone}
 use Rattle.nm_busy.specs.Pending.{NonePends}
 use Rattle.nm_busy.specs.Walked.{ManyWereBusy, NearWasBusy}
@@ -44,25 +44,25 @@ module _ (b d : Board) (o p q : Stand) (k tries : ℕ) (board : b ≡ d) (at : o
       subst (λ (x : Stand). WasBusy x q tries) at
       (busy_lookups_were_disturbed k tries o q seen after enough same past (subst (λ (L : Layout). HasMissed L tries k o.view.log q.view.log) (sym layout) did))
 
-  pub insert_disturbed : IsOf d p → (f : Fit) → InsertDid f b.layout tries k o.view.log q.view.log (Err lost.Busy) → ChangeWasBusy k p q tries
+  pub insert_disturbed : IsOf d p → (f : Fit) → InsertDid f b.layout tries k o.view.log q.view.log (Err lost.Busy) → ChangeWasBusy p q tries
   insert_disturbed own f did =
-      subst (λ (x : Stand). ChangeWasBusy k x q tries) at
-      (busy_inserts_were_lost f k tries o q seen after enough same past (subst (λ (L : Layout). InsertDid f L tries k o.view.log q.view.log (Err lost.Busy)) (sym (layouts own)) did))
+      subst (λ (x : Stand). ChangeWasBusy x q tries) at
+      (busy_inserts_were_lost f k tries o q seen after enough fits.few same past (subst (λ (L : Layout). InsertDid f L tries k o.view.log q.view.log (Err lost.Busy)) (sym (layouts own)) did))
 
-  pub delete_disturbed : IsOf d p → DeleteDid b.layout tries k o.view.log q.view.log (Err missed.Busy) → ChangeWasBusy k p q tries
+  pub delete_disturbed : IsOf d p → DeleteDid b.layout tries k o.view.log q.view.log (Err missed.Busy) → ChangeWasBusy p q tries
   delete_disturbed own did =
-      subst (λ (x : Stand). ChangeWasBusy k x q tries) at
-      (busy_deletes_were_lost k tries o q seen after enough same past (subst (λ (L : Layout). DeleteDid L tries k o.view.log q.view.log (Err missed.Busy)) (sym (layouts own)) did))
+      subst (λ (x : Stand). ChangeWasBusy x q tries) at
+      (busy_deletes_were_lost k tries o q seen after enough fits.few same past (subst (λ (L : Layout). DeleteDid L tries k o.view.log q.view.log (Err missed.Busy)) (sym (layouts own)) did))
 
-  pub delete_lost : IsOf d p → (n : NodeId) → IsRemoving q k n → LosesAfterFlag b.layout tries k o.view.log q.view.log n → WasLost k p q (tries - 2)
+  pub delete_lost : IsOf d p → (n : NodeId) → IsRemoving q k n → LosesAfterFlag b.layout tries k o.view.log q.view.log n → WasHindered p q (tries - 2)
   delete_lost own n removing did =
-      subst (λ (x : Stand). WasLost k x q (tries - 2)) at
-      (unfinished_deletes_were_lost k tries n o q seen after enough same past removing (subst (λ (L : Layout). LosesAfterFlag L tries k o.view.log q.view.log n) (sym (layouts own)) did))
+      subst (λ (x : Stand). WasHindered x q (tries - 2)) at
+      (unfinished_deletes_were_lost k tries n o q seen after enough fits.few same past removing (subst (λ (L : Layout). LosesAfterFlag L tries k o.view.log q.view.log n) (sym (layouts own)) did))
 
-  pub finish_lost : IsOf d p → (n : NodeId) → IsRemoving q k n → LosesEachTry b.layout k n tries o.view.log q.view.log → WasLost k p q tries
+  pub finish_lost : IsOf d p → (n : NodeId) → IsRemoving q k n → LosesEachTry b.layout k n tries o.view.log q.view.log → WasHindered p q tries
   finish_lost own n removing did =
-      subst (λ (x : Stand). WasLost k x q tries) at
-      (unfinished_finishes_were_lost k tries n o q seen after enough same past removing (subst (λ (L : Layout). LosesEachTry L k n tries o.view.log q.view.log) (sym (layouts own)) did))
+      subst (λ (x : Stand). WasHindered x q tries) at
+      (unfinished_finishes_were_lost k tries n o q seen after enough fits.few same past removing (subst (λ (L : Layout). LosesEachTry L k n tries o.view.log q.view.log) (sym (layouts own)) did))
 
   pub many_disturbed : IsOf d p → (keys : List ℕ) → PlainMissed (GiveUpInTurns b.layout keys) tries o.view.log q.view.log → ManyWereBusy p q tries
   many_disturbed own keys missed =

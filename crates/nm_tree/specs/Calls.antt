@@ -80,7 +80,7 @@ pub record SaysInsert (L : Layout) (tries k : ℕ) (w z : Hand) (r : Result Bool
 pub record LeavesInsert (L : Layout) (tries k : ℕ) (w z : Hand) (r : Result Bool Fault) : Type 0 where
   pub says : SaysInsert L tries k w z r
   pub did : HasInserted L tries k w z r
-  pub disturbed : IsErrOf r fault.Busy → ChangeWasBusy k w.pass z.pass tries
+  pub disturbed : IsErrOf r fault.Busy → ChangeWasBusy w.pass z.pass tries
 
 pub record SaysDelete (L : Layout) (tries k : ℕ) (w z : Hand) (r : Result Bool Fault) : Type 0 where
   pub same : IsSamePass w.pass z.pass
@@ -98,8 +98,8 @@ pub record LeavesDelete (L : Layout) (tries k : ℕ) (w z : Hand) (r : Result Bo
   pub says : SaysDelete L tries k w z r
   pub did : HasDeleted L tries k w z r
   pub lacks : IfErr r (DeleteLacks L tries k w z)
-  pub disturbed : IsErrOf r fault.Busy → ChangeWasBusy k w.pass z.pass tries
-  pub lost : IsErrOf r fault.Unfinished → DeleteWasLost tries k w z
+  pub disturbed : IsErrOf r fault.Busy → ChangeWasBusy w.pass z.pass tries
+  pub lost : IsErrOf r fault.Unfinished → DeleteWasLost tries w z
 
 pub record SaysFinish (L : Layout) (tries : ℕ) (w z : Hand) (r : Result Bool Fault) : Type 0 where
   pub same : IsSamePass w.pass z.pass
