@@ -1,8 +1,7 @@
 -- A call alone is answered.
-use Rattle.std.proofs.Common.{◌≡◌, ◌≢◌, ℕ, zero, suc, ◌+◌, ◌≤◌, inl, inr, ◌⊎◌, ◌==◌, Bool, true, false, cond, not, ◌&&◌, ◌||◌, List, [], ◌∷◌, ◌++◌, append_assoc, refl, sym, ap, subst, ◌∙◌, arith, true≢false}
-use Rattle.std.specs.Prelude.{Option, None, Result, Ok, Err, All}
+use Rattle.std.proofs.Common.{◌≡◌, ℕ, zero, suc, ◌+◌, ◌≤◌, inl, inr, ◌==◌, Bool, true, false, cond, not, ◌&&◌, ◌||◌, List, [], ◌∷◌, ◌++◌, append_assoc, refl, sym, ap, subst, ◌∙◌, arith, true≢false}
+use Rattle.std.specs.Prelude.{Option, Result, Ok, Err, All}
 use Rattle.std.specs.List.{list_any}
-use native.Mathlib.Decide.{ℕ_discrete}
 use Rattle.std.proofs.lemmas.Bool.{or_parts, eq-eqb, false_from_ne_true, and_from}
 use Rattle.std.proofs.lemmas.List.{append-nil, append_cancel_left}
 use Rattle.std.proofs.lemmas.List.Folds.{list_any-append}
@@ -65,12 +64,14 @@ use Rattle.nm_progress.proofs.CountedTries.{known_longer}
 use Rattle.nm_order.specs.Totals.{NothingIsPending}
 use Rattle.nm_busy.specs.Pending.{NonePends}
 use Rattle.nm_busy.proofs.PendingTurns.{nothing_is_pending}
-use Rattle.nm_busy.specs.Alone.{IsAlone, LookupsAloneAreAnswered, InsertsAloneAreAnswered, DeletesAloneAreNotBusy}
-use Rattle.nm_busy.specs.Lookups.{WasReshaped}
+use Rattle.nm_busy.specs.Alone.{IsAlone, LookupsAloneAreAnswered, InsertsAloneAreAnswered, DeletesAloneAreNotBusy, ManyAloneAreAnswered, NextsAloneAreAnswered, PrevsAloneAreAnswered}
+use Rattle.nm_busy.specs.Lookups.{WasBusy, WasReshaped}
 use Rattle.nm_busy.specs.Pins.{WasMovedPast}
+use Rattle.nm_busy.specs.Walked.{ManyWereBusy, NearWasBusy}
 use Rattle.nm_busy.proofs.LostPins.{part-append}
 use Rattle.nm_busy.proofs.LostLookups.{busy_lookups_were_disturbed}
-use Rattle.nm_busy.proofs.Hindered.{Hinders}
+use Rattle.nm_busy.proofs.LostWalked.{busy_many_were_disturbed, busy_nexts_were_disturbed, busy_prevs_were_disturbed}
+use Rattle.nm_busy.proofs.Hindered.{Hinders, Ran, ran_on}
 use Rattle.nm_busy.proofs.HinderedTries.{IsLostInsert, IsLostFlag, insert_longer, flag_longer, link_plain, flag_plain, bare_at}
 use Rattle.nm_busy.proofs.HinderedCalls.{moved}
 use Rattle.nm_busy.proofs.Parts.{Longer, longer_these, longer_then, longer_none, plain_longer, reads_longer, help_longer, returns_longer}
@@ -102,24 +103,48 @@ own_events w [] own i d below = absurd (omega (arith, below))
 own_events w (t ∷ ts) own zero d below = own 0 t (omega arith)
 own_events w (t ∷ ts) own (suc i) d below = own_events w ts (λ j e l. own (suc j) e (omega (arith, l))) i d (omega (arith, below))
 
+-- so none has moved the epoch on, nor linked or cut off a node
+none_moved : (p q : Stand) (n : ℕ) → IsAlone p q → WasMovedPast p q n → n ≡ 0
+none_moved p q n alone m =
+    let same_is = same_turns p.view.past m.turns alone.turns q.view.past m.is alone.is in
+    let none = ap (λ (l : List Turn). number_of (moves_of_others p.view.number) l) same_is ∙ own_none p.view.number moves alone.turns alone.own in
+    let few = m.moved in
+    omega (arith, none, few)
+
+none_reshaped : (p q : Stand) (n : ℕ) → IsAlone p q → WasReshaped p q n → n ≡ 0
+none_reshaped p q n alone m =
+    let same_is = same_turns p.view.past m.turns alone.turns q.view.past m.is alone.is in
+    let none = ap (λ (l : List Turn). number_of (reshapes_of_others p.view.number) l) same_is ∙ own_none p.view.number is_reshape alone.turns alone.own in
+    let few = m.reshaped in
+    omega (arith, none, few)
+
 pub lookups_alone_are_answered : LookupsAloneAreAnswered
 lookups_alone_are_answered k tries p q seen_p seen_q enough same on alone missed = by (busy_lookups_were_disturbed k tries p q seen_p seen_q enough same on missed)
   where
-    c : Configuration
-    c = after_in (ordered p.view.layout) (events_of p.view.past)
-
-    by : (tries ≡ 0) ⊎ WasMovedPast p q tries ⊎ WasReshaped p q tries → tries ≡ 0
+    by : WasBusy p q tries → tries ≡ 0
     by (inl none) = none
-    by (inr (inl m)) =
-        let same_is = same_turns p.view.past m.turns alone.turns q.view.past m.is alone.is in
-        let none = ap (λ (l : List Turn). number_of (moves_of_others p.view.number) l) same_is ∙ own_none p.view.number moves alone.turns alone.own in
-        let few = m.moved in
-        omega (arith, none, few)
-    by (inr (inr m)) =
-        let same_is = same_turns p.view.past m.turns alone.turns q.view.past m.is alone.is in
-        let none = ap (λ (l : List Turn). number_of (reshapes_of_others p.view.number) l) same_is ∙ own_none p.view.number is_reshape alone.turns alone.own in
-        let few = m.reshaped in
-        omega (arith, none, few)
+    by (inr (inl m)) = none_moved p q tries alone m
+    by (inr (inr m)) = none_reshaped p q tries alone m
+
+-- ---- under a plain pin
+
+pub many_alone : (p q : Stand) (tries : ℕ) → IsAlone p q → ManyWereBusy p q tries → tries ≡ 0
+many_alone p q tries alone (inl none) = none
+many_alone p q tries alone (inr (inl m)) = none_moved p q tries alone m
+many_alone p q tries alone (inr (inr m)) = let none = none_reshaped p q 1 alone m.1 in absurd (omega (arith, none))
+
+pub near_alone : (p q : Stand) (tries : ℕ) → IsAlone p q → NearWasBusy p q tries → tries ≤ 1
+near_alone p q tries alone (inl so) = let none = many_alone p q tries alone so in omega (arith, none)
+near_alone p q tries alone (inr (times, half, m)) = let none = none_reshaped p q times alone m in omega (arith, half, none)
+
+pub many_alone_are_answered : ManyAloneAreAnswered
+many_alone_are_answered ks tries p q seen_p seen_q enough same on missed alone = many_alone p q tries alone (busy_many_were_disturbed ks tries p q seen_p seen_q enough same on missed)
+
+pub nexts_alone_are_answered : NextsAloneAreAnswered
+nexts_alone_are_answered k tries p q seen_p seen_q enough same on missed alone = near_alone p q tries alone (busy_nexts_were_disturbed k tries p q seen_p seen_q enough same on missed)
+
+pub prevs_alone_are_answered : PrevsAloneAreAnswered
+prevs_alone_are_answered k tries p q seen_p seen_q enough same on missed alone = near_alone p q tries alone (busy_prevs_were_disturbed k tries p q seen_p seen_q enough same on missed)
 
 -- ---- entries that change no edge
 
@@ -286,7 +311,7 @@ module _ (L : Layout) (enough : 5 ≤ L.nodes) where
         three [] a b e = refl
         three (x ∷ l) a b e = ap (λ (l : List Entry). x ∷ l) (three l a b e)
 
-        by : OnPath L enough w c o ts keys reshapes_none n t → Reached c.state.memory s.parent
+        by : OnPath L enough w c o ts keys reshapes_none k n t → Reached c.state.memory s.parent
         by p = record { path = p.sides; ends = p.ends ∙ sym at; is_slot = λ z. p.is_slot (sym at ∙ z) }
           where
             at : s.parent ≡ t.edge.slot
@@ -316,11 +341,12 @@ module _ (L : Layout) (enough : 5 ≤ L.nodes) where
 -- ---- a call alone, by what p and q have seen
 
 -- the turns of a part of it, by worker w alone
-record AloneWalk (L : Layout) (w : ℕ) (begun walked : List Entry) : Type 0 where
+record AloneWalk (L : Layout) (enough : 5 ≤ L.nodes) (w : ℕ) (begun walked : List Entry) : Type 0 where
   from : Configuration
   is_ordered : IsOrdered L from
   is_clean : Clean from
   knows : of from.state w ≡ known_by L w begun
+  ran : Ran L enough w begun from
   turns : List (ℕ × Event)
   has_keys : All (λ t. HasKey t.1) turns
   calm : number_of changes_turn (trace_in from turns) ≡ 0
@@ -361,14 +387,14 @@ module _ (p q : Stand) (seen_p : HasSeen p.view) (seen_q : HasSeen q.view) (enou
   own_parts : (xs ys : List (ℕ × Event)) → All (λ t. t.0 ≡ p.view.number) (xs ++ ys) → All (λ t. t.0 ≡ p.view.number) xs × All (λ t. t.0 ≡ p.view.number) ys
   own_parts xs ys all = (all_before (λ t. t.0 ≡ p.view.number) xs ys all, all_behind (λ t. t.0 ≡ p.view.number) xs ys all)
 
-  alone_walk : (begun walked : List Entry) → Mute p.view.log begun → Plain begun walked → Longer walked q.view.log → AloneWalk p.view.layout p.view.number begun walked
+  alone_walk : (begun walked : List Entry) → Mute p.view.log begun → Plain begun walked → Longer walked q.view.log → AloneWalk p.view.layout enough p.view.number begun walked
   alone_walk begun walked pin walk rest = made (split_part p.view.number pin.entries (after_in (ordered p.view.layout) (events_of p.view.past)) (events_of alone.turns) (walk.entries ++ rest.entries) parts)
     where
       parts : part_of p.view.number (trace_in (after_in (ordered p.view.layout) (events_of p.view.past)) (events_of alone.turns)) ≡ pin.entries ++ (walk.entries ++ rest.entries)
       parts = append_cancel_left p.view.log _ _ (whole ∙ (rest.are ∙ (ap (λ (l : List Entry). l ++ rest.entries) (walk.are ∙ ap (λ (l : List Entry). l ++ walk.entries) pin.are)
           ∙ (append_assoc (p.view.log ++ pin.entries) walk.entries rest.entries ∙ append_assoc p.view.log pin.entries (walk.entries ++ rest.entries)))))
 
-      made : SplitPart p.view.number (after_in (ordered p.view.layout) (events_of p.view.past)) (events_of alone.turns) pin.entries (walk.entries ++ rest.entries) → AloneWalk p.view.layout p.view.number begun walked
+      made : SplitPart p.view.number (after_in (ordered p.view.layout) (events_of p.view.past)) (events_of alone.turns) pin.entries (walk.entries ++ rest.entries) → AloneWalk p.view.layout enough p.view.number begun walked
       made s = inner (split_part p.view.number walk.entries (after_in (after_in (ordered p.view.layout) (events_of p.view.past)) s.before) s.since rest.entries s.is_since)
         where
           own : All (λ t. t.0 ≡ p.view.number) s.before × All (λ t. t.0 ≡ p.view.number) s.since
@@ -385,12 +411,13 @@ module _ (p q : Stand) (seen_p : HasSeen p.view) (seen_q : HasSeen q.view) (enou
               ∙ (ap (λ (k : Knowledge). known_after p.view.number k pin.entries) (logs_tell p.view.layout (events_of p.view.past) p.view.number seen_p.worker ∙ ap (known_by p.view.layout p.view.number) (as_events p.view seen_p).is_part)
               ∙ (sym (known_longer p.view.number _ p.view.log pin.entries) ∙ ap (known_by p.view.layout p.view.number) (sym pin.are))))
 
-          inner : SplitPart p.view.number (after_in (after_in (ordered p.view.layout) (events_of p.view.past)) s.before) s.since walk.entries rest.entries → AloneWalk p.view.layout p.view.number begun walked
+          inner : SplitPart p.view.number (after_in (after_in (ordered p.view.layout) (events_of p.view.past)) s.before) s.since walk.entries rest.entries → AloneWalk p.view.layout enough p.view.number begun walked
           inner r = record {
             from = after_in (after_in (ordered p.view.layout) (events_of p.view.past)) s.before;
             is_ordered = ordered_after p.view.number p.view.layout enough s.before first (after_in (ordered p.view.layout) (events_of p.view.past)) o;
             is_clean = clean_turns p.view.layout enough s.before first (after_in (ordered p.view.layout) (events_of p.view.past)) o (mute_turns p.view.number (after_in (ordered p.view.layout) (events_of p.view.past)) s.before own.0 (ap (list_any is_edge_change) s.is_before ∙ pin.mute)) clean;
             knows = known;
+            ran = subst (λ (l : List Entry). Ran p.view.layout enough p.view.number l (after_in (after_in (ordered p.view.layout) (events_of p.view.past)) s.before)) (sym pin.are) (ran_on p.view.layout enough p.view.number p.view.log pin.entries (after_in (ordered p.view.layout) (events_of p.view.past)) (record { past = events_of p.view.past; keys = past_keys; is = refl; is_part = (as_events p.view seen_p).is_part }) s.before first s.is_before);
             turns = r.before;
             has_keys = first_keys r.before r.since (subst (λ (l : List (ℕ × Event)). All (λ t. HasKey t.1) l) r.is_run (later_keys s.before s.since more_keys));
             calm = mute_turns p.view.number (after_in (after_in (ordered p.view.layout) (events_of p.view.past)) s.before) r.before (own_parts r.before r.since (subst (λ (l : List (ℕ × Event)). All (λ t. t.0 ≡ p.view.number) l) r.is_run own.1)).0 (ap (list_any is_edge_change) r.is_before ∙ quiet_mute walk.entries walk.quiet);
@@ -437,9 +464,9 @@ module _ (p q : Stand) (seen_p : HasSeen p.view) (seen_q : HasSeen q.view) (enou
       hindered : Hinders p.view.layout enough p.view.number begun (before ++ losing exchange e ∷ []) 1
       hindered = bare_at p.view.layout enough p.view.number k r c e n begun walked before _ exchange walk plain expects (bare_walk k n begun walked r.spot c pin walk walked_rest) (longer_none _ _ refl) (log_to before (longer_then before _ q.view.log (longer_these (losing exchange e ∷ []) before _ refl) rest))
 
-      refuse : AloneWalk p.view.layout p.view.number begun (before ++ losing exchange e ∷ []) → ⊥
+      refuse : AloneWalk p.view.layout enough p.view.number begun (before ++ losing exchange e ∷ []) → ⊥
       refuse a =
-          let some = hindered.counted a.from a.is_ordered a.knows a.turns a.has_keys (append_cancel_left begun _ _ (a.is_walk ∙ hindered.are)) in
+          let some = hindered.counted a.from a.is_ordered a.knows a.ran a.turns a.has_keys (append_cancel_left begun _ _ (a.is_walk ∙ hindered.are)) in
           let few = hinders_too p.view.number (trace_in a.from a.turns) in
           let calm = a.calm in
           absurd (omega (arith, some, few, calm))

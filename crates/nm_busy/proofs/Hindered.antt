@@ -1,9 +1,10 @@
 -- What hinders a worker while its log grows: each part of it that is hindered so often adds as many
 -- such turns to a run.
-use Rattle.std.proofs.Common.{◌≡◌, ℕ, zero, suc, ◌+◌, ◌*◌, ◌≤◌, ◌==◌, Bool, true, false, cond, not, ◌&&◌, ◌||◌, List, [], ◌∷◌, ◌++◌, append_assoc, refl, sym, ap, subst, ◌∙◌, arith, true≢false}
+use Rattle.std.proofs.Common.{◌≡◌, ℕ, ◌+◌, ◌*◌, ◌<◌, ◌≤◌, ◌==◌, Bool, true, false, cond, not, ◌&&◌, ◌||◌, List, [], ◌∷◌, ◌++◌, append_assoc, refl, sym, ap, subst, ◌∙◌, arith, true≢false}
 use Rattle.std.specs.Prelude.{Ok, All}
 use Rattle.std.proofs.lemmas.Bool.{eq-eqb}
 use Rattle.std.proofs.lemmas.List.{append_cancel_left}
+use Rattle.std.proofs.lemmas.List.Elements.{All-append}
 use Rattle.nm_edge.specs.Layouts.{Layout}
 use Rattle.nm_model.specs.declared.event.Event.{Event}
 use Rattle.nm_model.specs.declared.event.Event.TheVariants.{Join}
@@ -12,7 +13,7 @@ use Rattle.nm_model.specs.declared.trace.Turn.{Turn}
 use Rattle.nm_model.specs.Knowledge.{Knowledge}
 use Rattle.nm_model.specs.Runs.{of}
 use Rattle.nm_model.specs.Walks.{Entry}
-use Rattle.nm_model.specs.Ordered.{Configuration, ordered, next_in, outcome_in, after_in, trace_in}
+use Rattle.nm_model.specs.Ordered.{Configuration, ordered, after_in, trace_in}
 use Rattle.nm_order.specs.Intervals.{HasKey}
 use Rattle.nm_order.specs.Logs.{part_of, known_after, known_by}
 use Rattle.nm_order.proofs.OrderedLaws.{IsOrdered, each_ordered}
@@ -22,17 +23,23 @@ use Rattle.nm_order.proofs.WalksOfRuns.{trace_in-append}
 use Rattle.nm_steps.specs.Steps.{Stand, IsSamePass, HasSeenAllOf, HasSeen}
 use Rattle.nm_calls.specs.PlainWalks.{events_of}
 use Rattle.nm_calls.proofs.PlainLooks.{as_events, events_go_on}
-use Rattle.nm_calls.specs.Walks.{IsTooLong}
+use Rattle.nm_laws.proofs.Configurations.{after_in-append}
+use Rattle.nm_calls.specs.Bounds.{chain_bound}
+use Rattle.nm_calls.specs.Walks.{IsTooLong, IsTooDeep}
 use Rattle.nm_progress.specs.Moves.{number_of}
 use Rattle.nm_progress.specs.Paid.{links_on, flags_on, cuts_on, tags_on, links_in, flags_in}
 use Rattle.nm_progress.specs.Tries.{changes_of_others, reshapes_of_others, helps_on, hinders, LosesTries}
 use Rattle.nm_progress.proofs.LostTries.{later_keys}
 use Rattle.nm_progress.proofs.CountedTries.{known_longer, own_turn, lost_count, hindrances_are_paid}
 use Rattle.nm_progress.proofs.SplitTurns.{SplitTurn, split_turn, ordered_after, part_teaches, turn_in, number_split, number-append}
+use Rattle.nm_progress.proofs.MoreTries.{Plain}
+use Rattle.nm_progress.proofs.Reshapes.{is_reshape}
 use Rattle.nm_busy.specs.Lost.{WasHindered}
-use Rattle.nm_busy.proofs.Astray.{SplitPart, split_part, one_astray}
+use Rattle.nm_busy.proofs.Astray.{SplitPart, split_part, by_others, one_astray, long_astray}
+use Rattle.nm_busy.proofs.DeepAstray.{deep_plain, not_too_deep}
 use Rattle.nm_busy.proofs.LostPins.{part-append, turns_between}
 use Rattle.nm_busy.proofs.Parts.{Longer}
+use Rattle.nm_busy.proofs.Steady.{IsFor}
 
 -- ---- turns
 
@@ -71,31 +78,47 @@ shapes_hinder w (t ∷ ts) = by (t.worker == w) (links_on t.event t.outcome) (fl
 -- ---- parts of a log
 
 module _ (L : Layout) (enough : 5 ≤ L.nodes) (w : ℕ) where
+  -- a moment of a run, by which the worker's log is this
+  pub record Ran (log : List Entry) (c : Configuration) : Type 0 where
+    pub past : List (ℕ × Event)
+    pub keys : All (λ t. HasKey t.1) past
+    pub is : c ≡ after_in (ordered L) past
+    pub is_part : part_of w (trace_in (ordered L) past) ≡ log
+
+  pub ran_on : (log es : List Entry) (c : Configuration) → Ran log c → (ts : List (ℕ × Event)) → All (λ t. HasKey t.1) ts → part_of w (trace_in c ts) ≡ es → Ran (log ++ es) (after_in c ts)
+  ran_on log es c r ts keys is = record {
+    past = r.past ++ ts;
+    keys = All-append (λ (t : ℕ × Event). HasKey t.1) r.past ts r.keys keys;
+    is = ap (λ (d : Configuration). after_in d ts) r.is ∙ sym (after_in-append (ordered L) r.past ts);
+    is_part = ap (part_of w) (trace_in-append (ordered L) r.past ts) ∙ (part-append w (trace_in (ordered L) r.past) (trace_in (after_in (ordered L) r.past) ts)
+        ∙ (ap (λ (l : List Entry). l ++ part_of w (trace_in (after_in (ordered L) r.past) ts)) r.is_part ∙ ap (λ (l : List Entry). log ++ l) (ap (λ (d : Configuration). part_of w (trace_in d ts)) (sym r.is) ∙ is)));
+  }
+
   -- in each run in which the log grows so, the worker is hindered at least so often meanwhile
   pub record Hinders (old new : List Entry) (n : ℕ) : Type 0 where
     pub entries : List Entry
     pub are : new ≡ old ++ entries
-    pub counted : (c : Configuration) → IsOrdered L c → of c.state w ≡ known_by L w old → (ts : List (ℕ × Event)) → All (λ t. HasKey t.1) ts → part_of w (trace_in c ts) ≡ entries → n ≤ number_of (hinders w) (trace_in c ts)
+    pub counted : (c : Configuration) → IsOrdered L c → of c.state w ≡ known_by L w old → Ran old c → (ts : List (ℕ × Event)) → All (λ t. HasKey t.1) ts → part_of w (trace_in c ts) ≡ entries → n ≤ number_of (hinders w) (trace_in c ts)
 
   pub of_longer : (old new : List Entry) → Longer old new → Hinders old new 0
-  of_longer old new l = record { entries = l.entries; are = l.are; counted = λ c o knowing ts keys is. omega arith }
+  of_longer old new l = record { entries = l.entries; are = l.are; counted = λ c o knowing ran ts keys is. omega arith }
 
   pub hinders_then : (old mid new : List Entry) (m n : ℕ) → Hinders old mid m → Hinders mid new n → Hinders old new (m + n)
   hinders_then old mid new m n a b = record {
     entries = a.entries ++ b.entries;
     are = b.are ∙ (ap (λ (l : List Entry). l ++ b.entries) a.are ∙ append_assoc old a.entries b.entries);
-    counted = λ c o knowing ts keys is. both c o knowing ts keys (split_part w a.entries c ts b.entries is);
+    counted = λ c o knowing ran ts keys is. both c o knowing ran ts keys (split_part w a.entries c ts b.entries is);
   }
     where
-      both : (c : Configuration) → IsOrdered L c → of c.state w ≡ known_by L w old → (ts : List (ℕ × Event)) → All (λ t. HasKey t.1) ts → SplitPart w c ts a.entries b.entries → m + n ≤ number_of (hinders w) (trace_in c ts)
-      both c o knowing ts keys s =
+      both : (c : Configuration) → IsOrdered L c → of c.state w ≡ known_by L w old → Ran old c → (ts : List (ℕ × Event)) → All (λ t. HasKey t.1) ts → SplitPart w c ts a.entries b.entries → m + n ≤ number_of (hinders w) (trace_in c ts)
+      both c o knowing ran ts keys s =
           let all = subst (λ (l : List (ℕ × Event)). All (λ t. HasKey t.1) l) s.is_run keys in
           let first = first_keys s.before s.since all in
           let later = later_keys s.before s.since all in
           let o1 = ordered_after w L enough s.before first c o in
           let known = part_teaches w L enough s.before first c o ∙ (ap (known_after w (of c.state w)) s.is_before ∙ (ap (λ (k : Knowledge). known_after w k a.entries) knowing ∙ (sym (known_longer w _ old a.entries) ∙ ap (known_by L w) (sym a.are)))) in
-          let one = a.counted c o knowing s.before first s.is_before in
-          let two = b.counted (after_in c s.before) o1 known s.since later s.is_since in
+          let one = a.counted c o knowing ran s.before first s.is_before in
+          let two = b.counted (after_in c s.before) o1 known (subst (λ (l : List Entry). Ran l (after_in c s.before)) (sym a.are) (ran_on old a.entries c ran s.before first s.is_before)) s.since later s.is_since in
           let run = ap (λ (l : List (ℕ × Event)). number_of (hinders w) (trace_in c l)) s.is_run in
           let parts = ap (number_of (hinders w)) (trace_in-append c s.before s.since) ∙ number-append (hinders w) (trace_in c s.before) (trace_in (after_in c s.before) s.since) in
           omega (arith, one, two, run, parts)
@@ -105,7 +128,7 @@ module _ (L : Layout) (enough : 5 ≤ L.nodes) (w : ℕ) where
   of_tries old new entries n are tries = record {
     entries = entries;
     are = are;
-    counted = λ c o knowing ts keys is. (
+    counted = λ c o knowing ran ts keys is. (
         let lost = lost_count L enough w old entries n tries c o knowing ts keys is in
         let few = others_hinder w (trace_in c ts) in
         omega (arith, lost, few)
@@ -117,7 +140,7 @@ module _ (L : Layout) (enough : 5 ≤ L.nodes) (w : ℕ) where
   of_help old new xs ys e r are alone helps = record {
     entries = xs ++ (e, r) ∷ ys;
     are = are;
-    counted = λ c o knowing ts keys is. one c ts (split_turn w ts c xs (e, r) ys is);
+    counted = λ c o knowing ran ts keys is. one c ts (split_turn w ts c xs (e, r) ys is);
   }
     where
       one_if : Bool → ℕ
@@ -141,12 +164,32 @@ module _ (L : Layout) (enough : 5 ≤ L.nodes) (w : ℕ) where
   of_astray k old new l long = record {
     entries = l.entries;
     are = l.are;
-    counted = λ c o knowing ts keys is. (
-        let led = one_astray L enough w k c o ts keys old new long (ap (λ (xs : List Entry). old ++ xs) is ∙ sym l.are) in
+    counted = λ c o knowing ran ts keys is. (
+        let led = one_astray L enough w c o ts keys old new (long_astray L enough w k old new long) (ap (λ (xs : List Entry). old ++ xs) is ∙ sym l.are) in
         let few = shapes_hinder w (trace_in c ts) in
         omega (arith, led, few)
         );
   }
+
+  -- by one that came by 64 tagged edges, where the tree has no more workers
+  pub of_deep : w < L.workers → L.workers ≤ chain_bound → (k : ℕ) (old new : List Entry) → IsFor k old → IsTooDeep L k old new → Hinders old new 1
+  of_deep here crew k old new for deep = record {
+    entries = plain.entries;
+    are = plain.are;
+    counted = λ c o knowing ran ts keys is. (
+        let whole = ap (λ (xs : List Entry). old ++ xs) is ∙ sym plain.are in
+        let led = by_others L enough w c ts old new plain (never c ran ts keys whole) whole in
+        let few = shapes_hinder w (trace_in c ts) in
+        omega (arith, led, few)
+        );
+  }
+    where
+      plain : Plain old new
+      plain = deep_plain L k old new deep
+
+      never : (c : Configuration) → Ran old c → (ts : List (ℕ × Event)) → All (λ t. HasKey t.1) ts → old ++ part_of w (trace_in c ts) ≡ new → number_of is_reshape (trace_in c ts) ≡ 0 → ⊥
+      never c ran ts keys whole calm = not_too_deep L enough w k here crew ran.past ran.keys ts keys (ap (λ (d : Configuration). number_of is_reshape (trace_in d ts)) (sym ran.is) ∙ calm) old new ran.is_part
+          (ap (λ (d : Configuration). old ++ part_of w (trace_in d ts)) (sym ran.is) ∙ whole) for deep
 
 -- ---- between two moments of a pass
 
@@ -178,4 +221,4 @@ was_hindered p q n seen_p seen_q enough same on h = record {
         ∙ (sym (part-append p.view.number (trace_in (ordered p.view.layout) (events_of p.view.past)) (trace_in (after_in (ordered p.view.layout) (events_of p.view.past)) (events_of on.goes_on.more))) ∙ (ap (part_of p.view.number) (sym (trace_in-append (ordered p.view.layout) (events_of p.view.past) (events_of on.goes_on.more))) ∙ (is_new ∙ h.are))))
 
     count : n ≤ number_of (hinders p.view.number) (trace_in (after_in (ordered p.view.layout) (events_of p.view.past)) (events_of on.goes_on.more))
-    count = h.counted (after_in (ordered p.view.layout) (events_of p.view.past)) (each_ordered p.view.layout enough (events_of p.view.past) past_keys) (logs_tell p.view.layout (events_of p.view.past) p.view.number seen_p.worker ∙ ap (known_by p.view.layout p.view.number) (as_events p.view seen_p).is_part) (events_of on.goes_on.more) (later_keys (events_of p.view.past) (events_of on.goes_on.more) keys) part
+    count = h.counted (after_in (ordered p.view.layout) (events_of p.view.past)) (each_ordered p.view.layout enough (events_of p.view.past) past_keys) (logs_tell p.view.layout (events_of p.view.past) p.view.number seen_p.worker ∙ ap (known_by p.view.layout p.view.number) (as_events p.view seen_p).is_part) (record { past = events_of p.view.past; keys = past_keys; is = refl; is_part = (as_events p.view seen_p).is_part }) (events_of on.goes_on.more) (later_keys (events_of p.view.past) (events_of on.goes_on.more) keys) part

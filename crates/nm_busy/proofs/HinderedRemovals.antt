@@ -1,28 +1,20 @@
--- Tries to cut a flagged leaf off: in each that is lost its worker was hindered, or the walk was too
--- deep.
-use Rattle.std.proofs.Common.{◌≡◌, ◌≢◌, ℕ, zero, suc, ◌+◌, ◌-◌, ◌≤◌, inl, inr, ◌⊎◌, Bool, true, false, ◌||◌, List, [], ◌∷◌, ◌++◌, append_assoc, refl, sym, ap, subst, ◌∙◌, arith, true≢false}
-use Rattle.std.specs.Prelude.{Option, Some, None, Ok, IsSome}
-use Rattle.std.specs.List.{list_any}
-use Rattle.std.proofs.lemmas.Bool.{or_parts}
+-- Tries to cut a flagged leaf off: in each that is lost its worker was hindered.
+use Rattle.std.proofs.Common.{◌≡◌, ◌≢◌, ℕ, zero, suc, ◌<◌, ◌≤◌, inl, inr, ◌⊎◌, List, [], ◌∷◌, ◌++◌, refl, sym, ap, subst, ◌∙◌}
+use Rattle.std.specs.Prelude.{Option, Some, None, IsSome}
 use Rattle.std.proofs.lemmas.List.{append-nil}
-use Rattle.std.proofs.lemmas.List.Folds.{list_any-append}
 use Rattle.nm_edge.specs.Edges.{Edge}
 use Rattle.nm_edge.specs.Layouts.{Layout}
 use Rattle.nm_edge.specs.declared.edge.Side.{Side}
 use Rattle.nm_edge.specs.declared.edge.Side.TheVariants.{Left, Right}
 use Rattle.nm_edge.specs.declared.node.NodeId.{NodeId}
-use Rattle.nm_model.specs.declared.arrivals.Call.{Call}
-use Rattle.nm_model.specs.declared.event.Event.{Event}
-use Rattle.nm_model.specs.declared.event.Event.TheVariants.{Sight, SightFor, Leave, LeaveWith, Look, Link, Flag, Tag, Splice}
-use Rattle.nm_model.specs.declared.event.Field.{Field}
+use Rattle.nm_model.specs.declared.event.Event.TheVariants.{Look}
 use Rattle.nm_model.specs.declared.event.Field.TheVariants.{Key as KeyOf, Edge as EdgeOn}
 use Rattle.nm_model.specs.declared.event.Op.TheVariants.{Delete}
-use Rattle.nm_model.specs.declared.reply.Reply.{Reply}
-use Rattle.nm_model.specs.declared.reply.Reply.TheVariants.{Pinned, Departed, KeyIs, EdgeIs, Was, Linked, Flagged, Cut, Lost}
-use Rattle.nm_model.specs.Searches.{Search, idle, searched, look_for, side_of}
-use Rattle.nm_model.specs.Walks.{Entry, begins_anew, search_after}
+use Rattle.nm_model.specs.declared.reply.Reply.TheVariants.{KeyIs, EdgeIs}
+use Rattle.nm_model.specs.Searches.{idle, side_of}
+use Rattle.nm_model.specs.Walks.{Entry, search_after}
 use Rattle.nm_order.specs.Logs.{IsLogOf}
-use Rattle.nm_order.specs.Facts.{Since, Fact, Holds}
+use Rattle.nm_order.specs.Facts.{Since, Holds}
 use Rattle.nm_order.specs.Facts.Since.{TheFlag}
 use Rattle.nm_order.specs.Facts.Fact.{IsTagged, IsFlagged, Came, ReadKey}
 use Rattle.nm_order.specs.Taught.{WalksAreFor}
@@ -30,92 +22,23 @@ use Rattle.nm_order.proofs.FactStays.{facts_stay}
 use Rattle.nm_order.proofs.LastEntries.{log_before}
 use Rattle.nm_order.proofs.LaterFlagLaws.{later_walks_find}
 use Rattle.nm_order.proofs.TaughtWalks.{walks_begin, walks_go_on, walks_learn_keys}
-use Rattle.nm_calls.specs.declared.cutting.Kept.{Kept}
 use Rattle.nm_calls.specs.declared.looking.Onward.{Onward}
 use Rattle.nm_calls.specs.declared.spot.ChainEdge.{ChainEdge}
 use Rattle.nm_calls.specs.declared.spot.End.{End}
 use Rattle.nm_calls.specs.declared.spot.Spot.{Spot}
-use Rattle.nm_calls.specs.Walks.{begin, onto, after_looks, edge_on, Reads, Walks, Seeks, IsTooDeep, IsBroken}
-use Rattle.nm_calls.specs.Cleanups.{CleanupLost}
+use Rattle.nm_calls.specs.Walks.{begin, onto, after_looks, edge_on, Reads, Walks}
+use Rattle.nm_calls.specs.Bounds.{chain_bound}
 use Rattle.nm_calls.specs.Deletes.{LostRemovals, RemovesNothing}
-use Rattle.nm_progress.specs.Paid.{links_on, flags_on, cuts_on, tags_on}
-use Rattle.nm_progress.specs.Tries.{changes_edge}
-use Rattle.nm_progress.proofs.MoreTries.{is_loud, Plain, plain_then, quiet_pins, log_prefix}
+use Rattle.nm_progress.proofs.MoreTries.{Plain, plain_then, quiet_pins, log_prefix}
 use Rattle.nm_busy.proofs.Astray.{walk_plain}
-use Rattle.nm_busy.proofs.Hindered.{Hinders}
-use Rattle.nm_busy.proofs.HinderedTries.{Hindrances, none_yet, one_more, broken_hinders}
-use Rattle.nm_busy.proofs.MarkedReads.{marks_last, cleanup_hinders, chooses_plain, freezes_plain}
+use Rattle.nm_busy.proofs.Hindered.{Hinders, of_longer}
+use Rattle.nm_busy.proofs.HinderedTries.{cleanup_steady, broken_plain, one_more, broken_hinders}
+use Rattle.nm_busy.proofs.MarkedReads.{marks_last, cleanup_hinders}
 use Rattle.nm_busy.proofs.Parts.{longer_none, reads_plain}
+use Rattle.nm_busy.proofs.Steady.{Steady, steady_these, steady_then, plain_steady, steady_call}
 use Rattle.nm_busy.proofs.WalkReads.{onto_parent, onto_side, onto_edge}
 
--- ---- entries that neither begin a pin nor win a flag
-
-abbrev pub is_turning : Entry → Bool
-is_turning e = begins_anew e || flags_on e.0 (Ok e.1)
-
-pub record Steady (old new : List Entry) : Type 0 where
-  pub entries : List Entry
-  pub are : new ≡ old ++ entries
-  pub steady : list_any is_turning entries ≡ false
-
-pub steady_these : (more old new : List Entry) → list_any is_turning more ≡ false → new ≡ old ++ more → Steady old new
-steady_these more old new steady is = record { entries = more; are = is; steady = steady }
-
-pub steady_then : (old mid new : List Entry) → Steady old mid → Steady mid new → Steady old new
-steady_then old mid new a b = record {
-  entries = a.entries ++ b.entries;
-  are = b.are ∙ (ap (λ (l : List Entry). l ++ b.entries) a.are ∙ append_assoc old a.entries b.entries);
-  steady = list_any-append is_turning a.entries b.entries ∙ (ap (λ (x : Bool). x || list_any is_turning b.entries) a.steady ∙ b.steady);
-}
-
-quiet_steady : (es : List Entry) → list_any is_loud es ≡ false → list_any is_turning es ≡ false
-quiet_steady [] quiet = refl
-quiet_steady (e ∷ es) quiet = by (or_parts (is_loud e) (list_any is_loud es) quiet) (quiet_steady es)
-  where
-    by : (is_loud e ≡ false) × (list_any is_loud es ≡ false) → (list_any is_loud es ≡ false → list_any is_turning es ≡ false) → list_any is_turning (e ∷ es) ≡ false
-    by parts rest =
-        let both = or_parts (begins_anew e) (changes_edge e.0 (Ok e.1)) parts.0 in
-        let links = or_parts (links_on e.0 (Ok e.1)) (flags_on e.0 (Ok e.1) || (cuts_on e.0 (Ok e.1) || tags_on e.0 (Ok e.1))) both.1 in
-        let flags = or_parts (flags_on e.0 (Ok e.1)) (cuts_on e.0 (Ok e.1) || tags_on e.0 (Ok e.1)) links.1 in
-        ap (λ (b : Bool). (b || flags_on e.0 (Ok e.1)) || list_any is_turning es) both.0 ∙ (ap (λ (b : Bool). b || list_any is_turning es) flags.0 ∙ rest parts.1)
-
-pub plain_steady : (old new : List Entry) → Plain old new → Steady old new
-plain_steady old new p = record { entries = p.entries; are = p.are; steady = quiet_steady p.entries p.quiet }
-
--- by such entries a worker's call goes on, and so does the leaf that it has flagged
-abbrev pub SameCall : Search → Search → Type 0
-SameCall s t = (t.call ≡ s.call) × (t.flagged ≡ s.flagged)
-
-looked_same : (s : Search) (c : Option Call) (slot : ℕ) (f : Field) (r : Reply) → SameCall s (look_for s c slot f r)
-looked_same s None slot f r = (refl, refl)
-looked_same s (Some c) slot f r = (refl, refl)
-
-searched_same : (s : Search) (e : Event) (r : Reply) → is_turning (e, r) ≡ false → SameCall s (searched s e r)
-unfolding searched
-searched_same s Sight (Pinned n) is = absurd (true≢false is)
-searched_same s (SightFor op key) (Pinned n) is = absurd (true≢false is)
-searched_same s Leave Departed is = absurd (true≢false is)
-searched_same s (LeaveWith answer) Departed is = absurd (true≢false is)
-searched_same s (Look slot field) r is = looked_same s s.call slot field r
-searched_same s (Link p side leaf new) (Linked n) is = (refl, refl)
-searched_same s (Flag p side leaf) (Flagged n) is = absurd (true≢false is)
-searched_same s (Splice a side x p keep) (Cut ns) is = (refl, refl)
-searched_same s e r is = (refl, refl)
-
-search_same : (s : Search) (es : List Entry) → list_any is_turning es ≡ false → SameCall s (search_after s es)
-search_same s [] steady = (refl, refl)
-search_same s (e ∷ es) steady =
-    let parts = or_parts (is_turning e) (list_any is_turning es) steady in
-    let one = searched_same s e.0 e.1 parts.0 in
-    let rest = search_same (searched s e.0 e.1) es parts.1 in
-    (rest.0 ∙ one.0, rest.1 ∙ one.1)
-
-search_on : (s : Search) (xs ys : List Entry) → search_after s (xs ++ ys) ≡ search_after (search_after s xs) ys
-search_on s [] ys = refl
-search_on s (x ∷ xs) ys = search_on (searched s x.0 x.1) xs ys
-
-pub steady_call : (old new : List Entry) → Steady old new → SameCall (search_after idle old) (search_after idle new)
-steady_call old new s = subst (λ (t : Search). SameCall (search_after idle old) t) (sym (ap (search_after idle) s.are ∙ search_on idle old s.entries)) (search_same (search_after idle old) s.entries s.steady)
+-- ---- a call that goes on
 
 -- the call deletes k, and has flagged that leaf
 pub record Flagging (k : ℕ) (n : NodeId) (log : List Entry) : Type 0 where
@@ -125,20 +48,7 @@ pub record Flagging (k : ℕ) (n : NodeId) (log : List Entry) : Type 0 where
 pub flagging_on : (k : ℕ) (n : NodeId) (old new : List Entry) → Steady old new → Flagging k n old → Flagging k n new
 flagging_on k n old new s f = let same = steady_call old new s in record { call = same.0 ∙ f.call; flagged = same.1 ∙ f.flagged }
 
--- ---- what a lost try to cut it off adds
-
-pub cleanup_steady : (L : Layout) (enough : 5 ≤ L.nodes) (w : ℕ) (s : Spot) (c : List ChainEdge) (old new : List Entry) → CleanupLost s c old new → Steady old new
-cleanup_steady L enough w s c old new (inl none) = plain_steady old new (chooses_plain L enough w s None old new none)
-cleanup_steady L enough w s c old new (inr (kept, mid, e, (chosen, was, chooses, freezes), is)) =
-    steady_then old chosen new (plain_steady old chosen (chooses_plain L enough w s (Some kept) old chosen chooses))
-    (steady_then chosen _ new (steady_these ((Tag s.parent kept.side, Was was) ∷ []) chosen _ refl refl)
-    (steady_then _ mid new (plain_steady _ mid (freezes_plain L enough w s.parent kept.side c _ mid freezes)) (steady_these ((Splice s.ancestor s.above s.successor s.parent kept.side, Lost e) ∷ []) mid new refl is)))
-
 module _ (L : Layout) (enough : 5 ≤ L.nodes) (w k : ℕ) where
-  broken_plain : (old new : List Entry) → IsBroken L k old new → Plain old new
-  broken_plain old new (inl e) = walk_plain k e.1 old new e.2 e.3 e.4
-  broken_plain old new (inr e) = plain_then old e.2 new (walk_plain k e.1 old e.2 e.3 e.4 e.7) (reads_plain k e.3.edge.slot e.2 new e.5 e.8)
-
   -- ---- a walk comes to where it stands
 
   walk_came : (since : Since) (old new : List Entry) (s : Spot) → WalksAreFor L w old since k → s ≡ begin s.edge → s.edge.slot ≢ 0 → new ≡ old ++ (Look 2 (EdgeOn Left), EdgeIs s.edge) ∷ [] → IsLogOf L w new → Holds L w new (Came since k s.edge.slot s.parent s.side)
@@ -190,7 +100,7 @@ module _ (L : Layout) (enough : 5 ≤ L.nodes) (w k : ℕ) where
   -- ---- a lost try
 
   removal_steady : (n : NodeId) (old new : List Entry) → RemovesNothing L k n old new → Steady old new
-  removal_steady n old new (inl broken) = plain_steady old new (broken_plain old new broken)
+  removal_steady n old new (inl broken) = plain_steady old new (broken_plain L k old new broken)
   removal_steady n old new (inr (r, c, mid, seeks, same, lost)) =
       steady_then old mid new (plain_steady old mid (plain_then old seeks.0.1 mid (walk_plain k seeks.0.0 old seeks.0.1 r.spot c seeks.0.4) (reads_plain k r.spot.edge.slot seeks.0.1 mid seeks.0.2 seeks.0.6)))
       (cleanup_steady L enough w r.spot c mid new lost)
@@ -206,13 +116,13 @@ module _ (L : Layout) (enough : 5 ≤ L.nodes) (w k : ℕ) where
       some {o = Some m} is = refl
       some {o = None} is = absurd (let none : None ≡ Some n = is in cc)
 
-  removal_hinders : (n : NodeId) (old new : List Entry) → Flagging k n old → RemovesNothing L k n old new → IsLogOf L w new → Hinders L enough w old new 1 ⊎ IsTooDeep L k old new
-  removal_hinders n old new f (inl broken) l = broken_hinders L enough w k old new broken
-  removal_hinders n old new f (inr (r, c, mid, seeks, same, lost)) l =
-      inl (cleanup_hinders L enough w k seeks.0.0 old seeks.0.1 mid new r.spot c seeks.0.4 reads
+  removal_hinders : w < L.workers → L.workers ≤ chain_bound → (n : NodeId) (old new : List Entry) → Flagging k n old → RemovesNothing L k n old new → IsLogOf L w new → Hinders L enough w old new 1
+  removal_hinders here crew n old new f (inl broken) l = broken_hinders L enough w k here crew old new (record { call = record { op = Delete; key = k }; is = f.call; has_key = refl }) broken
+  removal_hinders here crew n old new f (inr (r, c, mid, seeks, same, lost)) l =
+      cleanup_hinders L enough w k seeks.0.0 old seeks.0.1 mid new r.spot c seeks.0.4 reads
       (subst (λ (l : List Entry). Holds L w l (IsFlagged r.spot.parent r.spot.side r.spot.edge.slot) ⊎ Holds L w l (IsTagged r.spot.parent r.spot.side r.spot.edge.slot)) (sym reads.are)
       (marks_last L enough w seeks.0.1 reads.entries (subst (IsLogOf L w) reads.are mid_log) (quiet_pins reads.entries reads.quiet) r.spot.parent r.spot.side r.spot.edge.slot (inl (came_flagged n r c seeks.0.0 old seeks.0.1 f seeks.0.4 same walked_log))))
-      (inr lost) l)
+      (inr lost) l
     where
       reads : Plain seeks.0.1 mid
       reads = reads_plain k r.spot.edge.slot seeks.0.1 mid seeks.0.2 seeks.0.6
@@ -229,7 +139,7 @@ module _ (L : Layout) (enough : 5 ≤ L.nodes) (w k : ℕ) where
   removals_steady n zero old new h = steady_these [] old new refl (h ∙ sym (append-nil old))
   removals_steady n (suc t) old new (mid, before, try) = steady_then old mid new (removals_steady n t old mid before) (removal_steady n mid new try)
 
-  pub removals_hinder : (n : NodeId) (t : ℕ) (old new : List Entry) → Flagging k n old → LostRemovals L k n t old new → IsLogOf L w new → Hindrances L enough w k old new t
-  removals_hinder n zero old new f h l = none_yet L enough w k old new (longer_none old new h)
-  removals_hinder n (suc t) old new f (mid, before, try) l =
-      one_more L enough w k t old mid new (removals_hinder n t old mid f before) (removal_hinders n mid new (flagging_on k n old mid (removals_steady n t old mid before) f) try l) l
+  pub removals_hinder : w < L.workers → L.workers ≤ chain_bound → (n : NodeId) (t : ℕ) (old new : List Entry) → Flagging k n old → LostRemovals L k n t old new → IsLogOf L w new → Hinders L enough w old new t
+  removals_hinder here crew n zero old new f h l = of_longer L enough w old new (longer_none old new h)
+  removals_hinder here crew n (suc t) old new f (mid, before, try) l =
+      one_more L enough w k here crew t old mid new (removals_hinder here crew n t old mid f before) (removal_hinders here crew n mid new (flagging_on k n old mid (removals_steady n t old mid before) f) try l) l

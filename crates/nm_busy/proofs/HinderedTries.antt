@@ -1,5 +1,5 @@
--- Lost tries of an insert and of a delete: in each its worker was hindered, or the walk was too deep.
-use Rattle.std.proofs.Common.{◌≡◌, ◌≢◌, ℕ, zero, suc, ◌+◌, ◌≤◌, inl, inr, ◌⊎◌, ◌==◌, Bool, true, false, ◌&&◌, ◌||◌, List, [], ◌∷◌, ◌++◌, append_assoc, refl, sym, ap, subst, ◌∙◌, arith, true≢false}
+-- Lost tries of an insert and of a delete: in each its worker was hindered.
+use Rattle.std.proofs.Common.{◌≡◌, ℕ, zero, suc, ◌+◌, ◌<◌, ◌≤◌, inl, inr, ◌⊎◌, ◌==◌, Bool, true, false, ◌||◌, List, [], ◌∷◌, ◌++◌, refl, sym, ap, subst, ◌∙◌, arith, true≢false}
 use Rattle.std.specs.Prelude.{Option, Some, None}
 use Rattle.std.proofs.lemmas.Bool.{eq-eqb, and_from}
 use Rattle.std.proofs.lemmas.List.{append-nil}
@@ -7,50 +7,34 @@ use Rattle.nm_edge.specs.Edges.{Edge}
 use Rattle.nm_edge.specs.Layouts.{Layout}
 use Rattle.nm_edge.specs.declared.node.NodeId.{NodeId}
 use Rattle.nm_model.specs.declared.event.Event.{Event}
-use Rattle.nm_model.specs.declared.event.Event.TheVariants.{Look, Link, Flag}
+use Rattle.nm_model.specs.declared.event.Event.TheVariants.{Sight, Look, Link, Flag, Tag, Splice}
 use Rattle.nm_model.specs.declared.event.Field.TheVariants.{Birth}
-use Rattle.nm_model.specs.declared.reply.Reply.TheVariants.{BirthIs, Lost}
+use Rattle.nm_model.specs.declared.reply.Reply.TheVariants.{Labelled, BirthIs, Was, Cut, Lost}
 use Rattle.nm_model.specs.Walks.{Entry}
 use Rattle.nm_order.specs.Logs.{IsLogOf}
 use Rattle.nm_pool.specs.declared.placement.Fit.{Fit}
 use Rattle.nm_calls.specs.declared.making.Fork.{Fork}
 use Rattle.nm_calls.specs.declared.spot.ChainEdge.{ChainEdge}
 use Rattle.nm_calls.specs.declared.spot.End.{End}
+use Rattle.nm_calls.specs.declared.spot.Spot.{Spot}
+use Rattle.nm_calls.specs.Bounds.{chain_bound}
+use Rattle.nm_calls.specs.Cleanups.{CutsOff, CleanupLost, CleanupWon}
 use Rattle.nm_calls.specs.Making.{fills}
 use Rattle.nm_calls.specs.Places.{Stops}
-use Rattle.nm_calls.specs.Walks.{Walks, IsTooDeep, IsBroken}
+use Rattle.nm_calls.specs.Walks.{Walks, IsBroken}
 use Rattle.nm_calls.specs.Inserts.{asks_help, Helps, TriesLink, LostInserts}
 use Rattle.nm_calls.specs.Deletes.{TriesFlag, LostFlags}
 use Rattle.nm_progress.specs.Changes.{is_bare, Expects}
 use Rattle.nm_progress.specs.Changes.Expects.{ToLink, ToFlag}
 use Rattle.nm_progress.specs.Tries.{losing}
 use Rattle.nm_progress.proofs.MoreTries.{is_loud, Plain, plain_these, plain_then, quiet_pins, log_prefix}
-use Rattle.nm_busy.specs.Lost.{DeepWalks}
-use Rattle.nm_busy.proofs.Hindered.{Hinders, of_longer, hinders_then, of_astray}
-use Rattle.nm_busy.proofs.MarkedReads.{IsMarked, StillMarked, marks_last, lost_behind, spot_marked, spot_read, lost_link_marked, lost_flag_marked, cleanup_hinders}
+use Rattle.nm_busy.proofs.Astray.{walk_plain}
+use Rattle.nm_busy.proofs.DeepAstray.{deep_plain}
+use Rattle.nm_busy.proofs.Hindered.{Hinders, of_longer, hinders_then, of_astray, of_deep}
+use Rattle.nm_busy.proofs.MarkedReads.{IsMarked, StillMarked, marks_last, lost_behind, spot_marked, spot_read, lost_link_marked, lost_flag_marked, cleanup_hinders, chooses_plain, freezes_plain}
 use Rattle.nm_busy.proofs.Parts.{Longer, longer_these, longer_then, longer_none, plain_longer, reads_plain, walk_longer, broken_longer, help_longer, readies_plain}
+use Rattle.nm_busy.proofs.Steady.{Steady, steady_these, steady_then, plain_steady, IsFor, for_on}
 use Rattle.nm_busy.proofs.WalkReads.{walk_read}
-
--- ---- walks that were too deep
-
-module _ (L : Layout) (k : ℕ) where
-  pub deep_before : (n : ℕ) (old mid new : List Entry) → Longer old mid → DeepWalks L k n mid new → DeepWalks L k n old new
-  deep_before zero old mid new a d = (a.entries ++ d.0, d.1 ∙ (ap (λ (l : List Entry). l ++ d.0) a.are ∙ append_assoc old a.entries d.0))
-  deep_before (suc n) old mid new a d = (d.0, d.1, d.2, deep_before n old mid d.0 a d.3, d.4, d.5)
-
-  pub deep_behind : (n : ℕ) (old mid new : List Entry) → DeepWalks L k n old mid → Longer mid new → DeepWalks L k n old new
-  deep_behind zero old mid new d b = (d.0 ++ b.entries, b.are ∙ (ap (λ (l : List Entry). l ++ b.entries) d.1 ∙ append_assoc old d.0 b.entries))
-  deep_behind (suc n) old mid new d b = (d.0, d.1, d.2 ++ b.entries, d.3, d.4, b.are ∙ (ap (λ (l : List Entry). l ++ b.entries) d.5 ∙ append_assoc d.1 d.2 b.entries))
-
-  -- those of two parts of a log
-  pub deep_then : (m n : ℕ) (old mid new : List Entry) → DeepWalks L k m old mid → DeepWalks L k n mid new → DeepWalks L k (m + n) old new
-  deep_then m zero old mid new a b = subst (λ (l : ℕ). DeepWalks L k l old new) (let is : m ≡ m + 0 = omega arith in is) (deep_behind m old mid new a (record { entries = b.0; are = b.1 }))
-  deep_then m (suc n) old mid new a b = subst (λ (l : ℕ). DeepWalks L k l old new) (let is : suc (m + n) ≡ m + suc n = omega arith in is) (b.0, b.1, b.2, deep_then m n old mid b.0 a b.3, b.4, b.5)
-
-  -- none is in a radix tree
-  pub none_deep : (n : ℕ) (old new : List Entry) → DeepWalks L k n old new → L.radix ≡ true → n ≡ 0
-  none_deep zero old new d radix = refl
-  none_deep (suc n) old new d radix = absurd (true≢false (sym radix ∙ d.4.0))
 
 -- ---- one try
 
@@ -86,15 +70,57 @@ flag_longer L k c old new (inr (r, b, e, mid, flag, helps)) =
     longer_then old flag.walk.0.1 new (walk_longer k flag.walk.0.0 old flag.walk.0.1 r.spot c flag.walk.0.4) (longer_then flag.walk.0.1 _ new (plain_longer _ _ (flag_plain L k r c b e old mid flag))
     (longer_then _ mid new (longer_these _ _ mid flag.entries) (help_longer r c e mid new helps)))
 
+-- ---- a call goes on by what a lost try adds
+
+pub cleanup_steady : (L : Layout) (enough : 5 ≤ L.nodes) (w : ℕ) (s : Spot) (c : List ChainEdge) (old new : List Entry) → CleanupLost s c old new → Steady old new
+cleanup_steady L enough w s c old new (inl none) = plain_steady old new (chooses_plain L enough w s None old new none)
+cleanup_steady L enough w s c old new (inr (kept, mid, e, (chosen, was, chooses, freezes), is)) =
+    steady_then old chosen new (plain_steady old chosen (chooses_plain L enough w s (Some kept) old chosen chooses))
+    (steady_then chosen _ new (steady_these ((Tag s.parent kept.side, Was was) ∷ []) chosen _ refl refl)
+    (steady_then _ mid new (plain_steady _ mid (freezes_plain L enough w s.parent kept.side c _ mid freezes)) (steady_these ((Splice s.ancestor s.above s.successor s.parent kept.side, Lost e) ∷ []) mid new refl is)))
+
+cut_steady : (L : Layout) (enough : 5 ≤ L.nodes) (w : ℕ) (s : Spot) (c : List ChainEdge) (ns : List NodeId) (old new : List Entry) → CutsOff s c ns old new → Steady old new
+cut_steady L enough w s c ns old new (kept, mid, (chosen, was, chooses, freezes), is) =
+    steady_then old chosen new (plain_steady old chosen (chooses_plain L enough w s (Some kept) old chosen chooses))
+    (steady_then chosen _ new (steady_these ((Tag s.parent kept.side, Was was) ∷ []) chosen _ refl refl)
+    (steady_then _ mid new (plain_steady _ mid (freezes_plain L enough w s.parent kept.side c _ mid freezes)) (steady_these ((Splice s.ancestor s.above s.successor s.parent kept.side, Cut ns) ∷ []) mid new refl is)))
+
+help_steady : (L : Layout) (enough : 5 ≤ L.nodes) (w : ℕ) (r : End) (c : List ChainEdge) (e : Edge) (old new : List Entry) → Helps r c e old new → Steady old new
+help_steady L enough w r c e old new (inr h) = steady_these [] old new refl (h.1 ∙ sym (append-nil old))
+help_steady L enough w r c e old new (inl h) = by h.1
+  where
+    by : ((ns : List NodeId) × (epoch : ℕ) × CleanupWon r.spot c ns epoch old new) ⊎ CleanupLost r.spot c old new → Steady old new
+    by (inl (ns, epoch, (mid, cut, is))) = steady_then old mid new (cut_steady L enough w r.spot c ns old mid cut) (steady_these ((Sight, Labelled epoch) ∷ []) mid new refl is)
+    by (inr lost) = cleanup_steady L enough w r.spot c old new lost
+
+pub broken_plain : (L : Layout) (k : ℕ) (old new : List Entry) → IsBroken L k old new → Plain old new
+broken_plain L k old new (inl e) = walk_plain k e.1 old new e.2 e.3 e.4
+broken_plain L k old new (inr e) = deep_plain L k old new e
+
+insert_steady : (fit : Fit) (L : Layout) (enough : 5 ≤ L.nodes) (w k : ℕ) (f g : Option Fork) (old new : List Entry) → IsLostInsert fit L k f g old new → Steady old new
+insert_steady fit L enough w k f g old new (inl (c, broken, same)) = plain_steady old new (broken_plain L k old new broken)
+insert_steady fit L enough w k f g old new (inr (made, r, c, e, mid, link, forked, helps)) =
+    steady_then old link.walk.0.1 new (plain_steady old link.walk.0.1 (walk_plain k link.walk.0.0 old link.walk.0.1 r.spot c link.walk.0.4)) (steady_then link.walk.0.1 _ new (plain_steady _ _ (link_plain L k fit f made r c e old mid link))
+    (steady_then _ mid new (steady_these ((Link r.spot.parent r.spot.side r.spot.edge.slot made.new.slot, Lost e) ∷ []) _ mid refl link.grows.3) (help_steady L enough w r c e mid new helps)))
+
+flag_steady : (L : Layout) (enough : 5 ≤ L.nodes) (w k : ℕ) (c : List ChainEdge) (old new : List Entry) → IsLostFlag L k c old new → Steady old new
+flag_steady L enough w k c old new (inl broken) = plain_steady old new (broken_plain L k old new broken)
+flag_steady L enough w k c old new (inr (r, b, e, mid, flag, helps)) =
+    steady_then old flag.walk.0.1 new (plain_steady old flag.walk.0.1 (walk_plain k flag.walk.0.0 old flag.walk.0.1 r.spot c flag.walk.0.4)) (steady_then flag.walk.0.1 _ new (plain_steady _ _ (flag_plain L k r c b e old mid flag))
+    (steady_then _ mid new (steady_these ((Flag r.spot.parent r.spot.side r.spot.edge.slot, Lost e) ∷ []) _ mid refl flag.entries) (help_steady L enough w r c e mid new helps)))
+
+inserts_steady : (fit : Fit) (L : Layout) (enough : 5 ≤ L.nodes) (w k n : ℕ) (f : Option Fork) (old new : List Entry) → LostInserts fit L k n f old new → Steady old new
+inserts_steady fit L enough w k zero f old new h = steady_these [] old new refl (h.1 ∙ sym (append-nil old))
+inserts_steady fit L enough w k (suc n) g old new (f, mid, before, try) = steady_then old mid new (inserts_steady fit L enough w k n f old mid before) (insert_steady fit L enough w k f g mid new try)
+
+flags_steady : (L : Layout) (enough : 5 ≤ L.nodes) (w k n : ℕ) (old new : List Entry) → LostFlags L k n old new → Steady old new
+flags_steady L enough w k zero old new h = steady_these [] old new refl (h ∙ sym (append-nil old))
+flags_steady L enough w k (suc n) old new (c, mid, before, try) = steady_then old mid new (flags_steady L enough w k n old mid before) (flag_steady L enough w k c mid new try)
+
 asks : (r : End) (e : Edge) → StillMarked e r.spot.edge.slot → asks_help r e ≡ true
 asks r e still = and_from (e.slot == r.spot.edge.slot) (e.flag || e.tag) (eq-eqb e.slot r.spot.edge.slot still.0) still.1
 
 module _ (L : Layout) (enough : 5 ≤ L.nodes) (w k : ℕ) where
-  -- a walk that was broken off
-  pub broken_hinders : (old new : List Entry) → IsBroken L k old new → Hinders L enough w old new 1 ⊎ IsTooDeep L k old new
-  broken_hinders old new (inl long) = inl (of_astray L enough w k old new (broken_longer L k old new (inl long)) long)
-  broken_hinders old new (inr deep) = inr deep
-
   -- the help behind an exchange that was lost at an edge which has a mark
   helped : (r : End) (c : List ChainEdge) (e : Edge) (old walked mid new : List Entry) (n : ℕ) → Walks k n old walked r.spot c → Plain walked mid → IsMarked L enough w mid r.spot.parent r.spot.side r.spot.edge.slot → StillMarked e r.spot.edge.slot → Helps r c e mid new → IsLogOf L w new → Hinders L enough w old new 1
   helped r c e old walked mid new n walk plain marked still (inl h) l = cleanup_hinders L enough w k n old walked mid new r.spot c walk plain marked h.1 l
@@ -140,85 +166,41 @@ module _ (L : Layout) (enough : 5 ≤ L.nodes) (w k : ℕ) where
       by true bare = bare_at r c e n old walked before new exchange walk plain expects bare (longer_then _ mid new (longer_none _ mid is) longer) before_log
       by false marked = helped r c e old walked mid new n walk behind (marked_there n old walked mid r c walk behind marked mid_log) (found exchange_log (marked_there n old walked before r c walk plain marked before_log)) helps l
 
+module _ (L : Layout) (enough : 5 ≤ L.nodes) (w k : ℕ) (here : w < L.workers) (crew : L.workers ≤ chain_bound) where
+  -- a walk that was broken off
+  pub broken_hinders : (old new : List Entry) → IsFor k old → IsBroken L k old new → Hinders L enough w old new 1
+  broken_hinders old new for (inl long) = of_astray L enough w k old new (broken_longer L k old new (inl long)) long
+  broken_hinders old new for (inr deep) = of_deep L enough w here crew k old new for deep
+
   -- a lost try of an insert
-  pub insert_hinders : (fit : Fit) (f g : Option Fork) (old new : List Entry) → IsLostInsert fit L k f g old new → IsLogOf L w new → Hinders L enough w old new 1 ⊎ IsTooDeep L k old new
-  insert_hinders fit f g old new (inl (c, broken, same)) l = broken_hinders old new broken
-  insert_hinders fit f g old new (inr (made, r, c, e, mid, link, forked, helps)) l =
-      inl (lost_at r c e link.walk.0.0 old link.walk.0.1 _ mid new (Link r.spot.parent r.spot.side r.spot.edge.slot made.new.slot) link.walk.0.4
-      (link_plain L k fit f made r c e old mid link) refl (ToLink made.new.slot) (lost_link_marked L enough w _ r.spot.parent r.spot.edge.slot made.new.slot r.spot.side r.spot.edge.slot e) link.grows.3 helps l)
+  pub insert_hinders : (fit : Fit) (f g : Option Fork) (old new : List Entry) → IsFor k old → IsLostInsert fit L k f g old new → IsLogOf L w new → Hinders L enough w old new 1
+  insert_hinders fit f g old new for (inl (c, broken, same)) l = broken_hinders old new for broken
+  insert_hinders fit f g old new for (inr (made, r, c, e, mid, link, forked, helps)) l =
+      lost_at L enough w k r c e link.walk.0.0 old link.walk.0.1 _ mid new (Link r.spot.parent r.spot.side r.spot.edge.slot made.new.slot) link.walk.0.4
+      (link_plain L k fit f made r c e old mid link) refl (ToLink made.new.slot) (lost_link_marked L enough w _ r.spot.parent r.spot.edge.slot made.new.slot r.spot.side r.spot.edge.slot e) link.grows.3 helps l
 
   -- a lost try to flag
-  pub flag_hinders : (c : List ChainEdge) (old new : List Entry) → IsLostFlag L k c old new → IsLogOf L w new → Hinders L enough w old new 1 ⊎ IsTooDeep L k old new
-  flag_hinders c old new (inl broken) l = broken_hinders old new broken
-  flag_hinders c old new (inr (r, b, e, mid, flag, helps)) l =
-      inl (lost_at r c e flag.walk.0.0 old flag.walk.0.1 _ mid new (Flag r.spot.parent r.spot.side r.spot.edge.slot) flag.walk.0.4
-      (flag_plain L k r c b e old mid flag) refl ToFlag (lost_flag_marked L enough w _ r.spot.parent r.spot.edge.slot r.spot.side r.spot.edge.slot e) flag.entries helps l)
+  pub flag_hinders : (c : List ChainEdge) (old new : List Entry) → IsFor k old → IsLostFlag L k c old new → IsLogOf L w new → Hinders L enough w old new 1
+  flag_hinders c old new for (inl broken) l = broken_hinders old new for broken
+  flag_hinders c old new for (inr (r, b, e, mid, flag, helps)) l =
+      lost_at L enough w k r c e flag.walk.0.0 old flag.walk.0.1 _ mid new (Flag r.spot.parent r.spot.side r.spot.edge.slot) flag.walk.0.4
+      (flag_plain L k r c b e old mid flag) refl ToFlag (lost_flag_marked L enough w _ r.spot.parent r.spot.edge.slot r.spot.side r.spot.edge.slot e) flag.entries helps l
 
   -- ---- tries behind one another
 
-  -- in so many of them the worker was hindered, and the others walked too deep
-  pub record Hindrances (old new : List Entry) (n : ℕ) : Type 0 where
-    pub hindered : ℕ
-    pub deep : ℕ
-    pub all : n ≤ hindered + deep
-    pub hinders : Hinders L enough w old new hindered
-    pub walks : DeepWalks L k deep old new
+  pub one_more : (n : ℕ) (old mid new : List Entry) → (IsLogOf L w mid → Hinders L enough w old mid n) → Hinders L enough w mid new 1 → IsLogOf L w new → Hinders L enough w old new (suc n)
+  one_more n old mid new before h l = subst (Hinders L enough w old new) (let is : n + 1 ≡ suc n = omega arith in is)
+      (hinders_then L enough w old mid new n 1 (before (log_prefix L w mid h.entries (subst (IsLogOf L w) h.are l))) h)
 
-  pub none_yet : (old new : List Entry) → Longer old new → Hindrances old new 0
-  none_yet old new l = record { hindered = 0; deep = 0; all = omega arith; hinders = of_longer L enough w old new l; walks = (l.entries, l.are) }
+  pub inserts_hinder : (fit : Fit) (n : ℕ) (f : Option Fork) (old new : List Entry) → IsFor k old → LostInserts fit L k n f old new → IsLogOf L w new → Hinders L enough w old new n
+  inserts_hinder fit zero f old new for h l = of_longer L enough w old new (longer_these [] old new (h.1 ∙ sym (append-nil old)))
+  inserts_hinder fit (suc n) g old new for (f, mid, before, try) l = one_more n old mid new (inserts_hinder fit n f old mid for before) (insert_hinders fit f g mid new (for_on k old mid (inserts_steady fit L enough w k n f old mid before) for) try l) l
 
-  longer_by : (old new : List Entry) (n : ℕ) → Hinders L enough w old new n → Longer old new
-  longer_by old new n h = record { entries = h.entries; are = h.are }
+  pub flags_hinder : (n : ℕ) (old new : List Entry) → IsFor k old → LostFlags L k n old new → IsLogOf L w new → Hinders L enough w old new n
+  flags_hinder zero old new for h l = of_longer L enough w old new (longer_these [] old new (h ∙ sym (append-nil old)))
+  flags_hinder (suc n) old new for (c, mid, before, try) l = one_more n old mid new (flags_hinder n old mid for before) (flag_hinders c mid new (for_on k old mid (flags_steady L enough w k n old mid before) for) try l) l
 
-  pub one_more : (n : ℕ) (old mid new : List Entry) → (IsLogOf L w mid → Hindrances old mid n) → Hinders L enough w mid new 1 ⊎ IsTooDeep L k mid new → IsLogOf L w new → Hindrances old new (suc n)
-  one_more n old mid new before (inl h) l = by (before (log_prefix L w mid h.entries (subst (IsLogOf L w) h.are l)))
-    where
-      by : Hindrances old mid n → Hindrances old new (suc n)
-      by s = record {
-        hindered = s.hindered + 1;
-        deep = s.deep;
-        all = let all = s.all in omega (arith, all);
-        hinders = hinders_then L enough w old mid new s.hindered 1 s.hinders h;
-        walks = deep_behind L k s.deep old mid new s.walks (longer_by mid new 1 h);
-      }
-  one_more n old mid new before (inr deep) l = by (before (log_prefix L w mid longer.entries (subst (IsLogOf L w) longer.are l)))
-    where
-      longer : Longer mid new
-      longer = broken_longer L k mid new (inr deep)
-
-      by : Hindrances old mid n → Hindrances old new (suc n)
-      by s = record {
-        hindered = s.hindered + 0;
-        deep = suc s.deep;
-        all = let all = s.all in omega (arith, all);
-        hinders = hinders_then L enough w old mid new s.hindered 0 s.hinders (of_longer L enough w mid new longer);
-        walks = (mid, new, [], s.walks, deep, sym (append-nil new));
-      }
-
-  pub inserts_hinder : (fit : Fit) (n : ℕ) (f : Option Fork) (old new : List Entry) → LostInserts fit L k n f old new → IsLogOf L w new → Hindrances old new n
-  inserts_hinder fit zero f old new h l = none_yet old new (longer_these [] old new (h.1 ∙ sym (append-nil old)))
-  inserts_hinder fit (suc n) g old new (f, mid, before, try) l = one_more n old mid new (inserts_hinder fit n f old mid before) (insert_hinders fit f g mid new try l) l
-
-  pub flags_hinder : (n : ℕ) (old new : List Entry) → LostFlags L k n old new → IsLogOf L w new → Hindrances old new n
-  flags_hinder zero old new h l = none_yet old new (longer_these [] old new (h ∙ sym (append-nil old)))
-  flags_hinder (suc n) old new (c, mid, before, try) l = one_more n old mid new (flags_hinder n old mid before) (flag_hinders c mid new try l) l
-
-  pub both : (m n : ℕ) (old mid new : List Entry) → Hindrances old mid m → Hindrances mid new n → Hindrances old new (m + n)
-  both m n old mid new a b = record {
-    hindered = a.hindered + b.hindered;
-    deep = a.deep + b.deep;
-    all = let first = a.all in let second = b.all in omega (arith, first, second);
-    hinders = hinders_then L enough w old mid new a.hindered b.hindered a.hinders b.hinders;
-    walks = deep_then L k a.deep b.deep old mid new a.walks b.walks;
-  }
-
-  -- and so between a call's begin and its end
-  pub within : (n : ℕ) (old begun ended new : List Entry) → Longer old begun → Hindrances begun ended n → Longer ended new → Hindrances old new n
-  within n old begun ended new a s b = record {
-    hindered = s.hindered;
-    deep = s.deep;
-    all = s.all;
-    hinders = subst (Hinders L enough w old new) (let is : 0 + (s.hindered + 0) ≡ s.hindered = omega arith in is)
-        (hinders_then L enough w old begun new 0 (s.hindered + 0) (of_longer L enough w old begun a) (hinders_then L enough w begun ended new s.hindered 0 s.hinders (of_longer L enough w ended new b)));
-    walks = deep_before L k s.deep old begun new a (deep_behind L k s.deep begun ended new s.walks b);
-  }
+-- and so between a call's begin and its end
+pub within : (L : Layout) (enough : 5 ≤ L.nodes) (w n : ℕ) (old begun ended new : List Entry) → Longer old begun → Hinders L enough w begun ended n → Longer ended new → Hinders L enough w old new n
+within L enough w n old begun ended new a s b = subst (Hinders L enough w old new) (let is : 0 + (n + 0) ≡ n = omega arith in is)
+    (hinders_then L enough w old begun new 0 (n + 0) (of_longer L enough w old begun a) (hinders_then L enough w begun ended new n 0 s (of_longer L enough w ended new b)))

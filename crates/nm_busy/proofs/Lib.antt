@@ -2,7 +2,13 @@ pub mod LostPins
 pub mod Parts
 pub mod WalkReads
 pub mod Astray
+pub mod Steady
+pub mod DeepAstray
 pub mod LostLookups
+pub mod TurnsAstray
+pub mod Between
+pub mod NearAstray
+pub mod LostWalked
 pub mod Hindered
 pub mod MarkedReads
 pub mod HinderedTries

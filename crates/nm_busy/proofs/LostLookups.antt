@@ -14,26 +14,26 @@ use Rattle.nm_order.specs.Logs.{part_of}
 use Rattle.nm_order.proofs.OrderedLaws.{each_ordered}
 use Rattle.nm_order.proofs.RunExchanges.{first_keys}
 use Rattle.nm_order.proofs.WalksOfRuns.{trace_in-append}
-use Rattle.nm_steps.specs.Steps.{Stand}
+use Rattle.nm_steps.specs.Steps.{Stand, IsSamePass, HasSeen, HasSeenAllOf}
 use Rattle.nm_calls.specs.PlainWalks.{events_of}
 use Rattle.nm_calls.proofs.PlainLooks.{as_events, events_go_on}
 use Rattle.nm_progress.specs.Moves.{number_of}
 use Rattle.nm_progress.specs.Tries.{reshapes_of_others}
 use Rattle.nm_progress.proofs.LostTries.{later_keys}
 use Rattle.nm_progress.proofs.SplitTurns.{ordered_after, number-append}
-use Rattle.nm_busy.specs.Lookups.{BusyLookupsWereDisturbed}
+use Rattle.nm_busy.specs.Lookups.{WasReshaped, BusyLookupsWereDisturbed}
 use Rattle.nm_busy.proofs.LostPins.{part-append, turns_between, lost_pins_were_moved_past}
 use Rattle.nm_busy.proofs.Parts.{Longer, pin_longer}
-use Rattle.nm_busy.proofs.Astray.{SplitPart, split_part, all_astray, lost_longer}
+use Rattle.nm_busy.proofs.Astray.{SplitPart, split_part, Strays, strays_longer, all_astray, lost_strays}
 
-pub busy_lookups_were_disturbed : BusyLookupsWereDisturbed
-busy_lookups_were_disturbed k zero p q seen_p seen_q enough same on missed = inl refl
-busy_lookups_were_disturbed k (suc t) p q seen_p seen_q enough same on (inl moved) = inr (inl (lost_pins_were_moved_past p q seen_p seen_q enough same on (SightFor Has k) refl t moved))
-busy_lookups_were_disturbed k (suc t) p q seen_p seen_q enough same on (inr (pinned, walked, epoch, pin, walks, leaves)) = inr (inr (record {
+-- between the begin and the end of a call of which such parts of the log are, as many as others have
+-- linked or cut off nodes
+pub was_reshaped : (t : ℕ) (p q : Stand) → HasSeen p.view → HasSeen q.view → (enough : 5 ≤ p.view.layout.nodes) → IsSamePass p q → HasSeenAllOf q p → (pinned walked : List Entry) → Longer p.view.log pinned → Strays p.view.layout enough p.view.number t pinned walked → q.view.log ≡ walked ++ (Leave, Departed) ∷ [] → WasReshaped p q t
+was_reshaped t p q seen_p seen_q enough same on pinned walked begun strays leaves = record {
   turns = on.goes_on.more;
   is = on.goes_on.is;
-  reshaped = subst (λ (ts : List Turn). suc t ≤ number_of (reshapes_of_others p.view.number) ts) (turns_between p q seen_p seen_q same on.goes_on) (counted (split_part w begun.entries (after_in (ordered p.view.layout) (events_of p.view.past)) (events_of on.goes_on.more) (walking.entries ++ (Leave, Departed) ∷ []) part));
-}))
+  reshaped = subst (λ (ts : List Turn). t ≤ number_of (reshapes_of_others p.view.number) ts) (turns_between p q seen_p seen_q same on.goes_on) (counted (split_part w begun.entries (after_in (ordered p.view.layout) (events_of p.view.past)) (events_of on.goes_on.more) (walking.entries ++ (Leave, Departed) ∷ []) part));
+}
   where
     w : ℕ
     w = p.view.number
@@ -50,11 +50,8 @@ busy_lookups_were_disturbed k (suc t) p q seen_p seen_q enough same on (inr (pin
     is_new : part_of p.view.number (trace_in (ordered p.view.layout) ((events_of p.view.past) ++ (events_of on.goes_on.more))) ≡ q.view.log
     is_new = ap (λ (l : List (ℕ × Event)). part_of p.view.number (trace_in (ordered p.view.layout) l)) (sym (events_go_on q.view.past p.view.past on.goes_on)) ∙ ((λ i. part_of (number i) (trace_in (ordered (layout i)) (events_of q.view.past))) ∙ (as_events q.view seen_q).is_part)
 
-    begun : Longer p.view.log pinned
-    begun = pin_longer (SightFor Has k) (suc t) p.view.log pinned epoch pin
-
     walking : Longer pinned walked
-    walking = lost_longer p.view.layout k (suc t) pinned walked walks
+    walking = strays_longer p.view.layout enough p.view.number t pinned walked strays
 
     part : part_of p.view.number (trace_in (after_in (ordered p.view.layout) (events_of p.view.past)) (events_of on.goes_on.more)) ≡ begun.entries ++ (walking.entries ++ (Leave, Departed) ∷ [])
     part = append_cancel_left p.view.log _ _ (ap (λ (l : List Entry). l ++ part_of p.view.number (trace_in (after_in (ordered p.view.layout) (events_of p.view.past)) (events_of on.goes_on.more))) (sym (as_events p.view seen_p).is_part)
@@ -62,19 +59,25 @@ busy_lookups_were_disturbed k (suc t) p q seen_p seen_q enough same on (inr (pin
         ∙ (is_new ∙ (leaves ∙ (ap (λ (l : List Entry). l ++ (Leave, Departed) ∷ []) walking.are ∙ (ap (λ (l : List Entry). (l ++ walking.entries) ++ (Leave, Departed) ∷ []) begun.are
         ∙ (append_assoc (p.view.log ++ begun.entries) walking.entries ((Leave, Departed) ∷ []) ∙ append_assoc p.view.log begun.entries (walking.entries ++ (Leave, Departed) ∷ [])))))))))
 
-    counted : SplitPart p.view.number (after_in (ordered p.view.layout) (events_of p.view.past)) (events_of on.goes_on.more) begun.entries (walking.entries ++ (Leave, Departed) ∷ []) → suc t ≤ number_of (reshapes_of_others p.view.number) (trace_in (after_in (ordered p.view.layout) (events_of p.view.past)) (events_of on.goes_on.more))
+    counted : SplitPart p.view.number (after_in (ordered p.view.layout) (events_of p.view.past)) (events_of on.goes_on.more) begun.entries (walking.entries ++ (Leave, Departed) ∷ []) → t ≤ number_of (reshapes_of_others p.view.number) (trace_in (after_in (ordered p.view.layout) (events_of p.view.past)) (events_of on.goes_on.more))
     counted s = inner (split_part p.view.number walking.entries (after_in (after_in (ordered p.view.layout) (events_of p.view.past)) s.before) s.since ((Leave, Departed) ∷ []) s.is_since)
       where
         more_keys : All (λ t. HasKey t.1) (s.before ++ s.since)
         more_keys = subst (λ (l : List (ℕ × Event)). All (λ t. HasKey t.1) l) s.is_run (later_keys (events_of p.view.past) (events_of on.goes_on.more) keys)
 
-        inner : SplitPart p.view.number (after_in (after_in (ordered p.view.layout) (events_of p.view.past)) s.before) s.since walking.entries ((Leave, Departed) ∷ []) → suc t ≤ number_of (reshapes_of_others p.view.number) (trace_in (after_in (ordered p.view.layout) (events_of p.view.past)) (events_of on.goes_on.more))
+        inner : SplitPart p.view.number (after_in (after_in (ordered p.view.layout) (events_of p.view.past)) s.before) s.since walking.entries ((Leave, Departed) ∷ []) → t ≤ number_of (reshapes_of_others p.view.number) (trace_in (after_in (ordered p.view.layout) (events_of p.view.past)) (events_of on.goes_on.more))
         inner r =
             let o = ordered_after p.view.number p.view.layout enough s.before (first_keys s.before s.since more_keys) (after_in (ordered p.view.layout) (events_of p.view.past)) (each_ordered p.view.layout enough (events_of p.view.past) (first_keys (events_of p.view.past) (events_of on.goes_on.more) keys)) in
             let since_keys = subst (λ (l : List (ℕ × Event)). All (λ t. HasKey t.1) l) r.is_run (later_keys s.before s.since more_keys) in
-            let all = all_astray p.view.layout enough p.view.number k (suc t) (after_in (after_in (ordered p.view.layout) (events_of p.view.past)) s.before) o r.before (first_keys r.before r.since since_keys) pinned walked walks (ap (λ (l : List Entry). pinned ++ l) r.is_before ∙ sym walking.are) in
+            let all = all_astray p.view.layout enough p.view.number t (after_in (after_in (ordered p.view.layout) (events_of p.view.past)) s.before) o r.before (first_keys r.before r.since since_keys) pinned walked strays (ap (λ (l : List Entry). pinned ++ l) r.is_before ∙ sym walking.are) in
             let run = ap (λ (l : List (ℕ × Event)). number_of (reshapes_of_others p.view.number) (trace_in (after_in (ordered p.view.layout) (events_of p.view.past)) l)) s.is_run in
             let parts = ap (number_of (reshapes_of_others p.view.number)) (trace_in-append (after_in (ordered p.view.layout) (events_of p.view.past)) s.before s.since) ∙ number-append (reshapes_of_others p.view.number) (trace_in (after_in (ordered p.view.layout) (events_of p.view.past)) s.before) (trace_in (after_in (after_in (ordered p.view.layout) (events_of p.view.past)) s.before) s.since) in
             let run' = ap (λ (l : List (ℕ × Event)). number_of (reshapes_of_others p.view.number) (trace_in (after_in (after_in (ordered p.view.layout) (events_of p.view.past)) s.before) l)) r.is_run in
             let parts' = ap (number_of (reshapes_of_others p.view.number)) (trace_in-append (after_in (after_in (ordered p.view.layout) (events_of p.view.past)) s.before) r.before r.since) ∙ number-append (reshapes_of_others p.view.number) (trace_in (after_in (after_in (ordered p.view.layout) (events_of p.view.past)) s.before) r.before) (trace_in (after_in (after_in (after_in (ordered p.view.layout) (events_of p.view.past)) s.before) r.before) r.since) in
             omega (arith, all, run, parts, run', parts')
+
+pub busy_lookups_were_disturbed : BusyLookupsWereDisturbed
+busy_lookups_were_disturbed k zero p q seen_p seen_q enough same on missed = inl refl
+busy_lookups_were_disturbed k (suc t) p q seen_p seen_q enough same on (inl moved) = inr (inl (lost_pins_were_moved_past p q seen_p seen_q enough same on (SightFor Has k) refl t moved))
+busy_lookups_were_disturbed k (suc t) p q seen_p seen_q enough same on (inr (pinned, walked, epoch, pin, walks, leaves)) =
+    inr (inr (was_reshaped (suc t) p q seen_p seen_q enough same on pinned walked (pin_longer (SightFor Has k) (suc t) p.view.log pinned epoch pin) (lost_strays p.view.layout enough p.view.number k (suc t) pinned walked walks) leaves))

@@ -7,8 +7,12 @@ use Rattle.nm_calls.specs.declared.inserting.Fault.TheVariants as fault
 use Rattle.nm_calls.specs.declared.deleting.Missed.TheVariants as missed
 use Rattle.nm_calls.specs.Calls.{HasMissed}
 use Rattle.nm_calls.specs.Deletes.{DeleteDid}
+use Rattle.nm_calls.specs.InTurns.{GiveUp as GiveUpInTurns}
 use Rattle.nm_calls.specs.Inserts.{InsertDid}
+use Rattle.nm_calls.specs.NextKeys.{GiveUp as GiveUpNext}
+use Rattle.nm_calls.specs.PrevKeys.{GiveUp as GiveUpPrev}
 use Rattle.nm_busy.specs.Pending.{NonePends}
+use Rattle.nm_busy.specs.Walked.{OfEachWalked}
 
 -- what q has seen more than p are turns of its own worker alone
 pub record IsAlone (p q : Stand) : Type 0 where
@@ -37,3 +41,20 @@ DeletesAloneAreNotBusy = (k tries : ℕ) (p q : Stand) → HasSeen p.view
     → NonePends p.view.layout p.view.past
     → DeleteDid p.view.layout tries k p.view.log q.view.log (Err missed.Busy)
     → tries ≡ 0
+
+-- a look-up of several keys is answered too, and a call for the next key, or for the one before, that
+-- may make two tries
+abbrev pub ManyAloneAreAnswered : Type 0
+ManyAloneAreAnswered = (keys : List ℕ)
+    → OfEachWalked (λ p tries. GiveUpInTurns p.view.layout keys)
+    (λ p q tries. IsAlone p q → tries ≡ 0)
+
+abbrev pub NextsAloneAreAnswered : Type 0
+NextsAloneAreAnswered = (k : ℕ)
+    → OfEachWalked (λ p tries. GiveUpNext p.view.layout tries k)
+    (λ p q tries. IsAlone p q → tries ≤ 1)
+
+abbrev pub PrevsAloneAreAnswered : Type 0
+PrevsAloneAreAnswered = (k : ℕ)
+    → OfEachWalked (λ p tries. GiveUpPrev p.view.layout tries k)
+    (λ p q tries. IsAlone p q → tries ≤ 1)

@@ -2,28 +2,31 @@
 use Rattle.std.specs.Prelude.{ℕ, ◌-◌, ◌≤◌, Err}
 use Rattle.nm_edge.specs.declared.node.NodeId.{NodeId}
 use Rattle.nm_steps.specs.Steps.{Stand, IsSamePass, HasSeenAllOf, HasSeen}
+use Rattle.nm_calls.specs.Bounds.{chain_bound}
 use Rattle.nm_calls.specs.declared.deleting.Missed.TheVariants as missed
 use Rattle.nm_calls.specs.Deletes.{DeleteDid, IsRemoving, LosesAfterFlag, LosesEachTry}
-use Rattle.nm_busy.specs.Lost.{WasLost, ChangeWasBusy}
+use Rattle.nm_busy.specs.Lost.{WasHindered, ChangeWasBusy}
 
 -- by its contract each delete that is busy was lost so
 abbrev pub BusyDeletesWereLost : Type 0
 BusyDeletesWereLost = (k tries : ℕ) (p q : Stand) → HasSeen p.view → HasSeen q.view
-    → 5 ≤ p.view.layout.nodes → IsSamePass p q → HasSeenAllOf q p
+    → 5 ≤ p.view.layout.nodes → p.view.layout.workers ≤ chain_bound → IsSamePass p q → HasSeenAllOf q p
     → DeleteDid p.view.layout tries k p.view.log q.view.log (Err missed.Busy)
-    → ChangeWasBusy k p q tries
+    → ChangeWasBusy p q tries
 
 -- and one that has flagged its leaf n and lost all tries since: those before and behind the flag,
 -- but for the one that won it, and the cleanup that follows it
 abbrev pub UnfinishedDeletesWereLost : Type 0
 UnfinishedDeletesWereLost = (k tries : ℕ) (n : NodeId) (p q : Stand) → HasSeen p.view
-    → HasSeen q.view → 5 ≤ p.view.layout.nodes → IsSamePass p q → HasSeenAllOf q p
+    → HasSeen q.view → 5 ≤ p.view.layout.nodes → p.view.layout.workers ≤ chain_bound
+    → IsSamePass p q → HasSeenAllOf q p
     → IsRemoving q k n → LosesAfterFlag p.view.layout tries k p.view.log q.view.log n
-    → WasLost k p q (tries - 2)
+    → WasHindered p q (tries - 2)
 
 -- and where such a delete is gone on with, each try that is lost
 abbrev pub UnfinishedFinishesWereLost : Type 0
 UnfinishedFinishesWereLost = (k tries : ℕ) (n : NodeId) (p q : Stand) → HasSeen p.view
-    → HasSeen q.view → 5 ≤ p.view.layout.nodes → IsSamePass p q → HasSeenAllOf q p
+    → HasSeen q.view → 5 ≤ p.view.layout.nodes → p.view.layout.workers ≤ chain_bound
+    → IsSamePass p q → HasSeenAllOf q p
     → IsRemoving q k n → LosesEachTry p.view.layout k n tries p.view.log q.view.log
-    → WasLost k p q tries
+    → WasHindered p q tries

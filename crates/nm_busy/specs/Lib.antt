@@ -4,4 +4,5 @@ pub mod Lost
 pub mod Lookups
 pub mod Inserts
 pub mod Deletes
+pub mod Walked
 pub mod Alone

@@ -3,8 +3,7 @@ ghost use Rattle.nm_busy.specs.Deletes.{BusyDeletesWereLost, UnfinishedDeletesWe
 
 /// A delete is busy only where it might make no try; or where others have moved the epoch on at
 /// least as often as it might try; or where each try to flag was lost: its worker was hindered, by
-/// a change of another or by a help of its own, which links and flags pay. (In the shape of
-/// Natarajan and Mittal it may have walked along 64 tagged edges instead.)
+/// a change of another or by a help of its own, which links and flags pay.
 pub fn busy_deletes_were_lost()
     ensures { BusyDeletesWereLost }
 {}

@@ -7,11 +7,14 @@ mod deletes;
 mod inserts;
 mod lookups;
 mod pins;
+mod walked;
 
 pub use alone::{
     deletes_alone_are_not_busy, inserts_alone_are_answered, lookups_alone_are_answered,
+    walks_alone_are_answered,
 };
 pub use deletes::{busy_deletes_were_lost, unfinished_deletes_were_lost};
 pub use inserts::busy_inserts_were_lost;
 pub use lookups::busy_lookups_were_disturbed;
 pub use pins::lost_pins_were_moved_past;
+pub use walked::{busy_many_were_disturbed, busy_near_were_disturbed};

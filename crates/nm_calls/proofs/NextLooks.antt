@@ -1,5 +1,5 @@
 -- A walk that serves many keys, and what such walks tell of the next key.
-use Rattle.std.proofs.Common.{◌≡◌, ◌≢◌, ◌<◌, ◌≤◌, ◌==◌, ◌⊎◌, inl, inr, ℕ, suc, ◌+◌, ◌*◌, ltb, Bool, true, false, cond, List, [], refl, sym, ap, subst, ◌∙◌, arith, add-one}
+use Rattle.std.proofs.Common.{◌≡◌, ◌≢◌, ◌<◌, ◌≤◌, ◌==◌, ◌⊎◌, inl, inr, ℕ, suc, ◌+◌, ◌*◌, ltb, Bool, true, false, cond, List, [], ◌++◌, append-nil, append_assoc, refl, sym, ap, subst, ◌∙◌, arith, add-one}
 use Rattle.std.specs.Prelude.{Option, Some, None, SomeIff}
 use Rattle.std.proofs.Math.Nat.{suc-mul}
 use Rattle.std.proofs.lemmas.Bool.{cases_lt, lt-ltb, le-ltb, eq-eqb, ne_eqb}
@@ -20,12 +20,12 @@ use Rattle.nm_calls.specs.declared.next_key.Descent.{Descent}
 use Rattle.nm_calls.specs.declared.spot.ChainEdge.{ChainEdge}
 use Rattle.nm_calls.specs.declared.spot.Spot.{Spot}
 use Rattle.nm_calls.specs.Bounds.{reach}
-use Rattle.nm_calls.specs.NextKeys.{HasNone, HaveNone, IsDescent, IsNextBy, read_below}
+use Rattle.nm_calls.specs.NextKeys.{ComesBy, HasNone, HaveNone, IsDescent, IsNextBy, read_below}
 use Rattle.nm_calls.specs.PlainWalks.{AddsLooks, HasEndedSo}
 use Rattle.nm_calls.specs.Telling.{EdgeTold, OnwardTold, IsPinnedIn}
 use Rattle.nm_calls.specs.Walks.{begin, onto, chain_onto, edge_on, Reads, IsLeafRead, Walks, EndsAtLeaf, IsTooLong}
 use Rattle.nm_calls.proofs.Adding.{mul_below}
-use Rattle.nm_calls.proofs.PlainLooks.{looks_in, looks_then, ended_still, ends_so}
+use Rattle.nm_calls.proofs.PlainLooks.{looks_in, looks_then, ended_still, ends_so, node_looks, read_grows}
 use Rattle.nm_calls.proofs.ShortWalks.{walk_comes, too_long}
 use Rattle.nm_calls.proofs.Standing.{onto-edge, walk_on}
 
@@ -52,7 +52,15 @@ descent_begins L p q e step told from key = record {
   walks = λ some. (begin e, [], refl, λ j le less. (refl, refl, some, ap (λ (s : Stand). s.view.log) step));
   known = λ some. told.learned.leads some;
   ends = λ null. absurd (told.root refl refl null);
+  router = λ other. absurd (other refl);
 }
+
+-- a walk came by an internal node that it read there, and so by a later log
+pub comes_there : (k n : ℕ) (old mid new : List Entry) (s : Spot) (c : List ChainEdge) (on : Onward) (router : ℕ) → Walks k n old mid s c → Reads k s.edge.slot mid new on → on.next.slot ≢ 0 → on.found ≡ router → ComesBy k router old new
+comes_there k n old mid new s c on router w read some is = (n, mid, new, [], s, c, on, w, read, some, is, sym (append-nil new))
+
+pub comes_later : (k router : ℕ) (old mid new more : List Entry) → new ≡ mid ++ more → ComesBy k router old mid → ComesBy k router old new
+comes_later k router old mid new more is (n, low, at, rest, s, c, on, w, read, some, found, are) = (n, low, at, rest ++ more, s, c, on, w, read, some, found, is ∙ (ap (λ (l : List Entry). l ++ more) are ∙ append_assoc at rest more))
 
 -- what a walk for one of them reads, one for any of them does
 pub read_alike : (k j x : ℕ) (old new : List Entry) (on : Onward) → side_of j on.found ≡ side_of k on.found → Reads k x old new on → Reads j x old new on
@@ -97,8 +105,8 @@ module _ (L : Layout) (n : ℕ) (o p q : Stand) (d : Descent) (bound : ℕ) (on 
           let same = same_side d.from j on.found le (λ below. absurd (omega (arith, below, above))) in
           (t, c, walk_ends L n j o.view.log p.view.log q.view.log t c on few (walk j le less) (there j on (read_alike d.from j d.node p.view.log q.view.log on same r)) null)
 
-  pub descent_goes_on : n + 2 ≤ reach L → OnwardTold p q d.from d.node on.found on.side on.next → d.from < bound → (on.next.slot ≢ 0 → (j : ℕ) → d.from ≤ j → j < bound → side_of j on.found ≡ side_of d.from on.found) → IsDescent L (n + 1) o q (read_below d bound on)
-  descent_goes_on few told wide turns = record {
+  pub descent_goes_on : n + 2 ≤ reach L → OnwardTold p q d.from d.node on.found on.side on.next → d.from < bound → (on.next.slot ≢ 0 → (j : ℕ) → d.from ≤ j → j < bound → side_of j on.found ≡ side_of d.from on.found) → (bound ≡ d.bound) ⊎ ((bound ≡ on.found) × (on.next.slot ≢ 0)) → IsDescent L (n + 1) o q (read_below d bound on)
+  descent_goes_on few told wide turns routed = record {
     wide = wide;
     low = let high = w.low in omega (arith, low, high);
     walks = λ more. (
@@ -109,7 +117,13 @@ module _ (L : Layout) (n : ℕ) (o p q : Stand) (d : Descent) (bound : ℕ) (on 
     );
     known = λ more. told.learned.leads more;
     ends = at_end few;
+    router = λ other j le less. by routed other j le less;
   }
+    where
+      by : (bound ≡ d.bound) ⊎ ((bound ≡ on.found) × (on.next.slot ≢ 0)) → bound ≢ infinity_0 → (j : ℕ) → d.from ≤ j → j < bound → ComesBy j bound o.view.log q.view.log
+      by (inl same) other j le less = subst (λ (x : ℕ). ComesBy j x o.view.log q.view.log) (sym same)
+          (comes_later j d.bound o.view.log p.view.log q.view.log (node_looks d.node on.found r.0 r.1) (read_grows d.from d.node p.view.log q.view.log on r) (w.router (λ top. other (same ∙ top)) j le (omega (arith, less, same))))
+      by (inr (is, more)) other j le less = comes_there j n o.view.log p.view.log q.view.log t c on bound (walk j le less) (there j on (read_alike d.from j d.node p.view.log q.view.log on (turns more j le less) r)) more (sym is)
 
 -- or is broken off
 pub descent_too_long : (b : Board) (n : ℕ) (o p : Stand) (d : Descent) (from : ℕ) → IsDescent b.layout n o p d → d.from ≡ from → IsPinnedIn b p → IsKey from → suc n ≡ reach b.layout → d.node ≢ 0 → IsTooLong b.layout from o.view.log p.view.log
@@ -165,8 +179,8 @@ module _ (L : Layout) (n : ℕ) (o p : Stand) (key from : ℕ) (d : Descent) (w 
         by (inr behind) (inr o) = none_but j le less (λ same. omega (arith, o, behind, same))
 
     -- and the walk has served them
-    has_none : HasNone L from d.bound o.view.log p.view.log
-    has_none = ((let wide = w.wide in omega (arith, wide, begun)), λ j le less. serves j le less (w.ends null j (omega (arith, begun, le)) less))
+    has_none : d.bound ≢ infinity_0 → HasNone L from d.bound d.bound o.view.log p.view.log
+    has_none other = ((let wide = w.wide in omega (arith, wide, begun)), λ j le less. serves j le less (w.ends null j (omega (arith, begun, le)) less), λ j le less. w.router other j (omega (arith, begun, le)) less)
       where
         apart : ((from ≤ d.found) × (d.bound ≤ d.found)) ⊎ (d.found < from) → (j : ℕ) → from ≤ j → j < d.bound → d.found ≢ j
         apart (inl o) j le less same = let past = o.1 in omega (arith, past, less, same)
@@ -176,8 +190,8 @@ module _ (L : Layout) (n : ℕ) (o p : Stand) (key from : ℕ) (d : Descent) (w 
         serves j le less (s, c, end) = (s, c, d.found, end, apart out j le less)
 
     -- one walk more
-    pub none_more : (m : ℕ) (old : List Entry) → HaveNone L m key from old o.view.log → HaveNone L (m + 1) key d.bound old p.view.log
-    none_more m old before = rw add-one (o.view.log, from, before, has_none)
+    pub none_more : (m : ℕ) (old : List Entry) → HaveNone L m key from old o.view.log → d.bound ≢ infinity_0 → HaveNone L (m + 1) key d.bound old p.view.log
+    none_more m old before other = rw add-one (o.view.log, from, before, has_none other)
 
     pub no_next : d.bound ≡ infinity_0 → IsNextBy (HasEndedSo p) key None
     no_next last j le is_key = none_below j le (omega (arith, last, is_key))

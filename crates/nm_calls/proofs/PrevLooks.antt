@@ -1,5 +1,5 @@
 -- A walk that serves a key and those below it, and what such walks tell of the key before.
-use Rattle.std.proofs.Common.{◌≡◌, ◌≢◌, ◌<◌, ◌≤◌, ◌==◌, ◌⊎◌, inl, inr, ℕ, suc, ◌+◌, ◌-◌, Bool, true, false, List, [], refl, sym, ap, subst, arith}
+use Rattle.std.proofs.Common.{◌≡◌, ◌≢◌, ◌<◌, ◌≤◌, ◌==◌, ◌⊎◌, inl, inr, ℕ, zero, suc, ◌+◌, ◌-◌, Bool, true, false, List, [], refl, sym, ap, subst, ◌∙◌, arith}
 use Rattle.std.specs.Prelude.{Option, Some, None}
 use Rattle.std.proofs.lemmas.Bool.{cases_lt, eq-eqb, ne_eqb}
 use Rattle.nm_edge.specs.Edges.{Edge}
@@ -17,13 +17,13 @@ use Rattle.nm_calls.specs.declared.prev_key.Descent.{Descent}
 use Rattle.nm_calls.specs.declared.spot.ChainEdge.{ChainEdge}
 use Rattle.nm_calls.specs.declared.spot.Spot.{Spot}
 use Rattle.nm_calls.specs.Bounds.{reach}
-use Rattle.nm_calls.specs.NextKeys.{HasNone}
+use Rattle.nm_calls.specs.NextKeys.{ComesBy, HasNone}
 use Rattle.nm_calls.specs.PrevKeys.{HaveNone, IsDescent, IsPrevBy, read_above}
 use Rattle.nm_calls.specs.PlainWalks.{AddsLooks, HasEndedSo}
 use Rattle.nm_calls.specs.Telling.{EdgeTold, OnwardTold, IsPinnedIn}
 use Rattle.nm_calls.specs.Walks.{begin, onto, chain_onto, Reads, Walks, EndsAtLeaf, IsTooLong}
-use Rattle.nm_calls.proofs.NextLooks.{read_alike, walk_ends, ended_so}
-use Rattle.nm_calls.proofs.PlainLooks.{ended_still}
+use Rattle.nm_calls.proofs.NextLooks.{comes_there, comes_later, read_alike, walk_ends, ended_so}
+use Rattle.nm_calls.proofs.PlainLooks.{ended_still, node_looks, read_grows}
 use Rattle.nm_calls.proofs.ShortWalks.{too_long}
 use Rattle.nm_calls.proofs.Standing.{onto-edge, walk_on}
 
@@ -37,6 +37,7 @@ descent_begins L p q e step told from = record {
   known = λ some. told.learned.leads some;
   ends = λ null. absurd (told.root refl refl null);
   leaf = λ null. absurd (told.root refl refl null);
+  router = λ some. absurd (some refl);
 }
 
 module _ (L : Layout) (n : ℕ) (o p q : Stand) (d : Descent) (bound : ℕ) (on : Onward) (r : Reads d.from d.node p.view.log q.view.log on) (w : IsDescent L n o p d) (some : d.node ≢ 0) (high : d.bound ≤ bound)
@@ -53,14 +54,29 @@ module _ (L : Layout) (n : ℕ) (o p q : Stand) (d : Descent) (bound : ℕ) (on 
   read : (j : ℕ) → bound ≤ j → j ≤ d.from → Reads j t.edge.slot p.view.log q.view.log on
   read j least le = subst (λ (x : ℕ). Reads j x p.view.log q.view.log on) (sym (w.walks some).2) (read_alike d.from j d.node p.view.log q.view.log on (turns j least le) r)
 
-  pub descent_goes_on : n + 2 ≤ reach L → OnwardTold p q d.from d.node on.found on.side on.next → bound ≤ d.from → (on.found ≤ d.from → on.found ≤ bound) → IsDescent L (n + 1) o q (read_above d bound on)
-  descent_goes_on few told wide passed = record {
+  pub descent_goes_on : n + 2 ≤ reach L → OnwardTold p q d.from d.node on.found on.side on.next → bound ≤ d.from → (on.found ≤ d.from → on.found ≤ bound) → (bound ≡ d.bound) ⊎ (bound ≡ on.found) → IsDescent L (n + 1) o q (read_above d bound on)
+  descent_goes_on few told wide passed routed = record {
     wide = wide;
     walks = λ more. (onto t on.side on.next, chain_onto t c, ap (λ (e : Edge). e.slot) (onto-edge t on.side on.next), λ j least le. walk_on j n o.view.log p.view.log q.view.log t (onto t on.side on.next) c on (walk j least le) (read j least le) refl more);
     known = λ more. told.learned.leads more;
     ends = λ null j least le. (t, c, walk_ends L n j o.view.log p.view.log q.view.log t c on few (walk j least le) (read j least le) null);
     leaf = λ null below. passed below;
+    router = λ other. by routed other;
   }
+    where
+      behind : (bound ≡ d.bound) → ((d.node ≡ 0) × (d.found ≡ d.bound)) ⊎ ((j : ℕ) → d.bound ≤ j → j ≤ d.from → ComesBy j d.bound o.view.log p.view.log)
+          → ((on.next.slot ≡ 0) × (on.found ≡ bound)) ⊎ ((j : ℕ) → bound ≤ j → j ≤ d.from → ComesBy j bound o.view.log q.view.log)
+      behind same (inl ended) = absurd (some ended.0)
+      behind same (inr came) = inr (λ j least le. subst (λ (x : ℕ). ComesBy j x o.view.log q.view.log) (sym same)
+          (comes_later j d.bound o.view.log p.view.log q.view.log (node_looks d.node on.found r.0 r.1) (read_grows d.from d.node p.view.log q.view.log on r) (came j (omega (arith, least, same)) le)))
+
+      here : (bound ≡ on.found) → (m : ℕ) → on.next.slot ≡ m → ((on.next.slot ≡ 0) × (on.found ≡ bound)) ⊎ ((j : ℕ) → bound ≤ j → j ≤ d.from → ComesBy j bound o.view.log q.view.log)
+      here is zero null = inl (null, sym is)
+      here is (suc m) leads = inr (λ j least le. comes_there j n o.view.log p.view.log q.view.log t c on bound (walk j least le) (read j least le) (λ null. omega (arith, null, leads)) (sym is))
+
+      by : (bound ≡ d.bound) ⊎ (bound ≡ on.found) → bound ≢ 0 → ((on.next.slot ≡ 0) × (on.found ≡ bound)) ⊎ ((j : ℕ) → bound ≤ j → j ≤ d.from → ComesBy j bound o.view.log q.view.log)
+      by (inl same) other = behind same (w.router (λ none'. other (same ∙ none')))
+      by (inr is) other = here is on.next.slot refl
 
 -- or is broken off
 pub descent_too_long : (b : Board) (n : ℕ) (o p : Stand) (d : Descent) (from : ℕ) → IsDescent b.layout n o p d → d.from ≡ from → IsPinnedIn b p → IsKey from → suc n ≡ reach b.layout → d.node ≢ 0 → IsTooLong b.layout from o.view.log p.view.log
@@ -109,9 +125,13 @@ module _ (L : Layout) (n : ℕ) (o p : Stand) (key from : ℕ) (d : Descent) (w 
         by (inr within) = none_but j least le (apart j least within)
 
     -- and the walk has served them
-    has_none : HasNone L d.bound (from + 1) o.view.log p.view.log
-    has_none = ((let wide = w.wide in omega (arith, wide, begun)), λ j least less. serves j least less (w.ends null j least (omega (arith, begun, less))))
+    has_none : d.bound ≢ 0 → HasNone L d.bound (from + 1) d.bound o.view.log p.view.log
+    has_none some = ((let wide = w.wide in omega (arith, wide, begun)), λ j least less. serves j least less (w.ends null j least (omega (arith, begun, less))), λ j least less. came (w.router some) j least (omega (arith, begun, less)))
       where
+        came : ((d.node ≡ 0) × (d.found ≡ d.bound)) ⊎ ((j : ℕ) → d.bound ≤ j → j ≤ d.from → ComesBy j d.bound o.view.log p.view.log) → (j : ℕ) → d.bound ≤ j → j ≤ d.from → ComesBy j d.bound o.view.log p.view.log
+        came (inl at) = absurd (other at.1)
+        came (inr all) = all
+
         serves : (j : ℕ) → d.bound ≤ j → j < from + 1 → (s : Spot) × (c : List ChainEdge) × EndsAtLeaf L j o.view.log p.view.log s c d.found → (s : Spot) × (c : List ChainEdge) × (found : ℕ) × EndsAtLeaf L j o.view.log p.view.log s c found × (found ≢ j)
         serves j least less (s, c, end) = (s, c, d.found, end, apart j least (omega (arith, less)))
 
@@ -120,7 +140,7 @@ module _ (L : Layout) (n : ℕ) (o p : Stand) (key from : ℕ) (d : Descent) (w 
     none_more m old before some =
         let more : suc m ≡ m + 1 = omega arith in
         let same : d.bound ≡ d.bound - 1 + 1 = omega (arith, some) in
-        subst (λ (x : ℕ). HaveNone L x key (d.bound - 1 + 1) old p.view.log) more (o.view.log, from + 1, before, subst (λ (x : ℕ). HasNone L x (from + 1) o.view.log p.view.log) same has_none)
+        subst (λ (x : ℕ). HaveNone L x key (d.bound - 1 + 1) old p.view.log) more (o.view.log, from + 1, before, subst (λ (x : ℕ). HasNone L x (from + 1) x o.view.log p.view.log) same (has_none some))
 
     pub no_prev : d.bound ≡ 0 → IsPrevBy (HasEndedSo p) key None
     no_prev last j le = none_from j (omega (arith, last)) le

@@ -1,5 +1,5 @@
 -- The least key that is not below a given one, in a set that is in use.
-use Rattle.std.specs.Prelude.{◌≡◌, ◌≢◌, ◌⊎◌, ◌<◌, ◌≤◌, ◌+◌, ◌*◌, ℕ, zero, suc, Bool, true, false, List, Option, Some, None, length, Result, IfOk, IfErr}
+use Rattle.std.specs.Prelude.{◌≡◌, ◌≢◌, ◌⊎◌, ◌<◌, ◌≤◌, ◌+◌, ◌*◌, ℕ, zero, suc, Bool, true, false, List, ◌++◌, Option, Some, None, length, Result, IfOk, IfErr}
 use Rattle.nm_edge.specs.Keys.{IsKey}
 use Rattle.nm_edge.specs.Layouts.{Layout}
 use Rattle.nm_model.specs.Memory.{infinity_0}
@@ -15,7 +15,7 @@ use Rattle.nm_calls.specs.declared.spot.Spot.{Spot}
 use Rattle.nm_calls.specs.Bounds.{reach}
 use Rattle.nm_calls.specs.PlainWalks.{WasSo, LooksUnderPin, PlainMissed, most_looks}
 use Rattle.nm_calls.specs.Telling.{Tells}
-use Rattle.nm_calls.specs.Walks.{Walks, EndsAtLeaf, IsTooLong}
+use Rattle.nm_calls.specs.Walks.{Walks, Reads, EndsAtLeaf, IsTooLong}
 use Rattle.nm_calls.specs.Won.{HasWon, won_splices}
 
 -- where `Was j answer` says of a key j, at a moment of its own, whether the set had it: it had this
@@ -31,19 +31,26 @@ WasNext p q = IsNextBy (WasSo p q)
 
 -- ---- what such walks leave in the log
 
--- a walk that serves each key from one on below another: for each of them it is this one, and the
--- leaf at its end has another key (Natarajan and Mittal, section 3.2)
-abbrev pub HasNone : Layout → ℕ → ℕ → List Entry → List Entry → Type 0
-HasNone L from to old new = (from < to) × ((j : ℕ) → from ≤ j → j < to
+-- a walk for k came by an internal node with this key (Natarajan and Mittal, section 3.1)
+abbrev pub ComesBy : ℕ → ℕ → List Entry → List Entry → Type 0
+ComesBy k router old new = (n : ℕ) × (mid at rest : List Entry) × (s : Spot) × (c : List ChainEdge)
+    × (on : Onward) × Walks k n old mid s c × Reads k s.edge.slot mid at on × (on.next.slot ≢ 0)
+    × (on.found ≡ router) × (new ≡ at ++ rest)
+
+-- a walk that serves each key from one on below another: for each of them it is this one, the leaf at
+-- its end has another key, and it came by an internal node with the key `router` (Natarajan and
+-- Mittal, section 3.2)
+abbrev pub HasNone : Layout → ℕ → ℕ → ℕ → List Entry → List Entry → Type 0
+HasNone L from to router old new = (from < to) × ((j : ℕ) → from ≤ j → j < to
     → (s : Spot) × (c : List ChainEdge) × (found : ℕ) × EndsAtLeaf L j old new s c found
-    × (found ≢ j))
+    × (found ≢ j)) × ((j : ℕ) → from ≤ j → j < to → ComesBy j router old new)
 
 -- so many of them, one behind the other, which serve the keys from `key` on below `to`: each begins
--- where the keys of the one before end
+-- where the keys of the one before end, at the key of an internal node that this one came by
 abbrev pub HaveNone : Layout → ℕ → ℕ → ℕ → List Entry → List Entry → Type 0
 HaveNone L zero key to old new = (to ≡ key) × (new ≡ old)
 HaveNone L (suc n) key to old new =
-    (mid : List Entry) × (from : ℕ) × HaveNone L n key from old mid × HasNone L from to mid new
+    (mid : List Entry) × (from : ℕ) × HaveNone L n key from old mid × HasNone L from to to mid new
 
 -- as many as there may be, and there are keys left; or fewer, and then one that was broken off where
 -- it had looked at as many nodes as a walk may
@@ -66,6 +73,8 @@ pub record IsDescent (L : Layout) (n : ℕ) (o p : Stand) (d : Descent) : Type 0
   pub known : d.node ≢ 0 → Tells p (KnowsSlot d.node)
   pub ends : d.node ≡ 0 → (j : ℕ) → d.from ≤ j → j < d.bound
       → (s : Spot) × (c : List ChainEdge) × EndsAtLeaf L j o.view.log p.view.log s c d.found
+  pub router : d.bound ≢ infinity_0 → (j : ℕ) → d.from ≤ j → j < d.bound
+      → ComesBy j d.bound o.view.log p.view.log
 
 -- where it has read its node so, with that bound
 abbrev pub read_below : Descent → ℕ → Onward → Descent

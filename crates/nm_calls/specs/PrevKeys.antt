@@ -12,7 +12,7 @@ use Rattle.nm_calls.specs.declared.prev_key.Descent.{Descent}
 use Rattle.nm_calls.specs.declared.spot.ChainEdge.{ChainEdge}
 use Rattle.nm_calls.specs.declared.spot.Spot.{Spot}
 use Rattle.nm_calls.specs.Bounds.{reach}
-use Rattle.nm_calls.specs.NextKeys.{HasNone}
+use Rattle.nm_calls.specs.NextKeys.{ComesBy, HasNone}
 use Rattle.nm_calls.specs.PlainWalks.{WasSo, LooksUnderPin, PlainMissed, most_looks}
 use Rattle.nm_calls.specs.Telling.{Tells}
 use Rattle.nm_calls.specs.Walks.{Walks, EndsAtLeaf, IsTooLong}
@@ -32,16 +32,17 @@ WasPrev p q = IsPrevBy (WasSo p q)
 -- ---- what such walks leave in the log
 
 -- so many walks, one behind the other, which serve the keys from `to` up to `key`, and find none:
--- each begins below the keys of the one before
+-- each begins below the keys of the one before, whose least is the key of an internal node that this
+-- one came by
 abbrev pub HaveNone : Layout → ℕ → ℕ → ℕ → List Entry → List Entry → Type 0
 HaveNone L zero key to old new = (to ≡ key + 1) × (new ≡ old)
 HaveNone L (suc n) key to old new =
-    (mid : List Entry) × (from : ℕ) × HaveNone L n key from old mid × HasNone L to from mid new
+    (mid : List Entry) × (from : ℕ) × HaveNone L n key from old mid × HasNone L to from to mid new
 
 -- as many as there may be, and there are keys left; or fewer, and then one that was broken off where
 -- it had looked at as many nodes as a walk may
 abbrev pub GiveUp : Layout → ℕ → ℕ → List Entry → List Entry → Type 0
-GiveUp L tries key old new = (to : ℕ)
+GiveUp L tries key old new = (to : ℕ) × IsKey key
     × (HaveNone L tries key (to + 1) old new
     ⊎ ((n : ℕ) × (mid : List Entry) × (n < tries) × HaveNone L n key (to + 1) old mid
     × IsTooLong L to mid new))
@@ -59,6 +60,8 @@ pub record IsDescent (L : Layout) (n : ℕ) (o p : Stand) (d : Descent) : Type 0
   pub ends : d.node ≡ 0 → (j : ℕ) → d.bound ≤ j → j ≤ d.from
       → (s : Spot) × (c : List ChainEdge) × EndsAtLeaf L j o.view.log p.view.log s c d.found
   pub leaf : d.node ≡ 0 → d.found ≤ d.from → d.found ≤ d.bound
+  pub router : d.bound ≢ 0 → ((d.node ≡ 0) × (d.found ≡ d.bound))
+      ⊎ ((j : ℕ) → d.bound ≤ j → j ≤ d.from → ComesBy j d.bound o.view.log p.view.log)
 
 -- where it has read its node so, with that bound
 abbrev pub read_above : Descent → ℕ → Onward → Descent

@@ -1,5 +1,5 @@
 //! The next key of a set that is in use.
-ghost use Rattle.std.specs.Prelude.{◌≡◌, ◌<◌, ◌≤◌, ◌*◌, ◌≢◌, ℕ, IfOk, IfErr};
+ghost use Rattle.std.specs.Prelude.{◌≡◌, ◌<◌, ◌≤◌, ◌*◌, ◌≢◌, ◌⊎◌, ℕ, IfOk, IfErr};
 ghost use Rattle.nm_edge.specs.Keys.{IsKey};
 ghost use Rattle.nm_model.specs.Searches.{side_of};
 ghost use Rattle.nm_order.specs.Facts.Fact.{KnowsSlot};
@@ -135,6 +135,8 @@ fn read_so(walk: &Descent, on: &Onward) -> Descent
     ensures wide { walk.now.from < walk.now.bound → walk.now.from < result.bound }
     ensures turns { on.now.next.slot ≢ 0 → (j : ℕ) → walk.now.from ≤ j → j < result.bound
         → side_of j on.now.found ≡ side_of walk.now.from on.now.found }
+    ensures routed { (result.bound ≡ walk.now.bound)
+        ⊎ ((result.bound ≡ on.now.found) × (on.now.next.slot ≢ 0)) }
 {
     let bound = if is_null(on.next) {
         walk.bound
@@ -155,6 +157,7 @@ fn bound_at(walk: &Descent, router: u64) -> u64
     ensures wide { walk.now.from < walk.now.bound → walk.now.from < result }
     ensures turns { (j : ℕ) → walk.now.from ≤ j → j < result
         → side_of j router ≡ side_of walk.now.from router }
+    ensures routed { (result ≡ walk.now.bound) ⊎ (result ≡ router) }
 {
     if walk.from < router && router < walk.bound {
         router

@@ -1,5 +1,5 @@
 //! The key before, of a set that is in use.
-ghost use Rattle.std.specs.Prelude.{◌≡◌, ◌≢◌, ◌≤◌, ◌*◌, ℕ, IfOk, IfErr};
+ghost use Rattle.std.specs.Prelude.{◌≡◌, ◌≢◌, ◌≤◌, ◌*◌, ◌⊎◌, ℕ, IfOk, IfErr};
 ghost use Rattle.nm_edge.specs.Keys.{IsKey};
 ghost use Rattle.nm_model.specs.Searches.{side_of};
 ghost use Rattle.nm_order.specs.Facts.Fact.{KnowsSlot};
@@ -136,6 +136,7 @@ fn read_so(walk: &Descent, on: &Onward) -> Descent
     ensures passed { on.now.found ≤ walk.now.from → on.now.found ≤ result.bound }
     ensures turns { (j : ℕ) → result.bound ≤ j → j ≤ walk.now.from
         → side_of j on.now.found ≡ side_of walk.now.from on.now.found }
+    ensures routed { (result.bound ≡ walk.now.bound) ⊎ (result.bound ≡ on.now.found) }
 {
     let bound = if walk.bound < on.found && on.found <= walk.from {
         on.found

@@ -1,5 +1,5 @@
--- While nothing is linked or cut off, each reached node stays, with the slots to which its edges
--- lead; and no path is longer than there are slots.
+-- While nothing is linked or cut off, each reached node stays, with its key and the slots to which
+-- its edges lead; and no path is longer than there are slots.
 use Rattle.std.proofs.Common.{◌≡◌, ◌≢◌, ℕ, suc, ◌+◌, ◌<◌, ◌≤◌, inl, inr, eqb, ◌==◌, Bool, true, false, cond, not, ◌&&◌, List, length, [], ◌∷◌, ◌++◌, append_assoc, refl, sym, ap, subst, ◌∙◌, arith, true≢false}
 use Rattle.std.specs.Prelude.{Result, Ok, Err, All}
 use Rattle.std.specs.List.{list_any, IsDistinct, AllByRecursion}
@@ -10,11 +10,11 @@ use Rattle.nm_edge.specs.Edges.{Edge}
 use Rattle.nm_edge.specs.Layouts.{Layout}
 use Rattle.nm_edge.specs.declared.edge.Side.{Side}
 use Rattle.nm_edge.specs.declared.node.NodeId.{NodeId}
-use Rattle.nm_model.specs.declared.event.Field.TheVariants.{Edge as EdgeOn}
+use Rattle.nm_model.specs.declared.event.Field.TheVariants.{Key as KeyOf, Edge as EdgeOn}
 use Rattle.nm_model.specs.declared.event.Event.{Event}
 use Rattle.nm_model.specs.declared.event.Event.TheVariants.{Look, Link, Splice}
 use Rattle.nm_model.specs.declared.reply.Reply.{Reply}
-use Rattle.nm_model.specs.declared.reply.Reply.TheVariants.{EdgeIs, Cut}
+use Rattle.nm_model.specs.declared.reply.Reply.TheVariants.{KeyIs, EdgeIs, Cut}
 use Rattle.nm_model.specs.declared.reply.Refused.{Refused}
 use Rattle.nm_model.specs.declared.trace.Turn.{Turn}
 use Rattle.nm_model.specs.Memory.{edge, child}
@@ -23,21 +23,27 @@ use Rattle.nm_model.specs.Step.{reply}
 use Rattle.nm_model.specs.Runs.{State, reply_of}
 use Rattle.nm_model.specs.Walks.{Entry, logged_by, log_of}
 use Rattle.nm_model.specs.Ordered.{Configuration, next_in, outcome_in, after_in, trace_in}
+use Rattle.nm_laws.proofs.Configurations.{after_in-append}
 use Rattle.nm_laws.proofs.Trees.{follow-append, follow_none, append_cancel}
 use Rattle.nm_laws.proofs.Pictures.{alone, reached_within}
 use Rattle.nm_laws.proofs.Views.{picture}
-use Rattle.nm_order.specs.Intervals.{HasKey}
+use Rattle.nm_order.specs.Intervals.{HasKey, key}
 use Rattle.nm_order.specs.Logs.{part_of}
 use Rattle.nm_order.proofs.OrderedLaws.{IsOrdered, ordered_next, law_of_state}
 use Rattle.nm_order.proofs.RunExchanges.{first_keys}
+use Rattle.nm_order.proofs.WalksOfRuns.{trace_in-append}
 use Rattle.nm_order.proofs.CutTurns.{uncut_stays, cut_is_splice}
+use Rattle.nm_order.proofs.OrderedMoments.{Lasting}
+use Rattle.nm_order.proofs.SetChanges.{turn_lasts}
+use Rattle.nm_order.proofs.ToldLaws.{key_told}
 use Rattle.nm_progress.specs.Moves.{number_of}
 use Rattle.nm_progress.specs.Paid.{links_on, cuts_on}
 use Rattle.nm_progress.specs.Tries.{reshapes, reshapes_of_others}
 use Rattle.nm_progress.proofs.EdgeFates.{EdgeFate, TurnFate, turn_fates}
 use Rattle.nm_progress.proofs.EdgeFates.EdgeFate.{Kept, IsLinked, IsFlagged, IsTagged, IsSpliced}
 use Rattle.nm_progress.proofs.EdgeFates.TurnFate.{Refuses, Makes}
-use Rattle.nm_progress.proofs.SplitTurns.{SplitTurn, split_turn, number_split}
+use Rattle.nm_progress.proofs.LostTries.{later_keys}
+use Rattle.nm_progress.proofs.SplitTurns.{SplitTurn, split_turn, number_split, number-append, ordered_after}
 use Rattle.nm_progress.proofs.TagsPaid.{unheld}
 
 abbrev pub is_reshape : Turn → Bool
@@ -50,9 +56,16 @@ module _ (L : Layout) (enough : 5 ≤ L.nodes) where
   pub record StaysThere (c d : Configuration) (y : ℕ) : Type 0 where
     pub reached : Reached d.state.memory y
     pub leads : (g : Side) → child d.state.memory y g ≡ child c.state.memory y g
+    pub key_is : key d.state.memory y ≡ key c.state.memory y
+    pub tags : (g : Side) → child c.state.memory y g ≢ 0 → (edge c.state.memory y g).tag ≡ true → (edge d.state.memory y g).tag ≡ true
 
   calm_turn : (c : Configuration) (t : ℕ × Event) → HasKey t.1 → IsOrdered L c → reshapes t.1 (outcome_in c t) ≡ false → (y : ℕ) → Reached c.state.memory y → StaysThere c (next_in c t) y
-  calm_turn c t has o calm y r = record { reached = uncut_stays L enough c t o uncut y r; leads = λ g. fate g (turn_fates L enough c t o y g (unheld L enough c t has o y r)) }
+  calm_turn c t has o calm y r = record {
+    reached = uncut_stays L enough c t o uncut y r;
+    leads = λ g. fate g (turn_fates L enough c t o y g (unheld L enough c t has o y r));
+    key_is = ap (λ (l : Lasting). l.key) (turn_lasts L enough c t has o y r);
+    tags = λ g some was. marked g some was (turn_fates L enough c t o y g (unheld L enough c t has o y r));
+  }
     where
       none : (links_on t.1 (outcome_in c t) ≡ false) × (cuts_on t.1 (outcome_in c t) ≡ false)
       none = or_parts (links_on t.1 (outcome_in c t)) (cuts_on t.1 (outcome_in c t)) calm
@@ -70,6 +83,17 @@ module _ (L : Layout) (enough : 5 ≤ L.nodes) where
       on g q told (IsTagged e answer now) = ap (λ (e : Edge). e.slot) now
       on g q told (IsSpliced a b n ns e answer was now) = absurd (true≢false ((λ i. cuts_on (sym e i) ((ap (λ (q : Reply). Ok q) (sym answer) ∙ sym told) i)) ∙ none.1))
 
+      tag_on : (g : Side) (q : Reply) → outcome_in c t ≡ Ok q → child c.state.memory y g ≢ 0 → (edge c.state.memory y g).tag ≡ true → EdgeFate c.state t.0 t.1 (next_in c t).state.memory q y g → (edge (next_in c t).state.memory y g).tag ≡ true
+      tag_on g q told some tag (Kept same) = ap (λ (e : Edge). e.tag) same ∙ tag
+      tag_on g q told some tag (IsLinked l m n e answer was now) = absurd (true≢false ((λ i. links_on (sym e i) ((ap (λ (q : Reply). Ok q) (sym answer) ∙ sym told) i)) ∙ none.0))
+      tag_on g q told some tag (IsFlagged l n e answer was now) = absurd (true≢false (sym tag ∙ ap (λ (e : Edge). e.tag) was))
+      tag_on g q told some tag (IsTagged e answer now) = ap (λ (e : Edge). e.tag) now ∙ ap not (ne_eqb (child c.state.memory y g) 0 some)
+      tag_on g q told some tag (IsSpliced a b n ns e answer was now) = absurd (true≢false ((λ i. cuts_on (sym e i) ((ap (λ (q : Reply). Ok q) (sym answer) ∙ sym told) i)) ∙ none.1))
+
+      marked : (g : Side) → child c.state.memory y g ≢ 0 → (edge c.state.memory y g).tag ≡ true → TurnFate c t y g → (edge (next_in c t).state.memory y g).tag ≡ true
+      marked g some tag (Refuses q e same) = ap (λ (d : Configuration). (edge d.state.memory y g).tag) same ∙ tag
+      marked g some tag (Makes q e f) = tag_on g q e some tag f
+
       fate : (g : Side) → TurnFate c t y g → child (next_in c t).state.memory y g ≡ child c.state.memory y g
       fate g (Refuses q e same) = ap (λ (d : Configuration). child d.state.memory y g) same
       fate g (Makes q e f) = on g q e f
@@ -80,33 +104,63 @@ module _ (L : Layout) (enough : 5 ≤ L.nodes) where
 
   pub calm_turns : (ts : List (ℕ × Event)) → All (λ t. HasKey t.1) ts → (c : Configuration) → IsOrdered L c → number_of is_reshape (trace_in c ts) ≡ 0 → (y : ℕ) → Reached c.state.memory y → StaysThere c (after_in c ts) y
   unfolding after_in trace_in
-  calm_turns [] keys c o calm y r = record { reached = r; leads = λ g. refl }
+  calm_turns [] keys c o calm y r = record { reached = r; leads = λ g. refl; key_is = refl; tags = λ g some tag. tag }
   calm_turns (t ∷ ts) keys c o calm y r =
       let parts = calm_parts (reshapes t.1 (outcome_in c t)) (number_of is_reshape (trace_in (next_in c t) ts)) calm in
       let one = calm_turn c t (keys 0 t (omega arith)) o parts.0 y r in
       let rest = calm_turns ts (λ i d below. keys (suc i) d (omega (arith, below))) (next_in c t) (ordered_next L enough c t (keys 0 t (omega arith)) o) parts.1 y one.reached in
-      record { reached = rest.reached; leads = λ g. rest.leads g ∙ one.leads g }
+      record { reached = rest.reached; leads = λ g. rest.leads g ∙ one.leads g; key_is = rest.key_is ∙ one.key_is; tags = λ g some tag. rest.tags g (λ none'. some (sym (one.leads g) ∙ none')) (one.tags g some tag) }
 
   look_edge : (s : State) (u x : ℕ) (d : Side) (e : Edge) → reply_of s u (Look x (EdgeOn d)) ≡ EdgeIs e → edge s.memory x d ≡ e
   unfolding reply
   look_edge s u x d e is = cc
 
   -- what a look of a worker told, by the part of these turns
-  pub look_there : (w : ℕ) (ts : List (ℕ × Event)) → All (λ t. HasKey t.1) ts → (c : Configuration) → IsOrdered L c → number_of is_reshape (trace_in c ts) ≡ 0 → (xs : List Entry) (x : ℕ) (d : Side) (e : Edge) (ys : List Entry)
-      → part_of w (trace_in c ts) ≡ xs ++ (Look x (EdgeOn d), EdgeIs e) ∷ ys → Reached c.state.memory x → e.slot ≡ child c.state.memory x d
-  look_there w ts keys c o calm xs x d e ys is r = by (split_turn w ts c xs (Look x (EdgeOn d), EdgeIs e) ys is)
-    where
-      by : SplitTurn w c ts xs (Look x (EdgeOn d), EdgeIs e) ys → e.slot ≡ child c.state.memory x d
-      by a = sym (ap (λ (e : Edge). e.slot) told) ∙ (calm_turns a.before keys' c o calm' x r).leads d
-        where
-          keys' : All (λ t. HasKey t.1) a.before
-          keys' = first_keys a.before (a.turn ∷ a.since) (subst (λ (l : List (ℕ × Event)). All (λ t. HasKey t.1) l) a.is_run keys)
+  module _ (w : ℕ) (ts : List (ℕ × Event)) (keys : All (λ t. HasKey t.1) ts) (c : Configuration) (o : IsOrdered L c) (calm : number_of is_reshape (trace_in c ts) ≡ 0) (xs : List Entry) (x : ℕ) where
+    -- of a node that stays until the turn of the look
+    still : (e : Entry) (ys : List Entry) → Reached c.state.memory x → (a : SplitTurn w c ts xs e ys) → StaysThere c (after_in c a.before) x
+    still e ys r a = calm_turns a.before keys' c o calm' x r
+      where
+        keys' : All (λ t. HasKey t.1) a.before
+        keys' = first_keys a.before (a.turn ∷ a.since) (subst (λ (l : List (ℕ × Event)). All (λ t. HasKey t.1) l) a.is_run keys)
 
-          calm' : number_of is_reshape (trace_in c a.before) ≡ 0
-          calm' = let all = ap (λ (l : List (ℕ × Event)). number_of is_reshape (trace_in c l)) a.is_run in let parts = number_split is_reshape c a.before a.turn a.since in omega (arith, calm, all, parts)
+        calm' : number_of is_reshape (trace_in c a.before) ≡ 0
+        calm' = let all = ap (λ (l : List (ℕ × Event)). number_of is_reshape (trace_in c l)) a.is_run in let parts = number_split is_reshape c a.before a.turn a.since in omega (arith, calm, all, parts)
 
-          told : edge (after_in c a.before).state.memory x d ≡ e
-          told = look_edge (after_in c a.before).state a.turn.0 x d e (ap (reply_of (after_in c a.before).state a.turn.0) (sym (ap (λ (k : Entry). k.0) a.is_entry)) ∙ ap (λ (k : Entry). k.1) a.is_entry)
+    told_at : (e : Entry) (ys : List Entry) (a : SplitTurn w c ts xs e ys) → reply_of (after_in c a.before).state a.turn.0 e.0 ≡ e.1
+    told_at e ys a = ap (reply_of (after_in c a.before).state a.turn.0) (sym (ap (λ (k : Entry). k.0) a.is_entry)) ∙ ap (λ (k : Entry). k.1) a.is_entry
+
+    pub look_there : (d : Side) (e : Edge) (ys : List Entry) → part_of w (trace_in c ts) ≡ xs ++ (Look x (EdgeOn d), EdgeIs e) ∷ ys → Reached c.state.memory x → e.slot ≡ child c.state.memory x d
+    look_there d e ys is r = by (split_turn w ts c xs (Look x (EdgeOn d), EdgeIs e) ys is)
+      where
+        by : SplitTurn w c ts xs (Look x (EdgeOn d), EdgeIs e) ys → e.slot ≡ child c.state.memory x d
+        by a = sym (ap (λ (e : Edge). e.slot) (look_edge (after_in c a.before).state a.turn.0 x d e (told_at _ ys a))) ∙ (still _ ys r a).leads d
+
+    -- a tag that was read is there behind them
+    pub tag_there : (d : Side) (e : Edge) (ys : List Entry) → part_of w (trace_in c ts) ≡ xs ++ (Look x (EdgeOn d), EdgeIs e) ∷ ys → Reached c.state.memory x → e.slot ≢ 0 → e.tag ≡ true → (edge (after_in c ts).state.memory x d).tag ≡ true
+    tag_there d e ys is r some tag = by (split_turn w ts c xs (Look x (EdgeOn d), EdgeIs e) ys is)
+      where
+        by : SplitTurn w c ts xs (Look x (EdgeOn d), EdgeIs e) ys → (edge (after_in c ts).state.memory x d).tag ≡ true
+        by a = ap (λ (b : Configuration). (edge b.state.memory x d).tag) (ap (after_in c) a.is_run ∙ after_in-append c a.before (a.turn ∷ a.since))
+            ∙ (calm_turns (a.turn ∷ a.since) (later_keys a.before (a.turn ∷ a.since) all) (after_in c a.before) (ordered_after w L enough a.before (first_keys a.before (a.turn ∷ a.since) all) c o) calm' x (still _ ys r a).reached).tags d
+            (λ none'. some (sym (ap (λ (e : Edge). e.slot) told) ∙ none')) (ap (λ (e : Edge). e.tag) told ∙ tag)
+          where
+            all : All (λ t. HasKey t.1) (a.before ++ a.turn ∷ a.since)
+            all = subst (λ (l : List (ℕ × Event)). All (λ t. HasKey t.1) l) a.is_run keys
+
+            told : edge (after_in c a.before).state.memory x d ≡ e
+            told = look_edge (after_in c a.before).state a.turn.0 x d e (told_at _ ys a)
+
+            calm' : number_of is_reshape (trace_in (after_in c a.before) (a.turn ∷ a.since)) ≡ 0
+            calm' = let run = ap (λ (l : List (ℕ × Event)). number_of is_reshape (trace_in c l)) a.is_run in
+                let parts = ap (number_of is_reshape) (trace_in-append c a.before (a.turn ∷ a.since)) ∙ number-append is_reshape (trace_in c a.before) (trace_in (after_in c a.before) (a.turn ∷ a.since)) in
+                omega (arith, calm, run, parts)
+
+    pub key_there : (k : ℕ) (ys : List Entry) → part_of w (trace_in c ts) ≡ xs ++ (Look x KeyOf, KeyIs k) ∷ ys → Reached c.state.memory x → k ≡ key c.state.memory x
+    key_there k ys is r = by (split_turn w ts c xs (Look x KeyOf, KeyIs k) ys is)
+      where
+        by : SplitTurn w c ts xs (Look x KeyOf, KeyIs k) ys → k ≡ key c.state.memory x
+        by a = key_told (after_in c a.before).state a.turn.0 x k (told_at _ ys a) ∙ (still _ ys r a).key_is
 
 -- ---- others and all
 
@@ -137,15 +191,15 @@ nobody w (t ∷ ts) none = go (t.worker == w) t.outcome none (nobody w ts)
 
 -- ---- paths
 
-abbrev Within : ℕ → List ℕ → Type 0
+abbrev pub Within : ℕ → List ℕ → Type 0
 Within N [] = Unit {0}
 Within N (x ∷ xs) = ((1 ≤ x) × (x ≤ N)) × Within N xs
 
-abbrev Apart : ℕ → List ℕ → Type 0
+abbrev pub Apart : ℕ → List ℕ → Type 0
 Apart x [] = Unit {0}
 Apart x (y ∷ ys) = (eqb x y ≡ false) × Apart x ys
 
-abbrev Distinct : List ℕ → Type 0
+abbrev pub Distinct : List ℕ → Type 0
 Distinct [] = Unit {0}
 Distinct (x ∷ xs) = Apart x xs × Distinct xs
 
@@ -169,7 +223,7 @@ zero_apart : (N : ℕ) (xs : List ℕ) → Within N xs → Apart 0 xs
 zero_apart N [] within = tt
 zero_apart N (x ∷ xs) within = (ne_eqb 0 x (λ z. let low = within.0.0 in absurd (omega (arith, low, z))), zero_apart N xs within.1)
 
-few : (N : ℕ) (xs : List ℕ) → Distinct xs → Within N xs → length xs ≤ N
+pub few : (N : ℕ) (xs : List ℕ) → Distinct xs → Within N xs → length xs ≤ N
 few N xs distinct within = let all = length-le_from_distinct_below (0 ∷ xs) (suc N) (are_distinct (0 ∷ xs) (zero_apart N xs within, distinct)) below in omega (arith, all)
   where
     below : (q : ℕ) → list_any (eqb q) (0 ∷ xs) ≡ true → q < suc N

@@ -126,12 +126,12 @@ looks_disturbed b h k w x z on looks =
     (λ y v at did. look_once y.pass v.pass h.tries did.1.says.past (did.1.says.disturbed refl)) h.rounds x z refl looks) in
     record { turns = m.turns; is = m.is; disturbed = m.least }
 
--- ---- inserts and deletes, of a radix tree
+-- ---- inserts and deletes
 
-change_once : (k : ℕ) (p q : Stand) (times : ℕ) → p.view.layout.radix ≡ true → HasSeenAllOf q p → ChangeWasBusy k p q times → Meanwhile holding_up holding_parts p q times
-change_once k p q times radix past (inl none) = record { turns = past.goes_on.more; is = past.goes_on.is; least = omega (arith, none) }
-change_once k p q times radix past (inr (inl moved)) = record { turns = moved.turns; is = moved.is; least = (let some = moved.moved in omega (arith, some)) }
-change_once k p q times radix past (inr (inr lost)) = record { turns = lost.was.turns; is = lost.was.is; least = (let all = lost.all in let none = lost.radix radix in let some = lost.was.hindered in omega (arith, all, none, some)) }
+change_once : (p q : Stand) (times : ℕ) → HasSeenAllOf q p → ChangeWasBusy p q times → Meanwhile holding_up holding_parts p q times
+change_once p q times past (inl none) = record { turns = past.goes_on.more; is = past.goes_on.is; least = omega (arith, none) }
+change_once p q times past (inr (inl moved)) = record { turns = moved.turns; is = moved.is; least = (let some = moved.moved in omega (arith, some)) }
+change_once p q times past (inr (inr lost)) = record { turns = lost.turns; is = lost.is; least = (let some = lost.hindered in omega (arith, some)) }
 
 held_up : (p q r : Stand) (times : ℕ) → Follows p q → Meanwhile holding_up holding_parts q r times → WasHeldUp p r times
 held_up p q r times on second = let m = meanwhile_since holding_up holding_parts times p q r on second in record { turns = m.turns; is = m.is; held_up = m.least }
@@ -140,23 +140,19 @@ module _ (b : Board) (h : Habit) (k : ℕ) where
   abbrev Times : ℕ
   Times = (h.rounds + 1) * h.tries
 
-  inserts_lost : (w z : Hand) → w.pass.view.layout.radix ≡ true → Inserts b h k w z busy → Meanwhile holding_up holding_parts w.pass z.pass Times
-  inserts_lost w z radix a = each_round holding_up holding_parts (Asked (LeavesInsert b.layout h.tries k)) busy h.tries w.pass.view.layout
+  inserts_lost : (w z : Hand) → Inserts b h k w z busy → Meanwhile holding_up holding_parts w.pass z.pass Times
+  inserts_lost w z a = each_round holding_up holding_parts (Asked (LeavesInsert b.layout h.tries k)) busy h.tries w.pass.view.layout
       (λ x y did. record { same = did.1.says.same; past = did.1.says.past })
-      (λ x y at did. change_once k x.pass y.pass h.tries (ap (λ (L : Layout). L.radix) at ∙ radix) did.1.says.past (did.1.disturbed refl)) h.rounds w z refl a
+      (λ x y at did. change_once x.pass y.pass h.tries did.1.says.past (did.1.disturbed refl)) h.rounds w z refl a
 
-  deletes_lost : (w z : Hand) → w.pass.view.layout.radix ≡ true → Deletes b h k w z busy → Meanwhile holding_up holding_parts w.pass z.pass Times
-  deletes_lost w z radix a = each_round holding_up holding_parts (Asked (LeavesDelete b.layout h.tries k)) busy h.tries w.pass.view.layout
+  deletes_lost : (w z : Hand) → Deletes b h k w z busy → Meanwhile holding_up holding_parts w.pass z.pass Times
+  deletes_lost w z a = each_round holding_up holding_parts (Asked (LeavesDelete b.layout h.tries k)) busy h.tries w.pass.view.layout
       (λ x y did. record { same = did.1.says.same; past = did.1.says.past })
-      (λ x y at did. change_once k x.pass y.pass h.tries (ap (λ (L : Layout). L.radix) at ∙ radix) did.1.says.past (did.1.disturbed refl)) h.rounds w z refl a
+      (λ x y at did. change_once x.pass y.pass h.tries did.1.says.past (did.1.disturbed refl)) h.rounds w z refl a
 
-  -- behind the same pass the tree has the same shape
-  radix_on : (p q : Stand) → Follows p q → p.view.layout.radix ≡ true → q.view.layout.radix ≡ true
-  radix_on p q on radix = ap (λ (x : Stand). x.view.layout.radix) on.same ∙ radix
-
-  pub inserts_held_up : (w z : Hand) → w.pass.view.layout.radix ≡ true → UnlessHeld (HasTended (InsertsTended b h k) b h Insert k w z busy) w z busy → WasHeldUp w.pass z.pass Times
-  inserts_held_up w z radix (inl held) = absurd (let no = held.1 in cc)
-  inserts_held_up w z radix (inr (free, t)) = by t.did
+  pub inserts_held_up : (w z : Hand) → UnlessHeld (HasTended (InsertsTended b h k) b h Insert k w z busy) w z busy → WasHeldUp w.pass z.pass Times
+  inserts_held_up w z (inl held) = absurd (let no = held.1 in cc)
+  inserts_held_up w z (inr (free, t)) = by t.did
     where
       by : InsertsTended b h k w z busy → WasHeldUp w.pass z.pass Times
       by (inl pending) = absurd (let no = pending.1 in cc)
@@ -172,8 +168,8 @@ module _ (b : Board) (h : Habit) (k : ℕ) where
           to_y = follows_then w.pass x.pass y.pass (record { same = first.same; past = first.past }) (record { same = second.same; past = second.past })
 
           made : InsertsOn b h k y z busy → WasHeldUp w.pass z.pass Times
-          made (inl one) = held_up w.pass y.pass z.pass Times to_y (inserts_lost y z (radix_on w.pass y.pass to_y radix) one.0)
-          made (inr (u, v, full, relieved, again)) = held_up w.pass v.pass z.pass Times to_v (inserts_lost v z (radix_on w.pass v.pass to_v radix) again)
+          made (inl one) = held_up w.pass y.pass z.pass Times to_y (inserts_lost y z one.0)
+          made (inr (u, v, full, relieved, again)) = held_up w.pass v.pass z.pass Times to_v (inserts_lost v z again)
             where
               third : GoesOnTended (suc h.rounds * round_bound h.tries b.layout) y u
               third = goes_inserts b h k y u (Err (fault.Call call.Full)) second.held full
@@ -184,9 +180,9 @@ module _ (b : Board) (h : Habit) (k : ℕ) where
               to_v : Follows w.pass v.pass
               to_v = follows_then w.pass y.pass v.pass to_y (follows_then y.pass u.pass v.pass (record { same = third.same; past = third.past }) (record { same = fourth.same; past = fourth.past }))
 
-  pub deletes_held_up : (w z : Hand) → w.pass.view.layout.radix ≡ true → UnlessHeld (HasTended (RemovesTended b h k) b h Delete k w z busy) w z busy → WasHeldUp w.pass z.pass Times
-  deletes_held_up w z radix (inl held) = absurd (let no = held.1 in cc)
-  deletes_held_up w z radix (inr (free, t)) = by t.did
+  pub deletes_held_up : (w z : Hand) → UnlessHeld (HasTended (RemovesTended b h k) b h Delete k w z busy) w z busy → WasHeldUp w.pass z.pass Times
+  deletes_held_up w z (inl held) = absurd (let no = held.1 in cc)
+  deletes_held_up w z (inr (free, t)) = by t.did
     where
       by : RemovesTended b h k w z busy → WasHeldUp w.pass z.pass Times
       by (inl pending) = absurd (let no = pending.1 in cc)
@@ -202,7 +198,7 @@ module _ (b : Board) (h : Habit) (k : ℕ) where
           to_y = follows_then w.pass x.pass y.pass (record { same = first.same; past = first.past }) (record { same = second.same; past = second.past })
 
           made : DeletesOn b h k y z busy → WasHeldUp w.pass z.pass Times
-          made (inl one) = held_up w.pass y.pass z.pass Times to_y (deletes_lost y z (radix_on w.pass y.pass to_y radix) one.0)
+          made (inl one) = held_up w.pass y.pass z.pass Times to_y (deletes_lost y z one.0)
           made (inr (u, f, unfinished, finishes, told)) = absurd (no_busy f finishes told)
             where
               no_busy : (f : Result Bool Lost) → FinishesPending b h u z f → busy ≡ of_finish f → ⊥

@@ -127,8 +127,7 @@ impl Member {
         ensures says { SaysTended Insert self.old.board habit.now key self.old.hand self.new.hand
             result }
         ensures did { TendsInsert self.old.board habit.now key self.old.hand self.new.hand result }
-        ensures disturbed { self.old.hand.pass.view.layout.radix ≡ true → result ≡ busy
-            → WasHeldUp self.old.hand.pass self.new.hand.pass
+        ensures disturbed { result ≡ busy → WasHeldUp self.old.hand.pass self.new.hand.pass
             ((habit.now.rounds + 1) * habit.now.tries) }
     {
         if self.rests() {
@@ -154,8 +153,7 @@ impl Member {
         ensures says { SaysTended Delete self.old.board habit.now key self.old.hand self.new.hand
             result }
         ensures did { TendsDelete self.old.board habit.now key self.old.hand self.new.hand result }
-        ensures disturbed { self.old.hand.pass.view.layout.radix ≡ true → result ≡ busy
-            → WasHeldUp self.old.hand.pass self.new.hand.pass
+        ensures disturbed { result ≡ busy → WasHeldUp self.old.hand.pass self.new.hand.pass
             ((habit.now.rounds + 1) * habit.now.tries) }
     {
         if self.rests() {

@@ -5,7 +5,7 @@ ghost use Rattle.nm_busy.specs.Pending.{NonePends};
 ghost use Rattle.nm_tree.specs.Calls.{MayCall};
 
 use nm_edge::Key;
-use nm_tree::{Fault, Tree, Worker};
+use nm_tree::{Fault, Query, Tree, Worker};
 
 /// A look-up that may make a try. Where no other worker makes a turn meanwhile, it is answered, or a
 /// key is pending.
@@ -15,6 +15,34 @@ pub fn look_alone(tree: &Tree, worker: &mut Worker, key: Key, tries: u32) -> Res
     ensures { IsAlone worker.old.pass worker.new.pass → IsErrOf result Fault.Busy → ⊥ }
 {
     tree.has(worker, key, tries)
+}
+
+/// The same of look-ups of several keys.
+pub fn look_many_alone(
+    tree: &Tree,
+    worker: &mut Worker,
+    queries: &mut [Query],
+    tries: u32,
+) -> Result<(), Fault>
+    requires may { MayCall tree.now worker.old }
+    requires some { 1 ≤ tries }
+    ensures { IsAlone worker.old.pass worker.new.pass → IsErrOf result Fault.Busy → ⊥ }
+{
+    tree.has_many(worker, queries, tries)
+}
+
+/// The same of a call for the next key that may make two tries.
+pub fn next_alone(
+    tree: &Tree,
+    worker: &mut Worker,
+    key: Key,
+    tries: u32,
+) -> Result<Option<Key>, Fault>
+    requires may { MayCall tree.now worker.old }
+    requires two { 2 ≤ tries }
+    ensures { IsAlone worker.old.pass worker.new.pass → IsErrOf result Fault.Busy → ⊥ }
+{
+    tree.next(worker, key, tries)
 }
 
 /// The same of an insert, where no delete was pending before.

@@ -19,8 +19,8 @@ mod sharing;
 mod threads;
 mod trees;
 
-pub use alone::{insert_alone, look_alone};
-pub use beside::{delete_beside, insert_beside};
+pub use alone::{insert_alone, look_alone, look_many_alone, next_alone};
+pub use beside::{delete_beside, insert_beside, look_many_beside, next_beside, prev_beside};
 pub use fresh::{Looked, look_first, look_in_new, look_in_new_of_one, look_only};
 pub use least::{Taken, take_at_once, take_both, take_in_threads};
 pub use letters::{Reading, Written, insert_while_read};

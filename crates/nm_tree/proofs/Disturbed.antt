@@ -1,5 +1,5 @@
 -- Why a call was busy: who has disturbed it, by the laws of progress.
-use Rattle.std.proofs.Common.{◌≡◌, ◌-◌, ◌≤◌, ℕ, sym, ap, subst, ◌∙◌, arith}
+use Rattle.std.proofs.Common.{◌≡◌, ◌-◌, ◌≤◌, ℕ, List, sym, ap, subst, ◌∙◌, arith}
 use Rattle.std.specs.Prelude.{Err}
 use Rattle.nm_edge.specs.Layouts.{Layout, IsLayout}
 use Rattle.nm_edge.specs.declared.node.NodeId.{NodeId}
@@ -8,14 +8,20 @@ use Rattle.nm_steps.specs.Steps.{Board, Stand, IsOf, IsSamePass, HasSeen, HasSee
 use Rattle.nm_calls.specs.declared.inserting.Fault.TheVariants as lost
 use Rattle.nm_calls.specs.declared.deleting.Missed.TheVariants as missed
 use Rattle.nm_calls.specs.Calls.{HasMissed}
+use Rattle.nm_calls.specs.InTurns.{GiveUp as GiveUpInTurns}
 use Rattle.nm_calls.specs.Inserts.{InsertDid}
+use Rattle.nm_calls.specs.NextKeys.{GiveUp as GiveUpNext}
+use Rattle.nm_calls.specs.PlainWalks.{PlainMissed}
+use Rattle.nm_calls.specs.PrevKeys.{GiveUp as GiveUpPrev}
 use Rattle.nm_calls.specs.Deletes.{DeleteDid, IsRemoving, LosesAfterFlag, LosesEachTry}
 use Rattle.nm_busy.specs.Lookups.{WasBusy}
-use Rattle.nm_busy.specs.Lost.{WasLost, ChangeWasBusy}
+use Rattle.nm_busy.specs.Lost.{WasHindered, ChangeWasBusy}
 use Rattle.nm_busy.specs.Alone.{IsAlone}
 use Rattle.nm_busy.specs.Pending.{NonePends}
+use Rattle.nm_busy.specs.Walked.{ManyWereBusy, NearWasBusy}
 use Rattle.nm_busy.proofs.AloneCalls.{lookups_alone_are_answered, inserts_alone_are_answered, deletes_alone_are_not_busy}
 use Rattle.nm_busy.proofs.LostLookups.{busy_lookups_were_disturbed}
+use Rattle.nm_busy.proofs.LostWalked.{busy_many_were_disturbed, busy_nexts_were_disturbed, busy_prevs_were_disturbed}
 use Rattle.nm_busy.proofs.HinderedCalls.{busy_inserts_were_lost, busy_deletes_were_lost, unfinished_deletes_were_lost, unfinished_finishes_were_lost}
 
 -- of a tree and a worker whose insides are b and o, a call that ends at q
@@ -38,25 +44,40 @@ module _ (b d : Board) (o p q : Stand) (k tries : ℕ) (board : b ≡ d) (at : o
       subst (λ (x : Stand). WasBusy x q tries) at
       (busy_lookups_were_disturbed k tries o q seen after enough same past (subst (λ (L : Layout). HasMissed L tries k o.view.log q.view.log) (sym layout) did))
 
-  pub insert_disturbed : IsOf d p → (f : Fit) → InsertDid f b.layout tries k o.view.log q.view.log (Err lost.Busy) → ChangeWasBusy k p q tries
+  pub insert_disturbed : IsOf d p → (f : Fit) → InsertDid f b.layout tries k o.view.log q.view.log (Err lost.Busy) → ChangeWasBusy p q tries
   insert_disturbed own f did =
-      subst (λ (x : Stand). ChangeWasBusy k x q tries) at
-      (busy_inserts_were_lost f k tries o q seen after enough same past (subst (λ (L : Layout). InsertDid f L tries k o.view.log q.view.log (Err lost.Busy)) (sym (layouts own)) did))
+      subst (λ (x : Stand). ChangeWasBusy x q tries) at
+      (busy_inserts_were_lost f k tries o q seen after enough fits.few same past (subst (λ (L : Layout). InsertDid f L tries k o.view.log q.view.log (Err lost.Busy)) (sym (layouts own)) did))
 
-  pub delete_disturbed : IsOf d p → DeleteDid b.layout tries k o.view.log q.view.log (Err missed.Busy) → ChangeWasBusy k p q tries
+  pub delete_disturbed : IsOf d p → DeleteDid b.layout tries k o.view.log q.view.log (Err missed.Busy) → ChangeWasBusy p q tries
   delete_disturbed own did =
-      subst (λ (x : Stand). ChangeWasBusy k x q tries) at
-      (busy_deletes_were_lost k tries o q seen after enough same past (subst (λ (L : Layout). DeleteDid L tries k o.view.log q.view.log (Err missed.Busy)) (sym (layouts own)) did))
+      subst (λ (x : Stand). ChangeWasBusy x q tries) at
+      (busy_deletes_were_lost k tries o q seen after enough fits.few same past (subst (λ (L : Layout). DeleteDid L tries k o.view.log q.view.log (Err missed.Busy)) (sym (layouts own)) did))
 
-  pub delete_lost : IsOf d p → (n : NodeId) → IsRemoving q k n → LosesAfterFlag b.layout tries k o.view.log q.view.log n → WasLost k p q (tries - 2)
+  pub delete_lost : IsOf d p → (n : NodeId) → IsRemoving q k n → LosesAfterFlag b.layout tries k o.view.log q.view.log n → WasHindered p q (tries - 2)
   delete_lost own n removing did =
-      subst (λ (x : Stand). WasLost k x q (tries - 2)) at
-      (unfinished_deletes_were_lost k tries n o q seen after enough same past removing (subst (λ (L : Layout). LosesAfterFlag L tries k o.view.log q.view.log n) (sym (layouts own)) did))
+      subst (λ (x : Stand). WasHindered x q (tries - 2)) at
+      (unfinished_deletes_were_lost k tries n o q seen after enough fits.few same past removing (subst (λ (L : Layout). LosesAfterFlag L tries k o.view.log q.view.log n) (sym (layouts own)) did))
 
-  pub finish_lost : IsOf d p → (n : NodeId) → IsRemoving q k n → LosesEachTry b.layout k n tries o.view.log q.view.log → WasLost k p q tries
+  pub finish_lost : IsOf d p → (n : NodeId) → IsRemoving q k n → LosesEachTry b.layout k n tries o.view.log q.view.log → WasHindered p q tries
   finish_lost own n removing did =
-      subst (λ (x : Stand). WasLost k x q tries) at
-      (unfinished_finishes_were_lost k tries n o q seen after enough same past removing (subst (λ (L : Layout). LosesEachTry L k n tries o.view.log q.view.log) (sym (layouts own)) did))
+      subst (λ (x : Stand). WasHindered x q tries) at
+      (unfinished_finishes_were_lost k tries n o q seen after enough fits.few same past removing (subst (λ (L : Layout). LosesEachTry L k n tries o.view.log q.view.log) (sym (layouts own)) did))
+
+  pub many_disturbed : IsOf d p → (keys : List ℕ) → PlainMissed (GiveUpInTurns b.layout keys) tries o.view.log q.view.log → ManyWereBusy p q tries
+  many_disturbed own keys missed =
+      subst (λ (x : Stand). ManyWereBusy x q tries) at
+      (busy_many_were_disturbed keys tries o q seen after enough same past (subst (λ (L : Layout). PlainMissed (GiveUpInTurns L keys) tries o.view.log q.view.log) (sym (layouts own)) missed))
+
+  pub next_disturbed : IsOf d p → PlainMissed (GiveUpNext b.layout tries k) tries o.view.log q.view.log → NearWasBusy p q tries
+  next_disturbed own missed =
+      subst (λ (x : Stand). NearWasBusy x q tries) at
+      (busy_nexts_were_disturbed k tries o q seen after enough same past (subst (λ (L : Layout). PlainMissed (GiveUpNext L tries k) tries o.view.log q.view.log) (sym (layouts own)) missed))
+
+  pub prev_disturbed : IsOf d p → PlainMissed (GiveUpPrev b.layout tries k) tries o.view.log q.view.log → NearWasBusy p q tries
+  prev_disturbed own missed =
+      subst (λ (x : Stand). NearWasBusy x q tries) at
+      (busy_prevs_were_disturbed k tries o q seen after enough same past (subst (λ (L : Layout). PlainMissed (GiveUpPrev L tries k) tries o.view.log q.view.log) (sym (layouts own)) missed))
 
   -- ---- alone
 

@@ -9,7 +9,6 @@ pub mod Staying
 pub mod Changing
 pub mod FlaggedSeen
 pub mod Disturbed
-pub mod Missing
 pub mod OwnQueue
 pub mod Freeing
 pub mod Opening

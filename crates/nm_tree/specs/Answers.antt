@@ -12,7 +12,7 @@ use Rattle.nm_calls.specs.Won.{links_of_insert, flags_of_delete}
 use Rattle.nm_epoch.specs.Tries.{IsPinnedBy as PinsSo, IsMoved}
 use Rattle.nm_model.specs.declared.event.Event.TheVariants.{Sight}
 use Rattle.nm_model.specs.declared.event.Op.TheVariants.{Delete}
-use Rattle.nm_busy.specs.Lost.{WasLost}
+use Rattle.nm_busy.specs.Lost.{WasHindered}
 use Rattle.nm_tree.specs.declared.fault.PinFault.{PinFault}
 use Rattle.nm_tree.specs.declared.fault.PinFault.TheVariants as pinning
 use Rattle.nm_tree.specs.declared.fault.Fault.{Fault}
@@ -146,14 +146,13 @@ FinishLacks L tries w z _ =
     LacksRoom z ⊎ ((n : Unfinished) × (w.pending ≡ Some n)
     × LosesEachTry L n.key n.leaf tries w.pass.view.log z.pass.view.log)
 
--- so each try of a delete of k that is not finished was lost, but for the one that won the flag and
+-- so each try of a delete that is not finished was lost, but for the one that won the flag and
 -- the cleanup behind it, and each try of what is left of one; or room was lacking
-abbrev pub DeleteWasLost : ℕ → ℕ → Hand → Hand → Type 0
-DeleteWasLost tries k w z = LacksRoom z ⊎ WasLost k w.pass z.pass (tries - 2)
+abbrev pub DeleteWasLost : ℕ → Hand → Hand → Type 0
+DeleteWasLost tries w z = LacksRoom z ⊎ WasHindered w.pass z.pass (tries - 2)
 
 abbrev pub FinishWasLost : ℕ → Hand → Hand → Type 0
-FinishWasLost tries w z = LacksRoom z ⊎ ((n : Unfinished) × (w.pending ≡ Some n)
-    × WasLost n.key w.pass z.pass tries)
+FinishWasLost tries w z = LacksRoom z ⊎ WasHindered w.pass z.pass tries
 
 -- the delete that was pending is answered, and it is one behind all that the worker had seen
 -- whenever it had no call, as before the call that began the delete: its leaf was cut at a moment

@@ -18,20 +18,22 @@ use Rattle.nm_epoch.specs.Scans.{IsAdvance}
 use Rattle.nm_epoch.specs.Watches.{IsBehind}
 use Rattle.nm_calls.specs.declared.many.Query.{Query}
 use Rattle.nm_calls.specs.Bounds.{reach, IsWithinBound, IsWithinClaims}
-use Rattle.nm_calls.specs.InTurns.{WasSo, key_of, GiveUp as GiveUpInTurns}
+use Rattle.nm_calls.specs.InTurns.{WasSo, key_of}
 use Rattle.nm_calls.specs.Moments.{AnswerHasMoment}
 use Rattle.nm_calls.specs.NextKeys.{WasNext, GiveUp as GiveUpNext}
 use Rattle.nm_calls.specs.PrevKeys.{WasPrev, GiveUp as GiveUpPrev}
 use Rattle.nm_calls.specs.PlainWalks.{most_looks}
 use Rattle.nm_calls.specs.Won.{HasWon}
+use Rattle.nm_busy.specs.Alone.{IsAlone}
 use Rattle.nm_busy.specs.Lookups.{WasBusy}
 use Rattle.nm_busy.specs.Lost.{ChangeWasBusy}
+use Rattle.nm_busy.specs.Walked.{ManyWereBusy, NearWasBusy}
 use Rattle.nm_tree.specs.declared.fault.Fault.{Fault}
 use Rattle.nm_tree.specs.declared.fault.Fault.TheVariants as fault
 use Rattle.nm_tree.specs.declared.fault.PinFault.{PinFault}
 use Rattle.nm_tree.specs.Answers.{HasAnswered, HasInserted, HasDeleted, HasFinished, FinishHasMoment, HasTold, InsertTold, DeleteTold, FinishTold, DeleteLacks, FinishLacks, HasPinned, KeepsPlace, links_won, flags_won, DeleteWasLost, FinishWasLost}
 use Rattle.nm_tree.specs.InTurns.{HasAnsweredMany}
-use Rattle.nm_tree.specs.Looked.{HasLooked, WasMissed}
+use Rattle.nm_tree.specs.Looked.{HasLooked}
 use Rattle.nm_tree.specs.Running.{IsFreedInGrace}
 use Rattle.nm_tree.specs.Workers.{Hand, KeepsOtherQueues, TakeRoom}
 
@@ -78,7 +80,7 @@ pub record SaysInsert (L : Layout) (tries k : ℕ) (w z : Hand) (r : Result Bool
 pub record LeavesInsert (L : Layout) (tries k : ℕ) (w z : Hand) (r : Result Bool Fault) : Type 0 where
   pub says : SaysInsert L tries k w z r
   pub did : HasInserted L tries k w z r
-  pub disturbed : IsErrOf r fault.Busy → ChangeWasBusy k w.pass z.pass tries
+  pub disturbed : IsErrOf r fault.Busy → ChangeWasBusy w.pass z.pass tries
 
 pub record SaysDelete (L : Layout) (tries k : ℕ) (w z : Hand) (r : Result Bool Fault) : Type 0 where
   pub same : IsSamePass w.pass z.pass
@@ -96,8 +98,8 @@ pub record LeavesDelete (L : Layout) (tries k : ℕ) (w z : Hand) (r : Result Bo
   pub says : SaysDelete L tries k w z r
   pub did : HasDeleted L tries k w z r
   pub lacks : IfErr r (DeleteLacks L tries k w z)
-  pub disturbed : IsErrOf r fault.Busy → ChangeWasBusy k w.pass z.pass tries
-  pub lost : IsErrOf r fault.Unfinished → DeleteWasLost tries k w z
+  pub disturbed : IsErrOf r fault.Busy → ChangeWasBusy w.pass z.pass tries
+  pub lost : IsErrOf r fault.Unfinished → DeleteWasLost tries w z
 
 pub record SaysFinish (L : Layout) (tries : ℕ) (w z : Hand) (r : Result Bool Fault) : Type 0 where
   pub same : IsSamePass w.pass z.pass
@@ -117,13 +119,15 @@ pub record LeavesFinish (L : Layout) (tries : ℕ) (w z : Hand) (r : Result Bool
   pub lacks : IfErr r (FinishLacks L tries w z)
   pub lost : IsErrOf r fault.Unfinished → FinishWasLost tries w z
 
--- `LeavesHasMany`: the same of a look-up of these queries, which are those after it then
+-- `LeavesHasMany`: the same of a look-up of these queries, which are those after it then; and that it
+-- is answered, where it may make a try and no other worker makes a turn (`alone`)
 pub record LeavesHasMany (L : Layout) (tries : ℕ) (old new : List Query) (w z : Hand)
     (r : Result (Unit {0}) Fault) : Type 0 where
   pub same : IsSamePass w.pass z.pass
   pub past : HasSeenAllOf z.pass w.pass
   pub did : HasAnsweredMany L tries old w z r
-  pub disturbed : IsErrOf r fault.Busy → WasMissed (GiveUpInTurns L (map key_of old)) tries w.pass z.pass
+  pub disturbed : IsErrOf r fault.Busy → ManyWereBusy w.pass z.pass tries
+  pub alone : IsAlone w.pass z.pass → IsErrOf r fault.Busy → tries ≡ 0
   pub keys : map key_of new ≡ map key_of old
   pub moment : IfOk r (λ u. All (λ q. WasSo w.pass z.pass q.key q.found) new)
   pub won : HasWon w.pass.view.log z.pass.view.log 0 0
@@ -134,15 +138,16 @@ pub record LeavesHasMany (L : Layout) (tries : ℕ) (old new : List Query) (w z 
   pub fit : z.fit ≡ w.fit
 
 -- `LeavesNear`: of a call for the key nearest to one, where `Was` is what is told of it, and `GivesUp`
--- how its walks end without an answer; `LeavesNext`, `LeavesPrev`: the least key that is not below
--- k, and the greatest one that is not above k
+-- how its walks end without an answer (`alone`: so where it may make two tries); `LeavesNext`,
+-- `LeavesPrev`: the least key that is not below k, and the greatest one that is not above k
 pub record LeavesNear (Was : Stand → Stand → Option ℕ → Type 0)
     (GivesUp : List LogEntry → List LogEntry → Type 0) (L : Layout) (tries : ℕ) (w z : Hand)
     (r : Result (Option ℕ) Fault) : Type 0 where
   pub same : IsSamePass w.pass z.pass
   pub past : HasSeenAllOf z.pass w.pass
   pub did : HasLooked GivesUp tries (tries * most_looks (reach L) 1) w z r
-  pub disturbed : IsErrOf r fault.Busy → WasMissed GivesUp tries w.pass z.pass
+  pub disturbed : IsErrOf r fault.Busy → NearWasBusy w.pass z.pass tries
+  pub alone : IsAlone w.pass z.pass → IsErrOf r fault.Busy → tries ≤ 1
   pub moment : IfOk r (Was w.pass z.pass)
   pub won : HasWon w.pass.view.log z.pass.view.log 0 0
   pub steps : length z.pass.view.log

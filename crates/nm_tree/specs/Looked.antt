@@ -1,9 +1,7 @@
 -- What a call that walks under a pin for no call leaves of its worker, by its answer.
-use Rattle.std.specs.Prelude.{◌≡◌, ◌⊎◌, ℕ, List, Result, Ok, Err}
+use Rattle.std.specs.Prelude.{ℕ, List, Result, Ok, Err}
 use Rattle.nm_model.specs.Walks.{Entry}
-use Rattle.nm_steps.specs.Steps.{Stand}
-use Rattle.nm_calls.specs.PlainWalks.{LooksUnderPin, GivesUpUnderPin, PlainMissed}
-use Rattle.nm_busy.specs.Pins.{WasMovedPast}
+use Rattle.nm_calls.specs.PlainWalks.{LooksUnderPin, PlainMissed}
 use Rattle.nm_tree.specs.declared.fault.Fault.{Fault}
 use Rattle.nm_tree.specs.declared.fault.Fault.TheVariants as fault
 use Rattle.nm_tree.specs.Answers.{IsPendingStill, IsFree}
@@ -20,9 +18,3 @@ HasLooked GivesUp tries most w z (Err fault.Busy) =
     IsFree w z × PlainMissed GivesUp tries w.pass.view.log z.pass.view.log
 HasLooked GivesUp tries most w z (Err fault.Pending) = IsPendingStill w z
 HasLooked GivesUp tries most w z (Err _) = ⊥
-
--- why it was busy: it might make no try; or others moved the epoch on, as often as it might try; or
--- its walks gave up
-abbrev pub WasMissed : (List Entry → List Entry → Type 0) → ℕ → Stand → Stand → Type 0
-WasMissed GivesUp tries p q = (tries ≡ 0) ⊎ WasMovedPast p q tries
-    ⊎ GivesUpUnderPin GivesUp tries p.view.log q.view.log

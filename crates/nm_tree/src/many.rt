@@ -14,11 +14,12 @@ impl Tree {
     ///
     /// `Busy`: `tries` is 0, and there was no step; or the pin was lost in each of `tries` tries,
     /// each time to another worker, which moved the epoch on; or one of the walks had looked at as
-    /// many nodes as there are, and had not ended, as it never is in a radix tree: so there
-    /// look-ups whose pin stands are answered, whatever others do. `Pending`: a key is pending.
-    /// Then no `found` means anything. The keys stay. The worker is not held. At most 3 `tries` + 3
-    /// steps, and 3 `reach` for each key, where a walk's reach is 66 nodes in a radix tree, and
-    /// else as many as there are. (The search of Natarajan and Mittal, section 3.2.)
+    /// many nodes as there are, and had not ended, since others linked or cut off nodes meanwhile,
+    /// as it never is in a radix tree: so there look-ups whose pin stands are answered, whatever
+    /// others do. A call beside which no other worker makes a turn is not busy. `Pending`: a key is
+    /// pending. Then no `found` means anything. The keys stay. The worker is not held. At most 3
+    /// `tries` + 3 steps, and 3 `reach` for each key, where a walk's reach is 66 nodes in a radix
+    /// tree, and else as many as there are. (The search of Natarajan and Mittal, section 3.2.)
     pub fn has_many(
         &self,
         worker: &mut Worker,

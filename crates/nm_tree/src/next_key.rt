@@ -17,8 +17,11 @@ impl Tree {
     ///
     /// `Busy`: `tries` is 0, and there was no step; or the pin was lost in each of `tries` tries,
     /// each time to another worker, which moved the epoch on; or each of `tries` walks has ended
-    /// with no key, the next one beginning where its keys end; or a walk had looked at as many nodes as
-    /// there are, and had not ended, as it never is in a radix tree. `Pending`: a key is pending.
+    /// with no key, the next one beginning where its keys end, and in the time of each two of
+    /// them others linked or cut off a node; or they did so while a walk had looked at as many
+    /// nodes as there are, and had not ended, as it never is in a radix tree. A call that may make
+    /// two tries, and beside which no other worker makes a turn, is not busy. `Pending`: a key is
+    /// pending.
     /// The worker is not held. At most `tries` * (3 `reach` + 4) + 2 steps, where a walk's reach is
     /// 66 nodes in a radix tree, and else as many as there are. (The search of Natarajan and
     /// Mittal, section 3.2.)

@@ -50,7 +50,7 @@ loop-node-preserved c =
           (looks_then o.view.log p.view.log q.view.log held.looks (read_added c.args.from walk.node p.view.log q.view.log on did.looks));
       under_way = subst (IsDescent c.args.shared.now.layout (c.loop-node._node + 1) o q) (sym now.walk)
           (descent_goes_on c.args.shared.now.layout c.loop-node._node o p q walk c.read_so-walk.result.bound on (subst (λ (k : ℕ). Reads k walk.node p.view.log q.view.log on) (sym held.from) did.looks) did.leaf held.under_way c.if-walk-eq0.false now.low few
-          (subst (λ (k : ℕ). OnwardTold p q k walk.node on.found on.side on.next) (sym held.from) did.told) (now.wide held.under_way.wide) now.turns);
+          (subst (λ (k : ℕ). OnwardTold p q k walk.node on.found on.side on.next) (sym held.from) did.told) (now.wide held.under_way.wide) now.turns now.routed);
       from = ap (λ (d : Descent). d.from) now.walk ∙ held.from;
       on = goes_then o p q held.on did.on;
       only = only_then o p q held.only did.only;

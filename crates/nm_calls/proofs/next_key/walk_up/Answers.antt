@@ -50,7 +50,7 @@ loop-walk-preserved c =
       is_key = next_is_key c.args.shared.now.layout did.under_way.0 p q c.args.key c.loop-walk.from walk did.under_way.1 did.from c.if-walk-ne0.false held.above earlier c.else-from-walk.either c.if-walk-2.false;
       above = next_above c.args.shared.now.layout did.under_way.0 p q c.args.key c.loop-walk.from walk did.under_way.1 did.from c.if-walk-ne0.false held.above earlier c.else-from-walk.either;
       none_below = none_below c.args.shared.now.layout did.under_way.0 p q c.args.key c.loop-walk.from walk did.under_way.1 did.from c.if-walk-ne0.false held.above earlier c.else-from-walk.either;
-      walked = none_more c.args.shared.now.layout did.under_way.0 p q c.args.key c.loop-walk.from walk did.under_way.1 did.from c.if-walk-ne0.false held.above earlier c.else-from-walk.either c.loop-walk._walk o.view.log held.walked;
+      walked = none_more c.args.shared.now.layout did.under_way.0 p q c.args.key c.loop-walk.from walk did.under_way.1 did.from c.if-walk-ne0.false held.above earlier c.else-from-walk.either c.loop-walk._walk o.view.log held.walked c.if-walk-2.false;
       on = goes_then o p q held.on did.on;
       only = only_then o p q held.only did.only;
     }

@@ -57,7 +57,7 @@ loop-walk-preserved c =
     }
 
 pub returns-then-walk-ne0-clause-given_up : goal.returns-then-walk-ne0-clause-given_up
-returns-then-walk-ne0-clause-given_up c = (c.loop-walk.from, inr (c.loop-walk._walk, c.loop-walk.pass.view.log, c.loop-walk-test.true, c.loop-walk.invariant.walked, c.walk_down-walk.ensures.long c.if-walk-ne0.true))
+returns-then-walk-ne0-clause-given_up c = (c.loop-walk.from, c.requires.key, inr (c.loop-walk._walk, c.loop-walk.pass.view.log, c.loop-walk-test.true, c.loop-walk.invariant.walked, c.walk_down-walk.ensures.long c.if-walk-ne0.true))
 
 pub walk_down-walk-requires-clause-key : goal.walk_down-walk-requires-clause-key
 walk_down-walk-requires-clause-key c = let below = c.loop-walk.invariant.below in let key = c.requires.key in omega (arith, below, key)

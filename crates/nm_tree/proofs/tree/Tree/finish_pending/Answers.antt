@@ -83,12 +83,9 @@ returns-then-not-finish_with-clause-leaves c = record {
   lost = λ is. (
       (elim (c.finish_with.ensures.refused c.if-not-finish_with.true) [
         | inl less ↦ inl (lacks_after c.worker.inside.home _ _ c.worker.inside.queues.items c.finish_with.new.own c.worker.invariant.own c.finish_with.ensures.kept.own less)
-        | inr lost ↦ inr (
-          c.in-Pending.pending,
-          ap (λ (w : Hand). w.pending) (sym c.worker.view_is) ∙ ap pending_in c.in-Pending.is,
-          finish_lost c.self.inside.shared c.args.self.now c.worker.inside.pass c.args.worker.now.pass c.finish_with.new.pass c.in-Pending.pending.key c.args.tries c.self.view_is (ap (λ (x : Hand). x.pass) c.worker.view_is)
-              c.is_of_a_run.ensures.seen c.is_of_a_run-then-not-finish_with.ensures.seen c.is_of_a_run.ensures.fits c.finish_with.ensures.after.same c.finish_with.ensures.after.past c.requires.own c.in-Pending.pending.leaf (c.finish_with.ensures.after.removing c.if-not-finish_with.true) lost,
-        )
+        | inr lost ↦ inr
+            (finish_lost c.self.inside.shared c.args.self.now c.worker.inside.pass c.args.worker.now.pass c.finish_with.new.pass c.in-Pending.pending.key c.args.tries c.self.view_is (ap (λ (x : Hand). x.pass) c.worker.view_is)
+            c.is_of_a_run.ensures.seen c.is_of_a_run-then-not-finish_with.ensures.seen c.is_of_a_run.ensures.fits c.finish_with.ensures.after.same c.finish_with.ensures.after.past c.requires.own c.in-Pending.pending.leaf (c.finish_with.ensures.after.removing c.if-not-finish_with.true) lost)
       ])
       );
 }

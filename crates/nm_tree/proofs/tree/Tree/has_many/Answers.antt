@@ -1,11 +1,10 @@
-use Rattle.std.proofs.Common.{rules, ◌≡◌, map, ap, sym, subst, ◌∙◌}
-use Rattle.nm_steps.specs.Steps.{Board}
+use Rattle.std.proofs.Common.{rules, ◌≡◌, map, ap, sym, ◌∙◌}
 use Rattle.nm_steps.proofs.Seeing.{seen_all}
-use Rattle.nm_calls.specs.InTurns.{GiveUp, key_of}
+use Rattle.nm_calls.specs.InTurns.{key_of}
 use Rattle.nm_tree.specs.declared.worker.Standing.TheVariants as standing
-use Rattle.nm_tree.specs.Looked.{WasMissed}
+use Rattle.nm_busy.proofs.AloneCalls.{many_alone}
 use Rattle.nm_tree.specs.Workers.{Hand}
-use Rattle.nm_tree.proofs.Missing.{was_missed}
+use Rattle.nm_tree.proofs.Disturbed.{many_disturbed}
 use Rattle.nm_tree.proofs.Quiet.{quiet_so}
 use Rattle.nm_tree.proofs.Staying.{stays, resting_in, rests_in, rests_as, free_in}
 use Rattle.nm_tree.proofs.tree.Tree.has_many.Goals as goal
@@ -35,9 +34,15 @@ returns c = record {
   disturbed = λ is. (
       elim c.match-has_many.branch [
         | in-Ok w ↦ absurd (let both = sym w.result-is ∙ is in cc)
-        | in-Err w ↦ subst (λ (b : Board). WasMissed (GiveUp b.layout (map key_of c.args.queries.now)) c.args.tries c.args.worker.now.pass c.has_many.new.pass) c.self.view_is
-            (was_missed (GiveUp c.self.inside.shared.layout (map key_of c.args.queries.now)) c.args.tries c.worker.inside.pass c.args.worker.now.pass c.has_many.new.pass (ap (λ (x : Hand). x.pass) c.worker.view_is)
-            c.is_of_a_run.ensures.seen w.is_of_a_run-in-Err.ensures.seen c.is_of_a_run.ensures.fits c.has_many.ensures.same c.has_many.ensures.past w.in-Err.ensures.missed)
+        | in-Err w ↦ many_disturbed c.self.inside.shared c.args.self.now c.worker.inside.pass c.args.worker.now.pass c.has_many.new.pass 0 c.args.tries c.self.view_is (ap (λ (x : Hand). x.pass) c.worker.view_is)
+            c.is_of_a_run.ensures.seen w.is_of_a_run-in-Err.ensures.seen c.is_of_a_run.ensures.fits c.has_many.ensures.same c.has_many.ensures.past c.requires.own (map key_of c.args.queries.now) w.in-Err.ensures.missed
+      ]
+      );
+  alone = λ alone is. (
+      elim c.match-has_many.branch [
+        | in-Ok w ↦ absurd (let both = sym w.result-is ∙ is in cc)
+        | in-Err w ↦ many_alone c.args.worker.now.pass c.has_many.new.pass c.args.tries alone (many_disturbed c.self.inside.shared c.args.self.now c.worker.inside.pass c.args.worker.now.pass c.has_many.new.pass 0 c.args.tries c.self.view_is (ap (λ (x : Hand). x.pass) c.worker.view_is)
+            c.is_of_a_run.ensures.seen w.is_of_a_run-in-Err.ensures.seen c.is_of_a_run.ensures.fits c.has_many.ensures.same c.has_many.ensures.past c.requires.own (map key_of c.args.queries.now) w.in-Err.ensures.missed)
       ]
       );
   moment = search rules;

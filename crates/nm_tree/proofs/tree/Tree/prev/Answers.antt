@@ -1,11 +1,12 @@
-use Rattle.std.proofs.Common.{rules, ◌≡◌, ap, sym, subst, ◌∙◌}
-use Rattle.nm_steps.specs.Steps.{Board}
+use Rattle.std.proofs.Common.{rules, ◌≡◌, ap, sym, ◌∙◌}
+use Rattle.std.specs.Prelude.{IsErrOf}
 use Rattle.nm_steps.proofs.Seeing.{seen_all}
-use Rattle.nm_calls.specs.PrevKeys.{GiveUp}
 use Rattle.nm_tree.specs.declared.worker.Standing.TheVariants as standing
-use Rattle.nm_tree.specs.Looked.{WasMissed}
+use Rattle.nm_busy.specs.Walked.{NearWasBusy}
+use Rattle.nm_busy.proofs.AloneCalls.{near_alone}
+use Rattle.nm_tree.specs.declared.fault.Fault.TheVariants as fault
 use Rattle.nm_tree.specs.Workers.{Hand}
-use Rattle.nm_tree.proofs.Missing.{was_missed}
+use Rattle.nm_tree.proofs.Disturbed.{prev_disturbed}
 use Rattle.nm_tree.proofs.Quiet.{quiet_so}
 use Rattle.nm_tree.proofs.Staying.{stays, resting_in, rests_in, rests_as, free_in}
 use Rattle.nm_tree.proofs.tree.Tree.prev.Goals as goal
@@ -21,6 +22,14 @@ invariant_of-worker c =
     c.prev.ensures.hands.private (c.prev.ensures.hands.ledgers was.labelled)
     (rests_as c.prev.new.pass c.worker.inside.standing (resting c) c.prev.ensures.rests)
 
+why : (c : goal.Joined-prev) → IsErrOf c.match-prev.result fault.Busy → NearWasBusy c.args.worker.now.pass c.prev.new.pass c.args.tries
+why c is =
+    elim c.match-prev.branch [
+      | in-Ok w ↦ absurd (let both = sym w.result-is ∙ is in cc)
+      | in-Err w ↦ prev_disturbed c.self.inside.shared c.args.self.now c.worker.inside.pass c.args.worker.now.pass c.prev.new.pass c.args.key c.args.tries c.self.view_is (ap (λ (x : Hand). x.pass) c.worker.view_is)
+          c.is_of_a_run.ensures.seen w.is_of_a_run-in-Err.ensures.seen c.is_of_a_run.ensures.fits c.prev.ensures.same c.prev.ensures.past c.requires.own w.in-Err.ensures.missed
+    ]
+
 pub returns : goal.returns
 returns c = record {
   same = search rules;
@@ -31,14 +40,8 @@ returns c = record {
         | in-Err w ↦ rw (w.result-is, ← c.worker.view_is, ← c.self.view_is) (free_in c.worker.inside.standing (resting c), w.in-Err.ensures.missed)
       ]
       );
-  disturbed = λ is. (
-      elim c.match-prev.branch [
-        | in-Ok w ↦ absurd (let both = sym w.result-is ∙ is in cc)
-        | in-Err w ↦ subst (λ (b : Board). WasMissed (GiveUp b.layout c.args.tries c.args.key) c.args.tries c.args.worker.now.pass c.prev.new.pass) c.self.view_is
-            (was_missed (GiveUp c.self.inside.shared.layout c.args.tries c.args.key) c.args.tries c.worker.inside.pass c.args.worker.now.pass c.prev.new.pass (ap (λ (x : Hand). x.pass) c.worker.view_is)
-            c.is_of_a_run.ensures.seen w.is_of_a_run-in-Err.ensures.seen c.is_of_a_run.ensures.fits c.prev.ensures.same c.prev.ensures.past w.in-Err.ensures.missed)
-      ]
-      );
+  disturbed = why c;
+  alone = λ alone is. near_alone c.args.worker.now.pass c.prev.new.pass c.args.tries alone (why c is);
   moment = search rules;
   won = search rules;
   steps = search rules;
