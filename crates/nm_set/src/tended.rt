@@ -3,7 +3,7 @@
 ghost use Rattle.std.specs.Prelude.{◌≡◌, ◌≢◌, ◌≤◌, ◌+◌, ◌-◌, ◌*◌, true, false, None, Err};
 ghost use Rattle.nm_model.specs.declared.event.Op.TheVariants.{Has, Insert, Delete};
 ghost use Rattle.nm_tree.specs.declared.fault.Fault.TheVariants as lost;
-ghost use Rattle.nm_tree.specs.Calls.{LeavesInsert, LeavesDelete};
+ghost use Rattle.nm_tree.specs.Calls.{LeavesHas, LeavesInsert, LeavesDelete};
 ghost use Rattle.nm_tree.specs.Workers.{Hand, IsIdle};
 ghost use Rattle.nm_set.specs.Asked.{Asked};
 ghost use Rattle.nm_set.specs.Tended.{busy, Looks, Inserts, Deletes, FinishesPending, IsRelieved, InsertsOn, DeletesOn, SaysTended, WasDisturbed, WasHeldUp, TendsHas, TendsInsert, TendsDelete};
@@ -94,6 +94,7 @@ impl Member {
     /// earlier call is not finished, and this call has done nothing else. `Busy`: each of the
     /// look-ups has lost each of its tries, or there might be none: other workers have moved the
     /// epoch on, or linked or cut off nodes, at least so often meanwhile.
+    #[inline(always)]
     pub fn contains(&mut self, key: Key, habit: &Habit) -> Result<bool, Fault>
         ensures board { self.new.board ≡ self.old.board }
         ensures says { SaysTended Has self.old.board habit.now key self.old.hand self.new.hand
@@ -122,6 +123,7 @@ impl Member {
     /// `Held`, `Pending`, `Busy`: as `contains` tells them. `Full`: no slot was free for a new
     /// node, and none behind the collection either. `NoMemory`: the room of a try was refused, and
     /// nothing of the insert stands but help given to others.
+    #[inline(always)]
     pub fn insert(&mut self, key: Key, habit: &Habit) -> Result<bool, Fault>
         ensures board { self.new.board ≡ self.old.board }
         ensures says { SaysTended Insert self.old.board habit.now key self.old.hand self.new.hand
@@ -148,6 +150,7 @@ impl Member {
     /// refused before the leaf was flagged. `Unfinished`: the leaf is flagged, so that the key goes
     /// and no other delete of it answers true, and it is not known to be cut off: the key is
     /// pending, and the next call that tends the set finishes it first.
+    #[inline(always)]
     pub fn remove(&mut self, key: Key, habit: &Habit) -> Result<bool, Fault>
         ensures board { self.new.board ≡ self.old.board }
         ensures says { SaysTended Delete self.old.board habit.now key self.old.hand self.new.hand
@@ -330,7 +333,22 @@ impl Member {
         ensures board { self.new.board ≡ self.old.board }
         ensures did { Looks self.old.board habit.now key self.old.hand self.new.hand result }
     {
-        let told = self.try_contains(key, habit.tries);
+        match self.try_contains(key, habit.tries) {
+            Ok(answer) => Ok(answer),
+            Err(fault) => self.has_behind(key, habit, fault),
+        }
+    }
+
+    /// What is done of them behind a first look-up that has told this fault. What it keeps in memory
+    /// for `has_rounds` is made here, out of the way of a look-up that answers.
+    #[inline(always)]
+    fn has_behind(&mut self, key: Key, habit: &Habit, fault: Fault) -> Result<bool, Fault>
+        ensures board { self.new.board ≡ self.old.board }
+        ensures did { (w : Hand)
+            → Asked (LeavesHas self.old.board.layout habit.now.tries key) w self.old.hand
+            (Err fault) → Looks self.old.board habit.now key w self.new.hand result }
+    {
+        let told = Err(fault);
         if !is_busy(&told) || habit.rounds == 0 {
             return told;
         }

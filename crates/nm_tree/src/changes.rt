@@ -145,6 +145,7 @@ impl Tree {
     /// the fewest blocks, and no other memory is taken. `Pending`: a key is pending. `Busy`,
     /// `Full`, `NoMemory`: see `Fault`. The worker is not held. (The insert of Natarajan and
     /// Mittal, section 3.2.)
+    #[inline(always)]
     pub fn insert(&self, worker: &mut Worker, key: Key, tries: u32) -> Result<bool, Fault>
         requires { MayCall self.now worker.old }
         ensures says { SaysInsert self.now.layout tries key worker.old worker.new result }
