@@ -55,6 +55,18 @@ fn a_near_claim_looks_where_a_slot_was_given_back_last(rt: HostRuntime) -> Resul
 }
 
 #[test]
+fn a_near_claim_looks_where_the_lowest_slot_was_given_back(rt: HostRuntime) -> Result<(), Fail> {
+    let (shared, passes) = Shared::new(rt.alloc(), Layout::new(TWO_ROWS, 1)?)?;
+    let mut pass = only(&shared, passes);
+    let mut near = Placement::new(Fit::Near, 66);
+    near.keep(67);
+    near.keep(6);
+    near.keep(65);
+    assert_eq!(rt; claim_by(&shared, &mut pass, &mut near), first_of(6));
+    Ok(())
+}
+
+#[test]
 fn a_near_claim_begins_at_slot_6_where_it_knows_no_other(rt: HostRuntime) -> Result<(), Fail> {
     let (shared, passes) = Shared::new(rt.alloc(), Layout::new(NODES, 1)?)?;
     let mut pass = only(&shared, passes);

@@ -17,7 +17,7 @@ pub enum Fit {
     /// From slot 6 upwards at each claim: first fit.
     Lowest,
     /// From the first slot of a row of 64 upwards, and round: the row of the slot which the worker
-    /// found last or, since then, gave back first: next fit.
+    /// found last or, where it gave some back since then, of the lowest of these: next fit.
     Near,
 }
 
@@ -30,9 +30,9 @@ pub enum Fit {
 pub struct Placement {
     fit: Fit,
     // The slot in whose row a near worker looks first: the one that it found last or, where some
-    // were given back since then, the first of these. Nodes are given back in the order in which
-    // they were cut off, so the others mostly lie ahead of the first; from the last one on a claim
-    // would come to them only once it had gone round.
+    // were given back since then, the lowest of these. So the others lie ahead; from another one on
+    // a claim would come to those below only once it had gone round, and the nodes of a small set
+    // would wander over all slots, where the processor has them no longer at hand.
     cursor: u32,
     // Whether some were given back since the last claim.
     is_given: bool,
@@ -66,12 +66,12 @@ impl Placement {
         self.fit
     }
 
-    /// Remembers a slot that was given back where it is the first one since the last claim: a near
+    /// Remembers a slot that was given back where it is the lowest one since the last claim: a near
     /// claim looks in its row first.
     pub fn keep(&mut self, slot: u32)
         ensures { self.new ≡ self.old }
     {
-        if !self.is_given {
+        if !self.is_given || slot < self.cursor {
             self.cursor = slot;
         }
         self.is_given = true;
