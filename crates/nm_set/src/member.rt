@@ -97,6 +97,14 @@ impl Member {
         self.guest.worker.is_of_a_run();
     }
 
+    /// Nothing is left open between two calls: `Worker::is_between_calls` of `nm_tree`. It does
+    /// nothing.
+    pub fn is_between_calls(&self)
+        ensures { IsBetweenCalls self.now.hand }
+    {
+        self.guest.worker.is_between_calls();
+    }
+
     /// Whether the set has the key: `Tree::has` of `nm_tree`.
     ///
     /// `Held`: the caller holds the worker. Other faults are the tree's.
