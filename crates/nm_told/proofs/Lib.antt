@@ -19,5 +19,6 @@ pub mod Schedulers
 pub mod RunSums
 pub mod AddedUp
 pub mod Working
+pub mod Blamed
 mod AnswersInRuns
 mod Counting

@@ -6,3 +6,4 @@ pub mod Adding
 pub mod Taking
 pub mod Tallies
 pub mod Queues
+pub mod Blame

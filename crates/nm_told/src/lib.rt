@@ -5,6 +5,7 @@
 mod alone;
 mod beside;
 mod fresh;
+mod full;
 mod least;
 mod members;
 mod others;
@@ -21,6 +22,7 @@ mod trees;
 pub use alone::{insert_alone, look_alone};
 pub use beside::{delete_beside, insert_beside};
 pub use fresh::{Looked, look_first, look_in_new, look_in_new_of_one, look_only};
+pub use full::add_or_blame;
 pub use least::{Taken, take_at_once, take_both, take_in_threads};
 pub use members::{add_then_find, put_again, put_and_take, put_back, remove_then_miss, take_once};
 pub use others::{PutAndTaken, put_and_take_alone, put_and_take_in_new};
