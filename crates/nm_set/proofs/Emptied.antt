@@ -21,6 +21,8 @@ use Rattle.nm_model.specs.Lawful.{NoLabelIsAboveTheEpoch}
 use Rattle.nm_model.specs.Runs.{State, of, reply_of}
 use Rattle.nm_model.specs.Step.{reply, reply_sight, reply_scan, last_number}
 use Rattle.nm_model.specs.Walks.{Entry as LogEntry}
+use Rattle.nm_model.specs.declared.trace.Turn.{Turn}
+use Rattle.nm_laws.proofs.Configurations.{after_in-append}
 use Rattle.nm_model.specs.Ordered.{Configuration, ordered, after_in, trace_in}
 use Rattle.nm_laws.proofs.Labels.{no_label_is_above}
 use Rattle.nm_order.specs.Logs.{part_of, known_by, IsLogOf}
@@ -29,6 +31,7 @@ use Rattle.nm_order.proofs.LastEntries.{known_more}
 use Rattle.nm_order.proofs.OrderedLaws.{each_ordered, law_of_state}
 use Rattle.nm_order.proofs.PartsOfRuns.{logs_tell}
 use Rattle.nm_order.proofs.ReadEpochs.{confirmed_finds, epochs_are_read_in_order}
+use Rattle.nm_progress.specs.Moves.{number_of, moves}
 use Rattle.nm_progress.proofs.Moves.{epochs_are_the_moves}
 use Rattle.nm_progress.proofs.SplitTurns.{SplitTurn, split_turn}
 use Rattle.nm_steps.specs.Rules.{Extends, knowledge}
@@ -43,11 +46,12 @@ use Rattle.nm_epoch.specs.Resting.{epochs}
 use Rattle.nm_epoch.specs.Scans.{AllLetPass, LooksAt, IsAdvance, SightThenScans}
 use Rattle.nm_epoch.proofs.Fronts.{shown_queue}
 use Rattle.nm_calls.specs.PlainWalks.{events_of}
-use Rattle.nm_calls.proofs.PlainLooks.{as_events}
+use Rattle.nm_calls.proofs.PlainLooks.{as_events, events_go_on}
 use Rattle.nm_busy.proofs.LostPins.{part-append, turns_between}
 use Rattle.nm_tree.specs.Workers.{Hand, IsAs, IsBetweenCalls, waiting_in}
 use Rattle.nm_tree.specs.Calls.{LeavesAdvance, LeavesCollect}
-use Rattle.nm_set.specs.Tended.{IsRelieved, AllWereFreed, FindsBehind, WasElsewhere, found_behind}
+use Rattle.nm_set.specs.Tended.{IsRelieved, FindsBehind, HasReadSince, WasElsewhere, WasMovedOn, found_behind}
+use Rattle.nm_set.proofs.Tending.{Follows, follows_then}
 
 -- ---- what is ripe
 
@@ -161,17 +165,28 @@ first_epoch w e r c more rest tells is = by (split_turn w more c [] (event.Sight
 
 -- ---- from one moment of a pass to a later one
 
--- what a call adds to the log
-part_between : (p q : Stand) (adds : List LogEntry) → HasSeen p.view → HasSeen q.view → IsSamePass p q → (e : Extends q.view.past p.view.past) → q.view.log ≡ p.view.log ++ adds
-    → part_of p.view.number (trace_in (after_in (ordered p.view.layout) (events_of p.view.past)) (events_of e.more)) ≡ adds
-part_between p q adds seen_p seen_q same e is =
+-- what a call adds to the log is the worker's part of what it has seen since
+part_since : (p q : Stand) (adds : List LogEntry) → HasSeen p.view → HasSeen q.view → IsSamePass p q → (e : Extends q.view.past p.view.past) → q.view.log ≡ p.view.log ++ adds → part_of p.view.number e.more ≡ adds
+part_since p q adds seen_p seen_q same e is =
     let number : q.view.number ≡ p.view.number = ap (λ (s : Stand). s.view.number) same in
-    let more : part_of p.view.number e.more ≡ adds = append_cancel_left p.view.log _ adds
+    append_cancel_left p.view.log _ adds
     (ap (λ (l : List LogEntry). l ++ part_of p.view.number e.more) (sym seen_p.is_part)
     ∙ (sym (part-append p.view.number p.view.past e.more)
     ∙ (ap (part_of p.view.number) (sym e.is)
-    ∙ (ap (λ (w : ℕ). part_of w q.view.past) (sym number) ∙ (seen_q.is_part ∙ is))))) in
-    ap (part_of p.view.number) (turns_between p q seen_p seen_q same e) ∙ more
+    ∙ (ap (λ (w : ℕ). part_of w q.view.past) (sym number) ∙ (seen_q.is_part ∙ is)))))
+
+part_between : (p q : Stand) (adds : List LogEntry) → HasSeen p.view → HasSeen q.view → IsSamePass p q → (e : Extends q.view.past p.view.past) → q.view.log ≡ p.view.log ++ adds
+    → part_of p.view.number (trace_in (after_in (ordered p.view.layout) (events_of p.view.past)) (events_of e.more)) ≡ adds
+part_between p q adds seen_p seen_q same e is = ap (part_of p.view.number) (turns_between p q seen_p seen_q same e) ∙ part_since p q adds seen_p seen_q same e is
+
+-- the epoch grows by its moves
+epoch_between : (p q : Stand) → HasSeen p.view → HasSeen q.view → IsSamePass p q → (e : Extends q.view.past p.view.past) → epoch_seen q ≡ epoch_seen p + number_of moves e.more
+epoch_between p q seen_p seen_q same e =
+    ap (λ (L : Layout). (after_in (ordered L) (events_of q.view.past)).state.memory.epoch) (ap (λ (s : Stand). s.view.layout) same)
+    ∙ (ap (λ (es : List (ℕ × Event)). (after_in (ordered p.view.layout) es).state.memory.epoch) (events_go_on q.view.past p.view.past e)
+    ∙ (ap (λ (c : Configuration). c.state.memory.epoch) (after_in-append (ordered p.view.layout) (events_of p.view.past) (events_of e.more))
+    ∙ (epochs_are_the_moves (after_in (ordered p.view.layout) (events_of p.view.past)) (events_of e.more)
+    ∙ ap (λ (ts : List Turn). epoch_seen p + number_of moves ts) (turns_between p q seen_p seen_q same e))))
 
 -- a call that begins with a sight reads no epoch below that which had been seen
 reads_no_less : (p q : Stand) (e : ℕ) (r : Reply) (rest : List LogEntry) → HasSeen p.view → HasSeen q.view → IsSamePass p q → HasSeenAllOf q p → sight_epoch r ≡ Some e → q.view.log ≡ p.view.log ++ (event.Sight, r) ∷ rest → epoch_seen p ≤ e
@@ -317,7 +332,11 @@ collect_reads n w z c seen_w seen_z l =
     reads_no_less w.pass z.pass c.epoch sight.0 (map freeing (ripe_of c.epoch w.queues)) seen_w seen_z l.same l.past sight.1
     (l.did.2 ∙ (ap (λ (old : List LogEntry). old ++ map freeing (ripe_of c.epoch w.queues)) sight.2 ∙ append_assoc w.pass.view.log ((event.Sight, sight.0) ∷ []) (map freeing (ripe_of c.epoch w.queues))))
 
-all_freed : (b : Board) (w z : Hand) (r : IsRelieved b w z) → AreSeen r → HasMoved r.moved → HasMoved r.moved_again → (r.collected.freed ≡ waiting_in w.queues) × (waiting_in z.queues ≡ 0)
+-- the pass goes on
+goes_on : (b : Board) (w z : Hand) (r : IsRelieved b w z) → Follows w.pass z.pass
+goes_on b w z r = follows_then w.pass r.twice.pass z.pass (follows_then w.pass r.once.pass r.twice.pass (record { same = r.moves.same; past = r.moves.past }) (record { same = r.moves_again.same; past = r.moves_again.past })) (record { same = r.collects.same; past = r.collects.past })
+
+all_freed : (b : Board) (w z : Hand) (r : IsRelieved b w z) → AreSeen r → HasMoved r.moved → HasMoved r.moved_again → WasMovedOn w.pass z.pass 2 × (r.collected.freed ≡ waiting_in w.queues) × (waiting_in z.queues ≡ 0)
 all_freed b w z r s moved again =
     let m = b.layout.workers in
     let layout : r.once.pass.view.layout ≡ w.pass.view.layout = ap (λ (p : Stand). p.view.layout) r.moves.same in
@@ -329,7 +348,10 @@ all_freed b w z r s moved again =
     let queues : r.twice.queues ≡ w.queues = r.moves_again.queues ∙ r.moves.queues in
     let lost = subst (λ (hs : List HeldQueue). HaveLost r.collected.epoch hs z.queues) queues r.collects.lost in
     let count : r.collected.freed ≡ length (ripe_of r.collected.epoch w.queues) = subst (λ (hs : List HeldQueue). r.collected.freed ≡ length (ripe_of r.collected.epoch hs)) queues r.collects.freed in
-    (count ∙ all_of_them r.collected.epoch (epoch_seen w.pass) w.queues late are, emptied r.collected.epoch (epoch_seen w.pass) w.queues z.queues late are lost)
+    let on = goes_on b w z r in
+    let grown = epoch_between w.pass z.pass s.first s.last on.same on.past.goes_on in
+    let later = epoch_between r.twice.pass z.pass s.third s.last r.collects.same r.collects.past.goes_on in
+    (record { turns = on.past.goes_on.more; is = on.past.goes_on.is; moved = omega (arith, one, two, grown, later) }, count ∙ all_of_them r.collected.epoch (epoch_seen w.pass) w.queues late are, emptied r.collected.epoch (epoch_seen w.pass) w.queues z.queues late are lost)
 
 -- by what each of both advances answered
 moved_or : (a : Advance) → ((worker at : ℕ) → a ≢ advance.Held worker at) → (a ≡ advance.Spent) ⊎ HasMoved a
@@ -356,20 +378,12 @@ none_held advance.Spent (advance.Moved f) is = (λ v a h. (cc), λ v a h. (cc))
 none_held advance.Spent (advance.Lost f) is = (λ v a h. (cc), λ v a h. (cc))
 none_held advance.Spent advance.Spent is = (λ v a h. (cc), λ v a h. (cc))
 
-freed_or_last : (b : Board) (w z : Hand) (r : IsRelieved b w z) → AreSeen r → found_behind r.moved r.moved_again ≡ None → AllWereFreed r
-freed_or_last b w z r s none = by (moved_or r.moved (none_held r.moved r.moved_again none).0) (moved_or r.moved_again (none_held r.moved r.moved_again none).1)
-  where
-    by : (r.moved ≡ advance.Spent) ⊎ HasMoved r.moved → (r.moved_again ≡ advance.Spent) ⊎ HasMoved r.moved_again → AllWereFreed r
-    by (inl spent) second = inl spent
-    by (inr first) (inl spent) = inr (inl spent)
-    by (inr first) (inr second) = inr (inr (all_freed b w z r s first second))
-
 -- ---- who is held
 
-abbrev pub Adds : List LogEntry → List LogEntry → Type 0
+abbrev Adds : List LogEntry → List LogEntry → Type 0
 Adds old new = (xs : List LogEntry) × (new ≡ old ++ xs)
 
-pub adds_then : (a b c : List LogEntry) → Adds a b → Adds b c → Adds a c
+adds_then : (a b c : List LogEntry) → Adds a b → Adds b c → Adds a c
 adds_then a b c (xs, is) (ys, then') = (xs ++ ys, then' ∙ (ap (λ (l : List LogEntry). l ++ ys) is ∙ append_assoc a xs ys))
 
 -- a sight of the epoch and scans, of which none lets the epoch pass less
@@ -385,17 +399,32 @@ look_adds : (me v : ℕ) (pin found : Option ℕ) (old new : List LogEntry) → 
 look_adds me v pin found old new (inl own) = ([], own.2 ∙ sym (append-nil old))
 look_adds me v pin found old new (inr other) = ((event.Scan v, reply_scan found) ∷ [], other.1)
 
-pub advance_adds : (m me : ℕ) (pin : Option ℕ) (old new : List LogEntry) (a : Advance) → IsAdvance m me pin old new a → Adds old new
+advance_adds : (m me : ℕ) (pin : Option ℕ) (old new : List LogEntry) (a : Advance) → IsAdvance m me pin old new a → Adds old new
 advance_adds m me pin old new (advance.Moved next) (e, mid, scans, is, ends) = adds_then old mid new (scanned_adds m me e pin old mid scans) ((event.Advance, reply.Moved next) ∷ [], ends)
 advance_adds m me pin old new (advance.Lost found) (e, mid, scans, is, ends) = adds_then old mid new (scanned_adds m me e pin old mid scans) ((event.Advance, reply.Behind found) ∷ [], ends)
 advance_adds m me pin old new (advance.Held worker at) (e, mid, scans, below, apart, look) = adds_then old mid new (scanned_adds worker me e pin old mid scans) (look_adds me worker pin (Some at) mid new look)
 advance_adds m me pin old new advance.Spent scans = scanned_adds m me last_number pin old new scans
 
-pub collect_adds : (n : ℕ) (w z : Hand) (c : Collected) → LeavesCollect n w z c → Adds w.pass.view.log z.pass.view.log
+collect_adds : (n : ℕ) (w z : Hand) (c : Collected) → LeavesCollect n w z c → Adds w.pass.view.log z.pass.view.log
 collect_adds n w z c l = adds_then w.pass.view.log l.did.0 z.pass.view.log ((event.Sight, l.did.1.0) ∷ [], l.did.1.2) (map freeing (ripe_of c.epoch w.queues), l.did.2)
 
+-- between two logs the epoch was read, and worker i was found announcing another one
+record FoundIn (old new : List LogEntry) (i : ℕ) : Type 0 where
+  adds : List LogEntry
+  is : new ≡ old ++ adds
+  epoch : ℕ
+  read : HasRead adds epoch
+  at : ℕ
+  found : Contains adds (event.Scan i, reply.In at)
+  apart : at ≢ epoch
+
+record ReadIn (old new : List LogEntry) (epoch : ℕ) : Type 0 where
+  adds : List LogEntry
+  is : new ≡ old ++ adds
+  read : HasRead adds epoch
+
 -- what was found so between two logs was so between an earlier one and a later one
-pub elsewhere_within : (a b c d : List LogEntry) (i : ℕ) → Adds a b → WasElsewhere b c i → Adds c d → WasElsewhere a d i
+elsewhere_within : (a b c d : List LogEntry) (i : ℕ) → Adds a b → FoundIn b c i → Adds c d → FoundIn a d i
 elsewhere_within a b c d i (xs, first) was (ys, last) = record {
   adds = xs ++ (was.adds ++ ys);
   is = last ∙ (ap (λ (l : List LogEntry). l ++ ys) (was.is ∙ ap (λ (l : List LogEntry). l ++ was.adds) first)
@@ -410,19 +439,54 @@ elsewhere_within a b c d i (xs, first) was (ys, last) = record {
     among : (e : LogEntry) → Contains was.adds e → Contains (xs ++ (was.adds ++ ys)) e
     among e there = Contains-append_right xs (was.adds ++ ys) e (Contains-append_left was.adds ys e there)
 
--- the epoch that was read is one of a later log
-pub read_within : (a b : List LogEntry) (e : ℕ) → Adds a b → HasRead a e → HasRead b e
-read_within a b e (xs, is) was = record { entry = was.entry; among = subst (λ (l : List LogEntry). Contains l was.entry) (sym is) (Contains-append_left a xs was.entry was.among); tells = was.tells }
+-- and an epoch that was read between them
+read_within : (a b c d : List LogEntry) (e : ℕ) → Adds a b → ReadIn b c e → Adds c d → ReadIn a d e
+read_within a b c d e (xs, first) was (ys, last) = record {
+  adds = xs ++ (was.adds ++ ys);
+  is = last ∙ (ap (λ (l : List LogEntry). l ++ ys) (was.is ∙ ap (λ (l : List LogEntry). l ++ was.adds) first)
+      ∙ (append_assoc (a ++ xs) was.adds ys ∙ append_assoc a xs (was.adds ++ ys)));
+  read = record { entry = was.read.entry; among = Contains-append_right xs (was.adds ++ ys) was.read.entry (Contains-append_left was.adds ys was.read.entry was.read.among); tells = was.read.tells };
+}
 
 -- an advance that was spent has read the last epoch
-pub last_read : (m me : ℕ) (pin : Option ℕ) (old new : List LogEntry) → IsAdvance m me pin old new advance.Spent → HasRead new last_number
+last_read : (m me : ℕ) (pin : Option ℕ) (old new : List LogEntry) → IsAdvance m me pin old new advance.Spent → ReadIn old new last_number
 last_read m me pin old new s =
     let all = scanned m me last_number pin old new s in
     record {
-      entry = (event.Sight, s.1.0);
-      among = subst (λ (l : List LogEntry). Contains l (event.Sight, s.1.0)) (sym all.1) (Contains-append_right old ((event.Sight, s.1.0) ∷ all.0) (event.Sight, s.1.0) (zero, omega arith, refl));
-      tells = s.1.1;
+      adds = (event.Sight, s.1.0) ∷ all.0;
+      is = all.1;
+      read = record { entry = (event.Sight, s.1.0); among = (zero, omega arith, refl); tells = s.1.1 };
     }
+
+last_since : (b : Board) (w z : Hand) (r : IsRelieved b w z) → AreSeen r → (r.moved ≡ advance.Spent) ⊎ (r.moved_again ≡ advance.Spent) → HasReadSince w.pass z.pass last_number
+last_since b w z r s spent = by (log spent)
+  where
+    m : ℕ
+    m = b.layout.workers
+
+    log : (r.moved ≡ advance.Spent) ⊎ (r.moved_again ≡ advance.Spent) → ReadIn w.pass.view.log z.pass.view.log last_number
+    log (inl first) =
+        read_within w.pass.view.log w.pass.view.log r.once.pass.view.log z.pass.view.log last_number ([], sym (append-nil w.pass.view.log))
+        (last_read b.layout.workers w.pass.view.number (epochs w.pass).pin w.pass.view.log r.once.pass.view.log (subst (λ (a : Advance). IsAdvance b.layout.workers w.pass.view.number (epochs w.pass).pin w.pass.view.log r.once.pass.view.log a) first r.moves.did))
+        (adds_then r.once.pass.view.log r.twice.pass.view.log z.pass.view.log (advance_adds b.layout.workers r.once.pass.view.number (epochs r.once.pass).pin r.once.pass.view.log r.twice.pass.view.log r.moved_again r.moves_again.did) (collect_adds b.layout.nodes r.twice z r.collected r.collects))
+    log (inr second) =
+        read_within w.pass.view.log r.once.pass.view.log r.twice.pass.view.log z.pass.view.log last_number (advance_adds b.layout.workers w.pass.view.number (epochs w.pass).pin w.pass.view.log r.once.pass.view.log r.moved r.moves.did)
+        (last_read b.layout.workers r.once.pass.view.number (epochs r.once.pass).pin r.once.pass.view.log r.twice.pass.view.log (subst (λ (a : Advance). IsAdvance b.layout.workers r.once.pass.view.number (epochs r.once.pass).pin r.once.pass.view.log r.twice.pass.view.log a) second r.moves_again.did))
+        (collect_adds b.layout.nodes r.twice z r.collected r.collects)
+
+    by : ReadIn w.pass.view.log z.pass.view.log last_number → HasReadSince w.pass z.pass last_number
+    by l =
+        let on = goes_on b w z r in
+        let part = part_since w.pass z.pass l.adds s.first s.last on.same on.past.goes_on l.is in
+        record { turns = on.past.goes_on.more; is = on.past.goes_on.is; read = subst (λ (es : List LogEntry). HasRead es last_number) (sym part) l.read }
+
+freed_or_last : (b : Board) (w z : Hand) (r : IsRelieved b w z) → AreSeen r → found_behind r.moved r.moved_again ≡ None → HasReadSince w.pass z.pass last_number ⊎ (WasMovedOn w.pass z.pass 2 × (r.collected.freed ≡ waiting_in w.queues) × (waiting_in z.queues ≡ 0))
+freed_or_last b w z r s none = by (moved_or r.moved (none_held r.moved r.moved_again none).0) (moved_or r.moved_again (none_held r.moved r.moved_again none).1)
+  where
+    by : (r.moved ≡ advance.Spent) ⊎ HasMoved r.moved → (r.moved_again ≡ advance.Spent) ⊎ HasMoved r.moved_again → HasReadSince w.pass z.pass last_number ⊎ (WasMovedOn w.pass z.pass 2 × (r.collected.freed ≡ waiting_in w.queues) × (waiting_in z.queues ≡ 0))
+    by (inl spent) second = inl (last_since b w z r s (inl spent))
+    by (inr first) (inl spent) = inl (last_since b w z r s (inr spent))
+    by (inr first) (inr second) = inr (all_freed b w z r s first second)
 
 -- a worker that rests finds another one, elsewhere
 resting : (w : Hand) → IsBetweenCalls w → w.pending ≡ None → w.held ≡ None → (epochs w.pass).pin ≡ None
@@ -430,7 +494,7 @@ resting w between none free =
     let rests : IsAs w.pass None None = subst (λ (h : Option ℕ). IsAs w.pass None h) free (subst (λ p. IsAs w.pass p w.held) none between.stands) in
     rests.unpinned
 
-held_elsewhere : (m : ℕ) (w z : Hand) (worker at : ℕ) → (epochs w.pass).pin ≡ None → LeavesAdvance m w z (advance.Held worker at) → (worker ≢ w.pass.view.number) × WasElsewhere w.pass.view.log z.pass.view.log worker
+held_elsewhere : (m : ℕ) (w z : Hand) (worker at : ℕ) → (epochs w.pass).pin ≡ None → LeavesAdvance m w z (advance.Held worker at) → (worker ≢ w.pass.view.number) × FoundIn w.pass.view.log z.pass.view.log worker
 held_elsewhere m w z worker at unpinned l = by l.did
   where
     me : ℕ
@@ -439,7 +503,7 @@ held_elsewhere m w z worker at unpinned l = by l.did
     old : List LogEntry
     old = w.pass.view.log
 
-    by : IsAdvance m w.pass.view.number (epochs w.pass).pin w.pass.view.log z.pass.view.log (advance.Held worker at) → (worker ≢ w.pass.view.number) × WasElsewhere w.pass.view.log z.pass.view.log worker
+    by : IsAdvance m w.pass.view.number (epochs w.pass).pin w.pass.view.log z.pass.view.log (advance.Held worker at) → (worker ≢ w.pass.view.number) × FoundIn w.pass.view.log z.pass.view.log worker
     by (e, mid, scans, below, apart, inl own) = absurd (none-some at (sym unpinned ∙ sym own.1))
     by (e, mid, scans, below, apart, inr other) = (
       other.0,
@@ -455,7 +519,7 @@ held_elsewhere m w z worker at unpinned l = by l.did
       },
     )
 
-another : (b : Board) (w z : Hand) (r : IsRelieved b w z) → AreSeen r → w.pending ≡ None → w.held ≡ None → (i : ℕ) → found_behind r.moved r.moved_again ≡ Some i → (i ≢ w.pass.view.number) × WasElsewhere w.pass.view.log z.pass.view.log i
+another : (b : Board) (w z : Hand) (r : IsRelieved b w z) → AreSeen r → w.pending ≡ None → w.held ≡ None → (i : ℕ) → found_behind r.moved r.moved_again ≡ Some i → (i ≢ w.pass.view.number) × FoundIn w.pass.view.log z.pass.view.log i
 another b w z r s none free i is = by r.moved r.moved_again r.moves r.moves_again is
   where
     number : r.once.pass.view.number ≡ w.pass.view.number
@@ -464,20 +528,20 @@ another b w z r s none free i is = by r.moved r.moved_again r.moves r.moves_agai
     collects : Adds r.twice.pass.view.log z.pass.view.log
     collects = collect_adds b.layout.nodes r.twice z r.collected r.collects
 
-    second : (u c : ℕ) → LeavesAdvance b.layout.workers r.once r.twice (advance.Held u c) → Some u ≡ Some i → (i ≢ w.pass.view.number) × WasElsewhere w.pass.view.log z.pass.view.log i
+    second : (u c : ℕ) → LeavesAdvance b.layout.workers r.once r.twice (advance.Held u c) → Some u ≡ Some i → (i ≢ w.pass.view.number) × FoundIn w.pass.view.log z.pass.view.log i
     second u c l is =
         let was = held_elsewhere b.layout.workers r.once r.twice u c (resting r.once s.between_again (r.moves.place.0 ∙ none) (r.moves.place.1 ∙ free)) l in
         let whole = elsewhere_within w.pass.view.log r.once.pass.view.log r.twice.pass.view.log z.pass.view.log u (advance_adds b.layout.workers w.pass.view.number (epochs w.pass).pin w.pass.view.log r.once.pass.view.log r.moved r.moves.did) was.1 collects in
-        subst (λ (j : ℕ). (j ≢ w.pass.view.number) × WasElsewhere w.pass.view.log z.pass.view.log j) (same_Some u i is) ((λ e. was.0 (e ∙ sym number)), whole)
+        subst (λ (j : ℕ). (j ≢ w.pass.view.number) × FoundIn w.pass.view.log z.pass.view.log j) (same_Some u i is) ((λ e. was.0 (e ∙ sym number)), whole)
 
-    first : (v a : ℕ) → LeavesAdvance b.layout.workers w r.once (advance.Held v a) → Some v ≡ Some i → (i ≢ w.pass.view.number) × WasElsewhere w.pass.view.log z.pass.view.log i
+    first : (v a : ℕ) → LeavesAdvance b.layout.workers w r.once (advance.Held v a) → Some v ≡ Some i → (i ≢ w.pass.view.number) × FoundIn w.pass.view.log z.pass.view.log i
     first v a l is =
         let was = held_elsewhere b.layout.workers w r.once v a (resting w s.between none free) l in
         let rest = adds_then r.once.pass.view.log r.twice.pass.view.log z.pass.view.log (advance_adds b.layout.workers r.once.pass.view.number (epochs r.once.pass).pin r.once.pass.view.log r.twice.pass.view.log r.moved_again r.moves_again.did) collects in
         let whole = elsewhere_within w.pass.view.log w.pass.view.log r.once.pass.view.log z.pass.view.log v ([], sym (append-nil w.pass.view.log)) was.1 rest in
-        subst (λ (j : ℕ). (j ≢ w.pass.view.number) × WasElsewhere w.pass.view.log z.pass.view.log j) (same_Some v i is) (was.0, whole)
+        subst (λ (j : ℕ). (j ≢ w.pass.view.number) × FoundIn w.pass.view.log z.pass.view.log j) (same_Some v i is) (was.0, whole)
 
-    by : (x y : Advance) → LeavesAdvance b.layout.workers w r.once x → LeavesAdvance b.layout.workers r.once r.twice y → found_behind x y ≡ Some i → (i ≢ w.pass.view.number) × WasElsewhere w.pass.view.log z.pass.view.log i
+    by : (x y : Advance) → LeavesAdvance b.layout.workers w r.once x → LeavesAdvance b.layout.workers r.once r.twice y → found_behind x y ≡ Some i → (i ≢ w.pass.view.number) × FoundIn w.pass.view.log z.pass.view.log i
     by x (advance.Held u c) l k is = second u c k is
     by (advance.Held v a) (advance.Moved f) l k is = first v a l is
     by (advance.Held v a) (advance.Lost f) l k is = first v a l is
@@ -492,12 +556,30 @@ another b w z r s none free i is = by r.moved r.moved_again r.moves r.moves_agai
     by advance.Spent (advance.Lost f) l k is = absurd (none-some i is)
     by advance.Spent advance.Spent l k is = absurd (none-some i is)
 
+-- and so by what it has seen
+elsewhere : (b : Board) (w z : Hand) (r : IsRelieved b w z) → AreSeen r → w.pending ≡ None → w.held ≡ None → (i : ℕ) → found_behind r.moved r.moved_again ≡ Some i → (i ≢ w.pass.view.number) × WasElsewhere w.pass z.pass i
+elsewhere b w z r s none free i is = by (another b w z r s none free i is)
+  where
+    by : (i ≢ w.pass.view.number) × FoundIn w.pass.view.log z.pass.view.log i → (i ≢ w.pass.view.number) × WasElsewhere w.pass z.pass i
+    by (other, l) =
+        let on = goes_on b w z r in
+        let part = part_since w.pass z.pass l.adds s.first s.last on.same on.past.goes_on l.is in (
+          other,
+          record {
+            turns = on.past.goes_on.more;
+            is = on.past.goes_on.is;
+            epoch = l.epoch;
+            read = subst (λ (es : List LogEntry). HasRead es l.epoch) (sym part) l.read;
+            at = l.at;
+            found = subst (λ (es : List LogEntry). Contains es (event.Scan i, reply.In l.at)) (sym part) l.found;
+            apart = l.apart;
+          },
+        )
+
 pub finds_behind : (b : Board) (w z : Hand) (r : IsRelieved b w z) → AreSeen r → FindsBehind b w z (found_behind r.moved r.moved_again)
 finds_behind b w z r s = record {
   relieved = r;
   found = refl;
-  other = another b w z r s;
+  other = elsewhere b w z r s;
   freed = freed_or_last b w z r s;
-  seen = s.first;
-  seen_then = s.last;
 }

@@ -1,12 +1,23 @@
 -- What tended calls leave, by what each part of them leaves.
-use Rattle.std.proofs.Common.{◌≡◌, ◌≤◌, ◌⊎◌, inl, inr, true≢false, ℕ, zero, suc, ◌+◌, ◌-◌, ◌*◌, Bool, true, false, List, [], ◌∷◌, length, refl, sym, ap, subst, ◌∙◌, arith}
-use Rattle.std.specs.Prelude.{drop, unwrap_or, Option, Some, None, IsSome, Result, Ok, Err, IfOk, is_ok}
+use Rattle.std.proofs.Common.{◌≡◌, ◌≤◌, ◌⊎◌, inl, inr, true≢false, ℕ, zero, suc, ◌+◌, ◌-◌, ◌*◌, Bool, true, false, List, [], ◌∷◌, ◌++◌, append_assoc, length, refl, sym, ap, subst, ◌∙◌, arith}
+use Rattle.std.specs.Prelude.{drop, unwrap_or, Option, Some, None, IsSome, Result, Ok, Err, IfOk, is_ok, Contains}
 use Rattle.std.proofs.Math.Nat.{suc-mul, add-mul, mul-le-mul_right}
 use Rattle.std.proofs.lemmas.List.{drop-drop}
+use Rattle.std.proofs.lemmas.List.Elements.{Contains-append_left, Contains-append_right}
 use Rattle.nm_edge.specs.declared.node.NodeId.{NodeId}
 use Rattle.nm_edge.specs.Layouts.{Layout}
 use Rattle.nm_model.specs.declared.event.Op.{Op}
 use Rattle.nm_model.specs.declared.event.Op.TheVariants.{Has, Insert, Delete}
+use Rattle.nm_model.specs.declared.event.Event.TheVariants.{Scan}
+use Rattle.nm_model.specs.declared.reply.Reply.TheVariants.{In}
+use Rattle.nm_model.specs.declared.trace.Turn.{Turn}
+use Rattle.nm_model.specs.Step.{last_number}
+use Rattle.nm_model.specs.Walks.{Entry as LogEntry}
+use Rattle.nm_order.specs.Logs.{part_of}
+use Rattle.nm_order.specs.Reads.{HasRead}
+use Rattle.nm_progress.specs.Moves.{number_of, moves}
+use Rattle.nm_progress.proofs.SplitTurns.{number-append}
+use Rattle.nm_busy.proofs.LostPins.{part-append}
 use Rattle.nm_steps.specs.Steps.{Board, Stand, IsSamePass, HasSeenAllOf}
 use Rattle.nm_steps.proofs.Seeing.{seen_itself, seen_through}
 use Rattle.nm_epoch.specs.declared.answers.Advance.{Advance}
@@ -33,7 +44,7 @@ use Rattle.nm_set.specs.declared.fault.InsertFault.TheVariants as inserting
 use Rattle.nm_set.specs.declared.tended.Habit.{Habit}
 use Rattle.nm_tree.specs.Calls.{LeavesHas, LeavesInsert, LeavesDelete, LeavesFinish, LeavesAdvance, LeavesCollect}
 use Rattle.nm_set.specs.Asked.{Asked}
-use Rattle.nm_set.specs.Tended.{OnlyLoses, OthersOnlyLose, GoesOnTended, InARow, IsAsked, busy, Looks, Inserts, Deletes, FinishesPending, IsRelieved, IsTidied, InsertsOn, InsertsTended, of_insert, plain, with_fullness, of_finish, DeletesOn, IsLeft, links_told_by, flags_told_by, round_bound, WasFull, Tends, TendsInsert, HasTended, UnlessHeld, SaysTended}
+use Rattle.nm_set.specs.Tended.{OnlyLoses, OthersOnlyLose, GoesOnTended, InARow, IsAsked, busy, Looks, Inserts, Deletes, FinishesPending, IsRelieved, IsTidied, InsertsOn, InsertsTended, of_insert, plain, with_fullness, HasReadSince, WasElsewhere, WasMovedOn, of_finish, DeletesOn, IsLeft, links_told_by, flags_told_by, round_bound, WasFull, Tends, TendsInsert, HasTended, UnlessHeld, SaysTended}
 use Rattle.std.specs.List.{prefix_len}
 
 -- nothing is not there
@@ -604,25 +615,72 @@ inserts_on b h k o w z r past won none free (inr (x, y, behind, t, first, found,
     let told = insert_told b h k o y z t seen (wins_after 0 0 o x y full.won (relieved_wins b x y relieved)) (relieved_place b x y relieved ∙ full.left) since.held again in
     (subst (λ (q : Result Bool Fault). IsTold Insert k o z q) (sym (ap of_insert is ∙ fullness_told behind (waiting_in z.queues) t)) told, rounds_then (suc h.rounds + 1) (suc h.rounds) most w y z (rounds_then (suc h.rounds) 1 most w x y before (one_round most x y since)) (goes_inserts b h k y z t since.held again))
 
--- what it tells of who holds memory back, where it was full
-inserts_full : (b : Board) (h : Habit) (k : ℕ) (o w z : Hand) (r : Result Bool InsertFault) → Follows o.pass w.pass → w.held ≡ None → InsertsOn b h k w z r → of_insert r ≡ Err (fault.Call call.Full) → (f : Fullness) × (r ≡ Err (inserting.Full f)) × WasFull b o z f
+-- ---- who holds memory back
+
+-- what was so between two moments was so between an earlier one and a later one
+among_more : (w : ℕ) (xs ys zs : List Turn) (e : LogEntry) → Contains (part_of w ys) e → Contains (part_of w (xs ++ (ys ++ zs))) e
+among_more w xs ys zs e there =
+    subst (λ (l : List LogEntry). Contains l e) (sym (part-append w xs (ys ++ zs) ∙ ap (λ (l : List LogEntry). part_of w xs ++ l) (part-append w ys zs)))
+    (Contains-append_right (part_of w xs) (part_of w ys ++ part_of w zs) e (Contains-append_left (part_of w ys) (part_of w zs) e there))
+
+read_more : (w : ℕ) (xs ys zs : List Turn) (epoch : ℕ) → HasRead (part_of w ys) epoch → HasRead (part_of w (xs ++ (ys ++ zs))) epoch
+read_more w xs ys zs epoch was = record { entry = was.entry; among = among_more w xs ys zs was.entry was.among; tells = was.tells }
+
+module _ (o p q z : Stand) (first : Follows o p) (last : Follows q z) where
+  turns_from : (turns : List Turn) → q.view.past ≡ p.view.past ++ turns → z.view.past ≡ o.view.past ++ (first.past.goes_on.more ++ (turns ++ last.past.goes_on.more))
+  turns_from turns is = last.past.goes_on.is ∙ (ap (λ (l : List Turn). l ++ last.past.goes_on.more) (is ∙ ap (λ (l : List Turn). l ++ turns) first.past.goes_on.is)
+      ∙ (append_assoc (o.view.past ++ first.past.goes_on.more) turns last.past.goes_on.more ∙ append_assoc o.view.past first.past.goes_on.more (turns ++ last.past.goes_on.more)))
+
+  number : p.view.number ≡ o.view.number
+  number = ap (λ (s : Stand). s.view.number) first.same
+
+  read_within : (epoch : ℕ) → HasReadSince p q epoch → HasReadSince o z epoch
+  read_within epoch was = record {
+    turns = first.past.goes_on.more ++ (was.turns ++ last.past.goes_on.more);
+    is = turns_from was.turns was.is;
+    read = read_more o.view.number first.past.goes_on.more was.turns last.past.goes_on.more epoch (subst (λ (w : ℕ). HasRead (part_of w was.turns) epoch) number was.read);
+  }
+
+  elsewhere_within : (i : ℕ) → WasElsewhere p q i → WasElsewhere o z i
+  elsewhere_within i was = record {
+    turns = first.past.goes_on.more ++ (was.turns ++ last.past.goes_on.more);
+    is = turns_from was.turns was.is;
+    epoch = was.epoch;
+    read = read_more o.view.number first.past.goes_on.more was.turns last.past.goes_on.more was.epoch (subst (λ (w : ℕ). HasRead (part_of w was.turns) was.epoch) number was.read);
+    at = was.at;
+    found = among_more o.view.number first.past.goes_on.more was.turns last.past.goes_on.more (Scan i, In was.at) (subst (λ (w : ℕ). Contains (part_of w was.turns) (Scan i, In was.at)) number was.found);
+    apart = was.apart;
+  }
+
+  moved_within : (times : ℕ) → WasMovedOn p q times → WasMovedOn o z times
+  moved_within times was = record {
+    turns = first.past.goes_on.more ++ (was.turns ++ last.past.goes_on.more);
+    is = turns_from was.turns was.is;
+    moved = (let some = was.moved in
+        let front = number-append moves first.past.goes_on.more (was.turns ++ last.past.goes_on.more) in
+        let rest = number-append moves was.turns last.past.goes_on.more in
+        omega (arith, some, front, rest));
+  }
+
+-- what it tells of that, where it was full
+inserts_full : (b : Board) (h : Habit) (k : ℕ) (o w z : Hand) (r : Result Bool InsertFault) → Follows o.pass w.pass → w.held ≡ None → InsertsOn b h k w z r → of_insert r ≡ Err (fault.Call call.Full) → (f : Fullness) × (r ≡ Err (inserting.Full f)) × WasFull o z f
 inserts_full b h k o w z r past free (inl (t, did, known, is)) full = absurd (known (sym (ap of_insert is ∙ plain_told t) ∙ full))
 inserts_full b h k o w z r past free (inr (x, y, behind, t, first, found, again, is)) full =
     let before = goes_inserts b h k w x (Err (fault.Call call.Full)) free first in
     let since = goes_relieved b h.tries x y before.held found.relieved in
     let on = goes_inserts b h k y z t since.held again in
     let to_x = follows_then o.pass w.pass x.pass past (record { same = before.same; past = before.past }) in
+    let from_y : Follows y.pass z.pass = record { same = on.same; past = on.past } in
+    let number : x.pass.view.number ≡ o.pass.view.number = ap (λ (p : Stand). p.view.number) to_x.same in
     let so : t ≡ Err (fault.Call call.Full) = sym (ap of_insert is ∙ fullness_told behind (waiting_in z.queues) t) ∙ full in (
       record { waiting = waiting_in z.queues; behind = behind },
       is ∙ ap (with_fullness behind (waiting_in z.queues)) so,
       record {
-        full = x;
-        relieved = y;
-        same = to_x.same;
-        past = to_x.past;
-        found = found;
-        rested = (first.last.1.says.told.1, first.last.1.says.held);
-        past_then = on.past;
+        other = λ i named. (let one = found.other first.last.1.says.told.1 first.last.1.says.held i named in ((λ e. one.0 (e ∙ sym number)), elsewhere_within o.pass x.pass y.pass z.pass to_x from_y i one.1));
+        moved = λ none. elim (found.freed none) [
+          | inl read ↦ inl (read_within o.pass x.pass y.pass z.pass to_x from_y last_number read)
+          | inr freed ↦ inr (moved_within o.pass x.pass y.pass z.pass to_x from_y 2 freed.0)
+        ];
         waiting = refl;
       },
     )
@@ -641,7 +699,7 @@ adds_tend b h k w x y z answer r free f tidied did =
     }
 
 -- what an insert tells that was full
-pub full_told : (b : Board) (h : Habit) (k : ℕ) (w z : Hand) (f : Fullness) → TendsInsert b h k w z (Err (inserting.Full f)) → WasFull b w z f
+pub full_told : (b : Board) (h : Habit) (k : ℕ) (w z : Hand) (f : Fullness) → TendsInsert b h k w z (Err (inserting.Full f)) → WasFull w z f
 full_told b h k w z f (inl held) = absurd (differ held.1)
   where
     differ : ◌≡◌ {A = Result Bool Fault} (Err (fault.Call call.Full)) (Err fault.Held) → ⊥
@@ -651,12 +709,12 @@ full_told b h k w z f (inr (free, t)) = by t.did
     same : (g : Fullness) → ◌≡◌ {A = Result Bool InsertFault} (Err (inserting.Full f)) (Err (inserting.Full g)) → g ≡ f
     same g e = cc
 
-    by : InsertsTended b h k w z (Err (inserting.Full f)) → WasFull b w z f
+    by : InsertsTended b h k w z (Err (inserting.Full f)) → WasFull w z f
     by (inl pending) = absurd (not_full_but call.Pending (λ e. cc) (sym pending.1))
     by (inr (answer, x, finished, (y, tidied, on))) =
         let at = ready b h w x y answer free finished tidied in
         let found = inserts_full b h k w y z (Err (inserting.Full f)) (record { same = at.on.same; past = at.on.past }) at.on.held on refl in
-        subst (WasFull b w z) (same found.0 found.1) found.2
+        subst (WasFull w z) (same found.0 found.1) found.2
 
 -- a delete, and what is left to do of it
 deletes_on : (b : Board) (h : Habit) (k : ℕ) (o w z : Hand) (r : Result Bool Fault) → HasSeenAllOf w.pass o.pass → Wins o w 0 0 → IsIdle w → w.pending ≡ None → w.held ≡ None → DeletesOn b h k w z r → IsTold Delete k o z r × GoesOnTended ((suc h.rounds + suc h.rounds) * round_bound h.tries b.layout) w z

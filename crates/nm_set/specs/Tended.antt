@@ -6,13 +6,14 @@ use Rattle.nm_edge.specs.declared.node.NodeId.{NodeId}
 use Rattle.nm_model.specs.declared.event.Op.{Op}
 use Rattle.nm_model.specs.declared.event.Op.TheVariants.{Has, Insert, Delete}
 use Rattle.nm_model.specs.declared.trace.Turn.{Turn}
-use Rattle.nm_progress.specs.Moves.{number_of, moves_of_others}
+use Rattle.nm_progress.specs.Moves.{number_of, moves, moves_of_others}
 use Rattle.nm_progress.specs.Tries.{hinders, reshapes_of_others}
 use Rattle.nm_model.specs.declared.event.Event.TheVariants.{Scan}
 use Rattle.nm_model.specs.declared.reply.Reply.TheVariants.{In}
-use Rattle.nm_model.specs.Walks.{Entry}
+use Rattle.nm_model.specs.Step.{last_number}
+use Rattle.nm_order.specs.Logs.{part_of}
 use Rattle.nm_order.specs.Reads.{HasRead}
-use Rattle.nm_steps.specs.Steps.{Board, Stand, IsSamePass, HasSeen, HasSeenAllOf}
+use Rattle.nm_steps.specs.Steps.{Board, Stand, IsSamePass, HasSeenAllOf}
 use Rattle.nm_epoch.specs.declared.answers.Advance.{Advance}
 use Rattle.nm_epoch.specs.declared.answers.Advance.TheVariants as advance
 use Rattle.nm_epoch.specs.declared.collecting.Collected.{Collected}
@@ -112,32 +113,39 @@ found_behind first (advance.Held worker at) = Some worker
 found_behind (advance.Held worker at) second = Some worker
 found_behind first second = None
 
--- between two logs the epoch was read, and worker i was found announcing another one
-pub record WasElsewhere (old new : List Entry) (i : ℕ) : Type 0 where
-  pub adds : List Entry
-  pub is : new ≡ old ++ adds
+-- between p and q the worker has read this epoch
+pub record HasReadSince (p q : Stand) (epoch : ℕ) : Type 0 where
+  pub turns : List Turn
+  pub is : q.view.past ≡ p.view.past ++ turns
+  pub read : HasRead (part_of p.view.number turns) epoch
+
+-- between p and q the worker has read an epoch, and found worker i announcing another one
+pub record WasElsewhere (p q : Stand) (i : ℕ) : Type 0 where
+  pub turns : List Turn
+  pub is : q.view.past ≡ p.view.past ++ turns
   pub epoch : ℕ
-  pub read : HasRead adds epoch
+  pub read : HasRead (part_of p.view.number turns) epoch
   pub at : ℕ
-  pub found : HasAmong adds (Scan i, In at)
+  pub found : HasAmong (part_of p.view.number turns) (Scan i, In at)
   pub apart : at ≢ epoch
 
--- the epoch is the last one, as one of the two advances found; or the collection has freed all that
--- waited
-abbrev pub AllWereFreed : {b : Board} {w z : Hand} → IsRelieved b w z → Type 0
-AllWereFreed {b} {w} {z} r = (r.moved ≡ advance.Spent) ⊎ (r.moved_again ≡ advance.Spent)
-    ⊎ ((r.collected.freed ≡ waiting_in w.queues) × (waiting_in z.queues ≡ 0))
+-- between p and q the epoch was moved on so often at least, by whomever
+pub record WasMovedOn (p q : Stand) (times : ℕ) : Type 0 where
+  pub turns : List Turn
+  pub is : q.view.past ≡ p.view.past ++ turns
+  pub moved : times ≤ number_of moves turns
 
--- a worker that rests was relieved so, and this worker was found to hold the epoch back: another
--- one, which was seen elsewhere; or none was, and all that waited was freed
+-- a worker was relieved so, and this is who was found to hold the epoch back: of a worker that rests
+-- another one, that was elsewhere; or nobody, and then the epoch was moved on twice, and the
+-- collection has freed all that waited, unless the epoch is the last one
 pub record FindsBehind (b : Board) (w z : Hand) (behind : Option ℕ) : Type 0 where
   pub relieved : IsRelieved b w z
   pub found : behind ≡ found_behind relieved.moved relieved.moved_again
   pub other : w.pending ≡ None → w.held ≡ None → (i : ℕ) → behind ≡ Some i
-      → (i ≢ w.pass.view.number) × WasElsewhere w.pass.view.log z.pass.view.log i
-  pub freed : behind ≡ None → AllWereFreed relieved
-  pub seen : HasSeen w.pass.view
-  pub seen_then : HasSeen z.pass.view
+      → (i ≢ w.pass.view.number) × WasElsewhere w.pass z.pass i
+  pub freed : behind ≡ None → HasReadSince w.pass z.pass last_number
+      ⊎ (WasMovedOn w.pass z.pass 2 × (relieved.collected.freed ≡ waiting_in w.queues)
+      × (waiting_in z.queues ≡ 0))
 
 -- so it is where so many nodes wait; else nothing has changed
 abbrev pub IsTidied : Board → ℕ → Hand → Hand → Type 0
@@ -244,16 +252,13 @@ flags_told_by _ _ = 0
 abbrev pub round_bound : ℕ → Layout → ℕ
 round_bound tries L = tries * (4 * reach L + 8 * chain_bound) + 7 * L.nodes + 2 * L.workers + 12
 
--- an insert found no free slot; then who holds the epoch back was found, and once more no free slot;
--- and so many nodes wait as the call ends
-pub record WasFull (b : Board) (w z : Hand) (f : Fullness) : Type 0 where
-  pub full : Hand
-  pub relieved : Hand
-  pub same : IsSamePass w.pass full.pass
-  pub past : HasSeenAllOf full.pass w.pass
-  pub found : FindsBehind b full relieved f.behind
-  pub rested : (full.pending ≡ None) × (full.held ≡ None)
-  pub past_then : HasSeenAllOf z.pass relieved.pass
+-- where an insert was full, in the call another worker was found to hold the epoch back; or the
+-- epoch was moved on twice, unless it is the last one; and so many nodes wait as the call ends
+pub record WasFull (w z : Hand) (f : Fullness) : Type 0 where
+  pub other : (i : ℕ) → f.behind ≡ Some i
+      → (i ≢ w.pass.view.number) × WasElsewhere w.pass z.pass i
+  pub moved : f.behind ≡ None
+      → HasReadSince w.pass z.pass last_number ⊎ WasMovedOn w.pass z.pass 2
   pub waiting : f.waiting ≡ waiting_in z.queues
 
 -- the answer has its moment behind all that the worker had seen before this call; where no slot was
@@ -262,7 +267,7 @@ pub record WasFull (b : Board) (w z : Hand) (f : Fullness) : Type 0 where
 pub record Tends (b : Board) (h : Habit) (op : Op) (k : ℕ) (w z : Hand)
     (r : Result Bool Fault) : Type 0 where
   pub moment : IfOk r (AnswerHasMoment w.pass z.pass op k)
-  pub full : r ≡ Err (fault.Call call.Full) → (f : Fullness) × WasFull b w z f
+  pub full : r ≡ Err (fault.Call call.Full) → (f : Fullness) × WasFull w z f
   pub left : IsLeft k w z r
   pub won : HasWon w.pass.view.log z.pass.view.log (links_told_by op r) (flags_told_by op r)
   pub on : GoesOnTended ((3 * h.rounds + 5) * round_bound h.tries b.layout) w z

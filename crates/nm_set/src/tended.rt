@@ -171,7 +171,7 @@ impl Member {
             (of_insert result) }
         ensures did { TendsInsert self.old.board habit.now key self.old.hand self.new.hand result }
         ensures full { (f : Fullness) → result ≡ Err (InsertFault.Full f)
-            → WasFull self.old.board self.old.hand self.new.hand f }
+            → WasFull self.old.hand self.new.hand f }
         ensures disturbed { self.old.hand.pass.view.layout.radix ≡ true → of_insert result ≡ busy
             → WasHeldUp self.old.hand.pass self.new.hand.pass
             ((habit.now.rounds + 1) * habit.now.tries) }

@@ -7,9 +7,9 @@ use nm_set::{Habit, InsertFault, Member};
 
 /// A member adds a key, and where no slot is free, tells who holds memory back. `Ok(None)`: the call
 /// was not answered for another reason. `Err(Some(worker))`: no slot is free, and another worker,
-/// this one, was seen at another epoch than the one that the member had read, both at moments of this
-/// call. `Err(None)`: no slot is free, and at a moment of this call nothing waited in the queues that
-/// the member holds, unless the epoch is the last one.
+/// this one, was seen at another epoch than the one that the member had read, both at turns of this
+/// call. `Err(None)`: no slot is free, although the epoch was moved on twice in this call, or is the
+/// last one.
 pub fn add_or_blame(
     member: &mut Member,
     key: Key,
@@ -18,13 +18,9 @@ pub fn add_or_blame(
     ensures board { member.new.board ≡ member.old.board }
     ensures blamed { IfErr result (IsToBlame member.old.hand member.new.hand) }
 {
-    member.is_of_a_run();
     match member.insert(key, habit) {
         Ok(answer) => Ok(Some(answer)),
-        Err(InsertFault::Full(full)) => {
-            member.is_of_a_run();
-            Err(full.behind)
-        }
+        Err(InsertFault::Full(full)) => Err(full.behind),
         Err(_) => Ok(None),
     }
 }
