@@ -1,11 +1,11 @@
 -- What a call that was busy to the last tells of the others.
-use Rattle.std.proofs.Common.{◌≡◌, ◌≢◌, ◌≤◌, ◌+◌, ◌*◌, ℕ, zero, suc, Bool, true, List, [], ◌++◌, append-nil, append_assoc, refl, sym, ap, subst, ◌∙◌, inl, inr, ◌⊎◌, arith}
-use Rattle.std.specs.Prelude.{None, Result, Ok, Err}
+use Rattle.std.proofs.Common.{◌≡◌, ◌≤◌, ◌+◌, ◌*◌, ℕ, zero, suc, Bool, true, List, [], ◌++◌, append-nil, append_assoc, refl, sym, ap, subst, ◌∙◌, inl, inr, arith}
+use Rattle.std.specs.Prelude.{Result, Ok, Err}
 use Rattle.std.proofs.Math.Nat.{suc-mul, zero-mul}
 use Rattle.nm_edge.specs.Layouts.{Layout}
-use Rattle.nm_model.specs.declared.event.Op.TheVariants.{Insert, Delete}
+use Rattle.nm_model.specs.declared.event.Op.TheVariants.{Delete}
 use Rattle.nm_model.specs.declared.trace.Turn.{Turn}
-use Rattle.nm_steps.specs.Steps.{Board, Stand, HasSeenAllOf, IsSamePass}
+use Rattle.nm_steps.specs.Steps.{Board, Stand, HasSeenAllOf}
 use Rattle.nm_progress.specs.Moves.{number_of, moves_of_others}
 use Rattle.nm_progress.specs.Tries.{hinders, reshapes_of_others}
 use Rattle.nm_progress.proofs.SplitTurns.{number-append}
@@ -13,14 +13,15 @@ use Rattle.nm_busy.specs.Lookups.{WasBusy}
 use Rattle.nm_busy.specs.Lost.{ChangeWasBusy}
 use Rattle.nm_tree.specs.declared.fault.Fault.{Fault as Lost}
 use Rattle.nm_tree.specs.declared.fault.Fault.TheVariants as call
-use Rattle.nm_tree.specs.Workers.{Hand}
+use Rattle.nm_tree.specs.Workers.{Hand, waiting_in}
 use Rattle.nm_tree.specs.Calls.{LeavesHas, LeavesInsert, LeavesDelete}
 use Rattle.nm_set.specs.declared.fault.Fault.{Fault}
 use Rattle.nm_set.specs.declared.fault.Fault.TheVariants as fault
+use Rattle.nm_set.specs.declared.fault.InsertFault.{InsertFault}
 use Rattle.nm_set.specs.declared.tended.Habit.{Habit}
 use Rattle.nm_set.specs.Asked.{Asked}
-use Rattle.nm_set.specs.Tended.{InARow, IsAsked, Looks, Inserts, Deletes, InsertsOn, DeletesOn, InsertsTended, RemovesTended, HasTended, UnlessHeld, WasDisturbed, WasHeldUp, GoesOnTended, FinishesPending, round_bound, busy, of_finish}
-use Rattle.nm_set.proofs.Tending.{Follows, follows_then, goes_finishes, goes_tidied, goes_relieved, goes_inserts, finishes_err}
+use Rattle.nm_set.specs.Tended.{InARow, IsAsked, Looks, Inserts, Deletes, InsertsOn, DeletesOn, InsertsTended, RemovesTended, TendsInsert, HasTended, UnlessHeld, WasDisturbed, WasHeldUp, GoesOnTended, FinishesPending, round_bound, busy, of_finish, of_insert}
+use Rattle.nm_set.proofs.Tending.{Follows, follows_then, goes_finishes, goes_tidied, goes_relieved, goes_inserts, finishes_err, plain_told, fullness_told}
 
 -- ---- turns that are counted, between two moments of a pass
 
@@ -150,12 +151,12 @@ module _ (b : Board) (h : Habit) (k : ℕ) where
       (λ x y did. record { same = did.1.says.same; past = did.1.says.past })
       (λ x y at did. change_once x.pass y.pass h.tries did.1.says.past (did.1.disturbed refl)) h.rounds w z refl a
 
-  pub inserts_held_up : (w z : Hand) → UnlessHeld (HasTended (InsertsTended b h k) b h Insert k w z busy) w z busy → WasHeldUp w.pass z.pass Times
-  inserts_held_up w z (inl held) = absurd (let no = held.1 in cc)
-  inserts_held_up w z (inr (free, t)) = by t.did
+  pub inserts_held_up : (w z : Hand) (r : Result Bool InsertFault) → of_insert r ≡ busy → TendsInsert b h k w z r → WasHeldUp w.pass z.pass Times
+  inserts_held_up w z r told (inl held) = absurd (let no = sym told ∙ held.1 in cc)
+  inserts_held_up w z r told (inr (free, t)) = by t.did
     where
-      by : InsertsTended b h k w z busy → WasHeldUp w.pass z.pass Times
-      by (inl pending) = absurd (let no = pending.1 in cc)
+      by : InsertsTended b h k w z r → WasHeldUp w.pass z.pass Times
+      by (inl pending) = absurd (let no = sym told ∙ pending.1 in cc)
       by (inr (answer, x, finished, (y, tidied, on))) = made on
         where
           first : GoesOnTended (suc h.rounds * round_bound h.tries b.layout) w x
@@ -167,15 +168,15 @@ module _ (b : Board) (h : Habit) (k : ℕ) where
           to_y : Follows w.pass y.pass
           to_y = follows_then w.pass x.pass y.pass (record { same = first.same; past = first.past }) (record { same = second.same; past = second.past })
 
-          made : InsertsOn b h k y z busy → WasHeldUp w.pass z.pass Times
-          made (inl one) = held_up w.pass y.pass z.pass Times to_y (inserts_lost y z one.0)
-          made (inr (u, v, full, relieved, again)) = held_up w.pass v.pass z.pass Times to_v (inserts_lost v z again)
+          made : InsertsOn b h k y z r → WasHeldUp w.pass z.pass Times
+          made (inl (q, did, known, is)) = held_up w.pass y.pass z.pass Times to_y (inserts_lost y z (subst (λ (p : Result Bool Fault). Inserts b h k y z p) (sym (ap of_insert is ∙ plain_told q) ∙ told) did))
+          made (inr (u, v, behind, q, full, found, again, is)) = held_up w.pass v.pass z.pass Times to_v (inserts_lost v z (subst (λ (p : Result Bool Fault). Inserts b h k v z p) (sym (ap of_insert is ∙ fullness_told behind (waiting_in z.queues) q) ∙ told) again))
             where
               third : GoesOnTended (suc h.rounds * round_bound h.tries b.layout) y u
               third = goes_inserts b h k y u (Err (fault.Call call.Full)) second.held full
 
               fourth : GoesOnTended (round_bound h.tries b.layout) u v
-              fourth = goes_relieved b h.tries u v third.held relieved
+              fourth = goes_relieved b h.tries u v third.held found.relieved
 
               to_v : Follows w.pass v.pass
               to_v = follows_then w.pass y.pass v.pass to_y (follows_then y.pass u.pass v.pass (record { same = third.same; past = third.past }) (record { same = fourth.same; past = fourth.past }))

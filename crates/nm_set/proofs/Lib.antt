@@ -6,5 +6,6 @@ pub mod Letters
 pub mod LettingGo
 pub mod Sending
 pub mod Tending
+pub mod Emptied
 pub mod Disturbances
 pub mod PopRounds

@@ -1,40 +1,50 @@
 -- What tended calls leave, by what each part of them leaves.
 use Rattle.std.proofs.Common.{◌≡◌, ◌≤◌, ◌⊎◌, inl, inr, true≢false, ℕ, zero, suc, ◌+◌, ◌-◌, ◌*◌, Bool, true, false, List, [], ◌∷◌, ◌++◌, append_assoc, length, refl, sym, ap, subst, ◌∙◌, arith}
-use Rattle.std.specs.Prelude.{drop, unwrap_or, Option, Some, None, IsSome, Result, Ok, Err, IfOk, is_ok}
+use Rattle.std.specs.Prelude.{drop, unwrap_or, Option, Some, None, IsSome, Result, Ok, Err, IfOk, is_ok, Contains}
 use Rattle.std.proofs.Math.Nat.{suc-mul, add-mul, mul-le-mul_right}
-use Rattle.std.proofs.lemmas.List.{drop-drop, length-append}
+use Rattle.std.proofs.lemmas.List.{drop-drop}
+use Rattle.std.proofs.lemmas.List.Elements.{Contains-append_left, Contains-append_right}
 use Rattle.nm_edge.specs.declared.node.NodeId.{NodeId}
 use Rattle.nm_edge.specs.Layouts.{Layout}
-use Rattle.nm_model.specs.declared.trace.Turn.{Turn}
 use Rattle.nm_model.specs.declared.event.Op.{Op}
 use Rattle.nm_model.specs.declared.event.Op.TheVariants.{Has, Insert, Delete}
-use Rattle.nm_model.specs.Searches.{Search}
-use Rattle.nm_steps.specs.Rules.{Extends}
-use Rattle.nm_steps.specs.Steps.{Board, Stand, HasSeen, IsSamePass, HasSeenAllOf}
+use Rattle.nm_model.specs.declared.event.Event.TheVariants.{Scan}
+use Rattle.nm_model.specs.declared.reply.Reply.TheVariants.{In}
+use Rattle.nm_model.specs.declared.trace.Turn.{Turn}
+use Rattle.nm_model.specs.Step.{last_number}
+use Rattle.nm_model.specs.Walks.{Entry as LogEntry}
+use Rattle.nm_order.specs.Logs.{part_of}
+use Rattle.nm_order.specs.Reads.{HasRead}
+use Rattle.nm_progress.specs.Moves.{number_of, moves}
+use Rattle.nm_progress.proofs.SplitTurns.{number-append}
+use Rattle.nm_busy.proofs.LostPins.{part-append}
+use Rattle.nm_steps.specs.Steps.{Board, Stand, IsSamePass, HasSeenAllOf}
 use Rattle.nm_steps.proofs.Seeing.{seen_itself, seen_through}
 use Rattle.nm_epoch.specs.declared.answers.Advance.{Advance}
 use Rattle.nm_epoch.specs.declared.collecting.Collected.{Collected}
 use Rattle.nm_epoch.specs.declared.collecting.Entry.{Entry}
 use Rattle.nm_epoch.specs.declared.collecting.HeldQueue.{HeldQueue}
 use Rattle.nm_epoch.specs.Collecting.{is_ripe, ripe_of, HaveLost}
-use Rattle.nm_epoch.specs.Resting.{epochs, search}
-use Rattle.nm_theorem.specs.Histories.{call_begun, answer_turn}
+use Rattle.nm_epoch.specs.Resting.{epochs}
 use Rattle.nm_calls.specs.Bounds.{reach}
 use Rattle.nm_calls.specs.Moments.{AnswerHasMoment, HadNoCall}
 use Rattle.nm_calls.specs.Won.{HasWon}
 use Rattle.nm_tree.specs.declared.fault.Fault.{Fault as Lost}
 use Rattle.nm_tree.specs.declared.fault.Fault.TheVariants as call
 use Rattle.nm_calls.specs.declared.deleting.Unfinished.{Unfinished}
-use Rattle.nm_tree.specs.Workers.{Hand, IsIdle, KeepsOtherQueues}
+use Rattle.nm_tree.specs.Workers.{Hand, IsIdle, KeepsOtherQueues, waiting_in}
 use Rattle.nm_tree.specs.Answers.{links_won, flags_won}
 use Rattle.nm_tree.proofs.Quiet.{Quiet, advanced, collected}
 use Rattle.nm_tree.proofs.Taking.{moment_since}
 use Rattle.nm_set.specs.declared.fault.Fault.{Fault}
 use Rattle.nm_set.specs.declared.fault.Fault.TheVariants as fault
+use Rattle.nm_set.specs.declared.fault.Fullness.{Fullness}
+use Rattle.nm_set.specs.declared.fault.InsertFault.{InsertFault}
+use Rattle.nm_set.specs.declared.fault.InsertFault.TheVariants as inserting
 use Rattle.nm_set.specs.declared.tended.Habit.{Habit}
 use Rattle.nm_tree.specs.Calls.{LeavesHas, LeavesInsert, LeavesDelete, LeavesFinish, LeavesAdvance, LeavesCollect}
 use Rattle.nm_set.specs.Asked.{Asked}
-use Rattle.nm_set.specs.Tended.{OnlyLoses, OthersOnlyLose, GoesOnTended, InARow, IsAsked, busy, Looks, Inserts, Deletes, FinishesPending, IsRelieved, IsTidied, InsertsOn, of_finish, DeletesOn, IsLeft, links_told_by, flags_told_by, round_bound, Tends, HasTended, UnlessHeld, SaysTended}
+use Rattle.nm_set.specs.Tended.{OnlyLoses, OthersOnlyLose, GoesOnTended, InARow, IsAsked, busy, Looks, Inserts, Deletes, FinishesPending, IsRelieved, IsTidied, InsertsOn, InsertsTended, of_insert, plain, with_fullness, HasReadSince, WasElsewhere, WasMovedOn, of_finish, DeletesOn, IsLeft, links_told_by, flags_told_by, round_bound, WasFull, Tends, TendsInsert, HasTended, UnlessHeld, SaysTended}
 use Rattle.std.specs.List.{prefix_len}
 
 -- nothing is not there
@@ -44,6 +54,13 @@ none_there x e is = absurd (true≢false (sym (subst IsSome e is)))
 -- an answer is no fault
 pub is_no_fault : {B : Type 0} (answer : Bool) (f : Fault) → Ok answer ≡ Err f → B
 is_no_fault answer f e = absurd (true≢false (ap (λ (q : Result Bool Fault). is_ok q) e))
+
+-- another fault of the tree is told as that
+pub not_full_but : (lost : Lost) → (lost ≡ call.Full → ⊥) → ◌≡◌ {A = Result Bool Fault} (Err (fault.Call lost)) (Err (fault.Call call.Full)) → ⊥
+not_full_but lost other e = other (same e)
+  where
+    same : ◌≡◌ {A = Result Bool Fault} (Err (fault.Call lost)) (Err (fault.Call call.Full)) → lost ≡ call.Full
+    same i = cc
 
 -- ---- queues
 
@@ -522,7 +539,7 @@ pending_tends b h op k w z lost free f =
     let told = subst (λ (e : Lost). FinishesPending b h w z (Err e)) unfinished f in
     let kept = still b.layout h.tries told.begun z told.last ∙ pends b h w z (Err call.Unfinished) told in
     let there : IsSome w.pending = subst IsSome (pends b h w z (Err call.Unfinished) told) told.last.says.told.0 in
-    (told, record { moment = tt; left = (there, kept); won = wins_pending op w z (finishes_wins b h w z (Err call.Unfinished) told); on = in_all h.rounds (suc h.rounds) (round_bound h.tries b.layout) w z (omega arith) (goes_finishes b h w z (Err call.Unfinished) free told) })
+    (told, record { moment = tt; full = λ is. absurd (not_full_but call.Pending (λ e. cc) is); left = (there, kept); won = wins_pending op w z (finishes_wins b h w z (Err call.Unfinished) told); on = in_all h.rounds (suc h.rounds) (round_bound h.tries b.layout) w z (omega arith) (goes_finishes b h w z (Err call.Unfinished) free told) })
 
 -- what stands behind the finish of an earlier call's delete
 pub record IsSettled (b : Board) (h : Habit) (w x : Hand) : Type 0 where
@@ -540,6 +557,7 @@ contains_tends b h k w x z answer r free f looks =
     let told = look_told b h k w x z r at.on.past at.won at.none at.on.held looks in
     record {
       moment = told.moment;
+      full = λ is. absurd (subst (Asked (LeavesHas b.layout h.tries k) looks.begun z) is looks.last).1.says.told;
       left = told.left;
       won = told.won;
       on = in_all h.rounds (suc h.rounds + suc h.rounds) most w z (omega arith) (rounds_then (suc h.rounds) (suc h.rounds) most w x z at.on (goes_looks b h k x z r at.on.held looks));
@@ -568,31 +586,135 @@ ready b h w x y answer free f tidied =
       on = rounds_then (suc h.rounds) 1 most w x y at.on (one_round most x y (goes_tidied b h.tries h.collect_after x y at.on.held tidied));
     }
 
+-- what an insert tells, with who holds memory back or without
+pub plain_told : (t : Result Bool Fault) → of_insert (plain t) ≡ t
+plain_told (Ok answer) = refl
+plain_told (Err f) = refl
+
+pub fullness_told : (behind : Option ℕ) (n : ℕ) (t : Result Bool Fault) → of_insert (with_fullness behind n t) ≡ t
+fullness_told behind n (Ok answer) = refl
+fullness_told behind n (Err fault.Held) = refl
+fullness_told behind n (Err (fault.Call call.Full)) = refl
+fullness_told behind n (Err (fault.Call call.Busy)) = refl
+fullness_told behind n (Err (fault.Call call.NoMemory)) = refl
+fullness_told behind n (Err (fault.Call call.Unfinished)) = refl
+fullness_told behind n (Err (fault.Call call.Pending)) = refl
+
 -- an insert, and one more behind a collection
-inserts_on : (b : Board) (h : Habit) (k : ℕ) (o w z : Hand) (r : Result Bool Fault) → HasSeenAllOf w.pass o.pass → Wins o w 0 0 → w.pending ≡ None → w.held ≡ None → InsertsOn b h k w z r → IsTold Insert k o z r × GoesOnTended ((suc h.rounds + 1 + suc h.rounds) * round_bound h.tries b.layout) w z
-inserts_on b h k o w z r past won none free (inl (did, known)) =
+inserts_on : (b : Board) (h : Habit) (k : ℕ) (o w z : Hand) (r : Result Bool InsertFault) → HasSeenAllOf w.pass o.pass → Wins o w 0 0 → w.pending ≡ None → w.held ≡ None → InsertsOn b h k w z r → IsTold Insert k o z (of_insert r) × GoesOnTended ((suc h.rounds + 1 + suc h.rounds) * round_bound h.tries b.layout) w z
+inserts_on b h k o w z r past won none free (inl (t, did, known, is)) =
     let most = round_bound h.tries b.layout in
-    (insert_told b h k o w z r past won none free did, goes_more (suc h.rounds * most) ((suc h.rounds + 1 + suc h.rounds) * most) w z (mul-le-mul_right most (omega arith)) (goes_inserts b h k w z r free did))
-inserts_on b h k o w z r past won none free (inr (x, y, first, relieved, again)) =
+    (subst (λ (q : Result Bool Fault). IsTold Insert k o z q) (sym (ap of_insert is ∙ plain_told t)) (insert_told b h k o w z t past won none free did), goes_more (suc h.rounds * most) ((suc h.rounds + 1 + suc h.rounds) * most) w z (mul-le-mul_right most (omega arith)) (goes_inserts b h k w z t free did))
+inserts_on b h k o w z r past won none free (inr (x, y, behind, t, first, found, again, is)) =
     let most = round_bound h.tries b.layout in
+    let relieved = found.relieved in
     let full = insert_told b h k o w x (Err (fault.Call call.Full)) past won none free first in
     let before = goes_inserts b h k w x (Err (fault.Call call.Full)) free first in
-    let behind = goes_relieved b h.tries x y before.held relieved in
-    let seen = seen_through o.pass w.pass y.pass past (seen_through w.pass x.pass y.pass before.past behind.past) in
-    let told = insert_told b h k o y z r seen (wins_after 0 0 o x y full.won (relieved_wins b x y relieved)) (relieved_place b x y relieved ∙ full.left) behind.held again in
-    (told, rounds_then (suc h.rounds + 1) (suc h.rounds) most w y z (rounds_then (suc h.rounds) 1 most w x y before (one_round most x y behind)) (goes_inserts b h k y z r behind.held again))
+    let since = goes_relieved b h.tries x y before.held relieved in
+    let seen = seen_through o.pass w.pass y.pass past (seen_through w.pass x.pass y.pass before.past since.past) in
+    let told = insert_told b h k o y z t seen (wins_after 0 0 o x y full.won (relieved_wins b x y relieved)) (relieved_place b x y relieved ∙ full.left) since.held again in
+    (subst (λ (q : Result Bool Fault). IsTold Insert k o z q) (sym (ap of_insert is ∙ fullness_told behind (waiting_in z.queues) t)) told, rounds_then (suc h.rounds + 1) (suc h.rounds) most w y z (rounds_then (suc h.rounds) 1 most w x y before (one_round most x y since)) (goes_inserts b h k y z t since.held again))
 
-pub adds_tend : (b : Board) (h : Habit) (k : ℕ) (w x y z : Hand) (answer : Bool) (r : Result Bool Fault) → w.held ≡ None → FinishesPending b h w x (Ok answer) → IsTidied b h.collect_after x y → InsertsOn b h k y z r → Tends b h Insert k w z r
+-- ---- who holds memory back
+
+-- what was so between two moments was so between an earlier one and a later one
+among_more : (w : ℕ) (xs ys zs : List Turn) (e : LogEntry) → Contains (part_of w ys) e → Contains (part_of w (xs ++ (ys ++ zs))) e
+among_more w xs ys zs e there =
+    subst (λ (l : List LogEntry). Contains l e) (sym (part-append w xs (ys ++ zs) ∙ ap (λ (l : List LogEntry). part_of w xs ++ l) (part-append w ys zs)))
+    (Contains-append_right (part_of w xs) (part_of w ys ++ part_of w zs) e (Contains-append_left (part_of w ys) (part_of w zs) e there))
+
+read_more : (w : ℕ) (xs ys zs : List Turn) (epoch : ℕ) → HasRead (part_of w ys) epoch → HasRead (part_of w (xs ++ (ys ++ zs))) epoch
+read_more w xs ys zs epoch was = record { entry = was.entry; among = among_more w xs ys zs was.entry was.among; tells = was.tells }
+
+module _ (o p q z : Stand) (first : Follows o p) (last : Follows q z) where
+  turns_from : (turns : List Turn) → q.view.past ≡ p.view.past ++ turns → z.view.past ≡ o.view.past ++ (first.past.goes_on.more ++ (turns ++ last.past.goes_on.more))
+  turns_from turns is = last.past.goes_on.is ∙ (ap (λ (l : List Turn). l ++ last.past.goes_on.more) (is ∙ ap (λ (l : List Turn). l ++ turns) first.past.goes_on.is)
+      ∙ (append_assoc (o.view.past ++ first.past.goes_on.more) turns last.past.goes_on.more ∙ append_assoc o.view.past first.past.goes_on.more (turns ++ last.past.goes_on.more)))
+
+  number : p.view.number ≡ o.view.number
+  number = ap (λ (s : Stand). s.view.number) first.same
+
+  read_within : (epoch : ℕ) → HasReadSince p q epoch → HasReadSince o z epoch
+  read_within epoch was = record {
+    turns = first.past.goes_on.more ++ (was.turns ++ last.past.goes_on.more);
+    is = turns_from was.turns was.is;
+    read = read_more o.view.number first.past.goes_on.more was.turns last.past.goes_on.more epoch (subst (λ (w : ℕ). HasRead (part_of w was.turns) epoch) number was.read);
+  }
+
+  elsewhere_within : (i : ℕ) → WasElsewhere p q i → WasElsewhere o z i
+  elsewhere_within i was = record {
+    turns = first.past.goes_on.more ++ (was.turns ++ last.past.goes_on.more);
+    is = turns_from was.turns was.is;
+    epoch = was.epoch;
+    read = read_more o.view.number first.past.goes_on.more was.turns last.past.goes_on.more was.epoch (subst (λ (w : ℕ). HasRead (part_of w was.turns) was.epoch) number was.read);
+    at = was.at;
+    found = among_more o.view.number first.past.goes_on.more was.turns last.past.goes_on.more (Scan i, In was.at) (subst (λ (w : ℕ). Contains (part_of w was.turns) (Scan i, In was.at)) number was.found);
+    apart = was.apart;
+  }
+
+  moved_within : (times : ℕ) → WasMovedOn p q times → WasMovedOn o z times
+  moved_within times was = record {
+    turns = first.past.goes_on.more ++ (was.turns ++ last.past.goes_on.more);
+    is = turns_from was.turns was.is;
+    moved = (let some = was.moved in
+        let front = number-append moves first.past.goes_on.more (was.turns ++ last.past.goes_on.more) in
+        let rest = number-append moves was.turns last.past.goes_on.more in
+        omega (arith, some, front, rest));
+  }
+
+-- what it tells of that, where it was full
+inserts_full : (b : Board) (h : Habit) (k : ℕ) (o w z : Hand) (r : Result Bool InsertFault) → Follows o.pass w.pass → w.held ≡ None → InsertsOn b h k w z r → of_insert r ≡ Err (fault.Call call.Full) → (f : Fullness) × (r ≡ Err (inserting.Full f)) × WasFull o z f
+inserts_full b h k o w z r past free (inl (t, did, known, is)) full = absurd (known (sym (ap of_insert is ∙ plain_told t) ∙ full))
+inserts_full b h k o w z r past free (inr (x, y, behind, t, first, found, again, is)) full =
+    let before = goes_inserts b h k w x (Err (fault.Call call.Full)) free first in
+    let since = goes_relieved b h.tries x y before.held found.relieved in
+    let on = goes_inserts b h k y z t since.held again in
+    let to_x = follows_then o.pass w.pass x.pass past (record { same = before.same; past = before.past }) in
+    let from_y : Follows y.pass z.pass = record { same = on.same; past = on.past } in
+    let number : x.pass.view.number ≡ o.pass.view.number = ap (λ (p : Stand). p.view.number) to_x.same in
+    let so : t ≡ Err (fault.Call call.Full) = sym (ap of_insert is ∙ fullness_told behind (waiting_in z.queues) t) ∙ full in (
+      record { waiting = waiting_in z.queues; behind = behind },
+      is ∙ ap (with_fullness behind (waiting_in z.queues)) so,
+      record {
+        other = λ i named. (let one = found.other first.last.1.says.told.1 first.last.1.says.held i named in ((λ e. one.0 (e ∙ sym number)), elsewhere_within o.pass x.pass y.pass z.pass to_x from_y i one.1));
+        moved = λ none. elim (found.freed none) [
+          | inl read ↦ inl (read_within o.pass x.pass y.pass z.pass to_x from_y last_number read)
+          | inr freed ↦ inr (moved_within o.pass x.pass y.pass z.pass to_x from_y 2 freed.0)
+        ];
+        waiting = refl;
+      },
+    )
+
+pub adds_tend : (b : Board) (h : Habit) (k : ℕ) (w x y z : Hand) (answer : Bool) (r : Result Bool InsertFault) → w.held ≡ None → FinishesPending b h w x (Ok answer) → IsTidied b h.collect_after x y → InsertsOn b h k y z r → Tends b h Insert k w z (of_insert r)
 adds_tend b h k w x y z answer r free f tidied did =
     let at = ready b h w x y answer free f tidied in
     let most = round_bound h.tries b.layout in
     let told = inserts_on b h k w y z r at.on.past at.won at.none at.on.held did in
     record {
       moment = told.0.moment;
+      full = λ is. (let found = inserts_full b h k w y z r (record { same = at.on.same; past = at.on.past }) at.on.held did is in (found.0, found.2));
       left = told.0.left;
       won = told.0.won;
       on = in_all h.rounds ((suc h.rounds + 1) + (suc h.rounds + 1 + suc h.rounds)) most w z (omega arith) (rounds_then (suc h.rounds + 1) (suc h.rounds + 1 + suc h.rounds) most w y z at.on told.1);
     }
+
+-- what an insert tells that was full
+pub full_told : (b : Board) (h : Habit) (k : ℕ) (w z : Hand) (f : Fullness) → TendsInsert b h k w z (Err (inserting.Full f)) → WasFull w z f
+full_told b h k w z f (inl held) = absurd (differ held.1)
+  where
+    differ : ◌≡◌ {A = Result Bool Fault} (Err (fault.Call call.Full)) (Err fault.Held) → ⊥
+    differ e = cc
+full_told b h k w z f (inr (free, t)) = by t.did
+  where
+    same : (g : Fullness) → ◌≡◌ {A = Result Bool InsertFault} (Err (inserting.Full f)) (Err (inserting.Full g)) → g ≡ f
+    same g e = cc
+
+    by : InsertsTended b h k w z (Err (inserting.Full f)) → WasFull w z f
+    by (inl pending) = absurd (not_full_but call.Pending (λ e. cc) (sym pending.1))
+    by (inr (answer, x, finished, (y, tidied, on))) =
+        let at = ready b h w x y answer free finished tidied in
+        let found = inserts_full b h k w y z (Err (inserting.Full f)) (record { same = at.on.same; past = at.on.past }) at.on.held on refl in
+        subst (WasFull w z) (same found.0 found.1) found.2
 
 -- a delete, and what is left to do of it
 deletes_on : (b : Board) (h : Habit) (k : ℕ) (o w z : Hand) (r : Result Bool Fault) → HasSeenAllOf w.pass o.pass → Wins o w 0 0 → IsIdle w → w.pending ≡ None → w.held ≡ None → DeletesOn b h k w z r → IsTold Delete k o z r × GoesOnTended ((suc h.rounds + suc h.rounds) * round_bound h.tries b.layout) w z
@@ -607,6 +729,18 @@ deletes_on b h k o w z r past won idle none free (inr (x, f, first, rest, is)) =
     let told = finish_told b h k flagged.left.0 o w x z f past flagged.won had flagged.left.1 rest in
     (subst (λ (q : Result Bool Fault). IsTold Delete k o z q) (sym is) told, rounds_then (suc h.rounds) (suc h.rounds) most w x z before (goes_finishes b h x z f before.held rest))
 
+-- a delete asks for no slot
+deletes_never_full : (b : Board) (h : Habit) (k : ℕ) (w z : Hand) (r : Result Bool Fault) → DeletesOn b h k w z r → r ≡ Err (fault.Call call.Full) → ⊥
+deletes_never_full b h k w z r (inl (did, known)) is = absurd (subst (Asked (LeavesDelete b.layout h.tries k) did.begun z) is did.last).1.says.told
+deletes_never_full b h k w z r (inr (x, f, first, rest, told)) is = by f rest (sym told ∙ is)
+  where
+    by : (q : Result Bool Lost) → FinishesPending b h x z q → of_finish q ≡ Err (fault.Call call.Full) → ⊥
+    by (Ok answer) finished e = is_no_fault answer (fault.Call call.Full) e
+    by (Err lost) finished e = not_full_but lost (λ same. unlike (sym (finishes_err b h x z lost finished) ∙ same)) e
+      where
+        unlike : call.Unfinished ≡ call.Full → ⊥
+        unlike i = cc
+
 pub removes_tend : (b : Board) (h : Habit) (k : ℕ) (w x y z : Hand) (answer : Bool) (r : Result Bool Fault) → w.held ≡ None → FinishesPending b h w x (Ok answer) → IsTidied b h.collect_after x y → IsIdle y → DeletesOn b h k y z r → Tends b h Delete k w z r
 removes_tend b h k w x y z answer r free f tidied idle did =
     let at = ready b h w x y answer free f tidied in
@@ -614,6 +748,7 @@ removes_tend b h k w x y z answer r free f tidied idle did =
     let told = deletes_on b h k w y z r at.on.past at.won idle at.none at.on.held did in
     record {
       moment = told.0.moment;
+      full = λ is. absurd (deletes_never_full b h k y z r did is);
       left = told.0.left;
       won = told.0.won;
       on = in_all h.rounds ((suc h.rounds + 1) + (suc h.rounds + suc h.rounds)) most w z (omega arith) (rounds_then (suc h.rounds + 1) (suc h.rounds + suc h.rounds) most w y z at.on told.1);

@@ -1,15 +1,21 @@
 -- Calls that tend the set: one that loses its tries is made again, a delete is finished, and the
 -- nodes that wait are collected.
-use Rattle.std.specs.Prelude.{◌≡◌, ◌≢◌, ◌⊎◌, ◌+◌, ◌*◌, ◌≤◌, ◌<◌, ℕ, zero, suc, Bool, true, length, drop, List, [], ◌∷◌, ◌++◌, Some, None, IsSome, Result, Ok, Err, IfOk}
+use Rattle.std.specs.Prelude.{◌≡◌, ◌≢◌, ◌⊎◌, ◌+◌, ◌*◌, ◌≤◌, ◌<◌, ℕ, zero, suc, Bool, true, length, drop, List, [], ◌∷◌, ◌++◌, Option, Some, None, IsSome, Result, Ok, Err, IfOk, Contains as HasAmong}
 use Rattle.nm_edge.specs.Layouts.{Layout}
 use Rattle.nm_edge.specs.declared.node.NodeId.{NodeId}
 use Rattle.nm_model.specs.declared.event.Op.{Op}
 use Rattle.nm_model.specs.declared.event.Op.TheVariants.{Has, Insert, Delete}
 use Rattle.nm_model.specs.declared.trace.Turn.{Turn}
-use Rattle.nm_progress.specs.Moves.{number_of, moves_of_others}
+use Rattle.nm_progress.specs.Moves.{number_of, moves, moves_of_others}
 use Rattle.nm_progress.specs.Tries.{hinders, reshapes_of_others}
+use Rattle.nm_model.specs.declared.event.Event.TheVariants.{Scan}
+use Rattle.nm_model.specs.declared.reply.Reply.TheVariants.{In}
+use Rattle.nm_model.specs.Step.{last_number}
+use Rattle.nm_order.specs.Logs.{part_of}
+use Rattle.nm_order.specs.Reads.{HasRead}
 use Rattle.nm_steps.specs.Steps.{Board, Stand, IsSamePass, HasSeenAllOf}
 use Rattle.nm_epoch.specs.declared.answers.Advance.{Advance}
+use Rattle.nm_epoch.specs.declared.answers.Advance.TheVariants as advance
 use Rattle.nm_epoch.specs.declared.collecting.Collected.{Collected}
 use Rattle.nm_epoch.specs.declared.collecting.HeldQueue.{HeldQueue}
 use Rattle.nm_calls.specs.Bounds.{chain_bound, reach}
@@ -20,6 +26,9 @@ use Rattle.nm_tree.specs.declared.fault.Fault.TheVariants as call
 use Rattle.nm_tree.specs.Workers.{Hand, waiting_in}
 use Rattle.nm_set.specs.declared.fault.Fault.{Fault}
 use Rattle.nm_set.specs.declared.fault.Fault.TheVariants as fault
+use Rattle.nm_set.specs.declared.fault.Fullness.{Fullness}
+use Rattle.nm_set.specs.declared.fault.InsertFault.{InsertFault}
+use Rattle.nm_set.specs.declared.fault.InsertFault.TheVariants as inserting
 use Rattle.nm_set.specs.declared.tended.Habit.{Habit}
 use Rattle.nm_tree.specs.Calls.{LeavesHas, LeavesInsert, LeavesDelete, LeavesFinish, LeavesAdvance, LeavesCollect}
 use Rattle.nm_set.specs.Asked.{Asked}
@@ -97,6 +106,47 @@ pub record IsRelieved (b : Board) (w z : Hand) : Type 0 where
   pub collected : Collected
   pub collects : LeavesCollect b.layout.nodes twice z collected
 
+-- the worker that an advance found at another epoch than the one that it read; of two advances the
+-- one that the second found, or else the first
+abbrev pub found_behind : Advance → Advance → Option ℕ
+found_behind first (advance.Held worker at) = Some worker
+found_behind (advance.Held worker at) second = Some worker
+found_behind first second = None
+
+-- between p and q the worker has read this epoch
+pub record HasReadSince (p q : Stand) (epoch : ℕ) : Type 0 where
+  pub turns : List Turn
+  pub is : q.view.past ≡ p.view.past ++ turns
+  pub read : HasRead (part_of p.view.number turns) epoch
+
+-- between p and q the worker has read an epoch, and found worker i announcing another one
+pub record WasElsewhere (p q : Stand) (i : ℕ) : Type 0 where
+  pub turns : List Turn
+  pub is : q.view.past ≡ p.view.past ++ turns
+  pub epoch : ℕ
+  pub read : HasRead (part_of p.view.number turns) epoch
+  pub at : ℕ
+  pub found : HasAmong (part_of p.view.number turns) (Scan i, In at)
+  pub apart : at ≢ epoch
+
+-- between p and q the epoch was moved on so often at least, by whomever
+pub record WasMovedOn (p q : Stand) (times : ℕ) : Type 0 where
+  pub turns : List Turn
+  pub is : q.view.past ≡ p.view.past ++ turns
+  pub moved : times ≤ number_of moves turns
+
+-- a worker was relieved so, and this is who was found to hold the epoch back: of a worker that rests
+-- another one, that was elsewhere; or nobody, and then the epoch was moved on twice, and the
+-- collection has freed all that waited, unless the epoch is the last one
+pub record FindsBehind (b : Board) (w z : Hand) (behind : Option ℕ) : Type 0 where
+  pub relieved : IsRelieved b w z
+  pub found : behind ≡ found_behind relieved.moved relieved.moved_again
+  pub other : w.pending ≡ None → w.held ≡ None → (i : ℕ) → behind ≡ Some i
+      → (i ≢ w.pass.view.number) × WasElsewhere w.pass z.pass i
+  pub freed : behind ≡ None → HasReadSince w.pass z.pass last_number
+      ⊎ (WasMovedOn w.pass z.pass 2 × (relieved.collected.freed ≡ waiting_in w.queues)
+      × (waiting_in z.queues ≡ 0))
+
 -- so it is where so many nodes wait; else nothing has changed
 abbrev pub IsTidied : Board → ℕ → Hand → Hand → Type 0
 IsTidied b many w z = ((many ≤ waiting_in w.queues) × IsRelieved b w z)
@@ -121,11 +171,30 @@ pub record WasHeldUp (p q : Stand) (times : ℕ) : Type 0 where
 
 -- ---- the three calls
 
--- no slot is told to be free only behind a collection, and by an insert that was made once more
-abbrev pub InsertsOn : Board → Habit → ℕ → Hand → Hand → Result Bool Fault → Type 0
-InsertsOn b h k w z r = (Inserts b h k w z r × (r ≢ Err (fault.Call call.Full)))
-    ⊎ ((x y : Hand) × Inserts b h k w x (Err (fault.Call call.Full)) × IsRelieved b x y
-    × Inserts b h k y z r)
+-- what an insert tells, as the other calls tell it: without who holds memory back
+abbrev pub of_insert : Result Bool InsertFault → Result Bool Fault
+of_insert (Ok answer) = Ok answer
+of_insert (Err (inserting.Full f)) = Err (fault.Call call.Full)
+of_insert (Err (inserting.Other f)) = Err f
+
+-- `plain`, `with_fullness`: what is told, as an insert tells it that is not full; and where no slot
+-- was free, with who was found to hold the epoch back, and how many nodes wait
+abbrev pub plain : Result Bool Fault → Result Bool InsertFault
+plain (Ok answer) = Ok answer
+plain (Err f) = Err (inserting.Other f)
+
+abbrev pub with_fullness : Option ℕ → ℕ → Result Bool Fault → Result Bool InsertFault
+with_fullness behind waiting (Err (fault.Call call.Full)) =
+    Err (inserting.Full (record { waiting = waiting; behind = behind }))
+with_fullness behind waiting told = plain told
+
+-- that no slot is free is told only behind a collection, and by an insert that was made once more
+abbrev pub InsertsOn : Board → Habit → ℕ → Hand → Hand → Result Bool InsertFault → Type 0
+InsertsOn b h k w z r = ((told : Result Bool Fault) × Inserts b h k w z told
+    × (told ≢ Err (fault.Call call.Full)) × (r ≡ plain told))
+    ⊎ ((x y : Hand) × (behind : Option ℕ) × (told : Result Bool Fault)
+    × Inserts b h k w x (Err (fault.Call call.Full)) × FindsBehind b x y behind
+    × Inserts b h k y z told × (r ≡ with_fullness behind (waiting_in z.queues) told))
 
 -- what a finish tells, as a delete tells it
 abbrev pub of_finish : Result Bool Lost → Result Bool Fault
@@ -151,9 +220,9 @@ FinishesThen b h rest w z r = (FinishesPending b h w z (Err call.Unfinished)
 abbrev pub Contains : Board → Habit → ℕ → Hand → Hand → Result Bool Fault → Type 0
 Contains b h k w z r = FinishesThen b h (λ x. Looks b h k x z r) w z r
 
-abbrev pub InsertsTended : Board → Habit → ℕ → Hand → Hand → Result Bool Fault → Type 0
+abbrev pub InsertsTended : Board → Habit → ℕ → Hand → Hand → Result Bool InsertFault → Type 0
 InsertsTended b h k w z r = FinishesThen b h
-    (λ x. (y : Hand) × IsTidied b h.collect_after x y × InsertsOn b h k y z r) w z r
+    (λ x. (y : Hand) × IsTidied b h.collect_after x y × InsertsOn b h k y z r) w z (of_insert r)
 
 abbrev pub RemovesTended : Board → Habit → ℕ → Hand → Hand → Result Bool Fault → Type 0
 RemovesTended b h k w z r = FinishesThen b h
@@ -183,11 +252,22 @@ flags_told_by _ _ = 0
 abbrev pub round_bound : ℕ → Layout → ℕ
 round_bound tries L = tries * (4 * reach L + 8 * chain_bound) + 7 * L.nodes + 2 * L.workers + 12
 
--- the answer has its moment behind all that the worker had seen before this call; it has won what
--- it tells and no more, and has gone on in so many rounds at most
+-- where an insert was full, in the call another worker was found to hold the epoch back; or the
+-- epoch was moved on twice, unless it is the last one; and so many nodes wait as the call ends
+pub record WasFull (w z : Hand) (f : Fullness) : Type 0 where
+  pub other : (i : ℕ) → f.behind ≡ Some i
+      → (i ≢ w.pass.view.number) × WasElsewhere w.pass z.pass i
+  pub moved : f.behind ≡ None
+      → HasReadSince w.pass z.pass last_number ⊎ WasMovedOn w.pass z.pass 2
+  pub waiting : f.waiting ≡ waiting_in z.queues
+
+-- the answer has its moment behind all that the worker had seen before this call; where no slot was
+-- free, who holds memory back was found; it has won what it tells and no more, and has gone on in so
+-- many rounds at most
 pub record Tends (b : Board) (h : Habit) (op : Op) (k : ℕ) (w z : Hand)
     (r : Result Bool Fault) : Type 0 where
   pub moment : IfOk r (AnswerHasMoment w.pass z.pass op k)
+  pub full : r ≡ Err (fault.Call call.Full) → (f : Fullness) × WasFull w z f
   pub left : IsLeft k w z r
   pub won : HasWon w.pass.view.log z.pass.view.log (links_told_by op r) (flags_told_by op r)
   pub on : GoesOnTended ((3 * h.rounds + 5) * round_bound h.tries b.layout) w z
@@ -210,8 +290,10 @@ SaysTended op b h k w z r = UnlessHeld (Tends b h op k w z r) w z r
 abbrev pub TendsHas : Board → Habit → ℕ → Hand → Hand → Result Bool Fault → Type 0
 TendsHas b h k w z r = UnlessHeld (HasTended (Contains b h k) b h Has k w z r) w z r
 
-abbrev pub TendsInsert : Board → Habit → ℕ → Hand → Hand → Result Bool Fault → Type 0
-TendsInsert b h k w z r = UnlessHeld (HasTended (InsertsTended b h k) b h Insert k w z r) w z r
+abbrev pub TendsInsert : Board → Habit → ℕ → Hand → Hand → Result Bool InsertFault → Type 0
+TendsInsert b h k w z r = UnlessHeld
+    (HasTended (λ x y told. InsertsTended b h k x y r) b h Insert k w z (of_insert r)) w z
+    (of_insert r)
 
 abbrev pub TendsDelete : Board → Habit → ℕ → Hand → Hand → Result Bool Fault → Type 0
 TendsDelete b h k w z r = UnlessHeld (HasTended (RemovesTended b h k) b h Delete k w z r) w z r

@@ -13,6 +13,44 @@ pub enum Fault {
     Call(nm_tree::Fault),
 }
 
+/// Why an insert that tends the set has not answered.
+#[derive(Clone, Copy, Debug, Error, PartialEq, Eq)]
+pub enum InsertFault {
+    /// No slot was free for a new node, and none behind a collection either.
+    #[error("{0}")]
+    Full(Fullness),
+    /// Another fault than `Full` of the tree.
+    #[error("{0}")]
+    Other(Fault),
+}
+
+/// What an insert that tends the set has found where no slot was free: who holds memory back.
+#[derive(Clone, Copy, Debug, Error, PartialEq, Eq)]
+#[error("no slot is free for a new node; {waiting} removed nodes wait, {}", whoever(.behind))]
+pub struct Fullness {
+    /// The nodes that wait in the queues that the worker holds, as the call leaves them.
+    pub waiting: u64,
+    /// The other worker that was found to hold the epoch back, at a moment of the call. `None`: none
+    /// was, and all that had waited was freed, unless the epoch is the last one.
+    pub behind: Option<u32>,
+}
+
+/// Who holds removed nodes back, in words.
+#[derive(Clone, Copy, Debug, Error, PartialEq, Eq)]
+enum Holder {
+    #[error("and worker {0} holds them back")]
+    Worker(u32),
+    #[error("and no worker holds them back")]
+    Nobody,
+}
+
+fn whoever(behind: &Option<u32>) -> Holder {
+    match behind {
+        Some(worker) => Holder::Worker(*worker),
+        None => Holder::Nobody,
+    }
+}
+
 /// Why a worker was not pinned.
 #[derive(Clone, Copy, Debug, Error, PartialEq, Eq)]
 pub enum PinFault {

@@ -22,7 +22,10 @@ mod set;
 mod tended;
 
 pub use ending::EndError;
-pub use fault::{CloseReason, Fault, MemberFault, NotHeld, PinFault, PostFault, ResignReason};
+pub use fault::{
+    CloseReason, Fault, Fullness, InsertFault, MemberFault, NotHeld, PinFault, PostFault,
+    ResignReason,
+};
 pub use member::{Member, ResignError};
 pub use nm_tree::{
     Advance, Behind, Collected, Counts, Entry, Fault as CallFault, HeldQueue, NewError,

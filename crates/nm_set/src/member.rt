@@ -84,7 +84,8 @@ impl Member {
 
     /// What the worker has seen is a run of an ordered core of the set's sizes, its log is its part
     /// of that, it has not resigned in it, and the turns that it has seen have the headline and a
-    /// history: `Worker::is_of_a_run` of `nm_tree`. And it is one of the set's. It does nothing.
+    /// history: `Worker::is_of_a_run` of `nm_tree`. And it is one of the set's, and leaves nothing
+    /// open between two calls: `Worker::is_between_calls`. It does nothing.
     pub fn is_of_a_run(&self)
         ensures own { IsOwn self.now.board self.now.hand }
         ensures seen { HasSeen self.now.hand.pass.view }

@@ -6,12 +6,13 @@ ghost use Rattle.nm_tree.specs.declared.fault.Fault.TheVariants as lost;
 ghost use Rattle.nm_tree.specs.Calls.{LeavesHas, LeavesInsert, LeavesDelete};
 ghost use Rattle.nm_tree.specs.Workers.{Hand, IsIdle};
 ghost use Rattle.nm_set.specs.Asked.{Asked};
-ghost use Rattle.nm_set.specs.Tended.{busy, Looks, Inserts, Deletes, FinishesPending, IsRelieved, InsertsOn, DeletesOn, SaysTended, WasDisturbed, WasHeldUp, TendsHas, TendsInsert, TendsDelete};
+ghost use Rattle.nm_set.specs.declared.fault.Fullness.{Fullness};
+ghost use Rattle.nm_set.specs.Tended.{busy, FindsBehind, Looks, Inserts, Deletes, FinishesPending, IsRelieved, InsertsOn, DeletesOn, SaysTended, WasDisturbed, WasFull, WasHeldUp, TendsHas, TendsInsert, TendsDelete, found_behind, of_insert, plain, with_fullness};
 
-use crate::fault::Fault;
+use crate::fault::{Fault, Fullness, InsertFault};
 use crate::member::Member;
 use nm_edge::Key;
-use nm_tree::Fault as CallFault;
+use nm_tree::{Advance, Fault as CallFault};
 
 /// What a call that tends the set may spend, and when it collects. Such a call takes at most 3
 /// `rounds` + 5 rounds, each of at most `tries` * (4 `reach` + 512) + 7 `nodes` + 2 `workers` + 12
@@ -72,6 +73,45 @@ fn is_lost(told: &Result<bool, CallFault>) -> bool
     matches!(told, Err(CallFault::Unfinished))
 }
 
+/// The worker that was found to hold the epoch back: by the second of two advances, or else by the
+/// first.
+fn behind_of(first: &Advance, second: &Advance) -> Option<u32>
+    ensures { result ≡ found_behind first.now second.now }
+{
+    match (second, first) {
+        (Advance::Held { worker, .. }, _) => Some(*worker),
+        (_, Advance::Held { worker, .. }) => Some(*worker),
+        _ => None,
+    }
+}
+
+/// What is told of an insert that is not full.
+fn plain(told: Result<bool, Fault>) -> Result<bool, InsertFault>
+    ensures { result ≡ plain told }
+{
+    match told {
+        Ok(answer) => Ok(answer),
+        Err(fault) => Err(InsertFault::Other(fault)),
+    }
+}
+
+/// What is told, with what an insert has found that has no free slot.
+fn with_fullness(
+    behind: Option<u32>,
+    waiting: u64,
+    told: Result<bool, Fault>,
+) -> Result<bool, InsertFault>
+    ensures { result ≡ with_fullness behind waiting told }
+{
+    match told {
+        Ok(answer) => Ok(answer),
+        Err(Fault::Call(CallFault::Full)) => {
+            Err(InsertFault::Full(Fullness { waiting, behind }))
+        }
+        Err(fault) => Err(InsertFault::Other(fault)),
+    }
+}
+
 /// The habit with a round less.
 fn without_one(habit: &Habit) -> Habit
     requires { 1 ≤ habit.now.rounds }
@@ -121,15 +161,20 @@ impl Member {
     /// `Full` and `NoMemory`.
     ///
     /// `Held`, `Pending`, `Busy`: as `contains` tells them. `Full`: no slot was free for a new
-    /// node, and none behind the collection either. `NoMemory`: the room of a try was refused, and
-    /// nothing of the insert stands but help given to others.
+    /// node, and none behind the collection either; it names the worker that was found to hold the
+    /// epoch back, or tells that none was, and then all that had waited was freed, unless the epoch
+    /// is the last one; and it tells how many removed nodes wait as the call ends. (`Full` of the
+    /// tree is not told.) `NoMemory`: the room of a try was refused, and nothing of the insert
+    /// stands but help given to others.
     #[inline(always)]
-    pub fn insert(&mut self, key: Key, habit: &Habit) -> Result<bool, Fault>
+    pub fn insert(&mut self, key: Key, habit: &Habit) -> Result<bool, InsertFault>
         ensures board { self.new.board ≡ self.old.board }
         ensures says { SaysTended Insert self.old.board habit.now key self.old.hand self.new.hand
-            result }
+            (of_insert result) }
         ensures did { TendsInsert self.old.board habit.now key self.old.hand self.new.hand result }
-        ensures disturbed { result ≡ busy → WasHeldUp self.old.hand.pass self.new.hand.pass
+        ensures full { (f : Fullness) → result ≡ Err (InsertFault.Full f)
+            → WasFull self.old.hand self.new.hand f }
+        ensures disturbed { of_insert result ≡ busy → WasHeldUp self.old.hand.pass self.new.hand.pass
             ((habit.now.rounds + 1) * habit.now.tries) }
     {
         if self.rests() {
@@ -174,7 +219,7 @@ impl Member {
     /// `insert`, out of the way of the many calls of a worker that rests.
     #[cold]
     #[inline(never)]
-    fn insert_unrested(&mut self, key: Key, habit: &Habit) -> Result<bool, Fault>
+    fn insert_unrested(&mut self, key: Key, habit: &Habit) -> Result<bool, InsertFault>
         ensures board { self.new.board ≡ self.old.board }
         ensures did { TendsInsert self.old.board habit.now key self.old.hand self.new.hand result }
     {
@@ -193,15 +238,15 @@ impl Member {
 
     /// `insert`, of any worker.
     #[inline(always)]
-    fn insert_tending(&mut self, key: Key, habit: &Habit) -> Result<bool, Fault>
+    fn insert_tending(&mut self, key: Key, habit: &Habit) -> Result<bool, InsertFault>
         ensures board { self.new.board ≡ self.old.board }
         ensures did { TendsInsert self.old.board habit.now key self.old.hand self.new.hand result }
     {
         if self.held().is_some() {
-            return Err(Fault::Held);
+            return Err(InsertFault::Other(Fault::Held));
         }
         let Ok(_done) = self.finish_again(habit) else {
-            return Err(Fault::Call(CallFault::Pending));
+            return Err(InsertFault::Other(Fault::Call(CallFault::Pending)));
         };
         if self.queue_len() >= u64::from(habit.collect_after) {
             return self.insert_relieved(key, habit);
@@ -231,7 +276,7 @@ impl Member {
     /// A collection, and the insert behind it.
     #[cold]
     #[inline(never)]
-    fn insert_relieved(&mut self, key: Key, habit: &Habit) -> Result<bool, Fault>
+    fn insert_relieved(&mut self, key: Key, habit: &Habit) -> Result<bool, InsertFault>
         ensures board { self.new.board ≡ self.old.board }
         ensures did { (y : Hand) × IsRelieved self.old.board self.old.hand y
             × InsertsOn self.old.board habit.now key y self.new.hand result }
@@ -256,7 +301,7 @@ impl Member {
     /// An insert that is made again while it loses each of its tries, and once more behind a
     /// collection where no slot was free: nearly always the first one answers.
     #[inline(always)]
-    fn insert_on(&mut self, key: Key, habit: &Habit) -> Result<bool, Fault>
+    fn insert_on(&mut self, key: Key, habit: &Habit) -> Result<bool, InsertFault>
         ensures board { self.new.board ≡ self.old.board }
         ensures did { InsertsOn self.old.board habit.now key self.old.hand self.new.hand result }
     {
@@ -269,7 +314,7 @@ impl Member {
     /// What is done of it behind a first insert that has told this fault.
     #[cold]
     #[inline(never)]
-    fn insert_behind(&mut self, key: Key, habit: &Habit, fault: Fault) -> Result<bool, Fault>
+    fn insert_behind(&mut self, key: Key, habit: &Habit, fault: Fault) -> Result<bool, InsertFault>
         ensures board { self.new.board ≡ self.old.board }
         ensures did { (w : Hand)
             → Asked (LeavesInsert self.old.board.layout habit.now.tries key) w self.old.hand
@@ -277,10 +322,11 @@ impl Member {
     {
         let told = self.insert_again(key, habit, fault);
         if !is_full(&told) {
-            return told;
+            return plain(told);
         }
-        self.relieve();
-        self.insert_rounds(key, habit)
+        let behind = self.relieve();
+        let told = self.insert_rounds(key, habit);
+        with_fullness(behind, self.queue_len(), told)
     }
 
     /// A delete that is made again while it loses each of its tries, and what is left to do of it:
@@ -315,16 +361,22 @@ impl Member {
         }
     }
 
-    /// Moves the epoch on twice, unless others hold it back, and collects.
+    /// Moves the epoch on twice, unless others hold it back, and collects: which worker was found
+    /// to hold it back.
     #[cold]
     #[inline(never)]
-    fn relieve(&mut self)
+    fn relieve(&mut self) -> Option<u32>
         ensures board { self.new.board ≡ self.old.board }
-        ensures did { IsRelieved self.old.board self.old.hand self.new.hand }
+        ensures did { FindsBehind self.old.board self.old.hand self.new.hand result }
     {
-        self.advance();
-        self.advance();
+        self.is_of_a_run();
+        let first = self.advance();
+        self.is_of_a_run();
+        let second = self.advance();
+        self.is_of_a_run();
         self.collect();
+        self.is_of_a_run();
+        behind_of(&first, &second)
     }
 
     /// Look-ups, until one has not lost each of its tries: nearly always it is the first one.

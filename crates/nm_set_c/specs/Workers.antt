@@ -3,6 +3,7 @@
 use Rattle.std.specs.Prelude.{◌≡◌, ◌⊎◌, ℕ, Bool, option_map, Option, Some, None, Result, Ok, Err}
 use Rattle.nm_edge.specs.Keys.{IsKey}
 use Rattle.nm_model.specs.declared.event.Op.TheVariants.{Has, Insert, Delete}
+use Rattle.nm_steps.specs.Steps.{Board}
 use Rattle.nm_epoch.specs.declared.answers.Advance.{Advance}
 use Rattle.nm_epoch.specs.declared.answers.Advance.TheVariants as advance
 use Rattle.nm_tree.specs.declared.fault.Fault.{Fault as Lost}
@@ -14,13 +15,14 @@ use Rattle.nm_tree.specs.Workers.{Hand, IsLedger}
 use Rattle.nm_tree.specs.Calls.{SaysHas, SaysInsert, SaysDelete, SaysFinish, LeavesHas, LeavesInsert, LeavesDelete, LeavesFinish, LeavesAdvance, LeavesBehind, LeavesCollect}
 use Rattle.nm_set.specs.Asked.{Asked, AskedToPin, AskedToUnpin}
 use Rattle.nm_set.specs.declared.fault.Fault.{Fault}
+use Rattle.nm_set.specs.declared.fault.InsertFault.{InsertFault}
 use Rattle.nm_set.specs.declared.fault.NotHeld.{NotHeld}
 use Rattle.nm_set.specs.declared.fault.PinFault.{PinFault}
 use Rattle.nm_set.specs.declared.fault.PinFault.TheVariants as pinning
 use Rattle.nm_set.specs.declared.fault.ResignReason.{ResignReason}
 use Rattle.nm_set.specs.declared.tended.Habit.{Habit}
 use Rattle.nm_set.specs.Seats.{Seated, IsResident, IsStaying}
-use Rattle.nm_set.specs.Tended.{SaysTended, TendsHas, TendsInsert, TendsDelete}
+use Rattle.nm_set.specs.Tended.{SaysTended, TendsHas, TendsInsert, TendsDelete, of_insert}
 use Rattle.nm_set_c.specs.Outcomes.{of_answer, of_finished, of_staying}
 use Rattle.nm_set_c.specs.declared.outcome.Outcome.{Outcome}
 use Rattle.nm_set_c.specs.declared.outcome.Outcome.TheVariants as outcome
@@ -87,12 +89,17 @@ pub record AnswersTending (does : Hand → Hand → Result Bool Fault → Type 0
   pub board : n.board ≡ m.board
   pub did : does m.hand n.hand answer
 
+-- an insert that tends the set, by what it tells without who holds memory back
+abbrev pub InsertsTelling : Board → Habit → ℕ → Hand → Hand → Result Bool Fault → Type 0
+InsertsTelling b h k w z r =
+    (told : Result Bool InsertFault) × (r ≡ of_insert told) × TendsInsert b h k w z told
+
 -- `DoesContains`, `DoesInsert`, `DoesRemove`: the same of the member's calls that tend the set
 abbrev pub DoesContains : Habit → ℕ → Seated → Seated → Outcome → Type 0
 DoesContains h k m n o = OfKey k (AnswersTending (TendsHas m.board h k) m n o) m n o
 
 abbrev pub DoesInsert : Habit → ℕ → Seated → Seated → Outcome → Type 0
-DoesInsert h k m n o = OfKey k (AnswersTending (TendsInsert m.board h k) m n o) m n o
+DoesInsert h k m n o = OfKey k (AnswersTending (InsertsTelling m.board h k) m n o) m n o
 
 abbrev pub DoesRemove : Habit → ℕ → Seated → Seated → Outcome → Type 0
 DoesRemove h k m n o = OfKey k (AnswersTending (TendsDelete m.board h k) m n o) m n o

@@ -1,8 +1,8 @@
 //! What a call tells C: an answer or a fault, as a number.
 ghost use Rattle.std.specs.Prelude.{◌≡◌};
-ghost use Rattle.nm_set_c.specs.Outcomes.{code_of, of_bool, of_lost, of_fault, of_new, of_taking, of_staying, of_reason};
+ghost use Rattle.nm_set_c.specs.Outcomes.{code_of, of_bool, of_lost, of_fault, of_insert_fault, of_new, of_taking, of_staying, of_reason};
 
-use nm_set::{CallFault, CloseReason, Fault, MemberFault, NewError, ResignReason};
+use nm_set::{CallFault, CloseReason, Fault, InsertFault, MemberFault, NewError, ResignReason};
 
 /// What came of a call. Faults have left everything as it was, where their own line does not say
 /// more.
@@ -123,6 +123,16 @@ impl Outcome {
         match fault {
             Fault::Held => Outcome::Held,
             Fault::Call(lost) => Outcome::of_lost(lost),
+        }
+    }
+
+    /// Why an insert that tends the set has not answered.
+    pub(crate) fn of_insert(fault: InsertFault) -> Outcome
+        ensures { result ≡ of_insert_fault fault }
+    {
+        match fault {
+            InsertFault::Full(_) => Outcome::Full,
+            InsertFault::Other(fault) => Outcome::of_fault(fault),
         }
     }
 

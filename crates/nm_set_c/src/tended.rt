@@ -86,7 +86,7 @@ fn insert(member: &mut Member, key: u64, habit: &Habit) -> Outcome
     };
     match member.insert(key, habit) {
         Ok(answer) => Outcome::of(answer),
-        Err(fault) => Outcome::of_fault(fault),
+        Err(fault) => Outcome::of_insert(fault),
     }
 }
 

@@ -1,8 +1,8 @@
 //! Members of a set in one thread, each answer compared, and two in threads of their own.
 use nm_edge::Key;
 use nm_set::{
-    CloseReason, EndError, Fault, Habit, Member, MemberFault, NotHeld, PinFault, PostFault, Posted,
-    Report, ResignReason, Set,
+    CallFault, CloseReason, EndError, Fault, Fullness, Habit, InsertFault, Member, MemberFault,
+    NotHeld, PinFault, PostFault, Posted, Report, ResignReason, Set,
 };
 use std::process::Abort;
 use std::test::Fail;
@@ -87,6 +87,41 @@ fn a_member_answers_and_keeps_what_it_holds(rt: HostRuntime) -> Result<(), Fail>
     let _ = again.advance();
     let _ = again.advance();
     assert_eq!(rt; (again.collect().freed, again.queue_len()), (2, 0));
+    Ok(())
+}
+
+#[test]
+fn a_full_set_tells_who_holds_memory_back(rt: HostRuntime) -> Result<(), Fail> {
+    let set = Set::new(rt.alloc(), 7, 2)?;
+    let mut first = set.member(0)?;
+    let mut reader = set.member(1)?;
+    let habit = Habit::default();
+    let (five, six) = (key(&rt, 5), key(&rt, 6));
+    let _epoch = reader.pin(TRIES)?;
+    assert_eq!(rt;
+        (first.insert(five, &habit), first.remove(five, &habit)),
+        (Ok(true), Ok(true))
+    );
+    let held = Fullness {
+        waiting: 2,
+        behind: Some(1),
+    };
+    assert_eq!(rt; first.insert(six, &habit), Err(InsertFault::Full(held)));
+    assert_eq!(rt;
+        first.try_insert(six, TRIES),
+        Err(Fault::Call(CallFault::Full))
+    );
+    assert_eq!(rt;
+        format!(in rt.alloc(); "{held}")?.as_str(),
+        "no slot is free for a new node; 2 removed nodes wait, and worker 1 holds them back"
+    );
+    reader.unpin()?;
+    assert_eq!(rt; first.insert(six, &habit), Ok(true));
+    let brimful = Fullness {
+        waiting: 0,
+        behind: None,
+    };
+    assert_eq!(rt; first.insert(five, &habit), Err(InsertFault::Full(brimful)));
     Ok(())
 }
 

@@ -21,5 +21,6 @@ pub mod AddedUp
 pub mod Working
 pub mod InsertMoments
 pub mod LettersRead
+pub mod Blamed
 mod AnswersInRuns
 mod Counting

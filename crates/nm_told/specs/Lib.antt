@@ -7,3 +7,4 @@ pub mod Taking
 pub mod Tallies
 pub mod Queues
 pub mod Letters
+pub mod Blame

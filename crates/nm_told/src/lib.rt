@@ -5,6 +5,7 @@
 mod alone;
 mod beside;
 mod fresh;
+mod full;
 mod least;
 mod letters;
 mod members;
@@ -22,6 +23,7 @@ mod trees;
 pub use alone::{insert_alone, look_alone, look_many_alone, next_alone};
 pub use beside::{delete_beside, insert_beside, look_many_beside, next_beside, prev_beside};
 pub use fresh::{Looked, look_first, look_in_new, look_in_new_of_one, look_only};
+pub use full::add_or_blame;
 pub use least::{Taken, take_at_once, take_both, take_in_threads};
 pub use letters::{Reading, Written, insert_while_read};
 pub use members::{add_then_find, put_again, put_and_take, put_back, remove_then_miss, take_once};

@@ -1,9 +1,9 @@
-use Rattle.std.proofs.Common.{rules}
+use Rattle.std.proofs.Common.{rules, subst, sym}
 use Rattle.nm_set_c.specs.Handles.{held_by}
-use Rattle.nm_set_c.specs.Workers.{DoesInsert, TellsInsert}
+use Rattle.nm_set_c.specs.Workers.{DoesInsert, InsertsTelling, TellsInsert}
 use Rattle.nm_set_c.specs.declared.outcome.Outcome.TheVariants.{Kind}
 use Rattle.nm_model.specs.declared.event.Op.TheVariants.{Insert}
-use Rattle.nm_set.specs.Tended.{SaysTended, TendsInsert}
+use Rattle.nm_set.specs.Tended.{SaysTended, of_insert}
 use Rattle.nm_set.proofs.Tending.{said}
 use Rattle.nm_set_c.proofs.Telling.{worker_tells, tended_tells}
 use Rattle.nm_set_c.proofs.Owners.{told_worker, other_worker}
@@ -23,4 +23,4 @@ returns-clause-tells c =
     let Same : Type 0 = Unit {0} in
     let h = c.args.habit.now in
     let k = c.args.key in
-    worker_tells (DoesInsert h k) (TellsInsert h k) (λ m n o did. tended_tells (TendsInsert m.board h k) (SaysTended Insert m.board h k) k m n o (λ r did. said m.board h Insert k m.hand n.hand r did) did) Same (held_by c.args.worker.now) (held_by c.put.new.self) _ (returns-clause-did c)
+    worker_tells (DoesInsert h k) (TellsInsert h k) (λ m n o did. tended_tells (InsertsTelling m.board h k) (SaysTended Insert m.board h k) k m n o (λ r did. subst (SaysTended Insert m.board h k m.hand n.hand) (sym did.1) (said m.board h Insert k m.hand n.hand (of_insert did.0) did.2)) did) Same (held_by c.args.worker.now) (held_by c.put.new.self) _ (returns-clause-did c)

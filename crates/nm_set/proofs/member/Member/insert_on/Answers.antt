@@ -1,4 +1,4 @@
-use Rattle.std.proofs.Common.{inl, subst}
+use Rattle.std.proofs.Common.{inl, refl, subst}
 use Rattle.std.specs.Prelude.{Ok, Err}
 use Rattle.nm_steps.specs.Steps.{Board}
 use Rattle.nm_tree.specs.Calls.{LeavesInsert}
@@ -11,7 +11,7 @@ pub returns-in-Ok-clause-did : goal.returns-in-Ok-clause-did
 returns-in-Ok-clause-did c =
     let h = c.args.habit.now in
     let leaves = Asked (LeavesInsert c.args.self.now.board.layout h.tries c.args.key) in
-    inl (asked_once leaves busy h.rounds c.args.self.now.hand c.try_insert.new.self.hand (Ok c.in-Ok.answer) c.in-Ok.ensures.did (λ e. is_no_fault _ _ e), λ e. is_no_fault _ _ e)
+    inl (Ok c.in-Ok.answer, asked_once leaves busy h.rounds c.args.self.now.hand c.try_insert.new.self.hand (Ok c.in-Ok.answer) c.in-Ok.ensures.did (λ e. is_no_fault _ _ e), λ e. is_no_fault _ _ e, refl)
 
 pub returns-in-Err-clause-did : goal.returns-in-Err-clause-did
 returns-in-Err-clause-did c =

@@ -1,0 +1,37 @@
+use Rattle.std.proofs.Common.{◌∙◌, subst, sym, arith}
+use Rattle.std.specs.Prelude.{Option, ℕ}
+use Rattle.nm_steps.specs.Steps.{Board}
+use Rattle.nm_tree.specs.Calls.{LeavesAdvance, LeavesCollect}
+use Rattle.nm_set.specs.Tended.{FindsBehind, IsRelieved}
+use Rattle.nm_set.proofs.Emptied.{AreSeen, finds_behind}
+use Rattle.nm_set.proofs.member.Member.relieve.Goals as goal
+
+pub returns-clause-did : goal.returns-clause-did
+returns-clause-did c =
+    let b = c.args.self.now.board in
+    let w = c.args.self.now.hand in
+    let once = c.advance-first.new.self.hand in
+    let twice = c.advance-second.new.self.hand in
+    let z = c.collect.new.self.hand in
+    let again = subst (λ (d : Board). LeavesAdvance d.layout.workers once twice c.advance-second.result) c.advance-first.ensures.board c.advance-second.ensures.did in
+    let collects = subst (λ (d : Board). LeavesCollect d.layout.nodes twice z c.collect.result) (c.advance-second.ensures.board ∙ c.advance-first.ensures.board) c.collect.ensures.did in
+    let r : IsRelieved b w z = record {
+      moved = c.advance-first.result;
+      once = once;
+      moves = c.advance-first.ensures.did;
+      moved_again = c.advance-second.result;
+      twice = twice;
+      moves_again = again;
+      collected = c.collect.result;
+      collects = collects;
+    } in
+    let seen : AreSeen r = record {
+      enough = let least = c.is_of_a_run.ensures.fits.least in omega (arith, least);
+      first = c.is_of_a_run.ensures.seen;
+      second = c.is_of_a_run-2.ensures.seen;
+      third = c.is_of_a_run-3.ensures.seen;
+      last = c.is_of_a_run-4.ensures.seen;
+      between = c.is_of_a_run.ensures.between;
+      between_again = c.is_of_a_run-2.ensures.between;
+    } in
+    subst (λ (behind : Option ℕ). FindsBehind b w z behind) (sym c.behind_of.ensures) (finds_behind b w z r seen)
