@@ -205,7 +205,7 @@ nm_outcome nm_set_new(nm_handle *set, uint32_t nodes, uint32_t workers);
 nm_outcome nm_set_near(nm_handle *set, uint32_t nodes, uint32_t workers);
 
 /* The same as nm_set_near, but a new node takes the lowest free slot, and not one near that which
- * its worker found last or the lowest that it gave back since then: for who compares slots. */
+ * its worker found last or gave back since then: for who compares slots. */
 nm_outcome nm_set_lowest(nm_handle *set, uint32_t nodes, uint32_t workers);
 
 /* Takes the worker of a number, with all that it had when it went home, but for a pin: it is not

@@ -6,8 +6,7 @@ use crate::ffi::Habit;
 #[derive(Clone, Copy, Debug, Default, PartialEq, Eq)]
 pub enum Shape {
     /// A radix tree, in which no call goes over more than 66 nodes, whatever keys come in whatever
-    /// order; a new node is one near that which the worker found last or, since then, gave back
-    /// first.
+    /// order; a new node is one near that which the worker found last or gave back since then.
     #[default]
     Radix,
     /// The tree of Natarajan and Mittal, in which keys that come in order make one long path, so

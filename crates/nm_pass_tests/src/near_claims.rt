@@ -55,14 +55,21 @@ fn a_near_claim_looks_where_a_slot_was_given_back_last(rt: HostRuntime) -> Resul
 }
 
 #[test]
-fn a_near_claim_looks_where_the_lowest_slot_was_given_back(rt: HostRuntime) -> Result<(), Fail> {
+fn a_near_claim_looks_where_the_first_slot_from_home_on_was_given_back(
+    rt: HostRuntime,
+) -> Result<(), Fail> {
     let (shared, passes) = Shared::new(rt.alloc(), Layout::new(TWO_ROWS, 1)?)?;
     let mut pass = only(&shared, passes);
-    let mut near = Placement::new(Fit::Near, 66);
-    near.keep(67);
-    near.keep(6);
-    near.keep(65);
-    assert_eq!(rt; claim_by(&shared, &mut pass, &mut near), first_of(6));
+    let mut low = Placement::new(Fit::Near, 6);
+    low.keep(67);
+    low.keep(7);
+    low.keep(66);
+    assert_eq!(rt; claim_by(&shared, &mut pass, &mut low), first_of(6));
+    let mut high = Placement::new(Fit::Near, 66);
+    high.keep(7);
+    high.keep(67);
+    high.keep(8);
+    assert_eq!(rt; claim_by(&shared, &mut pass, &mut high), first_of(65));
     Ok(())
 }
 

@@ -17,7 +17,8 @@ pub enum Fit {
     /// From slot 6 upwards at each claim: first fit.
     Lowest,
     /// From the first slot of a row of 64 upwards, and round: the row of the slot which the worker
-    /// found last or, where it gave some back since then, of the lowest of these: next fit.
+    /// found last or, where it gave some back since then, of the first of these from its home on,
+    /// and round: next fit.
     Near,
 }
 
@@ -30,10 +31,14 @@ pub enum Fit {
 pub struct Placement {
     fit: Fit,
     // The slot in whose row a near worker looks first: the one that it found last or, where some
-    // were given back since then, the lowest of these. So the others lie ahead; from another one on
-    // a claim would come to those below only once it had gone round, and the nodes of a small set
-    // would wander over all slots, where the processor has them no longer at hand.
+    // were given back since then, the first of these from its home on, and round. So the others lie
+    // ahead; from another one on a claim would come to those before it only once it had gone round,
+    // and the nodes of a small set would wander over all slots, where the processor has them no
+    // longer at hand.
     cursor: u32,
+    // The slot at which the worker began, which is another one for each worker, so that they do not
+    // all come to the lowest slots.
+    home: u32,
     // Whether some were given back since the last claim.
     is_given: bool,
 }
@@ -47,14 +52,15 @@ impl Model for Placement {
 }
 
 impl Placement {
-    /// The placement of a worker that has given nothing back. `cursor` is the slot in whose row a
-    /// near one looks first; where the pool has no such slot, it looks from slot 6 on.
+    /// The placement of a worker that has given nothing back. `cursor` is its home, the slot in whose
+    /// row a near one looks first; where the pool has no such slot, it looks from slot 6 on.
     pub fn new(fit: Fit, cursor: u32) -> Placement
         ensures { result ≡ fit }
     {
         Placement {
             fit,
             cursor,
+            home: cursor,
             is_given: false,
         }
     }
@@ -66,15 +72,20 @@ impl Placement {
         self.fit
     }
 
-    /// Remembers a slot that was given back where it is the lowest one since the last claim: a near
-    /// claim looks in its row first.
+    /// Remembers a slot that was given back where it is the first one from the worker's home on, and
+    /// round, of those since the last claim: a near claim looks in its row first.
     pub fn keep(&mut self, slot: u32)
         ensures { self.new ≡ self.old }
     {
-        if !self.is_given || slot < self.cursor {
+        if !self.is_given || self.from_home(slot) < self.from_home(self.cursor) {
             self.cursor = slot;
         }
         self.is_given = true;
+    }
+
+    /// How far a slot lies from the worker's home on; those below come behind all others.
+    fn from_home(&self, slot: u32) -> u32 {
+        slot.wrapping_sub(self.home)
     }
 
     /// Remembers a slot that was found: a near claim looks on from its row.

@@ -81,8 +81,7 @@ impl Set {
     /// The empty set, in a radix tree with room for `nodes` nodes, 7 to 268,435,456, for 1 to 64
     /// workers, whose announcements have pages of their own. No walk takes more than 66 nodes,
     /// whatever keys come in whatever order; and each worker looks for a free slot near the one
-    /// that it found last or the lowest that it gave back since then: `Tree::radix` of `nm_tree` with
-    /// the near fit.
+    /// that it found last or gave back since then: `Tree::radix` of `nm_tree` with the near fit.
     ///
     /// `NoMemory`: nothing is kept.
     pub fn new(alloc: Global, nodes: u32, workers: u32) -> Result<Set, NewError>

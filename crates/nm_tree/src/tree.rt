@@ -54,8 +54,8 @@ impl Tree {
     }
 
     /// The same, but a worker looks for a free slot first in one row of 64, that of the slot which
-    /// it found last or of the lowest that it gave back since then, and then from there upwards, and
-    /// round.
+    /// it found last or, of those that it gave back since then, of the first from its home on, and
+    /// then from there upwards, and round. Homes lie at equal distances.
     /// So a claim takes few steps where most slots are free, and which slot a new node takes is not
     /// told beforehand.
     ///
