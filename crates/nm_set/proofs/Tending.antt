@@ -15,7 +15,7 @@ use Rattle.nm_model.specs.Step.{last_number}
 use Rattle.nm_model.specs.Walks.{Entry as LogEntry}
 use Rattle.nm_order.specs.Logs.{part_of}
 use Rattle.nm_order.specs.Reads.{HasRead}
-use Rattle.nm_progress.specs.Moves.{number_of, moves}
+use Rattle.nm_progress.specs.Moves.{moves}
 use Rattle.nm_progress.proofs.SplitTurns.{number-append}
 use Rattle.nm_busy.proofs.LostPins.{part-append}
 use Rattle.nm_steps.specs.Steps.{Board, Stand, IsSamePass, HasSeenAllOf}

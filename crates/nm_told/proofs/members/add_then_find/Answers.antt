@@ -1,7 +1,7 @@
 use Rattle.std.proofs.Common.{◌≡◌, Bool, true, subst}
 use Rattle.std.specs.Prelude.{Ok}
 use Rattle.nm_model.specs.declared.event.Op.TheVariants.{Insert}
-use Rattle.nm_set.specs.Tended.{SaysTended}
+use Rattle.nm_set.specs.Tended.{SaysTended, of_insert}
 use Rattle.nm_told.proofs.Answered.{if_answered}
 use Rattle.nm_told.proofs.ToldMembers.{looks_then, seen_behind, seen_both}
 use Rattle.nm_told.specs.Meanwhile.{NoneDeleted}
@@ -21,10 +21,10 @@ returns-in-Ok-true-clause-found c none =
 
 pub returns-in-Ok-true-clause-past : goal.returns-in-Ok-true-clause-past
 returns-in-Ok-true-clause-past c =
-    seen_both Insert c.args.member.now.board c.insert.new.self.board c.args.habit.now c.args.key c.args.member.now.hand c.insert.new.self.hand c.contains.new.self.hand c.insert.result c.contains.result c.insert.ensures.says c.contains.ensures.says
+    seen_both Insert c.args.member.now.board c.insert.new.self.board c.args.habit.now c.args.key c.args.member.now.hand c.insert.new.self.hand c.contains.new.self.hand (of_insert c.insert.result) c.contains.result c.insert.ensures.says c.contains.ensures.says
 
 pub returns-in_default-clause-past : goal.returns-in_default-clause-past
-returns-in_default-clause-past c = seen_behind Insert c.args.member.now.board c.args.habit.now c.args.key c.args.member.now.hand c.insert.new.self.hand c.insert.result c.insert.ensures.says
+returns-in_default-clause-past c = seen_behind Insert c.args.member.now.board c.args.habit.now c.args.key c.args.member.now.hand c.insert.new.self.hand (of_insert c.insert.result) c.insert.ensures.says
 
 pub returns-in_default-2-clause-past : goal.returns-in_default-2-clause-past
-returns-in_default-2-clause-past c = seen_behind Insert c.args.member.now.board c.args.habit.now c.args.key c.args.member.now.hand c.insert.new.self.hand c.insert.result c.insert.ensures.says
+returns-in_default-2-clause-past c = seen_behind Insert c.args.member.now.board c.args.habit.now c.args.key c.args.member.now.hand c.insert.new.self.hand (of_insert c.insert.result) c.insert.ensures.says
