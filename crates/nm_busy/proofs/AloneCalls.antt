@@ -471,13 +471,6 @@ module _ (p q : Stand) (seen_p : HasSeen p.view) (seen_q : HasSeen q.view) (enou
           let calm = a.calm in
           absurd (omega (arith, some, few, calm))
 
-  not_moved : (n : ℕ) → WasMovedPast p q n → n ≡ 0
-  not_moved n m =
-      let same_is = same_turns p.view.past m.turns alone.turns q.view.past m.is alone.is in
-      let none = ap (λ (l : List Turn). number_of (moves_of_others p.view.number) l) same_is ∙ own_none p.view.number moves alone.turns alone.own in
-      let few = m.moved in
-      omega (arith, none, few)
-
   -- so an insert loses no try, nor does a delete
   none_inserted : (fit : Fit) (k n : ℕ) (f : Option Fork) (begun new : List Entry) → Mute p.view.log begun → LostInserts fit p.view.layout k n f begun new → Longer new q.view.log → n ≡ 0
   none_inserted fit k zero f begun new pin tried rest = refl
@@ -504,7 +497,7 @@ inserts_alone_are_answered fit k tries p q seen_p seen_q enough same on alone re
   where
     by : InsertDid fit p.view.layout tries k p.view.log q.view.log (Err fault.Busy) → tries ≡ 0
     by (inl none) = none.0
-    by (inr (inl m)) = not_moved p q seen_p seen_q enough same alone rests tries (moved p q seen_p seen_q enough same on (SightFor Insert k) refl tries m.0 m.1)
+    by (inr (inl m)) = none_moved p q tries alone (moved p q seen_p seen_q enough same on (SightFor Insert k) refl tries m.0 m.1)
     by (inr (inr (pinned, epoch, pin, (f, mid, back, tried, returns, leaves)))) = none_inserted p q seen_p seen_q enough same alone rests fit k tries f pinned mid (pin_mute Insert k tries p.view.log pinned epoch pin) tried (longer_then mid back q.view.log (returns_longer f mid back returns) (longer_these _ back q.view.log leaves))
 
 pub deletes_alone_are_not_busy : DeletesAloneAreNotBusy
@@ -512,5 +505,5 @@ deletes_alone_are_not_busy k tries p q seen_p seen_q enough same on alone rests 
   where
     by : DeleteDid p.view.layout tries k p.view.log q.view.log (Err missed.Busy) → tries ≡ 0
     by (inl none) = none.0
-    by (inr (inl m)) = not_moved p q seen_p seen_q enough same alone rests tries (moved p q seen_p seen_q enough same on (SightFor Delete k) refl tries m.0 m.1)
+    by (inr (inl m)) = none_moved p q tries alone (moved p q seen_p seen_q enough same on (SightFor Delete k) refl tries m.0 m.1)
     by (inr (inr (pinned, epoch, pin, (c, mid, tried, leaves)))) = none_flagged p q seen_p seen_q enough same alone rests k tries pinned mid (pin_mute Delete k tries p.view.log pinned epoch pin) tried (longer_these _ mid q.view.log leaves)

@@ -177,9 +177,6 @@ other_is Left is = cc
 other_is Right is = cc
 
 module _ (L : Layout) (enough : 5 ≤ L.nodes) (past : List (ℕ × Event)) (keys : All (λ t. HasKey t.1) past) (w k : ℕ) (call : Call) (called : (own_search (after_in (ordered L) past) w).call ≡ Some call) (for : call.key ≡ k) where
-  abbrev d : Configuration
-  d = after_in (ordered L) past
-
   o : IsOrdered L (after_in (ordered L) past)
   o = each_ordered L enough past keys
 
