@@ -1,7 +1,7 @@
 -- Letters: what a worker tells of itself, what a reader's note tells on, and what a reader has heard
 -- of that was told of as much as the writer has done.
 use Rattle.std.proofs.Common.{◌≡◌, ◌∙◌, ◌⊎◌, inl, inr, ℕ, ◌+◌, ◌-◌, ◌<◌, ◌≤◌, ◌==◌, ◌||◌, Bool, true, false, cond, List, [], ◌∷◌, ◌++◌, append_assoc, length, refl, sym, ap, subst, arith}
-use Rattle.std.specs.Prelude.{Option, Some, None, Result, Ok, Err, filter, is_some}
+use Rattle.std.specs.Prelude.{Option, Some, None, Result, Ok, filter, is_some}
 use Rattle.std.proofs.lemmas.Bool.{cases_lt, eqb-true}
 use Rattle.std.proofs.lemmas.Option.{none-some}
 use Rattle.nm_edge.specs.declared.node.NodeId.{NodeId}
@@ -160,10 +160,13 @@ begins {X = X} (x ∷ xs) (y ∷ ys) us vs e less =
 -- nothing was pending then
 no_more : (i : ℕ) (p q : Posted) (told before more : List Turn) → told ≡ before ++ more → HasTally i p told → leaf_after i None told ≡ None → HasTally i q before → p.inserted ≤ q.inserted → p.removed ≤ q.removed
     → p.inserted < 18446744073709551615 → p.removed < 18446744073709551615 → HasWonNothing i more × (leaf_after i None before ≡ None)
-no_more i p q told before more are has rests had links flags few_links few_flags =
-    (record { links = let a = has.inserted in let b = had.inserted in let s = adds.links in omega (arith, a, b, s, links, few_links);
-        flags = let a = has.removed in let b = had.removed in let s = adds.flags in omega (arith, a, b, s, flags, few_flags, none) },
-      nothing (leaf_after i None before) refl)
+no_more i p q told before more are has rests had links flags few_links few_flags = (
+  record {
+    links = let a = has.inserted in let b = had.inserted in let s = adds.links in omega (arith, a, b, s, links, few_links);
+    flags = let a = has.removed in let b = had.removed in let s = adds.flags in omega (arith, a, b, s, flags, few_flags, none);
+  },
+  nothing (leaf_after i None before) refl,
+)
   where
     adds : Adds (won_links (part_of i more)) (won_flags (part_of i more)) (won_splices (part_of i more)) (length (part_of i more)) (part_of i before) (part_of i told)
     adds = adds_these (part_of i more) (part_of i before) (part_of i told) (ap (part_of i) are ∙ part-append i before more)
@@ -174,9 +177,9 @@ no_more i p q told before more are has rests had links flags few_links few_flags
     nothing : (o : Option NodeId) → leaf_after i None before ≡ o → o ≡ None
     nothing None is = refl
     nothing (Some n) is = absurd (
-          let one : pending_by i before ≡ 1 = ap (λ (x : Option NodeId). cond (is_some x) 1 0) is in
-          let a = has.removed in let b = had.removed in let s = adds.flags in
-          omega (arith, a, b, s, flags, few_flags, none, one))
+        let one : pending_by i before ≡ 1 = ap (λ (x : Option NodeId). cond (is_some x) 1 0) is in
+        let a = has.removed in let b = had.removed in let s = adds.flags in
+        omega (arith, a, b, s, flags, few_flags, none, one))
 
 pub letters_order : LettersAreInOrder
 letters_order run told seen i p q on further has rests behind links flags few_links few_flags = by (cases_lt (length told) (length behind.before))

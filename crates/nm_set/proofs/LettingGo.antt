@@ -40,9 +40,9 @@ done_before p w z seen sees between stands (inr (held, left)) t =
     let l = adds.links in
     let f = adds.flags in
     let links : won_links (part_of z.pass.view.number z.pass.view.past) ≡ won_links (part_of w.pass.view.number w.pass.view.past)
-        = ap won_links sees.is_part ∙ (omega (arith, l) ∙ ap won_links (sym seen.is_part)) in
+    = ap won_links sees.is_part ∙ (omega (arith, l) ∙ ap won_links (sym seen.is_part)) in
     let flags : won_flags (part_of z.pass.view.number z.pass.view.past) ≡ won_flags (part_of w.pass.view.number w.pass.view.past)
-        = ap won_flags sees.is_part ∙ (omega (arith, f) ∙ ap won_flags (sym seen.is_part)) in
+    = ap won_flags sees.is_part ∙ (omega (arith, f) ∙ ap won_flags (sym seen.is_part)) in
     let pending = rests z sees stands left.pending ∙ sym (rests w seen between (held_rests w.pass w.pending w.held between.stands held)) in
     record {
       inserted = t.inserted ∙ ap capped links;

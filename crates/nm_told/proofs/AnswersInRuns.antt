@@ -1,16 +1,13 @@
 -- What turns tell as answered is answered so in a run that goes on from them.
-use Rattle.std.proofs.Common.{◌≡◌, ℕ, ◌<◌, ◌≤◌, Bool, true, false, List, [], ◌∷◌, ◌++◌, append-nil, append_assoc, length, length-append, sym, ap, subst, ◌∙◌, arith}
-use Rattle.std.specs.Prelude.{All, Option, Result, Ok, Err, IfOk, IfSome}
-use Rattle.std.specs.Result.{result_ok}
-use Rattle.std.proofs.lemmas.List.{length-map}
+use Rattle.std.proofs.Common.{◌≡◌, ℕ, ◌<◌, ◌≤◌, Bool, List, [], ◌∷◌, ◌++◌, append_assoc, length, length-append, sym, ap, subst, ◌∙◌, arith}
+use Rattle.std.specs.Prelude.{All, Ok}
 use Rattle.nm_edge.specs.Layouts.{Layout, IsLayout}
 use Rattle.nm_model.specs.declared.event.Op.{Op}
-use Rattle.nm_model.specs.declared.event.Op.TheVariants.{Has, Insert, Delete}
 use Rattle.nm_model.specs.declared.event.Event.{Event}
 use Rattle.nm_model.specs.declared.event.Event.TheVariants.{LeaveWith}
 use Rattle.nm_model.specs.declared.reply.Reply.TheVariants.{Departed}
 use Rattle.nm_model.specs.declared.trace.Turn.{Turn}
-use Rattle.nm_model.specs.Ordered.{HasKey, ordered, outcome_in, after_in, trace_in, turn_of}
+use Rattle.nm_model.specs.Ordered.{HasKey, ordered, outcome_in, after_in, trace_in}
 use Rattle.nm_order.specs.Answered.{IsAnsweredIn}
 use Rattle.nm_order.specs.Exchanges.{MayAnswer}
 use Rattle.nm_order.specs.History.{pin_of}
@@ -20,13 +17,6 @@ use Rattle.nm_order.proofs.RunExchanges.{first_keys}
 use Rattle.nm_theorem.specs.Histories.{call_begun, answer_turn, AnswerStands}
 use Rattle.nm_theorem.proofs.HistoriesOfRuns.{called_is}
 use Rattle.nm_theorem.proofs.Runs.{Parts, parts_of, Head, head_of, enough_of}
-use Rattle.nm_steps.specs.declared.view.View.{View}
-use Rattle.nm_steps.specs.Rules.{Extends}
-use Rattle.nm_steps.specs.Steps.{Stand, HasSeen, HasSeenAllOf}
-use Rattle.nm_steps.proofs.Growing.{goes_on_through}
-use Rattle.nm_calls.specs.Moments.{AnswerHasMoment}
-use Rattle.nm_calls.specs.PlainWalks.{events_of}
-use Rattle.nm_calls.proofs.PlainLooks.{events_of_trace, events_go_on}
 
 -- what turns tell as answered, in a run that goes on from them
 pub record AnsweredBy (L : Layout) (events : List (ℕ × Event)) (was now : List Turn) (w : ℕ) (op : Op) (k : ℕ) (answer : Bool) : Type 0 where

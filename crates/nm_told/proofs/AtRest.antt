@@ -1,8 +1,8 @@
 -- What a worker is answered beside which no other one has made a turn, by counting what it has won.
-use Rattle.std.proofs.Common.{◌≡◌, ◌≢◌, ◌∙◌, ℕ, zero, suc, ◌+◌, ◌<◌, ◌≤◌, inl, inr, ◌⊎◌, Bool, true, false, List, [], ◌∷◌, ◌++◌, append-nil, append_assoc, length, length-append, refl, sym, ap, subst, arith}
+use Rattle.std.proofs.Common.{◌≡◌, ◌≢◌, ◌∙◌, ℕ, zero, suc, ◌+◌, ◌<◌, ◌≤◌, inl, inr, ◌⊎◌, Bool, true, false, List, [], ◌∷◌, ◌++◌, append-nil, append_assoc, length, refl, sym, ap, subst, arith}
 use Rattle.std.proofs.lemmas.Bool.{cases_lt}
 use Rattle.std.proofs.lemmas.Option.{same_Some}
-use Rattle.std.specs.Prelude.{All, filter, if◌then◌else◌, unwrap_or, Option, Some, None}
+use Rattle.std.specs.Prelude.{All, filter, unwrap_or, Option, Some, None}
 use Rattle.nm_edge.specs.Layouts.{Layout, IsLayout}
 use Rattle.nm_edge.specs.Keys.{IsKey}
 use Rattle.nm_edge.specs.declared.node.NodeId.{NodeId}
@@ -15,14 +15,13 @@ use Rattle.nm_model.specs.declared.trace.Turn.{Turn}
 use Rattle.nm_model.specs.Searches.{Search, idle, searched}
 use Rattle.nm_model.specs.Walks.{Entry, search_after}
 use Rattle.nm_model.specs.Ordered.{HasKey, ordered, after_in, trace_in, search_of}
-use Rattle.nm_order.specs.Answered.{IsAnsweredIn}
-use Rattle.nm_order.specs.Exchanges.{is_won_link, HasFlagged}
+use Rattle.nm_order.specs.Exchanges.{is_won_link}
 use Rattle.nm_order.specs.History.{pin_of}
 use Rattle.nm_order.specs.Intervals.{InSet}
 use Rattle.nm_order.specs.Legal.{WasLegal}
 use Rattle.nm_order.specs.Logs.{part_of}
 use Rattle.nm_order.specs.LoggedTotals.{log_often, sum_of}
-use Rattle.nm_order.specs.Totals.{Agree, NothingIsPending, is_for, how_often, links_of, flags_of}
+use Rattle.nm_order.specs.Totals.{Agree, NothingIsPending, is_for, links_of, flags_of}
 use Rattle.nm_order.specs.WalksToArrivals.{is_won_flag}
 use Rattle.nm_order.proofs.AnswersSince.{part-append}
 use Rattle.nm_order.proofs.FlagFates.{own_flagged}
@@ -46,7 +45,6 @@ use Rattle.nm_tree.proofs.Taking.{no_shorter}
 use Rattle.nm_set.proofs.Letters.{begins}
 use Rattle.nm_told.proofs.AnswersInRuns.{AnsweredBy, answered_by}
 use Rattle.nm_told.proofs.Counting.{fewer, flagged_once, linked_once, none_in, no_sum}
-use Rattle.nm_told.proofs.Replayed.{missed}
 
 -- ---- counts
 

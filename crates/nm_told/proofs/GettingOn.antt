@@ -1,5 +1,5 @@
 -- A call that was busy: others got on.
-use Rattle.std.proofs.Common.{◌≡◌, ◌≤◌, ◌+◌, ◌*◌, ℕ, inl, inr, true, sym, ◌∙◌, arith, true≢false}
+use Rattle.std.proofs.Common.{◌≡◌, ℕ, inl, inr, true, sym, ◌∙◌, arith, true≢false}
 use Rattle.nm_steps.specs.Steps.{Stand, HasSeenAllOf}
 use Rattle.nm_busy.specs.Lost.{ChangeWasBusy}
 use Rattle.nm_busy.specs.Pins.{WasMovedPast}

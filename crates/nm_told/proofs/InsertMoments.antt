@@ -1,21 +1,21 @@
 -- The moment of an insert that was answered true is that of its link: so it lies in what a reader has
 -- seen that has heard of all that the inserter had done.
-use Rattle.std.proofs.Common.{◌≡◌, ◌⊎◌, inl, inr, ℕ, zero, suc, ◌+◌, ◌<◌, ◌≤◌, ◌==◌, Bool, true, false, cond, List, [], ◌∷◌, ◌++◌, append_assoc, length, length-append, refl, sym, ap, subst, ◌∙◌, arith, eq-eqb}
-use Rattle.std.specs.Prelude.{All, AllPairs, Option, Some, None, Result, Ok, slice_index_or}
+use Rattle.std.proofs.Common.{◌≡◌, ◌⊎◌, inl, inr, ℕ, ◌+◌, ◌<◌, ◌≤◌, Bool, true, false, cond, List, [], ◌∷◌, ◌++◌, append_assoc, length, length-append, refl, sym, ap, subst, ◌∙◌, arith, eq-eqb}
+use Rattle.std.specs.Prelude.{All, AllPairs, Some, None, Result, Ok, slice_index_or}
 use Rattle.std.specs.List.{list_any}
 use Rattle.std.proofs.lemmas.Bool.{cases_lt}
 use Rattle.nm_edge.specs.Layouts.{Layout, IsLayout}
 use Rattle.nm_laws.proofs.Configurations.{after_in-append}
 use Rattle.nm_laws.proofs.ListOrders.{In}
-use Rattle.nm_model.specs.declared.event.Op.TheVariants.{Has, Insert}
+use Rattle.nm_model.specs.declared.event.Op.TheVariants.{Insert}
 use Rattle.nm_model.specs.declared.event.Event.{Event}
 use Rattle.nm_model.specs.declared.event.Event.TheVariants.{LeaveWith, Link}
 use Rattle.nm_model.specs.declared.reply.Reply.{Reply}
 use Rattle.nm_model.specs.declared.reply.Reply.TheVariants.{Linked}
 use Rattle.nm_model.specs.declared.reply.Refused.{Refused}
 use Rattle.nm_model.specs.declared.trace.Turn.{Turn}
-use Rattle.nm_model.specs.Walks.{Entry, begins_anew, logged_by}
-use Rattle.nm_model.specs.Ordered.{Configuration, HasKey, ordered, outcome_in, next_in, after_in, trace_in}
+use Rattle.nm_model.specs.Walks.{begins_anew, logged_by}
+use Rattle.nm_model.specs.Ordered.{Configuration, HasKey, ordered, next_in, after_in, trace_in}
 use Rattle.nm_order.specs.Exchanges.{HasWonInsert, is_won_link}
 use Rattle.nm_order.specs.History.{Act, IsAmong, pin_of}
 use Rattle.nm_order.specs.Logs.{part_of}
@@ -24,7 +24,7 @@ use Rattle.nm_order.proofs.PinNumbers.{pin_more, pin_stays, length_trace}
 use Rattle.nm_order.proofs.RunExchanges.{first_keys}
 use Rattle.nm_order.proofs.RunMoments.{entries}
 use Rattle.nm_order.proofs.WalksOfRuns.{trace_in-append}
-use Rattle.nm_theorem.specs.Histories.{AnswerStands, Called, IsHistory, IsInCall, call_begun, called_in}
+use Rattle.nm_theorem.specs.Histories.{AnswerStands, Called, IsHistory, call_begun, called_in}
 use Rattle.nm_theorem.proofs.HistoriesOfRuns.{called_is}
 use Rattle.nm_theorem.proofs.Runs.{enough_of}
 use Rattle.nm_steps.specs.Rules.{Extends}
@@ -143,6 +143,6 @@ module _ (L : Layout) (fits : IsLayout L) (events : List (ℕ × Event)) (keys :
           by : (length xs < length all.before) ⊎ (length all.before ≤ length xs) → length xs + 1 ≤ length seen
           by (inl less) = omega (arith, less, far)
           by (inr up) = absurd (
-                let some = some_in is_won_link (part_of w rest.0) (link.event, Linked ins.linked) (told_in_part w rest.0 link (Linked ins.linked) (lies_in up) refl refl) refl in
-                let none = rest.2.links in
-                omega (arith, some, none))
+              let some = some_in is_won_link (part_of w rest.0) (link.event, Linked ins.linked) (told_in_part w rest.0 link (Linked ins.linked) (lies_in up) refl refl) refl in
+              let none = rest.2.links in
+              omega (arith, some, none))

@@ -1,18 +1,16 @@
 -- What a member finds that has read what another one had left.
-use Rattle.std.proofs.Common.{◌≡◌, ◌<◌, ◌≤◌, ◌+◌, inl, inr, ℕ, Bool, true, List, sym, ap, subst, ◌∙◌, arith}
-use Rattle.std.specs.Prelude.{Option, Some, None, Result, Ok, Err, IfOk, IfSome, is_some}
+use Rattle.std.proofs.Common.{◌≡◌, ◌≤◌, inl, inr, ℕ, Bool, true, List, sym, ap, subst, ◌∙◌, arith}
+use Rattle.std.specs.Prelude.{Option, Some, None, Result, Ok, Err, IfSome}
 use Rattle.std.specs.Result.{result_ok}
 use Rattle.nm_edge.specs.Layouts.{Layout, IsLayout}
 use Rattle.nm_model.specs.declared.event.Op.TheVariants.{Has, Insert}
 use Rattle.nm_model.specs.declared.trace.Turn.{Turn}
-use Rattle.nm_model.specs.Walks.{Entry}
 use Rattle.nm_order.specs.Logs.{part_of}
 use Rattle.nm_theorem.specs.Histories.{AnswerStands, IsHistory}
 use Rattle.nm_steps.specs.Rules.{Extends}
-use Rattle.nm_steps.specs.Steps.{Board, Stand, HasSeen, HasSeenAllOf}
+use Rattle.nm_steps.specs.Steps.{Board, Stand, HasSeen}
 use Rattle.nm_steps.proofs.Growing.{goes_on_through}
-use Rattle.nm_calls.specs.Moments.{AnswerHasMoment}
-use Rattle.nm_calls.specs.Won.{capped, won_links, won_flags}
+use Rattle.nm_calls.specs.Won.{won_links, won_flags}
 use Rattle.nm_busy.specs.Pending.{leaf_after}
 use Rattle.nm_tree.specs.Running.{HasSeenTurns}
 use Rattle.nm_tree.specs.Workers.{Hand, IsBetweenCalls}
@@ -21,7 +19,7 @@ use Rattle.nm_set.specs.declared.fault.Fault.{Fault}
 use Rattle.nm_set.specs.declared.fault.Fault.TheVariants as fault
 use Rattle.nm_set.specs.declared.posting.Posted.{Posted}
 use Rattle.nm_set.specs.declared.tended.Habit.{Habit}
-use Rattle.nm_set.specs.Posts.{HasHeardAll, HasHeardOf, HasTally, IsTallyOf, LettersAreInOrder, pending_by}
+use Rattle.nm_set.specs.Posts.{HasHeardAll, HasHeardOf, HasTally, IsTallyOf, LettersAreInOrder}
 use Rattle.nm_set.specs.Tended.{SaysTended}
 use Rattle.nm_set.proofs.Tending.{is_no_fault}
 use Rattle.nm_told.specs.Letters.{HasLookedBehind, HasWritten}

@@ -1,11 +1,10 @@
-use Rattle.std.proofs.Common.{◌≡◌, ◌∙◌, ℕ, Bool, true, List, sym, ap, subst}
-use Rattle.std.specs.Prelude.{Option, Some, IfSome}
+use Rattle.std.proofs.Common.{◌≡◌, ◌∙◌, sym, ap, subst}
+use Rattle.std.specs.Prelude.{Option, IfSome}
 use Rattle.nm_edge.specs.Layouts.{Layout}
 use Rattle.nm_steps.specs.Rules.{Extends}
 use Rattle.nm_steps.specs.Steps.{Board, Stand}
 use Rattle.nm_set.specs.declared.posting.Posted.{Posted}
-use Rattle.nm_set.specs.Seats.{Seated}
-use Rattle.nm_told.specs.Letters.{HasLookedBehind, HasWritten}
+use Rattle.nm_told.specs.Letters.{HasWritten}
 use Rattle.nm_told.specs.Meanwhile.{NoneDeleted}
 use Rattle.nm_told.proofs.LettersRead.{finds}
 use Rattle.nm_told.proofs.letters.insert_while_read.Goals as goal

@@ -1,4 +1,4 @@
-use Rattle.std.proofs.Common.{sym, subst}
+use Rattle.std.proofs.Common.{subst}
 use Rattle.nm_tree.specs.Workers.{Hand}
 use Rattle.nm_set.specs.Posts.{IsTallyOf}
 use Rattle.nm_set.proofs.LettingGo.{done_before}
