@@ -95,7 +95,11 @@ public:
     public:
         Access(Plain &set, std::size_t number) : handle_(set.workers_[number].handle) {}
         bool contains(Key key) { return handle_.contains(key); }
-        bool add(Key key) { return handle_.add(key); }
+        // Each row adds keys that are not there, so false tells that no slots were free.
+        bool add(Key key) {
+            while (!handle_.add(key)) std::this_thread::sleep_for(std::chrono::milliseconds(1));
+            return true;
+        }
         bool remove(Key key) { return handle_.remove(key); }
         std::optional<Key> pop_first() {
             Key taken = handle_.pop_first();
