@@ -82,8 +82,9 @@ pub(crate) fn tally_of(worker: &Worker) -> Posted
 }
 
 /// Of two workers of one run, a reader that was told of as many keys as the writer had inserted and
-/// removed has heard of all of them: what it has seen then goes on from what the writer had seen, or
-/// from a beginning of that behind which the writer has won nothing.
+/// removed, with nothing pending, has heard of all of them, where 64 bits count them: what it has
+/// seen then goes on from what the writer had seen, or from a beginning of that behind which the
+/// writer has won nothing.
 pub fn letters_are_in_order()
     ensures { LettersAreInOrder }
 {}
