@@ -2,19 +2,21 @@
 
 Of each crate with a README.md: on what it stands, and its files of src/ and specs/, each with the
 first sentence at its head. Of docs/DESIGN.md: all crates, each with the first sentence of its
-lib.rt or main.rt.
+lib.rt or main.rt. Of docs/PROMISES.md: the laws of a crate, which are its public functions with no
+parameter, or all its public functions, each with the words above it and the clauses that it
+ensures.
 """
 import os
 import re
 
-from sources import TOP, crates, files, first_sentence, read, text_of
+from sources import TOP, crates, files, first_sentence, read, source, text_of
 
-BEGIN, END = "<!-- written by docs/make --lists -->", "<!-- end -->"
-PART = re.compile(rf"{re.escape(BEGIN)}\n(.*?)\n?{re.escape(END)}\n?", re.S)
+PART = re.compile(r"(<!-- (?:(laws|callers) of (\w+), )?written by docs/make --lists -->\n)"
+                  r"(.*?)(<!-- end -->\n)", re.S)
 HEADS = {"src": ("//!", ".rt"), "specs": ("--", ".antt")}
 HEADLESS = {"Lib.antt", "tests.rt"}  # a list of modules, and tests of one crate
 OF_ERRORS = {"anyhow", "core", "thiserror"}
-DESIGN = "docs/DESIGN.md"
+DESIGN, PROMISES = "docs/DESIGN.md", "docs/PROMISES.md"
 WHERE = ("What is proved of it: [PROMISES](../../docs/PROMISES.md); what is open:\n"
          "[OPEN](../../docs/OPEN.md#what-is-open).")
 
@@ -28,6 +30,15 @@ def quoted(names):
     return ", ".join(f"`{it}`" for it in names)
 
 
+def table(heads, rows):
+    lines = [" | ".join(it.replace("|", "\\|") for it in row) for row in [heads, *rows]]
+    told = [f"| {it} |" for it in lines]
+    return "\n".join([told[0], "|" + "---|" * len(heads), *told[1:]]) if rows else ""
+
+
+# ---- crates and their files
+
+
 def head_of(crate, kind, path):
     """The first sentence of what stands at the head of a file, or nothing."""
     mark, lines = HEADS[kind][0], []
@@ -35,7 +46,7 @@ def head_of(crate, kind, path):
         if not line.startswith(mark) or line == mark:
             break
         lines.append(line[len(mark):].strip())
-    return first_sentence(" ".join(lines)).replace("|", "\\|")
+    return first_sentence(" ".join(lines))
 
 
 def named_in_crates_txt():
@@ -59,9 +70,9 @@ def listed(crate, kind):
 
 
 def files_text(crate, kind):
-    rows = [f"| `{it.removesuffix('.antt')}` | {head_of(crate, kind, it)} |"
+    rows = [(f"`{it.removesuffix('.antt')}`", head_of(crate, kind, it))
             for it in listed(crate, kind)]
-    return "\n".join([f"| File of `{kind}` | |", "|---|---|", *rows]) if rows else ""
+    return table((f"File of `{kind}`", ""), rows)
 
 
 def crate_text(crate):
@@ -72,12 +83,37 @@ def crate_text(crate):
 
 
 def design_text():
-    rows = ["| Crate | What it is | Stands on |", "|---|---|---|"]
+    rows = []
     for crate in crates():
         main = next(it for it in ("lib.rt", "main.rt") if it in files(crate, "src", ".rt"))
         link = f"[`{crate}`](../{page_of(crate)})" if has_page(crate) else f"`{crate}`"
-        rows.append(f"| {link} | {head_of(crate, 'src', main)} | {quoted(stands_on(crate))} |")
-    return "\n".join(rows)
+        rows.append((link, head_of(crate, "src", main), quoted(stands_on(crate))))
+    return table(("Crate", "What it is", "Stands on"), rows)
+
+
+# ---- promises
+
+
+def promised_by(crate, kind):
+    """The public functions of a crate that ensure something, or its laws alone."""
+    for path in files(crate, "src", ".rt"):
+        text = text_of(crate, "src", path)
+        for it in source(crate, path)[0]:
+            is_law = re.search(rf"^pub fn {it.name}\(\)$", text, re.M) is not None
+            if it.is_public and it.clauses and not it.owner and (is_law or kind == "callers"):
+                yield it
+
+
+def promises_text(kind, crate):
+    rows = []
+    for it in promised_by(crate, kind):
+        clauses = quoted(clause.name for clause in it.clauses
+                         if clause.kind == "ensures" and clause.name)
+        rows.append((it.words, f"`{it.name}`: {clauses}" if clauses else f"`{it.name}`"))
+    return table(("Promise", "Clause"), rows)
+
+
+# ---- pages
 
 
 def page_of(crate):
@@ -89,30 +125,35 @@ def has_page(crate):
 
 
 def pages():
-    """The pages with such a part, and what it should be."""
-    return {**{page_of(it): crate_text(it) for it in crates() if has_page(it)},
-            DESIGN: design_text()}
+    """The pages with such parts, each with what writes one: its kind and crate, where it names
+    them."""
+    of_crates = {page_of(it): lambda kind, _, it=it: crate_text(it)
+                 for it in crates() if has_page(it)}
+    return {**of_crates, DESIGN: lambda kind, _: design_text(), PROMISES: promises_text}
+
+
+def written():
+    """Each of these pages: its path, its text, and as it should be."""
+    for path, part in pages().items():
+        text = read(os.path.join(TOP, path))
+        yield path, text, PART.sub(lambda it, part=part:
+                                   f"{it[1]}\n{part(it[2], it[3])}\n\n{it[5]}", text)
 
 
 def write():
     """Writes each such part anew: how many pages were changed."""
-    changed = 0
-    for path, part in pages().items():
-        text = read(os.path.join(TOP, path))
-        right = PART.sub(lambda _, part=part: f"{BEGIN}\n\n{part}\n\n{END}\n", text)
-        if text != right:
-            with open(os.path.join(TOP, path), "w", encoding="utf-8") as file:
-                file.write(right)
-            changed += 1
-    return changed
+    changed = [(path, right) for path, text, right in written() if text != right]
+    for path, right in changed:
+        with open(os.path.join(TOP, path), "w", encoding="utf-8") as file:
+            file.write(right)
+    return len(changed)
 
 
 def faults():
-    """The pages whose part is not as the sources have it, and files that say nothing at their
+    """The pages whose parts are not as the sources have them, and files that say nothing at their
     head."""
-    for path, part in pages().items():
-        found = PART.search(read(os.path.join(TOP, path)))
-        if not found or found[1] != f"\n{part}\n":
+    for path, text, right in written():
+        if text != right or not PART.search(text):
             yield f"{path}: not as the sources have it: docs/make --lists writes it anew"
     for crate in filter(has_page, crates()):
         for kind in HEADS:
