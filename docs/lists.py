@@ -3,15 +3,15 @@
 Of each crate with a README.md: on what it stands, and its files of src/ and specs/, each with the
 first sentence at its head. Of docs/DESIGN.md: all crates, each with the first sentence of its
 lib.rt or main.rt. Of docs/PROMISES.md: the laws of a crate, which are its public functions with no
-parameter, or all its public functions, each with the words above it and the clauses that it
-ensures.
+parameter, or all its public functions, each with the words above it and what it ensures.
 """
 import os
 import re
 
-from sources import TOP, crates, files, first_sentence, read, source, text_of
+from sources import (
+    TOP, crates, files, first_sentence, read, record_of, source, text_of)
 
-PART = re.compile(r"(<!-- (?:(laws|callers) of (\w+), )?written by docs/make --lists -->\n)"
+PART = re.compile(r"(<!-- (?:(laws|calls) of (\w+), )?written by docs/make --lists -->\n)"
                   r"(.*?)(<!-- end -->\n)", re.S)
 HEADS = {"src": ("//!", ".rt"), "specs": ("--", ".antt")}
 HEADLESS = {"Lib.antt", "tests.rt"}  # a list of modules, and tests of one crate
@@ -100,16 +100,23 @@ def promised_by(crate, kind):
         text = text_of(crate, "src", path)
         for it in source(crate, path)[0]:
             is_law = re.search(rf"^pub fn {it.name}\(\)$", text, re.M) is not None
-            if it.is_public and it.clauses and not it.owner and (is_law or kind == "callers"):
+            if it.is_public and it.clauses and (is_law or kind == "calls"):
                 yield it
+
+
+def clauses_of(function):
+    """The names of what a function ensures: of its clauses, or else of the fields of a record."""
+    for it in function.clauses:
+        record = None if it.name else record_of(function, it)
+        if it.kind == "ensures":
+            yield from [it.name] if it.name else record.fields if record else []
 
 
 def promises_text(kind, crate):
     rows = []
     for it in promised_by(crate, kind):
-        clauses = quoted(clause.name for clause in it.clauses
-                         if clause.kind == "ensures" and clause.name)
-        rows.append((it.words, f"`{it.name}`: {clauses}" if clauses else f"`{it.name}`"))
+        clauses = quoted(clauses_of(it))
+        rows.append((it.words, f"`{it.title}`: {clauses}" if clauses else f"`{it.title}`"))
     return table(("Promise", "Clause"), rows)
 
 
