@@ -3,7 +3,8 @@
 Of each crate with a README.md: on what it stands, and its files of src/ and specs/, each with the
 first sentence at its head. Of docs/DESIGN.md: all crates, each with the first sentence of its
 lib.rt or main.rt. Of docs/PROMISES.md: the laws of a crate, which are its public functions with no
-parameter, or all its public functions, each with the words above it and what it ensures.
+parameter, its calls, those that ensure something by a name, or callers, all of them, each with the
+words above it and these names.
 """
 import os
 import re
@@ -11,7 +12,8 @@ import re
 from sources import (
     TOP, crates, files, first_sentence, read, record_of, source, text_of)
 
-PART = re.compile(r"(<!-- (?:(laws|calls) of (\w+), )?written by docs/make --lists -->\n)"
+CITED = re.compile(r"(?: \((?:[^()]|\([^()]*\))*\.\))+$")  # sentences in brackets at the end
+PART = re.compile(r"(<!-- (?:(laws|calls|callers) of (\w+), )?written by docs/make --lists -->\n)"
                   r"(.*?)(<!-- end -->\n)", re.S)
 HEADS = {"src": ("//!", ".rt"), "specs": ("--", ".antt")}
 HEADLESS = {"Lib.antt", "tests.rt"}  # a list of modules, and tests of one crate
@@ -94,16 +96,6 @@ def design_text():
 # ---- promises
 
 
-def promised_by(crate, kind):
-    """The public functions of a crate that ensure something, or its laws alone."""
-    for path in files(crate, "src", ".rt"):
-        text = text_of(crate, "src", path)
-        for it in source(crate, path)[0]:
-            is_law = re.search(rf"^pub fn {it.name}\(\)$", text, re.M) is not None
-            if it.is_public and it.clauses and (is_law or kind == "calls"):
-                yield it
-
-
 def clauses_of(function):
     """The names of what a function ensures: of its clauses, or else of the fields of a record."""
     for it in function.clauses:
@@ -112,11 +104,23 @@ def clauses_of(function):
             yield from [it.name] if it.name else record.fields if record else []
 
 
+def promised_by(crate, kind):
+    """The public functions of a crate that ensure something, or do so by a name, or its laws."""
+    for path in files(crate, "src", ".rt"):
+        text = text_of(crate, "src", path)
+        for it in source(crate, path)[0]:
+            is_law = re.search(rf"^pub fn {it.name}\(\)$", text, re.M) is not None
+            is_meant = is_law or kind == "callers" or kind == "calls" and any(clauses_of(it))
+            if it.is_public and it.clauses and is_meant:
+                yield it
+
+
 def promises_text(kind, crate):
     rows = []
     for it in promised_by(crate, kind):
         clauses = quoted(clauses_of(it))
-        rows.append((it.words, f"`{it.title}`: {clauses}" if clauses else f"`{it.title}`"))
+        words = CITED.sub("", it.words)
+        rows.append((words, f"`{it.title}`: {clauses}" if clauses else f"`{it.title}`"))
     return table(("Promise", "Clause"), rows)
 
 
