@@ -2,9 +2,9 @@
 
 Of each crate with a README.md: on what it stands, and its files of src/ and specs/, each with the
 first sentence at its head. Of docs/DESIGN.md: all crates, each with the first sentence of its
-lib.rt or main.rt. Of docs/PROMISES.md: the laws of a crate, which are its public functions with no
-parameter, its calls, those that ensure something by a name, or callers, all of them, each with the
-words above it and these names.
+lib.rt or main.rt. Of docs/PROMISES.md, docs/LAWS.md and some of the others: the laws of a crate, which are
+its public functions with no parameter, its calls, those that ensure something by a name, or
+callers, all of them, each with the words above it and these names.
 """
 import os
 import re
@@ -18,7 +18,7 @@ PART = re.compile(r"(<!-- (?:(laws|calls|callers) of (\w+), )?written by docs/ma
 HEADS = {"src": ("//!", ".rt"), "specs": ("--", ".antt")}
 HEADLESS = {"Lib.antt", "tests.rt"}  # a list of modules, and tests of one crate
 OF_ERRORS = {"anyhow", "core", "thiserror"}
-DESIGN, PROMISES = "docs/DESIGN.md", "docs/PROMISES.md"
+DESIGN, OF_PROMISES = "docs/DESIGN.md", ["docs/PROMISES.md", "docs/LAWS.md"]
 WHERE = ("What is proved of it: [PROMISES](../../docs/PROMISES.md); what is open:\n"
          "[OPEN](../../docs/OPEN.md#what-is-open).")
 
@@ -136,19 +136,22 @@ def has_page(crate):
 
 
 def pages():
-    """The pages with such parts, each with what writes one: its kind and crate, where it names
-    them."""
-    of_crates = {page_of(it): lambda kind, _, it=it: crate_text(it)
-                 for it in crates() if has_page(it)}
-    return {**of_crates, DESIGN: lambda kind, _: design_text(), PROMISES: promises_text}
+    """The pages with such parts."""
+    return [*(page_of(it) for it in crates() if has_page(it)), DESIGN, *OF_PROMISES]
+
+
+def part_text(path, kind, crate):
+    if kind:
+        return promises_text(kind, crate)
+    return design_text() if path == DESIGN else crate_text(os.path.basename(os.path.dirname(path)))
 
 
 def written():
     """Each of these pages: its path, its text, and as it should be."""
-    for path, part in pages().items():
+    for path in pages():
         text = read(os.path.join(TOP, path))
-        yield path, text, PART.sub(lambda it, part=part:
-                                   f"{it[1]}\n{part(it[2], it[3])}\n\n{it[5]}", text)
+        yield path, text, PART.sub(
+            lambda it, path=path: f"{it[1]}\n{part_text(path, it[2], it[3])}\n\n{it[5]}", text)
 
 
 def write():
