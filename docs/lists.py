@@ -2,9 +2,9 @@
 
 Of each crate with a README.md: on what it stands, and its files of src/ and specs/, each with the
 first sentence at its head. Of docs/DESIGN.md: all crates, each with the first sentence of its
-lib.rt or main.rt. Of docs/PROMISES.md, docs/LAWS.md and some of the others: the laws of a crate, which are
-its public functions with no parameter, its calls, those that ensure something by a name, or
-callers, all of them, each with the words above it and these names.
+lib.rt or main.rt. Of docs/PROMISES.md, docs/LAWS.md and some of the others: the laws of a crate,
+which are its public functions with no parameter, its calls, those that ensure something by a name,
+or its callers, which are all of them, each with the words above it and these names.
 """
 import os
 import re
