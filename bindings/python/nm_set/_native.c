@@ -251,58 +251,90 @@ static int keys_of(PyObject *object, Py_ssize_t first, Keys *keys) {
     return 0;
 }
 
-/* What a thread does by one place while the others go on. */
+/* What a thread does by one place while the others go on: it looks keys up, or has each be in the
+ * set or not, by a call. */
 typedef struct {
     tended_call call;
+    int is_to_stand;
     unsigned char *found;
     Py_ssize_t done, changed;
     nm_outcome outcome;
 } Work;
 
-static void change_each(Calls *self, nm_handle *place, const Keys *keys, Work *work) {
-    for (work->done = 0; work->done < keys->count; work->done++) {
-        nm_outcome outcome = work->call(place, keys->from[work->done], &self->habit);
-        if (outcome < 0) {
-            work->outcome = outcome;
-            return;
-        }
-        work->changed += outcome;
+/* Keys that one call of the library looks up. */
+typedef struct {
+    nm_lookup each[SEVERAL];
+    Py_ssize_t count;
+} Group;
+
+static void take_group(const Keys *keys, Py_ssize_t first, Group *group) {
+    Py_ssize_t left = keys->count - first;
+    group->count = left < SEVERAL ? left : SEVERAL;
+    for (Py_ssize_t at = 0; at < group->count; at++) {
+        group->each[at].key = keys->from[first + at];
+        group->each[at].found = 0;
     }
-    work->outcome = NM_DONE;
 }
 
-/* Looks up the keys of one call of the library, behind the discard that is pending. */
-static nm_outcome look_up(Calls *self, nm_handle *place, nm_lookup *lookups, size_t count) {
-    nm_outcome outcome = contains_many_of(place, lookups, count, self->habit.tries);
+/* Looks up a group, behind the discard that is pending. */
+static nm_outcome look_up(Calls *self, nm_handle *place, Group *group) {
+    size_t count = (size_t)group->count;
+    nm_outcome outcome = contains_many_of(place, group->each, count, self->habit.tries);
     for (uint32_t round = 0; round < self->habit.rounds; round++) {
         if (outcome == NM_PENDING) {
             finish_of(place, self->habit.tries);
         } else if (outcome != NM_BUSY) {
             break;
         }
-        outcome = contains_many_of(place, lookups, count, self->habit.tries);
+        outcome = contains_many_of(place, group->each, count, self->habit.tries);
     }
     return outcome;
 }
 
 static void look_up_each(Calls *self, nm_handle *place, const Keys *keys, Work *work) {
-    nm_lookup lookups[SEVERAL];
+    Group group;
     work->done = 0;
     do {
-        Py_ssize_t left = keys->count - work->done, count = left < SEVERAL ? left : SEVERAL;
-        for (Py_ssize_t at = 0; at < count; at++) {
-            lookups[at].key = keys->from[work->done + at];
-            lookups[at].found = 0;
-        }
-        work->outcome = look_up(self, place, lookups, (size_t)count);
+        take_group(keys, work->done, &group);
+        work->outcome = look_up(self, place, &group);
         if (work->outcome < 0) {
             return;
         }
-        for (Py_ssize_t at = 0; at < count; at++) {
-            work->found[work->done + at] = lookups[at].found != 0;
+        for (Py_ssize_t at = 0; at < group.count; at++) {
+            work->found[work->done + at] = group.each[at].found != 0;
         }
-        work->done += count;
+        work->done += group.count;
     } while (work->done < keys->count);
+}
+
+/* Has the keys of a group be in the set or not, one by one, behind a look at all of them: walks that
+ * go side by side wait for memory together, and a key that was as it is to be needs no change. Where
+ * that look tells nothing, the changes tell why. Whether each was made. */
+static int change_group(Calls *self, nm_handle *place, Group *group, Work *work) {
+    int is_told = look_up(self, place, group) >= 0;
+    for (Py_ssize_t at = 0; at < group->count; at++, work->done++) {
+        if (is_told && (group->each[at].found != 0) == work->is_to_stand) {
+            continue;
+        }
+        nm_outcome outcome = work->call(place, group->each[at].key, &self->habit);
+        if (outcome < 0) {
+            work->outcome = outcome;
+            return 0;
+        }
+        work->changed += outcome;
+    }
+    return 1;
+}
+
+static void change_each(Calls *self, nm_handle *place, const Keys *keys, Work *work) {
+    Group group;
+    for (work->done = 0; work->done < keys->count;) {
+        take_group(keys, work->done, &group);
+        if (!change_group(self, place, &group, work)) {
+            return;
+        }
+    }
+    work->outcome = NM_DONE;
 }
 
 /* Works by the first place that is open and free, which no other call takes meanwhile. */
@@ -329,11 +361,11 @@ static void work_by_one(Calls *self, const Keys *keys, Work *work) {
     }
 }
 
-static PyObject *change_some(Calls *self, PyObject *args, tended_call call) {
+static PyObject *change_some(Calls *self, PyObject *args, tended_call call, int is_to_stand) {
     PyObject *object;
     Py_ssize_t first;
     Keys keys;
-    Work work = {call, NULL, 0, 0, NM_CLOSED};
+    Work work = {.call = call, .is_to_stand = is_to_stand, .outcome = NM_CLOSED};
     if (!PyArg_ParseTuple(args, "On", &object, &first) || !is_at_home(self) ||
         keys_of(object, first, &keys) < 0) {
         return NULL;
@@ -344,11 +376,11 @@ static PyObject *change_some(Calls *self, PyObject *args, tended_call call) {
 }
 
 static PyObject *calls_add_some(PyObject *self, PyObject *args) {
-    return change_some((Calls *)self, args, insert_of);
+    return change_some((Calls *)self, args, insert_of, 1);
 }
 
 static PyObject *calls_remove_some(PyObject *self, PyObject *args) {
-    return change_some((Calls *)self, args, remove_of);
+    return change_some((Calls *)self, args, remove_of, 0);
 }
 
 static PyObject *calls_contains_some(PyObject *object, PyObject *args) {
@@ -357,7 +389,7 @@ static PyObject *calls_contains_some(PyObject *object, PyObject *args) {
     Py_ssize_t first;
     Keys keys;
     Py_buffer found;
-    Work work = {NULL, NULL, 0, 0, NM_CLOSED};
+    Work work = {.outcome = NM_CLOSED};
     if (!PyArg_ParseTuple(args, "OnO", &asked, &first, &told) || !is_at_home(self) ||
         keys_of(asked, first, &keys) < 0) {
         return NULL;
