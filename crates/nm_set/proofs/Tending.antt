@@ -34,6 +34,7 @@ use Rattle.nm_tree.specs.declared.fault.Fault.TheVariants as call
 use Rattle.nm_calls.specs.declared.deleting.Unfinished.{Unfinished}
 use Rattle.nm_tree.specs.Workers.{Hand, IsIdle, KeepsOtherQueues, waiting_in}
 use Rattle.nm_tree.specs.Answers.{links_won, flags_won}
+use Rattle.nm_tree.proofs.QueueLists.{others_stay, room_stays}
 use Rattle.nm_tree.proofs.Quiet.{Quiet, advanced, collected}
 use Rattle.nm_tree.proofs.Taking.{moment_since}
 use Rattle.nm_set.specs.declared.fault.Fault.{Fault}
@@ -44,7 +45,7 @@ use Rattle.nm_set.specs.declared.fault.InsertFault.TheVariants as inserting
 use Rattle.nm_set.specs.declared.tended.Habit.{Habit}
 use Rattle.nm_tree.specs.Calls.{LeavesHas, LeavesInsert, LeavesDelete, LeavesFinish, LeavesAdvance, LeavesCollect}
 use Rattle.nm_set.specs.Asked.{Asked}
-use Rattle.nm_set.specs.Tended.{OnlyLoses, OthersOnlyLose, GoesOnTended, InARow, IsAsked, busy, Looks, Inserts, Deletes, FinishesPending, IsRelieved, IsTidied, InsertsOn, InsertsTended, of_insert, plain, with_fullness, HasReadSince, WasElsewhere, WasMovedOn, of_finish, DeletesOn, IsLeft, links_told_by, flags_told_by, round_bound, WasFull, Tends, TendsInsert, HasTended, UnlessHeld, SaysTended}
+use Rattle.nm_set.specs.Tended.{OnlyLoses, OthersOnlyLose, GoesOnTended, InARow, IsAsked, busy, Looks, Inserts, Deletes, FinishesPending, IsRelieved, IsTidied, InsertsOn, InsertsTended, of_insert, plain, with_fullness, HasReadSince, WasElsewhere, WasMovedOn, of_finish, DeletesOn, IsLeft, links_told_by, flags_told_by, round_bound, WasFull, Tends, TendsInsert, TendsDelete, IsTidy, HasTended, UnlessHeld, SaysTended}
 use Rattle.std.specs.List.{prefix_len}
 
 -- nothing is not there
@@ -753,6 +754,59 @@ removes_tend b h k w x y z answer r free f tidied idle did =
       won = told.0.won;
       on = in_all h.rounds ((suc h.rounds + 1) + (suc h.rounds + suc h.rounds)) most w z (omega arith) (rounds_then (suc h.rounds + 1) (suc h.rounds + suc h.rounds) most w y z at.on told.1);
     }
+
+-- ---- where nothing is to be done first
+
+-- where nothing is pending, there is nothing to finish
+finishes_nothing : (b : Board) (h : Habit) (w : Hand) → w.pending ≡ None → FinishesPending b h w w (Ok false)
+finishes_nothing b h w none = asked_once (LeavesFinish b.layout h.tries) (Err call.Unfinished) h.rounds w w (Ok false) stays (λ e. absurd (differ e))
+  where
+    differ : ◌≡◌ {A = Result Bool Lost} (Ok false) (Err call.Unfinished) → ⊥
+    differ e = cc
+
+    stays : LeavesFinish b.layout h.tries w w (Ok false)
+    stays = record {
+      says = record {
+        same = refl;
+        past = seen_itself w.pass;
+        told = (none, refl);
+        moment = tt;
+        won = wins_nothing w;
+        steps = omega arith;
+        queues = others_stay w.pass.view.number w.queues;
+        blocks = room_stays w.queues;
+        held = refl;
+        fit = refl;
+      };
+      did = (none, refl);
+      lacks = tt;
+      lost = λ is. absurd (let no = is in cc);
+    }
+
+-- a call that is made at once, and has answered
+pub inserts_answered : (b : Board) (h : Habit) (k : ℕ) (w z : Hand) (answer : Bool) → Asked (LeavesInsert b.layout h.tries k) w z (Ok answer) → InsertsOn b h k w z (Ok answer)
+inserts_answered b h k w z answer did =
+    inl (Ok answer, asked_once (Asked (LeavesInsert b.layout h.tries k)) busy h.rounds w z (Ok answer) did (λ e. is_no_fault _ _ e), λ e. is_no_fault _ _ e, refl)
+
+pub deletes_answered : (b : Board) (h : Habit) (k : ℕ) (w z : Hand) (answer : Bool) → Asked (LeavesDelete b.layout h.tries k) w z (Ok answer) → DeletesOn b h k w z (Ok answer)
+deletes_answered b h k w z answer did =
+    inl (asked_once (Asked (LeavesDelete b.layout h.tries k)) busy h.rounds w z (Ok answer) did (λ e. is_no_fault _ _ e), λ e. is_no_fault _ _ e)
+
+-- what was tidied, and then inserted or deleted
+pub inserts_tend : (b : Board) (h : Habit) (k : ℕ) (w x y z : Hand) (answer : Bool) (r : Result Bool InsertFault) → w.held ≡ None → FinishesPending b h w x (Ok answer) → IsTidied b h.collect_after x y → InsertsOn b h k y z r → TendsInsert b h k w z r
+inserts_tend b h k w x y z answer r free f tidied did =
+    inr (free, record { did = inr (answer, x, f, (y, tidied, did)); tends = adds_tend b h k w x y z answer r free f tidied did })
+
+pub deletes_tend : (b : Board) (h : Habit) (k : ℕ) (w x y z : Hand) (answer : Bool) (r : Result Bool Fault) → w.held ≡ None → FinishesPending b h w x (Ok answer) → IsTidied b h.collect_after x y → IsIdle y → DeletesOn b h k y z r → TendsDelete b h k w z r
+deletes_tend b h k w x y z answer r free f tidied idle did =
+    inr (free, record { did = inr (answer, x, f, (y, tidied, did)); tends = removes_tend b h k w x y z answer r free f tidied idle did })
+
+-- the same where nothing was to be done first
+pub inserts_at_once : (b : Board) (h : Habit) (k : ℕ) (w z : Hand) (r : Result Bool InsertFault) → IsTidy h w → InsertsOn b h k w z r → TendsInsert b h k w z r
+inserts_at_once b h k w z r tidy did = inserts_tend b h k w w w z false r tidy.free (finishes_nothing b h w tidy.none) (inr (tidy.few, refl)) did
+
+pub deletes_at_once : (b : Board) (h : Habit) (k : ℕ) (w z : Hand) (r : Result Bool Fault) → IsTidy h w → IsIdle w → DeletesOn b h k w z r → TendsDelete b h k w z r
+deletes_at_once b h k w z r tidy idle did = deletes_tend b h k w w w z false r tidy.free (finishes_nothing b h w tidy.none) (inr (tidy.few, refl)) idle did
 
 -- ---- what a caller has
 

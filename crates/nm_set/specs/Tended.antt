@@ -152,6 +152,13 @@ abbrev pub IsTidied : Board → ℕ → Hand → Hand → Type 0
 IsTidied b many w z = ((many ≤ waiting_in w.queues) × IsRelieved b w z)
     ⊎ ((waiting_in w.queues < many) × (z ≡ w))
 
+-- its caller does not hold it, nothing is pending, and fewer nodes wait than those from which on it
+-- collects
+pub record IsTidy (h : Habit) (w : Hand) : Type 0 where
+  pub free : w.held ≡ None
+  pub none : w.pending ≡ None
+  pub few : waiting_in w.queues < h.collect_after
+
 -- ---- who disturbed
 
 -- between what p had seen and what q has seen, other workers have moved the epoch on, or linked or

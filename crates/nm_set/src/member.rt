@@ -32,8 +32,8 @@ use std::sync::Arc;
 /// as it does. Dropped, it goes home as by `close`. What it has of its home gives its calls the
 /// tree, and no seat: they act by its own worker alone.
 pub struct Member {
-    home: Lease,
-    guest: Guest,
+    pub(crate) home: Lease,
+    pub(crate) guest: Guest,
 }
 
 impl Model for Member {

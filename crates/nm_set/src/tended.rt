@@ -4,10 +4,10 @@ ghost use Rattle.std.specs.Prelude.{◌≡◌, ◌≢◌, ◌≤◌, ◌+◌, �
 ghost use Rattle.nm_model.specs.declared.event.Op.TheVariants.{Has, Insert, Delete};
 ghost use Rattle.nm_tree.specs.declared.fault.Fault.TheVariants as lost;
 ghost use Rattle.nm_tree.specs.Calls.{LeavesHas, LeavesInsert, LeavesDelete};
-ghost use Rattle.nm_tree.specs.Workers.{Hand, IsIdle};
+ghost use Rattle.nm_tree.specs.Workers.{Hand};
 ghost use Rattle.nm_set.specs.Asked.{Asked};
 ghost use Rattle.nm_set.specs.declared.fault.Fullness.{Fullness};
-ghost use Rattle.nm_set.specs.Tended.{busy, FindsBehind, Looks, Inserts, Deletes, FinishesPending, IsRelieved, InsertsOn, DeletesOn, SaysTended, WasDisturbed, WasFull, WasHeldUp, TendsHas, TendsInsert, TendsDelete, found_behind, of_insert, plain, with_fullness};
+ghost use Rattle.nm_set.specs.Tended.{busy, IsTidied, IsTidy, FindsBehind, Looks, Inserts, Deletes, FinishesPending, InsertsOn, DeletesOn, SaysTended, WasDisturbed, WasFull, WasHeldUp, TendsHas, TendsInsert, TendsDelete, found_behind, of_insert, plain, with_fullness};
 
 use crate::fault::{Fault, Fullness, InsertFault};
 use crate::member::Member;
@@ -177,10 +177,17 @@ impl Member {
         ensures disturbed { of_insert result ≡ busy → WasHeldUp self.old.hand.pass self.new.hand.pass
             ((habit.now.rounds + 1) * habit.now.tries) }
     {
-        if self.rests() {
-            return self.insert_tending(key, habit);
+        if !self.is_tidy(habit) {
+            return self.insert_untidy(key, habit);
         }
-        self.insert_unrested(key, habit)
+        match self
+            .home
+            .tree()
+            .insert(&mut self.guest.worker, key, habit.tries)
+        {
+            Ok(answer) => Ok(answer),
+            Err(lost) => self.insert_behind(key, habit, Fault::Call(lost)),
+        }
     }
 
     /// Deletes a key, and answers whether it was in the set: true once the leaf with the key is cut
@@ -204,41 +211,35 @@ impl Member {
         ensures disturbed { result ≡ busy → WasHeldUp self.old.hand.pass self.new.hand.pass
             ((habit.now.rounds + 1) * habit.now.tries) }
     {
-        if self.rests() {
-            return self.remove_tending(key, habit);
+        if !self.is_tidy(habit) {
+            return self.remove_untidy(key, habit);
         }
-        self.remove_unrested(key, habit)
+        self.is_of_a_run();
+        match self
+            .home
+            .tree()
+            .delete(&mut self.guest.worker, key, habit.tries)
+        {
+            Ok(answer) => Ok(answer),
+            Err(lost) => self.delete_behind(key, habit, Fault::Call(lost)),
+        }
     }
 
-    /// Whether the caller does not hold the worker and nothing is pending, as nearly always. It
-    /// chooses a copy of `insert` or `remove` alone: one in which the compiler leaves these tests out.
-    fn rests(&self) -> bool {
-        self.held().is_none() && self.pending().is_none()
+    /// Whether the caller does not hold the worker, nothing is pending and few nodes wait, as nearly
+    /// always: then there is nothing to do before an insert or a delete.
+    fn is_tidy(&self, habit: &Habit) -> bool
+        ensures { result ≡ true → IsTidy habit.now self.now.hand }
+    {
+        self.held().is_none()
+            && self.pending().is_none()
+            && self.queue_len() < u64::from(habit.collect_after)
     }
 
-    /// `insert`, out of the way of the many calls of a worker that rests.
+    /// `insert`, where something is to be done first, out of the way of the many calls where nothing
+    /// is.
     #[cold]
     #[inline(never)]
-    fn insert_unrested(&mut self, key: Key, habit: &Habit) -> Result<bool, InsertFault>
-        ensures board { self.new.board ≡ self.old.board }
-        ensures did { TendsInsert self.old.board habit.now key self.old.hand self.new.hand result }
-    {
-        self.insert_tending(key, habit)
-    }
-
-    /// `remove`, out of the way of the many calls of a worker that rests.
-    #[cold]
-    #[inline(never)]
-    fn remove_unrested(&mut self, key: Key, habit: &Habit) -> Result<bool, Fault>
-        ensures board { self.new.board ≡ self.old.board }
-        ensures did { TendsDelete self.old.board habit.now key self.old.hand self.new.hand result }
-    {
-        self.remove_tending(key, habit)
-    }
-
-    /// `insert`, of any worker.
-    #[inline(always)]
-    fn insert_tending(&mut self, key: Key, habit: &Habit) -> Result<bool, InsertFault>
+    fn insert_untidy(&mut self, key: Key, habit: &Habit) -> Result<bool, InsertFault>
         ensures board { self.new.board ≡ self.old.board }
         ensures did { TendsInsert self.old.board habit.now key self.old.hand self.new.hand result }
     {
@@ -248,15 +249,17 @@ impl Member {
         let Ok(_done) = self.finish_again(habit) else {
             return Err(InsertFault::Other(Fault::Call(CallFault::Pending)));
         };
-        if self.queue_len() >= u64::from(habit.collect_after) {
-            return self.insert_relieved(key, habit);
+        self.tidy(habit);
+        match self.try_insert(key, habit.tries) {
+            Ok(answer) => Ok(answer),
+            Err(fault) => self.insert_behind(key, habit, fault),
         }
-        self.insert_on(key, habit)
     }
 
-    /// `remove`, of any worker.
-    #[inline(always)]
-    fn remove_tending(&mut self, key: Key, habit: &Habit) -> Result<bool, Fault>
+    /// `remove`, in the same way.
+    #[cold]
+    #[inline(never)]
+    fn remove_untidy(&mut self, key: Key, habit: &Habit) -> Result<bool, Fault>
         ensures board { self.new.board ≡ self.old.board }
         ensures did { TendsDelete self.old.board habit.now key self.old.hand self.new.hand result }
     {
@@ -266,52 +269,26 @@ impl Member {
         let Ok(_done) = self.finish_again(habit) else {
             return Err(Fault::Call(CallFault::Pending));
         };
-        if self.queue_len() >= u64::from(habit.collect_after) {
-            return self.remove_relieved(key, habit);
-        }
+        self.tidy(habit);
         self.is_of_a_run();
-        self.delete_on(key, habit)
-    }
-
-    /// A collection, and the insert behind it.
-    #[cold]
-    #[inline(never)]
-    fn insert_relieved(&mut self, key: Key, habit: &Habit) -> Result<bool, InsertFault>
-        ensures board { self.new.board ≡ self.old.board }
-        ensures did { (y : Hand) × IsRelieved self.old.board self.old.hand y
-            × InsertsOn self.old.board habit.now key y self.new.hand result }
-    {
-        self.relieve();
-        self.insert_on(key, habit)
-    }
-
-    /// A collection, and the delete behind it.
-    #[cold]
-    #[inline(never)]
-    fn remove_relieved(&mut self, key: Key, habit: &Habit) -> Result<bool, Fault>
-        ensures board { self.new.board ≡ self.old.board }
-        ensures did { (y : Hand) × IsRelieved self.old.board self.old.hand y × IsIdle y
-            × DeletesOn self.old.board habit.now key y self.new.hand result }
-    {
-        self.relieve();
-        self.is_of_a_run();
-        self.delete_on(key, habit)
-    }
-
-    /// An insert that is made again while it loses each of its tries, and once more behind a
-    /// collection where no slot was free: nearly always the first one answers.
-    #[inline(always)]
-    fn insert_on(&mut self, key: Key, habit: &Habit) -> Result<bool, InsertFault>
-        ensures board { self.new.board ≡ self.old.board }
-        ensures did { InsertsOn self.old.board habit.now key self.old.hand self.new.hand result }
-    {
-        match self.try_insert(key, habit.tries) {
+        match self.try_remove(key, habit.tries) {
             Ok(answer) => Ok(answer),
-            Err(fault) => self.insert_behind(key, habit, fault),
+            Err(fault) => self.delete_behind(key, habit, fault),
         }
     }
 
-    /// What is done of it behind a first insert that has told this fault.
+    /// A collection, where many nodes wait.
+    fn tidy(&mut self, habit: &Habit)
+        ensures board { self.new.board ≡ self.old.board }
+        ensures did { IsTidied self.old.board habit.now.collect_after self.old.hand self.new.hand }
+    {
+        if self.queue_len() >= u64::from(habit.collect_after) {
+            self.relieve();
+        }
+    }
+
+    /// What is done of an insert behind a first one that has told this fault: it is made again while
+    /// it loses each of its tries, and once more behind a collection where no slot was free.
     #[cold]
     #[inline(never)]
     fn insert_behind(&mut self, key: Key, habit: &Habit, fault: Fault) -> Result<bool, InsertFault>
@@ -329,20 +306,8 @@ impl Member {
         with_fullness(behind, self.queue_len(), told)
     }
 
-    /// A delete that is made again while it loses each of its tries, and what is left to do of it:
-    /// nearly always the first one answers.
-    #[inline(always)]
-    fn delete_on(&mut self, key: Key, habit: &Habit) -> Result<bool, Fault>
-        ensures board { self.new.board ≡ self.old.board }
-        ensures did { DeletesOn self.old.board habit.now key self.old.hand self.new.hand result }
-    {
-        match self.try_remove(key, habit.tries) {
-            Ok(answer) => Ok(answer),
-            Err(fault) => self.delete_behind(key, habit, fault),
-        }
-    }
-
-    /// What is done of it behind a first delete that has told this fault.
+    /// What is done of a delete behind a first one that has told this fault: it is made again while it
+    /// loses each of its tries, and what is left to do of it is done.
     #[cold]
     #[inline(never)]
     fn delete_behind(&mut self, key: Key, habit: &Habit, fault: Fault) -> Result<bool, Fault>

@@ -1,36 +1,74 @@
-use Rattle.std.proofs.Common.{subst}
+use Rattle.std.proofs.Common.{refl, subst}
+use Rattle.std.specs.Prelude.{Ok, Err}
 use Rattle.nm_model.specs.declared.event.Op.TheVariants.{Insert}
-use Rattle.nm_set.specs.Tended.{TendsInsert}
+use Rattle.nm_steps.specs.Steps.{Board}
+use Rattle.nm_tree.specs.Calls.{LeavesInsert}
+use Rattle.nm_tree.specs.Workers.{Hand}
+use Rattle.nm_set.specs.declared.fault.Fault.TheVariants as fault
+use Rattle.nm_set.specs.Asked.{Asked}
+use Rattle.nm_set.specs.Seats.{Seated}
+use Rattle.nm_set.specs.Tended.{InsertsOn, TendsInsert}
 use Rattle.nm_set.proofs.Disturbances.{inserts_held_up}
-use Rattle.nm_set.proofs.Tending.{full_told, said}
+use Rattle.nm_set.proofs.Tending.{inserts_answered, inserts_at_once, full_told, said}
 use Rattle.nm_set.proofs.member.Member.insert.Goals as goal
 
-pub returns-then-rests-clause-says : goal.returns-then-rests-clause-says
-returns-then-rests-clause-says c = said c.args.self.now.board c.args.habit.now Insert c.args.key c.args.self.now.hand _ _ c.insert_tending.ensures.did
+pub returns-in-Ok-clause-did : goal.returns-in-Ok-clause-did
+returns-in-Ok-clause-did c =
+    let b = c.args.self.now.board in
+    let h = c.args.habit.now in
+    let k = c.args.key in
+    let w = c.args.self.now.hand in
+    let m = c.insert.new.worker in
+    let tidy = c.if-not-is_tidy.ensures refl in
+    let P : Seated → Type 0 = λ s. LeavesInsert s.board.layout h.tries k s.hand m (Ok c.in-Ok.answer) in
+    let Q : Board → Type 0 = λ d. LeavesInsert d.layout h.tries k c.self.inside.guest.worker m (Ok c.in-Ok.answer) in
+    let did = subst P c.self.view_is (subst Q c.tree.ensures c.in-Ok.ensures.leaves) in
+    inserts_at_once b h k w m (Ok c.in-Ok.answer) tidy (inserts_answered b h k w m c.in-Ok.answer (tidy.free, did))
 
-pub returns-clause-says : goal.returns-clause-says
-returns-clause-says c = said c.args.self.now.board c.args.habit.now Insert c.args.key c.args.self.now.hand _ _ c.insert_unrested.ensures.did
+pub returns-in-Err-clause-did : goal.returns-in-Err-clause-did
+returns-in-Err-clause-did c =
+    let b = c.args.self.now.board in
+    let h = c.args.habit.now in
+    let k = c.args.key in
+    let w = c.args.self.now.hand in
+    let m = c.insert.new.worker in
+    let tidy = c.if-not-is_tidy.ensures refl in
+    let z = c.insert_behind.new.self.hand in
+    let P : Seated → Type 0 = λ s. LeavesInsert s.board.layout h.tries k s.hand m (Err c.in-Err.lost) in
+    let Q : Board → Type 0 = λ d. LeavesInsert d.layout h.tries k c.self.inside.guest.worker m (Err c.in-Err.lost) in
+    let did = subst P c.self.view_is (subst Q c.tree.ensures c.in-Err.ensures.leaves) in
+    let R : Seated → Type 0 = λ s. (v : Hand) → Asked (LeavesInsert s.board.layout h.tries k) v m (Err (fault.Call c.in-Err.lost)) → InsertsOn s.board h k v z c.insert_behind.result in
+    inserts_at_once b h k w z c.insert_behind.result tidy (subst R c.self.view_is c.insert_behind.ensures.did w (tidy.free, did))
 
-pub returns-then-rests-clause-full : goal.returns-then-rests-clause-full
-returns-then-rests-clause-full c f is =
+pub returns-in-Ok-clause-says : goal.returns-in-Ok-clause-says
+returns-in-Ok-clause-says c = said c.args.self.now.board c.args.habit.now Insert c.args.key c.args.self.now.hand _ _ (returns-in-Ok-clause-did c)
+
+pub returns-in-Err-clause-says : goal.returns-in-Err-clause-says
+returns-in-Err-clause-says c = said c.args.self.now.board c.args.habit.now Insert c.args.key c.args.self.now.hand _ _ (returns-in-Err-clause-did c)
+
+pub returns-then-not-is_tidy-clause-says : goal.returns-then-not-is_tidy-clause-says
+returns-then-not-is_tidy-clause-says c = said c.args.self.now.board c.args.habit.now Insert c.args.key c.args.self.now.hand _ _ c.insert_untidy.ensures.did
+
+pub returns-then-not-is_tidy-clause-full : goal.returns-then-not-is_tidy-clause-full
+returns-then-not-is_tidy-clause-full c f is =
     let b = c.args.self.now.board in
     let h = c.args.habit.now in
     let w = c.args.self.now.hand in
-    let z = c.insert_tending.new.self.hand in
-    full_told b h c.args.key w z f (subst (TendsInsert b h c.args.key w z) is c.insert_tending.ensures.did)
+    let z = c.insert_untidy.new.self.hand in
+    full_told b h c.args.key w z f (subst (TendsInsert b h c.args.key w z) is c.insert_untidy.ensures.did)
 
-pub returns-clause-full : goal.returns-clause-full
-returns-clause-full c f is =
+pub returns-in-Err-clause-full : goal.returns-in-Err-clause-full
+returns-in-Err-clause-full c f is =
     let b = c.args.self.now.board in
     let h = c.args.habit.now in
     let w = c.args.self.now.hand in
-    let z = c.insert_unrested.new.self.hand in
-    full_told b h c.args.key w z f (subst (TendsInsert b h c.args.key w z) is c.insert_unrested.ensures.did)
+    let z = c.insert_behind.new.self.hand in
+    full_told b h c.args.key w z f (subst (TendsInsert b h c.args.key w z) is (returns-in-Err-clause-did c))
 
-pub returns-then-rests-clause-disturbed : goal.returns-then-rests-clause-disturbed
-returns-then-rests-clause-disturbed c is =
-    inserts_held_up c.args.self.now.board c.args.habit.now c.args.key c.args.self.now.hand c.insert_tending.new.self.hand c.insert_tending.result is c.insert_tending.ensures.did
+pub returns-then-not-is_tidy-clause-disturbed : goal.returns-then-not-is_tidy-clause-disturbed
+returns-then-not-is_tidy-clause-disturbed c is =
+    inserts_held_up c.args.self.now.board c.args.habit.now c.args.key c.args.self.now.hand c.insert_untidy.new.self.hand c.insert_untidy.result is c.insert_untidy.ensures.did
 
-pub returns-clause-disturbed : goal.returns-clause-disturbed
-returns-clause-disturbed c is =
-    inserts_held_up c.args.self.now.board c.args.habit.now c.args.key c.args.self.now.hand c.insert_unrested.new.self.hand c.insert_unrested.result is c.insert_unrested.ensures.did
+pub returns-in-Err-clause-disturbed : goal.returns-in-Err-clause-disturbed
+returns-in-Err-clause-disturbed c is =
+    inserts_held_up c.args.self.now.board c.args.habit.now c.args.key c.args.self.now.hand c.insert_behind.new.self.hand c.insert_behind.result is (returns-in-Err-clause-did c)
