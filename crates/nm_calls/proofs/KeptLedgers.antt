@@ -1,5 +1,5 @@
 -- What a call leaves of the ledgers that its worker holds.
-use Rattle.std.proofs.Common.{◌≡◌, ℕ, suc, ◌==◌, List, [], ◌∷◌, map, refl, ap, subst, ◌∙◌}
+use Rattle.std.proofs.Common.{◌≡◌, ℕ, suc, ◌==◌, List, [], ◌∷◌, length, map, refl, sym, ap, subst, ◌∙◌}
 use Rattle.std.specs.Prelude.{Option, Some, None, is_none, option_map, slice_get}
 use Rattle.std.proofs.lemmas.Bool.{cond-false, cond-true, eq-eqb, ne_eqb}
 use Rattle.nm_edge.specs.declared.node.NodeId.{NodeId}
@@ -14,10 +14,13 @@ use Rattle.nm_laws.proofs.Learned.{learn_labelled}
 use Rattle.nm_order.proofs.HeldLedgers.{held_ledgers_are_kept}
 use Rattle.nm_steps.specs.Rules.{knowledge}
 use Rattle.nm_steps.specs.Steps.{Stand, Stepped, IsSamePass}
+use Rattle.nm_epoch.specs.declared.collecting.HeldQueue.{HeldQueue}
 use Rattle.nm_calls.specs.declared.spot.ChainEdge.{ChainEdge}
 use Rattle.nm_calls.specs.declared.spot.Spot.{Spot}
 use Rattle.nm_calls.specs.Telling.{IsInRun}
-use Rattle.nm_calls.specs.Cleanups.{HasCut, KeepsLedgers, freed_of_origin}
+use Rattle.nm_calls.specs.Cleanups.{HasCut, HoldsCuts, KeepsLedgers, freed_of_origin}
+use Rattle.nm_calls.specs.Won.{capped}
+use Rattle.nm_calls.proofs.Adding.{Adds, counts_on}
 use Rattle.nm_calls.proofs.Looks.{enough}
 use Rattle.nm_pool.proofs.PrivateSlots.{known_after_step}
 
@@ -35,6 +38,18 @@ ledgers_then o p q same a b =
     record {
       others = λ x other. b.others x (λ is. other (is ∙ number)) ∙ a.others x other;
       freed = subst (λ (n : ℕ). freed_of_origin (knowledge q.view) n ≡ freed_of_origin (knowledge p.view) n) number b.freed ∙ a.freed;
+    }
+
+-- so does the own queue with its counts, where nothing was won
+pub holds_on : {n : ℕ} (p q : Stand) (h : HeldQueue) → IsSamePass p q → (knowledge q.view).ledgers ≡ (knowledge p.view).ledgers → Adds 0 0 0 n p.view.log q.view.log → HoldsCuts p h → HoldsCuts q h
+holds_on p q h same ledgers adds is =
+    let number : q.view.number ≡ p.view.number = ap (λ (x : Stand). x.view.number) same in
+    let own : held (knowledge q.view).ledgers q.view.number ≡ held (knowledge p.view).ledgers p.view.number = ap (λ (w : ℕ). held (knowledge q.view).ledgers w) number ∙ ap (λ (ls : List (Option Ledger)). held ls p.view.number) ledgers in
+    record {
+      own = is.own ∙ sym number;
+      queue = ap (λ (l : Option Ledger). option_map (λ (x : Ledger). x.queue) l) own ∙ is.queue;
+      counted = counts_on h.counts p.view.log q.view.log adds is.counted;
+      freed = ap (λ (l : Option Ledger). option_map (λ (ns : List NodeId). capped (length ns)) (option_map (λ (x : Ledger). x.freed) l)) own ∙ is.freed;
     }
 
 -- ---- a cut, and its label

@@ -68,6 +68,22 @@ none_ripe epoch (x ∷ es) h = by (is_ripe epoch x) refl h
     by true is h = absurd (none-some x.node (sym h))
     by false is h = (rw is refl, rw is refl)
 
+-- what is ripe at the front and what is left are all
+pub both_parts : (epoch : ℕ) (es : List Entry) → length (ripe_part epoch es) + length (rest_of epoch es) ≡ length es
+both_parts epoch [] = refl
+both_parts epoch (x ∷ es) = by (is_ripe epoch x) refl (both_parts epoch es)
+  where
+    by : (b : Bool) → is_ripe epoch x ≡ b → length (ripe_part epoch es) + length (rest_of epoch es) ≡ length es → length (ripe_part epoch (x ∷ es)) + length (rest_of epoch (x ∷ es)) ≡ suc (length es)
+    by true is rest =
+        let one : length (ripe_part epoch (x ∷ es)) ≡ suc (length (ripe_part epoch es)) = ap (λ (r : List Entry). length r) (ripe_more epoch x es is) in
+        let left : length (rest_of epoch (x ∷ es)) ≡ length (rest_of epoch es) = ap (λ (r : List Entry). length r) (rest_more epoch x es is) in
+        omega (arith, one, left, rest)
+    by false is rest =
+        let none' = none_ripe epoch (x ∷ es) (ap (λ (b : Bool). cond b (Some x.node) None) is) in
+        let one : length (ripe_part epoch (x ∷ es)) ≡ 0 = ap (λ (r : List Entry). length r) none'.0 in
+        let left : length (rest_of epoch (x ∷ es)) ≡ suc (length es) = ap (λ (r : List Entry). length r) none'.1 in
+        omega (arith, one, left)
+
 -- ---- one more
 
 pub may_collect : (epoch origin : ℕ) (start p : Stand) (all now : List Entry) (n : NodeId) → IsInRun p → IsCollecting epoch origin start all p now → (epochs start).seen ≡ Some epoch → ripe_front epoch now ≡ Some n → MayStep p (Give n.slot)

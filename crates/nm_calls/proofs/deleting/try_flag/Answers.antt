@@ -5,7 +5,7 @@ use Rattle.nm_calls.specs.Telling.{Tells}
 use Rattle.nm_calls.proofs.GoingOn.{goes_then}
 use Rattle.nm_calls.proofs.Standing.{at_kept}
 use Rattle.nm_calls.proofs.Removals.{may_flag_there}
-use Rattle.nm_calls.proofs.Adding.{counts_on, adds_then, seeks_adds}
+use Rattle.nm_calls.proofs.Adding.{counts_on, flag_counts, adds_then, seeks_adds}
 use Rattle.nm_calls.proofs.AddingDeletes.{flag_won_adds, flag_lost_adds}
 use Rattle.nm_calls.proofs.deleting.try_flag.Goals as goal
 
@@ -48,14 +48,16 @@ returns-in-Err-clause-part c =
     ))
 
 pub returns-in_default-clause-kept : goal.returns-in_default-clause-kept
-returns-in_default-clause-kept c = record { queue = search rules; counted = counts_on _ _ _ (seeks_adds c.args.shared.now.layout c.get-sought.result c.args.pass.now.view.log c.seek.new.pass.view.log c.seek.new.chain.items c.seek.result c.seek.ensures.walk) c.requires.kept.counted }
+returns-in_default-clause-kept c = record { own = search rules; queue = search rules; freed = search rules; counted = counts_on _ _ _ (seeks_adds c.args.shared.now.layout c.get-sought.result c.args.pass.now.view.log c.seek.new.pass.view.log c.seek.new.chain.items c.seek.result c.seek.ensures.walk) c.requires.kept.counted }
 
 pub returns-then-end-sought-clause-kept : goal.returns-then-end-sought-clause-kept
-returns-then-end-sought-clause-kept c = record { queue = search rules; counted = counts_on _ _ _ (seeks_adds c.args.shared.now.layout c.get-sought.result c.args.pass.now.view.log c.seek.new.pass.view.log c.seek.new.chain.items c.seek.result c.seek.ensures.walk) c.requires.kept.counted }
+returns-then-end-sought-clause-kept c = record { own = search rules; queue = search rules; freed = search rules; counted = counts_on _ _ _ (seeks_adds c.args.shared.now.layout c.get-sought.result c.args.pass.now.view.log c.seek.new.pass.view.log c.seek.new.chain.items c.seek.result c.seek.ensures.walk) c.requires.kept.counted }
 
 pub help-requires-clause-kept : goal.help-requires-clause-kept
 help-requires-clause-kept c = record {
+  own = search rules;
   queue = search rules;
+  freed = search rules;
   counted = (
       let old = c.args.pass.now.view.log in
       let mid = c.seek.new.pass.view.log in
@@ -67,12 +69,14 @@ help-requires-clause-kept c = record {
 
 pub returns-in-Ok-clause-kept : goal.returns-in-Ok-clause-kept
 returns-in-Ok-clause-kept c = record {
+  own = search rules;
   queue = search rules;
+  freed = search rules;
   counted = (
       let old = c.args.pass.now.view.log in
       let mid = c.seek.new.pass.view.log in
       let new = c.flag_at.new.pass.view.log in
-      counts_on _ old new (adds_then old mid new (seeks_adds c.args.shared.now.layout c.get-sought.result c.args.pass.now.view.log c.seek.new.pass.view.log c.seek.new.chain.items c.seek.result c.seek.ensures.walk) (flag_won_adds c.in-Some.end c.in-Ok.birth mid new c.in-Ok.ensures.won.part)) c.requires.kept.counted
+      flag_counts _ _ old new (adds_then old mid new (seeks_adds c.args.shared.now.layout c.get-sought.result c.args.pass.now.view.log c.seek.new.pass.view.log c.seek.new.chain.items c.seek.result c.seek.ensures.walk) (flag_won_adds c.in-Some.end c.in-Ok.birth mid new c.in-Ok.ensures.won.part)) c.saturating_add-held.ensures c.requires.kept.counted
       );
 }
 

@@ -57,7 +57,7 @@ loop-round-preserved c = record {
   unlinked = c.in-Lost.ensures.shows ∙ c.loop-round.invariant.unlinked;
   has = c.try_insert.ensures.has c.args.pass.now c.loop-round.invariant.has;
   first = λ none'. omega (arith, none');
-  blocks = takes_fills c.args.queue.now c.make_room_for.new.queue c.try_insert.new.queue (takes_then c.args.queue.now c.loop-round.queue c.make_room_for.new.queue c.loop-round.invariant.blocks c.make_room_for.ensures.blocks) c.try_insert.ensures.fills;
+  blocks = takes_fills c.args.held.now.queue c.make_room_for.new.queue c.try_insert.new.held.queue (takes_then c.args.held.now.queue c.loop-round.held.queue c.make_room_for.new.queue c.loop-round.invariant.blocks c.make_room_for.ensures.blocks) c.try_insert.ensures.fills;
   kept = c.try_insert.ensures.kept;
   fit = c.try_insert.ensures.fit ∙ c.loop-round.invariant.fit;
 }
@@ -68,7 +68,7 @@ returns-clause-private c =
 
 pub make_room_for-requires : goal.make_room_for-requires
 make_room_for-requires c = record {
-  few = may_grow_more c.loop-round.pass c.loop-round.queue.items c.loop-round.invariant.on.run c.loop-round.invariant.kept.queue;
+  few = may_grow_more c.loop-round.pass c.loop-round.held.queue.items c.loop-round.invariant.on.run c.loop-round.invariant.kept.queue;
   first = c.loop-round.invariant.first;
 }
 
@@ -89,7 +89,9 @@ returns-in-Linked-clause-moment c = λ o had.
 
 pub returns-in-Found-clause-kept : goal.returns-in-Found-clause-kept
 returns-in-Found-clause-kept c = record {
+  own = search rules;
   queue = search rules;
+  freed = search rules;
   counted = (
       let tried = c.try_insert.new.pass.view.log in
       let back = c.give_back-in-Found.new.pass.view.log in
@@ -104,7 +106,7 @@ returns-then-not-make_room_for-clause-part c = (
   c.loop-round.fork,
   c.loop-round.pass.view.log,
   c.give_back.new.pass.view.log,
-  later_refused c.loop-round.round c.loop-round.queue c.make_room_for.new.queue c.loop-round.invariant.first c.make_room_for.ensures.more (c.make_room_for.ensures.refused c.if-not-make_room_for.true),
+  later_refused c.loop-round.round c.loop-round.held.queue c.make_room_for.new.queue c.loop-round.invariant.first c.make_room_for.ensures.more (c.make_room_for.ensures.refused c.if-not-make_room_for.true),
   c.loop-round-test.true,
   c.loop-round.invariant.lost,
   c.give_back.ensures.part,
@@ -112,16 +114,16 @@ returns-then-not-make_room_for-clause-part c = (
 )
 
 pub returns-then-not-make_room_for-clause-blocks : goal.returns-then-not-make_room_for-clause-blocks
-returns-then-not-make_room_for-clause-blocks c = takes_then c.args.queue.now c.loop-round.queue c.make_room_for.new.queue c.loop-round.invariant.blocks c.make_room_for.ensures.blocks
+returns-then-not-make_room_for-clause-blocks c = takes_then c.args.held.now.queue c.loop-round.held.queue c.make_room_for.new.queue c.loop-round.invariant.blocks c.make_room_for.ensures.blocks
 
 pub returns-in-Found-clause-blocks : goal.returns-in-Found-clause-blocks
-returns-in-Found-clause-blocks c = takes_fills c.args.queue.now c.make_room_for.new.queue c.try_insert.new.queue (takes_then c.args.queue.now c.loop-round.queue c.make_room_for.new.queue c.loop-round.invariant.blocks c.make_room_for.ensures.blocks) c.try_insert.ensures.fills
+returns-in-Found-clause-blocks c = takes_fills c.args.held.now.queue c.make_room_for.new.queue c.try_insert.new.held.queue (takes_then c.args.held.now.queue c.loop-round.held.queue c.make_room_for.new.queue c.loop-round.invariant.blocks c.make_room_for.ensures.blocks) c.try_insert.ensures.fills
 
 pub returns-in-Linked-clause-blocks : goal.returns-in-Linked-clause-blocks
-returns-in-Linked-clause-blocks c = takes_fills c.args.queue.now c.make_room_for.new.queue c.try_insert.new.queue (takes_then c.args.queue.now c.loop-round.queue c.make_room_for.new.queue c.loop-round.invariant.blocks c.make_room_for.ensures.blocks) c.try_insert.ensures.fills
+returns-in-Linked-clause-blocks c = takes_fills c.args.held.now.queue c.make_room_for.new.queue c.try_insert.new.held.queue (takes_then c.args.held.now.queue c.loop-round.held.queue c.make_room_for.new.queue c.loop-round.invariant.blocks c.make_room_for.ensures.blocks) c.try_insert.ensures.fills
 
 pub returns-in-Full-clause-blocks : goal.returns-in-Full-clause-blocks
-returns-in-Full-clause-blocks c = takes_fills c.args.queue.now c.make_room_for.new.queue c.try_insert.new.queue (takes_then c.args.queue.now c.loop-round.queue c.make_room_for.new.queue c.loop-round.invariant.blocks c.make_room_for.ensures.blocks) c.try_insert.ensures.fills
+returns-in-Full-clause-blocks c = takes_fills c.args.held.now.queue c.make_room_for.new.queue c.try_insert.new.held.queue (takes_then c.args.held.now.queue c.loop-round.held.queue c.make_room_for.new.queue c.loop-round.invariant.blocks c.make_room_for.ensures.blocks) c.try_insert.ensures.fills
 
 pub returns-in-Full-clause-part : goal.returns-in-Full-clause-part
 returns-in-Full-clause-part c =
@@ -159,3 +161,55 @@ returns-in-Linked-clause-part c =
     subst (λ (f : Fit). IsTry f c.args.shared.now.layout c.args.key c.loop-round.fork c.try_insert.new.fork c.loop-round.pass.view.log c.try_insert.new.pass.view.log attempt.Linked) c.loop-round.invariant.fit c.in-Linked.ensures.part in
     let linked : IsTry c.args.workspace.now.placement c.args.shared.now.layout c.args.key c.loop-round.fork None c.loop-round.pass.view.log c.try_insert.new.pass.view.log attempt.Linked = (h.0, h.1, h.2, h.3, refl) in
     (c.try_insert.new.pass.view.log, (c.loop-round.round, c.loop-round.fork, c.loop-round.pass.view.log, c.loop-round-test.true, c.loop-round.invariant.lost, linked), ap (λ (s : Stand). s.view.log) c.answer-in-Linked.ensures.took.step)
+
+pub returns-then-not-make_room_for-clause-on : goal.returns-then-not-make_room_for-clause-on
+returns-then-not-make_room_for-clause-on c =
+    let o = c.args.pass.now in
+    continued o c.give_back.new.pass c.leave.new.pass Leave Departed (goes_then o c.loop-round.pass c.give_back.new.pass c.loop-round.invariant.on c.give_back.ensures.on) c.leave.ensures.took
+
+pub returns-clause-on : goal.returns-clause-on
+returns-clause-on c =
+    let o = c.args.pass.now in
+    continued o c.give_back-2.new.pass c.leave-2.new.pass Leave Departed (goes_then o c.loop-round.pass c.give_back-2.new.pass c.loop-round.invariant.on c.give_back-2.ensures.on) c.leave-2.ensures.took
+
+pub returns-then-not-make_room_for-clause-kept : goal.returns-then-not-make_room_for-clause-kept
+returns-then-not-make_room_for-clause-kept c = record {
+  own = search rules;
+  queue = search rules;
+  freed = search rules;
+  counted = (
+      let now = c.loop-round.pass.view.log in
+      let back = c.give_back.new.pass.view.log in
+      let new = c.leave.new.pass.view.log in
+      counts_on _ now new (adds_then now back new (back_adds c.loop-round.fork now back c.give_back.ensures.part) (adds_these _ back new (ap (λ (s : Stand). s.view.log) c.leave.ensures.took.step))) c.loop-round.invariant.kept.counted
+      );
+}
+
+pub returns-in-Linked-clause-kept : goal.returns-in-Linked-clause-kept
+returns-in-Linked-clause-kept c = record {
+  own = search rules;
+  queue = search rules;
+  freed = search rules;
+  counted = counts_on _ _ _ (adds_these _ c.try_insert.new.pass.view.log c.answer-in-Linked.new.pass.view.log (ap (λ (s : Stand). s.view.log) c.answer-in-Linked.ensures.took.step)) c.try_insert.ensures.kept.counted;
+}
+
+pub returns-in-Full-clause-kept : goal.returns-in-Full-clause-kept
+returns-in-Full-clause-kept c = record {
+  own = search rules;
+  queue = search rules;
+  freed = search rules;
+  counted = counts_on _ _ _ (adds_these _ c.try_insert.new.pass.view.log c.leave-in-Full.new.pass.view.log (ap (λ (s : Stand). s.view.log) c.leave-in-Full.ensures.took.step)) c.try_insert.ensures.kept.counted;
+}
+
+pub returns-clause-kept : goal.returns-clause-kept
+returns-clause-kept c = record {
+  own = search rules;
+  queue = search rules;
+  freed = search rules;
+  counted = (
+      let now = c.loop-round.pass.view.log in
+      let back = c.give_back-2.new.pass.view.log in
+      let new = c.leave-2.new.pass.view.log in
+      counts_on _ now new (adds_then now back new (back_adds c.loop-round.fork now back c.give_back-2.ensures.part) (adds_these _ back new (ap (λ (s : Stand). s.view.log) c.leave-2.ensures.took.step))) c.loop-round.invariant.kept.counted
+      );
+}

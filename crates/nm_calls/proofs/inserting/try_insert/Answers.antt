@@ -8,7 +8,7 @@ use Rattle.nm_calls.proofs.GoingOn.{goes_then}
 use Rattle.nm_calls.proofs.Standing.{at_kept}
 use Rattle.nm_calls.proofs.ShortWalks.{key_of_call}
 use Rattle.nm_calls.proofs.Forks.{kept_fork, lost_fork, linked_fork, held_fork, may_grow}
-use Rattle.nm_calls.proofs.Adding.{counts_on, adds_then, stops_adds}
+use Rattle.nm_calls.proofs.Adding.{counts_on, link_counts, adds_then, stops_adds}
 use Rattle.nm_calls.proofs.AddingInserts.{readied_adds, grows_won, grows_lost}
 use Rattle.nm_calls.proofs.inserting.try_insert.Goals as goal
 
@@ -59,14 +59,16 @@ returns-in-Err-clause-has c = λ o has.
     kept_fork o c.grow.new.pass c.help.new.pass c.ready.new.fork c.help.ensures.on.same c.help.ensures.only.private (subst (λ f. HasFork o c.grow.new.pass f) (sym is) now)
 
 pub returns-in_default-clause-kept : goal.returns-in_default-clause-kept
-returns-in_default-clause-kept c = record { queue = search rules; counted = counts_on _ _ _ (stops_adds c.args.shared.now.layout c.args.key c.args.pass.now.view.log c.stop.new.pass.view.log c.stop.new.chain.items c.stop.result c.stop.ensures.walk) c.requires.kept.counted }
+returns-in_default-clause-kept c = record { own = search rules; queue = search rules; freed = search rules; counted = counts_on _ _ _ (stops_adds c.args.shared.now.layout c.args.key c.args.pass.now.view.log c.stop.new.pass.view.log c.stop.new.chain.items c.stop.result c.stop.ensures.walk) c.requires.kept.counted }
 
 pub returns-then-end-key-clause-kept : goal.returns-then-end-key-clause-kept
-returns-then-end-key-clause-kept c = record { queue = search rules; counted = counts_on _ _ _ (stops_adds c.args.shared.now.layout c.args.key c.args.pass.now.view.log c.stop.new.pass.view.log c.stop.new.chain.items c.stop.result c.stop.ensures.walk) c.requires.kept.counted }
+returns-then-end-key-clause-kept c = record { own = search rules; queue = search rules; freed = search rules; counted = counts_on _ _ _ (stops_adds c.args.shared.now.layout c.args.key c.args.pass.now.view.log c.stop.new.pass.view.log c.stop.new.chain.items c.stop.result c.stop.ensures.walk) c.requires.kept.counted }
 
 pub returns-in_default-ready-clause-kept : goal.returns-in_default-ready-clause-kept
 returns-in_default-ready-clause-kept c = record {
+  own = search rules;
   queue = search rules;
+  freed = search rules;
   counted = (
       let L = c.args.shared.now.layout in
       let old = c.args.pass.now.view.log in
@@ -78,7 +80,9 @@ returns-in_default-ready-clause-kept c = record {
 
 pub help-requires-clause-kept : goal.help-requires-clause-kept
 help-requires-clause-kept c = record {
+  own = search rules;
   queue = search rules;
+  freed = search rules;
   counted = (
       let L = c.args.shared.now.layout in
       let old = c.args.pass.now.view.log in
@@ -91,14 +95,16 @@ help-requires-clause-kept c = record {
 
 pub returns-in-Ok-clause-kept : goal.returns-in-Ok-clause-kept
 returns-in-Ok-clause-kept c = record {
+  own = search rules;
   queue = search rules;
+  freed = search rules;
   counted = (
       let L = c.args.shared.now.layout in
       let old = c.args.pass.now.view.log in
       let mid = c.stop.new.pass.view.log in
       let claimed = c.ready.new.pass.view.log in
       let new = c.grow.new.pass.view.log in
-      counts_on _ old new (adds_then old mid new (stops_adds c.args.shared.now.layout c.args.key c.args.pass.now.view.log c.stop.new.pass.view.log c.stop.new.chain.items c.stop.result c.stop.ensures.walk) (adds_then mid claimed new (readied_adds c.args.workspace.now.placement L.nodes c.args.fork.now c.ready.new.fork c.ready.result mid claimed c.ready.ensures.part) (grows_won L.radix c.args.key c.in-Some.end c.in-Some-ready.made claimed new c.in-Ok.ensures.won.part))) c.requires.kept.counted
+      link_counts _ _ old new (adds_then old mid new (stops_adds c.args.shared.now.layout c.args.key c.args.pass.now.view.log c.stop.new.pass.view.log c.stop.new.chain.items c.stop.result c.stop.ensures.walk) (adds_then mid claimed new (readied_adds c.args.workspace.now.placement L.nodes c.args.fork.now c.ready.new.fork c.ready.result mid claimed c.ready.ensures.part) (grows_won L.radix c.args.key c.in-Some.end c.in-Some-ready.made claimed new c.in-Ok.ensures.won.part))) c.saturating_add-held.ensures c.requires.kept.counted
       );
 }
 
