@@ -9,7 +9,8 @@ use Rattle.nm_calls.specs.Telling.{Tells}
 use Rattle.nm_calls.specs.Walks.{IsAt}
 use Rattle.nm_calls.specs.Won.{capped}
 use Rattle.nm_calls.proofs.WholeCleanups.{lost_steps, won_steps, only_cleans, one_more}
-use Rattle.nm_calls.proofs.Adding.{cut_adds, not_cleaned_adds, adds_then, adds_these, counts_on, splice_counts}
+use Rattle.nm_calls.proofs.Adding.{cut_adds, not_cleaned_adds, adds_then, adds_these, splice_counts}
+use Rattle.nm_calls.proofs.KeptLedgers.{holds_on}
 use Rattle.nm_calls.proofs.cleaning.cleanup.Goals as goal
 
 pub cut_off-requires-clause-at : goal.cut_off-requires-clause-at
@@ -35,7 +36,7 @@ returns-clause-steps c =
     omega (arith, one, two, long)
 
 pub returns-then-not-cut_off-clause-kept : goal.returns-then-not-cut_off-clause-kept
-returns-then-not-cut_off-clause-kept c = record { own = search rules; queue = search rules; freed = search rules; counted = counts_on _ _ _ (not_cleaned_adds c.args.spot.now c.as_slice.result.now c.args.pass.now.view.log c.cut_off.new.pass.view.log (c.cut_off.ensures.lost c.if-not-cut_off.true).part) c.requires.kept.counted }
+returns-then-not-cut_off-clause-kept c = holds_on _ _ _ c.cut_off.ensures.on.same (c.cut_off.ensures.lost c.if-not-cut_off.true).only.ledgers (not_cleaned_adds c.args.spot.now c.as_slice.result.now c.args.pass.now.view.log c.cut_off.new.pass.view.log (c.cut_off.ensures.lost c.if-not-cut_off.true).part) c.requires.kept
 
 pub returns-clause-kept : goal.returns-clause-kept
 returns-clause-kept c = record {

@@ -5,11 +5,9 @@ use Rattle.nm_model.specs.declared.reply.Reply.TheVariants.{Departed}
 use Rattle.nm_order.specs.Facts.Fact.{CallIs}
 use Rattle.nm_steps.specs.Steps.{Stand}
 use Rattle.nm_calls.specs.Deletes.{leaf_of}
-use Rattle.nm_steps.proofs.Seeing.{same_by_step}
-use Rattle.nm_calls.proofs.Adding.{adds_these}
 use Rattle.nm_calls.proofs.Forks.{continued}
 use Rattle.nm_calls.proofs.GoingOn.{goes_then}
-use Rattle.nm_calls.proofs.KeptLedgers.{holds_on}
+use Rattle.nm_calls.proofs.KeptLedgers.{holds_left}
 use Rattle.nm_calls.proofs.Moments.{no_call_on}
 use Rattle.nm_calls.proofs.Rooms.{takes_then}
 use Rattle.nm_calls.proofs.Removals.{removing_from, removing_on}
@@ -75,8 +73,5 @@ returns-in-Removed-clause-on c =
 
 pub returns-in-Removed-clause-kept : goal.returns-in-Removed-clause-kept
 returns-in-Removed-clause-kept c =
-    let p = c.remove_after.new.pass in
-    let q = c.answer-in-Removed.new.pass in
-    let took = c.answer-in-Removed.ensures.took in
-    let labelled = c.remove_after.ensures.only.labelled (c.inject.ensures.only.labelled c.requires.unchanged.labelled) in
-    holds_on p q c.remove_after.new.held (same_by_step p q (LeaveWith true) Departed took.step) (c.answer-in-Removed.ensures.hands.ledgers labelled) (adds_these _ p.view.log q.view.log (ap (λ (x : Stand). x.view.log) took.step)) c.remove_after.ensures.kept
+    holds_left c.remove_after.new.pass c.answer-in-Removed.new.pass _ (LeaveWith true) tt c.answer-in-Removed.ensures.took c.answer-in-Removed.ensures.hands
+    (c.remove_after.ensures.only.labelled (c.inject.ensures.only.labelled c.requires.unchanged.labelled)) c.remove_after.ensures.kept

@@ -6,8 +6,9 @@ use Rattle.nm_calls.specs.Inserts.{Finishes}
 use Rattle.nm_model.specs.Searches.{Search}
 use Rattle.nm_calls.specs.Moments.{AnswerHasMoment, HadNoCall}
 use Rattle.nm_calls.proofs.Moments.{none_begun}
-use Rattle.nm_calls.proofs.Adding.{has_won, counts_on, pin_adds, moved_adds}
+use Rattle.nm_calls.proofs.Adding.{has_won, pin_adds, moved_adds}
 use Rattle.nm_calls.proofs.AddingInserts.{insert_did, insert_wins, insert_steps}
+use Rattle.nm_calls.proofs.KeptLedgers.{holds_on, holds_with_room}
 use Rattle.nm_calls.proofs.Rooms.{takes_then}
 use Rattle.nm_calls.proofs.Waiting.{may_grow_more, few_in_table}
 use Rattle.nm_calls.proofs.inserting.insert.Goals as goal
@@ -50,10 +51,10 @@ returns-in_default-clause-after c = record {
 }
 
 pub returns-in_default-clause-kept : goal.returns-in_default-clause-kept
-returns-in_default-clause-kept c = record { own = search rules; queue = search rules; freed = search rules; counted = counts_on _ _ _ (moved_adds Insert c.args.key c.args.tries c.args.pass.now.view.log c.pin_for.new.pass.view.log c.in_default.ensures.moved) c.requires.kept.counted }
+returns-in_default-clause-kept c = holds_on _ _ _ c.pin_for.ensures.on.same (c.pin_for.ensures.hands.ledgers c.requires.rests.labelled) (moved_adds Insert c.args.key c.args.tries c.args.pass.now.view.log c.pin_for.new.pass.view.log c.in_default.ensures.moved) (holds_with_room _ _ _ c.make_room.ensures.items c.requires.kept)
 
 pub insert_pinned-requires-clause-kept : goal.insert_pinned-requires-clause-kept
-insert_pinned-requires-clause-kept c = record { own = search rules; queue = search rules; freed = search rules; counted = counts_on _ _ _ (pin_adds Insert c.args.key c.args.tries c.args.pass.now.view.log c.pin_for.new.pass.view.log c.in-Ok._epoch c.in-Ok.ensures.pinned) c.requires.kept.counted }
+insert_pinned-requires-clause-kept c = holds_on _ _ _ c.pin_for.ensures.on.same (c.pin_for.ensures.hands.ledgers c.requires.rests.labelled) (pin_adds Insert c.args.key c.args.tries c.args.pass.now.view.log c.pin_for.new.pass.view.log c.in-Ok._epoch c.in-Ok.ensures.pinned) (holds_with_room _ _ _ c.make_room.ensures.items c.requires.kept)
 
 pub make_room-requires : goal.make_room-requires
 make_room-requires c = record { few = may_grow_more c.args.pass.now c.args.held.now.queue.items (record { fits = c.is_of_a_run.ensures.fits; run = c.is_of_a_run.ensures.run }) c.requires.kept.queue }

@@ -3,6 +3,7 @@ use Rattle.std.specs.Prelude.{Option, None}
 use Rattle.nm_model.specs.declared.event.Event.TheVariants.{Leave, LeaveWith}
 use Rattle.nm_model.specs.declared.reply.Reply.TheVariants.{Departed}
 use Rattle.nm_model.specs.declared.event.Op.TheVariants.{Insert}
+use Rattle.nm_model.specs.declared.knowledge.Brief.{Brief}
 use Rattle.nm_model.specs.Searches.{Search}
 use Rattle.nm_order.specs.Facts.Fact.{CallIs}
 use Rattle.nm_calls.specs.declared.making.Fork.{Fork}
@@ -10,9 +11,9 @@ use Rattle.nm_pool.specs.declared.placement.Fit.{Fit}
 use Rattle.nm_calls.specs.declared.inserting.Attempt.TheVariants as attempt
 use Rattle.nm_calls.specs.Inserts.{HasFork, IsTry}
 use Rattle.nm_steps.specs.Steps.{Stand}
-use Rattle.nm_calls.proofs.Adding.{adds_then, adds_these, counts_on}
 use Rattle.nm_calls.proofs.AddingInserts.{back_adds}
 use Rattle.nm_calls.proofs.GoingOn.{goes_then, call_still}
+use Rattle.nm_calls.proofs.KeptLedgers.{holds_on, holds_left, holds_with_room}
 use Rattle.nm_calls.proofs.Moments.{no_call_on}
 use Rattle.nm_calls.proofs.Forks.{if_ready, none_left, tries_then, found_answer, continued}
 use Rattle.nm_calls.proofs.Rooms.{takes_then, takes_fills, later_refused}
@@ -87,19 +88,6 @@ returns-in-Linked-clause-moment c = λ o had.
     c.answer-in-Linked.ensures.moment o Insert c.args.key (no_call_on o c.loop-round.pass c.try_insert.new.pass round c.try_insert.ensures.on.same c.try_insert.ensures.on.past)
     (c.try_insert.ensures.on.keeps call (c.loop-round.invariant.on.keeps call c.requires.call.call))
 
-pub returns-in-Found-clause-kept : goal.returns-in-Found-clause-kept
-returns-in-Found-clause-kept c = record {
-  own = search rules;
-  queue = search rules;
-  freed = search rules;
-  counted = (
-      let tried = c.try_insert.new.pass.view.log in
-      let back = c.give_back-in-Found.new.pass.view.log in
-      let new = c.answer.new.pass.view.log in
-      counts_on _ tried new (adds_then tried back new (back_adds c.try_insert.new.fork tried back c.give_back-in-Found.ensures.part) (adds_these _ back new (ap (λ (s : Stand). s.view.log) c.answer.ensures.took.step))) c.try_insert.ensures.kept.counted
-      );
-}
-
 pub returns-then-not-make_room_for-clause-part : goal.returns-then-not-make_room_for-clause-part
 returns-then-not-make_room_for-clause-part c = (
   c.loop-round.round,
@@ -173,43 +161,23 @@ returns-clause-on c =
     continued o c.give_back-2.new.pass c.leave-2.new.pass Leave Departed (goes_then o c.loop-round.pass c.give_back-2.new.pass c.loop-round.invariant.on c.give_back-2.ensures.on) c.leave-2.ensures.took
 
 pub returns-then-not-make_room_for-clause-kept : goal.returns-then-not-make_room_for-clause-kept
-returns-then-not-make_room_for-clause-kept c = record {
-  own = search rules;
-  queue = search rules;
-  freed = search rules;
-  counted = (
-      let now = c.loop-round.pass.view.log in
-      let back = c.give_back.new.pass.view.log in
-      let new = c.leave.new.pass.view.log in
-      counts_on _ now new (adds_then now back new (back_adds c.loop-round.fork now back c.give_back.ensures.part) (adds_these _ back new (ap (λ (s : Stand). s.view.log) c.leave.ensures.took.step))) c.loop-round.invariant.kept.counted
-      );
-}
+returns-then-not-make_room_for-clause-kept c =
+    let room = holds_with_room c.loop-round.pass c.loop-round.held c.make_room_for.new.queue c.make_room_for.ensures.items c.loop-round.invariant.kept in
+    holds_left c.give_back.new.pass c.leave.new.pass _ Leave tt c.leave.ensures.took c.leave.ensures.hands (ap (λ (b : Brief). b.unlabelled) c.give_back.ensures.only.epochs ∙ (c.loop-round.invariant.only.labelled c.requires.unchanged.labelled))
+    (holds_on c.loop-round.pass c.give_back.new.pass _ c.give_back.ensures.on.same c.give_back.ensures.only.ledgers (back_adds c.loop-round.fork c.loop-round.pass.view.log c.give_back.new.pass.view.log c.give_back.ensures.part) room)
+
+pub returns-in-Found-clause-kept : goal.returns-in-Found-clause-kept
+returns-in-Found-clause-kept c =
+    holds_left c.give_back-in-Found.new.pass c.answer.new.pass _ (LeaveWith false) tt c.answer.ensures.took c.answer.ensures.hands (ap (λ (b : Brief). b.unlabelled) c.give_back-in-Found.ensures.only.epochs ∙ (c.try_insert.ensures.only.labelled (c.loop-round.invariant.only.labelled c.requires.unchanged.labelled)))
+    (holds_on c.try_insert.new.pass c.give_back-in-Found.new.pass _ c.give_back-in-Found.ensures.on.same c.give_back-in-Found.ensures.only.ledgers (back_adds c.try_insert.new.fork c.try_insert.new.pass.view.log c.give_back-in-Found.new.pass.view.log c.give_back-in-Found.ensures.part) c.try_insert.ensures.kept)
 
 pub returns-in-Linked-clause-kept : goal.returns-in-Linked-clause-kept
-returns-in-Linked-clause-kept c = record {
-  own = search rules;
-  queue = search rules;
-  freed = search rules;
-  counted = counts_on _ _ _ (adds_these _ c.try_insert.new.pass.view.log c.answer-in-Linked.new.pass.view.log (ap (λ (s : Stand). s.view.log) c.answer-in-Linked.ensures.took.step)) c.try_insert.ensures.kept.counted;
-}
+returns-in-Linked-clause-kept c = holds_left c.try_insert.new.pass c.answer-in-Linked.new.pass _ (LeaveWith true) tt c.answer-in-Linked.ensures.took c.answer-in-Linked.ensures.hands (c.try_insert.ensures.only.labelled (c.loop-round.invariant.only.labelled c.requires.unchanged.labelled)) c.try_insert.ensures.kept
 
 pub returns-in-Full-clause-kept : goal.returns-in-Full-clause-kept
-returns-in-Full-clause-kept c = record {
-  own = search rules;
-  queue = search rules;
-  freed = search rules;
-  counted = counts_on _ _ _ (adds_these _ c.try_insert.new.pass.view.log c.leave-in-Full.new.pass.view.log (ap (λ (s : Stand). s.view.log) c.leave-in-Full.ensures.took.step)) c.try_insert.ensures.kept.counted;
-}
+returns-in-Full-clause-kept c = holds_left c.try_insert.new.pass c.leave-in-Full.new.pass _ Leave tt c.leave-in-Full.ensures.took c.leave-in-Full.ensures.hands (c.try_insert.ensures.only.labelled (c.loop-round.invariant.only.labelled c.requires.unchanged.labelled)) c.try_insert.ensures.kept
 
 pub returns-clause-kept : goal.returns-clause-kept
-returns-clause-kept c = record {
-  own = search rules;
-  queue = search rules;
-  freed = search rules;
-  counted = (
-      let now = c.loop-round.pass.view.log in
-      let back = c.give_back-2.new.pass.view.log in
-      let new = c.leave-2.new.pass.view.log in
-      counts_on _ now new (adds_then now back new (back_adds c.loop-round.fork now back c.give_back-2.ensures.part) (adds_these _ back new (ap (λ (s : Stand). s.view.log) c.leave-2.ensures.took.step))) c.loop-round.invariant.kept.counted
-      );
-}
+returns-clause-kept c =
+    holds_left c.give_back-2.new.pass c.leave-2.new.pass _ Leave tt c.leave-2.ensures.took c.leave-2.ensures.hands (ap (λ (b : Brief). b.unlabelled) c.give_back-2.ensures.only.epochs ∙ (c.loop-round.invariant.only.labelled c.requires.unchanged.labelled))
+    (holds_on c.loop-round.pass c.give_back-2.new.pass _ c.give_back-2.ensures.on.same c.give_back-2.ensures.only.ledgers (back_adds c.loop-round.fork c.loop-round.pass.view.log c.give_back-2.new.pass.view.log c.give_back-2.ensures.part) c.loop-round.invariant.kept)
