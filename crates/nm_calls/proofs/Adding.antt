@@ -1,7 +1,7 @@
 -- What the parts of a call add to a log: how many won links, flags and splices, and at most how
 -- many entries.
 use Rattle.std.proofs.Common.{◌≡◌, ◌≤◌, ◌<◌, inl, inr, ℕ, zero, suc, ◌+◌, ◌*◌, ◌-◌, Bool, false, cond, List, [], ◌∷◌, ◌++◌, length, refl, ap, ◌∙◌, arith}
-use Rattle.std.specs.Prelude.{filter, Option, Some, None}
+use Rattle.std.specs.Prelude.{filter, min, ◌^◌, Option, Some, None}
 use Rattle.std.proofs.Math.Nat.{suc-mul, mul-add, mul-le-mul_left, mul-le-mul_right}
 use Rattle.std.proofs.lemmas.List.{length-append}
 use Rattle.std.proofs.lemmas.List.Elements.{filter-append}
@@ -29,7 +29,8 @@ use Rattle.nm_calls.specs.Places.{Stops, StopsAt}
 use Rattle.nm_calls.specs.Walks.{Reads, Walks, EndsAtLeaf, IsTooLong, IsBroken, Seeks, Finds}
 use Rattle.nm_calls.specs.Calls.{LostWalks}
 use Rattle.nm_calls.specs.Cleanups.{Chooses, FreezesOne, Freezes, Prepares, CutsOff, CleanupLost, CleanupWon}
-use Rattle.nm_calls.specs.Won.{is_won_splice, won_links, won_flags, won_splices, capped, HasWon}
+use Rattle.nm_calls.specs.Won.{is_won_splice, won_links, won_flags, won_splices, capped, CountsWon, HasWon}
+use Rattle.nm_epoch.specs.declared.collecting.Tally.{Tally}
 
 -- between a log and a later one so many links, flags and splices were won, in at most so many steps
 pub record Adds (l f s n : ℕ) (old new : List Entry) : Type 0 where
@@ -94,9 +95,41 @@ has_won old new a = record { links = a.links; flags = a.flags }
 pub cuts_none : {l f n : ℕ} (old new : List Entry) → Adds l f 0 n old new → won_splices new ≡ won_splices old
 cuts_none old new a = let s = a.splices in omega (arith, s)
 
--- a counter of splices stays right where none was won
-pub counts_on : {l f n : ℕ} (count : ℕ) (old new : List Entry) → Adds l f 0 n old new → count ≡ capped (won_splices old) → count ≡ capped (won_splices new)
-counts_on count old new a is = is ∙ ap capped (let s = a.splices in omega (arith, s))
+-- what is counted stays right where nothing was won
+counted_still : (count was is : ℕ) → is ≡ was + 0 → count ≡ capped was → count ≡ capped is
+counted_still count was is same old = omega (arith, same, old)
+
+pub counts_on : {n : ℕ} (t : Tally) (old new : List Entry) → Adds 0 0 0 n old new → CountsWon old t → CountsWon new t
+counts_on t old new a is = record {
+  links = counted_still t.links (won_links old) (won_links new) a.links is.links;
+  flags = counted_still t.flags (won_flags old) (won_flags new) a.flags is.flags;
+  splices = counted_still t.splices (won_splices old) (won_splices new) a.splices is.splices;
+}
+
+-- and goes up by one where a link, a flag or a splice was won
+counted_more : (count more was is : ℕ) → more ≡ min (count + 1) (2 ^ 64 - 1) → is ≡ was + 1 → count ≡ capped was → more ≡ capped is
+counted_more count more was is sum one old = omega (arith, sum, one, old)
+
+pub link_counts : {n : ℕ} (t : Tally) (more : ℕ) (old new : List Entry) → Adds 1 0 0 n old new → more ≡ min (t.links + 1) (2 ^ 64 - 1) → CountsWon old t → CountsWon new (record t { links = more })
+link_counts t more old new a sum is = record {
+  links = counted_more t.links more (won_links old) (won_links new) sum a.links is.links;
+  flags = counted_still t.flags (won_flags old) (won_flags new) a.flags is.flags;
+  splices = counted_still t.splices (won_splices old) (won_splices new) a.splices is.splices;
+}
+
+pub flag_counts : {n : ℕ} (t : Tally) (more : ℕ) (old new : List Entry) → Adds 0 1 0 n old new → more ≡ min (t.flags + 1) (2 ^ 64 - 1) → CountsWon old t → CountsWon new (record t { flags = more })
+flag_counts t more old new a sum is = record {
+  links = counted_still t.links (won_links old) (won_links new) a.links is.links;
+  flags = counted_more t.flags more (won_flags old) (won_flags new) sum a.flags is.flags;
+  splices = counted_still t.splices (won_splices old) (won_splices new) a.splices is.splices;
+}
+
+pub splice_counts : {n : ℕ} (t : Tally) (more : ℕ) (old new : List Entry) → Adds 0 0 1 n old new → more ≡ min (t.splices + 1) (2 ^ 64 - 1) → CountsWon old t → CountsWon new (record t { splices = more })
+splice_counts t more old new a sum is = record {
+  links = counted_still t.links (won_links old) (won_links new) a.links is.links;
+  flags = counted_still t.flags (won_flags old) (won_flags new) a.flags is.flags;
+  splices = counted_more t.splices more (won_splices old) (won_splices new) sum a.splices is.splices;
+}
 
 -- ---- products
 

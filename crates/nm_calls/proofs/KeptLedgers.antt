@@ -1,23 +1,34 @@
 -- What a call leaves of the ledgers that its worker holds.
-use Rattle.std.proofs.Common.{◌≡◌, ℕ, suc, ◌==◌, List, [], ◌∷◌, map, refl, ap, subst, ◌∙◌}
+use Rattle.std.proofs.Common.{◌≡◌, ℕ, suc, ◌==◌, false, List, [], ◌∷◌, ◌++◌, length, map, refl, sym, ap, subst, ◌∙◌}
 use Rattle.std.specs.Prelude.{Option, Some, None, is_none, option_map, slice_get}
 use Rattle.std.proofs.lemmas.Bool.{cond-false, cond-true, eq-eqb, ne_eqb}
 use Rattle.nm_edge.specs.declared.node.NodeId.{NodeId}
-use Rattle.nm_model.specs.declared.event.Event.TheVariants.{Sight}
+use Rattle.nm_model.specs.declared.event.Event.{Event}
+use Rattle.nm_model.specs.declared.event.Event.TheVariants.{Sight, Leave, LeaveWith}
 use Rattle.nm_model.specs.declared.ledger.Ledger.{Ledger}
 use Rattle.nm_model.specs.declared.ledger.Queued.{Queued}
-use Rattle.nm_model.specs.declared.reply.Reply.TheVariants.{Labelled}
+use Rattle.nm_model.specs.declared.reply.Reply.TheVariants.{Departed, Labelled}
 use Rattle.nm_model.specs.Knowledge.{Knowledge}
 use Rattle.nm_model.specs.Ledgers.{held, queue_of, labelled, with_label, with_cut}
 use Rattle.nm_laws.proofs.Held.{held-label}
 use Rattle.nm_laws.proofs.Learned.{learn_labelled}
 use Rattle.nm_order.proofs.HeldLedgers.{held_ledgers_are_kept}
 use Rattle.nm_steps.specs.Rules.{knowledge}
-use Rattle.nm_steps.specs.Steps.{Stand, Stepped, IsSamePass}
+use Rattle.nm_model.specs.Walks.{Entry}
+use Rattle.nm_limbo.specs.Queue.{BlockQueue}
+use Rattle.nm_steps.specs.Steps.{Stand, Stepped, TakesStep, IsSamePass}
+use Rattle.nm_steps.proofs.Seeing.{same_by_step}
+use Rattle.nm_epoch.specs.declared.collecting.Entry.{Entry as Waiting}
+use Rattle.nm_epoch.specs.declared.collecting.HeldQueue.{HeldQueue}
+use Rattle.nm_epoch.specs.declared.collecting.Tally.{Tally}
+use Rattle.nm_epoch.specs.Collecting.{IsQueueOf}
+use Rattle.nm_epoch.specs.Resting.{KeepsHands, epochs}
 use Rattle.nm_calls.specs.declared.spot.ChainEdge.{ChainEdge}
 use Rattle.nm_calls.specs.declared.spot.Spot.{Spot}
 use Rattle.nm_calls.specs.Telling.{IsInRun}
-use Rattle.nm_calls.specs.Cleanups.{HasCut, KeepsLedgers, freed_of_origin}
+use Rattle.nm_calls.specs.Cleanups.{HasCut, HoldsCuts, KeepsLedgers, freed_of_origin}
+use Rattle.nm_calls.specs.Won.{CountsWon, capped}
+use Rattle.nm_calls.proofs.Adding.{Adds, adds_these, counts_on}
 use Rattle.nm_calls.proofs.Looks.{enough}
 use Rattle.nm_pool.proofs.PrivateSlots.{known_after_step}
 
@@ -36,6 +47,40 @@ ledgers_then o p q same a b =
       others = λ x other. b.others x (λ is. other (is ∙ number)) ∙ a.others x other;
       freed = subst (λ (n : ℕ). freed_of_origin (knowledge q.view) n ≡ freed_of_origin (knowledge p.view) n) number b.freed ∙ a.freed;
     }
+
+-- so does the own queue, with counts that are right
+pub holds_so : (p q : Stand) (h : HeldQueue) (t : Tally) → IsSamePass p q → (knowledge q.view).ledgers ≡ (knowledge p.view).ledgers → CountsWon q.view.log t → t.freed ≡ h.counts.freed → HoldsCuts p h → HoldsCuts q (record h { counts = t })
+holds_so p q h t same ledgers counted freed is =
+    let number : q.view.number ≡ p.view.number = ap (λ (x : Stand). x.view.number) same in
+    let own : held (knowledge q.view).ledgers q.view.number ≡ held (knowledge p.view).ledgers p.view.number = ap (λ (w : ℕ). held (knowledge q.view).ledgers w) number ∙ ap (λ (ls : List (Option Ledger)). held ls p.view.number) ledgers in
+    record {
+      own = is.own ∙ sym number;
+      queue = ap (λ (l : Option Ledger). option_map (λ (x : Ledger). x.queue) l) own ∙ is.queue;
+      counted = counted;
+      freed = ap (λ (l : Option Ledger). option_map (λ (ns : List NodeId). capped (length ns)) (option_map (λ (x : Ledger). x.freed) l)) own ∙ (is.freed ∙ ap (λ (n : ℕ). Some n) (sym freed));
+    }
+
+-- and as it was, where nothing was won
+pub holds_on : {n : ℕ} (p q : Stand) (h : HeldQueue) → IsSamePass p q → (knowledge q.view).ledgers ≡ (knowledge p.view).ledgers → Adds 0 0 0 n p.view.log q.view.log → HoldsCuts p h → HoldsCuts q h
+holds_on p q h same ledgers adds is = holds_so p q h h.counts same ledgers (counts_on h.counts p.view.log q.view.log adds is.counted) refl is
+
+-- and where the pin is left
+abbrev pub IsLeave : Event → Type 0
+IsLeave Leave = Unit {0}
+IsLeave (LeaveWith answer) = Unit {0}
+IsLeave _ = ⊥
+
+left_adds : (e : Event) (old new : List Entry) → IsLeave e → new ≡ old ++ (e, Departed) ∷ [] → Adds 0 0 0 1 old new
+left_adds Leave old new leaves is = adds_these _ old new is
+left_adds (LeaveWith answer) old new leaves is = adds_these _ old new is
+left_adds _ old new leaves is = absurd leaves
+
+pub holds_left : (p q : Stand) (h : HeldQueue) (e : Event) → IsLeave e → TakesStep p q e Departed → KeepsHands p q → (epochs p).unlabelled ≡ false → HoldsCuts p h → HoldsCuts q h
+holds_left p q h e leaves took hands labelled is = holds_on p q h (same_by_step p q e Departed took.step) (hands.ledgers labelled) (left_adds e p.view.log q.view.log leaves (ap (λ (s : Stand). s.view.log) took.step)) is
+
+-- and where there is more room
+pub holds_with_room : (p : Stand) (h : HeldQueue) (r : BlockQueue Waiting) → r.items ≡ h.queue.items → HoldsCuts p h → HoldsCuts p (record h { queue = r })
+holds_with_room p h r same is = record { own = is.own; queue = subst (λ (es : List Waiting). IsQueueOf (knowledge p.view) p.view.number es) (sym same) is.queue; counted = is.counted; freed = is.freed }
 
 -- ---- a cut, and its label
 

@@ -68,6 +68,17 @@ cleans_then o p q same a b = record {
   ledgers = ledgers_then o p q same a.ledgers b.ledgers;
 }
 
+pub injects_then : (o p q : Stand) → IsSamePass o p → OnlyInjects o p → OnlyInjects p q → OnlyInjects o q
+injects_then o p q same a b = record {
+  note = b.note ∙ a.note;
+  pin = b.pin ∙ a.pin;
+  labelled = λ none'. b.labelled (a.labelled none');
+  private = b.private ∙ a.private;
+  call = b.call ∙ a.call;
+  linked = b.linked ∙ a.linked;
+  ledgers = ledgers_then o p q same a.ledgers b.ledgers;
+}
+
 pub removing_on : (p q : Stand) (k : ℕ) (n : NodeId) → IsRemoving p k n → GoesOn p q → OnlyCleans p q → IsRemoving q k n
 removing_on p q k n r on only = record {
   run = on.run;

@@ -1,12 +1,14 @@
 -- No more nodes wait than there are nodes, so there may be room for more.
 use Rattle.std.proofs.Common.{◌≡◌, ◌≤◌, List, length, arith, ap, subst, ◌∙◌}
-use Rattle.nm_edge.specs.Layouts.{Layout, IsLayout}
+use Rattle.nm_edge.specs.Layouts.{Layout}
 use Rattle.nm_order.proofs.HeldSlots.{hands_are_apart}
 use Rattle.nm_steps.specs.Rules.{knowledge}
 use Rattle.nm_steps.specs.Steps.{Board, Stand, IsOf, IsSamePass}
 use Rattle.nm_epoch.specs.Collecting.{IsQueueOf}
 use Rattle.nm_epoch.specs.declared.collecting.Entry.{Entry as Waiting}
 use Rattle.nm_epoch.proofs.FewFreed.{few_waiting}
+use Rattle.nm_epoch.specs.declared.collecting.HeldQueue.{HeldQueue}
+use Rattle.nm_calls.specs.Cleanups.{HoldsCuts}
 use Rattle.nm_calls.specs.Telling.{IsInRun}
 use Rattle.nm_calls.proofs.Looks.{enough}
 
@@ -23,14 +25,8 @@ may_grow_more p es run queue =
     let most = run.fits.most in
     omega (arith, few, most)
 
--- it does not outgrow the table
-pub few_in_table : (b : Board) (o p : Stand) (es : List Waiting) → IsOf b o → IsSamePass o p → IsInRun p → IsQueueOf (knowledge p.view) p.view.number es → length es ≤ b.layout.nodes
-few_in_table b o p es own same run queue =
+-- the own queue does not outgrow the table
+pub few_in_table : (b : Board) (o p : Stand) (h : HeldQueue) → IsOf b o → IsSamePass o p → IsInRun p → HoldsCuts p h → length h.queue.items ≤ b.layout.nodes
+few_in_table b o p h own same run kept =
     let layout : p.view.layout ≡ b.layout = ap (λ (s : Stand). s.view.layout) same ∙ own.layout in
-    subst (λ (L : Layout). length es ≤ L.nodes) layout (few_of_nodes p es run queue)
-
-pub may_grow_first : (b : Board) (p : Stand) (es : List Waiting) → IsOf b p → IsLayout p.view.layout → length es ≤ b.layout.nodes → length es ≤ 536870912
-may_grow_first b p es own fits few =
-    let nodes = ap (λ (L : Layout). L.nodes) own.layout in
-    let most = fits.most in
-    omega (arith, nodes, few, most)
+    subst (λ (L : Layout). length h.queue.items ≤ L.nodes) layout (few_of_nodes p h.queue.items run kept.queue)

@@ -16,12 +16,12 @@ use Rattle.nm_steps.specs.Rules.{knowledge}
 use Rattle.nm_steps.specs.Steps.{Stand}
 use Rattle.nm_epoch.specs.Collecting.{IsQueueOf, labelled_so}
 use Rattle.nm_epoch.specs.declared.collecting.Entry.{Entry as Waiting}
-use Rattle.nm_limbo.specs.Queue.{BlockQueue}
+use Rattle.nm_epoch.specs.declared.collecting.HeldQueue.{HeldQueue}
 use Rattle.nm_calls.specs.declared.cutting.Kept.{Kept}
 use Rattle.nm_calls.specs.declared.spot.ChainEdge.{ChainEdge}
 use Rattle.nm_calls.specs.declared.spot.Spot.{Spot}
 use Rattle.nm_calls.specs.Telling.{Tells, OnlyLooks}
-use Rattle.nm_calls.specs.Won.{won_splices, capped}
+use Rattle.nm_calls.specs.Won.{CountsWon, capped}
 
 -- both edges of the parent were looked at, first the one on the walk's side
 abbrev pub after_both : Spot → List Entry → Edge → Edge → List Entry
@@ -98,13 +98,6 @@ abbrev pub CleanupWon : Spot → List ChainEdge → List NodeId → ℕ → List
 CleanupWon s c ns epoch old new =
     (mid : List Entry) × CutsOff s c ns old mid × (new ≡ mid ++ (Sight, Labelled epoch) ∷ [])
 
--- ---- what a worker keeps of its cuts
-
--- the queue is the one of what its splices cut off, and the count is that of its won splices
-pub record HoldsCuts (p : Stand) (q : BlockQueue Waiting) (splices : ℕ) : Type 0 where
-  pub queue : IsQueueOf (knowledge p.view) p.view.number q.items
-  pub counted : splices ≡ capped (won_splices p.view.log)
-
 -- ---- what a won splice leaves of the pass, and a whole cleanup
 
 -- the node, a slot with its birth, is one of these
@@ -135,6 +128,15 @@ pub record HasCutNothing (s : Spot) (c : List ChainEdge) (p q : Stand) : Type 0 
 -- 5.2.3; by origin ours)
 abbrev pub freed_of_origin : Knowledge → ℕ → Option (List NodeId)
 freed_of_origin k o = option_map (λ (l : Ledger). l.freed) (held k.ledgers o)
+
+-- a worker's own queue: it is the one of what its splices cut off, and counts what the worker has
+-- won by its log, and what was freed
+pub record HoldsCuts (p : Stand) (h : HeldQueue) : Type 0 where
+  pub own : h.origin ≡ p.view.number
+  pub queue : IsQueueOf (knowledge p.view) p.view.number h.queue.items
+  pub counted : CountsWon p.view.log h.counts
+  pub freed : option_map (λ (ns : List NodeId). capped (length ns))
+      (freed_of_origin (knowledge p.view) p.view.number) ≡ Some h.counts.freed
 
 -- each ledger of another origin is as it was, and nothing was freed of the own one (Fraser, section
 -- 5.2.3; by origin ours)

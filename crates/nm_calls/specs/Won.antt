@@ -1,10 +1,12 @@
 -- How often a worker has won an exchange, by its log.
-use Rattle.std.specs.Prelude.{◌≡◌, ℕ, ◌+◌, min, Bool, true, false, List, length, filter, Result, Ok, Err}
+use Rattle.std.specs.Prelude.{◌≡◌, ℕ, ◌+◌, Bool, true, false, List, length, filter, Result, Ok, Err}
 use Rattle.nm_model.specs.declared.event.Event.TheVariants.{Splice}
 use Rattle.nm_model.specs.declared.reply.Reply.TheVariants.{Cut}
 use Rattle.nm_model.specs.Walks.{Entry}
 use Rattle.nm_order.specs.Exchanges.{is_won_link}
 use Rattle.nm_order.specs.WalksToArrivals.{is_won_flag}
+use Rattle.nm_epoch.specs.declared.collecting.Tally.{Tally}
+pub use Rattle.nm_epoch.specs.Collecting.{capped}
 use Rattle.nm_calls.specs.declared.deleting.Missed.{Missed}
 use Rattle.nm_calls.specs.declared.deleting.Missed.TheVariants as missed
 use Rattle.nm_calls.specs.declared.inserting.Fault.{Fault}
@@ -26,9 +28,11 @@ won_flags log = length (filter is_won_flag log)
 abbrev pub won_splices : List Entry → ℕ
 won_splices log = length (filter is_won_splice log)
 
--- a number as a counter of 64 bits holds it, which stays where it is the greatest
-abbrev pub capped : ℕ → ℕ
-capped n = min n 18446744073709551615
+-- what is counted of links, flags and splices is what a log has won
+pub record CountsWon (log : List Entry) (t : Tally) : Type 0 where
+  pub links : t.links ≡ capped (won_links log)
+  pub flags : t.flags ≡ capped (won_flags log)
+  pub splices : t.splices ≡ capped (won_splices log)
 
 -- ---- in what a call adds to a log
 

@@ -14,7 +14,7 @@ use crate::marking::{splice, tag};
 use crate::spot::{ChainEdge, Spot};
 use crate::workspace::{CutNodes, Workspace};
 use nm_edge::NodeId;
-use nm_epoch::Entry;
+use nm_epoch::{Entry, HeldQueue};
 use nm_limbo::BlockQueue;
 use nm_steps::{Pass, Shared};
 
@@ -73,23 +73,23 @@ pub fn cleanup(
     shared: &Shared,
     pass: &mut Pass,
     workspace: &mut Workspace,
-    queue: &mut BlockQueue<Entry>,
+    held: &mut HeldQueue,
     spot: &Spot,
 ) -> bool
     requires pinned { IsPinnedIn shared.now pass.old }
     requires at { IsAt (Tells pass.old) spot.now workspace.old.chain.items }
     requires few { length workspace.old.chain.items < chain_bound }
-    requires room { cut_bound ≤ queue.old.spare }
-    requires kept { HoldsCuts pass.old queue.old workspace.old.splices }
+    requires room { cut_bound ≤ held.old.queue.spare }
+    requires kept { HoldsCuts pass.old held.old }
     ensures won { result ≡ true
-        → HasCleaned spot.now workspace.old.chain.items pass.old pass.new queue.old.items
-        queue.new.items }
+        → HasCleaned spot.now workspace.old.chain.items pass.old pass.new held.old.queue.items
+        held.new.queue.items }
     ensures lost { result ≡ false
         → HasCutNothing spot.now workspace.old.chain.items pass.old pass.new }
-    ensures untouched { result ≡ false → queue.new ≡ queue.old }
+    ensures untouched { result ≡ false → held.new ≡ held.old }
     ensures chain { workspace.new.chain ≡ workspace.old.chain }
-    ensures kept { HoldsCuts pass.new queue.new workspace.new.splices }
-    ensures fills { FillsUp queue.old queue.new }
+    ensures kept { HoldsCuts pass.new held.new }
+    ensures fills { FillsUp held.old.queue held.new.queue }
     ensures fit { workspace.new.placement ≡ workspace.old.placement }
     ensures on { GoesOn pass.old pass.new }
     ensures only { OnlyCleans pass.old pass.new }
@@ -106,7 +106,7 @@ pub fn cleanup(
         return false;
     }
     let epoch = label(shared, pass);
-    push_labelled(queue, workspace.nodes.as_slice(), epoch);
-    workspace.splices = workspace.splices.saturating_add(1);
+    push_labelled(&mut held.queue, workspace.nodes.as_slice(), epoch);
+    held.counts.splices = held.counts.splices.saturating_add(1);
     true
 }

@@ -24,8 +24,7 @@ use crate::spot::End;
 use crate::walking::seek;
 use crate::workspace::Workspace;
 use nm_edge::{Edge, Key, NodeId};
-use nm_epoch::{Entry, pin_for};
-use nm_limbo::BlockQueue;
+use nm_epoch::{HeldQueue, pin_for};
 use nm_model::Op;
 use nm_steps::{Pass, Shared};
 
@@ -106,13 +105,13 @@ fn try_remove(
     shared: &Shared,
     pass: &mut Pass,
     workspace: &mut Workspace,
-    queue: &mut BlockQueue<Entry>,
+    held: &mut HeldQueue,
     pending: &Unfinished,
 ) -> bool
     requires own { IsOf shared.now pass.old }
     requires removing { IsRemoving pass.old pending.now.key pending.now.leaf }
-    requires room { cut_bound ≤ queue.old.spare }
-    requires kept { HoldsCuts pass.old queue.old workspace.old.splices }
+    requires room { cut_bound ≤ held.old.queue.spare }
+    requires kept { HoldsCuts pass.old held.old }
     ensures removed { result ≡ true
         → Removes shared.now.layout pending.now.key pending.now.leaf pass.old.view.log
         pass.new.view.log }
@@ -122,8 +121,8 @@ fn try_remove(
         pass.old.view.log pass.new.view.log }
     ensures on { GoesOn pass.old pass.new }
     ensures only { OnlyCleans pass.old pass.new }
-    ensures kept { HoldsCuts pass.new queue.new workspace.new.splices }
-    ensures fills { FillsUp queue.old queue.new }
+    ensures kept { HoldsCuts pass.new held.new }
+    ensures fills { FillsUp held.old.queue held.new.queue }
     ensures fit { workspace.new.placement ≡ workspace.old.placement }
 {
     let key = pending.key.get();
@@ -133,7 +132,7 @@ fn try_remove(
     if !leads_to(&end, pending.leaf.slot) {
         return true;
     }
-    cleanup(shared, pass, workspace, queue, &end.spot)
+    cleanup(shared, pass, workspace, held, &end.spot)
 }
 
 /// Up to so many tries to remove the leaf that the call has flagged.
@@ -141,28 +140,28 @@ fn remove(
     shared: &Shared,
     pass: &mut Pass,
     workspace: &mut Workspace,
-    queue: &mut BlockQueue<Entry>,
+    held: &mut HeldQueue,
     pending: &Unfinished,
     tries: u32,
 ) -> Removal
     requires own { IsOf shared.now pass.old }
     requires removing { IsRemoving pass.old pending.now.key pending.now.leaf }
-    requires kept { HoldsCuts pass.old queue.old workspace.old.splices }
+    requires kept { HoldsCuts pass.old held.old }
     ensures part { IsRemoval shared.now.layout pending.now.key pending.now.leaf tries
         pass.old.view.log pass.new.view.log result }
-    ensures refused { result ≡ Removal.Refused → queue.new.spare < cut_bound }
+    ensures refused { result ≡ Removal.Refused → held.new.queue.spare < cut_bound }
     ensures shows { IfRemoved result (ShowsAnswer pass.new Delete pending.now.key true) }
     ensures on { GoesOn pass.old pass.new }
     ensures only { OnlyCleans pass.old pass.new }
-    ensures kept { HoldsCuts pass.new queue.new workspace.new.splices }
-    ensures blocks { TakesRoom queue.old queue.new }
+    ensures kept { HoldsCuts pass.new held.new }
+    ensures blocks { TakesRoom held.old.queue held.new.queue }
     ensures fit { workspace.new.placement ≡ workspace.old.placement }
 {
     for _round in 0..tries {
-        if !make_room(queue) {
+        if !make_room(&mut held.queue) {
             return Removal::Refused;
         }
-        if try_remove(shared, pass, workspace, queue, pending) {
+        if try_remove(shared, pass, workspace, held, pending) {
             return Removal::Removed;
         }
     }
@@ -194,21 +193,21 @@ fn try_flag(
     shared: &Shared,
     pass: &mut Pass,
     workspace: &mut Workspace,
-    queue: &mut BlockQueue<Entry>,
+    held: &mut HeldQueue,
     key: Key,
 ) -> Injected
     requires pinned { IsPinnedIn shared.now pass.old }
     requires call { IsPinnedForCall Delete key pass.old }
     requires unflagged { (search pass.old).flagged ≡ None }
-    requires room { cut_bound ≤ queue.old.spare }
-    requires kept { HoldsCuts pass.old queue.old workspace.old.splices }
+    requires room { cut_bound ≤ held.old.queue.spare }
+    requires kept { HoldsCuts pass.old held.old }
     ensures part { IsFlagTry shared.now.layout key workspace.new.chain.items pass.old.view.log
         pass.new.view.log result }
     ensures shows { ShowsFlag key workspace.new.chain.items pass.old pass.new result }
     ensures on { GoesOn pass.old pass.new }
     ensures only { OnlyInjects pass.old pass.new }
-    ensures kept { HoldsCuts pass.new queue.new workspace.new.splices }
-    ensures fills { FillsUp queue.old queue.new }
+    ensures kept { HoldsCuts pass.new held.new }
+    ensures fills { FillsUp held.old.queue held.new.queue }
     ensures fit { workspace.new.placement ≡ workspace.old.placement }
 {
     let sought = key.get();
@@ -219,9 +218,12 @@ fn try_flag(
         return Injected::Absent;
     }
     match flag_at(shared, pass, sought, &end) {
-        Ok(birth) => Injected::Flagged(end, birth),
+        Ok(birth) => {
+            held.counts.flags = held.counts.flags.saturating_add(1);
+            Injected::Flagged(end, birth)
+        }
         Err(found) => {
-            help(shared, pass, workspace, queue, &end, found);
+            help(shared, pass, workspace, held, &end, found);
             Injected::Lost
         }
     }
@@ -232,30 +234,30 @@ fn inject(
     shared: &Shared,
     pass: &mut Pass,
     workspace: &mut Workspace,
-    queue: &mut BlockQueue<Entry>,
+    held: &mut HeldQueue,
     key: Key,
     tries: u32,
 ) -> Injection
     requires pinned { IsPinnedIn shared.now pass.old }
     requires call { IsPinnedForCall Delete key pass.old }
     requires unflagged { (search pass.old).flagged ≡ None }
-    requires room { cut_bound ≤ queue.old.spare }
-    requires kept { HoldsCuts pass.old queue.old workspace.old.splices }
+    requires room { cut_bound ≤ held.old.queue.spare }
+    requires kept { HoldsCuts pass.old held.old }
     ensures part { IsInjection shared.now.layout key tries workspace.new.chain.items
         pass.old.view.log pass.new.view.log result }
-    ensures refused { result ≡ Injection.Refused → queue.new.spare < cut_bound }
+    ensures refused { result ≡ Injection.Refused → held.new.queue.spare < cut_bound }
     ensures shows { ShowsInjection key workspace.new.chain.items pass.new result }
     ensures on { GoesOn pass.old pass.new }
     ensures only { OnlyInjects pass.old pass.new }
-    ensures kept { HoldsCuts pass.new queue.new workspace.new.splices }
-    ensures blocks { TakesRoom queue.old queue.new }
+    ensures kept { HoldsCuts pass.new held.new }
+    ensures blocks { TakesRoom held.old.queue held.new.queue }
     ensures fit { workspace.new.placement ≡ workspace.old.placement }
 {
     for round in 0..tries {
-        if !make_room_for(queue, round) {
+        if !make_room_for(&mut held.queue, round) {
             return Injection::Refused;
         }
-        match try_flag(shared, pass, workspace, queue, key) {
+        match try_flag(shared, pass, workspace, held, key) {
             Injected::Absent => return Injection::Absent,
             Injected::Flagged(end, birth) => {
                 let left = tries - round - 1;
@@ -273,7 +275,7 @@ fn remove_after(
     shared: &Shared,
     pass: &mut Pass,
     workspace: &mut Workspace,
-    queue: &mut BlockQueue<Entry>,
+    held: &mut HeldQueue,
     key: Key,
     flagged: &FlaggedLeaf,
 ) -> Removal
@@ -283,29 +285,29 @@ fn remove_after(
         flagged.now.end.spot.side flagged.now.end.spot.edge.slot) }
     requires at { IsAt (Tells pass.old) flagged.now.end.spot workspace.old.chain.items }
     requires few { length workspace.old.chain.items < chain_bound }
-    requires kept { HoldsCuts pass.old queue.old workspace.old.splices }
+    requires kept { HoldsCuts pass.old held.old }
     ensures part { RemovalAfter shared.now.layout key flagged.now
         workspace.old.chain.items pass.old.view.log pass.new.view.log result }
-    ensures refused { result ≡ Removal.Refused → queue.new.spare < cut_bound }
+    ensures refused { result ≡ Removal.Refused → held.new.queue.spare < cut_bound }
     ensures shows { IfRemoved result (ShowsAnswer pass.new Delete key true) }
     ensures on { GoesOn pass.old pass.new }
     ensures only { OnlyCleans pass.old pass.new }
-    ensures kept { HoldsCuts pass.new queue.new workspace.new.splices }
-    ensures blocks { TakesRoom queue.old queue.new }
+    ensures kept { HoldsCuts pass.new held.new }
+    ensures blocks { TakesRoom held.old.queue held.new.queue }
     ensures fit { workspace.new.placement ≡ workspace.old.placement }
 {
     if flagged.left == 0 {
         return Removal::Spent;
     }
-    if !make_room(queue) {
+    if !make_room(&mut held.queue) {
         return Removal::Refused;
     }
-    if cleanup(shared, pass, workspace, queue, &flagged.end.spot) {
+    if cleanup(shared, pass, workspace, held, &flagged.end.spot) {
         return Removal::Removed;
     }
     let leaf = leaf_at(flagged);
     let pending = Unfinished { key, leaf };
-    remove(shared, pass, workspace, queue, &pending, flagged.left - 1)
+    remove(shared, pass, workspace, held, &pending, flagged.left - 1)
 }
 
 /// The flagged leaf, a slot with its birth.
@@ -324,31 +326,31 @@ fn delete_pinned(
     shared: &Shared,
     pass: &mut Pass,
     workspace: &mut Workspace,
-    queue: &mut BlockQueue<Entry>,
+    held: &mut HeldQueue,
     key: Key,
     tries: u32,
 ) -> Result<bool, Missed>
     requires pinned { IsPinnedIn shared.now pass.old }
     requires call { IsPinnedForCall Delete key pass.old }
     requires unchanged { HasChangedNothing pass.old }
-    requires room { cut_bound ≤ queue.old.spare }
-    requires kept { HoldsCuts pass.old queue.old workspace.old.splices }
+    requires room { cut_bound ≤ held.old.queue.spare }
+    requires kept { HoldsCuts pass.old held.old }
     ensures on { Continues pass.old pass.new }
     ensures part { DeleteFinishes shared.now.layout tries key pass.old.view.log
         pass.new.view.log result }
     ensures refused { IfErr result
         (LacksRoomOr (λ n. FlagsThen shared.now.layout tries key n pass.old.view.log
-        pass.new.view.log Removal.Spent) queue.new.spare) }
+        pass.new.view.log Removal.Spent) held.new.queue.spare) }
     ensures moment { (o : Stand) → HadNoCall o pass.old
         → IfOk result (AnswerHasMoment o pass.new Delete key) }
     ensures stands { RestsOrRemoves key pass.new result }
     ensures private { (knowledge pass.new.view).drafts ≡ (knowledge pass.old.view).drafts }
-    ensures kept { HoldsCuts pass.new queue.new workspace.new.splices }
-    ensures blocks { TakesRoom queue.old queue.new }
+    ensures kept { HoldsCuts pass.new held.new }
+    ensures blocks { TakesRoom held.old.queue held.new.queue }
     ensures ledgers { KeepsLedgers pass.old pass.new }
     ensures fit { workspace.new.placement ≡ workspace.old.placement }
 {
-    match inject(shared, pass, workspace, queue, key, tries) {
+    match inject(shared, pass, workspace, held, key, tries) {
         Injection::Absent => {
             answer(shared, pass, false);
             Ok(false)
@@ -363,7 +365,7 @@ fn delete_pinned(
         }
         Injection::Flagged(flagged) => {
             let leaf = leaf_at(&flagged);
-            match remove_after(shared, pass, workspace, queue, key, &flagged) {
+            match remove_after(shared, pass, workspace, held, key, &flagged) {
                 Removal::Removed => {
                     answer(shared, pass, true);
                     Ok(true)
@@ -388,34 +390,33 @@ pub fn delete(
     shared: &Shared,
     pass: &mut Pass,
     workspace: &mut Workspace,
-    queue: &mut BlockQueue<Entry>,
+    held: &mut HeldQueue,
     key: Key,
     tries: u32,
 ) -> Result<bool, Missed>
     requires own { IsOf shared.now pass.old }
     requires rests { IsResting pass.old }
-    requires kept { HoldsCuts pass.old queue.old workspace.old.splices }
-    requires few { length queue.old.items ≤ shared.now.layout.nodes }
+    requires kept { HoldsCuts pass.old held.old }
     ensures after { AfterDelete shared.now.layout tries key pass.old pass.new result }
     ensures refused { IfErr result
         (LacksRoomOr (LosesAfterFlag shared.now.layout tries key pass.old.view.log
-        pass.new.view.log) queue.new.spare) }
-    ensures kept { HoldsCuts pass.new queue.new workspace.new.splices }
-    ensures blocks { TakesRoom queue.old queue.new }
-    ensures few { length queue.new.items ≤ shared.now.layout.nodes }
+        pass.new.view.log) held.new.queue.spare) }
+    ensures kept { HoldsCuts pass.new held.new }
+    ensures blocks { TakesRoom held.old.queue held.new.queue }
+    ensures few { length held.new.queue.items ≤ shared.now.layout.nodes }
     ensures fit { workspace.new.placement ≡ workspace.old.placement }
 {
+    pass.is_of_a_run();
     if tries == 0 {
         return Err(Missed::Busy);
     }
-    pass.is_of_a_run();
-    if !make_room(queue) {
+    if !make_room(&mut held.queue) {
         return Err(Missed::NoMemory);
     }
     let Ok(_epoch) = pin_for(shared, pass, tries, Op::Delete, key) else {
         return Err(Missed::Busy);
     };
-    delete_pinned(shared, pass, workspace, queue, key, tries)
+    delete_pinned(shared, pass, workspace, held, key, tries)
 }
 
 /// Goes on to remove the leaf that the worker has flagged: whether it is cut off, and the worker
@@ -426,25 +427,25 @@ pub fn finish(
     shared: &Shared,
     pass: &mut Pass,
     workspace: &mut Workspace,
-    queue: &mut BlockQueue<Entry>,
+    held: &mut HeldQueue,
     pending: &Unfinished,
     tries: u32,
 ) -> bool
     requires own { IsOf shared.now pass.old }
     requires removing { IsRemoving pass.old pending.now.key pending.now.leaf }
-    requires kept { HoldsCuts pass.old queue.old workspace.old.splices }
+    requires kept { HoldsCuts pass.old held.old }
     ensures after { AfterFinish shared.now.layout pending.now.key pending.now.leaf tries
         pass.old pass.new result }
     ensures refused { result ≡ false
-        → (queue.new.spare < cut_bound)
+        → (held.new.queue.spare < cut_bound)
         ⊎ LosesEachTry shared.now.layout pending.now.key pending.now.leaf tries
         pass.old.view.log pass.new.view.log }
-    ensures kept { HoldsCuts pass.new queue.new workspace.new.splices }
-    ensures blocks { TakesRoom queue.old queue.new }
-    ensures few { length queue.new.items ≤ shared.now.layout.nodes }
+    ensures kept { HoldsCuts pass.new held.new }
+    ensures blocks { TakesRoom held.old.queue held.new.queue }
+    ensures few { length held.new.queue.items ≤ shared.now.layout.nodes }
     ensures fit { workspace.new.placement ≡ workspace.old.placement }
 {
-    match remove(shared, pass, workspace, queue, pending, tries) {
+    match remove(shared, pass, workspace, held, pending, tries) {
         Removal::Removed => {
             answer(shared, pass, true);
             true

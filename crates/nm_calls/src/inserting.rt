@@ -24,7 +24,7 @@ use crate::spot::{Chain, End, is_marked};
 use crate::walking::{place, seek};
 use crate::workspace::{CUT_BOUND, Workspace};
 use nm_edge::{Edge, Key};
-use nm_epoch::{Entry, pin_for};
+use nm_epoch::{Entry, HeldQueue, pin_for};
 use nm_limbo::BlockQueue;
 use nm_model::Op;
 use nm_pool::Placement;
@@ -92,26 +92,26 @@ pub(crate) fn help(
     shared: &Shared,
     pass: &mut Pass,
     workspace: &mut Workspace,
-    queue: &mut BlockQueue<Entry>,
+    held: &mut HeldQueue,
     end: &End,
     found: Edge,
 )
     requires pinned { IsPinnedIn shared.now pass.old }
     requires at { IsAt (Tells pass.old) end.now.spot workspace.old.chain.items }
     requires few { length workspace.old.chain.items < chain_bound }
-    requires room { cut_bound ≤ queue.old.spare }
-    requires kept { HoldsCuts pass.old queue.old workspace.old.splices }
+    requires room { cut_bound ≤ held.old.queue.spare }
+    requires kept { HoldsCuts pass.old held.old }
     ensures part { Helps end.now workspace.old.chain.items found pass.old.view.log
         pass.new.view.log }
     ensures chain { workspace.new.chain ≡ workspace.old.chain }
     ensures on { GoesOn pass.old pass.new }
     ensures only { OnlyCleans pass.old pass.new }
-    ensures kept { HoldsCuts pass.new queue.new workspace.new.splices }
-    ensures fills { FillsUp queue.old queue.new }
+    ensures kept { HoldsCuts pass.new held.new }
+    ensures fills { FillsUp held.old.queue held.new.queue }
     ensures fit { workspace.new.placement ≡ workspace.old.placement }
 {
     if asks_help(end, found) {
-        let _ = cleanup(shared, pass, workspace, queue, &end.spot);
+        let _ = cleanup(shared, pass, workspace, held, &end.spot);
     }
 }
 
@@ -144,15 +144,15 @@ fn try_insert(
     shared: &Shared,
     pass: &mut Pass,
     workspace: &mut Workspace,
-    queue: &mut BlockQueue<Entry>,
+    held: &mut HeldQueue,
     key: u64,
     fork: &mut Option<Fork>,
 ) -> Attempt
     requires pinned { IsPinnedIn shared.now pass.old }
     requires call { IsPinnedForCall Insert key pass.old }
     requires unlinked { (search pass.old).linked ≡ false }
-    requires room { cut_bound ≤ queue.old.spare }
-    requires kept { HoldsCuts pass.old queue.old workspace.old.splices }
+    requires room { cut_bound ≤ held.old.queue.spare }
+    requires kept { HoldsCuts pass.old held.old }
     requires fork { (o : Stand) × HasFork o pass.old fork.old }
     ensures part { IsTry workspace.old.placement shared.now.layout key fork.old fork.new
         pass.old.view.log pass.new.view.log result }
@@ -160,8 +160,8 @@ fn try_insert(
     ensures only { OnlyTries pass.old pass.new }
     ensures shows { ShowsTry key pass.old pass.new result }
     ensures has { (o : Stand) → HasFork o pass.old fork.old → HasFork o pass.new fork.new }
-    ensures kept { HoldsCuts pass.new queue.new workspace.new.splices }
-    ensures fills { FillsUp queue.old queue.new }
+    ensures kept { HoldsCuts pass.new held.new }
+    ensures fills { FillsUp held.old.queue held.new.queue }
     ensures fit { workspace.new.placement ≡ workspace.old.placement }
 {
     let Some(end) = stop(shared, pass, key, &mut workspace.chain) else {
@@ -176,10 +176,11 @@ fn try_insert(
     match grow(shared, pass, key, &end, &made) {
         Ok(()) => {
             *fork = None;
+            held.counts.links = held.counts.links.saturating_add(1);
             Attempt::Linked
         }
         Err(found) => {
-            help(shared, pass, workspace, queue, &end, found);
+            help(shared, pass, workspace, held, &end, found);
             Attempt::Lost
         }
     }
@@ -217,36 +218,36 @@ fn insert_pinned(
     shared: &Shared,
     pass: &mut Pass,
     workspace: &mut Workspace,
-    queue: &mut BlockQueue<Entry>,
+    held: &mut HeldQueue,
     key: u64,
     tries: u32,
 ) -> Result<bool, Fault>
     requires pinned { IsPinnedIn shared.now pass.old }
     requires call { IsPinnedForCall Insert key pass.old }
     requires unchanged { HasChangedNothing pass.old }
-    requires room { cut_bound ≤ queue.old.spare }
-    requires kept { HoldsCuts pass.old queue.old workspace.old.splices }
+    requires room { cut_bound ≤ held.old.queue.spare }
+    requires kept { HoldsCuts pass.old held.old }
     ensures on { Continues pass.old pass.new }
     ensures part { Finishes workspace.old.placement shared.now.layout tries key
         pass.old.view.log pass.new.view.log result }
-    ensures refused { IsErrOf result Fault.NoMemory → queue.new.spare < cut_bound }
+    ensures refused { IsErrOf result Fault.NoMemory → held.new.queue.spare < cut_bound }
     ensures moment { (o : Stand) → HadNoCall o pass.old
         → IfOk result (AnswerHasMoment o pass.new Insert key) }
     ensures rests { IsResting pass.new }
     ensures private { HasFork pass.old pass.new None }
-    ensures kept { HoldsCuts pass.new queue.new workspace.new.splices }
-    ensures blocks { TakesRoom queue.old queue.new }
+    ensures kept { HoldsCuts pass.new held.new }
+    ensures blocks { TakesRoom held.old.queue held.new.queue }
     ensures ledgers { KeepsLedgers pass.old pass.new }
     ensures fit { workspace.new.placement ≡ workspace.old.placement }
 {
     let mut fork: Option<Fork> = None;
     for round in 0..tries {
-        if !make_room_for(queue, round) {
+        if !make_room_for(&mut held.queue, round) {
             give_back(shared, pass, &mut workspace.placement, &fork);
             leave(shared, pass);
             return Err(Fault::NoMemory);
         }
-        match try_insert(shared, pass, workspace, queue, key, &mut fork) {
+        match try_insert(shared, pass, workspace, held, key, &mut fork) {
             Attempt::Found => {
                 give_back(shared, pass, &mut workspace.placement, &fork);
                 answer(shared, pass, false);
@@ -283,31 +284,30 @@ pub fn insert(
     shared: &Shared,
     pass: &mut Pass,
     workspace: &mut Workspace,
-    queue: &mut BlockQueue<Entry>,
+    held: &mut HeldQueue,
     key: Key,
     tries: u32,
 ) -> Result<bool, Fault>
     requires own { IsOf shared.now pass.old }
     requires rests { IsResting pass.old }
-    requires kept { HoldsCuts pass.old queue.old workspace.old.splices }
-    requires few { length queue.old.items ≤ shared.now.layout.nodes }
+    requires kept { HoldsCuts pass.old held.old }
     ensures after { AfterInsert workspace.old.placement shared.now.layout tries key pass.old
         pass.new result }
-    ensures refused { IsErrOf result Fault.NoMemory → queue.new.spare < cut_bound }
-    ensures kept { HoldsCuts pass.new queue.new workspace.new.splices }
-    ensures few { length queue.new.items ≤ shared.now.layout.nodes }
-    ensures blocks { TakesRoom queue.old queue.new }
+    ensures refused { IsErrOf result Fault.NoMemory → held.new.queue.spare < cut_bound }
+    ensures kept { HoldsCuts pass.new held.new }
+    ensures few { length held.new.queue.items ≤ shared.now.layout.nodes }
+    ensures blocks { TakesRoom held.old.queue held.new.queue }
     ensures fit { workspace.new.placement ≡ workspace.old.placement }
 {
+    pass.is_of_a_run();
     if tries == 0 {
         return Err(Fault::Busy);
     }
-    pass.is_of_a_run();
-    if !make_room(queue) {
+    if !make_room(&mut held.queue) {
         return Err(Fault::NoMemory);
     }
     let Ok(_epoch) = pin_for(shared, pass, tries, Op::Insert, key) else {
         return Err(Fault::Busy);
     };
-    insert_pinned(shared, pass, workspace, queue, key.get(), tries)
+    insert_pinned(shared, pass, workspace, held, key.get(), tries)
 }

@@ -13,9 +13,8 @@ pub const CUT_BOUND: usize = 128;
 /// The nodes that a splice cuts off.
 pub type CutNodes = ArrayVec<NodeId, CUT_BOUND>;
 
-/// What a worker's calls work with, beside its pass: where it looks for free slots; the room of its
-/// walks and cleanups, which is made once, since filling it costs more than a walk; and the count
-/// of its won splices, which stays where it is at 2^64 - 1.
+/// What a worker's calls work with, beside its pass: where it looks for free slots, and the room of
+/// its walks and cleanups, which is made once, since filling it costs more than a walk.
 ///
 /// `insert`, `delete` and `finish` look at neither the chain nor the nodes that stand there before;
 /// `cleanup` takes the chain of the walk from it.
@@ -27,21 +26,17 @@ pub struct Workspace {
     pub chain: Chain,
     /// The nodes that the last cleanup was to cut off.
     pub nodes: CutNodes,
-    /// The splices that the worker has won.
-    pub splices: u64,
 }
 
 impl Workspace {
-    /// That of a worker that has won no splice, and looks for free slots there.
+    /// That of a worker that looks for free slots there.
     pub fn new(placement: Placement) -> Self
         ensures fit { result.placement ≡ placement }
-        ensures splices { result.splices ≡ 0 }
     {
         Workspace {
             placement,
             chain: Chain::new(),
             nodes: CutNodes::new(),
-            splices: 0,
         }
     }
 }

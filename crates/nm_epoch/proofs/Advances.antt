@@ -10,13 +10,15 @@ use Rattle.nm_model.specs.Learning.{learn}
 use Rattle.nm_model.specs.Searches.{searched}
 use Rattle.nm_model.specs.Walks.{Entry}
 use Rattle.nm_steps.specs.Rules.{knowledge}
-use Rattle.nm_steps.specs.Steps.{Stand, Stepped, IsAdvanceFrom, advance_reply, noted, IsSamePass}
+use Rattle.nm_steps.specs.Steps.{Stand, Stepped, Continues, TakesStep, IsAdvanceFrom, advance_reply, noted, IsSamePass}
+use Rattle.nm_steps.proofs.Seeing.{continues_then, continues_by}
 use Rattle.nm_epoch.specs.declared.answers.Advance.TheVariants.{Moved, Held, Lost}
-use Rattle.nm_epoch.specs.Resting.{Settles, KeepsHands, epochs}
+use Rattle.nm_epoch.specs.Reading.{Reads}
+use Rattle.nm_epoch.specs.Resting.{Settles, KeepsHands, GoesOnSettled, epochs}
 use Rattle.nm_epoch.specs.Scans.{LooksAt, SightThenScans, IsAdvance, IsLooking, lets_pass}
 use Rattle.nm_epoch.proofs.Entries.{epochs_after, search_is}
-use Rattle.nm_epoch.proofs.KeptHands.{is_label, hands_kept, kept_on}
-use Rattle.nm_epoch.proofs.Scanning.{look_epochs}
+use Rattle.nm_epoch.proofs.KeptHands.{is_label, hands_kept, kept_on, look_keeps}
+use Rattle.nm_epoch.proofs.Scanning.{look_epochs, settles_on}
 use Rattle.nm_pool.proofs.PrivateSlots.{known_after_step}
 
 -- ---- the last step
@@ -41,7 +43,7 @@ module _ (p q : Stand) (r : Result ℕ ℕ) (step : Stepped p q event.Advance (a
   pin_stays : (epochs q).pin ≡ (epochs p).pin
   pin_stays = ap (λ (b : Brief). b.pin) after.1
 
-  pub settles_advance : (o : Stand) → Settles o p → Settles o q
+  settles_advance : (o : Stand) → Settles o p → Settles o q
   unfolding searched
   settles_advance o s = record {
     labelled = ap (λ (b : Brief). b.unlabelled) after.1 ∙ s.labelled;
@@ -53,7 +55,7 @@ module _ (p q : Stand) (r : Result ℕ ℕ) (step : Stepped p q event.Advance (a
     };
   }
 
-  pub advance_keeps : (o : Stand) → KeepsHands o p → KeepsHands o q
+  advance_keeps : (o : Stand) → KeepsHands o p → KeepsHands o q
   advance_keeps o h = kept_on o p q h (hands_kept p q event.Advance (advance_reply r) step refl (λ _. advance_is_silent r))
 
   all_scanned : (me e m n : ℕ) (old : List Entry) → n ≡ m → IsLooking me e n old p → SightThenScans me (epochs q).pin e m old p.view.log
@@ -83,3 +85,22 @@ is_held p q at me e m v found old same look is other below h =
       λ same_epoch. eqb-false e at (subst (λ (o : Option ℕ). lets_pass o e ≡ false) is other) (sym same_epoch),
       subst (λ (o : Option ℕ). LooksAt me o v (Some at) p.view.log q.view.log) pin (subst (λ (o : Option ℕ). LooksAt me (epochs p).pin v o p.view.log q.view.log) is look),
     )
+
+-- ---- what a look and a move leave
+
+pub read_goes_on : (e : ℕ) (p q : Stand) → Reads e p q → GoesOnSettled p q
+read_goes_on e p q reads = record { on = reads.on; settles = reads.settles; hands = reads.hands }
+
+pub look_goes_on : (me v : ℕ) (found : Option ℕ) (o p q : Stand) → GoesOnSettled o p → Continues p q → LooksAt me (epochs p).pin v found p.view.log q.view.log → GoesOnSettled o q
+look_goes_on me v found o p q was on look = record {
+  on = continues_then o p q was.on on;
+  settles = settles_on me v (epochs p).pin found p q on.same look o was.settles;
+  hands = kept_on o p q was.hands (look_keeps me v (epochs p).pin found p q on.same look);
+}
+
+pub advance_goes_on : (o p q : Stand) (r : Result ℕ ℕ) → GoesOnSettled o p → TakesStep p q event.Advance (advance_reply r) → GoesOnSettled o q
+advance_goes_on o p q r was took = record {
+  on = continues_then o p q was.on (continues_by p q event.Advance (advance_reply r) took);
+  settles = settles_advance p q r took.step o was.settles;
+  hands = advance_keeps p q r took.step o was.hands;
+}

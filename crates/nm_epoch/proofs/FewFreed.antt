@@ -17,7 +17,7 @@ use Rattle.nm_model.specs.Walks.{Entry as LogEntry}
 use Rattle.nm_order.specs.Hands.{WaitsAt, AreApart, IsPooled}
 use Rattle.nm_epoch.specs.declared.collecting.Entry.{Entry}
 use Rattle.nm_epoch.specs.declared.collecting.HeldQueue.{HeldQueue}
-use Rattle.nm_epoch.specs.Collecting.{AreHeld, IsQueueOf, IsCollection, NoneHas, queued, freeing, is_ripe, ripe_part, ripe_of}
+use Rattle.nm_epoch.specs.Collecting.{AreHeld, IsQueueOf, IsCollection, NoneHas, blank, queued, freeing, is_ripe, ripe_part, ripe_of}
 use Rattle.nm_epoch.proofs.Fronts.{shown_queue}
 use Rattle.nm_epoch.proofs.Steps.{one_longer}
 use Rattle.nm_pool.proofs.Steps.{longer_by}
@@ -129,7 +129,7 @@ module _ (L : Layout) (k : Knowledge) (apart : AreApart L k) where
 pub few_waiting : (L : Layout) (k : Knowledge) (o : ℕ) (es : List Entry) → AreApart L k → 1 ≤ L.nodes → IsQueueOf k o es → length es + 1 ≤ L.nodes
 unfolding all_slots
 few_waiting L k o es apart some has =
-    let few : length (slots es ++ []) + 1 ≤ L.nodes = few_slots L k apart (record { origin = o; queue = block_queue es 0 0 } ∷ []) some (has, tt, tt) in
+    let few : length (slots es ++ []) + 1 ≤ L.nodes = few_slots L k apart (record { origin = o; queue = block_queue es 0 0; counts = blank } ∷ []) some (has, tt, tt) in
     let sum = length-append (slots es) [] in
     let same = length-map es (λ (e : Entry). e.node.slot) in
     omega (arith, few, sum, same)
@@ -154,11 +154,14 @@ all_ripe_few epoch (h ∷ hs) =
     let same = length-map h.queue.items (λ (e : Entry). e.node.slot) in
     omega (arith, here, later, sum, total, same)
 
+-- fewer are ripe than there are slots
+pub few_ripe : (L : Layout) (k : Knowledge) (epoch : ℕ) (hs : List HeldQueue) → AreApart L k → 1 ≤ L.nodes → AreHeld k hs → length (ripe_of epoch hs) + 1 ≤ L.nodes
+few_ripe L k epoch hs apart some has = let few = few_slots L k apart hs some has in let ripe = all_ripe_few epoch hs in omega (arith, few, ripe)
+
 pub collect_steps : (L : Layout) (k : Knowledge) (epoch : ℕ) (hs : List HeldQueue) (old new : List LogEntry) → AreApart L k → AreHeld k hs → 1 ≤ L.nodes → IsCollection epoch hs old new → length new ≤ length old + L.nodes
 collect_steps L k epoch hs old new apart has some is =
-    let few = few_slots L k apart hs some has in
-    let ripe = all_ripe_few epoch hs in
+    let few = few_ripe L k epoch hs apart some has in
     let first = one_longer old is.0 _ is.1.2 in
     let rest = longer_by is.0 new (map freeing (ripe_of epoch hs)) is.2 in
     let freed = length-map (ripe_of epoch hs) freeing in
-    omega (arith, few, ripe, first, rest, freed)
+    omega (arith, few, first, rest, freed)

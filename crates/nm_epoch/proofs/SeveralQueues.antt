@@ -1,14 +1,18 @@
 -- How collecting goes on from one held queue to those behind it.
-use Rattle.std.proofs.Common.{◌≡◌, ◌≢◌, ℕ, List, [], ◌∷◌, ◌++◌, map, sym, ap, ◌∙◌}
+use Rattle.std.proofs.Common.{◌≡◌, ◌≢◌, ℕ, ◌+◌, List, [], ◌∷◌, ◌++◌, map, sym, ap, ◌∙◌, arith}
 use Rattle.std.specs.Prelude.{Option, option_map}
-use Rattle.std.proofs.lemmas.List.{append_assoc, map-append}
+use Rattle.std.proofs.lemmas.List.{append_assoc, length-append, map-append}
 use Rattle.nm_model.specs.declared.ledger.Ledger.{Ledger}
 use Rattle.nm_model.specs.Knowledge.{Knowledge}
 use Rattle.nm_model.specs.Ledgers.{held}
 use Rattle.nm_model.specs.Walks.{Entry as LogEntry}
+use Rattle.nm_steps.specs.Rules.{knowledge}
+use Rattle.nm_steps.specs.Steps.{Stand}
+use Rattle.nm_steps.proofs.Seeing.{continues_then}
 use Rattle.nm_epoch.specs.declared.collecting.Entry.{Entry}
 use Rattle.nm_epoch.specs.declared.collecting.HeldQueue.{HeldQueue}
-use Rattle.nm_epoch.specs.Collecting.{IsQueueOf, AreHeld, NoneHas, HaveLost, freeing}
+use Rattle.nm_epoch.specs.Collecting.{IsQueueOf, AreHeld, NoneHas, HaveLost, FreesFront, FreesFronts, ripe_part, ripe_of, freeing}
+use Rattle.nm_epoch.proofs.OneQueue.{frees_then}
 
 -- the ledgers of all origins but some stay
 abbrev pub StaysBut : (ℕ → Type 0) → Knowledge → Knowledge → Type 0
@@ -26,7 +30,7 @@ none_still : (epoch o : ℕ) (hs gs : List HeldQueue) → HaveLost epoch hs gs �
 none_still epoch o [] [] lost none' = tt
 none_still epoch o [] (g ∷ gs) lost none' = absurd lost
 none_still epoch o (h ∷ hs) [] lost none' = absurd lost
-none_still epoch o (h ∷ hs) (g ∷ gs) lost none' = (λ e. none'.0 (e ∙ lost.0), none_still epoch o hs gs lost.2 none'.1)
+none_still epoch o (h ∷ hs) (g ∷ gs) lost none' = (λ e. none'.0 (e ∙ lost.0.origin), none_still epoch o hs gs lost.1 none'.1)
 
 -- the first queue and then the others: all are held in the end
 pub held_all : (epoch : ℕ) (k l : Knowledge) (o : ℕ) (g : HeldQueue) (hs gs : List HeldQueue) → g.origin ≡ o → IsQueueOf k g.origin g.queue.items → NoneHas o hs → HaveLost epoch hs gs → StaysBut (λ j. NoneHas j hs) k l → AreHeld l gs
@@ -42,3 +46,20 @@ others_on k l m h hs first rest o none' = rest o none'.1 ∙ first o none'.0
 
 pub entries_on : (old mid new : List LogEntry) (es fs : List Entry) → mid ≡ old ++ map freeing es → new ≡ mid ++ map freeing fs → new ≡ old ++ map freeing (es ++ fs)
 entries_on old mid new es fs first rest = rest ∙ (ap (λ (log : List LogEntry). log ++ map freeing fs) first ∙ (append_assoc old (map freeing es) (map freeing fs) ∙ ap (λ (log : List LogEntry). old ++ log) (sym (map-append freeing es fs))))
+
+-- the first one and then the others
+pub fronts_freed : (epoch : ℕ) (p q r : Stand) (h g : HeldQueue) (hs gs : List HeldQueue) (m n : ℕ) → AreHeld (knowledge p.view) (h ∷ hs) → FreesFront epoch p q h g m → FreesFronts epoch q r hs gs n → FreesFronts epoch p r (h ∷ hs) (g ∷ gs) (m + n)
+fronts_freed epoch p q r h g hs gs m n has first rest =
+    let sum = length-append (ripe_part epoch h.queue.items) (ripe_of epoch hs) in
+    let one = first.freed in
+    let more = rest.freed in
+    record {
+      on = continues_then p q r first.on rest.on;
+      entries = entries_on p.view.log q.view.log r.view.log (ripe_part epoch h.queue.items) (ripe_of epoch hs) first.entries rest.entries;
+      freed = omega (arith, sum, one, more);
+      lost = (first.lost, rest.lost);
+      blocks = (first.blocks, rest.blocks);
+      queues = held_all epoch (knowledge q.view) (knowledge r.view) h.origin g hs gs first.lost.origin first.queue has.1 rest.lost rest.others rest.queues;
+      others = others_on (knowledge p.view) (knowledge q.view) (knowledge r.view) h hs first.others rest.others;
+      only = frees_then p q r first.only rest.only;
+    }

@@ -1,5 +1,5 @@
 -- The nodes that wait, and what collecting frees of them.
-use Rattle.std.specs.Prelude.{◌≡◌, ◌≢◌, ◌⊎◌, ℕ, ◌+◌, ◌*◌, ◌<◌, ◌≤◌, nat_le, Bool, List, [], ◌∷◌, ◌++◌, map, drop, length, Option, Some, None, option_map, if◌then◌else◌}
+use Rattle.std.specs.Prelude.{◌≡◌, ◌≢◌, ◌⊎◌, ℕ, ◌+◌, ◌*◌, ◌<◌, ◌≤◌, nat_le, min, Bool, List, [], ◌∷◌, ◌++◌, map, drop, length, Option, Some, None, option_map, if◌then◌else◌}
 use Rattle.std.specs.List.{take_while, prefix_len}
 use Rattle.nm_edge.specs.declared.node.NodeId.{NodeId}
 use Rattle.nm_model.specs.declared.event.Event.TheVariants.{Give}
@@ -10,9 +10,15 @@ use Rattle.nm_model.specs.Knowledge.{Knowledge}
 use Rattle.nm_model.specs.Ledgers.{held, label, unlabelled}
 use Rattle.nm_model.specs.Walks.{Entry as LogEntry}
 use Rattle.nm_limbo.specs.Queue.{BlockQueue}
+use Rattle.nm_order.specs.Reads.{HasRead}
+use Rattle.nm_steps.specs.Rules.{knowledge}
+use Rattle.nm_steps.specs.Steps.{Stand, Continues}
+use Rattle.nm_epoch.specs.Resting.{Settles, epochs, search}
 use Rattle.nm_epoch.specs.Scans.{IsSightOf}
+use Rattle.nm_epoch.specs.declared.collecting.Collected.{Collected}
 use Rattle.nm_epoch.specs.declared.collecting.Entry.{Entry}
 use Rattle.nm_epoch.specs.declared.collecting.HeldQueue.{HeldQueue}
+use Rattle.nm_epoch.specs.declared.collecting.Tally.{Tally}
 
 -- an entry with its label, as a ledger has it
 abbrev pub queued : Entry → Queued
@@ -60,6 +66,26 @@ rest_of epoch es = drop (prefix_len (is_ripe epoch) es) es
 abbrev pub freeing : Entry → LogEntry
 freeing e = (Give e.node.slot, Freed e.node)
 
+-- ---- what is counted beside a queue
+
+-- a number as a counter of 64 bits holds it, which stays where it is the greatest
+abbrev pub capped : ℕ → ℕ
+capped n = min n 18446744073709551615
+
+-- nothing is counted yet
+abbrev pub blank : Tally
+blank = record { links = 0; flags = 0; splices = 0; freed = 0 }
+
+-- so many more were freed
+abbrev pub freed_more : ℕ → Tally → Tally
+freed_more n t = record t { freed = capped (t.freed + n) }
+
+-- a queue has lost what was ripe at its front, and as many more are counted as freed
+pub record HasLost (epoch : ℕ) (h g : HeldQueue) : Type 0 where
+  pub origin : g.origin ≡ h.origin
+  pub items : g.queue.items ≡ rest_of epoch h.queue.items
+  pub counts : g.counts ≡ freed_more (length (ripe_part epoch h.queue.items)) h.counts
+
 -- ---- several queues
 
 -- none of these is of that origin
@@ -78,11 +104,10 @@ abbrev pub ripe_of : ℕ → List HeldQueue → List Entry
 ripe_of epoch [] = []
 ripe_of epoch (h ∷ hs) = ripe_part epoch h.queue.items ++ ripe_of epoch hs
 
--- each queue has lost what was ripe at its front
+-- so each of these
 abbrev pub HaveLost : ℕ → List HeldQueue → List HeldQueue → Type 0
 HaveLost epoch [] [] = Unit {0}
-HaveLost epoch (h ∷ hs) (g ∷ gs) =
-    (g.origin ≡ h.origin) × (g.queue.items ≡ rest_of epoch h.queue.items) × HaveLost epoch hs gs
+HaveLost epoch (h ∷ hs) (g ∷ gs) = HasLost epoch h g × HaveLost epoch hs gs
 HaveLost epoch _ _ = ⊥
 
 -- how many places for more nodes a queue keeps, where it has them: room for a try, and for what is
@@ -133,3 +158,55 @@ KeepsRetired k l = (o : ℕ) → retired_of l o ≡ retired_of k o
 abbrev pub IsCollection : ℕ → List HeldQueue → List LogEntry → List LogEntry → Type 0
 IsCollection epoch hs old new =
     (mid : List LogEntry) × IsSightOf epoch old mid × (new ≡ mid ++ map freeing (ripe_of epoch hs))
+
+-- ---- what a collection leaves
+
+-- nodes were freed, and nothing else: nothing was retired, and epochs, the call, what is known of
+-- nodes and private slots are as they were
+pub record OnlyFrees (p q : Stand) : Type 0 where
+  pub retired : KeepsRetired (knowledge p.view) (knowledge q.view)
+  pub epochs_are : epochs q ≡ epochs p
+  pub search_is : search q ≡ search p
+  pub nodes : (knowledge q.view).known ≡ (knowledge p.view).known
+  pub private : (knowledge q.view).drafts ≡ (knowledge p.view).drafts
+
+-- n nodes at the front of one queue were freed, which are all that is ripe there
+pub record FreesFront (epoch : ℕ) (p q : Stand) (h g : HeldQueue) (n : ℕ) : Type 0 where
+  pub on : Continues p q
+  pub entries : q.view.log ≡ p.view.log ++ map freeing (ripe_part epoch h.queue.items)
+  pub freed : n ≡ length (ripe_part epoch h.queue.items)
+  pub lost : HasLost epoch h g
+  pub blocks : IsTrimmed h.queue g.queue
+  pub queue : IsQueueOf (knowledge q.view) g.origin g.queue.items
+  pub others : (o : ℕ) → o ≢ h.origin
+      → held (knowledge q.view).ledgers o ≡ held (knowledge p.view).ledgers o
+  pub only : OnlyFrees p q
+
+-- n nodes at the fronts of these queues were freed, which are all that is ripe there
+pub record FreesFronts (epoch : ℕ) (p q : Stand) (hs gs : List HeldQueue) (n : ℕ) : Type 0 where
+  pub on : Continues p q
+  pub entries : q.view.log ≡ p.view.log ++ map freeing (ripe_of epoch hs)
+  pub freed : n ≡ length (ripe_of epoch hs)
+  pub lost : HaveLost epoch hs gs
+  pub blocks : AreTrimmed hs gs
+  pub queues : AreHeld (knowledge q.view) gs
+  pub others : (o : ℕ) → NoneHas o hs
+      → held (knowledge q.view).ledgers o ≡ held (knowledge p.view).ledgers o
+  pub only : OnlyFrees p q
+
+-- the epoch was read, and what was ripe at the fronts of these queues freed, in a tree of so many
+-- nodes
+pub record Collects (nodes : ℕ) (p q : Stand) (hs gs : List HeldQueue) (r : Collected) : Type 0 where
+  pub on : Continues p q
+  pub part : IsCollection r.epoch hs p.view.log q.view.log
+  pub freed : r.freed ≡ length (ripe_of r.epoch hs)
+  pub lost : HaveLost r.epoch hs gs
+  pub blocks : AreTrimmed hs gs
+  pub queues : AreHeld (knowledge q.view) gs
+  pub others : KeepsOtherLedgers r.epoch hs (knowledge p.view) (knowledge q.view)
+  pub retired : KeepsRetired (knowledge p.view) (knowledge q.view)
+  pub steps : length q.view.log ≤ length p.view.log + nodes
+  pub newest : (epoch : ℕ) → HasRead p.view.log epoch → epoch ≤ r.epoch
+  pub seen : (epochs q).seen ≡ Some r.epoch
+  pub settles : Settles p q
+  pub private : (knowledge q.view).drafts ≡ (knowledge p.view).drafts

@@ -3,3 +3,4 @@ pub mod Tries
 pub mod Scans
 pub mod Watches
 pub mod Collecting
+pub mod Reading

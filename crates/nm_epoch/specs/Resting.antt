@@ -6,7 +6,7 @@ use Rattle.nm_model.specs.Learning.{rooted}
 use Rattle.nm_model.specs.Searches.{Search, idle}
 use Rattle.nm_model.specs.Walks.{search_after}
 use Rattle.nm_steps.specs.Rules.{knowledge}
-use Rattle.nm_steps.specs.Steps.{Stand}
+use Rattle.nm_steps.specs.Steps.{Stand, Continues}
 
 -- a worker's epochs
 abbrev pub epochs : Stand → Brief
@@ -86,6 +86,12 @@ pub record KeepsHands (p q : Stand) : Type 0 where
   pub labelled : (epochs p).unlabelled ≡ false → (epochs q).unlabelled ≡ false
   pub ledgers : (epochs p).unlabelled ≡ false
       → (knowledge q.view).ledgers ≡ (knowledge p.view).ledgers
+
+-- it goes on, settled and with what is in its hands, behind looks at the epoch and at the others
+pub record GoesOnSettled (p q : Stand) : Type 0 where
+  pub on : Continues p q
+  pub settles : Settles p q
+  pub hands : KeepsHands p q
 
 -- by worker, whether it was scanned at the epoch last read
 abbrev pub marks : Stand → List Bool

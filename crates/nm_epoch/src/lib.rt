@@ -14,7 +14,7 @@ mod pinning;
 mod watching;
 
 pub use answers::{Advance, Behind, Moved};
-pub use collecting::{Collected, Entry, HeldQueue, collect};
+pub use collecting::{Collected, Entry, HeldQueue, Tally, collect};
 pub use leaving::{label, unpin, unpin_with};
 pub use moving::advance;
 pub use pinning::{pin, pin_for};

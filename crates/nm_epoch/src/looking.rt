@@ -1,11 +1,9 @@
 //! Reading the epoch, and what each worker announces.
-ghost use Rattle.std.specs.Prelude.{◌≡◌, ◌<◌, ◌≤◌, Some, IsSome, MatchOption, true, false};
-ghost use Rattle.nm_model.specs.Step.{last_number};
-ghost use Rattle.nm_steps.specs.Steps.{IsInRun, IsOf, sight_reply, Continues};
-ghost use Rattle.nm_epoch.specs.Resting.{Settles, KeepsHands, epochs};
-ghost use Rattle.nm_steps.specs.Rules.{knowledge};
-ghost use Rattle.nm_epoch.specs.Collecting.{ledgers_seen};
-ghost use Rattle.nm_epoch.specs.Scans.{IsSightOf, LooksAt, lets_pass};
+ghost use Rattle.std.specs.Prelude.{◌≡◌, ◌<◌, Some, IsSome, MatchOption, true, false};
+ghost use Rattle.nm_steps.specs.Steps.{IsOf, sight_reply, Continues};
+ghost use Rattle.nm_epoch.specs.Reading.{Reads};
+ghost use Rattle.nm_epoch.specs.Resting.{epochs};
+ghost use Rattle.nm_epoch.specs.Scans.{LooksAt, lets_pass};
 ghost use Rattle.nm_order.specs.Reads.{sight_epoch};
 
 use nm_steps::{Pass, Shared, Sighted};
@@ -25,14 +23,7 @@ fn epoch_of(sighted: Sighted) -> u64
 /// Reads the epoch. Where a cut waits for its label, this is the label.
 pub(crate) fn read(shared: &Shared, pass: &mut Pass) -> u64
     requires { IsOf shared.now pass.old }
-    ensures on { Continues pass.old pass.new }
-    ensures step { IsSightOf result pass.old.view.log pass.new.view.log }
-    ensures seen { (epochs pass.new).seen ≡ Some result }
-    ensures small { result ≤ last_number }
-    ensures ledgers { (knowledge pass.new.view).ledgers
-        ≡ ledgers_seen result (knowledge pass.old.view) }
-    ensures settles { Settles pass.old pass.new }
-    ensures hands { KeepsHands pass.old pass.new }
+    ensures { Reads result pass.old pass.new }
 {
     epoch_of(shared.sight(pass))
 }
@@ -43,11 +34,11 @@ pub(crate) fn look(shared: &Shared, pass: &mut Pass, me: u32, worker: u32) -> Op
     requires me { me ≡ pass.old.view.number }
     requires there { worker < shared.now.layout.workers }
     requires seen { IsSome (epochs pass.old).seen }
-    requires run { IsInRun pass.old }
     ensures on { Continues pass.old pass.new }
     ensures found { LooksAt me (epochs pass.old).pin worker result pass.old.view.log
         pass.new.view.log }
 {
+    pass.is_of_a_run();
     if worker == me {
         pass.pinned()
     } else {

@@ -1,7 +1,7 @@
 //! Moving the epoch on.
 ghost use Rattle.std.specs.Prelude.{◌≡◌, ◌+◌, ◌≤◌, ◌<◌, length};
-ghost use Rattle.nm_steps.specs.Steps.{IsOf, Continues};
-ghost use Rattle.nm_epoch.specs.Resting.{Settles, KeepsHands, epochs};
+ghost use Rattle.nm_steps.specs.Steps.{IsOf};
+ghost use Rattle.nm_epoch.specs.Resting.{GoesOnSettled, epochs};
 ghost use Rattle.nm_epoch.specs.Scans.{IsAdvance};
 
 use crate::answers::Advance;
@@ -22,11 +22,9 @@ use nm_steps::{Pass, Shared};
 /// goes on once every worker that is pinned has been seen at it.)
 pub fn advance(shared: &Shared, pass: &mut Pass) -> Advance
     requires { IsOf shared.now pass.old }
-    ensures on { Continues pass.old pass.new }
+    ensures after { GoesOnSettled pass.old pass.new }
     ensures part { IsAdvance shared.now.layout.workers pass.old.view.number (epochs pass.new).pin
         pass.old.view.log pass.new.view.log result }
-    ensures settles { Settles pass.old pass.new }
-    ensures hands { KeepsHands pass.old pass.new }
     ensures steps { length pass.new.view.log
         ≤ length pass.old.view.log + (shared.now.layout.workers + 1) }
 {
@@ -39,11 +37,9 @@ fn move_on(shared: &Shared, pass: &mut Pass, me: u32) -> Advance
     requires own { IsOf shared.now pass.old }
     requires me { me ≡ pass.old.view.number }
     requires there { me < shared.now.layout.workers }
-    ensures on { Continues pass.old pass.new }
+    ensures after { GoesOnSettled pass.old pass.new }
     ensures part { IsAdvance shared.now.layout.workers me (epochs pass.new).pin pass.old.view.log
         pass.new.view.log result }
-    ensures settles { Settles pass.old pass.new }
-    ensures hands { KeepsHands pass.old pass.new }
 {
     let epoch = read(shared, pass);
     let workers = shared.layout().workers();

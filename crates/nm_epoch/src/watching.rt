@@ -1,7 +1,7 @@
 //! Which workers hold the epoch back.
 ghost use Rattle.std.specs.Prelude.{◌+◌, ◌≤◌, length};
-ghost use Rattle.nm_steps.specs.Steps.{IsOf, Continues};
-ghost use Rattle.nm_epoch.specs.Resting.{Settles, KeepsHands, epochs};
+ghost use Rattle.nm_steps.specs.Steps.{IsOf};
+ghost use Rattle.nm_epoch.specs.Resting.{GoesOnSettled, epochs};
 ghost use Rattle.nm_epoch.specs.Watches.{IsBehind};
 
 use crate::answers::Behind;
@@ -16,11 +16,9 @@ use nm_steps::{Pass, Shared};
 /// holds back all reclamation). Where a cut waits for its label, the first step labels it.
 pub fn behind(shared: &Shared, pass: &mut Pass) -> Behind
     requires { IsOf shared.now pass.old }
-    ensures on { Continues pass.old pass.new }
+    ensures after { GoesOnSettled pass.old pass.new }
     ensures part { IsBehind shared.now.layout.workers pass.old.view.number (epochs pass.new).pin
         pass.old.view.log pass.new.view.log result }
-    ensures settles { Settles pass.old pass.new }
-    ensures hands { KeepsHands pass.old pass.new }
     ensures steps { length pass.new.view.log
         ≤ length pass.old.view.log + shared.now.layout.workers }
 {

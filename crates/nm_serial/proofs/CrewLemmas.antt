@@ -38,7 +38,7 @@ pub lost_many : (epoch : ℕ) (hs gs : List HeldQueue) → HaveLost epoch hs gs 
 lost_many epoch [] [] lost = refl
 lost_many epoch [] (g ∷ gs) lost = absurd lost
 lost_many epoch (h ∷ hs) [] lost = absurd lost
-lost_many epoch (h ∷ hs) (g ∷ gs) lost = ap suc (lost_many epoch hs gs lost.2)
+lost_many epoch (h ∷ hs) (g ∷ gs) lost = ap suc (lost_many epoch hs gs lost.1)
 
 -- an heir stands for those of both
 pub merged_many : (queues hs gs : List HeldQueue) → queues ≡ merged hs gs → length queues ≡ length hs + length gs

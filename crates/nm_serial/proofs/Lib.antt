@@ -5,4 +5,3 @@ pub mod WorkerLemmas
 pub mod CallLemmas
 pub mod EndingLemmas
 pub mod CrewLemmas
-pub mod ReportLemmas

@@ -166,8 +166,7 @@ fn text_of<R: Threads + Wait + Sync, G: Gate>(
     let Ok(workers) = workers_of(alloc, played) else {
         return Err(RunFault::NoMemory);
     };
-    let origins = script.header.layout.workers();
-    put_end(alloc, &mut out, tree, workers, origins)?;
+    put_end(&mut out, tree, workers)?;
     Ok(out)
 }
 

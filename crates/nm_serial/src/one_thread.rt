@@ -164,13 +164,7 @@ fn text_of(alloc: Global, script: &Script<'_>) -> Result<Vec<u8>, RunFault>
     let Ok(()) = put_lines(&mut out, script.body, answers.as_slice()) else {
         return Err(RunFault::NoMemory);
     };
-    put_end(
-        alloc,
-        &mut out,
-        tree,
-        workers,
-        script.header.layout.workers(),
-    )?;
+    put_end(&mut out, tree, workers)?;
     Ok(out)
 }
 

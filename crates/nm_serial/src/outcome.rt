@@ -1,11 +1,11 @@
 //! The end of a script: the tree is closed, and the last lines tell what is left.
-ghost use Rattle.std.specs.Prelude.{◌≡◌, ◌≤◌, ◌<◌, ◌^◌, ◌++◌, ℕ, All, length, slice_index_or, IfOk, OnOk, IfErr};
+ghost use Rattle.std.specs.Prelude.{◌≡◌, ◌<◌, ◌^◌, ◌++◌, All, length, IfOk, OnOk, IfErr};
 ghost use Rattle.nm_print.specs.LastLines.{keys_line};
 ghost use Rattle.nm_steps.specs.Steps.{IsOf};
 ghost use Rattle.nm_pool.specs.declared.placement.Fit.TheVariants.{Lowest};
 ghost use Rattle.nm_tree.specs.Closing.{given_in};
 ghost use Rattle.nm_tree.specs.Workers.{AreNew, HaveFit, waiting_in};
-ghost use Rattle.nm_serial.specs.Endings.{IsCountedByHolder, IsEnding, worker_lines, ending_lines};
+ghost use Rattle.nm_serial.specs.Endings.{IsEnding, worker_lines, ending_lines};
 
 use crate::closed_lines::{put_closed_places, put_worker};
 use nm_epoch::HeldQueue;
@@ -30,41 +30,6 @@ pub(crate) fn open(alloc: Global, header: &Header) -> Result<(Tree, Vec<Worker>)
     }
 }
 
-/// What is counted of an origin, by the worker that holds its queue; nothing where none of these
-/// does.
-fn counts_of(workers: &[Worker], origin: u32) -> Counts
-    ensures { IsCountedByHolder origin workers.now result }
-{
-    let Some((first, rest)) = workers.split_first() else {
-        return Counts {
-            links: 0,
-            flags: 0,
-            splices: 0,
-            retired: 0,
-            freed: 0,
-            queued: 0,
-        };
-    };
-    match first.ledger_of(origin) {
-        Some(counts) => counts,
-        None => counts_of(rest, origin),
-    }
-}
-
-/// The same of each origin in the order of their numbers.
-fn all_counts(alloc: Global, workers: &[Worker], origins: u32) -> Result<Vec<Counts>, AllocError>
-    ensures all { IfOk result (λ v. length v.items ≡ origins) }
-    ensures each { IfOk result
-        (λ v. (o : ℕ) (c : _) → o < origins
-        → IsCountedByHolder o workers.now (slice_index_or v.items o c)) }
-{
-    let mut all = Vec::new(alloc);
-    for origin in 0..origins {
-        all.push(counts_of(workers, origin))?;
-    }
-    Ok(all)
-}
-
 /// How many nodes wait in these queues.
 fn queued_in(queues: &[HeldQueue]) -> u64
     requires { waiting_in queues.now < 2 ^ 64 }
@@ -79,58 +44,44 @@ fn queued_in(queues: &[HeldQueue]) -> u64
 
 /// Appends a line of each queue's worker, by what is counted of it, and takes all out of the
 /// queues.
-fn put_workers(
-    out: &mut Vec<u8>,
-    counts: &[Counts],
-    queues: &mut [HeldQueue],
-) -> Result<(), AllocError>
-    ensures { OnOk result (out.new.items ≡ out.old.items ++ worker_lines counts.now queues.old) }
+fn put_workers(out: &mut Vec<u8>, queues: &mut [HeldQueue]) -> Result<(), AllocError>
+    ensures { OnOk result (out.new.items ≡ out.old.items ++ worker_lines queues.old) }
 {
-    let (Some((count, more)), Some((held, rest))) = (counts.split_first(), queues.split_first_mut())
-    else {
+    let Some((held, rest)) = queues.split_first_mut() else {
         return Ok(());
     };
+    let counts = Counts::of(held);
     put_worker(
         out,
         held.origin,
-        count.retired,
-        count.freed,
+        counts.retired,
+        counts.freed,
         &mut held.queue,
     )?;
-    put_workers(out, more, rest)
+    put_workers(out, rest)
 }
 
 /// Appends the last lines: a line of each worker, the keys, and how many slots stand where.
-fn put_report(out: &mut Vec<u8>, counts: &[Counts], report: &mut Report) -> Result<(), AllocError>
+fn put_report(out: &mut Vec<u8>, report: &mut Report) -> Result<(), AllocError>
     requires few { waiting_in report.old.queues.items < 2 ^ 64 }
     ensures { OnOk result (out.new.items
-        ≡ out.old.items ++ ending_lines counts.now report.old.queues.items report.old.keys.items
+        ≡ out.old.items ++ ending_lines report.old.queues.items report.old.keys.items
         report.old.free report.old.reached) }
 {
     let queued = queued_in(report.queues.as_slice());
-    put_workers(out, counts, report.queues.as_mut_slice())?;
+    put_workers(out, report.queues.as_mut_slice())?;
     put_keys_line(out, report.keys.as_slice())?;
     put_closed_places(out, report.free, report.reached, queued)
 }
 
 /// Closes the tree of these workers, which stand for all that it has, and appends the last lines.
-pub(crate) fn put_end(
-    alloc: Global,
-    out: &mut Vec<u8>,
-    tree: Tree,
-    workers: Vec<Worker>,
-    origins: u32,
-) -> Result<(), RunFault>
+pub(crate) fn put_end(out: &mut Vec<u8>, tree: Tree, workers: Vec<Worker>) -> Result<(), RunFault>
     requires own { All (λ w. IsOf tree w.pass) workers.items }
     requires whole { given_in workers.items ≡ tree.layout.workers }
-    requires origins { origins ≡ tree.layout.workers }
     ensures text { OnOk result
         ((text : _) × IsEnding tree workers.items text × (out.new.items ≡ out.old.items ++ text)) }
     ensures err { IfErr result (λ e. e ≡ RunFault.NoMemory) }
 {
-    let Ok(counts) = all_counts(alloc, workers.as_slice(), origins) else {
-        return Err(RunFault::NoMemory);
-    };
     let mut report = match tree.close(workers) {
         Ok(report) => report,
         Err(
@@ -146,7 +97,7 @@ pub(crate) fn put_end(
             },
         ) => unreachable!(),
     };
-    match put_report(out, counts.as_slice(), &mut report) {
+    match put_report(out, &mut report) {
         Ok(()) => Ok(()),
         Err(_) => Err(RunFault::NoMemory),
     }

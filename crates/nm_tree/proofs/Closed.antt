@@ -14,14 +14,13 @@ use Rattle.nm_report.specs.Ended.{IsEndOf, end_of}
 use Rattle.nm_report.proofs.Ends.{layout_is}
 use Rattle.nm_steps.specs.declared.view.View.{View}
 use Rattle.nm_steps.specs.Rules.{Extends, IsShown, LogsAre, joined, knowledge, stands, once_below}
-use Rattle.nm_steps.specs.Steps.{Board, Stand, IsOf, Ends, HasJoined, HasSeen, HasSeenAllOf}
+use Rattle.nm_steps.specs.Steps.{Board, Stand, IsOf, IsInRun, Ends, HasJoined, HasSeen, HasSeenAllOf}
 use Rattle.nm_steps.proofs.Growing.{goes_on_itself, goes_on_from_nothing, goes_on_through}
 use Rattle.nm_steps.proofs.Keeping.{live, once_is}
 use Rattle.nm_steps.proofs.Cutting.{times}
 use Rattle.nm_epoch.specs.declared.collecting.HeldQueue.{HeldQueue}
 use Rattle.nm_epoch.specs.Collecting.{AreHeld}
-use Rattle.nm_tree.specs.declared.worker.Account.{Account}
-use Rattle.nm_tree.specs.Workers.{Hand, IsWorker, HasOrigin, AreAbove, Ascend}
+use Rattle.nm_tree.specs.Workers.{Hand, IsWorker, TellLedgers, HasOrigin, AreAbove, Ascend}
 use Rattle.nm_tree.specs.Closing.{AreAllOf, AreFrom, GoesOnFromAll, IsClosed, IsOfTurns, StandsForAll, all_joined, all_merged, given_in}
 use Rattle.nm_tree.proofs.EndCounts.{sum_is}
 use Rattle.nm_tree.proofs.EndLaws.{ascend_of, set_of, totals_of}
@@ -30,6 +29,7 @@ use Rattle.nm_tree.proofs.EndWorkers.{are as logs_shown}
 use Rattle.nm_tree.proofs.JoinsAlone.{all_joined_alone}
 use Rattle.nm_tree.proofs.Settling.{settles}
 use Rattle.nm_tree.proofs.Heirs.{logs, has_times}
+use Rattle.nm_tree.proofs.Ledgers.{all_told, told_alike}
 use Rattle.nm_tree.proofs.Merging.{length-merged}
 
 -- ---- the workers one by one
@@ -117,8 +117,8 @@ all_in_order n (h ∷ hs) up below many =
 
 -- ---- the whole
 
-module _ (b : Board) (w : Hand) (xs : List Account) (home r s : ℕ) (ws : List Hand) (kept : List ℕ) (free reached : ℕ) (words : List ℕ) (is : IsWorker w xs home r s)
-    (view : StandsForAll ws w.pass.view) (seen : GoesOnFromAll w.pass.view.past ws) (queues : w.queues ≡ all_merged ws) (enough : b.layout.workers ≤ given_in ws) (of_runs : All (λ (u : Hand). HasSeen u.pass.view) ws) (end : Ends b.layout words w.pass.view)
+module _ (b : Board) (w : Hand) (home r : ℕ) (ws : List Hand) (kept : List ℕ) (free reached : ℕ) (words : List ℕ) (is : IsWorker w home r)
+    (view : StandsForAll ws w.pass.view) (seen : GoesOnFromAll w.pass.view.past ws) (queues : w.queues ≡ all_merged ws) (enough : b.layout.workers ≤ given_in ws) (of_runs : All (λ (u : Hand). HasSeen u.pass.view) ws) (end : Ends b.layout words w.pass.view) (run : IsInRun w.pass)
     (keys_are : (e' : IsEndOf b.layout words) → kept ≡ keys (end_of b.layout words e')) (free_are : (e' : IsEndOf b.layout words) → free ≡ (counts (end_of b.layout words e')).pool)
     (reached_are : (e' : IsEndOf b.layout words) → reached ≡ (counts (end_of b.layout words e')).reached) where
   below : (o : ℕ) → HasOrigin o w.queues → o < b.layout.workers
@@ -155,7 +155,7 @@ module _ (b : Board) (w : Hand) (xs : List Account) (home r s : ℕ) (ws : List 
 
   of_turns : IsOfTurns b.layout (trace_in (ordered b.layout) end.turns) words w.queues kept
   unfolding the_end
-  of_turns = of_turns_at_end b.layout words the_end w xs home r s is end.shown in_order.0 in_order.1 kept (keys_are the_end)
+  of_turns = of_turns_at_end b.layout words the_end w home r is end.shown in_order.0 in_order.1 kept (keys_are the_end)
 
   words_are : words_after b.layout (trace_in (ordered b.layout) end.turns) ≡ (end_of b.layout words the_end).memory
   unfolding the_end
@@ -166,7 +166,7 @@ module _ (b : Board) (w : Hand) (xs : List Account) (home r s : ℕ) (ws : List 
 
   logs_are : LogsAre (all_joined ws).layout b.layout (trace_in (ordered b.layout) end.turns) (logs (all_joined ws))
   unfolding the_end
-  logs_are = subst (λ (v : View). LogsAre v.layout b.layout (trace_in (ordered b.layout) end.turns) (logs v)) view (logs_shown b.layout words the_end w xs home r s is end.shown in_order.0 in_order.1)
+  logs_are = subst (λ (v : View). LogsAre v.layout b.layout (trace_in (ordered b.layout) end.turns) (logs v)) view (logs_shown b.layout words the_end w home r is end.shown in_order.0 in_order.1)
 
   pub closed : IsClosed b ws w.queues kept free reached
   unfolding ends the_end
@@ -184,10 +184,11 @@ module _ (b : Board) (w : Hand) (xs : List Account) (home r s : ℕ) (ws : List 
       free_are = free_are the_end ∙ ap (λ (m : Memory). length (filter (λ mark. mark) m.pool)) (sym words_are);
       reached_are = reached_are the_end ∙ (ap (λ (n : ℕ). length (tree_slots n (end_of b.layout words the_end).memory 1) - 5) nodes ∙ ap (λ (m : Memory). length (tree_slots b.layout.nodes m 1) - 5) (sym words_are));
       sum = sum_is b.layout words the_end w.queues in_order.1 of_turns.no_hands of_turns.waiting free reached (free_are the_end) (reached_are the_end);
-      rested = settles b.layout words the_end w xs home r s is end.shown in_order.0 in_order.1 ws view some_given;
+      rested = settles b.layout words the_end w home r is end.shown in_order.0 in_order.1 ws view some_given;
       totals = totals_of b.layout end.fits end.turns end.keys kept (set_of b.layout end.fits end.turns end.keys kept (keys_are the_end));
     };
     same_turns = refl;
     ends = ends;
     held = subst (λ (v : View). AreHeld (knowledge v) w.queues) view is.between.queues;
+    told = told_alike (all_joined ws) w.pass.view.past w.queues (subst (λ (v : View). TellLedgers v w.queues) view (all_told w.pass run w.queues is.counted is.between.queues));
   }

@@ -28,7 +28,6 @@ use Rattle.nm_steps.specs.Rules.{IsShown, knowledge}
 use Rattle.nm_epoch.specs.declared.collecting.Entry.{Entry}
 use Rattle.nm_epoch.specs.declared.collecting.HeldQueue.{HeldQueue}
 use Rattle.nm_epoch.specs.Collecting.{AreHeld, IsQueueOf, queued}
-use Rattle.nm_tree.specs.declared.worker.Account.{Account}
 use Rattle.nm_tree.specs.Closing.{AreFrom, IsOfTurns}
 use Rattle.nm_tree.specs.Workers.{Hand, IsWorker}
 use Rattle.nm_tree.proofs.EndLaws.{set_of}
@@ -51,7 +50,7 @@ nodes_of : (es : List Entry) → map (λ (e : Entry). e.node) es ≡ map node_in
 nodes_of [] = refl
 nodes_of (e ∷ es) = ap (λ (ns : List NodeId). e.node ∷ ns) (nodes_of es)
 
-module _ (L : Layout) (words : List ℕ) (e : IsEndOf L words) (w : Hand) (xs : List Account) (home r c : ℕ) (is : IsWorker w xs home r c) (is_shown : IsShown L (trace_in (ordered L) e.turns) w.pass.view)
+module _ (L : Layout) (words : List ℕ) (e : IsEndOf L words) (w : Hand) (home r : ℕ) (is : IsWorker w home r) (is_shown : IsShown L (trace_in (ordered L) e.turns) w.pass.view)
     (each : AreFrom 0 w.queues) (all : length w.queues ≡ L.workers) where
   abbrev turns : List Turn
   turns = trace_in (ordered L) e.turns
@@ -67,10 +66,10 @@ module _ (L : Layout) (words : List ℕ) (e : IsEndOf L words) (w : Hand) (xs : 
       go (Some l) there queue =
           nodes_of h.queue.items ∙ (ap (λ (q : List Queued). map node_in q) (sym (same_Some l.queue (map queued h.queue.items) queue))
           ∙ sym (waits_is L e.fits true e.turns w.pass.view.number o l
-          (ap (λ (k : Knowledge). held k.ledgers o) (known L words e w xs home r c is is_shown each all) ∙ (ap (λ (n : ℕ). held (knowledge w.pass.view).ledgers n) (sym own) ∙ there))))
+          (ap (λ (k : Knowledge). held k.ledgers o) (known L words e w home r is is_shown each all) ∙ (ap (λ (n : ℕ). held (knowledge w.pass.view).ledgers n) (sym own) ∙ there))))
 
   no_hands : (u x : ℕ) → has_after (opening L) u x false turns ≡ false
-  no_hands u x = run_hands u x L e.fits true e.turns ∙ false_from_ne_true (is_private (of (end_of L words e) u) x) (none_private L words e w xs home r c is is_shown each all u x)
+  no_hands u x = run_hands u x L e.fits true e.turns ∙ false_from_ne_true (is_private (of (end_of L words e) u) x) (none_private L words e w home r is is_shown each all u x)
 
   module _ (kept : List ℕ) (keys_are : kept ≡ keys (end_of L words e)) where
     pub of_turns_at_end : IsOfTurns L turns words w.queues kept

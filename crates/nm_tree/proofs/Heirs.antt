@@ -23,11 +23,11 @@ use Rattle.nm_epoch.specs.declared.collecting.HeldQueue.{HeldQueue}
 use Rattle.nm_epoch.specs.Collecting.{AreHeld}
 use Rattle.nm_epoch.proofs.Marks.{row_after}
 use Rattle.nm_epoch.proofs.SeveralQueues.{queue_stays}
-use Rattle.nm_calls.specs.Won.{capped, won_links, won_flags, won_splices}
+use Rattle.nm_calls.specs.Won.{won_links, won_flags, won_splices}
 use Rattle.nm_calls.proofs.Adding.{adds_these}
-use Rattle.nm_tree.specs.declared.worker.Account.{Account}
-use Rattle.nm_tree.specs.Workers.{IsAccount, AreAccounts, AreOf, HasNumber, HasOrigin, log_among, log_held_of, ledger_in}
-use Rattle.nm_tree.proofs.Freeing.{has_or_none}
+use Rattle.nm_tree.specs.Workers.{AreOf, HasNumber, HasOrigin, log_among, log_held_of, ledger_in}
+use Rattle.nm_tree.proofs.QueueLists.{has_or_none}
+use Rattle.nm_tree.proofs.OwnQueue.{TellAlike}
 use Rattle.nm_tree.proofs.HeldLedgers.{ledger_held}
 use Rattle.nm_tree.proofs.Merging.{AreApart}
 use Rattle.nm_tree.proofs.Quiet.{Quiet, quiet}
@@ -191,39 +191,25 @@ module _ (v w : View) (run : StandsInRun (joined v w)) where
       second_log f same_log o has =
           ap f (among_back o (held_log v.number (v.log ++ passing w ∷ []) ∷ v.others) theirs (λ first. apart o first (of_second.each o has))) ∙ own_alike f o w.number w.log (w.log ++ passing w ∷ []) w.others same_log
 
-      account_kept : (u : View) (x : HeldQueue) (a : Account) → (f : (f : List Entry → ℕ) → (f (u.log ++ passing w ∷ []) ≡ f u.log) → f (log_held_of j x.origin) ≡ f (log_held_of u x.origin))
-          → held (knowledge j).ledgers x.origin ≡ held (knowledge u).ledgers x.origin → j.layout ≡ u.layout → IsAccount u x a → IsAccount j x a
-      account_kept u x a counts ledger layout is =
-          let q = quiet_join u.log w in
-          let in_it : ledger_in j x.origin ≡ ledger_in u x.origin = ap (λ (h : Option Ledger). unwrap_or h fresh_ledger) ledger in
+      pub first_alike : (o : ℕ) → HasOrigin o hs → TellAlike v j o
+      first_alike o has = let q = quiet_join v.log w in
           record {
-            origin = is.origin;
-            links = is.links ∙ ap capped (sym (counts won_links q.links));
-            flags = is.flags ∙ ap capped (sym (counts won_flags q.flags));
-            splices = is.splices ∙ ap capped (sym (counts won_splices q.splices));
-            freed = is.freed ∙ ap (λ (y : Ledger). capped (length y.freed)) (sym in_it);
-            waiting = is.waiting;
-            few = let P : Layout → Type 0 = λ L. length x.queue.items ≤ L.nodes in subst P (sym layout) is.few;
-            split = let P : Ledger → Type 0 = λ y. length y.retired ≡ length y.freed + length x.queue.items in subst P (sym in_it) is.split;
+            log = record { links = first_log won_links q.links o has; flags = first_log won_flags q.flags o has; splices = first_log won_splices q.splices o has };
+            ledger = ap (λ (h : Option Ledger). unwrap_or h fresh_ledger) (first_stays o has);
           }
 
-      pub first_accounts : (xs : List HeldQueue) (as' : List Account) → ((o : ℕ) → HasOrigin o xs → HasOrigin o hs) → AreAccounts v xs as' → AreAccounts j xs as'
-      first_accounts [] [] within are = tt
-      first_accounts [] (a ∷ as') within are = absurd are
-      first_accounts (x ∷ xs) [] within are = absurd are
-      first_accounts (x ∷ xs) (a ∷ as') within are = (
-        account_kept v x a (λ f e. first_log f e x.origin (within x.origin (inl refl))) (first_stays x.origin (within x.origin (inl refl))) refl are.0,
-        first_accounts xs as' (λ o has. within o (inr has)) are.1,
-      )
+      -- each of the second has its ledger
+      has_ledger : (o : ℕ) (xs : List HeldQueue) → AreHeld l xs → HasOrigin o xs → IsSome (held l.ledgers o)
+      has_ledger o [] are has = absurd has
+      has_ledger o (x ∷ xs) are (inl is) = subst (λ (n : ℕ). IsSome (held l.ledgers n)) is (is_some_of _ (ledger_in w x.origin) (ledger_held w x.origin x.queue.items are.0))
+      has_ledger o (x ∷ xs) are (inr has) = has_ledger o xs are.2 has
 
-      pub second_accounts : (xs : List HeldQueue) (as' : List Account) → ((o : ℕ) → HasOrigin o xs → HasOrigin o gs) → AreHeld l xs → AreAccounts w xs as' → AreAccounts j xs as'
-      second_accounts [] [] within held' are = tt
-      second_accounts [] (a ∷ as') within held' are = absurd are
-      second_accounts (x ∷ xs) [] within held' are = absurd are
-      second_accounts (x ∷ xs) (a ∷ as') within held' are = (
-        account_kept w x a (λ f e. second_log f e x.origin (within x.origin (inl refl))) (second_stays x.origin (is_some_of _ (ledger_in w x.origin) (ledger_held w x.origin x.queue.items held'.0))) same are.0,
-        second_accounts xs as' (λ o has. within o (inr has)) held'.2 are.1,
-      )
+      pub second_alike : AreHeld l gs → (o : ℕ) → HasOrigin o gs → TellAlike w j o
+      second_alike are o has = let q = quiet_join w.log w in
+          record {
+            log = record { links = second_log won_links q.links o has; flags = second_log won_flags q.flags o has; splices = second_log won_splices q.splices o has };
+            ledger = ap (λ (h : Option Ledger). unwrap_or h fresh_ledger) (second_stays o (has_ledger o gs are has));
+          }
 
       -- each held ledger is of one of both
       pub held_by_one : (o : ℕ) → IsSome (held (knowledge j).ledgers o) → IsSome (held k.ledgers o) ⊎ IsSome (held l.ledgers o)

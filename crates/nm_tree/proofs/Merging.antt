@@ -1,15 +1,13 @@
 -- Queues of one worker among those of another, by origin.
-use Rattle.std.proofs.Common.{◌≡◌, ◌≢◌, ℕ, suc, ◌+◌, ◌<◌, ◌≤◌, ◌⊎◌, inl, inr, Bool, true, false, List, [], ◌∷◌, length, refl, sym, ap, arith}
+use Rattle.std.proofs.Common.{◌≡◌, ◌≢◌, ℕ, suc, ◌+◌, ◌<◌, ◌⊎◌, inl, inr, Bool, true, false, List, [], ◌∷◌, length, refl, sym, ap, arith}
 use Rattle.std.specs.Prelude.{nat_lt, if◌then◌else◌, insert}
 use Rattle.std.proofs.lemmas.Bool.Decides.{nat_tests}
-use Rattle.std.proofs.lemmas.List.Edits.{length-insert}
 use Rattle.nm_model.specs.Knowledge.{Knowledge}
 use Rattle.nm_steps.specs.declared.view.View.{View}
 use Rattle.nm_epoch.specs.declared.collecting.HeldQueue.{HeldQueue}
 use Rattle.nm_epoch.specs.Collecting.{AreHeld, IsQueueOf, NoneHas}
-use Rattle.nm_tree.specs.declared.worker.Account.{Account}
-use Rattle.nm_tree.specs.Workers.{IsAccount, AreAccounts, HasOrigin, AreAbove, Ascend, QueueStandsAt}
-use Rattle.nm_tree.specs.Resigning.{place_in, inserted, merged, merged_accounts}
+use Rattle.nm_tree.specs.Workers.{IsCounted, AreCounted, HasOrigin, AreAbove, Ascend, QueueStandsAt}
+use Rattle.nm_tree.specs.Resigning.{place_in, inserted, merged}
 
 -- ---- how many
 
@@ -24,25 +22,6 @@ length-inserted g (h ∷ hs) = by (nat_lt h.origin g.origin) (length-inserted g 
 pub length-merged : (hs gs : List HeldQueue) → length (merged hs gs) ≡ length hs + length gs
 length-merged hs [] = omega arith
 length-merged hs (g ∷ gs) = let one = length-inserted g (merged hs gs) in let rest = length-merged hs gs in omega (arith, one, rest)
-
-pub place_within : (o : ℕ) (hs : List HeldQueue) → place_in o hs ≤ length hs
-place_within o [] = omega arith
-place_within o (h ∷ hs) = by (nat_lt h.origin o) (place_within o hs)
-  where
-    by : (b : Bool) → place_in o hs ≤ length hs → (if b then suc (place_in o hs) else 0) ≤ suc (length hs)
-    by true rest = omega (arith, rest)
-    by false rest = omega arith
-
-pub length-merged_accounts : (hs : List HeldQueue) (xs : List Account) (gs : List HeldQueue) (ys : List Account) → length xs ≡ length hs → length gs ≡ length ys → length (merged_accounts hs xs gs ys) ≡ length (merged hs gs)
-length-merged_accounts hs xs [] [] long same = long
-length-merged_accounts hs xs [] (y ∷ ys) long same = absurd (omega (arith, same))
-length-merged_accounts hs xs (g ∷ gs) [] long same = absurd (omega (arith, same))
-length-merged_accounts hs xs (g ∷ gs) (y ∷ ys) long same =
-    let rest = length-merged_accounts hs xs gs ys long (let q : length gs ≡ length ys = omega (arith, same) in q) in
-    let within = place_within g.origin (merged hs gs) in
-    let one = length-insert (merged_accounts hs xs gs ys) (place_in g.origin (merged hs gs)) y (omega (arith, within, rest)) in
-    let all = length-inserted g (merged hs gs) in
-    omega (arith, one, all, rest)
 
 -- a queue at its place
 pub inserted_there : (g : HeldQueue) (hs : List HeldQueue) → insert hs (place_in g.origin hs) g ≡ inserted g hs
@@ -156,13 +135,11 @@ held_inserted k g (h ∷ hs) is none' are = by (nat_lt h.origin g.origin) (held_
     by true rest = (are.0, none_inserted h.origin g hs (λ e. none'.0 (sym e)) are.1, rest)
     by false rest = (is, none', are)
 
-pub accounts_inserted : (v : View) (g : HeldQueue) (y : Account) (hs : List HeldQueue) (xs : List Account) → IsAccount v g y → AreAccounts v hs xs → AreAccounts v (inserted g hs) (insert xs (place_in g.origin hs) y)
-accounts_inserted v g y [] [] is are = (is, tt)
-accounts_inserted v g y [] (x ∷ xs) is are = absurd are
-accounts_inserted v g y (h ∷ hs) [] is are = absurd are
-accounts_inserted v g y (h ∷ hs) (x ∷ xs) is are = by (nat_lt h.origin g.origin) (accounts_inserted v g y hs xs is are.1)
+pub counted_inserted : (v : View) (g : HeldQueue) (hs : List HeldQueue) → IsCounted v g → AreCounted v hs → AreCounted v (inserted g hs)
+counted_inserted v g [] is are = (is, tt)
+counted_inserted v g (h ∷ hs) is are = by (nat_lt h.origin g.origin) (counted_inserted v g hs is are.1)
   where
-    by : (b : Bool) → AreAccounts v (inserted g hs) (insert xs (place_in g.origin hs) y) → AreAccounts v (if b then h ∷ inserted g hs else g ∷ h ∷ hs) (insert (x ∷ xs) (if b then suc (place_in g.origin hs) else 0) y)
+    by : (b : Bool) → AreCounted v (inserted g hs) → AreCounted v (if b then h ∷ inserted g hs else g ∷ h ∷ hs)
     by true rest = (are.0, rest)
     by false rest = (is, are)
 
@@ -179,8 +156,6 @@ pub held_merged : (k : Knowledge) (hs gs : List HeldQueue) → AreApart hs gs �
 held_merged k hs [] apart are more = are
 held_merged k hs (g ∷ gs) apart are more = held_inserted k g (merged hs gs) more.0 (none_merged g.origin hs gs apart.0 more.1) (held_merged k hs gs apart.1 are more.2)
 
-pub accounts_merged : (v : View) (hs : List HeldQueue) (xs : List Account) (gs : List HeldQueue) (ys : List Account) → AreAccounts v hs xs → AreAccounts v gs ys → AreAccounts v (merged hs gs) (merged_accounts hs xs gs ys)
-accounts_merged v hs xs [] [] are more = are
-accounts_merged v hs xs [] (y ∷ ys) are more = absurd more
-accounts_merged v hs xs (g ∷ gs) [] are more = absurd more
-accounts_merged v hs xs (g ∷ gs) (y ∷ ys) are more = accounts_inserted v g y (merged hs gs) (merged_accounts hs xs gs ys) more.0 (accounts_merged v hs xs gs ys are more.1)
+pub counted_merged : (v : View) (hs gs : List HeldQueue) → AreCounted v hs → AreCounted v gs → AreCounted v (merged hs gs)
+counted_merged v hs [] are more = are
+counted_merged v hs (g ∷ gs) are more = counted_inserted v g (merged hs gs) more.0 (counted_merged v hs gs are more.1)

@@ -1,55 +1,31 @@
 -- Workers that have done nothing yet.
 use Rattle.std.proofs.Common.{false, ◌≡◌, ℕ, zero, suc, ◌<◌, ◌≤◌, ◌⊎◌, inl, inr, List, [], ◌∷◌, ◌++◌, length, refl, sym, ap, ◌∙◌, subst, arith}
-use Rattle.std.specs.Prelude.{Option, Some, None, IsSome, unwrap_or, reverse, slice_index_or}
+use Rattle.std.specs.Prelude.{Option, Some, None, IsSome, reverse, slice_index_or}
 use Rattle.std.proofs.lemmas.List.{reverse-append}
 use Rattle.std.proofs.lemmas.Bool.Decides.{eqb_tells}
 use Rattle.nm_edge.specs.Layouts.{Layout}
 use Rattle.nm_model.specs.declared.ledger.Ledger.{Ledger}
-use Rattle.nm_model.specs.Ledgers.{held, fresh_ledger}
-use Rattle.nm_model.specs.Walks.{Entry as LogEntry}
+use Rattle.nm_model.specs.Ledgers.{held}
 use Rattle.nm_steps.specs.declared.view.Held.{Held}
 use Rattle.nm_steps.specs.declared.view.View.{View}
 use Rattle.nm_steps.specs.Rules.{knowledge}
 use Rattle.nm_steps.specs.Steps.{Board, Stand, AreFresh, fresh_view}
 use Rattle.nm_epoch.specs.declared.collecting.Entry.{Entry}
 use Rattle.nm_epoch.specs.declared.collecting.HeldQueue.{HeldQueue}
-use Rattle.nm_epoch.specs.Collecting.{IsQueueOf, HasFewBlocks}
+use Rattle.nm_epoch.specs.Collecting.{IsQueueOf, HasFewBlocks, blank}
 use Rattle.nm_limbo.specs.Queue.{BlockQueue, block_queue}
 use Rattle.nm_calls.specs.Fresh.{HasDoneNothing}
-use Rattle.nm_calls.specs.Won.{capped, won_links, won_flags, won_splices}
 use Rattle.nm_pool.specs.declared.placement.Fit.{Fit}
-use Rattle.nm_tree.specs.declared.worker.Account.{Account}
 use Rattle.nm_tree.specs.Calls.{MayCall}
-use Rattle.nm_tree.specs.Workers.{Hand, HaveFit, IsWorker, IsAccount, HasOrigin, HasNumber, HoldNoSlot, HaveWorkers, IsFresh, AreAllFresh, IsNewWorker, AreMade, AreNew, log_held_of, ledger_in}
-use Rattle.nm_tree.proofs.Changing.{log_of_own}
+use Rattle.nm_tree.specs.Workers.{Hand, HaveFit, IsWorker, HasOrigin, HasNumber, HoldNoSlot, HaveWorkers, IsFresh, AreAllFresh, IsNewWorker, AreMade, AreNew}
+use Rattle.nm_calls.proofs.FreshWorkers.{holds_nothing}
+use Rattle.nm_tree.proofs.OwnQueue.{own_counted}
 
 -- ---- one worker
 
--- an account of an origin of which nothing is told yet
-abbrev pub blank : ℕ → Account
-blank o = record { origin = o; links = 0; flags = 0; splices = 0; freed = 0; waiting = 0 }
-
-fresh_account : (p : Stand) (h : HeldQueue) → HasDoneNothing p → h.origin ≡ p.view.number → h.queue.items ≡ [] → IsAccount p.view h (blank h.origin)
-fresh_account p h d own empty =
-    let log : log_held_of p.view h.origin ≡ [] = ap (λ (o : ℕ). log_held_of p.view o) own ∙ (log_of_own p ∙ d.log) in
-    let ledger : ledger_in p.view h.origin ≡ fresh_ledger = ap (λ (o : ℕ). ledger_in p.view o) own ∙ ap (λ (l : Option Ledger). unwrap_or l fresh_ledger) d.ledger in
-    let none' : length h.queue.items ≡ 0 = ap (λ (es : List Entry). length es) empty in
-    let r : length (ledger_in p.view h.origin).retired ≡ 0 = ap (λ (l : Ledger). length l.retired) ledger in
-    let f : length (ledger_in p.view h.origin).freed ≡ 0 = ap (λ (l : Ledger). length l.freed) ledger in
-    record {
-      origin = refl;
-      links = ap (λ (x : List LogEntry). capped (won_links x)) (sym log);
-      flags = ap (λ (x : List LogEntry). capped (won_flags x)) (sym log);
-      splices = ap (λ (x : List LogEntry). capped (won_splices x)) (sym log);
-      freed = ap (λ (l : Ledger). capped (length l.freed)) (sym ledger);
-      waiting = sym none';
-      few = omega (arith, none');
-      split = omega (arith, none', r, f);
-    }
-
-pub new_worker : (f : Fit) (p : Stand) (h : HeldQueue) (r s : ℕ) → HasDoneNothing p → h.origin ≡ p.view.number → h.queue ≡ block_queue [] 0 0 → p.view.others ≡ [] → p.view.spent ≡ false → p.view.layout.workers ≤ r → p.view.layout.workers ≤ s
-    → IsWorker (record { pass = p; queues = h ∷ []; pending = None; held = None; fit = f }) (blank h.origin ∷ []) 0 r s
-new_worker f p h r s d own blank' alone alive room account_room =
+pub new_worker : (f : Fit) (p : Stand) (h : HeldQueue) (r : ℕ) → HasDoneNothing p → h.origin ≡ p.view.number → h.queue ≡ block_queue [] 0 0 → h.counts ≡ blank → p.view.others ≡ [] → p.view.spent ≡ false → p.view.layout.workers ≤ r
+    → IsWorker (record { pass = p; queues = h ∷ []; pending = None; held = None; fit = f }) 0 r
+new_worker f p h r d own blank' none' alone alive room =
     let empty : h.queue.items ≡ [] = ap (λ (q : BlockQueue Entry). q.items) blank' in
     let queue : IsQueueOf (knowledge p.view) h.origin h.queue.items =
     let P : ℕ → Type 0 = λ o. IsQueueOf (knowledge p.view) o h.queue.items in
@@ -62,14 +38,13 @@ new_worker f p h r s d own blank' alone alive room account_room =
     ] in
     record {
       between = record { queues = (queue, tt, tt); all = one; ascend = tt; blocks = (let P : BlockQueue Entry → Type 0 = λ q. HasFewBlocks q in subst P (sym blank') (record { spare = omega arith; blocks = omega arith }), tt); private = d.private; stands = d.rests };
-      accounts = (fresh_account p h d own empty, tt);
+      counted = (own_counted p h (holds_nothing p h d own blank' none'), tt);
       few = omega arith;
       own = own;
       alive = alive;
       numbers = record { each = λ o has. only o has; all = λ o has. back o (let P : List Held → Type 0 = λ hs. (p.view.number ≡ o) ⊎ HasNumber o hs in subst P alone has) };
       resigned = let P : List Held → Type 0 = λ hs. HoldNoSlot p.view.layout hs in subst P (sym alone) tt;
       room = room;
-      account_room = account_room;
     }
   where
     only : (o : ℕ) → HasOrigin o (h ∷ []) → (p.view.number ≡ o) ⊎ HasNumber o p.view.others

@@ -1,84 +1,76 @@
--- The own queue and its account, after a call that may have cut nodes off.
-use Rattle.std.proofs.Common.{◌≡◌, ℕ, ◌+◌, ◌-◌, ◌^◌, ◌≤◌, ◌⊎◌, inl, inr, List, length, sym, ap, ◌∙◌, subst, arith}
-use Rattle.std.specs.Prelude.{Some, option_map, min}
+-- What is counted of a queue: where it stays right, and of the own one.
+use Rattle.std.proofs.Common.{◌≡◌, ℕ, Bool, true, List, [], ◌∷◌, length, refl, sym, ap, ◌∙◌, subst, inl, inr}
+use Rattle.std.specs.Prelude.{Option, Some, option_map, ◌==◌, if◌then◌else◌}
+use Rattle.std.proofs.lemmas.Bool.{eq-eqb}
 use Rattle.std.proofs.lemmas.Option.{same_Some}
 use Rattle.nm_edge.specs.declared.node.NodeId.{NodeId}
 use Rattle.nm_model.specs.declared.ledger.Ledger.{Ledger}
+use Rattle.nm_model.specs.Ledgers.{held}
 use Rattle.nm_model.specs.Walks.{Entry as LogEntry}
+use Rattle.nm_steps.specs.declared.view.View.{View}
 use Rattle.nm_steps.specs.Rules.{knowledge}
-use Rattle.nm_steps.specs.Steps.{Stand, IsSamePass, IsInRun}
-use Rattle.nm_epoch.specs.declared.collecting.Entry.{Entry}
+use Rattle.nm_steps.specs.Steps.{Stand, IsSamePass}
 use Rattle.nm_epoch.specs.declared.collecting.HeldQueue.{HeldQueue}
 use Rattle.nm_epoch.specs.Collecting.{IsQueueOf}
-use Rattle.nm_calls.specs.Cleanups.{KeepsLedgers, freed_of_origin}
-use Rattle.nm_calls.specs.Won.{capped, won_links, won_flags, won_splices, HasWon}
-use Rattle.nm_tree.specs.declared.worker.Account.{Account}
-use Rattle.nm_tree.specs.Workers.{IsKept, log_held_of, ledger_in}
-use Rattle.nm_tree.proofs.HeldLedgers.{ledger_held, ledger_waits, split_in_run}
-use Rattle.nm_tree.proofs.Changing.{log_of_own}
+use Rattle.nm_calls.specs.Cleanups.{HoldsCuts}
+use Rattle.nm_calls.specs.Won.{CountsWon, capped, won_links, won_flags, won_splices}
+use Rattle.nm_tree.specs.Workers.{IsCounted, AreCounted, HasOrigin, log_held_of, log_among, ledger_in}
+use Rattle.nm_tree.proofs.HeldLedgers.{ledger_held}
+use Rattle.nm_tree.proofs.Quiet.{Quiet, each_as_before}
 
--- a count that stays at its greatest number goes on
-more_capped : (a b w v l : ℕ) → a ≡ capped w → b ≡ min (a + l) (2 ^ 64 - 1) → v ≡ w + l → b ≡ capped v
-more_capped a b w v l was sum more = omega (arith, was, sum, more)
+-- ---- where counts stay right
 
--- what a call leaves of the own queue, with its account: so many links and flags more, and the
--- splices counted anew
-pub record IsNoted (q : Stand) (h g : HeldQueue) (a b : Account) (l f : ℕ) : Type 0 where
-  pub queue : IsQueueOf (knowledge q.view) q.view.number g.queue.items
-  pub few : length g.queue.items ≤ q.view.layout.nodes
-  pub same_origin : g.origin ≡ h.origin
-  pub origin : b.origin ≡ a.origin
-  pub links : b.links ≡ min (a.links + l) (2 ^ 64 - 1)
-  pub flags : b.flags ≡ min (a.flags + f) (2 ^ 64 - 1)
-  pub splices : b.splices ≡ capped (won_splices q.view.log)
-  pub freed : b.freed ≡ a.freed
-  pub waiting : b.waiting ≡ length g.queue.items
+-- two views tell the same of an origin: its log has won as much, and its ledger is the same one
+pub record TellAlike (v u : View) (o : ℕ) : Type 0 where
+  pub log : Quiet (log_held_of v o) (log_held_of u o)
+  pub ledger : ledger_in u o ≡ ledger_in v o
 
-freed_alike : (p q : Stand) (o : ℕ) (es fs : List Entry) → IsQueueOf (knowledge p.view) o es → IsQueueOf (knowledge q.view) o fs → freed_of_origin (knowledge q.view) o ≡ freed_of_origin (knowledge p.view) o → length (ledger_in q.view o).freed ≡ length (ledger_in p.view o).freed
-freed_alike p q o es fs was is same =
-    let old : freed_of_origin (knowledge p.view) o ≡ Some (ledger_in p.view o).freed = ap (option_map (λ (l : Ledger). l.freed)) (ledger_held p.view o es was) in
-    let new : freed_of_origin (knowledge q.view) o ≡ Some (ledger_in q.view o).freed = ap (option_map (λ (l : Ledger). l.freed)) (ledger_held q.view o fs is) in
-    ap (λ (ns : List NodeId). length ns) (same_Some _ _ (sym new ∙ (same ∙ old)))
+pub counted_still : (v u : View) (h : HeldQueue) → TellAlike v u h.origin → IsCounted v h → IsCounted u h
+counted_still v u h alike is = record {
+  won = record {
+    links = is.won.links ∙ ap capped (sym alike.log.links);
+    flags = is.won.flags ∙ ap capped (sym alike.log.flags);
+    splices = is.won.splices ∙ ap capped (sym alike.log.splices);
+  };
+  freed = is.freed ∙ ap (λ (l : Ledger). capped (length l.freed)) (sym alike.ledger);
+}
 
-split_after : (p q : Stand) (h g : HeldQueue) (a : Account) → IsKept p h a → (q ≡ p) ⊎ IsInRun q → IsQueueOf (knowledge q.view) q.view.number g.queue.items
-    → length (ledger_in q.view q.view.number).retired ≡ length (ledger_in q.view q.view.number).freed + length g.queue.items
-split_after p q h g a kept (inr run) is = split_in_run q q.view.number g.queue.items run is
-split_after p q h g a kept (inl same) is =
-    let P : Stand → Type 0 = λ x. IsQueueOf (knowledge x.view) x.view.number g.queue.items → length (ledger_in x.view x.view.number).retired ≡ length (ledger_in x.view x.view.number).freed + length g.queue.items in
-    let at : P p = λ queue.
-    let Q : ℕ → Type 0 = λ o. length (ledger_in p.view o).retired ≡ length (ledger_in p.view o).freed + length h.queue.items in
-    let was : Q p.view.number = subst Q kept.own kept.account.split in
-    let one = ledger_waits p.view p.view.number h.queue.items kept.queue in
-    let two = ledger_waits p.view p.view.number g.queue.items queue in
-    omega (arith, was, one, two) in
-    subst P (sym same) at is
+pub all_counted_still : (v u : View) (hs : List HeldQueue) → ((o : ℕ) → HasOrigin o hs → TellAlike v u o) → AreCounted v hs → AreCounted u hs
+all_counted_still v u [] alike are = tt
+all_counted_still v u (h ∷ hs) alike are = (counted_still v u h (alike h.origin (inl refl)) are.0, all_counted_still v u hs (λ o has. alike o (inr has)) are.1)
 
-pub kept_after : (p q : Stand) (h g : HeldQueue) (a b : Account) (l f : ℕ) → IsKept p h a → IsSamePass p q → (q ≡ p) ⊎ IsInRun q → HasWon p.view.log q.view.log l f → KeepsLedgers p q
-    → IsNoted q h g a b l f → IsKept q g b
-kept_after p q h g a b l f kept same run won ledgers noted =
-    let number : q.view.number ≡ p.view.number = ap (λ (x : Stand). x.view.number) same in
-    let own : g.origin ≡ q.view.number = noted.same_origin ∙ (kept.own ∙ sym number) in
-    let log : log_held_of q.view g.origin ≡ q.view.log = ap (λ (o : ℕ). log_held_of q.view o) own ∙ log_of_own q in
-    let log_was : log_held_of p.view h.origin ≡ p.view.log = ap (λ (o : ℕ). log_held_of p.view o) kept.own ∙ log_of_own p in
-    let queue_was : IsQueueOf (knowledge p.view) q.view.number h.queue.items = let P : ℕ → Type 0 = λ o. IsQueueOf (knowledge p.view) o h.queue.items in subst P (sym number) kept.queue in
-    let freed_same : freed_of_origin (knowledge q.view) q.view.number ≡ freed_of_origin (knowledge p.view) q.view.number =
-    let P : ℕ → Type 0 = λ o. freed_of_origin (knowledge q.view) o ≡ freed_of_origin (knowledge p.view) o in subst P (sym number) ledgers.freed in
-    let freed = freed_alike p q q.view.number h.queue.items g.queue.items queue_was noted.queue freed_same in
-    let freed_was : a.freed ≡ capped (length (ledger_in p.view q.view.number).freed) =
-    let P : ℕ → Type 0 = λ o. a.freed ≡ capped (length (ledger_in p.view o).freed) in subst P (kept.own ∙ sym number) kept.account.freed in
-    let Q : ℕ → Type 0 = λ o. length (ledger_in q.view o).retired ≡ length (ledger_in q.view o).freed + length g.queue.items in
-    let R : ℕ → Type 0 = λ o. b.freed ≡ capped (length (ledger_in q.view o).freed) in
-    record {
-      own = own;
-      queue = noted.queue;
-      account = record {
-        origin = noted.origin ∙ (kept.account.origin ∙ sym noted.same_origin);
-        links = more_capped a.links b.links (won_links p.view.log) (won_links (log_held_of q.view g.origin)) l (kept.account.links ∙ ap (λ (x : List LogEntry). capped (won_links x)) log_was) noted.links (ap won_links log ∙ won.links);
-        flags = more_capped a.flags b.flags (won_flags p.view.log) (won_flags (log_held_of q.view g.origin)) f (kept.account.flags ∙ ap (λ (x : List LogEntry). capped (won_flags x)) log_was) noted.flags (ap won_flags log ∙ won.flags);
-        splices = noted.splices ∙ ap (λ (x : List LogEntry). capped (won_splices x)) (sym log);
-        freed = subst R (sym own) (noted.freed ∙ (freed_was ∙ ap capped (sym freed)));
-        waiting = noted.waiting;
-        few = noted.few;
-        split = subst Q (sym own) (split_after p q h g a kept run noted.queue);
-      };
-    }
+-- nothing was won by the own log, and so by none
+pub quiet_of : (p q : Stand) → IsSamePass p q → Quiet p.view.log q.view.log → (o : ℕ) → Quiet (log_held_of p.view o) (log_held_of q.view o)
+quiet_of p q same own o = record {
+  links = each_as_before won_links p q same own.links o;
+  flags = each_as_before won_flags p q same own.flags o;
+  splices = each_as_before won_splices p q same own.splices o;
+}
+
+-- ---- the own queue
+
+own_log : (b : Bool) (x y : List LogEntry) → b ≡ true → (if b then x else y) ≡ x
+own_log b x y is = let P : Bool → Type 0 = λ c. (if c then x else y) ≡ x in subst P (sym is) refl
+
+-- the own log is that of the own number
+log_of_own : (p : Stand) → log_held_of p.view p.view.number ≡ p.view.log
+log_of_own p = own_log (p.view.number == p.view.number) p.view.log (log_among p.view.number p.view.others) (eq-eqb p.view.number p.view.number refl)
+
+-- what was freed of the own origin is what its ledger tells
+module _ (p : Stand) (h : HeldQueue) (own : h.origin ≡ p.view.number) (queue : IsQueueOf (knowledge p.view) p.view.number h.queue.items) where
+  log_is : log_held_of p.view h.origin ≡ p.view.log
+  log_is = ap (λ (o : ℕ). log_held_of p.view o) own ∙ log_of_own p
+
+  freed_is : option_map (λ (ns : List NodeId). capped (length ns)) (option_map (λ (l : Ledger). l.freed) (held (knowledge p.view).ledgers p.view.number)) ≡ Some (capped (length (ledger_in p.view h.origin).freed))
+  freed_is =
+      ap (λ (l : Option Ledger). option_map (λ (ns : List NodeId). capped (length ns)) (option_map (λ (x : Ledger). x.freed) l)) (ledger_held p.view p.view.number h.queue.items queue)
+      ∙ ap (λ (o : ℕ). Some (capped (length (ledger_in p.view o).freed))) (sym own)
+
+  pub holds_own : IsCounted p.view h → HoldsCuts p h
+  holds_own is = record { own = own; queue = queue; counted = subst (λ (l : List LogEntry). CountsWon l h.counts) log_is is.won; freed = freed_is ∙ ap (λ (n : ℕ). Some n) (sym is.freed) }
+
+  own_so : HoldsCuts p h → IsCounted p.view h
+  own_so is = record { won = subst (λ (l : List LogEntry). CountsWon l h.counts) (sym log_is) is.counted; freed = same_Some _ _ (sym is.freed ∙ freed_is) }
+
+pub own_counted : (p : Stand) (h : HeldQueue) → HoldsCuts p h → IsCounted p.view h
+own_counted p h is = own_so p h is.own is.queue is

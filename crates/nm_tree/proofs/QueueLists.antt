@@ -1,6 +1,7 @@
 -- The queues that a worker holds, one of which is its own.
-use Rattle.std.proofs.Common.{◌≡◌, ◌≢◌, ℕ, zero, suc, ◌+◌, ◌*◌, ◌<◌, ◌≤◌, Bool, true, false, inl, inr, List, [], ◌∷◌, length, refl, sym, ap, ◌∙◌, subst, arith}
+use Rattle.std.proofs.Common.{◌≡◌, ◌≢◌, ℕ, zero, suc, ◌<◌, ◌⊎◌, Bool, true, false, inl, inr, List, [], ◌∷◌, length, refl, sym, ap, ◌∙◌, subst, arith}
 use Rattle.std.specs.Prelude.{slice_index_or, slice_set, nat_lt, if◌then◌else◌}
+use Rattle.std.proofs.lemmas.Bool.Decides.{eqb_tells}
 use Rattle.std.proofs.lemmas.List.Sums.{sum_by-cons}
 use Rattle.nm_model.specs.Knowledge.{Knowledge}
 use Rattle.nm_model.specs.Ledgers.{held}
@@ -13,7 +14,7 @@ use Rattle.nm_calls.specs.Bounds.{cut_bound}
 use Rattle.nm_calls.specs.Rooms.{TakesRoom}
 use Rattle.nm_tree.specs.Resigning.{inserted, merged}
 use Rattle.nm_calls.proofs.Rooms.{takes_none}
-use Rattle.nm_tree.specs.Workers.{TakeRoom, HaveFewBlocks, AreFewIn, blocks_in, waiting_in, HasLittleRoom, HasOrigin, AreAbove, Ascend, QueueStandsAt, KeepsOtherQueues}
+use Rattle.nm_tree.specs.Workers.{TakeRoom, HaveFewBlocks, AreFewIn, blocks_in, HasLittleRoom, HasOrigin, AreAbove, Ascend, QueueStandsAt, KeepsOtherQueues}
 
 -- an index at which a queue stands is one of the list, and the queue there is that one
 pub stands_within : (i o : ℕ) (hs : List HeldQueue) → QueueStandsAt i o hs → i < length hs
@@ -92,6 +93,22 @@ pub not_none : (o i : ℕ) (hs : List HeldQueue) → QueueStandsAt i o hs → No
 not_none o i [] s none = absurd s
 not_none o zero (h ∷ hs) s none = none.0 (sym s)
 not_none o (suc i) (h ∷ hs) s none = not_none o i hs s none.1
+
+-- an origin is among these, or none of them has it, and not both
+pub has_or_none : (o : ℕ) (hs : List HeldQueue) → HasOrigin o hs ⊎ NoneHas o hs
+has_or_none o [] = inr tt
+has_or_none o (h ∷ hs) = elim (eqb_tells h.origin o) [
+  | inl is ↦ inl (inl is.1)
+  | inr is ↦ elim (has_or_none o hs) [
+    | inl has ↦ inl (inr has)
+    | inr none' ↦ inr ((λ e. is.1 (sym e)), none')
+  ]
+]
+
+pub not_both : (o : ℕ) (hs : List HeldQueue) → HasOrigin o hs → NoneHas o hs → ⊥
+not_both o [] has none' = absurd has
+not_both o (h ∷ hs) (inl is) none' = none'.0 (sym is)
+not_both o (h ∷ hs) (inr has) none' = not_both o hs has none'.1
 
 -- so all are held, where the one at an index is that of the own ledger
 pub held_after : (k l : Knowledge) (i o : ℕ) (hs : List HeldQueue) (g : HeldQueue) → ((x : ℕ) → x ≢ o → held l.ledgers x ≡ held k.ledgers x)

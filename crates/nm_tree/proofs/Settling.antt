@@ -19,7 +19,6 @@ use Rattle.nm_steps.specs.Rules.{IsShown, LogsAre, answered_turn, held_log, join
 use Rattle.nm_steps.specs.Steps.{Stand}
 use Rattle.nm_busy.specs.Pending.{NonePends, leaf_after, leaf_by}
 use Rattle.nm_busy.proofs.PendingTurns.{leaf_is_told, leaf_own}
-use Rattle.nm_tree.specs.declared.worker.Account.{Account}
 use Rattle.nm_tree.specs.Closing.{AreFrom, StandsForAll, all_joined}
 use Rattle.nm_tree.specs.Settled.{TellNoFlag, HasNothingPending, HaveNothingPending, HeirsHaveNothingPending, RestingWorkersHaveNothingPending, turns_of}
 use Rattle.nm_tree.specs.Workers.{Hand, IsWorker, HasNumber}
@@ -94,7 +93,7 @@ resting_workers_have_nothing_pending w seen none others =
 
 -- ---- the end of a tree
 
-module _ (L : Layout) (words : List ℕ) (e : IsEndOf L words) (w : Hand) (xs : List Account) (home r c : ℕ) (is : IsWorker w xs home r c) (is_shown : IsShown L (trace_in (ordered L) e.turns) w.pass.view)
+module _ (L : Layout) (words : List ℕ) (e : IsEndOf L words) (w : Hand) (home r : ℕ) (is : IsWorker w home r) (is_shown : IsShown L (trace_in (ordered L) e.turns) w.pass.view)
     (each : AreFrom 0 w.queues) (all : length w.queues ≡ L.workers) (ws : List Hand) (stands : StandsForAll ws w.pass.view) (some : 1 ≤ length ws) where
   quiet : (us : List Hand) → 1 ≤ length us → HaveNothingPending us → AreQuiet (logs (all_joined us))
   quiet [] none rest = absurd (omega (arith, none))
@@ -104,5 +103,5 @@ module _ (L : Layout) (words : List ℕ) (e : IsEndOf L words) (w : Hand) (xs : 
   settles rest u less =
       let told : AreQuiet (logs w.pass.view) = subst (λ (v : View). AreQuiet (logs v)) (sym stands) (quiet ws some rest) in
       leaf_is_told u idle (trace_in (ordered L) e.turns)
-      ∙ one_quiet w.pass.view.layout L (trace_in (ordered L) e.turns) (logs w.pass.view) (are L words e w xs home r c is is_shown each all) told u
-      (there L words e w xs home r c is is_shown each all u less)
+      ∙ one_quiet w.pass.view.layout L (trace_in (ordered L) e.turns) (logs w.pass.view) (are L words e w home r is is_shown each all) told u
+      (there L words e w home r is is_shown each all u less)

@@ -1,7 +1,6 @@
 -- What a worker is between two calls, after a call that changes nothing in its hands.
-use Rattle.std.proofs.Common.{◌≡◌, ℕ, ◌+◌, ◌≤◌, inl, inr, false, List, [], ◌∷◌, Option, Some, None, length, refl, sym, ap, ◌∙◌, subst}
+use Rattle.std.proofs.Common.{◌≡◌, ℕ, inl, inr, false, List, [], ◌∷◌, Option, Some, None, refl, sym, ap, ◌∙◌, subst}
 use Rattle.std.specs.Prelude.{IsSome, is_some, unwrap_or}
-use Rattle.nm_edge.specs.Layouts.{Layout}
 use Rattle.nm_model.specs.declared.trace.Turn.{Turn}
 use Rattle.nm_model.specs.declared.ledger.Ledger.{Ledger}
 use Rattle.nm_model.specs.declared.knowledge.Seen.{Seen}
@@ -18,52 +17,29 @@ use Rattle.nm_epoch.specs.Resting.{IsResting, IsSettled, Settles, IsPinnedAt, ep
 use Rattle.nm_epoch.proofs.SeveralQueues.{queue_stays}
 use Rattle.nm_calls.specs.Deletes.{IsRemoving}
 use Rattle.nm_calls.specs.Telling.{IsInRun}
-use Rattle.nm_calls.specs.Won.{capped, won_links, won_flags, won_splices}
 use Rattle.nm_pool.specs.declared.placement.Fit.{Fit}
-use Rattle.nm_tree.specs.declared.worker.Account.{Account}
 use Rattle.nm_tree.specs.declared.worker.Standing.{Standing}
 use Rattle.nm_tree.specs.declared.worker.Standing.TheVariants as standing
 use Rattle.nm_calls.specs.declared.deleting.Unfinished.{Unfinished}
-use Rattle.nm_tree.specs.Workers.{Hand, pending_in, held_in, IsAs, IsHolding, IsWorker, IsAccount, AreAccounts, QueueStandsAt, ledger_in}
+use Rattle.nm_tree.specs.Workers.{Hand, pending_in, held_in, IsAs, IsHolding, IsWorker, QueueStandsAt}
 use Rattle.nm_tree.proofs.Numbers.{numbers_stay, resigned_stay, room_stays}
-use Rattle.nm_tree.proofs.Quiet.{Quiet, each_as_before}
+use Rattle.nm_tree.proofs.OwnQueue.{all_counted_still, quiet_of}
+use Rattle.nm_tree.proofs.Quiet.{Quiet}
 
--- ---- queues and accounts
+-- ---- queues
 
 -- queues of ledgers that all stay are held still
 pub all_held : (k l : Knowledge) (hs : List HeldQueue) → l.ledgers ≡ k.ledgers → AreHeld k hs → AreHeld l hs
 all_held k l [] same are = tt
 all_held k l (h ∷ hs) same are = (queue_stays k l h.origin h.queue.items (ap (λ (ls : List (Option Ledger)). held ls h.origin) same) are.0, are.1, all_held k l hs same are.2)
 
--- an account stays right where nothing was won and its ledger stays
-pub account_stays : (p q : Stand) (h : HeldQueue) (a : Account) → IsSamePass p q → Quiet p.view.log q.view.log → ledger_in q.view h.origin ≡ ledger_in p.view h.origin
-    → IsAccount p.view h a → IsAccount q.view h a
-account_stays p q h a same none' ledger is =
-    record {
-      origin = is.origin;
-      links = is.links ∙ ap capped (sym (each_as_before won_links p q same none'.links h.origin));
-      flags = is.flags ∙ ap capped (sym (each_as_before won_flags p q same none'.flags h.origin));
-      splices = is.splices ∙ ap capped (sym (each_as_before won_splices p q same none'.splices h.origin));
-      freed = is.freed ∙ ap (λ (l : Ledger). capped (length l.freed)) (sym ledger);
-      waiting = is.waiting;
-      few = let P : Layout → Type 0 = λ L. length h.queue.items ≤ L.nodes in subst P (sym (ap (λ (x : Stand). x.view.layout) same)) is.few;
-      split = let P : Ledger → Type 0 = λ l. length l.retired ≡ length l.freed + length h.queue.items in subst P (sym ledger) is.split;
-    }
-
-pub accounts_stay : (p q : Stand) (hs : List HeldQueue) (xs : List Account) → IsSamePass p q → Quiet p.view.log q.view.log
-    → ((o : ℕ) → ledger_in q.view o ≡ ledger_in p.view o) → AreAccounts p.view hs xs → AreAccounts q.view hs xs
-accounts_stay p q [] [] same none' ledgers are = tt
-accounts_stay p q [] (a ∷ xs) same none' ledgers are = absurd are
-accounts_stay p q (h ∷ hs) [] same none' ledgers are = absurd are
-accounts_stay p q (h ∷ hs) (a ∷ xs) same none' ledgers are = (account_stays p q h a same none' (ledgers h.origin) are.0, accounts_stay p q hs xs same none' ledgers are.1)
-
 -- ---- a whole worker
 
 -- nothing in its hands has changed, and nothing was won
-pub stays : {r s : ℕ} {f : Fit} (w : Hand) (xs : List Account) (home : ℕ) (q : Stand) (n : Option Unfinished) (e : Option ℕ) → IsWorker w xs home r s → IsSamePass w.pass q → Quiet w.pass.view.log q.view.log
+pub stays : {r : ℕ} {f : Fit} (w : Hand) (home : ℕ) (q : Stand) (n : Option Unfinished) (e : Option ℕ) → IsWorker w home r → IsSamePass w.pass q → Quiet w.pass.view.log q.view.log
     → (knowledge q.view).drafts ≡ (knowledge w.pass.view).drafts → (knowledge q.view).ledgers ≡ (knowledge w.pass.view).ledgers → IsAs q n e
-    → IsWorker (record { pass = q; queues = w.queues; pending = n; held = e; fit = f }) xs home r s
-stays {r} {s} w xs home q n e is same none' drafts ledgers stands =
+    → IsWorker (record { pass = q; queues = w.queues; pending = n; held = e; fit = f }) home r
+stays {r} w home q n e is same none' drafts ledgers stands =
     let P : ℕ → Type 0 = λ number. QueueStandsAt home number w.queues in
     record {
       between = record {
@@ -74,14 +50,13 @@ stays {r} {s} w xs home q n e is same none' drafts ledgers stands =
         private = λ slot. ap (λ ds. get ds slot) drafts ∙ is.between.private slot;
         stands = stands;
       };
-      accounts = accounts_stay w.pass q w.queues xs same none' (λ o. ap (λ (ls : List (Option Ledger)). unwrap_or (held ls o) fresh_ledger) ledgers) is.accounts;
+      counted = all_counted_still w.pass.view q.view w.queues (λ o has. record { log = quiet_of w.pass q same none' o; ledger = ap (λ (ls : List (Option Ledger)). unwrap_or (held ls o) fresh_ledger) ledgers }) is.counted;
       own = subst P (sym (ap (λ (x : Stand). x.view.number) same)) is.own;
       few = is.few;
       numbers = numbers_stay w.pass q w.queues same is.numbers;
       resigned = resigned_stay w.pass q same is.resigned;
       alive = ap (λ (x : Stand). x.view.spent) same ∙ is.alive;
       room = room_stays w.pass q r same is.room;
-      account_room = room_stays w.pass q s same is.account_room;
     }
 
 -- ---- where it stands
@@ -172,9 +147,9 @@ as_was past p (Some n) None is = record {
 as_was past p (Some n) (Some e) is = absurd is
 
 -- it has done nothing, and is a worker as it was
-pub sees_more : {r s : ℕ} (past : List Turn) (w : Hand) (xs : List Account) (home : ℕ) → IsWorker w xs home r s → IsWorker (record w { pass = seeing past w.pass }) xs home r s
-sees_more past w xs home is =
-    stays w xs home (seeing past w.pass) w.pending w.held is refl (record { links = refl; flags = refl; splices = refl }) refl refl (as_was past w.pass w.pending w.held is.between.stands)
+pub sees_more : {r : ℕ} (past : List Turn) (w : Hand) (home : ℕ) → IsWorker w home r → IsWorker (record w { pass = seeing past w.pass }) home r
+sees_more past w home is =
+    stays w home (seeing past w.pass) w.pending w.held is refl (record { links = refl; flags = refl; splices = refl }) refl refl (as_was past w.pass w.pending w.held is.between.stands)
 
 -- a worker with no delete pending has no call
 pub no_call_open : (p : Stand) (u : Option Unfinished) (e : Option ℕ) → IsAs p u e → u ≡ None → (search p).call ≡ None

@@ -1,5 +1,5 @@
 -- What a worker is that stands for another one too.
-use Rattle.std.proofs.Common.{◌≡◌, ℕ, suc, ◌+◌, ◌≤◌, ◌⊎◌, ◌==◌, inl, inr, Bool, true, cond, List, [], ◌∷◌, ◌++◌, length, refl, sym, ap, ◌∙◌, subst, arith}
+use Rattle.std.proofs.Common.{◌≡◌, ℕ, ◌+◌, ◌≤◌, ◌⊎◌, ◌==◌, inl, inr, Bool, true, cond, List, [], ◌∷◌, ◌++◌, length, refl, sym, ap, ◌∙◌, subst, arith}
 use Rattle.std.specs.Prelude.{Option, Some, None, IsSome}
 use Rattle.std.proofs.lemmas.Bool.{cond-true, eq-eqb}
 use Rattle.std.proofs.lemmas.Option.{none-some}
@@ -27,11 +27,11 @@ use Rattle.nm_epoch.specs.declared.collecting.HeldQueue.{HeldQueue}
 use Rattle.nm_epoch.specs.Collecting.{AreHeld}
 use Rattle.nm_epoch.specs.Resting.{Settles, search}
 use Rattle.nm_epoch.proofs.FewQueues.{few}
-use Rattle.nm_tree.specs.declared.worker.Account.{Account}
-use Rattle.nm_tree.specs.Workers.{Hand, IsBetweenCalls, IsWorker, AreAccounts, HasNumber, HasOrigin, HoldNoSlot}
-use Rattle.nm_tree.specs.Resigning.{place_in, merged, merged_accounts}
-use Rattle.nm_tree.proofs.Heirs.{logs, knows, first_held, second_held, none_apart, first_accounts, second_accounts, held_by_one}
-use Rattle.nm_tree.proofs.Merging.{length-merged, has_merged, merged_has, ascend_merged, held_merged, accounts_merged, stands_at_place}
+use Rattle.nm_tree.specs.Workers.{Hand, IsBetweenCalls, IsWorker, HasNumber, HasOrigin, HoldNoSlot}
+use Rattle.nm_tree.specs.Resigning.{place_in, merged}
+use Rattle.nm_tree.proofs.Heirs.{logs, knows, first_held, second_held, none_apart, first_alike, second_alike, held_by_one}
+use Rattle.nm_tree.proofs.Merging.{length-merged, has_merged, merged_has, ascend_merged, held_merged, counted_merged, stands_at_place}
+use Rattle.nm_tree.proofs.OwnQueue.{all_counted_still}
 use Rattle.nm_tree.proofs.QueueLists.{few_merged}
 use Rattle.nm_tree.proofs.Staying.{labelled, stands_still}
 
@@ -60,14 +60,6 @@ no_slot w hands = ap (λ (k : Knowledge). length k.drafts) (gone w) ∙ hands.dr
 hold_no_slot : (L : Layout) (hs gs : List Held) → HoldNoSlot L hs → HoldNoSlot L gs → HoldNoSlot L (hs ++ gs)
 hold_no_slot L [] gs first second = second
 hold_no_slot L (h ∷ hs) gs first second = (first.0, hold_no_slot L hs gs first.1 second)
-
--- ---- as many accounts as queues
-
-pub as_many_accounts : (v : View) (hs : List HeldQueue) (xs : List Account) → AreAccounts v hs xs → length xs ≡ length hs
-as_many_accounts v [] [] are = refl
-as_many_accounts v [] (x ∷ xs) are = absurd are
-as_many_accounts v (h ∷ hs) [] are = absurd are
-as_many_accounts v (h ∷ hs) (x ∷ xs) are = ap suc (as_many_accounts v hs xs are.1)
 
 -- ---- both
 
@@ -104,7 +96,7 @@ logs_have v w o (inr has) = elim (part v.others has) [
       | inr back ↦ inr back
     ]
 
-module _ {r s r' s' : ℕ} (p u : Hand) (xs ys : List Account) (home home' : ℕ) (is : IsWorker p xs home r s) (more : IsWorker u ys home' r' s') (same : p.pass.view.layout ≡ u.pass.view.layout)
+module _ {r r' : ℕ} (p u : Hand) (home home' : ℕ) (is : IsWorker p home r) (more : IsWorker u home' r') (same : p.pass.view.layout ≡ u.pass.view.layout)
     (run : StandsInRun (joined p.pass.view u.pass.view)) where
   abbrev v : View
   v = p.pass.view
@@ -176,7 +168,7 @@ module _ {r s r' s' : ℕ} (p u : Hand) (xs ys : List Account) (home home' : ℕ
     | inr second ↦ has_merged o p.queues u.queues (inr (more.numbers.all o second))
   ]
 
-  pub united : IsWorker (record { pass = q; queues = all; pending = p.pending; held = p.held; fit = p.fit }) (merged_accounts p.queues xs u.queues ys) (place_in v.number all) r s
+  pub united : IsWorker (record { pass = q; queues = all; pending = p.pending; held = p.held; fit = p.fit }) (place_in v.number all) r
   united = record {
     between = record {
       queues = are_held;
@@ -186,8 +178,8 @@ module _ {r s r' s' : ℕ} (p u : Hand) (xs ys : List Account) (home home' : ℕ
       private = λ slot. ap (λ (x : Knowledge). get x.drafts slot) known_is ∙ is.between.private slot;
       stands = stands_still p.pass q p.pending p.held is.between.stands settles in_run;
     };
-    accounts = accounts_merged j p.queues xs u.queues ys (first_accounts v w run same p.queues u.queues is.numbers more.numbers more.between.all p.queues xs (λ o has. has) is.accounts)
-        (second_accounts v w run same p.queues u.queues is.numbers more.numbers more.between.all u.queues ys (λ o has. has) more.between.queues more.accounts);
+    counted = counted_merged j p.queues u.queues (all_counted_still v j p.queues (first_alike v w run same p.queues u.queues is.numbers more.numbers more.between.all) is.counted)
+        (all_counted_still w j u.queues (second_alike v w run same p.queues u.queues is.numbers more.numbers more.between.all more.between.queues) more.counted);
     few = let f = few_queues in let sum = length-merged p.queues u.queues in let most = run.fits.few in omega (arith, f, sum, most);
     own = stands_at_place v.number all ascends (all_numbers v.number (inl refl));
     numbers = record { each = each_number; all = all_numbers };
@@ -195,5 +187,4 @@ module _ {r s r' s' : ℕ} (p u : Hand) (xs ys : List Account) (home home' : ℕ
         hold_no_slot v.layout v.others (held_log w.number (w.log ++ passing w ∷ []) ∷ w.others) is.resigned (subst P (sym same) (no_slot w (empty_hands u more.between), more.resigned));
     alive = is.alive;
     room = is.room;
-    account_room = is.account_room;
   }

@@ -30,7 +30,7 @@ use Rattle.nm_busy.specs.Pending.{NonePends}
 use Rattle.nm_tree.specs.Resigning.{merged}
 use Rattle.nm_tree.specs.Running.{AreOfWorkers, wins}
 use Rattle.nm_tree.specs.Settled.{HaveNothingPending}
-use Rattle.nm_tree.specs.Workers.{Hand, waiting_in}
+use Rattle.nm_tree.specs.Workers.{Hand, TellLedgers, waiting_in}
 
 -- the workers are this tree's
 abbrev pub AreAllOf : Board → List Hand → Type 0
@@ -179,13 +179,15 @@ IsCloseReason b ws because.NoMemory = b.layout.workers ≤ given_in ws
 -- ---- for who changes something: the run of a closed tree
 
 -- One worker stands for all that were given: the turns are those of a run that ends with the tree's
--- words, of which the logs of all are the parts, and the queues have the labels by the logs
+-- words, of which the logs of all are the parts, and the queues have the labels, and tell the
+-- ledgers, by the logs
 pub record IsClosed (b : Board) (ws : List Hand) (queues : List HeldQueue) (kept : List ℕ)
     (free reached : ℕ) : Type 0 where
   pub says : SaysClosed b ws queues kept free reached
   pub ends : Ends b.layout says.words (all_joined ws)
   pub same_turns : says.turns ≡ trace_in (ordered b.layout) ends.turns
   pub held : AreHeld (knowledge (all_joined ws)) queues
+  pub told : TellLedgers (all_joined ws) queues
 
 -- of the run that ends with its words
 abbrev pub OfEachClosedRun : (Layout → List (ℕ × Event) → Type 0) → Type 0

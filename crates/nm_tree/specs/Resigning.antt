@@ -1,10 +1,9 @@
 -- What a worker that resigns leaves to its heir.
-use Rattle.std.specs.Prelude.{◌≡◌, ℕ, suc, nat_lt, if◌then◌else◌, List, [], ◌∷◌, None, IsSome, insert}
+use Rattle.std.specs.Prelude.{◌≡◌, ℕ, suc, nat_lt, if◌then◌else◌, List, [], ◌∷◌, None, IsSome}
 use Rattle.nm_epoch.specs.declared.collecting.HeldQueue.{HeldQueue}
 use Rattle.nm_steps.specs.Steps.{HasJoined, HasSeenAllOf}
 use Rattle.nm_tree.specs.declared.resigning.ResignReason.{ResignReason}
 use Rattle.nm_tree.specs.declared.resigning.ResignReason.TheVariants as because
-use Rattle.nm_tree.specs.declared.worker.Account.{Account}
 use Rattle.nm_tree.specs.Answers.{KeepsPlace}
 use Rattle.nm_tree.specs.Workers.{Hand, IsBetweenCalls}
 
@@ -22,13 +21,6 @@ inserted g (h ∷ hs) = if nat_lt h.origin g.origin then h ∷ inserted g hs els
 abbrev pub merged : List HeldQueue → List HeldQueue → List HeldQueue
 merged hs [] = hs
 merged hs (g ∷ gs) = inserted g (merged hs gs)
-
--- and their accounts, in the same order
-abbrev pub merged_accounts : List HeldQueue → List Account → List HeldQueue → List Account
-    → List Account
-merged_accounts hs xs (g ∷ gs) (y ∷ ys) =
-    insert (merged_accounts hs xs gs ys) (place_in g.origin (merged hs gs)) y
-merged_accounts hs xs _ _ = xs
 
 -- the leaver was in the midst of nothing; one step, by which the heir's pass stands for both, and
 -- has seen all that both had seen; and the heir holds the queues of both, by ascending origin, each

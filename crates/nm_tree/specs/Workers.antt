@@ -1,5 +1,5 @@
 -- A worker between two calls.
-use Rattle.std.specs.Prelude.{◌≡◌, ◌≢◌, ◌⊎◌, ◌<◌, ◌≤◌, ◌+◌, ◌-◌, ◌*◌, ◌==◌, ℕ, zero, suc, false, if◌then◌else◌, map, sum_by, length, List, [], ◌∷◌, Option, Some, None, IsSome, unwrap_or}
+use Rattle.std.specs.Prelude.{◌≡◌, ◌≢◌, ◌⊎◌, ◌<◌, ◌≤◌, ◌+◌, ◌*◌, ◌==◌, ℕ, zero, suc, false, if◌then◌else◌, map, sum_by, length, List, [], ◌∷◌, Option, Some, None, IsSome, unwrap_or}
 use Rattle.nm_edge.specs.Layouts.{Layout}
 use Rattle.nm_model.specs.declared.ledger.Ledger.{Ledger}
 use Rattle.nm_model.specs.Ledgers.{held, fresh_ledger}
@@ -11,15 +11,14 @@ use Rattle.nm_steps.specs.declared.view.View.{View}
 use Rattle.nm_steps.specs.Rules.{knowledge, held_log}
 use Rattle.nm_steps.specs.Steps.{Board, Stand, fresh_view}
 use Rattle.nm_epoch.specs.declared.collecting.HeldQueue.{HeldQueue}
-use Rattle.nm_epoch.specs.Collecting.{AreHeld, IsQueueOf, HasFewBlocks, spare_kept}
+use Rattle.nm_epoch.specs.Collecting.{AreHeld, HasFewBlocks, spare_kept}
 use Rattle.nm_epoch.specs.Resting.{IsResting, begun_for, epochs, search}
 use Rattle.nm_theorem.specs.Histories.{call_begun}
 use Rattle.nm_calls.specs.Bounds.{cut_bound}
 use Rattle.nm_calls.specs.Deletes.{IsRemoving}
 use Rattle.nm_calls.specs.Rooms.{TakesRoom}
-use Rattle.nm_calls.specs.Won.{capped, won_links, won_flags, won_splices}
+use Rattle.nm_calls.specs.Won.{CountsWon, capped, won_links, won_flags, won_splices}
 use Rattle.nm_pool.specs.declared.placement.Fit.{Fit}
-use Rattle.nm_tree.specs.declared.worker.Account.{Account}
 use Rattle.nm_tree.specs.declared.worker.Counts.{Counts}
 use Rattle.nm_calls.specs.declared.deleting.Unfinished.{Unfinished}
 use Rattle.nm_tree.specs.declared.worker.Standing.{Standing}
@@ -136,41 +135,32 @@ log_held_of v o = log_among o (held_log v.number v.log ∷ v.others)
 abbrev pub ledger_in : View → ℕ → Ledger
 ledger_in v o = unwrap_or (held (knowledge v).ledgers o) fresh_ledger
 
--- an account of a queue: how many links, flags and splices its origin's worker has won by its log,
--- and how many nodes were freed by its ledger and how many wait; what was retired is what was freed
--- and what waits
-pub record IsAccount (v : View) (h : HeldQueue) (a : Account) : Type 0 where
-  pub origin : a.origin ≡ h.origin
-  pub links : a.links ≡ capped (won_links (log_held_of v h.origin))
-  pub flags : a.flags ≡ capped (won_flags (log_held_of v h.origin))
-  pub splices : a.splices ≡ capped (won_splices (log_held_of v h.origin))
-  pub freed : a.freed ≡ capped (length (ledger_in v h.origin).freed)
-  pub waiting : a.waiting ≡ length h.queue.items
-  pub few : length h.queue.items ≤ v.layout.nodes
-  pub split : length (ledger_in v h.origin).retired
-      ≡ length (ledger_in v h.origin).freed + length h.queue.items
+-- a queue counts right: how many links, flags and splices its origin's worker has won by its log,
+-- and how many nodes were freed by its ledger
+pub record IsCounted (v : View) (h : HeldQueue) : Type 0 where
+  pub won : CountsWon (log_held_of v h.origin) h.counts
+  pub freed : h.counts.freed ≡ capped (length (ledger_in v h.origin).freed)
 
--- these are the accounts of these queues
-abbrev pub AreAccounts : View → List HeldQueue → List Account → Type 0
-AreAccounts v [] [] = Unit {0}
-AreAccounts v (h ∷ hs) (a ∷ xs) = IsAccount v h a × AreAccounts v hs xs
-AreAccounts v _ _ = ⊥
+-- so does each of these
+abbrev pub AreCounted : View → List HeldQueue → Type 0
+AreCounted v [] = Unit {0}
+AreCounted v (h ∷ hs) = IsCounted v h × AreCounted v hs
 
--- the account of an origin, where there is one
-abbrev pub account_in : List Account → ℕ → Option Account
-account_in [] o = None
-account_in (a ∷ xs) o = if a.origin == o then Some a else account_in xs o
-
--- what an account tells
-abbrev pub counts_in : Account → Counts
-counts_in a = record {
-  links = a.links;
-  flags = a.flags;
-  splices = a.splices;
-  retired = capped (a.freed + a.waiting);
-  freed = a.freed;
-  queued = a.waiting;
+-- what a queue tells of its origin: what was retired is what was freed and what waits
+abbrev pub counts_in : HeldQueue → Counts
+counts_in h = record {
+  links = h.counts.links;
+  flags = h.counts.flags;
+  splices = h.counts.splices;
+  retired = capped (h.counts.freed + length h.queue.items);
+  freed = h.counts.freed;
+  queued = length h.queue.items;
 }
+
+-- what the queue of an origin among these tells, where there is one
+abbrev pub counts_among : List HeldQueue → ℕ → Option Counts
+counts_among [] o = None
+counts_among (h ∷ hs) o = if h.origin == o then Some (counts_in h) else counts_among hs o
 
 -- the same as numbers that a caller reads, 2^64 - 1 where they are greater: what was won by the
 -- worker of an origin, by its log, and what became of the nodes that it cut off, by their ledger
@@ -182,30 +172,10 @@ pub record IsLedger (v : View) (o : ℕ) (c : Counts) : Type 0 where
   pub freed : c.freed ≡ capped (length (ledger_in v o).freed)
   pub queued : c.queued ≡ length (ledger_in v o).queue
 
--- as many accounts as queues, none of which has grown since
-abbrev pub ArePaired : List HeldQueue → List Account → Type 0
-ArePaired [] [] = Unit {0}
-ArePaired (h ∷ hs) (a ∷ xs) = (length h.queue.items ≤ a.waiting) × ArePaired hs xs
-ArePaired _ _ = ⊥
-
--- what has left a queue was freed
-abbrev pub noted_for : HeldQueue → Account → Account
-noted_for h a = record a {
-  freed = capped (a.freed + (a.waiting - length h.queue.items));
-  waiting = length h.queue.items;
-}
-
--- each account has noted what its queue has lost
-abbrev pub HaveNoted : List HeldQueue → List Account → List Account → Type 0
-HaveNoted [] [] [] = Unit {0}
-HaveNoted (h ∷ hs) (a ∷ xs) (b ∷ ys) = (b ≡ noted_for h a) × HaveNoted hs xs ys
-HaveNoted _ _ _ = ⊥
-
--- the own queue of a pass and its account
-pub record IsKept (p : Stand) (h : HeldQueue) (a : Account) : Type 0 where
-  pub own : h.origin ≡ p.view.number
-  pub queue : IsQueueOf (knowledge p.view) p.view.number h.queue.items
-  pub account : IsAccount p.view h a
+-- each of these queues tells its ledger
+abbrev pub TellLedgers : View → List HeldQueue → Type 0
+TellLedgers v [] = Unit {0}
+TellLedgers v (h ∷ hs) = IsLedger v h.origin (counts_in h) × TellLedgers v hs
 
 -- the ledgers of other origins are as they were
 abbrev pub OnlyOwnLedger : Stand → Stand → Type 0
@@ -244,19 +214,18 @@ abbrev pub HoldNoSlot : Layout → List Held → Type 0
 HoldNoSlot L [] = Unit {0}
 HoldNoSlot L (h ∷ hs) = (length (known_by L h.number h.log).drafts ≡ 0) × HoldNoSlot L hs
 
--- these are its accounts, one a queue, 64 at most; the own queue stands at that index; the queues
--- are those of the workers for whom it stands, of which those that resigned hold no slot; and there
--- is room for r queues and s accounts, one of each worker
-pub record IsWorker (w : Hand) (xs : List Account) (home r s : ℕ) : Type 0 where
+-- its queues, 64 at most, count right, and the own one stands at that index; they are those of the
+-- workers for whom it stands, of which those that resigned hold no slot; and there is room for r
+-- queues, one of each worker
+pub record IsWorker (w : Hand) (home r : ℕ) : Type 0 where
   pub between : IsBetweenCalls w
-  pub accounts : AreAccounts w.pass.view w.queues xs
+  pub counted : AreCounted w.pass.view w.queues
   pub few : length w.queues ≤ 64
   pub own : QueueStandsAt home w.pass.view.number w.queues
   pub alive : w.pass.view.spent ≡ false
   pub numbers : AreOf w.pass.view w.queues
   pub resigned : HoldNoSlot w.pass.view.layout w.pass.view.others
   pub room : w.pass.view.layout.workers ≤ r
-  pub account_room : w.pass.view.layout.workers ≤ s
 
 -- workers k and on, in the order of their numbers, which have done nothing yet
 abbrev pub AreNew : Board → ℕ → List Hand → Type 0

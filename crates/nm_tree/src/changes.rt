@@ -1,141 +1,15 @@
 //! Inserts, deletes, and what is left to do of a delete.
-ghost use Rattle.std.specs.Prelude.{◌≡◌, ◌⊎◌, ◌<◌, ◌+◌, ◌-◌, ◌^◌, min, true, false, IfErr, IsErrOf};
+ghost use Rattle.std.specs.Prelude.{◌≡◌, IsErrOf};
 ghost use Rattle.nm_steps.specs.Steps.{IsOf};
-ghost use Rattle.nm_calls.specs.Bounds.{cut_bound};
-ghost use Rattle.nm_calls.specs.Rooms.{TakesRoom};
-ghost use Rattle.nm_epoch.specs.Resting.{IsResting};
-ghost use Rattle.nm_calls.specs.Deletes.{IsRemoving, AfterDelete, LosesEachTry, LosesAfterFlag, LacksRoomOr, AfterFinish};
-ghost use Rattle.nm_calls.specs.Inserts.{AfterInsert};
-ghost use Rattle.nm_calls.specs.Won.{links_of_insert, flags_of_delete};
 ghost use Rattle.nm_busy.specs.Alone.{IsAlone};
 ghost use Rattle.nm_busy.specs.Pending.{NonePends};
-ghost use Rattle.nm_tree.specs.Workers.{IsKept};
 ghost use Rattle.nm_tree.specs.Calls.{MayCall, LeavesInsert, SaysInsert, LeavesDelete, SaysDelete, LeavesFinish, SaysFinish};
 
 use crate::fault::Fault;
 use crate::tree::Tree;
-use crate::worker::{Account, Standing, Worker};
-use nm_calls::{Fault as Lost, Missed, Unfinished, Workspace, delete, finish, insert};
+use crate::worker::{Standing, Worker};
+use nm_calls::{Fault as Lost, Missed, Unfinished, delete, finish, insert};
 use nm_edge::Key;
-use nm_epoch::HeldQueue;
-use nm_steps::{Pass, Shared};
-
-/// An insert with the own queue and its account.
-fn insert_with(
-    shared: &Shared,
-    pass: &mut Pass,
-    workspace: &mut Workspace,
-    own: &mut HeldQueue,
-    account: &mut Account,
-    key: Key,
-    tries: u32,
-) -> Result<bool, Lost>
-    requires own { IsOf shared.now pass.old }
-    requires rests { IsResting pass.old }
-    requires kept { IsKept pass.old own.old account.old }
-    ensures after { AfterInsert workspace.old.placement shared.now.layout tries key pass.old
-        pass.new result }
-    ensures refused { IsErrOf result Lost.NoMemory → own.new.queue.spare < cut_bound }
-    ensures kept { IsKept pass.new own.new account.new }
-    ensures room { TakesRoom own.old.queue own.new.queue }
-    ensures fit { workspace.new.placement ≡ workspace.old.placement }
-{
-    workspace.splices = account.splices;
-    let answer = insert(shared, pass, workspace, &mut own.queue, key, tries);
-    account.splices = workspace.splices;
-    account.links = raised(account.links, links_of(&answer));
-    account.waiting = own.queue.len();
-    answer
-}
-
-/// A delete with the own queue and its account.
-fn delete_with(
-    shared: &Shared,
-    pass: &mut Pass,
-    workspace: &mut Workspace,
-    own: &mut HeldQueue,
-    account: &mut Account,
-    key: Key,
-    tries: u32,
-) -> Result<bool, Missed>
-    requires own { IsOf shared.now pass.old }
-    requires rests { IsResting pass.old }
-    requires kept { IsKept pass.old own.old account.old }
-    ensures after { AfterDelete shared.now.layout tries key pass.old pass.new result }
-    ensures refused { IfErr result
-        (LacksRoomOr (LosesAfterFlag shared.now.layout tries key pass.old.view.log
-        pass.new.view.log) own.new.queue.spare) }
-    ensures kept { IsKept pass.new own.new account.new }
-    ensures room { TakesRoom own.old.queue own.new.queue }
-    ensures fit { workspace.new.placement ≡ workspace.old.placement }
-{
-    workspace.splices = account.splices;
-    let answer = delete(shared, pass, workspace, &mut own.queue, key, tries);
-    account.splices = workspace.splices;
-    account.flags = raised(account.flags, flags_of(&answer));
-    account.waiting = own.queue.len();
-    answer
-}
-
-/// A count with so many more, of which most calls have none: it stays where it is at 2^64 - 1.
-fn raised(count: u64, more: u64) -> u64
-    ensures { result ≡ min (count + more) (2 ^ 64 - 1) }
-{
-    if more == 0 {
-        return count;
-    }
-    count.saturating_add(more)
-}
-
-/// How many links an insert that answered so has won.
-fn links_of(answer: &Result<bool, Lost>) -> u64
-    ensures { result ≡ links_of_insert answer.now }
-{
-    match answer {
-        Ok(true) => 1,
-        Ok(false) | Err(_) => 0,
-    }
-}
-
-/// How many flags a delete that answered so has won.
-fn flags_of(answer: &Result<bool, Missed>) -> u64
-    ensures { result ≡ flags_of_delete answer.now }
-{
-    match answer {
-        Ok(true) | Err(Missed::Unfinished(_)) => 1,
-        Ok(false) | Err(Missed::Busy | Missed::NoMemory) => 0,
-    }
-}
-
-/// What is left to do of a delete, with the own queue and its account.
-fn finish_with(
-    shared: &Shared,
-    pass: &mut Pass,
-    workspace: &mut Workspace,
-    own: &mut HeldQueue,
-    account: &mut Account,
-    pending: &Unfinished,
-    tries: u32,
-) -> bool
-    requires own { IsOf shared.now pass.old }
-    requires removing { IsRemoving pass.old pending.now.key pending.now.leaf }
-    requires kept { IsKept pass.old own.old account.old }
-    ensures after { AfterFinish shared.now.layout pending.now.key pending.now.leaf tries
-        pass.old pass.new result }
-    ensures refused { result ≡ false
-        → (own.new.queue.spare < cut_bound)
-        ⊎ LosesEachTry shared.now.layout pending.now.key pending.now.leaf tries
-        pass.old.view.log pass.new.view.log }
-    ensures kept { IsKept pass.new own.new account.new }
-    ensures room { TakesRoom own.old.queue own.new.queue }
-    ensures fit { workspace.new.placement ≡ workspace.old.placement }
-{
-    workspace.splices = account.splices;
-    let done = finish(shared, pass, workspace, &mut own.queue, pending, tries);
-    account.splices = workspace.splices;
-    account.waiting = own.queue.len();
-    done
-}
 
 impl Tree {
     /// Inserts a key, and answers whether it was not in the set.
@@ -158,14 +32,12 @@ impl Tree {
             return Err(Fault::Pending);
         }
         let own = &mut worker.queues[worker.home];
-        let account = &mut worker.accounts[worker.home];
         worker.pass.is_of_a_run();
-        match insert_with(
+        match insert(
             &self.shared,
             &mut worker.pass,
             &mut worker.workspace,
             own,
-            account,
             key,
             tries,
         ) {
@@ -201,14 +73,12 @@ impl Tree {
             return Err(Fault::Pending);
         }
         let own = &mut worker.queues[worker.home];
-        let account = &mut worker.accounts[worker.home];
         worker.pass.is_of_a_run();
-        match delete_with(
+        match delete(
             &self.shared,
             &mut worker.pass,
             &mut worker.workspace,
             own,
-            account,
             key,
             tries,
         ) {
@@ -257,14 +127,12 @@ impl Tree {
             return Ok(false);
         };
         let own = &mut worker.queues[worker.home];
-        let account = &mut worker.accounts[worker.home];
         worker.pass.is_of_a_run();
-        if !finish_with(
+        if !finish(
             &self.shared,
             &mut worker.pass,
             &mut worker.workspace,
             own,
-            account,
             &pending,
             tries,
         ) {

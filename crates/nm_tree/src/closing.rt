@@ -40,8 +40,8 @@ pub struct CloseError {
 /// together all its nodes but the five fixed ones.
 #[derive(Drop)]
 pub struct Report {
-    /// The nodes that wait, oldest first, with their labels: one queue a worker, in the order of
-    /// the workers' numbers.
+    /// The nodes that wait, oldest first, with their labels, and what is counted of each worker:
+    /// one queue a worker, in the order of the workers' numbers.
     pub queues: Vec<HeldQueue>,
     /// The keys of the set, ascending, and those of leaves that are flagged and not cut off.
     pub keys: Vec<Key>,
@@ -103,11 +103,11 @@ fn close_all(tree: Tree, workers: Vec<Worker>, room: Room) -> Report
     let Worker {
         pass,
         queues,
-        accounts: _,
         home: _,
         standing: _,
         workspace: _,
     } = unite_all(&shared, workers);
+    pass.is_of_a_run();
     let words = shared.close(pass);
     let Found {
         keys,

@@ -1,12 +1,12 @@
 //! Workers that end early.
-ghost use Rattle.std.specs.Prelude.{◌≡◌, ◌+◌, ◌≤◌, ◌<◌, length, insert, vec_len, vec_capacity, IfOk, IfErr};
+ghost use Rattle.std.specs.Prelude.{◌≡◌, ◌+◌, ◌≤◌, ◌<◌, length, insert, vec_capacity, IfOk, IfErr};
 ghost use Rattle.nm_steps.specs.Steps.{IsOf, HasJoined, HasSeenAllOf};
 ghost use Rattle.nm_tree.specs.Answers.{KeepsPlace};
 ghost use Rattle.nm_tree.specs.Workers.{IsBetweenCalls};
-ghost use Rattle.nm_tree.specs.Resigning.{HasResigned, IsReason, merged, merged_accounts, place_in};
+ghost use Rattle.nm_tree.specs.Resigning.{HasResigned, IsReason, merged, place_in};
 
 use crate::tree::Tree;
-use crate::worker::{Account, Standing, Worker};
+use crate::worker::{Standing, Worker};
 use nm_epoch::HeldQueue;
 use nm_steps::Shared;
 use thiserror::Error;
@@ -75,7 +75,6 @@ pub(crate) fn unite(shared: &Shared, heir: Worker, leaver: Worker) -> Worker
     let Worker {
         pass,
         mut queues,
-        mut accounts,
         home: _,
         standing,
         workspace,
@@ -83,60 +82,42 @@ pub(crate) fn unite(shared: &Shared, heir: Worker, leaver: Worker) -> Worker
     let Worker {
         pass: other,
         queues: more,
-        accounts: theirs,
         home: _,
         standing: _,
         workspace: _,
     } = leaver;
     let pass = shared.join(pass, other);
-    take_over(&mut queues, &mut accounts, more, theirs);
+    take_over(&mut queues, more);
     let home = place_of(queues.as_slice(), pass.number());
     Worker {
         pass,
         queues,
-        accounts,
         home,
         standing,
         workspace,
     }
 }
 
-/// Puts more queues with their accounts among these, by origin. There is room for them.
-fn take_over(
-    queues: &mut Vec<HeldQueue>,
-    accounts: &mut Vec<Account>,
-    mut more: Vec<HeldQueue>,
-    mut theirs: Vec<Account>,
-)
+/// Puts more queues among these, by origin. There is room for them.
+fn take_over(queues: &mut Vec<HeldQueue>, mut more: Vec<HeldQueue>)
     requires room { length queues.old.items + length more.items ≤ vec_capacity queues.old }
-    requires account_room { length queues.old.items + length more.items
-        ≤ vec_capacity accounts.old }
-    requires paired { (length accounts.old.items ≡ length queues.old.items)
-        × (length theirs.items ≡ length more.items) }
     ensures queues { queues.new.items ≡ merged queues.old.items more.items }
-    ensures accounts { accounts.new.items
-        ≡ merged_accounts queues.old.items accounts.old.items more.items theirs.items }
-    ensures capacity { (vec_capacity queues.new ≡ vec_capacity queues.old)
-        × (vec_capacity accounts.new ≡ vec_capacity accounts.old) }
+    ensures capacity { vec_capacity queues.new ≡ vec_capacity queues.old }
 {
     while let Some(queue) = more.pop() {
-        let Some(account) = theirs.pop() else {
-            unreachable!()
-        };
         let place = place_of(queues.as_slice(), queue.origin);
         put_at(queues, place, queue);
-        put_at(accounts, place, account);
     }
 }
 
-/// Puts an item at an index. There is room for it.
-fn put_at<T: Drop>(items: &mut Vec<T>, place: usize, item: T)
-    requires { (place ≤ length items.old.items)
-        × (length items.old.items < vec_capacity items.old) }
-    ensures items { items.new.items ≡ insert items.old.items place item }
-    ensures capacity { vec_capacity items.new ≡ vec_capacity items.old }
+/// Puts a queue at an index. There is room for it.
+fn put_at(queues: &mut Vec<HeldQueue>, place: usize, queue: HeldQueue)
+    requires { (place ≤ length queues.old.items)
+        × (length queues.old.items < vec_capacity queues.old) }
+    ensures items { queues.new.items ≡ insert queues.old.items place queue }
+    ensures capacity { vec_capacity queues.new ≡ vec_capacity queues.old }
 {
-    let Ok(()) = items.insert(place, item) else {
+    let Ok(()) = queues.insert(place, queue) else {
         unreachable!()
     };
 }

@@ -5,11 +5,10 @@ ghost use Rattle.nm_steps.specs.Steps.{AreFresh};
 ghost use Rattle.nm_tree.specs.Calls.{MayCall};
 ghost use Rattle.nm_tree.specs.Workers.{AreNew, AreAllFresh, AreMade, HaveFit, HaveWorkers, IsFresh, IsNewWorker};
 
-use crate::worker::{Account, Standing, Worker};
+use crate::worker::{Standing, Worker};
 use nm_calls::Workspace;
 use nm_edge::{FIRST_SLOT, LEAST_NODES, Layout, MOST_NODES, MOST_SPACED_NODES, MOST_WORKERS};
 use nm_epoch::HeldQueue;
-use nm_limbo::BlockQueue;
 use nm_model::{NewError, layout_of, spaced_layout_of};
 use nm_pool::{Fit, Placement};
 use nm_steps::{Pass, Shared};
@@ -153,25 +152,12 @@ fn worker_of(
     ensures { IfOk result (IsNewWorker fit pass) }
 {
     let mut queues = Vec::with_capacity(alloc, workers)?;
-    let mut accounts = Vec::with_capacity(alloc, workers)?;
     let origin = pass.number();
-    queues.push(HeldQueue {
-        origin,
-        queue: BlockQueue::new(alloc),
-    })?;
-    accounts.push(Account {
-        origin,
-        links: 0,
-        flags: 0,
-        splices: 0,
-        freed: 0,
-        waiting: 0,
-    })?;
+    queues.push(HeldQueue::new(origin, alloc))?;
     let cursor = share.saturating_mul(origin).saturating_add(FIRST_SLOT);
     Ok(Worker {
         pass,
         queues,
-        accounts,
         home: 0,
         standing: Standing::Resting,
         workspace: Workspace::new(Placement::new(fit, cursor)),

@@ -6,7 +6,7 @@ ghost use Rattle.nm_calls.specs.declared.deleting.Unfinished.{Unfinished as Dele
 ghost use Rattle.nm_busy.specs.Pending.{HasDeletePending, leaf_after};
 ghost use Rattle.nm_epoch.specs.Collecting.{NoneHas};
 ghost use Rattle.nm_tree.specs.Running.{HasSeenTurns};
-ghost use Rattle.nm_tree.specs.Workers.{waiting_in, blocks_in, AreFewIn, account_in, counts_in, IsLedger, HasOrigin, IsBetweenCalls, IsIdle};
+ghost use Rattle.nm_tree.specs.Workers.{waiting_in, blocks_in, AreFewIn, counts_among, counts_in, IsLedger, HasOrigin, IsBetweenCalls, IsIdle};
 
 use nm_calls::{Unfinished, Workspace};
 use nm_edge::Key;
@@ -23,21 +23,6 @@ pub(crate) enum Standing {
     Held(u64),
     /// It is pinned for the leaf of a delete, until `finish` answers true.
     Pending(Unfinished),
-}
-
-/// What a worker keeps of one origin beside its queue. Each count stays where it is at 2^64 - 1.
-#[derive(Clone, Copy)]
-pub(crate) struct Account {
-    /// The worker whose splices cut the nodes.
-    pub(crate) origin: u32,
-    /// The links, flags and splices that worker has won.
-    pub(crate) links: u64,
-    pub(crate) flags: u64,
-    pub(crate) splices: u64,
-    /// The nodes that were freed of those that it cut off.
-    pub(crate) freed: u64,
-    /// The nodes that wait.
-    pub(crate) waiting: u32,
 }
 
 /// What a worker has won, and what became of the nodes that its splices cut off. Each count but the
@@ -58,6 +43,23 @@ pub struct Counts {
     pub queued: u64,
 }
 
+impl Counts {
+    /// What a queue tells of the worker whose splices cut its nodes.
+    pub fn of(held: &HeldQueue) -> Self
+        ensures { result ≡ counts_in held.now }
+    {
+        let waiting = u64::from(held.queue.len());
+        Counts {
+            links: held.counts.links,
+            flags: held.counts.flags,
+            splices: held.counts.splices,
+            retired: held.counts.freed.saturating_add(waiting),
+            freed: held.counts.freed,
+            queued: waiting,
+        }
+    }
+}
+
 /// One worker of a tree: what a thread needs to make calls on it. It may go to another thread
 /// between two calls.
 #[derive(Drop)]
@@ -65,12 +67,8 @@ pub struct Worker {
     pub(crate) pass: Pass,
     // By ascending origin, with the own one at `home`.
     pub(crate) queues: Vec<HeldQueue>,
-    // An account of each queue, in the same order.
-    pub(crate) accounts: Vec<Account>,
     pub(crate) home: usize,
     pub(crate) standing: Standing,
-    // Its count of won splices is that of the account at `home` during a call, and is not looked at
-    // between two of them.
     pub(crate) workspace: Workspace,
 }
 
@@ -95,8 +93,7 @@ impl Model for Worker {
           pending = pending_in w.standing;
           held = held_in w.standing;
           fit = w.workspace.placement;
-        }) w.accounts.items w.home
-        (vec_capacity w.queues) (vec_capacity w.accounts) };
+        }) w.home (vec_capacity w.queues) };
 }
 
 impl Worker {
@@ -146,7 +143,8 @@ impl Worker {
     pub fn ledger(&self) -> Counts
         ensures { IsLedger self.now.pass.view self.now.pass.view.number result }
     {
-        counts_of(&self.accounts[self.home])
+        self.pass.is_of_a_run();
+        Counts::of(&self.queues[self.home])
     }
 
     /// The same of the worker of an origin whose queue this one holds; `None` where it does not
@@ -156,10 +154,8 @@ impl Worker {
         ensures held { IfSome result (λ _. HasOrigin origin self.now.queues) }
         ensures none { IfNone result (NoneHas origin self.now.queues) }
     {
-        match account_of(self.accounts.as_slice(), origin) {
-            Some(account) => Some(counts_of(&account)),
-            None => None,
-        }
+        self.pass.is_of_a_run();
+        counts_among(self.queues.as_slice(), origin)
     }
 
     /// The key of a delete that has flagged its leaf and not answered yet; `finish` goes on with
@@ -214,27 +210,13 @@ impl Worker {
     }
 }
 
-/// What an account tells.
-fn counts_of(account: &Account) -> Counts
-    ensures { result ≡ counts_in account.now }
+/// What the queue of an origin among these tells.
+fn counts_among(queues: &[HeldQueue], origin: u32) -> Option<Counts>
+    ensures { result ≡ counts_among queues.now origin }
 {
-    Counts {
-        links: account.links,
-        flags: account.flags,
-        splices: account.splices,
-        retired: account.freed.saturating_add(u64::from(account.waiting)),
-        freed: account.freed,
-        queued: u64::from(account.waiting),
-    }
-}
-
-/// The account of an origin.
-fn account_of(accounts: &[Account], origin: u32) -> Option<Account>
-    ensures { result ≡ account_in accounts.now origin }
-{
-    let (first, rest) = accounts.split_first()?;
+    let (first, rest) = queues.split_first()?;
     if first.origin == origin {
-        return Some(*first);
+        return Some(Counts::of(first));
     }
-    account_of(rest, origin)
+    counts_among(rest, origin)
 }

@@ -1,11 +1,16 @@
-use Rattle.std.proofs.Common.{rules, List, length, arith, sym, ap, subst}
+use Rattle.std.proofs.Common.{rules, ℕ, List, length, arith, sym, ap, subst, ◌∙◌}
+use Rattle.std.specs.Prelude.{Option, option_map}
+use Rattle.nm_edge.specs.declared.node.NodeId.{NodeId}
+use Rattle.nm_steps.specs.Rules.{knowledge}
 use Rattle.nm_steps.specs.Steps.{Stand}
 use Rattle.nm_calls.specs.declared.spot.ChainEdge.{ChainEdge}
-use Rattle.nm_calls.specs.Cleanups.{HasCutNothing}
+use Rattle.nm_calls.specs.Cleanups.{HasCutNothing, freed_of_origin}
 use Rattle.nm_calls.specs.Telling.{Tells}
 use Rattle.nm_calls.specs.Walks.{IsAt}
+use Rattle.nm_calls.specs.Won.{capped}
 use Rattle.nm_calls.proofs.WholeCleanups.{lost_steps, won_steps, only_cleans, one_more}
-use Rattle.nm_calls.proofs.Adding.{cut_adds, not_cleaned_adds, adds_then, adds_these, counts_on}
+use Rattle.nm_calls.proofs.Adding.{cut_adds, not_cleaned_adds, adds_then, adds_these, splice_counts}
+use Rattle.nm_calls.proofs.KeptLedgers.{holds_on}
 use Rattle.nm_calls.proofs.cleaning.cleanup.Goals as goal
 
 pub cut_off-requires-clause-at : goal.cut_off-requires-clause-at
@@ -31,18 +36,23 @@ returns-clause-steps c =
     omega (arith, one, two, long)
 
 pub returns-then-not-cut_off-clause-kept : goal.returns-then-not-cut_off-clause-kept
-returns-then-not-cut_off-clause-kept c = record { queue = search rules; counted = counts_on _ _ _ (not_cleaned_adds c.args.spot.now c.as_slice.result.now c.args.pass.now.view.log c.cut_off.new.pass.view.log (c.cut_off.ensures.lost c.if-not-cut_off.true).part) c.requires.kept.counted }
+returns-then-not-cut_off-clause-kept c = holds_on _ _ _ c.cut_off.ensures.on.same (c.cut_off.ensures.lost c.if-not-cut_off.true).only.ledgers (not_cleaned_adds c.args.spot.now c.as_slice.result.now c.args.pass.now.view.log c.cut_off.new.pass.view.log (c.cut_off.ensures.lost c.if-not-cut_off.true).part) c.requires.kept
 
 pub returns-clause-kept : goal.returns-clause-kept
 returns-clause-kept c = record {
+  own = search rules;
   queue = search rules;
+  freed = (
+      let F : ℕ → Option ℕ = λ o. option_map (λ (ns : List NodeId). capped (length ns)) (freed_of_origin (knowledge c.label-epoch.new.pass.view) o) in
+      ap (λ (x : Stand). F x.view.number) c.label-epoch.ensures.on.same ∙ ap (λ (x : Stand). F x.view.number) c.cut_off.ensures.on.same
+      ∙ ap (option_map (λ (ns : List NodeId). capped (length ns))) (returns-clause-only c).ledgers.freed ∙ c.requires.kept.freed
+      );
   counted = (
       let old = c.args.pass.now.view.log in
       let mid = c.cut_off.new.pass.view.log in
       let new = c.label-epoch.new.pass.view.log in
-      let more = (adds_then old mid new (cut_adds c.args.spot.now c.as_slice.result.now c.cut_off.new.nodes.items old mid (c.cut_off.ensures.won c.if-not-cut_off.false).part) (adds_these _ mid new (ap (λ (x : Stand). x.view.log) c.label-epoch.ensures.step))).splices in
-      let was = c.requires.kept.counted in
-      let sum = c.saturating_add-workspace.ensures in
-      omega (arith, more, was, sum)
+      splice_counts _ _ old new
+      (adds_then old mid new (cut_adds c.args.spot.now c.as_slice.result.now c.cut_off.new.nodes.items old mid (c.cut_off.ensures.won c.if-not-cut_off.false).part) (adds_these _ mid new (ap (λ (x : Stand). x.view.log) c.label-epoch.ensures.step)))
+      c.saturating_add-held.ensures c.requires.kept.counted
       );
 }

@@ -1,8 +1,13 @@
-use Rattle.std.proofs.Common.{ap}
+use Rattle.std.proofs.Common.{ap, true, false}
+use Rattle.nm_model.specs.declared.event.Event.TheVariants.{Leave, LeaveWith}
 use Rattle.nm_model.specs.declared.event.Op.TheVariants.{Delete}
+use Rattle.nm_model.specs.declared.reply.Reply.TheVariants.{Departed}
 use Rattle.nm_order.specs.Facts.Fact.{CallIs}
 use Rattle.nm_steps.specs.Steps.{Stand}
 use Rattle.nm_calls.specs.Deletes.{leaf_of}
+use Rattle.nm_calls.proofs.Forks.{continued}
+use Rattle.nm_calls.proofs.GoingOn.{goes_then}
+use Rattle.nm_calls.proofs.KeptLedgers.{holds_left}
 use Rattle.nm_calls.proofs.Moments.{no_call_on}
 use Rattle.nm_calls.proofs.Rooms.{takes_then}
 use Rattle.nm_calls.proofs.Removals.{removing_from, removing_on}
@@ -45,10 +50,28 @@ returns-in-Removed-clause-moment c = λ o had.
     (c.remove_after.ensures.on.keeps call (c.inject.ensures.on.keeps call c.requires.call.call))
 
 pub returns-in-Removed-clause-blocks : goal.returns-in-Removed-clause-blocks
-returns-in-Removed-clause-blocks c = takes_then c.args.queue.now c.inject.new.queue c.remove_after.new.queue c.inject.ensures.blocks c.remove_after.ensures.blocks
+returns-in-Removed-clause-blocks c = takes_then c.args.held.now.queue c.inject.new.held.queue c.remove_after.new.held.queue c.inject.ensures.blocks c.remove_after.ensures.blocks
 
 pub returns-in-Refused-remove_after-clause-blocks : goal.returns-in-Refused-remove_after-clause-blocks
-returns-in-Refused-remove_after-clause-blocks c = takes_then c.args.queue.now c.inject.new.queue c.remove_after.new.queue c.inject.ensures.blocks c.remove_after.ensures.blocks
+returns-in-Refused-remove_after-clause-blocks c = takes_then c.args.held.now.queue c.inject.new.held.queue c.remove_after.new.held.queue c.inject.ensures.blocks c.remove_after.ensures.blocks
 
 pub returns-in-Spent-remove_after-clause-blocks : goal.returns-in-Spent-remove_after-clause-blocks
-returns-in-Spent-remove_after-clause-blocks c = takes_then c.args.queue.now c.inject.new.queue c.remove_after.new.queue c.inject.ensures.blocks c.remove_after.ensures.blocks
+returns-in-Spent-remove_after-clause-blocks c = takes_then c.args.held.now.queue c.inject.new.held.queue c.remove_after.new.held.queue c.inject.ensures.blocks c.remove_after.ensures.blocks
+
+pub returns-in-Absent-clause-on : goal.returns-in-Absent-clause-on
+returns-in-Absent-clause-on c = continued c.args.pass.now c.inject.new.pass c.answer.new.pass (LeaveWith false) Departed c.inject.ensures.on c.answer.ensures.took
+
+pub returns-in-Refused-clause-on : goal.returns-in-Refused-clause-on
+returns-in-Refused-clause-on c = continued c.args.pass.now c.inject.new.pass c.leave.new.pass Leave Departed c.inject.ensures.on c.leave.ensures.took
+
+pub returns-in-Spent-clause-on : goal.returns-in-Spent-clause-on
+returns-in-Spent-clause-on c = continued c.args.pass.now c.inject.new.pass c.leave-in-Spent.new.pass Leave Departed c.inject.ensures.on c.leave-in-Spent.ensures.took
+
+pub returns-in-Removed-clause-on : goal.returns-in-Removed-clause-on
+returns-in-Removed-clause-on c =
+    continued c.args.pass.now c.remove_after.new.pass c.answer-in-Removed.new.pass (LeaveWith true) Departed (goes_then c.args.pass.now c.inject.new.pass c.remove_after.new.pass c.inject.ensures.on c.remove_after.ensures.on) c.answer-in-Removed.ensures.took
+
+pub returns-in-Removed-clause-kept : goal.returns-in-Removed-clause-kept
+returns-in-Removed-clause-kept c =
+    holds_left c.remove_after.new.pass c.answer-in-Removed.new.pass _ (LeaveWith true) tt c.answer-in-Removed.ensures.took c.answer-in-Removed.ensures.hands
+    (c.remove_after.ensures.only.labelled (c.inject.ensures.only.labelled c.requires.unchanged.labelled)) c.remove_after.ensures.kept

@@ -76,10 +76,10 @@ returns-in-Spent-clause-after c =
     }
 
 pub returns-in-Removed-clause-few : goal.returns-in-Removed-clause-few
-returns-in-Removed-clause-few c = few_in_table c.args.shared.now c.args.pass.now c.remove.new.pass c.remove.new.queue.items c.requires.own c.remove.ensures.on.same c.remove.ensures.on.run c.remove.ensures.kept.queue
+returns-in-Removed-clause-few c = few_in_table c.args.shared.now c.args.pass.now c.remove.new.pass c.remove.new.held c.requires.own c.remove.ensures.on.same c.remove.ensures.on.run c.remove.ensures.kept
 
 pub returns-in-Refused-clause-few : goal.returns-in-Refused-clause-few
-returns-in-Refused-clause-few c = few_in_table c.args.shared.now c.args.pass.now c.remove.new.pass c.remove.new.queue.items c.requires.own c.remove.ensures.on.same c.remove.ensures.on.run c.remove.ensures.kept.queue
+returns-in-Refused-clause-few c = few_in_table c.args.shared.now c.args.pass.now c.remove.new.pass c.remove.new.held c.requires.own c.remove.ensures.on.same c.remove.ensures.on.run c.remove.ensures.kept
 
 pub returns-in-Spent-clause-few : goal.returns-in-Spent-clause-few
-returns-in-Spent-clause-few c = few_in_table c.args.shared.now c.args.pass.now c.remove.new.pass c.remove.new.queue.items c.requires.own c.remove.ensures.on.same c.remove.ensures.on.run c.remove.ensures.kept.queue
+returns-in-Spent-clause-few c = few_in_table c.args.shared.now c.args.pass.now c.remove.new.pass c.remove.new.held c.requires.own c.remove.ensures.on.same c.remove.ensures.on.run c.remove.ensures.kept

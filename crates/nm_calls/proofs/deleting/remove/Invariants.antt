@@ -11,7 +11,7 @@ invariant-loop-round l = record {
   removing : IsRemoving l.pass l.pending.key l.pending.leaf;
   on : GoesOn l.fn.pass l.pass;
   only : OnlyCleans l.fn.pass l.pass;
-  blocks : TakesRoom l.fn.queue l.queue;
-  kept : HoldsCuts l.pass l.queue l.workspace.splices;
+  blocks : TakesRoom l.fn.held.queue l.held.queue;
+  kept : HoldsCuts l.pass l.held;
   fit : l.workspace.placement ≡ l.fn.workspace.placement;
 }

@@ -26,11 +26,11 @@ returns-clause-part c =
     (subst (λ (n : NodeId). IsRemoval c.args.shared.now.layout c.args.key n (f.left - 1) mid c.remove.new.pass.view.log c.remove.result) c.leaf_at-leaf.ensures c.remove.ensures.part)
 
 pub make_room-requires : goal.make_room-requires
-make_room-requires c = record { few = may_grow_more c.args.pass.now c.args.queue.now.items c.requires.removing.run c.requires.kept.queue }
+make_room-requires c = record { few = may_grow_more c.args.pass.now c.args.held.now.queue.items c.requires.removing.run c.requires.kept.queue }
 
 pub returns-then-cleanup-clause-blocks : goal.returns-then-cleanup-clause-blocks
-returns-then-cleanup-clause-blocks c = takes_fills c.args.queue.now c.make_room.new.queue c.cleanup.new.queue c.make_room.ensures.blocks c.cleanup.ensures.fills
+returns-then-cleanup-clause-blocks c = takes_fills c.args.held.now.queue c.make_room.new.queue c.cleanup.new.held.queue c.make_room.ensures.blocks c.cleanup.ensures.fills
 
 pub returns-clause-blocks : goal.returns-clause-blocks
 returns-clause-blocks c =
-    takes_then c.args.queue.now c.cleanup.new.queue c.remove.new.queue (takes_fills c.args.queue.now c.make_room.new.queue c.cleanup.new.queue c.make_room.ensures.blocks c.cleanup.ensures.fills) c.remove.ensures.blocks
+    takes_then c.args.held.now.queue c.cleanup.new.held.queue c.remove.new.held.queue (takes_fills c.args.held.now.queue c.make_room.new.queue c.cleanup.new.held.queue c.make_room.ensures.blocks c.cleanup.ensures.fills) c.remove.ensures.blocks

@@ -1,11 +1,12 @@
-use Rattle.std.proofs.Common.{rules, inr, ◌∙◌, arith}
+use Rattle.std.proofs.Common.{rules, inr, refl, ◌∙◌, arith}
 use Rattle.nm_model.specs.declared.event.Op.TheVariants.{Delete}
 use Rattle.nm_order.specs.Facts.Since.{ThePin}
 use Rattle.nm_calls.specs.Telling.{Tells}
 use Rattle.nm_calls.proofs.GoingOn.{goes_then}
 use Rattle.nm_calls.proofs.Standing.{at_kept}
 use Rattle.nm_calls.proofs.Removals.{may_flag_there}
-use Rattle.nm_calls.proofs.Adding.{counts_on, adds_then, seeks_adds}
+use Rattle.nm_calls.proofs.Adding.{flag_counts, seeks_adds}
+use Rattle.nm_calls.proofs.KeptLedgers.{holds_on, holds_so}
 use Rattle.nm_calls.proofs.AddingDeletes.{flag_won_adds, flag_lost_adds}
 use Rattle.nm_calls.proofs.deleting.try_flag.Goals as goal
 
@@ -48,33 +49,23 @@ returns-in-Err-clause-part c =
     ))
 
 pub returns-in_default-clause-kept : goal.returns-in_default-clause-kept
-returns-in_default-clause-kept c = record { queue = search rules; counted = counts_on _ _ _ (seeks_adds c.args.shared.now.layout c.get-sought.result c.args.pass.now.view.log c.seek.new.pass.view.log c.seek.new.chain.items c.seek.result c.seek.ensures.walk) c.requires.kept.counted }
+returns-in_default-clause-kept c = holds_on _ _ _ c.seek.ensures.on.same c.seek.ensures.only.ledgers (seeks_adds c.args.shared.now.layout c.get-sought.result c.args.pass.now.view.log c.seek.new.pass.view.log c.seek.new.chain.items c.seek.result c.seek.ensures.walk) c.requires.kept
 
 pub returns-then-end-sought-clause-kept : goal.returns-then-end-sought-clause-kept
-returns-then-end-sought-clause-kept c = record { queue = search rules; counted = counts_on _ _ _ (seeks_adds c.args.shared.now.layout c.get-sought.result c.args.pass.now.view.log c.seek.new.pass.view.log c.seek.new.chain.items c.seek.result c.seek.ensures.walk) c.requires.kept.counted }
+returns-then-end-sought-clause-kept c = holds_on _ _ _ c.seek.ensures.on.same c.seek.ensures.only.ledgers (seeks_adds c.args.shared.now.layout c.get-sought.result c.args.pass.now.view.log c.seek.new.pass.view.log c.seek.new.chain.items c.seek.result c.seek.ensures.walk) c.requires.kept
 
 pub help-requires-clause-kept : goal.help-requires-clause-kept
-help-requires-clause-kept c = record {
-  queue = search rules;
-  counted = (
-      let old = c.args.pass.now.view.log in
-      let mid = c.seek.new.pass.view.log in
-      let new = c.flag_at.new.pass.view.log in
-      let lost = c.in-Err.ensures.lost in
-      counts_on _ old new (adds_then old mid new (seeks_adds c.args.shared.now.layout c.get-sought.result c.args.pass.now.view.log c.seek.new.pass.view.log c.seek.new.chain.items c.seek.result c.seek.ensures.walk) (flag_lost_adds c.in-Some.end lost.birth c.in-Err.found mid new lost.part)) c.requires.kept.counted
-      );
-}
+help-requires-clause-kept c =
+    let lost = c.in-Err.ensures.lost in
+    holds_on c.seek.new.pass c.flag_at.new.pass _ c.flag_at.ensures.on.same c.flag_at.ensures.only.ledgers (flag_lost_adds c.in-Some.end lost.birth c.in-Err.found c.seek.new.pass.view.log c.flag_at.new.pass.view.log lost.part)
+    (holds_on _ _ _ c.seek.ensures.on.same c.seek.ensures.only.ledgers (seeks_adds c.args.shared.now.layout c.get-sought.result c.args.pass.now.view.log c.seek.new.pass.view.log c.seek.new.chain.items c.seek.result c.seek.ensures.walk) c.requires.kept)
 
 pub returns-in-Ok-clause-kept : goal.returns-in-Ok-clause-kept
-returns-in-Ok-clause-kept c = record {
-  queue = search rules;
-  counted = (
-      let old = c.args.pass.now.view.log in
-      let mid = c.seek.new.pass.view.log in
-      let new = c.flag_at.new.pass.view.log in
-      counts_on _ old new (adds_then old mid new (seeks_adds c.args.shared.now.layout c.get-sought.result c.args.pass.now.view.log c.seek.new.pass.view.log c.seek.new.chain.items c.seek.result c.seek.ensures.walk) (flag_won_adds c.in-Some.end c.in-Ok.birth mid new c.in-Ok.ensures.won.part)) c.requires.kept.counted
-      );
-}
+returns-in-Ok-clause-kept c =
+    let p = c.seek.new.pass in
+    let q = c.flag_at.new.pass in
+    let was = holds_on _ _ _ c.seek.ensures.on.same c.seek.ensures.only.ledgers (seeks_adds c.args.shared.now.layout c.get-sought.result c.args.pass.now.view.log c.seek.new.pass.view.log c.seek.new.chain.items c.seek.result c.seek.ensures.walk) c.requires.kept in
+    holds_so p q c.args.held.now _ c.flag_at.ensures.on.same c.flag_at.ensures.only.ledgers (flag_counts _ _ p.view.log q.view.log (flag_won_adds c.in-Some.end c.in-Ok.birth p.view.log q.view.log c.in-Ok.ensures.won.part) c.saturating_add-held.ensures was.counted) refl was
 
 pub returns-in-Ok-clause-part : goal.returns-in-Ok-clause-part
 returns-in-Ok-clause-part c = record {

@@ -1,7 +1,9 @@
 use Rattle.std.proofs.Common.{rules, inl, inr, ◌∙◌}
 use Rattle.nm_order.specs.Facts.Fact.{IsBorn}
 use Rattle.nm_calls.proofs.Removals.{elsewhere_shows, found_flagged, cleanup_shows}
-use Rattle.nm_calls.proofs.Adding.{counts_on, seeks_adds}
+use Rattle.nm_calls.proofs.Adding.{seeks_adds}
+use Rattle.nm_calls.proofs.GoingOn.{goes_then}
+use Rattle.nm_calls.proofs.KeptLedgers.{holds_on}
 use Rattle.nm_calls.proofs.deleting.try_remove.Goals as goal
 
 pub returns-then-not-leads_to-clause-removed : goal.returns-then-not-leads_to-clause-removed
@@ -41,13 +43,16 @@ returns-clause-shows c = λ yes.
     (c.seek.ensures.on.keeps (IsBorn n.slot n.birth) c.requires.removing.born)
 
 pub returns-in_default-clause-kept : goal.returns-in_default-clause-kept
-returns-in_default-clause-kept c = record { queue = search rules; counted = counts_on _ _ _ (seeks_adds c.args.shared.now.layout c.get-key.result c.args.pass.now.view.log c.seek.new.pass.view.log c.seek.new.chain.items c.seek.result c.seek.ensures.walk) c.requires.kept.counted }
+returns-in_default-clause-kept c = holds_on _ _ _ c.seek.ensures.on.same c.seek.ensures.only.ledgers (seeks_adds c.args.shared.now.layout c.get-key.result c.args.pass.now.view.log c.seek.new.pass.view.log c.seek.new.chain.items c.seek.result c.seek.ensures.walk) c.requires.kept
 
 pub returns-then-not-leads_to-clause-kept : goal.returns-then-not-leads_to-clause-kept
-returns-then-not-leads_to-clause-kept c = record { queue = search rules; counted = counts_on _ _ _ (seeks_adds c.args.shared.now.layout c.get-key.result c.args.pass.now.view.log c.seek.new.pass.view.log c.seek.new.chain.items c.seek.result c.seek.ensures.walk) c.requires.kept.counted }
+returns-then-not-leads_to-clause-kept c = holds_on _ _ _ c.seek.ensures.on.same c.seek.ensures.only.ledgers (seeks_adds c.args.shared.now.layout c.get-key.result c.args.pass.now.view.log c.seek.new.pass.view.log c.seek.new.chain.items c.seek.result c.seek.ensures.walk) c.requires.kept
 
 pub cleanup-requires-clause-kept : goal.cleanup-requires-clause-kept
-cleanup-requires-clause-kept c = record { queue = search rules; counted = counts_on _ _ _ (seeks_adds c.args.shared.now.layout c.get-key.result c.args.pass.now.view.log c.seek.new.pass.view.log c.seek.new.chain.items c.seek.result c.seek.ensures.walk) c.requires.kept.counted }
+cleanup-requires-clause-kept c = holds_on _ _ _ c.seek.ensures.on.same c.seek.ensures.only.ledgers (seeks_adds c.args.shared.now.layout c.get-key.result c.args.pass.now.view.log c.seek.new.pass.view.log c.seek.new.chain.items c.seek.result c.seek.ensures.walk) c.requires.kept
 
 pub returns-clause-lost : goal.returns-clause-lost
 returns-clause-lost c = λ no. inr (c.in-Some.end, c.seek.new.chain.items, c.seek.new.pass.view.log, (rw c.get-key.ensures.number at c.in-Some.ensures.walk), c.leads_to.ensures.yes c.if-not-leads_to.false, (c.cleanup.ensures.lost no).part)
+
+pub returns-clause-on : goal.returns-clause-on
+returns-clause-on c = goes_then c.args.pass.now c.seek.new.pass c.cleanup.new.pass c.seek.ensures.on c.cleanup.ensures.on

@@ -1,4 +1,4 @@
-use Rattle.std.proofs.Common.{rules, ap, subst}
+use Rattle.std.proofs.Common.{rules, refl, ap, subst}
 use Rattle.std.specs.Prelude.{IfOk}
 use Rattle.nm_model.specs.declared.event.Op.TheVariants.{Insert}
 use Rattle.nm_steps.proofs.Seeing.{seen_all}
@@ -6,10 +6,11 @@ use Rattle.nm_calls.specs.Inserts.{Finishes}
 use Rattle.nm_model.specs.Searches.{Search}
 use Rattle.nm_calls.specs.Moments.{AnswerHasMoment, HadNoCall}
 use Rattle.nm_calls.proofs.Moments.{none_begun}
-use Rattle.nm_calls.proofs.Adding.{has_won, counts_on, pin_adds, moved_adds}
+use Rattle.nm_calls.proofs.Adding.{has_won, pin_adds, moved_adds}
 use Rattle.nm_calls.proofs.AddingInserts.{insert_did, insert_wins, insert_steps}
+use Rattle.nm_calls.proofs.KeptLedgers.{holds_on, holds_with_room}
 use Rattle.nm_calls.proofs.Rooms.{takes_then}
-use Rattle.nm_calls.proofs.Waiting.{may_grow_first, few_in_table}
+use Rattle.nm_calls.proofs.Waiting.{may_grow_more, few_in_table}
 use Rattle.nm_calls.proofs.inserting.insert.Goals as goal
 
 pub returns-clause-after : goal.returns-clause-after
@@ -50,16 +51,25 @@ returns-in_default-clause-after c = record {
 }
 
 pub returns-in_default-clause-kept : goal.returns-in_default-clause-kept
-returns-in_default-clause-kept c = record { queue = search rules; counted = counts_on _ _ _ (moved_adds Insert c.args.key c.args.tries c.args.pass.now.view.log c.pin_for.new.pass.view.log c.in_default.ensures.moved) c.requires.kept.counted }
+returns-in_default-clause-kept c = holds_on _ _ _ c.pin_for.ensures.on.same (c.pin_for.ensures.hands.ledgers c.requires.rests.labelled) (moved_adds Insert c.args.key c.args.tries c.args.pass.now.view.log c.pin_for.new.pass.view.log c.in_default.ensures.moved) (holds_with_room _ _ _ c.make_room.ensures.items c.requires.kept)
 
 pub insert_pinned-requires-clause-kept : goal.insert_pinned-requires-clause-kept
-insert_pinned-requires-clause-kept c = record { queue = search rules; counted = counts_on _ _ _ (pin_adds Insert c.args.key c.args.tries c.args.pass.now.view.log c.pin_for.new.pass.view.log c.in-Ok._epoch c.in-Ok.ensures.pinned) c.requires.kept.counted }
+insert_pinned-requires-clause-kept c = holds_on _ _ _ c.pin_for.ensures.on.same (c.pin_for.ensures.hands.ledgers c.requires.rests.labelled) (pin_adds Insert c.args.key c.args.tries c.args.pass.now.view.log c.pin_for.new.pass.view.log c.in-Ok._epoch c.in-Ok.ensures.pinned) (holds_with_room _ _ _ c.make_room.ensures.items c.requires.kept)
 
 pub make_room-requires : goal.make_room-requires
-make_room-requires c = record { few = may_grow_first c.args.shared.now c.args.pass.now c.args.queue.now.items c.requires.own c.is_of_a_run.ensures.fits c.requires.few }
-
-pub returns-clause-few : goal.returns-clause-few
-returns-clause-few c = few_in_table c.args.shared.now c.args.pass.now c.insert_pinned.new.pass c.insert_pinned.new.queue.items c.requires.own (search rules) c.insert_pinned.ensures.on.run c.insert_pinned.ensures.kept.queue
+make_room-requires c = record { few = may_grow_more c.args.pass.now c.args.held.now.queue.items (record { fits = c.is_of_a_run.ensures.fits; run = c.is_of_a_run.ensures.run }) c.requires.kept.queue }
 
 pub returns-clause-blocks : goal.returns-clause-blocks
-returns-clause-blocks c = takes_then c.args.queue.now c.make_room.new.queue c.insert_pinned.new.queue c.make_room.ensures.blocks c.insert_pinned.ensures.blocks
+returns-clause-blocks c = takes_then c.args.held.now.queue c.make_room.new.queue c.insert_pinned.new.held.queue c.make_room.ensures.blocks c.insert_pinned.ensures.blocks
+
+pub returns-then-tries-eq0-clause-few : goal.returns-then-tries-eq0-clause-few
+returns-then-tries-eq0-clause-few c = few_in_table c.args.shared.now c.args.pass.now c.args.pass.now c.args.held.now c.requires.own refl (record { fits = c.is_of_a_run.ensures.fits; run = c.is_of_a_run.ensures.run }) c.requires.kept
+
+pub returns-then-not-make_room-clause-few : goal.returns-then-not-make_room-clause-few
+returns-then-not-make_room-clause-few c = rw c.make_room.ensures.items (few_in_table c.args.shared.now c.args.pass.now c.args.pass.now c.args.held.now c.requires.own refl (record { fits = c.is_of_a_run.ensures.fits; run = c.is_of_a_run.ensures.run }) c.requires.kept)
+
+pub returns-in_default-clause-few : goal.returns-in_default-clause-few
+returns-in_default-clause-few c = rw c.make_room.ensures.items (few_in_table c.args.shared.now c.args.pass.now c.args.pass.now c.args.held.now c.requires.own refl (record { fits = c.is_of_a_run.ensures.fits; run = c.is_of_a_run.ensures.run }) c.requires.kept)
+
+pub returns-clause-few : goal.returns-clause-few
+returns-clause-few c = few_in_table c.args.shared.now c.args.pass.now c.insert_pinned.new.pass c.insert_pinned.new.held c.requires.own (search rules) c.insert_pinned.ensures.on.run c.insert_pinned.ensures.kept

@@ -3,6 +3,7 @@ use Rattle.std.specs.Prelude.{Option, None}
 use Rattle.nm_model.specs.declared.event.Event.TheVariants.{Leave, LeaveWith}
 use Rattle.nm_model.specs.declared.reply.Reply.TheVariants.{Departed}
 use Rattle.nm_model.specs.declared.event.Op.TheVariants.{Insert}
+use Rattle.nm_model.specs.declared.knowledge.Brief.{Brief}
 use Rattle.nm_model.specs.Searches.{Search}
 use Rattle.nm_order.specs.Facts.Fact.{CallIs}
 use Rattle.nm_calls.specs.declared.making.Fork.{Fork}
@@ -10,9 +11,9 @@ use Rattle.nm_pool.specs.declared.placement.Fit.{Fit}
 use Rattle.nm_calls.specs.declared.inserting.Attempt.TheVariants as attempt
 use Rattle.nm_calls.specs.Inserts.{HasFork, IsTry}
 use Rattle.nm_steps.specs.Steps.{Stand}
-use Rattle.nm_calls.proofs.Adding.{adds_then, adds_these, counts_on}
 use Rattle.nm_calls.proofs.AddingInserts.{back_adds}
 use Rattle.nm_calls.proofs.GoingOn.{goes_then, call_still}
+use Rattle.nm_calls.proofs.KeptLedgers.{holds_on, holds_left, holds_with_room}
 use Rattle.nm_calls.proofs.Moments.{no_call_on}
 use Rattle.nm_calls.proofs.Forks.{if_ready, none_left, tries_then, found_answer, continued}
 use Rattle.nm_calls.proofs.Rooms.{takes_then, takes_fills, later_refused}
@@ -57,7 +58,7 @@ loop-round-preserved c = record {
   unlinked = c.in-Lost.ensures.shows ∙ c.loop-round.invariant.unlinked;
   has = c.try_insert.ensures.has c.args.pass.now c.loop-round.invariant.has;
   first = λ none'. omega (arith, none');
-  blocks = takes_fills c.args.queue.now c.make_room_for.new.queue c.try_insert.new.queue (takes_then c.args.queue.now c.loop-round.queue c.make_room_for.new.queue c.loop-round.invariant.blocks c.make_room_for.ensures.blocks) c.try_insert.ensures.fills;
+  blocks = takes_fills c.args.held.now.queue c.make_room_for.new.queue c.try_insert.new.held.queue (takes_then c.args.held.now.queue c.loop-round.held.queue c.make_room_for.new.queue c.loop-round.invariant.blocks c.make_room_for.ensures.blocks) c.try_insert.ensures.fills;
   kept = c.try_insert.ensures.kept;
   fit = c.try_insert.ensures.fit ∙ c.loop-round.invariant.fit;
 }
@@ -68,7 +69,7 @@ returns-clause-private c =
 
 pub make_room_for-requires : goal.make_room_for-requires
 make_room_for-requires c = record {
-  few = may_grow_more c.loop-round.pass c.loop-round.queue.items c.loop-round.invariant.on.run c.loop-round.invariant.kept.queue;
+  few = may_grow_more c.loop-round.pass c.loop-round.held.queue.items c.loop-round.invariant.on.run c.loop-round.invariant.kept.queue;
   first = c.loop-round.invariant.first;
 }
 
@@ -87,24 +88,13 @@ returns-in-Linked-clause-moment c = λ o had.
     c.answer-in-Linked.ensures.moment o Insert c.args.key (no_call_on o c.loop-round.pass c.try_insert.new.pass round c.try_insert.ensures.on.same c.try_insert.ensures.on.past)
     (c.try_insert.ensures.on.keeps call (c.loop-round.invariant.on.keeps call c.requires.call.call))
 
-pub returns-in-Found-clause-kept : goal.returns-in-Found-clause-kept
-returns-in-Found-clause-kept c = record {
-  queue = search rules;
-  counted = (
-      let tried = c.try_insert.new.pass.view.log in
-      let back = c.give_back-in-Found.new.pass.view.log in
-      let new = c.answer.new.pass.view.log in
-      counts_on _ tried new (adds_then tried back new (back_adds c.try_insert.new.fork tried back c.give_back-in-Found.ensures.part) (adds_these _ back new (ap (λ (s : Stand). s.view.log) c.answer.ensures.took.step))) c.try_insert.ensures.kept.counted
-      );
-}
-
 pub returns-then-not-make_room_for-clause-part : goal.returns-then-not-make_room_for-clause-part
 returns-then-not-make_room_for-clause-part c = (
   c.loop-round.round,
   c.loop-round.fork,
   c.loop-round.pass.view.log,
   c.give_back.new.pass.view.log,
-  later_refused c.loop-round.round c.loop-round.queue c.make_room_for.new.queue c.loop-round.invariant.first c.make_room_for.ensures.more (c.make_room_for.ensures.refused c.if-not-make_room_for.true),
+  later_refused c.loop-round.round c.loop-round.held.queue c.make_room_for.new.queue c.loop-round.invariant.first c.make_room_for.ensures.more (c.make_room_for.ensures.refused c.if-not-make_room_for.true),
   c.loop-round-test.true,
   c.loop-round.invariant.lost,
   c.give_back.ensures.part,
@@ -112,16 +102,16 @@ returns-then-not-make_room_for-clause-part c = (
 )
 
 pub returns-then-not-make_room_for-clause-blocks : goal.returns-then-not-make_room_for-clause-blocks
-returns-then-not-make_room_for-clause-blocks c = takes_then c.args.queue.now c.loop-round.queue c.make_room_for.new.queue c.loop-round.invariant.blocks c.make_room_for.ensures.blocks
+returns-then-not-make_room_for-clause-blocks c = takes_then c.args.held.now.queue c.loop-round.held.queue c.make_room_for.new.queue c.loop-round.invariant.blocks c.make_room_for.ensures.blocks
 
 pub returns-in-Found-clause-blocks : goal.returns-in-Found-clause-blocks
-returns-in-Found-clause-blocks c = takes_fills c.args.queue.now c.make_room_for.new.queue c.try_insert.new.queue (takes_then c.args.queue.now c.loop-round.queue c.make_room_for.new.queue c.loop-round.invariant.blocks c.make_room_for.ensures.blocks) c.try_insert.ensures.fills
+returns-in-Found-clause-blocks c = takes_fills c.args.held.now.queue c.make_room_for.new.queue c.try_insert.new.held.queue (takes_then c.args.held.now.queue c.loop-round.held.queue c.make_room_for.new.queue c.loop-round.invariant.blocks c.make_room_for.ensures.blocks) c.try_insert.ensures.fills
 
 pub returns-in-Linked-clause-blocks : goal.returns-in-Linked-clause-blocks
-returns-in-Linked-clause-blocks c = takes_fills c.args.queue.now c.make_room_for.new.queue c.try_insert.new.queue (takes_then c.args.queue.now c.loop-round.queue c.make_room_for.new.queue c.loop-round.invariant.blocks c.make_room_for.ensures.blocks) c.try_insert.ensures.fills
+returns-in-Linked-clause-blocks c = takes_fills c.args.held.now.queue c.make_room_for.new.queue c.try_insert.new.held.queue (takes_then c.args.held.now.queue c.loop-round.held.queue c.make_room_for.new.queue c.loop-round.invariant.blocks c.make_room_for.ensures.blocks) c.try_insert.ensures.fills
 
 pub returns-in-Full-clause-blocks : goal.returns-in-Full-clause-blocks
-returns-in-Full-clause-blocks c = takes_fills c.args.queue.now c.make_room_for.new.queue c.try_insert.new.queue (takes_then c.args.queue.now c.loop-round.queue c.make_room_for.new.queue c.loop-round.invariant.blocks c.make_room_for.ensures.blocks) c.try_insert.ensures.fills
+returns-in-Full-clause-blocks c = takes_fills c.args.held.now.queue c.make_room_for.new.queue c.try_insert.new.held.queue (takes_then c.args.held.now.queue c.loop-round.held.queue c.make_room_for.new.queue c.loop-round.invariant.blocks c.make_room_for.ensures.blocks) c.try_insert.ensures.fills
 
 pub returns-in-Full-clause-part : goal.returns-in-Full-clause-part
 returns-in-Full-clause-part c =
@@ -159,3 +149,35 @@ returns-in-Linked-clause-part c =
     subst (λ (f : Fit). IsTry f c.args.shared.now.layout c.args.key c.loop-round.fork c.try_insert.new.fork c.loop-round.pass.view.log c.try_insert.new.pass.view.log attempt.Linked) c.loop-round.invariant.fit c.in-Linked.ensures.part in
     let linked : IsTry c.args.workspace.now.placement c.args.shared.now.layout c.args.key c.loop-round.fork None c.loop-round.pass.view.log c.try_insert.new.pass.view.log attempt.Linked = (h.0, h.1, h.2, h.3, refl) in
     (c.try_insert.new.pass.view.log, (c.loop-round.round, c.loop-round.fork, c.loop-round.pass.view.log, c.loop-round-test.true, c.loop-round.invariant.lost, linked), ap (λ (s : Stand). s.view.log) c.answer-in-Linked.ensures.took.step)
+
+pub returns-then-not-make_room_for-clause-on : goal.returns-then-not-make_room_for-clause-on
+returns-then-not-make_room_for-clause-on c =
+    let o = c.args.pass.now in
+    continued o c.give_back.new.pass c.leave.new.pass Leave Departed (goes_then o c.loop-round.pass c.give_back.new.pass c.loop-round.invariant.on c.give_back.ensures.on) c.leave.ensures.took
+
+pub returns-clause-on : goal.returns-clause-on
+returns-clause-on c =
+    let o = c.args.pass.now in
+    continued o c.give_back-2.new.pass c.leave-2.new.pass Leave Departed (goes_then o c.loop-round.pass c.give_back-2.new.pass c.loop-round.invariant.on c.give_back-2.ensures.on) c.leave-2.ensures.took
+
+pub returns-then-not-make_room_for-clause-kept : goal.returns-then-not-make_room_for-clause-kept
+returns-then-not-make_room_for-clause-kept c =
+    let room = holds_with_room c.loop-round.pass c.loop-round.held c.make_room_for.new.queue c.make_room_for.ensures.items c.loop-round.invariant.kept in
+    holds_left c.give_back.new.pass c.leave.new.pass _ Leave tt c.leave.ensures.took c.leave.ensures.hands (ap (λ (b : Brief). b.unlabelled) c.give_back.ensures.only.epochs ∙ (c.loop-round.invariant.only.labelled c.requires.unchanged.labelled))
+    (holds_on c.loop-round.pass c.give_back.new.pass _ c.give_back.ensures.on.same c.give_back.ensures.only.ledgers (back_adds c.loop-round.fork c.loop-round.pass.view.log c.give_back.new.pass.view.log c.give_back.ensures.part) room)
+
+pub returns-in-Found-clause-kept : goal.returns-in-Found-clause-kept
+returns-in-Found-clause-kept c =
+    holds_left c.give_back-in-Found.new.pass c.answer.new.pass _ (LeaveWith false) tt c.answer.ensures.took c.answer.ensures.hands (ap (λ (b : Brief). b.unlabelled) c.give_back-in-Found.ensures.only.epochs ∙ (c.try_insert.ensures.only.labelled (c.loop-round.invariant.only.labelled c.requires.unchanged.labelled)))
+    (holds_on c.try_insert.new.pass c.give_back-in-Found.new.pass _ c.give_back-in-Found.ensures.on.same c.give_back-in-Found.ensures.only.ledgers (back_adds c.try_insert.new.fork c.try_insert.new.pass.view.log c.give_back-in-Found.new.pass.view.log c.give_back-in-Found.ensures.part) c.try_insert.ensures.kept)
+
+pub returns-in-Linked-clause-kept : goal.returns-in-Linked-clause-kept
+returns-in-Linked-clause-kept c = holds_left c.try_insert.new.pass c.answer-in-Linked.new.pass _ (LeaveWith true) tt c.answer-in-Linked.ensures.took c.answer-in-Linked.ensures.hands (c.try_insert.ensures.only.labelled (c.loop-round.invariant.only.labelled c.requires.unchanged.labelled)) c.try_insert.ensures.kept
+
+pub returns-in-Full-clause-kept : goal.returns-in-Full-clause-kept
+returns-in-Full-clause-kept c = holds_left c.try_insert.new.pass c.leave-in-Full.new.pass _ Leave tt c.leave-in-Full.ensures.took c.leave-in-Full.ensures.hands (c.try_insert.ensures.only.labelled (c.loop-round.invariant.only.labelled c.requires.unchanged.labelled)) c.try_insert.ensures.kept
+
+pub returns-clause-kept : goal.returns-clause-kept
+returns-clause-kept c =
+    holds_left c.give_back-2.new.pass c.leave-2.new.pass _ Leave tt c.leave-2.ensures.took c.leave-2.ensures.hands (ap (λ (b : Brief). b.unlabelled) c.give_back-2.ensures.only.epochs ∙ (c.loop-round.invariant.only.labelled c.requires.unchanged.labelled))
+    (holds_on c.loop-round.pass c.give_back-2.new.pass _ c.give_back-2.ensures.on.same c.give_back-2.ensures.only.ledgers (back_adds c.loop-round.fork c.loop-round.pass.view.log c.give_back-2.new.pass.view.log c.give_back-2.ensures.part) c.loop-round.invariant.kept)

@@ -14,8 +14,8 @@ invariant-loop-round l = record {
   only : OnlyTries l.fn.pass l.pass;
   unlinked : (search l.pass).linked ≡ false;
   has : HasFork l.fn.pass l.pass l.fork;
-  first : l.round ≡ 0 → cut_bound ≤ l.queue.spare;
-  blocks : TakesRoom l.fn.queue l.queue;
-  kept : HoldsCuts l.pass l.queue l.workspace.splices;
+  first : l.round ≡ 0 → cut_bound ≤ l.held.queue.spare;
+  blocks : TakesRoom l.fn.held.queue l.held.queue;
+  kept : HoldsCuts l.pass l.held;
   fit : l.workspace.placement ≡ l.fn.workspace.placement;
 }

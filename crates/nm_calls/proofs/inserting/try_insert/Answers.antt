@@ -1,4 +1,4 @@
-use Rattle.std.proofs.Common.{rules, inr, sym, subst}
+use Rattle.std.proofs.Common.{rules, inr, refl, sym, subst, ◌∙◌}
 use Rattle.nm_model.specs.declared.event.Op.TheVariants.{Insert}
 use Rattle.nm_order.specs.Facts.Since.{ThePin}
 use Rattle.nm_order.specs.Facts.Fact.{EndedAt}
@@ -8,7 +8,8 @@ use Rattle.nm_calls.proofs.GoingOn.{goes_then}
 use Rattle.nm_calls.proofs.Standing.{at_kept}
 use Rattle.nm_calls.proofs.ShortWalks.{key_of_call}
 use Rattle.nm_calls.proofs.Forks.{kept_fork, lost_fork, linked_fork, held_fork, may_grow}
-use Rattle.nm_calls.proofs.Adding.{counts_on, adds_then, stops_adds}
+use Rattle.nm_calls.proofs.Adding.{link_counts, stops_adds}
+use Rattle.nm_calls.proofs.KeptLedgers.{holds_on, holds_so}
 use Rattle.nm_calls.proofs.AddingInserts.{readied_adds, grows_won, grows_lost}
 use Rattle.nm_calls.proofs.inserting.try_insert.Goals as goal
 
@@ -59,48 +60,31 @@ returns-in-Err-clause-has c = λ o has.
     kept_fork o c.grow.new.pass c.help.new.pass c.ready.new.fork c.help.ensures.on.same c.help.ensures.only.private (subst (λ f. HasFork o c.grow.new.pass f) (sym is) now)
 
 pub returns-in_default-clause-kept : goal.returns-in_default-clause-kept
-returns-in_default-clause-kept c = record { queue = search rules; counted = counts_on _ _ _ (stops_adds c.args.shared.now.layout c.args.key c.args.pass.now.view.log c.stop.new.pass.view.log c.stop.new.chain.items c.stop.result c.stop.ensures.walk) c.requires.kept.counted }
+returns-in_default-clause-kept c = holds_on _ _ _ c.stop.ensures.on.same c.stop.ensures.only.ledgers (stops_adds c.args.shared.now.layout c.args.key c.args.pass.now.view.log c.stop.new.pass.view.log c.stop.new.chain.items c.stop.result c.stop.ensures.walk) c.requires.kept
 
 pub returns-then-end-key-clause-kept : goal.returns-then-end-key-clause-kept
-returns-then-end-key-clause-kept c = record { queue = search rules; counted = counts_on _ _ _ (stops_adds c.args.shared.now.layout c.args.key c.args.pass.now.view.log c.stop.new.pass.view.log c.stop.new.chain.items c.stop.result c.stop.ensures.walk) c.requires.kept.counted }
+returns-then-end-key-clause-kept c = holds_on _ _ _ c.stop.ensures.on.same c.stop.ensures.only.ledgers (stops_adds c.args.shared.now.layout c.args.key c.args.pass.now.view.log c.stop.new.pass.view.log c.stop.new.chain.items c.stop.result c.stop.ensures.walk) c.requires.kept
 
 pub returns-in_default-ready-clause-kept : goal.returns-in_default-ready-clause-kept
-returns-in_default-ready-clause-kept c = record {
-  queue = search rules;
-  counted = (
-      let L = c.args.shared.now.layout in
-      let old = c.args.pass.now.view.log in
-      let mid = c.stop.new.pass.view.log in
-      let claimed = c.ready.new.pass.view.log in
-      counts_on _ old claimed (adds_then old mid claimed (stops_adds c.args.shared.now.layout c.args.key c.args.pass.now.view.log c.stop.new.pass.view.log c.stop.new.chain.items c.stop.result c.stop.ensures.walk) (readied_adds c.args.workspace.now.placement L.nodes c.args.fork.now c.ready.new.fork c.ready.result mid claimed c.ready.ensures.part)) c.requires.kept.counted
-      );
-}
+returns-in_default-ready-clause-kept c =
+    holds_on c.stop.new.pass c.ready.new.pass _ c.ready.ensures.on.same c.ready.ensures.only.ledgers (readied_adds c.args.workspace.now.placement c.args.shared.now.layout.nodes c.args.fork.now c.ready.new.fork c.ready.result c.stop.new.pass.view.log c.ready.new.pass.view.log c.ready.ensures.part)
+    (holds_on _ _ _ c.stop.ensures.on.same c.stop.ensures.only.ledgers (stops_adds c.args.shared.now.layout c.args.key c.args.pass.now.view.log c.stop.new.pass.view.log c.stop.new.chain.items c.stop.result c.stop.ensures.walk) c.requires.kept)
 
 pub help-requires-clause-kept : goal.help-requires-clause-kept
-help-requires-clause-kept c = record {
-  queue = search rules;
-  counted = (
-      let L = c.args.shared.now.layout in
-      let old = c.args.pass.now.view.log in
-      let mid = c.stop.new.pass.view.log in
-      let claimed = c.ready.new.pass.view.log in
-      let new = c.grow.new.pass.view.log in
-      counts_on _ old new (adds_then old mid new (stops_adds c.args.shared.now.layout c.args.key c.args.pass.now.view.log c.stop.new.pass.view.log c.stop.new.chain.items c.stop.result c.stop.ensures.walk) (adds_then mid claimed new (readied_adds c.args.workspace.now.placement L.nodes c.args.fork.now c.ready.new.fork c.ready.result mid claimed c.ready.ensures.part) (grows_lost L.radix c.args.key c.in-Some.end c.in-Some-ready.made c.in-Err.found claimed new c.in-Err.ensures.lost.part))) c.requires.kept.counted
-      );
-}
+help-requires-clause-kept c =
+    holds_on c.ready.new.pass c.grow.new.pass _ c.grow.ensures.on.same c.grow.ensures.call.ledgers
+    (grows_lost c.args.shared.now.layout.radix c.args.key c.in-Some.end c.in-Some-ready.made c.in-Err.found c.ready.new.pass.view.log c.grow.new.pass.view.log c.in-Err.ensures.lost.part)
+    (holds_on c.stop.new.pass c.ready.new.pass _ c.ready.ensures.on.same c.ready.ensures.only.ledgers (readied_adds c.args.workspace.now.placement c.args.shared.now.layout.nodes c.args.fork.now c.ready.new.fork c.ready.result c.stop.new.pass.view.log c.ready.new.pass.view.log c.ready.ensures.part)
+    (holds_on _ _ _ c.stop.ensures.on.same c.stop.ensures.only.ledgers (stops_adds c.args.shared.now.layout c.args.key c.args.pass.now.view.log c.stop.new.pass.view.log c.stop.new.chain.items c.stop.result c.stop.ensures.walk) c.requires.kept))
 
 pub returns-in-Ok-clause-kept : goal.returns-in-Ok-clause-kept
-returns-in-Ok-clause-kept c = record {
-  queue = search rules;
-  counted = (
-      let L = c.args.shared.now.layout in
-      let old = c.args.pass.now.view.log in
-      let mid = c.stop.new.pass.view.log in
-      let claimed = c.ready.new.pass.view.log in
-      let new = c.grow.new.pass.view.log in
-      counts_on _ old new (adds_then old mid new (stops_adds c.args.shared.now.layout c.args.key c.args.pass.now.view.log c.stop.new.pass.view.log c.stop.new.chain.items c.stop.result c.stop.ensures.walk) (adds_then mid claimed new (readied_adds c.args.workspace.now.placement L.nodes c.args.fork.now c.ready.new.fork c.ready.result mid claimed c.ready.ensures.part) (grows_won L.radix c.args.key c.in-Some.end c.in-Some-ready.made claimed new c.in-Ok.ensures.won.part))) c.requires.kept.counted
-      );
-}
+returns-in-Ok-clause-kept c =
+    let p = c.ready.new.pass in
+    let q = c.grow.new.pass in
+    let grown = grows_won c.args.shared.now.layout.radix c.args.key c.in-Some.end c.in-Some-ready.made p.view.log q.view.log c.in-Ok.ensures.won.part in
+    let was = holds_on c.stop.new.pass p c.args.held.now c.ready.ensures.on.same c.ready.ensures.only.ledgers (readied_adds c.args.workspace.now.placement c.args.shared.now.layout.nodes c.args.fork.now c.ready.new.fork c.ready.result c.stop.new.pass.view.log c.ready.new.pass.view.log c.ready.ensures.part)
+    (holds_on _ _ _ c.stop.ensures.on.same c.stop.ensures.only.ledgers (stops_adds c.args.shared.now.layout c.args.key c.args.pass.now.view.log c.stop.new.pass.view.log c.stop.new.chain.items c.stop.result c.stop.ensures.walk) c.requires.kept) in
+    holds_so p q c.args.held.now _ c.grow.ensures.on.same c.grow.ensures.call.ledgers (link_counts _ _ p.view.log q.view.log grown c.saturating_add-held.ensures was.counted) refl was
 
 pub returns-in-Err-clause-part : goal.returns-in-Err-clause-part
 returns-in-Err-clause-part c =

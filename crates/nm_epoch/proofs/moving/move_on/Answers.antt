@@ -1,13 +1,9 @@
 use Rattle.std.proofs.Common.{◌≡◌, ap, sym, ◌∙◌, arith, Ok, Err}
 use Rattle.nm_edge.specs.Layouts.{Layout}
 use Rattle.nm_steps.specs.Steps.{Stand}
-use Rattle.nm_epoch.specs.Resting.{epochs}
 use Rattle.nm_epoch.proofs.Allowed.{may_advance}
-use Rattle.nm_epoch.proofs.Scanning.{looking_on, settles_on}
-use Rattle.nm_epoch.proofs.Advances.{is_moved, is_lost, is_held, settles_advance}
-use Rattle.nm_epoch.proofs.KeptHands.{kept_on, look_keeps}
-use Rattle.nm_epoch.proofs.Advances.{advance_keeps}
-use Rattle.nm_steps.proofs.Seeing.{continues_then}
+use Rattle.nm_epoch.proofs.Scanning.{looking_on}
+use Rattle.nm_epoch.proofs.Advances.{is_moved, is_lost, is_held, look_goes_on, advance_goes_on}
 use Rattle.nm_epoch.proofs.moving.move_on.Goals as goal
 
 pub returns-in-Some-clause-part : goal.returns-in-Some-clause-part
@@ -16,32 +12,25 @@ returns-in-Some-clause-part c =
     (is_held c.loop-worker.pass c.look-found.new.pass c.in-Some.at c.args.me c.read-epoch.result c.args.shared.now.layout.workers c.loop-worker.worker c.look-found.result c.args.pass.now.view.log
     c.look-found.ensures.on.same c.look-found.ensures.found c.in-Some.ensures.0 c.in-Some.ensures.1 (let below = c.loop-worker-test.true in omega (arith, m, below)) c.loop-worker.invariant.looking)
 
-pub returns-in-Some-clause-settles : goal.returns-in-Some-clause-settles
-returns-in-Some-clause-settles c =
-    settles_on c.args.me c.loop-worker.worker (epochs c.loop-worker.pass).pin c.look-found.result c.loop-worker.pass c.look-found.new.pass c.look-found.ensures.on.same c.look-found.ensures.found c.args.pass.now c.loop-worker.invariant.settles
-
 pub loop-worker-preserved : goal.loop-worker-preserved
 loop-worker-preserved c =
     let m : c.workers-workers.result ≡ c.args.shared.now.layout.workers = c.workers-workers.ensures.workers ∙ ap (λ (l : Layout). l.workers) c.layout.ensures in
-    let size : c.loop-worker.pass.view.layout.workers ≡ c.args.shared.now.layout.workers = ap (λ (p : Stand). p.view.layout.workers) c.loop-worker.invariant.on.same ∙ ap (λ (l : Layout). l.workers) c.requires.own.layout in
+    let size : c.loop-worker.pass.view.layout.workers ≡ c.args.shared.now.layout.workers = ap (λ (p : Stand). p.view.layout.workers) c.loop-worker.invariant.after.on.same ∙ ap (λ (l : Layout). l.workers) c.requires.own.layout in
     record {
-      on = continues_then _ _ _ c.loop-worker.invariant.on c.look-found.ensures.on;
+      after = look_goes_on c.args.me c.loop-worker.worker c.look-found.result _ _ _ c.loop-worker.invariant.after c.look-found.ensures.on c.look-found.ensures.found;
       looking = looking_on c.args.me c.read-epoch.result c.loop-worker.worker c.look-found.result c.args.pass.now.view.log c.loop-worker.pass c.look-found.new.pass c.look-found.ensures.on.same c.look-found.ensures.found
           c.in_default.ensures (let below = c.loop-worker-test.true in omega (arith, m, size, below)) c.loop-worker.invariant.looking;
-      settles = settles_on c.args.me c.loop-worker.worker (epochs c.loop-worker.pass).pin c.look-found.result c.loop-worker.pass c.look-found.new.pass c.look-found.ensures.on.same c.look-found.ensures.found c.args.pass.now c.loop-worker.invariant.settles;
-      hands = kept_on c.args.pass.now c.loop-worker.pass c.look-found.new.pass c.loop-worker.invariant.hands
-          (look_keeps c.args.me c.loop-worker.worker (epochs c.loop-worker.pass).pin c.look-found.result c.loop-worker.pass c.look-found.new.pass c.look-found.ensures.on.same c.look-found.ensures.found);
     }
 
 pub advance-requires-clause-may : goal.advance-requires-clause-may
 advance-requires-clause-may c =
     let m : c.workers-workers.result ≡ c.args.shared.now.layout.workers = c.workers-workers.ensures.workers ∙ ap (λ (l : Layout). l.workers) c.layout.ensures in
-    let size : c.loop-worker.pass.view.layout.workers ≡ c.args.shared.now.layout.workers = ap (λ (p : Stand). p.view.layout.workers) c.loop-worker.invariant.on.same ∙ ap (λ (l : Layout). l.workers) c.requires.own.layout in
+    let size : c.loop-worker.pass.view.layout.workers ≡ c.args.shared.now.layout.workers = ap (λ (p : Stand). p.view.layout.workers) c.loop-worker.invariant.after.on.same ∙ ap (λ (l : Layout). l.workers) c.requires.own.layout in
     let there = c.requires.there in
     let past = c.loop-worker-test.false in
     let within = c.loop-worker.auto.worker-end in
     let all : c.loop-worker.worker ≡ c.workers-workers.result = omega arith in
-    may_advance c.args.me c.read-epoch.result c.loop-worker.worker c.args.pass.now.view.log c.loop-worker.pass (c.requires.me ∙ sym (ap (λ (p : Stand). p.view.number) c.loop-worker.invariant.on.same))
+    may_advance c.args.me c.read-epoch.result c.loop-worker.worker c.args.pass.now.view.log c.loop-worker.pass (c.requires.me ∙ sym (ap (λ (p : Stand). p.view.number) c.loop-worker.invariant.after.on.same))
     (omega (arith, there, all, m)) (omega (arith, all, m, size)) (let small = c.read-epoch.ensures.small in let other = c.if-epoch-eq-LAST_NUMBER.false in omega (arith, small, other)) c.loop-worker.invariant.looking
 
 pub returns-in-Ok-clause-part : goal.returns-in-Ok-clause-part
@@ -51,9 +40,6 @@ returns-in-Ok-clause-part c =
     let within = c.loop-worker.auto.worker-end in
     (is_moved c.loop-worker.pass c.advance.new.pass c.in-Ok.next c.args.me c.read-epoch.result c.args.shared.now.layout.workers c.loop-worker.worker c.args.pass.now.view.log c.in-Ok.ensures.took.step c.in-Ok.ensures.from (omega (arith, m, past, within)) c.loop-worker.invariant.looking)
 
-pub returns-in-Ok-clause-settles : goal.returns-in-Ok-clause-settles
-returns-in-Ok-clause-settles c = settles_advance c.loop-worker.pass c.advance.new.pass (Ok c.in-Ok.next) c.in-Ok.ensures.took.step c.args.pass.now c.loop-worker.invariant.settles
-
 pub returns-in-Err-clause-part : goal.returns-in-Err-clause-part
 returns-in-Err-clause-part c =
     let m : c.workers-workers.result ≡ c.args.shared.now.layout.workers = c.workers-workers.ensures.workers ∙ ap (λ (l : Layout). l.workers) c.layout.ensures in
@@ -61,15 +47,11 @@ returns-in-Err-clause-part c =
     let within = c.loop-worker.auto.worker-end in
     (is_lost c.loop-worker.pass c.advance.new.pass c.in-Err.found c.args.me c.read-epoch.result c.args.shared.now.layout.workers c.loop-worker.worker c.args.pass.now.view.log c.in-Err.ensures.took.step c.in-Err.ensures.from (omega (arith, m, past, within)) c.loop-worker.invariant.looking)
 
-pub returns-in-Err-clause-settles : goal.returns-in-Err-clause-settles
-returns-in-Err-clause-settles c = settles_advance c.loop-worker.pass c.advance.new.pass (Err c.in-Err.found) c.in-Err.ensures.took.step c.args.pass.now c.loop-worker.invariant.settles
+pub returns-in-Some-clause-after : goal.returns-in-Some-clause-after
+returns-in-Some-clause-after c = look_goes_on c.args.me c.loop-worker.worker c.look-found.result _ _ _ c.loop-worker.invariant.after c.look-found.ensures.on c.look-found.ensures.found
 
-pub returns-in-Some-clause-hands : goal.returns-in-Some-clause-hands
-returns-in-Some-clause-hands c = kept_on c.args.pass.now c.loop-worker.pass c.look-found.new.pass c.loop-worker.invariant.hands
-    (look_keeps c.args.me c.loop-worker.worker (epochs c.loop-worker.pass).pin c.look-found.result c.loop-worker.pass c.look-found.new.pass c.look-found.ensures.on.same c.look-found.ensures.found)
+pub returns-in-Ok-clause-after : goal.returns-in-Ok-clause-after
+returns-in-Ok-clause-after c = advance_goes_on _ _ _ (Ok c.in-Ok.next) c.loop-worker.invariant.after c.in-Ok.ensures.took
 
-pub returns-in-Ok-clause-hands : goal.returns-in-Ok-clause-hands
-returns-in-Ok-clause-hands c = advance_keeps c.loop-worker.pass c.advance.new.pass (Ok c.in-Ok.next) c.in-Ok.ensures.took.step c.args.pass.now c.loop-worker.invariant.hands
-
-pub returns-in-Err-clause-hands : goal.returns-in-Err-clause-hands
-returns-in-Err-clause-hands c = advance_keeps c.loop-worker.pass c.advance.new.pass (Err c.in-Err.found) c.in-Err.ensures.took.step c.args.pass.now c.loop-worker.invariant.hands
+pub returns-in-Err-clause-after : goal.returns-in-Err-clause-after
+returns-in-Err-clause-after c = advance_goes_on _ _ _ (Err c.in-Err.found) c.loop-worker.invariant.after c.in-Err.ensures.took

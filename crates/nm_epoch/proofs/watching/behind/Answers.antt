@@ -1,14 +1,12 @@
 use Rattle.std.proofs.Common.{◌≡◌, ◌+◌, ℕ, ap, sym, ◌∙◌, add-zero, arith}
 use Rattle.nm_epoch.specs.Resting.{epochs}
 use Rattle.nm_epoch.specs.Watches.{bit_of}
-use Rattle.nm_epoch.proofs.Scanning.{settles_on}
 use Rattle.nm_epoch.proofs.Watched.{watching_on, bit_set, bit_clear, shifted}
 use Rattle.nm_epoch.proofs.watching.behind.Goals.{then-is_some, else-is_some}
-use Rattle.nm_epoch.proofs.KeptHands.{kept_on, look_keeps}
+use Rattle.nm_epoch.proofs.Advances.{look_goes_on}
 use Rattle.nm_steps.specs.Steps.{Stand}
 use Rattle.nm_edge.specs.Layouts.{Layout}
 use Rattle.nm_epoch.proofs.Steps.{watch_steps}
-use Rattle.nm_steps.proofs.Seeing.{continues_then}
 use Rattle.nm_epoch.proofs.watching.behind.Goals as goal
 
 pub loop-worker-preserved : goal.loop-worker-preserved
@@ -18,12 +16,9 @@ loop-worker-preserved c =
       | else-is_some w ↦ w.mask-is ∙ (sym (add-zero c.loop-worker.mask) ∙ ap (λ (n : ℕ). c.loop-worker.mask + n) (sym (bit_clear c.elsewhere.result c.look-found.result c.read-epoch.result c.loop-worker.worker c.elsewhere.ensures (sym c.is_some.ensures ∙ w.if-is_some.false))))
     ] in
     record {
-      on = continues_then _ _ _ c.loop-worker.invariant.on c.look-found.ensures.on;
+      after = look_goes_on c.number-me.result c.loop-worker.worker c.look-found.result _ _ _ c.loop-worker.invariant.after c.look-found.ensures.on c.look-found.ensures.found;
       watching = watching_on c.number-me.result c.read-epoch.result c.loop-worker.worker c.loop-worker.mask c.if-is_some.mask c.look-found.result c.args.pass.now.view.log c.loop-worker.pass c.look-found.new.pass
           c.look-found.ensures.on.same c.look-found.ensures.found sum c.loop-worker.invariant.watching;
-      settles = settles_on c.number-me.result c.loop-worker.worker (epochs c.loop-worker.pass).pin c.look-found.result c.loop-worker.pass c.look-found.new.pass c.look-found.ensures.on.same c.look-found.ensures.found c.args.pass.now c.loop-worker.invariant.settles;
-      hands = kept_on c.args.pass.now c.loop-worker.pass c.look-found.new.pass c.loop-worker.invariant.hands
-          (look_keeps c.number-me.result c.loop-worker.worker (epochs c.loop-worker.pass).pin c.look-found.result c.loop-worker.pass c.look-found.new.pass c.look-found.ensures.on.same c.look-found.ensures.found);
     }
 
 pub returns-clause-steps : goal.returns-clause-steps

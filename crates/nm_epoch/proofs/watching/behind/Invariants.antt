@@ -1,12 +1,9 @@
-use Rattle.nm_epoch.specs.Resting.{Settles, KeepsHands}
-use Rattle.nm_steps.specs.Steps.{Continues}
+use Rattle.nm_epoch.specs.Resting.{GoesOnSettled}
 use Rattle.nm_epoch.specs.Watches.{IsWatching}
 use Rattle.nm_epoch.proofs.watching.behind.Given as goal
 
 abbrev pub invariant-loop-worker : goal.invariant-loop-worker
 invariant-loop-worker l = record {
-  on : Continues l.fn.pass l.pass;
+  after : GoesOnSettled l.fn.pass l.pass;
   watching : IsWatching l.me l.epoch l.worker l.mask l.fn.pass.view.log l.pass;
-  settles : Settles l.fn.pass l.pass;
-  hands : KeepsHands l.fn.pass l.pass;
 }

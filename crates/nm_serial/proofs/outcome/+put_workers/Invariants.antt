@@ -2,4 +2,4 @@ use Rattle.std.proofs.Common.{length}
 use Rattle.nm_serial.proofs.outcome.+put_workers.Given as goal
 
 abbrev pub decreases-put_workers : goal.decreases-put_workers
-decreases-put_workers l = length l.counts.now
+decreases-put_workers l = length l.queues.now

@@ -16,13 +16,14 @@ returns-clause-closed c =
     let Q : Layout → Type 0 = λ L. (e : IsEndOf L c.close-words.result) → c.read-keys.result.free ≡ (counts (end_of L c.close-words.result e)).pool in
     let R : Layout → Type 0 = λ L. (e : IsEndOf L c.close-words.result) → c.read-keys.result.reached ≡ (counts (end_of L c.close-words.result e)).reached in
     let S : Board → Type 0 = λ b. Ends b.layout c.close-words.result c.pass.inside.pass.view in
-    closed c.args.tree _ _ c.pass.inside.home _ _ c.args.workers.items c.read-keys.result.keys.items c.read-keys.result.free c.read-keys.result.reached c.close-words.result c.pass.invariant
+    closed c.args.tree _ c.pass.inside.home _ c.args.workers.items c.read-keys.result.keys.items c.read-keys.result.free c.read-keys.result.reached c.close-words.result c.pass.invariant
     (subst (λ (v : View). StandsForAll c.args.workers.items v) (sym (ap (λ (h : Hand). h.pass.view) c.pass.view_is)) c.unite_all.ensures.joined)
     (subst (λ (v : View). GoesOnFromAll v.past c.args.workers.items) (sym (ap (λ (h : Hand). h.pass.view) c.pass.view_is)) c.unite_all.ensures.seen)
     (ap (λ (h : Hand). h.queues) c.pass.view_is ∙ c.unite_all.ensures.queues)
     c.requires.all
     c.unite_all.ensures.runs
     (subst S c.tree.view_is c.close-words.ensures.ends)
+    (record { fits = c.is_of_a_run.ensures.fits; run = c.is_of_a_run.ensures.run })
     (subst P room c.read-keys.ensures.keys)
     (subst Q room c.read-keys.ensures.free)
     (subst R room c.read-keys.ensures.reached)

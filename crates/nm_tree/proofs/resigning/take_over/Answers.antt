@@ -1,10 +1,9 @@
-use Rattle.std.proofs.Common.{◌≡◌, ℕ, suc, ◌+◌, ◌<◌, ◌≤◌, List, [], ◌∷◌, ◌++◌, length, append_assoc, ap, sym, ◌∙◌, arith}
+use Rattle.std.proofs.Common.{◌≡◌, ℕ, ◌+◌, ◌<◌, ◌≤◌, List, [], ◌∷◌, ◌++◌, length, append_assoc, ap, ◌∙◌, arith}
 use Rattle.std.specs.Prelude.{vec_capacity, insert}
 use Rattle.std.proofs.lemmas.List.{length-append}
 use Rattle.nm_epoch.specs.declared.collecting.HeldQueue.{HeldQueue}
-use Rattle.nm_tree.specs.declared.worker.Account.{Account}
-use Rattle.nm_tree.specs.Resigning.{merged, merged_accounts, place_in}
-use Rattle.nm_tree.proofs.Merging.{length-merged, length-merged_accounts, inserted_there}
+use Rattle.nm_tree.specs.Resigning.{merged, place_in}
+use Rattle.nm_tree.proofs.Merging.{length-merged, inserted_there}
 use Rattle.nm_tree.proofs.resigning.take_over.Goals as goal
 
 -- how many queues there are, and how many are still to come
@@ -21,45 +20,23 @@ module _ (hs more front gs : List HeldQueue) (q : HeldQueue) (now : List HeldQue
 pub put_at-requires : goal.put_at-requires
 put_at-requires c =
     let t = c.loop-queue.invariant.taken in
-    let less' = less c.args.queues.now.items c.args.more.items c.loop-queue.more.items t.0 c.in-Some.queue c.loop-queue.queues.items t.2 c.pop.new.self.items (rw c.in-Some.is at c.pop.ensures.items) t.5 (vec_capacity c.args.queues.now) c.requires.room in
-    let same = c.loop-queue.invariant.capacity.0 in
+    let less' = less c.args.queues.now.items c.args.more.items c.loop-queue.more.items t.0 c.in-Some.queue c.loop-queue.queues.items t.1 c.pop.new.self.items (rw c.in-Some.is at c.pop.ensures.items) t.2 (vec_capacity c.args.queues.now) c.requires.room in
+    let same = c.loop-queue.invariant.capacity in
     let within = c.place_of-place.ensures.within in
     let value = ap (λ (l : List HeldQueue). length l) c.as_slice.ensures.value in
     (omega (arith, within, value), omega (arith, less', same))
-
-pub put_at-requires-in-Some : goal.put_at-requires-in-Some
-put_at-requires-in-Some c =
-    let t = c.loop-queue.invariant.taken in
-    let less' = less c.args.queues.now.items c.args.more.items c.loop-queue.more.items t.0 c.in-Some.queue c.loop-queue.queues.items t.2 c.pop.new.self.items (rw c.in-Some.is at c.pop.ensures.items) t.5 (vec_capacity c.args.accounts.now) c.requires.account_room in
-    let as_many : length c.loop-queue.accounts.items ≡ length c.loop-queue.queues.items =
-    ap (λ (l : List Account). length l) t.6 ∙ (length-merged_accounts c.args.queues.now.items c.args.accounts.now.items t.0 t.1 c.requires.paired.0 t.4 ∙ sym (ap (λ (l : List HeldQueue). length l) t.5)) in
-    let same = c.loop-queue.invariant.capacity.1 in
-    let within = c.place_of-place.ensures.within in
-    let value = ap (λ (l : List HeldQueue). length l) c.as_slice.ensures.value in
-    (omega (arith, within, value, as_many), omega (arith, less', same, as_many))
 
 pub loop-queue-preserved : goal.loop-queue-preserved
 loop-queue-preserved c =
     let t = c.loop-queue.invariant.taken in
     let last = rw c.in-Some.is at c.pop.ensures.items in
-    let last' = rw c.in-Some-pop.is at c.pop-in-Some.ensures.items in
     let q = c.in-Some.queue in
-    let a = c.in-Some-pop.account in
-    let place : c.place_of-place.result ≡ place_in q.origin (merged c.args.queues.now.items t.0) = c.place_of-place.ensures.place ∙ (ap (λ (l : List HeldQueue). place_in q.origin l) c.as_slice.ensures.value ∙ ap (λ (l : List HeldQueue). place_in q.origin l) t.5) in
+    let place : c.place_of-place.result ≡ place_in q.origin (merged c.args.queues.now.items t.0) = c.place_of-place.ensures.place ∙ (ap (λ (l : List HeldQueue). place_in q.origin l) c.as_slice.ensures.value ∙ ap (λ (l : List HeldQueue). place_in q.origin l) t.2) in
     record {
       taken = (
         q ∷ t.0,
-        a ∷ t.1,
-        t.2 ∙ (ap (λ (l : List HeldQueue). l ++ t.0) last ∙ append_assoc c.pop.new.self.items (q ∷ []) t.0),
-        t.3 ∙ (ap (λ (l : List Account). l ++ t.1) last' ∙ append_assoc c.pop-in-Some.new.self.items (a ∷ []) t.1),
-        ap suc t.4,
-        c.put_at.ensures.items ∙ (ap (λ (l : List HeldQueue). insert l c.place_of-place.result q) t.5 ∙ (ap (λ (n : ℕ). insert (merged c.args.queues.now.items t.0) n q) place ∙ inserted_there q (merged c.args.queues.now.items t.0))),
-        c.put_at-in-Some.ensures.items ∙ (ap (λ (l : List Account). insert l c.place_of-place.result a) t.6 ∙ ap (λ (n : ℕ). insert (merged_accounts c.args.queues.now.items c.args.accounts.now.items t.0 t.1) n a) place),
+        t.1 ∙ (ap (λ (l : List HeldQueue). l ++ t.0) last ∙ append_assoc c.pop.new.self.items (q ∷ []) t.0),
+        c.put_at.ensures.items ∙ (ap (λ (l : List HeldQueue). insert l c.place_of-place.result q) t.2 ∙ (ap (λ (n : ℕ). insert (merged c.args.queues.now.items t.0) n q) place ∙ inserted_there q (merged c.args.queues.now.items t.0))),
       );
-      paired =
-          let p = c.loop-queue.invariant.paired in
-          let m : length c.loop-queue.more.items ≡ length c.pop.new.self.items + 1 = ap (λ (l : List HeldQueue). length l) last ∙ length-append c.pop.new.self.items (q ∷ []) in
-          let n : length c.loop-queue.theirs.items ≡ length c.pop-in-Some.new.self.items + 1 = ap (λ (l : List Account). length l) last' ∙ length-append c.pop-in-Some.new.self.items (a ∷ []) in
-          omega (arith, p, m, n);
-      capacity = (c.put_at.ensures.capacity ∙ c.loop-queue.invariant.capacity.0, c.put_at-in-Some.ensures.capacity ∙ c.loop-queue.invariant.capacity.1);
+      capacity = c.put_at.ensures.capacity ∙ c.loop-queue.invariant.capacity;
     }

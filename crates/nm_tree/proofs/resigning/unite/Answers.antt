@@ -5,11 +5,10 @@ use Rattle.nm_steps.specs.Rules.{joined}
 use Rattle.nm_steps.specs.Steps.{Board, Stand, IsOf, HasJoined}
 use Rattle.nm_steps.specs.Ties.{StandsInRun}
 use Rattle.nm_epoch.specs.declared.collecting.HeldQueue.{HeldQueue}
-use Rattle.nm_tree.specs.declared.worker.Account.{Account}
-use Rattle.nm_tree.specs.Resigning.{merged, merged_accounts, place_in}
+use Rattle.nm_tree.specs.Resigning.{merged, place_in}
 use Rattle.nm_tree.specs.Workers.{Hand, IsWorker, pending_in, held_in}
 use Rattle.nm_tree.proofs.Staying.{seeing, sees_more}
-use Rattle.nm_tree.proofs.United.{empty_hands, as_many_accounts, few_queues, united}
+use Rattle.nm_tree.proofs.United.{empty_hands, few_queues, united}
 use Rattle.nm_tree.proofs.resigning.unite.Goals as goal
 
 pub join-pass-requires-clause-hands : goal.join-pass-requires-clause-hands
@@ -23,48 +22,38 @@ layouts b h g h' g' first second own other = ap (λ (x : Hand). x.pass.view.layo
 in_run : (p o q : Stand) → HasJoined p o q → StandsInRun q.view → StandsInRun (joined (seeing q.view.past p).view o.view)
 in_run p o q is run = let P : View → Type 0 = λ v. StandsInRun v in subst P (ap (λ (x : Stand). x.view) is) run
 
-module _ {r s r' s' : ℕ} (h g : Hand) (xs ys : List Account) (home home' : ℕ) (is : IsWorker h xs home r s) (more : IsWorker g ys home' r' s') (same : h.pass.view.layout ≡ g.pass.view.layout)
+module _ {r r' : ℕ} (h g : Hand) (home home' : ℕ) (is : IsWorker h home r) (more : IsWorker g home' r') (same : h.pass.view.layout ≡ g.pass.view.layout)
     (q : Stand) (joins : HasJoined h.pass g.pass q) (run : StandsInRun q.view) where
-  seen : IsWorker (record h { pass = seeing q.view.past h.pass }) xs home r s
-  seen = sees_more q.view.past h xs home is
+  seen : IsWorker (record h { pass = seeing q.view.past h.pass }) home r
+  seen = sees_more q.view.past h home is
 
   few_of_both : length h.queues + length g.queues ≤ h.pass.view.layout.workers
-  few_of_both = few_queues (record h { pass = seeing q.view.past h.pass }) g xs ys home home' seen more same (in_run h.pass g.pass q joins run)
+  few_of_both = few_queues (record h { pass = seeing q.view.past h.pass }) g home home' seen more same (in_run h.pass g.pass q joins run)
 
-  both : IsWorker (record h { pass = q; queues = merged h.queues g.queues }) (merged_accounts h.queues xs g.queues ys) (place_in h.pass.view.number (merged h.queues g.queues)) r s
+  both : IsWorker (record h { pass = q; queues = merged h.queues g.queues }) (place_in h.pass.view.number (merged h.queues g.queues)) r
   both =
-      let P : Stand → Type 0 = λ x. IsWorker (record h { pass = x; queues = merged h.queues g.queues }) (merged_accounts h.queues xs g.queues ys) (place_in h.pass.view.number (merged h.queues g.queues)) r s in
-      subst P (sym joins) (united (record h { pass = seeing q.view.past h.pass }) g xs ys home home' seen more same (in_run h.pass g.pass q joins run))
+      let P : Stand → Type 0 = λ x. IsWorker (record h { pass = x; queues = merged h.queues g.queues }) (place_in h.pass.view.number (merged h.queues g.queues)) r in
+      subst P (sym joins) (united (record h { pass = seeing q.view.past h.pass }) g home home' seen more same (in_run h.pass g.pass q joins run))
 
-pub take_over-requires-clause-room : goal.take_over-requires-clause-room
-take_over-requires-clause-room c = let few = few_of_both _ _ _ _ _ _ c.heir.invariant c.leaver.invariant (layouts _ _ _ _ _ c.heir.view_is c.leaver.view_is c.requires.heir c.requires.leaver) c.join-pass.result c.join-pass.ensures.joined c.join-pass.ensures.run in let room = c.heir.invariant.room in omega (arith, few, room)
-
-pub take_over-requires-clause-account_room : goal.take_over-requires-clause-account_room
-take_over-requires-clause-account_room c = let few = few_of_both _ _ _ _ _ _ c.heir.invariant c.leaver.invariant (layouts _ _ _ _ _ c.heir.view_is c.leaver.view_is c.requires.heir c.requires.leaver) c.join-pass.result c.join-pass.ensures.joined c.join-pass.ensures.run in let room = c.heir.invariant.account_room in omega (arith, few, room)
-
-pub take_over-requires-clause-paired : goal.take_over-requires-clause-paired
-take_over-requires-clause-paired c = (as_many_accounts _ _ _ c.heir.invariant.accounts, as_many_accounts _ _ _ c.leaver.invariant.accounts)
+pub take_over-requires : goal.take_over-requires
+take_over-requires c = record { room = let few = few_of_both _ _ _ _ c.heir.invariant c.leaver.invariant (layouts _ _ _ _ _ c.heir.view_is c.leaver.view_is c.requires.heir c.requires.leaver) c.join-pass.result c.join-pass.ensures.joined c.join-pass.ensures.run in let room = c.heir.invariant.room in omega (arith, few, room) }
 
 pub invariant_of-result : goal.invariant_of-result
 invariant_of-result c =
     let hs : List HeldQueue = merged c.heir.inside.queues.items c.leaver.inside.queues.items in
-    let xs : List Account = merged_accounts c.heir.inside.queues.items c.heir.inside.accounts.items c.leaver.inside.queues.items c.leaver.inside.accounts.items in
     let n = pending_in c.heir.inside.standing in
     let e = held_in c.heir.inside.standing in
     let f = c.heir.inside.workspace.placement in
     let v = c.heir.inside.pass.view in
-    let all = both _ _ _ _ c.heir.inside.home c.leaver.inside.home c.heir.invariant c.leaver.invariant (layouts _ _ _ _ _ c.heir.view_is c.leaver.view_is c.requires.heir c.requires.leaver) c.join-pass.result c.join-pass.ensures.joined c.join-pass.ensures.run in
+    let all = both _ _ c.heir.inside.home c.leaver.inside.home c.heir.invariant c.leaver.invariant (layouts _ _ _ _ _ c.heir.view_is c.leaver.view_is c.requires.heir c.requires.leaver) c.join-pass.result c.join-pass.ensures.joined c.join-pass.ensures.run in
     let home : c.place_of-home.result ≡ place_in v.number hs =
     c.place_of-home.ensures.place
     ∙ (ap (λ (l : List HeldQueue). place_in c.number.result l) (c.as_slice.ensures.value ∙ c.take_over.ensures.queues)
     ∙ ap (λ (k : ℕ). place_in k hs) (c.number.ensures.number ∙ ap (λ (q : Stand). q.view.number) c.join-pass.ensures.joined)) in
-    let Q : List HeldQueue → Type 0 = λ l. IsWorker (record { pass = c.join-pass.result; queues = l; pending = n; held = e; fit = f }) xs (place_in v.number hs) (vec_capacity c.heir.inside.queues) (vec_capacity c.heir.inside.accounts) in
-    let R : List Account → Type 0 = λ l. IsWorker (record { pass = c.join-pass.result; queues = c.take_over.new.queues.items; pending = n; held = e; fit = f }) l (place_in v.number hs) (vec_capacity c.heir.inside.queues) (vec_capacity c.heir.inside.accounts) in
-    let S : ℕ → Type 0 = λ k. IsWorker (record { pass = c.join-pass.result; queues = c.take_over.new.queues.items; pending = n; held = e; fit = f }) c.take_over.new.accounts.items k (vec_capacity c.heir.inside.queues) (vec_capacity c.heir.inside.accounts) in
-    let T : ℕ → Type 0 = λ k. IsWorker (record { pass = c.join-pass.result; queues = c.take_over.new.queues.items; pending = n; held = e; fit = f }) c.take_over.new.accounts.items c.place_of-home.result k (vec_capacity c.heir.inside.accounts) in
-    let U : ℕ → Type 0 = λ k. IsWorker (record { pass = c.join-pass.result; queues = c.take_over.new.queues.items; pending = n; held = e; fit = f }) c.take_over.new.accounts.items c.place_of-home.result (vec_capacity c.take_over.new.queues) k in
-    subst U (sym c.take_over.ensures.capacity.1)
-    (subst T (sym c.take_over.ensures.capacity.0) (subst S (sym home) (subst R (sym c.take_over.ensures.accounts) (subst Q (sym c.take_over.ensures.queues) all))))
+    let W : List HeldQueue → ℕ → ℕ → Type 0 = λ l k r. IsWorker (record { pass = c.join-pass.result; queues = l; pending = n; held = e; fit = f }) k r in
+    subst (λ (r : ℕ). W c.take_over.new.queues.items c.place_of-home.result r) (sym c.take_over.ensures.capacity)
+    (subst (λ (k : ℕ). W c.take_over.new.queues.items k (vec_capacity c.heir.inside.queues)) (sym home)
+    (subst (λ (l : List HeldQueue). W l (place_in v.number hs) (vec_capacity c.heir.inside.queues)) (sym c.take_over.ensures.queues) all))
 
 pub returns-clause-between : goal.returns-clause-between
 returns-clause-between c = (invariant_of-result c).between

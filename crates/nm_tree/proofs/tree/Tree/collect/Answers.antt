@@ -1,42 +1,56 @@
-use Rattle.nm_steps.proofs.Seeing.{seen_all}
+use Rattle.std.proofs.Common.{◌≡◌, List, refl, sym, subst, ◌∙◌}
+use Rattle.std.specs.Vec.{with_items}
+use Rattle.std.proofs.lemmas.List.{with_items_is}
+use Rattle.nm_steps.specs.Steps.{Board}
+use Rattle.nm_epoch.specs.declared.collecting.HeldQueue.{HeldQueue}
+use Rattle.nm_epoch.specs.Collecting.{Collects}
+use Rattle.nm_tree.specs.Calls.{LeavesCollect}
+use Rattle.nm_tree.specs.Workers.{Hand, IsWorker, held_in, pending_in}
+use Rattle.nm_tree.proofs.Freeing.{as_many_queues, collected}
 use Rattle.nm_tree.proofs.RunningTurns.{collected_in_grace}
-use Rattle.std.proofs.Common.{rules, ℕ, ◌≤◌, subst}
-use Rattle.std.specs.Prelude.{All}
-use Rattle.nm_order.specs.Reads.{HasRead}
-use Rattle.nm_epoch.specs.declared.collecting.Entry.{Entry}
-use Rattle.nm_epoch.specs.Collecting.{ripe_of}
-use Rattle.nm_tree.specs.Running.{IsFreedInGrace}
-use Rattle.nm_tree.specs.Workers.{Hand}
-use Rattle.nm_tree.proofs.Quiet.{collected as collected_quietly}
-use Rattle.nm_tree.proofs.Staying.{stands_still, labelled}
-use Rattle.nm_tree.proofs.Freeing.{paired, collected}
 use Rattle.nm_tree.proofs.tree.Tree.collect.Goals as goal
 
-pub note_all-requires : goal.note_all-requires
-note_all-requires c = record { paired = rw c.as_slice.ensures.value (paired c.collect_all-collected.result.epoch c.worker.inside.pass c.worker.inside.queues.items _ _ c.collect_all-collected.ensures.lost c.worker.invariant.accounts) }
+-- the collection is one of all queues
+does : (c : goal.After-is_of_a_run-2) → Collects c.self.inside.shared.layout.nodes c.worker.inside.pass c.collect-collected.new.pass c.worker.inside.queues.items c.collect-collected.new.queues c.collect-collected.result
+does c =
+    subst (λ (hs : List HeldQueue). Collects c.self.inside.shared.layout.nodes c.worker.inside.pass c.collect-collected.new.pass hs c.collect-collected.new.queues c.collect-collected.result) c.as_mut_slice.ensures.value
+    c.collect-collected.ensures.after
+
+-- which are as many as before
+left : (c : goal.After-is_of_a_run-2) → (with_items c.worker.inside.queues c.collect-collected.new.queues).items ≡ c.collect-collected.new.queues
+left c =
+    with_items_is c.worker.inside.queues c.collect-collected.new.queues (sym (c.worker.inside.queues.ok.0 ∙ as_many_queues c.collect-collected.result.epoch c.worker.inside.queues.items c.collect-collected.new.queues (does c).lost))
+
+-- the worker as it was, and with queues
+before : goal.After-is_of_a_run-2 → Hand
+before c = record { pass = c.worker.inside.pass; queues = c.worker.inside.queues.items; pending = pending_in c.worker.inside.standing; held = held_in c.worker.inside.standing; fit = c.worker.inside.workspace.placement }
+
+after : goal.After-is_of_a_run-2 → List HeldQueue → Hand
+after c hs = record { pass = c.collect-collected.new.pass; queues = hs; pending = pending_in c.worker.inside.standing; held = held_in c.worker.inside.standing; fit = c.collect-collected.new.placement }
 
 pub invariant_of-worker : goal.invariant_of-worker
+unfolding after
 invariant_of-worker c =
-    let part = c.collect_all-collected.ensures.part in
-    let was = c.worker.invariant.between.stands in
-    collected c.collect_all-collected.result.epoch _ _ _ c.worker.inside.home c.collect_all-collected.new.pass _ _ _ c.collect_all-collected.ensures.room c.note_all.ensures.room c.worker.invariant c.collect_all-collected.ensures.on.same c.collect_all-collected.ensures.on.run
-    (collected_quietly _ part.0 _ part.1.0 _ part.1.2 part.2) (labelled c.worker.inside.pass _ _ was) c.collect_all-collected.ensures.lost c.collect_all-collected.ensures.blocks c.collect_all-collected.ensures.queues c.collect_all-collected.ensures.others c.collect_all-collected.ensures.retired
-    c.collect_all-collected.ensures.private (rw c.as_slice.ensures.value at c.note_all.ensures.noted) (stands_still c.worker.inside.pass c.collect_all-collected.new.pass _ _ was c.collect_all-collected.ensures.settles c.collect_all-collected.ensures.on.run)
+    subst (λ (hs : List HeldQueue). IsWorker (after c hs) c.worker.inside.home c.worker.inside.queues.cap) (sym (left c))
+    (collected _ c.worker.inside.home c.collect-collected.new.pass c.collect-collected.new.queues refl c.worker.invariant (record { fits = c.is_of_a_run.ensures.fits; run = c.is_of_a_run.ensures.run }) (does c))
 
 pub returns : goal.returns
-returns c = record {
-  same = search rules;
-  past = search (rules, seen_all);
-  did = search rules;
-  freed = search rules;
-  lost = search rules;
-  grace = (
-      subst (λ (w : Hand). All (λ (e : Entry). IsFreedInGrace c.collect_all-collected.new.pass.view e.node) (ripe_of c.collect_all-collected.result.epoch w.queues)) c.worker.view_is
-      (collected_in_grace c.collect_all-collected.new.pass.view c.worker.inside.pass.view.log c.collect_all-collected.result.epoch c.worker.inside.queues.items c.is_of_a_run.ensures.fits c.is_of_a_run.ensures.seen c.collect_all-collected.ensures.part)
-      );
-  blocks = search rules;
-  newest = subst (λ (w : Hand). (epoch : ℕ) → HasRead w.pass.view.log epoch → epoch ≤ c.collect_all-collected.result.epoch) c.worker.view_is c.collect_all-collected.ensures.newest;
-  place = search rules;
-  steps = search rules;
-  fit = search rules;
-}
+unfolding before after
+returns c =
+    let d = does c in
+    let is : LeavesCollect c.self.inside.shared.layout.nodes (before c) (after c c.collect-collected.new.queues) c.collect-collected.result = record {
+      same = d.on.same;
+      past = d.on.past;
+      did = d.part;
+      freed = d.freed;
+      lost = d.lost;
+      grace = collected_in_grace c.collect-collected.new.pass.view c.worker.inside.pass.view.log c.collect-collected.result.epoch c.worker.inside.queues.items c.is_of_a_run-2.ensures.fits c.is_of_a_run-2.ensures.seen d.part;
+      blocks = d.blocks;
+      newest = d.newest;
+      place = (refl, refl);
+      steps = d.steps;
+      fit = c.collect-collected.ensures.fit;
+    } in
+    subst (λ (b : Board). LeavesCollect b.layout.nodes c.args.worker.now (after c (with_items c.worker.inside.queues c.collect-collected.new.queues).items) c.collect-collected.result) c.self.view_is
+    (subst (λ (w : Hand). LeavesCollect c.self.inside.shared.layout.nodes w (after c (with_items c.worker.inside.queues c.collect-collected.new.queues).items) c.collect-collected.result) c.worker.view_is
+    (subst (λ (hs : List HeldQueue). LeavesCollect c.self.inside.shared.layout.nodes (before c) (after c hs) c.collect-collected.result) (sym (left c)) is))

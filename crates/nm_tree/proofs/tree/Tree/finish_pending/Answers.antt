@@ -7,7 +7,7 @@ use Rattle.nm_calls.specs.Moments.{AnswerHasMoment, HadNoCall}
 use Rattle.nm_steps.proofs.Seeing.{seen_all}
 use Rattle.nm_tree.specs.Workers.{Hand, pending_in}
 use Rattle.nm_tree.proofs.QueueLists.{lacks_after, others_stay, others_after, stands_within, room_stays, room_after}
-use Rattle.nm_tree.proofs.Changing.{accounts_within, kept_there, changed}
+use Rattle.nm_tree.proofs.Changing.{kept_there, changed}
 use Rattle.nm_tree.proofs.Staying.{removing_in}
 use Rattle.std.specs.Prelude.{true}
 use Rattle.nm_tree.proofs.Disturbed.{finish_lost}
@@ -39,21 +39,17 @@ returns-in_default-clause-leaves c = record {
 pub index_mut-own-requires : goal.index_mut-own-requires
 index_mut-own-requires c = omega (arith, stands_within c.worker.inside.home _ c.worker.inside.queues.items c.worker.invariant.own, c.worker.inside.queues.ok.0)
 
-pub index_mut-account-requires : goal.index_mut-account-requires
-index_mut-account-requires c =
-    omega (arith, accounts_within c.worker.inside.pass.view c.worker.inside.home _ c.worker.inside.queues.items c.worker.inside.accounts.items c.worker.invariant.own c.worker.invariant.accounts, c.worker.inside.accounts.ok.0)
-
-pub finish_with-requires-clause-kept : goal.finish_with-requires-clause-kept
-finish_with-requires-clause-kept c = kept_there _ _ c.worker.inside.home _ _ c.worker.invariant c.index_mut-own.ensures.value c.index_mut-account.ensures.value
+pub finish-requires-clause-kept : goal.finish-requires-clause-kept
+finish-requires-clause-kept c = kept_there _ c.worker.inside.home _ c.worker.invariant c.index_mut-own.ensures.value
 
 pub invariant_of-worker : goal.invariant_of-worker
 invariant_of-worker c =
-    changed _ _ c.worker.inside.home c.finish_with.new.pass _ _ c.finish_with.new.own c.finish_with.new.account c.worker.invariant c.finish_with.ensures.after.same c.finish_with.ensures.kept
-    c.finish_with.ensures.after.ledgers.others (λ slot. ap (λ ds. get ds slot) c.finish_with.ensures.after.private) (removing_in c.finish_with.new.pass c.worker.inside.standing _ c.in-Pending.is (c.finish_with.ensures.after.removing c.if-not-finish_with.true))
-    (_, c.index_mut-own.ensures.value, c.finish_with.ensures.room)
+    changed _ c.worker.inside.home c.finish.new.pass _ _ c.finish.new.held c.worker.invariant c.finish.ensures.after.same c.finish.ensures.kept
+    c.finish.ensures.after.ledgers.others (λ slot. ap (λ ds. get ds slot) c.finish.ensures.after.private) (removing_in c.finish.new.pass c.worker.inside.standing _ c.in-Pending.is (c.finish.ensures.after.removing c.if-not-finish.true))
+    (_, c.index_mut-own.ensures.value, c.finish.ensures.blocks)
 
-pub returns-then-not-finish_with-clause-says : goal.returns-then-not-finish_with-clause-says
-returns-then-not-finish_with-clause-says c = record {
+pub returns-then-not-finish-clause-says : goal.returns-then-not-finish-clause-says
+returns-then-not-finish-clause-says c = record {
   same = search rules;
   past = search (rules, seen_all);
   told = rw (← c.worker.view_is) (subst IsSome (sym (ap pending_in c.in-Pending.is)) refl, refl);
@@ -62,39 +58,39 @@ returns-then-not-finish_with-clause-says c = record {
   steps = search rules;
   queues = (
       rw (← c.worker.view_is)
-      (others_after c.worker.inside.home c.worker.inside.pass.view.number c.worker.inside.queues.items c.finish_with.new.own c.worker.invariant.own (c.finish_with.ensures.kept.own ∙ ap (λ (x : Stand). x.view.number) c.finish_with.ensures.after.same))
+      (others_after c.worker.inside.home c.worker.inside.pass.view.number c.worker.inside.queues.items c.finish.new.held c.worker.invariant.own (c.finish.ensures.kept.own ∙ ap (λ (x : Stand). x.view.number) c.finish.ensures.after.same))
       );
-  blocks = rw (← c.worker.view_is) (room_after c.worker.inside.home _ c.worker.inside.queues.items _ c.finish_with.new.own c.worker.invariant.own c.index_mut-own.ensures.value c.finish_with.ensures.room);
+  blocks = rw (← c.worker.view_is) (room_after c.worker.inside.home _ c.worker.inside.queues.items _ c.finish.new.held c.worker.invariant.own c.index_mut-own.ensures.value c.finish.ensures.blocks);
   held = search rules;
   fit = search rules;
 }
 
-pub returns-then-not-finish_with-clause-leaves : goal.returns-then-not-finish_with-clause-leaves
-returns-then-not-finish_with-clause-leaves c = record {
-  says = returns-then-not-finish_with-clause-says c;
+pub returns-then-not-finish-clause-leaves : goal.returns-then-not-finish-clause-leaves
+returns-then-not-finish-clause-leaves c = record {
+  says = returns-then-not-finish-clause-says c;
   did = search rules;
   lacks = (
       rw (← c.self.view_is, ← c.worker.view_is)
-      (elim (c.finish_with.ensures.refused c.if-not-finish_with.true) [
-        | inl less ↦ inl (lacks_after c.worker.inside.home _ _ c.worker.inside.queues.items c.finish_with.new.own c.worker.invariant.own c.finish_with.ensures.kept.own less)
+      (elim (c.finish.ensures.refused c.if-not-finish.true) [
+        | inl less ↦ inl (lacks_after c.worker.inside.home _ _ c.worker.inside.queues.items c.finish.new.held c.worker.invariant.own c.finish.ensures.kept.own less)
         | inr lost ↦ inr (c.in-Pending.pending, ap pending_in c.in-Pending.is, lost)
       ])
       );
   lost = λ is. (
-      (elim (c.finish_with.ensures.refused c.if-not-finish_with.true) [
-        | inl less ↦ inl (lacks_after c.worker.inside.home _ _ c.worker.inside.queues.items c.finish_with.new.own c.worker.invariant.own c.finish_with.ensures.kept.own less)
+      (elim (c.finish.ensures.refused c.if-not-finish.true) [
+        | inl less ↦ inl (lacks_after c.worker.inside.home _ _ c.worker.inside.queues.items c.finish.new.held c.worker.invariant.own c.finish.ensures.kept.own less)
         | inr lost ↦ inr
-            (finish_lost c.self.inside.shared c.args.self.now c.worker.inside.pass c.args.worker.now.pass c.finish_with.new.pass c.in-Pending.pending.key c.args.tries c.self.view_is (ap (λ (x : Hand). x.pass) c.worker.view_is)
-            c.is_of_a_run.ensures.seen c.is_of_a_run-then-not-finish_with.ensures.seen c.is_of_a_run.ensures.fits c.finish_with.ensures.after.same c.finish_with.ensures.after.past c.requires.own c.in-Pending.pending.leaf (c.finish_with.ensures.after.removing c.if-not-finish_with.true) lost)
+            (finish_lost c.self.inside.shared c.args.self.now c.worker.inside.pass c.args.worker.now.pass c.finish.new.pass c.in-Pending.pending.key c.args.tries c.self.view_is (ap (λ (x : Hand). x.pass) c.worker.view_is)
+            c.is_of_a_run.ensures.seen c.is_of_a_run-then-not-finish.ensures.seen c.is_of_a_run.ensures.fits c.finish.ensures.after.same c.finish.ensures.after.past c.requires.own c.in-Pending.pending.leaf (c.finish.ensures.after.removing c.if-not-finish.true) lost)
       ])
       );
 }
 
 pub invariant_of-worker-2 : goal.invariant_of-worker-2
 invariant_of-worker-2 c =
-    changed _ _ c.worker.inside.home c.finish_with.new.pass _ _ c.finish_with.new.own c.finish_with.new.account c.worker.invariant c.finish_with.ensures.after.same c.finish_with.ensures.kept
-    c.finish_with.ensures.after.ledgers.others (λ slot. ap (λ ds. get ds slot) c.finish_with.ensures.after.private) (c.finish_with.ensures.after.rests c.if-not-finish_with.false)
-    (_, c.index_mut-own.ensures.value, c.finish_with.ensures.room)
+    changed _ c.worker.inside.home c.finish.new.pass _ _ c.finish.new.held c.worker.invariant c.finish.ensures.after.same c.finish.ensures.kept
+    c.finish.ensures.after.ledgers.others (λ slot. ap (λ ds. get ds slot) c.finish.ensures.after.private) (c.finish.ensures.after.rests c.if-not-finish.false)
+    (_, c.index_mut-own.ensures.value, c.finish.ensures.blocks)
 
 pub returns-clause-says : goal.returns-clause-says
 returns-clause-says c = record {
@@ -103,16 +99,16 @@ returns-clause-says c = record {
   told = rw (← c.worker.view_is) (subst IsSome (sym (ap pending_in c.in-Pending.is)) refl, refl);
   moment = (
       let n = c.in-Pending.pending in
-      let P : Hand → Type 0 = λ w. (o : Stand) → HadNoCall o w.pass → AnswerHasMoment o c.finish_with.new.pass Delete n.key true in
-      (n, ap (λ (w : Hand). w.pending) (sym c.worker.view_is) ∙ ap pending_in c.in-Pending.is, subst P c.worker.view_is (c.finish_with.ensures.after.moment c.if-not-finish_with.false))
+      let P : Hand → Type 0 = λ w. (o : Stand) → HadNoCall o w.pass → AnswerHasMoment o c.finish.new.pass Delete n.key true in
+      (n, ap (λ (w : Hand). w.pending) (sym c.worker.view_is) ∙ ap pending_in c.in-Pending.is, subst P c.worker.view_is (c.finish.ensures.after.moment c.if-not-finish.false))
       );
   won = search rules;
   steps = search rules;
   queues = (
       rw (← c.worker.view_is)
-      (others_after c.worker.inside.home c.worker.inside.pass.view.number c.worker.inside.queues.items c.finish_with.new.own c.worker.invariant.own (c.finish_with.ensures.kept.own ∙ ap (λ (x : Stand). x.view.number) c.finish_with.ensures.after.same))
+      (others_after c.worker.inside.home c.worker.inside.pass.view.number c.worker.inside.queues.items c.finish.new.held c.worker.invariant.own (c.finish.ensures.kept.own ∙ ap (λ (x : Stand). x.view.number) c.finish.ensures.after.same))
       );
-  blocks = rw (← c.worker.view_is) (room_after c.worker.inside.home _ c.worker.inside.queues.items _ c.finish_with.new.own c.worker.invariant.own c.index_mut-own.ensures.value c.finish_with.ensures.room);
+  blocks = rw (← c.worker.view_is) (room_after c.worker.inside.home _ c.worker.inside.queues.items _ c.finish.new.held c.worker.invariant.own c.index_mut-own.ensures.value c.finish.ensures.blocks);
   held = search rules;
   fit = search rules;
 }
@@ -121,8 +117,8 @@ pub returns-clause-leaves : goal.returns-clause-leaves
 returns-clause-leaves c = record {
   says = returns-clause-says c;
   did = (
-      finished_so _ _ c.args.tries _ _ (record { pass = c.finish_with.new.pass; queues = slice_set c.worker.inside.queues.items c.worker.inside.home c.finish_with.new.own; pending = None; held = None; fit = c.finish_with.new.workspace.placement })
-      (Ok true) c.self.view_is c.worker.view_is (c.in-Pending.pending, ap pending_in c.in-Pending.is, refl, rw c.if-not-finish_with.false at c.finish_with.ensures.after.did)
+      finished_so _ _ c.args.tries _ _ (record { pass = c.finish.new.pass; queues = slice_set c.worker.inside.queues.items c.worker.inside.home c.finish.new.held; pending = None; held = None; fit = c.finish.new.workspace.placement })
+      (Ok true) c.self.view_is c.worker.view_is (c.in-Pending.pending, ap pending_in c.in-Pending.is, refl, rw c.if-not-finish.false at c.finish.ensures.after.did)
       );
   lacks = search rules;
   lost = λ is. absurd (let no = is in cc);

@@ -14,7 +14,7 @@ resting c = resting_in c.worker.inside.standing (ap (λ (w : Hand). w.held) c.wo
 pub invariant_of-worker : goal.invariant_of-worker
 invariant_of-worker c =
     let was = rests_in c.worker.inside.pass c.worker.inside.standing (resting c) c.worker.invariant.between.stands in
-    stays _ _ c.worker.inside.home c.has.new.pass _ _ c.worker.invariant c.has.ensures.same
+    stays _ c.worker.inside.home c.has.new.pass _ _ c.worker.invariant c.has.ensures.same
     (has_quiet _ c.args.tries c.args.key _ _ c.has.result c.has.ensures.did c.has.ensures.missed)
     c.has.ensures.hands.private (c.has.ensures.hands.ledgers was.labelled)
     (rests_as c.has.new.pass c.worker.inside.standing (resting c) c.has.ensures.rests)

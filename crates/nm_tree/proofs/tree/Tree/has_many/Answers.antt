@@ -16,7 +16,7 @@ resting c = resting_in c.worker.inside.standing (ap (λ (w : Hand). w.held) c.wo
 pub invariant_of-worker : goal.invariant_of-worker
 invariant_of-worker c =
     let was = rests_in c.worker.inside.pass c.worker.inside.standing (resting c) c.worker.invariant.between.stands in
-    stays _ _ c.worker.inside.home c.has_many.new.pass _ _ c.worker.invariant c.has_many.ensures.same (quiet_so _ _ c.has_many.ensures.won c.has_many.ensures.uncut)
+    stays _ c.worker.inside.home c.has_many.new.pass _ _ c.worker.invariant c.has_many.ensures.same (quiet_so _ _ c.has_many.ensures.won c.has_many.ensures.uncut)
     c.has_many.ensures.hands.private (c.has_many.ensures.hands.ledgers was.labelled)
     (rests_as c.has_many.new.pass c.worker.inside.standing (resting c) c.has_many.ensures.rests)
 

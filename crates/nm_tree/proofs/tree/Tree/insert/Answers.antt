@@ -7,7 +7,7 @@ use Rattle.nm_tree.specs.Workers.{Hand}
 use Rattle.nm_tree.proofs.QueueLists.{lacks_after, others_stay, others_after, stands_within, room_stays, room_after}
 use Rattle.nm_tree.proofs.Staying.{resting_in, rests_in, rests_as, free_in}
 use Rattle.nm_tree.proofs.Disturbed.{insert_disturbed, insert_alone}
-use Rattle.nm_tree.proofs.Changing.{accounts_within, kept_there, changed}
+use Rattle.nm_tree.proofs.Changing.{kept_there, changed}
 use Rattle.nm_calls.specs.declared.inserting.Fault.{Fault as Lost}
 use Rattle.nm_calls.specs.Inserts.{InsertDid}
 use Rattle.nm_tree.specs.declared.fault.Fault.TheVariants as fault
@@ -39,38 +39,34 @@ returns-in-Pending-clause-leaves c = record {
 pub index_mut-own-requires : goal.index_mut-own-requires
 index_mut-own-requires c = omega (arith, stands_within c.worker.inside.home _ c.worker.inside.queues.items c.worker.invariant.own, c.worker.inside.queues.ok.0)
 
-pub index_mut-account-requires : goal.index_mut-account-requires
-index_mut-account-requires c =
-    omega (arith, accounts_within c.worker.inside.pass.view c.worker.inside.home _ c.worker.inside.queues.items c.worker.inside.accounts.items c.worker.invariant.own c.worker.invariant.accounts, c.worker.inside.accounts.ok.0)
-
-pub insert_with-requires-clause-rests : goal.insert_with-requires-clause-rests
-insert_with-requires-clause-rests c =
+pub insert-requires-clause-rests : goal.insert-requires-clause-rests
+insert-requires-clause-rests c =
     rests_in c.worker.inside.pass c.worker.inside.standing (resting_in c.worker.inside.standing (ap (λ (w : Hand). w.held) c.worker.view_is ∙ c.requires.free) c.in_default.not-Pending) c.worker.invariant.between.stands
 
-pub insert_with-requires-clause-kept : goal.insert_with-requires-clause-kept
-insert_with-requires-clause-kept c = kept_there _ _ c.worker.inside.home _ _ c.worker.invariant c.index_mut-own.ensures.value c.index_mut-account.ensures.value
+pub insert-requires-clause-kept : goal.insert-requires-clause-kept
+insert-requires-clause-kept c = kept_there _ c.worker.inside.home _ c.worker.invariant c.index_mut-own.ensures.value
 
-resting : (c : goal.Joined-insert_with) → c.worker.inside.standing ≡ standing.Resting
+resting : (c : goal.Joined-insert) → c.worker.inside.standing ≡ standing.Resting
 resting c = resting_in c.worker.inside.standing (ap (λ (w : Hand). w.held) c.worker.view_is ∙ c.requires.free) c.in_default.not-Pending
 
 pub invariant_of-worker : goal.invariant_of-worker
 invariant_of-worker c =
-    changed _ _ c.worker.inside.home c.insert_with.new.pass _ _ c.insert_with.new.own c.insert_with.new.account c.worker.invariant c.insert_with.ensures.after.same c.insert_with.ensures.kept
-    c.insert_with.ensures.after.ledgers.others c.insert_with.ensures.after.private (rests_as c.insert_with.new.pass c.worker.inside.standing (resting c) c.insert_with.ensures.after.rests)
-    (_, c.index_mut-own.ensures.value, c.insert_with.ensures.room)
+    changed _ c.worker.inside.home c.insert.new.pass _ _ c.insert.new.held c.worker.invariant c.insert.ensures.after.same c.insert.ensures.kept
+    c.insert.ensures.after.ledgers.others c.insert.ensures.after.private (rests_as c.insert.new.pass c.worker.inside.standing (resting c) c.insert.ensures.after.rests)
+    (_, c.index_mut-own.ensures.value, c.insert.ensures.blocks)
 
 pub returns-clause-says : goal.returns-clause-says
 returns-clause-says c = record {
   same = search rules;
   past = search (rules, seen_all);
   told = (
-      elim c.match-insert_with.branch [
+      elim c.match-insert.branch [
         | in-Ok w ↦ rw (w.result-is, ← c.worker.view_is) (free_in c.worker.inside.standing (resting c))
         | in-Err-Busy w ↦ rw (w.result-is, ← c.worker.view_is) (free_in c.worker.inside.standing (resting c))
         | in-Err-Full w ↦ rw (w.result-is, ← c.worker.view_is) (free_in c.worker.inside.standing (resting c))
         | in-Err-NoMemory w ↦ rw w.result-is (
           rw (← c.worker.view_is) (free_in c.worker.inside.standing (resting c)),
-          lacks_after c.worker.inside.home _ _ c.worker.inside.queues.items c.insert_with.new.own c.worker.invariant.own c.insert_with.ensures.kept.own (w.in-Err-NoMemory.ensures.refused (ap (λ (m : Lost). Err m) w.in-Err-NoMemory.field-0-is)),
+          lacks_after c.worker.inside.home _ _ c.worker.inside.queues.items c.insert.new.held c.worker.invariant.own c.insert.ensures.kept.own (w.in-Err-NoMemory.ensures.refused (ap (λ (m : Lost). Err m) w.in-Err-NoMemory.field-0-is)),
         )
       ]
       );
@@ -79,9 +75,9 @@ returns-clause-says c = record {
   steps = search rules;
   queues = (
       rw (← c.worker.view_is)
-      (others_after c.worker.inside.home c.worker.inside.pass.view.number c.worker.inside.queues.items c.insert_with.new.own c.worker.invariant.own (c.insert_with.ensures.kept.own ∙ ap (λ (x : Stand). x.view.number) c.insert_with.ensures.after.same))
+      (others_after c.worker.inside.home c.worker.inside.pass.view.number c.worker.inside.queues.items c.insert.new.held c.worker.invariant.own (c.insert.ensures.kept.own ∙ ap (λ (x : Stand). x.view.number) c.insert.ensures.after.same))
       );
-  blocks = rw (← c.worker.view_is) (room_after c.worker.inside.home _ c.worker.inside.queues.items _ c.insert_with.new.own c.worker.invariant.own c.index_mut-own.ensures.value c.insert_with.ensures.room);
+  blocks = rw (← c.worker.view_is) (room_after c.worker.inside.home _ c.worker.inside.queues.items _ c.insert.new.held c.worker.invariant.own c.index_mut-own.ensures.value c.insert.ensures.blocks);
   held = search rules;
   fit = search rules;
 }
@@ -90,26 +86,26 @@ pub returns-clause-leaves : goal.returns-clause-leaves
 returns-clause-leaves c = record {
   says = returns-clause-says c;
   did = (
-      elim c.match-insert_with.branch [
+      elim c.match-insert.branch [
         | in-Ok w ↦ inserted_so _ _ c.args.tries c.args.key _ _ _ (Ok _) _ c.self.view_is c.worker.view_is w.result-is (free_in c.worker.inside.standing (resting c), w.in-Ok.ensures.after.did)
         | in-Err-Busy w ↦
-            let P : Lost → Type 0 = λ m. InsertDid c.worker.inside.workspace.placement c.self.inside.shared.layout c.args.tries c.args.key c.worker.inside.pass.view.log c.insert_with.new.pass.view.log (Err m) in
+            let P : Lost → Type 0 = λ m. InsertDid c.worker.inside.workspace.placement c.self.inside.shared.layout c.args.tries c.args.key c.worker.inside.pass.view.log c.insert.new.pass.view.log (Err m) in
             inserted_so _ _ c.args.tries c.args.key _ _ _ (Err fault.Busy) _ c.self.view_is c.worker.view_is w.result-is (free_in c.worker.inside.standing (resting c), subst P w.in-Err-Busy.field-0-is w.in-Err-Busy.ensures.after.did)
         | in-Err-Full w ↦
-            let P : Lost → Type 0 = λ m. InsertDid c.worker.inside.workspace.placement c.self.inside.shared.layout c.args.tries c.args.key c.worker.inside.pass.view.log c.insert_with.new.pass.view.log (Err m) in
+            let P : Lost → Type 0 = λ m. InsertDid c.worker.inside.workspace.placement c.self.inside.shared.layout c.args.tries c.args.key c.worker.inside.pass.view.log c.insert.new.pass.view.log (Err m) in
             inserted_so _ _ c.args.tries c.args.key _ _ _ (Err fault.Full) _ c.self.view_is c.worker.view_is w.result-is (free_in c.worker.inside.standing (resting c), subst P w.in-Err-Full.field-0-is w.in-Err-Full.ensures.after.did)
         | in-Err-NoMemory w ↦
-            let P : Lost → Type 0 = λ m. InsertDid c.worker.inside.workspace.placement c.self.inside.shared.layout c.args.tries c.args.key c.worker.inside.pass.view.log c.insert_with.new.pass.view.log (Err m) in
+            let P : Lost → Type 0 = λ m. InsertDid c.worker.inside.workspace.placement c.self.inside.shared.layout c.args.tries c.args.key c.worker.inside.pass.view.log c.insert.new.pass.view.log (Err m) in
             inserted_so _ _ c.args.tries c.args.key _ _ _ (Err fault.NoMemory) _ c.self.view_is c.worker.view_is w.result-is (free_in c.worker.inside.standing (resting c), subst P w.in-Err-NoMemory.field-0-is w.in-Err-NoMemory.ensures.after.did)
       ]
       );
   disturbed = λ is. (
-      elim c.match-insert_with.branch [
+      elim c.match-insert.branch [
         | in-Ok w ↦ absurd (let both = sym w.result-is ∙ is in cc)
         | in-Err-Busy w ↦
-            let P : Lost → Type 0 = λ m. InsertDid c.worker.inside.workspace.placement c.self.inside.shared.layout c.args.tries c.args.key c.worker.inside.pass.view.log c.insert_with.new.pass.view.log (Err m) in
-            insert_disturbed c.self.inside.shared c.args.self.now c.worker.inside.pass c.args.worker.now.pass c.insert_with.new.pass c.args.key c.args.tries c.self.view_is (ap (λ (x : Hand). x.pass) c.worker.view_is)
-            c.is_of_a_run.ensures.seen w.is_of_a_run-in-Err-Busy.ensures.seen c.is_of_a_run.ensures.fits c.insert_with.ensures.after.same c.insert_with.ensures.after.past c.requires.own _
+            let P : Lost → Type 0 = λ m. InsertDid c.worker.inside.workspace.placement c.self.inside.shared.layout c.args.tries c.args.key c.worker.inside.pass.view.log c.insert.new.pass.view.log (Err m) in
+            insert_disturbed c.self.inside.shared c.args.self.now c.worker.inside.pass c.args.worker.now.pass c.insert.new.pass c.args.key c.args.tries c.self.view_is (ap (λ (x : Hand). x.pass) c.worker.view_is)
+            c.is_of_a_run.ensures.seen w.is_of_a_run-in-Err-Busy.ensures.seen c.is_of_a_run.ensures.fits c.insert.ensures.after.same c.insert.ensures.after.past c.requires.own _
             (subst P w.in-Err-Busy.field-0-is w.in-Err-Busy.ensures.after.did)
         | in-Err-Full w ↦ absurd (let both = sym w.result-is ∙ is in cc)
         | in-Err-NoMemory w ↦ absurd (let both = sym w.result-is ∙ is in cc)
@@ -119,12 +115,12 @@ returns-clause-leaves c = record {
 
 pub returns-clause-alone : goal.returns-clause-alone
 returns-clause-alone c alone none is =
-    elim c.match-insert_with.branch [
+    elim c.match-insert.branch [
       | in-Ok w ↦ absurd (let both = sym w.result-is ∙ is in cc)
       | in-Err-Busy w ↦
-          let P : Lost → Type 0 = λ m. InsertDid c.worker.inside.workspace.placement c.self.inside.shared.layout c.args.tries c.args.key c.worker.inside.pass.view.log c.insert_with.new.pass.view.log (Err m) in
-          insert_alone c.self.inside.shared c.args.self.now c.worker.inside.pass c.args.worker.now.pass c.insert_with.new.pass c.args.key c.args.tries c.self.view_is (ap (λ (x : Hand). x.pass) c.worker.view_is)
-          c.is_of_a_run.ensures.seen w.is_of_a_run-in-Err-Busy.ensures.seen c.is_of_a_run.ensures.fits c.insert_with.ensures.after.same c.insert_with.ensures.after.past c.requires.own _ alone none
+          let P : Lost → Type 0 = λ m. InsertDid c.worker.inside.workspace.placement c.self.inside.shared.layout c.args.tries c.args.key c.worker.inside.pass.view.log c.insert.new.pass.view.log (Err m) in
+          insert_alone c.self.inside.shared c.args.self.now c.worker.inside.pass c.args.worker.now.pass c.insert.new.pass c.args.key c.args.tries c.self.view_is (ap (λ (x : Hand). x.pass) c.worker.view_is)
+          c.is_of_a_run.ensures.seen w.is_of_a_run-in-Err-Busy.ensures.seen c.is_of_a_run.ensures.fits c.insert.ensures.after.same c.insert.ensures.after.past c.requires.own _ alone none
           (subst P w.in-Err-Busy.field-0-is w.in-Err-Busy.ensures.after.did)
       | in-Err-Full w ↦ absurd (let both = sym w.result-is ∙ is in cc)
       | in-Err-NoMemory w ↦ absurd (let both = sym w.result-is ∙ is in cc)

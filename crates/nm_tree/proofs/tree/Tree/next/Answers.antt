@@ -18,7 +18,7 @@ resting c = resting_in c.worker.inside.standing (ap (λ (w : Hand). w.held) c.wo
 pub invariant_of-worker : goal.invariant_of-worker
 invariant_of-worker c =
     let was = rests_in c.worker.inside.pass c.worker.inside.standing (resting c) c.worker.invariant.between.stands in
-    stays _ _ c.worker.inside.home c.next.new.pass _ _ c.worker.invariant c.next.ensures.same (quiet_so _ _ c.next.ensures.won c.next.ensures.uncut)
+    stays _ c.worker.inside.home c.next.new.pass _ _ c.worker.invariant c.next.ensures.same (quiet_so _ _ c.next.ensures.won c.next.ensures.uncut)
     c.next.ensures.hands.private (c.next.ensures.hands.ledgers was.labelled)
     (rests_as c.next.new.pass c.worker.inside.standing (resting c) c.next.ensures.rests)
 

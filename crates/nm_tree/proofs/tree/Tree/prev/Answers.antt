@@ -18,7 +18,7 @@ resting c = resting_in c.worker.inside.standing (ap (λ (w : Hand). w.held) c.wo
 pub invariant_of-worker : goal.invariant_of-worker
 invariant_of-worker c =
     let was = rests_in c.worker.inside.pass c.worker.inside.standing (resting c) c.worker.invariant.between.stands in
-    stays _ _ c.worker.inside.home c.prev.new.pass _ _ c.worker.invariant c.prev.ensures.same (quiet_so _ _ c.prev.ensures.won c.prev.ensures.uncut)
+    stays _ c.worker.inside.home c.prev.new.pass _ _ c.worker.invariant c.prev.ensures.same (quiet_so _ _ c.prev.ensures.won c.prev.ensures.uncut)
     c.prev.ensures.hands.private (c.prev.ensures.hands.ledgers was.labelled)
     (rests_as c.prev.new.pass c.worker.inside.standing (resting c) c.prev.ensures.rests)
 
