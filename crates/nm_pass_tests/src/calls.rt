@@ -11,7 +11,6 @@ use super::passes::{both, three};
 use nm_calls::{Busy, Fault, has};
 use nm_edge::{Key, Layout};
 use nm_epoch::advance;
-use nm_limbo::BlockQueue;
 use nm_steps::{Pass, Shared};
 use std::test::Fail;
 use std::thread::{Threads, join};
@@ -117,7 +116,7 @@ fn by_two<R: Threads + Sync>(
 fn one_worker_inserts_and_deletes(rt: HostRuntime) -> Result<(), Fail> {
     let (shared, passes) = Shared::new(rt.alloc(), Layout::new(9, 2)?)?;
     let (first, _second) = both(&shared, passes);
-    let mut one = starting(&shared, first, BlockQueue::new(rt.alloc()));
+    let mut one = starting(rt.alloc(), &shared, first);
     let five = key(&rt, 5);
     let six = key(&rt, 6);
     deletes(&rt, &shared, &mut one, five, false);
@@ -125,7 +124,7 @@ fn one_worker_inserts_and_deletes(rt: HostRuntime) -> Result<(), Fail> {
     inserts(&rt, &shared, &mut one, five, 1, Ok(false));
     finds(&rt, &shared, &mut one, five, true);
     deletes(&rt, &shared, &mut one, five, true);
-    assert_eq!(rt; one.queue.len(), 2);
+    assert_eq!(rt; one.held.queue.len(), 2);
     finds(&rt, &shared, &mut one, five, false);
     inserts(&rt, &shared, &mut one, six, 1, Ok(true));
     inserts(&rt, &shared, &mut one, five, 1, Err(Fault::Full));
@@ -133,8 +132,8 @@ fn one_worker_inserts_and_deletes(rt: HostRuntime) -> Result<(), Fail> {
     let leaf = flags(&rt, &shared, &mut one, six);
     cannot_finish(&rt, &shared, &mut one, six, leaf);
     finishes(&rt, &shared, &mut one, six, leaf);
-    assert_eq!(rt; one.queue.len(), 4);
-    assert_eq!(rt; one.workspace.splices, 2);
+    assert_eq!(rt; one.held.queue.len(), 4);
+    assert_eq!(rt; one.held.counts.splices, 2);
     finds(&rt, &shared, &mut one, six, false);
     Ok(())
 }
@@ -145,21 +144,21 @@ fn one_worker_inserts_and_deletes(rt: HostRuntime) -> Result<(), Fail> {
 fn an_insert_helps_a_delete(rt: HostRuntime) -> Result<(), Fail> {
     let (shared, passes) = Shared::new(rt.alloc(), Layout::new(11, 2)?)?;
     let (first, second) = both(&shared, passes);
-    let mut one = starting(&shared, first, BlockQueue::new(rt.alloc()));
-    let mut two = starting(&shared, second, BlockQueue::new(rt.alloc()));
+    let mut one = starting(rt.alloc(), &shared, first);
+    let mut two = starting(rt.alloc(), &shared, second);
     let five = key(&rt, 5);
     let six = key(&rt, 6);
     inserts(&rt, &shared, &mut one, five, 1, Ok(true));
     let leaf = flags(&rt, &shared, &mut one, five);
     finds(&rt, &shared, &mut two, five, true);
     inserts(&rt, &shared, &mut two, six, 1, Err(Fault::Busy));
-    assert_eq!(rt; two.queue.len(), 2);
-    assert_eq!(rt; two.workspace.splices, 1);
+    assert_eq!(rt; two.held.queue.len(), 2);
+    assert_eq!(rt; two.held.counts.splices, 1);
     finds(&rt, &shared, &mut two, five, false);
     inserts(&rt, &shared, &mut two, six, 1, Ok(true));
     finishes(&rt, &shared, &mut one, five, leaf);
-    assert_eq!(rt; one.queue.len(), 0);
-    assert_eq!(rt; one.workspace.splices, 0);
+    assert_eq!(rt; one.held.queue.len(), 0);
+    assert_eq!(rt; one.held.counts.splices, 0);
     finds(&rt, &shared, &mut one, six, true);
     Ok(())
 }
@@ -170,9 +169,9 @@ fn an_insert_helps_a_delete(rt: HostRuntime) -> Result<(), Fail> {
 fn one_splice_cuts_a_chain_of_three(rt: HostRuntime) -> Result<(), Fail> {
     let (shared, passes) = Shared::new(rt.alloc(), Layout::new(13, 3)?)?;
     let (first, second, third) = three(&shared, passes);
-    let mut one = starting(&shared, first, BlockQueue::new(rt.alloc()));
-    let mut two = starting(&shared, second, BlockQueue::new(rt.alloc()));
-    let mut last = starting(&shared, third, BlockQueue::new(rt.alloc()));
+    let mut one = starting(rt.alloc(), &shared, first);
+    let mut two = starting(rt.alloc(), &shared, second);
+    let mut last = starting(rt.alloc(), &shared, third);
     let ten = key(&rt, 10);
     let thirty = key(&rt, 30);
     let forty = key(&rt, 40);
@@ -185,11 +184,12 @@ fn one_splice_cuts_a_chain_of_three(rt: HostRuntime) -> Result<(), Fail> {
     let of_thirty = flags(&rt, &shared, &mut two, thirty);
     assert!(rt; tag_beside(&shared, &mut two, thirty, of_thirty));
     deletes(&rt, &shared, &mut last, ten, true);
-    assert_eq!(rt; last.queue.len(), 6);
-    assert_eq!(rt; last.workspace.splices, 1);
+    assert_eq!(rt; last.held.queue.len(), 6);
+    assert_eq!(rt; last.held.counts.splices, 1);
     finishes(&rt, &shared, &mut one, forty, of_forty);
     finishes(&rt, &shared, &mut two, thirty, of_thirty);
-    assert_eq!(rt; one.queue.len() + two.queue.len(), 0);
+    assert_eq!(rt; one.held.queue.len(), 0);
+    assert_eq!(rt; two.held.queue.len(), 0);
     finds(&rt, &shared, &mut one, key(&rt, 20), true);
     finds(&rt, &shared, &mut two, ten, false);
     Ok(())

@@ -1,5 +1,4 @@
 //! A worker that makes calls over a pass, and keeps between two of them what a caller keeps.
-ghost use Rattle.std.specs.Prelude.{◌≡◌, length};
 ghost use Rattle.nm_steps.specs.Steps.{IsOf};
 ghost use Rattle.nm_calls.specs.Fresh.{HasDoneNothing};
 ghost use Rattle.nm_pass_tests.specs.Plays.{IsAtRest, IsPendingFor};
@@ -8,31 +7,32 @@ use nm_calls::{
     Chain, Fault, Missed, Unfinished, Workspace, choose, delete, finish, has, insert, seek, tag,
 };
 use nm_edge::{Key, NodeId};
-use nm_epoch::Entry;
-use nm_limbo::BlockQueue;
+use nm_epoch::HeldQueue;
 use nm_pool::{Fit, Placement};
 use nm_steps::{Pass, Shared};
+use std::alloc::Global;
 use std::process::Abort;
 
-/// One worker: its pass, what its calls work with, and the queue of what it cut.
+/// One worker: its pass, what its calls work with, and the queue of what it cut with its counts.
 #[derive(Drop)]
 pub(super) struct Hand {
     pub(super) pass: Pass,
     pub(super) workspace: Workspace,
-    pub(super) queue: BlockQueue<Entry>,
+    pub(super) held: HeldQueue,
 }
 
 /// A worker that has done nothing.
-pub(super) fn starting(shared: &Shared, pass: Pass, queue: BlockQueue<Entry>) -> Hand
+#[tactic(auto, using(nm_calls::proofs::FreshWorkers::holds_nothing))]
+pub(super) fn starting(alloc: Global, shared: &Shared, pass: Pass) -> Hand
     requires own { IsOf shared.now pass }
     requires new { HasDoneNothing pass }
-    requires empty { length queue.items ≡ 0 }
-    ensures { IsAtRest shared.now result.pass result.queue.items result.workspace.splices }
+    ensures { IsAtRest shared.now result.pass result.held }
 {
+    let held = HeldQueue::new(pass.number(), alloc);
     Hand {
         pass,
         workspace: Workspace::new(Placement::new(Fit::Lowest, 6)),
-        queue,
+        held,
     }
 }
 
@@ -44,10 +44,8 @@ pub(super) fn key(rt: &impl Abort, number: u64) -> Key {
 }
 
 pub(super) fn finds(rt: &impl Abort, shared: &Shared, hand: &mut Hand, key: Key, wanted: bool)
-    requires rests { IsAtRest shared.now hand.old.pass hand.old.queue.items
-        hand.old.workspace.splices }
-    ensures rests { IsAtRest shared.now hand.new.pass hand.new.queue.items
-        hand.new.workspace.splices }
+    requires rests { IsAtRest shared.now hand.old.pass hand.old.held }
+    ensures rests { IsAtRest shared.now hand.new.pass hand.new.held }
 {
     let found = has(shared, &mut hand.pass, key, 1);
     assert!(rt; found == Ok(wanted));
@@ -61,16 +59,14 @@ pub(super) fn inserts(
     tries: u32,
     wanted: Result<bool, Fault>,
 )
-    requires rests { IsAtRest shared.now hand.old.pass hand.old.queue.items
-        hand.old.workspace.splices }
-    ensures rests { IsAtRest shared.now hand.new.pass hand.new.queue.items
-        hand.new.workspace.splices }
+    requires rests { IsAtRest shared.now hand.old.pass hand.old.held }
+    ensures rests { IsAtRest shared.now hand.new.pass hand.new.held }
 {
     let inserted = insert(
         shared,
         &mut hand.pass,
         &mut hand.workspace,
-        &mut hand.queue,
+        &mut hand.held,
         key,
         tries,
     );
@@ -78,16 +74,14 @@ pub(super) fn inserts(
 }
 
 pub(super) fn deletes(rt: &impl Abort, shared: &Shared, hand: &mut Hand, key: Key, wanted: bool)
-    requires rests { IsAtRest shared.now hand.old.pass hand.old.queue.items
-        hand.old.workspace.splices }
-    ensures rests { IsAtRest shared.now hand.new.pass hand.new.queue.items
-        hand.new.workspace.splices }
+    requires rests { IsAtRest shared.now hand.old.pass hand.old.held }
+    ensures rests { IsAtRest shared.now hand.new.pass hand.new.held }
 {
     let Ok(deleted) = delete(
         shared,
         &mut hand.pass,
         &mut hand.workspace,
-        &mut hand.queue,
+        &mut hand.held,
         key,
         2,
     ) else {
@@ -98,16 +92,14 @@ pub(super) fn deletes(rt: &impl Abort, shared: &Shared, hand: &mut Hand, key: Ke
 
 /// Deletes by one try, which flags the leaf and no more.
 pub(super) fn flags(rt: &impl Abort, shared: &Shared, hand: &mut Hand, key: Key) -> NodeId
-    requires rests { IsAtRest shared.now hand.old.pass hand.old.queue.items
-        hand.old.workspace.splices }
-    ensures pending { IsPendingFor shared.now hand.new.pass hand.new.queue.items
-        hand.new.workspace.splices key result }
+    requires rests { IsAtRest shared.now hand.old.pass hand.old.held }
+    ensures pending { IsPendingFor shared.now hand.new.pass hand.new.held key result }
 {
     let Err(Missed::Unfinished(leaf)) = delete(
         shared,
         &mut hand.pass,
         &mut hand.workspace,
-        &mut hand.queue,
+        &mut hand.held,
         key,
         1,
     ) else {
@@ -117,17 +109,15 @@ pub(super) fn flags(rt: &impl Abort, shared: &Shared, hand: &mut Hand, key: Key)
 }
 
 pub(super) fn finishes(rt: &impl Abort, shared: &Shared, hand: &mut Hand, key: Key, leaf: NodeId)
-    requires pending { IsPendingFor shared.now hand.old.pass hand.old.queue.items
-        hand.old.workspace.splices key leaf }
-    ensures rests { IsAtRest shared.now hand.new.pass hand.new.queue.items
-        hand.new.workspace.splices }
+    requires pending { IsPendingFor shared.now hand.old.pass hand.old.held key leaf }
+    ensures rests { IsAtRest shared.now hand.new.pass hand.new.held }
 {
     let pending = Unfinished { key, leaf };
     let finished = finish(
         shared,
         &mut hand.pass,
         &mut hand.workspace,
-        &mut hand.queue,
+        &mut hand.held,
         &pending,
         1,
     );
@@ -142,17 +132,15 @@ pub(super) fn cannot_finish(
     key: Key,
     leaf: NodeId,
 )
-    requires pending { IsPendingFor shared.now hand.old.pass hand.old.queue.items
-        hand.old.workspace.splices key leaf }
-    ensures pending { IsPendingFor shared.now hand.new.pass hand.new.queue.items
-        hand.new.workspace.splices key leaf }
+    requires pending { IsPendingFor shared.now hand.old.pass hand.old.held key leaf }
+    ensures pending { IsPendingFor shared.now hand.new.pass hand.new.held key leaf }
 {
     let pending = Unfinished { key, leaf };
     let finished = finish(
         shared,
         &mut hand.pass,
         &mut hand.workspace,
-        &mut hand.queue,
+        &mut hand.held,
         &pending,
         0,
     );
@@ -162,10 +150,8 @@ pub(super) fn cannot_finish(
 /// A cleanup that stops before its splice: the edge beside the flagged leaf is tagged. Whether the
 /// leaf was found.
 pub(super) fn tag_beside(shared: &Shared, hand: &mut Hand, key: Key, leaf: NodeId) -> bool
-    requires { IsPendingFor shared.now hand.old.pass hand.old.queue.items
-        hand.old.workspace.splices key leaf }
-    ensures { IsPendingFor shared.now hand.new.pass hand.new.queue.items
-        hand.new.workspace.splices key leaf }
+    requires { IsPendingFor shared.now hand.old.pass hand.old.held key leaf }
+    ensures { IsPendingFor shared.now hand.new.pass hand.new.held key leaf }
 {
     let mut chain = Chain::new();
     let Some(end) = seek(shared, &mut hand.pass, key.get(), &mut chain) else {

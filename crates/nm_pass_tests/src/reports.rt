@@ -7,7 +7,6 @@ ghost use Rattle.nm_pass_tests.specs.Plays.{IsAtRest};
 use super::hands::{Hand, deletes, flags, inserts, key, starting};
 use super::passes::only;
 use nm_edge::{INFINITY_0, Layout};
-use nm_limbo::BlockQueue;
 use nm_report::{Room, read};
 use nm_steps::{Pass, Shared};
 use std::process::Abort;
@@ -113,9 +112,9 @@ fn reads(
 fn inserted(rt: &(impl Abort + AllocGlobal), shared: &Shared, pass: Pass, keys: &[u64]) -> Hand
     requires own { IsOf shared.now pass }
     requires new { HasDoneNothing pass }
-    ensures { IsAtRest shared.now result.pass result.queue.items result.workspace.splices }
+    ensures { IsAtRest shared.now result.pass result.held }
 {
-    let mut one = starting(shared, pass, BlockQueue::new(rt.alloc()));
+    let mut one = starting(rt.alloc(), shared, pass);
     for number in keys {
         inserts(rt, shared, &mut one, key(rt, *number), 1, Ok(true));
     }

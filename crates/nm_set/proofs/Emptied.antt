@@ -93,8 +93,8 @@ emptied epoch n [] (g ∷ gs) late are lost = absurd lost
 emptied epoch n (h ∷ hs) [] late are lost = absurd lost
 emptied epoch n (h ∷ hs) (g ∷ gs) late are lost =
     let sum = sum_by-cons waits_in g gs in
-    let here : length g.queue.items ≡ 0 = ap (λ (es : List Entry). length es) (lost.1 ∙ none_left epoch n h.queue.items late are.0) in
-    let rest = emptied epoch n hs gs late are.1 lost.2 in
+    let here : length g.queue.items ≡ 0 = ap (λ (es : List Entry). length es) (lost.0.items ∙ none_left epoch n h.queue.items late are.0) in
+    let rest = emptied epoch n hs gs late are.1 lost.1 in
     omega (arith, sum, here, rest)
 
 -- and all of them was freed

@@ -25,7 +25,7 @@ use Rattle.nm_calls.proofs.Adding.{Adds, adds_these}
 use Rattle.nm_busy.specs.Pending.{leaf_after, leaf_by}
 use Rattle.nm_tree.specs.declared.worker.Counts.{Counts}
 use Rattle.nm_tree.specs.Workers.{Hand, IsLedger, log_held_of}
-use Rattle.nm_tree.proofs.Changing.{log_of_own}
+use Rattle.nm_tree.proofs.OwnQueue.{log_of_own}
 use Rattle.nm_tree.proofs.JoinsAlone.{told_in_part}
 use Rattle.nm_set.specs.declared.posting.Posted.{Posted}
 use Rattle.nm_set.specs.Posts.{ComesBehind, HasHeardAll, HasHeardOf, HasTally, HasWonNothing, IsLetter, IsTallyOf, LettersAreInOrder, pending_by}

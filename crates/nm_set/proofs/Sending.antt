@@ -9,7 +9,6 @@ use Rattle.nm_steps.specs.contracts.pass.Pass as pass
 use Rattle.nm_steps.specs.contracts.pass.notes.Note as note
 use Rattle.nm_pool.proofs.placement.Placement.TheSendSync as placement
 use Rattle.nm_epoch.proofs.collecting.HeldQueue.TheSendSync as queue
-use Rattle.nm_tree.proofs.worker.Account.TheSendSync as account
 use Rattle.nm_tree.specs.contracts.worker.Worker as worker
 use Rattle.nm_tree.proofs.worker.Worker.TheSendSync as worker_crosses
 use Rattle.nm_tree.proofs.tree.Tree.TheSendSync as tree
@@ -30,7 +29,7 @@ pass_sync : IsSync pass.the_row
 pass_sync = search (sendable, crosses, seat_sync) depth 20
 
 worker_sync : IsSync worker.the_row
-worker_sync = search (sendable, crosses, pass_sync, placement.the_sync, queue.the_sync, account.the_sync) depth 80
+worker_sync = search (sendable, crosses, pass_sync, placement.the_sync, queue.the_sync) depth 80
 
 resident_sync : IsSync resident.the_row
 resident_sync = search (sendable, worker_sync) depth 20

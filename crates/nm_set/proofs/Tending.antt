@@ -96,7 +96,7 @@ pub lose_by_collect : (o epoch : ℕ) (hs gs : List HeldQueue) → HaveLost epoc
 lose_by_collect o epoch [] [] a = tt
 lose_by_collect o epoch [] (g ∷ gs) a = absurd a
 lose_by_collect o epoch (h ∷ hs) [] a = absurd a
-lose_by_collect o epoch (h ∷ hs) (g ∷ gs) a = (a.0, inr (prefix_len (is_ripe epoch) h.queue.items, a.1), lose_by_collect o epoch hs gs a.2)
+lose_by_collect o epoch (h ∷ hs) (g ∷ gs) a = (a.0.origin, inr (prefix_len (is_ripe epoch) h.queue.items, a.0.items), lose_by_collect o epoch hs gs a.1)
 
 pub lose_same : (o : ℕ) (hs gs : List HeldQueue) → gs ≡ hs → OthersOnlyLose o hs gs
 lose_same o hs gs e = subst (OthersOnlyLose o hs) (sym e) (lose_nothing o hs)

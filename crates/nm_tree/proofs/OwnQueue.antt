@@ -53,7 +53,7 @@ own_log : (b : Bool) (x y : List LogEntry) → b ≡ true → (if b then x else 
 own_log b x y is = let P : Bool → Type 0 = λ c. (if c then x else y) ≡ x in subst P (sym is) refl
 
 -- the own log is that of the own number
-log_of_own : (p : Stand) → log_held_of p.view p.view.number ≡ p.view.log
+pub log_of_own : (p : Stand) → log_held_of p.view p.view.number ≡ p.view.log
 log_of_own p = own_log (p.view.number == p.view.number) p.view.log (log_among p.view.number p.view.others) (eq-eqb p.view.number p.view.number refl)
 
 -- what was freed of the own origin is what its ledger tells

@@ -25,7 +25,7 @@ pub use closing::{
 };
 pub use fault::{Fault, PinFault};
 pub use nm_calls::Query;
-pub use nm_epoch::{Advance, Behind, Collected, Entry, HeldQueue};
+pub use nm_epoch::{Advance, Behind, Collected, Entry, HeldQueue, Tally};
 pub use nm_model::NewError;
 pub use nm_pool::Fit;
 pub use nm_steps::Note;

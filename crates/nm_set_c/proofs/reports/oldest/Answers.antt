@@ -14,7 +14,7 @@ pub returns : goal.returns
 returns c =
     let queues = c.args.report.now.queues.items in
     let before : HeldQueue = c.in-Some.held.now in
-    let after : HeldQueue = record { origin = before.origin; queue = c.pop.new.self } in
+    let after : HeldQueue = record before { queue = c.pop.new.self } in
     let waiting : Waiting = record { slot = c.from.result; birth = c.in-Some-pop.entry.node.birth; label = c.in-Some-pop.entry.label } in
     let left : Report = record { queues = with_item c.args.report.now.queues c.args.worker after; keys = c.args.report.now.keys; free = c.args.report.now.free; reached = c.args.report.now.reached } in
     let found : slice_get queues c.args.worker ≡ Some before = slice_get_read queues c.args.report.now.queues.len c.args.worker before c.args.report.now.queues.ok.0 (c.in-Some.ensures.variant.0 refl) c.in-Some.ensures.value in
