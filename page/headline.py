@@ -18,7 +18,7 @@ from turns import (Advance, Announce, Announced, BirthIs, Claim, Claimed, Cut, D
                    Returned, Scan, Sight, SightFor, Splice, Tag, Turn, Turns, Was, kept, moments,
                    splits, workers_of)
 from words import (Edge, Layout, Memory, NodeId, Side, at, child, edge, in_pool, is_cut, named,
-                   node, note, opening, other, put_edge, put_node, reached, slice_set, tagged, to,
+                   node, announcement, opening, other, put_edge, put_node, reached, slice_set, tagged, to,
                    untagged)
 
 # ---- the words
@@ -28,9 +28,9 @@ def written(m: Memory, worker: int, event: Event, outcome: Outcome) -> Memory:
     """What an event with its outcome has written: one word, or none; where it was refused, none."""
     match event, outcome:
         case Announce(), Announced(epoch):
-            return replace(m, notes=slice_set(m.notes, worker, epoch))
+            return replace(m, announcements=slice_set(m.announcements, worker, epoch))
         case Leave() | LeaveWith(_), Departed():
-            return replace(m, notes=slice_set(m.notes, worker, None))
+            return replace(m, announcements=slice_set(m.announcements, worker, None))
         case Advance(), Moved(epoch):
             return replace(m, epoch=epoch)
         case Claim(slot), Claimed(_):
@@ -90,7 +90,7 @@ def tells_what_stands(m: Memory, event: Event, reply: Outcome) -> Fault | None:
         case Look(slot, Field.BIRTH), _:
             stands = BirthIs(node(m, slot).birth)
         case Scan(worker), _:
-            epoch = note(m, worker)
+            epoch = announcement(m, worker)
             stands = Idle() if epoch is None else In(epoch)
         case Fill(slot, Field.BIRTH, value), _:
             told, stands = value, node(m, slot).birth + 1

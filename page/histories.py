@@ -1,5 +1,5 @@
-"""The second page, nm_theorem's specs/Histories.antt, of finite lists of turns: that they are a
-history of one plain set. With what it takes from nm_order: Legal, History and Intervals.
+"""The second page, nm_model's specs/Histories.antt, of finite lists of turns: that they are a
+history of one plain set. With what it takes from Acts there.
 
 Each definition is a function or a class of its name, in the spelling of Python and in the same
 order, with the sentence that stands above it there. A set of keys is here a frozen set.
@@ -16,28 +16,7 @@ from words import Layout, Memory, NodeId, is_key, is_leaf, node, reached
 
 Keys = frozenset[int]
 
-# ---- nm_order: Legal
-
-
-def gives(in_set: Keys, op: Op, key: int, answer: bool) -> bool:
-    """What a plain set answers: `has` tells whether the key is in it, an insert is true where it
-    was not, and a delete where it was."""
-    return ((key in in_set) != answer) if op is Op.INSERT else ((key in in_set) == answer)
-
-
-# ---- nm_order: Intervals
-
-
-def key(m: Memory, x: int) -> int:
-    return node(m, x).key
-
-
-def in_set(m: Memory) -> Keys:
-    """A key of the set is that of a reached leaf. (All such keys.)"""
-    return frozenset(key(m, x) for x in m.paths if reached(m, x) and is_leaf(node(m, x)))
-
-
-# ---- nm_order: History
+# ---- nm_model: Acts
 
 
 class Act(NamedTuple):
@@ -51,11 +30,35 @@ class Act(NamedTuple):
     moment: int
 
 
+def is_among(acts: list[Act], a: Act) -> bool:
+    """The act is one of these."""
+    return a in acts
+
+
+def has_in_a_row(acts: list[Act], keys: list[int], moment: int,
+                 holds: Callable[[Act], bool]) -> bool:
+    """Acts of these keys in a row, at that moment, of each of which something holds."""
+    rows = (acts[at : at + len(keys)] for at in range(len(acts) - len(keys) + 1))
+    return any([a.key for a in row] == keys and all(a.moment == moment and holds(a) for a in row)
+               for row in rows)
+
+
+def gives(in_set: Keys, op: Op, key: int, answer: bool) -> bool:
+    """What a plain set answers: `has` tells whether the key is in it, an insert is true where it
+    was not, and a delete where it was."""
+    return ((key in in_set) != answer) if op is Op.INSERT else ((key in in_set) == answer)
+
+
 def changed(before: Keys, op: Op, key: int, answer: bool) -> Keys:
     """What is in the set after a call that was answered so."""
     if op is Op.INSERT and answer:
         return before | {key}
     return before - {key} if op is Op.DELETE and answer else before
+
+
+def nothing() -> Keys:
+    """The empty set has no key."""
+    return frozenset()
 
 
 def replays(first: Keys, acts: list[Act], last: Keys) -> Fault | None:
@@ -70,14 +73,9 @@ def replays(first: Keys, acts: list[Act], last: Keys) -> Fault | None:
                  f" {differ}") if differ else None
 
 
-def nothing() -> Keys:
-    """The empty set has no key."""
-    return frozenset()
-
-
-def is_among(acts: list[Act], a: Act) -> bool:
-    """The act is one of these."""
-    return a in acts
+def in_set(m: Memory) -> Keys:
+    """A key of the set is that of a reached leaf. (All such keys.)"""
+    return frozenset(node(m, x).key for x in m.paths if reached(m, x) and is_leaf(node(m, x)))
 
 
 def leaf_keys(m: Memory, slots: list[int]) -> list[int]:
@@ -85,15 +83,7 @@ def leaf_keys(m: Memory, slots: list[int]) -> list[int]:
     return [node(m, x).key for x in slots if is_leaf(node(m, x))]
 
 
-def has_in_a_row(acts: list[Act], keys: list[int], moment: int,
-                 holds: Callable[[Act], bool]) -> bool:
-    """Acts of these keys in a row, at that moment, of each of which something holds."""
-    rows = (acts[at : at + len(keys)] for at in range(len(acts) - len(keys) + 1))
-    return any([a.key for a in row] == keys and all(a.moment == moment and holds(a) for a in row)
-               for row in rows)
-
-
-# ---- nm_theorem: Histories
+# ---- nm_model: Histories
 
 
 class Called(NamedTuple):
@@ -264,7 +254,7 @@ def changes_by(layout: Layout, before: Turns, turn: Turn) -> list[Act]:
         calls = [(w, call_begun(w, before)) for w in sorted(workers_of(before))
                  if has_flagged_one_of(before, w, [it])]
         found += [act_of(w, call, True, moment) for w, call in calls
-                  if call and call.key == key(words_after(layout, before), it.slot)][:1]
+                  if call and call.key == node(words_after(layout, before), it.slot).key][:1]
     return found
 
 

@@ -56,7 +56,7 @@ def other(side: Side) -> Side:
 
 class Layout(NamedTuple):
     """How many nodes there is room for, how many workers there are, how many words that say nothing
-    stand behind the note of each, and whether the tree has the shape of a radix tree, in which each
+    stand behind the announcement of each, and whether the tree has the shape of a radix tree, in which each
     internal node is between the halves of a range (`Ranges`), or that of Natarajan and Mittal."""
     nodes: int
     workers: int
@@ -106,7 +106,7 @@ class Memory:
     """The global epoch, what each worker announces, and by slot the nodes and whether the slot is
     in the pool. Slot 0 is no node, and stands there with null edges."""
     epoch: int
-    notes: Row
+    announcements: Row
     nodes: Row
     pool: Row
 
@@ -152,9 +152,9 @@ def is_leaf(it: Node) -> bool:
     return it.left.slot == 0 and it.right.slot == 0
 
 
-def note(m: Memory, worker: int) -> int | None:
+def announcement(m: Memory, worker: int) -> int | None:
     """What a worker announces: an epoch, or nothing while it is idle."""
-    return slice_index_or(m.notes, worker, None)
+    return slice_index_or(m.announcements, worker, None)
 
 
 def in_pool(m: Memory, slot: int) -> bool:
@@ -209,7 +209,7 @@ def opening(layout: Layout) -> Memory:
              leaf(infinity_1()), leaf(infinity_2())]
     return Memory(
         epoch=0,
-        notes=Row(layout.workers, None),
+        announcements=Row(layout.workers, None),
         nodes=Row(layout.nodes + 1, blank(), dict(enumerate(fixed))),
         pool=Row(layout.nodes + 1, True, dict.fromkeys(range(6), False)),
     )

@@ -5,12 +5,12 @@ ghost use Rattle.nm_tree.specs.Calls.{MayCall};
 
 use anyhow::{Context, Result};
 use nm_edge::Key;
-use nm_tree::{Fault, Tree, Worker};
+use nm_tree::{CallFault, Tree, Worker};
 
 const TRIES: u32 = 64;
 
 /// Whether the key was inserted, found and deleted.
-fn visit(tree: &Tree, worker: &mut Worker, key: Key) -> Result<(bool, bool, bool), Fault>
+fn visit(tree: &Tree, worker: &mut Worker, key: Key) -> Result<(bool, bool, bool), CallFault>
     requires { MayCall tree.now worker.old }
     ensures { MayCall tree.now worker.new }
 {

@@ -40,13 +40,13 @@ use Rattle.nm_steps.specs.Steps.{Stand, IsSamePass, HasSeen}
 use Rattle.nm_calls.specs.PlainWalks.{events_of}
 use Rattle.nm_calls.proofs.PlainLooks.{as_events, events_go_on}
 use Rattle.nm_epoch.specs.Tries.{LostTries, IsPinnedBy}
-use Rattle.nm_calls.specs.declared.making.Fork.{Fork}
-use Rattle.nm_calls.specs.declared.spot.ChainEdge.{ChainEdge}
-use Rattle.nm_calls.specs.declared.spot.Spot.{Spot}
-use Rattle.nm_calls.specs.declared.spot.End.{End}
-use Rattle.nm_calls.specs.declared.inserting.Fault.TheVariants as fault
+use Rattle.nm_walks.specs.declared.making.Fork.{Fork}
+use Rattle.nm_walks.specs.declared.spot.ChainEdge.{ChainEdge}
+use Rattle.nm_walks.specs.declared.spot.Spot.{Spot}
+use Rattle.nm_walks.specs.declared.spot.WalkEnd.{WalkEnd}
+use Rattle.nm_calls.specs.declared.inserting.NotInserted.TheVariants as fault
 use Rattle.nm_calls.specs.declared.deleting.Missed.TheVariants as missed
-use Rattle.nm_calls.specs.Walks.{Walks, IsBroken}
+use Rattle.nm_walks.specs.Walks.{Walks, IsBroken}
 use Rattle.nm_calls.specs.Inserts.{LostInserts, InsertDid}
 use Rattle.nm_calls.specs.Deletes.{LostFlags, DeleteDid}
 use Rattle.nm_progress.specs.Changes.{is_bare, Expects}
@@ -448,7 +448,7 @@ module _ (p q : Stand) (seen_p : HasSeen p.view) (seen_q : HasSeen q.view) (enou
   none_broken k begun new pin (inr deep) rest = not_tagged deep.3.edge (bare_walk k deep.1 begun deep.2 deep.3 deep.4 pin deep.7 (longer_then deep.2 new q.view.log (reads_longer k deep.3.edge.slot deep.2 new deep.5 deep.8) rest)) deep.10
 
   -- nor is its exchange lost
-  none_lost : (k : ℕ) (r : End) (c : List ChainEdge) (e : Edge) (n : ℕ) (begun walked before : List Entry) (exchange : Event) → Mute p.view.log begun → Walks k n begun walked r.spot c → Plain walked before → is_loud (losing exchange e) ≡ false
+  none_lost : (k : ℕ) (r : WalkEnd) (c : List ChainEdge) (e : Edge) (n : ℕ) (begun walked before : List Entry) (exchange : Event) → Mute p.view.log begun → Walks k n begun walked r.spot c → Plain walked before → is_loud (losing exchange e) ≡ false
       → Expects r.spot.parent r.spot.side r.spot.edge.slot exchange → Longer (before ++ losing exchange e ∷ []) q.view.log → ⊥
   none_lost k r c e n begun walked before exchange pin walk plain quiet expects rest = refuse (alone_walk begun _ pin whole_try rest)
     where

@@ -47,11 +47,11 @@ use Rattle.nm_order.proofs.RadixTrees.{left_if}
 use Rattle.nm_order.proofs.RunExchanges.{first_keys}
 use Rattle.nm_order.proofs.Searching.{goes-append, goes_first, goes_on}
 use Rattle.nm_order.proofs.WalksOfRuns.{trace_in-append}
-use Rattle.nm_calls.specs.declared.looking.Onward.{Onward}
-use Rattle.nm_calls.specs.declared.spot.ChainEdge.{ChainEdge}
-use Rattle.nm_calls.specs.declared.spot.Spot.{Spot}
-use Rattle.nm_calls.specs.Bounds.{chain_bound}
-use Rattle.nm_calls.specs.Walks.{onto, chained, Walks, IsTooDeep}
+use Rattle.nm_walks.specs.declared.looking.Onward.{Onward}
+use Rattle.nm_walks.specs.declared.spot.ChainEdge.{ChainEdge}
+use Rattle.nm_walks.specs.declared.spot.Spot.{Spot}
+use Rattle.nm_walks.specs.Bounds.{chain_bound}
+use Rattle.nm_walks.specs.Walks.{onto, chained, Walks, IsTooDeep}
 use Rattle.nm_progress.specs.Moves.{number_of}
 use Rattle.nm_progress.proofs.MoreTries.{Plain, plain_then}
 use Rattle.nm_progress.proofs.Reshapes.{is_reshape, StaysThere, calm_turns, look_there, tag_there, Within, Apart, Distinct, few}

@@ -24,8 +24,8 @@ use Rattle.nm_steps.specs.Steps.{Stand, IsSamePass, HasSeenAllOf, HasSeen}
 use Rattle.nm_calls.specs.PlainWalks.{events_of}
 use Rattle.nm_calls.proofs.PlainLooks.{as_events, events_go_on}
 use Rattle.nm_laws.proofs.Configurations.{after_in-append}
-use Rattle.nm_calls.specs.Bounds.{chain_bound}
-use Rattle.nm_calls.specs.Walks.{IsTooLong, IsTooDeep}
+use Rattle.nm_walks.specs.Bounds.{chain_bound}
+use Rattle.nm_walks.specs.Walks.{IsTooLong, IsTooDeep}
 use Rattle.nm_progress.specs.Moves.{number_of}
 use Rattle.nm_progress.specs.Paid.{links_on, flags_on, cuts_on, tags_on, links_in, flags_in}
 use Rattle.nm_progress.specs.Tries.{changes_of_others, reshapes_of_others, helps_on, hinders, LosesTries}

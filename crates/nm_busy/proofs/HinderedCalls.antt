@@ -12,10 +12,10 @@ use Rattle.nm_steps.specs.Steps.{Stand, IsSamePass, HasSeenAllOf, HasSeen}
 use Rattle.nm_calls.specs.PlainWalks.{events_of}
 use Rattle.nm_calls.proofs.PlainLooks.{as_events}
 use Rattle.nm_epoch.specs.Tries.{IsMoved}
-use Rattle.nm_calls.specs.declared.inserting.Fault.TheVariants as fault
+use Rattle.nm_calls.specs.declared.inserting.NotInserted.TheVariants as fault
 use Rattle.nm_calls.specs.declared.deleting.Missed.TheVariants as missed
 use Rattle.nm_calls.specs.Inserts.{InsertDid}
-use Rattle.nm_calls.specs.Cleanups.{CleanupLost}
+use Rattle.nm_walks.specs.Cleanups.{CleanupLost}
 use Rattle.nm_calls.specs.Deletes.{LostRemovals, DeleteDid, IsRemoving, leaf_of}
 use Rattle.nm_progress.proofs.MoreTries.{log_prefix}
 use Rattle.nm_progress.specs.Moves.{is_sight}

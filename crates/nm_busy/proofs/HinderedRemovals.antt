@@ -22,12 +22,12 @@ use Rattle.nm_order.proofs.FactStays.{facts_stay}
 use Rattle.nm_order.proofs.LastEntries.{log_before}
 use Rattle.nm_order.proofs.LaterFlagLaws.{later_walks_find}
 use Rattle.nm_order.proofs.TaughtWalks.{walks_begin, walks_go_on, walks_learn_keys}
-use Rattle.nm_calls.specs.declared.looking.Onward.{Onward}
-use Rattle.nm_calls.specs.declared.spot.ChainEdge.{ChainEdge}
-use Rattle.nm_calls.specs.declared.spot.End.{End}
-use Rattle.nm_calls.specs.declared.spot.Spot.{Spot}
-use Rattle.nm_calls.specs.Walks.{begin, onto, after_looks, edge_on, Reads, Walks}
-use Rattle.nm_calls.specs.Bounds.{chain_bound}
+use Rattle.nm_walks.specs.declared.looking.Onward.{Onward}
+use Rattle.nm_walks.specs.declared.spot.ChainEdge.{ChainEdge}
+use Rattle.nm_walks.specs.declared.spot.WalkEnd.{WalkEnd}
+use Rattle.nm_walks.specs.declared.spot.Spot.{Spot}
+use Rattle.nm_walks.specs.Walks.{begin, onto, after_looks, edge_on, Reads, Walks}
+use Rattle.nm_walks.specs.Bounds.{chain_bound}
 use Rattle.nm_calls.specs.Deletes.{LostRemovals, RemovesNothing}
 use Rattle.nm_progress.proofs.MoreTries.{Plain, plain_then, quiet_pins, log_prefix}
 use Rattle.nm_busy.proofs.Astray.{walk_plain}
@@ -106,7 +106,7 @@ module _ (L : Layout) (enough : 5 ≤ L.nodes) (w k : ℕ) where
       (cleanup_steady L enough w r.spot c mid new lost)
 
   -- the walk came to the flagged leaf by its flagged edge
-  came_flagged : (n : NodeId) (r : End) (c : List ChainEdge) (m : ℕ) (old walked : List Entry) → Flagging k n old → Walks k m old walked r.spot c → r.spot.edge.slot ≡ n.slot → IsLogOf L w walked → Holds L w walked (IsFlagged r.spot.parent r.spot.side r.spot.edge.slot)
+  came_flagged : (n : NodeId) (r : WalkEnd) (c : List ChainEdge) (m : ℕ) (old walked : List Entry) → Flagging k n old → Walks k m old walked r.spot c → r.spot.edge.slot ≡ n.slot → IsLogOf L w walked → Holds L w walked (IsFlagged r.spot.parent r.spot.side r.spot.edge.slot)
   came_flagged n r c m old walked f walk same l =
       subst (λ (x : ℕ). Holds L w walked (IsFlagged r.spot.parent r.spot.side x)) (sym same)
       (later_walks_find L enough w walked l n k r.spot.parent r.spot.side (flagging_on k n old walked (plain_steady old walked (walk_plain k m old walked r.spot c walk)) f).flagged

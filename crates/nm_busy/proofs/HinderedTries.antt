@@ -13,15 +13,15 @@ use Rattle.nm_model.specs.declared.reply.Reply.TheVariants.{Labelled, BirthIs, W
 use Rattle.nm_model.specs.Walks.{Entry}
 use Rattle.nm_order.specs.Logs.{IsLogOf}
 use Rattle.nm_pool.specs.declared.placement.Fit.{Fit}
-use Rattle.nm_calls.specs.declared.making.Fork.{Fork}
-use Rattle.nm_calls.specs.declared.spot.ChainEdge.{ChainEdge}
-use Rattle.nm_calls.specs.declared.spot.End.{End}
-use Rattle.nm_calls.specs.declared.spot.Spot.{Spot}
-use Rattle.nm_calls.specs.Bounds.{chain_bound}
-use Rattle.nm_calls.specs.Cleanups.{CutsOff, CleanupLost, CleanupWon}
-use Rattle.nm_calls.specs.Making.{fills}
-use Rattle.nm_calls.specs.Places.{Stops}
-use Rattle.nm_calls.specs.Walks.{Walks, IsBroken}
+use Rattle.nm_walks.specs.declared.making.Fork.{Fork}
+use Rattle.nm_walks.specs.declared.spot.ChainEdge.{ChainEdge}
+use Rattle.nm_walks.specs.declared.spot.WalkEnd.{WalkEnd}
+use Rattle.nm_walks.specs.declared.spot.Spot.{Spot}
+use Rattle.nm_walks.specs.Bounds.{chain_bound}
+use Rattle.nm_walks.specs.Cleanups.{CutsOff, CleanupLost, CleanupWon}
+use Rattle.nm_walks.specs.Making.{fills}
+use Rattle.nm_walks.specs.Places.{Stops}
+use Rattle.nm_walks.specs.Walks.{Walks, IsBroken}
 use Rattle.nm_calls.specs.Inserts.{asks_help, Helps, TriesLink, LostInserts}
 use Rattle.nm_calls.specs.Deletes.{TriesFlag, LostFlags}
 use Rattle.nm_progress.specs.Changes.{is_bare, Expects}
@@ -41,20 +41,20 @@ use Rattle.nm_busy.proofs.WalkReads.{walk_read}
 -- it is lost: its walk was broken off, or its exchange was lost, and then there was help
 abbrev pub IsLostInsert : Fit → Layout → ℕ → Option Fork → Option Fork → List Entry → List Entry → Type 0
 IsLostInsert fit L k f g old new = ((c : List ChainEdge) × Stops L k old new c None × (g ≡ f))
-    ⊎ ((made : Fork) × (r : End) × (c : List ChainEdge) × (e : Edge) × (mid : List Entry) × TriesLink fit L k f made r c (Lost e) old mid × (g ≡ Some made) × Helps r c e mid new)
+    ⊎ ((made : Fork) × (r : WalkEnd) × (c : List ChainEdge) × (e : Edge) × (mid : List Entry) × TriesLink fit L k f made r c (Lost e) old mid × (g ≡ Some made) × Helps r c e mid new)
 
 abbrev pub IsLostFlag : Layout → ℕ → List ChainEdge → List Entry → List Entry → Type 0
-IsLostFlag L k c old new = IsBroken L k old new ⊎ ((r : End) × (b : ℕ) × (e : Edge) × (mid : List Entry) × TriesFlag L k r c b (Lost e) old mid × Helps r c e mid new)
+IsLostFlag L k c old new = IsBroken L k old new ⊎ ((r : WalkEnd) × (b : ℕ) × (e : Edge) × (mid : List Entry) × TriesFlag L k r c b (Lost e) old mid × Helps r c e mid new)
 
 module _ (L : Layout) (k : ℕ) where
   -- what a try adds behind its walk, up to its exchange, changes nothing
-  pub link_plain : (fit : Fit) (f : Option Fork) (made : Fork) (r : End) (c : List ChainEdge) (e : Edge) (old mid : List Entry) (link : TriesLink fit L k f made r c (Lost e) old mid)
+  pub link_plain : (fit : Fit) (f : Option Fork) (made : Fork) (r : WalkEnd) (c : List ChainEdge) (e : Edge) (old mid : List Entry) (link : TriesLink fit L k f made r c (Lost e) old mid)
       → Plain link.walk.0.1 ((link.claimed ++ fills made.new.slot link.grows.0.key link.grows.0.left link.grows.0.right) ++ fills made.fresh.slot k 0 0)
   link_plain fit f made r c e old mid link = plain_then link.walk.0.1 link.ended _ (reads_plain k r.spot.edge.slot link.walk.0.1 link.ended link.walk.0.2 link.walk.0.6)
       (plain_then link.ended link.claimed _ (readies_plain fit L.nodes f made link.ended link.claimed link.readies)
       (plain_then link.claimed _ _ (plain_these (fills made.new.slot link.grows.0.key link.grows.0.left link.grows.0.right) link.claimed _ refl refl) (plain_these (fills made.fresh.slot k 0 0) _ _ refl refl)))
 
-  pub flag_plain : (r : End) (c : List ChainEdge) (b : ℕ) (e : Edge) (old mid : List Entry) (flag : TriesFlag L k r c b (Lost e) old mid) → Plain flag.walk.0.1 (flag.ended ++ (Look r.spot.edge.slot Birth, BirthIs b) ∷ [])
+  pub flag_plain : (r : WalkEnd) (c : List ChainEdge) (b : ℕ) (e : Edge) (old mid : List Entry) (flag : TriesFlag L k r c b (Lost e) old mid) → Plain flag.walk.0.1 (flag.ended ++ (Look r.spot.edge.slot Birth, BirthIs b) ∷ [])
   flag_plain r c b e old mid flag = plain_then flag.walk.0.1 flag.ended _ (reads_plain k r.spot.edge.slot flag.walk.0.1 flag.ended flag.walk.0.2 flag.walk.0.6) (plain_these ((Look r.spot.edge.slot Birth, BirthIs b) ∷ []) flag.ended _ refl refl)
 
 -- it makes the log longer
@@ -85,7 +85,7 @@ cut_steady L enough w s c ns old new (kept, mid, (chosen, was, chooses, freezes)
     (steady_then chosen _ new (steady_these ((Tag s.parent kept.side, Was was) ∷ []) chosen _ refl refl)
     (steady_then _ mid new (plain_steady _ mid (freezes_plain L enough w s.parent kept.side c _ mid freezes)) (steady_these ((Splice s.ancestor s.above s.successor s.parent kept.side, Cut ns) ∷ []) mid new refl is)))
 
-help_steady : (L : Layout) (enough : 5 ≤ L.nodes) (w : ℕ) (r : End) (c : List ChainEdge) (e : Edge) (old new : List Entry) → Helps r c e old new → Steady old new
+help_steady : (L : Layout) (enough : 5 ≤ L.nodes) (w : ℕ) (r : WalkEnd) (c : List ChainEdge) (e : Edge) (old new : List Entry) → Helps r c e old new → Steady old new
 help_steady L enough w r c e old new (inr h) = steady_these [] old new refl (h.1 ∙ sym (append-nil old))
 help_steady L enough w r c e old new (inl h) = by h.1
   where
@@ -117,17 +117,17 @@ flags_steady : (L : Layout) (enough : 5 ≤ L.nodes) (w k n : ℕ) (old new : Li
 flags_steady L enough w k zero old new h = steady_these [] old new refl (h ∙ sym (append-nil old))
 flags_steady L enough w k (suc n) old new (c, mid, before, try) = steady_then old mid new (flags_steady L enough w k n old mid before) (flag_steady L enough w k c mid new try)
 
-asks : (r : End) (e : Edge) → StillMarked e r.spot.edge.slot → asks_help r e ≡ true
+asks : (r : WalkEnd) (e : Edge) → StillMarked e r.spot.edge.slot → asks_help r e ≡ true
 asks r e still = and_from (e.slot == r.spot.edge.slot) (e.flag || e.tag) (eq-eqb e.slot r.spot.edge.slot still.0) still.1
 
 module _ (L : Layout) (enough : 5 ≤ L.nodes) (w k : ℕ) where
   -- the help behind an exchange that was lost at an edge which has a mark
-  helped : (r : End) (c : List ChainEdge) (e : Edge) (old walked mid new : List Entry) (n : ℕ) → Walks k n old walked r.spot c → Plain walked mid → IsMarked L enough w mid r.spot.parent r.spot.side r.spot.edge.slot → StillMarked e r.spot.edge.slot → Helps r c e mid new → IsLogOf L w new → Hinders L enough w old new 1
+  helped : (r : WalkEnd) (c : List ChainEdge) (e : Edge) (old walked mid new : List Entry) (n : ℕ) → Walks k n old walked r.spot c → Plain walked mid → IsMarked L enough w mid r.spot.parent r.spot.side r.spot.edge.slot → StillMarked e r.spot.edge.slot → Helps r c e mid new → IsLogOf L w new → Hinders L enough w old new 1
   helped r c e old walked mid new n walk plain marked still (inl h) l = cleanup_hinders L enough w k n old walked mid new r.spot c walk plain marked h.1 l
   helped r c e old walked mid new n walk plain marked still (inr h) l = absurd (true≢false (sym (asks r e still) ∙ h.0))
 
   -- what a walk read stays marked behind entries that change nothing
-  marked_there : (n : ℕ) (old walked new : List Entry) (r : End) (c : List ChainEdge) → Walks k n old walked r.spot c → (p : Plain walked new) → is_bare r.spot.edge ≡ false → IsLogOf L w new → IsMarked L enough w new r.spot.parent r.spot.side r.spot.edge.slot
+  marked_there : (n : ℕ) (old walked new : List Entry) (r : WalkEnd) (c : List ChainEdge) → Walks k n old walked r.spot c → (p : Plain walked new) → is_bare r.spot.edge ≡ false → IsLogOf L w new → IsMarked L enough w new r.spot.parent r.spot.side r.spot.edge.slot
   marked_there n old walked new r c walk p marked l =
       let log = subst (IsLogOf L w) p.are l in
       let before = log_prefix L w walked p.entries log in
@@ -135,14 +135,14 @@ module _ (L : Layout) (enough : 5 ≤ L.nodes) (w k : ℕ) where
       (marks_last L enough w walked p.entries log (quiet_pins p.entries p.quiet) r.spot.parent r.spot.side r.spot.edge.slot (spot_marked L enough w old walked r.spot before (walk_read L enough w k n old walked r.spot c walk before) marked))
 
   -- what an exchange finds changed that was lost behind a walk which came there by an edge without a mark
-  pub bare_at : (r : End) (c : List ChainEdge) (e : Edge) (n : ℕ) (old walked before new : List Entry) (exchange : Event) → Walks k n old walked r.spot c → Plain walked before → Expects r.spot.parent r.spot.side r.spot.edge.slot exchange → is_bare r.spot.edge ≡ true
+  pub bare_at : (r : WalkEnd) (c : List ChainEdge) (e : Edge) (n : ℕ) (old walked before new : List Entry) (exchange : Event) → Walks k n old walked r.spot c → Plain walked before → Expects r.spot.parent r.spot.side r.spot.edge.slot exchange → is_bare r.spot.edge ≡ true
       → Longer (before ++ losing exchange e ∷ []) new → IsLogOf L w before → Hinders L enough w old new 1
   bare_at r c e n old walked before new exchange walk plain expects bare rest l =
       let walked_log = log_prefix L w walked plain.entries (subst (IsLogOf L w) plain.are l) in
       lost_behind L enough w r.spot.parent r.spot.side r.spot.edge.slot old walked before new exchange e (spot_read L enough w old walked r.spot (walk_read L enough w k n old walked r.spot c walk walked_log) bare) plain expects rest
 
   -- an exchange that was lost behind a walk, at the edge by which it came, and then help
-  lost_at : (r : End) (c : List ChainEdge) (e : Edge) (n : ℕ) (old walked before mid new : List Entry) (exchange : Event) → Walks k n old walked r.spot c → Plain walked before → is_loud (losing exchange e) ≡ false → Expects r.spot.parent r.spot.side r.spot.edge.slot exchange
+  lost_at : (r : WalkEnd) (c : List ChainEdge) (e : Edge) (n : ℕ) (old walked before mid new : List Entry) (exchange : Event) → Walks k n old walked r.spot c → Plain walked before → is_loud (losing exchange e) ≡ false → Expects r.spot.parent r.spot.side r.spot.edge.slot exchange
       → (IsLogOf L w (before ++ losing exchange e ∷ []) → IsMarked L enough w before r.spot.parent r.spot.side r.spot.edge.slot → StillMarked e r.spot.edge.slot)
       → mid ≡ before ++ losing exchange e ∷ [] → Helps r c e mid new → IsLogOf L w new → Hinders L enough w old new 1
   lost_at r c e n old walked before mid new exchange walk plain quiet expects found is helps l = by (is_bare r.spot.edge) refl

@@ -140,7 +140,7 @@ module _ (L : Layout) (enough : 5 ≤ L.nodes) (w : ℕ) (sight : Event) (sees :
 -- ---- the first sight
 
 saw_shows : (k : Knowledge) (n e : ℕ) → reply_sight k n ≡ Saw e → n ≡ e
-saw_shows k n e is = by k.brief.unlabelled k.brief.pin k.brief.note is
+saw_shows k n e is = by k.brief.unlabelled k.brief.pin k.brief.announcement is
   where
     miss : (b : Bool) → cond b (Pinned n) (Missed n) ≡ Saw e → n ≡ e
     miss true told = absurd (differ told)

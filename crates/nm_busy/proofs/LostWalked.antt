@@ -4,7 +4,7 @@ use Rattle.nm_model.specs.declared.event.Event.TheVariants.{Sight, Leave}
 use Rattle.nm_model.specs.declared.reply.Reply.TheVariants.{Departed}
 use Rattle.nm_model.specs.Walks.{Entry}
 use Rattle.nm_steps.specs.Steps.{Stand, IsSamePass, HasSeen, HasSeenAllOf}
-use Rattle.nm_calls.specs.Walks.{IsTooLong}
+use Rattle.nm_walks.specs.Walks.{IsTooLong}
 use Rattle.nm_busy.specs.Walked.{NearWasBusy, BusyManyWereDisturbed, BusyNextsWereDisturbed, BusyPrevsWereDisturbed}
 use Rattle.nm_busy.proofs.Astray.{Strays, long_astray, strays_longer}
 use Rattle.nm_busy.proofs.LostLookups.{was_reshaped}

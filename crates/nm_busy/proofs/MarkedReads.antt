@@ -33,12 +33,12 @@ use Rattle.nm_order.proofs.FactStays.{facts_stay}
 use Rattle.nm_order.proofs.LastEntries.{LastEntry, last_entry, log_before, known_more}
 use Rattle.nm_order.proofs.TaughtFacts.{is_read, edges_are_learned}
 use Rattle.nm_order.proofs.ToldLaws.{lawful_before, is_answered, holds_then, twice_other, twins_are_told, flags_are_told}
-use Rattle.nm_calls.specs.declared.cutting.Kept.{Kept}
-use Rattle.nm_calls.specs.declared.looking.Onward.{Onward}
-use Rattle.nm_calls.specs.declared.spot.ChainEdge.{ChainEdge}
-use Rattle.nm_calls.specs.declared.spot.Spot.{Spot}
-use Rattle.nm_calls.specs.Walks.{begin, onto, after_looks, edge_on, Reads, Walks}
-use Rattle.nm_calls.specs.Cleanups.{kept_beside, Chooses, FreezesOne, Freezes, Prepares, CutsOff, CleanupLost, CleanupWon}
+use Rattle.nm_walks.specs.declared.cutting.Kept.{Kept}
+use Rattle.nm_walks.specs.declared.looking.Onward.{Onward}
+use Rattle.nm_walks.specs.declared.spot.ChainEdge.{ChainEdge}
+use Rattle.nm_walks.specs.declared.spot.Spot.{Spot}
+use Rattle.nm_walks.specs.Walks.{begin, onto, after_looks, edge_on, Reads, Walks}
+use Rattle.nm_walks.specs.Cleanups.{kept_beside, Chooses, FreezesOne, Freezes, Prepares, CutsOff, CleanupLost, CleanupWon}
 use Rattle.nm_progress.specs.Changes.{is_bare, Expects}
 use Rattle.nm_progress.specs.Changes.Expects.{ToCut}
 use Rattle.nm_progress.specs.Tries.{helps_on, reading, losing}

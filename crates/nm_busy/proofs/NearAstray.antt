@@ -13,12 +13,12 @@ use Rattle.nm_order.specs.Logs.{part_of}
 use Rattle.nm_order.proofs.OrderedLaws.{IsOrdered}
 use Rattle.nm_order.proofs.RunExchanges.{first_keys}
 use Rattle.nm_order.proofs.WalksOfRuns.{trace_in-append}
-use Rattle.nm_calls.specs.declared.looking.Onward.{Onward}
-use Rattle.nm_calls.specs.declared.spot.ChainEdge.{ChainEdge}
-use Rattle.nm_calls.specs.declared.spot.Spot.{Spot}
+use Rattle.nm_walks.specs.declared.looking.Onward.{Onward}
+use Rattle.nm_walks.specs.declared.spot.ChainEdge.{ChainEdge}
+use Rattle.nm_walks.specs.declared.spot.Spot.{Spot}
 use Rattle.nm_calls.specs.NextKeys.{ComesBy, HasNone, HaveNone}
 use Rattle.nm_calls.specs.PrevKeys.{HaveNone as HaveNoneBack}
-use Rattle.nm_calls.specs.Walks.{Reads, Walks, EndsAtLeaf}
+use Rattle.nm_walks.specs.Walks.{Reads, Walks, EndsAtLeaf}
 use Rattle.nm_progress.specs.Moves.{number_of}
 use Rattle.nm_progress.proofs.LostTries.{later_keys}
 use Rattle.nm_progress.proofs.MoreTries.{Plain, plain_then}

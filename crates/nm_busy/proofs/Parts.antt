@@ -9,21 +9,21 @@ use Rattle.nm_edge.specs.declared.node.NodeId.{NodeId}
 use Rattle.nm_edge.specs.Edges.{Edge}
 use Rattle.nm_model.specs.declared.event.Event.{Event}
 use Rattle.nm_model.specs.Walks.{Entry}
-use Rattle.nm_pool.specs.Takes.{DoneInTurn}
-use Rattle.nm_pool.specs.Claims.{DoneAt, PassedOver, PassedWithin, IsClaimBy}
+use Rattle.nm_pool.specs.Claims.{DoneInTurn, DoneAt, PassedOver, PassedWithin, IsClaimBy}
 use Rattle.nm_pool.specs.declared.placement.Fit.{Fit}
 use Rattle.nm_pool.specs.declared.placement.Fit.TheVariants as fit
 use Rattle.nm_epoch.specs.Tries.{LostTries, IsPinnedBy}
-use Rattle.nm_calls.specs.declared.making.Fork.{Fork}
-use Rattle.nm_calls.specs.declared.cutting.Kept.{Kept}
-use Rattle.nm_calls.specs.declared.looking.Onward.{Onward}
-use Rattle.nm_calls.specs.declared.spot.ChainEdge.{ChainEdge}
-use Rattle.nm_calls.specs.declared.spot.End.{End}
-use Rattle.nm_calls.specs.declared.spot.Spot.{Spot}
-use Rattle.nm_calls.specs.Places.{Stops}
-use Rattle.nm_calls.specs.Walks.{Reads, Walks, IsBroken, Seeks}
-use Rattle.nm_calls.specs.Cleanups.{Chooses, FreezesOne, Freezes, Prepares, CutsOff, CleanupLost, CleanupWon}
-use Rattle.nm_calls.specs.Inserts.{Readies, Helps, Returns}
+use Rattle.nm_walks.specs.declared.making.Fork.{Fork}
+use Rattle.nm_walks.specs.declared.cutting.Kept.{Kept}
+use Rattle.nm_walks.specs.declared.looking.Onward.{Onward}
+use Rattle.nm_walks.specs.declared.spot.ChainEdge.{ChainEdge}
+use Rattle.nm_walks.specs.declared.spot.WalkEnd.{WalkEnd}
+use Rattle.nm_walks.specs.declared.spot.Spot.{Spot}
+use Rattle.nm_walks.specs.Places.{Stops}
+use Rattle.nm_walks.specs.Walks.{Reads, Walks, IsBroken, Seeks}
+use Rattle.nm_walks.specs.Cleanups.{Chooses, FreezesOne, Freezes, Prepares, CutsOff, CleanupLost, CleanupWon}
+use Rattle.nm_walks.specs.Growing.{Returns}
+use Rattle.nm_calls.specs.Inserts.{Readies, Helps}
 use Rattle.nm_progress.proofs.MoreTries.{Plain, plain_none, plain_these, plain_then}
 
 -- ---- claims
@@ -88,10 +88,10 @@ pub broken_longer : (L : Layout) (k : ℕ) (old new : List Entry) → IsBroken L
 broken_longer L k old new (inl e) = walk_longer k e.1 old new e.2 e.3 e.4
 broken_longer L k old new (inr e) = longer_then old e.2 new (walk_longer k e.1 old e.2 e.3 e.4 e.7) (reads_longer k e.3.edge.slot e.2 new e.5 e.8)
 
-pub seeks_longer : (L : Layout) (k : ℕ) (old new : List Entry) (c : List ChainEdge) (r : End) → Seeks L k old new c (Some r) → Longer old new
+pub seeks_longer : (L : Layout) (k : ℕ) (old new : List Entry) (c : List ChainEdge) (r : WalkEnd) → Seeks L k old new c (Some r) → Longer old new
 seeks_longer L k old new c r h = longer_then old h.0.1 new (walk_longer k h.0.0 old h.0.1 r.spot c h.0.4) (reads_longer k r.spot.edge.slot h.0.1 new h.0.2 h.0.6)
 
-pub stops_longer : (L : Layout) (k : ℕ) (old new : List Entry) (c : List ChainEdge) (r : End) → Stops L k old new c (Some r) → Longer old new
+pub stops_longer : (L : Layout) (k : ℕ) (old new : List Entry) (c : List ChainEdge) (r : WalkEnd) → Stops L k old new c (Some r) → Longer old new
 stops_longer L k old new c r h = longer_then old h.0.1 new (walk_longer k h.0.0 old h.0.1 r.spot c h.0.4) (reads_longer k r.spot.edge.slot h.0.1 new h.0.2 h.0.6)
 
 pub choice_longer : (s : Spot) (r : Option Kept) (old new : List Entry) → Chooses s old new r → Longer old new
@@ -115,7 +115,7 @@ cleanup_longer s c old new (inl won) = longer_then old won.2.0 new (cut_longer s
 cleanup_longer s c old new (inr (inl none')) = choice_longer s None old new none'
 cleanup_longer s c old new (inr (inr l)) = longer_then old l.1 new (prepared_longer s c l.0 old l.1 l.3) (longer_these _ l.1 new l.4)
 
-pub help_longer : (r : End) (c : List ChainEdge) (e : Edge) (old new : List Entry) → Helps r c e old new → Longer old new
+pub help_longer : (r : WalkEnd) (c : List ChainEdge) (e : Edge) (old new : List Entry) → Helps r c e old new → Longer old new
 help_longer r c e old new (inr h) = longer_none old new h.1
 help_longer r c e old new (inl h) = cleanup_longer r.spot c old new h.1
 

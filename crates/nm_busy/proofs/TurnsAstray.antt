@@ -26,7 +26,7 @@ use Rattle.nm_order.proofs.OrderedLaws.{IsOrdered, law_of_state}
 use Rattle.nm_order.proofs.WalksOfRuns.{since_pin-append}
 use Rattle.nm_epoch.specs.Tries.{IsPinnedBy}
 use Rattle.nm_calls.specs.InTurns.{GiveUp}
-use Rattle.nm_calls.specs.PlainWalks.{is_look}
+use Rattle.nm_walks.specs.AddedLooks.{is_look}
 use Rattle.nm_progress.specs.Moves.{number_of}
 use Rattle.nm_progress.proofs.MoreTries.{is_loud}
 use Rattle.nm_progress.proofs.Reshapes.{is_reshape, look_there, long_path}

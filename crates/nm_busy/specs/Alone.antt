@@ -3,7 +3,7 @@ use Rattle.std.specs.Prelude.{◌≡◌, ℕ, ◌≤◌, List, ◌++◌, All, Er
 use Rattle.nm_model.specs.declared.trace.Turn.{Turn}
 use Rattle.nm_pool.specs.declared.placement.Fit.{Fit}
 use Rattle.nm_steps.specs.Steps.{Stand, IsSamePass, HasSeenAllOf, HasSeen}
-use Rattle.nm_calls.specs.declared.inserting.Fault.TheVariants as fault
+use Rattle.nm_calls.specs.declared.inserting.NotInserted.TheVariants as fault
 use Rattle.nm_calls.specs.declared.deleting.Missed.TheVariants as missed
 use Rattle.nm_calls.specs.Calls.{HasMissed}
 use Rattle.nm_calls.specs.Deletes.{DeleteDid}

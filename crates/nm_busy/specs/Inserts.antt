@@ -2,8 +2,8 @@
 use Rattle.std.specs.Prelude.{ℕ, ◌≤◌, Err}
 use Rattle.nm_pool.specs.declared.placement.Fit.{Fit}
 use Rattle.nm_steps.specs.Steps.{Stand, IsSamePass, HasSeenAllOf, HasSeen}
-use Rattle.nm_calls.specs.Bounds.{chain_bound}
-use Rattle.nm_calls.specs.declared.inserting.Fault.TheVariants as fault
+use Rattle.nm_walks.specs.Bounds.{chain_bound}
+use Rattle.nm_calls.specs.declared.inserting.NotInserted.TheVariants as fault
 use Rattle.nm_calls.specs.Inserts.{InsertDid}
 use Rattle.nm_busy.specs.Lost.{ChangeWasBusy}
 

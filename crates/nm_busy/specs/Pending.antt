@@ -10,7 +10,7 @@ use Rattle.nm_model.specs.declared.reply.Reply.TheVariants.{Flagged}
 use Rattle.nm_model.specs.declared.reply.Refused.{Refused}
 use Rattle.nm_model.specs.declared.trace.Turn.{Turn}
 use Rattle.nm_model.specs.Headline.{confirms, departs}
-use Rattle.nm_theorem.specs.Histories.{call_begun}
+use Rattle.nm_model.specs.Histories.{call_begun}
 
 -- the leaf that the call of a worker's pin has flagged, after a turn of it: a flag that was won
 -- names it, and it ends with that pin

@@ -1,46 +1,30 @@
 -- What the parts of a call add to a log: how many won links, flags and splices, and at most how
 -- many entries.
-use Rattle.std.proofs.Common.{◌≡◌, ◌≤◌, ◌<◌, inl, inr, ℕ, zero, suc, ◌+◌, ◌*◌, ◌-◌, Bool, false, cond, List, [], ◌∷◌, ◌++◌, length, refl, ap, ◌∙◌, arith}
-use Rattle.std.specs.Prelude.{filter, min, ◌^◌, Option, Some, None}
+use Rattle.std.proofs.Common.{◌≡◌, ◌≤◌, ◌<◌, inl, inr, ℕ, zero, suc, ◌+◌, ◌*◌, ◌-◌, Bool, false, cond, List, [], ◌∷◌, length, refl, ap, arith}
+use Rattle.std.specs.Prelude.{min, ◌^◌, Option, Some, None}
 use Rattle.std.proofs.Math.Nat.{suc-mul, mul-add, mul-le-mul_left, mul-le-mul_right}
-use Rattle.std.proofs.lemmas.List.{length-append}
-use Rattle.std.proofs.lemmas.List.Elements.{filter-append}
 use Rattle.nm_edge.specs.Layouts.{Layout}
-use Rattle.nm_edge.specs.declared.edge.Side.{Side}
 use Rattle.nm_edge.specs.declared.node.NodeId.{NodeId}
 use Rattle.nm_model.specs.declared.event.Op.{Op}
 use Rattle.nm_model.specs.declared.event.Event.{Event}
 use Rattle.nm_model.specs.declared.event.Event.TheVariants.{Sight, SightFor}
 use Rattle.nm_model.specs.Walks.{Entry}
-use Rattle.nm_order.specs.Exchanges.{is_won_link}
-use Rattle.nm_order.specs.WalksToArrivals.{is_won_flag}
 use Rattle.nm_epoch.specs.Tries.{LostTry, WonTry, LostTries, IsPinnedBy, IsMoved}
-use Rattle.nm_pool.specs.Takes.{DoneInTurn}
-use Rattle.nm_pool.specs.Claims.{DoneAt, PassedOver, PassedWithin, IsClaim, IsClaimBy}
+use Rattle.nm_pool.specs.Claims.{DoneInTurn, DoneAt, PassedOver, PassedWithin, IsClaim, IsClaimBy}
 use Rattle.nm_pool.specs.declared.placement.Fit.{Fit}
 use Rattle.nm_pool.specs.declared.placement.Fit.TheVariants as fit
-use Rattle.nm_calls.specs.declared.cutting.Kept.{Kept}
-use Rattle.nm_calls.specs.declared.looking.Onward.{Onward}
-use Rattle.nm_calls.specs.declared.spot.ChainEdge.{ChainEdge}
-use Rattle.nm_calls.specs.declared.spot.End.{End}
-use Rattle.nm_calls.specs.declared.spot.Spot.{Spot}
-use Rattle.nm_calls.specs.Bounds.{chain_bound, reach}
-use Rattle.nm_calls.specs.Places.{Stops, StopsAt}
-use Rattle.nm_calls.specs.Walks.{Reads, Walks, EndsAtLeaf, IsTooLong, IsBroken, Seeks, Finds}
+use Rattle.nm_walks.specs.declared.spot.ChainEdge.{ChainEdge}
+use Rattle.nm_walks.specs.declared.spot.WalkEnd.{WalkEnd}
+use Rattle.nm_walks.specs.declared.spot.Spot.{Spot}
+use Rattle.nm_walks.specs.Bounds.{chain_bound, reach}
+use Rattle.nm_walks.specs.Places.{Stops, StopsAt}
+use Rattle.nm_walks.specs.Walks.{IsTooLong, IsBroken, Seeks, Finds}
 use Rattle.nm_calls.specs.Calls.{LostWalks}
-use Rattle.nm_calls.specs.Cleanups.{Chooses, FreezesOne, Freezes, Prepares, CutsOff, CleanupLost, CleanupWon}
-use Rattle.nm_calls.specs.Won.{is_won_splice, won_links, won_flags, won_splices, capped, CountsWon, HasWon}
+use Rattle.nm_walks.specs.Cleanups.{CleanupWon}
+use Rattle.nm_walks.specs.WonCounts.{won_links, won_flags, won_splices, CountsWon}
+use Rattle.nm_calls.specs.Won.{HasWon}
 use Rattle.nm_epoch.specs.declared.collecting.Tally.{Tally}
-
--- between a log and a later one so many links, flags and splices were won, in at most so many steps
-pub record Adds (l f s n : ℕ) (old new : List Entry) : Type 0 where
-  pub links : won_links new ≡ won_links old + l
-  pub flags : won_flags new ≡ won_flags old + f
-  pub splices : won_splices new ≡ won_splices old + s
-  pub steps : length new ≤ length old + n
-
-how_many : (p : Entry → Bool) (old more new : List Entry) → new ≡ old ++ more → length (filter p new) ≡ length (filter p old) + length (filter p more)
-how_many p old more new is = ap (λ (log : List Entry). length (filter p log)) is ∙ (ap (λ (log : List Entry). length log) (filter-append p old more) ∙ length-append (filter p old) (filter p more))
+use Rattle.nm_walks.proofs.Adding.{Adds, adds_in, adds_then, adds_these, counted_more, counted_still, cut_adds, end_adds, reads_add, walk_adds}
 
 pub adds_none : (old new : List Entry) → new ≡ old → Adds 0 0 0 0 old new
 adds_none old new is =
@@ -49,28 +33,6 @@ adds_none old new is =
     let c : won_splices new ≡ won_splices old = ap won_splices is in
     let d : length new ≡ length old = ap (λ (log : List Entry). length log) is in
     record { links = omega (arith, a); flags = omega (arith, b); splices = omega (arith, c); steps = omega (arith, d) }
-
-pub adds_these : (more old new : List Entry) → new ≡ old ++ more → Adds (won_links more) (won_flags more) (won_splices more) (length more) old new
-adds_these more old new is =
-    let d : length new ≡ length old + length more = ap (λ (log : List Entry). length log) is ∙ length-append old more in
-    record {
-      links = how_many is_won_link old more new is;
-      flags = how_many is_won_flag old more new is;
-      splices = how_many is_won_splice old more new is;
-      steps = omega (arith, d);
-    }
-
-pub adds_then : {l f s n m g t k : ℕ} (old mid new : List Entry) → Adds l f s n old mid → Adds m g t k mid new → Adds (l + m) (f + g) (s + t) (n + k) old new
-adds_then {l} {f} {s} {n} {m} {g} {t} {k} old mid new a b =
-    let la = a.links in
-    let lb = b.links in
-    let fa = a.flags in
-    let fb = b.flags in
-    let sa = a.splices in
-    let sb = b.splices in
-    let na = a.steps in
-    let nb = b.steps in
-    record { links = omega (arith, la, lb); flags = omega (arith, fa, fb); splices = omega (arith, sa, sb); steps = omega (arith, na, nb) }
 
 -- the same behind a part that won neither a link nor a flag
 pub adds_after : {l f s n t k : ℕ} (old mid new : List Entry) → Adds 0 0 s n old mid → Adds l f t k mid new → Adds l f (s + t) (n + k) old new
@@ -85,30 +47,11 @@ adds_after {l} {f} {s} {n} {t} {k} old mid new a b =
     let nb = b.steps in
     record { links = omega (arith, la, lb); flags = omega (arith, fa, fb); splices = omega (arith, sa, sb); steps = omega (arith, na, nb) }
 
--- in more steps
-pub adds_in : {l f s n : ℕ} (m : ℕ) (old new : List Entry) → n ≤ m → Adds l f s n old new → Adds l f s m old new
-adds_in m old new le a = let steps = a.steps in record { links = a.links; flags = a.flags; splices = a.splices; steps = omega (arith, le, steps) }
-
 pub has_won : {l f s n : ℕ} (old new : List Entry) → Adds l f s n old new → HasWon old new l f
 has_won old new a = record { links = a.links; flags = a.flags }
 
 pub cuts_none : {l f n : ℕ} (old new : List Entry) → Adds l f 0 n old new → won_splices new ≡ won_splices old
 cuts_none old new a = let s = a.splices in omega (arith, s)
-
--- what is counted stays right where nothing was won
-counted_still : (count was is : ℕ) → is ≡ was + 0 → count ≡ capped was → count ≡ capped is
-counted_still count was is same old = omega (arith, same, old)
-
-pub counts_on : {n : ℕ} (t : Tally) (old new : List Entry) → Adds 0 0 0 n old new → CountsWon old t → CountsWon new t
-counts_on t old new a is = record {
-  links = counted_still t.links (won_links old) (won_links new) a.links is.links;
-  flags = counted_still t.flags (won_flags old) (won_flags new) a.flags is.flags;
-  splices = counted_still t.splices (won_splices old) (won_splices new) a.splices is.splices;
-}
-
--- and goes up by one where a link, a flag or a splice was won
-counted_more : (count more was is : ℕ) → more ≡ min (count + 1) (2 ^ 64 - 1) → is ≡ was + 1 → count ≡ capped was → more ≡ capped is
-counted_more count more was is sum one old = omega (arith, sum, one, old)
 
 pub link_counts : {n : ℕ} (t : Tally) (more : ℕ) (old new : List Entry) → Adds 1 0 0 n old new → more ≡ min (t.links + 1) (2 ^ 64 - 1) → CountsWon old t → CountsWon new (record t { links = more })
 link_counts t more old new a sum is = record {
@@ -122,13 +65,6 @@ flag_counts t more old new a sum is = record {
   links = counted_still t.links (won_links old) (won_links new) a.links is.links;
   flags = counted_more t.flags more (won_flags old) (won_flags new) sum a.flags is.flags;
   splices = counted_still t.splices (won_splices old) (won_splices new) a.splices is.splices;
-}
-
-pub splice_counts : {n : ℕ} (t : Tally) (more : ℕ) (old new : List Entry) → Adds 0 0 1 n old new → more ≡ min (t.splices + 1) (2 ^ 64 - 1) → CountsWon old t → CountsWon new (record t { splices = more })
-splice_counts t more old new a sum is = record {
-  links = counted_still t.links (won_links old) (won_links new) a.links is.links;
-  flags = counted_still t.flags (won_flags old) (won_flags new) a.flags is.flags;
-  splices = counted_more t.splices more (won_splices old) (won_splices new) sum a.splices is.splices;
 }
 
 -- ---- products
@@ -155,19 +91,6 @@ within_claims L tries a b m le few =
 
 -- ---- walks
 
-pub reads_add : (k x : ℕ) (old new : List Entry) (on : Onward) → Reads k x old new on → Adds 0 0 0 3 old new
-reads_add k x old new on r = adds_then old _ new (adds_these _ old _ refl) (adds_then _ _ new (adds_these _ _ _ refl) (adds_these _ _ new r.2))
-
-pub walk_adds : (k n : ℕ) (old new : List Entry) (s : Spot) (c : List ChainEdge) → Walks k n old new s c → Adds 0 0 0 (1 + 3 * n) old new
-walk_adds k zero old new s c w = adds_these _ old new w.3
-walk_adds k (suc n) old new s c w =
-    adds_in (1 + 3 * suc n) old new (omega arith) (adds_then old w.0 new (walk_adds k n old w.0 w.1 w.2 w.4) (reads_add k w.1.edge.slot w.0 new w.3 w.6))
-
-pub end_adds : (L : Layout) (k : ℕ) (old new : List Entry) (s : Spot) (c : List ChainEdge) (key : ℕ) → EndsAtLeaf L k old new s c key → Adds 0 0 0 (3 * reach L) old new
-end_adds L k old new s c key e =
-    let few = e.3 in
-    adds_in (3 * reach L) old new (omega (arith, few)) (adds_then old e.1 new (walk_adds k e.0 old e.1 s c e.4) (reads_add k s.edge.slot e.1 new e.2 e.6))
-
 -- the reach of a walk that is broken off
 far_as : (L : Layout) → L.radix ≡ false → reach L ≡ L.nodes
 far_as L plain = ap (λ (b : Bool). cond b 66 L.nodes) plain
@@ -186,7 +109,7 @@ pub finds_adds : (L : Layout) (k : ℕ) (old new : List Entry) (r : Option ℕ) 
 finds_adds L k old new None h = long_adds L k old new h
 finds_adds L k old new (Some key) h = end_adds L k old new h.0 h.1 key h.2
 
-pub seeks_adds : (L : Layout) (k : ℕ) (old new : List Entry) (c : List ChainEdge) (r : Option End) → Seeks L k old new c r → Adds 0 0 0 (3 * reach L) old new
+pub seeks_adds : (L : Layout) (k : ℕ) (old new : List Entry) (c : List ChainEdge) (r : Option WalkEnd) → Seeks L k old new c r → Adds 0 0 0 (3 * reach L) old new
 seeks_adds L k old new c None h = broken_adds L k old new h
 seeks_adds L k old new c (Some r) h = end_adds L k old new r.spot c r.key h.0
 
@@ -195,7 +118,7 @@ stop_adds L k old new s c key e =
     let few = e.3 in
     adds_in (3 * reach L) old new (omega (arith, few)) (adds_then old e.1 new (walk_adds k e.0 old e.1 s c e.4) (reads_add k s.edge.slot e.1 new e.2 e.6))
 
-pub stops_adds : (L : Layout) (k : ℕ) (old new : List Entry) (c : List ChainEdge) (r : Option End) → Stops L k old new c r → Adds 0 0 0 (3 * reach L) old new
+pub stops_adds : (L : Layout) (k : ℕ) (old new : List Entry) (c : List ChainEdge) (r : Option WalkEnd) → Stops L k old new c r → Adds 0 0 0 (3 * reach L) old new
 stops_adds L k old new c None h = broken_adds L k old new h
 stops_adds L k old new c (Some r) h = stop_adds L k old new r.spot c r.key h.0
 
@@ -282,27 +205,5 @@ claim_by_adds fit.Near nodes old new None h = let few = h.few in adds_in (3 * no
 
 -- ---- cleanups
 
-pub choice_adds : (s : Spot) (r : Option Kept) (old new : List Entry) → Chooses s old new r → Adds 0 0 0 2 old new
-choice_adds s r old new h = adds_then old _ new (adds_these _ old _ refl) (adds_these _ _ new h.2)
-
-one_adds : (slot : ℕ) (side : Side) (old new : List Entry) → FreezesOne slot side old new → Adds 0 0 0 3 old new
-one_adds slot side old new h = adds_then old _ new (adds_these _ old _ refl) (adds_then _ _ new (adds_these _ _ _ refl) (adds_these _ _ new h.3))
-
-chain_adds : (parent : ℕ) (keep : Side) (c : List ChainEdge) (old new : List Entry) → Freezes parent keep c old new → Adds 0 0 0 (3 * length c + 3) old new
-chain_adds parent keep [] old new h = one_adds parent keep old new h
-chain_adds parent keep (l ∷ c) old new h = adds_in (3 * suc (length c) + 3) old new (omega arith) (adds_then old h.0 new (one_adds l.slot l.side old h.0 h.1) (chain_adds parent keep c h.0 new h.2))
-
-prepared_adds : (s : Spot) (c : List ChainEdge) (k : Kept) (old new : List Entry) → Prepares s c k old new → Adds 0 0 0 (3 * length c + 6) old new
-prepared_adds s c k old new h =
-    adds_in (3 * length c + 6) old new (omega arith)
-    (adds_then old h.0 new (choice_adds s (Some k) old h.0 h.2) (adds_then h.0 _ new (adds_these _ h.0 _ refl) (chain_adds s.parent k.side c _ new h.3)))
-
-pub cut_adds : (s : Spot) (c : List ChainEdge) (ns : List NodeId) (old new : List Entry) → CutsOff s c ns old new → Adds 0 0 1 (3 * length c + 7) old new
-cut_adds s c ns old new h = adds_in (3 * length c + 7) old new (omega arith) (adds_then old h.1 new (prepared_adds s c h.0 old h.1 h.2) (adds_these _ h.1 new h.3))
-
 pub cleaned_adds : (s : Spot) (c : List ChainEdge) (ns : List NodeId) (epoch : ℕ) (old new : List Entry) → CleanupWon s c ns epoch old new → Adds 0 0 1 (3 * length c + 8) old new
 cleaned_adds s c ns epoch old new h = adds_in (3 * length c + 8) old new (omega arith) (adds_then old h.0 new (cut_adds s c ns old h.0 h.1) (adds_these _ h.0 new h.2))
-
-pub not_cleaned_adds : (s : Spot) (c : List ChainEdge) (old new : List Entry) → CleanupLost s c old new → Adds 0 0 0 (3 * length c + 8) old new
-not_cleaned_adds s c old new (inl none') = adds_in (3 * length c + 8) old new (omega arith) (choice_adds s None old new none')
-not_cleaned_adds s c old new (inr h) = adds_in (3 * length c + 8) old new (omega arith) (adds_then old h.1 new (prepared_adds s c h.0 old h.1 h.3) (adds_these _ h.1 new h.4))

@@ -18,13 +18,14 @@ use Rattle.nm_calls.specs.declared.deleting.Missed.{Missed}
 use Rattle.nm_calls.specs.declared.deleting.Missed.TheVariants as missed
 use Rattle.nm_calls.specs.declared.deleting.Removal.{Removal}
 use Rattle.nm_calls.specs.declared.deleting.Removal.TheVariants as removal
-use Rattle.nm_calls.specs.declared.spot.ChainEdge.{ChainEdge}
-use Rattle.nm_calls.specs.declared.spot.End.{End}
-use Rattle.nm_calls.specs.Cleanups.{CleanupLost}
-use Rattle.nm_calls.specs.Bounds.{chain_bound, reach}
+use Rattle.nm_walks.specs.declared.spot.ChainEdge.{ChainEdge}
+use Rattle.nm_walks.specs.declared.spot.WalkEnd.{WalkEnd}
+use Rattle.nm_walks.specs.Cleanups.{CleanupLost}
+use Rattle.nm_walks.specs.Bounds.{chain_bound, reach}
 use Rattle.nm_calls.specs.Deletes.{IsFlagTry, leaf_of, looks_and_flags, Removes, RemovesNothing, LostRemovals, IsRemoval, LostFlags, IsInjection, RemovalAfter, FlagsThen, DeleteFinishes, FinishDid}
 use Rattle.nm_calls.specs.Won.{HasWon, flags_of_delete}
-use Rattle.nm_calls.proofs.Adding.{Adds, most, mul_below, adds_none, adds_these, adds_then, adds_in, seeks_adds, broken_adds, cleaned_adds, not_cleaned_adds, pin_adds, adds_after, has_won, within_call}
+use Rattle.nm_walks.proofs.Adding.{Adds, adds_these, adds_then, adds_in, not_cleaned_adds}
+use Rattle.nm_calls.proofs.Adding.{most, mul_below, adds_none, seeks_adds, broken_adds, cleaned_adds, pin_adds, adds_after, has_won, within_call}
 use Rattle.nm_calls.proofs.AddingInserts.{helps_add}
 
 -- so many flags were won and no link, in at most so many steps
@@ -33,10 +34,10 @@ AddsFlags f n old new = (s : ℕ) × Adds 0 f s n old new
 
 -- ---- a try to flag
 
-pub flag_won_adds : (r : End) (b : ℕ) (old new : List Entry) → new ≡ looks_and_flags r b (Flagged (leaf_of r b)) old → Adds 0 1 0 2 old new
+pub flag_won_adds : (r : WalkEnd) (b : ℕ) (old new : List Entry) → new ≡ looks_and_flags r b (Flagged (leaf_of r b)) old → Adds 0 1 0 2 old new
 flag_won_adds r b old new h = adds_then old _ new (adds_these _ old _ refl) (adds_these _ _ new h)
 
-pub flag_lost_adds : (r : End) (b : ℕ) (e : Edge) (old new : List Entry) → new ≡ looks_and_flags r b (Lost e) old → Adds 0 0 0 2 old new
+pub flag_lost_adds : (r : WalkEnd) (b : ℕ) (e : Edge) (old new : List Entry) → new ≡ looks_and_flags r b (Lost e) old → Adds 0 0 0 2 old new
 flag_lost_adds r b e old new h = adds_then old _ new (adds_these _ old _ refl) (adds_these _ _ new h)
 
 -- the flags that a try has won, by what it came to

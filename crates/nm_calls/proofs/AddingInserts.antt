@@ -10,17 +10,19 @@ use Rattle.nm_model.specs.declared.reply.Reply.TheVariants.{Linked, Lost}
 use Rattle.nm_model.specs.Walks.{Entry}
 use Rattle.nm_epoch.specs.Tries.{IsPinnedBy}
 use Rattle.nm_pool.specs.declared.placement.Fit.{Fit}
-use Rattle.nm_calls.specs.declared.making.Fork.{Fork}
-use Rattle.nm_calls.specs.declared.inserting.Fault.{Fault}
-use Rattle.nm_calls.specs.declared.inserting.Fault.TheVariants as fault
+use Rattle.nm_walks.specs.declared.making.Fork.{Fork}
+use Rattle.nm_calls.specs.declared.inserting.NotInserted.{NotInserted}
+use Rattle.nm_calls.specs.declared.inserting.NotInserted.TheVariants as fault
 use Rattle.nm_calls.specs.declared.inserting.Attempt.{Attempt}
 use Rattle.nm_calls.specs.declared.inserting.Attempt.TheVariants as attempt
-use Rattle.nm_calls.specs.declared.spot.ChainEdge.{ChainEdge}
-use Rattle.nm_calls.specs.declared.spot.End.{End}
-use Rattle.nm_calls.specs.Bounds.{chain_bound, reach}
-use Rattle.nm_calls.specs.Inserts.{ClaimsFork, Returns, Grows, Helps, Readies, IsReadied, TriesLink, IsTry, LostInserts, EndsBy, Finishes, PinsThen, InsertDid}
+use Rattle.nm_walks.specs.declared.spot.ChainEdge.{ChainEdge}
+use Rattle.nm_walks.specs.declared.spot.WalkEnd.{WalkEnd}
+use Rattle.nm_walks.specs.Bounds.{chain_bound, reach}
+use Rattle.nm_walks.specs.Growing.{ClaimsFork, Returns, Grows}
+use Rattle.nm_calls.specs.Inserts.{Helps, Readies, IsReadied, TriesLink, IsTry, LostInserts, EndsBy, Finishes, PinsThen, InsertDid}
 use Rattle.nm_calls.specs.Won.{HasWon, links_of_insert}
-use Rattle.nm_calls.proofs.Adding.{Adds, most, mul_below, adds_none, adds_these, adds_then, adds_after, adds_in, stops_adds, claim_by_adds, cleaned_adds, not_cleaned_adds, pin_adds, has_won, within_claims}
+use Rattle.nm_walks.proofs.Adding.{Adds, adds_these, adds_then, adds_in, not_cleaned_adds}
+use Rattle.nm_calls.proofs.Adding.{most, mul_below, adds_none, adds_after, stops_adds, claim_by_adds, cleaned_adds, pin_adds, has_won, within_claims}
 
 -- ---- the two new nodes
 
@@ -58,20 +60,20 @@ paid_most nodes (Some g) m t few = few
 
 -- ---- one try
 
-pub grows_won : (radix : Bool) (k : ℕ) (r : End) (f : Fork) (old new : List Entry) → Grows radix k r f (Linked f.new) old new → Adds 1 0 0 7 old new
+pub grows_won : (radix : Bool) (k : ℕ) (r : WalkEnd) (f : Fork) (old new : List Entry) → Grows radix k r f (Linked f.new) old new → Adds 1 0 0 7 old new
 grows_won radix k r f old new h = adds_then old _ new (adds_these _ old _ refl) (adds_then _ _ new (adds_these _ _ _ refl) (adds_these _ _ new h.3))
 
-pub grows_lost : (radix : Bool) (k : ℕ) (r : End) (f : Fork) (e : Edge) (old new : List Entry) → Grows radix k r f (Lost e) old new → Adds 0 0 0 7 old new
+pub grows_lost : (radix : Bool) (k : ℕ) (r : WalkEnd) (f : Fork) (e : Edge) (old new : List Entry) → Grows radix k r f (Lost e) old new → Adds 0 0 0 7 old new
 grows_lost radix k r f e old new h = adds_then old _ new (adds_these _ old _ refl) (adds_then _ _ new (adds_these _ _ _ refl) (adds_these _ _ new h.3))
 
-pub helps_add : (r : End) (c : List ChainEdge) (e : Edge) (old new : List Entry) → length c < chain_bound → Helps r c e old new → (s : ℕ) × Adds 0 0 s 197 old new
+pub helps_add : (r : WalkEnd) (c : List ChainEdge) (e : Edge) (old new : List Entry) → length c < chain_bound → Helps r c e old new → (s : ℕ) × Adds 0 0 s 197 old new
 helps_add r c e old new few (inr h) = (0, adds_in 197 old new (omega arith) (adds_none old new h.1))
 helps_add r c e old new few (inl h) = elim h.1 [
   | inl won ↦ (1, adds_in 197 old new (omega (arith, few)) (cleaned_adds r.spot c won.0 won.1 old new won.2))
   | inr lost ↦ (0, adds_in 197 old new (omega (arith, few)) (not_cleaned_adds r.spot c old new lost))
 ]
 
-module _ (fit : Fit) (L : Layout) (k : ℕ) (f : Option Fork) (made : Fork) (r : End) (c : List ChainEdge) (old new : List Entry) where
+module _ (fit : Fit) (L : Layout) (k : ℕ) (f : Option Fork) (made : Fork) (r : WalkEnd) (c : List ChainEdge) (old new : List Entry) where
   link_won : TriesLink fit L k f made r c (Linked made.new) old new → (n : ℕ) × (n + paid L.nodes f ≤ 3 * reach L + (6 * L.nodes + 8)) × Adds 1 0 0 n old new
   link_won h =
       let part = readies_add fit L.nodes f made h.ended h.claimed h.readies in
@@ -139,7 +141,7 @@ ends_add fit L tries k g a old new h =
     let most_of = mul_below h.0 tries (most (reach L)) h.3 in
     (above.0 + here.0, omega (arith, x, y, most_of), (above.2.0 + here.2.0, adds_after old h.2 new above.2.1 here.2.1))
 
-pub finishes_add : (fit : Fit) (L : Layout) (tries k : ℕ) (old new : List Entry) (r : Result Bool Fault) → Finishes fit L tries k old new r → AddsLinks (links_of_insert r) (tries * most (reach L) + (6 * L.nodes + 4)) old new
+pub finishes_add : (fit : Fit) (L : Layout) (tries k : ℕ) (old new : List Entry) (r : Result Bool NotInserted) → Finishes fit L tries k old new r → AddsLinks (links_of_insert r) (tries * most (reach L) + (6 * L.nodes + 4)) old new
 finishes_add fit L tries k old new (Ok true) h =
     let part = ends_add fit L tries k None attempt.Linked old h.0 h.1 in
     let few = part.1 in
@@ -162,13 +164,13 @@ finishes_add fit L tries k old new (Err fault.NoMemory) h =
     let most_of = mul_below h.0 tries (most (reach L)) h.5 in
     (part.2.0 + 0, adds_in _ old new (omega (arith, few, most_of)) (adds_then old h.2 new part.2.1 (adds_then h.2 h.3 new (back_adds h.1 h.2 h.3 h.7) (adds_these _ h.3 new h.8))))
 
-pub insert_did : (fit : Fit) (L : Layout) (tries k : ℕ) (old new : List Entry) (r : Result Bool Fault) → PinsThen fit L tries k old new r → InsertDid fit L tries k old new r
+pub insert_did : (fit : Fit) (L : Layout) (tries k : ℕ) (old new : List Entry) (r : Result Bool NotInserted) → PinsThen fit L tries k old new r → InsertDid fit L tries k old new r
 insert_did fit L tries k old new (Ok b) h = h
 insert_did fit L tries k old new (Err fault.Busy) h = inr (inr h)
 insert_did fit L tries k old new (Err fault.NoMemory) h = inr h
 insert_did fit L tries k old new (Err fault.Full) h = h
 
-module _ (fit : Fit) (L : Layout) (tries k : ℕ) (old pinned new : List Entry) (e : ℕ) (pin : IsPinnedBy (SightFor Insert k) tries old pinned e) (r : Result Bool Fault) (h : Finishes fit L tries k pinned new r) where
+module _ (fit : Fit) (L : Layout) (tries k : ℕ) (old pinned new : List Entry) (e : ℕ) (pin : IsPinnedBy (SightFor Insert k) tries old pinned e) (r : Result Bool NotInserted) (h : Finishes fit L tries k pinned new r) where
   all : AddsLinks (links_of_insert r) (2 * tries + 1 + (tries * most (reach L) + (6 * L.nodes + 4))) old new
   all = let part = finishes_add fit L tries k pinned new r h in (0 + part.0, adds_after old pinned new (pin_adds Insert k tries old pinned e pin) part.1)
 

@@ -4,27 +4,19 @@ use Rattle.std.specs.Prelude.{Option, is_none}
 use Rattle.std.specs.List.{list_any}
 use Rattle.std.proofs.lemmas.Bool.{and_from, eq-eqb, ne_eqb}
 use Rattle.nm_edge.specs.declared.node.NodeId.{NodeId}
-use Rattle.nm_model.specs.declared.event.Event.TheVariants.{Sight, LeaveWith}
+use Rattle.nm_model.specs.declared.event.Event.TheVariants.{LeaveWith}
 use Rattle.nm_model.specs.declared.event.Op.{Op}
 use Rattle.nm_model.specs.declared.event.Op.TheVariants.{Has, Insert, Delete}
-use Rattle.nm_model.specs.declared.knowledge.Brief.{Brief}
-use Rattle.nm_model.specs.declared.reply.Reply.TheVariants.{Labelled}
 use Rattle.nm_model.specs.declared.arrivals.Call.{Call}
-use Rattle.nm_model.specs.Knowledge.{Knowledge}
 use Rattle.nm_model.specs.Maps.{is_number}
 use Rattle.nm_model.specs.Ordered.{ended_at, ended_beside, ended_elsewhere, has_removed, shows, shows_call}
-use Rattle.nm_model.specs.Searches.{searched}
 use Rattle.nm_model.specs.Step.{refusal}
-use Rattle.nm_laws.proofs.Learned.{learn_labelled}
 use Rattle.nm_order.specs.Facts.Since.{ThePin, TheFlag}
 use Rattle.nm_order.proofs.ArrivalsOfLooks.{any_there}
-use Rattle.nm_steps.specs.Steps.{Stand, MayStep, Stepped}
+use Rattle.nm_steps.specs.Steps.{Stand, MayStep}
 use Rattle.nm_epoch.specs.Resting.{epochs, search}
 use Rattle.nm_epoch.proofs.Allowed.{passes}
-use Rattle.nm_epoch.proofs.Entries.{epochs_after, search_is}
-use Rattle.nm_epoch.proofs.Labels.{drafts_stay}
-use Rattle.nm_calls.specs.Leaving.{EndedWith, ShowsAnswer, IsItsAnswer, OnlyLabels}
-use Rattle.nm_pool.proofs.PrivateSlots.{known_after_step}
+use Rattle.nm_calls.specs.Leaving.{EndedWith, ShowsAnswer, IsItsAnswer}
 
 -- ---- answers
 
@@ -68,20 +60,3 @@ may_answer_so p answer labelled is = record {
   births = tt;
   key = tt;
 }
-
--- ---- a label
-
-pub only_labels : (p q : Stand) (e : ℕ) → Stepped p q Sight (Labelled e) → OnlyLabels e p q
-unfolding searched
-only_labels p q e step =
-    let b = epochs_after p q Sight (Labelled e) step in
-    let k = known_after_step p q Sight (Labelled e) step ∙ learn_labelled p.view.number _ e in
-    record {
-      seen = ap (λ (b : Brief). b.seen) b;
-      note = ap (λ (b : Brief). b.note) b;
-      pin = ap (λ (b : Brief). b.pin) b;
-      labelled = ap (λ (b : Brief). b.unlabelled) b;
-      private = drafts_stay p q e step;
-      known = ap (λ (y : Knowledge). y.known) k;
-      search = search_is p q Sight (Labelled e) step;
-    }

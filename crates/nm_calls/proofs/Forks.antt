@@ -1,88 +1,33 @@
 -- Two new nodes, filled and linked.
-use Rattle.std.proofs.Common.{◌≡◌, ◌≢◌, ◌<◌, ◌≤◌, ◌⊎◌, List, inl, inr, ℕ, Bool, true, false, cond, refl, sym, ap, subst, ◌∙◌, arith}
-use Rattle.std.specs.Prelude.{Option, Some, None, nat_lt}
-use Rattle.std.proofs.lemmas.Bool.{ltb-true, ltb-false}
+use Rattle.std.proofs.Common.{◌≡◌, ◌≢◌, ◌≤◌, List, inl, inr, ℕ, Bool, true, false, sym, ap, subst, ◌∙◌}
+use Rattle.std.specs.Prelude.{Option, Some, None}
 use native.Mathlib.Decide.{ℕ_discrete}
 use Rattle.nm_edge.specs.Edges.{Edge}
 use Rattle.nm_edge.specs.Layouts.{Layout}
-use Rattle.nm_calls.specs.declared.spot.ChainEdge.{ChainEdge}
-use Rattle.nm_edge.specs.declared.edge.Side.{Side}
-use Rattle.nm_calls.specs.Places.{HasStopped, HasPlace, IsNarrowed, IsOver}
+use Rattle.nm_walks.specs.declared.spot.ChainEdge.{ChainEdge}
+use Rattle.nm_walks.specs.Places.{HasStopped, HasPlace, IsNarrowed}
 use Rattle.nm_model.specs.declared.event.Op.TheVariants.{Insert}
 use Rattle.nm_model.specs.declared.knowledge.Draft.{Draft}
 use Rattle.nm_model.specs.Maps.{get}
 use Rattle.nm_model.specs.Searches.{Search}
 use Rattle.nm_order.specs.Facts.Since.{ThePin}
-use Rattle.nm_order.specs.Facts.Fact.{KnowsSlot, KnowsLeaf, CallIs, ReadKey, EndedAt}
+use Rattle.nm_order.specs.Facts.Fact.{KnowsSlot, CallIs, EndedAt}
 use Rattle.nm_steps.specs.Rules.{knowledge}
 use Rattle.nm_model.specs.declared.event.Event.{Event}
 use Rattle.nm_model.specs.declared.reply.Reply.{Reply}
 use Rattle.nm_steps.specs.Steps.{Board, Stand, IsSamePass, TakesStep, Continues}
 use Rattle.nm_steps.proofs.Seeing.{continues_then, continues_by}
 use Rattle.nm_epoch.specs.Resting.{search}
-use Rattle.nm_calls.specs.declared.making.Contents.{Contents}
-use Rattle.nm_calls.specs.declared.making.Fork.{Fork}
-use Rattle.nm_calls.specs.declared.spot.End.{End}
-use Rattle.nm_calls.specs.Telling.{Tells, GoesOn, OnlyLooks}
-use Rattle.nm_calls.specs.Making.{draft, with_node, IsFilled, IsInserting, IsPlace, IsRouter, IsWithin, KeepsOtherSlots, OnlyMakes}
+use Rattle.nm_walks.specs.declared.making.Fork.{Fork}
+use Rattle.nm_walks.specs.declared.spot.WalkEnd.{WalkEnd}
+use Rattle.nm_walks.specs.Telling.{Tells, GoesOn, OnlyLooks}
+use Rattle.nm_walks.specs.Making.{IsPlace, IsWithin, OnlyMakes}
 use Rattle.nm_calls.specs.Leaving.{EndedWith, IsItsAnswer}
 use Rattle.nm_calls.proofs.KeptLedgers.{ledgers_then}
-use Rattle.nm_calls.specs.Inserts.{HasBothNodes, IfReady, HoldsFork, HasFork, OnlyTries, HasGrown, HasNotGrown, inner_of, MayGrow}
-use Rattle.nm_calls.proofs.Makes.{is_filled, same_draft, is_filled_still}
-
--- the internal node that a fork asks for
-as_fork : (q : Stand) (key other router leaf new fresh birth : ℕ) (i : Contents) → i ≡ inner_of key other router leaf fresh → other ≢ key → IsFilled q new birth i.key i.left i.right
-    → ((key < other) × IsFilled q new birth router fresh leaf) ⊎ ((other < key) × IsFilled q new birth router leaf fresh)
-as_fork q key other router leaf new fresh birth i is ne f = go (nat_lt key other) refl
-  where
-    node : Bool → Contents
-    node b = cond {A = Contents} b (record { key = router; left = fresh; right = leaf }) (record { key = router; left = leaf; right = fresh })
-
-    go : (b : Bool) → nat_lt key other ≡ b → ((key < other) × IsFilled q new birth router fresh leaf) ⊎ ((other < key) × IsFilled q new birth router leaf fresh)
-    go true less = let at : i ≡ node true = is ∙ ap node less in inl (ltb-true key other less, subst (λ (j : Contents). IsFilled q new birth j.key j.left j.right) at f)
-    go false more = let at : i ≡ node false = is ∙ ap node more in let least = ltb-false key other more in inr (omega (arith, ne, least), subst (λ (j : Contents). IsFilled q new birth j.key j.left j.right) at f)
-
--- where the call may put its key stays so
-over_kept : (p q : Stand) (k x key : ℕ) → GoesOn p q → IsOver p k x key → IsOver q k x key
-over_kept p q k x key on (inl leaf) = inl (on.keeps (KnowsLeaf x) leaf)
-over_kept p q k x key on (inr out) = inr out
-
-within_kept : (p q : Stand) (k parent : ℕ) (side : Side) → GoesOn p q → IsWithin p k parent side → IsWithin q k parent side
-within_kept p q k parent side on (inl first) = inl first
-within_kept p q k parent side on (inr w) = inr (w.0, w.1, w.2, w.3, w.4, on.keeps (ReadKey ThePin k parent w.1 w.2 w.0) w.5)
-
-place_kept : (b : Bool) (p q : Stand) (k x parent : ℕ) (side : Side) (key : ℕ) → GoesOn p q → IsPlace b p k x parent side key → IsPlace b q k x parent side key
-place_kept false p q k x parent side key on h = (on.keeps (KnowsLeaf x) h.0, on.keeps (EndedAt ThePin k x parent side key) h.1)
-place_kept true p q k x parent side key on h = (over_kept p q k x key on h.0, on.keeps (ReadKey ThePin k x parent side key) h.1, within_kept p q k parent side on h.2)
-
-same_radix : (p q : Stand) → GoesOn p q → q.view.layout.radix ≡ p.view.layout.radix
-same_radix p q on = ap (λ (x : Stand). x.view.layout.radix) on.same
-
-place_later : (p q : Stand) (k x parent : ℕ) (side : Side) (key : ℕ) → GoesOn p q → IsPlace p.view.layout.radix p k x parent side key → IsPlace q.view.layout.radix q k x parent side key
-place_later p q k x parent side key on h = subst (λ (b : Bool). IsPlace b q k x parent side key) (sym (same_radix p q on)) (place_kept p.view.layout.radix p q k x parent side key on h)
-
-pub inserting : (p r q : Stand) (key : ℕ) (e : End) (f : Fork) (i : Contents) → MayGrow p key e f → IsRouter p.view.layout.radix key e.key i.key → i ≡ inner_of key e.key i.key e.spot.edge.slot f.fresh.slot
-    → GoesOn p r → OnlyMakes p r → get (knowledge r.view).drafts f.new.slot ≡ Some (with_node (draft p f.new.slot) i.key i.left i.right) → KeepsOtherSlots f.new.slot p r
-    → GoesOn r q → OnlyMakes r q → get (knowledge q.view).drafts f.fresh.slot ≡ Some (with_node (draft r f.fresh.slot) key 0 0) → KeepsOtherSlots f.fresh.slot r q
-    → IsInserting q e.spot.parent e.spot.side e.spot.edge.slot f.new.slot f.fresh.slot
-inserting p r q key e f i may between is on only new others on' only' fresh others' = record {
-  key = key;
-  other = e.key;
-  call = on'.keeps (CallIs Insert key) (on.keeps (CallIs Insert key) may.call);
-  not_linked = ap (λ (s : Search). s.linked) only'.search ∙ (ap (λ (s : Search). s.linked) only.search ∙ may.unlinked);
-  place = place_later r q key e.spot.edge.slot e.spot.parent e.spot.side e.key on' (place_later p r key e.spot.edge.slot e.spot.parent e.spot.side e.key on may.place);
-  apart = may.other;
-  fork = record {
-    router = i.key;
-    between = subst (λ (b : Bool). IsRouter b key e.key i.key) (sym (same_radix r q on' ∙ same_radix p r on)) between;
-    new_birth = f.new.birth;
-    fresh_birth = f.fresh.birth;
-    apart = may.ready.apart;
-    as_leaf = is_filled r q f.fresh.slot f.fresh.birth key 0 0 (ap (λ (d : Draft). d.birth) (same_draft p r f.fresh.slot (others f.fresh.slot (λ same. may.ready.apart (sym same)))) ∙ may.ready.fresh_birth) fresh;
-    as_fork = as_fork q key e.key i.key e.spot.edge.slot f.new.slot f.fresh.slot f.new.birth i is may.other
-        (is_filled_still r q f.new.slot f.new.birth i.key i.left i.right (others' f.new.slot may.ready.apart) (is_filled p r f.new.slot f.new.birth i.key i.left i.right may.ready.new_birth new));
-  };
-}
+use Rattle.nm_walks.specs.Growing.{HasBothNodes, IfReady, HoldsFork, HasFork, HasGrown, HasNotGrown, MayGrow}
+use Rattle.nm_calls.specs.Inserts.{OnlyTries}
+use Rattle.nm_walks.proofs.Makes.{same_draft}
+use Rattle.nm_walks.proofs.Forks.{place_kept}
 
 -- ---- the new nodes over steps
 
@@ -109,7 +54,7 @@ kept_fork o p q (Some f) same is h = record {
 }
 
 -- a lost link leaves them
-pub lost_fork : (radix : Bool) (o p q : Stand) (key : ℕ) (e : End) (f : Fork) (x : Edge) → HoldsFork o p f → HasNotGrown radix p q key e f x → HoldsFork o q f
+pub lost_fork : (radix : Bool) (o p q : Stand) (key : ℕ) (e : WalkEnd) (f : Fork) (x : Edge) → HoldsFork o p f → HasNotGrown radix p q key e f x → HoldsFork o q f
 lost_fork radix o p q key e f x h lost = record {
   ready = lost.ready;
   others = λ s a b. lost.others s a b ∙ h.others s a b;
@@ -118,7 +63,7 @@ lost_fork radix o p q key e f x h lost = record {
 }
 
 -- and a won one takes them
-pub linked_fork : (radix : Bool) (o p q : Stand) (key : ℕ) (e : End) (f : Fork) → HoldsFork o p f → HasGrown radix p q key e f → HasFork o q None
+pub linked_fork : (radix : Bool) (o p q : Stand) (key : ℕ) (e : WalkEnd) (f : Fork) → HoldsFork o p f → HasGrown radix p q key e f → HasFork o q None
 linked_fork radix o p q key e f h won s = elim (ℕ_discrete s f.new.slot) [
   | yes at ↦ rw at (won.new_given ∙ sym h.new_was)
   | no ne ↦ elim (ℕ_discrete s f.fresh.slot) [
@@ -133,7 +78,7 @@ held_fork o p f made is h = subst (λ (g : Option Fork). HasFork o p g) is h
 -- ---- a link may be tried where a walk has ended
 
 -- what the walk of an insert has told, by the call's pin
-placed : (b : Bool) (p r : Stand) (key : ℕ) (e : End) → HasPlace b p r key e → Tells p (CallIs Insert key) → IsPlace b r key e.spot.edge.slot e.spot.parent e.spot.side e.key
+placed : (b : Bool) (p r : Stand) (key : ℕ) (e : WalkEnd) → HasPlace b p r key e → Tells p (CallIs Insert key) → IsPlace b r key e.spot.edge.slot e.spot.parent e.spot.side e.key
 placed false p r key e h call = (h.leaf, h.found ThePin (Insert, call))
 placed true p r key e h call = (h.over, h.read ThePin (Insert, call), within h.narrowed)
   where
@@ -141,7 +86,7 @@ placed true p r key e h call = (h.over, h.read ThePin (Insert, call), within h.n
     within (inl first) = inl first
     within (inr w) = inr (w.0, w.1, w.2, w.3, w.4, w.5 ThePin (Insert, call))
 
-pub may_grow : (b : Board) (p r q : Stand) (key : ℕ) (e : End) (c : List ChainEdge) (made : Fork) → q.view.layout ≡ b.layout → Tells p (CallIs Insert key) → (search p).linked ≡ false → GoesOn p r → OnlyLooks p r
+pub may_grow : (b : Board) (p r q : Stand) (key : ℕ) (e : WalkEnd) (c : List ChainEdge) (made : Fork) → q.view.layout ≡ b.layout → Tells p (CallIs Insert key) → (search p).linked ≡ false → GoesOn p r → OnlyLooks p r
     → HasStopped b.layout key p r c e → HasPlace b.layout.radix p r key e → e.key ≢ key → GoesOn r q → OnlyMakes r q → HasBothNodes q made → MayGrow q key e made
 may_grow b p r q key e c made layout call unlinked on only stopped place other on' only' ready = record {
   call = on'.keeps (CallIs Insert key) (on.keeps (CallIs Insert key) call);
@@ -167,7 +112,7 @@ none_left o p q is h s = ap (λ m. get m s) is ∙ h s
 
 pub tries_then : (o p q : Stand) → IsSamePass o p → OnlyTries o p → OnlyTries p q → OnlyTries o q
 tries_then o p q same a b = record {
-  note = b.note ∙ a.note;
+  announcement = b.announcement ∙ a.announcement;
   pin = b.pin ∙ a.pin;
   labelled = λ none'. b.labelled (a.labelled none');
   call = b.call ∙ a.call;

@@ -18,10 +18,10 @@ use Rattle.nm_model.specs.Walks.{Entry as LogEntry}
 use Rattle.nm_epoch.specs.declared.collecting.Entry.{Entry}
 use Rattle.nm_epoch.specs.declared.collecting.HeldQueue.{HeldQueue}
 use Rattle.nm_epoch.specs.declared.collecting.Tally.{Tally}
-use Rattle.nm_epoch.specs.Collecting.{IsQueueOf, blank}
-use Rattle.nm_calls.specs.Cleanups.{HoldsCuts}
+use Rattle.nm_epoch.specs.Collecting.{IsQueueOf, blank, capped}
+use Rattle.nm_walks.specs.Cleanups.{HoldsCuts}
 use Rattle.nm_calls.specs.Fresh.{HasDoneNothing}
-use Rattle.nm_calls.specs.Won.{CountsWon, capped}
+use Rattle.nm_walks.specs.WonCounts.{CountsWon}
 
 abbrev no_one : Option Ledger
 no_one = None

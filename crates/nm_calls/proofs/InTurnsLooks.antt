@@ -16,15 +16,16 @@ use Rattle.nm_order.specs.Facts.Fact.{KnowsSlot}
 use Rattle.nm_order.proofs.RadixLaws.{walks_are_short}
 use Rattle.nm_steps.specs.Steps.{Board, Stand, Stepped, HasSeen, IsSamePass, HasSeenAllOf}
 use Rattle.nm_epoch.specs.Resting.{epochs}
-use Rattle.nm_calls.specs.declared.looking.Onward.{Onward}
+use Rattle.nm_walks.specs.declared.looking.Onward.{Onward}
 use Rattle.nm_calls.specs.declared.many.Query.{Query}
-use Rattle.nm_calls.specs.Bounds.{reach}
+use Rattle.nm_walks.specs.Bounds.{reach}
 use Rattle.nm_calls.specs.InTurns.{GiveUp, HasBegun, IsUnderWay, key_of, query_read}
-use Rattle.nm_calls.specs.PlainWalks.{AddsLooks, HasPassed, WasSo, most_looks}
-use Rattle.nm_calls.specs.Telling.{Tells, GoesOn, EdgeTold, OnwardTold, IsPinnedIn}
-use Rattle.nm_calls.specs.Walks.{Reads}
-use Rattle.nm_calls.proofs.Looks.{enough}
-use Rattle.nm_calls.proofs.ShortWalks.{far_of}
+use Rattle.nm_walks.specs.AddedLooks.{AddsLooks}
+use Rattle.nm_calls.specs.PlainWalks.{HasPassed, WasSo, most_looks}
+use Rattle.nm_walks.specs.Telling.{Tells, GoesOn, EdgeTold, OnwardTold, IsPinnedIn}
+use Rattle.nm_walks.specs.Walks.{Reads}
+use Rattle.nm_walks.proofs.Looks.{enough}
+use Rattle.nm_walks.proofs.ShortWalks.{far_of}
 use Rattle.nm_calls.proofs.PlainLooks.{come_still, ended_still, comes_first, comes_on, ends_so, was_so}
 
 -- ---- they stay under way

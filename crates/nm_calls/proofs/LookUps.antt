@@ -26,7 +26,7 @@ use Rattle.nm_epoch.specs.Resting.{IsPinnedAt, KeepsHands, epochs, search}
 use Rattle.nm_epoch.specs.Tries.{IsPinnedBy}
 use Rattle.nm_epoch.proofs.Allowed.{passes}
 use Rattle.nm_calls.specs.Calls.{LostWalks, HasMissed}
-use Rattle.nm_calls.specs.Telling.{Tells, IsInRun, IsPinnedSomewhere, OnlyLooks}
+use Rattle.nm_walks.specs.Telling.{Tells, IsInRun, IsPinnedSomewhere, OnlyLooks}
 
 -- ---- what a pin for a call tells
 

@@ -1,24 +1,22 @@
 -- The moment of an answer, by what the log tells of its call and what its pass has seen.
-use Rattle.std.proofs.Common.{◌≡◌, ◌<◌, ◌≤◌, ◌==◌, ◌||◌, ℕ, Bool, true, List, [], ◌∷◌, ◌++◌, refl, sym, ap, subst, ◌∙◌, eq-eqb}
+use Rattle.std.proofs.Common.{◌≡◌, ◌<◌, ◌≤◌, ◌==◌, ◌||◌, ℕ, Bool, List, [], ◌∷◌, ◌++◌, refl, sym, ap, subst, ◌∙◌, eq-eqb}
 use Rattle.std.specs.Prelude.{Option, Some, None, All}
 use Rattle.std.proofs.lemmas.List.{same_from_push}
 use Rattle.nm_edge.specs.Layouts.{Layout, IsLayout}
-use Rattle.nm_edge.specs.declared.node.NodeId.{NodeId}
 use Rattle.nm_model.specs.declared.arrivals.Call.{Call}
 use Rattle.nm_model.specs.declared.event.Event.{Event}
 use Rattle.nm_model.specs.declared.event.Event.TheVariants.{LeaveWith}
 use Rattle.nm_model.specs.declared.event.Op.{Op}
 use Rattle.nm_model.specs.declared.reply.Reply.TheVariants.{Departed}
 use Rattle.nm_model.specs.declared.trace.Turn.{Turn}
-use Rattle.nm_model.specs.Ordered.{ordered, after_in, trace_in, HasKey}
+use Rattle.nm_model.specs.Ordered.{ordered, trace_in, HasKey}
 use Rattle.nm_model.specs.Searches.{idle}
 use Rattle.nm_model.specs.Walks.{Entry, search_after}
 use Rattle.nm_order.specs.Facts.Fact.{CallIs}
 use Rattle.nm_order.specs.History.{pin_of}
 use Rattle.nm_order.specs.Logs.{part_of, is_leaver}
-use Rattle.nm_order.proofs.LoggedAnswers.{pending_deletes_have_flagged}
 use Rattle.nm_order.proofs.RunExchanges.{first_keys}
-use Rattle.nm_theorem.specs.Histories.{Called, call_begun, answer_turn, AnswerStands}
+use Rattle.nm_model.specs.Histories.{call_begun, answer_turn, AnswerStands}
 use Rattle.nm_theorem.proofs.HistoriesOfRuns.{with_pin}
 use Rattle.nm_theorem.proofs.Runs.{Parts, parts_of}
 use Rattle.nm_theorem.proofs.StandingAnswers.{answers_stand, call_by_log}
@@ -29,10 +27,8 @@ use Rattle.nm_epoch.specs.Resting.{search}
 use Rattle.nm_steps.proofs.Growing.{goes_on_through}
 use Rattle.nm_steps.proofs.Keeping.{part_grows}
 use Rattle.nm_steps.proofs.Seeing.{seen_through, same_then}
-use Rattle.nm_calls.specs.Telling.{Tells}
-use Rattle.nm_calls.specs.Deletes.{IsRemoving}
-use Rattle.nm_calls.specs.Moments.{AnswerHasMoment, HadNoCall, HasFlaggedIt}
-use Rattle.nm_calls.proofs.Looks.{enough}
+use Rattle.nm_walks.specs.Telling.{Tells}
+use Rattle.nm_calls.specs.Moments.{AnswerHasMoment, HadNoCall}
 
 -- further on
 pub no_call_on : (o p q : Stand) → HadNoCall o p → IsSamePass p q → HasSeenAllOf q p → HadNoCall o q
@@ -82,7 +78,3 @@ moment_of o p q op k answer had fits call step turn after =
 
     no_call : call_begun p.view.number o.view.past ≡ None
     no_call = ap (λ (z : Stand). call_begun z.view.number o.view.past) had.same ∙ had.call
-
--- a delete that may go on to remove its leaf
-pub has_flagged_it : (p : Stand) (k : ℕ) (leaf : NodeId) → IsRemoving p k leaf → HasFlaggedIt p k leaf
-has_flagged_it p k leaf r = pending_deletes_have_flagged p.view.layout (enough p.view.layout r.run.fits) p.view.number p.view.log k leaf r.call r.flagged

@@ -15,19 +15,21 @@ use Rattle.nm_model.specs.Memory.{infinity_0}
 use Rattle.nm_model.specs.Searches.{side_of}
 use Rattle.nm_model.specs.Walks.{Entry}
 use Rattle.nm_steps.specs.Steps.{Board, Stand, Stepped}
-use Rattle.nm_calls.specs.declared.looking.Onward.{Onward}
-use Rattle.nm_calls.specs.declared.next_key.Descent.{Descent}
-use Rattle.nm_calls.specs.declared.spot.ChainEdge.{ChainEdge}
-use Rattle.nm_calls.specs.declared.spot.Spot.{Spot}
-use Rattle.nm_calls.specs.Bounds.{reach}
+use Rattle.nm_walks.specs.declared.looking.Onward.{Onward}
+use Rattle.nm_calls.specs.declared.next_key.NextWalk.{NextWalk}
+use Rattle.nm_walks.specs.declared.spot.ChainEdge.{ChainEdge}
+use Rattle.nm_walks.specs.declared.spot.Spot.{Spot}
+use Rattle.nm_walks.specs.Bounds.{reach}
 use Rattle.nm_calls.specs.NextKeys.{ComesBy, HasNone, HaveNone, IsDescent, IsNextBy, read_below}
-use Rattle.nm_calls.specs.PlainWalks.{AddsLooks, HasEndedSo}
-use Rattle.nm_calls.specs.Telling.{EdgeTold, OnwardTold, IsPinnedIn}
-use Rattle.nm_calls.specs.Walks.{begin, onto, chain_onto, edge_on, Reads, IsLeafRead, Walks, EndsAtLeaf, IsTooLong}
+use Rattle.nm_walks.specs.AddedLooks.{AddsLooks}
+use Rattle.nm_calls.specs.PlainWalks.{HasEndedSo}
+use Rattle.nm_walks.specs.Telling.{EdgeTold, OnwardTold, IsPinnedIn}
+use Rattle.nm_walks.specs.Walks.{begin, onto, chain_onto, edge_on, Reads, IsLeafRead, Walks, EndsAtLeaf, IsTooLong}
 use Rattle.nm_calls.proofs.Adding.{mul_below}
-use Rattle.nm_calls.proofs.PlainLooks.{looks_in, looks_then, ended_still, ends_so, node_looks, read_grows}
-use Rattle.nm_calls.proofs.ShortWalks.{walk_comes, too_long}
-use Rattle.nm_calls.proofs.Standing.{onto-edge, walk_on}
+use Rattle.nm_walks.proofs.PlainLooks.{node_looks, read_grows}
+use Rattle.nm_calls.proofs.PlainLooks.{looks_in, looks_then, ended_still, ends_so}
+use Rattle.nm_walks.proofs.ShortWalks.{walk_comes, too_long}
+use Rattle.nm_walks.proofs.Standing.{onto-edge, walk_on}
 
 -- ---- keys that turn to the same side
 
@@ -70,7 +72,7 @@ read_alike k j x old new on same r = (r.0, r.1, r.2, r.3 ∙ sym same, r.4)
 pub walk_ends : (L : Layout) (n j : ℕ) (old mid new : List Entry) (t : Spot) (c : List ChainEdge) (on : Onward) → n + 2 ≤ reach L → Walks j n old mid t c → Reads j t.edge.slot mid new on → on.next.slot ≡ 0 → EndsAtLeaf L j old new t c on.found
 walk_ends L n j old mid new t c on few w read null = (n, mid, on, few, w, null, read, refl)
 
-module _ (L : Layout) (n : ℕ) (o p q : Stand) (d : Descent) (bound : ℕ) (on : Onward) (r : Reads d.from d.node p.view.log q.view.log on) (leaf : IsLeafRead d.node p.view.log q.view.log on) (w : IsDescent L n o p d) (some : d.node ≢ 0) (low : bound ≤ d.bound) where
+module _ (L : Layout) (n : ℕ) (o p q : Stand) (d : NextWalk) (bound : ℕ) (on : Onward) (r : Reads d.from d.node p.view.log q.view.log on) (leaf : IsLeafRead d.node p.view.log q.view.log on) (w : IsDescent L n o p d) (some : d.node ≢ 0) (low : bound ≤ d.bound) where
   abbrev t : Spot
   t = (w.walks some).0
 
@@ -126,7 +128,7 @@ module _ (L : Layout) (n : ℕ) (o p q : Stand) (d : Descent) (bound : ℕ) (on 
       by (inr (is, more)) other j le less = comes_there j n o.view.log p.view.log q.view.log t c on bound (walk j le less) (there j on (read_alike d.from j d.node p.view.log q.view.log on (turns more j le less) r)) more (sym is)
 
 -- or is broken off
-pub descent_too_long : (b : Board) (n : ℕ) (o p : Stand) (d : Descent) (from : ℕ) → IsDescent b.layout n o p d → d.from ≡ from → IsPinnedIn b p → IsKey from → suc n ≡ reach b.layout → d.node ≢ 0 → IsTooLong b.layout from o.view.log p.view.log
+pub descent_too_long : (b : Board) (n : ℕ) (o p : Stand) (d : NextWalk) (from : ℕ) → IsDescent b.layout n o p d → d.from ≡ from → IsPinnedIn b p → IsKey from → suc n ≡ reach b.layout → d.node ≢ 0 → IsTooLong b.layout from o.view.log p.view.log
 descent_too_long b n o p d from w begun pinned key all some =
     let at = w.walks some in
     too_long b from key n o.view.log at.0 at.1 p pinned (at.3 from (omega (arith, begun)) (let wide = w.wide in omega (arith, begun, wide))) all
@@ -148,7 +150,7 @@ earlier_still p q a key from earlier j le before = ended_still p q a j false (ea
 
 -- of the keys from `key` on below `from` the set had none, and of those from there on below the
 -- walk's bound none but the one that it found
-module _ (L : Layout) (n : ℕ) (o p : Stand) (key from : ℕ) (d : Descent) (w : IsDescent L n o p d) (begun : d.from ≡ from) (null : d.node ≡ 0) (above : key ≤ from) (earlier : (j : ℕ) → key ≤ j → j < from → HasEndedSo p j false) where
+module _ (L : Layout) (n : ℕ) (o p : Stand) (key from : ℕ) (d : NextWalk) (w : IsDescent L n o p d) (begun : d.from ≡ from) (null : d.node ≡ 0) (above : key ≤ from) (earlier : (j : ℕ) → key ≤ j → j < from → HasEndedSo p j false) where
   ended : (j : ℕ) → d.from ≤ j → j < d.bound → HasEndedSo p j (d.found == j)
   ended j le less = let end = w.ends null j le less in ended_so L j o.view.log p end.0 end.1 d.found end.2
 

@@ -12,20 +12,22 @@ use Rattle.nm_model.specs.declared.reply.Reply.TheVariants.{EdgeIs}
 use Rattle.nm_model.specs.Searches.{side_of}
 use Rattle.nm_model.specs.Walks.{Entry}
 use Rattle.nm_steps.specs.Steps.{Board, Stand, Stepped}
-use Rattle.nm_calls.specs.declared.looking.Onward.{Onward}
-use Rattle.nm_calls.specs.declared.prev_key.Descent.{Descent}
-use Rattle.nm_calls.specs.declared.spot.ChainEdge.{ChainEdge}
-use Rattle.nm_calls.specs.declared.spot.Spot.{Spot}
-use Rattle.nm_calls.specs.Bounds.{reach}
+use Rattle.nm_walks.specs.declared.looking.Onward.{Onward}
+use Rattle.nm_calls.specs.declared.prev_key.PrevWalk.{PrevWalk}
+use Rattle.nm_walks.specs.declared.spot.ChainEdge.{ChainEdge}
+use Rattle.nm_walks.specs.declared.spot.Spot.{Spot}
+use Rattle.nm_walks.specs.Bounds.{reach}
 use Rattle.nm_calls.specs.NextKeys.{ComesBy, HasNone}
 use Rattle.nm_calls.specs.PrevKeys.{HaveNone, IsDescent, IsPrevBy, read_above}
-use Rattle.nm_calls.specs.PlainWalks.{AddsLooks, HasEndedSo}
-use Rattle.nm_calls.specs.Telling.{EdgeTold, OnwardTold, IsPinnedIn}
-use Rattle.nm_calls.specs.Walks.{begin, onto, chain_onto, Reads, Walks, EndsAtLeaf, IsTooLong}
+use Rattle.nm_walks.specs.AddedLooks.{AddsLooks}
+use Rattle.nm_calls.specs.PlainWalks.{HasEndedSo}
+use Rattle.nm_walks.specs.Telling.{EdgeTold, OnwardTold, IsPinnedIn}
+use Rattle.nm_walks.specs.Walks.{begin, onto, chain_onto, Reads, Walks, EndsAtLeaf, IsTooLong}
 use Rattle.nm_calls.proofs.NextLooks.{comes_there, comes_later, read_alike, walk_ends, ended_so}
-use Rattle.nm_calls.proofs.PlainLooks.{ended_still, node_looks, read_grows}
-use Rattle.nm_calls.proofs.ShortWalks.{too_long}
-use Rattle.nm_calls.proofs.Standing.{onto-edge, walk_on}
+use Rattle.nm_walks.proofs.PlainLooks.{node_looks, read_grows}
+use Rattle.nm_calls.proofs.PlainLooks.{ended_still}
+use Rattle.nm_walks.proofs.ShortWalks.{too_long}
+use Rattle.nm_walks.proofs.Standing.{onto-edge, walk_on}
 
 -- ---- a walk that serves them
 
@@ -40,7 +42,7 @@ descent_begins L p q e step told from = record {
   router = λ some. absurd (some refl);
 }
 
-module _ (L : Layout) (n : ℕ) (o p q : Stand) (d : Descent) (bound : ℕ) (on : Onward) (r : Reads d.from d.node p.view.log q.view.log on) (w : IsDescent L n o p d) (some : d.node ≢ 0) (high : d.bound ≤ bound)
+module _ (L : Layout) (n : ℕ) (o p q : Stand) (d : PrevWalk) (bound : ℕ) (on : Onward) (r : Reads d.from d.node p.view.log q.view.log on) (w : IsDescent L n o p d) (some : d.node ≢ 0) (high : d.bound ≤ bound)
     (turns : (j : ℕ) → bound ≤ j → j ≤ d.from → side_of j on.found ≡ side_of d.from on.found) where
   abbrev t : Spot
   t = (w.walks some).0
@@ -79,7 +81,7 @@ module _ (L : Layout) (n : ℕ) (o p q : Stand) (d : Descent) (bound : ℕ) (on 
       by (inr is) other = here is on.next.slot refl
 
 -- or is broken off
-pub descent_too_long : (b : Board) (n : ℕ) (o p : Stand) (d : Descent) (from : ℕ) → IsDescent b.layout n o p d → d.from ≡ from → IsPinnedIn b p → IsKey from → suc n ≡ reach b.layout → d.node ≢ 0 → IsTooLong b.layout from o.view.log p.view.log
+pub descent_too_long : (b : Board) (n : ℕ) (o p : Stand) (d : PrevWalk) (from : ℕ) → IsDescent b.layout n o p d → d.from ≡ from → IsPinnedIn b p → IsKey from → suc n ≡ reach b.layout → d.node ≢ 0 → IsTooLong b.layout from o.view.log p.view.log
 descent_too_long b n o p d from w begun pinned key all some =
     let at = w.walks some in
     too_long b from key n o.view.log at.0 at.1 p pinned (at.3 from (let wide = w.wide in omega (arith, begun, wide)) (omega (arith, begun))) all
@@ -92,7 +94,7 @@ later_still p q a key from later j above le = ended_still p q a j false (later j
 
 -- of the keys above `from` up to `key` the set had none, and of those from the walk's bound up to
 -- `from` none but the one that it found
-module _ (L : Layout) (n : ℕ) (o p : Stand) (key from : ℕ) (d : Descent) (w : IsDescent L n o p d) (begun : d.from ≡ from) (null : d.node ≡ 0) (below : from ≤ key) (later : (j : ℕ) → from < j → j ≤ key → HasEndedSo p j false) where
+module _ (L : Layout) (n : ℕ) (o p : Stand) (key from : ℕ) (d : PrevWalk) (w : IsDescent L n o p d) (begun : d.from ≡ from) (null : d.node ≡ 0) (below : from ≤ key) (later : (j : ℕ) → from < j → j ≤ key → HasEndedSo p j false) where
   ended : (j : ℕ) → d.bound ≤ j → j ≤ d.from → HasEndedSo p j (d.found == j)
   ended j least le = let end = w.ends null j least le in ended_so L j o.view.log p end.0 end.1 d.found end.2
 

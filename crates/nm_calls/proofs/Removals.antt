@@ -24,19 +24,20 @@ use Rattle.nm_calls.specs.declared.deleting.Missed.{Missed}
 use Rattle.nm_calls.specs.declared.deleting.Missed.TheVariants as missed
 use Rattle.nm_calls.specs.declared.deleting.Removal.{Removal}
 use Rattle.nm_calls.specs.declared.deleting.Removal.TheVariants as removal
-use Rattle.nm_calls.specs.declared.spot.ChainEdge.{ChainEdge}
-use Rattle.nm_calls.specs.declared.spot.End.{End}
-use Rattle.nm_calls.specs.declared.spot.Spot.{Spot}
-use Rattle.nm_calls.specs.Telling.{Tells, IsInRun, GoesOn, OnlyLooks, IsPinnedSomewhere}
-use Rattle.nm_calls.specs.Walks.{HasEnded, HasFound}
-use Rattle.nm_calls.specs.Marking.{IsToBeFlagged, FlagWon}
-use Rattle.nm_calls.specs.Leaving.{ShowsAnswer, IsPinnedForCall}
-use Rattle.nm_calls.specs.Cleanups.{HasCleaned, OnlyCleans, CleanupLost}
+use Rattle.nm_walks.specs.declared.spot.ChainEdge.{ChainEdge}
+use Rattle.nm_walks.specs.declared.spot.WalkEnd.{WalkEnd}
+use Rattle.nm_walks.specs.declared.spot.Spot.{Spot}
+use Rattle.nm_walks.specs.Telling.{Tells, IsInRun, GoesOn, OnlyLooks, IsPinnedSomewhere}
+use Rattle.nm_walks.specs.Walks.{HasEnded, HasFound}
+use Rattle.nm_walks.specs.Marking.{IsToBeFlagged, FlagWon}
+use Rattle.nm_walks.specs.Labelling.{IsPinnedForCall}
+use Rattle.nm_calls.specs.Leaving.{ShowsAnswer}
+use Rattle.nm_walks.specs.Cleanups.{HasCleaned, OnlyCleans, CleanupLost}
 use Rattle.nm_calls.specs.Deletes.{IsRemoving, MayFlag, HasWonItsFlag, leaf_of, OnlyInjects, IsRemoval, RemovalAfter, LosesAfterFlag, LacksRoomOr, FlagsThen, PinsForDelete, DeleteDid}
-use Rattle.nm_calls.proofs.GoingOn.{pinned_still}
+use Rattle.nm_walks.proofs.GoingOn.{pinned_still}
 use Rattle.nm_calls.proofs.KeptLedgers.{ledgers_then}
-use Rattle.nm_calls.proofs.Looks.{enough}
-use Rattle.nm_calls.proofs.WholeCleanups.{right_true}
+use Rattle.nm_walks.proofs.Looks.{enough}
+use Rattle.nm_walks.proofs.WholeCleanups.{right_true}
 
 -- a walk behind the flag ended at another leaf
 pub elsewhere_shows : (p q : Stand) (k : ℕ) (n : NodeId) (leaf parent v : ℕ) (side : Side) → IsRemoving p k n → (search q).flagged ≡ (search p).flagged → HasFound p q k leaf parent side v → leaf ≢ n.slot → ShowsAnswer q Delete k true
@@ -58,7 +59,7 @@ cleanup_shows p q s c es fs k n cleaned flagged same edge born =
 
 pub cleans_then : (o p q : Stand) → IsSamePass o p → OnlyCleans o p → OnlyCleans p q → OnlyCleans o q
 cleans_then o p q same a b = record {
-  note = b.note ∙ a.note;
+  announcement = b.announcement ∙ a.announcement;
   pin = b.pin ∙ a.pin;
   labelled = λ none'. b.labelled (a.labelled none');
   private = b.private ∙ a.private;
@@ -70,7 +71,7 @@ cleans_then o p q same a b = record {
 
 pub injects_then : (o p q : Stand) → IsSamePass o p → OnlyInjects o p → OnlyInjects p q → OnlyInjects o q
 injects_then o p q same a b = record {
-  note = b.note ∙ a.note;
+  announcement = b.announcement ∙ a.announcement;
   pin = b.pin ∙ a.pin;
   labelled = λ none'. b.labelled (a.labelled none');
   private = b.private ∙ a.private;
@@ -93,7 +94,7 @@ removing_on p q k n r on only = record {
 
 -- ---- a flag
 
-pub to_be_flagged : (p q : Stand) (k : ℕ) (r : End) (b : ℕ) → MayFlag p k r → GoesOn p q → OnlyLooks p q → Tells q (IsBorn r.spot.edge.slot b) → IsToBeFlagged q r.spot.parent r.spot.side r.spot.edge.slot
+pub to_be_flagged : (p q : Stand) (k : ℕ) (r : WalkEnd) (b : ℕ) → MayFlag p k r → GoesOn p q → OnlyLooks p q → Tells q (IsBorn r.spot.edge.slot b) → IsToBeFlagged q r.spot.parent r.spot.side r.spot.edge.slot
 to_be_flagged p q k r b may on only born = record {
   knows_parent = on.keeps (KnowsSlot r.spot.parent) may.parent;
   knows_leaf = on.keeps (KnowsSlot r.spot.edge.slot) may.known;
@@ -106,7 +107,7 @@ to_be_flagged p q k r b may on only born = record {
   unflagged = only.flagged ∙ may.unflagged;
 }
 
-pub has_flagged : (o p q : Stand) (r : End) (b : ℕ) → p.view.log ≡ o.view.log ++ (Look r.spot.edge.slot Birth, BirthIs b) ∷ [] → Tells p (IsBorn r.spot.edge.slot b) → GoesOn p q → FlagWon p q r.spot.parent r.spot.side (leaf_of r b) → HasWonItsFlag o q r b
+pub has_flagged : (o p q : Stand) (r : WalkEnd) (b : ℕ) → p.view.log ≡ o.view.log ++ (Look r.spot.edge.slot Birth, BirthIs b) ∷ [] → Tells p (IsBorn r.spot.edge.slot b) → GoesOn p q → FlagWon p q r.spot.parent r.spot.side (leaf_of r b) → HasWonItsFlag o q r b
 has_flagged o p q r b looked born on won = record {
   part = ap (λ (x : Stand). x.view.log) won.step ∙ ap (λ (log : List Entry). log ++ (Flag r.spot.parent r.spot.side r.spot.edge.slot, Flagged (leaf_of r b)) ∷ []) looked;
   flagged = won.flagged;
@@ -114,7 +115,7 @@ has_flagged o p q r b looked born on won = record {
   born = on.keeps (IsBorn r.spot.edge.slot b) born;
 }
 
-pub may_flag_there : (p q : Stand) (k : ℕ) (L : Layout) (r : End) (c : List ChainEdge) → Tells p (CallIs Delete k) → (search p).flagged ≡ None → k < infinity_0 → GoesOn p q → OnlyLooks p q → HasEnded (Tells q) L r.spot c
+pub may_flag_there : (p q : Stand) (k : ℕ) (L : Layout) (r : WalkEnd) (c : List ChainEdge) → Tells p (CallIs Delete k) → (search p).flagged ≡ None → k < infinity_0 → GoesOn p q → OnlyLooks p q → HasEnded (Tells q) L r.spot c
     → (r.key < infinity_0 → 6 ≤ r.spot.edge.slot) → HasFound p q k r.spot.edge.slot r.spot.parent r.spot.side r.key → r.key ≡ k → MayFlag q k r
 may_flag_there p q k L r c call unflagged low on only ended high found is = record {
   parent = ended.at.parent;

@@ -6,8 +6,8 @@ use Rattle.std.proofs.lemmas.Bool.Decides.{leb_tells}
 use Rattle.nm_limbo.specs.declared.queue.NoMemory.{NoMemory}
 use Rattle.nm_epoch.specs.declared.collecting.Entry.{Entry}
 use Rattle.nm_limbo.specs.Queue.{BlockQueue, IsGrown, IsBalanced, HasLeast}
-use Rattle.nm_calls.specs.Bounds.{cut_bound}
-use Rattle.nm_calls.specs.Rooms.{FillsUp, HasJustRoom, TakesRoom}
+use Rattle.nm_walks.specs.Bounds.{cut_bound}
+use Rattle.nm_walks.specs.Rooms.{FillsUp, HasJustRoom, TakesRoom}
 
 pub fills_none : (q : BlockQueue Entry) → FillsUp q q
 fills_none q = record { blocks = refl; places = refl; spare = omega arith }

@@ -8,9 +8,9 @@ use Rattle.nm_epoch.specs.Collecting.{IsQueueOf}
 use Rattle.nm_epoch.specs.declared.collecting.Entry.{Entry as Waiting}
 use Rattle.nm_epoch.proofs.FewFreed.{few_waiting}
 use Rattle.nm_epoch.specs.declared.collecting.HeldQueue.{HeldQueue}
-use Rattle.nm_calls.specs.Cleanups.{HoldsCuts}
-use Rattle.nm_calls.specs.Telling.{IsInRun}
-use Rattle.nm_calls.proofs.Looks.{enough}
+use Rattle.nm_walks.specs.Cleanups.{HoldsCuts}
+use Rattle.nm_walks.specs.Telling.{IsInRun}
+use Rattle.nm_walks.proofs.Looks.{enough}
 
 few_of_nodes : (p : Stand) (es : List Waiting) → IsInRun p → IsQueueOf (knowledge p.view) p.view.number es → length es ≤ p.view.layout.nodes
 few_of_nodes p es run queue =

@@ -1,21 +1,8 @@
 -- How much a call holds at a time, and how many steps it makes.
-use Rattle.std.specs.Prelude.{◌≤◌, ◌+◌, ◌*◌, ℕ, if◌then◌else◌, List, length}
+use Rattle.std.specs.Prelude.{◌≤◌, ◌+◌, ◌*◌, ℕ, List, length}
 use Rattle.nm_edge.specs.Layouts.{Layout}
 use Rattle.nm_model.specs.Walks.{Entry}
-
--- how many nodes a splice cuts off at most, their leaves left out: those of a walk's chain, and the
--- parent below it
-abbrev pub chain_bound : ℕ
-chain_bound = 64
-
--- how many it cuts off with their leaves: the room that a try asks of the queue
-abbrev pub cut_bound : ℕ
-cut_bound = 2 * chain_bound
-
--- how many nodes a walk looks at, at most: in a radix tree slot 2, 64 internal ones and a leaf, and
--- else as many as there are
-abbrev pub reach : Layout → ℕ
-reach L = if L.radix then 66 else L.nodes
+use Rattle.nm_walks.specs.Bounds.{chain_bound, reach}
 
 -- a call with so many tries has made at most so many steps: in each try a walk and a cleanup
 abbrev pub IsWithinBound : Layout → ℕ → List Entry → List Entry → Type 0

@@ -9,12 +9,13 @@ use Rattle.nm_steps.specs.Steps.{Stand, IsSamePass, HasSeenAllOf}
 use Rattle.nm_epoch.specs.Resting.{IsResting, KeepsHands}
 use Rattle.nm_epoch.specs.Tries.{IsPinnedBy, IsMoved}
 use Rattle.nm_calls.specs.declared.lookup.Busy.{Busy}
-use Rattle.nm_calls.specs.declared.spot.ChainEdge.{ChainEdge}
-use Rattle.nm_calls.specs.declared.spot.Spot.{Spot}
+use Rattle.nm_walks.specs.declared.spot.ChainEdge.{ChainEdge}
+use Rattle.nm_walks.specs.declared.spot.Spot.{Spot}
 use Rattle.nm_calls.specs.Bounds.{IsWithinBound}
 use Rattle.nm_calls.specs.Moments.{AnswerHasMoment}
-use Rattle.nm_calls.specs.Walks.{EndsAtLeaf, IsTooLong}
-use Rattle.nm_calls.specs.Won.{HasWon, won_splices}
+use Rattle.nm_walks.specs.Walks.{EndsAtLeaf, IsTooLong}
+use Rattle.nm_walks.specs.WonCounts.{won_splices}
+use Rattle.nm_calls.specs.Won.{HasWon}
 
 -- so many walks in a row were broken off
 abbrev pub LostWalks : Layout → ℕ → ℕ → List Entry → List Entry → Type 0

@@ -24,13 +24,14 @@ use Rattle.nm_calls.specs.declared.deleting.Missed.{Missed}
 use Rattle.nm_calls.specs.declared.deleting.Missed.TheVariants as missed
 use Rattle.nm_calls.specs.declared.deleting.Removal.{Removal}
 use Rattle.nm_calls.specs.declared.deleting.Removal.TheVariants as removal
-use Rattle.nm_calls.specs.declared.spot.ChainEdge.{ChainEdge}
-use Rattle.nm_calls.specs.declared.spot.End.{End}
-use Rattle.nm_calls.specs.Bounds.{chain_bound, cut_bound, IsWithinBound}
-use Rattle.nm_calls.specs.Telling.{Tells, IsInRun, IsPinnedSomewhere}
-use Rattle.nm_calls.specs.Walks.{Seeks, IsBroken, IsAt}
+use Rattle.nm_walks.specs.declared.spot.ChainEdge.{ChainEdge}
+use Rattle.nm_walks.specs.declared.spot.WalkEnd.{WalkEnd}
+use Rattle.nm_walks.specs.Bounds.{chain_bound, cut_bound}
+use Rattle.nm_calls.specs.Bounds.{IsWithinBound}
+use Rattle.nm_walks.specs.Telling.{Tells, IsInRun, IsPinnedSomewhere}
+use Rattle.nm_walks.specs.Walks.{Seeks, IsBroken, IsAt}
 use Rattle.nm_calls.specs.Leaving.{ShowsAnswer}
-use Rattle.nm_calls.specs.Cleanups.{CleanupWon, CleanupLost, IsOneOfNodes, KeepsLedgers}
+use Rattle.nm_walks.specs.Cleanups.{CleanupWon, CleanupLost, IsOneOfNodes, KeepsLedgers}
 use Rattle.nm_calls.specs.Inserts.{Helps}
 use Rattle.nm_calls.specs.Moments.{AnswerHasMoment, HadNoCall}
 use Rattle.nm_calls.specs.Won.{HasWon, flags_of_delete}
@@ -39,7 +40,7 @@ use Rattle.nm_calls.specs.Won.{HasWon, flags_of_delete}
 
 -- a walk that ended at a leaf with key k, a look at the leaf's birth, and a flag of the edge that
 -- led there, which was answered so
-pub record TriesFlag (L : Layout) (k : ℕ) (r : End) (c : List ChainEdge) (birth : ℕ) (reply : Reply)
+pub record TriesFlag (L : Layout) (k : ℕ) (r : WalkEnd) (c : List ChainEdge) (birth : ℕ) (reply : Reply)
     (old new : List Entry) : Type 0 where
   pub ended : List Entry
   pub walk : Seeks L k old ended c (Some r)
@@ -47,18 +48,18 @@ pub record TriesFlag (L : Layout) (k : ℕ) (r : End) (c : List ChainEdge) (birt
   pub entries : new ≡ (ended ++ (Look r.spot.edge.slot Birth, BirthIs birth) ∷ [])
       ++ (Flag r.spot.parent r.spot.side r.spot.edge.slot, reply) ∷ []
 
-abbrev pub leaf_of : End → ℕ → NodeId
+abbrev pub leaf_of : WalkEnd → ℕ → NodeId
 leaf_of r b = record { slot = r.spot.edge.slot; birth = b }
 
 -- one try to flag, by what it came to, with the chain of the walk (Natarajan and Mittal, section
 -- 3.2, delete)
 abbrev pub IsFlagTry : Layout → ℕ → List ChainEdge → List Entry → List Entry → Injected → Type 0
 IsFlagTry L k c old new injected.Absent =
-    (r : End) × Seeks L k old new c (Some r) × (r.key ≢ k)
+    (r : WalkEnd) × Seeks L k old new c (Some r) × (r.key ≢ k)
 IsFlagTry L k c old new (injected.Flagged r b) =
     TriesFlag L k r c b (Flagged (leaf_of r b)) old new
 IsFlagTry L k c old new injected.Lost = IsBroken L k old new
-    ⊎ ((r : End) × (b : ℕ) × (e : Edge) × (mid : List Entry)
+    ⊎ ((r : WalkEnd) × (b : ℕ) × (e : Edge) × (mid : List Entry)
     × TriesFlag L k r c b (Lost e) old mid × Helps r c e mid new)
 
 -- ---- cleanup mode
@@ -78,7 +79,7 @@ pub record IsRemoving (p : Stand) (k : ℕ) (n : NodeId) : Type 0 where
 -- a walk to another leaf, or a won cleanup by a walk that ended at the flagged leaf, whose splice
 -- cut that leaf (Natarajan and Mittal, section 3.2, delete)
 abbrev pub Removes : Layout → ℕ → NodeId → List Entry → List Entry → Type 0
-Removes L k n old new = (r : End) × (c : List ChainEdge)
+Removes L k n old new = (r : WalkEnd) × (c : List ChainEdge)
     × ((Seeks L k old new c (Some r) × (r.spot.edge.slot ≢ n.slot))
     ⊎ ((mid : List Entry) × (ns : List NodeId) × (epoch : ℕ) × Seeks L k old mid c (Some r)
     × (r.spot.edge.slot ≡ n.slot) × CleanupWon r.spot c ns epoch mid new × IsOneOfNodes n ns))
@@ -86,7 +87,7 @@ Removes L k n old new = (r : End) × (c : List ChainEdge)
 -- a walk that was broken off, or a lost cleanup by a walk that ended at the flagged leaf
 abbrev pub RemovesNothing : Layout → ℕ → NodeId → List Entry → List Entry → Type 0
 RemovesNothing L k n old new = IsBroken L k old new
-    ⊎ ((r : End) × (c : List ChainEdge) × (mid : List Entry) × Seeks L k old mid c (Some r)
+    ⊎ ((r : WalkEnd) × (c : List ChainEdge) × (mid : List Entry) × Seeks L k old mid c (Some r)
     × (r.spot.edge.slot ≡ n.slot) × CleanupLost r.spot c mid new)
 
 -- so many such tries were lost, one behind the other
@@ -112,7 +113,7 @@ IfRemoved _ P = Unit {0}
 -- ---- what flagging leaves
 
 -- the call may flag the leaf at which its walk ended
-pub record MayFlag (p : Stand) (k : ℕ) (r : End) : Type 0 where
+pub record MayFlag (p : Stand) (k : ℕ) (r : WalkEnd) : Type 0 where
   pub parent : Tells p (KnowsSlot r.spot.parent)
   pub known : Tells p (KnowsSlot r.spot.edge.slot)
   pub leaf : Tells p (KnowsLeaf r.spot.edge.slot)
@@ -121,28 +122,28 @@ pub record MayFlag (p : Stand) (k : ℕ) (r : End) : Type 0 where
   pub ended : Tells p (EndedAt ThePin k r.spot.edge.slot r.spot.parent r.spot.side k)
   pub unflagged : (search p).flagged ≡ None
 
-abbrev pub looks_and_flags : End → ℕ → Reply → List Entry → List Entry
+abbrev pub looks_and_flags : WalkEnd → ℕ → Reply → List Entry → List Entry
 looks_and_flags r b reply old =
     (old ++ (Look r.spot.edge.slot Birth, BirthIs b) ∷ [])
     ++ (Flag r.spot.parent r.spot.side r.spot.edge.slot, reply) ∷ []
 
 -- the flag is won: the leaf is the one that the call flagged, and the edge to it is known as
 -- flagged
-pub record HasWonItsFlag (p q : Stand) (r : End) (b : ℕ) : Type 0 where
+pub record HasWonItsFlag (p q : Stand) (r : WalkEnd) (b : ℕ) : Type 0 where
   pub part : q.view.log ≡ looks_and_flags r b (Flagged (leaf_of r b)) p.view.log
   pub flagged : (search q).flagged ≡ Some (leaf_of r b)
   pub edge : Tells q (IsFlagged r.spot.parent r.spot.side r.spot.edge.slot)
   pub born : Tells q (IsBorn r.spot.edge.slot b)
 
 -- the flag was lost: what the call flagged is as it was
-pub record HasNotFlagged (p q : Stand) (r : End) (e : Edge) : Type 0 where
+pub record HasNotFlagged (p q : Stand) (r : WalkEnd) (e : Edge) : Type 0 where
   pub birth : ℕ
   pub part : q.view.log ≡ looks_and_flags r birth (Lost e) p.view.log
   pub flagged : (search q).flagged ≡ (search p).flagged
 
 -- the pin, private slots, the call with what it linked, and ledgers but for the nodes that were cut
 pub record OnlyInjects (p q : Stand) : Type 0 where
-  pub note : (epochs q).note ≡ (epochs p).note
+  pub announcement : (epochs q).announcement ≡ (epochs p).announcement
   pub pin : (epochs q).pin ≡ (epochs p).pin
   pub labelled : (epochs p).unlabelled ≡ false → (epochs q).unlabelled ≡ false
   pub private : (knowledge q.view).drafts ≡ (knowledge p.view).drafts

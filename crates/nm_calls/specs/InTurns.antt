@@ -7,12 +7,14 @@ use Rattle.nm_order.specs.Facts.Fact.{KnowsSlot}
 use Rattle.nm_steps.specs.Steps.{Stand, IsSamePass, HasSeenAllOf}
 use Rattle.nm_epoch.specs.Resting.{IsResting, KeepsHands}
 use Rattle.nm_calls.specs.declared.lookup.Busy.{Busy}
-use Rattle.nm_calls.specs.declared.looking.Onward.{Onward}
+use Rattle.nm_walks.specs.declared.looking.Onward.{Onward}
 use Rattle.nm_calls.specs.declared.many.Query.{Query}
-use Rattle.nm_calls.specs.Bounds.{reach}
-use Rattle.nm_calls.specs.Telling.{Tells}
-pub use Rattle.nm_calls.specs.PlainWalks.{AddsLooks, LooksUnderPin, PlainMissed, HasPassed, HasEndedSo, WasSo, most_looks}
-use Rattle.nm_calls.specs.Won.{HasWon, won_splices}
+use Rattle.nm_walks.specs.Bounds.{reach}
+use Rattle.nm_walks.specs.Telling.{Tells}
+pub use Rattle.nm_walks.specs.AddedLooks.{AddsLooks}
+pub use Rattle.nm_calls.specs.PlainWalks.{LooksUnderPin, PlainMissed, HasPassed, HasEndedSo, WasSo, most_looks}
+use Rattle.nm_walks.specs.WonCounts.{won_splices}
+use Rattle.nm_calls.specs.Won.{HasWon}
 
 -- behind so many nodes at least its walk has come to a known node, which it reads next, or has ended
 -- with its answer, where it has none to read (Natarajan and Mittal, section 3.2)

@@ -1,150 +1,42 @@
 -- Inserts: the two new nodes that a call keeps over its tries, and what each part of it leaves.
-use Rattle.std.specs.Prelude.{◌≡◌, ◌≢◌, ◌≤◌, ◌⊎◌, ℕ, zero, suc, ◌<◌, ◌==◌, nat_lt, Bool, true, false, ◌&&◌, ◌||◌, if◌then◌else◌, List, [], ◌∷◌, ◌++◌, Option, Some, None, Result, Ok, Err, IfOk}
+use Rattle.std.specs.Prelude.{◌≡◌, ◌≢◌, ◌⊎◌, ℕ, zero, suc, ◌<◌, ◌==◌, Bool, true, false, ◌&&◌, ◌||◌, List, [], ◌∷◌, ◌++◌, Option, Some, None, Result, Ok, Err, IfOk}
 use Rattle.nm_edge.specs.Edges.{Edge}
 use Rattle.nm_edge.specs.Layouts.{Layout}
 use Rattle.nm_edge.specs.declared.node.NodeId.{NodeId}
-use Rattle.nm_model.specs.declared.event.Event.TheVariants.{SightFor, Leave, LeaveWith, Give, Link}
+use Rattle.nm_model.specs.declared.event.Event.TheVariants.{SightFor, Leave, LeaveWith}
 use Rattle.nm_model.specs.declared.event.Op.TheVariants.{Insert}
 use Rattle.nm_model.specs.declared.reply.Reply.{Reply}
-use Rattle.nm_model.specs.declared.reply.Reply.TheVariants.{Departed, Returned, Linked, Lost}
-use Rattle.nm_model.specs.Maps.{get}
+use Rattle.nm_model.specs.declared.reply.Reply.TheVariants.{Departed, Linked, Lost}
 use Rattle.nm_model.specs.Walks.{Entry}
 use Rattle.nm_order.specs.Facts.Since.{ThePin}
-use Rattle.nm_order.specs.Facts.Fact.{KnowsSlot, KnowsLeaf, CallIs, EndedAt}
-use Rattle.nm_order.specs.Taught.{EdgeLearned}
-use Rattle.nm_pool.specs.Claims.{IsClaimBy}
 use Rattle.nm_pool.specs.declared.placement.Fit.{Fit}
-use Rattle.nm_steps.specs.Rules.{knowledge}
 use Rattle.nm_steps.specs.Steps.{Stand, IsSamePass, HasSeenAllOf, IsInRun}
 use Rattle.nm_epoch.specs.Resting.{epochs, search, IsResting}
-use Rattle.nm_calls.specs.declared.making.Contents.{Contents}
-use Rattle.nm_calls.specs.declared.making.Fork.{Fork}
+use Rattle.nm_walks.specs.declared.making.Fork.{Fork}
 use Rattle.nm_epoch.specs.Tries.{IsPinnedBy, IsMoved}
-use Rattle.nm_calls.specs.declared.inserting.Fault.{Fault}
-use Rattle.nm_calls.specs.declared.inserting.Fault.TheVariants as fault
+use Rattle.nm_calls.specs.declared.inserting.NotInserted.{NotInserted}
+use Rattle.nm_calls.specs.declared.inserting.NotInserted.TheVariants as fault
 use Rattle.nm_calls.specs.declared.inserting.Attempt.{Attempt}
 use Rattle.nm_calls.specs.declared.inserting.Attempt.TheVariants as attempt
-use Rattle.nm_calls.specs.declared.spot.ChainEdge.{ChainEdge}
-use Rattle.nm_calls.specs.declared.spot.End.{End}
-use Rattle.nm_calls.specs.Telling.{Tells}
-use Rattle.nm_calls.specs.Making.{draft, fills, IsPlace, IsRouter}
-use Rattle.nm_calls.specs.Places.{Stops}
+use Rattle.nm_walks.specs.declared.spot.ChainEdge.{ChainEdge}
+use Rattle.nm_walks.specs.declared.spot.WalkEnd.{WalkEnd}
+use Rattle.nm_walks.specs.Places.{Stops}
 use Rattle.nm_calls.specs.Leaving.{EndedWith}
-use Rattle.nm_calls.specs.Cleanups.{CleanupWon, CleanupLost, KeepsLedgers}
+use Rattle.nm_walks.specs.Cleanups.{CleanupWon, CleanupLost, KeepsLedgers}
 use Rattle.nm_calls.specs.Bounds.{IsWithinClaims}
 use Rattle.nm_calls.specs.Moments.{AnswerHasMoment}
 use Rattle.nm_calls.specs.Won.{HasWon, links_of_insert}
-
--- ---- two private nodes
-
--- both are private, with their births
-pub record HasBothNodes (p : Stand) (f : Fork) : Type 0 where
-  pub apart : f.new.slot ≢ f.fresh.slot
-  pub new_birth : (draft p f.new.slot).birth ≡ Some f.new.birth
-  pub fresh_birth : (draft p f.fresh.slot).birth ≡ Some f.fresh.birth
-  pub new_within : f.new.slot ≤ p.view.layout.nodes
-  pub fresh_within : f.fresh.slot ≤ p.view.layout.nodes
-
--- each slot but these is private as it was
-abbrev pub KeepsBut : Fork → Stand → Stand → Type 0
-KeepsBut f o p = (s : ℕ) → s ≢ f.new.slot → s ≢ f.fresh.slot
-    → get (knowledge p.view).drafts s ≡ get (knowledge o.view).drafts s
-
--- the private slots are those that there were, and with them two new nodes, if the call has made
--- them
-pub record HoldsFork (o p : Stand) (f : Fork) : Type 0 where
-  pub ready : HasBothNodes p f
-  pub others : KeepsBut f o p
-  pub new_was : get (knowledge o.view).drafts f.new.slot ≡ None
-  pub fresh_was : get (knowledge o.view).drafts f.fresh.slot ≡ None
-
--- the two new nodes that an insert keeps over its tries, once it has made them (Natarajan and
--- Mittal, section 3.2, insert)
-abbrev pub HasFork : Stand → Stand → Option Fork → Type 0
-HasFork o p None = (s : ℕ) → get (knowledge p.view).drafts s ≡ get (knowledge o.view).drafts s
-HasFork o p (Some f) = HoldsFork o p f
-
--- the new nodes, if there are some, are ready
-abbrev pub IfReady : Stand → Option Fork → Type 0
-IfReady p None = Unit {0}
-IfReady p (Some f) = HasBothNodes p f
-
--- both nodes are given back, if there are any
-abbrev pub Returns : Option Fork → List Entry → List Entry → Type 0
-Returns None old new = new ≡ old
-Returns (Some f) old new = new
-    ≡ (old ++ (Give f.new.slot, Returned f.new.slot) ∷ [])
-    ++ (Give f.fresh.slot, Returned f.fresh.slot) ∷ []
-
--- the internal node is claimed first and the leaf second; where one of the two claims answers
--- nothing, the other slot is returned
-abbrev pub ClaimsFork : Fit → ℕ → List Entry → List Entry → Option Fork → Type 0
-ClaimsFork fit nodes old new (Some f) =
-    (mid : List Entry) × IsClaimBy fit nodes old mid (Some f.new)
-    × IsClaimBy fit nodes mid new (Some f.fresh)
-ClaimsFork fit nodes old new None = IsClaimBy fit nodes old new None
-    ⊎ ((n : NodeId) × (mid : List Entry) × (all : List Entry) × IsClaimBy fit nodes old mid (Some n)
-    × IsClaimBy fit nodes mid all None × (new ≡ all ++ (Give n.slot, Returned n.slot) ∷ []))
-
--- ---- a link of both
-
--- the new internal node has that key, and the slot with the lesser key is on its left
-abbrev pub inner_of : ℕ → ℕ → ℕ → ℕ → ℕ → Contents
-inner_of key other router leaf fresh =
-    if nat_lt key other then record { key = router; left = fresh; right = leaf }
-    else record { key = router; left = leaf; right = fresh }
-
--- the call may put its key beside the leaf at which its walk ended
-pub record MayGrow (p : Stand) (key : ℕ) (r : End) (f : Fork) : Type 0 where
-  pub call : Tells p (CallIs Insert key)
-  pub unlinked : (search p).linked ≡ false
-  pub parent : Tells p (KnowsSlot r.spot.parent)
-  pub known : Tells p (KnowsSlot r.spot.edge.slot)
-  pub within : r.spot.edge.slot ≤ p.view.layout.nodes
-  pub place : IsPlace p.view.layout.radix p key r.spot.edge.slot r.spot.parent r.spot.side r.key
-  pub other : r.key ≢ key
-  pub ready : HasBothNodes p f
-
--- both nodes were filled, and a link of them was tried at the edge by which the walk ended
-abbrev pub Grows : Bool → ℕ → End → Fork → Reply → List Entry → List Entry → Type 0
-Grows radix key r f reply old new = (i : Contents) × IsRouter radix key r.key i.key
-    × (i ≡ inner_of key r.key i.key r.spot.edge.slot f.fresh.slot)
-    × (new ≡ ((old ++ fills f.new.slot i.key i.left i.right) ++ fills f.fresh.slot key 0 0)
-    ++ (Link r.spot.parent r.spot.side r.spot.edge.slot f.new.slot, reply) ∷ [])
-
--- the worker's epochs and queues, and its call, are as they were
-pub record KeepsCall (p q : Stand) : Type 0 where
-  pub epochs : epochs q ≡ epochs p
-  pub ledgers : (knowledge q.view).ledgers ≡ (knowledge p.view).ledgers
-  pub call : (search q).call ≡ (search p).call
-  pub flagged : (search q).flagged ≡ (search p).flagged
-
--- the link was won: the call has linked, and the new nodes are private no longer
-pub record HasGrown (radix : Bool) (p q : Stand) (key : ℕ) (r : End) (f : Fork) : Type 0 where
-  pub part : Grows radix key r f (Linked f.new) p.view.log q.view.log
-  pub linked : (search q).linked ≡ true
-  pub others : KeepsBut f p q
-  pub new_given : get (knowledge q.view).drafts f.new.slot ≡ None
-  pub fresh_given : get (knowledge q.view).drafts f.fresh.slot ≡ None
-
--- it was lost: the new nodes are ready still, and the edge that was found is told
-pub record HasNotGrown (radix : Bool) (p q : Stand) (key : ℕ) (r : End) (f : Fork)
-    (e : Edge) : Type 0 where
-  pub part : Grows radix key r f (Lost e) p.view.log q.view.log
-  pub linked : (search q).linked ≡ (search p).linked
-  pub others : KeepsBut f p q
-  pub ready : HasBothNodes q f
-  pub learned : EdgeLearned (Tells q) r.spot.parent r.spot.side e
+use Rattle.nm_walks.specs.Growing.{ClaimsFork, Grows, HasFork, Returns}
 
 -- ---- one try
 
 -- the edge that a lost exchange found leads to the same leaf, and is marked
-abbrev pub asks_help : End → Edge → Bool
+abbrev pub asks_help : WalkEnd → Edge → Bool
 asks_help r e = (e.slot == r.spot.edge.slot) && (e.flag || e.tag)
 
 -- then a cleanup by that walk, won or lost, exactly where the edge asks for help; else no step
 -- (Natarajan and Mittal, section 3.2, insert)
-abbrev pub Helps : End → List ChainEdge → Edge → List Entry → List Entry → Type 0
+abbrev pub Helps : WalkEnd → List ChainEdge → Edge → List Entry → List Entry → Type 0
 Helps r c e old new = ((asks_help r e ≡ true)
     × (((ns : List NodeId) × (epoch : ℕ) × CleanupWon r.spot c ns epoch old new)
     ⊎ CleanupLost r.spot c old new)) ⊎ ((asks_help r e ≡ false) × (new ≡ old))
@@ -162,7 +54,7 @@ IsReadied fit nodes f g None old new = (f ≡ None) × (g ≡ None) × ClaimsFor
 
 -- a walk that ended at a leaf with another key, and a link of two new nodes there that was answered
 -- so
-pub record TriesLink (fit : Fit) (L : Layout) (k : ℕ) (f : Option Fork) (made : Fork) (r : End)
+pub record TriesLink (fit : Fit) (L : Layout) (k : ℕ) (f : Option Fork) (made : Fork) (r : WalkEnd)
     (c : List ChainEdge) (reply : Reply) (old new : List Entry) : Type 0 where
   pub ended : List Entry
   pub walk : Stops L k old ended c (Some r)
@@ -176,21 +68,21 @@ pub record TriesLink (fit : Fit) (L : Layout) (k : ℕ) (f : Option Fork) (made 
 abbrev pub IsTry : Fit → Layout → ℕ → Option Fork → Option Fork → List Entry → List Entry → Attempt
     → Type 0
 IsTry fit L k f g old new attempt.Found =
-    (r : End) × (c : List ChainEdge) × Stops L k old new c (Some r) × (r.key ≡ k) × (g ≡ f)
+    (r : WalkEnd) × (c : List ChainEdge) × Stops L k old new c (Some r) × (r.key ≡ k) × (g ≡ f)
 IsTry fit L k f g old new attempt.Linked =
-    (made : Fork) × (r : End) × (c : List ChainEdge)
+    (made : Fork) × (r : WalkEnd) × (c : List ChainEdge)
     × TriesLink fit L k f made r c (Linked made.new) old new × (g ≡ None)
 IsTry fit L k f g old new attempt.Full =
-    (r : End) × (c : List ChainEdge) × (mid : List Entry) × Stops L k old mid c (Some r)
+    (r : WalkEnd) × (c : List ChainEdge) × (mid : List Entry) × Stops L k old mid c (Some r)
     × (r.key ≢ k) × (f ≡ None) × (g ≡ None) × ClaimsFork fit L.nodes mid new None
 IsTry fit L k f g old new attempt.Lost = ((c : List ChainEdge) × Stops L k old new c None × (g ≡ f))
-    ⊎ ((made : Fork) × (r : End) × (c : List ChainEdge) × (e : Edge) × (mid : List Entry)
+    ⊎ ((made : Fork) × (r : WalkEnd) × (c : List ChainEdge) × (e : Edge) × (mid : List Entry)
     × TriesLink fit L k f made r c (Lost e) old mid × (g ≡ Some made) × Helps r c e mid new)
 
 -- what a try leaves: the pin, the call and what it flagged, and ledgers but for the nodes that it
 -- cut
 pub record OnlyTries (p q : Stand) : Type 0 where
-  pub note : (epochs q).note ≡ (epochs p).note
+  pub announcement : (epochs q).announcement ≡ (epochs p).announcement
   pub pin : (epochs q).pin ≡ (epochs p).pin
   pub labelled : (epochs p).unlabelled ≡ false → (epochs q).unlabelled ≡ false
   pub call : (search q).call ≡ (search p).call
@@ -222,7 +114,7 @@ EndsBy fit L tries k g a old new =
 
 -- from the pin on, by the answer. NoMemory: the room of a later try than the first was refused,
 -- since that of the first one was made before the pin
-abbrev pub Finishes : Fit → Layout → ℕ → ℕ → List Entry → List Entry → Result Bool Fault → Type 0
+abbrev pub Finishes : Fit → Layout → ℕ → ℕ → List Entry → List Entry → Result Bool NotInserted → Type 0
 Finishes fit L tries k old new (Ok true) =
     (mid : List Entry) × EndsBy fit L tries k None attempt.Linked old mid
     × (new ≡ mid ++ (LeaveWith true, Departed) ∷ [])
@@ -241,7 +133,7 @@ Finishes fit L tries k old new (Err fault.NoMemory) =
     × (new ≡ back ++ (Leave, Departed) ∷ [])
 
 -- a pin for the insert, and then what finishes it
-abbrev pub PinsThen : Fit → Layout → ℕ → ℕ → List Entry → List Entry → Result Bool Fault → Type 0
+abbrev pub PinsThen : Fit → Layout → ℕ → ℕ → List Entry → List Entry → Result Bool NotInserted → Type 0
 PinsThen fit L tries k old new r =
     (pinned : List Entry) × (epoch : ℕ) × IsPinnedBy (SightFor Insert k) tries old pinned epoch
     × Finishes fit L tries k pinned new r
@@ -249,7 +141,7 @@ PinsThen fit L tries k old new r =
 -- Busy: there may be no try, and there was no step; or each try of the pin was lost; or each try
 -- was. NoMemory: the room of the first try was refused, and there was no step, or that of a later
 -- one (Natarajan and Mittal, section 3.2, insert)
-abbrev pub InsertDid : Fit → Layout → ℕ → ℕ → List Entry → List Entry → Result Bool Fault → Type 0
+abbrev pub InsertDid : Fit → Layout → ℕ → ℕ → List Entry → List Entry → Result Bool NotInserted → Type 0
 InsertDid fit L tries k old new (Err fault.Busy) =
     ((tries ≡ 0) × (new ≡ old)) ⊎ ((tries ≢ 0) × IsMoved (SightFor Insert k) tries old new)
     ⊎ PinsThen fit L tries k old new (Err fault.Busy)
@@ -262,7 +154,7 @@ InsertDid fit L tries k old new r = PinsThen fit L tries k old new r
 -- longest log; it is in a run where it made a step; and it rests, with the private slots that it
 -- had, and ledgers but for the nodes that it cut
 pub record AfterInsert (fit : Fit) (L : Layout) (tries k : ℕ) (p q : Stand)
-    (r : Result Bool Fault) : Type 0 where
+    (r : Result Bool NotInserted) : Type 0 where
   pub same : IsSamePass p q
   pub past : HasSeenAllOf q p
   pub did : InsertDid fit L tries k p.view.log q.view.log r

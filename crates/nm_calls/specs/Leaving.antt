@@ -6,17 +6,10 @@ use Rattle.nm_model.specs.declared.event.Op.{Op}
 use Rattle.nm_model.specs.declared.event.Op.TheVariants.{Has, Insert, Delete}
 use Rattle.nm_order.specs.Facts.{Since}
 use Rattle.nm_order.specs.Facts.Since.{ThePin, TheFlag}
-use Rattle.nm_order.specs.Facts.Fact.{KnowsSlot, CallIs, EndedAt}
-use Rattle.nm_steps.specs.Rules.{knowledge}
+use Rattle.nm_order.specs.Facts.Fact.{CallIs, EndedAt}
 use Rattle.nm_steps.specs.Steps.{Stand}
 use Rattle.nm_epoch.specs.Resting.{epochs, search}
-use Rattle.nm_calls.specs.Telling.{Tells}
-
--- the pin is one for a call of that operation on k, which knows the slots where walks begin
-pub record IsPinnedForCall (op : Op) (k : ℕ) (p : Stand) : Type 0 where
-  pub root : Tells p (KnowsSlot 1)
-  pub known : Tells p (KnowsSlot 2)
-  pub call : Tells p (CallIs op k)
+use Rattle.nm_walks.specs.Telling.{Tells}
 
 -- under the pin nothing was linked and nothing flagged, and no cut waits for its label
 pub record HasChangedNothing (p : Stand) : Type 0 where
@@ -44,13 +37,3 @@ ShowsAnswer p Delete k false =
 -- the call under the pin may leave with that answer
 abbrev pub IsItsAnswer : Stand → Bool → Type 0
 IsItsAnswer p answer = (op : Op) × (k : ℕ) × Tells p (CallIs op k) × ShowsAnswer p op k answer
-
--- nothing has changed but the label of the cut, and the epoch that was read
-pub record OnlyLabels (epoch : ℕ) (p q : Stand) : Type 0 where
-  pub seen : (epochs q).seen ≡ Some epoch
-  pub note : (epochs q).note ≡ (epochs p).note
-  pub pin : (epochs q).pin ≡ (epochs p).pin
-  pub labelled : (epochs q).unlabelled ≡ false
-  pub private : (knowledge q.view).drafts ≡ (knowledge p.view).drafts
-  pub known : (knowledge q.view).known ≡ (knowledge p.view).known
-  pub search : search q ≡ search p

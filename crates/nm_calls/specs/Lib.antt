@@ -1,10 +1,4 @@
 pub mod Bounds
-pub mod Places
-pub mod Rooms
-pub mod Marking
-pub mod Making
-pub mod Telling
-pub mod Walks
 pub mod Calls
 pub mod PlainWalks
 pub mod InTurns
@@ -12,7 +6,6 @@ pub mod NextKeys
 pub mod PrevKeys
 pub mod Won
 pub mod Fresh
-pub mod Cleanups
 pub mod Leaving
 pub mod Moments
 pub mod Inserts

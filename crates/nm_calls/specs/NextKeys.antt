@@ -8,15 +8,16 @@ use Rattle.nm_order.specs.Facts.Fact.{KnowsSlot}
 use Rattle.nm_steps.specs.Steps.{Stand, IsSamePass, HasSeenAllOf}
 use Rattle.nm_epoch.specs.Resting.{IsResting, KeepsHands}
 use Rattle.nm_calls.specs.declared.lookup.Busy.{Busy}
-use Rattle.nm_calls.specs.declared.looking.Onward.{Onward}
-use Rattle.nm_calls.specs.declared.next_key.Descent.{Descent}
-use Rattle.nm_calls.specs.declared.spot.ChainEdge.{ChainEdge}
-use Rattle.nm_calls.specs.declared.spot.Spot.{Spot}
-use Rattle.nm_calls.specs.Bounds.{reach}
+use Rattle.nm_walks.specs.declared.looking.Onward.{Onward}
+use Rattle.nm_calls.specs.declared.next_key.NextWalk.{NextWalk}
+use Rattle.nm_walks.specs.declared.spot.ChainEdge.{ChainEdge}
+use Rattle.nm_walks.specs.declared.spot.Spot.{Spot}
+use Rattle.nm_walks.specs.Bounds.{reach}
 use Rattle.nm_calls.specs.PlainWalks.{WasSo, LooksUnderPin, PlainMissed, most_looks}
-use Rattle.nm_calls.specs.Telling.{Tells}
-use Rattle.nm_calls.specs.Walks.{Walks, Reads, EndsAtLeaf, IsTooLong}
-use Rattle.nm_calls.specs.Won.{HasWon, won_splices}
+use Rattle.nm_walks.specs.Telling.{Tells}
+use Rattle.nm_walks.specs.Walks.{Walks, Reads, EndsAtLeaf, IsTooLong}
+use Rattle.nm_walks.specs.WonCounts.{won_splices}
+use Rattle.nm_calls.specs.Won.{HasWon}
 
 -- where `Was j answer` says of a key j, at a moment of its own, whether the set had it: it had this
 -- key, which is not below `key`, and no key between them; or no key from `key` on
@@ -65,7 +66,7 @@ GiveUp L tries key old new = (to : ℕ) × IsKey to
 -- behind so many nodes, a walk for each key from `from` on below the bound has come to a known node,
 -- which it reads next, or has ended at a leaf with the key that was found, where there is none to
 -- read
-pub record IsDescent (L : Layout) (n : ℕ) (o p : Stand) (d : Descent) : Type 0 where
+pub record IsDescent (L : Layout) (n : ℕ) (o p : Stand) (d : NextWalk) : Type 0 where
   pub wide : d.from < d.bound
   pub low : d.bound ≤ infinity_0
   pub walks : d.node ≢ 0 → (s : Spot) × (c : List ChainEdge) × (s.edge.slot ≡ d.node)
@@ -77,7 +78,7 @@ pub record IsDescent (L : Layout) (n : ℕ) (o p : Stand) (d : Descent) : Type 0
       → ComesBy j d.bound o.view.log p.view.log
 
 -- where it has read its node so, with that bound
-abbrev pub read_below : Descent → ℕ → Onward → Descent
+abbrev pub read_below : NextWalk → ℕ → Onward → NextWalk
 read_below d bound on = record {
   from = d.from;
   bound = bound;

@@ -1,29 +1,18 @@
 -- Walks under a pin for no call: what they add to a log, and what they tell of keys.
-use Rattle.std.specs.Prelude.{◌≡◌, ◌⊎◌, ◌≤◌, ◌==◌, ◌+◌, ◌*◌, ℕ, zero, suc, Bool, true, false, List, [], ◌∷◌, ◌++◌, length, map}
-use Rattle.std.specs.List.{list_all}
+use Rattle.std.specs.Prelude.{◌≡◌, ◌⊎◌, ◌≤◌, ◌==◌, ◌+◌, ◌*◌, ℕ, zero, suc, Bool, List, [], ◌∷◌, ◌++◌, length, map}
 use Rattle.nm_edge.specs.declared.edge.Side.{Side}
 use Rattle.nm_model.specs.declared.event.Event.{Event}
-use Rattle.nm_model.specs.declared.event.Event.TheVariants.{Sight, Leave, Look}
+use Rattle.nm_model.specs.declared.event.Event.TheVariants.{Sight, Leave}
 use Rattle.nm_model.specs.declared.reply.Reply.TheVariants.{Departed}
 use Rattle.nm_model.specs.declared.trace.Turn.{Turn}
 use Rattle.nm_model.specs.Ordered.{turn_of}
 use Rattle.nm_model.specs.Walks.{Entry, since_pin, WalkComes, WalkEnds}
-use Rattle.nm_theorem.specs.Histories.{WasSoBehind}
+use Rattle.nm_model.specs.Histories.{WasSoBehind}
 use Rattle.nm_steps.specs.Steps.{Stand}
 use Rattle.nm_epoch.specs.Tries.{IsPinnedBy, IsMoved}
+use Rattle.nm_walks.specs.AddedLooks.{AddsLooks}
 
 -- ---- what is added to the log
-
-abbrev pub is_look : Entry → Bool
-is_look (Look x f, r) = true
-is_look _ = false
-
--- looks alone, and so many at most
-pub record AddsLooks (most : ℕ) (old new : List Entry) : Type 0 where
-  pub looks : List Entry
-  pub grown : new ≡ old ++ looks
-  pub only : list_all is_look looks ≡ true
-  pub few : length looks ≤ most
 
 -- a pin for no call, such looks, and a leave
 pub record LooksUnderPin (tries most : ℕ) (old new : List Entry) : Type 0 where

@@ -7,16 +7,17 @@ use Rattle.nm_order.specs.Facts.Fact.{KnowsSlot}
 use Rattle.nm_steps.specs.Steps.{Stand, IsSamePass, HasSeenAllOf}
 use Rattle.nm_epoch.specs.Resting.{IsResting, KeepsHands}
 use Rattle.nm_calls.specs.declared.lookup.Busy.{Busy}
-use Rattle.nm_calls.specs.declared.looking.Onward.{Onward}
-use Rattle.nm_calls.specs.declared.prev_key.Descent.{Descent}
-use Rattle.nm_calls.specs.declared.spot.ChainEdge.{ChainEdge}
-use Rattle.nm_calls.specs.declared.spot.Spot.{Spot}
-use Rattle.nm_calls.specs.Bounds.{reach}
+use Rattle.nm_walks.specs.declared.looking.Onward.{Onward}
+use Rattle.nm_calls.specs.declared.prev_key.PrevWalk.{PrevWalk}
+use Rattle.nm_walks.specs.declared.spot.ChainEdge.{ChainEdge}
+use Rattle.nm_walks.specs.declared.spot.Spot.{Spot}
+use Rattle.nm_walks.specs.Bounds.{reach}
 use Rattle.nm_calls.specs.NextKeys.{ComesBy, HasNone}
 use Rattle.nm_calls.specs.PlainWalks.{WasSo, LooksUnderPin, PlainMissed, most_looks}
-use Rattle.nm_calls.specs.Telling.{Tells}
-use Rattle.nm_calls.specs.Walks.{Walks, EndsAtLeaf, IsTooLong}
-use Rattle.nm_calls.specs.Won.{HasWon, won_splices}
+use Rattle.nm_walks.specs.Telling.{Tells}
+use Rattle.nm_walks.specs.Walks.{Walks, EndsAtLeaf, IsTooLong}
+use Rattle.nm_walks.specs.WonCounts.{won_splices}
+use Rattle.nm_calls.specs.Won.{HasWon}
 
 -- where `Was j answer` says of a key j, at a moment of its own, whether the set had it: it had this
 -- key, which is not above `key`, and no key between them; or no key up to `key`
@@ -52,7 +53,7 @@ GiveUp L tries key old new = (to : ℕ) × IsKey key
 -- behind so many nodes, a walk for each key from the bound up to `from` has come to a known node,
 -- which it reads next, or has ended at a leaf with the key that was found, where there is none to
 -- read; a leaf's key up to `from` is not above the bound
-pub record IsDescent (L : Layout) (n : ℕ) (o p : Stand) (d : Descent) : Type 0 where
+pub record IsDescent (L : Layout) (n : ℕ) (o p : Stand) (d : PrevWalk) : Type 0 where
   pub wide : d.bound ≤ d.from
   pub walks : d.node ≢ 0 → (s : Spot) × (c : List ChainEdge) × (s.edge.slot ≡ d.node)
       × ((j : ℕ) → d.bound ≤ j → j ≤ d.from → Walks j n o.view.log p.view.log s c)
@@ -64,7 +65,7 @@ pub record IsDescent (L : Layout) (n : ℕ) (o p : Stand) (d : Descent) : Type 0
       ⊎ ((j : ℕ) → d.bound ≤ j → j ≤ d.from → ComesBy j d.bound o.view.log p.view.log)
 
 -- where it has read its node so, with that bound
-abbrev pub read_above : Descent → ℕ → Onward → Descent
+abbrev pub read_above : PrevWalk → ℕ → Onward → PrevWalk
 read_above d bound on = record {
   from = d.from;
   bound = bound;

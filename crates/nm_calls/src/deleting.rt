@@ -5,28 +5,24 @@ ghost use Rattle.nm_order.specs.Facts.Fact.{IsFlagged};
 ghost use Rattle.nm_steps.specs.Rules.{knowledge};
 ghost use Rattle.nm_steps.specs.Steps.{Stand, IsOf, Continues};
 ghost use Rattle.nm_epoch.specs.Resting.{IsResting, search};
-ghost use Rattle.nm_calls.specs.Bounds.{chain_bound, cut_bound};
-ghost use Rattle.nm_calls.specs.Rooms.{FillsUp, TakesRoom};
-ghost use Rattle.nm_calls.specs.Telling.{Tells, GoesOn, IsPinnedIn};
-ghost use Rattle.nm_calls.specs.Walks.{IsAt};
-ghost use Rattle.nm_calls.specs.Leaving.{ShowsAnswer, IsPinnedForCall, HasChangedNothing};
-ghost use Rattle.nm_calls.specs.Marking.{OnlyFlags};
+ghost use Rattle.nm_walks.specs.Bounds.{chain_bound, cut_bound};
+ghost use Rattle.nm_walks.specs.Rooms.{FillsUp, TakesRoom};
+ghost use Rattle.nm_walks.specs.Telling.{Tells, GoesOn, IsPinnedIn};
+ghost use Rattle.nm_walks.specs.Walks.{IsAt};
+ghost use Rattle.nm_walks.specs.Labelling.{IsPinnedForCall};
+ghost use Rattle.nm_calls.specs.Leaving.{ShowsAnswer, HasChangedNothing};
+ghost use Rattle.nm_walks.specs.Marking.{OnlyFlags};
 ghost use Rattle.nm_calls.specs.Moments.{AnswerHasMoment, HadNoCall};
-ghost use Rattle.nm_calls.specs.Cleanups.{OnlyCleans, KeepsLedgers, HoldsCuts};
+ghost use Rattle.nm_walks.specs.Cleanups.{OnlyCleans, KeepsLedgers, HoldsCuts};
 ghost use Rattle.nm_calls.specs.Deletes.{IsRemoving, Removes, RemovesNothing, IsRemoval, IfRemoved, MayFlag, HasWonItsFlag, HasNotFlagged, IsFlagTry, ShowsFlag, OnlyInjects, IsInjection, ShowsInjection, RemovalAfter, leaf_of, DeleteFinishes, LosesAfterFlag, LacksRoomOr, FlagsThen, LosesEachTry, AfterDelete, AfterFinish, RestsOrRemoves};
 
-use crate::cleaning::cleanup;
-use crate::inserting::{help, make_room, make_room_for};
+use crate::helping::{help, make_room, make_room_for};
 use crate::leaving::{answer, leave};
-use crate::looking::look_birth;
-use crate::marking::flag;
-use crate::spot::End;
-use crate::walking::seek;
-use crate::workspace::Workspace;
 use nm_edge::{Edge, Key, NodeId};
 use nm_epoch::{HeldQueue, pin_for};
 use nm_model::Op;
 use nm_steps::{Pass, Shared};
+use nm_walks::{WalkEnd, Workspace, cleanup, flag, look_birth, seek};
 
 /// What a try to flag a leaf came to.
 #[derive(Clone, Copy)]
@@ -34,7 +30,7 @@ pub(crate) enum Injected {
     /// The leaf has another key.
     Absent,
     /// The leaf at this end is flagged, with this birth.
-    Flagged(End, u64),
+    Flagged(WalkEnd, u64),
     /// The walk was broken off, or the flag was lost.
     Lost,
 }
@@ -43,7 +39,7 @@ pub(crate) enum Injected {
 #[derive(Clone, Copy)]
 pub(crate) struct FlaggedLeaf {
     /// Where the walk ended that found it.
-    pub(crate) end: End,
+    pub(crate) end: WalkEnd,
     pub(crate) birth: u64,
     /// How many tries are left to remove it.
     pub(crate) left: u32,
@@ -92,7 +88,7 @@ pub(crate) enum Removal {
 }
 
 /// Whether the walk ended at that slot.
-fn leads_to(end: &End, slot: u32) -> bool
+fn leads_to(end: &WalkEnd, slot: u32) -> bool
     ensures yes { result ≡ true → end.now.spot.edge.slot ≡ slot }
     ensures no { result ≡ false → end.now.spot.edge.slot ≢ slot }
 {
@@ -170,7 +166,7 @@ fn remove(
 
 /// Looks at the birth of the leaf at which the walk ended, which won answers, and flags the edge to
 /// it. Lost: the edge that was found.
-fn flag_at(shared: &Shared, pass: &mut Pass, key: u64, end: &End) -> Result<u64, Edge>
+fn flag_at(shared: &Shared, pass: &mut Pass, key: u64, end: &WalkEnd) -> Result<u64, Edge>
     requires pinned { IsPinnedIn shared.now pass.old }
     requires may { MayFlag pass.old key end.now }
     ensures won { IfOk result (λ b. HasWonItsFlag pass.old pass.new end.now b) }

@@ -4,35 +4,31 @@ ghost use Rattle.nm_edge.specs.Keys.{IsKey};
 ghost use Rattle.nm_model.specs.declared.event.Op.TheVariants.{Insert};
 ghost use Rattle.nm_steps.specs.Steps.{Stand, IsOf, Continues};
 ghost use Rattle.nm_epoch.specs.Resting.{IsResting, search};
-ghost use Rattle.nm_calls.specs.Bounds.{chain_bound, cut_bound};
-ghost use Rattle.nm_calls.specs.Rooms.{FillsUp, TakesRoom};
-ghost use Rattle.nm_calls.specs.Telling.{Tells, GoesOn, OnlyLooks, IsInRun, IsPinnedIn};
+ghost use Rattle.nm_walks.specs.Bounds.{cut_bound};
+ghost use Rattle.nm_walks.specs.Rooms.{FillsUp, TakesRoom};
+ghost use Rattle.nm_walks.specs.Telling.{Tells, GoesOn, OnlyLooks, IsPinnedIn};
 ghost use Rattle.nm_order.specs.Facts.Fact.{KnowsSlot};
-ghost use Rattle.nm_calls.specs.Places.{HasPlace, HasStopped, Stops};
-ghost use Rattle.nm_calls.specs.Walks.{IsAt};
-ghost use Rattle.nm_calls.specs.Making.{OnlyMakes};
+ghost use Rattle.nm_walks.specs.Places.{HasPlace, HasStopped, Stops};
+ghost use Rattle.nm_walks.specs.Making.{OnlyMakes};
 ghost use Rattle.nm_calls.specs.Moments.{AnswerHasMoment, HadNoCall};
-ghost use Rattle.nm_calls.specs.Cleanups.{OnlyCleans, KeepsLedgers, HoldsCuts};
-ghost use Rattle.nm_calls.specs.Inserts.{HasFork, Helps, asks_help, IsReadied, IsTry, OnlyTries, ShowsTry, Finishes, AfterInsert};
-ghost use Rattle.nm_calls.specs.Leaving.{IsPinnedForCall, HasChangedNothing};
+ghost use Rattle.nm_walks.specs.Cleanups.{KeepsLedgers, HoldsCuts};
+ghost use Rattle.nm_walks.specs.Growing.{HasFork};
+ghost use Rattle.nm_calls.specs.Inserts.{IsReadied, IsTry, OnlyTries, ShowsTry, Finishes, AfterInsert};
+ghost use Rattle.nm_walks.specs.Labelling.{IsPinnedForCall};
+ghost use Rattle.nm_calls.specs.Leaving.{HasChangedNothing};
 
-use crate::cleaning::cleanup;
-use crate::growing::{claim_fork, give_back, grow};
+use crate::helping::{help, make_room, make_room_for};
 use crate::leaving::{answer, leave};
-use crate::making::Fork;
-use crate::spot::{Chain, End, is_marked};
-use crate::walking::{place, seek};
-use crate::workspace::{CUT_BOUND, Workspace};
-use nm_edge::{Edge, Key};
-use nm_epoch::{Entry, HeldQueue, pin_for};
-use nm_limbo::BlockQueue;
+use nm_edge::Key;
+use nm_epoch::{HeldQueue, pin_for};
 use nm_model::Op;
 use nm_pool::Placement;
 use nm_steps::{Pass, Shared};
+use nm_walks::{ChainEdges, Fork, WalkEnd, Workspace, claim_fork, give_back, grow, place, seek};
 
 /// Why a call has not answered.
 #[derive(Clone, Copy, Debug, PartialEq, Eq)]
-pub enum Fault {
+pub enum NotInserted {
     /// Each try was lost, those of the pin or those of the call, or there might be none.
     Busy,
     /// No two slots were free for new nodes.
@@ -62,7 +58,6 @@ fn ready(
     fork: &mut Option<Fork>,
 ) -> Option<Fork>
     requires own { IsOf shared.now pass.old }
-    requires run { IsInRun pass.old }
     ensures part { IsReadied placement.old shared.now.layout.nodes fork.old fork.new result
         pass.old.view.log pass.new.view.log }
     ensures on { GoesOn pass.old pass.new }
@@ -70,6 +65,7 @@ fn ready(
     ensures has { (o : Stand) → HasFork o pass.old fork.old → HasFork o pass.new fork.new }
     ensures fit { placement.new ≡ placement.old }
 {
+    pass.is_of_a_run();
     if let Some(made) = *fork {
         return Some(made);
     }
@@ -78,46 +74,9 @@ fn ready(
     made
 }
 
-/// Whether the edge that was found leads to the leaf at which the walk ended and is marked.
-fn asks_help(end: &End, found: Edge) -> bool
-    ensures { result ≡ asks_help end.now found }
-{
-    found.slot() == end.spot.edge.slot() && is_marked(found)
-}
-
-/// Cleans up by the walk, where the edge that a lost exchange found leads to the same leaf and is
-/// marked.
-#[inline(always)]
-pub(crate) fn help(
-    shared: &Shared,
-    pass: &mut Pass,
-    workspace: &mut Workspace,
-    held: &mut HeldQueue,
-    end: &End,
-    found: Edge,
-)
-    requires pinned { IsPinnedIn shared.now pass.old }
-    requires at { IsAt (Tells pass.old) end.now.spot workspace.old.chain.items }
-    requires few { length workspace.old.chain.items < chain_bound }
-    requires room { cut_bound ≤ held.old.queue.spare }
-    requires kept { HoldsCuts pass.old held.old }
-    ensures part { Helps end.now workspace.old.chain.items found pass.old.view.log
-        pass.new.view.log }
-    ensures chain { workspace.new.chain ≡ workspace.old.chain }
-    ensures on { GoesOn pass.old pass.new }
-    ensures only { OnlyCleans pass.old pass.new }
-    ensures kept { HoldsCuts pass.new held.new }
-    ensures fills { FillsUp held.old.queue held.new.queue }
-    ensures fit { workspace.new.placement ≡ workspace.old.placement }
-{
-    if asks_help(end, found) {
-        let _ = cleanup(shared, pass, workspace, held, &end.spot);
-    }
-}
-
 /// The walk of an insert, by the shape of the tree.
 #[inline(always)]
-fn stop(shared: &Shared, pass: &mut Pass, key: u64, chain: &mut Chain) -> Option<End>
+fn stop(shared: &Shared, pass: &mut Pass, key: u64, chain: &mut ChainEdges) -> Option<WalkEnd>
     requires pinned { IsPinnedIn shared.now pass.old }
     requires root { Tells pass.old (KnowsSlot 1) }
     requires known { Tells pass.old (KnowsSlot 2) }
@@ -186,32 +145,6 @@ fn try_insert(
     }
 }
 
-/// Makes room for what a cleanup cuts off, in the fewest blocks. False: there was no memory, and
-/// there is not as much room.
-pub(crate) fn make_room(queue: &mut BlockQueue<Entry>) -> bool
-    requires few { length queue.old.items ≤ 536870912 }
-    ensures items { queue.new.items ≡ queue.old.items }
-    ensures room { result ≡ true → cut_bound ≤ queue.new.spare }
-    ensures refused { result ≡ false → queue.new.spare < cut_bound }
-    ensures more { queue.old.spare ≤ queue.new.spare }
-    ensures blocks { TakesRoom queue.old queue.new }
-{
-    queue.reserve(CUT_BOUND as u32).is_ok()
-}
-
-/// Makes such room for the try of a round; that of the first one was made before the pin.
-pub(crate) fn make_room_for(queue: &mut BlockQueue<Entry>, round: u32) -> bool
-    requires few { length queue.old.items ≤ 536870912 }
-    requires first { round ≡ 0 → cut_bound ≤ queue.old.spare }
-    ensures items { queue.new.items ≡ queue.old.items }
-    ensures room { result ≡ true → cut_bound ≤ queue.new.spare }
-    ensures refused { result ≡ false → queue.new.spare < cut_bound }
-    ensures more { queue.old.spare ≤ queue.new.spare }
-    ensures blocks { TakesRoom queue.old queue.new }
-{
-    round == 0 || make_room(queue)
-}
-
 /// The tries of an insert, from its pin to its answer. The room of the first one was made before
 /// the pin.
 fn insert_pinned(
@@ -221,7 +154,7 @@ fn insert_pinned(
     held: &mut HeldQueue,
     key: u64,
     tries: u32,
-) -> Result<bool, Fault>
+) -> Result<bool, NotInserted>
     requires pinned { IsPinnedIn shared.now pass.old }
     requires call { IsPinnedForCall Insert key pass.old }
     requires unchanged { HasChangedNothing pass.old }
@@ -230,7 +163,7 @@ fn insert_pinned(
     ensures on { Continues pass.old pass.new }
     ensures part { Finishes workspace.old.placement shared.now.layout tries key
         pass.old.view.log pass.new.view.log result }
-    ensures refused { IsErrOf result Fault.NoMemory → held.new.queue.spare < cut_bound }
+    ensures refused { IsErrOf result NotInserted.NoMemory → held.new.queue.spare < cut_bound }
     ensures moment { (o : Stand) → HadNoCall o pass.old
         → IfOk result (AnswerHasMoment o pass.new Insert key) }
     ensures rests { IsResting pass.new }
@@ -245,7 +178,7 @@ fn insert_pinned(
         if !make_room_for(&mut held.queue, round) {
             give_back(shared, pass, &mut workspace.placement, &fork);
             leave(shared, pass);
-            return Err(Fault::NoMemory);
+            return Err(NotInserted::NoMemory);
         }
         match try_insert(shared, pass, workspace, held, key, &mut fork) {
             Attempt::Found => {
@@ -259,14 +192,14 @@ fn insert_pinned(
             }
             Attempt::Full => {
                 leave(shared, pass);
-                return Err(Fault::Full);
+                return Err(NotInserted::Full);
             }
             Attempt::Lost => {}
         }
     }
     give_back(shared, pass, &mut workspace.placement, &fork);
     leave(shared, pass);
-    Err(Fault::Busy)
+    Err(NotInserted::Busy)
 }
 
 /// Inserts a key, and answers whether it was not in the set. The worker rests before and after,
@@ -287,13 +220,13 @@ pub fn insert(
     held: &mut HeldQueue,
     key: Key,
     tries: u32,
-) -> Result<bool, Fault>
+) -> Result<bool, NotInserted>
     requires own { IsOf shared.now pass.old }
     requires rests { IsResting pass.old }
     requires kept { HoldsCuts pass.old held.old }
     ensures after { AfterInsert workspace.old.placement shared.now.layout tries key pass.old
         pass.new result }
-    ensures refused { IsErrOf result Fault.NoMemory → held.new.queue.spare < cut_bound }
+    ensures refused { IsErrOf result NotInserted.NoMemory → held.new.queue.spare < cut_bound }
     ensures kept { HoldsCuts pass.new held.new }
     ensures few { length held.new.queue.items ≤ shared.now.layout.nodes }
     ensures blocks { TakesRoom held.old.queue held.new.queue }
@@ -301,13 +234,13 @@ pub fn insert(
 {
     pass.is_of_a_run();
     if tries == 0 {
-        return Err(Fault::Busy);
+        return Err(NotInserted::Busy);
     }
     if !make_room(&mut held.queue) {
-        return Err(Fault::NoMemory);
+        return Err(NotInserted::NoMemory);
     }
     let Ok(_epoch) = pin_for(shared, pass, tries, Op::Insert, key) else {
-        return Err(Fault::Busy);
+        return Err(NotInserted::Busy);
     };
     insert_pinned(shared, pass, workspace, held, key.get(), tries)
 }

@@ -1,18 +1,16 @@
 //! Answers of a call, and the label of a cut, asked for by what the log tells.
-ghost use Rattle.std.specs.Prelude.{◌≡◌, ℕ, false, true};
-ghost use Rattle.nm_model.specs.declared.event.Event.TheVariants.{Sight, Leave, LeaveWith};
+ghost use Rattle.std.specs.Prelude.{◌≡◌, ℕ, false};
+ghost use Rattle.nm_model.specs.declared.event.Event.TheVariants.{Leave, LeaveWith};
 ghost use Rattle.nm_model.specs.declared.event.Op.{Op};
-ghost use Rattle.nm_model.specs.declared.reply.Reply.TheVariants.{Labelled, Departed};
+ghost use Rattle.nm_model.specs.declared.reply.Reply.TheVariants.{Departed};
 ghost use Rattle.nm_order.specs.Facts.Fact.{CallIs};
-ghost use Rattle.nm_steps.specs.Rules.{knowledge};
-ghost use Rattle.nm_steps.specs.Steps.{Stand, IsOf, MayStep, TakesStep, Stepped};
+ghost use Rattle.nm_steps.specs.Steps.{Stand, IsOf, MayStep, TakesStep};
 ghost use Rattle.nm_epoch.specs.Resting.{IsResting, KeepsHands, epochs};
-ghost use Rattle.nm_epoch.specs.Collecting.{TakesLabels};
-ghost use Rattle.nm_calls.specs.Telling.{Tells, GoesOn, IsInRun};
-ghost use Rattle.nm_calls.specs.Leaving.{IsItsAnswer, OnlyLabels, HasChangedNothing};
+ghost use Rattle.nm_walks.specs.Telling.{Tells};
+ghost use Rattle.nm_calls.specs.Leaving.{IsItsAnswer, HasChangedNothing};
 ghost use Rattle.nm_calls.specs.Moments.{AnswerHasMoment, HadNoCall};
 
-use nm_epoch::{label as label_cut, unpin, unpin_with};
+use nm_epoch::{unpin, unpin_with};
 use nm_steps::{Pass, Shared};
 
 /// Leaves the pin without an answer: of a call that has linked nothing and flagged nothing. One
@@ -56,20 +54,4 @@ pub fn answer(shared: &Shared, pass: &mut Pass, answer: bool)
     ensures hands { KeepsHands pass.old pass.new }
 {
     leave_with(shared, pass, answer);
-}
-
-/// Labels the nodes that the worker's last splice cut, by the epoch, which it reads and answers.
-/// One step.
-pub fn label(shared: &Shared, pass: &mut Pass) -> u64
-    requires own { IsOf shared.now pass.old }
-    requires run { IsInRun pass.old }
-    requires cut { (epochs pass.old).unlabelled ≡ true }
-    ensures step { Stepped pass.old pass.new Sight (Labelled result) }
-    ensures on { GoesOn pass.old pass.new }
-    ensures only { OnlyLabels result pass.old pass.new }
-    ensures queues { TakesLabels result (knowledge pass.old.view) (knowledge pass.new.view) }
-{
-    let epoch = label_cut(shared, pass);
-    pass.is_of_a_run();
-    epoch
 }

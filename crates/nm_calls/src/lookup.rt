@@ -5,11 +5,11 @@ ghost use Rattle.nm_epoch.specs.Resting.{IsResting};
 ghost use Rattle.nm_calls.specs.Calls.{AfterHas};
 
 use crate::leaving::leave_with;
-use crate::walking::find;
 use nm_edge::Key;
 use nm_epoch::{pin_for, unpin};
 use nm_model::Op;
 use nm_steps::{Pass, Shared};
+use nm_walks::find;
 use thiserror::Error;
 
 /// Each try was lost, those of the pin or those of the walk.

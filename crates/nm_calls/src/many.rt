@@ -6,15 +6,14 @@ ghost use Rattle.nm_order.specs.Facts.Fact.{KnowsSlot};
 ghost use Rattle.nm_steps.specs.Steps.{IsOf};
 ghost use Rattle.nm_epoch.specs.Resting.{IsResting};
 ghost use Rattle.nm_calls.specs.InTurns.{AddsLooks, GiveUp, HasBegun, IsUnderWay, key_of, most_looks, query_read, AfterHasMany};
-ghost use Rattle.nm_calls.specs.Bounds.{reach};
-ghost use Rattle.nm_calls.specs.Telling.{Tells, GoesOn, OnlyLooks, IsPinnedIn};
+ghost use Rattle.nm_walks.specs.Bounds.{reach};
+ghost use Rattle.nm_walks.specs.Telling.{Tells, GoesOn, OnlyLooks, IsPinnedIn};
 
-use crate::looking::{Onward, look_edge, read_node};
 use crate::lookup::Busy;
-use crate::walking::reach;
 use nm_edge::{Key, Layout, Side};
 use nm_epoch::{pin, unpin};
 use nm_steps::{Pass, Shared};
+use nm_walks::{Onward, look_edge, reach, read_node};
 
 /// A key that is looked up beside others, and the answer, which is one once `has_many` has
 /// answered.

@@ -6,23 +6,22 @@ ghost use Rattle.nm_order.specs.Facts.Fact.{KnowsSlot};
 ghost use Rattle.nm_steps.specs.Steps.{IsOf};
 ghost use Rattle.nm_epoch.specs.Resting.{IsResting};
 ghost use Rattle.nm_calls.specs.NextKeys.{GiveUp, IsDescent, IsNextBy, read_below, AfterNext};
-ghost use Rattle.nm_calls.specs.PlainWalks.{AddsLooks, HasEndedSo, most_looks};
-ghost use Rattle.nm_calls.specs.Bounds.{reach};
-ghost use Rattle.nm_calls.specs.Telling.{Tells, GoesOn, OnlyLooks, IsPinnedIn};
-ghost use Rattle.nm_calls.specs.Walks.{IsTooLong};
+ghost use Rattle.nm_walks.specs.AddedLooks.{AddsLooks};
+ghost use Rattle.nm_calls.specs.PlainWalks.{HasEndedSo, most_looks};
+ghost use Rattle.nm_walks.specs.Bounds.{reach};
+ghost use Rattle.nm_walks.specs.Telling.{Tells, GoesOn, OnlyLooks, IsPinnedIn};
+ghost use Rattle.nm_walks.specs.Walks.{IsTooLong};
 
-use crate::looking::{Onward, look_edge, read_node};
 use crate::lookup::Busy;
-use crate::spot::is_null;
-use crate::walking::reach;
 use nm_edge::{INFINITY_0, Key, Side};
 use nm_epoch::{pin, unpin};
 use nm_steps::{Pass, Shared};
+use nm_walks::{Onward, is_null, look_edge, reach, read_node};
 
 /// A walk for each key from `from` on that is below `bound`, the least key of those internal nodes at
 /// which it went left: such keys turn to the same side at each of these nodes.
 #[derive(Clone, Copy, Debug)]
-struct Descent {
+struct NextWalk {
     from: u64,
     bound: u64,
     // The node that it reads next; 0 where there is none.
@@ -97,7 +96,7 @@ fn walk_up(shared: &Shared, pass: &mut Pass, key: u64, tries: u32) -> Result<Opt
 
 /// The walk for a key and those above it that go the same way, to its end, or until it has looked at
 /// as many nodes as there are, as none of a radix tree does.
-fn walk_down(shared: &Shared, pass: &mut Pass, from: u64) -> Descent
+fn walk_down(shared: &Shared, pass: &mut Pass, from: u64) -> NextWalk
     requires pinned { IsPinnedIn shared.now pass.old }
     requires known { Tells pass.old (KnowsSlot 2) }
     requires key { IsKey from }
@@ -112,7 +111,7 @@ fn walk_down(shared: &Shared, pass: &mut Pass, from: u64) -> Descent
 {
     let layout = shared.layout();
     let first = look_edge(shared, layout, pass, 2, Side::Left).slot();
-    let mut walk = Descent {
+    let mut walk = NextWalk {
         from,
         bound: INFINITY_0,
         node: first,
@@ -129,7 +128,7 @@ fn walk_down(shared: &Shared, pass: &mut Pass, from: u64) -> Descent
 }
 
 /// The walk that has read its node so.
-fn read_so(walk: &Descent, on: &Onward) -> Descent
+fn read_so(walk: &NextWalk, on: &Onward) -> NextWalk
     ensures walk { result ≡ read_below walk.now result.bound on.now }
     ensures low { result.bound ≤ walk.now.bound }
     ensures wide { walk.now.from < walk.now.bound → walk.now.from < result.bound }
@@ -143,7 +142,7 @@ fn read_so(walk: &Descent, on: &Onward) -> Descent
     } else {
         bound_at(walk, on.found)
     };
-    Descent {
+    NextWalk {
         from: walk.from,
         bound,
         node: on.next.slot(),
@@ -152,7 +151,7 @@ fn read_so(walk: &Descent, on: &Onward) -> Descent
 }
 
 /// The bound of a walk behind an internal node with this key.
-fn bound_at(walk: &Descent, router: u64) -> u64
+fn bound_at(walk: &NextWalk, router: u64) -> u64
     ensures low { result ≤ walk.now.bound }
     ensures wide { walk.now.from < walk.now.bound → walk.now.from < result }
     ensures turns { (j : ℕ) → walk.now.from ≤ j → j < result

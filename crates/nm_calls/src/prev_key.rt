@@ -6,22 +6,22 @@ ghost use Rattle.nm_order.specs.Facts.Fact.{KnowsSlot};
 ghost use Rattle.nm_steps.specs.Steps.{IsOf};
 ghost use Rattle.nm_epoch.specs.Resting.{IsResting};
 ghost use Rattle.nm_calls.specs.PrevKeys.{GiveUp, IsDescent, IsPrevBy, read_above, AfterPrev};
-ghost use Rattle.nm_calls.specs.PlainWalks.{AddsLooks, HasEndedSo, most_looks};
-ghost use Rattle.nm_calls.specs.Bounds.{reach};
-ghost use Rattle.nm_calls.specs.Telling.{Tells, GoesOn, OnlyLooks, IsPinnedIn};
-ghost use Rattle.nm_calls.specs.Walks.{IsTooLong};
+ghost use Rattle.nm_walks.specs.AddedLooks.{AddsLooks};
+ghost use Rattle.nm_calls.specs.PlainWalks.{HasEndedSo, most_looks};
+ghost use Rattle.nm_walks.specs.Bounds.{reach};
+ghost use Rattle.nm_walks.specs.Telling.{Tells, GoesOn, OnlyLooks, IsPinnedIn};
+ghost use Rattle.nm_walks.specs.Walks.{IsTooLong};
 
-use crate::looking::{Onward, look_edge, read_node};
 use crate::lookup::Busy;
-use crate::walking::reach;
 use nm_edge::{Key, Side};
 use nm_epoch::{pin, unpin};
 use nm_steps::{Pass, Shared};
+use nm_walks::{Onward, look_edge, reach, read_node};
 
 /// A walk for each key up to `from` that is not below `bound`, the greatest key of those nodes at
 /// which it went right: such keys turn to the same side at each node that it read.
 #[derive(Clone, Copy, Debug)]
-struct Descent {
+struct PrevWalk {
     from: u64,
     bound: u64,
     // The node that it reads next; 0 where there is none.
@@ -97,7 +97,7 @@ fn walk_back(shared: &Shared, pass: &mut Pass, key: u64, tries: u32) -> Result<O
 
 /// The walk for a key and those below it that go the same way, to its end, or until it has looked at
 /// as many nodes as there are, as none of a radix tree does.
-fn walk_down(shared: &Shared, pass: &mut Pass, from: u64) -> Descent
+fn walk_down(shared: &Shared, pass: &mut Pass, from: u64) -> PrevWalk
     requires pinned { IsPinnedIn shared.now pass.old }
     requires known { Tells pass.old (KnowsSlot 2) }
     requires key { IsKey from }
@@ -112,7 +112,7 @@ fn walk_down(shared: &Shared, pass: &mut Pass, from: u64) -> Descent
 {
     let layout = shared.layout();
     let first = look_edge(shared, layout, pass, 2, Side::Left).slot();
-    let mut walk = Descent {
+    let mut walk = PrevWalk {
         from,
         bound: 0,
         node: first,
@@ -129,7 +129,7 @@ fn walk_down(shared: &Shared, pass: &mut Pass, from: u64) -> Descent
 }
 
 /// The walk that has read its node so.
-fn read_so(walk: &Descent, on: &Onward) -> Descent
+fn read_so(walk: &PrevWalk, on: &Onward) -> PrevWalk
     ensures walk { result ≡ read_above walk.now result.bound on.now }
     ensures high { walk.now.bound ≤ result.bound }
     ensures wide { walk.now.bound ≤ walk.now.from → result.bound ≤ walk.now.from }
@@ -143,7 +143,7 @@ fn read_so(walk: &Descent, on: &Onward) -> Descent
     } else {
         walk.bound
     };
-    Descent {
+    PrevWalk {
         from: walk.from,
         bound,
         node: on.next.slot(),

@@ -1,3 +1,4 @@
 pub mod Reached
 pub mod HeldLedgers
 pub mod WorkedHistories
+pub mod WorkedNumbers

@@ -17,7 +17,7 @@ use Rattle.nm_model.specs.Places.{EachSlotInOnePlace, OneSlotPlace}
 use Rattle.nm_model.specs.Places.SlotPlace.{OnPath, InQueue}
 use Rattle.nm_model.specs.Reports.{ordered_report}
 use Rattle.nm_model.specs.Runs.{refused, applied}
-use Rattle.nm_model.specs.Schedules.{IsAsWorkedInOrder}
+use Rattle.nm_core.specs.Schedules.{IsAsWorkedInOrder}
 use Rattle.nm_model.specs.Searches.{searched}
 use Rattle.nm_model.specs.Step.{refusal, reply, write}
 use Rattle.nm_model.specs.Learning.{learn}
@@ -25,7 +25,8 @@ use Rattle.nm_laws.proofs.OnePlace.{each_slot_has_one_place}
 use Rattle.nm_order.specs.Intervals.{IsCalled}
 use Rattle.nm_order.specs.Exchanges.{MayAnswer}
 use Rattle.nm_order.specs.Removals.{HasWonDelete}
-use Rattle.nm_order.specs.History.{Act, IsAmong, SameCall, EachOnce, IsActOfRun, HasActOfCall, IsRunHistory, pin_of}
+use Rattle.nm_model.specs.Acts.{Act, IsAmong}
+use Rattle.nm_order.specs.History.{SameCall, EachOnce, IsActOfRun, HasActOfCall, IsRunHistory, pin_of}
 use Rattle.nm_order.specs.History.IsActOfRun.{IsAnswered, IsPending}
 use Rattle.nm_order.proofs.OrderedLaws.{each_ordered}
 use Rattle.nm_order.proofs.KeyTests.{all_keys}

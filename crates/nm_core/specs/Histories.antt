@@ -8,8 +8,10 @@ use Rattle.nm_model.specs.declared.event.Event.{Event}
 use Rattle.nm_model.specs.declared.event.Event.TheVariants.{Sight, SightFor, Announce, LeaveWith, Claim, Look, Fill, Link, Flag, Tag, Splice}
 use Rattle.nm_model.specs.declared.reply.Reply.TheVariants.{Saw, Labelled, Pinned, Announced, Departed, Claimed, KeyIs, EdgeIs, Filled, Linked, Flagged, Was, Cut}
 use Rattle.nm_model.specs.Ordered.{turn_of}
-use Rattle.nm_model.specs.Schedules.{Worked, IsAsWorkedInOrder, t, e, n, q, l}
-use Rattle.nm_order.specs.History.{Act, IsAmong, Replays, nothing, InOrderOfMoments, EachOnce, IsActOfRun, HasActOfCall, IsRunHistory}
+use Rattle.nm_model.specs.Shorthands.{t, e, n}
+use Rattle.nm_core.specs.Schedules.{Worked, IsAsWorkedInOrder, q, l}
+use Rattle.nm_model.specs.Acts.{Act, IsAmong, Replays, nothing}
+use Rattle.nm_order.specs.History.{InOrderOfMoments, EachOnce, IsActOfRun, HasActOfCall, IsRunHistory}
 
 -- the acts that were worked out by hand, and the keys of the set at last
 pub record Told : Type 0 where

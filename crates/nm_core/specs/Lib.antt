@@ -1,3 +1,4 @@
+pub mod Schedules
 pub mod Pasts
 pub mod Stops
 pub mod Histories

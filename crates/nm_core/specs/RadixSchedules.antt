@@ -6,7 +6,8 @@ use Rattle.nm_model.specs.declared.event.Field.TheVariants.{Key, Edge as EdgeOn,
 use Rattle.nm_model.specs.declared.event.Op.TheVariants.{Insert, Delete}
 use Rattle.nm_model.specs.declared.event.Event.TheVariants.{Sight, SightFor, Announce, LeaveWith, Claim, Look, Fill, Link, Flag, Tag, Splice}
 use Rattle.nm_model.specs.declared.reply.Reply.TheVariants.{Saw, Labelled, Pinned, Announced, Departed, Claimed, KeyIs, EdgeIs, Filled, Linked, Flagged, Was, Cut, Lost}
-use Rattle.nm_model.specs.Schedules.{Worked, t, e, n, q, l}
+use Rattle.nm_model.specs.Shorthands.{t, e, n}
+use Rattle.nm_core.specs.Schedules.{Worked, q, l}
 
 -- worker 0 inserts 5, then 6 beside it and 100 over the internal node 8, whose range is from 4 to 7.
 -- It comes to slot 8 again to insert 12, by the edge of the internal node 10. Worker 1 deletes 100,

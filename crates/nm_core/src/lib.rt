@@ -5,8 +5,8 @@ mod pure_core;
 
 ghost use Rattle.std.specs.Prelude.{[], ◌∷◌};
 ghost use Rattle.nm_core.specs.RadixSchedules.{parent_cut};
-ghost use Rattle.nm_model.specs.Schedules.{IsAsWorked, IsAsWorkedInOrder};
-ghost use Rattle.nm_model.specs.Schedules as worked;
+ghost use Rattle.nm_core.specs.Schedules.{IsAsWorked, IsAsWorkedInOrder};
+ghost use Rattle.nm_core.specs.Schedules as worked;
 ghost use Rattle.nm_core.specs.Histories.{IsAsTold};
 ghost use Rattle.nm_core.specs.Histories as histories;
 

@@ -5,7 +5,7 @@ ghost use Rattle.nm_model.specs.Runs.{reply_of};
 ghost use Rattle.nm_model.specs.Ordered.{opening_of, plain, ordered, HasKey, IsReached, refused_in, applied_in, next_in, outcome_in, after_in, trace_in};
 ghost use Rattle.nm_model.specs.Reports.{counts, holder, keys, ledger_of};
 ghost use Rattle.nm_model.specs.Answers.{IsAnswer};
-ghost use Rattle.nm_edge.specs.Layouts.{dense};
+ghost use Rattle.nm_edge.specs.Layouts.{IsLayoutFault, dense};
 ghost use Rattle.nm_model.specs.Laws.{PinsAreNear};
 ghost use Rattle.nm_model.specs.Lawful.{CountsAddUp};
 ghost use Rattle.nm_model.specs.Traces.{IsLawfulRun};
@@ -15,13 +15,13 @@ ghost use Rattle.nm_order.specs.Intervals.{KeysAscend, KeysTellTheSet};
 ghost use Rattle.nm_core.specs.Pasts.{HasHeadlineBehind, HasHistoriesBehind, HasPast, StaysInOrder};
 ghost use Rattle.nm_core.specs.Stops.{WouldBeAllowed, played};
 
-use nm_edge::{Key, LEAST_NODES, Layout, MOST_NODES, MOST_WORKERS};
+use nm_edge::{Key, Layout, LayoutError, MOST_NODES};
 use nm_machine::{Machine, Searches};
 use nm_model::event::Event;
 use nm_model::ledger::Ledger;
 use nm_model::reply::{Refused, Reply};
 use nm_model::trace::{RunError, Trace, Turn};
-use nm_model::{NewError, Places, layout_of};
+use nm_model::{NewError, Places};
 use std::alloc::{AllocError, Global};
 use std::marker::Model;
 
@@ -64,12 +64,11 @@ impl Core {
     pub fn new(alloc: Global, nodes: u32, workers: u32) -> Result<Core, NewError>
         ensures opening { IfOk result (λ core. core ≡ plain (dense nodes workers)) }
         ensures nodes { IsErrOf result NewError.Nodes
-            ↔ ((nodes < LEAST_NODES) ⊎ (MOST_NODES < nodes)) }
+            ↔ IsLayoutFault MOST_NODES nodes workers LayoutError.Nodes }
         ensures workers { IsErrOf result NewError.Workers
-            ↔ ((LEAST_NODES ≤ nodes) × (nodes ≤ MOST_NODES)
-            × ((workers < 1) ⊎ (MOST_WORKERS < workers))) }
+            ↔ IsLayoutFault MOST_NODES nodes workers LayoutError.Workers }
     {
-        Ok(Core::of(alloc, layout_of(nodes, workers)?, false)?)
+        Ok(Core::of(alloc, Layout::new(nodes, workers)?, false)?)
     }
 
     /// The opening of an ordered core, where no worker has an operation yet. It refuses as a plain
@@ -78,12 +77,11 @@ impl Core {
     pub fn ordered(alloc: Global, nodes: u32, workers: u32) -> Result<Core, NewError>
         ensures opening { IfOk result (λ core. core ≡ ordered (dense nodes workers)) }
         ensures nodes { IsErrOf result NewError.Nodes
-            ↔ ((nodes < LEAST_NODES) ⊎ (MOST_NODES < nodes)) }
+            ↔ IsLayoutFault MOST_NODES nodes workers LayoutError.Nodes }
         ensures workers { IsErrOf result NewError.Workers
-            ↔ ((LEAST_NODES ≤ nodes) × (nodes ≤ MOST_NODES)
-            × ((workers < 1) ⊎ (MOST_WORKERS < workers))) }
+            ↔ IsLayoutFault MOST_NODES nodes workers LayoutError.Workers }
     {
-        Ok(Core::of(alloc, layout_of(nodes, workers)?, true)?)
+        Ok(Core::of(alloc, Layout::new(nodes, workers)?, true)?)
     }
 
     /// The opening of a core of that layout, an ordered one or a plain one. In a core of a radix

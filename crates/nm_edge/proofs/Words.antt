@@ -4,28 +4,28 @@ use Rattle.std.proofs.Math.Nat.{eq_of_mul-eq-mul_left, mul-le-mul_left}
 use Rattle.std.proofs.lemmas.Nat.{pow_apart, pow_below}
 use Rattle.nm_edge.specs.Layouts.{Layout}
 use Rattle.nm_edge.specs.declared.edge.Side.TheVariants.{Left, Right}
-use Rattle.nm_edge.specs.Words.{at_epoch, at_note, at_key, at_edge, at_birth, at_row, FieldsAreApart, FieldsAreWithin, PoolMasksAreApart, PoolPlacesAreApart, PoolPlacesAreRows, behind_notes}
+use Rattle.nm_edge.specs.Words.{at_epoch, at_announcement, at_key, at_edge, at_birth, at_row, FieldsAreApart, FieldsAreWithin, PoolMasksAreApart, PoolPlacesAreApart, PoolPlacesAreRows, behind_announcements}
 
--- ---- notes
+-- ---- announcements
 
--- a note stands behind the epoch's word, and with its gap before all that stands behind the notes
-pub note_within : (L : Layout) (w : ℕ) → w < L.workers → behind_notes L w + 1 + L.gap ≤ behind_notes L L.workers
-note_within L w below =
+-- an announcement stands behind the epoch's word, and with its gap before all that stands behind the announcements
+pub announcement_within : (L : Layout) (w : ℕ) → w < L.workers → behind_announcements L w + 1 + L.gap ≤ behind_announcements L L.workers
+announcement_within L w below =
     let more : (1 + L.gap) * (w + 1) ≤ (1 + L.gap) * L.workers = mul-le-mul_left (1 + L.gap) (let e : w + 1 ≤ L.workers = omega (arith, below) in e) in
     omega (arith, more)
 
-notes_apart : (L : Layout) (v w : ℕ) → behind_notes L v ≡ behind_notes L w → v ≡ w
-notes_apart L v w e = eq_of_mul-eq-mul_left (1 + L.gap) (omega arith) v w (omega (arith, e))
+announcements_apart : (L : Layout) (v w : ℕ) → behind_announcements L v ≡ behind_announcements L w → v ≡ w
+announcements_apart L v w e = eq_of_mul-eq-mul_left (1 + L.gap) (omega arith) v w (omega (arith, e))
 
 pub fields_apart : FieldsAreApart
 fields_apart L at_epoch at_epoch f g e = refl
-fields_apart L (at_note v) (at_note w) f g e = ap at_note (notes_apart L v w e)
-fields_apart L (at_note v) (at_edge t Left) f g e = absurd (let within = note_within L v f in omega (arith, e, within))
-fields_apart L (at_note v) (at_edge t Right) f g e = absurd (let within = note_within L v f in omega (arith, e, within))
-fields_apart L (at_note v) _ f g e = absurd (let within = note_within L v f in omega (arith, e, within))
-fields_apart L (at_edge s Left) (at_note w) f g e = absurd (let within = note_within L w g in omega (arith, e, within))
-fields_apart L (at_edge s Right) (at_note w) f g e = absurd (let within = note_within L w g in omega (arith, e, within))
-fields_apart L _ (at_note w) f g e = absurd (let within = note_within L w g in omega (arith, e, within))
+fields_apart L (at_announcement v) (at_announcement w) f g e = ap at_announcement (announcements_apart L v w e)
+fields_apart L (at_announcement v) (at_edge t Left) f g e = absurd (let within = announcement_within L v f in omega (arith, e, within))
+fields_apart L (at_announcement v) (at_edge t Right) f g e = absurd (let within = announcement_within L v f in omega (arith, e, within))
+fields_apart L (at_announcement v) _ f g e = absurd (let within = announcement_within L v f in omega (arith, e, within))
+fields_apart L (at_edge s Left) (at_announcement w) f g e = absurd (let within = announcement_within L w g in omega (arith, e, within))
+fields_apart L (at_edge s Right) (at_announcement w) f g e = absurd (let within = announcement_within L w g in omega (arith, e, within))
+fields_apart L _ (at_announcement w) f g e = absurd (let within = announcement_within L w g in omega (arith, e, within))
 fields_apart L (at_key s) (at_key t) f g e = ap at_key (omega (arith, e))
 fields_apart L (at_edge s Left) (at_edge t Left) f g e = ap (λ (n : ℕ). at_edge n Left) (omega (arith, e, f.0, g.0))
 fields_apart L (at_edge s Right) (at_edge t Right) f g e = ap (λ (n : ℕ). at_edge n Right) (omega (arith, e, f.0, g.0))
@@ -39,7 +39,7 @@ fields_apart L _ _ f g e = absurd (omega (arith, e))
 
 pub fields_within : FieldsAreWithin
 fields_within L at_epoch f = omega arith
-fields_within L (at_note w) f = let within = note_within L w f in omega (arith, within)
+fields_within L (at_announcement w) f = let within = announcement_within L w f in omega (arith, within)
 fields_within L (at_key s) f = omega (arith, f.0, f.1)
 fields_within L (at_edge s Left) f = omega (arith, f.0, f.1)
 fields_within L (at_edge s Right) f = omega (arith, f.0, f.1)

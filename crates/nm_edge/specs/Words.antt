@@ -5,11 +5,11 @@ use Rattle.nm_edge.specs.declared.edge.Side.TheVariants.{Left, Right}
 use Rattle.nm_edge.specs.declared.layout.PoolPlace.{PoolPlace}
 use Rattle.nm_edge.specs.Layouts.{Layout}
 
--- the fields of a tree, a word each: the epoch; a worker's note; of each slot its key, two edges
--- and birth; and the rows of the pool, of 64 slots each
+-- the fields of a tree, a word each: the epoch; a worker's announcement; of each slot its key, two
+-- edges and birth; and the rows of the pool, of 64 slots each
 pub data Field : Type 0 where
   at_epoch : Field
-  at_note : ℕ → Field
+  at_announcement : ℕ → Field
   at_key : ℕ → Field
   at_edge : ℕ → Side → Field
   at_birth : ℕ → Field
@@ -26,31 +26,32 @@ rows L = (L.nodes + 63) / 64
 -- workers are numbered from 0, and so are rows
 abbrev pub IsField : Layout → Field → Type 0
 IsField L at_epoch = ⊤
-IsField L (at_note w) = w < L.workers
+IsField L (at_announcement w) = w < L.workers
 IsField L (at_key s) = IsSlot L s
 IsField L (at_edge s _) = IsSlot L s
 IsField L (at_birth s) = IsSlot L s
 IsField L (at_row r) = r < rows L
 
--- the first word behind the epoch's and the notes of so many workers. With no gap the words stand
--- side by side. With a gap of 511 notes are 512 words apart, a page; two words of the epoch's page
--- are thought to stand before it, so that each note begins a page, and so does the first node
-abbrev pub behind_notes : Layout → ℕ → ℕ
-behind_notes L w = 1 + (L.gap - 2) + (1 + L.gap) * w
+-- the first word behind the epoch's and the announcements of so many workers. With no gap the words
+-- stand side by side. With a gap of 511 announcements are 512 words apart, a page; two words of the
+-- epoch's page are thought to stand before it, so that each announcement begins a page, and so does
+-- the first node
+abbrev pub behind_announcements : Layout → ℕ → ℕ
+behind_announcements L w = 1 + (L.gap - 2) + (1 + L.gap) * w
 
--- the first word of a slot's four, behind the notes
+-- the first word of a slot's four, behind the announcements
 abbrev pub slot_word : Layout → ℕ → ℕ
-slot_word L s = behind_notes L L.workers + 4 * (s - 1)
+slot_word L s = behind_announcements L L.workers + 4 * (s - 1)
 
 -- the first word of the pool
 abbrev pub pool_word : Layout → ℕ
-pool_word L = behind_notes L L.workers + 4 * L.nodes
+pool_word L = behind_announcements L L.workers + 4 * L.nodes
 
--- the number of a field's word: the epoch, a note a worker, four words a slot, and the pool in rows
--- of 64 slots
+-- the number of a field's word: the epoch, an announcement a worker, four words a slot, and the
+-- pool in rows of 64 slots
 abbrev pub word : Layout → Field → ℕ
 word L at_epoch = 0
-word L (at_note w) = behind_notes L w
+word L (at_announcement w) = behind_announcements L w
 word L (at_key s) = slot_word L s
 word L (at_edge s Left) = slot_word L s + 1
 word L (at_edge s Right) = slot_word L s + 2

@@ -1,7 +1,7 @@
 //! The sizes of a tree.
-ghost use Rattle.std.specs.Prelude.{◌≡◌, ◌<◌, ◌≤◌, ◌+◌, ◌-◌, ◌*◌, ◌⊎◌, ◌↔◌, false, IfOk, IfErr, IsErrOf};
-ghost use Rattle.nm_edge.specs.Layouts.{IsLayout, dense, in_radix, spaced};
-ghost use Rattle.nm_edge.specs.Words.{IsSlot, at_birth, at_edge, at_epoch, at_key, at_note, pool_place, pool_word, word, words};
+ghost use Rattle.std.specs.Prelude.{◌≡◌, ◌<◌, ◌≤◌, ◌+◌, ◌-◌, ◌*◌, ◌%◌, ◌⊎◌, ◌↔◌, false, IfOk, IsErrOf};
+ghost use Rattle.nm_edge.specs.Layouts.{IsLayout, IsLayoutFault, dense, in_radix, spaced};
+ghost use Rattle.nm_edge.specs.Words.{IsSlot, at_birth, at_edge, at_epoch, at_key, at_announcement, pool_place, pool_word, word, words};
 
 use crate::edge::Side;
 use std::marker::Model;
@@ -23,9 +23,9 @@ pub const MOST_WORKERS: u32 = 64;
 /// given back.
 pub const FIRST_SLOT: u32 = 6;
 
-/// How many words stand behind a note that has a page of its own: the rest of its 4,096 bytes. A
-/// cache line of its own would not do: processors fetch lines of a page ahead, and so those that
-/// walks read there would bring announcements along.
+/// How many words stand behind an announcement that has a page of its own: the rest of its 4,096
+/// bytes. A cache line of its own would not do: processors fetch lines of a page ahead, and so
+/// those that walks read there would bring announcements along.
 const PAGE_GAP: u32 = 511;
 
 /// How many words of the epoch's page stand before the epoch's own: those in which an allocator
@@ -49,7 +49,7 @@ impl Model for Layout {
     ghost use Rattle.std.specs.Prelude.{◌≡◌};
     ghost use Rattle.nm_edge.specs.Layouts.{IsLayout};
     ghost use Rattle.nm_edge.specs.Layouts as spec;
-    ghost use Rattle.nm_edge.specs.Words.{behind_notes};
+    ghost use Rattle.nm_edge.specs.Words.{behind_announcements};
 
     ghost Value = { spec.Layout };
 
@@ -60,12 +60,12 @@ impl Model for Layout {
       workers = l.workers;
       gap = l.gap;
       radix = l.radix;
-      first = behind_notes l l.workers;
+      first = behind_announcements l l.workers;
     } };
 
     ghost invariant = { λ l.
         IsLayout (record { nodes = l.nodes; workers = l.workers; gap = l.gap; radix = l.radix })
-        × (l.first ≡ behind_notes (record {
+        × (l.first ≡ behind_announcements (record {
           nodes = l.nodes;
           workers = l.workers;
           gap = l.gap;
@@ -76,8 +76,8 @@ impl Model for Layout {
 /// The number of the epoch's word.
 const EPOCH_WORD: u32 = 0;
 
-/// How many slots one word of the pool tells of, a bit each.
-const SLOTS_OF_A_ROW: u32 = 64;
+/// How many slots one word of the pool, a row, tells of, a bit each.
+pub const SLOTS_OF_A_ROW: u32 = 64;
 
 /// How many words a node has: its key, its left and right edge, and its birth.
 const WORDS_OF_A_NODE: u32 = 4;
@@ -108,9 +108,9 @@ impl Layout {
     pub fn new(nodes: u32, workers: u32) -> Result<Layout, LayoutError>
         ensures layout { IfOk result (λ layout. layout ≡ dense nodes workers) }
         ensures nodes { IsErrOf result LayoutError.Nodes
-            ↔ ((nodes < LEAST_NODES) ⊎ (MOST_NODES < nodes)) }
-        ensures workers { IfErr result
-            (λ e. e ≡ LayoutError.Workers → (workers < 1) ⊎ (MOST_WORKERS < workers)) }
+            ↔ IsLayoutFault MOST_NODES nodes workers LayoutError.Nodes }
+        ensures workers { IsErrOf result LayoutError.Workers
+            ↔ IsLayoutFault MOST_NODES nodes workers LayoutError.Workers }
         ensures fits { IfOk result IsLayout }
     {
         Layout::within(MOST_NODES, nodes, workers, 0)
@@ -122,9 +122,9 @@ impl Layout {
     pub fn spaced(nodes: u32, workers: u32) -> Result<Layout, LayoutError>
         ensures layout { IfOk result (λ layout. layout ≡ spaced nodes workers) }
         ensures nodes { IsErrOf result LayoutError.Nodes
-            ↔ ((nodes < LEAST_NODES) ⊎ (MOST_SPACED_NODES < nodes)) }
-        ensures workers { IfErr result
-            (λ e. e ≡ LayoutError.Workers → (workers < 1) ⊎ (MOST_WORKERS < workers)) }
+            ↔ IsLayoutFault MOST_SPACED_NODES nodes workers LayoutError.Nodes }
+        ensures workers { IsErrOf result LayoutError.Workers
+            ↔ IsLayoutFault MOST_SPACED_NODES nodes workers LayoutError.Workers }
         ensures fits { IfOk result IsLayout }
     {
         Layout::within(MOST_SPACED_NODES, nodes, workers, PAGE_GAP)
@@ -138,9 +138,9 @@ impl Layout {
             (λ layout. layout
             ≡ record { nodes = nodes; workers = workers; gap = gap; radix = false }) }
         ensures nodes { IsErrOf result LayoutError.Nodes
-            ↔ ((nodes < LEAST_NODES) ⊎ (most < nodes)) }
-        ensures workers { IfErr result
-            (λ e. e ≡ LayoutError.Workers → (workers < 1) ⊎ (MOST_WORKERS < workers)) }
+            ↔ IsLayoutFault most nodes workers LayoutError.Nodes }
+        ensures workers { IsErrOf result LayoutError.Workers
+            ↔ IsLayoutFault most nodes workers LayoutError.Workers }
         ensures fits { IfOk result IsLayout }
     {
         if !(LEAST_NODES..=most).contains(&nodes) {
@@ -154,7 +154,7 @@ impl Layout {
             workers,
             gap,
             radix: false,
-            first: notes_end(gap, workers),
+            first: announcements_end(gap, workers),
         })
     }
 
@@ -211,12 +211,12 @@ impl Layout {
         EPOCH_WORD
     }
 
-    /// The number of the word of a worker's note. Workers are numbered from 0.
-    pub fn note(self, worker: u32) -> u32
+    /// The number of the word of a worker's announcement. Workers are numbered from 0.
+    pub fn announcement(self, worker: u32) -> u32
         requires { worker < self.workers }
-        ensures { result ≡ word self (at_note worker) }
+        ensures { result ≡ word self (at_announcement worker) }
     {
-        notes_end(self.gap, worker)
+        announcements_end(self.gap, worker)
     }
 
     /// The number of the word of a slot's key, the first of its four. Slots are numbered from 1.
@@ -254,7 +254,7 @@ impl Layout {
     {
         PoolPlace {
             word: self.pool_word() + (slot - 1) / SLOTS_OF_A_ROW,
-            mask: 1 << ((slot - 1) % SLOTS_OF_A_ROW),
+            mask: 1 << place_in_row(slot),
         }
     }
 
@@ -267,9 +267,18 @@ impl Layout {
     }
 }
 
-/// The number of the first word behind the epoch's and the notes of so many workers, with that gap
-/// behind each.
-fn notes_end(gap: u32, workers: u32) -> u32
+/// How many slots stand before this one in its row of the pool.
+pub fn place_in_row(slot: u32) -> u32
+    requires { 1 ≤ slot }
+    ensures place { result ≡ (slot - 1) % 64 }
+    ensures few { result < SLOTS_OF_A_ROW }
+{
+    (slot - 1) % SLOTS_OF_A_ROW
+}
+
+/// The number of the first word behind the epoch's and the announcements of so many workers, with
+/// that gap behind each.
+fn announcements_end(gap: u32, workers: u32) -> u32
     requires { (workers ≤ MOST_WORKERS) × ((gap ≡ 0) ⊎ (gap ≡ PAGE_GAP)) }
     ensures word { result ≡ 1 + (gap - 2) + (1 + gap) * workers }
     ensures few { result ≤ 33278 }

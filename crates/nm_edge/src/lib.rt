@@ -17,7 +17,7 @@ pub use laws::{
 };
 pub use layout::{
     FIRST_SLOT, LEAST_NODES, Layout, LayoutError, MOST_NODES, MOST_SPACED_NODES, MOST_WORKERS,
-    PoolPlace,
+    PoolPlace, SLOTS_OF_A_ROW, place_in_row,
 };
 pub use node::{LAST_NUMBER, NodeId};
 pub use ranges::{covers, parting};

@@ -79,7 +79,7 @@ fn fields_have_words(rt: HostRuntime) {
     };
     assert_eq!(rt; layout.words(), 546);
     assert_eq!(rt; layout.epoch(), 0);
-    assert_eq!(rt; (layout.note(0), layout.note(1)), (1, 2));
+    assert_eq!(rt; (layout.announcement(0), layout.announcement(1)), (1, 2));
     assert_eq!(rt; (layout.key(1), layout.birth(1)), (3, 6));
     assert_eq!(rt;
         (layout.edge(1, Side::Left), layout.edge(1, Side::Right)),

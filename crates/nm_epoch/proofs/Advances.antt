@@ -10,12 +10,14 @@ use Rattle.nm_model.specs.Learning.{learn}
 use Rattle.nm_model.specs.Searches.{searched}
 use Rattle.nm_model.specs.Walks.{Entry}
 use Rattle.nm_steps.specs.Rules.{knowledge}
-use Rattle.nm_steps.specs.Steps.{Stand, Stepped, Continues, TakesStep, IsAdvanceFrom, advance_reply, noted, IsSamePass}
+use Rattle.nm_steps.specs.Steps.{Stand, Stepped, Continues, TakesStep, IsAdvanceFrom, advance_reply, IsSamePass}
+use Rattle.nm_steps.proofs.Noting.{noted}
 use Rattle.nm_steps.proofs.Seeing.{continues_then, continues_by}
 use Rattle.nm_epoch.specs.declared.answers.Advance.TheVariants.{Moved, Held, Lost}
 use Rattle.nm_epoch.specs.Reading.{Reads}
 use Rattle.nm_epoch.specs.Resting.{Settles, KeepsHands, GoesOnSettled, epochs}
-use Rattle.nm_epoch.specs.Scans.{LooksAt, SightThenScans, IsAdvance, IsLooking, lets_pass}
+use Rattle.nm_epoch.specs.Scans.{LooksAt, SightThenScans, IsAdvance, lets_pass}
+use Rattle.nm_epoch.proofs.Marks.{IsLooking}
 use Rattle.nm_epoch.proofs.Entries.{epochs_after, search_is}
 use Rattle.nm_epoch.proofs.KeptHands.{is_label, hands_kept, kept_on, look_keeps}
 use Rattle.nm_epoch.proofs.Scanning.{look_epochs, settles_on}
@@ -48,7 +50,7 @@ module _ (p q : Stand) (r : Result ℕ ℕ) (step : Stepped p q event.Advance (a
   settles_advance o s = record {
     labelled = ap (λ (b : Brief). b.unlabelled) after.1 ∙ s.labelled;
     stays = λ settled. let t = s.stays settled in record {
-      note = ap (λ (b : Brief). b.note) after.1 ∙ t.note;
+      announcement = ap (λ (b : Brief). b.announcement) after.1 ∙ t.announcement;
       pin = pin_stays ∙ t.pin;
       search = search_is p q event.Advance (advance_reply r) step ∙ t.search;
       known = ap (λ (k : Knowledge). k.known) (known_after_step p q event.Advance (advance_reply r) step) ∙ (advance_known p.view.number (knowledge p.view) r ∙ t.known);

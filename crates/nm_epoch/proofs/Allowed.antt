@@ -17,9 +17,9 @@ use Rattle.nm_steps.specs.declared.view.View.{View}
 use Rattle.nm_steps.specs.Rules.{knowledge}
 use Rattle.nm_steps.specs.Steps.{Stand, MayStep, fresh_view}
 use Rattle.nm_steps.proofs.Extending.{neither}
-use Rattle.nm_epoch.specs.Resting.{IsResting, IsPinnedAt, epochs, search, marks}
-use Rattle.nm_epoch.specs.Scans.{IsLooking, lets_pass}
-use Rattle.nm_epoch.proofs.Marks.{one_for_each, all_others}
+use Rattle.nm_epoch.specs.Resting.{IsResting, IsPinnedAt, epochs, search}
+use Rattle.nm_epoch.proofs.Marks.{marks, IsLooking, one_for_each, all_others}
+use Rattle.nm_epoch.specs.Scans.{lets_pass}
 use Rattle.nm_pool.proofs.Allowing.{passes_then}
 
 -- a check that does not fail, with none behind it
@@ -41,11 +41,11 @@ may_announce p seen pin = record {
   key = tt;
 }
 
-pub may_sight_for : (p : Stand) (op : Op) (key : ℕ) → IsSome (epochs p).note → (epochs p).pin ≡ None → IsKey key → MayStep p (SightFor op key)
+pub may_sight_for : (p : Stand) (op : Op) (key : ℕ) → IsSome (epochs p).announcement → (epochs p).pin ≡ None → IsKey key → MayStep p (SightFor op key)
 unfolding refusal
-may_sight_for p op key note pin is = record {
+may_sight_for p op key announcement pin is = record {
   looked = tt;
-  allowed = λ m h. passes _ _ (neither (is_none (epochs p).note) (is_some (epochs p).pin) (is_there _ note) (ap is_some pin));
+  allowed = λ m h. passes _ _ (neither (is_none (epochs p).announcement) (is_some (epochs p).pin) (is_there _ announcement) (ap is_some pin));
   ordered = refl;
   births = tt;
   key = is;
@@ -81,7 +81,7 @@ pinned_may_leave e call p at = may_leave p at.labelled (ap (λ (s : Search). s.l
 pub fresh_rests : (L : Layout) (k : ℕ) (p : Stand) → p.view ≡ fresh_view L k → IsResting p
 fresh_rests L k p fresh = record {
   unpinned = ap (λ (v : View). (knowledge v).brief.pin) fresh;
-  silent = ap (λ (v : View). (knowledge v).brief.note) fresh;
+  silent = ap (λ (v : View). (knowledge v).brief.announcement) fresh;
   labelled = ap (λ (v : View). (knowledge v).brief.unlabelled) fresh;
   idle = ap (λ (v : View). search_after idle v.log) fresh;
 }

@@ -5,9 +5,9 @@ use Rattle.nm_model.specs.declared.reply.Reply.{Reply}
 use Rattle.nm_model.specs.Knowledge.{Knowledge}
 use Rattle.nm_model.specs.Searches.{idle, searched}
 use Rattle.nm_steps.specs.Rules.{knowledge}
-use Rattle.nm_steps.specs.Steps.{Stand, Stepped, noted}
+use Rattle.nm_steps.specs.Steps.{Stand, Stepped}
+use Rattle.nm_steps.proofs.Noting.{noted, brief_is_noted}
 use Rattle.nm_steps.proofs.Presence.{known_push}
-use Rattle.nm_steps.proofs.Noting.{brief_is_noted}
 use Rattle.nm_order.proofs.LastEntries.{search_more}
 use Rattle.nm_epoch.specs.Resting.{epochs, search}
 

@@ -1,4 +1,4 @@
--- Steps on the epoch and on notes leave what a worker has in its hands, and, but for pins and
+-- Steps on the epoch and on announcements leave what a worker has in its hands, and, but for pins and
 -- leaves, what it knows of nodes.
 use Rattle.std.proofs.Common.{◌≡◌, ◌≢◌, ⊎_elim, ℕ, ◌==◌, Bool, true, false, List, [], ◌∷◌, ◌++◌, refl, sym, ap, subst, ◌∙◌, true≢false}
 use Rattle.std.specs.Prelude.{Option, Some, None}
@@ -18,7 +18,7 @@ use Rattle.nm_epoch.specs.Resting.{KeepsHands, epochs}
 use Rattle.nm_epoch.specs.Scans.{LooksAt}
 use Rattle.nm_pool.proofs.PrivateSlots.{known_after_step}
 
--- a step on the epoch or on a note
+-- a step on the epoch or on an announcement
 abbrev pub is_quiet : Event → Bool
 is_quiet Sight = true
 is_quiet (SightFor op key) = true
@@ -85,10 +85,10 @@ hands_kept p q e r step quiet silent =
 
 -- where no cut waits for its label, a sight labels nothing
 pub sight_is_silent : (b : Brief) (r : Reply) → IsSight b r → b.unlabelled ≡ false → is_label r ≡ false
-sight_is_silent b r s none' = ap is_label s.2 ∙ (ap is_label (is_confirmed s.0) ∙ never b.pin b.note s.0)
+sight_is_silent b r s none' = ap is_label s.2 ∙ (ap is_label (is_confirmed s.0) ∙ never b.pin b.announcement s.0)
   where
-    is_confirmed : (e : ℕ) → sight_of b e ≡ confirmed b.pin b.note e
-    is_confirmed e = cond_both b.unlabelled (Labelled e) (confirmed b.pin b.note e) (λ y. y ≡ confirmed b.pin b.note e) (λ yes. absurd (true≢false (sym yes ∙ none'))) (λ _. refl)
+    is_confirmed : (e : ℕ) → sight_of b e ≡ confirmed b.pin b.announcement e
+    is_confirmed e = cond_both b.unlabelled (Labelled e) (confirmed b.pin b.announcement e) (λ y. y ≡ confirmed b.pin b.announcement e) (λ yes. absurd (true≢false (sym yes ∙ none'))) (λ _. refl)
 
     never : (pin announced : Option ℕ) (e : ℕ) → is_label (confirmed pin announced e) ≡ false
     never (Some p) announced e = refl

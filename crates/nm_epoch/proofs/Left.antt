@@ -18,7 +18,7 @@ rests_after_leave p q step labelled =
     let after = epochs_after p q Leave Departed step in
     record {
       unpinned = ap (λ (b : Brief). b.pin) after;
-      silent = ap (λ (b : Brief). b.note) after;
+      silent = ap (λ (b : Brief). b.announcement) after;
       labelled = ap (λ (b : Brief). b.unlabelled) after ∙ labelled;
       idle = search_is p q Leave Departed step;
     }
@@ -29,7 +29,7 @@ rests_after_answer p q answer step labelled =
     let after = epochs_after p q (LeaveWith answer) Departed step in
     record {
       unpinned = ap (λ (b : Brief). b.pin) after;
-      silent = ap (λ (b : Brief). b.note) after;
+      silent = ap (λ (b : Brief). b.announcement) after;
       labelled = ap (λ (b : Brief). b.unlabelled) after ∙ labelled;
       idle = search_is p q (LeaveWith answer) Departed step;
     }
@@ -53,7 +53,7 @@ seen_after_leave p q e step seen = ap (λ (b : Brief). b.seen) (epochs_after p q
 -- a worker that rests still rests
 pub rests_still : (p q : Stand) → IsResting p → Settles p q → IsResting q
 rests_still p q r s =
-    let t = s.stays (inr r.silent) in record { unpinned = t.pin ∙ r.unpinned; silent = t.note ∙ r.silent; labelled = s.labelled; idle = t.search ∙ r.idle }
+    let t = s.stays (inr r.silent) in record { unpinned = t.pin ∙ r.unpinned; silent = t.announcement ∙ r.silent; labelled = s.labelled; idle = t.search ∙ r.idle }
 
 -- and one that is pinned for a call that has only begun may still leave
 pub pinned_may_still_leave : (p q : Stand) (e : ℕ) (call : Option Call) → IsPinnedAt e call p → Settles p q → MayStep q Leave

@@ -1,6 +1,6 @@
 -- The marks of a worker, one for each worker, and what a scan leaves of them.
 use Rattle.std.proofs.Common.{◌≡◌, ◌⊎◌, ◌+◌, ◌<◌, ◌==◌, inl, inr, ℕ, suc, Bool, true, false, ◌||◌, ◌&&◌, List, [], ◌∷◌, length, get_or, refl, sym, ap, ◌∙◌, eq-eqb, true≢false, arith}
-use Rattle.std.specs.Prelude.{Option, Some, None, slice_set}
+use Rattle.std.specs.Prelude.{Option, Some, None, slice_set, slice_index_or}
 use Rattle.std.specs.List.{list_all, enumerate_from}
 use Rattle.std.proofs.lemmas.List.{length-set, length-replicate}
 use Rattle.nm_model.specs.declared.event.Event.TheVariants.{Scan}
@@ -16,8 +16,20 @@ use Rattle.nm_order.specs.Logs.{known_after}
 use Rattle.nm_steps.specs.Rules.{knowledge}
 use Rattle.nm_steps.specs.Steps.{Stand, Stepped}
 use Rattle.nm_steps.proofs.Presence.{known_push}
-use Rattle.nm_epoch.specs.Resting.{epochs, marks}
-use Rattle.nm_epoch.specs.Scans.{lets_pass}
+use Rattle.nm_epoch.specs.Resting.{epochs}
+use Rattle.nm_epoch.specs.Scans.{lets_pass, SightThenScans}
+
+-- by worker, whether it was scanned at the epoch last read
+abbrev pub marks : Stand → List Bool
+marks p = (knowledge p.view).scanned
+
+-- how far an advance has come: those below n let it pass, and are marked as scanned, or are the own
+-- worker
+pub record IsLooking (me e n : ℕ) (old : List Entry) (p : Stand) : Type 0 where
+  pub part : SightThenScans me (epochs p).pin e n old p.view.log
+  pub seen : (epochs p).seen ≡ Some e
+  pub own : me < n → lets_pass (epochs p).pin e ≡ true
+  pub marked : (v : ℕ) → v < n → (v ≡ me) ⊎ (slice_index_or (marks p) v false ≡ true)
 
 -- ---- one for each worker
 

@@ -136,5 +136,5 @@ settled_on o p q s only = record {
   labelled = ap (λ (b : Brief). b.unlabelled) only.epochs_are ∙ s.labelled;
   stays = λ settled.
       let t = s.stays settled in
-      record { note = ap (λ (b : Brief). b.note) only.epochs_are ∙ t.note; pin = ap (λ (b : Brief). b.pin) only.epochs_are ∙ t.pin; search = only.search_is ∙ t.search; known = only.nodes ∙ t.known };
+      record { announcement = ap (λ (b : Brief). b.announcement) only.epochs_are ∙ t.announcement; pin = ap (λ (b : Brief). b.pin) only.epochs_are ∙ t.pin; search = only.search_is ∙ t.search; known = only.nodes ∙ t.known };
 }

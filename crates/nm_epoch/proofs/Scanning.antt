@@ -12,11 +12,11 @@ use Rattle.nm_model.specs.Searches.{searched}
 use Rattle.nm_model.specs.Walks.{Entry}
 use Rattle.nm_model.specs.Step.{reply_scan}
 use Rattle.nm_steps.specs.Steps.{Stand, Stepped, IsSamePass}
-use Rattle.nm_epoch.specs.Resting.{Settles, epochs, search, marks}
-use Rattle.nm_epoch.specs.Scans.{IsSightOf, LooksAt, SightThenScans, IsLooking, lets_pass}
+use Rattle.nm_epoch.specs.Resting.{Settles, epochs, search}
+use Rattle.nm_epoch.proofs.Marks.{marks, IsLooking, one_for_each, marks_after}
+use Rattle.nm_epoch.specs.Scans.{IsSightOf, LooksAt, SightThenScans, lets_pass}
 use Rattle.nm_epoch.proofs.Entries.{epochs_after, search_is}
 use Rattle.nm_epoch.proofs.KeptHands.{look_known}
-use Rattle.nm_epoch.proofs.Marks.{one_for_each, marks_after}
 
 -- ---- one look
 
@@ -54,7 +54,7 @@ module _ (me v : ℕ) (pin found : Option ℕ) (p q : Stand) (same : IsSamePass 
   settles_on o s = record {
     labelled = ap (λ (b : Brief). b.unlabelled) look_epochs ∙ s.labelled;
     stays = λ settled. let t = s.stays settled in record {
-      note = ap (λ (b : Brief). b.note) look_epochs ∙ t.note;
+      announcement = ap (λ (b : Brief). b.announcement) look_epochs ∙ t.announcement;
       pin = ap (λ (b : Brief). b.pin) look_epochs ∙ t.pin;
       search = look_search ∙ t.search;
       known = look_known me v pin found p q same look ∙ t.known;

@@ -93,16 +93,16 @@ confirmed_keeps k (Some p) announced e = refl
 confirmed_keeps k None None e = refl
 confirmed_keeps k None (Some a) e = cond_both (a == e) (Pinned e) (Missed e) (λ r. (learn_sight k r).ledgers ≡ k.ledgers) (λ _. refl) (λ _. refl)
 
-ledgers_by : (u : Bool) (k : Knowledge) (e : ℕ) → (learn_sight k (cond u (Labelled e) (confirmed k.brief.pin k.brief.note e))).ledgers ≡ cond u (label e k.ledgers) k.ledgers
+ledgers_by : (u : Bool) (k : Knowledge) (e : ℕ) → (learn_sight k (cond u (Labelled e) (confirmed k.brief.pin k.brief.announcement e))).ledgers ≡ cond u (label e k.ledgers) k.ledgers
 ledgers_by true k e = refl
-ledgers_by false k e = confirmed_keeps k k.brief.pin k.brief.note e
+ledgers_by false k e = confirmed_keeps k k.brief.pin k.brief.announcement e
 
 after_sight : (w : ℕ) (k : Knowledge) (e : ℕ) → (learn w k Sight (sight_of k.brief e)).ledgers ≡ ledgers_seen e k
 unfolding learn
 after_sight w k e = ledgers_by k.brief.unlabelled k e
 
 epoch_found : (b : Brief) (e : ℕ) → sight_epoch (sight_of b e) ≡ Some e
-epoch_found b e = cond_both b.unlabelled (Labelled e) (confirmed b.pin b.note e) (λ r. sight_epoch r ≡ Some e) (λ _. refl) (λ _. confirmed_finds b.pin b.note e)
+epoch_found b e = cond_both b.unlabelled (Labelled e) (confirmed b.pin b.announcement e) (λ r. sight_epoch r ≡ Some e) (λ _. refl) (λ _. confirmed_finds b.pin b.announcement e)
 
 pub ledgers_after : (p q : Stand) (r : Reply) (e : ℕ) → Stepped p q Sight r → IsSight (epochs p) r → sight_epoch r ≡ Some e → (knowledge q.view).ledgers ≡ ledgers_seen e (knowledge p.view)
 ledgers_after p q r e step sight is =

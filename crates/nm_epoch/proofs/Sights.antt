@@ -38,7 +38,7 @@ label_kept b None None e = refl
 label_kept b None (Some a) e = cond_both (a == e) (Pinned e) (Missed e) (λ r. (noted_sight b r).unlabelled ≡ b.unlabelled) (λ _. refl) (λ _. refl)
 
 is_labelled : (b : Brief) (e : ℕ) → (noted_sight b (sight_of b e)).unlabelled ≡ false
-is_labelled b e = cond_both b.unlabelled (Labelled e) (confirmed b.pin b.note e) (λ r. (noted_sight b r).unlabelled ≡ false) (λ _. refl) (λ no. label_kept b b.pin b.note e ∙ no)
+is_labelled b e = cond_both b.unlabelled (Labelled e) (confirmed b.pin b.announcement e) (λ r. (noted_sight b r).unlabelled ≡ false) (λ _. refl) (λ no. label_kept b b.pin b.announcement e ∙ no)
 
 -- ---- a settled worker is not pinned anew
 
@@ -50,8 +50,8 @@ never_confirmed None (Some a) e x (inr h) is = cc
 
 never_pinned : (p : Stand) (r : Reply) → IsSettled p → IsSight (epochs p) r → (x : ℕ) → r ≡ Pinned x → ⊥
 never_pinned p r settled s x is =
-    cond_both (epochs p).unlabelled (Labelled s.0) (confirmed (epochs p).pin (epochs p).note s.0) (λ y. y ≡ Pinned x → ⊥)
-    (λ _ h. cc) (λ _ h. never_confirmed (epochs p).pin (epochs p).note s.0 x settled h) (sym s.2 ∙ is)
+    cond_both (epochs p).unlabelled (Labelled s.0) (confirmed (epochs p).pin (epochs p).announcement s.0) (λ y. y ≡ Pinned x → ⊥)
+    (λ _ h. cc) (λ _ h. never_confirmed (epochs p).pin (epochs p).announcement s.0 x settled h) (sym s.2 ∙ is)
 
 pin_kept : (b : Brief) (r : Reply) → ((x : ℕ) → r ≡ Pinned x → ⊥) → (noted_sight b r).pin ≡ b.pin
 pin_kept b (Pinned x) not' = absurd (not' x refl)
@@ -60,12 +60,12 @@ pin_kept b (Labelled x) not' = refl
 pin_kept b (Missed x) not' = refl
 pin_kept b _ not' = refl
 
-note_kept : (b : Brief) (r : Reply) → (noted_sight b r).note ≡ b.note
-note_kept b (Pinned x) = refl
-note_kept b (Saw x) = refl
-note_kept b (Labelled x) = refl
-note_kept b (Missed x) = refl
-note_kept b _ = refl
+announcement_kept : (b : Brief) (r : Reply) → (noted_sight b r).announcement ≡ b.announcement
+announcement_kept b (Pinned x) = refl
+announcement_kept b (Saw x) = refl
+announcement_kept b (Labelled x) = refl
+announcement_kept b (Missed x) = refl
+announcement_kept b _ = refl
 
 search_kept : (s : Search) (r : Reply) → ((x : ℕ) → r ≡ Pinned x → ⊥) → begun s None r ≡ s
 search_kept s (Pinned x) not' = absurd (not' x refl)
@@ -86,7 +86,7 @@ settles p q r step s =
     record {
       labelled = ap (λ (b : Brief). b.unlabelled) after ∙ (ap (λ (x : Reply). (noted_sight (epochs p) x).unlabelled) s.2 ∙ is_labelled (epochs p) s.0);
       stays = λ settled. record {
-        note = ap (λ (b : Brief). b.note) after ∙ note_kept (epochs p) r;
+        announcement = ap (λ (b : Brief). b.announcement) after ∙ announcement_kept (epochs p) r;
         pin = ap (λ (b : Brief). b.pin) after ∙ pin_kept (epochs p) r (never_pinned p r settled s);
         search = search_is p q Sight r step ∙ search_kept (search p) r (never_pinned p r settled s);
         known = ap (λ (k : Knowledge). k.known) (known_after_step p q Sight r step) ∙ known_kept p.view.number (knowledge p.view) r (never_pinned p r settled s);

@@ -14,8 +14,8 @@ use Rattle.nm_model.specs.Walks.{Entry}
 use Rattle.nm_model.specs.Searches.{Search, searched, begun}
 use Rattle.nm_order.specs.Intervals.{HasKey}
 use Rattle.nm_steps.specs.Rules.{knowledge}
-use Rattle.nm_steps.specs.Steps.{Stand, MayStep, Stepped, IsSight, noted, noted_sight, sight_of, pin_reply}
-use Rattle.nm_steps.proofs.Noting.{may_sight}
+use Rattle.nm_steps.specs.Steps.{Stand, MayStep, Stepped, IsSight, noted_sight, sight_of, pin_reply}
+use Rattle.nm_steps.proofs.Noting.{noted, may_sight}
 use Rattle.nm_epoch.specs.declared.pinning.Confirming.{Confirming}
 use Rattle.nm_epoch.specs.declared.pinning.Confirming.TheVariants.{Plain, For}
 use Rattle.nm_epoch.specs.Resting.{IsResting, IsPinnedAt, IsTrying, HasAnnounced, KeepsHands, epochs, search}
@@ -36,9 +36,9 @@ unfolding searched
 searched_confirming Plain s r = refl
 searched_confirming (For op key) s r = refl
 
-pub may_confirm : (p : Stand) (by : Confirming) → IsSome (epochs p).note → (epochs p).pin ≡ None → HasKey (confirming by) → MayStep p (confirming by)
-may_confirm p Plain note pin key = may_sight _ _ _
-may_confirm p (For op k) note pin key = may_sight_for p op k note pin key
+pub may_confirm : (p : Stand) (by : Confirming) → IsSome (epochs p).announcement → (epochs p).pin ≡ None → HasKey (confirming by) → MayStep p (confirming by)
+may_confirm p Plain announcement pin key = may_sight _ _ _
+may_confirm p (For op k) announcement pin key = may_sight_for p op k announcement pin key
 
 -- a pin makes slots 1 and 2 known
 roots_known : (by : Confirming) (w : ℕ) (k : Knowledge) (e : ℕ) → (learn w k (confirming by) (Pinned e)).known ≡ rooted
@@ -61,26 +61,26 @@ unfolding searched
 announced p q a step t =
     let after = epochs_after p q Announce (Announced a) step in
     record {
-      note = ap (λ (b : Brief). b.note) after;
+      announcement = ap (λ (b : Brief). b.announcement) after;
       unpinned = ap (λ (b : Brief). b.pin) after ∙ t.unpinned;
       labelled = ap (λ (b : Brief). b.unlabelled) after ∙ t.labelled;
       idle = search_is p q Announce (Announced a) step ∙ t.idle;
     }
 
-some_note : (a : ℕ) (p : Stand) → HasAnnounced a p → IsSome (epochs p).note
-some_note a p h = ap is_some h.note
+some_announcement : (a : ℕ) (p : Stand) → HasAnnounced a p → IsSome (epochs p).announcement
+some_announcement a p h = ap is_some h.announcement
 
 pub announced_may : (a : ℕ) (p : Stand) (by : Confirming) → HasAnnounced a p → HasKey (confirming by) → MayStep p (confirming by)
-announced_may a p by h key = may_confirm p by (some_note a p h) h.unpinned key
+announced_may a p by h key = may_confirm p by (some_announcement a p h) h.unpinned key
 
 -- so it is pinned, or has missed the epoch
-answer_is : (b : Brief) (a e : ℕ) → b.note ≡ Some a → b.pin ≡ None → b.unlabelled ≡ false → sight_of b e ≡ cond (a == e) (Pinned e) (Missed e)
-answer_is b a e note pin labelled =
-    ap (λ (x : Bool). cond x (Labelled e) (confirmed b.pin b.note e)) labelled
-    ∙ (ap (λ (o : Option ℕ). confirmed o b.note e) pin ∙ ap (λ (o : Option ℕ). confirmed None o e) note)
+answer_is : (b : Brief) (a e : ℕ) → b.announcement ≡ Some a → b.pin ≡ None → b.unlabelled ≡ false → sight_of b e ≡ cond (a == e) (Pinned e) (Missed e)
+answer_is b a e announcement pin labelled =
+    ap (λ (x : Bool). cond x (Labelled e) (confirmed b.pin b.announcement e)) labelled
+    ∙ (ap (λ (o : Option ℕ). confirmed o b.announcement e) pin ∙ ap (λ (o : Option ℕ). confirmed None o e) announcement)
 
 reply_is : (a : ℕ) (p : Stand) (r : Reply) → HasAnnounced a p → IsSight (epochs p) r → (e : ℕ) × (r ≡ cond (a == e) (Pinned e) (Missed e))
-reply_is a p r h s = (s.0, s.2 ∙ answer_is (epochs p) a s.0 h.note h.unpinned h.labelled)
+reply_is a p r h s = (s.0, s.2 ∙ answer_is (epochs p) a s.0 h.announcement h.unpinned h.labelled)
 
 pub never_saw : (a x : ℕ) (p : Stand) → HasAnnounced a p → IsSight (epochs p) (Saw x) → ⊥
 never_saw a x p h s = let r = reply_is a p (Saw x) h s in cond_both (a == r.0) (Pinned r.0) (Missed r.0) (λ y. Saw x ≡ y → ⊥) (λ _ e. cc) (λ _ e. cc) r.1
@@ -95,7 +95,7 @@ won p q by a e h same step =
     let after = epochs_after p q (confirming by) (Pinned e) step ∙ noted_confirming by (epochs p) (Pinned e) in
     record {
       seen = ap (λ (b : Brief). b.seen) after;
-      note = ap (λ (b : Brief). b.note) after ∙ (h.note ∙ ap (λ (n : ℕ). Some n) (sym same));
+      announcement = ap (λ (b : Brief). b.announcement) after ∙ (h.announcement ∙ ap (λ (n : ℕ). Some n) (sym same));
       pin = ap (λ (b : Brief). b.pin) after;
       labelled = ap (λ (b : Brief). b.unlabelled) after ∙ h.labelled;
       begun = search_is p q (confirming by) (Pinned e) step ∙ searched_confirming by (search p) (Pinned e);
@@ -163,7 +163,7 @@ rests_on p q e rests step =
     let after = epochs_after p q Sight (Saw e) step in
     record {
       unpinned = ap (λ (b : Brief). b.pin) after ∙ rests.unpinned;
-      silent = ap (λ (b : Brief). b.note) after ∙ rests.silent;
+      silent = ap (λ (b : Brief). b.announcement) after ∙ rests.silent;
       labelled = ap (λ (b : Brief). b.unlabelled) after ∙ rests.labelled;
       idle = search_is p q Sight (Saw e) step ∙ rests.idle;
     }

@@ -8,8 +8,14 @@ use Rattle.nm_model.specs.Walks.{Entry}
 use Rattle.nm_steps.specs.Steps.{Stand, IsSamePass}
 use Rattle.nm_epoch.specs.Resting.{epochs}
 use Rattle.nm_epoch.specs.Scans.{LooksAt, lets_pass}
-use Rattle.nm_epoch.specs.Watches.{IsWatching, SightThenWatch, bit_of}
+use Rattle.nm_epoch.specs.Watches.{SightThenWatch, bit_of}
 use Rattle.nm_epoch.proofs.Scanning.{look_epochs}
+
+-- how far it has come: those below n were looked at
+pub record IsWatching (me e n mask : ℕ) (old : List Entry) (p : Stand) : Type 0 where
+  pub part : SightThenWatch me (epochs p).pin e n mask old p.view.log
+  pub seen : (epochs p).seen ≡ Some e
+  pub small : mask < 2 ^ n
 
 -- the bit, by whether the worker was found elsewhere
 pub bit_set : (o found : Option ℕ) (e v : ℕ) → MatchOption o (lets_pass found e ≡ true) (λ at. (found ≡ Some at) × (lets_pass found e ≡ false)) → is_some o ≡ true → bit_of v found e ≡ 2 ^ v

@@ -1,5 +1,5 @@
 -- What a pass's log tells of its epochs and of the call under its pin.
-use Rattle.std.specs.Prelude.{◌≡◌, ◌⊎◌, ℕ, Bool, false, List, [], Option, Some, None, IsSome}
+use Rattle.std.specs.Prelude.{◌≡◌, ◌⊎◌, ℕ, false, [], Option, Some, None, IsSome}
 use Rattle.nm_model.specs.declared.knowledge.Brief.{Brief}
 use Rattle.nm_model.specs.declared.arrivals.Call.{Call}
 use Rattle.nm_model.specs.Learning.{rooted}
@@ -30,19 +30,19 @@ begun_for call = record {
 -- it is not pinned and announces nothing
 pub record IsUnpinned (p : Stand) : Type 0 where
   pub unpinned : (epochs p).pin ≡ None
-  pub silent : (epochs p).note ≡ None
+  pub silent : (epochs p).announcement ≡ None
 
 -- it is not pinned and announces nothing, no cut of its waits for a label, and it has no call
 pub record IsResting (p : Stand) : Type 0 where
   pub unpinned : (epochs p).pin ≡ None
-  pub silent : (epochs p).note ≡ None
+  pub silent : (epochs p).announcement ≡ None
   pub labelled : (epochs p).unlabelled ≡ false
   pub idle : search p ≡ idle
 
 -- it is pinned at e, the epoch that it announces and read last, for a call that has only begun
 pub record IsPinnedAt (e : ℕ) (call : Option Call) (p : Stand) : Type 0 where
   pub seen : (epochs p).seen ≡ Some e
-  pub note : (epochs p).note ≡ Some e
+  pub announcement : (epochs p).announcement ≡ Some e
   pub pin : (epochs p).pin ≡ Some e
   pub labelled : (epochs p).unlabelled ≡ false
   pub begun : search p ≡ begun_for call
@@ -57,18 +57,18 @@ pub record IsTrying (p : Stand) : Type 0 where
 
 -- it announces a and is not pinned, no cut of its waits for a label, and it has no call
 pub record HasAnnounced (a : ℕ) (p : Stand) : Type 0 where
-  pub note : (epochs p).note ≡ Some a
+  pub announcement : (epochs p).announcement ≡ Some a
   pub unpinned : (epochs p).pin ≡ None
   pub labelled : (epochs p).unlabelled ≡ false
   pub idle : search p ≡ idle
 
 -- it is pinned, or announces nothing: not in the midst of a pin
 abbrev pub IsSettled : Stand → Type 0
-IsSettled p = IsSome (epochs p).pin ⊎ ((epochs p).note ≡ None)
+IsSettled p = IsSome (epochs p).pin ⊎ ((epochs p).announcement ≡ None)
 
 -- its announcement, its pin and its call stay, and what it knows of nodes
 pub record Stays (p q : Stand) : Type 0 where
-  pub note : (epochs q).note ≡ (epochs p).note
+  pub announcement : (epochs q).announcement ≡ (epochs p).announcement
   pub pin : (epochs q).pin ≡ (epochs p).pin
   pub search : search q ≡ search p
   pub known : (knowledge q.view).known ≡ (knowledge p.view).known
@@ -92,7 +92,3 @@ pub record GoesOnSettled (p q : Stand) : Type 0 where
   pub on : Continues p q
   pub settles : Settles p q
   pub hands : KeepsHands p q
-
--- by worker, whether it was scanned at the epoch last read
-abbrev pub marks : Stand → List Bool
-marks p = (knowledge p.view).scanned

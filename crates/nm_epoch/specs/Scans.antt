@@ -1,12 +1,10 @@
 -- What a look at all workers' announcements leaves in the log, oldest entry first.
-use Rattle.std.specs.Prelude.{◌≡◌, ◌≢◌, ◌+◌, ◌⊎◌, ◌<◌, ◌==◌, ℕ, zero, suc, Bool, true, false, slice_index_or, List, [], ◌∷◌, ◌++◌, Option, Some, None}
+use Rattle.std.specs.Prelude.{◌≡◌, ◌≢◌, ◌+◌, ◌⊎◌, ◌<◌, ◌==◌, ℕ, zero, suc, Bool, true, List, [], ◌∷◌, ◌++◌, Option, Some, None}
 use Rattle.nm_model.specs.declared.event.Event.TheVariants as event
 use Rattle.nm_model.specs.declared.reply.Reply.{Reply}
 use Rattle.nm_model.specs.declared.reply.Reply.TheVariants as reply
 use Rattle.nm_model.specs.Step.{last_number, reply_scan}
 use Rattle.nm_model.specs.Walks.{Entry}
-use Rattle.nm_steps.specs.Steps.{Stand}
-use Rattle.nm_epoch.specs.Resting.{epochs, marks}
 use Rattle.nm_epoch.specs.declared.answers.Advance.{Advance}
 use Rattle.nm_epoch.specs.declared.answers.Advance.TheVariants.{Moved, Held, Lost, Spent}
 use Rattle.nm_order.specs.Reads.{sight_epoch}
@@ -52,11 +50,3 @@ IsAdvance m me pin old new (Held w at) =
     (e : ℕ) × (mid : List Entry) × SightThenScans me pin e w old mid × (w < m) × (at ≢ e)
     × LooksAt me pin w (Some at) mid new
 IsAdvance m me pin old new Spent = SightThenScans me pin last_number m old new
-
--- how far an advance has come: those below n let it pass, and are marked as scanned, or are the own
--- worker
-pub record IsLooking (me e n : ℕ) (old : List Entry) (p : Stand) : Type 0 where
-  pub part : SightThenScans me (epochs p).pin e n old p.view.log
-  pub seen : (epochs p).seen ≡ Some e
-  pub own : me < n → lets_pass (epochs p).pin e ≡ true
-  pub marked : (v : ℕ) → v < n → (v ≡ me) ⊎ (slice_index_or (marks p) v false ≡ true)

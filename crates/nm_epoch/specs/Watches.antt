@@ -1,9 +1,7 @@
 -- What a look at who is behind the epoch leaves in the log, oldest entry first.
-use Rattle.std.specs.Prelude.{◌≡◌, ◌+◌, ◌^◌, ◌<◌, ℕ, zero, suc, List, Option, Some, if◌then◌else◌}
+use Rattle.std.specs.Prelude.{◌≡◌, ◌+◌, ◌^◌, ◌<◌, ℕ, zero, suc, List, Option, if◌then◌else◌}
 use Rattle.nm_model.specs.Walks.{Entry}
-use Rattle.nm_steps.specs.Steps.{Stand}
 use Rattle.nm_epoch.specs.declared.answers.Behind.{Behind}
-use Rattle.nm_epoch.specs.Resting.{epochs}
 use Rattle.nm_epoch.specs.Scans.{IsSightOf, LooksAt, lets_pass}
 
 -- the bit of worker v, where it was found so and the epoch is e
@@ -27,9 +25,3 @@ SightThenWatch me pin e n mask old new =
 -- and the sum of 2^w over the workers w found at another epoch
 abbrev pub IsBehind : ℕ → ℕ → Option ℕ → List Entry → List Entry → Behind → Type 0
 IsBehind m me pin old new b = SightThenWatch me pin b.epoch m b.mask old new
-
--- how far it has come: those below n were looked at
-pub record IsWatching (me e n mask : ℕ) (old : List Entry) (p : Stand) : Type 0 where
-  pub part : SightThenWatch me (epochs p).pin e n mask old p.view.log
-  pub seen : (epochs p).seen ≡ Some e
-  pub small : mask < 2 ^ n

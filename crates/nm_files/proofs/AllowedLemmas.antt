@@ -6,7 +6,7 @@ use Rattle.std.specs.List.{AllByRecursion, list_all}
 use Rattle.std.specs.Str.{bytes_eq}
 use Rattle.std.proofs.lemmas.Bool.{cases_Bool, and_parts}
 use Rattle.std.proofs.lemmas.List.Elements.{All-cons, All-nil}
-use Rattle.nm_files.specs.declared.entry.Call.{Call}
+use Rattle.nm_files.specs.declared.entry.ScriptCall.{ScriptCall}
 use Rattle.nm_files.specs.declared.fault.Reason.{Reason}
 use Rattle.nm_files.specs.declared.fault.Reason.TheVariants as reason
 use Rattle.nm_files.specs.declared.fault.RunFault.{RunFault}
@@ -42,7 +42,7 @@ some_is : (o : Option Kind) (kind : Kind) → ok_or o reason.Kind ≡ Ok kind �
 some_is None kind e = absurd cc
 some_is (Some k) kind e = let same : k ≡ kind = ok_is k kind e in rw same refl
 
-entry_allowed : (header : Header) (fs : List (List ℕ)) (e : ℕ × Call) → entry_of calls header fs ≡ Ok e → IsEntryOf header e
+entry_allowed : (header : Header) (fs : List (List ℕ)) (e : ℕ × ScriptCall) → entry_of calls header fs ≡ Ok e → IsEntryOf header e
 unfolding entry_of
 entry_allowed header [] e is = absurd cc
 entry_allowed header (a ∷ []) e is = absurd cc
@@ -56,10 +56,10 @@ entry_allowed header (a ∷ b ∷ fs) e is =
     let made = then_is (calls.made k.0 told.0.1) _ e told.2 in
     let values = values_are workers (kind_row k.0) fs told.0.1 both.1 in
     let allowed = found.0 workers header.is_extended bare (and_parts (bytes_eq b (kind_word k.0)) (may_stand header.is_extended bare k.0) found.1).1 values.0 in
-    let so : IfOk {T = Call} {E = Reason} (Ok made.0) (IsAllowed workers header.is_extended) = subst (λ r. IfOk r (IsAllowed workers header.is_extended)) (sym (ap (calls.made k.0) values.1) ∙ made.1) allowed in
+    let so : IfOk {T = ScriptCall} {E = Reason} (Ok made.0) (IsAllowed workers header.is_extended) = subst (λ r. IfOk r (IsAllowed workers header.is_extended)) (sym (ap (calls.made k.0) values.1) ∙ made.1) allowed in
     subst (IsEntryOf header) (ok_is (told.0.0, made.0) e made.2) (worker_below workers a told.0.0 both.0, so)
 
-pub line_allowed : (header : Header) (line : List ℕ) (e : ℕ × Call) → line_of calls header line ≡ Ok e → IsEntryOf header e
+pub line_allowed : (header : Header) (line : List ℕ) (e : ℕ × ScriptCall) → line_of calls header line ≡ Ok e → IsEntryOf header e
 line_allowed header line e is =
     elim (cases_Bool (list_all is_field (fields line))) [
       | inl y ↦ entry_allowed header (fields line) e (rw y at is)

@@ -9,7 +9,7 @@ use Rattle.nm_model.specs.declared.event.Event.TheVariants as event
 use Rattle.nm_model.specs.declared.event.Field.{Field}
 use Rattle.nm_model.specs.declared.event.Op.{Op}
 use Rattle.nm_edge.specs.declared.edge.Side.{Side}
-use Rattle.nm_files.specs.declared.entry.Call.TheVariants as call
+use Rattle.nm_files.specs.declared.entry.ScriptCall.TheVariants as call
 use Rattle.nm_files.specs.declared.fault.Reason.{Reason}
 use Rattle.nm_files.specs.declared.fault.Reason.TheVariants as reason
 use Rattle.nm_files.specs.declared.kind.Kind.{Kind}

@@ -3,7 +3,7 @@
 use Rattle.std.specs.Prelude.{◌<◌, ℕ, List, ◌∷◌, length, ◌==◌, Result, Ok, Err, if◌then◌else◌}
 use Rattle.std.specs.List.{list_all}
 use Rattle.nm_model.specs.declared.event.Event.{Event}
-use Rattle.nm_files.specs.declared.entry.Call.{Call}
+use Rattle.nm_files.specs.declared.entry.ScriptCall.{ScriptCall}
 use Rattle.nm_files.specs.declared.fault.Reason.{Reason}
 use Rattle.nm_files.specs.declared.fault.Reason.TheVariants as reason
 use Rattle.nm_files.specs.declared.header.Command.{Command}
@@ -48,13 +48,13 @@ schedule_of bytes = file_of events Replay bytes
 
 -- a header, and the calls of workers
 abbrev pub Script : Type 0
-Script = File Header (ℕ × Call)
+Script = File Header (ℕ × ScriptCall)
 
 abbrev pub script_of : Command → List ℕ → Result Script Fault
 script_of command bytes = file_of calls command bytes
 
 -- the worker is one of the header's, and its call one that the file may have
-abbrev pub IsEntryOf : Header → ℕ × Call → Type 0
+abbrev pub IsEntryOf : Header → ℕ × ScriptCall → Type 0
 IsEntryOf header e = (e.0 < header.layout.workers)
     × IsAllowed header.layout.workers header.is_extended e.1
 

@@ -5,8 +5,8 @@ use Rattle.std.specs.Option.{ok_or}
 use Rattle.std.specs.Str.{bytes_eq}
 use Rattle.nm_model.specs.declared.event.Event.{Event}
 use Rattle.nm_model.specs.declared.event.Event.TheVariants as event
-use Rattle.nm_files.specs.declared.entry.Call.{Call}
-use Rattle.nm_files.specs.declared.entry.Call.TheVariants as call
+use Rattle.nm_files.specs.declared.entry.ScriptCall.{ScriptCall}
+use Rattle.nm_files.specs.declared.entry.ScriptCall.TheVariants as call
 use Rattle.nm_files.specs.declared.fault.Reason.{Reason}
 use Rattle.nm_files.specs.declared.fault.Reason.TheVariants as reason
 use Rattle.nm_files.specs.declared.kind.Kind.{Kind}
@@ -113,7 +113,7 @@ event_made Advance [] = Ok event.Advance
 event_made kind values = slot_event kind values
 
 -- the call of each kind by the values of its fields
-abbrev pub call_made : Kind → List Value → Result Call Reason
+abbrev pub call_made : Kind → List Value → Result ScriptCall Reason
 call_made Has (Key key ∷ []) = Ok (call.Has key)
 call_made Insert (Key key ∷ []) = Ok (call.Insert key)
 call_made Delete (Key key ∷ []) = Ok (call.Delete key)
@@ -134,13 +134,13 @@ events = record {
 }
 
 -- the lines of a script
-abbrev pub calls : Format Call
+abbrev pub calls : Format ScriptCall
 calls = record {
   kinds = Has ∷ Insert ∷ Delete ∷ Finish ∷ Pin ∷ Unpin ∷ Advance ∷ Collect ∷ Resign ∷ [];
   made = call_made;
 }
 
 -- a worker of so many, and a call that a file may have
-abbrev pub IsAllowed : ℕ → Bool → Call → Type 0
+abbrev pub IsAllowed : ℕ → Bool → ScriptCall → Type 0
 IsAllowed workers is_extended (call.Resign heir) = (is_extended ≡ true) × (heir < workers)
 IsAllowed workers is_extended c = Unit {0}

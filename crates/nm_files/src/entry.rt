@@ -10,7 +10,7 @@ use nm_model::Event;
 
 /// A call of the set by one of its workers.
 #[derive(Clone, Copy, Debug, PartialEq, Eq)]
-pub enum Call {
+pub enum ScriptCall {
     Has(Key),
     Insert(Key),
     Delete(Key),
@@ -24,7 +24,7 @@ pub enum Call {
 }
 
 /// What lines of one format say: their kinds, and what each makes of its values.
-pub trait Entry: Copy {
+pub trait FileEntry: Copy {
     ghost use Rattle.nm_files.specs.Formats.{Format};
 
     ghost format: { Format Self };
@@ -38,7 +38,7 @@ pub trait Entry: Copy {
         ensures { result ≡ format.made kind values.now };
 }
 
-impl Entry for Event {
+impl FileEntry for Event {
     ghost use Rattle.nm_files.specs.Kinds.{events};
 
     ghost format = { events };
@@ -130,7 +130,7 @@ fn removal(kind: Kind, values: &[Value]) -> Result<Event, Reason>
     }
 }
 
-impl Entry for Call {
+impl FileEntry for ScriptCall {
     ghost use Rattle.nm_files.specs.Kinds.{calls};
 
     ghost format = { calls };
@@ -149,17 +149,17 @@ impl Entry for Call {
         ]
     }
 
-    fn made(kind: Kind, values: &[Value]) -> Result<Call, Reason> {
+    fn made(kind: Kind, values: &[Value]) -> Result<ScriptCall, Reason> {
         match (kind, values) {
-            (Kind::Has, [Value::Key(key)]) => Ok(Call::Has(*key)),
-            (Kind::Insert, [Value::Key(key)]) => Ok(Call::Insert(*key)),
-            (Kind::Delete, [Value::Key(key)]) => Ok(Call::Delete(*key)),
-            (Kind::Finish, []) => Ok(Call::Finish),
-            (Kind::Pin, []) => Ok(Call::Pin),
-            (Kind::Unpin, []) => Ok(Call::Unpin),
-            (Kind::Advance, []) => Ok(Call::Advance),
-            (Kind::Collect, []) => Ok(Call::Collect),
-            (Kind::Resign, [Value::Worker(heir)]) => Ok(Call::Resign(*heir)),
+            (Kind::Has, [Value::Key(key)]) => Ok(ScriptCall::Has(*key)),
+            (Kind::Insert, [Value::Key(key)]) => Ok(ScriptCall::Insert(*key)),
+            (Kind::Delete, [Value::Key(key)]) => Ok(ScriptCall::Delete(*key)),
+            (Kind::Finish, []) => Ok(ScriptCall::Finish),
+            (Kind::Pin, []) => Ok(ScriptCall::Pin),
+            (Kind::Unpin, []) => Ok(ScriptCall::Unpin),
+            (Kind::Advance, []) => Ok(ScriptCall::Advance),
+            (Kind::Collect, []) => Ok(ScriptCall::Collect),
+            (Kind::Resign, [Value::Worker(heir)]) => Ok(ScriptCall::Resign(*heir)),
             _ => Err(Reason::Fields),
         }
     }

@@ -6,7 +6,7 @@ ghost use Rattle.nm_files.specs.Files as files;
 ghost use Rattle.nm_files.specs.Entries.{IsEntryOf, ResignsInSerial};
 ghost use Rattle.nm_files.specs.Entries as spec;
 
-use crate::entry::{Call, Entry};
+use crate::entry::{FileEntry, ScriptCall};
 use crate::fault::{Reason, RunFault};
 use crate::header::{Command, Header};
 use crate::line::{first_line_of, line_of};
@@ -26,7 +26,7 @@ pub struct File<'a, T> {
 pub type Schedule<'a> = File<'a, Event>;
 
 /// A file of calls, for `serial` or `stress`.
-pub type Script<'a> = File<'a, Call>;
+pub type Script<'a> = File<'a, ScriptCall>;
 
 const MOST_LINES: u32 = 100_001;
 
@@ -71,7 +71,7 @@ fn checked<T: Drop>(number: u32, line: &[u8], said: Result<T, Reason>) -> Result
 }
 
 /// The entries of the lines from the second on.
-fn entries_of<T: Entry>(
+fn entries_of<T: FileEntry>(
     alloc: Global,
     header: &Header,
     body: &[u8],
@@ -99,7 +99,11 @@ fn entries_of<T: Entry>(
 
 /// What the bytes of a file for that command say. A faulty file is answered by its first faulty
 /// line, numbered from 1, and the least reason of that line.
-fn file_of<T: Entry>(alloc: Global, command: Command, bytes: &[u8]) -> Result<File<'_, T>, RunFault>
+fn file_of<T: FileEntry>(
+    alloc: Global,
+    command: Command,
+    bytes: &[u8],
+) -> Result<File<'_, T>, RunFault>
     ensures says { GivesWhatIsSaid (λ s. record { header = s.header; entries = s.entries.items })
         result (spec.file_of T.format command bytes.now) }
     ensures body { IfOk result (λ s. drop 1 (parts bytes.now) ≡ parts s.body.now) }

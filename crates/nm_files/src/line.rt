@@ -10,7 +10,7 @@ ghost use Rattle.nm_files.specs.Kinds.{events, calls};
 ghost use Rattle.nm_files.specs.Reasons.{reason_of, holds, line_reasons, header_holds, header_reasons};
 ghost use Rattle.nm_files.specs.Entries as spec;
 
-use crate::entry::Entry;
+use crate::entry::FileEntry;
 use crate::fault::Reason;
 use crate::field::is_field;
 use crate::header::{Command, Header, header_of};
@@ -53,7 +53,7 @@ fn fields_of(line: &[u8]) -> ArrayVec<&[u8], 8>
 
 /// The worker and the entry of a line, by its fields.
 #[tactic(auto, unfolding(crate::specs::Entries::entry_of))]
-fn entry_of<T: Entry>(header: &Header, fields: &[&[u8]]) -> Result<(u32, T), Reason>
+fn entry_of<T: FileEntry>(header: &Header, fields: &[&[u8]]) -> Result<(u32, T), Reason>
     ensures { result ≡ spec.entry_of T.format header.now (map (λ f. f.now) fields.now) }
 {
     let [worker, word, arguments @ ..] = fields else {
@@ -71,7 +71,7 @@ fn entry_of<T: Entry>(header: &Header, fields: &[&[u8]]) -> Result<(u32, T), Rea
 }
 
 /// The worker and the entry that a line says, in a file with that header.
-pub fn line_of<T: Entry>(header: &Header, line: &[u8]) -> Result<(u32, T), Reason>
+pub fn line_of<T: FileEntry>(header: &Header, line: &[u8]) -> Result<(u32, T), Reason>
     ensures { result ≡ spec.line_of T.format header.now line.now }
 {
     if !is_formed(line) {

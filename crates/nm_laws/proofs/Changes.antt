@@ -16,7 +16,7 @@ use Rattle.nm_model.specs.declared.reply.Refused.TheVariants.{NoSlot, NotPinned,
 use Rattle.nm_model.specs.declared.knowledge.Seen.{Seen}
 use Rattle.nm_model.specs.declared.ledger.Queued.{Queued}
 use Rattle.nm_model.specs.Maps.{has, is_number}
-use Rattle.nm_model.specs.Memory.{note, node, edge, in_pool, named}
+use Rattle.nm_model.specs.Memory.{announcement, node, edge, in_pool, named}
 use Rattle.nm_model.specs.Ledgers.{label, retire, free, front_of, queued_entry}
 use Rattle.nm_model.specs.Knowledge.{Knowledge, knows, is_private}
 use Rattle.nm_model.specs.Learning.{learn, look_private, look_known}
@@ -93,9 +93,9 @@ module _ (s : State) (w : ℕ) where
   }
 
   sight_changed : (e : Event) → Changed s w e (reply_sight (of s w) s.memory.epoch) (learn w (of s w) Sight (reply_sight (of s w) s.memory.epoch))
-  sight_changed e = cond_both (of s w).brief.unlabelled (Labelled s.memory.epoch) (confirmed (of s w).brief.pin (of s w).brief.note s.memory.epoch) (λ r. Changed s w e r (learn w (of s w) Sight r))
+  sight_changed e = cond_both (of s w).brief.unlabelled (Labelled s.memory.epoch) (confirmed (of s w).brief.pin (of s w).brief.announcement s.memory.epoch) (λ r. Changed s w e r (learn w (of s w) Sight r))
       (λ _. rw (learn_labelled w (of s w) s.memory.epoch) (record { ledgers = Labels refl refl refl; drafts = λ a. a; known = λ o. o; gone = refl }))
-      (λ _. by (of s w).brief.pin (of s w).brief.note)
+      (λ _. by (of s w).brief.pin (of s w).brief.announcement)
     where
       by : (p n : Option ℕ) → Changed s w e (confirmed p n s.memory.epoch) (learn w (of s w) Sight (confirmed p n s.memory.epoch))
       by (Some p) n = rw (learn_saw w (of s w) s.memory.epoch) (keeps _ _ _ refl refl refl refl refl refl (λ ns h. cc) (λ n h. cc))
@@ -186,7 +186,7 @@ module _ (s : State) (w : ℕ) where
       go Announce ok alone = rw (learn_announced w (of s w) (unwrap_or (of s w).brief.seen 0)) (keeps _ _ _ refl refl refl refl refl refl (λ ns h. cc) (λ n h. cc))
       go Leave ok alone = rw (learn_departed w (of s w)) (record { ledgers = Keeps refl refl (λ ns h. cc) (λ n h. cc); drafts = λ a. a; known = λ _ x h. absurd (true≢false (sym h)); gone = refl })
       go (LeaveWith answer) ok alone = rw (learn_leave_with w (of s w) answer, learn_departed w (of s w)) (record { ledgers = Keeps refl refl (λ ns h. cc) (λ n h. cc); drafts = λ a. a; known = λ _ x h. absurd (true≢false (sym h)); gone = refl })
-      go (Scan u) ok alone = scan_changed u (note s.memory u)
+      go (Scan u) ok alone = scan_changed u (announcement s.memory u)
       go Advance ok alone = cond_both (is_number (of s w).brief.seen s.memory.epoch) (Moved (s.memory.epoch + 1)) (Behind s.memory.epoch) (λ r. Changed s w Advance r (learn w (of s w) Advance r))
           (λ _. rw (learn_moved w (of s w) (s.memory.epoch + 1)) (keeps _ _ _ refl refl refl refl refl refl (λ ns h. cc) (λ n h. cc)))
           (λ _. rw (learn_behind w (of s w) s.memory.epoch) (keeps _ _ _ refl refl refl refl refl refl (λ ns h. cc) (λ n h. cc)))

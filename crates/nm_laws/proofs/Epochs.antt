@@ -15,7 +15,7 @@ use Rattle.nm_model.specs.declared.event.Field.TheVariants.{Edge as EdgeOn, Birt
 use Rattle.nm_model.specs.declared.reply.Reply.{Reply}
 use Rattle.nm_model.specs.declared.reply.Reply.TheVariants.{Labelled, Pinned, Missed, Moved, Behind, Claimed, Returned, Freed, BirthIs, EdgeIs, Filled, Linked, Flagged, Was, Cut, Lost, Joined}
 use Rattle.nm_model.specs.Maps.{is_number}
-use Rattle.nm_model.specs.Memory.{Memory, note, edge, put_edge}
+use Rattle.nm_model.specs.Memory.{Memory, announcement, edge, put_edge}
 use Rattle.nm_model.specs.Knowledge.{Knowledge, newcomer}
 use Rattle.nm_model.specs.Learning.{learn, saw, labelling, pinned, moved as advanced, forgotten, look_known, look_private, resigned, inheriting}
 use Rattle.nm_model.specs.Step.{exchanged, reply_sight, confirmed, reply_scan, others_scanned, is_held_back, refusal, reply, write}
@@ -27,8 +27,8 @@ use Rattle.nm_laws.proofs.Learned.{learn_sight_for, learn_leave_with, learn_saw,
 
 -- the announcements, pins, sights and scans of all workers agree with the epoch
 pub record EpochLaw (s : State) : Type 0 where
-  pub announced : (w : ℕ) → note s.memory w ≡ (of s w).brief.note
-  pub noted : (w e : ℕ) → (of s w).brief.pin ≡ Some e → (of s w).brief.note ≡ Some e
+  pub announced : (w : ℕ) → announcement s.memory w ≡ (of s w).brief.announcement
+  pub noted : (w e : ℕ) → (of s w).brief.pin ≡ Some e → (of s w).brief.announcement ≡ Some e
   pub pins : (w e : ℕ) → (of s w).brief.pin ≡ Some e → (e ≤ s.memory.epoch) × (s.memory.epoch ≤ e + 1)
   pub sights : (w e : ℕ) → (of s w).brief.seen ≡ Some e → e ≤ s.memory.epoch
   pub scans : (w u e : ℕ) → (of s w).brief.seen ≡ Some s.memory.epoch → get_or (of s w).scanned u false ≡ true → (of s u).brief.pin ≡ Some e → e ≡ s.memory.epoch
@@ -37,34 +37,34 @@ pub record EpochLaw (s : State) : Type 0 where
 -- two states of knowledge agree on the epochs' part
 pub record Alike (k l : Knowledge) : Type 0 where
   pub seen : l.brief.seen ≡ k.brief.seen
-  pub note : l.brief.note ≡ k.brief.note
+  pub announcement : l.brief.announcement ≡ k.brief.announcement
   pub pin : l.brief.pin ≡ k.brief.pin
   pub scanned : l.scanned ≡ k.scanned
 
 abbrev pub itself : (k : Knowledge) → Alike k k
-itself k = record { seen = refl; note = refl; pin = refl; scanned = refl }
+itself k = record { seen = refl; announcement = refl; pin = refl; scanned = refl }
 
 -- ---- events about slots, and joins, leave that part alone
 
 module _ (w : ℕ) (k : Knowledge) where
   pub alike_claim : (s : ℕ) (r : Reply) → Alike k (learn w k (Claim s) r)
   unfolding learn
-  alike_claim s (Claimed t) = record { seen = refl; note = refl; pin = refl; scanned = refl }
+  alike_claim s (Claimed t) = record { seen = refl; announcement = refl; pin = refl; scanned = refl }
   alike_claim s _ = itself k
 
   pub alike_give : (s : ℕ) (r : Reply) → Alike k (learn w k (Give s) r)
   unfolding learn
-  alike_give s (Returned t) = record { seen = refl; note = refl; pin = refl; scanned = refl }
-  alike_give s (Freed n) = record { seen = refl; note = refl; pin = refl; scanned = refl }
+  alike_give s (Returned t) = record { seen = refl; announcement = refl; pin = refl; scanned = refl }
+  alike_give s (Freed n) = record { seen = refl; announcement = refl; pin = refl; scanned = refl }
   alike_give s _ = itself k
 
   alike_known : (s : ℕ) (f : Field) (r : Reply) → Alike k (look_known k s f r)
-  alike_known s (EdgeOn side) (EdgeIs e) = record { seen = refl; note = refl; pin = refl; scanned = refl }
-  alike_known s Birth (BirthIs b) = record { seen = refl; note = refl; pin = refl; scanned = refl }
+  alike_known s (EdgeOn side) (EdgeIs e) = record { seen = refl; announcement = refl; pin = refl; scanned = refl }
+  alike_known s Birth (BirthIs b) = record { seen = refl; announcement = refl; pin = refl; scanned = refl }
   alike_known s _ _ = itself k
 
   alike_private : (s : ℕ) (f : Field) (r : Reply) → Alike k (look_private k s f r)
-  alike_private s Birth (BirthIs b) = record { seen = refl; note = refl; pin = refl; scanned = refl }
+  alike_private s Birth (BirthIs b) = record { seen = refl; announcement = refl; pin = refl; scanned = refl }
   alike_private s _ _ = itself k
 
   alike_either : (b : Bool) (l m : Knowledge) → Alike k l → Alike k m → Alike k (cond b l m)
@@ -77,42 +77,42 @@ module _ (w : ℕ) (k : Knowledge) where
 
   pub alike_fill : (s : ℕ) (f : Field) (v : ℕ) → Alike k (learn w k (Fill s f v) Filled)
   unfolding learn
-  alike_fill s f v = record { seen = refl; note = refl; pin = refl; scanned = refl }
+  alike_fill s f v = record { seen = refl; announcement = refl; pin = refl; scanned = refl }
 
   pub alike_link : (p : ℕ) (side : Side) (leaf new : ℕ) (r : Reply) → Alike k (learn w k (Link p side leaf new) r)
   unfolding learn
-  alike_link p side leaf new (Linked n) = record { seen = refl; note = refl; pin = refl; scanned = refl }
-  alike_link p side leaf new (Lost e) = record { seen = refl; note = refl; pin = refl; scanned = refl }
+  alike_link p side leaf new (Linked n) = record { seen = refl; announcement = refl; pin = refl; scanned = refl }
+  alike_link p side leaf new (Lost e) = record { seen = refl; announcement = refl; pin = refl; scanned = refl }
   alike_link p side leaf new _ = itself k
 
   pub alike_flag : (p : ℕ) (side : Side) (leaf : ℕ) (r : Reply) → Alike k (learn w k (Flag p side leaf) r)
   unfolding learn
-  alike_flag p side leaf (Flagged n) = record { seen = refl; note = refl; pin = refl; scanned = refl }
-  alike_flag p side leaf (Lost e) = record { seen = refl; note = refl; pin = refl; scanned = refl }
+  alike_flag p side leaf (Flagged n) = record { seen = refl; announcement = refl; pin = refl; scanned = refl }
+  alike_flag p side leaf (Lost e) = record { seen = refl; announcement = refl; pin = refl; scanned = refl }
   alike_flag p side leaf _ = itself k
 
   pub alike_tag : (p : ℕ) (side : Side) (e : Edge) → Alike k (learn w k (Tag p side) (Was e))
   unfolding learn
-  alike_tag p side e = record { seen = refl; note = refl; pin = refl; scanned = refl }
+  alike_tag p side e = record { seen = refl; announcement = refl; pin = refl; scanned = refl }
 
   pub alike_splice : (a : ℕ) (side : Side) (s p : ℕ) (keep : Side) (r : Reply) → Alike k (learn w k (Splice a side s p keep) r)
   unfolding learn
-  alike_splice a side s p keep (Cut ns) = record { seen = refl; note = refl; pin = refl; scanned = refl }
-  alike_splice a side s p keep (Lost e) = record { seen = refl; note = refl; pin = refl; scanned = refl }
+  alike_splice a side s p keep (Cut ns) = record { seen = refl; announcement = refl; pin = refl; scanned = refl }
+  alike_splice a side s p keep (Lost e) = record { seen = refl; announcement = refl; pin = refl; scanned = refl }
   alike_splice a side s p keep _ = itself k
 
   pub alike_join : (v : ℕ) (r : Reply) → Alike k (learn w k (Join v) r)
   unfolding learn
-  alike_join v (Joined ls) = alike_either (w == v) (resigned k) (inheriting k ls) (record { seen = refl; note = refl; pin = refl; scanned = refl }) (record { seen = refl; note = refl; pin = refl; scanned = refl })
+  alike_join v (Joined ls) = alike_either (w == v) (resigned k) (inheriting k ls) (record { seen = refl; announcement = refl; pin = refl; scanned = refl }) (record { seen = refl; announcement = refl; pin = refl; scanned = refl })
   alike_join v _ = itself k
 
 -- ---- the kinds of step
 
 -- nobody's part of the epochs is touched
-pub all_quiet : (s t : State) → t.layout ≡ s.layout → t.memory.epoch ≡ s.memory.epoch → ((u : ℕ) → note t.memory u ≡ note s.memory u) → ((u : ℕ) → Alike (of s u) (of t u)) → EpochLaw s → EpochLaw t
-all_quiet s t layout epoch notes alike law = record {
-  announced = λ w. notes w ∙ (law.announced w ∙ sym (alike w).note);
-  noted = λ w e is. (alike w).note ∙ law.noted w e (sym (alike w).pin ∙ is);
+pub all_quiet : (s t : State) → t.layout ≡ s.layout → t.memory.epoch ≡ s.memory.epoch → ((u : ℕ) → announcement t.memory u ≡ announcement s.memory u) → ((u : ℕ) → Alike (of s u) (of t u)) → EpochLaw s → EpochLaw t
+all_quiet s t layout epoch announcements alike law = record {
+  announced = λ w. announcements w ∙ (law.announced w ∙ sym (alike w).announcement);
+  noted = λ w e is. (alike w).announcement ∙ law.noted w e (sym (alike w).pin ∙ is);
   pins = λ w e is. rw epoch (law.pins w e (sym (alike w).pin ∙ is));
   sights = λ w e is. rw epoch (law.sights w e (sym (alike w).seen ∙ is));
   scans = λ w u e seen scanned is. law.scans w u e (sym (alike w).seen ∙ (seen ∙ ap Some epoch)) (ap (λ xs. get_or xs u false) (sym (alike w).scanned) ∙ scanned) (sym (alike u).pin ∙ is) ∙ sym epoch;
@@ -122,9 +122,9 @@ all_quiet s t layout epoch notes alike law = record {
 -- what the stepping worker owes where the epoch stays
 record Owed (s : State) (w : ℕ) (m : Memory) (k : Knowledge) : Type 0 where
   epoch : m.epoch ≡ s.memory.epoch
-  others : (u : ℕ) → u ≢ w → note m u ≡ note s.memory u
-  announced : note m w ≡ k.brief.note
-  noted : (e : ℕ) → k.brief.pin ≡ Some e → k.brief.note ≡ Some e
+  others : (u : ℕ) → u ≢ w → announcement m u ≡ announcement s.memory u
+  announced : announcement m w ≡ k.brief.announcement
+  noted : (e : ℕ) → k.brief.pin ≡ Some e → k.brief.announcement ≡ Some e
   pins : (e : ℕ) → k.brief.pin ≡ Some e → ((of s w).brief.pin ≡ Some e) ⊎ (e ≡ s.memory.epoch)
   sights : (e : ℕ) → k.brief.seen ≡ Some e → e ≤ s.memory.epoch
   scans : (u e : ℕ) → k.brief.seen ≡ Some s.memory.epoch → get_or k.scanned u false ≡ true → (of s u).brief.pin ≡ Some e → e ≡ s.memory.epoch
@@ -132,8 +132,8 @@ record Owed (s : State) (w : ℕ) (m : Memory) (k : Knowledge) : Type 0 where
 
 stays : (s : State) (w : ℕ) (m : Memory) (k : Knowledge) → w < length s.workers → EpochLaw s → Owed s w m k → EpochLaw (moved s w m k)
 stays s w m k inside law owed = record {
-  announced = each s.layout (λ u x. note m u ≡ x.brief.note) s.workers w k inside owed.announced (λ u ne. owed.others u ne ∙ law.announced u);
-  noted = each s.layout (λ u x. (e : ℕ) → x.brief.pin ≡ Some e → x.brief.note ≡ Some e) s.workers w k inside owed.noted (λ u ne. law.noted u);
+  announced = each s.layout (λ u x. announcement m u ≡ x.brief.announcement) s.workers w k inside owed.announced (λ u ne. owed.others u ne ∙ law.announced u);
+  noted = each s.layout (λ u x. (e : ℕ) → x.brief.pin ≡ Some e → x.brief.announcement ≡ Some e) s.workers w k inside owed.noted (λ u ne. law.noted u);
   pins = each s.layout (λ u x. (e : ℕ) → x.brief.pin ≡ Some e → (e ≤ m.epoch) × (m.epoch ≤ e + 1)) s.workers w k inside
       (λ e is. rw owed.epoch (here e (owed.pins e is))) (λ u ne e is. rw owed.epoch (law.pins u e is));
   sights = each s.layout (λ u x. (e : ℕ) → x.brief.seen ≡ Some e → e ≤ m.epoch) s.workers w k inside
@@ -158,9 +158,9 @@ stays s w m k inside law owed = record {
         (λ scanned is. now_or e (was w e seen scanned) (owed.pins e is)) (λ v ne scanned is. was v e seen scanned is) u scanned
 
 -- the worker's part of the epochs is untouched
-quiet : (s : State) (w : ℕ) (m : Memory) (k : Knowledge) → w < length s.workers → EpochLaw s → m.epoch ≡ s.memory.epoch → ((u : ℕ) → note m u ≡ note s.memory u) → Alike (of s w) k → EpochLaw (moved s w m k)
-quiet s w m k inside law epoch notes alike =
-    all_quiet s (moved s w m k) refl epoch notes (each s.layout (λ u x. Alike (of s u) x) s.workers w k inside alike (λ u ne. itself (of s u))) law
+quiet : (s : State) (w : ℕ) (m : Memory) (k : Knowledge) → w < length s.workers → EpochLaw s → m.epoch ≡ s.memory.epoch → ((u : ℕ) → announcement m u ≡ announcement s.memory u) → Alike (of s w) k → EpochLaw (moved s w m k)
+quiet s w m k inside law epoch announcements alike =
+    all_quiet s (moved s w m k) refl epoch announcements (each s.layout (λ u x. Alike (of s u) x) s.workers w k inside alike (λ u ne. itself (of s u))) law
 
 -- ---- sight, announce, leave, scan
 
@@ -173,13 +173,13 @@ still_marked : (k : Knowledge) (e n : ℕ) → length k.scanned ≡ n → length
 still_marked k e n size = cond_both (is_number k.brief.seen e) k.scanned (forgotten k.scanned) (λ xs. length xs ≡ n) (λ _. size) (λ _. length-replicate (length k.scanned) false ∙ size)
 
 -- the epoch was read, and the pin is as it was
-only_saw : (s : State) (w : ℕ) (k : Knowledge) → w < length s.workers → EpochLaw s → k.brief.note ≡ (of s w).brief.note → k.brief.pin ≡ (of s w).brief.pin
+only_saw : (s : State) (w : ℕ) (k : Knowledge) → w < length s.workers → EpochLaw s → k.brief.announcement ≡ (of s w).brief.announcement → k.brief.pin ≡ (of s w).brief.pin
     → k.brief.seen ≡ Some s.memory.epoch → k.scanned ≡ cond (is_number (of s w).brief.seen s.memory.epoch) (of s w).scanned (forgotten (of s w).scanned) → EpochLaw (moved s w s.memory k)
-only_saw s w k inside law note pin seen scanned = stays s w s.memory k inside law record {
+only_saw s w k inside law announcement pin seen scanned = stays s w s.memory k inside law record {
   epoch = refl;
   others = λ u ne. refl;
-  announced = law.announced w ∙ sym note;
-  noted = λ e is. note ∙ law.noted w e (sym pin ∙ is);
+  announced = law.announced w ∙ sym announcement;
+  noted = λ e is. announcement ∙ law.noted w e (sym pin ∙ is);
   pins = λ e is. inl (sym pin ∙ is);
   sights = λ e is. le_of_eq (sym (same_Some _ _ (sym seen ∙ is)));
   scans = λ u e _ was is. let before = scans_kept (of s w) s.memory.epoch u (ap (λ xs. get_or xs u false) (sym scanned) ∙ was) in law.scans w u e before.0 before.1 is;
@@ -188,14 +188,14 @@ only_saw s w k inside law note pin seen scanned = stays s w s.memory k inside la
 
 sight : (s : State) (w : ℕ) → w < length s.workers → EpochLaw s → EpochLaw (moved s w s.memory (learn w (of s w) Sight (reply_sight (of s w) s.memory.epoch)))
 sight s w inside law =
-    cond_both (of s w).brief.unlabelled (Labelled s.memory.epoch) (confirmed (of s w).brief.pin (of s w).brief.note s.memory.epoch) (λ r. EpochLaw (moved s w s.memory (learn w (of s w) Sight r)))
+    cond_both (of s w).brief.unlabelled (Labelled s.memory.epoch) (confirmed (of s w).brief.pin (of s w).brief.announcement s.memory.epoch) (λ r. EpochLaw (moved s w s.memory (learn w (of s w) Sight r)))
     (λ _. rw (learn_labelled w (of s w) s.memory.epoch) (only_saw s w (labelling (saw (of s w) s.memory.epoch) s.memory.epoch) inside law refl refl refl refl))
-    (λ _. by (of s w).brief.pin (of s w).brief.note refl)
+    (λ _. by (of s w).brief.pin (of s w).brief.announcement refl)
   where
     seen : EpochLaw (moved s w s.memory (saw (of s w) s.memory.epoch))
     seen = only_saw s w (saw (of s w) s.memory.epoch) inside law refl refl refl refl
 
-    confirms : (of s w).brief.note ≡ Some s.memory.epoch → EpochLaw (moved s w s.memory (pinned (saw (of s w) s.memory.epoch) s.memory.epoch))
+    confirms : (of s w).brief.announcement ≡ Some s.memory.epoch → EpochLaw (moved s w s.memory (pinned (saw (of s w) s.memory.epoch) s.memory.epoch))
     confirms is = stays s w s.memory (pinned (saw (of s w) s.memory.epoch) s.memory.epoch) inside law record {
       epoch = refl;
       others = λ u ne. refl;
@@ -207,7 +207,7 @@ sight s w inside law =
       marks = still_marked (of s w) s.memory.epoch s.layout.workers (law.marks w);
     }
 
-    by : (p n : Option ℕ) → (of s w).brief.note ≡ n → EpochLaw (moved s w s.memory (learn w (of s w) Sight (confirmed p n s.memory.epoch)))
+    by : (p n : Option ℕ) → (of s w).brief.announcement ≡ n → EpochLaw (moved s w s.memory (learn w (of s w) Sight (confirmed p n s.memory.epoch)))
     by (Some p) n is = rw (learn_saw w (of s w) s.memory.epoch) seen
     by None None is = rw (learn_saw w (of s w) s.memory.epoch) seen
     by None (Some a) is = cond_both (a == s.memory.epoch) (Pinned s.memory.epoch) (Missed s.memory.epoch) (λ r. EpochLaw (moved s w s.memory (learn w (of s w) Sight r)))
@@ -215,12 +215,12 @@ sight s w inside law =
         (λ _. rw (learn_missed w (of s w) s.memory.epoch) seen)
 
 -- the own announcement changes while there is no pin
-reannounced : (s : State) (w : ℕ) (n : Option ℕ) (k : Knowledge) → w < length s.workers → w < length s.memory.notes → EpochLaw s
-    → k.brief.note ≡ n → k.brief.pin ≡ None → k.brief.seen ≡ (of s w).brief.seen → k.scanned ≡ (of s w).scanned → EpochLaw (moved s w (record s.memory { notes = set s.memory.notes w n }) k)
-reannounced s w n k inside place law note pin seen scanned = stays s w (record s.memory { notes = set s.memory.notes w n }) k inside law record {
+reannounced : (s : State) (w : ℕ) (n : Option ℕ) (k : Knowledge) → w < length s.workers → w < length s.memory.announcements → EpochLaw s
+    → k.brief.announcement ≡ n → k.brief.pin ≡ None → k.brief.seen ≡ (of s w).brief.seen → k.scanned ≡ (of s w).scanned → EpochLaw (moved s w (record s.memory { announcements = set s.memory.announcements w n }) k)
+reannounced s w n k inside place law announcement pin seen scanned = stays s w (record s.memory { announcements = set s.memory.announcements w n }) k inside law record {
   epoch = refl;
-  others = λ u ne. get_or-set_other s.memory.notes w u n None ne;
-  announced = get_or-set_same s.memory.notes w n None place ∙ sym note;
+  others = λ u ne. get_or-set_other s.memory.announcements w u n None ne;
+  announced = get_or-set_same s.memory.announcements w n None place ∙ sym announcement;
   noted = λ e is. absurd (none-some e (sym pin ∙ is));
   pins = λ e is. absurd (none-some e (sym pin ∙ is));
   sights = λ e is. law.sights w e (sym seen ∙ is);
@@ -251,10 +251,10 @@ scanned_more s w xs inside law size more = stays s w s.memory _ inside law recor
     go u e saw is (inl before) = law.scans w u e saw before is
     go u e saw is (inr now) = now e saw is
 
-scan : (s : State) (w v : ℕ) → w < length s.workers → EpochLaw s → v < s.layout.workers → EpochLaw (moved s w s.memory (learn w (of s w) (Scan v) (reply_scan (note s.memory v))))
-scan s w v inside law there = go (note s.memory v) refl
+scan : (s : State) (w v : ℕ) → w < length s.workers → EpochLaw s → v < s.layout.workers → EpochLaw (moved s w s.memory (learn w (of s w) (Scan v) (reply_scan (announcement s.memory v))))
+scan s w v inside law there = go (announcement s.memory v) refl
   where
-    noted : (n : Option ℕ) (e : ℕ) → note s.memory v ≡ n → (of s v).brief.pin ≡ Some e → n ≡ Some e
+    noted : (n : Option ℕ) (e : ℕ) → announcement s.memory v ≡ n → (of s v).brief.pin ≡ Some e → n ≡ Some e
     noted n e is pin = sym is ∙ (law.announced v ∙ law.noted v e pin)
 
     marked : (b : Bool) → ((e : ℕ) → b ≡ true → (of s w).brief.seen ≡ Some s.memory.epoch → (of s v).brief.pin ≡ Some e → e ≡ s.memory.epoch) → EpochLaw (moved s w s.memory (record (of s w) { scanned = set (of s w).scanned v b }))
@@ -264,7 +264,7 @@ scan s w v inside law there = go (note s.memory v) refl
         one u (inl here) = inr (λ e seen pin. holds e here.1 seen (rw here.0 at pin))
         one u (inr before) = inl before
 
-    go : (n : Option ℕ) → note s.memory v ≡ n → EpochLaw (moved s w s.memory (learn w (of s w) (Scan v) (reply_scan n)))
+    go : (n : Option ℕ) → announcement s.memory v ≡ n → EpochLaw (moved s w s.memory (learn w (of s w) (Scan v) (reply_scan n)))
     go None is = rw (learn_idle w (of s w) v) (marked true (λ e _ _ pin. absurd (none-some e (noted None e is pin))))
     go (Some n) is = rw (learn_in w (of s w) v n) (marked (is_number (of s w).brief.seen n) (λ e at seen pin. sym (same_Some _ _ (noted (Some n) e is pin)) ∙ sym (same_Some _ _ (sym seen ∙ number_is _ n at))))
 
@@ -285,8 +285,8 @@ advance : (s : State) (w : ℕ) → length s.workers ≡ s.layout.workers → w 
     → is_number (of s w).brief.seen s.memory.epoch ≡ true
     → EpochLaw (moved s w (record s.memory { epoch = s.memory.epoch + 1 }) (advanced (of s w) (s.memory.epoch + 1)))
 advance s w size inside law all free at = record {
-  announced = each s.layout (λ u x. note s.memory u ≡ x.brief.note) s.workers w _ inside (law.announced w) (λ u ne. law.announced u);
-  noted = each s.layout (λ u x. (e : ℕ) → x.brief.pin ≡ Some e → x.brief.note ≡ Some e) s.workers w _ inside (law.noted w) (λ u ne. law.noted u);
+  announced = each s.layout (λ u x. announcement s.memory u ≡ x.brief.announcement) s.workers w _ inside (law.announced w) (λ u ne. law.announced u);
+  noted = each s.layout (λ u x. (e : ℕ) → x.brief.pin ≡ Some e → x.brief.announcement ≡ Some e) s.workers w _ inside (law.noted w) (λ u ne. law.noted u);
   pins = each s.layout (λ u x. (e : ℕ) → x.brief.pin ≡ Some e → (e ≤ s.memory.epoch + 1) × (s.memory.epoch + 1 ≤ e + 1)) s.workers w _ inside
       (λ e pin. let same = own (of s w).brief.pin refl free e pin in omega arith)
       (λ u ne e pin. let same = other u ne e pin in omega arith);
@@ -347,8 +347,8 @@ epoch_step s w e staffed law ok = go e ok.event
     inside : w < length s.workers
     inside = let lt = ok.worker in let size = staffed.workers in omega arith
 
-    place : w < length s.memory.notes
-    place = let lt = ok.worker in let size = staffed.notes in omega arith
+    place : w < length s.memory.announcements
+    place = let lt = ok.worker in let size = staffed.announcements in omega arith
 
     go : (e : Event) → refusal_of s w e ≡ None → EpochLaw (applied s w e)
     go Sight ok = sight s w inside law

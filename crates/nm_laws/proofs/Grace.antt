@@ -18,7 +18,7 @@ use Rattle.nm_model.specs.declared.trace.Turn.{Turn}
 use Rattle.nm_model.specs.declared.ledger.Queued.{Queued}
 use Rattle.nm_model.specs.declared.ledger.Ledger.{Ledger}
 use Rattle.nm_model.specs.Maps.{is_number}
-use Rattle.nm_model.specs.Memory.{Memory, note, edge, put_edge}
+use Rattle.nm_model.specs.Memory.{Memory, announcement, edge, put_edge}
 use Rattle.nm_model.specs.Ledgers.{held, unlabelled, with_label, labelled, with_cut}
 use Rattle.nm_model.specs.Knowledge.{Knowledge}
 use Rattle.nm_model.specs.Learning.{learn}
@@ -68,10 +68,10 @@ leave_departs e is = absurd is
 
 module _ (w : ℕ) (k : Knowledge) (e : ℕ) (pin : k.brief.pin ≡ Some e) where
   sight_pin : (n : ℕ) → (learn w k Sight (reply_sight k n)).brief.pin ≡ Some e
-  sight_pin n = cond_both k.brief.unlabelled (Labelled n) (confirmed k.brief.pin k.brief.note n) (λ r. (learn w k Sight r).brief.pin ≡ Some e)
+  sight_pin n = cond_both k.brief.unlabelled (Labelled n) (confirmed k.brief.pin k.brief.announcement n) (λ r. (learn w k Sight r).brief.pin ≡ Some e)
       (λ _. rw (learn_labelled w k n) pin) (λ _. by k.brief.pin refl)
     where
-      by : (o : Option ℕ) → k.brief.pin ≡ o → (learn w k Sight (confirmed o k.brief.note n)).brief.pin ≡ Some e
+      by : (o : Option ℕ) → k.brief.pin ≡ o → (learn w k Sight (confirmed o k.brief.announcement n)).brief.pin ≡ Some e
       by None is = absurd (none-some e (sym is ∙ pin))
       by (Some p) is = rw (learn_saw w k n) pin
 
@@ -91,7 +91,7 @@ own_pin s w (SightFor op key) p alone pin = inr (rw (learn_sight_for w (of s w) 
 own_pin s w Announce p alone pin = inr (rw (learn_announced w (of s w) _) pin)
 own_pin s w Leave p alone pin = inl tt
 own_pin s w (LeaveWith answer) p alone pin = inl tt
-own_pin s w (Scan u) p alone pin = inr (scan_pin w (of s w) p pin u (note s.memory u))
+own_pin s w (Scan u) p alone pin = inr (scan_pin w (of s w) p pin u (announcement s.memory u))
 own_pin s w Advance p alone pin = inr (advance_pin w (of s w) p pin (is_number (of s w).brief.seen s.memory.epoch) (s.memory.epoch + 1) s.memory.epoch)
 own_pin s w (Claim x) p alone pin = inr ((alike_claim w (of s w) x _).pin ∙ pin)
 own_pin s w (Give x) p alone pin = inr ((alike_give w (of s w) x _).pin ∙ pin)

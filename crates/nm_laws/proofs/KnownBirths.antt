@@ -21,7 +21,7 @@ use Rattle.nm_model.specs.declared.memory.Node.{Node}
 use Rattle.nm_model.specs.declared.knowledge.Seen.{Seen}
 use Rattle.nm_model.specs.declared.knowledge.Draft.{Draft}
 use Rattle.nm_model.specs.Maps.{get, put, without, is_number}
-use Rattle.nm_model.specs.Memory.{Memory, blank, node, edge, in_pool, note, named, with_edge, put_node, put_edge}
+use Rattle.nm_model.specs.Memory.{Memory, blank, node, edge, in_pool, announcement, named, with_edge, put_node, put_edge}
 use Rattle.nm_model.specs.Ledgers.{front_of}
 use Rattle.nm_model.specs.Knowledge.{Knowledge, unread, unfilled, knows, is_private, seen_of, draft_of, read, beside}
 use Rattle.nm_model.specs.Learning.{learn, saw, pinned, met, with_read, read_edge, look_private, look_known, filled_in, linked_in, flag_to}
@@ -254,9 +254,9 @@ module _ (s : State) (h : ℕ → ℕ) (law : Lawful s h) (w : ℕ) where
       root false false = refl
 
   sight_fits : Fits s.memory (of s w) → Fits s.memory (learn w (of s w) Sight (reply_sight (of s w) s.memory.epoch))
-  sight_fits fits = cond_both (of s w).brief.unlabelled (Labelled s.memory.epoch) (confirmed (of s w).brief.pin (of s w).brief.note s.memory.epoch) (λ r. Fits s.memory (learn w (of s w) Sight r))
+  sight_fits fits = cond_both (of s w).brief.unlabelled (Labelled s.memory.epoch) (confirmed (of s w).brief.pin (of s w).brief.announcement s.memory.epoch) (λ r. Fits s.memory (learn w (of s w) Sight r))
       (λ _. rw (learn_labelled w (of s w) s.memory.epoch) (quiet_fits s.memory _ (itself s.memory) (less_known (of s w) _ refl refl) fits))
-      (λ _. by (of s w).brief.pin (of s w).brief.note)
+      (λ _. by (of s w).brief.pin (of s w).brief.announcement)
     where
       seen' : Fits s.memory (saw (of s w) s.memory.epoch)
       seen' = quiet_fits s.memory _ (itself s.memory) (less_known (of s w) _ refl refl) fits
@@ -339,7 +339,7 @@ module _ (s : State) (h : ℕ → ℕ) (law : Lawful s h) (w : ℕ) where
       go Announce ok alone = rw (learn_announced w (of s w) _) (quiet_fits _ _ (λ x. record { birth = refl; key = refl }) (less_known (of s w) _ refl refl) fits)
       go Leave ok alone = rw (learn_departed w (of s w)) (quiet_fits _ _ (λ x. record { birth = refl; key = refl }) (record { seen = λ x b is. absurd (none-some b is); drafts = λ x. inl refl }) fits)
       go (LeaveWith answer) ok alone = rw (learn_leave_with w (of s w) answer, learn_departed w (of s w)) (quiet_fits _ _ (λ x. record { birth = refl; key = refl }) (record { seen = λ x b is. absurd (none-some b is); drafts = λ x. inl refl }) fits)
-      go (Scan u) ok alone = by (note s.memory u)
+      go (Scan u) ok alone = by (announcement s.memory u)
         where
           by : (o : Option ℕ) → Fits s.memory (learn w (of s w) (Scan u) (reply_scan o))
           by None = rw (learn_idle w (of s w) u) (quiet_fits _ _ (itself s.memory) (less_known (of s w) _ refl refl) fits)

@@ -32,7 +32,7 @@ module _ (w : ℕ) (k : Knowledge) where
   unfolding learn
   learn_missed e = refl
 
-  pub learn_announced : (e : ℕ) → learn w k Announce (Announced e) ≡ record k { brief = record k.brief { note = Some e } }
+  pub learn_announced : (e : ℕ) → learn w k Announce (Announced e) ≡ record k { brief = record k.brief { announcement = Some e } }
   unfolding learn
   learn_announced e = refl
 

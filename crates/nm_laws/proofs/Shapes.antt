@@ -88,7 +88,7 @@ unfolding applied
 shaped_by s w e k h row =
     let long = written_as_long s.memory (of s w) w e in
     record {
-      notes = long.notes ∙ h.notes;
+      announcements = long.announcements ∙ h.announcements;
       nodes = long.nodes ∙ h.nodes;
       pool = long.pool ∙ h.pool;
       workers = length-set s.workers w k ∙ h.workers;
@@ -105,7 +105,7 @@ shaped_step s w (Join v) h allowed =
     let first = shaped_by s w (Join v) _ h (row_learn s.layout.workers w (of s w) (Join v) _ (row_of s w h allowed.worker)) in
     let n = s.layout.workers in
     record {
-      notes = first.notes;
+      announcements = first.announcements;
       nodes = first.nodes;
       pool = first.pool;
       workers = length-set _ v _ ∙ first.workers;
@@ -118,7 +118,7 @@ row_newcomer L w = record { scanned = length-replicate _ _; ledgers = length-set
 
 shaped_start : (L : Layout) → IsLayout L → IsShaped (start L)
 shaped_start L fits = record {
-  notes = length-replicate L.workers None;
+  announcements = length-replicate L.workers None;
   nodes = let least = fits.least in let rest = length-replicate (L.nodes - 5) blank in omega arith;
   pool = let least = fits.least in let rest = length-replicate (L.nodes - 5) true in omega arith;
   workers = length-map-range_with_len (newcomer L) 0 L.workers;

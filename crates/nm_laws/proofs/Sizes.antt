@@ -16,56 +16,56 @@ use Rattle.nm_model.specs.Runs.{State, of, start, applied}
 
 -- the words of m have the lengths that those of n have
 pub record AsLong (m n : Memory) : Type 0 where
-  pub notes : length m.notes ≡ length n.notes
+  pub announcements : length m.announcements ≡ length n.announcements
   pub nodes : length m.nodes ≡ length n.nodes
   pub pool : length m.pool ≡ length n.pool
 
 as_itself : (m : Memory) → AsLong m m
-as_itself m = record { notes = refl; nodes = refl; pool = refl }
+as_itself m = record { announcements = refl; nodes = refl; pool = refl }
 
 exchange_as_long : (m : Memory) (p : ℕ) (side : Side) (slot : ℕ) (e : Edge) → AsLong (exchanged m p side slot e) m
 exchange_as_long m p side slot e = cond_both (is_to (edge m p side) slot) (put_edge m p side e) m (λ x. AsLong x m)
-    (λ _. record { notes = refl; nodes = length-set _ p _; pool = refl }) (λ _. as_itself m)
+    (λ _. record { announcements = refl; nodes = length-set _ p _; pool = refl }) (λ _. as_itself m)
 
 pub written_as_long : (m : Memory) (k : Knowledge) (w : ℕ) (e : Event) → AsLong (write m k w e) m
 unfolding write
 written_as_long m k w Sight = as_itself m
 written_as_long m k w (SightFor op key) = as_itself m
-written_as_long m k w Announce = record { notes = length-set _ w _; nodes = refl; pool = refl }
-written_as_long m k w Leave = record { notes = length-set _ w _; nodes = refl; pool = refl }
-written_as_long m k w (LeaveWith answer) = record { notes = length-set _ w _; nodes = refl; pool = refl }
+written_as_long m k w Announce = record { announcements = length-set _ w _; nodes = refl; pool = refl }
+written_as_long m k w Leave = record { announcements = length-set _ w _; nodes = refl; pool = refl }
+written_as_long m k w (LeaveWith answer) = record { announcements = length-set _ w _; nodes = refl; pool = refl }
 written_as_long m k w (Scan u) = as_itself m
-written_as_long m k w Advance = cond_both (is_number k.brief.seen m.epoch) (record m { epoch = m.epoch + 1 }) m (λ x. AsLong x m) (λ _. record { notes = refl; nodes = refl; pool = refl }) (λ _. as_itself m)
-written_as_long m k w (Claim s) = record { notes = refl; nodes = refl; pool = length-set _ s _ }
-written_as_long m k w (Give s) = record { notes = refl; nodes = refl; pool = length-set _ s _ }
+written_as_long m k w Advance = cond_both (is_number k.brief.seen m.epoch) (record m { epoch = m.epoch + 1 }) m (λ x. AsLong x m) (λ _. record { announcements = refl; nodes = refl; pool = refl }) (λ _. as_itself m)
+written_as_long m k w (Claim s) = record { announcements = refl; nodes = refl; pool = length-set _ s _ }
+written_as_long m k w (Give s) = record { announcements = refl; nodes = refl; pool = length-set _ s _ }
 written_as_long m k w (Look s f) = as_itself m
-written_as_long m k w (Fill s f v) = record { notes = refl; nodes = length-set _ s _; pool = refl }
+written_as_long m k w (Fill s f v) = record { announcements = refl; nodes = length-set _ s _; pool = refl }
 written_as_long m k w (Link p side leaf new) = exchange_as_long m p side leaf _
 written_as_long m k w (Flag p side leaf) = exchange_as_long m p side leaf _
-written_as_long m k w (Tag p side) = record { notes = refl; nodes = length-set _ p _; pool = refl }
+written_as_long m k w (Tag p side) = record { announcements = refl; nodes = length-set _ p _; pool = refl }
 written_as_long m k w (Splice a side x p keep) = exchange_as_long m a side x _
 written_as_long m k w (Join v) = as_itself m
 
 -- there are as many workers as the layout says, each with its announcement
 pub record Staffed (s : State) : Type 0 where
   pub workers : length s.workers ≡ s.layout.workers
-  pub notes : length s.memory.notes ≡ s.layout.workers
+  pub announcements : length s.memory.announcements ≡ s.layout.workers
 
 pub staffed_step : (s : State) (w : ℕ) (e : Event) → Staffed s → Staffed (applied s w e)
 unfolding applied
 staffed_step s w (Join v) staffed = record {
   workers = length-set _ v _ ∙ (length-set s.workers w _ ∙ staffed.workers);
-  notes = (written_as_long s.memory (of s w) w (Join v)).notes ∙ staffed.notes;
+  announcements = (written_as_long s.memory (of s w) w (Join v)).announcements ∙ staffed.announcements;
 }
 staffed_step s w e staffed = record {
   workers = length-set s.workers w _ ∙ staffed.workers;
-  notes = (written_as_long s.memory (of s w) w e).notes ∙ staffed.notes;
+  announcements = (written_as_long s.memory (of s w) w e).announcements ∙ staffed.announcements;
 }
 
 pub staffed_start : (L : Layout) → Staffed (start L)
 staffed_start L = record {
   workers = length-map-range_with_len (newcomer L) 0 L.workers;
-  notes = length-replicate L.workers _;
+  announcements = length-replicate L.workers _;
 }
 
 -- there is room for each slot, slot 0 included

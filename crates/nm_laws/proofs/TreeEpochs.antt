@@ -168,9 +168,9 @@ module _ (N : ℕ) (m : Memory) (kn : ℕ → Knowledge) (h : ℕ → ℕ) (w : 
 
   pub sight_view : ((u p : ℕ) → (kn u).brief.pin ≡ Some p → p ≤ m.epoch) → TreeLaw N (view m (with_worker kn w (learn w (kn w) Sight (reply_sight (kn w) m.epoch))) h)
   sight_view pins =
-      cond_both (kn w).brief.unlabelled (Labelled m.epoch) (confirmed (kn w).brief.pin (kn w).brief.note m.epoch) (λ r. TreeLaw N (view m (with_worker kn w (learn w (kn w) Sight r)) h))
+      cond_both (kn w).brief.unlabelled (Labelled m.epoch) (confirmed (kn w).brief.pin (kn w).brief.announcement m.epoch) (λ r. TreeLaw N (view m (with_worker kn w (learn w (kn w) Sight r)) h))
       (λ _. rw (learn_labelled w (kn w) m.epoch) (labels_view N m kn h w law m.epoch pins))
-      (λ _. by (kn w).brief.pin (kn w).brief.note)
+      (λ _. by (kn w).brief.pin (kn w).brief.announcement)
     where
       seen : TreeLaw N (view m (with_worker kn w (saw (kn w) m.epoch)) h)
       seen = brief_view (saw (kn w) m.epoch) refl refl refl refl
@@ -198,7 +198,7 @@ leave_view N m kn h w law = rw (learn_departed w (kn w)) (subst (λ (f : ℕ →
     (brief_view N m kn1 h w (repins_view N m kn h w None law) left (ap (λ y. y.brief.pin) (sym mine)) (ap (λ y. y.known) (sym mine)) (ap (λ y. y.drafts) (sym mine)) (ap (λ y. y.ledgers) (sym mine))))
   where
     left : Knowledge
-    left = record (kn w) { brief = record (kn w).brief { note = None; pin = None }; known = [] }
+    left = record (kn w) { brief = record (kn w).brief { announcement = None; pin = None }; known = [] }
 
     kn1 : ℕ → Knowledge
     kn1 = with_worker kn w (repinned (forgetful (kn w)) None)

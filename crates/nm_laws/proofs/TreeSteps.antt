@@ -15,7 +15,7 @@ use Rattle.nm_model.specs.declared.reply.Refused.TheVariants.{NoSlot, NotPinned,
 use Rattle.nm_model.specs.declared.ledger.Queued.{Queued}
 use Rattle.nm_model.specs.declared.ledger.Ledger.{Ledger}
 use Rattle.nm_model.specs.Maps.{or_else, is_number}
-use Rattle.nm_model.specs.Memory.{note}
+use Rattle.nm_model.specs.Memory.{announcement}
 use Rattle.nm_model.specs.Ledgers.{held, queue_of, front_of, taken_over}
 use Rattle.nm_model.specs.Knowledge.{Knowledge, knows, is_private, draft_of, read, is_flagged, knows_leaf}
 use Rattle.nm_model.specs.Learning.{learn}
@@ -116,7 +116,7 @@ module _ (s : State) (h : ℕ → ℕ) (law : Lawful s h) (w : ℕ) where
       go Announce ok alone = announce_view s.layout.nodes (write s.memory (of s w) w Announce) (of s) h w law.tree (unwrap_or (of s w).brief.seen 0)
       go Leave ok alone = leave_view s.layout.nodes (write s.memory (of s w) w Leave) (of s) h w law.tree
       go (LeaveWith answer) ok alone = rw (learn_leave_with w (of s w) answer) (leave_view s.layout.nodes (write s.memory (of s w) w Leave) (of s) h w law.tree)
-      go (Scan u) ok alone = scan_view s.layout.nodes s.memory (of s) h w law.tree u (note s.memory u)
+      go (Scan u) ok alone = scan_view s.layout.nodes s.memory (of s) h w law.tree u (announcement s.memory u)
       go Advance ok alone = cond_both (is_number (of s w).brief.seen s.memory.epoch) (record s.memory { epoch = s.memory.epoch + 1 }) s.memory
           (λ m. TreeLaw s.layout.nodes (view m (with_worker (of s) w (learn w (of s w) Advance (reply_of s w Advance))) h))
           (λ _. advance_view s.layout.nodes (record s.memory { epoch = s.memory.epoch + 1 }) (of s) h w law.tree (is_number (of s w).brief.seen s.memory.epoch) (s.memory.epoch + 1) s.memory.epoch)

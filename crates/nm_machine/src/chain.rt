@@ -4,11 +4,11 @@ ghost use Rattle.nm_model.specs.Knowledge.{read, slot_read, leads_on, onward, wa
 ghost use Rattle.nm_model.specs.Step.{is_frozen, kept};
 
 use crate::known::{goes_by, slot_read};
-use crate::worker::Worker;
+use crate::worker::WorkerState;
 use nm_edge::{Edge, Layout, Side};
 use std::alloc::{AllocError, Global};
 
-impl Worker {
+impl WorkerState {
     // Whether the edge on a side is known tagged, and its twin known flagged.
     fn leads_on(&self, slot: u32, side: Side) -> bool
         ensures { result ≡ leads_on self.now slot side }

@@ -28,7 +28,7 @@ impl Machine {
         ensures { Admits (refusal_of self.now worker (event.SightFor op key)) result }
     {
         let brief = self.workers[worker].brief();
-        if brief.note.is_none() || brief.pin.is_some() {
+        if brief.announcement.is_none() || brief.pin.is_some() {
             return Err(Refused::NotReady);
         }
         Ok(())
@@ -59,7 +59,7 @@ impl Machine {
         ensures { Applies self.old self.new worker event.Announce result }
     {
         let epoch = self.workers[worker].brief().seen.unwrap_or(0);
-        self.notes[worker] = Some(epoch);
+        self.announcements[worker] = Some(epoch);
         self.workers[worker].announce(epoch);
         Reply::Announced(epoch)
     }
@@ -80,7 +80,7 @@ impl Machine {
         requires is_there { worker < length self.old.workers }
         ensures { Applies self.old self.new worker event.Leave result }
     {
-        self.notes[worker] = None;
+        self.announcements[worker] = None;
         self.workers[worker].leave();
         Reply::Departed
     }
@@ -112,8 +112,8 @@ impl Machine {
         requires { IsAdmitted self.old worker (event.Scan other) }
         ensures { Applies self.old self.new worker (event.Scan other) result }
     {
-        let note = self.notes[other as usize];
-        self.workers[worker].scan(other as usize, note)
+        let announcement = self.announcements[other as usize];
+        self.workers[worker].scan(other as usize, announcement)
     }
 
     /// Whether the worker has seen all others at its epoch, or idle.

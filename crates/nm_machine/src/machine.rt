@@ -8,7 +8,7 @@ ghost use Rattle.nm_model.specs.Reports.{holder, ledger_of};
 ghost use Rattle.nm_model.specs.Answers.{IsAnswer, IsShaped};
 ghost use Rattle.nm_machine.specs.Admission.{Admits, IsAdmitted, AppliesOrKeeps};
 
-use crate::worker::Worker;
+use crate::worker::WorkerState;
 use nm_edge::{Edge, Layout, NodeId, Side};
 use nm_model::event::Event;
 use nm_model::ledger::Ledger;
@@ -23,10 +23,10 @@ pub struct Machine {
     pub alloc: Global,
     pub layout: Layout,
     pub epoch: u64,
-    pub notes: Vec<Option<u64>>,
+    pub announcements: Vec<Option<u64>>,
     pub nodes: Vec<Node>,
     pub pool: Vec<bool>,
-    pub workers: Vec<Worker>,
+    pub workers: Vec<WorkerState>,
 }
 
 impl Model for Machine {
@@ -38,7 +38,7 @@ impl Model for Machine {
       layout = m.layout;
       memory = record {
         epoch = m.epoch;
-        notes = m.notes.items;
+        announcements = m.announcements.items;
         nodes = m.nodes.items;
         pool = m.pool.items;
       };
@@ -54,13 +54,13 @@ impl Machine {
         let workers = layout.workers();
         let mut newcomers = Vec::with_capacity(alloc, workers as usize)?;
         for number in 0..workers {
-            newcomers.push(Worker::new(alloc, layout, number)?)?;
+            newcomers.push(WorkerState::new(alloc, layout, number)?)?;
         }
         Ok(Machine {
             alloc,
             layout,
             epoch: 0,
-            notes: vec![in alloc; None; workers as usize]?,
+            announcements: vec![in alloc; None; workers as usize]?,
             nodes: memory::opening_nodes(alloc, layout)?,
             pool: memory::opening_pool(alloc, layout)?,
             workers: newcomers,

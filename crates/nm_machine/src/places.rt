@@ -5,7 +5,7 @@ ghost use Rattle.nm_model.specs.Lawful.{CountsAddUp};
 ghost use Rattle.nm_model.specs.Reports.{all_private, all_queued, counts};
 
 use crate::machine::Machine;
-use crate::worker::Worker;
+use crate::worker::WorkerState;
 use nm_model::Places;
 
 impl Machine {
@@ -37,7 +37,7 @@ fn pooled(pool: &Vec<bool>) -> usize
 }
 
 // How many slots are private to a worker.
-fn private(workers: &Vec<Worker>) -> usize
+fn private(workers: &Vec<WorkerState>) -> usize
     requires { all_private workers.now.items < 2 ^ 32 }
     ensures { result ≡ all_private workers.now.items }
 {
@@ -49,7 +49,7 @@ fn private(workers: &Vec<Worker>) -> usize
 }
 
 // How many entries wait in queues.
-fn queued(workers: &Vec<Worker>) -> usize
+fn queued(workers: &Vec<WorkerState>) -> usize
     requires { all_queued workers.now.items < 2 ^ 32 }
     ensures { result ≡ all_queued workers.now.items }
 {

@@ -11,7 +11,7 @@ ghost use Rattle.nm_model.specs.Rooms.{HasRoom, HasRoomFor};
 ghost use Rattle.nm_model.specs.Ordered.{has_removed, shows_call, shows_place, links_in_order, flags_in_order, disorder};
 ghost use Rattle.nm_machine.specs.Admission.{Admits};
 
-use crate::worker::Worker;
+use crate::worker::WorkerState;
 use nm_edge::{Edge, Key, Layout, NodeId, Side};
 use nm_model::arrivals::{self, Arrival, Call};
 use nm_model::event::{Event, Field, Op};
@@ -270,7 +270,7 @@ impl Search {
     fn shows_place(
         &self,
         layout: Layout,
-        worker: &Worker,
+        worker: &WorkerState,
         key: Key,
         parent: u32,
         side: Side,
@@ -294,7 +294,7 @@ impl Search {
     fn may_link(
         &self,
         layout: Layout,
-        worker: &Worker,
+        worker: &WorkerState,
         parent: u32,
         side: Side,
         slot: u32,
@@ -335,7 +335,7 @@ impl Search {
 
     /// Whether an event that a plain core allows is in order: a link or a flag where a walk of the
     /// own operation came, a leave that owes no answer or gives one that the log shows.
-    pub fn admit(&self, layout: Layout, worker: &Worker, event: &Event) -> Result<(), Refused>
+    pub fn admit(&self, layout: Layout, worker: &WorkerState, event: &Event) -> Result<(), Refused>
         ensures { Admits (disorder layout worker.now self.now.tells event.now) result }
     {
         match *event {

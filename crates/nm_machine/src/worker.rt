@@ -27,7 +27,7 @@ use std::mem;
 
 /// The knowledge of one worker.
 #[derive(Drop)]
-pub struct Worker {
+pub struct WorkerState {
     alloc: Global,
     brief: Brief,
     scanned: Vec<bool>,
@@ -37,7 +37,7 @@ pub struct Worker {
     gone: bool,
 }
 
-impl Model for Worker {
+impl Model for WorkerState {
     ghost use Rattle.nm_model.specs.Knowledge.{Knowledge};
 
     ghost Value = { Knowledge };
@@ -52,18 +52,18 @@ impl Model for Worker {
     } };
 }
 
-impl Worker {
+impl WorkerState {
     /// A worker that has done nothing yet.
-    pub fn new(alloc: Global, layout: Layout, number: u32) -> Result<Worker, AllocError>
+    pub fn new(alloc: Global, layout: Layout, number: u32) -> Result<WorkerState, AllocError>
         requires { number < layout.workers }
         ensures { IfOk result (λ worker. worker ≡ newcomer layout number) }
     {
         let workers = layout.workers() as usize;
-        Ok(Worker {
+        Ok(WorkerState {
             alloc,
             brief: Brief {
                 seen: None,
-                note: None,
+                announcement: None,
                 pin: None,
                 unlabelled: false,
             },
@@ -125,7 +125,7 @@ impl Worker {
             self.label(epoch);
             return Ok(Reply::Labelled(epoch));
         }
-        match (self.brief.pin, self.brief.note) {
+        match (self.brief.pin, self.brief.announcement) {
             (None, Some(announced)) if announced == epoch => {
                 let known = Known::rooted(self.alloc)?;
                 self.saw(epoch);
@@ -163,29 +163,29 @@ impl Worker {
     /// The epoch that was seen is announced.
     pub fn announce(&mut self, epoch: u64)
         ensures { self.new ≡ record self.old
-            { brief = record self.old.brief { note = Some epoch } } }
+            { brief = record self.old.brief { announcement = Some epoch } } }
     {
-        self.brief.note = Some(epoch);
+        self.brief.announcement = Some(epoch);
     }
 
     /// The announcement was taken back: it forgets all known nodes.
     pub fn leave(&mut self)
         ensures { self.new ≡ record self.old
-            { brief = record self.old.brief { note = None; pin = None }; known = [] } }
+            { brief = record self.old.brief { announcement = None; pin = None }; known = [] } }
     {
-        self.brief.note = None;
+        self.brief.announcement = None;
         self.brief.pin = None;
         self.known.clear();
     }
 
     /// The announcement of a worker was read.
-    pub fn scan(&mut self, other: usize, note: Option<u64>) -> Reply
+    pub fn scan(&mut self, other: usize, announcement: Option<u64>) -> Reply
         requires { other < length self.old.scanned }
-        ensures reply { result ≡ reply_scan note }
-        ensures knows { self.new ≡ learn_scan self.old other (reply_scan note) }
+        ensures reply { result ≡ reply_scan announcement }
+        ensures knows { self.new ≡ learn_scan self.old other (reply_scan announcement) }
     {
-        self.scanned[other] = note.is_none() || note == self.brief.seen;
-        note.map_or(Reply::Idle, Reply::In)
+        self.scanned[other] = announcement.is_none() || announcement == self.brief.seen;
+        announcement.map_or(Reply::Idle, Reply::In)
     }
 
     /// Whether each worker was scanned at the epoch last read, this one, of number `me`, aside.
@@ -204,7 +204,7 @@ impl Worker {
     }
 }
 
-impl Worker {
+impl WorkerState {
     /// Whether a node is known.
     pub fn knows(&self, slot: u32) -> bool
         ensures { result ≡ knows self.now slot }

@@ -23,7 +23,7 @@ pub record IsRow (workers : ℕ) (k : Knowledge) : Type 0 where
 
 -- there is a word and a worker for each that the layout has
 pub record IsShaped (s : State) : Type 0 where
-  pub notes : length s.memory.notes ≡ s.layout.workers
+  pub announcements : length s.memory.announcements ≡ s.layout.workers
   pub nodes : length s.memory.nodes ≡ s.layout.nodes + 1
   pub pool : length s.memory.pool ≡ s.layout.nodes + 1
   pub workers : length s.workers ≡ s.layout.workers

@@ -16,16 +16,16 @@ use Rattle.nm_model.specs.declared.reply.Reply.{Reply}
 use Rattle.nm_model.specs.declared.reply.Reply.TheVariants.{Announced, Departed, Idle, In, Moved, Claimed, Returned, Freed, KeyIs, BirthIs, EdgeIs, Filled, Linked, Flagged, Was, Cut, Lost, Pinned}
 use Rattle.nm_model.specs.declared.reply.Refused.{Refused}
 use Rattle.nm_model.specs.declared.trace.Turn.{Turn}
-use Rattle.nm_model.specs.Memory.{Memory, node, edge, note, child, named, in_pool, put_node, put_edge, opening}
+use Rattle.nm_model.specs.Memory.{Memory, node, edge, announcement, child, named, in_pool, put_node, put_edge, opening}
 use Rattle.nm_model.specs.Paths.{at, Reached, IsCut}
 
 -- ---- the words
 
 -- what an event with its outcome has written: one word, or none; where it was refused, none
 abbrev pub written : Memory → ℕ → Event → Result Reply Refused → Memory
-written m w Announce (Ok (Announced e)) = record m { notes = slice_set m.notes w (Some e) }
-written m w Leave (Ok Departed) = record m { notes = slice_set m.notes w None }
-written m w (LeaveWith answer) (Ok Departed) = record m { notes = slice_set m.notes w None }
+written m w Announce (Ok (Announced e)) = record m { announcements = slice_set m.announcements w (Some e) }
+written m w Leave (Ok Departed) = record m { announcements = slice_set m.announcements w None }
+written m w (LeaveWith answer) (Ok Departed) = record m { announcements = slice_set m.announcements w None }
 written m w Advance (Ok (Moved e)) = record m { epoch = e }
 written m w (Claim s) (Ok (Claimed t)) = record m { pool = slice_set m.pool s false }
 written m w (Give s) (Ok (Returned t)) = record m { pool = slice_set m.pool s true }
@@ -53,14 +53,14 @@ words_after L turns = words_from (opening L) turns
 
 -- ---- reads
 
--- a reply to a look tells the word that stands, and one to a scan the announcement; an exchange that
--- is lost, and a tag, tell the edge that stands, and a link or a flag that is won has found the
--- unmarked edge that it names; a birth that is stored is one more than the one that stood
+-- a reply to a look tells the word that stands, and one to a scan the announcement; an exchange
+-- that is lost, and a tag, tell the edge that stands, and a link or a flag that is won has found
+-- the unmarked edge that it names; a birth that is stored is one more than the one that stood
 abbrev pub TellsWhatStands : Memory → Event → Reply → Type 0
 TellsWhatStands m (Look s Key) r = r ≡ KeyIs (node m s).key
 TellsWhatStands m (Look s (EdgeOn side)) r = r ≡ EdgeIs (edge m s side)
 TellsWhatStands m (Look s Birth) r = r ≡ BirthIs (node m s).birth
-TellsWhatStands m (Scan u) r = (r ≡ Idle) × (note m u ≡ None) ⊎ (e : ℕ) × (r ≡ In e) × (note m u ≡ Some e)
+TellsWhatStands m (Scan u) r = (r ≡ Idle) × (announcement m u ≡ None) ⊎ (e : ℕ) × (r ≡ In e) × (announcement m u ≡ Some e)
 TellsWhatStands m (Fill s Birth v) r = v ≡ (node m s).birth + 1
 TellsWhatStands m (Link p side leaf new) (Linked n) = edge m p side ≡ to leaf
 TellsWhatStands m (Link p side leaf new) (Lost e) = e ≡ edge m p side
@@ -316,7 +316,8 @@ pub record Headline (L : Layout) (turns : List Turn) : Type 0 where
   pub told : OnlyWhatWasToldIsTouched L turns
   -- and at each moment that is the node that it was when it was told, until the worker leaves
   pub stays : (so_far rest : List Turn) → turns ≡ so_far ++ rest → WhatWasToldStays L so_far
-  -- at each moment the five fixed slots are in no pool, in nobody's hands, and as they were at first
+  -- at each moment the five fixed slots are in no pool, in nobody's hands, and as they were at
+  -- first
   pub fixed : (so_far rest : List Turn) → turns ≡ so_far ++ rest → (x : ℕ) → x ≤ 5 → IsStill L [] so_far x
   -- only its holder stores in a node
   pub stores : OnlyHoldersStore L turns

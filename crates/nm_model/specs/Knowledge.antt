@@ -35,7 +35,7 @@ unfilled = record { looked = None; birth = None; key = None; left = None; right 
 -- worker w, which has done nothing yet, holds its own ledger alone
 abbrev pub newcomer : Layout → ℕ → Knowledge
 newcomer L w = record {
-  brief = record { seen = None; note = None; pin = None; unlabelled = false };
+  brief = record { seen = None; announcement = None; pin = None; unlabelled = false };
   scanned = replicate L.workers false;
   known = [];
   drafts = [];

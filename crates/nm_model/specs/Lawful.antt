@@ -6,7 +6,7 @@ use Rattle.nm_edge.specs.declared.edge.Side.{Side}
 use Rattle.nm_edge.specs.declared.edge.Side.TheVariants.{Left, Right}
 use Rattle.nm_model.specs.declared.knowledge.Draft.{Draft}
 use Rattle.nm_model.specs.declared.ledger.Queued.{Queued}
-use Rattle.nm_model.specs.Memory.{node, edge, child, note, in_pool, is_leaf}
+use Rattle.nm_model.specs.Memory.{node, edge, child, announcement, in_pool, is_leaf}
 use Rattle.nm_model.specs.Ledgers.{held, queue_of}
 use Rattle.nm_model.specs.Knowledge.{knows, is_private, seen_of, draft_of, read, knows_leaf}
 use Rattle.nm_model.specs.Paths.{follow, Reached}
@@ -101,8 +101,8 @@ ReachIsGuarded s = (w x pin u origin i label : ℕ) (e : Queued) → CanReach s 
 -- announcements are known, a pin is announced, no sight is ahead, and of a worker that was scanned
 -- at the epoch a pin is at the epoch
 pub record EpochsAgree (s : State) : Type 0 where
-  pub announced : (w : ℕ) → note s.memory w ≡ (of s w).brief.note
-  pub pinned : (w e : ℕ) → (of s w).brief.pin ≡ Some e → (of s w).brief.note ≡ Some e
+  pub announced : (w : ℕ) → announcement s.memory w ≡ (of s w).brief.announcement
+  pub pinned : (w e : ℕ) → (of s w).brief.pin ≡ Some e → (of s w).brief.announcement ≡ Some e
   pub sights : (w e : ℕ) → (of s w).brief.seen ≡ Some e → e ≤ s.memory.epoch
   pub scans : (w u e : ℕ) → (of s w).brief.seen ≡ Some s.memory.epoch
       → slice_index_or (of s w).scanned u false ≡ true → (of s u).brief.pin ≡ Some e

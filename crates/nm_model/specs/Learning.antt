@@ -54,7 +54,7 @@ learn_sight k _ = k
 
 -- the announcement was taken back: all known nodes are forgotten
 abbrev pub departed : Knowledge → Knowledge
-departed k = record k { brief = record k.brief { note = None; pin = None }; known = [] }
+departed k = record k { brief = record k.brief { announcement = None; pin = None }; known = [] }
 
 -- `scanned`, `moved`: a worker was scanned, and counts or not; the epoch was moved on, and the
 -- scans are forgotten
@@ -138,7 +138,7 @@ resigned k = record k { ledgers = replicate (length k.ledgers) None; gone = true
 unfoldable pub learn : ℕ → Knowledge → Event → Reply → Knowledge
 learn w k Sight r = learn_sight k r
 learn w k (SightFor op key) r = learn_sight k r
-learn w k Announce (Announced e) = record k { brief = record k.brief { note = Some e } }
+learn w k Announce (Announced e) = record k { brief = record k.brief { announcement = Some e } }
 learn w k Leave Departed = departed k
 learn w k (LeaveWith answer) Departed = departed k
 learn w k (Scan u) r = learn_scan k u r

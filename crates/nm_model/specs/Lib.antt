@@ -15,8 +15,10 @@ pub mod Answers
 pub mod Paths
 pub mod Reports
 pub mod Headline
+pub mod Acts
+pub mod Histories
 pub mod Laws
 pub mod Places
 pub mod Lawful
 pub mod Traces
-pub mod Schedules
+pub mod Shorthands

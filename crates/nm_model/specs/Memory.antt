@@ -11,7 +11,7 @@ use Rattle.nm_model.specs.declared.memory.Node.{Node}
 -- the pool. Slot 0 is no node, and stands there with null edges (Fraser, section 5.2.3)
 pub record Memory : Type 0 where
   pub epoch : ℕ
-  pub notes : List (Option ℕ)
+  pub announcements : List (Option ℕ)
   pub nodes : List Node
   pub pool : List Bool
 
@@ -40,8 +40,8 @@ abbrev pub is_leaf : Node → Bool
 is_leaf n = (n.left.slot == 0) && (n.right.slot == 0)
 
 -- what a worker announces: an epoch, or nothing while it is idle
-abbrev pub note : Memory → ℕ → Option ℕ
-note m w = slice_index_or m.notes w None
+abbrev pub announcement : Memory → ℕ → Option ℕ
+announcement m w = slice_index_or m.announcements w None
 
 -- whether the slot is in the pool
 abbrev pub in_pool : Memory → ℕ → Bool
@@ -84,7 +84,7 @@ fork key left right = record { key = key; left = to left; right = to right; birt
 abbrev pub opening : Layout → Memory
 opening L = record {
   epoch = 0;
-  notes = replicate L.workers None;
+  announcements = replicate L.workers None;
   nodes = blank ∷ fork infinity_2 2 5 ∷ fork infinity_1 3 4 ∷ leaf infinity_0 ∷ leaf infinity_1 ∷ leaf infinity_2 ∷ replicate (L.nodes - 5) blank;
   pool = false ∷ false ∷ false ∷ false ∷ false ∷ false ∷ replicate (L.nodes - 5) true;
 }

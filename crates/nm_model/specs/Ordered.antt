@@ -21,7 +21,7 @@ use Rattle.nm_model.specs.declared.arrivals.Arrival.{Arrival}
 use Rattle.nm_model.specs.Maps.{is_number, or_else}
 use Rattle.nm_model.specs.Knowledge.{Knowledge, draft_of, beside, knows_leaf}
 use Rattle.nm_model.specs.Step.{first, ◌refuses◌}
-use Rattle.nm_model.specs.Runs.{State, of, start, refusal_of, refused, reply_of, applied, answered, after, trace}
+use Rattle.nm_model.specs.Runs.{State, of, start, refused, reply_of, applied, answered, after, trace}
 use Rattle.nm_model.specs.Walks.{log_of, search_after}
 use Rattle.nm_model.specs.Searches.{Search, idle, searched, is_by, is_first, goes_on}
 
@@ -175,10 +175,6 @@ search_of ss w = slice_index_or ss w idle
 abbrev pub disorder_among : Layout → Option (List Search) → Knowledge → ℕ → Event → Option Refused
 disorder_among L None k w e = None
 disorder_among L (Some ss) k w e = disorder L k (search_of ss w) e
-
--- the least refusal of an event of a worker that is there
-abbrev pub refusal_in : State → List Search → ℕ → Event → Option Refused
-refusal_in s ss w e = or_else (refusal_of s w e) (disorder s.layout (of s w) (search_of ss w) e)
 
 abbrev pub disorder_in : Configuration → ℕ → Event → Option Refused
 disorder_in c w e = disorder_among c.state.layout c.searches (of c.state w) w e

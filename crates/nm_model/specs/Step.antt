@@ -17,7 +17,7 @@ use Rattle.nm_model.specs.declared.memory.Node.{Node}
 use Rattle.nm_model.specs.declared.ledger.Queued.{Queued}
 use Rattle.nm_model.specs.declared.knowledge.Draft.{Draft}
 use Rattle.nm_model.specs.Maps.{is_number}
-use Rattle.nm_model.specs.Memory.{Memory, node, edge, edge_of, note, in_pool, named, put_node, put_edge, with_edge}
+use Rattle.nm_model.specs.Memory.{Memory, node, edge, edge_of, announcement, in_pool, named, put_node, put_edge, with_edge}
 use Rattle.nm_model.specs.Ledgers.{front_of, queued_entry}
 use Rattle.nm_model.specs.Knowledge.{Knowledge, knows, is_private, draft_of, read, is_flagged, is_tagged, knows_leaf, way, cut_by, beside}
 use Rattle.nm_model.specs.Learning.{flag_to}
@@ -92,7 +92,8 @@ abbrev pub is_linkable : Knowledge → ℕ → ℕ → Bool
 is_linkable k new leaf = is_fork_over (draft_of k new) leaf
     && is_leaf_draft k (unwrap_or (beside (draft_of k new) leaf) 0)
 
--- a link may be over a slot that is known as a leaf, and in a radix tree over any but the fixed ones
+-- a link may be over a slot that is known as a leaf, and in a radix tree over any but the fixed
+-- ones
 abbrev pub may_be_over : Layout → Knowledge → ℕ → Bool
 may_be_over L k x = knows_leaf k x || (L.radix && nat_le 6 x)
 
@@ -114,7 +115,7 @@ free_checks k s =
 unfoldable pub refusal : Layout → Memory → Knowledge → ℕ → Event → Option Refused
 refusal L m k w Sight = None
 refusal L m k w (SightFor op key) =
-    first ((is_none k.brief.note || is_some k.brief.pin) refuses NotReady ∷ [])
+    first ((is_none k.brief.announcement || is_some k.brief.pin) refuses NotReady ∷ [])
 refusal L m k w Announce = first
     ((is_none k.brief.seen || is_some k.brief.pin) refuses NotReady ∷ [])
 refusal L m k w Leave = first (k.brief.unlabelled refuses NotReady ∷ [])
@@ -177,9 +178,10 @@ confirmed None announced e = sighted announced e
 -- cannot confirm a pin. (In a plain core that is a sight, and a leave with an answer, `LeaveWith`,
 -- a leave.)
 abbrev pub reply_sight : Knowledge → ℕ → Reply
-reply_sight k e = if k.brief.unlabelled then Labelled e else confirmed k.brief.pin k.brief.note e
+reply_sight k e = if k.brief.unlabelled then Labelled e else confirmed k.brief.pin k.brief.announcement e
 
--- `reply_scan`, `reply_look`: what a scan answers, by the note; what a look answers, by the node
+-- `reply_scan`, `reply_look`: what a scan answers, by the announcement; what a look answers, by the
+-- node
 abbrev pub reply_scan : Option ℕ → Reply
 reply_scan None = Idle
 reply_scan (Some e) = In e
@@ -214,7 +216,7 @@ reply L m k (SightFor op key) = reply_sight k m.epoch
 reply L m k Announce = Announced (unwrap_or k.brief.seen 0)
 reply L m k Leave = Departed
 reply L m k (LeaveWith answer) = Departed
-reply L m k (Scan u) = reply_scan (note m u)
+reply L m k (Scan u) = reply_scan (announcement m u)
 reply L m k Advance = if is_number k.brief.seen m.epoch then Moved (m.epoch + 1) else Behind m.epoch
 reply L m k (Claim s) = if in_pool m s then Claimed s else Taken
 reply L m k (Give s) = if is_private k s then Returned s else Freed (node_of (front_of k.ledgers s))
@@ -251,9 +253,9 @@ kept (Some e) = untagged e
 unfoldable pub write : Memory → Knowledge → ℕ → Event → Memory
 write m k w Sight = m
 write m k w (SightFor op key) = m
-write m k w Announce = record m { notes = slice_set m.notes w (Some (unwrap_or k.brief.seen 0)) }
-write m k w Leave = record m { notes = slice_set m.notes w None }
-write m k w (LeaveWith answer) = record m { notes = slice_set m.notes w None }
+write m k w Announce = record m { announcements = slice_set m.announcements w (Some (unwrap_or k.brief.seen 0)) }
+write m k w Leave = record m { announcements = slice_set m.announcements w None }
+write m k w (LeaveWith answer) = record m { announcements = slice_set m.announcements w None }
 write m k w (Scan u) = m
 write m k w Advance = if is_number k.brief.seen m.epoch then record m { epoch = m.epoch + 1 } else m
 write m k w (Claim s) = record m { pool = slice_set m.pool s false }

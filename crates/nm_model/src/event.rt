@@ -58,8 +58,8 @@ pub enum Event {
     Look(u32, Field),
     /// Stores a field of a private slot.
     Fill(u32, Field, u64),
-    /// Exchanges the edge of a parent, on a side, from a leaf, in a radix tree also from an internal
-    /// node, to a new internal node: parent, side, leaf, new.
+    /// Exchanges the edge of a parent, on a side, from a leaf, in a radix tree also from an
+    /// internal node, to a new internal node: parent, side, leaf, new.
     Link(u32, Side, u32, u32),
     /// Exchanges the edge of a parent, on a side, from a leaf to that leaf flagged: parent, side,
     /// leaf.

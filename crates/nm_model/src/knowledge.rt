@@ -16,7 +16,7 @@ pub struct Brief {
     /// The global epoch last read.
     pub seen: Option<u64>,
     /// What the worker announces.
-    pub note: Option<u64>,
+    pub announcement: Option<u64>,
     /// The epoch at which it is pinned.
     pub pin: Option<u64>,
     /// Whether nodes that it cut wait for their label.
@@ -120,9 +120,9 @@ impl Draft {
         }
     }
 
-    // Whether it is filled as an internal node of a radix tree over a slot with another key and a new
-    // leaf with this one: both keys are in its range, in its two halves, and the slot is on the side
-    // of the other key.
+    // Whether it is filled as an internal node of a radix tree over a slot with another key and a
+    // new leaf with this one: both keys are in its range, in its two halves, and the slot is on the
+    // side of the other key.
     fn parts(self, slot: u32, key: Key, other: u64) -> bool
         ensures { result ≡ parts self slot key other self.key }
     {
@@ -137,8 +137,8 @@ impl Draft {
         covers(router, key.get()) && covers(router, other) && is_between
     }
 
-    /// Whether it is filled so between the key and a slot, known as a leaf or not, whose key, once it
-    /// was looked at, is another one: a leaf, or a slot without the key in its range.
+    /// Whether it is filled so between the key and a slot, known as a leaf or not, whose key, once
+    /// it was looked at, is another one: a leaf, or a slot without the key in its range.
     pub fn parts_from(self, slot: u32, key: Key, is_leaf: bool, other: Option<u64>) -> bool
         ensures { result ≡ parts_from self slot key is_leaf other }
     {

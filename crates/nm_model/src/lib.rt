@@ -21,7 +21,7 @@ pub use event::{Event, Field, Op};
 pub use knowledge::Brief;
 pub use ledger::{Ledger, Nodes, Queued};
 pub use ledgers::Ledgers;
-pub use new_error::{NewError, layout_of, spaced_layout_of};
+pub use new_error::NewError;
 pub use nm_edge::LAST_NUMBER;
 pub use places::Places;
 pub use queue::Queue;

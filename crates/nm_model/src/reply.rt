@@ -83,8 +83,8 @@ pub enum Refused {
     NotFrozen,
     /// The epoch or the slot's birth is at its last number, 2^62.
     Spent,
-    /// In an ordered core: no walk of the worker's operation ends, or in a radix tree comes to where a
-    /// link is, so that this exchange is its own.
+    /// In an ordered core: no walk of the worker's operation ends, or in a radix tree comes to
+    /// where a link is, so that this exchange is its own.
     NotOrdered,
     /// In an ordered core: the worker's log doesn't show the answer of its operation.
     NoAnswer,

@@ -27,9 +27,10 @@ use Rattle.nm_model.specs.Ordered.{Configuration, ordered, search_of, next_in, o
 use Rattle.nm_laws.proofs.Trees.{follow-append, append_cancel}
 use Rattle.nm_laws.proofs.Pictures.{alone}
 use Rattle.nm_laws.proofs.Views.{picture}
-use Rattle.nm_order.specs.Intervals.{HasKey, InSet, key}
+use Rattle.nm_model.specs.Acts.{InSet, Act, changed, Replays, IsAmong, leaf_keys}
+use Rattle.nm_order.specs.Intervals.{HasKey, key}
 use Rattle.nm_order.specs.Removals.{IsKeyOf, Loses}
-use Rattle.nm_order.specs.History.{Act, changed, Replays, IsAmong, SameCall, EachOnce, leaf_keys, pin_of}
+use Rattle.nm_order.specs.History.{SameCall, EachOnce, pin_of}
 use Rattle.nm_order.proofs.OrderedMoments.{Lasting, call_walks}
 use Rattle.nm_order.proofs.OrderedLaws.{IsOrdered, each_ordered, law_of_state, own_keys}
 use Rattle.nm_order.proofs.OwnTurns.{own_search}

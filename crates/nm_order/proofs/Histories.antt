@@ -28,7 +28,8 @@ use Rattle.nm_laws.proofs.SearchesGrow.{only_grow}
 use Rattle.nm_order.specs.Intervals.{HasKey, IsCalled, Gains, Marks, key}
 use Rattle.nm_order.specs.Exchanges.{MayAnswer, is_won_link}
 use Rattle.nm_order.specs.Legal.{changes, WasLegal}
-use Rattle.nm_order.specs.History.{Act, IsAmong, SameCall, EachOnce, HasActOfCall, pin_of}
+use Rattle.nm_model.specs.Acts.{Act, IsAmong}
+use Rattle.nm_order.specs.History.{SameCall, EachOnce, HasActOfCall, pin_of}
 use Rattle.nm_order.proofs.OrderedMoments.{Lasting, call_walks}
 use Rattle.nm_order.proofs.OrderedLaws.{IsOrdered, ordered_next, each_ordered, law_of_state, each_link_inserts}
 use Rattle.nm_order.proofs.OwnFlags.{each_flag_marks}

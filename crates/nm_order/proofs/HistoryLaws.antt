@@ -22,11 +22,12 @@ use Rattle.nm_model.specs.Searches.{Search, idle}
 use Rattle.nm_model.specs.Walks.{begins_anew}
 use Rattle.nm_model.specs.Ordered.{Configuration, outcome_in, ordered, search_of, next_in, after_in, trace_in}
 use Rattle.nm_model.proofs.Numbers.{repeated}
-use Rattle.nm_order.specs.Intervals.{key, HasKey, InSet, IsCalled}
+use Rattle.nm_model.specs.Acts.{InSet, Act, IsAmong, nothing, leaf_keys, HasInARow}
+use Rattle.nm_order.specs.Intervals.{key, HasKey, IsCalled}
 use Rattle.nm_order.specs.Moments.{OfEachOrderedRun, PinStands}
 use Rattle.nm_order.specs.Exchanges.{HasWonInsert, HasFlagged}
 use Rattle.nm_order.specs.Removals.{HasWonDelete}
-use Rattle.nm_order.specs.History.{Act, IsAmong, nothing, HasChanged, IsActOfRun, leaf_keys, HasInARow, IsDeleteOf, LeadsTo, RunHasHistory}
+use Rattle.nm_order.specs.History.{HasChanged, IsActOfRun, IsDeleteOf, LeadsTo, RunHasHistory}
 use Rattle.nm_order.specs.History.IsActOfRun.{IsAnswered, IsPending}
 use Rattle.nm_order.proofs.OrderedLaws.{IsOrdered, each_ordered}
 use Rattle.nm_order.proofs.OwnTurns.{own_search, stands_parts}

@@ -14,10 +14,11 @@ use Rattle.nm_model.specs.Maps.{is_number}
 use Rattle.nm_model.specs.Searches.{Search}
 use Rattle.nm_model.specs.Walks.{log_of, since_pin, IsOfWalk}
 use Rattle.nm_model.specs.Ordered.{ordered, ended_at, ended_beside, shows, after_in, trace_in}
-use Rattle.nm_order.specs.Intervals.{HasKey, IsCalled, InSet}
+use Rattle.nm_model.specs.Acts.{InSet, Gives}
+use Rattle.nm_order.specs.Intervals.{HasKey, IsCalled}
 use Rattle.nm_order.specs.Moments.{OfEachOrderedRun}
 use Rattle.nm_order.specs.WalkAnswers.{WasSoUnderPin}
-use Rattle.nm_order.specs.Legal.{Gives, changes, WasLegal, OtherAnswersWereLegal}
+use Rattle.nm_order.specs.Legal.{changes, WasLegal, OtherAnswersWereLegal}
 use Rattle.nm_model.proofs.Lists.{any_at}
 use Rattle.nm_model.proofs.Numbers.{number_is}
 use Rattle.nm_order.proofs.RunWalks.{walk_of, of_key, called_then}

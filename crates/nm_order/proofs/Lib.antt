@@ -78,7 +78,6 @@ pub mod Histories
 pub mod HistoryLaws
 pub mod RealTime
 pub mod LoggedAnswers
-pub mod WorkedHistories
 pub mod PinsOfLogs
 pub mod LinkedNodes
 pub mod LinkedBirths

@@ -27,7 +27,8 @@ use Rattle.nm_model.specs.Runs.{State, of, start, after, next, applied, refused,
 use Rattle.nm_model.specs.Reports.{keys}
 use Rattle.nm_model.specs.Searches.{Search, idle}
 use Rattle.nm_model.specs.Ordered.{Configuration, ordered, search_of, learned_from, disorder, disorder_in, disorder_among, refused_in, applied_in, unless_refused_in, next_in, outcome_in, after_in}
-use Rattle.nm_order.specs.Intervals.{GoesBy, key, InInterval, HasKey, OfEachOrdered, KeysLieInIntervals, LeavesHaveTheirOwnKeys, HasCome, WalksStayInOrder, WalksReadKeys, InSet, IsCalled, Gains, LinksInsert, KeysTellTheSet, KeysAscend}
+use Rattle.nm_model.specs.Acts.{InSet}
+use Rattle.nm_order.specs.Intervals.{GoesBy, key, InInterval, HasKey, OfEachOrdered, KeysLieInIntervals, LeavesHaveTheirOwnKeys, HasCome, WalksStayInOrder, WalksReadKeys, IsCalled, Gains, LinksInsert, KeysTellTheSet, KeysAscend}
 use Rattle.nm_model.proofs.Numbers.{repeated}
 use Rattle.nm_laws.proofs.Steps.{Allowed, allowed}
 use Rattle.nm_laws.proofs.Reaches.{after-append}

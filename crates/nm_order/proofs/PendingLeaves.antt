@@ -76,7 +76,7 @@ anew_is e r anew = absurd (true≢false (sym anew))
 
 -- a worker that is pinned confirms no pin
 pub no_pin : (k : Knowledge) (p epoch n : ℕ) → k.brief.pin ≡ Some p → reply_sight k epoch ≡ Pinned n → ⊥
-no_pin k p epoch n is told = by k.brief.unlabelled (ap (λ (o : Option ℕ). cond k.brief.unlabelled (Labelled epoch) (confirmed o k.brief.note epoch)) (sym is) ∙ told)
+no_pin k p epoch n is told = by k.brief.unlabelled (ap (λ (o : Option ℕ). cond k.brief.unlabelled (Labelled epoch) (confirmed o k.brief.announcement epoch)) (sym is) ∙ told)
   where
     by : (b : Bool) → cond b (Labelled epoch) (Saw epoch) ≡ Pinned n → ⊥
     by true e = cc

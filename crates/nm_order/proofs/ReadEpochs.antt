@@ -81,7 +81,7 @@ confirmed_finds None None n = refl
 confirmed_finds None (Some a) n = cond_both (a == n) _ _ (λ r. sight_epoch r ≡ Some n) (λ _. refl) (λ _. refl)
 
 sight_finds : (k : Knowledge) (n : ℕ) → sight_epoch (reply_sight k n) ≡ Some n
-sight_finds k n = cond_both k.brief.unlabelled _ _ (λ r. sight_epoch r ≡ Some n) (λ _. refl) (λ _. confirmed_finds k.brief.pin k.brief.note n)
+sight_finds k n = cond_both k.brief.unlabelled _ _ (λ r. sight_epoch r ≡ Some n) (λ _. refl) (λ _. confirmed_finds k.brief.pin k.brief.announcement n)
 
 not_below : (s : State) (w : ℕ) (event : Event) (e : ℕ) → epoch_read event (reply_of s w event) ≡ Some e → s.memory.epoch ≤ e
 unfolding reply

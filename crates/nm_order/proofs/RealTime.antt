@@ -14,7 +14,8 @@ use Rattle.nm_model.specs.Ordered.{ordered, after_in, trace_in, HasKey}
 use Rattle.nm_order.specs.Moments.{OfEachOrderedRun}
 use Rattle.nm_order.specs.Exchanges.{MayAnswer}
 use Rattle.nm_order.specs.Legal.{changes}
-use Rattle.nm_order.specs.History.{Act, IsAmong, SameCall, EachOnce, ComesNext, InOrderOfMoments, last_anew, pin_of, IsActOfRun, IsRunHistory}
+use Rattle.nm_model.specs.Acts.{Act, IsAmong}
+use Rattle.nm_order.specs.History.{SameCall, EachOnce, ComesNext, InOrderOfMoments, last_anew, pin_of, IsActOfRun, IsRunHistory}
 use Rattle.nm_order.specs.History.IsActOfRun.{IsAnswered, IsPending}
 use Rattle.nm_order.specs.RealTime.{Precedes, EndsBefore, KeepsRealTime, HistoriesKeepRealTime, HistoriesHaveOneActACall}
 use Rattle.nm_order.proofs.RunMoments.{entries, allowed_entries}

@@ -23,7 +23,8 @@ use Rattle.nm_laws.proofs.Trees.{rest_after, same_follow}
 use Rattle.nm_laws.proofs.CutPaths.{old_path, led}
 use Rattle.nm_laws.proofs.TreeSteps.{Lawful}
 use Rattle.nm_laws.proofs.Configurations.{refused_next, allowed_next, allowed_outcome}
-use Rattle.nm_order.specs.Intervals.{HasKey, InSet, OfEachOrdered, key}
+use Rattle.nm_model.specs.Acts.{InSet}
+use Rattle.nm_order.specs.Intervals.{HasKey, OfEachOrdered, key}
 use Rattle.nm_order.specs.Exchanges.{is_won_link}
 use Rattle.nm_order.specs.Removals.{IsKeyOf, Loses, CutsTakeTheirKeys}
 use Rattle.nm_order.proofs.Searching.{apart_follow}

@@ -14,9 +14,10 @@ use Rattle.nm_model.specs.declared.event.Op.{Op}
 use Rattle.nm_model.specs.declared.event.Op.TheVariants.{Has, Insert, Delete}
 use Rattle.nm_model.specs.declared.event.Event.{Event}
 use Rattle.nm_model.specs.Ordered.{Configuration, next_in, outcome_in, after_in}
-use Rattle.nm_order.specs.Intervals.{InSet, key}
-use Rattle.nm_order.specs.Legal.{Gives, changes}
-use Rattle.nm_order.specs.History.{Act, IsAmong, changed, Replays, ComesNext, InOrderOfMoments, leaf_keys}
+use Rattle.nm_model.specs.Acts.{InSet, Gives, Act, IsAmong, changed, Replays, leaf_keys}
+use Rattle.nm_order.specs.Intervals.{key}
+use Rattle.nm_order.specs.Legal.{changes}
+use Rattle.nm_order.specs.History.{ComesNext, InOrderOfMoments}
 
 -- ---- replaying
 

@@ -25,7 +25,8 @@ use Rattle.nm_model.specs.Searches.{Search}
 use Rattle.nm_model.specs.Ordered.{Configuration, ordered, search_of, refused_in, next_in, outcome_in, after_in}
 use Rattle.nm_laws.proofs.Trees.{follow_none}
 use Rattle.nm_laws.proofs.Configurations.{refused_next, refused_outcome, allowed_outcome}
-use Rattle.nm_order.specs.Intervals.{HasKey, InSet, IsCalled, Gains, Marks, key}
+use Rattle.nm_model.specs.Acts.{InSet}
+use Rattle.nm_order.specs.Intervals.{HasKey, IsCalled, Gains, Marks, key}
 use Rattle.nm_order.specs.Moments.{OfEachOrderedRun}
 use Rattle.nm_order.specs.Exchanges.{is_won_link}
 use Rattle.nm_order.specs.WalksToArrivals.{is_won_flag}

@@ -25,8 +25,8 @@ use Rattle.nm_model.specs.Walks.{Entry, log_of, begins_anew, since_pin, IsPart, 
 use Rattle.nm_model.specs.Ordered.{Configuration, ordered, disorder_in, refused_in, applied_in, next_in, after_in, trace_in}
 use Rattle.nm_laws.proofs.Configurations.{refused_next, allowed_next, allowed_outcome, after_in-append}
 use Rattle.nm_laws.proofs.Steps.{Allowed, allowed}
-use Rattle.nm_order.specs.Intervals.{HasKey, InInterval, InSet, key}
-use Rattle.nm_order.specs.Legal.{Gives}
+use Rattle.nm_model.specs.Acts.{InSet, Gives}
+use Rattle.nm_order.specs.Intervals.{HasKey, InInterval, key}
 use Rattle.nm_order.specs.Logs.{part_of, known_by}
 use Rattle.nm_order.specs.Moments.{OfEachOrderedRun, PinStands}
 use Rattle.nm_order.specs.StalePaths.{log_under_pin, WasReachedSince}

@@ -15,8 +15,8 @@ use Rattle.nm_model.specs.Memory.{Memory, node, child, is_leaf, infinity_1}
 use Rattle.nm_model.specs.Searches.{side_of}
 use Rattle.nm_model.specs.Walks.{Entry, IsPart, WalkComes, WalkReads, WalkEnds}
 use Rattle.nm_model.specs.Ordered.{ordered, after_in}
-use Rattle.nm_order.specs.Intervals.{HasKey, InInterval, InSet, key}
-use Rattle.nm_order.specs.Legal.{Gives}
+use Rattle.nm_model.specs.Acts.{InSet, Gives}
+use Rattle.nm_order.specs.Intervals.{HasKey, InInterval, key}
 use Rattle.nm_order.specs.Moments.{OfEachOrderedRun}
 use Rattle.nm_order.specs.Ranges.{StandsFor}
 use Rattle.nm_order.specs.StalePaths.{log_under_pin, WasReachedSince}

@@ -9,7 +9,7 @@ use Rattle.nm_edge.specs.declared.node.NodeId.{NodeId}
 use Rattle.nm_model.specs.declared.event.Op.{Op}
 use Rattle.nm_model.specs.declared.arrivals.Call.{Call}
 use Rattle.nm_model.specs.declared.arrivals.Arrival.{Arrival}
-use Rattle.nm_model.specs.Memory.{node, edge, child, note, in_pool, is_leaf}
+use Rattle.nm_model.specs.Memory.{node, edge, child, announcement, in_pool, is_leaf}
 use Rattle.nm_model.specs.Knowledge.{Knowledge, knows, is_private, seen_of, read, knows_leaf}
 use Rattle.nm_model.specs.Searches.{Search, idle}
 use Rattle.nm_model.specs.Runs.{State, of}
@@ -92,10 +92,11 @@ pub record IsShared (s : State) (slot : ℕ) : Type 0 where
   pub not_pooled : in_pool s.memory slot ≡ false
   pub not_private : (u : ℕ) → is_private (of s u) slot ≡ false
 
--- what a fact of worker w says of the state as it is: the note is that epoch, the slot is shared,
--- the node is a leaf, the edge has that mark and leads there, the birth or the key is that one
+-- what a fact of worker w says of the state as it is: the announcement is that epoch, the slot is
+-- shared, the node is a leaf, the edge has that mark and leads there, the birth or the key is that
+-- one
 abbrev pub IsTrueIn : State → ℕ → Fact → Type 0
-IsTrueIn s w (IsPinned epoch) = note s.memory w ≡ Some epoch
+IsTrueIn s w (IsPinned epoch) = announcement s.memory w ≡ Some epoch
 IsTrueIn s w (KnowsSlot slot) = IsShared s slot
 IsTrueIn s w (KnowsLeaf slot) = is_leaf (node s.memory slot) ≡ true
 IsTrueIn s w (IsTagged slot side to) =

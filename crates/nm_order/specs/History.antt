@@ -1,8 +1,7 @@
 -- The set's history: the calls of a run, in the order of their moments, as a history of one plain
 -- set.
-use Rattle.std.specs.Prelude.{Contains, ◌≡◌, ◌⊎◌, ◌↔◌, ℕ, ◌+◌, ◌<◌, ◌≤◌, Bool, true, false, not, List, [], ◌∷◌, ◌++◌, length, map, Ok, if◌then◌else◌}
+use Rattle.std.specs.Prelude.{Contains, ◌≡◌, ◌⊎◌, ◌↔◌, ℕ, ◌+◌, ◌<◌, ◌≤◌, Bool, true, false, not, List, [], ◌∷◌, ◌++◌, length, Ok, if◌then◌else◌}
 use Rattle.std.specs.List.{list_any}
-use Rattle.nm_edge.specs.Keys.{IsKey}
 use Rattle.nm_edge.specs.Layouts.{Layout}
 use Rattle.nm_model.specs.declared.event.Op.{Op}
 use Rattle.nm_model.specs.declared.event.Op.TheVariants.{Has, Insert, Delete}
@@ -13,50 +12,15 @@ use Rattle.nm_edge.specs.declared.node.NodeId.{NodeId}
 use Rattle.nm_edge.specs.declared.edge.Side.{Side}
 use Rattle.nm_model.specs.declared.reply.Reply.TheVariants.{Linked, Cut}
 use Rattle.nm_model.specs.Laws.{slots_of}
-use Rattle.nm_model.specs.Memory.{Memory, node, is_leaf}
 use Rattle.nm_model.specs.Walks.{log_of, begins_anew}
 use Rattle.nm_model.specs.Ordered.{ordered, outcome_in, after_in, trace_in}
-use Rattle.nm_order.specs.Intervals.{InSet, IsCalled}
+use Rattle.nm_model.specs.Acts.{InSet, Act, Replays, nothing, IsAmong, leaf_keys, HasInARow}
+use Rattle.nm_order.specs.Intervals.{IsCalled}
 use Rattle.nm_order.specs.Exchanges.{MayAnswer, HasWonInsert, HasFlagged}
 use Rattle.nm_order.specs.Removals.{HasWonDelete}
-use Rattle.nm_order.specs.Legal.{Gives, changes}
-
--- a call with its answer, at a moment: the number of turns made until then. A call is named by its
--- worker and the number of the turn that confirmed its pin (Herlihy and Wing)
-pub record Act : Type 0 where
-  pub worker : ℕ
-  pub pin : ℕ
-  pub op : Op
-  pub key : ℕ
-  pub answer : Bool
-  pub moment : ℕ
-
--- ---- a plain set
-
--- what is in the set after a call that was answered so (Herlihy and Wing, legal sequential history)
-abbrev pub changed : (ℕ → Type 0) → Op → ℕ → Bool → ℕ → Type 0
-changed in_set Has k answer j = in_set j
-changed in_set Insert k true j = in_set j ⊎ (j ≡ k)
-changed in_set Insert k false j = in_set j
-changed in_set Delete k true j = in_set j × (j ≡ k → ⊥)
-changed in_set Delete k false j = in_set j
-
--- one plain set, which has these keys first and those at last, gives each call its answer, one
--- after the other (Herlihy and Wing, legal sequential history)
-abbrev pub Replays : (ℕ → Type 0) → List Act → (ℕ → Type 0) → Type 0
-Replays first [] last = (k : ℕ) → IsKey k → first k ↔ last k
-Replays first (a ∷ acts) last = IsKey a.key × Gives first a.op a.key a.answer × Replays (changed first a.op a.key a.answer) acts last
-
--- the empty set has no key
-abbrev pub nothing : ℕ → Type 0
-nothing k = ⊥
+use Rattle.nm_order.specs.Legal.{changes}
 
 -- ---- lists of acts
-
--- the act is one of these
-abbrev pub IsAmong : List Act → Act → Type 0
-IsAmong [] a = ⊥
-IsAmong (b ∷ acts) a = (b ≡ a) ⊎ IsAmong acts a
 
 -- an act may stand behind one of that moment, which was quiet where it changed nothing: it is
 -- later, or of the same moment, and then it is no change where the one before it was quiet
@@ -123,21 +87,6 @@ pub record HasActOfCall (acts : List Act) (w pin : ℕ) (op : Op) (k : ℕ)
   pub is_op : act.op ≡ op
   pub is_key : act.key ≡ k
   pub is_answer : act.answer ≡ answer
-
--- the keys of the leaves among slots, in their order
-abbrev pub leaf_keys : Memory → List ℕ → List ℕ
-leaf_keys m [] = []
-leaf_keys m (x ∷ xs) = if is_leaf (node m x) then (node m x).key ∷ leaf_keys m xs else leaf_keys m xs
-
--- acts of these keys in a row, at that moment, of each of which something holds
-pub record HasInARow (acts : List Act) (ks : List ℕ) (moment : ℕ) (Is : Act → Type 0) : Type 0 where
-  pub front : List Act
-  pub row : List Act
-  pub back : List Act
-  pub are : acts ≡ front ++ (row ++ back)
-  pub are_keys : map (λ a. a.key) row ≡ ks
-  pub at : (a : Act) → IsAmong row a → a.moment ≡ moment
-  pub each : (a : Act) → IsAmong row a → Is a
 
 -- an act is the true delete that flagged one of these nodes
 abbrev pub IsDeleteOf : Layout → List (ℕ × Event) → List NodeId → Act → Type 0

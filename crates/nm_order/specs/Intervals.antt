@@ -18,6 +18,7 @@ use Rattle.nm_model.specs.Reports.{keys}
 use Rattle.nm_model.specs.Searches.{Search, side_of}
 use Rattle.nm_model.specs.Ordered.{Configuration, ordered, after_in, next_in, outcome_in, search_of}
 pub use Rattle.nm_model.specs.Ordered.{HasKey}
+use Rattle.nm_model.specs.Acts.{InSet}
 
 -- a search for k goes that way from a slot: at each node to the side of k (Natarajan and Mittal,
 -- section 3.1)
@@ -74,13 +75,6 @@ WalksReadKeys c = (u k n : ℕ) (a : Arrival) → HasCome c u k a → a.key ≡ 
     → key c.state.memory a.slot ≡ n
 
 -- ---- the set
-
--- a key of the set is that of a reached leaf
-pub record InSet (m : Memory) (k : ℕ) : Type 0 where
-  pub slot : ℕ
-  pub reached : Reached m slot
-  pub leaf : is_leaf (node m slot) ≡ true
-  pub has_key : key m slot ≡ k
 
 -- the operation and the key of the call under a worker's pin
 pub record IsCalled (c : Configuration) (u : ℕ) (op : Op) (k : ℕ) : Type 0 where

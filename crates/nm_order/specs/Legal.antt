@@ -1,23 +1,14 @@
--- A plain set, and that an answer which changes nothing was right at a moment of its call.
-use Rattle.std.specs.Prelude.{◌≡◌, ℕ, Bool, true, false, List, ◌++◌}
+-- That an answer which changes nothing was right at a moment of its call.
+use Rattle.std.specs.Prelude.{◌≡◌, ℕ, Bool, false, List, ◌++◌}
 use Rattle.nm_edge.specs.Layouts.{Layout}
 use Rattle.nm_model.specs.declared.event.Op.{Op}
 use Rattle.nm_model.specs.declared.event.Op.TheVariants.{Has, Insert, Delete}
 use Rattle.nm_model.specs.declared.event.Event.{Event}
 use Rattle.nm_model.specs.Ordered.{ordered, after_in, trace_in}
-use Rattle.nm_order.specs.Intervals.{InSet, IsCalled}
+use Rattle.nm_model.specs.Acts.{InSet, Gives}
+use Rattle.nm_order.specs.Intervals.{IsCalled}
 use Rattle.nm_order.specs.Moments.{PinStands}
 use Rattle.nm_order.specs.Exchanges.{MayAnswer}
-
--- what a plain set answers: `has` tells whether the key is in it, an insert is true where it was
--- not, and a delete where it was (Herlihy and Wing, section 2, sequential specification)
-abbrev pub Gives : (ℕ → Type 0) → Op → ℕ → Bool → Type 0
-Gives in_set Has k true = in_set k
-Gives in_set Has k false = in_set k → ⊥
-Gives in_set Insert k true = in_set k → ⊥
-Gives in_set Insert k false = in_set k
-Gives in_set Delete k true = in_set k
-Gives in_set Delete k false = in_set k → ⊥
 
 -- a true insert and a true delete change the set, and no other answer does (Herlihy and Wing,
 -- section 2, sequential specification)

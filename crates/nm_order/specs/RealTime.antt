@@ -5,7 +5,8 @@ use Rattle.nm_model.specs.declared.event.Event.{Event}
 use Rattle.nm_model.specs.declared.event.Event.TheVariants.{LeaveWith}
 use Rattle.nm_model.specs.Ordered.{ordered, after_in}
 use Rattle.nm_order.specs.Exchanges.{MayAnswer}
-use Rattle.nm_order.specs.History.{Act, IsAmong, SameCall, pin_of, IsRunHistory}
+use Rattle.nm_model.specs.Acts.{Act, IsAmong}
+use Rattle.nm_order.specs.History.{SameCall, pin_of, IsRunHistory}
 
 -- one act stands before another (Herlihy and Wing, section 2, real-time order)
 pub record Precedes (acts : List Act) (a b : Act) : Type 0 where

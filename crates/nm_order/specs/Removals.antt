@@ -8,7 +8,8 @@ use Rattle.nm_model.specs.declared.event.Event.{Event}
 use Rattle.nm_model.specs.declared.reply.Reply.TheVariants.{Cut}
 use Rattle.nm_model.specs.Memory.{Memory, node, is_leaf}
 use Rattle.nm_model.specs.Ordered.{Configuration, ordered, next_in, outcome_in, after_in, trace_in}
-use Rattle.nm_order.specs.Intervals.{InSet, key}
+use Rattle.nm_model.specs.Acts.{InSet}
+use Rattle.nm_order.specs.Intervals.{key}
 use Rattle.nm_order.specs.Moments.{PinStands}
 use Rattle.nm_order.specs.Exchanges.{MayAnswer, HasFlagged}
 

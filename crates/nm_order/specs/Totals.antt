@@ -11,7 +11,8 @@ use Rattle.nm_model.specs.Memory.{Memory, node, edge, child, is_leaf}
 use Rattle.nm_model.specs.Paths.{Reached}
 use Rattle.nm_model.specs.Walks.{Entry}
 use Rattle.nm_model.specs.Ordered.{Configuration, ordered, search_of, next_in, outcome_in, after_in}
-use Rattle.nm_order.specs.Intervals.{InSet, key}
+use Rattle.nm_model.specs.Acts.{InSet}
+use Rattle.nm_order.specs.Intervals.{key}
 use Rattle.nm_order.specs.Exchanges.{HasFlagged, is_won_link}
 use Rattle.nm_order.specs.WalksToArrivals.{is_won_flag}
 

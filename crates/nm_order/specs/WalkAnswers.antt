@@ -8,8 +8,8 @@ use Rattle.nm_model.specs.declared.event.Op.TheVariants.{Has}
 use Rattle.nm_model.specs.Memory.{infinity_1}
 use Rattle.nm_model.specs.Walks.{Entry, since_pin, WalkEnds}
 use Rattle.nm_model.specs.Ordered.{ordered, after_in, trace_in}
-use Rattle.nm_order.specs.Intervals.{HasKey, InSet}
-use Rattle.nm_order.specs.Legal.{Gives}
+use Rattle.nm_model.specs.Acts.{InSet, Gives}
+use Rattle.nm_order.specs.Intervals.{HasKey}
 use Rattle.nm_order.specs.Logs.{part_of, known_by}
 use Rattle.nm_order.specs.Moments.{PinStands}
 use Rattle.nm_order.specs.StalePaths.{HasPin, log_under_pin}

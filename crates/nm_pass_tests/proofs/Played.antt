@@ -6,12 +6,12 @@ use Rattle.nm_model.specs.declared.knowledge.Brief.{Brief}
 use Rattle.nm_order.specs.Facts.Fact.{KnowsSlot, IsBorn, CallIs}
 use Rattle.nm_steps.specs.Steps.{Board, Stand}
 use Rattle.nm_epoch.specs.declared.collecting.HeldQueue.{HeldQueue}
-use Rattle.nm_calls.specs.Telling.{GoesOn, OnlyLooks}
+use Rattle.nm_walks.specs.Telling.{GoesOn, OnlyLooks}
 use Rattle.nm_calls.specs.Deletes.{IsRemoving}
 use Rattle.nm_pass_tests.specs.Plays.{IsPendingFor}
-use Rattle.nm_calls.proofs.Adding.{Adds}
-use Rattle.nm_calls.proofs.KeptLedgers.{holds_on}
-use Rattle.nm_calls.proofs.GoingOn.{pinned_still, own_still}
+use Rattle.nm_walks.proofs.Adding.{Adds}
+use Rattle.nm_walks.proofs.KeptLedgers.{holds_on}
+use Rattle.nm_walks.proofs.GoingOn.{pinned_still, own_still}
 
 pub removing_still : (p q : Stand) (k : ℕ) (n : NodeId) → IsRemoving p k n → GoesOn p q → OnlyLooks p q → IsRemoving q k n
 removing_still p q k n r on only = record {

@@ -4,7 +4,7 @@ use Rattle.nm_edge.specs.declared.node.NodeId.{NodeId}
 use Rattle.nm_steps.specs.Steps.{Board, Stand, IsOf}
 use Rattle.nm_epoch.specs.declared.collecting.HeldQueue.{HeldQueue}
 use Rattle.nm_epoch.specs.Resting.{IsResting}
-use Rattle.nm_calls.specs.Cleanups.{HoldsCuts}
+use Rattle.nm_walks.specs.Cleanups.{HoldsCuts}
 use Rattle.nm_calls.specs.Deletes.{IsRemoving}
 
 -- its queue and its counts are those of its log, and it rests

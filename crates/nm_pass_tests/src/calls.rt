@@ -1,6 +1,5 @@
 //! Calls of the set over passes: look-ups by two threads, and inserts and deletes of several
 //! workers, one call after another.
-ghost use Rattle.std.specs.Prelude.{◌≡◌};
 ghost use Rattle.nm_steps.specs.Steps.{IsOf, IsSamePass};
 ghost use Rattle.nm_epoch.specs.Resting.{IsResting};
 
@@ -8,7 +7,7 @@ use super::hands::{
     cannot_finish, deletes, finds, finishes, flags, inserts, key, starting, tag_beside,
 };
 use super::passes::{both, three};
-use nm_calls::{Busy, Fault, has};
+use nm_calls::{Busy, NotInserted, has};
 use nm_edge::{Key, Layout};
 use nm_epoch::advance;
 use nm_steps::{Pass, Shared};
@@ -127,8 +126,8 @@ fn one_worker_inserts_and_deletes(rt: HostRuntime) -> Result<(), Fail> {
     assert_eq!(rt; one.held.queue.len(), 2);
     finds(&rt, &shared, &mut one, five, false);
     inserts(&rt, &shared, &mut one, six, 1, Ok(true));
-    inserts(&rt, &shared, &mut one, five, 1, Err(Fault::Full));
-    inserts(&rt, &shared, &mut one, five, 0, Err(Fault::Busy));
+    inserts(&rt, &shared, &mut one, five, 1, Err(NotInserted::Full));
+    inserts(&rt, &shared, &mut one, five, 0, Err(NotInserted::Busy));
     let leaf = flags(&rt, &shared, &mut one, six);
     cannot_finish(&rt, &shared, &mut one, six, leaf);
     finishes(&rt, &shared, &mut one, six, leaf);
@@ -151,7 +150,7 @@ fn an_insert_helps_a_delete(rt: HostRuntime) -> Result<(), Fail> {
     inserts(&rt, &shared, &mut one, five, 1, Ok(true));
     let leaf = flags(&rt, &shared, &mut one, five);
     finds(&rt, &shared, &mut two, five, true);
-    inserts(&rt, &shared, &mut two, six, 1, Err(Fault::Busy));
+    inserts(&rt, &shared, &mut two, six, 1, Err(NotInserted::Busy));
     assert_eq!(rt; two.held.queue.len(), 2);
     assert_eq!(rt; two.held.counts.splices, 1);
     finds(&rt, &shared, &mut two, five, false);

@@ -3,13 +3,12 @@ ghost use Rattle.nm_steps.specs.Steps.{IsOf};
 ghost use Rattle.nm_calls.specs.Fresh.{HasDoneNothing};
 ghost use Rattle.nm_pass_tests.specs.Plays.{IsAtRest, IsPendingFor};
 
-use nm_calls::{
-    Chain, Fault, Missed, Unfinished, Workspace, choose, delete, finish, has, insert, seek, tag,
-};
+use nm_calls::{Missed, NotInserted, Unfinished, delete, finish, has, insert};
 use nm_edge::{Key, NodeId};
 use nm_epoch::HeldQueue;
 use nm_pool::{Fit, Placement};
 use nm_steps::{Pass, Shared};
+use nm_walks::{ChainEdges, Workspace, choose, seek, tag};
 use std::alloc::Global;
 use std::process::Abort;
 
@@ -57,7 +56,7 @@ pub(super) fn inserts(
     hand: &mut Hand,
     key: Key,
     tries: u32,
-    wanted: Result<bool, Fault>,
+    wanted: Result<bool, NotInserted>,
 )
     requires rests { IsAtRest shared.now hand.old.pass hand.old.held }
     ensures rests { IsAtRest shared.now hand.new.pass hand.new.held }
@@ -153,7 +152,7 @@ pub(super) fn tag_beside(shared: &Shared, hand: &mut Hand, key: Key, leaf: NodeI
     requires { IsPendingFor shared.now hand.old.pass hand.old.held key leaf }
     ensures { IsPendingFor shared.now hand.new.pass hand.new.held key leaf }
 {
-    let mut chain = Chain::new();
+    let mut chain = ChainEdges::new();
     let Some(end) = seek(shared, &mut hand.pass, key.get(), &mut chain) else {
         return false;
     };

@@ -1,7 +1,7 @@
 //! Claims by a placement.
 use super::passes::only;
 use nm_edge::{Layout, NodeId};
-use nm_pool::{Fit, Placement, claim_by, give, put, take};
+use nm_pool::{Fit, Placement, claim_by, give};
 use nm_steps::Shared;
 use std::test::Fail;
 
@@ -28,12 +28,12 @@ fn a_near_claim_takes_the_lowest_of_its_row_and_goes_round(rt: HostRuntime) -> R
     let mut near = Placement::new(Fit::Near, 67);
     assert!(rt; near.fit() == Fit::Near);
     assert_eq!(rt; claim_by(&shared, &mut pass, &mut near), first_of(65));
-    let Some(slot) = take(&shared, &mut pass, 66) else {
+    let Some(node) = claim_by(&shared, &mut pass, &mut Placement::new(Fit::Near, 66)) else {
         panic!(rt; "slot 66 is in the pool")
     };
     assert_eq!(rt; claim_by(&shared, &mut pass, &mut near), first_of(67));
     assert_eq!(rt; claim_by(&shared, &mut pass, &mut near), first_of(6));
-    put(&shared, &mut pass, slot);
+    give(&shared, &mut pass, node);
     assert_eq!(rt; claim_by(&shared, &mut pass, &mut near), first_of(7));
     Ok(())
 }
@@ -89,14 +89,14 @@ fn nothing_is_found_only_where_all_are_taken(rt: HostRuntime) -> Result<(), Fail
     let (shared, passes) = Shared::new(rt.alloc(), Layout::new(NODES, 1)?)?;
     let mut pass = only(&shared, passes);
     let mut near = Placement::new(Fit::Near, 0);
-    let Some(last) = take(&shared, &mut pass, 8) else {
-        panic!(rt; "slot 8 is in the pool")
+    let Some(node) = claim_by(&shared, &mut pass, &mut near) else {
+        panic!(rt; "slot 6 is in the pool")
     };
-    assert_eq!(rt; claim_by(&shared, &mut pass, &mut near), first_of(6));
     assert_eq!(rt; claim_by(&shared, &mut pass, &mut near), first_of(7));
-    assert_eq!(rt; claim_by(&shared, &mut pass, &mut near), None);
-    put(&shared, &mut pass, last);
     assert_eq!(rt; claim_by(&shared, &mut pass, &mut near), first_of(8));
+    assert_eq!(rt; claim_by(&shared, &mut pass, &mut near), None);
+    give(&shared, &mut pass, node);
+    assert_eq!(rt; claim_by(&shared, &mut pass, &mut near), second_of(6));
     assert_eq!(rt; claim_by(&shared, &mut pass, &mut near), None);
     Ok(())
 }

@@ -1,8 +1,12 @@
 //! The passes of a new table, for tests that make calls over passes.
-ghost use Rattle.std.specs.Prelude.{◌≡◌, length};
-ghost use Rattle.nm_steps.specs.Steps.{AreFresh, IsOf};
+ghost use Rattle.std.specs.Prelude.{◌≡◌, length, IfSome};
+ghost use Rattle.nm_pool.specs.Claims.{IsNewNode};
+ghost use Rattle.nm_steps.specs.Rules.{knowledge};
+ghost use Rattle.nm_steps.specs.Steps.{AreFresh, Continues, IsOf};
 ghost use Rattle.nm_calls.specs.Fresh.{HasDoneNothing};
 
+use nm_edge::NodeId;
+use nm_pool::{Fit, Placement, claim_by};
 use nm_steps::{Pass, Shared};
 
 /// The pass of a table of one worker.
@@ -63,4 +67,13 @@ pub(super) fn three(shared: &Shared, mut passes: Vec<Pass>) -> (Pass, Pass, Pass
         unreachable!()
     };
     (first, second, third)
+}
+
+/// Claims a node in the lowest slot that is free.
+pub(super) fn claim(shared: &Shared, pass: &mut Pass) -> Option<NodeId>
+    requires { IsOf shared.now pass.old }
+    ensures on { Continues pass.old pass.new }
+    ensures made { IfSome result (IsNewNode (knowledge pass.new.view)) }
+{
+    claim_by(shared, pass, &mut Placement::new(Fit::Lowest, 6))
 }

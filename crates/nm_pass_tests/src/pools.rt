@@ -1,10 +1,10 @@
-//! Slots taken out of the pool and put back, and new nodes claimed in them.
+//! New nodes claimed in slots of the pool, and given back.
 ghost use Rattle.std.specs.Prelude.{◌≡◌, ◌≤◌, length};
 ghost use Rattle.nm_steps.specs.Steps.{AreFresh, IsOf};
 
-use super::passes::{both, only};
+use super::passes::{both, claim, only};
 use nm_edge::{LEAST_NODES, Layout, NodeId};
-use nm_pool::{claim, give, put, take};
+use nm_pool::give;
 use nm_steps::{Pass, Shared, Words};
 use std::alloc::{AllocError, Global};
 use std::test::Fail;
@@ -13,8 +13,8 @@ use std::thread::{Threads, join};
 /// Eight nodes: slots 6, 7 and 8 are in the pool.
 const NODES: u32 = 8;
 
-/// The words of eight nodes and two workers: the epoch, two notes, four a node, and one row of the
-/// pool.
+/// The words of eight nodes and two workers: the epoch, two announcements, four a node, and one row
+/// of the pool.
 const WORDS: usize = 36;
 
 const ROUNDS: u32 = 1000;
@@ -43,45 +43,33 @@ fn a_slot_is_put_to_use_again(rt: HostRuntime) -> Result<(), Fail> {
         claim(&shared, &mut pass),
         Some(NodeId { slot: 7, birth: 1 })
     );
-    let Some(last) = take(&shared, &mut pass, 6) else {
-        panic!(rt; "slot 8 is in the pool")
-    };
-    assert_eq!(rt; last, 8);
-    assert_eq!(rt; take(&shared, &mut pass, 6), None);
+    assert_eq!(rt;
+        claim(&shared, &mut pass),
+        Some(NodeId { slot: 8, birth: 1 })
+    );
     assert_eq!(rt; claim(&shared, &mut pass), None);
     Ok(())
 }
 
 #[test]
-fn a_slot_that_was_put_back_is_found(rt: HostRuntime) -> Result<(), Fail> {
-    let layout = Layout::new(NODES, 1)?;
-    let (shared, passes) = Shared::new(rt.alloc(), layout)?;
-    let mut pass = only(&shared, passes);
-    let Some(slot) = take(&shared, &mut pass, 7) else {
-        panic!(rt; "slot 7 is in the pool")
-    };
-    assert_eq!(rt; slot, 7);
-    put(&shared, &mut pass, slot);
-    assert_eq!(rt; take(&shared, &mut pass, 7), Some(7));
-    assert_eq!(rt; take(&shared, &mut pass, 7), Some(8));
-    assert_eq!(rt; take(&shared, &mut pass, 9), None);
-    Ok(())
-}
-
-#[test]
-fn two_workers_take_from_one_pool(rt: HostRuntime) -> Result<(), Fail> {
+fn two_workers_claim_from_one_pool(rt: HostRuntime) -> Result<(), Fail> {
     let layout = Layout::new(LEAST_NODES, 2)?;
     let (shared, passes) = Shared::new(rt.alloc(), layout)?;
     let (mut first, mut second) = both(&shared, passes);
-    let Some(slot) = take(&shared, &mut first, 6) else {
+    let Some(sixth) = claim(&shared, &mut first) else {
         panic!(rt; "slot 6 is in the pool")
     };
-    assert_eq!(rt; slot, 6);
-    assert_eq!(rt; take(&shared, &mut second, 6), Some(7));
-    assert_eq!(rt; take(&shared, &mut second, 6), None);
-    assert_eq!(rt; take(&shared, &mut second, 8), None);
-    put(&shared, &mut first, slot);
-    assert_eq!(rt; take(&shared, &mut second, 6), Some(6));
+    assert_eq!(rt; sixth, NodeId { slot: 6, birth: 1 });
+    assert_eq!(rt;
+        claim(&shared, &mut second),
+        Some(NodeId { slot: 7, birth: 1 })
+    );
+    assert_eq!(rt; claim(&shared, &mut second), None);
+    give(&shared, &mut first, sixth);
+    assert_eq!(rt;
+        claim(&shared, &mut second),
+        Some(NodeId { slot: 6, birth: 2 })
+    );
     Ok(())
 }
 

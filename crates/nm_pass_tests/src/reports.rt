@@ -7,13 +7,13 @@ ghost use Rattle.nm_pass_tests.specs.Plays.{IsAtRest};
 use super::hands::{Hand, deletes, flags, inserts, key, starting};
 use super::passes::only;
 use nm_edge::{INFINITY_0, Layout};
-use nm_report::{Room, read};
+use nm_report::{ReportRoom, read};
 use nm_steps::{Pass, Shared};
 use std::process::Abort;
 use std::test::Fail;
 
-/// 135 nodes and 2 workers: 1 word for the epoch, 2 for the notes, 540 for the nodes, and 3 rows of
-/// the pool.
+/// 135 nodes and 2 workers: 1 word for the epoch, 2 for the announcements, 540 for the nodes, and 3
+/// rows of the pool.
 const NODES: u32 = 135;
 
 const WORKERS: u32 = 2;
@@ -73,7 +73,7 @@ fn the_empty_tree_has_no_key(rt: HostRuntime) -> Result<(), Fail> {
     let layout = Layout::new(NODES, WORKERS)?;
     let (shared, passes) = Shared::new(rt.alloc(), layout)?;
     let heir = join_both(&shared, passes);
-    let room = Room::new(rt.alloc(), layout)?;
+    let room = ReportRoom::new(rt.alloc(), layout)?;
     let words = shared.close(heir);
     let found = read(&words, room);
     assert!(rt; found.keys.is_empty());
@@ -95,7 +95,7 @@ fn reads(
     requires own { IsOf shared hand.pass }
     requires layout { layout ≡ shared.layout }
 {
-    let room = Room::new(rt.alloc(), layout)?;
+    let room = ReportRoom::new(rt.alloc(), layout)?;
     let Hand { pass, .. } = hand;
     let words = shared.close(pass);
     let found = read(&words, room);

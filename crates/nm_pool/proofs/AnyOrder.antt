@@ -6,8 +6,13 @@ use Rattle.std.proofs.lemmas.Bool.{cases_lt}
 use Rattle.std.proofs.lemmas.List.{length-append}
 use Rattle.nm_edge.specs.declared.node.NodeId.{NodeId}
 use Rattle.nm_model.specs.Walks.{Entry}
-use Rattle.nm_pool.specs.Takes.{Doing, DoneInTurn}
-use Rattle.nm_pool.specs.Claims.{PassedOver, PassedWithin, DoneAt, IsOneOfSlots, IsClaim, IsClaimBetween, IsClaimOfFew, IsNearClaim}
+use Rattle.nm_pool.specs.Claims.{Doing, DoneInTurn, PassedOver, PassedWithin, DoneAt, IsOneOfSlots, IsClaim, IsClaimBetween, IsNearClaim, ClaimsPast}
+
+-- what a near claim leaves by its answer, of at most so many tries
+abbrev pub IsClaimOfFew : ℕ → ℕ → List Entry → List Entry → Option NodeId → Type 0
+IsClaimOfFew limit nodes old new (Some n) = ClaimsPast limit nodes old new n
+IsClaimOfFew limit nodes old new None =
+    (slots : List ℕ) × (length slots ≤ limit) × DoneAt (PassedWithin nodes) slots old new
 
 -- ---- a range as a list, from its end
 

@@ -4,9 +4,8 @@ use Rattle.nm_edge.specs.declared.node.NodeId.{NodeId}
 use Rattle.nm_model.specs.Maps.{get}
 use Rattle.nm_model.specs.Knowledge.{Knowledge}
 use Rattle.nm_model.specs.Walks.{Entry}
-use Rattle.nm_pool.specs.Takes.{Doing, DoneInTurn, DoneBelow, FoundTaken, LearnsSlots}
+use Rattle.nm_pool.specs.Claims.{Doing, DoneInTurn, DoneBelow, FoundTaken, LearnsSlots, PassedOver, ClaimsBetween, IsTriedRow, IsClaimBetween}
 use Rattle.std.specs.Prelude.{Option, Some, None, Err}
-use Rattle.nm_pool.specs.Claims.{PassedOver, ClaimsBetween, IsTriedRow, IsClaimBetween}
 use Rattle.nm_pool.proofs.PrivateSlots.{one_more}
 
 -- so many more

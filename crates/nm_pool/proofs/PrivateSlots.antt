@@ -21,7 +21,7 @@ use Rattle.nm_steps.specs.declared.view.View.{View}
 use Rattle.nm_steps.specs.Rules.{knowledge}
 use Rattle.nm_steps.specs.Steps.{Board, Stand, IsOf, Stepped, IsSamePass}
 use Rattle.nm_steps.proofs.Presence.{known_push}
-use Rattle.nm_pool.specs.Takes.{Doing, DoneBelow, LearnsSlots}
+use Rattle.nm_pool.specs.Claims.{Doing, DoneBelow, LearnsSlots}
 
 -- ---- lists of slots
 

@@ -4,8 +4,7 @@ use Rattle.std.specs.Prelude.{Option, Some, None}
 use Rattle.std.proofs.lemmas.List.{length-append}
 use Rattle.nm_edge.specs.declared.node.NodeId.{NodeId}
 use Rattle.nm_model.specs.Walks.{Entry}
-use Rattle.nm_pool.specs.Takes.{Doing, DoneInTurn, FoundTaken, IsTake}
-use Rattle.nm_pool.specs.Claims.{DoneAt, PassedOver, PassedWithin, IsClaimBy}
+use Rattle.nm_pool.specs.Claims.{Doing, DoneInTurn, DoneAt, PassedOver, PassedWithin, IsClaimBy}
 use Rattle.nm_pool.specs.declared.placement.Fit.{Fit}
 use Rattle.nm_pool.specs.declared.placement.Fit.TheVariants as fit
 
@@ -24,21 +23,9 @@ few_in_turn most Done few from (suc n) old new done =
     let more : most * suc n ≡ most + most * n = omega arith in
     omega (arith, before, last, more)
 
-one_if_taken : TakesFew 1 FoundTaken
-one_if_taken s old new is = let l = longer_by old new _ is in omega (arith, l)
-
 three_at_most : TakesFew 3 PassedOver
 three_at_most s old new (inl taken) = let l = longer_by old new _ taken in omega (arith, l)
 three_at_most s old new (inr worn) = let l = longer_by old new _ worn in omega (arith, l)
-
-pub take_steps : (from nodes : ℕ) (old new : List Entry) (o : Option ℕ) → 5 < from → IsTake from nodes old new o → length new ≤ length old + nodes
-take_steps from nodes old new None high is = let few = few_in_turn 1 FoundTaken one_if_taken from (nodes + 1 - from) old new is in omega (arith, few, high)
-take_steps from nodes old new (Some s) high t =
-    let few = few_in_turn 1 FoundTaken one_if_taken from (s - from) old t.before t.taken in
-    let l = longer_by t.before new _ t.claimed in
-    let least = t.least in
-    let most = t.most in
-    omega (arith, few, l, least, most, high)
 
 few_at : (nodes : ℕ) (slots : List ℕ) (old new : List Entry) → DoneAt (PassedWithin nodes) slots old new → length new ≤ length old + 3 * length slots
 few_at nodes [] old new done = let same : length new ≡ length old = ap (λ (log : List Entry). length log) done in omega (arith, same)

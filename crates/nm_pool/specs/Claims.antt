@@ -1,18 +1,18 @@
 -- What claiming new nodes leaves in the log, oldest entry first.
-use Rattle.std.specs.Prelude.{◌≡◌, ℕ, ◌+◌, ◌≤◌, ◌<◌, ◌⊎◌, length, List, [], ◌∷◌, ◌++◌, Option, Some, None, Result, Ok, Err}
+use Rattle.std.specs.Prelude.{◌≡◌, ℕ, ◌+◌, ◌≤◌, ◌<◌, ◌⊎◌, true, length, List, [], ◌∷◌, ◌++◌, Option, Some, None, Result, Ok, Err}
 use Rattle.nm_edge.specs.declared.node.NodeId.{NodeId}
 use Rattle.nm_model.specs.declared.event.Event.TheVariants.{Claim, Give, Look, Fill}
 use Rattle.nm_model.specs.declared.event.Field.TheVariants.{Birth}
 use Rattle.nm_model.specs.declared.reply.Reply.TheVariants.{Claimed, Returned, BirthIs, Filled}
 use Rattle.nm_model.specs.Maps.{get}
-use Rattle.nm_model.specs.Knowledge.{Knowledge, unfilled}
+use Rattle.nm_model.specs.Knowledge.{Knowledge, is_private, unfilled}
 use Rattle.nm_model.specs.Step.{last_number}
 use Rattle.nm_model.specs.Walks.{Entry}
 use Rattle.nm_pool.specs.declared.nodes.Tried.{Tried}
 use Rattle.nm_pool.specs.declared.nodes.Tried.TheVariants as tried
 use Rattle.nm_pool.specs.declared.placement.Fit.{Fit}
 use Rattle.nm_pool.specs.declared.placement.Fit.TheVariants as fit
-use Rattle.nm_pool.specs.Takes.{Doing, DoneBelow, FoundTaken}
+pub use Rattle.nm_steps.specs.Rows.{Doing, DoneInTurn, DoneBelow, FoundTaken}
 
 -- the slot was claimed, found worn, with the greatest birth, and given back
 abbrev pub FoundWorn : Doing
@@ -48,6 +48,16 @@ IsClaim nodes old new None = DoneBelow PassedOver 6 (nodes + 1) old new
 -- its slot is private, its birth is stored there, and nothing else is
 abbrev pub IsNewNode : Knowledge → NodeId → Type 0
 IsNewNode k n = get k.drafts n.slot ≡ Some (record unfilled { birth = Some n.birth })
+
+-- nothing but private slots was learned: epochs, scans, known nodes and ledgers are as they were,
+-- and each slot that was private is so still, with what was stored there
+pub record LearnsSlots (before after : Knowledge) : Type 0 where
+  pub brief : after.brief ≡ before.brief
+  pub scanned : after.scanned ≡ before.scanned
+  pub known : after.known ≡ before.known
+  pub ledgers : after.ledgers ≡ before.ledgers
+  pub gone : after.gone ≡ before.gone
+  pub kept : (s : ℕ) → is_private before s ≡ true → get after.drafts s ≡ get before.drafts s
 
 -- ---- claims of a range
 
@@ -115,12 +125,6 @@ IsNearClaim nodes old new None = PassesAll nodes old new
 abbrev pub IsClaimBy : Fit → ℕ → List Entry → List Entry → Option NodeId → Type 0
 IsClaimBy fit.Lowest nodes old new r = IsClaim nodes old new r
 IsClaimBy fit.Near nodes old new r = IsNearClaim nodes old new r
-
--- the same of so many tries
-abbrev pub IsClaimOfFew : ℕ → ℕ → List Entry → List Entry → Option NodeId → Type 0
-IsClaimOfFew limit nodes old new (Some n) = ClaimsPast limit nodes old new n
-IsClaimOfFew limit nodes old new None =
-    (slots : List ℕ) × (length slots ≤ limit) × DoneAt (PassedWithin nodes) slots old new
 
 -- ---- a try of one slot
 

@@ -1,10 +1,8 @@
-//! Slots taken out of the pool and put back.
+//! Slots taken out of the pool to be nodes, and given back.
 #![tactic(auto, using(nm_steps::proofs::Seeing::seen_all))]
 
 mod nodes;
 mod placement;
-mod slots;
 
-pub use nodes::{claim, give};
+pub use nodes::give;
 pub use placement::{Fit, Placement, claim_by};
-pub use slots::{put, take};

@@ -5,16 +5,11 @@ ghost use Rattle.nm_model.specs.declared.reply.Reply.TheVariants.{Returned};
 ghost use Rattle.nm_model.specs.Knowledge.{is_private, draft_of};
 ghost use Rattle.nm_order.specs.Told.{IsNew};
 ghost use Rattle.nm_steps.specs.Rules.{knowledge};
-ghost use Rattle.nm_steps.specs.Steps.{Continues, IsInRun, IsOf, TakesStep};
-ghost use Rattle.nm_pool.specs.Takes.{LearnsSlots};
-ghost use Rattle.nm_pool.specs.Claims.{IsClaim, IsClaimBetween, IsTried, IsTriedRow, IfGot, IsNewNode};
+ghost use Rattle.nm_steps.specs.Steps.{Continues, IsOf, TakesStep};
+ghost use Rattle.nm_pool.specs.Claims.{IsClaim, IsClaimBetween, IsTried, IsTriedRow, IfGot, IsNewNode, LearnsSlots};
 
-use crate::slots::put;
-use nm_edge::{FIRST_SLOT, LAST_NUMBER, NodeId};
+use nm_edge::{FIRST_SLOT, LAST_NUMBER, NodeId, SLOTS_OF_A_ROW, place_in_row};
 use nm_steps::{Pass, Shared};
-
-/// How many slots one row of the pool tells of.
-pub(crate) const SLOTS_OF_A_ROW: u32 = 64;
 
 /// What a try of one slot answers.
 #[derive(Clone, Copy)]
@@ -37,7 +32,7 @@ pub(crate) enum Tried {
 ///
 /// Slots come back to the pool by epoch-based reclamation (Fraser, Practical lock-freedom, 2004,
 /// chapter 5); the births tell apart the nodes that stood in one slot.
-pub fn claim(shared: &Shared, pass: &mut Pass) -> Option<NodeId>
+pub(crate) fn claim(shared: &Shared, pass: &mut Pass) -> Option<NodeId>
     requires { IsOf shared.now pass.old }
     ensures on { Continues pass.old pass.new }
     ensures part { IsClaim shared.now.layout.nodes pass.old.view.log pass.new.view.log result }
@@ -48,7 +43,6 @@ pub fn claim(shared: &Shared, pass: &mut Pass) -> Option<NodeId>
     ensures steps { length pass.new.view.log
         ≤ length pass.old.view.log + 3 * shared.now.layout.nodes }
 {
-    pass.is_of_a_run();
     let nodes = shared.layout().nodes();
     claim_between(shared, pass, FIRST_SLOT, nodes + 1)
 }
@@ -60,7 +54,6 @@ pub(crate) fn claim_between(shared: &Shared, pass: &mut Pass, from: u32, to: u32
     requires low { 5 < from }
     requires order { from ≤ to }
     requires high { to ≤ shared.now.layout.nodes + 1 }
-    requires run { IsInRun pass.old }
     ensures on { Continues pass.old pass.new }
     ensures part { IsClaimBetween from to pass.old.view.log pass.new.view.log result }
     ensures made { IfSome result (IsNewNode (knowledge pass.new.view)) }
@@ -68,6 +61,7 @@ pub(crate) fn claim_between(shared: &Shared, pass: &mut Pass, from: u32, to: u32
         (λ node. IsNew pass.old.view.layout pass.old.view.number pass.old.view.log node.slot) }
     ensures learned { LearnsSlots (knowledge pass.old.view) (knowledge pass.new.view) }
 {
+    pass.is_of_a_run();
     if to <= from {
         return None;
     }
@@ -85,7 +79,6 @@ pub(crate) fn claim_by_rows(shared: &Shared, pass: &mut Pass, from: u32, to: u32
     requires low { 5 < from }
     requires order { from ≤ to }
     requires high { to ≤ shared.now.layout.nodes + 1 }
-    requires run { IsInRun pass.old }
     ensures on { Continues pass.old pass.new }
     ensures part { IsClaimBetween from to pass.old.view.log pass.new.view.log result }
     ensures made { IfSome result (IsNewNode (knowledge pass.new.view)) }
@@ -93,6 +86,7 @@ pub(crate) fn claim_by_rows(shared: &Shared, pass: &mut Pass, from: u32, to: u32
         (λ node. IsNew pass.old.view.layout pass.old.view.number pass.old.view.log node.slot) }
     ensures learned { LearnsSlots (knowledge pass.old.view) (knowledge pass.new.view) }
 {
+    pass.is_of_a_run();
     let mut slot = from;
     while slot < to {
         match try_row(shared, pass, slot, to) {
@@ -136,7 +130,7 @@ fn left_in_row(slot: u32) -> u32
     ensures few { result ≤ SLOTS_OF_A_ROW }
     ensures row { (slot - 1) % 64 + result ≡ 64 }
 {
-    SLOTS_OF_A_ROW - (slot - 1) % SLOTS_OF_A_ROW
+    SLOTS_OF_A_ROW - place_in_row(slot)
 }
 
 /// Gives a private node back to the pool, in one step. Its birth stays, so that the slot's next
@@ -148,6 +142,16 @@ pub fn give(shared: &Shared, pass: &mut Pass, node: NodeId)
     ensures { TakesStep pass.old pass.new (Give node.slot) (Returned node.slot) }
 {
     put(shared, pass, node.slot);
+}
+
+/// Puts a private slot back into the pool, in one step.
+fn put(shared: &Shared, pass: &mut Pass, slot: u32)
+    requires own { IsOf shared.now pass.old }
+    requires private { is_private (knowledge pass.old.view) slot ≡ true }
+    ensures { TakesStep pass.old pass.new (Give slot) (Returned slot) }
+{
+    pass.holds_pooled_slots();
+    shared.give(pass, slot);
 }
 
 /// Takes one slot out of the pool, if it is there, and raises its birth by one, if it is not worn.

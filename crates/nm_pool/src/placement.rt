@@ -3,11 +3,10 @@ ghost use Rattle.std.specs.Prelude.{◌≡◌, ◌+◌, ◌*◌, ◌≤◌, ◌<
 ghost use Rattle.nm_order.specs.Told.{IsNew};
 ghost use Rattle.nm_steps.specs.Rules.{knowledge};
 ghost use Rattle.nm_steps.specs.Steps.{Continues, IsOf};
-ghost use Rattle.nm_pool.specs.Claims.{IsClaimBy, IsNearClaim, IsNewNode};
-ghost use Rattle.nm_pool.specs.Takes.{LearnsSlots};
+ghost use Rattle.nm_pool.specs.Claims.{IsClaimBy, IsNearClaim, IsNewNode, LearnsSlots};
 
-use crate::nodes::{SLOTS_OF_A_ROW, claim, claim_between, claim_by_rows};
-use nm_edge::{FIRST_SLOT, NodeId};
+use crate::nodes::{claim, claim_between, claim_by_rows};
+use nm_edge::{FIRST_SLOT, NodeId, place_in_row};
 use nm_steps::{Pass, Shared};
 use std::marker::Model;
 
@@ -104,7 +103,7 @@ impl Placement {
         ensures high { result ≤ nodes }
     {
         if FIRST_SLOT <= self.cursor && self.cursor <= nodes {
-            (self.cursor - (self.cursor - 1) % SLOTS_OF_A_ROW).max(FIRST_SLOT)
+            (self.cursor - place_in_row(self.cursor)).max(FIRST_SLOT)
         } else {
             FIRST_SLOT
         }
@@ -150,7 +149,6 @@ fn claim_near(shared: &Shared, pass: &mut Pass, placement: &mut Placement) -> Op
     ensures learned { LearnsSlots (knowledge pass.old.view) (knowledge pass.new.view) }
     ensures fit { placement.new ≡ placement.old }
 {
-    pass.is_of_a_run();
     let nodes = shared.layout().nodes();
     let first = placement.first(nodes);
     if let Some(node) = claim_between(shared, pass, first, nodes + 1) {

@@ -67,7 +67,7 @@ epochs_are_the_moves c (t ∷ ts) = let rest = epochs_are_the_moves (next_in c t
 -- ---- a pin that is missed
 
 -- what a sight that missed tells
-missed_shows : (k : Knowledge) (n e a : ℕ) → k.brief.note ≡ Some a → reply_sight k n ≡ Missed e → (n ≡ e) × ((a == n) ≡ false)
+missed_shows : (k : Knowledge) (n e a : ℕ) → k.brief.announcement ≡ Some a → reply_sight k n ≡ Missed e → (n ≡ e) × ((a == n) ≡ false)
 missed_shows k n e a noted is = by k.brief.unlabelled k.brief.pin (ap (λ (o : Option ℕ). cond k.brief.unlabelled (Labelled n) (confirmed k.brief.pin o n)) (sym noted) ∙ is)
   where
     on : (b : Bool) → (a == n) ≡ b → cond b (Pinned n) (Missed n) ≡ Missed e → (n ≡ e) × ((a == n) ≡ false)
@@ -104,7 +104,7 @@ announced_so s w = refl
 same_announced : (a b : ℕ) → Announced a ≡ Announced b → a ≡ b
 same_announced a b e = cc
 
-noted : (w : ℕ) (k : Knowledge) (a : ℕ) → ((learn w k Announce (Announced a)).brief.note ≡ Some a) × ((learn w k Announce (Announced a)).brief.seen ≡ k.brief.seen)
+noted : (w : ℕ) (k : Knowledge) (a : ℕ) → ((learn w k Announce (Announced a)).brief.announcement ≡ Some a) × ((learn w k Announce (Announced a)).brief.seen ≡ k.brief.seen)
 unfolding learn
 noted w k a = (refl, refl)
 
@@ -133,15 +133,15 @@ missed_pins_are_moves L enough w log sight a e last is l seen = record { read_la
         k : Knowledge
         k = of t.before.state w
 
-        note : (of t.before.state w).brief.note ≡ Some a
-        note = ap (λ (k : Knowledge). k.brief.note) (t.told.knows ∙ known) ∙ (noted w (known_by L w log) a).0
+        announcement : (of t.before.state w).brief.announcement ≡ Some a
+        announcement = ap (λ (k : Knowledge). k.brief.announcement) (t.told.knows ∙ known) ∙ (noted w (known_by L w log) a).0
 
         read : (of t.before.state w).brief.seen ≡ Some a
         read = ap (λ (k : Knowledge). k.brief.seen) (t.told.knows ∙ known) ∙ ((noted w (known_by L w log) a).1 ∙ (seen ∙ ap Some (sym told)))
 
         by : PartOf w t.by sight → a < e
         by (Own own) =
-            let shows = missed_shows (of t.before.state w) t.before.state.memory.epoch e a note
+            let shows = missed_shows (of t.before.state w) t.before.state.memory.epoch e a announcement
             (sym (sight_replies t.before.state w sight is) ∙ (ap (λ (u : ℕ). reply_of t.before.state u sight) (sym own) ∙ t.replied)) in
             let up = (law_of_state L enough t.before t.told.is_ordered).1.epochs.sights w a read in
             let same = shows.0 in

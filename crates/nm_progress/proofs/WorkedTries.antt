@@ -9,7 +9,7 @@ use Rattle.nm_model.specs.Ordered.{ordered, trace_in, turn_of, outcome_in, next_
 use Rattle.nm_model.specs.Runs.{refused, applied}
 use Rattle.nm_model.specs.Searches.{searched}
 use Rattle.nm_model.specs.Step.{refusal, reply, write}
-use Rattle.nm_model.specs.Schedules.{e}
+use Rattle.nm_model.specs.Shorthands.{e}
 use Rattle.nm_order.specs.Logs.{part_of, known_by}
 use Rattle.nm_progress.specs.Changes.Expects.{ToLink}
 use Rattle.nm_progress.specs.Tries.{LosesTries}

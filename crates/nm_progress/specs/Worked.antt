@@ -8,7 +8,7 @@ use Rattle.nm_model.specs.declared.event.Event.TheVariants.{Sight, SightFor, Ann
 use Rattle.nm_model.specs.declared.reply.Reply.TheVariants.{Saw, Labelled, Pinned, Missed, Announced, Departed, Claimed, Idle, Moved, KeyIs, EdgeIs, Filled, Linked, Flagged, Was, Cut, Lost}
 use Rattle.nm_model.specs.declared.trace.Turn.{Turn}
 use Rattle.nm_model.specs.Ordered.{ordered, trace_in, turn_of}
-use Rattle.nm_model.specs.Schedules.{t, e, n}
+use Rattle.nm_model.specs.Shorthands.{t, e, n}
 use Rattle.nm_order.specs.Logs.{part_of}
 use Rattle.nm_progress.specs.Moves.{number_of, moves, moves_of_others}
 use Rattle.nm_progress.specs.Paid.{links_in, flags_in, cuts_in, tags_in}

@@ -8,4 +8,4 @@ mod room;
 mod walk;
 
 pub use report::{Found, read};
-pub use room::Room;
+pub use room::ReportRoom;

@@ -2,7 +2,7 @@
 ghost use Rattle.std.specs.Prelude.{◌≡◌};
 ghost use Rattle.nm_edge.specs.Words.{IsSlot};
 ghost use Rattle.nm_model.specs.Memory.{edge, in_pool, node};
-ghost use Rattle.nm_model.specs.Reports.{counts, keys};
+ghost use Rattle.nm_model.specs.Reports.{counts};
 ghost use Rattle.nm_report.specs.Ended.{IsEndOf, end_of};
 
 use nm_edge::{Edge, FIRST_SLOT, Key, Layout, Side};

@@ -2,11 +2,11 @@
 ghost use Rattle.std.specs.Prelude.{◌≡◌, ◌↔◌, ℕ, ◌<◌, AllPairs, Contains};
 ghost use Rattle.nm_model.specs.Memory.{infinity_0};
 ghost use Rattle.nm_model.specs.Reports.{counts, keys};
-ghost use Rattle.nm_order.specs.Intervals.{InSet};
+ghost use Rattle.nm_model.specs.Acts.{InSet};
 ghost use Rattle.nm_report.specs.Ended.{IsEndOf, end_of};
 
 use crate::reading::count_free;
-use crate::room::Room;
+use crate::room::ReportRoom;
 use crate::walk::walk;
 use nm_edge::{FIRST_SLOT, Key};
 use nm_model::keys::Subtree;
@@ -29,7 +29,7 @@ pub struct Found {
 ///
 /// It takes no memory beside the room, and cannot fail. A stack takes the place of recursion, so
 /// the tree may be as deep as it has nodes.
-pub fn read(words: &Words, room: Room) -> Found
+pub fn read(words: &Words, room: ReportRoom) -> Found
     requires { IsEndOf room words.now }
     ensures keys { (e : IsEndOf room words.now)
         → result.keys.items ≡ keys (end_of room words.now e) }
@@ -41,7 +41,7 @@ pub fn read(words: &Words, room: Room) -> Found
     ensures reached { (e : IsEndOf room words.now)
         → result.reached ≡ (counts (end_of room words.now e)).reached }
 {
-    let Room {
+    let ReportRoom {
         layout,
         mut keys,
         mut waiting,

@@ -12,13 +12,13 @@ use std::marker::Model;
 /// It is made before the tree is closed, so that nothing can fail afterwards. A contract sees it as
 /// the layout of the tree.
 #[derive(Drop)]
-pub struct Room {
+pub struct ReportRoom {
     pub(crate) layout: Layout,
     pub(crate) keys: Vec<Key>,
     pub(crate) waiting: Vec<Subtree>,
 }
 
-impl Model for Room {
+impl Model for ReportRoom {
     ghost use Rattle.std.specs.Prelude.{◌≡◌, ◌+◌, ◌≤◌, [], vec_capacity};
     ghost use Rattle.nm_edge.specs.Layouts.{Layout};
 
@@ -30,16 +30,16 @@ impl Model for Room {
         × (r.layout.nodes ≤ vec_capacity r.keys) × (r.layout.nodes + 1 ≤ vec_capacity r.waiting) };
 }
 
-impl Room {
+impl ReportRoom {
     /// Room for the report on a tree of that layout: one key a node, and one part a node and one
     /// more. It fails only where memory runs out.
-    pub fn new(alloc: Global, layout: Layout) -> Result<Room, AllocError>
+    pub fn new(alloc: Global, layout: Layout) -> Result<ReportRoom, AllocError>
         ensures { IfOk result (λ room. room ≡ layout) }
     {
         let nodes = layout.nodes() as usize;
         let keys = Vec::with_capacity(alloc, nodes)?;
         let waiting = Vec::with_capacity(alloc, nodes + 1)?;
-        Ok(Room {
+        Ok(ReportRoom {
             layout,
             keys,
             waiting,

@@ -7,8 +7,8 @@ use Rattle.std.proofs.lemmas.List.Sums.{sum_by-cons, sum_by-set}
 use Rattle.nm_serial.specs.declared.answer.Answer.{Answer}
 use Rattle.nm_epoch.specs.declared.collecting.HeldQueue.{HeldQueue}
 use Rattle.nm_epoch.specs.Collecting.{HaveLost}
-use Rattle.nm_files.specs.declared.entry.Call.{Call}
-use Rattle.nm_files.specs.declared.entry.Call.TheVariants.{Has, Insert, Delete, Finish, Pin, Unpin, Advance, Collect, Resign}
+use Rattle.nm_files.specs.declared.entry.ScriptCall.{ScriptCall}
+use Rattle.nm_files.specs.declared.entry.ScriptCall.TheVariants.{Has, Insert, Delete, Finish, Pin, Unpin, Advance, Collect, Resign}
 use Rattle.nm_steps.specs.Steps.{Board, IsOf}
 use Rattle.nm_tree.specs.Closing.{given_in}
 use Rattle.nm_tree.specs.Resigning.{merged}
@@ -83,7 +83,7 @@ present_are_of b (Some w ∷ crew) all =
 -- ---- lines
 
 -- a call that is its worker's alone
-pub own_line_at : (b : Board) (tries n : ℕ) (call : Call) (crew : List (Option Hand)) (z : Option Hand) (a : Answer) → IsOwnCall call → HasDoneAt b tries call (worker_at crew n) z a → PlaysLine b tries n call crew a (slice_set crew n z)
+pub own_line_at : (b : Board) (tries n : ℕ) (call : ScriptCall) (crew : List (Option Hand)) (z : Option Hand) (a : Answer) → IsOwnCall call → HasDoneAt b tries call (worker_at crew n) z a → PlaysLine b tries n call crew a (slice_set crew n z)
 own_line_at b tries n (Has k) crew z a own did = (z, did, refl)
 own_line_at b tries n (Insert k) crew z a own did = (z, did, refl)
 own_line_at b tries n (Delete k) crew z a own did = (z, did, refl)
@@ -95,7 +95,7 @@ own_line_at b tries n Collect crew z a own did = (z, did, refl)
 own_line_at b tries n (Resign heir) crew z a own did = absurd own
 
 -- the line in front of others
-pub line_first : (b : Board) (tries : ℕ) (all rest : List (ℕ × Call)) (e : ℕ × Call) (a : Answer) (more : List Answer) (crew mid z : List (Option Hand)) → all ≡ e ∷ rest → PlaysLine b tries e.0 e.1 crew a mid → PlaysAll b tries rest more mid z → PlaysAll b tries all (a ∷ more) crew z
+pub line_first : (b : Board) (tries : ℕ) (all rest : List (ℕ × ScriptCall)) (e : ℕ × ScriptCall) (a : Answer) (more : List Answer) (crew mid z : List (Option Hand)) → all ≡ e ∷ rest → PlaysLine b tries e.0 e.1 crew a mid → PlaysAll b tries rest more mid z → PlaysAll b tries all (a ∷ more) crew z
 line_first b tries all rest e a more crew mid z cut line next = rw cut (mid, line, next)
 
 -- both places are emptied and written again
@@ -144,7 +144,7 @@ whole_at_end b ws left crew after n new many sizes places kept is =
     ap given_in is ∙ present_stand_for after ∙ kept ∙ start ∙ many ∙ sym sizes
 
 -- each call but a resigning is its worker's alone
-pub is_own : (call : Call) → ((heir : ℕ) → call ≡ Resign heir → ⊥) → IsOwnCall call
+pub is_own : (call : ScriptCall) → ((heir : ℕ) → call ≡ Resign heir → ⊥) → IsOwnCall call
 is_own (Has k) isnt = tt
 is_own (Insert k) isnt = tt
 is_own (Delete k) isnt = tt
@@ -156,6 +156,6 @@ is_own Collect isnt = tt
 is_own (Resign heir) isnt = absurd (isnt heir refl)
 
 -- a call that was answered is a line
-pub made_line : (b : Board) (tries n : ℕ) (call : Call) (crew : List (Option Hand)) (o z : Option Hand) (r : Option Answer) → IsOwnCall call → worker_at crew n ≡ o → IfSome r (HasDoneAt b tries call o z) → IfSome r (λ a. PlaysLine b tries n call crew a (slice_set crew n z))
+pub made_line : (b : Board) (tries n : ℕ) (call : ScriptCall) (crew : List (Option Hand)) (o z : Option Hand) (r : Option Answer) → IsOwnCall call → worker_at crew n ≡ o → IfSome r (HasDoneAt b tries call o z) → IfSome r (λ a. PlaysLine b tries n call crew a (slice_set crew n z))
 made_line b tries n call crew o z None own at did = tt
 made_line b tries n call crew o z (Some a) own at did = own_line_at b tries n call crew z a own (rw at did)

@@ -5,7 +5,7 @@ use Rattle.std.proofs.lemmas.List.Elements.{All-map}
 use Rattle.std.proofs.lemmas.List.Sums.{sum_by-cons}
 use Rattle.nm_files.specs.declared.fault.RunFault.{RunFault}
 use Rattle.nm_files.specs.declared.fault.RunFault.TheVariants as run
-use Rattle.nm_files.specs.declared.entry.Call.{Call}
+use Rattle.nm_files.specs.declared.entry.ScriptCall.{ScriptCall}
 use Rattle.nm_files.specs.Entries.{Script}
 use Rattle.nm_steps.specs.Steps.{Board, IsOf}
 use Rattle.nm_tree.specs.Closing.{given_in}
@@ -40,7 +40,7 @@ same_many (w ∷ ws) (p ∷ ps) long each =
     let other = sum_by-cons (λ (w : Hand). length w.queues) p.worker (map (λ (p : Played). p.worker) ps) in
     omega (arith, first, rest, one, other)
 
-module _ (lets stops : ℕ → ℕ → Type 0) (b : Board) (tries : ℕ) (es : List (ℕ × Call)) (ws : List Hand) (ps : List Played) (played : HaveAllPlayed lets stops b tries es ws ps) where
+module _ (lets stops : ℕ → ℕ → Type 0) (b : Board) (tries : ℕ) (es : List (ℕ × ScriptCall)) (ws : List Hand) (ps : List Played) (played : HaveAllPlayed lets stops b tries es ws ps) where
   pub ended_are_of : All (λ w. IsOf b w.pass) (map (λ (p : Played). p.worker) ps)
   ended_are_of = All-map (λ (w : Hand). IsOf b w.pass) (λ (p : Played). p.worker) ps (λ k p lt. (played.each k p.worker p (let long = played.all in omega (arith, lt, long))).own)
 

@@ -3,15 +3,15 @@ use Rattle.std.specs.Prelude.{ℕ, Bool, Option, Some, None, Result, Ok, Err}
 use Rattle.nm_epoch.specs.declared.answers.Advance.{Advance}
 use Rattle.nm_epoch.specs.declared.answers.Advance.TheVariants as advance
 use Rattle.nm_epoch.specs.declared.collecting.Collected.{Collected}
-use Rattle.nm_tree.specs.declared.fault.Fault.{Fault}
-use Rattle.nm_tree.specs.declared.fault.Fault.TheVariants as fault
+use Rattle.nm_tree.specs.declared.fault.CallFault.{CallFault}
+use Rattle.nm_tree.specs.declared.fault.CallFault.TheVariants as fault
 use Rattle.nm_tree.specs.declared.fault.PinFault.{PinFault}
 use Rattle.nm_tree.specs.declared.fault.PinFault.TheVariants as pinning
 use Rattle.nm_serial.specs.declared.answer.Answer.{Answer}
 use Rattle.nm_serial.specs.declared.answer.Answer.TheVariants as answer
 
 -- of has, insert, delete and finish; nothing where memory was refused
-abbrev pub change_answer : Result Bool Fault → Option Answer
+abbrev pub change_answer : Result Bool CallFault → Option Answer
 change_answer (Ok b) = Some (answer.Said b)
 change_answer (Err fault.Busy) = Some answer.Busy
 change_answer (Err fault.Full) = Some answer.Full

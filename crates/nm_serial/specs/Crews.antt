@@ -3,8 +3,8 @@ use Rattle.std.specs.Prelude.{◌≡◌, ◌≢◌, ◌⊎◌, ℕ, List, [], �
 use Rattle.nm_serial.specs.declared.answer.Answer.{Answer}
 use Rattle.nm_serial.specs.declared.answer.Answer.TheVariants as answer
 use Rattle.nm_serial.specs.declared.answer.Refusal.TheVariants as refused
-use Rattle.nm_files.specs.declared.entry.Call.{Call}
-use Rattle.nm_files.specs.declared.entry.Call.TheVariants.{Resign}
+use Rattle.nm_files.specs.declared.entry.ScriptCall.{ScriptCall}
+use Rattle.nm_files.specs.declared.entry.ScriptCall.TheVariants.{Resign}
 use Rattle.nm_steps.specs.Steps.{Board, IsOf}
 use Rattle.nm_tree.specs.Resigning.{HasResigned}
 use Rattle.nm_tree.specs.Workers.{Hand}
@@ -30,7 +30,7 @@ stands_for None = 0
 stands_for (Some w) = length w.queues
 
 -- a call that is its worker's alone: a worker that has resigned makes none
-abbrev pub HasDoneAt : Board → ℕ → Call → Option Hand → Option Hand → Answer → Type 0
+abbrev pub HasDoneAt : Board → ℕ → ScriptCall → Option Hand → Option Hand → Answer → Type 0
 HasDoneAt b tries c None z a = (z ≡ None) × (a ≡ answer.Refused refused.Gone)
 HasDoneAt b tries c (Some w) None a = ⊥
 HasDoneAt b tries c (Some w) (Some z) a = HasMade b tries c w z a
@@ -65,7 +65,7 @@ pub record HasAsked (leaver heir : ℕ) (crew : List (Option Hand)) (a : Answer)
   pub places : after ≡ slice_set (slice_set crew heir (Some taken)) leaver still
 
 -- a line of the worker of that number, by its answer
-abbrev pub PlaysLine : Board → ℕ → ℕ → Call → List (Option Hand) → Answer → List (Option Hand)
+abbrev pub PlaysLine : Board → ℕ → ℕ → ScriptCall → List (Option Hand) → Answer → List (Option Hand)
     → Type 0
 PlaysLine b tries n (Resign heir) crew a after =
     IsGone n heir crew a after ⊎ HasAsked n heir crew a after
@@ -73,7 +73,7 @@ PlaysLine b tries n c crew a after =
     (z : Option Hand) × HasDoneAt b tries c (worker_at crew n) z a × (after ≡ slice_set crew n z)
 
 -- all lines, one after the other
-abbrev pub PlaysAll : Board → ℕ → List (ℕ × Call) → List Answer → List (Option Hand)
+abbrev pub PlaysAll : Board → ℕ → List (ℕ × ScriptCall) → List Answer → List (Option Hand)
     → List (Option Hand) → Type 0
 PlaysAll b tries [] [] crew z = z ≡ crew
 PlaysAll b tries (e ∷ es) (a ∷ more) crew z =

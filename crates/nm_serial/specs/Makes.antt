@@ -11,10 +11,10 @@ use Rattle.nm_epoch.specs.Resting.{epochs}
 use Rattle.nm_epoch.specs.Scans.{IsAdvance}
 use Rattle.nm_model.specs.declared.event.Event.TheVariants.{Leave}
 use Rattle.nm_model.specs.declared.reply.Reply.TheVariants.{Departed}
-use Rattle.nm_files.specs.declared.entry.Call.{Call}
-use Rattle.nm_files.specs.declared.entry.Call.TheVariants.{Has, Insert, Delete, Finish, Pin, Unpin, Advance as Move, Collect, Resign}
+use Rattle.nm_files.specs.declared.entry.ScriptCall.{ScriptCall}
+use Rattle.nm_files.specs.declared.entry.ScriptCall.TheVariants.{Has, Insert, Delete, Finish, Pin, Unpin, Advance as Move, Collect, Resign}
 use Rattle.nm_steps.specs.Steps.{Board, Stepped}
-use Rattle.nm_tree.specs.declared.fault.Fault.{Fault}
+use Rattle.nm_tree.specs.declared.fault.CallFault.{CallFault}
 use Rattle.nm_tree.specs.declared.fault.PinFault.{PinFault}
 use Rattle.nm_tree.specs.Answers.{HasAnswered, HasInserted, HasDeleted, HasFinished, HasPinned, KeepsPlace}
 use Rattle.nm_tree.specs.Workers.{Hand}
@@ -22,7 +22,7 @@ use Rattle.nm_serial.specs.declared.own_lines.Stop.{Stop}
 use Rattle.nm_serial.specs.declared.own_lines.Stop.TheVariants as stop
 
 -- a call that is its worker's alone
-abbrev pub IsOwnCall : Call → Type 0
+abbrev pub IsOwnCall : ScriptCall → Type 0
 IsOwnCall (Resign heir) = ⊥
 IsOwnCall _ = Unit {0}
 
@@ -31,11 +31,11 @@ abbrev pub IsAnsweredUnchanged : Answer → Hand → Hand → Answer → Type 0
 IsAnsweredUnchanged why w z a = (z ≡ w) × (a ≡ why)
 
 -- the call ended so, and that is what was answered
-abbrev pub HasAnsweredCall : (Result Bool Fault → Type 0) → Answer → Type 0
-HasAnsweredCall did a = (r : Result Bool Fault) × did r × (change_answer r ≡ Some a)
+abbrev pub HasAnsweredCall : (Result Bool CallFault → Type 0) → Answer → Type 0
+HasAnsweredCall did a = (r : Result Bool CallFault) × did r × (change_answer r ≡ Some a)
 
 -- a call that a held worker may not make
-abbrev pub HasSearched : (Result Bool Fault → Type 0) → Hand → Hand → Answer → Type 0
+abbrev pub HasSearched : (Result Bool CallFault → Type 0) → Hand → Hand → Answer → Type 0
 HasSearched did w z a = (IsSome w.held × IsAnsweredUnchanged (answer.Refused refused.Held) w z a)
     ⊎ ((w.held ≡ None) × HasAnsweredCall did a)
 
@@ -64,7 +64,7 @@ HasCollected w z a = KeepsPlace w z
 
 -- a call that is its worker's alone, with so many tries: as the call of the set does, by what it
 -- answers
-abbrev pub HasMade : Board → ℕ → Call → Hand → Hand → Answer → Type 0
+abbrev pub HasMade : Board → ℕ → ScriptCall → Hand → Hand → Answer → Type 0
 HasMade b tries (Has k) w z a = HasSearched (HasAnswered b.layout tries k w z) w z a
 HasMade b tries (Insert k) w z a = HasSearched (HasInserted b.layout tries k w z) w z a
 HasMade b tries (Delete k) w z a = HasSearched (HasDeleted b.layout tries k w z) w z a
@@ -83,13 +83,13 @@ HasStopped stops line w z (stop.Gate l) = (l ≡ line) × stops × (z ≡ w)
 HasStopped stops line w z stop.NoMemory = Unit {0}
 
 -- its calls with the numbers of their lines, from this number on
-abbrev pub own_lines : ℕ → ℕ → List (ℕ × Call) → List (ℕ × Call)
+abbrev pub own_lines : ℕ → ℕ → List (ℕ × ScriptCall) → List (ℕ × ScriptCall)
 own_lines n line [] = []
 own_lines n line (e ∷ es) = if e.0 == n then (line, e.1) ∷ own_lines n (line + 1) es
     else own_lines n (line + 1) es
 
 -- each of these lines, one after the other, was let and made its call, and was answered so
-abbrev pub PlaysEach : (ℕ → ℕ → Type 0) → Board → ℕ → ℕ → List (ℕ × Call) → List Answer → Hand
+abbrev pub PlaysEach : (ℕ → ℕ → Type 0) → Board → ℕ → ℕ → List (ℕ × ScriptCall) → List Answer → Hand
     → Hand → Type 0
 PlaysEach lets b tries n [] [] w z = z ≡ w
 PlaysEach lets b tries n (l ∷ ls) (a ∷ more) w z =
@@ -98,24 +98,24 @@ PlaysEach lets b tries n (l ∷ ls) (a ∷ more) w z =
 PlaysEach lets b tries n _ _ w z = ⊥
 
 -- a worker has played its lines, among those of a script from this number on
-abbrev pub PlaysOwn : (ℕ → ℕ → Type 0) → Board → ℕ → ℕ → ℕ → List (ℕ × Call) → List Answer → Hand
+abbrev pub PlaysOwn : (ℕ → ℕ → Type 0) → Board → ℕ → ℕ → ℕ → List (ℕ × ScriptCall) → List Answer → Hand
     → Hand → Type 0
 PlaysOwn lets b tries n line es answers w z =
     PlaysEach lets b tries n (own_lines n line es) answers w z
 
 -- once it had played those of its lines that stand before it, the gate stopped it before this one
-pub record PlaysUpTo (lets stops : ℕ → ℕ → Type 0) (b : Board) (tries n : ℕ) (ls : List (ℕ × Call))
+pub record PlaysUpTo (lets stops : ℕ → ℕ → Type 0) (b : Board) (tries n : ℕ) (ls : List (ℕ × ScriptCall))
     (line : ℕ) (w z : Hand) : Type 0 where
-  pub before : List (ℕ × Call)
-  pub call : Call
-  pub after : List (ℕ × Call)
+  pub before : List (ℕ × ScriptCall)
+  pub call : ScriptCall
+  pub after : List (ℕ × ScriptCall)
   pub split : ls ≡ before ++ (line, call) ∷ after
   pub answers : List Answer
   pub played : PlaysEach lets b tries n before answers w z
   pub stopped : stops n line
 
 -- why a worker has not played its lines, among those of a script from this number on
-abbrev pub StopsOwn : (ℕ → ℕ → Type 0) → (ℕ → ℕ → Type 0) → Board → ℕ → ℕ → ℕ → List (ℕ × Call)
+abbrev pub StopsOwn : (ℕ → ℕ → Type 0) → (ℕ → ℕ → Type 0) → Board → ℕ → ℕ → ℕ → List (ℕ × ScriptCall)
     → Hand → Hand → Stop → Type 0
 StopsOwn lets stops b tries n line es w z (stop.Gate l) =
     PlaysUpTo lets stops b tries n (own_lines n line es) l w z

@@ -5,7 +5,7 @@ use Rattle.nm_serial.specs.declared.answer.Answer.{Answer}
 use Rattle.nm_serial.specs.AnswerLines.{lines}
 use Rattle.nm_files.specs.declared.fault.RunFault.{RunFault}
 use Rattle.nm_files.specs.declared.fault.RunFault.TheVariants as run
-use Rattle.nm_files.specs.declared.entry.Call.{Call}
+use Rattle.nm_files.specs.declared.entry.ScriptCall.{ScriptCall}
 use Rattle.nm_steps.specs.Steps.{Board, IsOf}
 use Rattle.nm_tree.specs.Workers.{Hand}
 use Rattle.nm_serial.specs.declared.own_lines.Stop.{Stop}
@@ -15,7 +15,7 @@ use Rattle.nm_serial.specs.Makes.{PlaysOwn, StopsOwn}
 
 -- a worker has played its lines of a script, one after the other; or its gate stopped it before one
 -- of them, or it was refused memory
-pub record HasPlayed (lets stops : ℕ → ℕ → Type 0) (b : Board) (tries : ℕ) (es : List (ℕ × Call))
+pub record HasPlayed (lets stops : ℕ → ℕ → Type 0) (b : Board) (tries : ℕ) (es : List (ℕ × ScriptCall))
     (w z : Hand) (answers : Result (Vec Answer Global) Stop) : Type 0 where
   pub own : IsOf b z.pass
   pub number : z.pass.view.number ≡ w.pass.view.number
@@ -25,7 +25,7 @@ pub record HasPlayed (lets stops : ℕ → ℕ → Type 0) (b : Board) (tries : 
 
 -- each of the workers has, in their order
 pub record HaveAllPlayed (lets stops : ℕ → ℕ → Type 0) (b : Board) (tries : ℕ)
-    (es : List (ℕ × Call)) (ws : List Hand) (ps : List Played) : Type 0 where
+    (es : List (ℕ × ScriptCall)) (ws : List Hand) (ps : List Played) : Type 0 where
   pub all : length ps ≡ length ws
   pub each : (k : ℕ) (w : Hand) (p : Played) → k < length ws
       → HasPlayed lets stops b tries es (slice_index_or ws k w) (slice_index_or ps k p).worker
@@ -47,7 +47,7 @@ fault_in (p ∷ ps) = fault_before p.worker.pass.view.number p.answers (fault_in
 -- ---- their lines
 
 -- the lines of one worker
-abbrev pub own_rows : ℕ → List (List ℕ) → List (ℕ × Call) → List (List ℕ)
+abbrev pub own_rows : ℕ → List (List ℕ) → List (ℕ × ScriptCall) → List (List ℕ)
 own_rows n rows [] = []
 own_rows n [] (e ∷ es) = []
 own_rows n (row ∷ rows) (e ∷ es) = if e.0 == n then row ∷ own_rows n rows es else own_rows n rows es
@@ -57,7 +57,7 @@ answers_of (Ok v) = v.items
 answers_of (Err s) = []
 
 -- the lines of each worker with what they were answered, worker by worker
-abbrev pub all_rows : List (List ℕ) → List (ℕ × Call) → List Played → List ℕ
+abbrev pub all_rows : List (List ℕ) → List (ℕ × ScriptCall) → List Played → List ℕ
 all_rows rows es [] = []
 all_rows rows es (p ∷ ps) = lines (own_rows p.worker.pass.view.number rows es)
     (answers_of p.answers) ++ all_rows rows es ps

@@ -2,7 +2,7 @@
 ghost use Rattle.std.specs.Prelude.{◌≡◌};
 ghost use Rattle.nm_serial.specs.Answers as spec;
 
-use nm_tree::{Advance, Collected, Fault, PinFault};
+use nm_tree::{Advance, CallFault, Collected, PinFault};
 
 /// Why a line made no call.
 #[derive(Clone, Copy, Debug, PartialEq, Eq)]
@@ -50,16 +50,16 @@ pub enum Answer {
 
 /// What a look-up, an insert, a delete or a finish has answered; `None` where it was refused
 /// memory.
-pub fn of_change(changed: Result<bool, Fault>) -> Option<Answer>
+pub fn of_change(changed: Result<bool, CallFault>) -> Option<Answer>
     ensures { result ≡ spec.change_answer changed }
 {
     match changed {
         Ok(answer) => Some(Answer::Said(answer)),
-        Err(Fault::Busy) => Some(Answer::Busy),
-        Err(Fault::Full) => Some(Answer::Full),
-        Err(Fault::NoMemory) => None,
-        Err(Fault::Unfinished) => Some(Answer::Unfinished),
-        Err(Fault::Pending) => Some(Answer::Pending),
+        Err(CallFault::Busy) => Some(Answer::Busy),
+        Err(CallFault::Full) => Some(Answer::Full),
+        Err(CallFault::NoMemory) => None,
+        Err(CallFault::Unfinished) => Some(Answer::Unfinished),
+        Err(CallFault::Pending) => Some(Answer::Pending),
     }
 }
 

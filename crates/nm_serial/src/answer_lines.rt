@@ -1,5 +1,5 @@
 //! How what a line was answered is written.
-ghost use Rattle.std.specs.Prelude.{◌≡◌, ◌++◌, codes, OnOk};
+ghost use Rattle.std.specs.Prelude.{◌≡◌, ◌++◌, OnOk};
 ghost use Rattle.nm_files.specs.Lines.{parts};
 ghost use Rattle.nm_serial.specs.AnswerLines as spec;
 

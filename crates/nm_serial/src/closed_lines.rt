@@ -1,6 +1,6 @@
 //! The last lines: what became of the nodes that each worker cut off, the keys of the set, and how
 //! many slots stand where.
-ghost use Rattle.std.specs.Prelude.{◌≡◌, ◌++◌, codes, OnOk};
+ghost use Rattle.std.specs.Prelude.{◌≡◌, ◌++◌, OnOk};
 ghost use Rattle.nm_serial.specs.ClosedLines as spec;
 
 use nm_epoch::Entry;

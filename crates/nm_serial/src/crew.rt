@@ -6,14 +6,14 @@ ghost use Rattle.nm_steps.specs.Steps.{IsOf};
 
 use crate::answer::{Answer, Refusal};
 use crate::making::make;
-use nm_files::entry::Call;
+use nm_files::entry::ScriptCall;
 use nm_tree::{ResignReason, Tree, Worker};
 
 /// A call that is its worker's alone, by the worker at its place, if it has not resigned.
 pub(crate) fn make_at(
     tree: &Tree,
     place: &mut Option<Worker>,
-    call: Call,
+    call: ScriptCall,
     tries: u32,
 ) -> Option<Answer>
     requires own { IfSome place.old (λ w. IsOf tree.now w.pass) }

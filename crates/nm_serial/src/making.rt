@@ -6,7 +6,7 @@ ghost use Rattle.nm_tree.specs.Answers.{HasAnswered, HasInserted, HasDeleted};
 
 use crate::answer::{Answer, Refusal, of_advance, of_change, of_collection, of_pin};
 use nm_edge::Key;
-use nm_files::entry::Call;
+use nm_files::entry::ScriptCall;
 use nm_tree::{Tree, Worker};
 
 /// A look-up, unless the worker is held.
@@ -91,7 +91,7 @@ fn unpin(tree: &Tree, worker: &mut Worker) -> Answer
 /// A call that is its worker's alone, unless the worker may not make it; `None` where memory was
 /// refused.
 #[tactic(auto, using(crate::proofs::CrewLemmas::keeps_many, crate::proofs::CrewLemmas::lost_many))]
-pub(crate) fn make(tree: &Tree, worker: &mut Worker, call: Call, tries: u32) -> Option<Answer>
+pub(crate) fn make(tree: &Tree, worker: &mut Worker, call: ScriptCall, tries: u32) -> Option<Answer>
     requires own { IsOf tree.now worker.old.pass }
     requires alone { IsOwnCall call }
     ensures own { IsOf tree.now worker.new.pass }
@@ -100,14 +100,14 @@ pub(crate) fn make(tree: &Tree, worker: &mut Worker, call: Call, tries: u32) -> 
     ensures did { IfSome result (HasMade tree.now tries call worker.old worker.new) }
 {
     match call {
-        Call::Has(key) => has(tree, worker, key, tries),
-        Call::Insert(key) => insert(tree, worker, key, tries),
-        Call::Delete(key) => delete(tree, worker, key, tries),
-        Call::Finish => of_change(tree.finish(worker, tries)),
-        Call::Pin => Some(pin(tree, worker, tries)),
-        Call::Unpin => Some(unpin(tree, worker)),
-        Call::Advance => Some(of_advance(tree.advance(worker))),
-        Call::Collect => Some(of_collection(tree.collect(worker))),
-        Call::Resign(_) => unreachable!(),
+        ScriptCall::Has(key) => has(tree, worker, key, tries),
+        ScriptCall::Insert(key) => insert(tree, worker, key, tries),
+        ScriptCall::Delete(key) => delete(tree, worker, key, tries),
+        ScriptCall::Finish => of_change(tree.finish(worker, tries)),
+        ScriptCall::Pin => Some(pin(tree, worker, tries)),
+        ScriptCall::Unpin => Some(unpin(tree, worker)),
+        ScriptCall::Advance => Some(of_advance(tree.advance(worker))),
+        ScriptCall::Collect => Some(of_collection(tree.collect(worker))),
+        ScriptCall::Resign(_) => unreachable!(),
     }
 }

@@ -18,7 +18,7 @@ use crate::gate::Gate;
 use crate::outcome::{open, put_end};
 use crate::own_lines::{Lines, Stop};
 use crate::threads::{Played, play_apart};
-use nm_files::entry::Call;
+use nm_files::entry::ScriptCall;
 use nm_files::fault::RunFault;
 use nm_files::file::{Script, script_of};
 use nm_files::header::Command;
@@ -65,7 +65,7 @@ fn fault_of(played: &[Played]) -> Option<RunFault>
 fn put_own_lines(
     out: &mut Vec<u8>,
     body: &[u8],
-    calls: &[(u32, Call)],
+    calls: &[(u32, ScriptCall)],
     worker: u32,
     answers: &[Answer],
 ) -> Result<(), AllocError>
@@ -105,7 +105,7 @@ fn answers_of(part: &Played) -> &[Answer]
 fn put_all_lines(
     out: &mut Vec<u8>,
     body: &[u8],
-    calls: &[(u32, Call)],
+    calls: &[(u32, ScriptCall)],
     played: &[Played],
 ) -> Result<(), AllocError>
     ensures { OnOk result (out.new.items

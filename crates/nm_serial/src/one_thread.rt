@@ -13,7 +13,7 @@ use crate::answer::{Answer, Refusal};
 use crate::answer_lines::put_lines;
 use crate::crew::{leave, make_at};
 use crate::outcome::{open, put_end};
-use nm_files::entry::Call;
+use nm_files::entry::ScriptCall;
 use nm_files::fault::RunFault;
 use nm_files::file::{Script, script_of};
 use nm_files::header::{Command, Header};
@@ -94,7 +94,7 @@ fn play_line(
     crew: &mut Vec<Option<Worker>>,
     header: &Header,
     worker: u32,
-    call: &Call,
+    call: &ScriptCall,
 ) -> Option<Answer>
     requires own { AreCrewOf tree.now crew.old.items }
     requires count { length crew.old.items ≡ header.now.layout.workers }
@@ -106,7 +106,7 @@ fn play_line(
         (λ a. PlaysLine tree.now header.now.tries worker call.now crew.old.items a crew.new.items) }
 {
     match call {
-        Call::Resign(heir) => Some(resign(tree, crew, worker as usize, *heir as usize)),
+        ScriptCall::Resign(heir) => Some(resign(tree, crew, worker as usize, *heir as usize)),
         _ => make_at(tree, &mut crew[worker as usize], *call, header.tries),
     }
 }
@@ -117,7 +117,7 @@ fn play(
     tree: &Tree,
     crew: &mut Vec<Option<Worker>>,
     header: &Header,
-    calls: &[(u32, Call)],
+    calls: &[(u32, ScriptCall)],
 ) -> Result<Vec<Answer>, RunFault>
     requires own { AreCrewOf tree.now crew.old.items }
     requires count { length crew.old.items ≡ header.now.layout.workers }

@@ -1,10 +1,10 @@
 //! The end of a script: the tree is closed, and the last lines tell what is left.
-ghost use Rattle.std.specs.Prelude.{◌≡◌, ◌<◌, ◌^◌, ◌++◌, All, length, IfOk, OnOk, IfErr};
-ghost use Rattle.nm_print.specs.LastLines.{keys_line};
+ghost use Rattle.std.specs.Prelude.{◌≡◌, ◌<◌, ◌^◌, ◌++◌, All, IfOk, OnOk, IfErr};
 ghost use Rattle.nm_steps.specs.Steps.{IsOf};
 ghost use Rattle.nm_pool.specs.declared.placement.Fit.TheVariants.{Lowest};
 ghost use Rattle.nm_tree.specs.Closing.{given_in};
-ghost use Rattle.nm_tree.specs.Workers.{AreNew, HaveFit, waiting_in};
+ghost use Rattle.nm_tree.specs.Trees.{IsNewTree};
+ghost use Rattle.nm_tree.specs.Workers.{waiting_in};
 ghost use Rattle.nm_serial.specs.Endings.{IsEnding, worker_lines, ending_lines};
 
 use crate::closed_lines::{put_closed_places, put_worker};
@@ -18,10 +18,7 @@ use std::alloc::{AllocError, Global};
 /// The tree of a header with its workers, which claim the lowest slot that they can, so that a
 /// script tells which slots it uses.
 pub(crate) fn open(alloc: Global, header: &Header) -> Result<(Tree, Vec<Worker>), RunFault>
-    ensures layout { IfOk result (λ r. r.0.layout ≡ header.now.layout) }
-    ensures new { IfOk result (λ r. AreNew r.0 0 r.1.items) }
-    ensures count { IfOk result (λ r. length r.1.items ≡ header.now.layout.workers) }
-    ensures fit { IfOk result (λ r. HaveFit Lowest r.1.items) }
+    ensures new { IfOk result (λ r. IsNewTree header.now.layout Lowest r.0 r.1.items) }
     ensures err { IfErr result (λ e. e ≡ RunFault.NoMemory) }
 {
     match Tree::of(alloc, header.layout, Fit::Lowest) {

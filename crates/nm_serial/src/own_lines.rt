@@ -6,7 +6,7 @@ ghost use Rattle.nm_serial.specs.Makes.{HasMade, HasStopped, IsOwnCall, PlaysOwn
 use crate::answer::Answer;
 use crate::gate::Gate;
 use crate::making::make;
-use nm_files::entry::Call;
+use nm_files::entry::ScriptCall;
 use nm_tree::{Tree, Worker};
 use std::alloc::Global;
 
@@ -26,7 +26,7 @@ pub(crate) struct Lines<'a, G: Gate> {
     pub(crate) gate: &'a G,
     pub(crate) tree: &'a Tree,
     pub(crate) tries: u32,
-    pub(crate) calls: &'a [(u32, Call)],
+    pub(crate) calls: &'a [(u32, ScriptCall)],
 }
 
 /// One line, once the gate lets the worker go on with it.
@@ -34,7 +34,7 @@ fn play_line<G: Gate>(
     lines: &Lines<'_, G>,
     worker: &mut Worker,
     line: u32,
-    call: &Call,
+    call: &ScriptCall,
 ) -> Result<Answer, Stop>
     requires own { IsOf lines.now.tree.now worker.old.pass }
     requires plain { IsOwnCall call.now }

@@ -8,7 +8,7 @@ ghost use Rattle.nm_serial.specs.Threads.{HasPlayed, HaveAllPlayed};
 use crate::answer::Answer;
 use crate::gate::Gate;
 use crate::own_lines::{Lines, Stop, play_own};
-use nm_files::entry::Call;
+use nm_files::entry::ScriptCall;
 use nm_files::fault::RunFault;
 use nm_tree::{Tree, Worker};
 use std::alloc::Global;
@@ -30,7 +30,7 @@ struct PlaysAll<'a, G: Gate> {
     gate: &'a G,
     tree: &'a Tree,
     tries: u32,
-    calls: &'a [(u32, Call)],
+    calls: &'a [(u32, ScriptCall)],
     was: Snapshot<Worker>,
 }
 

@@ -11,8 +11,8 @@ use Rattle.nm_progress.specs.Tries.{hinders, reshapes_of_others}
 use Rattle.nm_progress.proofs.SplitTurns.{number-append}
 use Rattle.nm_busy.specs.Lookups.{WasBusy}
 use Rattle.nm_busy.specs.Lost.{ChangeWasBusy}
-use Rattle.nm_tree.specs.declared.fault.Fault.{Fault as Lost}
-use Rattle.nm_tree.specs.declared.fault.Fault.TheVariants as call
+use Rattle.nm_tree.specs.declared.fault.CallFault.{CallFault as Lost}
+use Rattle.nm_tree.specs.declared.fault.CallFault.TheVariants as call
 use Rattle.nm_tree.specs.Workers.{Hand, waiting_in}
 use Rattle.nm_tree.specs.Calls.{LeavesHas, LeavesInsert, LeavesDelete}
 use Rattle.nm_set.specs.declared.fault.Fault.{Fault}

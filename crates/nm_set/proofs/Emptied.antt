@@ -143,7 +143,7 @@ seen_before p e enough seen is =
     (ap (λ (k : Knowledge). k.brief.seen) (knows p seen) ∙ is)
 
 sight_finds : (k : Knowledge) (n : ℕ) → sight_epoch (reply_sight k n) ≡ Some n
-sight_finds k n = cond_both k.brief.unlabelled _ _ (λ r. sight_epoch r ≡ Some n) (λ _. refl) (λ _. confirmed_finds k.brief.pin k.brief.note n)
+sight_finds k n = cond_both k.brief.unlabelled _ _ (λ r. sight_epoch r ≡ Some n) (λ _. refl) (λ _. confirmed_finds k.brief.pin k.brief.announcement n)
 
 sight_told : (s : State) (w : ℕ) → reply_of s w event.Sight ≡ reply_sight (of s w) s.memory.epoch
 unfolding reply

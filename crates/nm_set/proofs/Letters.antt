@@ -20,8 +20,9 @@ use Rattle.nm_order.proofs.AnswersSince.{part-append}
 use Rattle.nm_steps.specs.Rules.{Extends}
 use Rattle.nm_steps.specs.Steps.{Board, Notice, Stand, IsOf, HasSeen, HasHeard, HasSeenAllOf}
 use Rattle.nm_steps.proofs.Growing.{goes_on_itself, goes_on_through}
-use Rattle.nm_calls.specs.Won.{capped, won_links, won_flags, won_splices}
-use Rattle.nm_calls.proofs.Adding.{Adds, adds_these}
+use Rattle.nm_walks.specs.WonCounts.{won_links, won_flags, won_splices}
+use Rattle.nm_epoch.specs.Collecting.{capped}
+use Rattle.nm_walks.proofs.Adding.{Adds, adds_these}
 use Rattle.nm_busy.specs.Pending.{leaf_after, leaf_by}
 use Rattle.nm_tree.specs.declared.worker.Counts.{Counts}
 use Rattle.nm_tree.specs.Workers.{Hand, IsLedger, log_held_of}

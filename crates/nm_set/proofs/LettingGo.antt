@@ -7,8 +7,9 @@ use Rattle.nm_model.specs.declared.reply.Reply.TheVariants.{Departed}
 use Rattle.nm_order.specs.Logs.{part_of}
 use Rattle.nm_steps.specs.Steps.{Stand, HasSeen}
 use Rattle.nm_calls.specs.declared.deleting.Unfinished.{Unfinished}
-use Rattle.nm_calls.specs.Won.{capped, won_links, won_flags}
-use Rattle.nm_calls.proofs.Adding.{adds_these}
+use Rattle.nm_walks.specs.WonCounts.{won_links, won_flags}
+use Rattle.nm_epoch.specs.Collecting.{capped}
+use Rattle.nm_walks.proofs.Adding.{adds_these}
 use Rattle.nm_tree.specs.Resigning.{IsReason}
 use Rattle.nm_tree.specs.Workers.{Hand, IsAs, IsBetweenCalls}
 use Rattle.nm_tree.proofs.FlaggedSeen.{none_seen}

@@ -7,9 +7,9 @@ use Rattle.nm_edge.specs.Layouts.{Layout}
 use Rattle.nm_model.specs.declared.event.Op.TheVariants.{Has, Delete}
 use Rattle.nm_steps.specs.Steps.{Board, Stand, HasSeenAllOf}
 use Rattle.nm_steps.proofs.Seeing.{seen_itself, seen_through}
-use Rattle.nm_calls.specs.Bounds.{reach}
-use Rattle.nm_tree.specs.declared.fault.Fault.{Fault as Lost}
-use Rattle.nm_tree.specs.declared.fault.Fault.TheVariants as call
+use Rattle.nm_walks.specs.Bounds.{reach}
+use Rattle.nm_tree.specs.declared.fault.CallFault.{CallFault as Lost}
+use Rattle.nm_tree.specs.declared.fault.CallFault.TheVariants as call
 use Rattle.nm_tree.specs.declared.popping.End.{End}
 use Rattle.nm_tree.specs.declared.popping.End.TheVariants.{First, Last}
 use Rattle.nm_tree.specs.Calls.{LeavesNear}

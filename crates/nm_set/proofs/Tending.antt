@@ -26,11 +26,11 @@ use Rattle.nm_epoch.specs.declared.collecting.Entry.{Entry}
 use Rattle.nm_epoch.specs.declared.collecting.HeldQueue.{HeldQueue}
 use Rattle.nm_epoch.specs.Collecting.{is_ripe, ripe_of, HaveLost}
 use Rattle.nm_epoch.specs.Resting.{epochs}
-use Rattle.nm_calls.specs.Bounds.{reach}
+use Rattle.nm_walks.specs.Bounds.{reach}
 use Rattle.nm_calls.specs.Moments.{AnswerHasMoment, HadNoCall}
 use Rattle.nm_calls.specs.Won.{HasWon}
-use Rattle.nm_tree.specs.declared.fault.Fault.{Fault as Lost}
-use Rattle.nm_tree.specs.declared.fault.Fault.TheVariants as call
+use Rattle.nm_tree.specs.declared.fault.CallFault.{CallFault as Lost}
+use Rattle.nm_tree.specs.declared.fault.CallFault.TheVariants as call
 use Rattle.nm_calls.specs.declared.deleting.Unfinished.{Unfinished}
 use Rattle.nm_tree.specs.Workers.{Hand, IsIdle, KeepsOtherQueues, waiting_in}
 use Rattle.nm_tree.specs.Answers.{links_won, flags_won}

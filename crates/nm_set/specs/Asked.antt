@@ -1,7 +1,7 @@
 -- What each call leaves of its member's worker: what the tree's call of the same name leaves, where
 -- the worker may be asked.
 use Rattle.std.specs.Prelude.{◌≡◌, ℕ, Bool, None, IsSome, Result, Ok, Err}
-use Rattle.nm_tree.specs.declared.fault.Fault.{Fault as Lost}
+use Rattle.nm_tree.specs.declared.fault.CallFault.{CallFault as Lost}
 use Rattle.nm_tree.specs.Workers.{Hand}
 use Rattle.nm_tree.specs.Calls.{LeavesPin, LeavesUnpin}
 use Rattle.nm_set.specs.declared.fault.Fault.{Fault}

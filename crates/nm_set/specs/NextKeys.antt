@@ -1,7 +1,7 @@
 -- What a call for the next key, or for the one before, leaves of its member's worker.
 use Rattle.std.specs.Prelude.{◌≡◌, ℕ, Option, None, IsSome, Result, Ok, Err}
 use Rattle.nm_edge.specs.Layouts.{Layout}
-use Rattle.nm_tree.specs.declared.fault.Fault.{Fault as Lost}
+use Rattle.nm_tree.specs.declared.fault.CallFault.{CallFault as Lost}
 use Rattle.nm_tree.specs.Workers.{Hand}
 use Rattle.nm_tree.specs.Calls.{LeavesNext, LeavesPrev}
 use Rattle.nm_set.specs.declared.fault.Fault.{Fault}

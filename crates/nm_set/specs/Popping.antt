@@ -6,7 +6,7 @@ use Rattle.nm_steps.specs.Steps.{Board}
 use Rattle.nm_calls.specs.PlainWalks.{WasSo}
 use Rattle.nm_calls.specs.Won.{HasWon}
 use Rattle.nm_calls.specs.declared.deleting.Unfinished.{Unfinished}
-use Rattle.nm_tree.specs.declared.fault.Fault.TheVariants as call
+use Rattle.nm_tree.specs.declared.fault.CallFault.TheVariants as call
 use Rattle.nm_tree.specs.declared.popping.End.{End}
 use Rattle.nm_tree.specs.declared.popping.End.TheVariants.{First, Last}
 use Rattle.nm_tree.specs.Popping.{Takes, WereMissing, comes_before}

@@ -5,7 +5,8 @@ use Rattle.nm_order.specs.Logs.{part_of}
 use Rattle.nm_steps.specs.Rules.{Extends}
 use Rattle.nm_steps.specs.Steps.{Board, Notice, HasHeard, HasSeenAllOf}
 use Rattle.nm_busy.specs.Pending.{leaf_after}
-use Rattle.nm_calls.specs.Won.{capped, won_links, won_flags}
+use Rattle.nm_walks.specs.WonCounts.{won_links, won_flags}
+use Rattle.nm_epoch.specs.Collecting.{capped}
 use Rattle.nm_tree.specs.Workers.{Hand}
 use Rattle.nm_set.specs.declared.fault.PostFault.{PostFault}
 use Rattle.nm_set.specs.declared.fault.PostFault.TheVariants as posting

@@ -1,11 +1,13 @@
 -- Where a set stands.
-use Rattle.std.specs.Prelude.{ℕ, ◌+◌, true, false, List}
+use Rattle.std.specs.Prelude.{◌≡◌, ℕ, ◌+◌, true, false, List, []}
 use Rattle.std.specs.Arc.{arc_value}
 use Rattle.nm_tree.specs.Workers.{Hand}
 use Rattle.nm_set.specs.declared.home.Site.{Site}
 use Rattle.nm_set.specs.declared.set.State.{State}
 use Rattle.nm_set.specs.declared.set.State.TheVariants.{Open, Closing}
 use Rattle.nm_set.specs.Seats.{HasRoom, Standing}
+use Rattle.nm_edge.specs.Layouts.{Layout}
+use Rattle.nm_pool.specs.declared.placement.Fit.{Fit}
 
 -- the tree, and its fit
 abbrev pub site_of : State → Site
@@ -33,3 +35,10 @@ room_for_one (Closing site) = 1
 abbrev pub MayGather : State → List Hand → ℕ → Type 0
 MayGather (Open home) kept room = HasRoom (arc_value home).tree kept room
 MayGather (Closing site) kept room = Unit {0}
+
+-- an open set of a tree of that layout, which keeps no workers, and whose workers claim by that fit
+pub record IsNewSet (L : Layout) (f : Fit) (s : Standing) : Type 0 where
+  pub closing : s.closing ≡ false
+  pub kept : s.kept ≡ []
+  pub layout : s.board.layout ≡ L
+  pub fit : s.fit ≡ f

@@ -18,11 +18,11 @@ use Rattle.nm_epoch.specs.declared.answers.Advance.{Advance}
 use Rattle.nm_epoch.specs.declared.answers.Advance.TheVariants as advance
 use Rattle.nm_epoch.specs.declared.collecting.Collected.{Collected}
 use Rattle.nm_epoch.specs.declared.collecting.HeldQueue.{HeldQueue}
-use Rattle.nm_calls.specs.Bounds.{chain_bound, reach}
+use Rattle.nm_walks.specs.Bounds.{chain_bound, reach}
 use Rattle.nm_calls.specs.Moments.{AnswerHasMoment}
 use Rattle.nm_calls.specs.Won.{HasWon}
-use Rattle.nm_tree.specs.declared.fault.Fault.{Fault as Lost}
-use Rattle.nm_tree.specs.declared.fault.Fault.TheVariants as call
+use Rattle.nm_tree.specs.declared.fault.CallFault.{CallFault as Lost}
+use Rattle.nm_tree.specs.declared.fault.CallFault.TheVariants as call
 use Rattle.nm_tree.specs.Workers.{Hand, waiting_in}
 use Rattle.nm_set.specs.declared.fault.Fault.{Fault}
 use Rattle.nm_set.specs.declared.fault.Fault.TheVariants as fault

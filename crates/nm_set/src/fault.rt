@@ -10,7 +10,7 @@ pub enum Fault {
     Held,
     /// The tree's call has not answered.
     #[error("{0}")]
-    Call(nm_tree::Fault),
+    Call(nm_tree::CallFault),
 }
 
 /// Why an insert that tends the set has not answered.

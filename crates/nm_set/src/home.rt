@@ -6,8 +6,7 @@ ghost use Rattle.nm_set.specs.Seats.{AreOwn, AreSeats, BeginsWith, HasRoom, IsOw
 
 use crate::posting::Post;
 use crate::seat::{AtHome, Guest, Seat, leave, retire, stand_up};
-use nm_pool::Fit;
-use nm_tree::{Tree, Worker};
+use nm_tree::{Fit, Tree, Worker};
 use std::alloc::{AllocError, Global};
 use std::marker::Model;
 

@@ -28,7 +28,7 @@ pub use fault::{
 };
 pub use member::{Member, ResignError};
 pub use nm_tree::{
-    Advance, Behind, Collected, Counts, Entry, Fault as CallFault, HeldQueue, NewError,
+    Advance, Behind, CallFault, Collected, Counts, Entry, Fit, HeldQueue, NewError,
     PinFault as CallPinFault, Query, Report, Tally,
 };
 pub use posting::{Posted, letters_are_in_order};

@@ -4,7 +4,6 @@ ghost use Rattle.std.specs.Arc.{arc_value};
 ghost use Rattle.nm_edge.specs.Layouts.{IsLayout};
 ghost use Rattle.nm_steps.specs.Rules.{Extends};
 ghost use Rattle.nm_steps.specs.Steps.{HasHeard, HasSeen, HasSeenAllOf, IsNoteOf, IsOfRun};
-ghost use Rattle.nm_epoch.specs.Collecting.{NoneHas};
 ghost use Rattle.nm_tree.specs.Resigning.{HasResigned};
 ghost use Rattle.nm_tree.specs.Running.{HasSeenTurns};
 ghost use Rattle.nm_tree.specs.Workers.{Hand, IsBetweenCalls, IsLedger, waiting_in, blocks_in, AreFewIn, IsIdle};
@@ -222,7 +221,7 @@ impl Member {
     /// Goes on with the delete that is pending: `Tree::finish` of `nm_tree`, with its faults. False
     /// with no step where none is pending.
     #[inline(always)]
-    pub fn finish(&mut self, tries: u32) -> Result<bool, nm_tree::Fault>
+    pub fn finish(&mut self, tries: u32) -> Result<bool, nm_tree::CallFault>
         ensures board { self.new.board ≡ self.old.board }
         ensures says { SaysFinish self.old.board.layout tries self.old.hand self.new.hand result }
         ensures did { LeavesFinish self.old.board.layout tries self.old.hand self.new.hand

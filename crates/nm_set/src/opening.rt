@@ -1,18 +1,17 @@
 //! Sets whose members are all given out as they begin.
-ghost use Rattle.std.specs.Prelude.{◌≡◌, ◌<◌, ◌≤◌, ◌⊎◌, ◌↔◌, [], false, length, IfErr, IfOk, IfSome, IsErrOf};
+ghost use Rattle.std.specs.Prelude.{◌≡◌, ◌↔◌, [], length, IfErr, IfOk, IfSome, IsErrOf};
 ghost use Rattle.std.specs.Arc.{arc_value};
-ghost use Rattle.nm_edge.specs.Layouts.{in_radix, spaced};
+ghost use Rattle.nm_edge.specs.Layouts.{IsLayoutFault, in_radix, spaced};
 ghost use Rattle.nm_tree.specs.Workers.{AreNew, HaveFit};
 ghost use Rattle.nm_set.specs.Seats.{AreNewMembers};
-ghost use Rattle.nm_set.specs.States.{open_set};
+ghost use Rattle.nm_set.specs.States.{IsNewSet, open_set};
 
 use crate::home::{Home, Site};
 use crate::member::Member;
 use crate::seat::Guest;
 use crate::set::Set;
-use nm_edge::{LEAST_NODES, MOST_SPACED_NODES, MOST_WORKERS};
-use nm_pool::Fit;
-use nm_tree::{NewError, Tree, Worker};
+use nm_edge::{Layout, LayoutError, MOST_SPACED_NODES};
+use nm_tree::{Fit, NewError, Tree, Worker};
 use std::alloc::Global;
 use std::sync::Arc;
 
@@ -29,18 +28,16 @@ impl Set {
         workers: u32,
     ) -> Result<(Set, Vec<Member>), NewError>
         ensures open { IfOk result
-            (λ r. (r.0.closing ≡ false) × (r.0.kept ≡ [])
-            × (r.0.board.layout ≡ in_radix (spaced nodes workers))) }
-        ensures fit { IfOk result (λ r. r.0.fit ≡ Fit.Near) }
+            (λ r. IsNewSet (in_radix (spaced nodes workers)) Fit.Near r.0) }
         ensures count { IfOk result (λ r. length r.1.items ≡ workers) }
         ensures new { IfOk result (λ r. AreNewMembers r.0.board r.0.fit 0 r.1.items) }
         ensures nodes { IsErrOf result NewError.Nodes
-            ↔ ((nodes < LEAST_NODES) ⊎ (MOST_SPACED_NODES < nodes)) }
+            ↔ IsLayoutFault MOST_SPACED_NODES nodes workers LayoutError.Nodes }
         ensures workers { IsErrOf result NewError.Workers
-            ↔ ((LEAST_NODES ≤ nodes) × (nodes ≤ MOST_SPACED_NODES)
-            × ((workers < 1) ⊎ (MOST_WORKERS < workers))) }
+            ↔ IsLayoutFault MOST_SPACED_NODES nodes workers LayoutError.Workers }
     {
-        let (tree, all) = Tree::radix(alloc, nodes, workers, Fit::Near)?;
+        let layout = Layout::spaced(nodes, workers)?.in_radix();
+        let (tree, all) = Tree::of(alloc, layout, Fit::Near)?;
         let site = Site {
             tree,
             fit: Fit::Near,

@@ -8,7 +8,7 @@ use crate::fault::Fault;
 use crate::member::Member;
 use crate::tended::Habit;
 use nm_edge::{Key, MOST_KEY};
-use nm_tree::{End, Fault as CallFault};
+use nm_tree::{CallFault, End};
 
 /// Whether a round has come to nothing.
 fn is_busy(told: &Result<Option<Key>, Fault>) -> bool

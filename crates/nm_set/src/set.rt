@@ -1,21 +1,20 @@
 //! Sets: a tree that gives out its workers as members, and is closed when all of them are at home,
 //! or with the set.
-ghost use Rattle.std.specs.Prelude.{◌≡◌, ◌<◌, ◌≤◌, ◌↔◌, ◌⊎◌, ◌++◌, ◌∷◌, [], true, false, length, IfOk, IfErr, IsErrOf, OnOk, OnErr, vec_capacity};
+ghost use Rattle.std.specs.Prelude.{◌≡◌, ◌≤◌, ◌↔◌, ◌++◌, ◌∷◌, [], true, false, IfOk, IfErr, IsErrOf, OnOk, OnErr, vec_capacity};
 ghost use Rattle.std.specs.Arc.{arc_value};
-ghost use Rattle.nm_edge.specs.Layouts.{in_radix, spaced};
+ghost use Rattle.nm_edge.specs.Layouts.{IsLayoutFault, in_radix, spaced};
 ghost use Rattle.nm_tree.specs.Closing.{IsClosed};
 ghost use Rattle.nm_tree.specs.Workers.{AreNew, HaveFit};
 ghost use Rattle.nm_set.specs.Seats.{AreOwn, HasRoom, IsResident, IsAnyResident, TellsAway};
 ghost use Rattle.nm_set.specs.Ends.{EndsSet, IsLeftOpen, IsTreesReason, SaysEnded, told_reason};
-ghost use Rattle.nm_set.specs.States.{open_set, closing_set, room_for_one};
+ghost use Rattle.nm_set.specs.States.{IsNewSet, open_set, closing_set, room_for_one};
 
 use crate::attach::take_any;
 use crate::fault::{CloseReason, MemberFault};
 use crate::home::{Absence, Home, Site};
 use crate::member::Member;
-use nm_edge::{LEAST_NODES, MOST_SPACED_NODES, MOST_WORKERS};
-use nm_pool::Fit;
-use nm_tree::{NewError, Report, Tree, Worker};
+use nm_edge::{Layout, LayoutError, MOST_SPACED_NODES};
+use nm_tree::{Fit, NewError, Report, Tree, Worker};
 use std::alloc::Global;
 use std::marker::Model;
 use std::sync::Arc;
@@ -81,66 +80,30 @@ impl Set {
     /// The empty set, in a radix tree with room for `nodes` nodes, 7 to 268,435,456, for 1 to 64
     /// workers, whose announcements have pages of their own. No walk takes more than 66 nodes,
     /// whatever keys come in whatever order; and each worker looks for a free slot near the one
-    /// that it found last or gave back since then: `Tree::radix` of `nm_tree` with the near fit.
+    /// that it found last or gave back since then: `Fit::Near`.
     ///
     /// `NoMemory`: nothing is kept.
     pub fn new(alloc: Global, nodes: u32, workers: u32) -> Result<Set, NewError>
-        ensures open { IfOk result
-            (λ s. (s.closing ≡ false) × (s.kept ≡ [])
-            × (s.board.layout ≡ in_radix (spaced nodes workers))) }
-        ensures fit { IfOk result (λ s. s.fit ≡ Fit.Near) }
+        ensures open { IfOk result (IsNewSet (in_radix (spaced nodes workers)) Fit.Near) }
         ensures nodes { IsErrOf result NewError.Nodes
-            ↔ ((nodes < LEAST_NODES) ⊎ (MOST_SPACED_NODES < nodes)) }
+            ↔ IsLayoutFault MOST_SPACED_NODES nodes workers LayoutError.Nodes }
         ensures workers { IsErrOf result NewError.Workers
-            ↔ ((LEAST_NODES ≤ nodes) × (nodes ≤ MOST_SPACED_NODES)
-            × ((workers < 1) ⊎ (MOST_WORKERS < workers))) }
+            ↔ IsLayoutFault MOST_SPACED_NODES nodes workers LayoutError.Workers }
     {
-        let (tree, all) = Tree::radix(alloc, nodes, workers, Fit::Near)?;
-        let site = Site {
-            tree,
-            fit: Fit::Near,
-        };
-        settle(alloc, site, all, workers)
+        made(alloc, Layout::spaced(nodes, workers)?.in_radix(), Fit::Near)
     }
 
     /// The same, in the tree of Natarajan and Mittal, which keys that come in order make one long
-    /// path: `Tree::spaced` with the near fit.
-    pub fn near(alloc: Global, nodes: u32, workers: u32) -> Result<Set, NewError>
-        ensures open { IfOk result
-            (λ s. (s.closing ≡ false) × (s.kept ≡ []) × (s.board.layout ≡ spaced nodes workers)) }
-        ensures fit { IfOk result (λ s. s.fit ≡ Fit.Near) }
+    /// path, and with that fit: with `Fit::Lowest` a new node takes the lowest free slot, for who
+    /// compares slots.
+    pub fn unbalanced(alloc: Global, nodes: u32, workers: u32, fit: Fit) -> Result<Set, NewError>
+        ensures open { IfOk result (IsNewSet (spaced nodes workers) fit) }
         ensures nodes { IsErrOf result NewError.Nodes
-            ↔ ((nodes < LEAST_NODES) ⊎ (MOST_SPACED_NODES < nodes)) }
+            ↔ IsLayoutFault MOST_SPACED_NODES nodes workers LayoutError.Nodes }
         ensures workers { IsErrOf result NewError.Workers
-            ↔ ((LEAST_NODES ≤ nodes) × (nodes ≤ MOST_SPACED_NODES)
-            × ((workers < 1) ⊎ (MOST_WORKERS < workers))) }
+            ↔ IsLayoutFault MOST_SPACED_NODES nodes workers LayoutError.Workers }
     {
-        let (tree, all) = Tree::spaced(alloc, nodes, workers, Fit::Near)?;
-        let site = Site {
-            tree,
-            fit: Fit::Near,
-        };
-        settle(alloc, site, all, workers)
-    }
-
-    /// The same as `near`, but a new node takes the lowest free slot, for who compares slots:
-    /// `Tree::spaced` with the lowest fit.
-    pub fn lowest(alloc: Global, nodes: u32, workers: u32) -> Result<Set, NewError>
-        ensures open { IfOk result
-            (λ s. (s.closing ≡ false) × (s.kept ≡ []) × (s.board.layout ≡ spaced nodes workers)) }
-        ensures fit { IfOk result (λ s. s.fit ≡ Fit.Lowest) }
-        ensures nodes { IsErrOf result NewError.Nodes
-            ↔ ((nodes < LEAST_NODES) ⊎ (MOST_SPACED_NODES < nodes)) }
-        ensures workers { IsErrOf result NewError.Workers
-            ↔ ((LEAST_NODES ≤ nodes) × (nodes ≤ MOST_SPACED_NODES)
-            × ((workers < 1) ⊎ (MOST_WORKERS < workers))) }
-    {
-        let (tree, all) = Tree::spaced(alloc, nodes, workers, Fit::Lowest)?;
-        let site = Site {
-            tree,
-            fit: Fit::Lowest,
-        };
-        settle(alloc, site, all, workers)
+        made(alloc, Layout::spaced(nodes, workers)?, fit)
     }
 
     /// An open set that keeps no workers.
@@ -270,6 +233,15 @@ impl Set {
             },
         }
     }
+}
+
+/// The empty set of a layout, whose workers claim by that fit. The only error is `NoMemory`.
+fn made(alloc: Global, layout: Layout, fit: Fit) -> Result<Set, NewError>
+    ensures open { IfOk result (IsNewSet layout fit) }
+    ensures memory { IfErr result (λ e. e ≡ NewError.NoMemory) }
+{
+    let (tree, all) = Tree::of(alloc, layout, fit)?;
+    settle(alloc, Site { tree, fit }, all, layout.workers())
 }
 
 /// A set of a new tree and all its workers, which go to their seats.

@@ -2,7 +2,7 @@
 //! is finished, and retired nodes are collected.
 ghost use Rattle.std.specs.Prelude.{◌≡◌, ◌≢◌, ◌≤◌, ◌+◌, ◌-◌, ◌*◌, true, false, None, Err};
 ghost use Rattle.nm_model.specs.declared.event.Op.TheVariants.{Has, Insert, Delete};
-ghost use Rattle.nm_tree.specs.declared.fault.Fault.TheVariants as lost;
+ghost use Rattle.nm_tree.specs.declared.fault.CallFault.TheVariants as lost;
 ghost use Rattle.nm_tree.specs.Calls.{LeavesHas, LeavesInsert, LeavesDelete};
 ghost use Rattle.nm_tree.specs.Workers.{Hand};
 ghost use Rattle.nm_set.specs.Asked.{Asked};
@@ -12,7 +12,7 @@ ghost use Rattle.nm_set.specs.Tended.{busy, IsTidied, IsTidy, FindsBehind, Looks
 use crate::fault::{Fault, Fullness, InsertFault};
 use crate::member::Member;
 use nm_edge::Key;
-use nm_tree::{Advance, Fault as CallFault};
+use nm_tree::{Advance, CallFault};
 
 /// What a call that tends the set may spend, and when it collects. Such a call takes at most 3
 /// `rounds` + 5 rounds, each of at most `tries` * (4 `reach` + 512) + 7 `nodes` + 2 `workers` + 12

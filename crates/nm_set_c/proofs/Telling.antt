@@ -3,7 +3,7 @@ use Rattle.std.proofs.Common.{◌≡◌, ℕ, ℤ, Bool, inl, inr}
 use Rattle.std.specs.Prelude.{Option, Result}
 use Rattle.nm_edge.specs.Keys.{IsKey}
 use Rattle.nm_steps.specs.Steps.{Board}
-use Rattle.nm_tree.specs.declared.fault.Fault.{Fault as Lost}
+use Rattle.nm_tree.specs.declared.fault.CallFault.{CallFault as Lost}
 use Rattle.nm_tree.specs.Workers.{Hand}
 use Rattle.nm_tree.specs.Calls.{SaysFinish, LeavesFinish}
 use Rattle.nm_set.specs.declared.fault.Fault.{Fault}

@@ -1,7 +1,7 @@
 -- What calls tell C.
 use Rattle.std.specs.Prelude.{◌≡◌, ℤ, pos, negsuc, Bool, true, false, Result, Ok, Err}
-use Rattle.nm_tree.specs.declared.fault.Fault.{Fault as Lost}
-use Rattle.nm_tree.specs.declared.fault.Fault.TheVariants as lost
+use Rattle.nm_tree.specs.declared.fault.CallFault.{CallFault as Lost}
+use Rattle.nm_tree.specs.declared.fault.CallFault.TheVariants as lost
 use Rattle.nm_model.specs.declared.new_error.NewError.{NewError}
 use Rattle.nm_model.specs.declared.new_error.NewError.TheVariants as making
 use Rattle.nm_set.specs.declared.fault.Fault.{Fault}

@@ -6,7 +6,7 @@ use Rattle.nm_model.specs.declared.event.Op.TheVariants.{Has, Insert, Delete}
 use Rattle.nm_steps.specs.Steps.{Board}
 use Rattle.nm_epoch.specs.declared.answers.Advance.{Advance}
 use Rattle.nm_epoch.specs.declared.answers.Advance.TheVariants as advance
-use Rattle.nm_tree.specs.declared.fault.Fault.{Fault as Lost}
+use Rattle.nm_tree.specs.declared.fault.CallFault.{CallFault as Lost}
 use Rattle.nm_tree.specs.declared.fault.PinFault.TheVariants as unpinned
 use Rattle.nm_tree.specs.declared.worker.Counts.{Counts}
 use Rattle.nm_calls.specs.declared.deleting.Unfinished.{Unfinished}

@@ -10,7 +10,7 @@ ghost use Rattle.nm_set_c.specs.Sets.{MakesSet, GivesWorker, Keeps, TakesWorker,
 use crate::handle::Handle;
 use crate::outcome::Outcome;
 use crate::owner::Owner;
-use nm_set::{Member, Set};
+use nm_set::{Fit, Member, Set};
 use std::alloc::Global;
 
 /// Makes the empty set, in a radix tree with room for `nodes` nodes, 7 to 268,435,456, for 1 to 64
@@ -35,7 +35,7 @@ pub extern "C" fn nm_set_new(alloc: Global, set: &mut Handle, nodes: u32, worker
 }
 
 /// The same, in the tree of Natarajan and Mittal, which keys that come in order make one long path:
-/// `Set::near` of `nm_set`.
+/// `Set::unbalanced` of `nm_set`, with the near fit.
 #[unsafe(no_mangle)]
 pub extern "C" fn nm_set_near(alloc: Global, set: &mut Handle, nodes: u32, workers: u32) -> i32
     ensures { IsCodeOf (MakesSet Near (spaced nodes workers) nodes workers
@@ -45,7 +45,7 @@ pub extern "C" fn nm_set_near(alloc: Global, set: &mut Handle, nodes: u32, worke
         Ok(()) => {}
         Err(told) => return told.code(),
     }
-    match Set::near(alloc, nodes, workers) {
+    match Set::unbalanced(alloc, nodes, workers, Fit::Near) {
         Ok(made) => open(alloc, set, Owner::Set(made)).code(),
         Err(error) => {
             set.shut();
@@ -54,7 +54,7 @@ pub extern "C" fn nm_set_near(alloc: Global, set: &mut Handle, nodes: u32, worke
     }
 }
 
-/// The same as `nm_set_near`, but a new node takes the lowest free slot: `Set::lowest` of `nm_set`.
+/// The same as `nm_set_near`, but a new node takes the lowest free slot: the lowest fit.
 #[unsafe(no_mangle)]
 pub extern "C" fn nm_set_lowest(alloc: Global, set: &mut Handle, nodes: u32, workers: u32) -> i32
     ensures { IsCodeOf (MakesSet Lowest (spaced nodes workers) nodes workers
@@ -64,7 +64,7 @@ pub extern "C" fn nm_set_lowest(alloc: Global, set: &mut Handle, nodes: u32, wor
         Ok(()) => {}
         Err(told) => return told.code(),
     }
-    match Set::lowest(alloc, nodes, workers) {
+    match Set::unbalanced(alloc, nodes, workers, Fit::Lowest) {
         Ok(made) => open(alloc, set, Owner::Set(made)).code(),
         Err(error) => {
             set.shut();

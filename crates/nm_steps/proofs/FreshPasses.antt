@@ -3,7 +3,7 @@ use Rattle.std.proofs.Common.{◌≡◌, ◌-◌, ◌<◌, ℕ, true, false, tru
 use Rattle.std.specs.Prelude.{None}
 use Rattle.atomic_table.specs.declared.shared.Seat.{Seat}
 use Rattle.nm_edge.specs.Layouts.{Layout, IsLayout}
-use Rattle.nm_edge.specs.Words.{at_note, word}
+use Rattle.nm_edge.specs.Words.{at_announcement, word}
 use Rattle.nm_model.specs.declared.knowledge.Brief.{Brief}
 use Rattle.nm_model.specs.Knowledge.{is_private}
 use Rattle.nm_model.specs.Ordered.{trace_in}
@@ -24,15 +24,15 @@ unfolding trace_in
 empty_log L w h = record { worker = h; turns = []; keys = λ i d below. absurd (omega arith); is_part = refl }
 
 abbrev pub no_epochs : Brief
-no_epochs = record { seen = None; note = None; pin = None; unlabelled = false }
+no_epochs = record { seen = None; announcement = None; pin = None; unlabelled = false }
 
-pub fresh_tied : (L : Layout) (it : Seat Unit View) (w note : ℕ) → IsLayout L → w < L.workers → note ≡ word L (at_note w) → it.me.0 ≡ fresh_view L w → it.me.1 ≡ [] → Tied it w note no_epochs
+pub fresh_tied : (L : Layout) (it : Seat Unit View) (w announcement : ℕ) → IsLayout L → w < L.workers → announcement ≡ word L (at_announcement w) → it.me.0 ≡ fresh_view L w → it.me.1 ≡ [] → Tied it w announcement no_epochs
 unfolding empty_log trace_in
-fresh_tied L it w note fits below at view empty = record {
+fresh_tied L it w announcement fits below at view empty = record {
   empty = empty;
   alive = ap (λ (v : View). v.spent) view;
   number_is = sym (ap (λ (v : View). v.number) view);
-  note_is = at ∙ sym (ap (λ (v : View). word v.layout (at_note w)) view);
+  announcement_is = at ∙ sym (ap (λ (v : View). word v.layout (at_announcement w)) view);
   brief_is = sym (ap (λ (v : View). (knowledge v).brief) view);
   fits = subst (λ (v : View). IsLayout v.layout) (sym view) fits;
   worker = subst (λ (v : View). w < v.layout.workers) (sym view) below;

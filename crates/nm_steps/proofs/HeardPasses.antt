@@ -2,7 +2,7 @@
 use Rattle.std.proofs.Common.{◌≡◌, ℕ, ◌<◌, true, List, [], sym, ap, ◌∙◌, subst}
 use Rattle.atomic_table.specs.declared.shared.Seat.{Seat}
 use Rattle.nm_edge.specs.Layouts.{IsLayout}
-use Rattle.nm_edge.specs.Words.{at_note, word}
+use Rattle.nm_edge.specs.Words.{at_announcement, word}
 use Rattle.nm_model.specs.declared.trace.Turn.{Turn}
 use Rattle.nm_model.specs.declared.knowledge.Brief.{Brief}
 use Rattle.nm_model.specs.Knowledge.{is_private}
@@ -13,19 +13,19 @@ use Rattle.nm_steps.specs.Steps.{Tied, HasSeen}
 use Rattle.nm_steps.specs.Ties.{HasSeenBoth}
 
 -- the seat after it was told, and after the read behind it
-module _ (it mid after : Seat Unit View) (number note : ℕ) (brief : Brief) (w : View) (tied : Tied it number note brief) (me : mid.me ≡ (informed it.me.0 w, it.me.1)) (slots : after.me.1 ≡ mid.me.1) (both : HasSeenBoth mid.me.0 after.me.0) where
+module _ (it mid after : Seat Unit View) (number announcement : ℕ) (brief : Brief) (w : View) (tied : Tied it number announcement brief) (me : mid.me ≡ (informed it.me.0 w, it.me.1)) (slots : after.me.1 ≡ mid.me.1) (both : HasSeenBoth mid.me.0 after.me.0) where
   abbrev now : List Turn
   now = after.me.0.past
 
   view : after.me.0 ≡ record it.me.0 { past = now; heard = [] }
   view = both.is ∙ ap (λ (m : View × List (ℕ × Unit)). record m.0 { past = now; heard = [] }) me
 
-  pub heard_tied : HasSeen after.me.0 → Tied after number note brief
+  pub heard_tied : HasSeen after.me.0 → Tied after number announcement brief
   heard_tied seen = record {
     empty = slots ∙ (ap (λ m. m.1) me ∙ tied.empty);
     alive = ap (λ (v : View). v.spent) view ∙ tied.alive;
     number_is = tied.number_is ∙ sym (ap (λ (v : View). v.number) view);
-    note_is = tied.note_is ∙ sym (ap (λ (v : View). word v.layout (at_note number)) view);
+    announcement_is = tied.announcement_is ∙ sym (ap (λ (v : View). word v.layout (at_announcement number)) view);
     brief_is = tied.brief_is ∙ sym (ap (λ (v : View). (knowledge v).brief) view);
     fits = subst (λ (v : View). IsLayout v.layout) (sym view) tied.fits;
     worker = subst (λ (v : View). number < v.layout.workers) (sym view) tied.worker;

@@ -4,7 +4,7 @@ use Rattle.std.specs.Prelude.{Option}
 use Rattle.std.proofs.lemmas.Bool.{cond_both}
 use Rattle.atomic_table.specs.declared.shared.Seat.{Seat}
 use Rattle.nm_edge.specs.Layouts.{IsLayout}
-use Rattle.nm_edge.specs.Words.{at_note, word}
+use Rattle.nm_edge.specs.Words.{at_announcement, word}
 use Rattle.nm_model.specs.declared.event.Event.TheVariants.{Join}
 use Rattle.nm_model.specs.declared.trace.Turn.{Turn}
 use Rattle.nm_model.specs.declared.knowledge.Brief.{Brief}
@@ -28,7 +28,7 @@ unfolding learn
 drafts_stay w v k ls = cond_both (w == v) (resigned k) (inheriting k ls) (λ (x : Knowledge). x.drafts ≡ k.drafts) (λ _. refl) (λ _. refl)
 
 -- the seat after the join, and after the read behind it
-module _ (it mid after : Seat Unit View) (number note : ℕ) (brief : Brief) (w : View) (tied : Tied it number note brief) (me : mid.me ≡ (joining_view it.me.0 w, it.me.1)) (slots : after.me.1 ≡ mid.me.1) (both : HasSeenBoth mid.me.0 after.me.0) where
+module _ (it mid after : Seat Unit View) (number announcement : ℕ) (brief : Brief) (w : View) (tied : Tied it number announcement brief) (me : mid.me ≡ (joining_view it.me.0 w, it.me.1)) (slots : after.me.1 ≡ mid.me.1) (both : HasSeenBoth mid.me.0 after.me.0) where
   abbrev now : List Turn
   now = after.me.0.past
 
@@ -37,7 +37,7 @@ module _ (it mid after : Seat Unit View) (number note : ℕ) (brief : Brief) (w 
 
   -- the first pass with the joined view: its epochs are as they were, and its log ends with the
   -- join
-  pub joined_tied : HasSeen after.me.0 → Tied after number note brief
+  pub joined_tied : HasSeen after.me.0 → Tied after number announcement brief
   joined_tied seen =
       let drafts : (knowledge (joined it.me.0 w)).drafts ≡ (knowledge it.me.0).drafts =
       ap (λ (k : Knowledge). k.drafts) (known_push it.me.0.number it.me.0.layout it.me.0.log (passing w)) ∙ drafts_stay it.me.0.number w.number (knowledge it.me.0) (knowledge w).ledgers in
@@ -45,7 +45,7 @@ module _ (it mid after : Seat Unit View) (number note : ℕ) (brief : Brief) (w 
         empty = slots ∙ (ap (λ m. m.1) me ∙ tied.empty);
         alive = ap (λ (v : View). v.spent) view ∙ tied.alive;
         number_is = tied.number_is ∙ sym (ap (λ (v : View). v.number) view);
-        note_is = tied.note_is ∙ sym (ap (λ (v : View). word v.layout (at_note number)) view);
+        announcement_is = tied.announcement_is ∙ sym (ap (λ (v : View). word v.layout (at_announcement number)) view);
         brief_is =
             tied.brief_is
             ∙ (sym (brief_is_noted it.me.0.number (knowledge it.me.0) (Join w.number) (Joined (knowledge w).ledgers))

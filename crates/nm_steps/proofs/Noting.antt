@@ -7,7 +7,7 @@ use Rattle.std.proofs.lemmas.Bool.{cond_both, ne_eqb}
 use Rattle.atomic_table.specs.Seated.{TableId}
 use Rattle.atomic_table.specs.declared.shared.Seat.{Seat}
 use Rattle.nm_edge.specs.Layouts.{Layout, IsLayout}
-use Rattle.nm_edge.specs.Words.{at_note, word}
+use Rattle.nm_edge.specs.Words.{at_announcement, word}
 use Rattle.nm_model.specs.declared.event.Event.{Event}
 use Rattle.nm_model.specs.declared.event.Event.TheVariants.{Sight, SightFor, Announce, Leave, LeaveWith, Scan, Advance, Claim, Give, Look, Fill, Link, Flag, Tag, Splice, Join}
 use Rattle.nm_model.specs.declared.reply.Reply.{Reply}
@@ -27,12 +27,24 @@ use Rattle.nm_words.specs.Told.{told}
 use Rattle.nm_steps.specs.declared.view.View.{View}
 use Rattle.std.proofs.lemmas.List.{same_from_push}
 use Rattle.nm_steps.specs.Rules.{knowledge, known_births, answered_turn, logged, is_store, IsFound}
-use Rattle.nm_steps.specs.Steps.{Stand, May, IsReadyFor, IsDone, Stepped, HasTurn, IsOfRun, IsInRun, HasSeen, Tied, Laid, noted, noted_sight}
+use Rattle.nm_steps.specs.Steps.{Stand, May, IsReadyFor, IsDone, Stepped, HasTurn, IsOfRun, IsInRun, HasSeen, Tied, Laid, noted_sight}
 use Rattle.nm_steps.proofs.Presence.{gone_kept, known_push}
 use Rattle.nm_steps.proofs.Asking.{within, seen_small, private_pooled}
 use Rattle.nm_steps.proofs.Extending.{IsPartOf, trace_after}
 use Rattle.nm_steps.proofs.Keeping.{no_leaver, part_grows}
 use Rattle.nm_laws.proofs.Configurations.{keys_more}
+
+-- the brief behind an event with its reply
+abbrev pub noted : Brief → Event → Reply → Brief
+noted b Sight r = noted_sight b r
+noted b (SightFor op key) r = noted_sight b r
+noted b Announce (Announced e) = record b { announcement = Some e }
+noted b Leave Departed = record b { announcement = None; pin = None }
+noted b (LeaveWith answer) Departed = record b { announcement = None; pin = None }
+noted b Advance (Moved e) = record b { seen = Some e }
+noted b Advance (Behind e) = record b { seen = Some e }
+noted b (Splice a side s p keep) (Cut ns) = record b { unlabelled = true }
+noted b _ _ = b
 
 -- ---- epochs
 
@@ -149,9 +161,9 @@ small_seen : (o : Option ℕ) → ((s : ℕ) → o ≡ Some s → s ≤ last_num
 small_seen None small = tt
 small_seen (Some s) small = small s refl
 
-pub ready : (z : TableId) (key L : Layout) (it : Seat Unit View) (number note : ℕ) (brief : Brief) (e : Event) (i : ℕ)
-    → Laid z key L → Tied it number note brief → it.table_id ≡ z → it.me.0.layout ≡ L → May it.me.0.layout it.me.0.number it.me.0.log e → i ≡ word L (touched_field number e) → IsReadyFor (record { table = z; layout = L }) it e i
-ready z key L it number note brief e i laid tied table same may index =
+pub ready : (z : TableId) (key L : Layout) (it : Seat Unit View) (number announcement : ℕ) (brief : Brief) (e : Event) (i : ℕ)
+    → Laid z key L → Tied it number announcement brief → it.table_id ≡ z → it.me.0.layout ≡ L → May it.me.0.layout it.me.0.number it.me.0.log e → i ≡ word L (touched_field number e) → IsReadyFor (record { table = z; layout = L }) it e i
+ready z key L it number announcement brief e i laid tied table same may index =
     let k : May L it.me.0.number it.me.0.log e = subst (λ (l : Layout). May l it.me.0.number it.me.0.log e) same may in
     let own : it.me.0.number < L.workers = subst (λ (n : ℕ). n < L.workers) tied.number_is (subst (λ (l : Layout). number < l.workers) same tied.worker) in
     record {
@@ -165,26 +177,26 @@ ready z key L it number note brief e i laid tied table same may index =
       may = k;
     }
 
--- the word of a pass's note is the one that its note has in the table
-pub note_in : (L : Layout) (it : Seat Unit View) (number note : ℕ) (brief : Brief) → Tied it number note brief → it.me.0.layout ≡ L → note ≡ word L (at_note number)
-note_in L it number note brief tied same = tied.note_is ∙ ap (λ (l : Layout). word l (at_note number)) same
+-- the word of a pass's announcement is the one that its announcement has in the table
+pub announcement_in : (L : Layout) (it : Seat Unit View) (number announcement : ℕ) (brief : Brief) → Tied it number announcement brief → it.me.0.layout ≡ L → announcement ≡ word L (at_announcement number)
+announcement_in L it number announcement brief tied same = tied.announcement_is ∙ ap (λ (l : Layout). word l (at_announcement number)) same
 
 -- the layout that the table was made for is the one of its rule
 pub ready_by_key : (z : TableId) (key L : Layout) (it : Seat Unit View) (e : Event) (i : ℕ) → Laid z key L → IsReadyFor (record { table = z; layout = L }) it e i → IsReadyFor (record { table = z; layout = key }) it e i
 ready_by_key z key L it e i laid r = subst (λ (l : Layout). IsReadyFor (record { table = z; layout = l }) it e i) (sym laid.key_is) r
 
 -- after a step its log is of a run
-pub in_run_after : (it after : Seat Unit View) (number note : ℕ) (brief : Brief) (e : Event) (n : ℕ) → Tied it number note brief → May it.me.0.layout it.me.0.number it.me.0.log e → IsDone it after e n → IsInRun (standing after)
-in_run_after it after number note brief e n tied may done =
+pub in_run_after : (it after : Seat Unit View) (number announcement : ℕ) (brief : Brief) (e : Event) (n : ℕ) → Tied it number announcement brief → May it.me.0.layout it.me.0.number it.me.0.log e → IsDone it after e n → IsInRun (standing after)
+in_run_after it after number announcement brief e n tied may done =
     let me : after.me.0 ≡ logged it.me.0 e n (trace_in (ordered it.me.0.layout) done.found.turns) = ap (λ m. m.0) done.me in
     record {
       fits = subst (λ (v : View). IsLayout v.layout) (sym me) tied.fits;
       run = subst (λ (v : View). IsOfRun v.layout v.number v.log) (sym me) (run_grows it.me.0.layout it.me.0.number it.me.0.log e n done.found may);
     }
 
-pub tied_after : (it after : Seat Unit View) (number note : ℕ) (brief new : Brief) (e : Event) (n : ℕ) → Tied it number note brief → May it.me.0.layout it.me.0.number it.me.0.log e → IsDone it after e n
-    → new ≡ noted brief e (told it.me.0.layout (knowledge it.me.0) (known_births it.me.0) e n) → Tied after number note new
-tied_after it after number note brief new e n tied may done is =
+pub tied_after : (it after : Seat Unit View) (number announcement : ℕ) (brief new : Brief) (e : Event) (n : ℕ) → Tied it number announcement brief → May it.me.0.layout it.me.0.number it.me.0.log e → IsDone it after e n
+    → new ≡ noted brief e (told it.me.0.layout (knowledge it.me.0) (known_births it.me.0) e n) → Tied after number announcement new
+tied_after it after number announcement brief new e n tied may done is =
     let me : after.me.0 ≡ logged it.me.0 e n (trace_in (ordered it.me.0.layout) done.found.turns) = ap (λ m. m.0) done.me in
     let r : Reply = told it.me.0.layout (knowledge it.me.0) (known_births it.me.0) e n in
     let longer : IsLogOf it.me.0.layout it.me.0.number (it.me.0.log ++ (e, r) ∷ []) = log_grows it.me.0.layout it.me.0.number it.me.0.log e n done.found may in
@@ -196,7 +208,7 @@ tied_after it after number note brief new e n tied may done is =
       empty = ap (λ m. m.1) done.me ∙ tied.empty;
       alive = ap (λ (v : View). v.spent) me ∙ tied.alive;
       number_is = tied.number_is ∙ sym (ap (λ (v : View). v.number) me);
-      note_is = tied.note_is ∙ sym (ap (λ (v : View). word v.layout (at_note number)) me);
+      announcement_is = tied.announcement_is ∙ sym (ap (λ (v : View). word v.layout (at_announcement number)) me);
       brief_is = epochs ∙ sym (ap (λ (v : View). (knowledge v).brief) me);
       fits = subst (λ (v : View). IsLayout v.layout) (sym me) tied.fits;
       worker = subst (λ (v : View). number < v.layout.workers) (sym me) tied.worker;

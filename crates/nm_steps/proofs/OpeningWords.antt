@@ -12,23 +12,28 @@ use Rattle.nm_edge.proofs.Words.{fields_within, places_are_rows}
 use Rattle.nm_edge.specs.declared.edge.Side.TheVariants.{Left, Right}
 use Rattle.nm_model.specs.declared.memory.Node.{Node}
 use Rattle.nm_model.specs.Memory.{Memory, node, blank, fork, leaf, put_node, put_edge, with_edge, opening, infinity_0, infinity_1, infinity_2}
-use Rattle.nm_words.specs.Packing.{Fits, note_word, node_words, number_of, row_word, words_of}
-use Rattle.nm_words.proofs.PackedReads.{noted, each_field_has_a_word}
+use Rattle.nm_words.specs.Packing.{Fits, announcement_word, node_words, number_of, row_word, words_of}
+use Rattle.nm_words.proofs.PackedReads.{announced, each_field_has_a_word}
 use Rattle.nm_words.proofs.PackedWrites.{key_written, edge_written, giving_sets_a_bit}
-use Rattle.nm_steps.specs.Openings.{untouched, planted, given_below, Plants}
+use Rattle.nm_steps.specs.Openings.{untouched, planted, Plants}
+
+-- the fixed nodes stand, and the slots from 6 on below s are in the pool
+abbrev pub given_below : Layout → ℕ → Memory
+given_below L s = record (opening L)
+    { pool = replicate 6 false ++ (replicate (s - 6) true ++ replicate (L.nodes + 1 - s) false) }
 
 -- ---- zeros
 
--- notes of idle workers, with their gaps
-notes_zero : (g n : ℕ) → flat_map (λ o. note_word o ∷ replicate g 0) (replicate n None) ≡ replicate ((1 + g) * n) 0
-notes_zero g zero = ap (λ k. replicate k 0) (sym (mul-zero (1 + g)))
-notes_zero g (suc n) =
-    ap (λ l. 0 ∷ (replicate g 0 ++ l)) (notes_zero g n) ∙ ap (λ l. 0 ∷ l) (replicate-append-replicate g ((1 + g) * n) 0)
+-- announcements of idle workers, with their gaps
+announcements_zero : (g n : ℕ) → flat_map (λ o. announcement_word o ∷ replicate g 0) (replicate n None) ≡ replicate ((1 + g) * n) 0
+announcements_zero g zero = ap (λ k. replicate k 0) (sym (mul-zero (1 + g)))
+announcements_zero g (suc n) =
+    ap (λ l. 0 ∷ (replicate g 0 ++ l)) (announcements_zero g n) ∙ ap (λ l. 0 ∷ l) (replicate-append-replicate g ((1 + g) * n) 0)
     ∙ ap (λ k. replicate k 0) (let e : suc (g + (1 + g) * n) ≡ (1 + g) * suc n = let more = mul-suc (1 + g) n in omega (arith, more) in e)
 
 -- and the zeros before them
-noted_zero : (L : Layout) → noted L (untouched L) ≡ replicate (L.gap - 2 + (1 + L.gap) * L.workers) 0
-noted_zero L = ap (λ l. replicate (L.gap - 2) 0 ++ l) (notes_zero L.gap L.workers) ∙ replicate-append-replicate (L.gap - 2) ((1 + L.gap) * L.workers) 0
+announced_zero : (L : Layout) → announced L (untouched L) ≡ replicate (L.gap - 2 + (1 + L.gap) * L.workers) 0
+announced_zero L = ap (λ l. replicate (L.gap - 2) 0 ++ l) (announcements_zero L.gap L.workers) ∙ replicate-append-replicate (L.gap - 2) ((1 + L.gap) * L.workers) 0
 
 -- blank nodes
 nodes_zero : (n : ℕ) → flat_map node_words (replicate n blank) ≡ replicate (4 * n) 0
@@ -46,7 +51,7 @@ rows_zero f n all = sym (fill_by_all f (replicate n 0) n 0 (length-replicate n 0
 
 pub zeros : (L : Layout) → replicate (words L) 0 ≡ words_of L (untouched L)
 zeros L =
-    sym (ap (λ n. 0 ∷ n) (ap (λ l. l ++ (flat_map node_words (drop 1 (untouched L).nodes) ++ map (row_word (untouched L)) (range_with_len 0 (rows L)))) (noted_zero L)
+    sym (ap (λ n. 0 ∷ n) (ap (λ l. l ++ (flat_map node_words (drop 1 (untouched L).nodes) ++ map (row_word (untouched L)) (range_with_len 0 (rows L)))) (announced_zero L)
     ∙ ap (λ l. replicate (L.gap - 2 + (1 + L.gap) * L.workers) 0 ++ l) (
     ap (λ l. flat_map node_words l ++ map (row_word (untouched L)) (range_with_len 0 (rows L))) (drop-replicate 1 (L.nodes + 1) blank)
     ∙ (ap (λ l. l ++ map (row_word (untouched L)) (range_with_len 0 (rows L))) (nodes_zero (L.nodes + 1 - 1))
@@ -63,7 +68,7 @@ untouched_long L = ap (λ (l : List ℕ). length l) (sym (zeros L)) ∙ length-r
 -- ---- one node
 
 put_fits : (L : Layout) (m : Memory) (s : ℕ) (x : Node) → Fits L m → Fits L (put_node m s x)
-put_fits L m s x fits = record { notes = fits.notes; nodes = length-set m.nodes s x ∙ fits.nodes; pool = fits.pool }
+put_fits L m s x fits = record { announcements = fits.announcements; nodes = length-set m.nodes s x ∙ fits.nodes; pool = fits.pool }
 
 module _ (L : Layout) (m : Memory) (s key left right : ℕ) (fits : Fits L m) (slot : IsSlot L s) (birth : (node m s).birth ≡ 0) where
   abbrev first : Node
@@ -123,16 +128,16 @@ plants L ws s key left right i j k one two l r slot a b c d e f g m fits is birt
 abbrev with_five : Layout → Node → Node → Node → Node → Node → Memory
 with_five L a b c d e = record {
   epoch = 0;
-  notes = replicate L.workers None;
+  announcements = replicate L.workers None;
   nodes = blank ∷ a ∷ b ∷ c ∷ d ∷ e ∷ replicate (L.nodes - 5) blank;
   pool = replicate (L.nodes + 1) false;
 }
 
 five_fit : (L : Layout) (a b c d e : Node) → 5 ≤ L.nodes → Fits L (with_five L a b c d e)
-five_fit L a b c d e h = record { notes = length-replicate L.workers None; nodes = omega (arith, length-replicate (L.nodes - 5) blank, h); pool = length-replicate (L.nodes + 1) false }
+five_fit L a b c d e h = record { announcements = length-replicate L.workers None; nodes = omega (arith, length-replicate (L.nodes - 5) blank, h); pool = length-replicate (L.nodes + 1) false }
 
 none_of_five : (L : Layout) → 5 ≤ L.nodes → untouched L ≡ with_five L blank blank blank blank blank
-none_of_five L h = ap (λ (l : List Node). record { epoch = 0; notes = replicate L.workers None; nodes = l; pool = replicate (L.nodes + 1) false })
+none_of_five L h = ap (λ (l : List Node). record { epoch = 0; announcements = replicate L.workers None; nodes = l; pool = replicate (L.nodes + 1) false })
     (ap (λ n. replicate n blank) (let e : L.nodes + 1 ≡ suc (suc (suc (suc (suc (suc (L.nodes - 5)))))) = omega (arith, h) in e))
 
 -- five nodes are put, one after the other
@@ -156,7 +161,7 @@ pool_begins L ws h is = is ∙ ap (words_of L) (given_none L h)
 
 given_fits : (L : Layout) (s : ℕ) → 6 ≤ s → s ≤ L.nodes + 1 → Fits L (given_below L s)
 given_fits L s h k = record {
-  notes = length-replicate L.workers None;
+  announcements = length-replicate L.workers None;
   nodes = omega (arith, length-replicate (L.nodes - 5) blank, h, k);
   pool = omega (arith, length-append (replicate (s - 6) true) (replicate (L.nodes + 1 - s) false), length-replicate (s - 6) true, length-replicate (L.nodes + 1 - s) false, h, k);
 }
@@ -191,7 +196,7 @@ pool_grows L s at mask found ws h k is place bit read =
 
 pub opening_long : (L : Layout) → 6 ≤ L.nodes → length (words_of L (opening L)) ≡ words L
 opening_long L h = each_field_has_a_word L (opening L) (record {
-  notes = length-replicate L.workers None;
+  announcements = length-replicate L.workers None;
   nodes = omega (arith, length-replicate (L.nodes - 5) blank, h);
   pool = omega (arith, length-replicate (L.nodes - 5) true, h);
 })

@@ -14,7 +14,7 @@ use Rattle.atomic_table.specs.Seated.{TableId}
 use Rattle.atomic_table.specs.declared.shared.Seat.{Seat}
 use Rattle.atomic_table.proofs.Lists.{set_here, set_again}
 use Rattle.nm_edge.specs.Layouts.{Layout, IsLayout}
-use Rattle.nm_edge.specs.Words.{pool_place, pool_word, word, at_note, at_row}
+use Rattle.nm_edge.specs.Words.{pool_place, pool_word, word, at_announcement, at_row}
 use Rattle.nm_edge.proofs.Words.{fields_within, places_are_rows}
 use Rattle.nm_model.specs.declared.event.Event.{Event}
 use Rattle.nm_model.specs.declared.event.Event.TheVariants.{Claim}
@@ -216,14 +216,14 @@ asked_to_pass L z slots it first many from most i pick pick_many can = (
 
 -- ---- what a look leaves
 
-tied_same : (it after : Seat Unit View) (number note : ℕ) (brief : Brief) → after.me ≡ it.me → Tied it number note brief → Tied after number note brief
-tied_same it after number note brief same t =
+tied_same : (it after : Seat Unit View) (number announcement : ℕ) (brief : Brief) → after.me ≡ it.me → Tied it number announcement brief → Tied after number announcement brief
+tied_same it after number announcement brief same t =
     let e : it.me.0 ≡ after.me.0 = sym (ap (λ (m : Me Unit View). m.0) same) in
     record {
       empty = ap (λ (m : Me Unit View). m.1) same ∙ t.empty;
       alive = subst (λ (v : View). v.spent ≡ false) e t.alive;
       number_is = subst (λ (v : View). number ≡ v.number) e t.number_is;
-      note_is = subst (λ (v : View). note ≡ word v.layout (at_note number)) e t.note_is;
+      announcement_is = subst (λ (v : View). announcement ≡ word v.layout (at_announcement number)) e t.announcement_is;
       brief_is = subst (λ (v : View). brief ≡ (knowledge v).brief) e t.brief_is;
       fits = subst (λ (v : View). IsLayout v.layout) e t.fits;
       worker = subst (λ (v : View). number < v.layout.workers) e t.worker;
@@ -233,16 +233,16 @@ tied_same it after number note brief same t =
       heard = subst (λ (v : View). v.heard ≡ []) e t.heard;
     }
 
-pub record Leaves (it after : Seat Unit View) (number note : ℕ) (brief : Brief) (from k : ℕ) : Type 0 where
-  pub tied : Tied after number note brief
+pub record Leaves (it after : Seat Unit View) (number announcement : ℕ) (brief : Brief) (from k : ℕ) : Type 0 where
+  pub tied : Tied after number announcement brief
   pub on : Continues (standing it) (standing after)
   pub passed : DoneInTurn FoundTaken from k it.me.0.log after.me.0.log
   pub learned : knowledge after.me.0 ≡ knowledge it.me.0
 
-module _ (it : Seat Unit View) (number note : ℕ) (brief : Brief) (from n : ℕ) (tied : Tied it number note brief) (low : 6 ≤ from) where
-  leaves : (k : ℕ) (after : Seat Unit View) → after.table_id ≡ it.table_id → after.id ≡ it.id → from + k ≤ it.me.0.layout.nodes + 1 → ((j : ℕ) → j < k → IsShownTaken n (from + j)) → DidClaims from k it.me n after.me → Leaves it after number note brief from k
+module _ (it : Seat Unit View) (number announcement : ℕ) (brief : Brief) (from n : ℕ) (tied : Tied it number announcement brief) (low : 6 ≤ from) where
+  leaves : (k : ℕ) (after : Seat Unit View) → after.table_id ≡ it.table_id → after.id ≡ it.id → from + k ≤ it.me.0.layout.nodes + 1 → ((j : ℕ) → j < k → IsShownTaken n (from + j)) → DidClaims from k it.me n after.me → Leaves it after number announcement brief from k
   leaves zero after table seat high taken same =
-      let t : Tied after number note brief = tied_same it after number note brief same tied in
+      let t : Tied after number announcement brief = tied_same it after number announcement brief same tied in
       record {
         tied = t;
         on = record {
@@ -256,7 +256,7 @@ module _ (it : Seat Unit View) (number note : ℕ) (brief : Brief) (from n : ℕ
   leaves (suc k) after table seat high taken did =
       let mid : View = did.0.0 in
       let m : Seat Unit View = record after { me = did.0 } in
-      let r : Leaves it m number note brief from k = leaves k m table seat (omega (arith, high)) (λ j less. taken j (omega (arith, less))) did.1 in
+      let r : Leaves it m number announcement brief from k = leaves k m table seat (omega (arith, high)) (λ j less. taken j (omega (arith, less))) did.1 in
       let e : Event = Claim (from + k) in
       let done : IsDone m after e n = record { table = refl; seat = refl; found = did.2.0; me = did.2.1; past = did.2.2 } in
       let nodes : mid.layout.nodes ≡ it.me.0.layout.nodes = ap (λ (p : Stand). p.view.layout.nodes) r.on.same in
@@ -268,16 +268,16 @@ module _ (it : Seat Unit View) (number note : ℕ) (brief : Brief) (from n : ℕ
       (λ j. record { table = after.table_id; seat = after.id; view = me j })
       ∙ ((λ j. record (standing m) { view = record mid { log = mid.log ++ (e, is j) ∷ []; past = trace_in (ordered mid.layout) did.2.0.turns ++ answered_turn mid.number e (told mid.layout (knowledge mid) (known_births mid) e n) ∷ [] } })
       ∙ sym (λ j. record (standing m) { view = record mid { log = mid.log ++ (e, Taken) ∷ []; past = (me j).past } })) in
-      let took : TakesStep (standing m) (standing after) e Taken = record { step = step; past = has_turn _ _ _ _ step (has_turned m after e n done); run = in_run_after m after number note brief e n r.tied may done } in
+      let took : TakesStep (standing m) (standing after) e Taken = record { step = step; past = has_turn _ _ _ _ step (has_turned m after e n done); run = in_run_after m after number announcement brief e n r.tied may done } in
       record {
-        tied = tied_after m after number note brief brief e n r.tied may done refl;
+        tied = tied_after m after number announcement brief brief e n r.tied may done refl;
         on = continues_then _ _ _ r.on (continues_by _ _ _ _ took);
         passed = (mid.log, r.passed, log);
         learned = ap (λ (p : Stand). knowledge p.view) step ∙ (known_push mid.number mid.layout mid.log (e, Taken) ∙ (learn_taken mid.number (knowledge mid) (from + k) ∙ r.learned));
       }
 
 -- the same of a look that was had
-pub left_by_look : (it after : Seat Unit View) (number note : ℕ) (brief : Brief) (from most n : ℕ) → Tied it number note brief → 6 ≤ from → from + most ≤ it.me.0.layout.nodes + 1 → HasPassed it after from most n → Leaves it after number note brief from (shown_taken n from most)
-left_by_look it after number note brief from most n tied low high h =
+pub left_by_look : (it after : Seat Unit View) (number announcement : ℕ) (brief : Brief) (from most n : ℕ) → Tied it number announcement brief → 6 ≤ from → from + most ≤ it.me.0.layout.nodes + 1 → HasPassed it after from most n → Leaves it after number announcement brief from (shown_taken n from most)
+left_by_look it after number announcement brief from most n tied low high h =
     let few = few_shown n from most in
-    leaves it number note brief from n tied low (shown_taken n from most) after h.table h.seat (omega (arith, high, few)) (each_shown n from most) h.claims
+    leaves it number announcement brief from n tied low (shown_taken n from most) after h.table h.seat (omega (arith, high, few)) (each_shown n from most) h.claims

@@ -1,5 +1,5 @@
 -- How the words of the empty tree come to be, from zeros on.
-use Rattle.std.specs.Prelude.{◌≡◌, ℕ, ◌+◌, ◌-◌, false, true, List, ◌++◌, replicate, None}
+use Rattle.std.specs.Prelude.{◌≡◌, ℕ, ◌+◌, ◌-◌, false, List, ◌++◌, replicate, None}
 use Rattle.nm_edge.specs.Layouts.{Layout}
 use Rattle.nm_model.specs.declared.memory.Node.{Node}
 use Rattle.nm_model.specs.Memory.{Memory, node, blank, put_node, opening}
@@ -10,7 +10,7 @@ use Rattle.nm_words.specs.Packing.{Fits, words_of}
 abbrev pub untouched : Layout → Memory
 untouched L = record {
   epoch = 0;
-  notes = replicate L.workers None;
+  announcements = replicate L.workers None;
   nodes = replicate (L.nodes + 1) blank;
   pool = replicate (L.nodes + 1) false;
 }
@@ -18,11 +18,6 @@ untouched L = record {
 -- the fixed nodes stand, and no slot is in the pool (Natarajan and Mittal, section 3.1)
 abbrev pub planted : Layout → Memory
 planted L = record (opening L) { pool = replicate (L.nodes + 1) false }
-
--- the fixed nodes stand, and the slots from 6 on below s are in the pool
-abbrev pub given_below : Layout → ℕ → Memory
-given_below L s = record (opening L)
-    { pool = replicate 6 false ++ (replicate (s - 6) true ++ replicate (L.nodes + 1 - s) false) }
 
 -- the words of any memory become those of it with this node, of the same birth
 abbrev pub Plants : Layout → List ℕ → List ℕ → ℕ → Node → Type 0

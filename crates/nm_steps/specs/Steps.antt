@@ -6,12 +6,12 @@ use Rattle.nm_edge.specs.Edges.{Edge}
 use Rattle.nm_edge.specs.declared.edge.Side.{Side}
 use Rattle.nm_edge.specs.declared.node.NodeId.{NodeId}
 use Rattle.nm_edge.specs.Layouts.{Layout, IsLayout}
-use Rattle.nm_edge.specs.Words.{IsField, at_note, word, words}
+use Rattle.nm_edge.specs.Words.{IsField, at_announcement, word, words}
 use Rattle.nm_model.specs.declared.event.Event.{Event}
-use Rattle.nm_model.specs.declared.event.Event.TheVariants.{Sight, SightFor, Announce, Leave, LeaveWith, Advance, Fill, Splice}
+use Rattle.nm_model.specs.declared.event.Event.TheVariants.{Fill, Splice}
 use Rattle.nm_model.specs.declared.event.Field.TheVariants.{Birth}
 use Rattle.nm_model.specs.declared.reply.Reply.{Reply}
-use Rattle.nm_model.specs.declared.reply.Reply.TheVariants.{Saw, Labelled, Pinned, Missed, Announced, Departed, Moved, Behind, Claimed, Taken, Returned, Freed, Linked, Flagged, Cut, Lost}
+use Rattle.nm_model.specs.declared.reply.Reply.TheVariants.{Saw, Labelled, Pinned, Missed, Moved, Behind, Claimed, Taken, Returned, Freed, Linked, Flagged, Cut, Lost}
 use Rattle.nm_model.specs.declared.knowledge.Brief.{Brief}
 use Rattle.nm_model.specs.Memory.{Memory, node}
 use Rattle.nm_model.specs.Ledgers.{front_of}
@@ -165,11 +165,11 @@ pub record HasSeen (v : View) : Type 0 where
 
 -- what a pass keeps of its log: its number and epochs, that its private slots are ones of the
 -- pool's range, and that the run which it has seen has the log as its part
-pub record Tied (it : Seat Unit View) (number note : ℕ) (brief : Brief) : Type 0 where
+pub record Tied (it : Seat Unit View) (number announcement : ℕ) (brief : Brief) : Type 0 where
   pub empty : it.me.1 ≡ []
   pub alive : it.me.0.spent ≡ false
   pub number_is : number ≡ it.me.0.number
-  pub note_is : note ≡ word it.me.0.layout (at_note number)
+  pub announcement_is : announcement ≡ word it.me.0.layout (at_announcement number)
   pub brief_is : brief ≡ (knowledge it.me.0).brief
   pub fits : IsLayout it.me.0.layout
   pub worker : number < it.me.0.layout.workers
@@ -296,21 +296,9 @@ noted_sight b (Pinned e) = record b { seen = Some e; pin = Some e }
 noted_sight b (Missed e) = record b { seen = Some e }
 noted_sight b _ = b
 
--- the brief behind an event with its reply
-abbrev pub noted : Brief → Event → Reply → Brief
-noted b Sight r = noted_sight b r
-noted b (SightFor op key) r = noted_sight b r
-noted b Announce (Announced e) = record b { note = Some e }
-noted b Leave Departed = record b { note = None; pin = None }
-noted b (LeaveWith answer) Departed = record b { note = None; pin = None }
-noted b Advance (Moved e) = record b { seen = Some e }
-noted b Advance (Behind e) = record b { seen = Some e }
-noted b (Splice a side s p keep) (Cut ns) = record b { unlabelled = true }
-noted b _ _ = b
-
 -- the reply to a sight of this epoch
 abbrev pub sight_of : Brief → ℕ → Reply
-sight_of b e = if b.unlabelled then Labelled e else confirmed b.pin b.note e
+sight_of b e = if b.unlabelled then Labelled e else confirmed b.pin b.announcement e
 
 -- what a sight may answer a worker with these epochs
 abbrev pub IsSight : Brief → Reply → Type 0

@@ -1,4 +1,4 @@
-//! The steps on the epoch and on notes.
+//! The steps on the epoch and on announcements.
 ghost use Rattle.std.specs.Prelude.{◌≡◌, ◌<◌, Some, None, false, IfOk};
 ghost use Rattle.nm_model.specs.declared.event.Event.TheVariants.{Sight, SightFor, Announce, Leave, LeaveWith, Scan, Advance};
 ghost use Rattle.nm_model.specs.declared.reply.Reply.TheVariants.{Saw, Announced, Departed};
@@ -31,7 +31,7 @@ impl Shared {
     pub fn sight_idle(&self, pass: &mut Pass) -> u64
         requires own { IsOf self.now pass.old }
         requires unpinned { (knowledge pass.old.view).brief.pin ≡ None }
-        requires silent { (knowledge pass.old.view).brief.note ≡ None }
+        requires silent { (knowledge pass.old.view).brief.announcement ≡ None }
         requires labelled { (knowledge pass.old.view).brief.unlabelled ≡ false }
         ensures { TakesStep pass.old pass.new Sight (Saw result) }
     {
@@ -49,7 +49,7 @@ impl Shared {
         requires own { IsOf self.now pass.old }
         requires may { MayStep pass.old (SightFor op key) }
         requires unpinned { (knowledge pass.old.view).brief.pin ≡ None }
-        requires note { (knowledge pass.old.view).brief.note ≡ Some announced }
+        requires announcement { (knowledge pass.old.view).brief.announcement ≡ Some announced }
         requires labelled { (knowledge pass.old.view).brief.unlabelled ≡ false }
         ensures took { TakesStep pass.old pass.new (SightFor op key) (pin_reply result) }
         ensures same { IfOk result (λ e. e ≡ announced) }
@@ -76,9 +76,9 @@ impl Shared {
             unreachable!()
         };
         let _own = self.layout;
-        let word = pass.note_word as usize;
+        let word = pass.announcement_word as usize;
         self.store(&mut pass.seat, word, seen + 1, Event::Announce);
-        pass.brief.note = Some(seen);
+        pass.brief.announcement = Some(seen);
         seen
     }
 
@@ -89,9 +89,9 @@ impl Shared {
         ensures { TakesStep pass.old pass.new Leave Departed }
     {
         let _own = self.layout;
-        let word = pass.note_word as usize;
+        let word = pass.announcement_word as usize;
         self.store(&mut pass.seat, word, 0, Event::Leave);
-        pass.brief.note = None;
+        pass.brief.announcement = None;
         pass.brief.pin = None;
     }
 
@@ -102,9 +102,9 @@ impl Shared {
         ensures { TakesStep pass.old pass.new (LeaveWith answer) Departed }
     {
         let _own = self.layout;
-        let word = pass.note_word as usize;
+        let word = pass.announcement_word as usize;
         self.store(&mut pass.seat, word, 0, Event::LeaveWith(answer));
-        pass.brief.note = None;
+        pass.brief.announcement = None;
         pass.brief.pin = None;
     }
 
@@ -114,7 +114,7 @@ impl Shared {
         requires may { MayStep pass.old (Scan worker) }
         ensures { TakesStep pass.old pass.new (Scan worker) (reply_scan result) }
     {
-        let word = self.layout.note(worker) as usize;
+        let word = self.layout.announcement(worker) as usize;
         let found = self.load(&mut pass.seat, word, Event::Scan(worker));
         if found == 0 { None } else { Some(found - 1) }
     }
@@ -149,7 +149,7 @@ fn sighted(brief: Brief, epoch: u64) -> Sighted
     if brief.unlabelled {
         return Sighted::Labelled(epoch);
     }
-    match (brief.pin, brief.note) {
+    match (brief.pin, brief.announcement) {
         (None, Some(announced)) if announced == epoch => Sighted::Pinned(epoch),
         (None, Some(_)) => Sighted::Missed(epoch),
         _ => Sighted::Saw(epoch),

@@ -15,7 +15,7 @@ mod joining;
 mod making;
 mod notes;
 
-use crate::view::{Law, Place, View};
+use crate::view::{Law, View, WorkerSeat};
 use atomic_table::Table;
 pub use closing::Words;
 use nm_edge::Layout;
@@ -41,13 +41,13 @@ impl Model for Shared {
     ghost invariant = { λ s. Laid s.table.shared.table_id s.table.shared.key s.layout };
 }
 
-/// One worker: its seat, its number, the number of the word of its note, and what its log says of
-/// epochs.
+/// One worker: its seat, its number, the number of the word of its announcement, and what its log
+/// says of epochs.
 #[derive(Drop)]
 pub struct Pass {
-    pub(crate) seat: Place,
+    pub(crate) seat: WorkerSeat,
     pub(crate) number: u32,
-    pub(crate) note_word: u32,
+    pub(crate) announcement_word: u32,
     pub(crate) brief: Brief,
 }
 
@@ -58,7 +58,7 @@ impl Model for Pass {
 
     ghost view = { λ p. record { table = p.seat.table_id; seat = p.seat.id; view = p.seat.me.0 } };
 
-    ghost invariant = { λ p. Tied p.seat p.number p.note_word p.brief };
+    ghost invariant = { λ p. Tied p.seat p.number p.announcement_word p.brief };
 }
 
 impl Shared {
@@ -79,32 +79,11 @@ impl Pass {
         self.number
     }
 
-    /// The global epoch last read; `None` before the first sight.
-    pub fn seen(&self) -> Option<u64>
-        ensures { result ≡ (knowledge self.now.view).brief.seen }
-    {
-        self.brief.seen
-    }
-
-    /// The epoch that the worker announces; `None` while it announces none.
-    pub fn note(&self) -> Option<u64>
-        ensures { result ≡ (knowledge self.now.view).brief.note }
-    {
-        self.brief.note
-    }
-
     /// The epoch at which the worker is pinned; `None` while it is not.
     pub fn pinned(&self) -> Option<u64>
         ensures { result ≡ (knowledge self.now.view).brief.pin }
     {
         self.brief.pin
-    }
-
-    /// Whether nodes that the worker cut wait for their label.
-    pub fn unlabelled(&self) -> bool
-        ensures { result ≡ (knowledge self.now.view).brief.unlabelled }
-    {
-        self.brief.unlabelled
     }
 
     /// The pass's log is its number's part of some run of an ordered core, and the worker has not

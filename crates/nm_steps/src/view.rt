@@ -92,6 +92,6 @@ impl Play<(), View> for Ties {
     ghost then = { TellsItsStanding };
 }
 
-pub(crate) type Words = atomic_table::Shared<(), View, Layout, Law>;
+pub(crate) type SharedTable = atomic_table::Shared<(), View, Layout, Law>;
 
-pub(crate) type Place = Seat<(), View>;
+pub(crate) type WorkerSeat = Seat<(), View>;

@@ -41,45 +41,45 @@ impl Gate for OpenGate {
 
 /// Why the command line asks for nothing.
 #[derive(Clone, Copy, Debug, PartialEq, Eq, Error)]
-enum Refusal {
+enum UsageError {
     #[error("usage: nm_stress COMMAND")]
     Usage,
     #[error("no memory")]
     NoMemory,
 }
 
-impl Refusal {
+impl UsageError {
     /// The exit status after it.
     fn status(self) -> u8 {
         match self {
-            Refusal::Usage => 2,
-            Refusal::NoMemory => 3,
+            UsageError::Usage => 2,
+            UsageError::NoMemory => 3,
         }
     }
 }
 
 /// What an error of clap's comes to.
-fn refusal_of(error: &clap::Error) -> Refusal {
+fn refusal_of(error: &clap::Error) -> UsageError {
     if error.kind() == ErrorKind::OutOfMemory {
-        Refusal::NoMemory
+        UsageError::NoMemory
     } else {
-        Refusal::Usage
+        UsageError::Usage
     }
 }
 
 /// Reads the words of the command line: the program's name and one command.
-fn request_of(alloc: Global, words: &[String]) -> Result<Request, Refusal>
+fn request_of(alloc: Global, words: &[String]) -> Result<Request, UsageError>
     ensures { OnOk result (length words.now ≡ 2) }
 {
     if words.len() != 2 {
-        return Err(Refusal::Usage);
+        return Err(UsageError::Usage);
     }
     let name = Arg::new(alloc, "command")
         .required(true)
         .action(ArgAction::Set);
     let command = match Command::new(alloc, "nm_stress").arg(name) {
         Ok(command) => command,
-        Err(_) => return Err(Refusal::NoMemory),
+        Err(_) => return Err(UsageError::NoMemory),
     };
     let matches = match command.try_get_matches_from(words) {
         Ok(matches) => matches,
@@ -89,22 +89,22 @@ fn request_of(alloc: Global, words: &[String]) -> Result<Request, Refusal>
         Some("replay") => Ok(Request::Replay),
         Some("serial") => Ok(Request::Serial),
         Some("stress") => Ok(Request::Stress),
-        _ => Err(Refusal::Usage),
+        _ => Err(UsageError::Usage),
     }
 }
 
 /// Reads the command line. A word that is no text is as good as a wrong one.
-fn asked(rt: &(impl Env + AllocGlobal)) -> Result<Request, Refusal> {
+fn asked(rt: &(impl Env + AllocGlobal)) -> Result<Request, UsageError> {
     let words = match env::args(rt) {
         Ok(words) => words,
         Err(error) if error.kind() == io::ErrorKind::OutOfMemory => {
-            return Err(Refusal::NoMemory);
+            return Err(UsageError::NoMemory);
         }
-        Err(_) => return Err(Refusal::Usage),
+        Err(_) => return Err(UsageError::Usage),
     };
     let words: Vec<String> = match words.collect(rt.alloc()) {
         Ok(words) => words,
-        Err(_) => return Err(Refusal::NoMemory),
+        Err(_) => return Err(UsageError::NoMemory),
     };
     request_of(rt.alloc(), words.as_slice())
 }

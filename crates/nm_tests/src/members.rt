@@ -1,8 +1,8 @@
 //! Members of a set in one thread, each answer compared, and two in threads of their own.
 use nm_edge::Key;
 use nm_set::{
-    CallFault, CloseReason, EndError, Fault, Fullness, Habit, InsertFault, Member, MemberFault,
-    NotHeld, PinFault, PostFault, Posted, Report, ResignReason, Set,
+    CallFault, CloseReason, EndError, Fault, Fit, Fullness, Habit, InsertFault, Member,
+    MemberFault, NotHeld, PinFault, PostFault, Posted, Report, ResignReason, Set,
 };
 use std::process::Abort;
 use std::test::Fail;
@@ -46,7 +46,7 @@ fn told(report: Report) -> (Vec<Key>, u64) {
 
 #[test]
 fn a_member_answers_and_keeps_what_it_holds(rt: HostRuntime) -> Result<(), Fail> {
-    let set = Set::lowest(rt.alloc(), 64, 2)?;
+    let set = Set::unbalanced(rt.alloc(), 64, 2, Fit::Lowest)?;
     let mut first = set.member(0)?;
     let five = key(&rt, 5);
     assert_eq!(rt;
@@ -74,7 +74,7 @@ fn a_member_answers_and_keeps_what_it_holds(rt: HostRuntime) -> Result<(), Fail>
             first.pending(),
             first.try_contains(five, 0)
         ),
-        (2, None, Err(Fault::Call(nm_tree::Fault::Busy)))
+        (2, None, Err(Fault::Call(nm_tree::CallFault::Busy)))
     );
     let ledger = first.ledger();
     assert_eq!(rt;
@@ -127,7 +127,7 @@ fn a_full_set_tells_who_holds_memory_back(rt: HostRuntime) -> Result<(), Fail> {
 
 #[test]
 fn a_held_member_is_not_asked(rt: HostRuntime) -> Result<(), Fail> {
-    let set = Set::near(rt.alloc(), 64, 2)?;
+    let set = Set::unbalanced(rt.alloc(), 64, 2, Fit::Near)?;
     let mut first = set.member(0)?;
     let mut second = set.member(1)?;
     let five = key(&rt, 5);
@@ -164,7 +164,7 @@ fn a_held_member_is_not_asked(rt: HostRuntime) -> Result<(), Fail> {
 
 #[test]
 fn a_set_closes_when_all_are_at_home(rt: HostRuntime) -> Result<(), Fail> {
-    let set = Set::lowest(rt.alloc(), 64, 2)?;
+    let set = Set::unbalanced(rt.alloc(), 64, 2, Fit::Lowest)?;
     let mut first = set.member(0)?;
     let (again, none) = (set.member(0), set.member(2));
     assert_eq!(rt;
@@ -191,7 +191,7 @@ fn a_set_closes_when_all_are_at_home(rt: HostRuntime) -> Result<(), Fail> {
 /// them.
 #[test]
 fn a_kept_member_is_closed_with_its_set(rt: HostRuntime) -> Result<(), Fail> {
-    let mut set = Set::near(rt.alloc(), 256, 16)?;
+    let mut set = Set::unbalanced(rt.alloc(), 256, 16, Fit::Near)?;
     let mut first = set.attach()?;
     let second = set.attach()?;
     assert_eq!(rt; (first.number(), second.number()), (0, 1));
@@ -226,7 +226,7 @@ fn not_last(rt: &impl Abort, member: Member) -> Member {
 /// The last member ends its set, once that was dropped and the other member is closed.
 #[test]
 fn the_last_member_ends_its_set(rt: HostRuntime) -> Result<(), Fail> {
-    let set = Set::lowest(rt.alloc(), 64, 3)?;
+    let set = Set::unbalanced(rt.alloc(), 64, 3, Fit::Lowest)?;
     let mut last = set.member(1)?;
     let other = set.member(0)?;
     let (five, nine) = (key(&rt, 5), key(&rt, 9));
@@ -251,7 +251,7 @@ fn the_last_member_ends_its_set(rt: HostRuntime) -> Result<(), Fail> {
 /// workers a close would miss.
 #[test]
 fn members_leave_notes(rt: HostRuntime) -> Result<(), Fail> {
-    let set = Set::near(rt.alloc(), 64, 3)?;
+    let set = Set::unbalanced(rt.alloc(), 64, 3, Fit::Near)?;
     let mut writer = set.member(1)?;
     let mut reader = set.member(0)?;
     assert_eq!(rt;
@@ -280,7 +280,7 @@ fn members_leave_notes(rt: HostRuntime) -> Result<(), Fail> {
 
 #[test]
 fn a_worker_at_home_resigns_to_a_member(rt: HostRuntime) -> Result<(), Fail> {
-    let set = Set::lowest(rt.alloc(), 64, 2)?;
+    let set = Set::unbalanced(rt.alloc(), 64, 2, Fit::Lowest)?;
     let mut leaver = set.member(1)?;
     let five = key(&rt, 5);
     assert_eq!(rt;
@@ -345,7 +345,7 @@ fn by_two<R: Threads + Sync>(rt: &R, one: Member, two: Member) -> (u64, u64) {
 
 #[test]
 fn two_threads_fill_a_set(rt: HostRuntime) -> Result<(), Fail> {
-    let set = Set::near(rt.alloc(), 8192, 2)?;
+    let set = Set::unbalanced(rt.alloc(), 8192, 2, Fit::Near)?;
     let (one, two) = by_two(&rt, set.member(0)?, set.member(1)?);
     assert_eq!(rt; (one, two), (500, 500));
     let (keys, slots) = closed(&rt, set);

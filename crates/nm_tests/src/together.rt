@@ -1,6 +1,6 @@
 //! Several keys that one call of a member looks up.
 use nm_edge::Key;
-use nm_set::{CallFault, Fault, Query, Set};
+use nm_set::{CallFault, Fault, Fit, Query, Set};
 use std::process::Abort;
 use std::test::Fail;
 
@@ -18,7 +18,7 @@ fn key(rt: &impl Abort, number: u64) -> Key {
 /// Of 60 numbers each third one was inserted, and 9 deleted again.
 #[test]
 fn each_key_is_found_that_is_there(rt: HostRuntime) -> Result<(), Fail> {
-    let set = Set::near(rt.alloc(), 256, 1)?;
+    let set = Set::unbalanced(rt.alloc(), 256, 1, Fit::Near)?;
     let mut member = set.member(0)?;
     let mut queries = Vec::new(rt.alloc());
     for number in 0..60u64 {
@@ -38,7 +38,7 @@ fn each_key_is_found_that_is_there(rt: HostRuntime) -> Result<(), Fail> {
 
 #[test]
 fn keys_are_not_looked_up_where_nobody_may_be_asked(rt: HostRuntime) -> Result<(), Fail> {
-    let set = Set::near(rt.alloc(), 64, 1)?;
+    let set = Set::unbalanced(rt.alloc(), 64, 1, Fit::Near)?;
     let mut member = set.member(0)?;
     let mut queries = [Query::new(key(&rt, 5)), Query::new(key(&rt, 6))];
     assert_eq!(rt;

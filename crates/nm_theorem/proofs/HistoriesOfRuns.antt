@@ -24,10 +24,11 @@ use Rattle.nm_model.specs.Walks.{Entry, logged_by, log_of, begins_anew}
 use Rattle.nm_model.specs.Ordered.{Configuration, HasKey, ordered, search_of, next_in, outcome_in, after_in, trace_in}
 use Rattle.nm_model.proofs.Numbers.{repeated}
 use Rattle.nm_laws.proofs.SearchesGrow.{only_grow}
-use Rattle.nm_order.specs.Intervals.{InSet, IsCalled}
+use Rattle.nm_model.specs.Acts.{InSet, Act, IsAmong, HasInARow, leaf_keys, Replays, nothing}
+use Rattle.nm_order.specs.Intervals.{IsCalled}
 use Rattle.nm_order.specs.Exchanges.{MayAnswer, HasFlagged as LawHasFlagged}
 use Rattle.nm_order.specs.Logs.{IsLogOf}
-use Rattle.nm_order.specs.History.{Act, IsAmong, EachOnce, InOrderOfMoments, HasInARow, IsDeleteOf, leaf_keys, last_anew, pin_of, LeadsTo, Replays, nothing, IsRunHistory as LawIsHistory, IsActOfRun as LawIsAct, HasActOfCall as LawHasAct}
+use Rattle.nm_order.specs.History.{EachOnce, InOrderOfMoments, IsDeleteOf, last_anew, pin_of, LeadsTo, IsRunHistory as LawIsHistory, IsActOfRun as LawIsAct, HasActOfCall as LawHasAct}
 use Rattle.nm_order.specs.History.IsActOfRun.{IsAnswered as LawAnswered, IsPending as LawPending}
 use Rattle.nm_order.proofs.OrderedLaws.{IsOrdered, ordered_next, each_ordered, each_link_inserts}
 use Rattle.nm_order.proofs.OwnTurns.{own_search, OwnTurn, own_turn}
@@ -39,8 +40,8 @@ use Rattle.nm_order.proofs.HistoryLaws.{each_run_has_a_history}
 use Rattle.nm_order.proofs.RealTime.{begins_with, none_sooner}
 use Rattle.nm_order.proofs.PinNumbers.{length_trace}
 use Rattle.nm_model.specs.Headline.{words_after, slots_of}
-use Rattle.nm_theorem.specs.Histories.{Called, called_in, call_by, call_after, call_begun, IsAct, HasAct, IsInCall, HasFlaggedOneOf, IsHistory, HasHistory}
-use Rattle.nm_theorem.specs.Histories.IsAct.{IsAnswered, IsPending}
+use Rattle.nm_model.specs.Histories.{Called, called_in, call_by, call_after, call_begun, IsAct, HasAct, IsInCall, HasFlaggedOneOf, IsHistory, HasHistory}
+use Rattle.nm_model.specs.Histories.IsAct.{IsAnswered, IsPending}
 use Rattle.nm_theorem.specs.EachRun.{IsPartOfTurns}
 use Rattle.nm_theorem.proofs.Runs.{Parts, parts_of, Head, head_of, told_in, enough_of}
 use Rattle.nm_theorem.proofs.HeadlineOfRuns.{headline}

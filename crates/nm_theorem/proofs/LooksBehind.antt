@@ -17,14 +17,13 @@ use Rattle.nm_model.specs.Memory.{Memory}
 use Rattle.nm_model.specs.Ordered.{ordered, after_in, trace_in}
 use Rattle.nm_model.specs.Walks.{Entry, logged_by, log_of}
 use Rattle.nm_model.specs.Headline.{confirms, departs, leaves, HasLeft, IsPinned, words_after}
-use Rattle.nm_order.specs.Intervals.{InSet}
-use Rattle.nm_order.specs.Legal.{Gives}
+use Rattle.nm_model.specs.Acts.{InSet, Gives}
 use Rattle.nm_order.specs.Pinned.{pinned_by, pinned_after}
 use Rattle.nm_order.specs.WalkAnswers.{WasSoSince}
 use Rattle.nm_order.proofs.PinNumbers.{length_trace}
 use Rattle.nm_order.proofs.PinsOfLogs.{pinned_join}
 use Rattle.nm_order.proofs.WalksOfRuns.{trace_in-append}
-use Rattle.nm_theorem.specs.Histories.{WasSoBehind}
+use Rattle.nm_model.specs.Histories.{WasSoBehind}
 use Rattle.nm_theorem.proofs.GraceOfRuns.{pin_is}
 use Rattle.nm_theorem.proofs.WrittenWords.{run_words}
 

@@ -13,7 +13,7 @@ use Rattle.nm_model.specs.declared.reply.Reply.TheVariants.{Lost}
 use Rattle.nm_model.specs.declared.reply.Refused.{Refused}
 use Rattle.nm_model.specs.declared.reply.Refused.TheVariants.{NoSlot, NotPrivate, NotReady}
 use Rattle.nm_model.specs.declared.trace.Turn.{Turn}
-use Rattle.nm_model.specs.Memory.{Memory, node, edge, note}
+use Rattle.nm_model.specs.Memory.{Memory, node, edge, announcement}
 use Rattle.nm_model.specs.Knowledge.{is_private, draft_of}
 use Rattle.nm_model.specs.Step.{refusal, reply, reply_scan, reply_exchange, outside, is_edge, is_early}
 use Rattle.nm_model.specs.Runs.{of, reply_of}
@@ -25,10 +25,10 @@ use Rattle.nm_model.specs.Headline.{TellsWhatStands, words_after}
 use Rattle.nm_theorem.proofs.Runs.{Parts, parts_of, Head, head_of}
 use Rattle.nm_theorem.proofs.WrittenWords.{run_words}
 
-scan_tells : (m : Memory) (u : ℕ) → TellsWhatStands m (Scan u) (reply_scan (note m u))
-scan_tells m u = go (note m u) refl
+scan_tells : (m : Memory) (u : ℕ) → TellsWhatStands m (Scan u) (reply_scan (announcement m u))
+scan_tells m u = go (announcement m u) refl
   where
-    go : (o : Option ℕ) → note m u ≡ o → TellsWhatStands m (Scan u) (reply_scan o)
+    go : (o : Option ℕ) → announcement m u ≡ o → TellsWhatStands m (Scan u) (reply_scan o)
     go None is = inl (refl, is)
     go (Some e) is = inr (e, refl, is)
 

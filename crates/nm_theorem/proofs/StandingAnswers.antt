@@ -15,13 +15,14 @@ use Rattle.nm_model.specs.declared.arrivals.Call.{Call}
 use Rattle.nm_model.specs.Searches.{Search, idle}
 use Rattle.nm_model.specs.Walks.{search_after}
 use Rattle.nm_model.specs.Ordered.{HasKey, ordered, search_of, after_in, trace_in}
-use Rattle.nm_order.specs.History.{Act, IsAmong, pin_of}
+use Rattle.nm_model.specs.Acts.{Act, IsAmong}
+use Rattle.nm_order.specs.History.{pin_of}
 use Rattle.nm_order.specs.Logs.{part_of}
 use Rattle.nm_order.proofs.LastEntries.{ToldBy, told_by_part}
 use Rattle.nm_order.proofs.OwnTurns.{own_search}
 use Rattle.nm_order.proofs.RealTime.{begins_with}
-use Rattle.nm_theorem.specs.Histories.{Called, called_in, call_by, call_after, call_begun, IsAct, IsHistory, HasAct, answer_turn, AnswerStands}
-use Rattle.nm_theorem.specs.Histories.IsAct.{IsAnswered, IsPending}
+use Rattle.nm_model.specs.Histories.{Called, called_in, call_by, call_after, call_begun, IsAct, IsHistory, HasAct, answer_turn, AnswerStands}
+use Rattle.nm_model.specs.Histories.IsAct.{IsAnswered, IsPending}
 use Rattle.nm_theorem.specs.EachRun.{AnswersStand}
 use Rattle.nm_theorem.proofs.Runs.{enough_of}
 use Rattle.nm_theorem.proofs.HistoriesOfRuns.{with_pin, call_is, call_join, still_called, history_of_run}

@@ -143,7 +143,7 @@ not_anew s w p e pin stays = go e stays
   where
     sight : (r : Reply) → r ≡ reply_sight (of s w) s.memory.epoch → begins_anew (Sight, r) ≡ false
     sight r is = subst (λ (q : Reply). begins_anew (Sight, q) ≡ false) (sym is)
-        (subst (λ (o : Option ℕ). begins_anew (Sight, cond (of s w).brief.unlabelled (Labelled s.memory.epoch) (confirmed o (of s w).brief.note s.memory.epoch)) ≡ false) (sym pin)
+        (subst (λ (o : Option ℕ). begins_anew (Sight, cond (of s w).brief.unlabelled (Labelled s.memory.epoch) (confirmed o (of s w).brief.announcement s.memory.epoch)) ≡ false) (sym pin)
         (cond_both (of s w).brief.unlabelled (Labelled s.memory.epoch) (Saw s.memory.epoch) (λ (q : Reply). begins_anew (Sight, q) ≡ false) (λ _. refl) (λ _. refl)))
 
     same : (op : Op) (key : ℕ) (r : Reply) → begins_anew (SightFor op key, r) ≡ begins_anew (Sight, r)

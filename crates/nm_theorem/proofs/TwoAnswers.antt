@@ -7,11 +7,9 @@ use Rattle.nm_model.specs.declared.event.Op.{Op}
 use Rattle.nm_model.specs.declared.event.Op.TheVariants.{Has, Insert, Delete}
 use Rattle.nm_model.specs.declared.trace.Turn.{Turn}
 use Rattle.nm_model.specs.Headline.{words_after}
-use Rattle.nm_order.specs.Intervals.{InSet}
-use Rattle.nm_order.specs.Legal.{Gives}
-use Rattle.nm_order.specs.History.{Act, IsAmong, Replays, nothing, changed}
+use Rattle.nm_model.specs.Acts.{InSet, Gives, Act, IsAmong, Replays, nothing, changed}
 use Rattle.nm_theorem.specs.EachRun.{IsTrueDelete}
-use Rattle.nm_theorem.specs.Histories.{Called, called_in, IsHistory, HasHistory, AnswerStands}
+use Rattle.nm_model.specs.Histories.{Called, called_in, IsHistory, HasHistory, AnswerStands}
 
 still : (S : ℕ → Type 0) (k : ℕ) (op : Op) (j : ℕ) (answer : Bool) → (op ≡ Delete → j ≡ k → answer ≡ true → ⊥) → S k → changed S op j answer k
 still S k Has j answer none' there = there

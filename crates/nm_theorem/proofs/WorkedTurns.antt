@@ -12,7 +12,7 @@ use Rattle.nm_model.specs.declared.event.Event.{Event}
 use Rattle.nm_model.specs.declared.event.Event.TheVariants.{Sight, SightFor, LeaveWith}
 use Rattle.nm_model.specs.declared.reply.Reply.TheVariants.{Pinned, EdgeIs}
 use Rattle.nm_model.specs.declared.trace.Turn.{Turn}
-use Rattle.nm_model.specs.Schedules.{e, n}
+use Rattle.nm_model.specs.Shorthands.{e, n}
 use Rattle.nm_model.specs.Searches.{searched}
 use Rattle.nm_model.specs.Step.{refusal, reply, write}
 use Rattle.nm_model.specs.Learning.{learn}
@@ -21,7 +21,7 @@ use Rattle.nm_model.specs.Ordered.{ordered, HasKey, trace_in, turn_of, outcome_i
 use Rattle.nm_model.specs.Headline.{words_after, CutsItsNodes, IsPinned, Headline, WasTold}
 use Rattle.std.proofs.lemmas.List.{same_from_push}
 use Rattle.std.proofs.lemmas.Option.{same_Some}
-use Rattle.nm_theorem.specs.Histories.{Called, call_begun, answer_turn, AnswerStands}
+use Rattle.nm_model.specs.Histories.{Called, call_begun, answer_turn, AnswerStands}
 use Rattle.nm_theorem.proofs.StandingAnswers.{answers_stand}
 use Rattle.nm_theorem.specs.Worked.{before_pin, inserted, deleted_too, layout, inserting, deleting, cut, waiting, leaving, free_turn, claim_turn, before, worked_turns, before_look, look_turn, IsWorked, AreWrong, before_told, told_turn, since_told}
 use Rattle.nm_theorem.proofs.HeadlineOfRuns.{headline}

@@ -11,10 +11,10 @@ use Rattle.nm_model.specs.declared.trace.Turn.{Turn}
 use Rattle.nm_model.specs.Memory.{opening}
 use Rattle.nm_model.specs.Ordered.{HasKey, ordered, opening_of, after_in, trace_in}
 use Rattle.nm_model.specs.Walks.{Entry}
-use Rattle.nm_order.specs.History.{Act, IsAmong}
+use Rattle.nm_model.specs.Acts.{Act, IsAmong}
 use Rattle.nm_order.specs.Logs.{IsLogOf, part_of}
 use Rattle.nm_model.specs.Headline.{Headline, words_after, nodes_cut_of, freed_by, IsPinned, HasLeft, has_after, touched, WasTold, IsStill}
-use Rattle.nm_theorem.specs.Histories.{IsHistory, HasHistory, call_begun, answer_turn, AnswerStands}
+use Rattle.nm_model.specs.Histories.{IsHistory, HasHistory, call_begun, answer_turn, AnswerStands}
 
 -- of the turns of every run from an opening on, where calls are for keys of the set
 abbrev pub OfEachRun : (Layout → List Turn → Type 0) → Type 0

@@ -1,3 +1,2 @@
 pub mod EachRun
-pub mod Histories
 pub mod Worked

@@ -13,11 +13,11 @@ use Rattle.nm_model.specs.declared.trace.Turn.{Turn}
 use Rattle.nm_model.specs.Memory.{opening}
 use Rattle.nm_model.specs.Ordered.{ordered, trace_in, turn_of}
 use Rattle.nm_model.specs.Paths.{IsCut}
-use Rattle.nm_model.specs.Schedules.{t, e, n}
-use Rattle.nm_order.specs.History.{Act, IsAmong, HasInARow}
+use Rattle.nm_model.specs.Shorthands.{t, e, n}
+use Rattle.nm_model.specs.Acts.{Act, IsAmong, HasInARow}
 use Rattle.nm_model.specs.Headline.{words_after, after_turn, nodes_cut_of, nodes_freed_of, cuts_of, freed_of, waits_of, IsPinned, HasLeft, StandsAt, has_after, edge_told, WasTold, IsStill}
 use Rattle.nm_model.specs.Headline.Place.{InPool, InHands, OnPath, Waits}
-use Rattle.nm_theorem.specs.Histories.{IsHistory, HasAct, IsInCall, HasFlaggedOneOf, AnswerStands}
+use Rattle.nm_model.specs.Histories.{IsHistory, HasAct, IsInCall, HasFlaggedOneOf, AnswerStands}
 
 abbrev pub layout : Layout
 layout = dense 8 2

@@ -13,12 +13,12 @@ use Rattle.nm_steps.specs.Rules.{knowledge}
 use Rattle.nm_steps.specs.Steps.{Stand, IsSamePass}
 use Rattle.nm_epoch.specs.declared.collecting.HeldQueue.{HeldQueue}
 use Rattle.nm_epoch.specs.Collecting.{AreHeld, NoneHas, IsQueueOf}
-use Rattle.nm_calls.specs.Cleanups.{HoldsCuts}
-use Rattle.nm_calls.specs.Won.{won_links, won_flags, won_splices}
+use Rattle.nm_walks.specs.Cleanups.{HoldsCuts}
+use Rattle.nm_walks.specs.WonCounts.{won_links, won_flags, won_splices}
 use Rattle.nm_pool.specs.declared.placement.Fit.{Fit}
 use Rattle.nm_calls.specs.declared.deleting.Unfinished.{Unfinished}
 use Rattle.nm_tree.specs.Workers.{Hand, IsAs, IsWorker, IsCounted, AreCounted, AreOf, HasOrigin, QueueStandsAt, OnlyOwnLedger, log_held_of, log_among, ledger_in}
-use Rattle.nm_calls.specs.Rooms.{TakesRoom}
+use Rattle.nm_walks.specs.Rooms.{TakesRoom}
 use Rattle.nm_tree.proofs.QueueLists.{few_after, stands_there, stands_after, held_there, held_after, has_after, had_before, ascend_after, not_both, not_none, origin_at}
 use Rattle.nm_tree.proofs.OwnQueue.{TellAlike, all_counted_still, counted_still, holds_own, own_counted}
 use Rattle.nm_tree.proofs.Numbers.{numbers_stay, resigned_stay, room_stays}

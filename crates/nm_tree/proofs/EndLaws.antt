@@ -7,7 +7,7 @@ use Rattle.nm_model.specs.declared.event.Op.TheVariants.{Insert, Delete}
 use Rattle.nm_model.specs.Memory.{Memory, infinity_0}
 use Rattle.nm_model.specs.Ordered.{HasKey, ordered, after_in, trace_in}
 use Rattle.nm_model.specs.Reports.{keys}
-use Rattle.nm_order.specs.Intervals.{InSet}
+use Rattle.nm_model.specs.Acts.{InSet}
 use Rattle.nm_order.specs.Totals.{Agree, links_of}
 use Rattle.nm_order.proofs.OrderedLaws.{each_core_tells_the_set, each_key_ascends}
 use Rattle.nm_order.proofs.TotalsOfRuns.{each_total_is_the_set}

@@ -15,7 +15,7 @@ use Rattle.nm_model.specs.Memory.{Memory, infinity_0, opening}
 use Rattle.nm_model.specs.Ordered.{ordered, trace_in}
 use Rattle.nm_model.specs.Reports.{keys}
 use Rattle.nm_model.specs.Runs.{of}
-use Rattle.nm_order.specs.Intervals.{InSet}
+use Rattle.nm_model.specs.Acts.{InSet}
 use Rattle.nm_words.specs.Packing.{words_of}
 use Rattle.nm_model.specs.Headline.{waits_of, has_after}
 use Rattle.nm_theorem.proofs.WrittenWords.{run_words}

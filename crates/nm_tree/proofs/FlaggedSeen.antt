@@ -8,7 +8,7 @@ use Rattle.nm_model.specs.Searches.{Search, idle}
 use Rattle.nm_model.specs.Walks.{Entry, search_after}
 use Rattle.nm_order.specs.History.{pin_of}
 use Rattle.nm_order.specs.Logs.{part_of}
-use Rattle.nm_theorem.specs.Histories.{call_begun}
+use Rattle.nm_model.specs.Histories.{call_begun}
 use Rattle.nm_theorem.proofs.StandingAnswers.{call_by_log}
 use Rattle.nm_steps.specs.Steps.{HasSeen, Stand}
 use Rattle.nm_epoch.specs.Resting.{search}

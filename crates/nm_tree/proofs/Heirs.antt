@@ -23,8 +23,8 @@ use Rattle.nm_epoch.specs.declared.collecting.HeldQueue.{HeldQueue}
 use Rattle.nm_epoch.specs.Collecting.{AreHeld}
 use Rattle.nm_epoch.proofs.Marks.{row_after}
 use Rattle.nm_epoch.proofs.SeveralQueues.{queue_stays}
-use Rattle.nm_calls.specs.Won.{won_links, won_flags, won_splices}
-use Rattle.nm_calls.proofs.Adding.{adds_these}
+use Rattle.nm_walks.specs.WonCounts.{won_links, won_flags, won_splices}
+use Rattle.nm_walks.proofs.Adding.{adds_these}
 use Rattle.nm_tree.specs.Workers.{AreOf, HasNumber, HasOrigin, log_among, log_held_of, ledger_in}
 use Rattle.nm_tree.proofs.QueueLists.{has_or_none}
 use Rattle.nm_tree.proofs.OwnQueue.{TellAlike}

@@ -7,8 +7,7 @@ use Rattle.nm_steps.specs.declared.view.View.{View}
 use Rattle.nm_steps.specs.Rules.{knowledge}
 use Rattle.nm_steps.specs.Steps.{Stand, IsInRun}
 use Rattle.nm_epoch.specs.declared.collecting.HeldQueue.{HeldQueue}
-use Rattle.nm_epoch.specs.Collecting.{IsQueueOf, AreHeld, NoneHas}
-use Rattle.nm_calls.specs.Won.{capped}
+use Rattle.nm_epoch.specs.Collecting.{IsQueueOf, AreHeld, NoneHas, capped}
 use Rattle.nm_tree.specs.declared.worker.Counts.{Counts}
 use Rattle.nm_tree.specs.Workers.{IsCounted, AreCounted, IsLedger, TellLedgers, QueueStandsAt, HasOrigin, counts_among, counts_in, ledger_in}
 use Rattle.nm_tree.proofs.HeldLedgers.{ledger_waits, split_in_run}

@@ -12,7 +12,7 @@ use Rattle.nm_model.specs.declared.trace.Turn.{Turn}
 use Rattle.nm_model.specs.Headline.{StandsAt, Place, cuts_of, freed_by, has_after, is_among, nodes_cut_of, waits_of, freed_of, words_after}
 use Rattle.nm_model.specs.Headline.Place.{InPool, InHands, OnPath as ByPath, Waits}
 use Rattle.nm_order.specs.History.{RunHasHistory}
-use Rattle.nm_order.specs.Intervals.{InSet}
+use Rattle.nm_model.specs.Acts.{InSet}
 use Rattle.nm_order.specs.LoggedTotals.{TotalsAreInTheLogs}
 use Rattle.nm_order.specs.Totals.{TotalsAgree}
 use Rattle.nm_order.proofs.HistoryLaws.{each_run_has_a_history}

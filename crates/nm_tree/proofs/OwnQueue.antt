@@ -11,9 +11,9 @@ use Rattle.nm_steps.specs.declared.view.View.{View}
 use Rattle.nm_steps.specs.Rules.{knowledge}
 use Rattle.nm_steps.specs.Steps.{Stand, IsSamePass}
 use Rattle.nm_epoch.specs.declared.collecting.HeldQueue.{HeldQueue}
-use Rattle.nm_epoch.specs.Collecting.{IsQueueOf}
-use Rattle.nm_calls.specs.Cleanups.{HoldsCuts}
-use Rattle.nm_calls.specs.Won.{CountsWon, capped, won_links, won_flags, won_splices}
+use Rattle.nm_epoch.specs.Collecting.{IsQueueOf, capped}
+use Rattle.nm_walks.specs.Cleanups.{HoldsCuts}
+use Rattle.nm_walks.specs.WonCounts.{CountsWon, won_links, won_flags, won_splices}
 use Rattle.nm_tree.specs.Workers.{IsCounted, AreCounted, HasOrigin, log_held_of, log_among, ledger_in}
 use Rattle.nm_tree.proofs.HeldLedgers.{ledger_held}
 use Rattle.nm_tree.proofs.Quiet.{Quiet, each_as_before}

@@ -10,8 +10,8 @@ use Rattle.nm_limbo.specs.Queue.{BlockQueue}
 use Rattle.nm_epoch.specs.declared.collecting.Entry.{Entry}
 use Rattle.nm_epoch.specs.Collecting.{IsQueueOf, AreHeld, NoneHas, HasFewBlocks, AreTrimmed}
 use Rattle.nm_epoch.proofs.SeveralQueues.{queue_stays}
-use Rattle.nm_calls.specs.Bounds.{cut_bound}
-use Rattle.nm_calls.specs.Rooms.{TakesRoom}
+use Rattle.nm_walks.specs.Bounds.{cut_bound}
+use Rattle.nm_walks.specs.Rooms.{TakesRoom}
 use Rattle.nm_tree.specs.Resigning.{inserted, merged}
 use Rattle.nm_calls.proofs.Rooms.{takes_none}
 use Rattle.nm_tree.specs.Workers.{TakeRoom, HaveFewBlocks, AreFewIn, blocks_in, HasLittleRoom, HasOrigin, AreAbove, Ascend, QueueStandsAt, KeepsOtherQueues}

@@ -17,8 +17,10 @@ use Rattle.nm_epoch.specs.Tries.{LostTries, IsPinnedBy, IsMoved}
 use Rattle.nm_epoch.specs.Watches.{AllWatched, SightThenWatch}
 use Rattle.nm_calls.specs.declared.lookup.Busy.{Busy}
 use Rattle.nm_calls.specs.Calls.{HasDid, HasMissed}
-use Rattle.nm_calls.specs.Won.{won_links, won_flags, won_splices, HasWon}
-use Rattle.nm_calls.proofs.Adding.{Adds, adds_none, adds_these, pin_adds, moved_adds, lost_walks_add, end_adds}
+use Rattle.nm_walks.specs.WonCounts.{won_links, won_flags, won_splices}
+use Rattle.nm_calls.specs.Won.{HasWon}
+use Rattle.nm_walks.proofs.Adding.{Adds, adds_these, end_adds}
+use Rattle.nm_calls.proofs.Adding.{adds_none, pin_adds, moved_adds, lost_walks_add}
 use Rattle.nm_tree.specs.Workers.{log_among, log_held_of}
 
 -- nothing was won between a log and a later one

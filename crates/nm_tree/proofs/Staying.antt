@@ -16,7 +16,7 @@ use Rattle.std.proofs.lemmas.Option.{none-some}
 use Rattle.nm_epoch.specs.Resting.{IsResting, IsSettled, Settles, IsPinnedAt, epochs, search}
 use Rattle.nm_epoch.proofs.SeveralQueues.{queue_stays}
 use Rattle.nm_calls.specs.Deletes.{IsRemoving}
-use Rattle.nm_calls.specs.Telling.{IsInRun}
+use Rattle.nm_walks.specs.Telling.{IsInRun}
 use Rattle.nm_pool.specs.declared.placement.Fit.{Fit}
 use Rattle.nm_tree.specs.declared.worker.Standing.{Standing}
 use Rattle.nm_tree.specs.declared.worker.Standing.TheVariants as standing
@@ -69,7 +69,7 @@ labelled p (Some n) None is = is.labelled
 labelled p (Some n) (Some e) is = absurd is
 
 pub held_at : (p : Stand) (e : ℕ) → IsPinnedAt e None p → IsHolding p e
-held_at p e is = record { note = is.note; pin = is.pin; labelled = is.labelled; search = is.begun }
+held_at p e is = record { announcement = is.announcement; pin = is.pin; labelled = is.labelled; search = is.begun }
 
 is_some_of : (o : Option ℕ) (e : ℕ) → o ≡ Some e → IsSome o
 is_some_of o e is = ap (λ (x : Option ℕ). is_some x) is
@@ -85,10 +85,10 @@ settled p (Some n) (Some e) is = absurd is
 pub stands_still : (p q : Stand) (n : Option Unfinished) (e : Option ℕ) → IsAs p n e → Settles p q → IsInRun q → IsAs q n e
 stands_still p q None None is s run =
     let t = s.stays (settled p None None is) in
-    record { unpinned = t.pin ∙ is.unpinned; silent = t.note ∙ is.silent; labelled = s.labelled; idle = t.search ∙ is.idle }
+    record { unpinned = t.pin ∙ is.unpinned; silent = t.announcement ∙ is.silent; labelled = s.labelled; idle = t.search ∙ is.idle }
 stands_still p q None (Some e) is s run =
     let t = s.stays (settled p None (Some e) is) in
-    record { note = t.note ∙ is.note; pin = t.pin ∙ is.pin; labelled = s.labelled; search = t.search ∙ is.search }
+    record { announcement = t.announcement ∙ is.announcement; pin = t.pin ∙ is.pin; labelled = s.labelled; search = t.search ∙ is.search }
 stands_still p q (Some n) None is s run =
     let t = s.stays (settled p (Some n) None is) in
     record {
@@ -133,7 +133,7 @@ seeing past p = record p { view = record p.view { past = past } }
 
 as_was : (past : List Turn) (p : Stand) (n : Option Unfinished) (e : Option ℕ) → IsAs p n e → IsAs (seeing past p) n e
 as_was past p None None is = record { unpinned = is.unpinned; silent = is.silent; labelled = is.labelled; idle = is.idle }
-as_was past p None (Some e) is = record { note = is.note; pin = is.pin; labelled = is.labelled; search = is.search }
+as_was past p None (Some e) is = record { announcement = is.announcement; pin = is.pin; labelled = is.labelled; search = is.search }
 as_was past p (Some n) None is = record {
   run = record { fits = is.run.fits; run = is.run.run };
   pinned = is.pinned;

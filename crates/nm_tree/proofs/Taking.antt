@@ -13,8 +13,8 @@ use Rattle.nm_steps.specs.Rules.{Extends}
 use Rattle.nm_steps.specs.Steps.{Board, Stand, IsSamePass, HasSeenAllOf}
 use Rattle.nm_steps.proofs.Seeing.{same_then, seen_itself, seen_through}
 use Rattle.nm_epoch.specs.declared.collecting.HeldQueue.{HeldQueue}
-use Rattle.nm_theorem.specs.Histories.{call_begun, answer_turn, WasSoBehind}
-use Rattle.nm_calls.specs.Bounds.{reach, chain_bound}
+use Rattle.nm_model.specs.Histories.{call_begun, answer_turn, WasSoBehind}
+use Rattle.nm_walks.specs.Bounds.{reach, chain_bound}
 use Rattle.nm_calls.specs.Moments.{AnswerHasMoment}
 use Rattle.nm_calls.specs.NextKeys.{WasNext, GiveUp as GiveUpNext}
 use Rattle.nm_calls.specs.PrevKeys.{WasPrev, GiveUp as GiveUpPrev}
@@ -23,8 +23,8 @@ use Rattle.nm_calls.specs.Won.{HasWon}
 use Rattle.nm_calls.specs.declared.deleting.Unfinished.{Unfinished}
 use Rattle.nm_calls.proofs.Adding.{mul_below}
 use Rattle.nm_calls.proofs.Rooms.{takes_then}
-use Rattle.nm_tree.specs.declared.fault.Fault.{Fault}
-use Rattle.nm_tree.specs.declared.fault.Fault.TheVariants as fault
+use Rattle.nm_tree.specs.declared.fault.CallFault.{CallFault}
+use Rattle.nm_tree.specs.declared.fault.CallFault.TheVariants as fault
 use Rattle.nm_tree.specs.declared.popping.End.{End}
 use Rattle.nm_tree.specs.declared.popping.End.TheVariants.{First, Last}
 use Rattle.nm_tree.specs.Answers.{IsFree, flags_won}
@@ -164,7 +164,7 @@ abbrev pub gives_up_at : End → Layout → ℕ → List Entry → List Entry �
 gives_up_at First L tries = GiveUpNext L tries 0
 gives_up_at Last L tries = GiveUpPrev L tries 18446744073709551612
 
-pub found_by : (end : End) (L : Layout) (tries : ℕ) (w z : Hand) (r : Result (Option ℕ) Fault) → Finds end L tries w z r → LeavesNear (told_at end) (gives_up_at end L tries) L tries w z r
+pub found_by : (end : End) (L : Layout) (tries : ℕ) (w z : Hand) (r : Result (Option ℕ) CallFault) → Finds end L tries w z r → LeavesNear (told_at end) (gives_up_at end L tries) L tries w z r
 found_by First L tries w z r l = l
 found_by Last L tries w z r l = l
 
@@ -214,7 +214,7 @@ round_fits L t =
     let round : t * (7 * r + 512 + 4) ≡ 7 * (t * r) + 516 * t = ap (λ (n : ℕ). t * n) (omega arith) ∙ scaled t r 7 516 in
     omega (arith, near, delete, round)
 
-goes_near : (end : End) (L : Layout) (tries : ℕ) (w z : Hand) (r : Result (Option ℕ) Fault) → Finds end L tries w z r → GoesOn (near_bound L tries) 0 w z
+goes_near : (end : End) (L : Layout) (tries : ℕ) (w z : Hand) (r : Result (Option ℕ) CallFault) → Finds end L tries w z r → GoesOn (near_bound L tries) 0 w z
 goes_near end L tries w z r found =
     let l = found_by end L tries w z r found in
     let few = l.steps in
@@ -233,10 +233,10 @@ goes_near end L tries w z r found =
 pub may_still : (b : Board) (w z : Hand) → MayCall b w → IsSamePass w.pass z.pass → z.held ≡ None → MayCall b z
 may_still b w z may same free = record { own = record { table = ap (λ (p : Stand). p.table) same ∙ may.own.table; layout = ap (λ (p : Stand). p.view.layout) same ∙ may.own.layout }; free = free }
 
-pub may_near : (end : End) (b : Board) (tries : ℕ) (w z : Hand) (r : Result (Option ℕ) Fault) → MayCall b w → Finds end b.layout tries w z r → MayCall b z
+pub may_near : (end : End) (b : Board) (tries : ℕ) (w z : Hand) (r : Result (Option ℕ) CallFault) → MayCall b w → Finds end b.layout tries w z r → MayCall b z
 may_near end b tries w z r may found = let l = found_by end b.layout tries w z r found in may_still b w z may l.same l.held
 
-goes_delete : (L : Layout) (tries k : ℕ) (w z : Hand) (r : Result Bool Fault) → LeavesDelete L tries k w z r → GoesOn (delete_bound L tries) (flags_won r) w z
+goes_delete : (L : Layout) (tries k : ℕ) (w z : Hand) (r : Result Bool CallFault) → LeavesDelete L tries k w z r → GoesOn (delete_bound L tries) (flags_won r) w z
 goes_delete L tries k w z r l =
     let few = l.says.steps in
     record {
@@ -251,7 +251,7 @@ goes_delete L tries k w z r l =
     }
 
 -- both of them
-goes_round : (end : End) (L : Layout) (tries k : ℕ) (w y z : Hand) (r : Result Bool Fault) → Finds end L tries w y (Ok (Some k)) → LeavesDelete L tries k y z r → GoesOn (round_bound L tries) (flags_won r) w z
+goes_round : (end : End) (L : Layout) (tries k : ℕ) (w y z : Hand) (r : Result Bool CallFault) → Finds end L tries w y (Ok (Some k)) → LeavesDelete L tries k y z r → GoesOn (round_bound L tries) (flags_won r) w z
 goes_round end L tries k w y z r found did =
     goes_more (near_bound L tries + delete_bound L tries) (round_bound L tries) (flags_won r) w z (round_fits L tries)
     (goes_then (near_bound L tries) (delete_bound L tries) (flags_won r) w y z (goes_near end L tries w y (Ok (Some k)) found) (goes_delete L tries k y z r did))
@@ -294,7 +294,7 @@ pends_not w told is none = by w.pending (sym none ∙ ap is_some is)
     by (Some n) none = absurd (true≢false (sym none))
 
 module _ (end : End) (L : Layout) (tries : ℕ) (w : Hand) (none : w.pending ≡ None) (free : w.held ≡ None) where
-  abbrev Says : Hand → Result (Option ℕ) Fault → Type 0
+  abbrev Says : Hand → Result (Option ℕ) CallFault → Type 0
   Says z r = SaysPop (comes_before end) L tries w z r
 
   -- a key is not pending
@@ -307,7 +307,7 @@ module _ (end : End) (L : Layout) (tries : ℕ) (w : Hand) (none : w.pending ≡
       goes_more (n * round_bound L tries + round_bound L tries) (pop_bound L tries) flags w z (mul_below n tries (round_bound L tries) less) (goes_then (n * round_bound L tries) (round_bound L tries) flags w x z gone.on on)
 
   -- one that ends with the call that finds no key
-  half_round : (x z : Hand) (r : Result (Option ℕ) Fault) → Finds end L tries x z r → GoesOn (round_bound L tries) 0 x z
+  half_round : (x z : Hand) (r : Result (Option ℕ) CallFault) → Finds end L tries x z r → GoesOn (round_bound L tries) 0 x z
   half_round x z r found = let fits = round_fits L tries in goes_more (near_bound L tries) (round_bound L tries) 0 x z (omega (arith, fits)) (goes_near end L tries x z r found)
 
   by_none : (n : ℕ) (x z : Hand) → n < tries → HaveGone L tries n w x → Finds end L tries x z (Ok None) → Says z (Ok None)
@@ -328,7 +328,7 @@ module _ (end : End) (L : Layout) (tries : ℕ) (w : Hand) (none : w.pending ≡
       }
 
   -- the key that was found, in the whole call
-  found_so : (x y z : Hand) (key : ℕ) → HasSeenAllOf x.pass w.pass → Finds end L tries x y (Ok (Some key)) → (r : Result Bool Fault) → LeavesDelete L tries key y z r → WasFound end w.pass z.pass key
+  found_so : (x y z : Hand) (key : ℕ) → HasSeenAllOf x.pass w.pass → Finds end L tries x y (Ok (Some key)) → (r : Result Bool CallFault) → LeavesDelete L tries key y z r → WasFound end w.pass z.pass key
   found_so x y z key past found r did = found_in end w.pass x.pass y.pass z.pass key past did.says.same did.says.past (key_found end x.pass y.pass key (found_by end L tries x y (Ok (Some key)) found).moment)
 
   by_key : (n : ℕ) (x y z : Hand) (key : ℕ) → n < tries → HaveGone L tries n w x → Finds end L tries x y (Ok (Some key)) → LeavesDelete L tries key y z (Ok true) → Says z (Ok (Some key))
@@ -350,10 +350,10 @@ module _ (end : End) (L : Layout) (tries : ℕ) (w : Hand) (none : w.pending ≡
       }
 
   -- the call that finds a key was not answered
-  by_near : (n : ℕ) (x z : Hand) (f : Fault) → n < tries → HaveGone L tries n w x → Finds end L tries x z (Err f) → Says z (Err f)
+  by_near : (n : ℕ) (x z : Hand) (f : CallFault) → n < tries → HaveGone L tries n w x → Finds end L tries x z (Err f) → Says z (Err f)
   by_near n x z f less gone found = by f found (found_by end L tries x z (Err f) found)
     where
-      by : (f : Fault) → Finds end L tries x z (Err f) → LeavesNear (told_at end) (gives_up_at end L tries) L tries x z (Err f) → Says z (Err f)
+      by : (f : CallFault) → Finds end L tries x z (Err f) → LeavesNear (told_at end) (gives_up_at end L tries) L tries x z (Err f) → Says z (Err f)
       by fault.Busy found l =
           let on = so_far n 0 x z less gone (half_round x z (Err fault.Busy) found) in
           record { same = on.same; past = on.past; told = (none, l.did.0.1); took = tt; won = on.won; steps = on.steps; queues = on.queues; blocks = on.blocks; held = on.held; fit = on.fit }
@@ -363,13 +363,13 @@ module _ (end : End) (L : Layout) (tries : ℕ) (w : Hand) (none : w.pending ≡
       by fault.Unfinished found l = absurd l.did
 
   -- the delete was not
-  by_delete : (n : ℕ) (x y z : Hand) (key : ℕ) (f : Fault) → n < tries → HaveGone L tries n w x → Finds end L tries x y (Ok (Some key)) → LeavesDelete L tries key y z (Err f) → Says z (Err f)
+  by_delete : (n : ℕ) (x y z : Hand) (key : ℕ) (f : CallFault) → n < tries → HaveGone L tries n w x → Finds end L tries x y (Ok (Some key)) → LeavesDelete L tries key y z (Err f) → Says z (Err f)
   by_delete n x y z key f less gone found did = by f did
     where
       l : LeavesNear (told_at end) (gives_up_at end L tries) L tries x y (Ok (Some key))
       l = found_by end L tries x y (Ok (Some key)) found
 
-      by : (f : Fault) → LeavesDelete L tries key y z (Err f) → Says z (Err f)
+      by : (f : CallFault) → LeavesDelete L tries key y z (Err f) → Says z (Err f)
       by fault.Busy did =
           let on = so_far n 0 x z less gone (goes_round end L tries key x y z (Err fault.Busy) found did) in
           record { same = on.same; past = on.past; told = (none, did.says.told.1); took = tt; won = on.won; steps = on.steps; queues = on.queues; blocks = on.blocks; held = on.held; fit = on.fit }
@@ -400,7 +400,7 @@ module _ (end : End) (L : Layout) (tries : ℕ) (w : Hand) (none : w.pending ≡
       let on = gone.on in
       record { same = on.same; past = on.past; told = (none, gone.free); took = tt; won = on.won; steps = on.steps; queues = on.queues; blocks = on.blocks; held = on.held; fit = on.fit }
 
-  by_round : (n : ℕ) (x z : Hand) (r : Result (Option ℕ) Fault) → n < tries → HaveGone L tries n w x → EndsRound end L tries x z r → Says z r
+  by_round : (n : ℕ) (x z : Hand) (r : Result (Option ℕ) CallFault) → n < tries → HaveGone L tries n w x → EndsRound end L tries x z r → Says z r
   by_round n x z (Ok None) less gone e = by_none n x z less gone e
   by_round n x z (Ok (Some key)) less gone (y, found, did) = by_key n x y z key less gone found did
   by_round n x z (Err f) less gone (inl found) = by_near n x z f less gone found
@@ -412,10 +412,10 @@ by_pending end L tries w free some =
     let on = goes_more 0 (pop_bound L tries) 0 w w (omega arith) (goes_nowhere w free) in
     record { same = on.same; past = on.past; told = (some, refl); took = tt; won = on.won; steps = on.steps; queues = on.queues; blocks = on.blocks; held = on.held; fit = on.fit }
 
-pops_so : (end : End) (L : Layout) (tries : ℕ) (w z : Hand) (r : Result (Option ℕ) Fault) → w.held ≡ None → HasPopped end L tries w z r → SaysPop (comes_before end) L tries w z r
+pops_so : (end : End) (L : Layout) (tries : ℕ) (w z : Hand) (r : Result (Option ℕ) CallFault) → w.held ≡ None → HasPopped end L tries w z r → SaysPop (comes_before end) L tries w z r
 pops_so end L tries w z r free (inl (still, is)) = subst (SaysPop (comes_before end) L tries w z) (sym is) (subst (λ (x : Hand). SaysPop (comes_before end) L tries w x (Err fault.Pending)) (sym still.1) (by_pending end L tries w free still.0))
 pops_so end L tries w z r free (inr (none, inl (n, x, less, lost, ends))) = by_round end L tries w none free n x z r less (have_gone end L tries n w x none free lost) ends
 pops_so end L tries w z r free (inr (none, inr (lost, is))) = subst (SaysPop (comes_before end) L tries w z) (sym is) (by_all end L tries w none free z (have_gone end L tries tries w z none free lost))
 
-pub leaves_so : (end : End) (L : Layout) (tries : ℕ) (w z : Hand) (r : Result (Option ℕ) Fault) → w.held ≡ None → HasPopped end L tries w z r → LeavesPop end L tries w z r
+pub leaves_so : (end : End) (L : Layout) (tries : ℕ) (w z : Hand) (r : Result (Option ℕ) CallFault) → w.held ≡ None → HasPopped end L tries w z r → LeavesPop end L tries w z r
 leaves_so end L tries w z r free did = record { says = pops_so end L tries w z r free did; did = did }

@@ -20,7 +20,7 @@ use Rattle.nm_order.specs.Totals.{is_for, is_so, call_of, links_of, flags_of, ho
 use Rattle.nm_order.specs.WalksToArrivals.{is_won_flag}
 use Rattle.nm_order.proofs.RunExchanges.{first_keys}
 use Rattle.nm_order.proofs.WalksOfRuns.{trace_in-append}
-use Rattle.nm_theorem.specs.Histories.{call_begun}
+use Rattle.nm_model.specs.Histories.{call_begun}
 use Rattle.nm_theorem.proofs.HistoriesOfRuns.{call_is, with_pin}
 use Rattle.nm_theorem.proofs.Runs.{enough_of}
 use Rattle.nm_tree.specs.Closing.{how_often, is_for as for_call}

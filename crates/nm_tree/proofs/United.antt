@@ -140,7 +140,7 @@ module _ {r r' : ℕ} (p u : Hand) (home home' : ℕ) (is : IsWorker p home r) (
   settles = record {
     labelled = ap (λ (x : Knowledge). x.brief.unlabelled) known_is ∙ labelled p.pass p.pending p.held is.between.stands;
     stays = λ _. record {
-      note = ap (λ (x : Knowledge). x.brief.note) known_is;
+      announcement = ap (λ (x : Knowledge). x.brief.announcement) known_is;
       pin = ap (λ (x : Knowledge). x.brief.pin) known_is;
       search = search_is;
       known = ap (λ (x : Knowledge). x.known) known_is;

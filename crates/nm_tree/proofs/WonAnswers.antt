@@ -21,7 +21,7 @@ use Rattle.nm_order.specs.History.{pin_of}
 use Rattle.nm_order.specs.Intervals.{IsCalled}
 use Rattle.nm_order.proofs.RunExchanges.{each_true_delete, each_true_insert, first_keys}
 use Rattle.nm_order.proofs.WalksOfRuns.{trace_in-append}
-use Rattle.nm_theorem.specs.Histories.{call_begun, answer_turn}
+use Rattle.nm_model.specs.Histories.{call_begun, answer_turn}
 use Rattle.nm_theorem.proofs.HistoriesOfRuns.{called_is}
 use Rattle.nm_theorem.proofs.Runs.{Parts, Head, parts_of, head_of, enough_of, layout_next}
 use Rattle.nm_theorem.proofs.StaysOfRuns.{was_allowed}

@@ -2,7 +2,7 @@
 use Rattle.std.proofs.Common.{◌≡◌, inl, inr, zero, suc, ◌+◌, [], ◌∷◌, refl, arith}
 use Rattle.nm_edge.specs.declared.edge.Side.TheVariants.{Left}
 use Rattle.nm_model.specs.Headline.{words_after}
-use Rattle.nm_order.specs.Intervals.{InSet}
+use Rattle.nm_model.specs.Acts.{InSet}
 use Rattle.nm_theorem.specs.Worked.{layout, before, worked_turns}
 use Rattle.nm_busy.specs.Pending.{NonePends}
 use Rattle.nm_tree.specs.Worked.{PendsOnWorkedTurns, TotalsWantThatNonePends}

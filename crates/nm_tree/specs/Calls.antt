@@ -17,7 +17,8 @@ use Rattle.nm_epoch.specs.Resting.{epochs}
 use Rattle.nm_epoch.specs.Scans.{IsAdvance}
 use Rattle.nm_epoch.specs.Watches.{IsBehind}
 use Rattle.nm_calls.specs.declared.many.Query.{Query}
-use Rattle.nm_calls.specs.Bounds.{reach, IsWithinBound, IsWithinClaims}
+use Rattle.nm_walks.specs.Bounds.{reach}
+use Rattle.nm_calls.specs.Bounds.{IsWithinBound, IsWithinClaims}
 use Rattle.nm_calls.specs.InTurns.{WasSo, key_of}
 use Rattle.nm_calls.specs.Moments.{AnswerHasMoment}
 use Rattle.nm_calls.specs.NextKeys.{WasNext, GiveUp as GiveUpNext}
@@ -28,8 +29,8 @@ use Rattle.nm_busy.specs.Alone.{IsAlone}
 use Rattle.nm_busy.specs.Lookups.{WasBusy}
 use Rattle.nm_busy.specs.Lost.{ChangeWasBusy}
 use Rattle.nm_busy.specs.Walked.{ManyWereBusy, NearWasBusy}
-use Rattle.nm_tree.specs.declared.fault.Fault.{Fault}
-use Rattle.nm_tree.specs.declared.fault.Fault.TheVariants as fault
+use Rattle.nm_tree.specs.declared.fault.CallFault.{CallFault}
+use Rattle.nm_tree.specs.declared.fault.CallFault.TheVariants as fault
 use Rattle.nm_tree.specs.declared.fault.PinFault.{PinFault}
 use Rattle.nm_tree.specs.Answers.{HasAnswered, HasInserted, HasDeleted, HasFinished, FinishHasMoment, HasTold, InsertTold, DeleteTold, FinishTold, DeleteLacks, FinishLacks, HasPinned, KeepsPlace, links_won, flags_won, DeleteWasLost, FinishWasLost}
 use Rattle.nm_tree.specs.InTurns.{HasAnsweredMany}
@@ -49,7 +50,7 @@ pub record MayCall (b : Board) (w : Hand) : Type 0 where
 -- queues and how much memory they have (`queues`, `blocks`); and that the worker is held as it was
 -- or not at all and claims as it did (`held`, `fit`). `LeavesHas` and its likes: that, how it was
 -- done (`did`), and why not (`lacks`, and for all that hindered it `disturbed`, `lost`)
-pub record SaysHas (L : Layout) (tries k : ℕ) (w z : Hand) (r : Result Bool Fault) : Type 0 where
+pub record SaysHas (L : Layout) (tries k : ℕ) (w z : Hand) (r : Result Bool CallFault) : Type 0 where
   pub same : IsSamePass w.pass z.pass
   pub past : HasSeenAllOf z.pass w.pass
   pub told : HasTold w z r
@@ -61,11 +62,11 @@ pub record SaysHas (L : Layout) (tries k : ℕ) (w z : Hand) (r : Result Bool Fa
   pub held : z.held ≡ None
   pub fit : z.fit ≡ w.fit
 
-pub record LeavesHas (L : Layout) (tries k : ℕ) (w z : Hand) (r : Result Bool Fault) : Type 0 where
+pub record LeavesHas (L : Layout) (tries k : ℕ) (w z : Hand) (r : Result Bool CallFault) : Type 0 where
   pub says : SaysHas L tries k w z r
   pub did : HasAnswered L tries k w z r
 
-pub record SaysInsert (L : Layout) (tries k : ℕ) (w z : Hand) (r : Result Bool Fault) : Type 0 where
+pub record SaysInsert (L : Layout) (tries k : ℕ) (w z : Hand) (r : Result Bool CallFault) : Type 0 where
   pub same : IsSamePass w.pass z.pass
   pub past : HasSeenAllOf z.pass w.pass
   pub told : InsertTold w z r
@@ -77,12 +78,12 @@ pub record SaysInsert (L : Layout) (tries k : ℕ) (w z : Hand) (r : Result Bool
   pub held : z.held ≡ None
   pub fit : z.fit ≡ w.fit
 
-pub record LeavesInsert (L : Layout) (tries k : ℕ) (w z : Hand) (r : Result Bool Fault) : Type 0 where
+pub record LeavesInsert (L : Layout) (tries k : ℕ) (w z : Hand) (r : Result Bool CallFault) : Type 0 where
   pub says : SaysInsert L tries k w z r
   pub did : HasInserted L tries k w z r
   pub disturbed : IsErrOf r fault.Busy → ChangeWasBusy w.pass z.pass tries
 
-pub record SaysDelete (L : Layout) (tries k : ℕ) (w z : Hand) (r : Result Bool Fault) : Type 0 where
+pub record SaysDelete (L : Layout) (tries k : ℕ) (w z : Hand) (r : Result Bool CallFault) : Type 0 where
   pub same : IsSamePass w.pass z.pass
   pub past : HasSeenAllOf z.pass w.pass
   pub told : DeleteTold k w z r
@@ -94,14 +95,14 @@ pub record SaysDelete (L : Layout) (tries k : ℕ) (w z : Hand) (r : Result Bool
   pub held : z.held ≡ None
   pub fit : z.fit ≡ w.fit
 
-pub record LeavesDelete (L : Layout) (tries k : ℕ) (w z : Hand) (r : Result Bool Fault) : Type 0 where
+pub record LeavesDelete (L : Layout) (tries k : ℕ) (w z : Hand) (r : Result Bool CallFault) : Type 0 where
   pub says : SaysDelete L tries k w z r
   pub did : HasDeleted L tries k w z r
   pub lacks : IfErr r (DeleteLacks L tries k w z)
   pub disturbed : IsErrOf r fault.Busy → ChangeWasBusy w.pass z.pass tries
   pub lost : IsErrOf r fault.Unfinished → DeleteWasLost tries w z
 
-pub record SaysFinish (L : Layout) (tries : ℕ) (w z : Hand) (r : Result Bool Fault) : Type 0 where
+pub record SaysFinish (L : Layout) (tries : ℕ) (w z : Hand) (r : Result Bool CallFault) : Type 0 where
   pub same : IsSamePass w.pass z.pass
   pub past : HasSeenAllOf z.pass w.pass
   pub told : FinishTold w z r
@@ -113,7 +114,7 @@ pub record SaysFinish (L : Layout) (tries : ℕ) (w z : Hand) (r : Result Bool F
   pub held : z.held ≡ w.held
   pub fit : z.fit ≡ w.fit
 
-pub record LeavesFinish (L : Layout) (tries : ℕ) (w z : Hand) (r : Result Bool Fault) : Type 0 where
+pub record LeavesFinish (L : Layout) (tries : ℕ) (w z : Hand) (r : Result Bool CallFault) : Type 0 where
   pub says : SaysFinish L tries w z r
   pub did : HasFinished L tries w z r
   pub lacks : IfErr r (FinishLacks L tries w z)
@@ -122,7 +123,7 @@ pub record LeavesFinish (L : Layout) (tries : ℕ) (w z : Hand) (r : Result Bool
 -- `LeavesHasMany`: the same of a look-up of these queries, which are those after it then; and that it
 -- is answered, where it may make a try and no other worker makes a turn (`alone`)
 pub record LeavesHasMany (L : Layout) (tries : ℕ) (old new : List Query) (w z : Hand)
-    (r : Result (Unit {0}) Fault) : Type 0 where
+    (r : Result (Unit {0}) CallFault) : Type 0 where
   pub same : IsSamePass w.pass z.pass
   pub past : HasSeenAllOf z.pass w.pass
   pub did : HasAnsweredMany L tries old w z r
@@ -142,7 +143,7 @@ pub record LeavesHasMany (L : Layout) (tries : ℕ) (old new : List Query) (w z 
 -- `LeavesPrev`: the least key that is not below k, and the greatest one that is not above k
 pub record LeavesNear (Was : Stand → Stand → Option ℕ → Type 0)
     (GivesUp : List LogEntry → List LogEntry → Type 0) (L : Layout) (tries : ℕ) (w z : Hand)
-    (r : Result (Option ℕ) Fault) : Type 0 where
+    (r : Result (Option ℕ) CallFault) : Type 0 where
   pub same : IsSamePass w.pass z.pass
   pub past : HasSeenAllOf z.pass w.pass
   pub did : HasLooked GivesUp tries (tries * most_looks (reach L) 1) w z r
@@ -156,10 +157,10 @@ pub record LeavesNear (Was : Stand → Stand → Option ℕ → Type 0)
   pub held : z.held ≡ None
   pub fit : z.fit ≡ w.fit
 
-abbrev pub LeavesNext : Layout → ℕ → ℕ → Hand → Hand → Result (Option ℕ) Fault → Type 0
+abbrev pub LeavesNext : Layout → ℕ → ℕ → Hand → Hand → Result (Option ℕ) CallFault → Type 0
 LeavesNext L tries k = LeavesNear (λ p q. WasNext p q k) (GiveUpNext L tries k) L tries
 
-abbrev pub LeavesPrev : Layout → ℕ → ℕ → Hand → Hand → Result (Option ℕ) Fault → Type 0
+abbrev pub LeavesPrev : Layout → ℕ → ℕ → Hand → Hand → Result (Option ℕ) CallFault → Type 0
 LeavesPrev L tries k = LeavesNear (λ p q. WasPrev p q k) (GiveUpPrev L tries k) L tries
 
 -- `LeavesPin`, `LeavesUnpin`, `LeavesAdvance`, `LeavesBehind`, `LeavesCollect`: of a call that

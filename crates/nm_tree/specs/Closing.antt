@@ -13,12 +13,12 @@ use Rattle.nm_model.specs.Memory.{Memory, infinity_0, in_pool, opening}
 use Rattle.nm_model.specs.Ordered.{ordered, after_in, trace_in}
 use Rattle.nm_model.specs.Paths.{at}
 use Rattle.nm_model.specs.Reports.{counts, keys, tree_slots}
-use Rattle.nm_order.specs.Intervals.{InSet}
+use Rattle.nm_model.specs.Acts.{InSet}
 use Rattle.nm_order.specs.Totals.{Agree}
 use Rattle.nm_steps.specs.declared.view.View.{View}
 use Rattle.nm_words.specs.Packing.{words_of}
 use Rattle.nm_model.specs.Headline.{Headline, words_after, cuts_of, freed_of, waits_of, has_after}
-use Rattle.nm_theorem.specs.Histories.{Called, HasHistory, call_begun}
+use Rattle.nm_model.specs.Histories.{Called, HasHistory, call_begun}
 use Rattle.nm_steps.specs.Rules.{Extends, knowledge, joined, nobody}
 use Rattle.nm_steps.specs.Steps.{Board, IsOf, Ends}
 use Rattle.nm_epoch.specs.declared.collecting.Entry.{Entry}

@@ -9,3 +9,4 @@ pub mod Settled
 pub mod Closing
 pub mod Running
 pub mod Worked
+pub mod Trees

@@ -2,8 +2,8 @@
 use Rattle.std.specs.Prelude.{ℕ, List, Result, Ok, Err}
 use Rattle.nm_model.specs.Walks.{Entry}
 use Rattle.nm_calls.specs.PlainWalks.{LooksUnderPin, PlainMissed}
-use Rattle.nm_tree.specs.declared.fault.Fault.{Fault}
-use Rattle.nm_tree.specs.declared.fault.Fault.TheVariants as fault
+use Rattle.nm_tree.specs.declared.fault.CallFault.{CallFault}
+use Rattle.nm_tree.specs.declared.fault.CallFault.TheVariants as fault
 use Rattle.nm_tree.specs.Answers.{IsPendingStill, IsFree}
 use Rattle.nm_tree.specs.Workers.{Hand}
 
@@ -11,7 +11,7 @@ use Rattle.nm_tree.specs.Workers.{Hand}
 -- looks at most, where `GivesUp` says how its walks end without an answer (Natarajan and Mittal,
 -- section 3.2)
 abbrev pub HasLooked : {X : Type 0} → (List Entry → List Entry → Type 0) → ℕ → ℕ → Hand → Hand
-    → Result X Fault → Type 0
+    → Result X CallFault → Type 0
 HasLooked GivesUp tries most w z (Ok _) =
     IsFree w z × LooksUnderPin tries most w.pass.view.log z.pass.view.log
 HasLooked GivesUp tries most w z (Err fault.Busy) =

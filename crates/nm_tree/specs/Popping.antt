@@ -4,13 +4,13 @@ use Rattle.nm_edge.specs.Keys.{IsKey}
 use Rattle.nm_edge.specs.Layouts.{Layout}
 use Rattle.nm_model.specs.declared.event.Op.TheVariants.{Delete}
 use Rattle.nm_steps.specs.Steps.{Stand, IsSamePass, HasSeenAllOf}
-use Rattle.nm_calls.specs.Bounds.{chain_bound, reach}
+use Rattle.nm_walks.specs.Bounds.{chain_bound, reach}
 use Rattle.nm_calls.specs.Moments.{AnswerHasMoment}
 use Rattle.nm_calls.specs.PlainWalks.{WasSo}
 use Rattle.nm_calls.specs.Won.{HasWon}
 use Rattle.nm_calls.specs.declared.deleting.Unfinished.{Unfinished}
-use Rattle.nm_tree.specs.declared.fault.Fault.{Fault}
-use Rattle.nm_tree.specs.declared.fault.Fault.TheVariants as fault
+use Rattle.nm_tree.specs.declared.fault.CallFault.{CallFault}
+use Rattle.nm_tree.specs.declared.fault.CallFault.TheVariants as fault
 use Rattle.nm_tree.specs.declared.popping.End.{End}
 use Rattle.nm_tree.specs.declared.popping.End.TheVariants.{First, Last}
 use Rattle.nm_tree.specs.Answers.{IsPendingStill, IsFree, LacksRoom}
@@ -39,7 +39,7 @@ Takes Before p q None = (j : ℕ) → IsKey j → WasSo p q j false
 
 -- what a delete tells; where that is not finished, of the key that is pending: it was in the set at
 -- a moment of the call, and each key before it was not
-abbrev pub PopTold : (ℕ → ℕ → Type 0) → Hand → Hand → Result (Option ℕ) Fault → Type 0
+abbrev pub PopTold : (ℕ → ℕ → Type 0) → Hand → Hand → Result (Option ℕ) CallFault → Type 0
 PopTold Before w z (Ok taken) = IsFree w z
 PopTold Before w z (Err fault.Busy) = IsFree w z
 PopTold Before w z (Err fault.NoMemory) = IsFree w z × LacksRoom z
@@ -50,7 +50,7 @@ PopTold Before w z (Err fault.Pending) = IsPendingStill w z
 PopTold Before w z (Err fault.Full) = ⊥
 
 -- the flags that it has won, by its answer: one where a key was taken, or is pending
-abbrev pub flags_popped : Result (Option ℕ) Fault → ℕ
+abbrev pub flags_popped : Result (Option ℕ) CallFault → ℕ
 flags_popped (Ok (Some key)) = 1
 flags_popped (Ok None) = 0
 flags_popped (Err fault.Unfinished) = 1
@@ -62,7 +62,7 @@ pop_bound L tries = tries * (tries * (7 * reach L + 8 * chain_bound + 4) + 12)
 
 -- what a caller has of a call that takes a key, by its answer, as `SaysDelete` of a delete
 pub record SaysPop (Before : ℕ → ℕ → Type 0) (L : Layout) (tries : ℕ) (w z : Hand)
-    (r : Result (Option ℕ) Fault) : Type 0 where
+    (r : Result (Option ℕ) CallFault) : Type 0 where
   pub same : IsSamePass w.pass z.pass
   pub past : HasSeenAllOf z.pass w.pass
   pub told : PopTold Before w z r
@@ -77,7 +77,7 @@ pub record SaysPop (Before : ℕ → ℕ → Type 0) (L : Layout) (tries : ℕ) 
 -- ---- how it is done
 
 -- the call that finds the key which is to be taken
-abbrev pub Finds : End → Layout → ℕ → Hand → Hand → Result (Option ℕ) Fault → Type 0
+abbrev pub Finds : End → Layout → ℕ → Hand → Hand → Result (Option ℕ) CallFault → Type 0
 Finds First L tries = LeavesNext L tries 0
 Finds Last L tries = LeavesPrev L tries (2 ^ 64 - 4)
 
@@ -90,7 +90,7 @@ LosesRounds end L tries (suc n) w z =
 
 -- the last round: no key was found, or the one that was is deleted; or one of both calls was not
 -- answered
-abbrev pub EndsRound : End → Layout → ℕ → Hand → Hand → Result (Option ℕ) Fault → Type 0
+abbrev pub EndsRound : End → Layout → ℕ → Hand → Hand → Result (Option ℕ) CallFault → Type 0
 EndsRound end L tries w z (Ok None) = Finds end L tries w z (Ok None)
 EndsRound end L tries w z (Ok (Some key)) =
     (y : Hand) × Finds end L tries w y (Ok (Some key)) × LeavesDelete L tries key y z (Ok true)
@@ -100,26 +100,26 @@ EndsRound end L tries w z (Err f) = Finds end L tries w z (Err f)
 
 -- fewer rounds than there may be came too late, and then there was the last one; or all came too
 -- late
-abbrev pub GoesInRounds : End → Layout → ℕ → Hand → Hand → Result (Option ℕ) Fault → Type 0
+abbrev pub GoesInRounds : End → Layout → ℕ → Hand → Hand → Result (Option ℕ) CallFault → Type 0
 GoesInRounds end L tries w z r =
     ((n : ℕ) × (x : Hand) × (n < tries) × LosesRounds end L tries n w x
     × EndsRound end L tries x z r)
     ⊎ (LosesRounds end L tries tries w z × (r ≡ Err fault.Busy))
 
 -- a key was pending, and nothing has changed; or none was, and there were such rounds
-abbrev pub HasPopped : End → Layout → ℕ → Hand → Hand → Result (Option ℕ) Fault → Type 0
+abbrev pub HasPopped : End → Layout → ℕ → Hand → Hand → Result (Option ℕ) CallFault → Type 0
 HasPopped end L tries w z r = (IsPendingStill w z × (r ≡ Err fault.Pending))
     ⊎ ((w.pending ≡ None) × GoesInRounds end L tries w z r)
 
 -- `LeavesPop`: what a caller has, and how it was done; `LeavesPopFirst`, `LeavesPopLast`: of the
 -- least key, and of the greatest
 pub record LeavesPop (end : End) (L : Layout) (tries : ℕ) (w z : Hand)
-    (r : Result (Option ℕ) Fault) : Type 0 where
+    (r : Result (Option ℕ) CallFault) : Type 0 where
   pub says : SaysPop (comes_before end) L tries w z r
   pub did : HasPopped end L tries w z r
 
-abbrev pub LeavesPopFirst : Layout → ℕ → Hand → Hand → Result (Option ℕ) Fault → Type 0
+abbrev pub LeavesPopFirst : Layout → ℕ → Hand → Hand → Result (Option ℕ) CallFault → Type 0
 LeavesPopFirst = LeavesPop First
 
-abbrev pub LeavesPopLast : Layout → ℕ → Hand → Hand → Result (Option ℕ) Fault → Type 0
+abbrev pub LeavesPopLast : Layout → ℕ → Hand → Hand → Result (Option ℕ) CallFault → Type 0
 LeavesPopLast = LeavesPop Last

@@ -18,7 +18,7 @@ use Rattle.nm_order.specs.Logs.{part_of}
 use Rattle.nm_words.specs.Packing.{words_of}
 use Rattle.nm_theorem.specs.EachRun.{ReadersHaveLeft}
 use Rattle.nm_model.specs.Headline.{Headline, words_after, freed_by}
-use Rattle.nm_theorem.specs.Histories.{Called, HasHistory, answer_turn, call_begun}
+use Rattle.nm_model.specs.Histories.{Called, HasHistory, answer_turn, call_begun}
 use Rattle.nm_steps.specs.declared.view.View.{View}
 use Rattle.nm_steps.specs.Rules.{IsShown, Kept}
 

@@ -2,8 +2,8 @@
 use Rattle.std.specs.Prelude.{◌≡◌, []}
 use Rattle.nm_model.specs.declared.event.Op.TheVariants.{Insert, Delete}
 use Rattle.nm_model.specs.Headline.{words_after}
-use Rattle.nm_model.specs.Schedules.{n}
-use Rattle.nm_order.specs.Intervals.{InSet}
+use Rattle.nm_model.specs.Shorthands.{n}
+use Rattle.nm_model.specs.Acts.{InSet}
 use Rattle.nm_order.specs.Totals.{Agree}
 use Rattle.nm_theorem.specs.Worked.{layout, before, worked_turns}
 use Rattle.nm_busy.specs.Pending.{HasDeletePending, NonePends}

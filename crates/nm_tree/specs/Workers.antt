@@ -11,13 +11,13 @@ use Rattle.nm_steps.specs.declared.view.View.{View}
 use Rattle.nm_steps.specs.Rules.{knowledge, held_log}
 use Rattle.nm_steps.specs.Steps.{Board, Stand, fresh_view}
 use Rattle.nm_epoch.specs.declared.collecting.HeldQueue.{HeldQueue}
-use Rattle.nm_epoch.specs.Collecting.{AreHeld, HasFewBlocks, spare_kept}
+use Rattle.nm_epoch.specs.Collecting.{AreHeld, HasFewBlocks, spare_kept, capped}
 use Rattle.nm_epoch.specs.Resting.{IsResting, begun_for, epochs, search}
-use Rattle.nm_theorem.specs.Histories.{call_begun}
-use Rattle.nm_calls.specs.Bounds.{cut_bound}
+use Rattle.nm_model.specs.Histories.{call_begun}
+use Rattle.nm_walks.specs.Bounds.{cut_bound}
 use Rattle.nm_calls.specs.Deletes.{IsRemoving}
-use Rattle.nm_calls.specs.Rooms.{TakesRoom}
-use Rattle.nm_calls.specs.Won.{CountsWon, capped, won_links, won_flags, won_splices}
+use Rattle.nm_walks.specs.Rooms.{TakesRoom}
+use Rattle.nm_walks.specs.WonCounts.{CountsWon, won_links, won_flags, won_splices}
 use Rattle.nm_pool.specs.declared.placement.Fit.{Fit}
 use Rattle.nm_tree.specs.declared.worker.Counts.{Counts}
 use Rattle.nm_calls.specs.declared.deleting.Unfinished.{Unfinished}
@@ -46,7 +46,7 @@ held_in _ = None
 
 -- pinned at an epoch by the caller, for no call
 pub record IsHolding (p : Stand) (epoch : ℕ) : Type 0 where
-  pub note : (epochs p).note ≡ Some epoch
+  pub announcement : (epochs p).announcement ≡ Some epoch
   pub pin : (epochs p).pin ≡ Some epoch
   pub labelled : (epochs p).unlabelled ≡ false
   pub search : search p ≡ begun_for None

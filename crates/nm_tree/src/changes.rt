@@ -5,10 +5,10 @@ ghost use Rattle.nm_busy.specs.Alone.{IsAlone};
 ghost use Rattle.nm_busy.specs.Pending.{NonePends};
 ghost use Rattle.nm_tree.specs.Calls.{MayCall, LeavesInsert, SaysInsert, LeavesDelete, SaysDelete, LeavesFinish, SaysFinish};
 
-use crate::fault::Fault;
+use crate::fault::CallFault;
 use crate::tree::Tree;
 use crate::worker::{Standing, Worker};
-use nm_calls::{Fault as Lost, Missed, Unfinished, delete, finish, insert};
+use nm_calls::{Missed, NotInserted as Lost, Unfinished, delete, finish, insert};
 use nm_edge::Key;
 
 impl Tree {
@@ -17,19 +17,19 @@ impl Tree {
     /// A try is a walk with its answer, or a link of two new nodes with at most one cleanup of
     /// help. Room for 128 entries is made before each try, that of the first one before the pin, in
     /// the fewest blocks, and no other memory is taken. `Pending`: a key is pending. `Busy`,
-    /// `Full`, `NoMemory`: see `Fault`. The worker is not held. (The insert of Natarajan and
+    /// `Full`, `NoMemory`: see `CallFault`. The worker is not held. (The insert of Natarajan and
     /// Mittal, section 3.2.)
     #[inline(always)]
-    pub fn insert(&self, worker: &mut Worker, key: Key, tries: u32) -> Result<bool, Fault>
+    pub fn insert(&self, worker: &mut Worker, key: Key, tries: u32) -> Result<bool, CallFault>
         requires { MayCall self.now worker.old }
         ensures says { SaysInsert self.now.layout tries key worker.old worker.new result }
         ensures leaves { LeavesInsert self.now.layout tries key worker.old worker.new result }
         ensures alone { IsAlone worker.old.pass worker.new.pass
             → NonePends self.now.layout worker.old.pass.view.past
-            → IsErrOf result Fault.Busy → tries ≡ 0 }
+            → IsErrOf result CallFault.Busy → tries ≡ 0 }
     {
         if let Standing::Pending(_) = worker.standing {
-            return Err(Fault::Pending);
+            return Err(CallFault::Pending);
         }
         let own = &mut worker.queues[worker.home];
         worker.pass.is_of_a_run();
@@ -44,10 +44,10 @@ impl Tree {
             Ok(answer) => Ok(answer),
             Err(Lost::Busy) => {
                 worker.pass.is_of_a_run();
-                Err(Fault::Busy)
+                Err(CallFault::Busy)
             }
-            Err(Lost::Full) => Err(Fault::Full),
-            Err(Lost::NoMemory) => Err(Fault::NoMemory),
+            Err(Lost::Full) => Err(CallFault::Full),
+            Err(Lost::NoMemory) => Err(CallFault::NoMemory),
         }
     }
 
@@ -59,18 +59,18 @@ impl Tree {
     /// so that true takes two of them at least. Room for 128 entries is made before each try, that
     /// of the first one before the pin, in the fewest blocks, and no other memory is taken.
     /// `Unfinished`: the leaf is flagged, all tries were made or the room of one was refused, and
-    /// the key is pending: `finish` goes on. `Pending`, `Busy`, `NoMemory`: see `Fault`. The worker
+    /// the key is pending: `finish` goes on. `Pending`, `Busy`, `NoMemory`: see `CallFault`. The worker
     /// is not held. (The delete of Natarajan and Mittal, section 3.2.)
-    pub fn delete(&self, worker: &mut Worker, key: Key, tries: u32) -> Result<bool, Fault>
+    pub fn delete(&self, worker: &mut Worker, key: Key, tries: u32) -> Result<bool, CallFault>
         requires { MayCall self.now worker.old }
         ensures says { SaysDelete self.now.layout tries key worker.old worker.new result }
         ensures leaves { LeavesDelete self.now.layout tries key worker.old worker.new result }
         ensures alone { IsAlone worker.old.pass worker.new.pass
             → NonePends self.now.layout worker.old.pass.view.past
-            → IsErrOf result Fault.Busy → tries ≡ 0 }
+            → IsErrOf result CallFault.Busy → tries ≡ 0 }
     {
         if let Standing::Pending(_) = worker.standing {
-            return Err(Fault::Pending);
+            return Err(CallFault::Pending);
         }
         let own = &mut worker.queues[worker.home];
         worker.pass.is_of_a_run();
@@ -85,13 +85,13 @@ impl Tree {
             Ok(answer) => Ok(answer),
             Err(Missed::Busy) => {
                 worker.pass.is_of_a_run();
-                Err(Fault::Busy)
+                Err(CallFault::Busy)
             }
-            Err(Missed::NoMemory) => Err(Fault::NoMemory),
+            Err(Missed::NoMemory) => Err(CallFault::NoMemory),
             Err(Missed::Unfinished(leaf)) => {
                 worker.pass.is_of_a_run();
                 worker.standing = Standing::Pending(Unfinished { key, leaf });
-                Err(Fault::Unfinished)
+                Err(CallFault::Unfinished)
             }
         }
     }
@@ -104,7 +104,7 @@ impl Tree {
     /// room of one was refused, and the key is pending still. (The cleanup mode of Natarajan and
     /// Mittal's delete, section 3.2.)
     #[inline(always)]
-    pub fn finish(&self, worker: &mut Worker, tries: u32) -> Result<bool, Fault>
+    pub fn finish(&self, worker: &mut Worker, tries: u32) -> Result<bool, CallFault>
         requires own { IsOf self.now worker.old.pass }
         ensures says { SaysFinish self.now.layout tries worker.old worker.new result }
         ensures leaves { LeavesFinish self.now.layout tries worker.old worker.new result }
@@ -118,7 +118,7 @@ impl Tree {
     /// `finish`, out of the way of the many calls before which nothing is pending.
     #[cold]
     #[inline(never)]
-    fn finish_pending(&self, worker: &mut Worker, tries: u32) -> Result<bool, Fault>
+    fn finish_pending(&self, worker: &mut Worker, tries: u32) -> Result<bool, CallFault>
         requires own { IsOf self.now worker.old.pass }
         ensures says { SaysFinish self.now.layout tries worker.old worker.new result }
         ensures leaves { LeavesFinish self.now.layout tries worker.old worker.new result }
@@ -137,7 +137,7 @@ impl Tree {
             tries,
         ) {
             worker.pass.is_of_a_run();
-            return Err(Fault::Unfinished);
+            return Err(CallFault::Unfinished);
         }
         worker.standing = Standing::Resting;
         Ok(true)

@@ -13,7 +13,7 @@ use crate::tree::Tree;
 use crate::worker::Worker;
 use nm_edge::Key;
 use nm_epoch::HeldQueue;
-use nm_report::{Found, Room, read};
+use nm_report::{Found, ReportRoom, read};
 use nm_steps::Shared;
 use thiserror::Error;
 
@@ -78,7 +78,7 @@ impl Tree {
                 workers,
             });
         }
-        let Ok(room) = Room::new(*workers.allocator(), layout) else {
+        let Ok(room) = ReportRoom::new(*workers.allocator(), layout) else {
             return Err(CloseError {
                 reason: CloseReason::NoMemory,
                 tree: self,
@@ -90,7 +90,7 @@ impl Tree {
 }
 
 /// Closes the tree of these workers, which are all of them.
-fn close_all(tree: Tree, workers: Vec<Worker>, room: Room) -> Report
+fn close_all(tree: Tree, workers: Vec<Worker>, room: ReportRoom) -> Report
     requires own { AreAllOf tree workers.items }
     requires all { tree.layout.workers ≤ given_in workers.items }
     requires room { room ≡ tree.layout }

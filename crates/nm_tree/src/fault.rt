@@ -4,7 +4,7 @@ use thiserror::Error;
 /// Why `has`, `insert`, `delete` or `finish` has not answered. Where several hold, `Pending` is
 /// told before `Busy` for 0 tries, and that before `NoMemory`.
 #[derive(Clone, Copy, Debug, Error, PartialEq, Eq)]
-pub enum Fault {
+pub enum CallFault {
     /// Each try was lost, those of the pin or those of the call, or there might be none. Nothing of
     /// this call stands but help given to others, and the worker is not pinned.
     #[error("each try was lost")]

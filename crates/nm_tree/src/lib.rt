@@ -23,7 +23,7 @@ mod worker;
 pub use closing::{
     CloseError, CloseReason, Report, closed_trees_are_accounted_for, runs_of_closed_trees_are_runs,
 };
-pub use fault::{Fault, PinFault};
+pub use fault::{CallFault, PinFault};
 pub use nm_calls::Query;
 pub use nm_epoch::{Advance, Behind, Collected, Entry, HeldQueue, Tally};
 pub use nm_model::NewError;

@@ -3,7 +3,7 @@ ghost use Rattle.std.specs.Prelude.{◌≡◌, IsErrOf};
 ghost use Rattle.nm_busy.specs.Alone.{IsAlone};
 ghost use Rattle.nm_tree.specs.Calls.{MayCall, LeavesHas, SaysHas};
 
-use crate::fault::Fault;
+use crate::fault::CallFault;
 use crate::tree::Tree;
 use crate::worker::{Standing, Worker};
 use nm_calls::{Busy, has};
@@ -21,22 +21,22 @@ impl Tree {
     /// a key is pending. The worker is not held. (The search of Natarajan and Mittal,
     /// section 3.2.)
     #[inline(always)]
-    pub fn has(&self, worker: &mut Worker, key: Key, tries: u32) -> Result<bool, Fault>
+    pub fn has(&self, worker: &mut Worker, key: Key, tries: u32) -> Result<bool, CallFault>
         requires { MayCall self.now worker.old }
         ensures says { SaysHas self.now.layout tries key worker.old worker.new result }
         ensures leaves { LeavesHas self.now.layout tries key worker.old worker.new result }
-        ensures alone { IsAlone worker.old.pass worker.new.pass → IsErrOf result Fault.Busy
+        ensures alone { IsAlone worker.old.pass worker.new.pass → IsErrOf result CallFault.Busy
             → tries ≡ 0 }
     {
         if let Standing::Pending(_) = worker.standing {
-            return Err(Fault::Pending);
+            return Err(CallFault::Pending);
         }
         worker.pass.is_of_a_run();
         match has(&self.shared, &mut worker.pass, key, tries) {
             Ok(answer) => Ok(answer),
             Err(Busy) => {
                 worker.pass.is_of_a_run();
-                Err(Fault::Busy)
+                Err(CallFault::Busy)
             }
         }
     }

@@ -1,7 +1,7 @@
 //! Look-ups of several keys under one pin.
 ghost use Rattle.nm_tree.specs.Calls.{MayCall, LeavesHasMany};
 
-use crate::fault::Fault;
+use crate::fault::CallFault;
 use crate::tree::Tree;
 use crate::worker::{Standing, Worker};
 use nm_calls::{Busy, Query, has_many};
@@ -25,20 +25,20 @@ impl Tree {
         worker: &mut Worker,
         queries: &mut [Query],
         tries: u32,
-    ) -> Result<(), Fault>
+    ) -> Result<(), CallFault>
         requires { MayCall self.now worker.old }
         ensures { LeavesHasMany self.now.layout tries queries.old queries.new worker.old
             worker.new result }
     {
         if let Standing::Pending(_) = worker.standing {
-            return Err(Fault::Pending);
+            return Err(CallFault::Pending);
         }
         worker.pass.is_of_a_run();
         match has_many(&self.shared, &mut worker.pass, queries, tries) {
             Ok(()) => Ok(()),
             Err(Busy) => {
                 worker.pass.is_of_a_run();
-                Err(Fault::Busy)
+                Err(CallFault::Busy)
             }
         }
     }

@@ -1,7 +1,7 @@
 //! The next key of a set that is in use.
 ghost use Rattle.nm_tree.specs.Calls.{MayCall, LeavesNext};
 
-use crate::fault::Fault;
+use crate::fault::CallFault;
 use crate::tree::Tree;
 use crate::worker::{Standing, Worker};
 use nm_calls::{Busy, next};
@@ -25,19 +25,19 @@ impl Tree {
     /// The worker is not held. At most `tries` * (3 `reach` + 4) + 2 steps, where a walk's reach is
     /// 66 nodes in a radix tree, and else as many as there are. (The search of Natarajan and
     /// Mittal, section 3.2.)
-    pub fn next(&self, worker: &mut Worker, key: Key, tries: u32) -> Result<Option<Key>, Fault>
+    pub fn next(&self, worker: &mut Worker, key: Key, tries: u32) -> Result<Option<Key>, CallFault>
         requires { MayCall self.now worker.old }
         ensures { LeavesNext self.now.layout tries key worker.old worker.new result }
     {
         if let Standing::Pending(_) = worker.standing {
-            return Err(Fault::Pending);
+            return Err(CallFault::Pending);
         }
         worker.pass.is_of_a_run();
         match next(&self.shared, &mut worker.pass, key, tries) {
             Ok(found) => Ok(found),
             Err(Busy) => {
                 worker.pass.is_of_a_run();
-                Err(Fault::Busy)
+                Err(CallFault::Busy)
             }
         }
     }

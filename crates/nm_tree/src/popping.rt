@@ -1,9 +1,9 @@
 //! The least and the greatest key are taken.
-ghost use Rattle.std.specs.Prelude.{◌≡◌, ◌<◌, None};
+ghost use Rattle.std.specs.Prelude.{◌<◌, None};
 ghost use Rattle.nm_tree.specs.Calls.{MayCall};
 ghost use Rattle.nm_tree.specs.Popping.{Finds, GoesInRounds, LeavesPop, LeavesPopFirst, LeavesPopLast, SaysPop};
 
-use crate::fault::Fault;
+use crate::fault::CallFault;
 use crate::tree::Tree;
 use crate::worker::Worker;
 use nm_edge::{Key, MOST_KEY};
@@ -26,11 +26,11 @@ impl Tree {
     /// `Busy`: `tries` is 0, and there was no step; or the key that was found in each of `tries`
     /// rounds was not there to be deleted; or `next` or `delete` was busy, with so many tries each.
     /// `Unfinished`: the leaf of the least key, as above, is flagged, and the key is pending:
-    /// `finish` goes on. `Pending`, `NoMemory`: see `Fault`. The worker is not held. At most
+    /// `finish` goes on. `Pending`, `NoMemory`: see `CallFault`. The worker is not held. At most
     /// `tries` * (`tries` * (7 `reach` + 516) + 12) steps, where a walk's reach is 66 nodes in a
     /// radix tree, and else as many as there are. (The search and the delete of Natarajan and
     /// Mittal, section 3.2; the name of Rust's `BTreeSet`.)
-    pub fn pop_first(&self, worker: &mut Worker, tries: u32) -> Result<Option<Key>, Fault>
+    pub fn pop_first(&self, worker: &mut Worker, tries: u32) -> Result<Option<Key>, CallFault>
         requires { MayCall self.now worker.old }
         ensures says { SaysPop ◌<◌ self.now.layout tries worker.old worker.new result }
         ensures leaves { LeavesPopFirst self.now.layout tries worker.old worker.new result }
@@ -40,7 +40,7 @@ impl Tree {
 
     /// Takes the greatest key out of the set: the same as `pop_first`, but by `prev`, and each
     /// greater key was not in the set at a moment of this call.
-    pub fn pop_last(&self, worker: &mut Worker, tries: u32) -> Result<Option<Key>, Fault>
+    pub fn pop_last(&self, worker: &mut Worker, tries: u32) -> Result<Option<Key>, CallFault>
         requires { MayCall self.now worker.old }
         ensures says { SaysPop (λ j key. key < j) self.now.layout tries worker.old worker.new
             result }
@@ -50,18 +50,23 @@ impl Tree {
     }
 
     /// Takes the key at that end, if no key is pending.
-    fn pop(&self, worker: &mut Worker, end: End, tries: u32) -> Result<Option<Key>, Fault>
+    fn pop(&self, worker: &mut Worker, end: End, tries: u32) -> Result<Option<Key>, CallFault>
         requires { MayCall self.now worker.old }
         ensures { LeavesPop end self.now.layout tries worker.old worker.new result }
     {
         if worker.pending().is_some() {
-            return Err(Fault::Pending);
+            return Err(CallFault::Pending);
         }
         self.pop_in_rounds(worker, end, tries)
     }
 
     /// Finds the key at that end and deletes it, until it is this call that has deleted one.
-    fn pop_in_rounds(&self, worker: &mut Worker, end: End, tries: u32) -> Result<Option<Key>, Fault>
+    fn pop_in_rounds(
+        &self,
+        worker: &mut Worker,
+        end: End,
+        tries: u32,
+    ) -> Result<Option<Key>, CallFault>
         requires may { MayCall self.now worker.old }
         ensures { GoesInRounds end self.now.layout tries worker.old worker.new result }
     {
@@ -73,11 +78,11 @@ impl Tree {
                 return Ok(Some(key));
             }
         }
-        Err(Fault::Busy)
+        Err(CallFault::Busy)
     }
 
     /// The key at that end, as walks find it.
-    fn key_at(&self, worker: &mut Worker, end: End, tries: u32) -> Result<Option<Key>, Fault>
+    fn key_at(&self, worker: &mut Worker, end: End, tries: u32) -> Result<Option<Key>, CallFault>
         requires { MayCall self.now worker.old }
         ensures { Finds end self.now.layout tries worker.old worker.new result }
     {

@@ -1,17 +1,16 @@
 //! The tree that workers share.
-ghost use Rattle.std.specs.Prelude.{All, ◌≡◌, ◌≢◌, ◌<◌, ◌≤◌, ◌⊎◌, ◌↔◌, length, IfOk, IfErr, IsErrOf};
-ghost use Rattle.nm_edge.specs.Layouts.{dense, in_radix, spaced};
-ghost use Rattle.nm_steps.specs.Steps.{AreFresh};
-ghost use Rattle.nm_tree.specs.Calls.{MayCall};
-ghost use Rattle.nm_tree.specs.Workers.{AreNew, AreAllFresh, AreMade, HaveFit, HaveWorkers, IsFresh, IsNewWorker};
+ghost use Rattle.std.specs.Prelude.{◌≡◌, ◌≤◌, ◌↔◌, length, IfOk, IfErr, IsErrOf};
+ghost use Rattle.nm_edge.specs.Layouts.{IsLayoutFault, dense};
+ghost use Rattle.nm_tree.specs.Trees.{IsNewTree};
+ghost use Rattle.nm_tree.specs.Workers.{AreAllFresh, AreMade, HaveWorkers, IsFresh, IsNewWorker};
 
 use crate::worker::{Standing, Worker};
-use nm_calls::Workspace;
-use nm_edge::{FIRST_SLOT, LEAST_NODES, Layout, MOST_NODES, MOST_SPACED_NODES, MOST_WORKERS};
+use nm_edge::{FIRST_SLOT, Layout, LayoutError, MOST_NODES};
 use nm_epoch::HeldQueue;
-use nm_model::{NewError, layout_of, spaced_layout_of};
+use nm_model::NewError;
 use nm_pool::{Fit, Placement};
 use nm_steps::{Pass, Shared};
+use nm_walks::Workspace;
 use std::alloc::{AllocError, Global};
 use std::marker::Model;
 
@@ -33,101 +32,34 @@ impl Tree {
     /// The empty set with room for `nodes` nodes, 7 to 1,048,576 with five fixed ones, and its
     /// workers, 1 to 64, in the order of their numbers from 0 on. A key takes two nodes, and a
     /// removed node is free again some time after its removal. A new node takes the lowest slot
-    /// that its worker finds free.
+    /// that its worker finds free: `of` a layout by `Layout::new`, with `Fit::Lowest`.
     ///
     /// `NoMemory`: nothing is kept. The room in which a worker may take over the queues of others
     /// is made here.
     pub fn new(alloc: Global, nodes: u32, workers: u32) -> Result<(Tree, Vec<Worker>), NewError>
-        ensures layout { IfOk result (λ r. r.0.layout ≡ dense nodes workers) }
-        ensures count { IfOk result (λ r. length r.1.items ≡ workers) }
-        ensures new { IfOk result (λ r. AreNew r.0 0 r.1.items) }
-        ensures fit { IfOk result (λ r. HaveFit Fit.Lowest r.1.items) }
-        ensures ready { IfOk result (λ r. All (MayCall r.0) r.1.items) }
+        ensures new { IfOk result (λ r. IsNewTree (dense nodes workers) Fit.Lowest r.0 r.1.items) }
         ensures nodes { IsErrOf result NewError.Nodes
-            ↔ ((nodes < LEAST_NODES) ⊎ (MOST_NODES < nodes)) }
+            ↔ IsLayoutFault MOST_NODES nodes workers LayoutError.Nodes }
         ensures workers { IsErrOf result NewError.Workers
-            ↔ ((LEAST_NODES ≤ nodes) × (nodes ≤ MOST_NODES)
-            × ((workers < 1) ⊎ (MOST_WORKERS < workers))) }
+            ↔ IsLayoutFault MOST_NODES nodes workers LayoutError.Workers }
     {
-        Tree::of(alloc, layout_of(nodes, workers)?, Fit::Lowest)
-    }
-
-    /// The same, but a worker looks for a free slot first in one row of 64, that of the slot which
-    /// it found last or, of those that it gave back since then, of the first from its home on, and
-    /// then from there upwards, and round. Homes lie at equal distances.
-    /// So a claim takes few steps where most slots are free, and which slot a new node takes is not
-    /// told beforehand.
-    ///
-    /// (Next fit: Knuth, The Art of Computer Programming, volume 1, section 2.5.)
-    pub fn near(alloc: Global, nodes: u32, workers: u32) -> Result<(Tree, Vec<Worker>), NewError>
-        ensures layout { IfOk result (λ r. r.0.layout ≡ dense nodes workers) }
-        ensures count { IfOk result (λ r. length r.1.items ≡ workers) }
-        ensures new { IfOk result (λ r. AreNew r.0 0 r.1.items) }
-        ensures fit { IfOk result (λ r. HaveFit Fit.Near r.1.items) }
-        ensures ready { IfOk result (λ r. All (MayCall r.0) r.1.items) }
-        ensures nodes { IsErrOf result NewError.Nodes
-            ↔ ((nodes < LEAST_NODES) ⊎ (MOST_NODES < nodes)) }
-        ensures workers { IsErrOf result NewError.Workers
-            ↔ ((LEAST_NODES ≤ nodes) × (nodes ≤ MOST_NODES)
-            × ((workers < 1) ⊎ (MOST_WORKERS < workers))) }
-    {
-        Tree::of(alloc, layout_of(nodes, workers)?, Fit::Near)
-    }
-
-    /// The same as `near` or, with `Fit::Lowest`, as `new`, but each announcement has a page of its
-    /// own, and no node lies in two cache lines, so that workers in threads of their own disturb
-    /// each other less; and there may be more nodes, 7 to 268,435,456. It takes 32 bytes a node and
-    /// a bit, 4,096 a worker, the same again while it is made, and time for each node.
-    pub fn spaced(
-        alloc: Global,
-        nodes: u32,
-        workers: u32,
-        fit: Fit,
-    ) -> Result<(Tree, Vec<Worker>), NewError>
-        ensures layout { IfOk result (λ r. r.0.layout ≡ spaced nodes workers) }
-        ensures count { IfOk result (λ r. length r.1.items ≡ workers) }
-        ensures new { IfOk result (λ r. AreNew r.0 0 r.1.items) }
-        ensures fit { IfOk result (λ r. HaveFit fit r.1.items) }
-        ensures ready { IfOk result (λ r. All (MayCall r.0) r.1.items) }
-        ensures nodes { IsErrOf result NewError.Nodes
-            ↔ ((nodes < LEAST_NODES) ⊎ (MOST_SPACED_NODES < nodes)) }
-        ensures workers { IsErrOf result NewError.Workers
-            ↔ ((LEAST_NODES ≤ nodes) × (nodes ≤ MOST_SPACED_NODES)
-            × ((workers < 1) ⊎ (MOST_WORKERS < workers))) }
-    {
-        Tree::of(alloc, spaced_layout_of(nodes, workers)?, fit)
-    }
-
-    /// The same as `spaced`, in a radix tree: no walk takes more than 66 nodes, whatever keys come in
-    /// whatever order.
-    pub fn radix(
-        alloc: Global,
-        nodes: u32,
-        workers: u32,
-        fit: Fit,
-    ) -> Result<(Tree, Vec<Worker>), NewError>
-        ensures layout { IfOk result (λ r. r.0.layout ≡ in_radix (spaced nodes workers)) }
-        ensures count { IfOk result (λ r. length r.1.items ≡ workers) }
-        ensures new { IfOk result (λ r. AreNew r.0 0 r.1.items) }
-        ensures fit { IfOk result (λ r. HaveFit fit r.1.items) }
-        ensures ready { IfOk result (λ r. All (MayCall r.0) r.1.items) }
-        ensures nodes { IsErrOf result NewError.Nodes
-            ↔ ((nodes < LEAST_NODES) ⊎ (MOST_SPACED_NODES < nodes)) }
-        ensures workers { IsErrOf result NewError.Workers
-            ↔ ((LEAST_NODES ≤ nodes) × (nodes ≤ MOST_SPACED_NODES)
-            × ((workers < 1) ⊎ (MOST_WORKERS < workers))) }
-    {
-        Tree::of(alloc, spaced_layout_of(nodes, workers)?.in_radix(), fit)
+        Tree::of(alloc, Layout::new(nodes, workers)?, Fit::Lowest)
     }
 
     /// The empty set of a layout and its workers, which claim by that fit. The only error is
     /// `NoMemory`, and then nothing is kept.
+    ///
+    /// By `Layout::spaced`, workers in threads of their own disturb each other less; it takes 32
+    /// bytes a node and a bit, 4,096 a worker, the same again while it is made, and time for each
+    /// node. Of a layout `in_radix` no walk takes more than 66 nodes. With `Fit::Near` a claim takes
+    /// few steps where most slots are free, and which slot a new node takes is not told beforehand:
+    /// a worker looks for it first in one row of 64, that of the slot which it found last or, of
+    /// those that it gave back since then, of the first from its home on, and then from there
+    /// upwards, and round. Homes lie at equal distances.
+    ///
+    /// (Next fit: Knuth, The Art of Computer Programming, volume 1, section 2.5.)
     pub fn of(alloc: Global, layout: Layout, fit: Fit) -> Result<(Tree, Vec<Worker>), NewError>
-        ensures layout { IfOk result (λ r. r.0.layout ≡ layout) }
-        ensures count { IfOk result (λ r. length r.1.items ≡ layout.workers) }
-        ensures new { IfOk result (λ r. AreNew r.0 0 r.1.items) }
-        ensures fit { IfOk result (λ r. HaveFit fit r.1.items) }
-        ensures ready { IfOk result (λ r. All (MayCall r.0) r.1.items) }
+        ensures new { IfOk result (λ r. IsNewTree layout fit r.0 r.1.items) }
         ensures memory { IfErr result (λ e. e ≡ NewError.NoMemory) }
     {
         let (shared, passes) = Shared::new(alloc, layout)?;

@@ -8,10 +8,11 @@ ghost use Rattle.nm_epoch.specs.Collecting.{NoneHas};
 ghost use Rattle.nm_tree.specs.Running.{HasSeenTurns};
 ghost use Rattle.nm_tree.specs.Workers.{waiting_in, blocks_in, AreFewIn, counts_among, counts_in, IsLedger, HasOrigin, IsBetweenCalls, IsIdle};
 
-use nm_calls::{Unfinished, Workspace};
+use nm_calls::Unfinished;
 use nm_edge::Key;
 use nm_epoch::HeldQueue;
 use nm_steps::Pass;
+use nm_walks::Workspace;
 use std::marker::Model;
 
 /// What a worker is in the midst of between two calls.

@@ -1,12 +1,11 @@
 //! Calls of a tree, in one thread with each answer compared, and by workers in threads of their
 //! own.
-ghost use Rattle.std.specs.Prelude.{◌≡◌, length, IfOk};
+ghost use Rattle.std.specs.Prelude.{IfOk};
 ghost use Rattle.nm_steps.specs.Steps.{IsOf};
 ghost use Rattle.nm_tree.specs.Calls.{MayCall};
-ghost use Rattle.nm_tree.specs.Workers.{AreNew};
 
-use nm_edge::Key;
-use nm_tree::{Advance, Collected, Counts, Fault, PinFault, Tree, Worker};
+use nm_edge::{Key, Layout};
+use nm_tree::{Advance, CallFault, Collected, Counts, Fit, PinFault, Tree, Worker};
 use std::process::Abort;
 use std::test::Fail;
 
@@ -37,7 +36,7 @@ enum Call {
 #[derive(Clone, Copy, Debug, PartialEq, Eq)]
 enum Answer {
     Is(bool),
-    Not(Fault),
+    Not(CallFault),
     Pinned(u64),
     NotPinned(PinFault),
     Left,
@@ -47,7 +46,7 @@ enum Answer {
     Refused,
 }
 
-fn told(outcome: Result<bool, Fault>) -> Answer {
+fn told(outcome: Result<bool, CallFault>) -> Answer {
     match outcome {
         Ok(is) => Answer::Is(is),
         Err(fault) => Answer::Not(fault),

@@ -28,7 +28,7 @@ use Rattle.nm_laws.proofs.TreeSteps.{Lawful, high_from}
 use Rattle.nm_laws.proofs.Lawful.{IsLawful, lawful}
 use Rattle.nm_words.proofs.EdgeWords.{word_to, word_flagged, word_is_to, word_tagged}
 use Rattle.nm_words.proofs.PackedReads.{all_words, field_read, each_bit_is_its_slot}
-use Rattle.nm_words.proofs.PackedWrites.{note_written, key_written, edge_written, birth_written, taking_clears_a_bit, giving_sets_a_bit}
+use Rattle.nm_words.proofs.PackedWrites.{announcement_written, key_written, edge_written, birth_written, taking_clears_a_bit, giving_sets_a_bit}
 
 -- ---- words that are read alone, exchanged or filled
 
@@ -59,7 +59,7 @@ slot_field L s Birth h = h
 -- ---- one event
 
 pub fits_of : (s : State) (h : ℕ → ℕ) → Lawful s h → Fits s.layout s.memory
-fits_of s h law = record { notes = law.staffed.notes; nodes = law.roomy.nodes; pool = law.roomy.pool }
+fits_of s h law = record { announcements = law.staffed.announcements; nodes = law.roomy.nodes; pool = law.roomy.pool }
 
 module _ (s : State) (h : ℕ → ℕ) (law : Lawful s h) (w : ℕ) where
   abbrev fits : Fits s.layout s.memory
@@ -121,9 +121,9 @@ module _ (s : State) (h : ℕ → ℕ) (law : Lawful s h) (w : ℕ) where
       go : (e : Event) → Allowed s w e → IsField s.layout (touched_field w e) → words_of s.layout (write s.memory (of s w) w e) ≡ with_word s.layout s.memory (touched_field w e) (left_word s.layout (of s w) e (word_at s.layout s.memory (touched_field w e)))
       go Sight ok at = unchanged s.layout s.memory 0
       go (SightFor op key) ok at = unchanged s.layout s.memory 0
-      go Announce ok at = note_written s.layout s.memory w _ fits at
-      go Leave ok at = note_written s.layout s.memory w _ fits at
-      go (LeaveWith answer) ok at = note_written s.layout s.memory w _ fits at
+      go Announce ok at = announcement_written s.layout s.memory w _ fits at
+      go Leave ok at = announcement_written s.layout s.memory w _ fits at
+      go (LeaveWith answer) ok at = announcement_written s.layout s.memory w _ fits at
       go (Scan u) ok at = unchanged s.layout s.memory _
       go Advance ok at = moving (is_number (of s w).brief.seen s.memory.epoch)
         where

@@ -5,19 +5,19 @@ use Rattle.std.specs.List.{range_with_len}
 use Rattle.std.proofs.lemmas.List.{length-replicate, get_or_past}
 use Rattle.std.proofs.lemmas.List.FromFn.{length-map-range_with_len, get_or-map-range_with_len}
 use Rattle.nm_edge.specs.Layouts.{Layout}
-use Rattle.nm_edge.specs.Words.{Field, at_epoch, at_note, at_key, at_edge, at_birth, at_row, IsField, IsSlot, behind_notes, rows, word, words}
-use Rattle.nm_edge.proofs.Words.{note_within}
+use Rattle.nm_edge.specs.Words.{Field, at_epoch, at_announcement, at_key, at_edge, at_birth, at_row, IsField, IsSlot, behind_announcements, rows, word, words}
+use Rattle.nm_edge.proofs.Words.{announcement_within}
 use Rattle.nm_edge.specs.declared.edge.Side.TheVariants.{Left, Right}
 use Rattle.nm_model.specs.declared.memory.Node.{Node}
 use Rattle.nm_model.specs.Memory.{Memory, node, blank, in_pool}
-use Rattle.nm_words.specs.Packing.{Fits, note_word, node_words, row_word, words_of, field_word, word_at, EachFieldHasAWord, EachWordIsItsField, EachBitIsItsSlot, SpareBitsAreZero}
+use Rattle.nm_words.specs.Packing.{Fits, announcement_word, node_words, row_word, words_of, field_word, word_at, EachFieldHasAWord, EachWordIsItsField, EachBitIsItsSlot, SpareBitsAreZero}
 use Rattle.nm_words.proofs.Blocks.{blocks_length, blocks_read, first_read, second_read, third_read, whole_length}
 use Rattle.nm_words.proofs.NumberBits.{told}
 
 -- ---- the three parts behind the epoch
 
-abbrev pub noted : Layout → Memory → List ℕ
-noted L m = replicate (L.gap - 2) 0 ++ flat_map (λ o. note_word o ∷ replicate L.gap 0) m.notes
+abbrev pub announced : Layout → Memory → List ℕ
+announced L m = replicate (L.gap - 2) 0 ++ flat_map (λ o. announcement_word o ∷ replicate L.gap 0) m.announcements
 
 -- words that say nothing
 abbrev pub zeros : ℕ → List ℕ
@@ -26,9 +26,9 @@ zeros n = replicate n 0
 zeros_long : (n : ℕ) → length (zeros n) ≡ n
 zeros_long n = length-replicate n 0
 
--- a note with its gap
+-- an announcement with its gap
 abbrev pub spread : Layout → Option ℕ → List ℕ
-spread L o = note_word o ∷ zeros L.gap
+spread L o = announcement_word o ∷ zeros L.gap
 
 pub spread_words : (L : Layout) (o : Option ℕ) → length (spread L o) ≡ 1 + L.gap
 spread_words L o = omega (arith, zeros_long L.gap)
@@ -42,22 +42,22 @@ rowed L m = map (row_word m) (range_with_len 0 (rows L))
 pub four_words : (n : Node) → length (node_words n) ≡ 4
 four_words n = refl
 
--- where a note stands behind the epoch's word
-abbrev pub note_place : Layout → ℕ → ℕ
-note_place L w = L.gap - 2 + (1 + L.gap) * w
+-- where an announcement stands behind the epoch's word
+abbrev pub announcement_place : Layout → ℕ → ℕ
+announcement_place L w = L.gap - 2 + (1 + L.gap) * w
 
-pub noted_there : (L : Layout) (w : ℕ) → note_place L w ≡ length (zeros (L.gap - 2)) + ((1 + L.gap) * w + 0)
-noted_there L w = omega (arith, zeros_long (L.gap - 2))
+pub announced_there : (L : Layout) (w : ℕ) → announcement_place L w ≡ length (zeros (L.gap - 2)) + ((1 + L.gap) * w + 0)
+announced_there L w = omega (arith, zeros_long (L.gap - 2))
 
 module _ (L : Layout) (m : Memory) (fits : Fits L m) where
   -- with the epoch's word before them
-  pub noted_length : 1 + length (noted L m) ≡ behind_notes L L.workers
-  noted_length =
-      let all : length (flat_map (spread L) m.notes) ≡ (1 + L.gap) * L.workers = blocks_length (spread L) (1 + L.gap) (spread_words L) m.notes ∙ ap (λ n. (1 + L.gap) * n) fits.notes in
-      omega (arith, length-append (zeros (L.gap - 2)) (flat_map (spread L) m.notes), zeros_long (L.gap - 2), all)
+  pub announced_length : 1 + length (announced L m) ≡ behind_announcements L L.workers
+  announced_length =
+      let all : length (flat_map (spread L) m.announcements) ≡ (1 + L.gap) * L.workers = blocks_length (spread L) (1 + L.gap) (spread_words L) m.announcements ∙ ap (λ n. (1 + L.gap) * n) fits.announcements in
+      omega (arith, length-append (zeros (L.gap - 2)) (flat_map (spread L) m.announcements), zeros_long (L.gap - 2), all)
 
-  pub note_inside : (w : ℕ) → w < L.workers → note_place L w < length (noted L m)
-  note_inside w h = let within = note_within L w h in omega (arith, noted_length, within)
+  pub announcement_inside : (w : ℕ) → w < L.workers → announcement_place L w < length (announced L m)
+  announcement_inside w h = let within = announcement_within L w h in omega (arith, announced_length, within)
 
   pub nodes_length : length (drop 1 m.nodes) ≡ L.nodes
   nodes_length = omega (arith, length-drop 1 m.nodes, fits.nodes)
@@ -69,29 +69,29 @@ module _ (L : Layout) (m : Memory) (fits : Fits L m) where
   rowed_length = length-map-range_with_len (row_word m) 0 (rows L)
 
   pub all_words : length (words_of L m) ≡ words L
-  all_words = omega (arith, whole_length m.epoch (noted L m) (fours m) (rowed L m), noted_length, fours_length, rowed_length)
+  all_words = omega (arith, whole_length m.epoch (announced L m) (fours m) (rowed L m), announced_length, fours_length, rowed_length)
 
   -- slot s is the one before it of those from slot 1 on
   pub slot_of : (s : ℕ) → IsSlot L s → get_or (drop 1 m.nodes) (s - 1) blank ≡ node m s
   slot_of s h = get_or-drop 1 m.nodes (s - 1) blank ∙ ap (λ k. get_or m.nodes k blank) (omega (arith, h.0))
 
-  node_read : (s j n : ℕ) → IsSlot L s → j < 4 → n ≡ behind_notes L L.workers + 4 * (s - 1) + j → slice_index (words_of L m) n ≡ get_or (node_words (node m s)) j 0
+  node_read : (s j n : ℕ) → IsSlot L s → j < 4 → n ≡ behind_announcements L L.workers + 4 * (s - 1) + j → slice_index (words_of L m) n ≡ get_or (node_words (node m s)) j 0
   node_read s j n h below is =
-      second_read m.epoch (noted L m) (fours m) (rowed L m) n (4 * (s - 1) + j) (omega (arith, is, noted_length)) (omega (arith, fours_length, h.0, h.1, below))
+      second_read m.epoch (announced L m) (fours m) (rowed L m) n (4 * (s - 1) + j) (omega (arith, is, announced_length)) (omega (arith, fours_length, h.0, h.1, below))
       ∙ blocks_read node_words 4 four_words (drop 1 m.nodes) (s - 1) j blank below (omega (arith, nodes_length, h.0, h.1))
       ∙ ap (λ x. get_or (node_words x) j 0) (slot_of s h)
 
   pub row_read : (r : ℕ) → r < rows L → word_at L m (at_row r) ≡ row_word m r
   row_read r below =
-      third_read m.epoch (noted L m) (fours m) (rowed L m) (word L (at_row r)) r (omega (arith, noted_length, fours_length))
+      third_read m.epoch (announced L m) (fours m) (rowed L m) (word L (at_row r)) r (omega (arith, announced_length, fours_length))
       ∙ get_or-map-range_with_len (row_word m) 0 (rows L) r r 0 below (omega arith)
 
   pub field_read : (f : Field) → IsField L f → word_at L m f ≡ field_word m f
   field_read at_epoch h = refl
-  field_read (at_note w) h =
-      first_read m.epoch (noted L m) (fours m) (rowed L m) (word L (at_note w)) (note_place L w) (omega (arith, noted_there L w)) (note_inside w h)
-      ∙ ap (λ k. get_or (noted L m) k 0) (noted_there L w) ∙ get_or-append-add (zeros (L.gap - 2)) (flat_map (spread L) m.notes) ((1 + L.gap) * w + 0) 0
-      ∙ blocks_read (spread L) (1 + L.gap) (spread_words L) m.notes w 0 None (omega arith) (omega (arith, fits.notes, h))
+  field_read (at_announcement w) h =
+      first_read m.epoch (announced L m) (fours m) (rowed L m) (word L (at_announcement w)) (announcement_place L w) (omega (arith, announced_there L w)) (announcement_inside w h)
+      ∙ ap (λ k. get_or (announced L m) k 0) (announced_there L w) ∙ get_or-append-add (zeros (L.gap - 2)) (flat_map (spread L) m.announcements) ((1 + L.gap) * w + 0) 0
+      ∙ blocks_read (spread L) (1 + L.gap) (spread_words L) m.announcements w 0 None (omega arith) (omega (arith, fits.announcements, h))
   field_read (at_key s) h = node_read s 0 _ h (lit< tt) (omega arith)
   field_read (at_edge s Left) h = node_read s 1 _ h (lit< tt) refl
   field_read (at_edge s Right) h = node_read s 2 _ h (lit< tt) refl

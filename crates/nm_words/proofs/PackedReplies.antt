@@ -6,7 +6,7 @@ use Rattle.std.proofs.lemmas.Bool.{eq-eqb, ne_eqb}
 use Rattle.std.proofs.lemmas.Nat.{pow_pos}
 use Rattle.nm_edge.specs.Edges.{Edge, edge_in}
 use Rattle.nm_edge.specs.Layouts.{Layout}
-use Rattle.nm_edge.specs.Words.{at_note, at_key, at_edge, at_birth, IsField, IsSlot, pool_place}
+use Rattle.nm_edge.specs.Words.{at_announcement, at_key, at_edge, at_birth, IsField, IsSlot, pool_place}
 use Rattle.nm_edge.specs.declared.edge.Side.{Side}
 use Rattle.nm_edge.specs.declared.node.NodeId.{NodeId}
 use Rattle.nm_model.specs.declared.event.Event.{Event}
@@ -15,22 +15,22 @@ use Rattle.nm_model.specs.declared.event.Field.{Field as NodeField}
 use Rattle.nm_model.specs.declared.event.Field.TheVariants.{Key, Edge as EdgeOn, Birth}
 use Rattle.nm_model.specs.declared.reply.Reply.{Reply}
 use Rattle.nm_model.specs.declared.reply.Reply.TheVariants.{Claimed, Taken, KeyIs, BirthIs, EdgeIs, Flagged, Was, Cut, Lost}
-use Rattle.nm_model.specs.Memory.{Memory, node, edge, note, in_pool, named}
+use Rattle.nm_model.specs.Memory.{Memory, node, edge, announcement, in_pool, named}
 use Rattle.nm_model.specs.Knowledge.{way, cut_by}
 use Rattle.nm_model.specs.Step.{reply, reply_look, reply_scan, reply_exchange, refusal}
 use Rattle.nm_model.specs.Runs.{State, of, start, reply_of, after}
 use Rattle.nm_model.specs.Laws.{OfEachState}
-use Rattle.nm_words.specs.Packing.{Fits, note_word, word_at, pool_word_at, touched_field, field_of}
-use Rattle.nm_words.specs.Told.{Births, BirthsAreIn, noted_in, known_as, BirthsAreKnown, told, told_look, RepliesAreTold}
+use Rattle.nm_words.specs.Packing.{Fits, announcement_word, word_at, pool_word_at, touched_field, field_of}
+use Rattle.nm_words.specs.Told.{Births, BirthsAreIn, announced_in, known_as, BirthsAreKnown, told, told_look, RepliesAreTold}
 use Rattle.nm_laws.proofs.Steps.{Allowed, allowed, passed}
 use Rattle.nm_laws.proofs.Lawful.{IsLawful, lawful}
 use Rattle.nm_words.proofs.EdgeWords.{word_is_to, word_edge_in}
 use Rattle.nm_words.proofs.PackedReads.{field_read, each_bit_is_its_slot}
 use Rattle.nm_words.proofs.PackedEvents.{fits_of, touches_field, range}
 
-noted_word : (o : Option ℕ) → noted_in (note_word o) ≡ o
-noted_word None = refl
-noted_word (Some e) = ap₂ (λ (b : Bool) (n : ℕ). cond b None (Some n)) (ne_eqb (e + 1) 0 (λ z. absurd (omega (arith, z)))) (omega arith)
+announced_word : (o : Option ℕ) → announced_in (announcement_word o) ≡ o
+announced_word None = refl
+announced_word (Some e) = ap₂ (λ (b : Bool) (n : ℕ). cond b None (Some n)) (ne_eqb (e + 1) 0 (λ z. absurd (omega (arith, z)))) (omega arith)
 
 -- the answer to a look
 look_told : (L : Layout) (m : Memory) (s : ℕ) (f : NodeField) → Fits L m → IsField L (field_of s f) → reply_look (node m s) f ≡ told_look f (word_at L m (field_of s f))
@@ -79,7 +79,7 @@ module _ (s : State) (k : IsLawful s) (w : ℕ) (births : Births) (stand : Birth
       go Announce ok at known = refl
       go Leave ok at known = refl
       go (LeaveWith answer) ok at known = refl
-      go (Scan u) ok at known = ap reply_scan (sym (ap noted_in (field_read s.layout s.memory fits (at_note u) at) ∙ noted_word (note s.memory u)))
+      go (Scan u) ok at known = ap reply_scan (sym (ap announced_in (field_read s.layout s.memory fits (at_announcement u) at) ∙ announced_word (announcement s.memory u)))
       go Advance ok at known = refl
       go (Claim x) ok at known = claim_told s.layout s.memory x fits (range s k.holder k.law w x (passed _ _ _ ok.event).0)
       go (Give x) ok at known = refl

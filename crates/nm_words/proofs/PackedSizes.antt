@@ -6,7 +6,7 @@ use Rattle.std.proofs.lemmas.Bool.{cond_both, or_parts, leb-false, eqb-false, eq
 use Rattle.std.proofs.lemmas.Option.{none-some, same_Some}
 use Rattle.nm_edge.specs.Edges.{Edge, is_to}
 use Rattle.nm_edge.specs.Layouts.{Layout}
-use Rattle.nm_edge.specs.Words.{Field, at_epoch, at_note, at_key, at_edge, at_birth, at_row}
+use Rattle.nm_edge.specs.Words.{Field, at_epoch, at_announcement, at_key, at_edge, at_birth, at_row}
 use Rattle.nm_edge.specs.declared.edge.Side.{Side}
 use Rattle.nm_edge.specs.declared.edge.Side.TheVariants.{Left, Right}
 use Rattle.nm_model.specs.declared.event.Event.{Event}
@@ -17,12 +17,12 @@ use Rattle.nm_model.specs.declared.memory.Node.{Node}
 use Rattle.nm_model.specs.declared.reply.Refused.{Refused}
 use Rattle.nm_model.specs.declared.reply.Refused.TheVariants.{NoSlot, NotPrivate, NotReady, Spent}
 use Rattle.nm_model.specs.Maps.{is_number}
-use Rattle.nm_model.specs.Memory.{Memory, blank, node, edge, note, put_node, put_edge}
+use Rattle.nm_model.specs.Memory.{Memory, blank, node, edge, announcement, put_node, put_edge}
 use Rattle.nm_model.specs.Knowledge.{Knowledge, is_private, draft_of}
 use Rattle.nm_model.specs.Step.{last_number, outside, is_edge, is_early, is_held_back, others_scanned, exchanged, filled, refusal, write}
 use Rattle.nm_model.specs.Runs.{State, of, start, refusal_of, refused, applied, unless_refused, next, after}
 use Rattle.nm_model.specs.Laws.{OfEachState}
-use Rattle.nm_words.specs.Packing.{Fits, InRange, note_word, field_word, StoresAWord, WordsStayBelow, StateIsInRange, WordsAreBelow}
+use Rattle.nm_words.specs.Packing.{Fits, InRange, announcement_word, field_word, StoresAWord, WordsStayBelow, StateIsInRange, WordsAreBelow}
 use Rattle.nm_model.proofs.Numbers.{number_is, repeated}
 use Rattle.nm_laws.proofs.Steps.{Allowed, second, third, fourth, by_steps}
 use Rattle.nm_laws.proofs.Lawful.{IsLawful, lawful_start, lawful_step}
@@ -42,13 +42,13 @@ bit_sum false false = lit< tt
 pub words_below : WordsAreBelow
 words_below L m f fits range few keys h = rw (field_read L m fits f h) (go f)
   where
-    note_below : (o : Option ℕ) → ((e : ℕ) → o ≡ Some e → e ≤ last_number) → note_word o < 2 ^ 64
-    note_below None h = lit< tt
-    note_below (Some e) h = omega (arith, h e refl)
+    announcement_below : (o : Option ℕ) → ((e : ℕ) → o ≡ Some e → e ≤ last_number) → announcement_word o < 2 ^ 64
+    announcement_below None h = lit< tt
+    announcement_below (Some e) h = omega (arith, h e refl)
 
     go : (f : Field) → field_word m f < 2 ^ 64
     go at_epoch = omega (arith, range.epoch)
-    go (at_note w) = note_below (note m w) (range.notes w)
+    go (at_announcement w) = announcement_below (announcement m w) (range.announcements w)
     go (at_key s) = keys s
     go (at_edge s side) = omega (arith, range.edges s side, few, bit_sum (edge m s side).flag (edge m s side).tag)
     go (at_birth s) = omega (arith, range.births s)
@@ -64,20 +64,20 @@ set_keeps P (y ∷ xs) zero (suc j) x d new old = old
 set_keeps P (y ∷ xs) (suc i) zero x d new old = old
 set_keeps P (y ∷ xs) (suc i) (suc j) x d new old = set_keeps P xs i j x d new old
 
--- epochs, notes and births
+-- epochs, announcements and births
 pub record Small (m : Memory) : Type 0 where
   pub epoch : m.epoch ≤ last_number
-  pub notes : (w e : ℕ) → note m w ≡ Some e → e ≤ last_number
+  pub announcements : (w e : ℕ) → announcement m w ≡ Some e → e ≤ last_number
   pub births : (s : ℕ) → (node m s).birth ≤ last_number
 
 abbrev IsSmall : Option ℕ → Type 0
 IsSmall o = (e : ℕ) → o ≡ Some e → e ≤ last_number
 
-note_small : (m : Memory) (w : ℕ) (o : Option ℕ) → Small m → IsSmall o → Small (record m { notes = set m.notes w o })
-note_small m w o small new = record { epoch = small.epoch; notes = λ u. set_keeps IsSmall m.notes w u o None new (small.notes u); births = small.births }
+announcement_small : (m : Memory) (w : ℕ) (o : Option ℕ) → Small m → IsSmall o → Small (record m { announcements = set m.announcements w o })
+announcement_small m w o small new = record { epoch = small.epoch; announcements = λ u. set_keeps IsSmall m.announcements w u o None new (small.announcements u); births = small.births }
 
 node_small : (m : Memory) (s : ℕ) (x : Node) → Small m → x.birth ≤ last_number → Small (put_node m s x)
-node_small m s x small new = record { epoch = small.epoch; notes = small.notes; births = λ q. set_keeps (λ (y : Node). y.birth ≤ last_number) m.nodes s q x blank new (small.births q) }
+node_small m s x small new = record { epoch = small.epoch; announcements = small.announcements; births = λ q. set_keeps (λ (y : Node). y.birth ≤ last_number) m.nodes s q x blank new (small.births q) }
 
 edge_small : (m : Memory) (s : ℕ) (side : Side) (e : Edge) → Small m → Small (put_edge m s side e)
 edge_small m s Left e small = node_small m s _ small (small.births s)
@@ -87,7 +87,7 @@ exchange_small : (m : Memory) (p : ℕ) (side : Side) (s : ℕ) (e : Edge) → S
 exchange_small m p side s e small = cond_both (is_to (edge m p side) s) (put_edge m p side e) m Small (λ _. edge_small m p side e small) (λ _. small)
 
 same_pool : (m : Memory) (bs : List Bool) → Small m → Small (record m { pool = bs })
-same_pool m bs small = record { epoch = small.epoch; notes = small.notes; births = small.births }
+same_pool m bs small = record { epoch = small.epoch; announcements = small.announcements; births = small.births }
 
 module _ (s : State) (k : IsLawful s) (small : Small s.memory) (w : ℕ) where
   seen_small : (o : Option ℕ) → (of s w).brief.seen ≡ o → IsSmall (Some (unwrap_or o 0))
@@ -101,12 +101,12 @@ module _ (s : State) (k : IsLawful s) (small : Small s.memory) (w : ℕ) where
       go : (e : Event) → refusal_of s w e ≡ None → Small (write s.memory (of s w) w e)
       go Sight ok = small
       go (SightFor op key) ok = small
-      go Announce ok = note_small s.memory w _ small (seen_small (of s w).brief.seen refl)
-      go Leave ok = note_small s.memory w None small (λ e at. absurd (none-some e at))
-      go (LeaveWith answer) ok = note_small s.memory w None small (λ e at. absurd (none-some e at))
+      go Announce ok = announcement_small s.memory w _ small (seen_small (of s w).brief.seen refl)
+      go Leave ok = announcement_small s.memory w None small (λ e at. absurd (none-some e at))
+      go (LeaveWith answer) ok = announcement_small s.memory w None small (λ e at. absurd (none-some e at))
       go (Scan u) ok = small
       go Advance ok = cond_both (is_number (of s w).brief.seen s.memory.epoch) (record s.memory { epoch = s.memory.epoch + 1 }) s.memory Small
-          (λ same. record { epoch = moved same; notes = small.notes; births = small.births }) (λ _. small)
+          (λ same. record { epoch = moved same; announcements = small.announcements; births = small.births }) (λ _. small)
         where
           unspent : nat_le last_number (unwrap_or (of s w).brief.seen 0) ≡ false
           unspent = second (is_none (of s w).brief.seen || (not (others_scanned w (of s w).scanned) || is_held_back (of s w).brief.pin (of s w).brief.seen)) (nat_le last_number (unwrap_or (of s w).brief.seen 0)) NotReady Spent _ ok
@@ -147,7 +147,7 @@ unfolding applied
 keeps_small s w e both ok = record { lawful = lawful_step s w e both.lawful ok; small = small_step s both.lawful both.small w e ok }
 
 small_start : (L : Layout) → Small (start L).memory
-small_start L = record { epoch = omega arith; notes = λ w e is. absurd (none-some e (sym (repeated L.workers w None) ∙ is)); births = births }
+small_start L = record { epoch = omega arith; announcements = λ w e is. absurd (none-some e (sym (repeated L.workers w None) ∙ is)); births = births }
   where
     births : (x : ℕ) → (node (start L).memory x).birth ≤ last_number
     births zero = omega arith
@@ -161,7 +161,7 @@ small_start L = record { epoch = omega arith; notes = λ w e is. absurd (none-so
 pub each_state_in_range : OfEachState StateIsInRange
 each_state_in_range L enough turns =
     let both = by_steps IsLawfulAndSmall keeps_small turns (start L) (record { lawful = lawful_start L enough; small = small_start L }) in
-    record { epoch = both.small.epoch; notes = both.small.notes; births = both.small.births; edges = both.lawful.law.tree.within }
+    record { epoch = both.small.epoch; announcements = both.small.announcements; births = both.small.births; edges = both.lawful.law.tree.within }
 
 -- ---- keys
 

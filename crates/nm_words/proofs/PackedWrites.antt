@@ -5,34 +5,34 @@ use Rattle.std.proofs.lemmas.List.{drop-set-add}
 use Rattle.std.proofs.lemmas.Bool.{cases_lt}
 use Rattle.nm_edge.specs.Edges.{word_of}
 use Rattle.nm_edge.specs.Layouts.{Layout}
-use Rattle.nm_edge.specs.Words.{at_note, at_key, at_edge, at_birth, IsSlot, behind_notes, rows, word, pool_place}
+use Rattle.nm_edge.specs.Words.{at_announcement, at_key, at_edge, at_birth, IsSlot, behind_announcements, rows, word, pool_place}
 use Rattle.nm_edge.specs.declared.edge.Side.TheVariants.{Left, Right}
 use Rattle.nm_model.specs.declared.memory.Node.{Node}
 use Rattle.nm_model.specs.Memory.{Memory, node, blank, put_node}
-use Rattle.nm_words.specs.Packing.{Fits, note_word, node_words, number_of, row_word, words_of, pool_word_at, with_pool_word, EpochIsOneWord, NoteIsOneWord, KeyIsOneWord, EdgeIsOneWord, BirthIsOneWord, TakingClearsABit, GivingSetsABit}
+use Rattle.nm_words.specs.Packing.{Fits, announcement_word, node_words, number_of, row_word, words_of, pool_word_at, with_pool_word, EpochIsOneWord, AnnouncementIsOneWord, KeyIsOneWord, EdgeIsOneWord, BirthIsOneWord, TakingClearsABit, GivingSetsABit}
 use Rattle.nm_words.proofs.Blocks.{set-append-add, blocks_written, first_written, second_written, third_written, one_changed, window_written, window_before, window_behind}
 use Rattle.nm_words.proofs.NumberBits.{given, cleared}
 use Rattle.nm_laws.proofs.TreeSlots.{put_pool}
-use Rattle.nm_words.proofs.PackedReads.{noted, zeros, spread, spread_words, note_place, noted_there, note_inside, fours, rowed, four_words, noted_length, nodes_length, fours_length, slot_of, in_row, row_read}
+use Rattle.nm_words.proofs.PackedReads.{announced, zeros, spread, spread_words, announcement_place, announced_there, announcement_inside, fours, rowed, four_words, announced_length, nodes_length, fours_length, slot_of, in_row, row_read}
 
 pub epoch_written : EpochIsOneWord
 epoch_written L m e = refl
 
-pub note_written : NoteIsOneWord
-note_written L m w o fits h =
+pub announcement_written : AnnouncementIsOneWord
+announcement_written L m w o fits h =
     ap (λ l. m.epoch ∷ (l ++ (fours m ++ rowed L m)))
-    (ap (λ l. zeros (L.gap - 2) ++ l) (blocks_written (spread L) (1 + L.gap) (spread_words L) m.notes w 0 (note_word o) None o (omega arith) (omega (arith, fits.notes, h)) refl)
-    ∙ sym (set-append-add (zeros (L.gap - 2)) (flat_map (spread L) m.notes) ((1 + L.gap) * w + 0) (note_word o)) ∙ ap (λ k. set (noted L m) k (note_word o)) (sym (noted_there L w)))
-    ∙ first_written m.epoch (noted L m) (fours m) (rowed L m) (word L (at_note w)) (note_place L w) (note_word o) (omega arith) (note_inside L m fits w h)
+    (ap (λ l. zeros (L.gap - 2) ++ l) (blocks_written (spread L) (1 + L.gap) (spread_words L) m.announcements w 0 (announcement_word o) None o (omega arith) (omega (arith, fits.announcements, h)) refl)
+    ∙ sym (set-append-add (zeros (L.gap - 2)) (flat_map (spread L) m.announcements) ((1 + L.gap) * w + 0) (announcement_word o)) ∙ ap (λ k. set (announced L m) k (announcement_word o)) (sym (announced_there L w)))
+    ∙ first_written m.epoch (announced L m) (fours m) (rowed L m) (word L (at_announcement w)) (announcement_place L w) (announcement_word o) (omega arith) (announcement_inside L m fits w h)
 
 -- ---- nodes
 
 -- another node that differs from the one in the slot in its j-th word
-node_written : (L : Layout) (m : Memory) (s j n v : ℕ) (x : Node) → Fits L m → IsSlot L s → j < 4 → n ≡ behind_notes L L.workers + 4 * (s - 1) + j
+node_written : (L : Layout) (m : Memory) (s j n v : ℕ) (x : Node) → Fits L m → IsSlot L s → j < 4 → n ≡ behind_announcements L L.workers + 4 * (s - 1) + j
     → node_words x ≡ set (node_words (node m s)) j v → words_of L (put_node m s x) ≡ slice_set (words_of L m) n v
 node_written L m s j n v x fits h below at is =
-    ap (λ l. m.epoch ∷ (noted L m ++ (l ++ rowed L m))) (ap (flat_map node_words) moved ∙ blocks_written node_words 4 four_words (drop 1 m.nodes) (s - 1) j v blank x below inside same)
-    ∙ second_written m.epoch (noted L m) (fours m) (rowed L m) n (4 * (s - 1) + j) v (omega (arith, at, noted_length L m fits)) (omega (arith, fours_length L m fits, h.0, h.1, below))
+    ap (λ l. m.epoch ∷ (announced L m ++ (l ++ rowed L m))) (ap (flat_map node_words) moved ∙ blocks_written node_words 4 four_words (drop 1 m.nodes) (s - 1) j v blank x below inside same)
+    ∙ second_written m.epoch (announced L m) (fours m) (rowed L m) n (4 * (s - 1) + j) v (omega (arith, at, announced_length L m fits)) (omega (arith, fours_length L m fits, h.0, h.1, below))
   where
     inside : s - 1 < length (drop 1 m.nodes)
     inside = omega (arith, nodes_length L m fits, h.0, h.1)
@@ -78,8 +78,8 @@ module _ (L : Layout) (m : Memory) (s : ℕ) (b : Bool) (fits : Fits L m) (h : I
 
   pub row_written : words_of L (put_pool m s b) ≡ with_pool_word L m s (number_of (set (bits m row) place b))
   row_written =
-      ap (λ l. m.epoch ∷ (noted L m ++ (fours m ++ l))) (one_changed (row_word m) (row_word (put_pool m s b)) (rows L) row (omega (arith, h.0, h.1)) elsewhere ∙ ap (λ l. set (rowed L m) row (number_of l)) here)
-      ∙ third_written m.epoch (noted L m) (fours m) (rowed L m) (pool_place L s).word row _ (omega (arith, noted_length L m fits, fours_length L m fits))
+      ap (λ l. m.epoch ∷ (announced L m ++ (fours m ++ l))) (one_changed (row_word m) (row_word (put_pool m s b)) (rows L) row (omega (arith, h.0, h.1)) elsewhere ∙ ap (λ l. set (rowed L m) row (number_of l)) here)
+      ∙ third_written m.epoch (announced L m) (fours m) (rowed L m) (pool_place L s).word row _ (omega (arith, announced_length L m fits, fours_length L m fits))
 
   pub place_inside : place < length (bits m row)
   place_inside = omega (arith, length-take 64 (drop (64 * row + 1) m.pool), length-drop (64 * row + 1) m.pool, fits.pool, h.0, h.1)

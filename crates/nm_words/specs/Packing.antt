@@ -3,7 +3,7 @@ use Rattle.std.specs.Prelude.{◌≡◌, ℕ, ◌+◌, ◌-◌, ◌*◌, ◌/◌
 use Rattle.std.specs.List.{range_with_len}
 use Rattle.nm_edge.specs.Edges.{Edge, IsEdge, word_of}
 use Rattle.nm_edge.specs.Layouts.{Layout, dense}
-use Rattle.nm_edge.specs.Words.{Field, at_epoch, at_note, at_key, at_edge, at_birth, at_row, IsField, IsSlot, rows, word, words, pool_place}
+use Rattle.nm_edge.specs.Words.{Field, at_epoch, at_announcement, at_key, at_edge, at_birth, at_row, IsField, IsSlot, rows, word, words, pool_place}
 use Rattle.nm_edge.specs.declared.edge.Side.{Side}
 use Rattle.nm_model.specs.declared.event.Event.{Event}
 use Rattle.nm_model.specs.declared.event.Event.TheVariants.{Sight, SightFor, Announce, Leave, LeaveWith, Scan, Advance, Claim, Give, Look, Fill, Link, Flag, Tag, Splice, Join}
@@ -11,23 +11,23 @@ use Rattle.nm_model.specs.declared.event.Field.{Field as NodeField}
 use Rattle.nm_model.specs.declared.event.Field.TheVariants.{Key, Edge as EdgeOn, Birth}
 use Rattle.nm_model.specs.declared.memory.Node.{Node}
 use Rattle.nm_model.specs.Maps.{is_number}
-use Rattle.nm_model.specs.Memory.{Memory, node, edge, note, in_pool, put_node, put_edge, opening}
+use Rattle.nm_model.specs.Memory.{Memory, node, edge, announcement, in_pool, put_node, put_edge, opening}
 use Rattle.nm_model.specs.Knowledge.{Knowledge, read}
 use Rattle.nm_model.specs.Step.{kept, last_number}
 use Rattle.nm_model.specs.Runs.{State, of, start, next, after, refused}
 
 -- its lists are as long as the layout says, slot 0 counted
 pub record Fits (L : Layout) (m : Memory) : Type 0 where
-  pub notes : length m.notes ≡ L.workers
+  pub announcements : length m.announcements ≡ L.workers
   pub nodes : length m.nodes ≡ L.nodes + 1
   pub pool : length m.pool ≡ L.nodes + 1
 
 -- ---- packing
 
--- the word of a note: 0 of an idle worker, else the epoch that it announces and one more
-abbrev pub note_word : Option ℕ → ℕ
-note_word None = 0
-note_word (Some e) = e + 1
+-- the word of an announcement: 0 of an idle worker, else the epoch that it announces and one more
+abbrev pub announcement_word : Option ℕ → ℕ
+announcement_word None = 0
+announcement_word (Some e) = e + 1
 
 -- the four words of a node
 abbrev pub node_words : Node → List ℕ
@@ -42,16 +42,17 @@ number_of (b ∷ bs) = number_of bs * 2 + (if b then 1 else 0)
 abbrev pub row_word : Memory → ℕ → ℕ
 row_word m r = number_of (take 64 (drop (64 * r + 1) m.pool))
 
--- all words of a memory in one list: the epoch; the notes, 0 of an idle worker, else its epoch and
--- 1, each with its gap of zeros behind it, and zeros before the first where there are gaps; of each
--- slot from 1 on its key, its two edges and its birth; and the pool in rows of 64 slots
+-- all words of a memory in one list: the epoch; the announcements, 0 of an idle worker, else its
+-- epoch and 1, each with its gap of zeros behind it, and zeros before the first where there are
+-- gaps; of each slot from 1 on its key, its two edges and its birth; and the pool in rows of 64
+-- slots
 abbrev pub words_of : Layout → Memory → List ℕ
-words_of L m = m.epoch ∷ ((replicate (L.gap - 2) 0 ++ flat_map (λ o. note_word o ∷ replicate L.gap 0) m.notes) ++ (flat_map node_words (drop 1 m.nodes) ++ map (row_word m) (range_with_len 0 (rows L))))
+words_of L m = m.epoch ∷ ((replicate (L.gap - 2) 0 ++ flat_map (λ o. announcement_word o ∷ replicate L.gap 0) m.announcements) ++ (flat_map node_words (drop 1 m.nodes) ++ map (row_word m) (range_with_len 0 (rows L))))
 
 -- the word of one field, by the memory
 abbrev pub field_word : Memory → Field → ℕ
 field_word m at_epoch = m.epoch
-field_word m (at_note w) = note_word (note m w)
+field_word m (at_announcement w) = announcement_word (announcement m w)
 field_word m (at_key s) = (node m s).key
 field_word m (at_edge s side) = word_of (edge m s side)
 field_word m (at_birth s) = (node m s).birth
@@ -107,16 +108,17 @@ with_word L m f n = slice_set (words_of L m) (word L f) n
 abbrev pub with_pool_word : Layout → Memory → ℕ → ℕ → List ℕ
 with_pool_word L m s n = slice_set (words_of L m) (pool_place L s).word n
 
--- `EpochIsOneWord`, `NoteIsOneWord`, `KeyIsOneWord`, `EdgeIsOneWord`, `BirthIsOneWord`: a memory
--- with another epoch, note, key, edge or birth has that one word changed, and no other
+-- `EpochIsOneWord`, `AnnouncementIsOneWord`, `KeyIsOneWord`, `EdgeIsOneWord`, `BirthIsOneWord`: a
+-- memory with another epoch, announcement, key, edge or birth has that one word changed, and no
+-- other
 abbrev pub EpochIsOneWord : Type 0
 EpochIsOneWord = (L : Layout) (m : Memory) (e : ℕ)
     → words_of L (record m { epoch = e }) ≡ with_word L m at_epoch e
 
-abbrev pub NoteIsOneWord : Type 0
-NoteIsOneWord = (L : Layout) (m : Memory) (w : ℕ) (o : Option ℕ) → Fits L m → w < L.workers
-    → words_of L (record m { notes = slice_set m.notes w o })
-    ≡ with_word L m (at_note w) (note_word o)
+abbrev pub AnnouncementIsOneWord : Type 0
+AnnouncementIsOneWord = (L : Layout) (m : Memory) (w : ℕ) (o : Option ℕ) → Fits L m → w < L.workers
+    → words_of L (record m { announcements = slice_set m.announcements w o })
+    ≡ with_word L m (at_announcement w) (announcement_word o)
 
 abbrev pub KeyIsOneWord : Type 0
 KeyIsOneWord = (L : Layout) (m : Memory) (s key : ℕ) → Fits L m → IsSlot L s
@@ -159,10 +161,10 @@ row_of s = at_row ((s - 1) / 64)
 abbrev pub touched_field : ℕ → Event → Field
 touched_field w Sight = at_epoch
 touched_field w (SightFor op key) = at_epoch
-touched_field w Announce = at_note w
-touched_field w Leave = at_note w
-touched_field w (LeaveWith answer) = at_note w
-touched_field w (Scan u) = at_note u
+touched_field w Announce = at_announcement w
+touched_field w Leave = at_announcement w
+touched_field w (LeaveWith answer) = at_announcement w
+touched_field w (Scan u) = at_announcement u
 touched_field w Advance = at_epoch
 touched_field w (Claim s) = row_of s
 touched_field w (Give s) = row_of s
@@ -215,11 +217,11 @@ AtMostOneWordChanges s = (turn : ℕ × Event)
 
 -- ---- sizes
 
--- the numbers of a memory are those that its words have room for: epoch, notes and births are at
--- most 2^62, and edges lead to slots of the layout
+-- the numbers of a memory are those that its words have room for: epoch, announcements and births
+-- are at most 2^62, and edges lead to slots of the layout
 pub record InRange (L : Layout) (m : Memory) : Type 0 where
   pub epoch : m.epoch ≤ last_number
-  pub notes : (w e : ℕ) → note m w ≡ Some e → e ≤ last_number
+  pub announcements : (w e : ℕ) → announcement m w ≡ Some e → e ≤ last_number
   pub births : (s : ℕ) → (node m s).birth ≤ last_number
   pub edges : (s : ℕ) (side : Side) → (edge m s side).slot ≤ L.nodes
 

@@ -19,9 +19,9 @@ use Rattle.nm_model.specs.Step.{reply_sight, reply_scan, node_of, node_linked}
 use Rattle.nm_model.specs.Runs.{State, of, refused, reply_of}
 use Rattle.nm_words.specs.Packing.{word_at, touched_field}
 
--- what a note's word says
-abbrev pub noted_in : ℕ → Option ℕ
-noted_in n = if n == 0 then None else Some (n - 1)
+-- what an announcement's word says
+abbrev pub announced_in : ℕ → Option ℕ
+announced_in n = if n == 0 then None else Some (n - 1)
 
 -- the births that are known, by slot: however their worker came to know them
 abbrev pub Births : Type 0
@@ -58,7 +58,7 @@ told L k births (SightFor op key) n = reply_sight k n
 told L k births Announce n = Announced (unwrap_or k.brief.seen 0)
 told L k births Leave n = Departed
 told L k births (LeaveWith answer) n = Departed
-told L k births (Scan u) n = reply_scan (noted_in n)
+told L k births (Scan u) n = reply_scan (announced_in n)
 told L k births Advance n = if is_number k.brief.seen n then Moved (n + 1) else Behind n
 told L k births (Claim s) n = if bit_and n (pool_place L s).mask == 0 then Taken else Claimed s
 told L k births (Give s) n = if is_private k s then Returned s

@@ -1,7 +1,7 @@
 //! A whole memory as its words, in the order of the layout: what each word tells, and what each
 //! write changes.
 ghost use Rattle.nm_model.specs.Laws.{OfEachState};
-ghost use Rattle.nm_words.specs.Packing.{AtMostOneWordChanges, BirthIsOneWord, EachBitIsItsSlot, EachFieldHasAWord, EachWordIsItsField, EdgeIsOneWord, EpochIsOneWord, EventsTouchOneWord, FixedBitsAreZero, GivingSetsABit, KeyIsOneWord, NoteIsOneWord, NullEdgesAreUnmarked, OpeningOf135, SpareBitsAreZero, StateFits, StateIsInRange, TakingClearsABit, WordsAreBelow, WordsStayBelow};
+ghost use Rattle.nm_words.specs.Packing.{AtMostOneWordChanges, BirthIsOneWord, EachBitIsItsSlot, EachFieldHasAWord, EachWordIsItsField, EdgeIsOneWord, EpochIsOneWord, EventsTouchOneWord, FixedBitsAreZero, GivingSetsABit, KeyIsOneWord, AnnouncementIsOneWord, NullEdgesAreUnmarked, OpeningOf135, SpareBitsAreZero, StateFits, StateIsInRange, TakingClearsABit, WordsAreBelow, WordsStayBelow};
 ghost use Rattle.nm_words.specs.Told.{RepliesAreTold};
 
 /// Of a memory whose lists are as long as the layout says, there are as many words as the layout
@@ -18,12 +18,12 @@ pub fn words_tell_the_memory()
     ensures opening { OpeningOf135 }
 {}
 
-/// Writing one field changes its word and no other: the epoch, a note, and of a slot its key, an
-/// edge or its birth. A slot that leaves the pool clears its bit of one word, and one that comes to
-/// it sets that bit.
+/// Writing one field changes its word and no other: the epoch, an announcement, and of a slot its
+/// key, an edge or its birth. A slot that leaves the pool clears its bit of one word, and one that
+/// comes to it sets that bit.
 pub fn writes_change_one_word()
     ensures epoch { EpochIsOneWord }
-    ensures note { NoteIsOneWord }
+    ensures announcement { AnnouncementIsOneWord }
     ensures key { KeyIsOneWord }
     ensures edge { EdgeIsOneWord }
     ensures birth { BirthIsOneWord }
@@ -42,9 +42,9 @@ pub fn events_touch_one_word()
     ensures most { OfEachState AtMostOneWordChanges }
 {}
 
-/// In every run the epoch, the notes and the births are at most 2^62, no edge leads to a slot above
-/// the last one, and no null edge has a mark. Where keys are below 2^64 too, each word is; so each
-/// is in every run whose fills store keys below 2^64.
+/// In every run the epoch, the announcements and the births are at most 2^62, no edge leads to a
+/// slot above the last one, and no null edge has a mark. Where keys are below 2^64 too, each word
+/// is; so each is in every run whose fills store keys below 2^64.
 pub fn words_have_room()
     ensures range { OfEachState StateIsInRange }
     ensures marks { OfEachState NullEdgesAreUnmarked }

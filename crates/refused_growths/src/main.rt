@@ -9,7 +9,7 @@ ghost use Rattle.nm_tree.specs.Calls.{MayCall};
 
 use anyhow::{Context, Result};
 use nm_edge::Key;
-use nm_tree::{CloseReason, Fault, NewError, Report, Tree, Worker};
+use nm_tree::{CallFault, CloseReason, NewError, Report, Tree, Worker};
 use std::alloc::Global;
 
 const TRIES: u32 = 4;
@@ -37,7 +37,7 @@ fn open(alloc: Global) -> Result<(Tree, Worker, Worker, Vec<Worker>)>
 
 /// What a call must leave where it is refused: whether the key is in the set, and how many nodes
 /// wait.
-fn seen(tree: &Tree, worker: &mut Worker, key: Key) -> (Result<bool, Fault>, u64)
+fn seen(tree: &Tree, worker: &mut Worker, key: Key) -> (Result<bool, CallFault>, u64)
     requires { MayCall tree.now worker.old }
     ensures { MayCall tree.now worker.new }
 {
@@ -46,13 +46,13 @@ fn seen(tree: &Tree, worker: &mut Worker, key: Key) -> (Result<bool, Fault>, u64
 
 /// Inserts a key, once more where memory was refused. `None`: the refused call has changed
 /// something.
-fn insert(tree: &Tree, worker: &mut Worker, key: Key) -> Option<Result<bool, Fault>>
+fn insert(tree: &Tree, worker: &mut Worker, key: Key) -> Option<Result<bool, CallFault>>
     requires { MayCall tree.now worker.old }
     ensures { MayCall tree.now worker.new }
 {
     let before = seen(tree, worker, key);
     let answer = tree.insert(worker, key, TRIES);
-    if answer != Err(Fault::NoMemory) {
+    if answer != Err(CallFault::NoMemory) {
         return Some(answer);
     }
     if seen(tree, worker, key) != before {
@@ -63,16 +63,16 @@ fn insert(tree: &Tree, worker: &mut Worker, key: Key) -> Option<Result<bool, Fau
 
 /// Deletes a key, once more where memory was refused, and finishes what it left. `None`: the
 /// refused call has changed something.
-fn delete(tree: &Tree, worker: &mut Worker, key: Key) -> Option<Result<bool, Fault>>
+fn delete(tree: &Tree, worker: &mut Worker, key: Key) -> Option<Result<bool, CallFault>>
     requires { MayCall tree.now worker.old }
     ensures { MayCall tree.now worker.new }
 {
     let before = seen(tree, worker, key);
     let answer = tree.delete(worker, key, TRIES);
-    if answer == Err(Fault::Unfinished) {
+    if answer == Err(CallFault::Unfinished) {
         return Some(tree.finish(worker, TRIES));
     }
-    if answer != Err(Fault::NoMemory) {
+    if answer != Err(CallFault::NoMemory) {
         return Some(answer);
     }
     if seen(tree, worker, key) != before {
@@ -91,19 +91,19 @@ fn help(
     flagging: &mut Worker,
     helping: &mut Worker,
     key: Key,
-) -> Option<[Result<bool, Fault>; 3]>
+) -> Option<[Result<bool, CallFault>; 3]>
     requires flagging { MayCall tree.now flagging.old }
     requires helping { MayCall tree.now helping.old }
     ensures flagging { MayCall tree.now flagging.new }
     ensures helping { MayCall tree.now helping.new }
 {
     let mut flagged = tree.delete(flagging, key, 1);
-    if flagged == Err(Fault::NoMemory) {
+    if flagged == Err(CallFault::NoMemory) {
         flagged = tree.delete(flagging, key, 1);
     }
     let waiting = helping.queue_len();
     let mut helped = tree.delete(helping, key, TRIES);
-    if helped == Err(Fault::NoMemory) {
+    if helped == Err(CallFault::NoMemory) {
         let left = seen(tree, helping, key);
         if left != (Ok(true), waiting) && left != (Ok(false), waiting.saturating_add(2)) {
             return None;
@@ -125,15 +125,15 @@ fn drain(tree: &Tree, worker: &mut Worker) -> u64
 
 /// What the calls of a play answered at last, and how many nodes waited and were freed.
 #[derive(Clone, Copy)]
-struct Played {
-    answers: [Option<Result<bool, Fault>>; 5],
-    helped: Option<[Result<bool, Fault>; 3]>,
+struct PlayAnswers {
+    answers: [Option<Result<bool, CallFault>>; 5],
+    helped: Option<[Result<bool, CallFault>; 3]>,
     waiting: (u64, u64),
     freed: (u64, u64),
 }
 
 /// Worker 0 inserts a key three times: it is deleted by worker 1, by both at once, and by worker 0.
-fn play(tree: &Tree, first: &mut Worker, second: &mut Worker, key: Key) -> Played
+fn play(tree: &Tree, first: &mut Worker, second: &mut Worker, key: Key) -> PlayAnswers
     requires first { MayCall tree.now first.old }
     requires second { MayCall tree.now second.old }
     ensures first { MayCall tree.now first.new }
@@ -147,7 +147,7 @@ fn play(tree: &Tree, first: &mut Worker, second: &mut Worker, key: Key) -> Playe
     let answers = [inserted, deleted, again, last, delete(tree, first, key)];
     let waiting = (first.queue_len(), second.queue_len());
     let freed = (drain(tree, first), drain(tree, second));
-    Played {
+    PlayAnswers {
         answers,
         helped,
         waiting,
@@ -181,7 +181,7 @@ fn close(tree: Tree, workers: Vec<Worker>) -> Option<Report>
 }
 
 /// Opens a tree, plays on it and closes it.
-fn play_anew(alloc: Global) -> Result<(Played, Report)> {
+fn play_anew(alloc: Global) -> Result<(PlayAnswers, Report)> {
     let (tree, mut first, mut second, workers) = open(alloc)?;
     let key = Key::new(5).context("a key")?;
     let played = play(&tree, &mut first, &mut second, key);

@@ -6,6 +6,7 @@ use crate::habits::Habits;
 use crate::load::{Load, Totals};
 use crate::trees::{fill_all, play_all};
 use anyhow::{Context, Result, ensure};
+use nm_edge::Layout;
 use nm_tree::{Fit, Report, Tree, Worker};
 use std::alloc::{AllocError, Global};
 use std::marker::Model;
@@ -91,13 +92,17 @@ impl Grown {
 
     /// An empty tree whose workers claim the lowest free slot.
     pub fn lowest(alloc: Global, nodes: u32, habits: Habits) -> Result<Grown> {
-        let (tree, workers) = Tree::spaced(alloc, nodes, habits.workers(), Fit::Lowest)?;
+        let (tree, workers) = Tree::of(
+            alloc,
+            Layout::spaced(nodes, habits.workers())?,
+            Fit::Lowest,
+        )?;
         Grown::of(alloc, tree, workers, habits)
     }
 
     /// An empty tree whose workers claim near by.
     pub fn near(alloc: Global, nodes: u32, habits: Habits) -> Result<Grown> {
-        let (tree, workers) = Tree::spaced(alloc, nodes, habits.workers(), Fit::Near)?;
+        let (tree, workers) = Tree::of(alloc, Layout::spaced(nodes, habits.workers())?, Fit::Near)?;
         Grown::of(alloc, tree, workers, habits)
     }
 

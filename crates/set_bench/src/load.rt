@@ -16,7 +16,7 @@ pub struct Load {
 
 /// A call, with its key.
 #[derive(Clone, Copy, Debug, PartialEq, Eq)]
-pub enum Call {
+pub enum SetCall {
     Has(Key),
     Insert(Key),
     Delete(Key),
@@ -124,16 +124,16 @@ pub fn key_of(number: u64) -> Option<Key> {
 
 impl Load {
     /// The call of a thread at that turn.
-    pub fn call(self, thread: u32, turn: u64) -> Option<Call> {
+    pub fn call(self, thread: u32, turn: u64) -> Option<SetCall> {
         let draw = mixed((u64::from(thread) << 40).wrapping_add(turn));
         let key = key_of((draw >> 20) % self.keys.max(1))?;
         let sort = draw % 200;
         if sort / 2 < self.lookups {
-            return Some(Call::Has(key));
+            return Some(SetCall::Has(key));
         }
         if sort % 2 == 0 {
-            return Some(Call::Insert(key));
+            return Some(SetCall::Insert(key));
         }
-        Some(Call::Delete(key))
+        Some(SetCall::Delete(key))
     }
 }

@@ -1,5 +1,5 @@
 //! Loads on a `BTreeSet` behind a `Mutex`.
-use crate::load::{Call, Done, Load, Tally, Totals, key_of};
+use crate::load::{Done, Load, SetCall, Tally, Totals, key_of};
 use anyhow::{Context, Result};
 use std::alloc::{AllocError, Global};
 use std::collections::BTreeSet;
@@ -14,12 +14,12 @@ pub struct Locked {
 }
 
 /// Makes a call, and tells what came of it.
-fn make(rt: &impl Wait, keys: &Mutex<BTreeSet<u64>>, call: Call) -> Result<Done, AllocError> {
+fn make(rt: &impl Wait, keys: &Mutex<BTreeSet<u64>>, call: SetCall) -> Result<Done, AllocError> {
     let mut keys = keys.lock(rt);
     let (answer, done) = match call {
-        Call::Has(key) => (keys.contains(&key.get()), Done::Found),
-        Call::Insert(key) => (keys.insert(key.get())?, Done::Inserted),
-        Call::Delete(key) => (keys.remove(&key.get()), Done::Deleted),
+        SetCall::Has(key) => (keys.contains(&key.get()), Done::Found),
+        SetCall::Insert(key) => (keys.insert(key.get())?, Done::Inserted),
+        SetCall::Delete(key) => (keys.remove(&key.get()), Done::Deleted),
     };
     Ok(if answer { done } else { Done::Nothing })
 }

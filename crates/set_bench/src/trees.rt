@@ -3,8 +3,8 @@ ghost use Rattle.std.specs.Prelude.{All, IfOk};
 ghost use Rattle.nm_tree.specs.Calls.{MayCall};
 
 use crate::habits::{Habits, THREADS};
-use crate::load::{Call, Done, Load, Tally, Totals, key_of};
-use nm_tree::{Fault, Tree, Worker};
+use crate::load::{Done, Load, SetCall, Tally, Totals, key_of};
+use nm_tree::{CallFault, Tree, Worker};
 use std::alloc::AllocError;
 use std::thread::{self, Threads};
 
@@ -27,7 +27,7 @@ fn fill(tree: &Tree, mut worker: Worker, habits: Habits, keys: u64, totals: &Tot
         let Some(key) = key_of(number) else {
             continue;
         };
-        tally = tally.with(make(tree, &mut worker, Call::Insert(key)));
+        tally = tally.with(make(tree, &mut worker, SetCall::Insert(key)));
     }
     totals.add(tally);
     worker
@@ -62,23 +62,23 @@ fn tend(tree: &Tree, worker: &mut Worker)
 }
 
 /// Makes a call, or finishes a delete that was left unfinished, and tells what came of it.
-fn make(tree: &Tree, worker: &mut Worker, call: Call) -> Done
+fn make(tree: &Tree, worker: &mut Worker, call: SetCall) -> Done
     requires { MayCall tree.now worker.old }
     ensures { MayCall tree.now worker.new }
 {
     let (answer, done) = match call {
-        Call::Has(key) => (tree.has(worker, key, TRIES), Done::Found),
-        Call::Insert(key) => (tree.insert(worker, key, TRIES), Done::Inserted),
-        Call::Delete(key) => (tree.delete(worker, key, TRIES), Done::Deleted),
+        SetCall::Has(key) => (tree.has(worker, key, TRIES), Done::Found),
+        SetCall::Insert(key) => (tree.insert(worker, key, TRIES), Done::Inserted),
+        SetCall::Delete(key) => (tree.delete(worker, key, TRIES), Done::Deleted),
     };
     match answer {
         Ok(true) => done,
-        Err(Fault::Unfinished | Fault::Pending) => finish(tree, worker),
-        Err(Fault::Full) => {
+        Err(CallFault::Unfinished | CallFault::Pending) => finish(tree, worker),
+        Err(CallFault::Full) => {
             tend(tree, worker);
             Done::Nothing
         }
-        Ok(false) | Err(Fault::Busy | Fault::NoMemory) => Done::Nothing,
+        Ok(false) | Err(CallFault::Busy | CallFault::NoMemory) => Done::Nothing,
     }
 }
 

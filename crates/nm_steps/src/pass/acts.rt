@@ -6,13 +6,13 @@ ghost use Rattle.nm_steps.specs.Steps.{IsReadyFor, IsDone, Changes, IsBlind};
 ghost use Rattle.nm_steps.specs.Rows.{CanPass, HasPassed};
 
 use crate::pass::Shared;
-use crate::view::{Does, Doing, Passes, Passing, Place, Words};
+use crate::view::{Does, Doing, Passes, Passing, SharedTable, WorkerSeat};
 use nm_model::Event;
 use std::marker::Brand;
 
 impl Shared {
     /// Reads the word.
-    pub(crate) fn load(&self, seat: &mut Place, word: usize, event: Event) -> u64
+    pub(crate) fn load(&self, seat: &mut WorkerSeat, word: usize, event: Event) -> u64
         requires ready { IsReadyFor self.now seat.old event word }
         requires changes { Changes event seat.old.me.0 (λ n. n) }
         ensures { IsDone seat.old seat.new event result }
@@ -21,7 +21,7 @@ impl Shared {
     }
 
     /// Stores the word.
-    pub(crate) fn store(&self, seat: &mut Place, word: usize, new: u64, event: Event)
+    pub(crate) fn store(&self, seat: &mut WorkerSeat, word: usize, new: u64, event: Event)
         requires ready { IsReadyFor self.now seat.old event word }
         requires changes { Changes event seat.old.me.0 (λ n. new) }
         requires blind { IsBlind event seat.old.me.0 }
@@ -31,7 +31,7 @@ impl Shared {
     }
 
     /// Sets bits of the word; the word before.
-    pub(crate) fn mark(&self, seat: &mut Place, word: usize, mask: u64, event: Event) -> u64
+    pub(crate) fn mark(&self, seat: &mut WorkerSeat, word: usize, mask: u64, event: Event) -> u64
         requires ready { IsReadyFor self.now seat.old event word }
         requires changes { Changes event seat.old.me.0 (λ n. bit_or n mask) }
         ensures { IsDone seat.old seat.new event result }
@@ -40,7 +40,7 @@ impl Shared {
     }
 
     /// Keeps the bits of the mask alone; the word before.
-    pub(crate) fn clear(&self, seat: &mut Place, word: usize, mask: u64, event: Event) -> u64
+    pub(crate) fn clear(&self, seat: &mut WorkerSeat, word: usize, mask: u64, event: Event) -> u64
         requires ready { IsReadyFor self.now seat.old event word }
         requires changes { Changes event seat.old.me.0 (λ n. bit_and n mask) }
         ensures { IsDone seat.old seat.new event result }
@@ -51,7 +51,7 @@ impl Shared {
     /// Puts the new word in the place of the old one, if that stands there; the word before.
     pub(crate) fn exchange(
         &self,
-        seat: &mut Place,
+        seat: &mut WorkerSeat,
         word: usize,
         old: u64,
         new: u64,
@@ -66,7 +66,13 @@ impl Shared {
 
     /// Reads the word of a row of the pool, as a lost claim of each slot of so many, from a first
     /// one on, before the first that it shows to be there.
-    pub(crate) fn look_at_row(&self, seat: &mut Place, word: usize, from: u32, most: u32) -> u64
+    pub(crate) fn look_at_row(
+        &self,
+        seat: &mut WorkerSeat,
+        word: usize,
+        from: u32,
+        most: u32,
+    ) -> u64
         requires { CanPass self.now seat.old from most word }
         ensures { HasPassed seat.old seat.new from most result }
     {
@@ -74,7 +80,7 @@ impl Shared {
     }
 }
 
-fn load_as<D: Doing>(words: &Words, seat: &mut Place, word: usize, event: &Event) -> u64
+fn load_as<D: Doing>(words: &SharedTable, seat: &mut WorkerSeat, word: usize, event: &Event) -> u64
     requires pick { D.event ≡ event.now }
     requires ready { IsReadyFor (record { table = words.now.table_id; layout = words.now.key })
         seat.old event.now word }
@@ -85,7 +91,13 @@ fn load_as<D: Doing>(words: &Words, seat: &mut Place, word: usize, event: &Event
     words.load::<Does<D>>(seat, word)
 }
 
-fn look_as<D: Passing>(words: &Words, seat: &mut Place, word: usize, from: u32, most: u32) -> u64
+fn look_as<D: Passing>(
+    words: &SharedTable,
+    seat: &mut WorkerSeat,
+    word: usize,
+    from: u32,
+    most: u32,
+) -> u64
     requires first { D.from ≡ from }
     requires many { D.most ≡ most }
     requires can { CanPass (record { table = words.now.table_id; layout = words.now.key })
@@ -96,7 +108,13 @@ fn look_as<D: Passing>(words: &Words, seat: &mut Place, word: usize, from: u32, 
     words.load::<Passes<D>>(seat, word)
 }
 
-fn store_as<D: Doing>(words: &Words, seat: &mut Place, word: usize, new: u64, event: &Event)
+fn store_as<D: Doing>(
+    words: &SharedTable,
+    seat: &mut WorkerSeat,
+    word: usize,
+    new: u64,
+    event: &Event,
+)
     requires pick { D.event ≡ event.now }
     requires ready { IsReadyFor (record { table = words.now.table_id; layout = words.now.key })
         seat.old event.now word }
@@ -108,7 +126,13 @@ fn store_as<D: Doing>(words: &Words, seat: &mut Place, word: usize, new: u64, ev
     words.store::<Does<D>>(seat, word, new);
 }
 
-fn mark_as<D: Doing>(words: &Words, seat: &mut Place, word: usize, mask: u64, event: &Event) -> u64
+fn mark_as<D: Doing>(
+    words: &SharedTable,
+    seat: &mut WorkerSeat,
+    word: usize,
+    mask: u64,
+    event: &Event,
+) -> u64
     requires pick { D.event ≡ event.now }
     requires ready { IsReadyFor (record { table = words.now.table_id; layout = words.now.key })
         seat.old event.now word }
@@ -119,7 +143,13 @@ fn mark_as<D: Doing>(words: &Words, seat: &mut Place, word: usize, mask: u64, ev
     words.fetch_or::<Does<D>>(seat, word, mask)
 }
 
-fn clear_as<D: Doing>(words: &Words, seat: &mut Place, word: usize, mask: u64, event: &Event) -> u64
+fn clear_as<D: Doing>(
+    words: &SharedTable,
+    seat: &mut WorkerSeat,
+    word: usize,
+    mask: u64,
+    event: &Event,
+) -> u64
     requires pick { D.event ≡ event.now }
     requires ready { IsReadyFor (record { table = words.now.table_id; layout = words.now.key })
         seat.old event.now word }
@@ -131,8 +161,8 @@ fn clear_as<D: Doing>(words: &Words, seat: &mut Place, word: usize, mask: u64, e
 }
 
 fn exchange_as<D: Doing>(
-    words: &Words,
-    seat: &mut Place,
+    words: &SharedTable,
+    seat: &mut WorkerSeat,
     word: usize,
     old: u64,
     new: u64,

@@ -36,7 +36,7 @@ impl Shared {
         let Pass {
             seat,
             number: _,
-            note_word: _,
+            announcement_word: _,
             brief: _,
         } = pass;
         Words {

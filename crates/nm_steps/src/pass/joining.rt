@@ -36,13 +36,13 @@ impl Shared {
         let Pass {
             mut seat,
             number,
-            note_word,
+            announcement_word,
             brief,
         } = pass;
         let Pass {
             seat: spent,
             number: _,
-            note_word: _,
+            announcement_word: _,
             brief: _,
         } = other;
         self.table.shared.join_seat::<Unite>(&mut seat, spent);
@@ -51,7 +51,7 @@ impl Shared {
         Pass {
             seat,
             number,
-            note_word,
+            announcement_word,
             brief,
         }
     }

@@ -52,10 +52,10 @@ fn made(alloc: Global, layout: Layout) -> Result<(Shared, Vec<Pass>), AllocError
         passes.push(Pass {
             seat: own,
             number,
-            note_word: layout.note(number),
+            announcement_word: layout.announcement(number),
             brief: Brief {
                 seen: None,
-                note: None,
+                announcement: None,
                 pin: None,
                 unlabelled: false,
             },

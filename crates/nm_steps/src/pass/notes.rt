@@ -4,7 +4,7 @@ ghost use Rattle.nm_steps.specs.Rules.{Extends};
 ghost use Rattle.nm_steps.specs.Steps.{IsOf, HasHeard, HasSeenAllOf, IsNoteOf};
 
 use crate::pass::{Pass, Shared};
-use crate::view::{Place, Ties, View};
+use crate::view::{Ties, View, WorkerSeat};
 use atomic_table::{Join, Split};
 use std::marker::Model;
 
@@ -12,7 +12,7 @@ use std::marker::Model;
 /// where it is dropped.
 #[derive(Drop)]
 pub struct Note {
-    seat: Place,
+    seat: WorkerSeat,
 }
 
 impl Model for Note {

@@ -1,5 +1,5 @@
 //! Trees whose workers claim by next fit.
-ghost use Rattle.std.specs.Prelude.{◌≡◌, IfOk};
+ghost use Rattle.std.specs.Prelude.{IfOk};
 ghost use Rattle.nm_tree.specs.Calls.{MayCall};
 
 use super::endings::{both, each_deletes_one, report_of, step, waiting};
@@ -10,7 +10,7 @@ use super::*;
 fn near_of(rt: &(impl Abort + AllocGlobal), nodes: u32) -> Result<(Tree, Worker, Worker), Fail>
     ensures { IfOk result (λ r. MayCall r.0 r.1 × MayCall r.0 r.2) }
 {
-    let (tree, mut workers) = Tree::near(rt.alloc(), nodes, 2)?;
+    let (tree, mut workers) = Tree::of(rt.alloc(), Layout::new(nodes, 2)?, Fit::Near)?;
     let Some(second) = workers.pop() else {
         unreachable!()
     };

@@ -2,7 +2,6 @@
 ghost use Rattle.nm_steps.specs.Steps.{IsOf};
 
 use super::*;
-use nm_tree::Fit;
 
 /// A call that finds a key by the order.
 #[derive(Clone, Copy, Debug)]
@@ -124,7 +123,7 @@ fn pop_each(rt: &impl Abort, tree: &Tree, worker: &mut Worker, keys: u64)
 
 #[test]
 fn a_radix_tree_is_emptied_from_its_greatest_key_on(rt: HostRuntime) -> Result<(), Fail> {
-    let (tree, mut workers) = Tree::radix(rt.alloc(), 4096, 1, Fit::Near)?;
+    let (tree, mut workers) = Tree::of(rt.alloc(), Layout::spaced(4096, 1)?.in_radix(), Fit::Near)?;
     let Some(mut worker) = workers.pop() else {
         unreachable!()
     };

@@ -1,5 +1,5 @@
 //! A reader that stays pinned while others fill and drain the tree in threads of their own.
-ghost use Rattle.std.specs.Prelude.{◌≡◌, IfOk};
+ghost use Rattle.std.specs.Prelude.{IfOk};
 ghost use Rattle.nm_steps.specs.Steps.{IsOf};
 ghost use Rattle.nm_tree.specs.Calls.{MayCall};
 

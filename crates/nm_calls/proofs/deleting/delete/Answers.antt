@@ -7,7 +7,8 @@ use Rattle.nm_calls.proofs.Removals.{delete_did, each_lacks_room}
 use Rattle.nm_model.specs.declared.event.Op.TheVariants.{Delete}
 use Rattle.nm_calls.proofs.Adding.{has_won, pin_adds, moved_adds}
 use Rattle.nm_calls.proofs.AddingDeletes.{delete_wins, delete_steps}
-use Rattle.nm_calls.proofs.KeptLedgers.{holds_on, holds_with_room}
+use Rattle.nm_walks.proofs.KeptLedgers.{holds_on}
+use Rattle.nm_calls.proofs.KeptLedgers.{holds_with_room}
 use Rattle.nm_calls.proofs.Rooms.{takes_then}
 use Rattle.nm_calls.proofs.Waiting.{may_grow_more, few_in_table}
 use Rattle.nm_calls.proofs.deleting.delete.Goals as goal

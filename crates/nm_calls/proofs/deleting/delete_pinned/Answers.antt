@@ -6,7 +6,7 @@ use Rattle.nm_order.specs.Facts.Fact.{CallIs}
 use Rattle.nm_steps.specs.Steps.{Stand}
 use Rattle.nm_calls.specs.Deletes.{leaf_of}
 use Rattle.nm_calls.proofs.Forks.{continued}
-use Rattle.nm_calls.proofs.GoingOn.{goes_then}
+use Rattle.nm_walks.proofs.GoingOn.{goes_then}
 use Rattle.nm_calls.proofs.KeptLedgers.{holds_left}
 use Rattle.nm_calls.proofs.Moments.{no_call_on}
 use Rattle.nm_calls.proofs.Rooms.{takes_then}

@@ -4,8 +4,8 @@ use Rattle.nm_model.specs.declared.event.Field.TheVariants.{Birth}
 use Rattle.nm_model.specs.declared.reply.Reply.TheVariants.{BirthIs}
 use Rattle.nm_order.specs.Facts.Fact.{IsBorn}
 use Rattle.nm_steps.specs.Steps.{Stand}
-use Rattle.nm_calls.specs.Telling.{Tells}
-use Rattle.nm_calls.specs.Marking.{FlagWon}
+use Rattle.nm_walks.specs.Telling.{Tells}
+use Rattle.nm_walks.specs.Marking.{FlagWon}
 use Rattle.nm_calls.proofs.Removals.{to_be_flagged, has_flagged}
 use Rattle.nm_calls.proofs.deleting.flag_at.Goals as goal
 

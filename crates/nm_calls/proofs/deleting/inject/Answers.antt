@@ -1,6 +1,6 @@
 use Rattle.std.proofs.Common.{add-one, arith, ◌∙◌}
 use Rattle.nm_model.specs.declared.event.Op.TheVariants.{Delete}
-use Rattle.nm_calls.proofs.GoingOn.{goes_then, call_still}
+use Rattle.nm_walks.proofs.GoingOn.{goes_then, call_still}
 use Rattle.nm_calls.proofs.Removals.{injects_then}
 use Rattle.nm_calls.proofs.Rooms.{takes_then, takes_fills, later_refused}
 use Rattle.nm_calls.proofs.Waiting.{may_grow_more}

@@ -1,11 +1,11 @@
 use Rattle.std.proofs.Common.{◌≡◌, ◌≤◌}
 use Rattle.std.specs.Prelude.{None}
 use Rattle.nm_epoch.specs.Resting.{search}
-use Rattle.nm_calls.specs.Bounds.{cut_bound}
-use Rattle.nm_calls.specs.Rooms.{TakesRoom}
-use Rattle.nm_calls.specs.Telling.{GoesOn}
+use Rattle.nm_walks.specs.Bounds.{cut_bound}
+use Rattle.nm_walks.specs.Rooms.{TakesRoom}
+use Rattle.nm_walks.specs.Telling.{GoesOn}
 use Rattle.nm_calls.specs.Deletes.{LostFlags, OnlyInjects}
-use Rattle.nm_calls.specs.Cleanups.{HoldsCuts}
+use Rattle.nm_walks.specs.Cleanups.{HoldsCuts}
 use Rattle.nm_calls.proofs.deleting.inject.Given as goal
 
 abbrev pub invariant-loop-round : goal.invariant-loop-round

@@ -1,5 +1,5 @@
 use Rattle.std.proofs.Common.{add-one, ◌∙◌}
-use Rattle.nm_calls.proofs.GoingOn.{goes_then}
+use Rattle.nm_walks.proofs.GoingOn.{goes_then}
 use Rattle.nm_calls.proofs.Removals.{cleans_then, removing_on}
 use Rattle.nm_calls.proofs.Rooms.{takes_then, takes_fills}
 use Rattle.nm_calls.proofs.Waiting.{may_grow_more}

@@ -1,7 +1,7 @@
 use Rattle.std.proofs.Common.{◌≡◌}
-use Rattle.nm_calls.specs.Rooms.{TakesRoom}
-use Rattle.nm_calls.specs.Telling.{GoesOn}
-use Rattle.nm_calls.specs.Cleanups.{OnlyCleans, HoldsCuts}
+use Rattle.nm_walks.specs.Rooms.{TakesRoom}
+use Rattle.nm_walks.specs.Telling.{GoesOn}
+use Rattle.nm_walks.specs.Cleanups.{OnlyCleans, HoldsCuts}
 use Rattle.nm_calls.specs.Deletes.{IsRemoving, LostRemovals}
 use Rattle.nm_calls.proofs.deleting.remove.Given as goal
 

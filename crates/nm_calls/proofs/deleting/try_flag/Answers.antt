@@ -1,12 +1,12 @@
 use Rattle.std.proofs.Common.{rules, inr, refl, ◌∙◌, arith}
 use Rattle.nm_model.specs.declared.event.Op.TheVariants.{Delete}
 use Rattle.nm_order.specs.Facts.Since.{ThePin}
-use Rattle.nm_calls.specs.Telling.{Tells}
-use Rattle.nm_calls.proofs.GoingOn.{goes_then}
-use Rattle.nm_calls.proofs.Standing.{at_kept}
+use Rattle.nm_walks.specs.Telling.{Tells}
+use Rattle.nm_walks.proofs.GoingOn.{goes_then}
+use Rattle.nm_walks.proofs.Standing.{at_kept}
 use Rattle.nm_calls.proofs.Removals.{may_flag_there}
 use Rattle.nm_calls.proofs.Adding.{flag_counts, seeks_adds}
-use Rattle.nm_calls.proofs.KeptLedgers.{holds_on, holds_so}
+use Rattle.nm_walks.proofs.KeptLedgers.{holds_on, holds_so}
 use Rattle.nm_calls.proofs.AddingDeletes.{flag_won_adds, flag_lost_adds}
 use Rattle.nm_calls.proofs.deleting.try_flag.Goals as goal
 

@@ -2,8 +2,8 @@ use Rattle.std.proofs.Common.{rules, inl, inr, ◌∙◌}
 use Rattle.nm_order.specs.Facts.Fact.{IsBorn}
 use Rattle.nm_calls.proofs.Removals.{elsewhere_shows, found_flagged, cleanup_shows}
 use Rattle.nm_calls.proofs.Adding.{seeks_adds}
-use Rattle.nm_calls.proofs.GoingOn.{goes_then}
-use Rattle.nm_calls.proofs.KeptLedgers.{holds_on}
+use Rattle.nm_walks.proofs.GoingOn.{goes_then}
+use Rattle.nm_walks.proofs.KeptLedgers.{holds_on}
 use Rattle.nm_calls.proofs.deleting.try_remove.Goals as goal
 
 pub returns-then-not-leads_to-clause-removed : goal.returns-then-not-leads_to-clause-removed

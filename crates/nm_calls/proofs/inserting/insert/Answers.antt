@@ -8,7 +8,8 @@ use Rattle.nm_calls.specs.Moments.{AnswerHasMoment, HadNoCall}
 use Rattle.nm_calls.proofs.Moments.{none_begun}
 use Rattle.nm_calls.proofs.Adding.{has_won, pin_adds, moved_adds}
 use Rattle.nm_calls.proofs.AddingInserts.{insert_did, insert_wins, insert_steps}
-use Rattle.nm_calls.proofs.KeptLedgers.{holds_on, holds_with_room}
+use Rattle.nm_walks.proofs.KeptLedgers.{holds_on}
+use Rattle.nm_calls.proofs.KeptLedgers.{holds_with_room}
 use Rattle.nm_calls.proofs.Rooms.{takes_then}
 use Rattle.nm_calls.proofs.Waiting.{may_grow_more, few_in_table}
 use Rattle.nm_calls.proofs.inserting.insert.Goals as goal

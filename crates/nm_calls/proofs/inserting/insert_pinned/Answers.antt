@@ -6,14 +6,16 @@ use Rattle.nm_model.specs.declared.event.Op.TheVariants.{Insert}
 use Rattle.nm_model.specs.declared.knowledge.Brief.{Brief}
 use Rattle.nm_model.specs.Searches.{Search}
 use Rattle.nm_order.specs.Facts.Fact.{CallIs}
-use Rattle.nm_calls.specs.declared.making.Fork.{Fork}
+use Rattle.nm_walks.specs.declared.making.Fork.{Fork}
 use Rattle.nm_pool.specs.declared.placement.Fit.{Fit}
 use Rattle.nm_calls.specs.declared.inserting.Attempt.TheVariants as attempt
-use Rattle.nm_calls.specs.Inserts.{HasFork, IsTry}
+use Rattle.nm_walks.specs.Growing.{HasFork}
+use Rattle.nm_calls.specs.Inserts.{IsTry}
 use Rattle.nm_steps.specs.Steps.{Stand}
 use Rattle.nm_calls.proofs.AddingInserts.{back_adds}
-use Rattle.nm_calls.proofs.GoingOn.{goes_then, call_still}
-use Rattle.nm_calls.proofs.KeptLedgers.{holds_on, holds_left, holds_with_room}
+use Rattle.nm_walks.proofs.GoingOn.{goes_then, call_still}
+use Rattle.nm_walks.proofs.KeptLedgers.{holds_on}
+use Rattle.nm_calls.proofs.KeptLedgers.{holds_left, holds_with_room}
 use Rattle.nm_calls.proofs.Moments.{no_call_on}
 use Rattle.nm_calls.proofs.Forks.{if_ready, none_left, tries_then, found_answer, continued}
 use Rattle.nm_calls.proofs.Rooms.{takes_then, takes_fills, later_refused}

@@ -2,14 +2,14 @@ use Rattle.std.proofs.Common.{rules, inr, refl, sym, subst, ◌∙◌}
 use Rattle.nm_model.specs.declared.event.Op.TheVariants.{Insert}
 use Rattle.nm_order.specs.Facts.Since.{ThePin}
 use Rattle.nm_order.specs.Facts.Fact.{EndedAt}
-use Rattle.nm_calls.specs.Telling.{Tells}
-use Rattle.nm_calls.specs.Inserts.{HasFork, HoldsFork}
-use Rattle.nm_calls.proofs.GoingOn.{goes_then}
-use Rattle.nm_calls.proofs.Standing.{at_kept}
-use Rattle.nm_calls.proofs.ShortWalks.{key_of_call}
+use Rattle.nm_walks.specs.Telling.{Tells}
+use Rattle.nm_walks.specs.Growing.{HasFork, HoldsFork}
+use Rattle.nm_walks.proofs.GoingOn.{goes_then}
+use Rattle.nm_walks.proofs.Standing.{at_kept}
+use Rattle.nm_walks.proofs.ShortWalks.{key_of_call}
 use Rattle.nm_calls.proofs.Forks.{kept_fork, lost_fork, linked_fork, held_fork, may_grow}
 use Rattle.nm_calls.proofs.Adding.{link_counts, stops_adds}
-use Rattle.nm_calls.proofs.KeptLedgers.{holds_on, holds_so}
+use Rattle.nm_walks.proofs.KeptLedgers.{holds_on, holds_so}
 use Rattle.nm_calls.proofs.AddingInserts.{readied_adds, grows_won, grows_lost}
 use Rattle.nm_calls.proofs.inserting.try_insert.Goals as goal
 

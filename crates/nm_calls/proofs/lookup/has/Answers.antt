@@ -9,12 +9,13 @@ use Rattle.nm_order.specs.Facts.Since.{ThePin}
 use Rattle.nm_steps.specs.Steps.{Stand}
 use Rattle.nm_epoch.proofs.Allowed.{may_leave}
 use Rattle.nm_steps.proofs.Seeing.{seen_all}
-use Rattle.nm_calls.proofs.GoingOn.{only_then, pinned_in_still}
+use Rattle.nm_walks.proofs.GoingOn.{only_then, pinned_in_still}
 use Rattle.nm_calls.proofs.LookUps.{is_pinned, knows_second, call_is, may_answer, missed}
-use Rattle.nm_calls.proofs.Adding.{most, adds_then, adds_these, has_won, cuts_none, within_call, mul_below, pin_adds, moved_adds, lost_walks_add, finds_adds}
-use Rattle.nm_calls.specs.Bounds.{reach}
+use Rattle.nm_walks.proofs.Adding.{adds_then, adds_these}
+use Rattle.nm_calls.proofs.Adding.{most, has_won, cuts_none, within_call, mul_below, pin_adds, moved_adds, lost_walks_add, finds_adds}
+use Rattle.nm_walks.specs.Bounds.{reach}
 use Rattle.nm_calls.specs.Moments.{HadNoCall}
-use Rattle.nm_calls.specs.Walks.{Finds}
+use Rattle.nm_walks.specs.Walks.{Finds}
 use Rattle.nm_calls.proofs.Moments.{no_call_on, none_begun}
 use Rattle.nm_calls.proofs.lookup.has.Goals as goal
 

@@ -1,4 +1,4 @@
-use Rattle.nm_calls.specs.Telling.{GoesOn, OnlyLooks}
+use Rattle.nm_walks.specs.Telling.{GoesOn, OnlyLooks}
 use Rattle.nm_calls.specs.Calls.{LostWalks}
 use Rattle.nm_calls.proofs.lookup.has.Given as goal
 

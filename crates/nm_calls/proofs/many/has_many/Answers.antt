@@ -5,7 +5,7 @@ use Rattle.nm_model.specs.Walks.{Entry}
 use Rattle.nm_steps.specs.Steps.{Stand, IsSamePass}
 use Rattle.nm_steps.proofs.Seeing.{seen_through, seen_by_turn, seen_all}
 use Rattle.nm_epoch.proofs.Allowed.{may_leave}
-use Rattle.nm_calls.specs.Bounds.{reach}
+use Rattle.nm_walks.specs.Bounds.{reach}
 use Rattle.nm_calls.specs.InTurns.{GiveUp, key_of, most_looks}
 use Rattle.nm_calls.specs.PlainWalks.{LooksUnderPin}
 use Rattle.nm_calls.proofs.Adding.{has_won, cuts_none, plain_moved_adds}

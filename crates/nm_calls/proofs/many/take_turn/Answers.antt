@@ -1,7 +1,7 @@
 use Rattle.std.proofs.Common.{◌+◌, sym, subst}
 use Rattle.nm_calls.specs.InTurns.{IsUnderWay}
-use Rattle.nm_calls.specs.Telling.{OnwardTold}
-use Rattle.nm_calls.specs.Walks.{Reads}
+use Rattle.nm_walks.specs.Telling.{OnwardTold}
+use Rattle.nm_walks.specs.Walks.{Reads}
 use Rattle.nm_calls.proofs.InTurnsLooks.{gone_on, ended_further}
 use Rattle.nm_calls.proofs.many.take_turn.Goals as goal
 

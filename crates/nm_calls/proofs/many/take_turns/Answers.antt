@@ -1,7 +1,7 @@
 use Rattle.std.proofs.Common.{rules, ◌∙◌, ◌+◌, ◌*◌, arith}
 use Rattle.std.proofs.Math.Seq.{map-set_same}
 use Rattle.nm_calls.specs.InTurns.{key_of}
-use Rattle.nm_calls.proofs.GoingOn.{goes_then, only_then}
+use Rattle.nm_walks.proofs.GoingOn.{goes_then, only_then}
 use Rattle.nm_calls.proofs.InTurnsLooks.{turned, turned_so_far}
 use Rattle.nm_calls.proofs.PlainLooks.{looks_in, looks_then}
 use Rattle.nm_calls.proofs.many.take_turns.Goals as goal

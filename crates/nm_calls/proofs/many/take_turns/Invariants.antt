@@ -2,7 +2,7 @@ use Rattle.std.proofs.Common.{◌≡◌, ◌+◌, ◌*◌, ℕ, map}
 use Rattle.std.specs.Prelude.{All}
 use Rattle.std.specs.List.{AllWithin}
 use Rattle.nm_calls.specs.InTurns.{AddsLooks, IsUnderWay, key_of}
-use Rattle.nm_calls.specs.Telling.{GoesOn, OnlyLooks}
+use Rattle.nm_walks.specs.Telling.{GoesOn, OnlyLooks}
 use Rattle.nm_calls.proofs.many.take_turns.Given as goal
 
 abbrev pub invariant-loop-index : goal.invariant-loop-index

@@ -4,10 +4,10 @@ use Rattle.std.proofs.lemmas.List.{length-map}
 use Rattle.std.specs.Prelude.{All}
 use Rattle.nm_edge.specs.Layouts.{Layout}
 use Rattle.nm_edge.specs.declared.edge.Side.TheVariants.{Left}
-use Rattle.nm_calls.specs.Bounds.{reach}
+use Rattle.nm_walks.specs.Bounds.{reach}
 use Rattle.nm_calls.specs.InTurns.{AddsLooks, HasBegun, key_of, most_looks}
 use Rattle.nm_calls.proofs.Adding.{mul_below}
-use Rattle.nm_calls.proofs.GoingOn.{goes_then, only_then, pinned_in_still}
+use Rattle.nm_walks.proofs.GoingOn.{goes_then, only_then, pinned_in_still}
 use Rattle.nm_calls.proofs.InTurnsLooks.{same_count, begun_so, passed_any, given_up}
 use Rattle.nm_calls.proofs.PlainLooks.{look_added, looks_in, looks_then}
 use Rattle.nm_calls.proofs.many.walk_all.Goals as goal

@@ -1,8 +1,8 @@
 use Rattle.std.proofs.Common.{◌≡◌, ◌≤◌, ◌+◌, ◌*◌, length, map}
 use Rattle.std.specs.Prelude.{All}
-use Rattle.nm_calls.specs.Bounds.{reach}
+use Rattle.nm_walks.specs.Bounds.{reach}
 use Rattle.nm_calls.specs.InTurns.{AddsLooks, IsUnderWay, key_of}
-use Rattle.nm_calls.specs.Telling.{GoesOn, OnlyLooks}
+use Rattle.nm_walks.specs.Telling.{GoesOn, OnlyLooks}
 use Rattle.nm_calls.proofs.many.walk_all.Given as goal
 
 abbrev pub invariant-loop-turn : goal.invariant-loop-turn

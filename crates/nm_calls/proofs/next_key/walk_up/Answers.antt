@@ -1,9 +1,9 @@
 use Rattle.std.proofs.Common.{inr}
 use Rattle.nm_order.specs.Facts.Fact.{KnowsSlot}
-use Rattle.nm_calls.specs.Bounds.{reach}
+use Rattle.nm_walks.specs.Bounds.{reach}
 use Rattle.nm_calls.specs.NextKeys.{IsNextBy}
 use Rattle.nm_calls.specs.PlainWalks.{HasEndedSo, most_looks}
-use Rattle.nm_calls.proofs.GoingOn.{goes_then, only_then}
+use Rattle.nm_walks.proofs.GoingOn.{goes_then, only_then}
 use Rattle.nm_calls.proofs.NextLooks.{walks_then, walks_within, earlier_still, is_next, none_more, none_below, no_next, next_above, next_is_key, key_made}
 use Rattle.nm_calls.proofs.next_key.walk_up.Goals as goal
 

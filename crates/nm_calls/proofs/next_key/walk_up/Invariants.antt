@@ -1,9 +1,10 @@
 use Rattle.std.proofs.Common.{◌≤◌, ◌<◌, ◌*◌, ℕ, false}
 use Rattle.nm_edge.specs.Keys.{IsKey}
-use Rattle.nm_calls.specs.Bounds.{reach}
+use Rattle.nm_walks.specs.Bounds.{reach}
 use Rattle.nm_calls.specs.NextKeys.{HaveNone}
-use Rattle.nm_calls.specs.PlainWalks.{AddsLooks, HasEndedSo, most_looks}
-use Rattle.nm_calls.specs.Telling.{GoesOn, OnlyLooks}
+use Rattle.nm_walks.specs.AddedLooks.{AddsLooks}
+use Rattle.nm_calls.specs.PlainWalks.{HasEndedSo, most_looks}
+use Rattle.nm_walks.specs.Telling.{GoesOn, OnlyLooks}
 use Rattle.nm_calls.proofs.next_key.walk_up.Given as goal
 
 abbrev pub invariant-loop-walk : goal.invariant-loop-walk

@@ -1,9 +1,9 @@
 use Rattle.std.proofs.Common.{◌≡◌, ◌≤◌, ◌+◌, ℕ, inr, arith}
 use Rattle.nm_order.specs.Facts.Fact.{KnowsSlot}
-use Rattle.nm_calls.specs.Bounds.{reach}
+use Rattle.nm_walks.specs.Bounds.{reach}
 use Rattle.nm_calls.specs.PrevKeys.{IsPrevBy}
 use Rattle.nm_calls.specs.PlainWalks.{HasEndedSo, most_looks}
-use Rattle.nm_calls.proofs.GoingOn.{goes_then, only_then}
+use Rattle.nm_walks.proofs.GoingOn.{goes_then, only_then}
 use Rattle.nm_calls.proofs.NextLooks.{walks_then, walks_within, key_made}
 use Rattle.nm_calls.proofs.PrevLooks.{later_still, is_prev, none_more, none_from, no_prev, next_below}
 use Rattle.nm_calls.proofs.prev_key.walk_back.Goals as goal

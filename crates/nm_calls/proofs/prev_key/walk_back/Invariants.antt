@@ -1,8 +1,9 @@
 use Rattle.std.proofs.Common.{◌≤◌, ◌<◌, ◌+◌, ◌*◌, ℕ, false}
-use Rattle.nm_calls.specs.Bounds.{reach}
+use Rattle.nm_walks.specs.Bounds.{reach}
 use Rattle.nm_calls.specs.PrevKeys.{HaveNone}
-use Rattle.nm_calls.specs.PlainWalks.{AddsLooks, HasEndedSo, most_looks}
-use Rattle.nm_calls.specs.Telling.{GoesOn, OnlyLooks}
+use Rattle.nm_walks.specs.AddedLooks.{AddsLooks}
+use Rattle.nm_calls.specs.PlainWalks.{HasEndedSo, most_looks}
+use Rattle.nm_walks.specs.Telling.{GoesOn, OnlyLooks}
 use Rattle.nm_calls.proofs.prev_key.walk_back.Given as goal
 
 abbrev pub invariant-loop-walk : goal.invariant-loop-walk

@@ -1,13 +1,14 @@
 use Rattle.std.proofs.Common.{◌≤◌, ◌+◌, ◌*◌, ℕ, refl, sym, ap, subst, ◌∙◌, arith}
 use Rattle.nm_edge.specs.declared.edge.Side.TheVariants.{Left}
-use Rattle.nm_calls.specs.Bounds.{reach}
+use Rattle.nm_walks.specs.Bounds.{reach}
 use Rattle.nm_calls.specs.PrevKeys.{IsDescent}
-use Rattle.nm_calls.specs.Telling.{OnwardTold}
-use Rattle.nm_calls.specs.Walks.{Reads}
-use Rattle.nm_calls.specs.declared.prev_key.Descent.{Descent}
-use Rattle.nm_calls.proofs.GoingOn.{goes_then, only_then, pinned_in_still}
+use Rattle.nm_walks.specs.Telling.{OnwardTold}
+use Rattle.nm_walks.specs.Walks.{Reads}
+use Rattle.nm_calls.specs.declared.prev_key.PrevWalk.{PrevWalk}
+use Rattle.nm_walks.proofs.GoingOn.{goes_then, only_then, pinned_in_still}
 use Rattle.nm_calls.proofs.PrevLooks.{descent_begins, descent_goes_on, descent_too_long}
-use Rattle.nm_calls.proofs.PlainLooks.{look_added, read_added, looks_in, looks_then}
+use Rattle.nm_walks.proofs.PlainLooks.{read_added}
+use Rattle.nm_calls.proofs.PlainLooks.{look_added, looks_in, looks_then}
 use Rattle.nm_calls.proofs.prev_key.walk_down.Goals as goal
 
 pub loop-node-init : goal.loop-node-init
@@ -50,7 +51,7 @@ loop-node-preserved c =
       under_way = subst (IsDescent c.args.shared.now.layout (c.loop-node._node + 1) o q) (sym now.walk)
           (descent_goes_on c.args.shared.now.layout c.loop-node._node o p q walk c.read_so-walk.result.bound on (subst (λ (k : ℕ). Reads k walk.node p.view.log q.view.log on) (sym held.from) did.looks) held.under_way c.if-walk-eq0.false now.high now.turns few
           (subst (λ (k : ℕ). OnwardTold p q k walk.node on.found on.side on.next) (sym held.from) did.told) (now.wide held.under_way.wide) now.passed now.routed);
-      from = ap (λ (d : Descent). d.from) now.walk ∙ held.from;
+      from = ap (λ (d : PrevWalk). d.from) now.walk ∙ held.from;
       on = goes_then o p q held.on did.on;
       only = only_then o p q held.only did.only;
     }

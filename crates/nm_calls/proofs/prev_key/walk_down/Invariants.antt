@@ -1,8 +1,8 @@
 use Rattle.std.proofs.Common.{◌≡◌, ◌≤◌, ◌+◌, ◌*◌}
-use Rattle.nm_calls.specs.Bounds.{reach}
+use Rattle.nm_walks.specs.Bounds.{reach}
 use Rattle.nm_calls.specs.PrevKeys.{IsDescent}
-use Rattle.nm_calls.specs.PlainWalks.{AddsLooks}
-use Rattle.nm_calls.specs.Telling.{GoesOn, OnlyLooks}
+use Rattle.nm_walks.specs.AddedLooks.{AddsLooks}
+use Rattle.nm_walks.specs.Telling.{GoesOn, OnlyLooks}
 use Rattle.nm_calls.proofs.prev_key.walk_down.Given as goal
 
 abbrev pub invariant-loop-node : goal.invariant-loop-node

@@ -1,5 +1,5 @@
 use Rattle.nm_epoch.specs.Resting.{GoesOnSettled}
-use Rattle.nm_epoch.specs.Scans.{IsLooking}
+use Rattle.nm_epoch.proofs.Marks.{IsLooking}
 use Rattle.nm_epoch.proofs.moving.move_on.Given as goal
 
 abbrev pub invariant-loop-worker : goal.invariant-loop-worker

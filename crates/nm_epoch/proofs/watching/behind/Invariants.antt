@@ -1,5 +1,5 @@
 use Rattle.nm_epoch.specs.Resting.{GoesOnSettled}
-use Rattle.nm_epoch.specs.Watches.{IsWatching}
+use Rattle.nm_epoch.proofs.Watched.{IsWatching}
 use Rattle.nm_epoch.proofs.watching.behind.Given as goal
 
 abbrev pub invariant-loop-worker : goal.invariant-loop-worker

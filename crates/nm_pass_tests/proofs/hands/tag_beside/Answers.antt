@@ -1,7 +1,8 @@
 use Rattle.std.proofs.Common.{ap}
 use Rattle.nm_steps.specs.Steps.{Stand}
-use Rattle.nm_calls.proofs.Adding.{adds_then, adds_these, seeks_adds, choice_adds}
-use Rattle.nm_calls.proofs.GoingOn.{goes_then, only_then}
+use Rattle.nm_walks.proofs.Adding.{adds_then, adds_these, choice_adds}
+use Rattle.nm_calls.proofs.Adding.{seeks_adds}
+use Rattle.nm_walks.proofs.GoingOn.{goes_then, only_then}
 use Rattle.nm_pass_tests.proofs.Played.{pending_still}
 use Rattle.nm_pass_tests.proofs.hands.tag_beside.Goals as goal
 

@@ -1,8 +1,7 @@
 use Rattle.std.proofs.Common.{◌≤◌, ◌-◌}
 use Rattle.nm_steps.specs.Rules.{knowledge}
-use Rattle.nm_pool.specs.Takes.{DoneBelow, LearnsSlots}
+use Rattle.nm_pool.specs.Claims.{DoneBelow, LearnsSlots, PassedOver}
 use Rattle.nm_steps.specs.Steps.{Continues}
-use Rattle.nm_pool.specs.Claims.{PassedOver}
 use Rattle.nm_pool.proofs.nodes.claim_by_rows.Given as goal
 
 abbrev pub invariant-loop-slot : goal.invariant-loop-slot

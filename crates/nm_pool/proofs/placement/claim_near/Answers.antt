@@ -1,8 +1,8 @@
 use Rattle.std.proofs.Common.{[], refl, ◌≡◌, ◌+◌, ap, subst, ◌∙◌, arith}
 use Rattle.std.specs.Prelude.{None, Some}
 use Rattle.nm_edge.specs.Layouts.{Layout}
-use Rattle.nm_pool.specs.Claims.{IsClaimBetween, IsClaimOfFew}
-use Rattle.nm_pool.proofs.AnyOrder.{near_above, near_below, near_nowhere}
+use Rattle.nm_pool.specs.Claims.{IsClaimBetween}
+use Rattle.nm_pool.proofs.AnyOrder.{IsClaimOfFew, near_above, near_below, near_nowhere}
 use Rattle.nm_pool.proofs.placement.claim_near.Goals as goal
 
 pub returns-in-Some-clause-part : goal.returns-in-Some-clause-part

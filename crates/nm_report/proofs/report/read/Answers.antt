@@ -3,7 +3,7 @@ use Rattle.std.specs.Prelude.{◌↔◌, AllPairs, Contains}
 use Rattle.nm_edge.specs.Layouts.{Layout}
 use Rattle.nm_model.specs.Memory.{infinity_0}
 use Rattle.nm_model.specs.Reports.{counts, keys, tree_slots}
-use Rattle.nm_order.specs.Intervals.{InSet}
+use Rattle.nm_model.specs.Acts.{InSet}
 use Rattle.nm_report.specs.Ended.{IsEndOf, end_of}
 use Rattle.nm_report.proofs.Ends.{layout_is, keys_tell, keys_ascend}
 use Rattle.nm_report.proofs.report.read.Goals as goal

@@ -1,6 +1,6 @@
 use Rattle.std.proofs.Common.{◌≡◌, ◌+◌, ◌++◌, ◌∷◌, [], ◌∙◌, append_assoc, drop, rules, sym, refl, ap, ℕ}
 use Rattle.std.proofs.lemmas.List.{drop_more, drop_all, append-nil}
-use Rattle.nm_files.specs.declared.entry.Call.{Call}
+use Rattle.nm_files.specs.declared.entry.ScriptCall.{ScriptCall}
 use Rattle.nm_serial.specs.Crews.{PlaysAll}
 use Rattle.nm_serial.proofs.CrewLemmas.{line_first}
 use Rattle.nm_serial.proofs.one_thread.play.Goals as goal
@@ -9,7 +9,7 @@ pub loop-entry-preserved : goal.loop-entry-preserved
 loop-entry-preserved c =
     let i = c.loop-entry.invariant in
     let rest = drop (c.loop-entry.entry-index + 1) c.args.calls.now in
-    let cut : drop c.loop-entry.entry-index c.args.calls.now ≡ c.entry-item.result ∷ rest = drop_more c.args.calls.now c.loop-entry.entry-index c.entry-item.result c.loop-entry-test.true ∙ ap (λ (e : ℕ × Call). e ∷ rest) (sym c.entry-item.is) in
+    let cut : drop c.loop-entry.entry-index c.args.calls.now ≡ c.entry-item.result ∷ rest = drop_more c.args.calls.now c.loop-entry.entry-index c.entry-item.result c.loop-entry-test.true ∙ ap (λ (e : ℕ × ScriptCall). e ∷ rest) (sym c.entry-item.is) in
     let a = c.in-Some.answer in
     let pushed : c.push.new.self.items ≡ c.loop-entry.answers.items ++ a ∷ [] = search rules in
     record {

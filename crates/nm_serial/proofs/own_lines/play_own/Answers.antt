@@ -1,7 +1,7 @@
 use Rattle.std.proofs.Common.{◌≡◌, ◌+◌, ◌++◌, ◌∷◌, [], append_assoc, drop, rules, sym, ◌∙◌, arith, refl, ap, subst, ℕ}
 use Rattle.std.proofs.lemmas.List.{drop_more, drop_all, append-nil}
 use Rattle.std.proofs.lemmas.Result.{err_from_is_err_and}
-use Rattle.nm_files.specs.declared.entry.Call.{Call}
+use Rattle.nm_files.specs.declared.entry.ScriptCall.{ScriptCall}
 use Rattle.nm_serial.specs.Makes.{HasStopped, PlaysOwn, StopsOwn}
 use Rattle.nm_serial.proofs.PlayLemmas.{own_line, other_line, stops_behind_own, stops_behind_other, stops_here}
 use Rattle.nm_serial.proofs.own_lines.play_own.Goals as goal
@@ -13,7 +13,7 @@ loop-entry-preserved g c =
     let stops = g.G.Gate.stops c.args.lines.now.gate.now in
     let n = c.number-number.result in
     let rest = drop (c.loop-entry.entry-index + 1) c.args.lines.now.calls.now in
-    let cut : drop c.loop-entry.entry-index c.args.lines.now.calls.now ≡ c.entry-item.result ∷ rest = drop_more c.args.lines.now.calls.now c.loop-entry.entry-index c.entry-item.result c.loop-entry-test.true ∙ ap (λ (e : ℕ × Call). e ∷ rest) (sym c.entry-item.is) in
+    let cut : drop c.loop-entry.entry-index c.args.lines.now.calls.now ≡ c.entry-item.result ∷ rest = drop_more c.args.lines.now.calls.now c.loop-entry.entry-index c.entry-item.result c.loop-entry-test.true ∙ ap (λ (e : ℕ × ScriptCall). e ∷ rest) (sym c.entry-item.is) in
     elim c.if-entry-number.branch [
       | then-entry-number+in_ok-answer+in_ok-map_err w ↦
           let a = w.in_ok-answer.answer in
@@ -72,7 +72,7 @@ returns-in_err-answer-clause-stopped g c =
     let left = drop c.loop-entry.entry-index c.args.lines.now.calls.now in
     let rest = drop (c.loop-entry.entry-index + 1) c.args.lines.now.calls.now in
     let s = c.in_err-answer.field-0.0 in
-    let cut : left ≡ c.entry-item.result ∷ rest = drop_more c.args.lines.now.calls.now c.loop-entry.entry-index c.entry-item.result c.loop-entry-test.true ∙ ap (λ (e : ℕ × Call). e ∷ rest) (sym c.entry-item.is) in
+    let cut : left ≡ c.entry-item.result ∷ rest = drop_more c.args.lines.now.calls.now c.loop-entry.entry-index c.entry-item.result c.loop-entry-test.true ∙ ap (λ (e : ℕ × ScriptCall). e ∷ rest) (sym c.entry-item.is) in
     let me : c.loop-entry.worker.pass.view.number ≡ n = c.loop-entry.invariant.number ∙ sym c.number-number.ensures.number in
     let stopped : HasStopped (stops n at) at c.loop-entry.worker c.play_line.new.worker s = subst (λ k. HasStopped (stops k at) at c.loop-entry.worker c.play_line.new.worker s) me c.in_err-answer.ensures.stopped in
     let here : StopsOwn lets stops c.args.lines.now.tree.now c.args.lines.now.tries n at left c.loop-entry.worker c.play_line.new.worker s = stops_here lets stops c.args.lines.now.tree.now c.args.lines.now.tries n at left rest c.entry-item.result c.loop-entry.worker c.play_line.new.worker s cut c.if-entry-number.true stopped in

@@ -1,11 +1,11 @@
-use Rattle.nm_words.proofs.PackedWrites.{epoch_written, note_written, key_written, edge_written, birth_written, taking_clears_a_bit, giving_sets_a_bit}
+use Rattle.nm_words.proofs.PackedWrites.{epoch_written, announcement_written, key_written, edge_written, birth_written, taking_clears_a_bit, giving_sets_a_bit}
 use Rattle.nm_words.proofs.packing.writes_change_one_word.Goals as goal
 
 pub returns-clause-epoch : goal.returns-clause-epoch
 returns-clause-epoch c = epoch_written
 
-pub returns-clause-note : goal.returns-clause-note
-returns-clause-note c = note_written
+pub returns-clause-announcement : goal.returns-clause-announcement
+returns-clause-announcement c = announcement_written
 
 pub returns-clause-key : goal.returns-clause-key
 returns-clause-key c = key_written

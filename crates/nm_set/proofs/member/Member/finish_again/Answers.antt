@@ -1,8 +1,8 @@
 use Rattle.std.proofs.Common.{◌-◌, refl, subst, arith}
 use Rattle.std.specs.Prelude.{Result, Bool, Err}
 use Rattle.nm_steps.specs.Steps.{Board}
-use Rattle.nm_tree.specs.declared.fault.Fault.{Fault as Lost}
-use Rattle.nm_tree.specs.declared.fault.Fault.TheVariants.{Unfinished}
+use Rattle.nm_tree.specs.declared.fault.CallFault.{CallFault as Lost}
+use Rattle.nm_tree.specs.declared.fault.CallFault.TheVariants.{Unfinished}
 use Rattle.nm_tree.specs.Calls.{LeavesFinish}
 use Rattle.nm_set.specs.declared.tended.Habit.{Habit}
 use Rattle.nm_set.specs.Tended.{FinishesPending}

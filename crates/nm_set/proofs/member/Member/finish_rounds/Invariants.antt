@@ -1,6 +1,6 @@
 use Rattle.std.proofs.Common.{◌≡◌}
 use Rattle.std.specs.Prelude.{Err}
-use Rattle.nm_tree.specs.declared.fault.Fault.TheVariants.{Unfinished}
+use Rattle.nm_tree.specs.declared.fault.CallFault.TheVariants.{Unfinished}
 use Rattle.nm_tree.specs.Calls.{LeavesFinish}
 use Rattle.nm_set.specs.Tended.{InARow}
 use Rattle.nm_set.proofs.member.Member.finish_rounds.Given as goal

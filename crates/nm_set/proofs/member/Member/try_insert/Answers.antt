@@ -1,7 +1,7 @@
 use Rattle.std.proofs.Common.{rules, ◌≡◌, Bool, sym, subst}
 use Rattle.std.specs.Prelude.{Result, None}
 use Rattle.nm_steps.specs.Steps.{Board}
-use Rattle.nm_tree.specs.declared.fault.Fault.{Fault as Lost}
+use Rattle.nm_tree.specs.declared.fault.CallFault.{CallFault as Lost}
 use Rattle.nm_set.specs.declared.fault.Fault.{Fault}
 use Rattle.nm_set.specs.Seats.{Seated}
 use Rattle.nm_tree.specs.Calls.{LeavesInsert, SaysInsert}

@@ -1,7 +1,7 @@
 use Rattle.std.proofs.Common.{rules, arith, ◌≤◌}
 use Rattle.nm_model.specs.Step.{last_number}
 use Rattle.nm_steps.proofs.Asking.{announce_seen}
-use Rattle.nm_steps.proofs.Noting.{ready, note_in, has_turned, has_turn, in_run_after, tied_after}
+use Rattle.nm_steps.proofs.Noting.{ready, announcement_in, has_turned, has_turn, in_run_after, tied_after}
 use Rattle.nm_steps.proofs.pass.Shared.announce.Goals as goal
 
 pub unreachable-requires : goal.unreachable-requires
@@ -11,7 +11,7 @@ pub overflow_add-seen : goal.overflow_add-seen
 overflow_add-seen c = let small : c.in-Some.seen ≤ last_number = search (rules, c.pass.invariant.small) in omega (arith, small)
 
 pub store-requires-clause-ready : goal.store-requires-clause-ready
-store-requires-clause-ready c = rw (← c.self.view_is) (ready _ _ _ _ _ _ _ _ _ c.self.invariant c.pass.invariant (search rules) (search rules) (rw (← c.pass.view_is) at c.requires.may) (note_in c.self.inside.layout c.pass.inside.seat c.pass.inside.number c.pass.inside.note_word c.pass.inside.brief c.pass.invariant (search rules)))
+store-requires-clause-ready c = rw (← c.self.view_is) (ready _ _ _ _ _ _ _ _ _ c.self.invariant c.pass.invariant (search rules) (search rules) (rw (← c.pass.view_is) at c.requires.may) (announcement_in c.self.inside.layout c.pass.inside.seat c.pass.inside.number c.pass.inside.announcement_word c.pass.inside.brief c.pass.invariant (search rules)))
 
 pub invariant_of-pass : goal.invariant_of-pass
 invariant_of-pass c = tied_after _ _ _ _ _ _ _ _ c.pass.invariant (rw (← c.pass.view_is) at c.requires.may) c.store.ensures (search rules)

@@ -34,7 +34,7 @@ pub invariant_of-push : goal.invariant_of-push
 invariant_of-push c =
     let h = c.loop-number.invariant in
     let me = c.split_seat-own.ensures.4 in
-    fresh_tied c.args.layout _ c.loop-number.number _ h.fits (rw h.end at c.loop-number-test.true) c.note.ensures (ap (λ m. m.0) me ∙ left_own c.args.layout c.loop-number.number _ h.view (rw h.end at c.loop-number-test.true)) (ap (λ m. m.1) me)
+    fresh_tied c.args.layout _ c.loop-number.number _ h.fits (rw h.end at c.loop-number-test.true) c.announcement.ensures (ap (λ m. m.0) me ∙ left_own c.args.layout c.loop-number.number _ h.view (rw h.end at c.loop-number-test.true)) (ap (λ m. m.1) me)
 
 pub loop-number-preserved : goal.loop-number-preserved
 loop-number-preserved c =

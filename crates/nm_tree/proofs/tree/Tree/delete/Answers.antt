@@ -10,7 +10,7 @@ use Rattle.nm_tree.proofs.Disturbed.{delete_disturbed, delete_lost, delete_alone
 use Rattle.nm_tree.proofs.Changing.{kept_there, changed}
 use Rattle.nm_calls.specs.declared.deleting.Missed.{Missed}
 use Rattle.nm_calls.specs.Deletes.{DeleteDid, LacksRoomOr, LosesAfterFlag}
-use Rattle.nm_tree.specs.declared.fault.Fault.TheVariants as fault
+use Rattle.nm_tree.specs.declared.fault.CallFault.TheVariants as fault
 use Rattle.nm_tree.proofs.Telling.{deleted_so}
 use Rattle.nm_tree.proofs.tree.Tree.delete.Goals as goal
 

@@ -8,9 +8,9 @@ use Rattle.nm_tree.proofs.QueueLists.{lacks_after, others_stay, others_after, st
 use Rattle.nm_tree.proofs.Staying.{resting_in, rests_in, rests_as, free_in}
 use Rattle.nm_tree.proofs.Disturbed.{insert_disturbed, insert_alone}
 use Rattle.nm_tree.proofs.Changing.{kept_there, changed}
-use Rattle.nm_calls.specs.declared.inserting.Fault.{Fault as Lost}
+use Rattle.nm_calls.specs.declared.inserting.NotInserted.{NotInserted as Lost}
 use Rattle.nm_calls.specs.Inserts.{InsertDid}
-use Rattle.nm_tree.specs.declared.fault.Fault.TheVariants as fault
+use Rattle.nm_tree.specs.declared.fault.CallFault.TheVariants as fault
 use Rattle.nm_tree.proofs.Telling.{inserted_so}
 use Rattle.nm_tree.proofs.tree.Tree.insert.Goals as goal
 use Rattle.nm_tree.proofs.tree.Tree.insert.Goals.{in-Ok, in-Err-Busy, in-Err-Full, in-Err-NoMemory}

@@ -4,7 +4,7 @@ use Rattle.nm_steps.proofs.Seeing.{seen_all}
 use Rattle.nm_tree.specs.declared.worker.Standing.TheVariants as standing
 use Rattle.nm_busy.specs.Walked.{NearWasBusy}
 use Rattle.nm_busy.proofs.AloneCalls.{near_alone}
-use Rattle.nm_tree.specs.declared.fault.Fault.TheVariants as fault
+use Rattle.nm_tree.specs.declared.fault.CallFault.TheVariants as fault
 use Rattle.nm_tree.specs.Workers.{Hand}
 use Rattle.nm_tree.proofs.Disturbed.{next_disturbed}
 use Rattle.nm_tree.proofs.Quiet.{quiet_so}

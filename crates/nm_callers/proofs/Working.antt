@@ -1,0 +1,83 @@
+-- Members that add tasks and take them.
+use Rattle.std.proofs.Common.{◌≡◌, ℕ, ◌+◌, ◌<◌, inl, inr, Bool, true, false, true≢false, ap, refl, ◌∙◌, arith}
+use Rattle.std.specs.Prelude.{Option, Some, None, Result, Ok, Err, is_ok}
+use Rattle.nm_model.specs.declared.event.Op.TheVariants.{Insert}
+use Rattle.nm_pool.specs.declared.placement.Fit.{Fit}
+use Rattle.nm_steps.specs.declared.view.View.{View}
+use Rattle.nm_steps.specs.Steps.{Board, Stand}
+use Rattle.nm_steps.proofs.Seeing.{seen_itself}
+use Rattle.nm_walks.specs.WonCounts.{won_flags, won_links}
+use Rattle.nm_calls.specs.Won.{HasWon}
+use Rattle.nm_tree.specs.Workers.{Hand}
+use Rattle.nm_set.specs.declared.fault.Fault.{Fault}
+use Rattle.nm_set.specs.declared.fault.Fault.TheVariants as fault
+use Rattle.nm_set.specs.declared.tended.Habit.{Habit}
+use Rattle.nm_set.specs.Seats.{IsNewMember, Seated}
+use Rattle.nm_set.specs.Popping.{SaysPopTended}
+use Rattle.nm_set.specs.Tended.{GoesOnTended, SaysTended}
+use Rattle.nm_set.proofs.Tending.{follows_then, is_no_fault}
+use Rattle.nm_callers.specs.Queues.{HasWorked, IsAtRest, IsWorkerOf}
+
+pub nothing_yet : (w : Hand) → IsAtRest w → HasWorked w w 0 0
+nothing_yet w rest = record { same = refl; past = seen_itself w.pass; won = record { links = omega arith; flags = omega arith }; rest = rest }
+
+-- one call more
+works_on : (w x z : Hand) (n t m d most : ℕ) → HasWorked w x n t → GoesOnTended most x z → HasWon x.pass.view.log z.pass.view.log m d → z.pending ≡ None → HasWorked w z (n + m) (t + d)
+works_on w x z n t m d most done on won settled =
+    let both = follows_then w.pass x.pass z.pass (record { same = done.same; past = done.past }) (record { same = on.same; past = on.past }) in
+    let links = done.won.links in
+    let flags = done.won.flags in
+    let more = won.links in
+    let less = won.flags in
+    record {
+      same = both.same;
+      past = both.past;
+      won = record { links = omega (arith, links, more); flags = omega (arith, flags, less) };
+      rest = record { free = on.held; settled = settled };
+    }
+
+pub adds_one : (b : Board) (h : Habit) (k : ℕ) (w x z : Hand) (n : ℕ) → HasWorked w x n 0 → SaysTended Insert b h k x z (Ok true) → HasWorked w z (n + 1) 0
+adds_one b h k w x z n done (inl held) = is_no_fault true fault.Held held.1
+adds_one b h k w x z n done (inr did) = works_on w x z n 0 1 0 _ done did.1.on did.1.won did.1.left
+
+pub adds_none : (b : Board) (h : Habit) (k : ℕ) (w x z : Hand) (n : ℕ) → HasWorked w x n 0 → SaysTended Insert b h k x z (Ok false) → HasWorked w z n 0
+adds_none b h k w x z n done (inl held) = is_no_fault false fault.Held held.1
+adds_none b h k w x z n done (inr did) =
+    let more = works_on w x z n 0 0 0 _ done did.1.on did.1.won did.1.left in
+    let links = more.won.links in
+    record { same = more.same; past = more.past; won = record { links = omega (arith, links); flags = more.won.flags }; rest = more.rest }
+
+told_held : {B : Type 0} (found : Option ℕ) → ◌≡◌ {A = Result (Option ℕ) Fault} (Ok found) (Err fault.Held) → B
+told_held found is = absurd (true≢false (ap (λ (r : Result (Option ℕ) Fault). is_ok r) is))
+
+pub takes_one : (b : Board) (h : Habit) (k : ℕ) (w x z : Hand) (n : ℕ) → HasWorked w x 0 n → SaysPopTended ◌<◌ b h x z (Ok (Some k)) → HasWorked w z 0 (n + 1)
+takes_one b h k w x z n done (inl held) = told_held (Some k) held.1
+takes_one b h k w x z n done (inr did) = works_on w x z 0 n 0 1 _ done did.1.on did.1.won did.1.left
+
+pub takes_none : (b : Board) (h : Habit) (w x z : Hand) (n : ℕ) → HasWorked w x 0 n → SaysPopTended ◌<◌ b h x z (Ok None) → HasWorked w z 0 n
+takes_none b h w x z n done (inl held) = told_held None held.1
+takes_none b h w x z n done (inr did) =
+    let more = works_on w x z 0 n 0 0 _ done did.1.on did.1.won did.1.left in
+    let flags = more.won.flags in
+    record { same = more.same; past = more.past; won = record { links = more.won.links; flags = omega (arith, flags) }; rest = more.rest }
+
+-- ---- members of a new set
+
+pub new_rests : (b : Board) (f : Fit) (k : ℕ) (m : Seated) → IsNewMember b f k m → IsAtRest m.hand
+new_rests b f k m is = record { free = is.new.3; settled = is.new.2 }
+
+pub still_there : (b : Board) (f : Fit) (k : ℕ) (m y : Seated) (n t : ℕ) → IsNewMember b f k m → y.board ≡ m.board → HasWorked m.hand y.hand n t → IsWorkerOf b k y
+still_there b f k m y n t is same did = record {
+  board = same ∙ is.board;
+  number = ap (λ (p : Stand). p.view.number) did.same ∙ ap (λ (v : View). v.number) is.new.1;
+  settled = did.rest.settled;
+}
+
+-- what it has won is what it has added and taken
+pub new_won : (b : Board) (f : Fit) (k : ℕ) (m : Seated) (z : Hand) (n t : ℕ) → IsNewMember b f k m → HasWorked m.hand z n t → (won_links z.pass.view.log ≡ n) × (won_flags z.pass.view.log ≡ t)
+new_won b f k m z n t is did =
+    let links : won_links m.hand.pass.view.log ≡ 0 = ap (λ (v : View). won_links v.log) is.new.1 in
+    let flags : won_flags m.hand.pass.view.log ≡ 0 = ap (λ (v : View). won_flags v.log) is.new.1 in
+    let more = did.won.links in
+    let less = did.won.flags in
+    (omega (arith, links, more), omega (arith, flags, less))

@@ -1,0 +1,10 @@
+use Rattle.std.proofs.Common.{◌≡◌, ◌≤◌}
+use Rattle.nm_callers.specs.Queues.{HasWorked}
+use Rattle.nm_callers.proofs.sharing.add_tasks.Given as goal
+
+abbrev pub invariant-loop-task : goal.invariant-loop-task
+invariant-loop-task l = record {
+  board : l.member.board ≡ l.fn.member.board;
+  did : HasWorked l.fn.member.hand l.member.hand l.added 0;
+  few : l.added ≤ l.task-index;
+}

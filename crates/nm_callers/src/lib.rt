@@ -1,0 +1,44 @@
+//! Callers that prove something over the clauses of the calls and the page alone: what one worker
+//! inserted another one finds, once it was told; and what the report of a set tells.
+#![tactic(auto)]
+
+mod alone;
+mod beside;
+mod fresh;
+mod full;
+mod least;
+mod letters;
+mod members;
+mod others;
+mod page;
+mod queue;
+mod radix;
+mod reading;
+mod rejoining;
+mod sets;
+mod sharing;
+mod threads;
+mod trees;
+
+pub use alone::{insert_alone, look_alone, look_many_alone, next_alone};
+pub use beside::{delete_beside, insert_beside, look_many_beside, next_beside, prev_beside};
+pub use fresh::{Looked, look_first, look_in_new, look_in_new_of_one, look_only};
+pub use full::add_or_blame;
+pub use least::{Taken, take_at_once, take_both, take_in_threads};
+pub use letters::{Reading, Written, insert_while_read};
+pub use members::{add_then_find, put_again, put_and_take, put_back, remove_then_miss, take_once};
+pub use others::{PutAndTaken, put_and_take_alone, put_and_take_in_new};
+pub use page::{
+    deleted_keys_are_deleted_once, deleted_keys_are_missed, inserted_keys_are_found,
+    inserted_keys_are_in_the_set, keys_are_the_acts, keys_that_nobody_inserts_are_missed,
+};
+pub use queue::take_two_tasks;
+pub use radix::look_in_radix;
+pub use reading::look_where_told;
+pub use rejoining::{Rejoined, add_then_rejoin};
+pub use sets::{insert_then_end, insert_then_report};
+pub use sharing::{SharedTasks, add_tasks, share_tasks, take_tasks};
+pub use threads::{Inserted, find_both, insert_both, insert_both_then_find};
+pub use trees::{
+    delete_then_miss, insert_then_find, insert_then_find_alone, look_told, tell_worker,
+};

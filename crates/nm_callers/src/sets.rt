@@ -1,0 +1,90 @@
+//! What the report of a set tells a caller that lets it keep its member, or ends it by its last
+//! one, by the clauses of `nm_set` and the page alone.
+ghost use Rattle.std.specs.Prelude.{◌≡◌, [], true, IfSome, Contains};
+ghost use Rattle.nm_callers.specs.Adding.{HasAdded};
+
+use nm_edge::Key;
+use nm_set::{Fit, Member, Report, Set};
+use std::alloc::Global;
+
+/// A set of one worker, whose member inserts a key and is kept. `None`: the insert was not answered
+/// true, or memory was refused. Else the report of the closed set has the key.
+pub fn insert_then_report(alloc: Global, nodes: u32, key: Key, tries: u32) -> Option<Report>
+    ensures { IfSome result (λ r. Contains r.keys.items key) }
+{
+    let Ok(set) = Set::unbalanced(alloc, nodes, 1, Fit::Lowest) else {
+        return None;
+    };
+    let Ok(mut member) = set.member(0) else {
+        return None;
+    };
+    if !add(&mut member, key, tries) {
+        return None;
+    }
+    close_with(set, member, key)
+}
+
+/// Inserts a key by a member that has flagged nothing, and tells whether it was so and was answered
+/// true.
+fn add(member: &mut Member, key: Key, tries: u32) -> bool
+    ensures board { member.new.board ≡ member.old.board }
+    ensures added { result ≡ true → HasAdded key member.new.hand }
+{
+    if member.ledger().flags != 0 {
+        return false;
+    }
+    match member.try_insert(key, tries) {
+        Ok(true) => true,
+        _ => false,
+    }
+}
+
+/// Closes a set with its only worker, whose member has inserted a key.
+fn close_with(set: Set, member: Member, key: Key) -> Option<Report>
+    requires new { set.kept ≡ [] }
+    requires one { set.board.layout.workers ≡ 1 }
+    requires own { member.board ≡ set.board }
+    requires added { HasAdded key member.hand }
+    ensures { IfSome result (λ r. Contains r.keys.items key) }
+{
+    let mut set = set;
+    member.is_of_a_run();
+    let Ok(()) = set.keep(member) else {
+        return None;
+    };
+    match set.close() {
+        Ok(report) => Some(report),
+        Err(_) => None,
+    }
+}
+
+/// A set of one worker, whose member inserts a key and then ends it. `None`: the insert was not
+/// answered true, or memory was refused. Else the report has the key.
+pub fn insert_then_end(alloc: Global, nodes: u32, key: Key, tries: u32) -> Option<Report>
+    ensures { IfSome result (λ r. Contains r.keys.items key) }
+{
+    let Ok(set) = Set::unbalanced(alloc, nodes, 1, Fit::Lowest) else {
+        return None;
+    };
+    let Ok(mut member) = set.member(0) else {
+        return None;
+    };
+    drop(set);
+    if !add(&mut member, key, tries) {
+        return None;
+    }
+    end_by(member, key)
+}
+
+/// Ends a set by its only worker, whose member has inserted a key.
+fn end_by(member: Member, key: Key) -> Option<Report>
+    requires one { member.board.layout.workers ≡ 1 }
+    requires added { HasAdded key member.hand }
+    ensures { IfSome result (λ r. Contains r.keys.items key) }
+{
+    member.is_of_a_run();
+    match member.end() {
+        Ok(report) => Some(report),
+        Err(_) => None,
+    }
+}

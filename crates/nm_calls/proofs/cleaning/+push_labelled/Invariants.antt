@@ -1,5 +1,0 @@
-use Rattle.std.proofs.Common.{length}
-use Rattle.nm_calls.proofs.cleaning.+push_labelled.Given as goal
-
-abbrev pub decreases-push_labelled : goal.decreases-push_labelled
-decreases-push_labelled l = length l.nodes.now

@@ -1,5 +1,0 @@
-use Rattle.std.proofs.Common.{arith}
-use Rattle.nm_told.proofs.alone.look_alone.Goals as goal
-
-pub returns : goal.returns
-returns c alone busy = let none = c.has.ensures.alone alone busy in let some = c.requires.some in omega (arith, none, some)

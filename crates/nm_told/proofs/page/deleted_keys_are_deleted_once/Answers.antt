@@ -1,5 +1,0 @@
-use Rattle.nm_told.proofs.TwoAnswers.{deleted_then_not_again}
-use Rattle.nm_told.proofs.page.deleted_keys_are_deleted_once.Goals as goal
-
-pub returns : goal.returns
-returns c = deleted_then_not_again

@@ -1,5 +1,0 @@
-use Rattle.nm_told.proofs.TwoAnswers.{inserted_then_found}
-use Rattle.nm_told.proofs.page.inserted_keys_are_found.Goals as goal
-
-pub returns : goal.returns
-returns c = inserted_then_found

@@ -1,5 +1,0 @@
-use Rattle.nm_told.proofs.StayingKeys.{stays_where_none_deleted}
-use Rattle.nm_told.proofs.page.inserted_keys_are_in_the_set.Goals as goal
-
-pub returns : goal.returns
-returns c = stays_where_none_deleted

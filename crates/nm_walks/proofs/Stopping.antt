@@ -1,0 +1,108 @@
+-- The walk of an insert: where it stands in a radix tree, and where it stops.
+use Rattle.std.proofs.Common.{◌≡◌, ◌≢◌, ◌≤◌, ◌<◌, ◌+◌, ◌⊎◌, inl, inr, ℕ, Bool, true, false, List, [], refl, sym, ap, subst, ◌∙◌, length, true≢false}
+use Rattle.std.specs.Prelude.{Option, Some, None, IfSome}
+use native.Mathlib.Decide.{ℕ_discrete}
+use Rattle.nm_edge.specs.Edges.{Edge}
+use Rattle.nm_edge.specs.Keys.{IsKey}
+use Rattle.nm_edge.specs.Layouts.{Layout}
+use Rattle.nm_edge.specs.Ranges.{covers}
+use Rattle.nm_edge.specs.declared.edge.Side.{Side}
+use Rattle.nm_order.specs.Facts.Fact.{KnowsLeaf, ReadKey}
+use Rattle.nm_steps.specs.Steps.{Board, Stand}
+use Rattle.nm_walks.specs.declared.looking.Onward.{Onward}
+use Rattle.nm_walks.specs.declared.spot.ChainEdge.{ChainEdge}
+use Rattle.nm_walks.specs.declared.spot.WalkEnd.{WalkEnd}
+use Rattle.nm_walks.specs.declared.spot.Spot.{Spot}
+use Rattle.nm_walks.specs.Bounds.{reach}
+use Rattle.nm_walks.specs.Telling.{Tells, GoesOn, OnlyLooks, OnwardTold, IsPinnedIn}
+use Rattle.nm_walks.specs.Walks.{begin, onto, Reads, Seeks, IsWalking, HasWalked, HasFound}
+use Rattle.nm_walks.specs.Places.{IsStop, Stops, HasStopped, HasNarrowed, HasEndedPlain, IsNarrowed, IsOver}
+use Rattle.nm_walks.proofs.GoingOn.{found_so}
+use Rattle.nm_walks.proofs.ShortWalks.{passes_router}
+use Rattle.nm_walks.proofs.Standing.{at_kept, onto-parent}
+
+-- ---- a walk that ended at a leaf
+
+at_leaf : (radix : Bool) (k : ℕ) (on : Onward) → on.next.slot ≡ 0 → IsStop radix k on
+at_leaf false k on null = null
+at_leaf true k on null = inl null
+
+pub stopped_of : (L : Layout) (k : ℕ) (o q : Stand) (c : List ChainEdge) (r : WalkEnd) → HasWalked L k o q c r → HasStopped L k o q c r
+stopped_of L k o q c r w = record {
+  walk = (w.walk.0, w.walk.1, w.walk.2, w.walk.3, w.walk.4, at_leaf L.radix k w.walk.2 w.walk.5, w.walk.6, w.walk.7);
+  at = w.ended.at;
+  within = w.ended.within;
+  few = w.few;
+  found = λ _. w.found;
+}
+
+-- as `seek` answers it
+pub seek_stops : (L : Layout) (k : ℕ) (o q : Stand) (c : List ChainEdge) (r : Option WalkEnd) → Seeks L k o.view.log q.view.log c r → Stops L k o.view.log q.view.log c r
+seek_stops L k o q c None h = h
+seek_stops L k o q c (Some r) h = let w = h.0 in ((w.0, w.1, w.2, w.3, w.4, at_leaf L.radix k w.2 w.5, w.6, w.7), h.1)
+
+pub seek_stopped : (L : Layout) (k : ℕ) (o q : Stand) (c : List ChainEdge) (r : Option WalkEnd) → IfSome r (HasWalked L k o q c) → IfSome r (HasStopped L k o q c)
+seek_stopped L k o q c None h = tt
+seek_stopped L k o q c (Some r) h = stopped_of L k o q c r h
+
+pub seek_plain : (L : Layout) (k : ℕ) (o q : Stand) (c : List ChainEdge) (r : Option WalkEnd) → IfSome r (HasWalked L k o q c) → IfSome r (HasEndedPlain o q k)
+seek_plain L k o q c None h = tt
+seek_plain L k o q c (Some r) h = record { leaf = h.ended.leaf; found = h.found }
+
+-- ---- ranges on the way
+
+pub narrowed_first : (o p : Stand) (k : ℕ) (e : Edge) (s : Spot) → s ≡ begin e → IsNarrowed o p k s.parent s.side
+narrowed_first o p k e s is = rw is (inl (refl, refl))
+
+pub narrowed_still : (o p q : Stand) (k parent : ℕ) (side : Side) → GoesOn p q → IsNarrowed o p k parent side → IsNarrowed o q k parent side
+narrowed_still o p q k parent side on (inl first) = inl first
+narrowed_still o p q k parent side on (inr w) = inr (w.0, w.1, w.2, w.3, w.4, λ since walks. on.keeps (ReadKey since k parent w.1 w.2 w.0) (w.5 since walks))
+
+-- to the next node, in whose parent's range the key is
+pub narrowed_on : (L : Layout) (k n : ℕ) (o p q : Stand) (t : Spot) (c : List ChainEdge) (on : Onward) → IsWalking L k n o p t c → Reads k t.edge.slot p.view.log q.view.log on → OnwardTold p q k t.edge.slot on.found on.side on.next
+    → covers on.found k ≡ true → (s : Spot) → s ≡ onto t on.side on.next → IsNarrowed o q k s.parent s.side
+narrowed_on L k n o p q t c on w read told is_in s is =
+    let place = onto-parent t on.side on.next in
+    rw (is, place.0, place.1) (inr (on.found, t.parent, t.side, is_in, sym read.3, λ since walks. told.reads since t.parent t.side (w.come since walks)))
+
+-- where it stops: at a leaf, or at a node above the fixed ones with another key
+module _ (b : Board) (radix : b.layout.radix ≡ true) (k : ℕ) (key : IsKey k) (n : ℕ) (o p q : Stand) (t : Spot) (c : List ChainEdge) (on : Onward) (w : IsWalking b.layout k n o p t c) (read : Reads k t.edge.slot p.view.log q.view.log on)
+    (goes : GoesOn p q) (told : OnwardTold p q k t.edge.slot on.found on.side on.next) (pinned : IsPinnedIn b q) where
+  -- a node that is no leaf, and has not the key in its range
+  record IsApart : Type 0 where
+    high : 6 ≤ t.edge.slot
+    other : on.found ≡ k → ⊥
+    outside : covers on.found k ≡ false
+
+  leaf_or_apart : IsStop true k on → (on.next.slot ≡ 0) ⊎ IsApart
+  leaf_or_apart (inl null) = inl null
+  leaf_or_apart (inr outside) = elim (ℕ_discrete on.next.slot 0) [ yes null ↦ inl null | no some ↦ inr (apart some) ]
+    where
+      apart : on.next.slot ≢ 0 → IsApart
+      apart some =
+          let router = passes_router q pinned.run (ap (λ (L : Layout). L.radix) pinned.own.layout ∙ radix) k key n o.view.log p.view.log t c on w.walk read some in
+          record { high = router.0; other = λ same. true≢false (sym router.1 ∙ (ap (covers on.found) same ∙ outside)); outside = outside }
+
+  found_of : (on.next.slot ≡ 0) ⊎ IsApart → on.found ≡ k → HasFound o q k t.edge.slot t.parent t.side on.found
+  found_of (inl null) same = found_so o p q k on.found t on.side on.next w.come told null
+  found_of (inr apart) same = absurd (apart.other same)
+
+  over_of : (on.next.slot ≡ 0) ⊎ IsApart → IsOver q k t.edge.slot on.found
+  over_of (inl null) = inl (told.learned.leaf null)
+  over_of (inr apart) = inr (apart.high, apart.outside)
+
+  pub stops_here : IsStop true k on → n + 2 ≤ reach b.layout → IsNarrowed o p k t.parent t.side → (r : WalkEnd) → r.spot ≡ t → r.key ≡ on.found → HasStopped b.layout k o q c r × HasNarrowed o q k r
+  stops_here stop few narrowed r spot is = rw (spot, is) (
+    record {
+      walk = (n, p.view.log, on, few, w.walk, subst (λ (radix : Bool). IsStop radix k on) (sym radix) stop, read, refl);
+      at = at_kept (Tells p) (Tells q) goes.keeps t c w.at;
+      within = w.within;
+      few = w.short;
+      found = found_of (leaf_or_apart stop);
+    },
+    record {
+      read = λ since walks. told.reads since t.parent t.side (w.come since walks);
+      narrowed = narrowed_still o p q k t.parent t.side goes narrowed;
+      over = over_of (leaf_or_apart stop);
+    },
+  )

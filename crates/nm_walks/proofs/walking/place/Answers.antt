@@ -1,0 +1,95 @@
+use Rattle.std.proofs.Common.{◌≡◌, ◌≢◌, ◌≤◌, ◌+◌, inl, inr, ap, subst, sym, ◌∙◌, arith}
+use Rattle.std.specs.Prelude.{None}
+use Rattle.nm_edge.specs.Layouts.{Layout}
+use Rattle.nm_walks.specs.Bounds.{reach}
+use Rattle.nm_walks.specs.Telling.{OnwardTold}
+use Rattle.nm_walks.specs.Walks.{Reads, IsWalking}
+use Rattle.nm_walks.proofs.GoingOn.{goes_then, only_then, pinned_in_still}
+use Rattle.nm_walks.proofs.ShortWalks.{too_long, too_deep}
+use Rattle.nm_walks.proofs.Stopping.{narrowed_on, stops_here}
+use Rattle.nm_walks.proofs.Walked.{walks_on}
+use Rattle.nm_walks.proofs.walking.place.Goals as goal
+
+pub read_node-on-requires-clause-pinned : goal.read_node-on-requires-clause-pinned
+read_node-on-requires-clause-pinned c = pinned_in_still c.args.shared.now c.args.pass.now c.loop-below.pass c.loop-below.invariant.walking.on c.requires.pinned
+
+pub loop-below-preserved : goal.loop-below-preserved
+loop-below-preserved c =
+    let o = c.args.pass.now in
+    let p = c.loop-below.pass in
+    let q = c.read_node-on.new.pass in
+    let t = c.loop-below.spot in
+    let on = c.read_node-on.result in
+    let L = c.args.shared.now.layout in
+    let some : on.next.slot ≢ 0 = (c.stops.ensures.no c.if-stops.false).0 in
+    let told : OnwardTold p q c.args.key t.edge.slot on.found on.side on.next = subst (λ n. OnwardTold p q c.args.key n on.found on.side on.next) c.slot-node.ensures c.read_node-on.ensures.told in
+    let read : Reads c.args.key t.edge.slot p.view.log q.view.log on = subst (λ n. Reads c.args.key n p.view.log q.view.log on) c.slot-node.ensures c.read_node-on.ensures.looks in
+    let more = c.extend.ensures.more c.if-not-extend.false in
+    let below = c.loop-below-test.true in
+    let size = c.reach-below-end.ensures.reach in
+    let layout = ap reach c.layout-layout.ensures in
+    record {
+      inside = omega (arith, below, size, layout);
+      walking = subst (λ chain. IsWalking L c.args.key (c.loop-below._below + 1) o q c.further-spot.result chain) (sym more)
+          (walks_on L c.args.key c.loop-below._below o p q t c.loop-below.chain.items on c.loop-below.invariant.walking read c.read_node-on.ensures.on c.read_node-on.ensures.only told
+          some c.read_node-on.ensures.within (rw (← more) (c.extend.ensures.short c.if-not-extend.false)) c.further-spot.result c.further-spot.ensures.spot c.further-spot.ensures.edge);
+      narrowed = narrowed_on L c.args.key c.loop-below._below o p q t c.loop-below.chain.items on c.loop-below.invariant.walking read told
+          (c.stops.ensures.no c.if-stops.false).1 c.further-spot.result c.further-spot.ensures.spot;
+    }
+
+pub returns-then-stops : goal.returns-then-stops
+returns-then-stops c =
+    let o = c.args.pass.now in
+    let p = c.loop-below.pass in
+    let q = c.read_node-on.new.pass in
+    let t = c.loop-below.spot in
+    let on = c.read_node-on.result in
+    let told : OnwardTold p q c.args.key t.edge.slot on.found on.side on.next = subst (λ n. OnwardTold p q c.args.key n on.found on.side on.next) c.slot-node.ensures c.read_node-on.ensures.told in
+    let read : Reads c.args.key t.edge.slot p.view.log q.view.log on = subst (λ n. Reads c.args.key n p.view.log q.view.log on) c.slot-node.ensures c.read_node-on.ensures.looks in
+    let walking = c.loop-below.invariant.walking in
+    let goes = goes_then o p q walking.on c.read_node-on.ensures.on in
+    let below = c.loop-below-test.true in
+    let size = c.reach-below-end.ensures.reach in
+    let layout = ap reach c.layout-layout.ensures in
+    let stopped = stops_here c.args.shared.now c.requires.radix c.args.key c.requires.key c.loop-below._below o p q t c.loop-below.chain.items on walking read c.read_node-on.ensures.on told (pinned_in_still c.args.shared.now o q goes c.requires.pinned)
+    (c.stops.ensures.yes c.if-stops.true) (omega (arith, below, size, layout)) c.loop-below.invariant.narrowed c.end_at.result c.end_at.ensures.spot c.end_at.ensures.key in
+    record {
+      walk = (stopped.0.walk, stopped.0.few);
+      came = stopped.0;
+      narrowed = stopped.1;
+      on = goes;
+      only = only_then o p q walking.only c.read_node-on.ensures.only;
+    }
+
+pub returns-then-not-extend-clause-on : goal.returns-then-not-extend-clause-on
+returns-then-not-extend-clause-on c = goes_then c.args.pass.now c.loop-below.pass c.read_node-on.new.pass c.loop-below.invariant.walking.on c.read_node-on.ensures.on
+
+pub returns-then-not-extend-clause-only : goal.returns-then-not-extend-clause-only
+returns-then-not-extend-clause-only c = only_then c.args.pass.now c.loop-below.pass c.read_node-on.new.pass c.loop-below.invariant.walking.only c.read_node-on.ensures.only
+
+pub returns-then-not-extend-clause-walk : goal.returns-then-not-extend-clause-walk
+returns-then-not-extend-clause-walk c =
+    let o = c.args.pass.now in
+    let p = c.loop-below.pass in
+    let q = c.read_node-on.new.pass in
+    let t = c.loop-below.spot in
+    let on = c.read_node-on.result in
+    let read : Reads c.args.key t.edge.slot p.view.log q.view.log on = subst (λ n. Reads c.args.key n p.view.log q.view.log on) c.slot-node.ensures c.read_node-on.ensures.looks in
+    let walking = c.loop-below.invariant.walking in
+    let below = c.loop-below-test.true in
+    let size = c.reach-below-end.ensures.reach in
+    let layout = ap reach c.layout-layout.ensures in
+    inr (too_deep c.args.shared.now c.args.key c.requires.key c.loop-below._below o.view.log t c.loop-below.chain.items p q (pinned_in_still c.args.shared.now o p walking.on c.requires.pinned)
+    (pinned_in_still c.args.shared.now o q (goes_then o p q walking.on c.read_node-on.ensures.on) c.requires.pinned) on walking.walk walking.at read (c.stops.ensures.no c.if-stops.false).0 (c.extend.ensures.tagged c.if-not-extend.true)
+    (c.extend.ensures.full c.if-not-extend.true) (omega (arith, below, size, layout)))
+
+pub returns-clause-walk : goal.returns-clause-walk
+returns-clause-walk c =
+    let o = c.args.pass.now in
+    let p = c.loop-below.pass in
+    let walking = c.loop-below.invariant.walking in
+    let inside = c.loop-below.invariant.inside in
+    let end = c.loop-below-test.false in
+    let size = c.reach-below-end.ensures.reach in
+    let layout = ap reach c.layout-layout.ensures in
+    inl (too_long c.args.shared.now c.args.key c.requires.key c.loop-below._below o.view.log c.loop-below.spot c.loop-below.chain.items p (pinned_in_still c.args.shared.now o p walking.on c.requires.pinned) walking.walk (omega (arith, inside, end, size, layout)))

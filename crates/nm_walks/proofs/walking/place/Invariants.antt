@@ -1,0 +1,12 @@
+use Rattle.std.proofs.Common.{◌+◌, ◌≤◌}
+use Rattle.nm_walks.specs.Bounds.{reach}
+use Rattle.nm_walks.specs.Places.{IsNarrowed}
+use Rattle.nm_walks.specs.Walks.{IsWalking}
+use Rattle.nm_walks.proofs.walking.place.Given as goal
+
+abbrev pub invariant-loop-below : goal.invariant-loop-below
+invariant-loop-below l = record {
+  inside : l._below + 1 ≤ reach l.shared.layout;
+  walking : IsWalking l.shared.layout l.key l._below l.fn.pass l.pass l.spot l.chain.items;
+  narrowed : IsNarrowed l.fn.pass l.pass l.key l.spot.parent l.spot.side;
+}

@@ -1,0 +1,12 @@
+pub mod Bounds
+pub mod Places
+pub mod Rooms
+pub mod Marking
+pub mod Making
+pub mod Telling
+pub mod Walks
+pub mod AddedLooks
+pub mod WonCounts
+pub mod Cleanups
+pub mod Labelling
+pub mod Growing

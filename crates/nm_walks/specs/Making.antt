@@ -1,0 +1,142 @@
+-- What a pass's private slots have, and what the steps that make nodes leave.
+use Rattle.std.specs.Prelude.{◌≡◌, ◌≢◌, ◌⊎◌, ℕ, ◌<◌, nat_lt, Bool, true, false, if◌then◌else◌, List, [], ◌∷◌, ◌++◌, Option, Some, IfSome}
+use Rattle.nm_edge.specs.Edges.{Edge}
+use Rattle.nm_edge.specs.Ranges.{IsParting, covers}
+use Rattle.nm_edge.specs.declared.edge.Side.{Side}
+use Rattle.nm_edge.specs.declared.edge.Side.TheVariants.{Left, Right}
+use Rattle.nm_edge.specs.declared.node.NodeId.{NodeId}
+use Rattle.nm_model.specs.declared.event.Event.TheVariants.{Fill, Link}
+use Rattle.nm_model.specs.declared.event.Field.TheVariants.{Key as KeyOf, Edge as EdgeOn}
+use Rattle.nm_model.specs.declared.event.Op.TheVariants.{Insert}
+use Rattle.nm_model.specs.declared.knowledge.Draft.{Draft}
+use Rattle.nm_model.specs.declared.reply.Reply.TheVariants.{Filled, Linked, Lost}
+use Rattle.nm_model.specs.Knowledge.{draft_of, is_private}
+use Rattle.nm_model.specs.Maps.{get}
+use Rattle.nm_model.specs.Searches.{idle, side_of}
+use Rattle.nm_model.specs.Walks.{Entry, search_after}
+use Rattle.nm_order.specs.Facts.Since.{ThePin}
+use Rattle.nm_order.specs.Facts.Fact.{CallIs, KnowsLeaf, ReadKey, EndedAt}
+use Rattle.nm_order.specs.Taught.{EdgeLearned}
+use Rattle.nm_steps.specs.Rules.{knowledge}
+use Rattle.nm_steps.specs.Steps.{Stand, Stepped}
+use Rattle.nm_walks.specs.Places.{IsOver}
+use Rattle.nm_walks.specs.Telling.{Tells, OnlyLooks}
+
+-- ---- what private slots have
+
+-- what is stored in a private slot
+abbrev pub draft : Stand → ℕ → Draft
+draft p slot = draft_of (knowledge p.view) slot
+
+-- a private slot has a birth, a key and two edges
+pub record IsFilled (p : Stand) (slot birth key left right : ℕ) : Type 0 where
+  pub has_birth : (draft p slot).birth ≡ Some birth
+  pub has_key : (draft p slot).key ≡ Some key
+  pub has_left : (draft p slot).left ≡ Some left
+  pub has_right : (draft p slot).right ≡ Some right
+
+-- ---- what a step leaves
+
+-- each other slot is private with what was stored there, or is not private, as it was
+abbrev pub KeepsOtherSlots : ℕ → Stand → Stand → Type 0
+KeepsOtherSlots slot p q = (s : ℕ) → s ≢ slot
+    → get (knowledge q.view).drafts s ≡ get (knowledge p.view).drafts s
+
+-- so does each slot but the claimed one, if one was claimed
+abbrev pub KeepsAllBut : Option NodeId → Stand → Stand → Type 0
+KeepsAllBut claimed p q = (s : ℕ) → IfSome claimed (λ node. s ≢ node.slot)
+    → get (knowledge q.view).drafts s ≡ get (knowledge p.view).drafts s
+
+-- nothing but private slots has changed
+pub record OnlyMakes (p q : Stand) : Type 0 where
+  pub epochs : (knowledge q.view).brief ≡ (knowledge p.view).brief
+  pub known : (knowledge q.view).known ≡ (knowledge p.view).known
+  pub ledgers : (knowledge q.view).ledgers ≡ (knowledge p.view).ledgers
+  pub search : search_after idle q.view.log ≡ search_after idle p.view.log
+
+-- ---- filling a slot
+
+-- a draft with that key and those edges
+abbrev pub with_node : Draft → ℕ → ℕ → ℕ → Draft
+with_node d key left right = record d { key = Some key; left = Some left; right = Some right }
+
+-- the three steps that store a key and two edges in a slot
+abbrev pub fills : ℕ → ℕ → ℕ → ℕ → List Entry
+fills slot key left right = (Fill slot KeyOf key, Filled) ∷ (Fill slot (EdgeOn Left) left, Filled)
+    ∷ (Fill slot (EdgeOn Right) right, Filled) ∷ []
+
+-- the key and both edges were stored by three steps, and nothing else changed
+abbrev pub HasFilled : Stand → Stand → ℕ → ℕ → ℕ → ℕ → Type 0
+HasFilled p q slot key left right =
+    q ≡ record p {
+      view = record p.view
+          { log = p.view.log ++ fills slot key left right; past = q.view.past };
+    }
+
+-- ---- linking a new node
+
+-- the key of the internal node over two keys: the greater one (Natarajan and Mittal, section 3.2,
+-- insert); and in a radix tree one that has both keys in its range, in two halves
+abbrev pub IsRouter : Bool → ℕ → ℕ → ℕ → Type 0
+IsRouter false key other router = router ≡ (if nat_lt key other then other else key)
+IsRouter true key other router = IsParting key other router
+
+-- two private slots are filled to put a key beside a slot that has another: one as a leaf with the
+-- key, and one as the internal node over both; the slot with the lesser key is on the left
+-- (Natarajan and Mittal, section 3.2, insert)
+pub record IsFork (p : Stand) (key other leaf new fresh : ℕ) : Type 0 where
+  pub router : ℕ
+  pub between : IsRouter p.view.layout.radix key other router
+  pub new_birth : ℕ
+  pub fresh_birth : ℕ
+  pub apart : new ≢ fresh
+  pub as_leaf : IsFilled p fresh fresh_birth key 0 0
+  pub as_fork : ((key < other) × IsFilled p new new_birth router fresh leaf)
+      ⊎ ((other < key) × IsFilled p new new_birth router leaf fresh)
+
+-- the edge is the first one that a walk reads, or its node has the call's key in its range, on that
+-- side, as a walk of the call has read
+abbrev pub IsWithin : Stand → ℕ → ℕ → Side → Type 0
+IsWithin p k parent side = ((parent ≡ 2) × (side ≡ Left))
+    ⊎ ((v above : ℕ) × (up : Side) × (covers v k ≡ true) × (side_of k v ≡ side)
+    × Tells p (ReadKey ThePin k parent above up v))
+
+-- a walk of the call came by that edge to a slot with another key, where the call may put its own:
+-- it ended there, at a leaf; or, in a radix tree, each node above has the key in its range, and the
+-- slot is a leaf, or has not
+abbrev pub IsPlace : Bool → Stand → ℕ → ℕ → ℕ → Side → ℕ → Type 0
+IsPlace false p k x parent side key = Tells p (KnowsLeaf x)
+    × Tells p (EndedAt ThePin k x parent side key)
+IsPlace true p k x parent side key = IsOver p k x key
+    × Tells p (ReadKey ThePin k x parent side key) × IsWithin p k parent side
+
+-- the call is to insert a key and has not linked yet, a walk of it ended at the leaf, by that edge,
+-- and the new nodes put the key beside the leaf (Natarajan and Mittal, section 3.2, insert)
+pub record IsInserting (p : Stand) (parent : ℕ) (side : Side) (leaf new fresh : ℕ) : Type 0 where
+  pub key : ℕ
+  pub other : ℕ
+  pub call : Tells p (CallIs Insert key)
+  pub not_linked : (search_after idle p.view.log).linked ≡ false
+  pub place : IsPlace p.view.layout.radix p key leaf parent side other
+  pub apart : other ≢ key
+  pub fork : IsFork p key other leaf new fresh
+
+-- the link is won: the call has linked, and both slots are private no longer (Natarajan and Mittal,
+-- section 3.2, insert)
+pub record HasLinked (p q : Stand) (parent : ℕ) (side : Side) (leaf new fresh : ℕ) : Type 0 where
+  pub step : (birth : ℕ) → (draft p new).birth ≡ Some birth
+      → Stepped p q (Link parent side leaf new) (Linked (record { slot = new; birth = birth }))
+  pub new_given : is_private (knowledge q.view) new ≡ false
+  pub fresh_given : is_private (knowledge q.view) fresh ≡ false
+  pub others : (s : ℕ) → s ≢ new → s ≢ fresh
+      → get (knowledge q.view).drafts s ≡ get (knowledge p.view).drafts s
+  pub epochs : (knowledge q.view).brief ≡ (knowledge p.view).brief
+  pub ledgers : (knowledge q.view).ledgers ≡ (knowledge p.view).ledgers
+  pub search : search_after idle q.view.log
+      ≡ record (search_after idle p.view.log) { linked = true }
+
+-- the link is lost: the edge that was found is read (Natarajan and Mittal, section 3.2, insert)
+pub record HasLost (p q : Stand) (parent : ℕ) (side : Side) (leaf new : ℕ) (e : Edge) : Type 0 where
+  pub step : Stepped p q (Link parent side leaf new) (Lost e)
+  pub learned : EdgeLearned (Tells q) parent side e
+  pub only : OnlyLooks p q

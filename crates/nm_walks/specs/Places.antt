@@ -1,0 +1,88 @@
+-- The walk of an insert: it ends at a leaf or, in a radix tree, comes to where the key may be put.
+use Rattle.std.specs.Prelude.{◌≡◌, ◌≢◌, ◌≤◌, ◌<◌, ◌+◌, ◌⊎◌, ℕ, Bool, true, false, List, [], length, Option, Some, None}
+use Rattle.nm_edge.specs.Layouts.{Layout}
+use Rattle.nm_edge.specs.Ranges.{covers}
+use Rattle.nm_edge.specs.declared.edge.Side.{Side}
+use Rattle.nm_edge.specs.declared.edge.Side.TheVariants.{Left}
+use Rattle.nm_model.specs.Searches.{side_of}
+use Rattle.nm_model.specs.Walks.{Entry}
+use Rattle.nm_order.specs.Facts.{Since}
+use Rattle.nm_order.specs.Facts.Fact.{KnowsLeaf, ReadKey, EndedAt}
+use Rattle.nm_order.specs.Taught.{WalksAreFor as HasWalks}
+use Rattle.nm_steps.specs.Steps.{Stand}
+use Rattle.nm_walks.specs.declared.looking.Onward.{Onward}
+use Rattle.nm_walks.specs.declared.spot.ChainEdge.{ChainEdge}
+use Rattle.nm_walks.specs.declared.spot.Descent.{Descent}
+use Rattle.nm_walks.specs.declared.spot.Descent.TheVariants.{Ended, Stopped}
+use Rattle.nm_walks.specs.declared.spot.WalkEnd.{WalkEnd}
+use Rattle.nm_walks.specs.declared.spot.Spot.{Spot}
+use Rattle.nm_walks.specs.Bounds.{chain_bound, reach}
+use Rattle.nm_walks.specs.Telling.{Tells}
+use Rattle.nm_walks.specs.Walks.{Walks, Reads, IsBroken, IsAt, HasFound, EachWalkHasCome, IsWalking}
+
+-- ---- what such a walk leaves in the log
+
+-- an insert of k stops at a node that was read so: at a leaf; and in a radix tree at an internal
+-- node too that has not k in its range
+abbrev pub IsStop : Bool → ℕ → Onward → Type 0
+IsStop false k on = on.next.slot ≡ 0
+IsStop true k on = (on.next.slot ≡ 0) ⊎ (covers on.found k ≡ false)
+
+-- a walk to such a slot, which the edge of s leads to and whose key this is
+abbrev pub StopsAt : Layout → ℕ → List Entry → List Entry → Spot → List ChainEdge → ℕ → Type 0
+StopsAt L k old new s c key =
+    (n : ℕ) × (mid : List Entry) × (on : Onward) × (n + 2 ≤ reach L) × Walks k n old mid s c
+    × IsStop L.radix k on × Reads k s.edge.slot mid new on × (on.found ≡ key)
+
+-- what it comes to. None: it was broken off at a bound
+abbrev pub Stops : Layout → ℕ → List Entry → List Entry → List ChainEdge → Option WalkEnd → Type 0
+Stops L k old new c (Some r) = StopsAt L k old new r.spot c r.key
+    × (length c < chain_bound)
+Stops L k old new c None = IsBroken L k old new
+
+-- ---- what is known where it stands
+
+-- each kind of walk that the call has read that key at the slot, to which it came so
+abbrev pub EachWalkHasRead : Stand → Stand → ℕ → ℕ → ℕ → Side → ℕ → Type 0
+EachWalkHasRead p q k slot parent up v =
+    (since : Since) → HasWalks p.view.layout p.view.number p.view.log since k
+    → Tells q (ReadKey since k slot parent up v)
+
+-- the edge of s is the first one that a walk reads, or its node has k in its range, on that side
+abbrev pub IsNarrowed : Stand → Stand → ℕ → ℕ → Side → Type 0
+IsNarrowed o p k parent side = ((parent ≡ 2) × (side ≡ Left))
+    ⊎ ((v above : ℕ) × (up : Side) × (covers v k ≡ true) × (side_of k v ≡ side)
+    × EachWalkHasRead o p k parent above up v)
+
+-- between k and the slot x with another key a new node may be put: x is known as a leaf, or has not
+-- k in its range
+abbrev pub IsOver : Stand → ℕ → ℕ → ℕ → Type 0
+IsOver p k x key = Tells p (KnowsLeaf x) ⊎ ((6 ≤ x) × (covers key k ≡ false))
+
+-- in a tree of this shape the walk of an insert has stopped so
+pub record HasStopped (L : Layout) (k : ℕ) (o p : Stand) (c : List ChainEdge) (r : WalkEnd) : Type 0 where
+  pub walk : StopsAt L k o.view.log p.view.log r.spot c r.key
+  pub at : IsAt (Tells p) r.spot c
+  pub within : r.spot.edge.slot ≤ L.nodes
+  pub few : length c < chain_bound
+  pub found : r.key ≡ k → HasFound o p k r.spot.edge.slot r.spot.parent r.spot.side r.key
+
+-- and there the key may be put, in the shape of Natarajan and Mittal, or in that of a radix tree
+pub record HasEndedPlain (o p : Stand) (k : ℕ) (r : WalkEnd) : Type 0 where
+  pub leaf : Tells p (KnowsLeaf r.spot.edge.slot)
+  pub found : HasFound o p k r.spot.edge.slot r.spot.parent r.spot.side r.key
+
+pub record HasNarrowed (o p : Stand) (k : ℕ) (r : WalkEnd) : Type 0 where
+  pub read : EachWalkHasRead o p k r.spot.edge.slot r.spot.parent r.spot.side r.key
+  pub narrowed : IsNarrowed o p k r.spot.parent r.spot.side
+  pub over : IsOver p k r.spot.edge.slot r.key
+
+abbrev pub HasPlace : Bool → Stand → Stand → ℕ → WalkEnd → Type 0
+HasPlace false o p k r = HasEndedPlain o p k r
+HasPlace true o p k r = HasNarrowed o p k r
+
+-- the part of the walk that goes by unmarked edges alone
+abbrev pub HasSunk : Layout → ℕ → Stand → Stand → Descent → Type 0
+HasSunk L k o p (Ended r) = HasStopped L k o p [] r × HasNarrowed o p k r
+HasSunk L k o p (Stopped s n) = IsWalking L k n o p s []
+    × IsNarrowed o p k s.parent s.side × (n + 1 ≤ reach L)

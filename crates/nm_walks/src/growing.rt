@@ -1,0 +1,107 @@
+//! The two new nodes of an insert: claimed, filled and linked, or given back.
+ghost use Rattle.std.specs.Prelude.{◌≡◌, ◌≢◌, None, IfOk, IfErr};
+ghost use Rattle.nm_steps.specs.Steps.{IsOf, Stand};
+ghost use Rattle.nm_walks.specs.Telling.{GoesOn, IsPinnedIn};
+ghost use Rattle.nm_walks.specs.Making.{IsRouter, OnlyMakes};
+ghost use Rattle.nm_walks.specs.Growing.{ClaimsFork, HasFork, IfReady, Returns, inner_of, MayGrow, KeepsCall, HasGrown, HasNotGrown};
+
+use crate::making::{Contents, Fork, claim, fill, give, link};
+use crate::spot::WalkEnd;
+use nm_edge::{Edge, parting};
+use nm_pool::Placement;
+use nm_steps::{Pass, Shared};
+
+/// Claims an internal node and then a leaf. `None`: one of the claims answered nothing, and nothing
+/// is kept.
+pub fn claim_fork(shared: &Shared, pass: &mut Pass, placement: &mut Placement) -> Option<Fork>
+    requires own { IsOf shared.now pass.old }
+    ensures part { ClaimsFork placement.old shared.now.layout.nodes pass.old.view.log
+        pass.new.view.log result }
+    ensures on { GoesOn pass.old pass.new }
+    ensures only { OnlyMakes pass.old pass.new }
+    ensures has { HasFork pass.old pass.new result }
+    ensures fit { placement.new ≡ placement.old }
+{
+    let Some(new) = claim(shared, pass, placement) else {
+        return None;
+    };
+    let Some(fresh) = claim(shared, pass, placement) else {
+        give(shared, pass, new);
+        placement.keep(new.slot);
+        return None;
+    };
+    Some(Fork { new, fresh })
+}
+
+/// The new internal node over a leaf with key `other` and a new leaf with another key.
+fn node_over(radix: bool, key: u64, other: u64, leaf: u32, fresh: u32) -> Contents
+    requires apart { other ≢ key }
+    ensures key { IsRouter radix key other result.key }
+    ensures node { result ≡ inner_of key other result.key leaf fresh }
+{
+    let greater = if key < other { other } else { key };
+    let router = if radix { parting(key, other) } else { greater };
+    if key < other {
+        Contents {
+            key: router,
+            left: fresh,
+            right: leaf,
+        }
+    } else {
+        Contents {
+            key: router,
+            left: leaf,
+            right: fresh,
+        }
+    }
+}
+
+/// Fills both new nodes, and links them in the place of the leaf at which the walk ended. Lost: the
+/// edge that was found.
+pub fn grow(
+    shared: &Shared,
+    pass: &mut Pass,
+    key: u64,
+    end: &WalkEnd,
+    fork: &Fork,
+) -> Result<(), Edge>
+    requires pinned { IsPinnedIn shared.now pass.old }
+    requires may { MayGrow pass.old key end.now fork.now }
+    ensures on { GoesOn pass.old pass.new }
+    ensures call { KeepsCall pass.old pass.new }
+    ensures won { IfOk result (λ _. HasGrown shared.now.layout.radix pass.old pass.new key end.now
+        fork.now) }
+    ensures lost { IfErr result (λ e. HasNotGrown shared.now.layout.radix pass.old pass.new key
+        end.now fork.now e) }
+{
+    let leaf = end.spot.edge.slot();
+    let radix = shared.layout().is_radix();
+    let node = node_over(radix, key, end.key, leaf, fork.fresh.slot);
+    fill(shared, pass, fork.new.slot, &node);
+    let alone = Contents {
+        key,
+        left: 0,
+        right: 0,
+    };
+    fill(shared, pass, fork.fresh.slot, &alone);
+    link(shared, pass, &end.spot, fork)
+}
+
+/// Gives both nodes back, the internal one first. The placement remembers their slots.
+pub fn give_back(shared: &Shared, pass: &mut Pass, placement: &mut Placement, fork: &Option<Fork>)
+    requires own { IsOf shared.now pass.old }
+    requires ready { IfReady pass.old fork.now }
+    ensures part { Returns fork.now pass.old.view.log pass.new.view.log }
+    ensures given { (o : Stand) → HasFork o pass.old fork.now → HasFork o pass.new None }
+    ensures on { GoesOn pass.old pass.new }
+    ensures only { OnlyMakes pass.old pass.new }
+    ensures fit { placement.new ≡ placement.old }
+{
+    pass.is_of_a_run();
+    if let Some(made) = fork {
+        give(shared, pass, made.new);
+        give(shared, pass, made.fresh);
+        placement.keep(made.new.slot);
+        placement.keep(made.fresh.slot);
+    }
+}

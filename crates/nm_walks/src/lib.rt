@@ -1,0 +1,24 @@
+//! Steps by what the own log tells, the walk for a key, what a cleanup cuts off, and how a new leaf
+//! is linked, over a pass and a queue (the external search tree of Natarajan and Mittal, PPoPP 2014).
+#![tactic(auto, using(nm_steps::proofs::Seeing::seen_all))]
+
+mod cleaning;
+mod cutting;
+mod growing;
+mod labelling;
+mod looking;
+mod making;
+mod marking;
+mod spot;
+mod walking;
+mod workspace;
+
+pub use cleaning::cleanup;
+pub use cutting::{Kept, choose};
+pub use growing::{claim_fork, give_back, grow};
+pub use looking::{Onward, look_birth, look_edge, read_node};
+pub use making::Fork;
+pub use marking::{flag, tag};
+pub use spot::{CHAIN_BOUND, ChainEdge, ChainEdges, Spot, WalkEnd, is_marked, is_null};
+pub use walking::{find, place, reach, seek};
+pub use workspace::{CUT_BOUND, CutNodes, Workspace};

@@ -1,0 +1,98 @@
+//! Looks at known nodes: what the worker's own log tells allows them, and they add to it.
+ghost use Rattle.std.specs.Prelude.{◌≡◌, ◌≤◌};
+ghost use Rattle.nm_model.specs.declared.event.Event.TheVariants.{Look};
+ghost use Rattle.nm_model.specs.declared.event.Field.TheVariants.{Key as KeyOf, Edge as EdgeOn, Birth};
+ghost use Rattle.nm_model.specs.declared.reply.Reply.TheVariants.{KeyIs, EdgeIs, BirthIs};
+ghost use Rattle.nm_order.specs.Facts.Fact.{KnowsSlot, IsBorn};
+ghost use Rattle.nm_steps.specs.Steps.{Stepped};
+ghost use Rattle.nm_walks.specs.Telling.{Tells, GoesOn, OnlyLooks, EdgeTold, KeyTold, OnwardTold, IsPinnedIn};
+ghost use Rattle.nm_walks.specs.Walks.{IsLeafRead, Reads, edge_on};
+
+use crate::spot::side_at;
+use nm_edge::{Edge, Layout, Side};
+use nm_steps::{Pass, Shared};
+
+/// Reads the key of a known node, below 2^64, by the sizes that the caller keeps in its hands. A
+/// key of the set stands above slot 5 alone.
+pub(crate) fn look_key(shared: &Shared, layout: Layout, pass: &mut Pass, slot: u32) -> u64
+    requires layout { layout ≡ shared.now.layout }
+    requires pinned { IsPinnedIn shared.now pass.old }
+    requires known { Tells pass.old (KnowsSlot slot) }
+    ensures step { Stepped pass.old pass.new (Look slot KeyOf) (KeyIs result) }
+    ensures on { GoesOn pass.old pass.new }
+    ensures only { OnlyLooks pass.old pass.new }
+    ensures told { KeyTold pass.old pass.new slot result }
+{
+    let key = shared.look_key(layout, pass, slot);
+    pass.is_of_a_run();
+    key
+}
+
+/// Reads an edge of a known node, by such sizes. The node to which it leads is known from then on.
+pub fn look_edge(shared: &Shared, layout: Layout, pass: &mut Pass, slot: u32, side: Side) -> Edge
+    requires layout { layout ≡ shared.now.layout }
+    requires pinned { IsPinnedIn shared.now pass.old }
+    requires known { Tells pass.old (KnowsSlot slot) }
+    ensures step { Stepped pass.old pass.new (Look slot (EdgeOn side)) (EdgeIs result) }
+    ensures on { GoesOn pass.old pass.new }
+    ensures only { OnlyLooks pass.old pass.new }
+    ensures told { EdgeTold pass.old pass.new slot side result }
+{
+    let edge = shared.look_edge(layout, pass, slot, side);
+    pass.is_of_a_run();
+    edge
+}
+
+/// How a walk goes on from a node: the node's key, the side of the walk's key there, and the edge
+/// on that side.
+#[derive(Clone, Copy, Debug, PartialEq, Eq)]
+pub struct Onward {
+    pub found: u64,
+    pub side: Side,
+    pub next: Edge,
+}
+
+/// Reads the key of a known node and both of its edges, and then compares the keys, so that no read
+/// waits for the comparison. Three looks.
+pub fn read_node(shared: &Shared, layout: Layout, pass: &mut Pass, slot: u32, key: u64) -> Onward
+    requires layout { layout ≡ shared.now.layout }
+    requires pinned { IsPinnedIn shared.now pass.old }
+    requires known { Tells pass.old (KnowsSlot slot) }
+    ensures looks { Reads key slot pass.old.view.log pass.new.view.log result }
+    ensures leaf { IsLeafRead slot pass.old.view.log pass.new.view.log result }
+    ensures within { result.next.slot ≤ shared.now.layout.nodes }
+    ensures on { GoesOn pass.old pass.new }
+    ensures only { OnlyLooks pass.old pass.new }
+    ensures told { OnwardTold pass.old pass.new key slot result.found result.side result.next }
+{
+    let found = look_key(shared, layout, pass, slot);
+    let left = look_edge(shared, layout, pass, slot, Side::Left);
+    let right = look_edge(shared, layout, pass, slot, Side::Right);
+    let side = side_at(key, found);
+    let next = edge_at(side, left, right);
+    Onward { found, side, next }
+}
+
+/// Of a node's two edges the one on that side.
+fn edge_at(side: Side, left: Edge, right: Edge) -> Edge
+    ensures { result ≡ edge_on side left right }
+{
+    match side {
+        Side::Left => left,
+        Side::Right => right,
+    }
+}
+
+/// Reads the birth of a known node, at most 2^62.
+pub fn look_birth(shared: &Shared, pass: &mut Pass, slot: u32) -> u64
+    requires pinned { IsPinnedIn shared.now pass.old }
+    requires known { Tells pass.old (KnowsSlot slot) }
+    ensures step { Stepped pass.old pass.new (Look slot Birth) (BirthIs result) }
+    ensures on { GoesOn pass.old pass.new }
+    ensures only { OnlyLooks pass.old pass.new }
+    ensures born { Tells pass.new (IsBorn slot result) }
+{
+    let birth = shared.look_birth(pass, slot);
+    pass.is_of_a_run();
+    birth
+}

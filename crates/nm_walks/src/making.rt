@@ -1,0 +1,119 @@
+//! New nodes: filled in private slots, and linked into the tree.
+ghost use Rattle.std.specs.Prelude.{◌≡◌, ◌+◌, ◌*◌, ◌≤◌, false, length, Some, IsSome, IfSome, IfOk, IfErr};
+ghost use Rattle.nm_model.specs.declared.event.Event.TheVariants.{Give};
+ghost use Rattle.nm_model.specs.declared.reply.Reply.TheVariants.{Returned};
+ghost use Rattle.nm_model.specs.Knowledge.{is_private};
+ghost use Rattle.nm_model.specs.Maps.{get};
+ghost use Rattle.nm_order.specs.Facts.Fact.{KnowsSlot};
+ghost use Rattle.nm_order.specs.Hands.{IsPooled};
+ghost use Rattle.nm_order.specs.Told.{IsNew};
+ghost use Rattle.nm_pool.specs.Claims.{IsClaimBy, IsNewNode, LearnsSlots};
+ghost use Rattle.nm_steps.specs.Rules.{knowledge};
+ghost use Rattle.nm_steps.specs.Steps.{IsOf, Stepped};
+ghost use Rattle.nm_walks.specs.Telling.{Tells, GoesOn, IsPinnedIn};
+ghost use Rattle.nm_walks.specs.Making.{draft, KeepsOtherSlots, KeepsAllBut, OnlyMakes, with_node, HasFilled, IsInserting, HasLinked, HasLost};
+
+use crate::spot::Spot;
+use nm_edge::{Edge, NodeId, Side};
+use nm_pool::{Placement, claim_by};
+use nm_steps::{Pass, Shared};
+
+/// What is stored in a new node: its key, and its edges, which are 0 at a leaf.
+#[derive(Clone, Copy, Debug, PartialEq, Eq)]
+pub(crate) struct Contents {
+    pub key: u64,
+    pub left: u32,
+    pub right: u32,
+}
+
+/// Two private nodes: a new internal node, and a new leaf to stand below it.
+#[derive(Clone, Copy, Debug, PartialEq, Eq)]
+pub struct Fork {
+    pub new: NodeId,
+    pub fresh: NodeId,
+}
+
+/// Takes a slot out of the pool to be a new node, with its birth raised by one: the first that it
+/// finds there with a birth below 2^62, in the order of the placement.
+///
+/// `Some(node)`: the slot is private to the worker, which had it nowhere before; its birth is
+/// stored there, and nothing else is. At most three steps a slot.
+#[inline(always)]
+pub(crate) fn claim(shared: &Shared, pass: &mut Pass, placement: &mut Placement) -> Option<NodeId>
+    requires own { IsOf shared.now pass.old }
+    ensures part { IsClaimBy placement.old shared.now.layout.nodes pass.old.view.log
+        pass.new.view.log result }
+    ensures steps { length pass.new.view.log
+        ≤ length pass.old.view.log + 3 * shared.now.layout.nodes }
+    ensures on { GoesOn pass.old pass.new }
+    ensures made { IfSome result (IsNewNode (knowledge pass.new.view)) }
+    ensures pooled { IfSome result (λ node. IsPooled pass.new.view.layout node.slot) }
+    ensures new { IfSome result
+        (λ node. IsNew pass.old.view.layout pass.old.view.number pass.old.view.log node.slot) }
+    ensures learned { LearnsSlots (knowledge pass.old.view) (knowledge pass.new.view) }
+    ensures others { KeepsAllBut result pass.old pass.new }
+    ensures only { OnlyMakes pass.old pass.new }
+    ensures fit { placement.new ≡ placement.old }
+{
+    pass.is_of_a_run();
+    claim_by(shared, pass, placement)
+}
+
+/// Gives a private node back to the pool, in one step. Its birth stays, so that the slot's next
+/// node has another.
+pub(crate) fn give(shared: &Shared, pass: &mut Pass, node: NodeId)
+    requires own { IsOf shared.now pass.old }
+    requires birth { (draft pass.old node.slot).birth ≡ Some node.birth }
+    ensures step { Stepped pass.old pass.new (Give node.slot) (Returned node.slot) }
+    ensures on { GoesOn pass.old pass.new }
+    ensures given { is_private (knowledge pass.new.view) node.slot ≡ false }
+    ensures others { KeepsOtherSlots node.slot pass.old pass.new }
+    ensures only { OnlyMakes pass.old pass.new }
+{
+    pass.is_of_a_run();
+    nm_pool::give(shared, pass, node);
+}
+
+/// Stores a key and two edges in a private slot whose birth is stored, in three steps.
+pub(crate) fn fill(shared: &Shared, pass: &mut Pass, slot: u32, node: &Contents)
+    requires own { IsOf shared.now pass.old }
+    requires born { IsSome (draft pass.old slot).birth }
+    requires left { node.now.left ≤ pass.old.view.layout.nodes }
+    requires right { node.now.right ≤ pass.old.view.layout.nodes }
+    ensures steps { HasFilled pass.old pass.new slot node.now.key node.now.left node.now.right }
+    ensures on { GoesOn pass.old pass.new }
+    ensures filled { get (knowledge pass.new.view).drafts slot
+        ≡ Some (with_node (draft pass.old slot) node.now.key node.now.left node.now.right) }
+    ensures others { KeepsOtherSlots slot pass.old pass.new }
+    ensures only { OnlyMakes pass.old pass.new }
+{
+    pass.is_of_a_run();
+    pass.holds_pooled_slots();
+    shared.fill_key(pass, slot, node.key);
+    shared.fill_edge(pass, slot, Side::Left, node.left);
+    shared.fill_edge(pass, slot, Side::Right, node.right);
+}
+
+/// Puts the new internal node of a fork, over the leaf and the new leaf, in the place of the leaf
+/// to which the edge of this spot leads. Lost: the edge that was found.
+///
+/// Only a call to insert the key of the new leaf may do so, once, by the edge by which a walk of it
+/// came to the leaf and ended there.
+pub(crate) fn link(shared: &Shared, pass: &mut Pass, spot: &Spot, fork: &Fork) -> Result<(), Edge>
+    requires pinned { IsPinnedIn shared.now pass.old }
+    requires parent { Tells pass.old (KnowsSlot spot.now.parent) }
+    requires known { Tells pass.old (KnowsSlot spot.now.edge.slot) }
+    requires inserts { IsInserting pass.old spot.now.parent spot.now.side spot.now.edge.slot
+        fork.now.new.slot fork.now.fresh.slot }
+    ensures on { GoesOn pass.old pass.new }
+    ensures won { IfOk result (λ _. HasLinked pass.old pass.new spot.now.parent spot.now.side
+        spot.now.edge.slot fork.now.new.slot fork.now.fresh.slot) }
+    ensures lost { IfErr result (HasLost pass.old pass.new spot.now.parent spot.now.side
+        spot.now.edge.slot fork.now.new.slot) }
+{
+    pass.holds_pooled_slots();
+    let leaf = spot.edge.slot();
+    let linked = shared.link(pass, spot.parent, spot.side, leaf, fork.new.slot);
+    pass.is_of_a_run();
+    linked
+}

@@ -1,0 +1,92 @@
+//! Marks and cuts: tags and flags of edges, and splices that cut frozen chains off, as far as the
+//! worker's own log allows them.
+ghost use Rattle.std.specs.Prelude.{ℕ, List, IfOk, IfErr};
+ghost use Rattle.nm_edge.specs.Edges.{other};
+ghost use Rattle.nm_edge.specs.declared.node.NodeId.{NodeId};
+ghost use Rattle.nm_model.specs.declared.event.Event.TheVariants.{Tag};
+ghost use Rattle.nm_model.specs.declared.reply.Reply.TheVariants.{Was};
+ghost use Rattle.nm_order.specs.Facts.Fact.{KnowsSlot, IsFlagged, IsBorn};
+ghost use Rattle.nm_order.specs.Told.{FrozenTo};
+ghost use Rattle.nm_steps.specs.Steps.{Stepped};
+ghost use Rattle.nm_walks.specs.Telling.{Tells, GoesOn, OnlyLooks, IsPinnedIn};
+ghost use Rattle.nm_walks.specs.Marking.{TagTold, IsToBeFlagged, OnlyFlags, FlagWon, FlagLost, IsToBeCut, OnlyCuts, SpliceWon, SpliceLost};
+
+use crate::spot::Spot;
+use nm_edge::{Edge, Side};
+use nm_steps::{FrozenChain, Pass, Shared};
+
+/// Tags an edge of a known node whose other edge is known to be flagged, and answers the edge as it
+/// was. It is never null.
+pub fn tag(shared: &Shared, pass: &mut Pass, parent: u32, side: Side) -> Edge
+    requires pinned { IsPinnedIn shared.now pass.old }
+    requires known { Tells pass.old (KnowsSlot parent) }
+    requires beside { (to : ℕ) × Tells pass.old (IsFlagged parent (other side) to) }
+    ensures step { Stepped pass.old pass.new (Tag parent side) (Was result) }
+    ensures on { GoesOn pass.old pass.new }
+    ensures only { OnlyLooks pass.old pass.new }
+    ensures told { TagTold pass.old pass.new parent side result }
+{
+    let edge = shared.tag(pass, parent, side);
+    pass.is_of_a_run();
+    edge
+}
+
+/// Flags the edge to a leaf that the call to delete has found. Won: the call has flagged that leaf,
+/// which a cleanup is to cut off. Lost: the edge that was found, and the call has flagged nothing
+/// still.
+pub fn flag(
+    shared: &Shared,
+    pass: &mut Pass,
+    parent: u32,
+    side: Side,
+    leaf: u32,
+) -> Result<(), Edge>
+    requires pinned { IsPinnedIn shared.now pass.old }
+    requires found { IsToBeFlagged pass.old parent side leaf }
+    ensures won { IfOk result (λ _. (b : ℕ) → Tells pass.old (IsBorn leaf b)
+        → FlagWon pass.old pass.new parent side (record { slot = leaf; birth = b })) }
+    ensures lost { IfErr result (λ e. FlagLost pass.old pass.new parent side leaf e) }
+    ensures on { GoesOn pass.old pass.new }
+    ensures only { OnlyFlags pass.old pass.new }
+{
+    let won = shared.flag(pass, parent, side, leaf);
+    pass.is_of_a_run();
+    won
+}
+
+/// Cuts a frozen chain off, from the successor of this spot down to its parent, with the flagged
+/// leaf beside each of its nodes: the ancestor's edge leads from then on where the parent's edge on
+/// the side `keep` leads, which is frozen as `kept`. The nodes wait for their label. Lost: the edge
+/// that was found.
+#[inline(always)]
+pub(crate) fn splice(
+    shared: &Shared,
+    pass: &mut Pass,
+    spot: &Spot,
+    keep: Side,
+    kept: Edge,
+) -> Result<(), Edge>
+    requires pinned { IsPinnedIn shared.now pass.old }
+    requires frozen { IsToBeCut pass.old spot.now.ancestor spot.now.successor spot.now.parent keep
+        kept }
+    ensures won { IfOk result (λ _. (ns : List NodeId)
+        → FrozenTo (Tells pass.old) spot.now.parent keep spot.now.successor ns
+        → SpliceWon pass.old pass.new spot.now.ancestor spot.now.above spot.now.successor
+        spot.now.parent keep ns) }
+    ensures lost { IfErr result
+        (λ e. SpliceLost pass.old pass.new spot.now.ancestor spot.now.above spot.now.successor
+        spot.now.parent keep e) }
+    ensures on { GoesOn pass.old pass.new }
+    ensures only { OnlyCuts pass.old pass.new }
+{
+    let chain = FrozenChain {
+        ancestor: spot.ancestor,
+        side: spot.above,
+        successor: spot.successor,
+        parent: spot.parent,
+        keep,
+    };
+    let won = shared.splice(pass, chain, kept);
+    pass.is_of_a_run();
+    won
+}

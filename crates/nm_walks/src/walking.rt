@@ -1,0 +1,211 @@
+//! The walk for a key.
+ghost use Rattle.std.specs.Prelude.{◌≡◌, ◌≤◌, ◌<◌, ◌+◌, ◌*◌, ◌^◌, ◌≢◌, ℕ, true, false, IfSome, length};
+ghost use Rattle.nm_edge.specs.Keys.{IsKey};
+ghost use Rattle.nm_edge.specs.declared.edge.Side.{Side as SideOf};
+ghost use Rattle.nm_order.specs.Facts.Fact.{KnowsSlot};
+ghost use Rattle.nm_walks.specs.Telling.{Tells, GoesOn, OnlyLooks, IsPinnedIn};
+ghost use Rattle.nm_walks.specs.Bounds.{reach};
+ghost use Rattle.nm_walks.specs.Places.{HasNarrowed, HasStopped, HasSunk, IsStop, Stops};
+ghost use Rattle.nm_edge.specs.Ranges.{covers};
+ghost use Rattle.nm_walks.specs.Walks.{Finds, Seeks, HasDescended, HasFound, HasRemembered, HasWalked};
+
+use crate::looking::{Onward, look_edge, read_node};
+use crate::spot::{
+    ChainEdges, Descent, WalkEnd, end_at, extend, first, further, is_marked, is_null, slot_of,
+};
+use nm_edge::{Layout, Side, covers};
+use nm_steps::{Pass, Shared};
+
+/// How many nodes a walk of a radix tree looks at, at most: slot 2, 64 internal nodes, and a leaf.
+const RADIX_REACH: u32 = 66;
+
+/// How many nodes a walk may look at. No walk of a radix tree would look at more.
+pub fn reach(layout: Layout) -> u32
+    ensures reach { result ≡ reach layout }
+    ensures some { 1 < result }
+    ensures few { result < 2 ^ 31 }
+{
+    if layout.is_radix() {
+        RADIX_REACH
+    } else {
+        layout.nodes()
+    }
+}
+
+/// The key of the leaf at the end of the walk for a key, which remembers nothing else. At most three
+/// steps a node. `None`: the walk had looked at as many nodes as there are, as none of a radix tree
+/// does.
+#[inline(always)]
+pub fn find(shared: &Shared, pass: &mut Pass, key: u64) -> Option<u64>
+    requires pinned { IsPinnedIn shared.now pass.old }
+    requires known { Tells pass.old (KnowsSlot 2) }
+    requires key { IsKey key }
+    ensures walk { Finds shared.now.layout key pass.old.view.log pass.new.view.log result }
+    ensures steps { length pass.new.view.log
+        ≤ length pass.old.view.log + 3 * reach shared.now.layout }
+    ensures on { GoesOn pass.old pass.new }
+    ensures only { OnlyLooks pass.old pass.new }
+    ensures found { IfSome result
+        (λ v. (leaf parent : ℕ) × (side : SideOf)
+        × HasFound pass.old pass.new key leaf parent side v) }
+{
+    let (mut spot, below) = match descend(shared, pass, key) {
+        Descent::Ended(end) => return Some(end.key),
+        Descent::Stopped(spot, below) => (spot, below),
+    };
+    let layout = shared.layout();
+    for _below in below..reach(layout) - 1 {
+        let node = spot.edge.slot();
+        let on = read_node(shared, layout, pass, node, key);
+        if is_null(on.next) {
+            return Some(on.found);
+        }
+        spot = further(spot, on.side, on.next);
+    }
+    None
+}
+
+/// The spot at the end of the walk for a key, with its leaf's key; the chain has the internal nodes
+/// from its successor down to above its parent. At most three steps a node. `None`: the walk had
+/// looked at as many nodes as there are, or the chain would hold 65 nodes with the parent; in a
+/// radix tree neither is ever so. (The seek of Natarajan and Mittal, section 3.2, which here
+/// remembers the whole chain.)
+#[inline(always)]
+pub fn seek(shared: &Shared, pass: &mut Pass, key: u64, chain: &mut ChainEdges) -> Option<WalkEnd>
+    requires pinned { IsPinnedIn shared.now pass.old }
+    requires root { Tells pass.old (KnowsSlot 1) }
+    requires known { Tells pass.old (KnowsSlot 2) }
+    requires key { IsKey key }
+    ensures walk { Seeks shared.now.layout key pass.old.view.log pass.new.view.log
+        chain.new.items result }
+    ensures came { IfSome result
+        (HasWalked shared.now.layout key pass.old pass.new chain.new.items) }
+    ensures steps { length pass.new.view.log
+        ≤ length pass.old.view.log + 3 * reach shared.now.layout }
+    ensures on { GoesOn pass.old pass.new }
+    ensures only { OnlyLooks pass.old pass.new }
+{
+    chain.clear();
+    let (mut spot, below) = match descend(shared, pass, key) {
+        Descent::Ended(end) => return Some(end),
+        Descent::Stopped(spot, below) => (spot, below),
+    };
+    let layout = shared.layout();
+    for _below in below..reach(layout) - 1 {
+        let node = spot.edge.slot();
+        let on = read_node(shared, layout, pass, node, key);
+        if is_null(on.next) {
+            return Some(end_at(&spot, on.found));
+        }
+        if !extend(chain, spot) {
+            return None;
+        }
+        spot = further(spot, on.side, on.next);
+    }
+    None
+}
+
+/// The walk for a key as far as it goes by unmarked edges, which is nearly always to its leaf: so
+/// long its chain is empty, its successor is its parent, and the word of an edge leads to the node
+/// with no mark to be taken away.
+#[inline(always)]
+fn descend(shared: &Shared, pass: &mut Pass, key: u64) -> Descent
+    requires pinned { IsPinnedIn shared.now pass.old }
+    requires known { Tells pass.old (KnowsSlot 2) }
+    ensures came { HasDescended shared.now.layout key pass.old pass.new result }
+    ensures remembers { Tells pass.old (KnowsSlot 1)
+        → HasRemembered shared.now.layout key pass.old pass.new result }
+    ensures on { GoesOn pass.old pass.new }
+    ensures only { OnlyLooks pass.old pass.new }
+{
+    let layout = shared.layout();
+    let mut spot = first(look_edge(shared, layout, pass, 2, Side::Left));
+    let most = reach(layout) - 1;
+    for below in 0..most {
+        if is_marked(spot.edge) {
+            return Descent::Stopped(spot, below);
+        }
+        let node = slot_of(spot.edge);
+        let on = read_node(shared, layout, pass, node, key);
+        if is_null(on.next) {
+            return Descent::Ended(end_at(&spot, on.found));
+        }
+        spot = further(spot, on.side, on.next);
+    }
+    Descent::Stopped(spot, most)
+}
+
+/// Where a walk for a key comes to in a radix tree that is to put the key there: the spot at whose
+/// edge's end is a leaf, or an internal node without the key in its range.
+#[inline(always)]
+pub fn place(shared: &Shared, pass: &mut Pass, key: u64, chain: &mut ChainEdges) -> Option<WalkEnd>
+    requires pinned { IsPinnedIn shared.now pass.old }
+    requires root { Tells pass.old (KnowsSlot 1) }
+    requires known { Tells pass.old (KnowsSlot 2) }
+    requires key { IsKey key }
+    requires radix { shared.now.layout.radix ≡ true }
+    ensures walk { Stops shared.now.layout key pass.old.view.log pass.new.view.log
+        chain.new.items result }
+    ensures came { IfSome result
+        (HasStopped shared.now.layout key pass.old pass.new chain.new.items) }
+    ensures narrowed { IfSome result (HasNarrowed pass.old pass.new key) }
+    ensures on { GoesOn pass.old pass.new }
+    ensures only { OnlyLooks pass.old pass.new }
+{
+    chain.clear();
+    let (mut spot, below) = match sink(shared, pass, key) {
+        Descent::Ended(end) => return Some(end),
+        Descent::Stopped(spot, below) => (spot, below),
+    };
+    let layout = shared.layout();
+    for _below in below..reach(layout) - 1 {
+        let node = spot.edge.slot();
+        let on = read_node(shared, layout, pass, node, key);
+        if stops(&on, key) {
+            return Some(end_at(&spot, on.found));
+        }
+        if !extend(chain, spot) {
+            return None;
+        }
+        spot = further(spot, on.side, on.next);
+    }
+    None
+}
+
+/// The walk of `place` as far as it goes by unmarked edges, as `descend` of a look-up.
+#[inline(always)]
+fn sink(shared: &Shared, pass: &mut Pass, key: u64) -> Descent
+    requires pinned { IsPinnedIn shared.now pass.old }
+    requires root { Tells pass.old (KnowsSlot 1) }
+    requires known { Tells pass.old (KnowsSlot 2) }
+    requires key { IsKey key }
+    requires radix { shared.now.layout.radix ≡ true }
+    ensures came { HasSunk shared.now.layout key pass.old pass.new result }
+    ensures on { GoesOn pass.old pass.new }
+    ensures only { OnlyLooks pass.old pass.new }
+{
+    let layout = shared.layout();
+    let mut spot = first(look_edge(shared, layout, pass, 2, Side::Left));
+    let most = reach(layout) - 1;
+    for below in 0..most {
+        if is_marked(spot.edge) {
+            return Descent::Stopped(spot, below);
+        }
+        let node = slot_of(spot.edge);
+        let on = read_node(shared, layout, pass, node, key);
+        if stops(&on, key) {
+            return Descent::Ended(end_at(&spot, on.found));
+        }
+        spot = further(spot, on.side, on.next);
+    }
+    Descent::Stopped(spot, most)
+}
+
+/// Whether the insert of a key stops at a node of a radix tree that was read so: at a leaf, or where
+/// the key is not in the node's range.
+fn stops(on: &Onward, key: u64) -> bool
+    ensures yes { result ≡ true → IsStop true key on.now }
+    ensures no { result ≡ false → (on.now.next.slot ≢ 0) × (covers on.now.found key ≡ true) }
+{
+    is_null(on.next) || !covers(on.found, key)
+}
