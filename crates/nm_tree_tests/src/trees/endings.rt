@@ -177,7 +177,7 @@ fn a_held_worker_and_a_pending_one(rt: HostRuntime) -> Result<(), Fail> {
     step(&rt, &tree, &mut first, Call::Insert(5), Answer::Is(true));
     step(&rt, &tree, &mut first, Call::Pin, Answer::Pinned(0));
     let unfinished = make(&rt, &tree, &mut second, Call::Delete(5), 1);
-    assert_eq!(rt; unfinished, Answer::Not(Fault::Unfinished));
+    assert_eq!(rt; unfinished, Answer::Not(CallFault::Unfinished));
     let Err(fault) = tree.resign(first, second) else {
         panic!(rt; "a worker with a pending key has resigned")
     };

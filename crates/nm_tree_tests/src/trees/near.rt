@@ -74,7 +74,7 @@ fn a_near_set_is_full_where_each_slot_is_taken(rt: HostRuntime) -> Result<(), Fa
     let (tree, mut first, mut second) = near_of(&rt, 9)?;
     step(&rt, &tree, &mut second, Call::Insert(5), Answer::Is(true));
     step(&rt, &tree, &mut first, Call::Insert(6), Answer::Is(true));
-    let full = Answer::Not(Fault::Full);
+    let full = Answer::Not(CallFault::Full);
     step(&rt, &tree, &mut first, Call::Insert(7), full);
     step(&rt, &tree, &mut second, Call::Insert(7), full);
     let report = report_of(&rt, tree, both(rt.alloc(), first, second)?);

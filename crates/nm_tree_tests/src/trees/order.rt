@@ -26,7 +26,7 @@ fn found_by(
     worker: &mut Worker,
     call: Seek,
     tries: u32,
-) -> Result<Option<Key>, Fault>
+) -> Result<Option<Key>, CallFault>
     requires own { IsOf tree.now worker.old.pass }
     ensures own { IsOf tree.now worker.new.pass }
 {

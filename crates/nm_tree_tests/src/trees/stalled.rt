@@ -25,11 +25,11 @@ fn is_held_back(rt: &impl Abort, tree: &Tree, first: &mut Worker, second: &mut W
     };
     let none = Collected { epoch: 1, freed: 0 };
     let calls = [
-        (0, Call::Insert(7), Answer::Not(Fault::Full)),
+        (0, Call::Insert(7), Answer::Not(CallFault::Full)),
         (0, Call::Advance, Answer::Moved(Advance::Moved { epoch: 1 })),
         (0, Call::Advance, Answer::Moved(held)),
         (0, Call::Collect, Answer::Freed(none)),
-        (0, Call::Insert(7), Answer::Not(Fault::Full)),
+        (0, Call::Insert(7), Answer::Not(CallFault::Full)),
     ];
     play(rt, tree, first, second, 4, &calls);
     assert_eq!(rt; tree.behind(first), Behind { epoch: 1, mask: 2 });
@@ -76,7 +76,7 @@ fn a_worker_stops_while_pending(rt: HostRuntime) -> Result<(), Fail> {
     let (tree, mut first, mut second) = two_of(&rt, 9)?;
     let stops = [
         (0, Call::Insert(5), Answer::Is(true)),
-        (1, Call::Delete(5), Answer::Not(Fault::Unfinished)),
+        (1, Call::Delete(5), Answer::Not(CallFault::Unfinished)),
     ];
     play(&rt, &tree, &mut first, &mut second, 1, &stops);
     let calls = [

@@ -20,7 +20,7 @@ pub(super) struct Score {
 }
 
 /// One more, where the call was answered true.
-fn counted(count: u32, answer: Result<bool, Fault>) -> u32 {
+fn counted(count: u32, answer: Result<bool, CallFault>) -> u32 {
     if answer == Ok(true) {
         count.saturating_add(1)
     } else {
