@@ -7,7 +7,7 @@ use Rattle.std.proofs.lemmas.Bool.{or_parts}
 use Rattle.std.proofs.lemmas.Option.{same_Some}
 use Rattle.std.proofs.lemmas.List.{append-nil}
 use Rattle.std.proofs.lemmas.List.Folds.{list_any-append}
-use Rattle.nm_edge.specs.Edges.{Edge, to, other}
+use Rattle.nm_edge.specs.Edges.{Edge, other}
 use Rattle.nm_edge.specs.Layouts.{Layout}
 use Rattle.nm_edge.specs.declared.edge.Side.{Side}
 use Rattle.nm_edge.specs.declared.edge.Side.TheVariants.{Left, Right}
@@ -16,7 +16,7 @@ use Rattle.nm_model.specs.declared.event.Event.{Event}
 use Rattle.nm_model.specs.declared.event.Event.TheVariants.{Sight, Look, Link, Flag, Tag, Splice, Join}
 use Rattle.nm_model.specs.declared.event.Field.TheVariants.{Key as KeyOf, Edge as EdgeOn}
 use Rattle.nm_model.specs.declared.reply.Reply.{Reply}
-use Rattle.nm_model.specs.declared.reply.Reply.TheVariants.{KeyIs, EdgeIs, Was, Cut, Lost, Labelled}
+use Rattle.nm_model.specs.declared.reply.Reply.TheVariants.{KeyIs, EdgeIs, Was, Cut, Labelled}
 use Rattle.nm_model.specs.Memory.{child}
 use Rattle.nm_model.specs.Knowledge.{Knowledge, read}
 use Rattle.nm_model.specs.Learning.{read_edge}
@@ -37,17 +37,17 @@ use Rattle.nm_walks.specs.declared.cutting.Kept.{Kept}
 use Rattle.nm_walks.specs.declared.looking.Onward.{Onward}
 use Rattle.nm_walks.specs.declared.spot.ChainEdge.{ChainEdge}
 use Rattle.nm_walks.specs.declared.spot.Spot.{Spot}
-use Rattle.nm_walks.specs.Walks.{begin, onto, after_looks, edge_on, Reads, Walks}
-use Rattle.nm_walks.specs.Cleanups.{kept_beside, Chooses, FreezesOne, Freezes, Prepares, CutsOff, CleanupLost, CleanupWon}
+use Rattle.nm_walks.specs.Walks.{onto, after_looks, edge_on, Reads, Walks}
+use Rattle.nm_walks.specs.Cleanups.{Chooses, FreezesOne, Freezes, CleanupLost, CleanupWon}
 use Rattle.nm_progress.specs.Changes.{is_bare, Expects}
 use Rattle.nm_progress.specs.Changes.Expects.{ToCut}
 use Rattle.nm_progress.specs.Tries.{helps_on, reading, losing}
 use Rattle.nm_progress.specs.Tries.LosesTries.{NoTry, OneTry}
-use Rattle.nm_progress.proofs.MoreTries.{is_loud, Plain, plain_none, plain_these, plain_then, quiet_pins, quiet_edges, log_prefix}
+use Rattle.nm_progress.proofs.MoreTries.{is_loud, Plain, plain_these, plain_then, quiet_pins, quiet_edges, log_prefix}
 use Rattle.nm_progress.proofs.TagsPaid.{bare_parts}
 use Rattle.nm_busy.proofs.Hindered.{Hinders, of_tries, of_help}
 use Rattle.nm_busy.proofs.Parts.{Longer, longer_these, longer_then, longer_none, plain_longer, reads_plain, walk_longer, choice_longer, chain_longer, prepared_longer, cleanup_longer}
-use Rattle.nm_busy.proofs.WalkReads.{WalkRead, walk_read, onto_parent}
+use Rattle.nm_busy.proofs.WalkReads.{WalkRead, walk_read}
 
 -- ---- where a walk goes on
 

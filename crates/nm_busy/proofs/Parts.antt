@@ -19,7 +19,6 @@ use Rattle.nm_walks.specs.declared.looking.Onward.{Onward}
 use Rattle.nm_walks.specs.declared.spot.ChainEdge.{ChainEdge}
 use Rattle.nm_walks.specs.declared.spot.WalkEnd.{WalkEnd}
 use Rattle.nm_walks.specs.declared.spot.Spot.{Spot}
-use Rattle.nm_walks.specs.Places.{Stops}
 use Rattle.nm_walks.specs.Walks.{Reads, Walks, IsBroken, Seeks}
 use Rattle.nm_walks.specs.Cleanups.{Chooses, FreezesOne, Freezes, Prepares, CutsOff, CleanupLost, CleanupWon}
 use Rattle.nm_walks.specs.Growing.{Returns}
@@ -90,9 +89,6 @@ broken_longer L k old new (inr e) = longer_then old e.2 new (walk_longer k e.1 o
 
 pub seeks_longer : (L : Layout) (k : ℕ) (old new : List Entry) (c : List ChainEdge) (r : WalkEnd) → Seeks L k old new c (Some r) → Longer old new
 seeks_longer L k old new c r h = longer_then old h.0.1 new (walk_longer k h.0.0 old h.0.1 r.spot c h.0.4) (reads_longer k r.spot.edge.slot h.0.1 new h.0.2 h.0.6)
-
-pub stops_longer : (L : Layout) (k : ℕ) (old new : List Entry) (c : List ChainEdge) (r : WalkEnd) → Stops L k old new c (Some r) → Longer old new
-stops_longer L k old new c r h = longer_then old h.0.1 new (walk_longer k h.0.0 old h.0.1 r.spot c h.0.4) (reads_longer k r.spot.edge.slot h.0.1 new h.0.2 h.0.6)
 
 pub choice_longer : (s : Spot) (r : Option Kept) (old new : List Entry) → Chooses s old new r → Longer old new
 choice_longer s r old new h = longer_then old _ new (longer_these _ old _ refl) (longer_these _ _ new h.2)

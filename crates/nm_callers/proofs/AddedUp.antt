@@ -28,13 +28,13 @@ use Rattle.nm_theorem.proofs.Runs.{enough_of}
 use Rattle.nm_theorem.proofs.WrittenWords.{run_words}
 use Rattle.nm_steps.specs.Rules.{Extends}
 use Rattle.nm_tree.specs.declared.closing.Report.{Report}
-use Rattle.nm_tree.specs.Closing.{HasJoinedAlone, IsClosed}
-use Rattle.nm_tree.specs.Running.{AreOfWorkers, HasSeenTurns}
+use Rattle.nm_tree.specs.Closing.{HasJoinedAlone}
+use Rattle.nm_tree.specs.Running.{HasSeenTurns}
 use Rattle.nm_tree.specs.Workers.{Hand, IsIdle}
 use Rattle.nm_set.specs.Seats.{Standing}
 use Rattle.nm_set.specs.Ends.{EndsSet}
 use Rattle.nm_callers.specs.Queues.{AddUp}
-use Rattle.nm_callers.proofs.RunSums.{KeysOf, by_workers, flag_keys, in_times, link_keys, none_joined, none_pend, own_many, same_length, so_many, times, times-append, times_none, times_once}
+use Rattle.nm_callers.proofs.RunSums.{KeysOf, by_workers, flag_keys, link_keys, none_joined, none_pend, own_many, same_length, so_many, times, times-append, times_none, times_once}
 use Rattle.nm_callers.proofs.Unmade.{no_call_then, who_calls}
 
 -- each worker of the tree from number k on, in their order, has nothing pending

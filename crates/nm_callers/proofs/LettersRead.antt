@@ -1,7 +1,6 @@
 -- What a member finds that has read what another one had left.
-use Rattle.std.proofs.Common.{◌≡◌, ◌≤◌, inl, inr, ℕ, Bool, true, List, sym, ap, subst, ◌∙◌, arith}
-use Rattle.std.specs.Prelude.{Option, Some, None, Result, Ok, Err, IfSome}
-use Rattle.std.specs.Result.{result_ok}
+use Rattle.std.proofs.Common.{◌≡◌, inl, inr, ℕ, Bool, true, List, sym, ap, subst, ◌∙◌, arith}
+use Rattle.std.specs.Prelude.{Option, Some, None, Ok, IfSome}
 use Rattle.nm_edge.specs.Layouts.{Layout, IsLayout}
 use Rattle.nm_model.specs.declared.event.Op.TheVariants.{Has, Insert}
 use Rattle.nm_model.specs.declared.trace.Turn.{Turn}
@@ -15,17 +14,15 @@ use Rattle.nm_busy.specs.Pending.{leaf_after}
 use Rattle.nm_tree.specs.Running.{HasSeenTurns}
 use Rattle.nm_tree.specs.Workers.{Hand, IsBetweenCalls}
 use Rattle.nm_tree.proofs.FlaggedSeen.{none_seen}
-use Rattle.nm_set.specs.declared.fault.Fault.{Fault}
 use Rattle.nm_set.specs.declared.fault.Fault.TheVariants as fault
 use Rattle.nm_set.specs.declared.posting.Posted.{Posted}
 use Rattle.nm_set.specs.declared.tended.Habit.{Habit}
-use Rattle.nm_set.specs.Posts.{HasHeardAll, HasHeardOf, HasTally, IsTallyOf, LettersAreInOrder}
+use Rattle.nm_set.specs.Posts.{HasHeardAll, HasTally, IsTallyOf, LettersAreInOrder}
 use Rattle.nm_set.specs.Tended.{SaysTended}
 use Rattle.nm_set.proofs.Tending.{is_no_fault}
 use Rattle.nm_callers.specs.Letters.{HasLookedBehind, HasWritten}
 use Rattle.nm_callers.specs.Meanwhile.{NoneDeleted}
 use Rattle.nm_callers.proofs.InsertMoments.{at_link, heard_of}
-use Rattle.nm_callers.proofs.ToldMembers.{moment_of, same_pass, seen_behind}
 use Rattle.nm_callers.proofs.TwoAnswers.{inserted_before_found}
 
 -- ---- the writer
@@ -42,18 +39,6 @@ has_written b h k w z (Some p) (inr (free, t)) seen between tally = record {
 }
 
 -- ---- the reader
-
-pub has_looked : (b : Board) (h : Habit) (i k : ℕ) (told : Posted) (w x z : Hand) (r : Result Bool Fault) (o : Option Bool) → HasHeardOf b i told w x → 1 ≤ told.inserted → SaysTended Has b h k x z r → o ≡ result_ok r → IfSome o (HasLookedBehind i k z)
-has_looked b h i k told w x z (Ok answer) o heard some looked is = subst (λ (q : Option Bool). IfSome q (HasLookedBehind i k z)) (sym is) (record {
-  told = told;
-  some = some;
-  start = x.pass;
-  behind = heard.told;
-  same = same_pass Has b h k x z answer looked;
-  past = seen_behind Has b h k x z (Ok answer) looked;
-  look = moment_of Has b h k x z (Ok answer) looked;
-})
-has_looked b h i k told w x z (Err e) o heard some looked is = subst (λ (q : Option Bool). IfSome q (HasLookedBehind i k z)) (sym is) tt
 
 -- ---- both, in what one has seen that has heard of both
 

@@ -1,5 +1,5 @@
 -- What a worker has read is what it was told of.
-use Rattle.std.proofs.Common.{◌≡◌, ◌≤◌, ℕ, false, List, ◌∷◌, ◌++◌, Contains, sym, subst}
+use Rattle.std.proofs.Common.{◌≡◌, ℕ, false, sym, subst}
 use Rattle.nm_model.specs.Headline.{has_after}
 use Rattle.nm_model.specs.Memory.{opening}
 use Rattle.nm_steps.specs.declared.view.View.{View}

@@ -19,14 +19,6 @@ behind : (xs ys : List Act) (x : Act) → IsAmong ys x → IsAmong (xs ++ ys) x
 behind [] ys x there = there
 behind (y ∷ xs) ys x there = inr (behind xs ys x there)
 
-ahead : (xs ys : List Act) (x : Act) → IsAmong xs x → IsAmong (xs ++ ys) x
-ahead [] ys x there = absurd there
-ahead (y ∷ xs) ys x (inl is) = inl is
-ahead (y ∷ xs) ys x (inr there) = inr (ahead xs ys x there)
-
-pub between_among : (acts : List Act) (x : Act) (front one between back : List Act) → acts ≡ front ++ (one ++ (between ++ back)) → IsAmong between x → IsAmong acts x
-between_among acts x front one between back are among = subst (λ (l : List Act). IsAmong l x) (sym are) (behind front (one ++ (between ++ back)) x (behind one (between ++ back) x (ahead between back x among)))
-
 -- ---- a key that is there
 
 -- up to some act

@@ -1,19 +1,16 @@
 -- How many links, and flags, a run has won: by their keys, and by its workers.
 use Rattle.std.proofs.Common.{◌≡◌, ◌≢◌, ◌∙◌, ◌⊎◌, inl, inr, ℕ, zero, suc, ◌+◌, ◌<◌, ◌≤◌, ◌==◌, Bool, true, false, true≢false, cond, ◌||◌, List, [], ◌∷◌, ◌++◌, length, length-append, refl, sym, ap, subst, arith, eq-eqb}
-use Rattle.std.specs.Prelude.{All, AllPairs, Contains, filter, Option, Some, None, Result, Ok, Err, slice_index_or, unwrap_or}
+use Rattle.std.specs.Prelude.{All, AllPairs, filter, Option, Some, None, Result, Ok, Err, slice_index_or, unwrap_or}
 use Rattle.std.proofs.lemmas.Bool.{cases_lt, eqb-true, eqb-false, ne_eqb}
 use Rattle.std.proofs.lemmas.List.Elements.{filter-append}
 use Rattle.std.proofs.lemmas.Option.{none-some}
 use Rattle.nm_edge.specs.Keys.{IsKey}
-use Rattle.nm_edge.specs.Layouts.{Layout, IsLayout}
-use Rattle.nm_edge.specs.declared.node.NodeId.{NodeId}
-use Rattle.nm_model.specs.declared.arrivals.Call.{Call}
+use Rattle.nm_edge.specs.Layouts.{Layout}
 use Rattle.nm_model.specs.declared.event.Op.{Op}
 use Rattle.nm_model.specs.declared.event.Op.TheVariants.{Insert, Delete}
 use Rattle.nm_model.specs.declared.event.Event.{Event}
-use Rattle.nm_model.specs.declared.event.Event.TheVariants.{Join, Link, Flag}
+use Rattle.nm_model.specs.declared.event.Event.TheVariants.{Join}
 use Rattle.nm_model.specs.declared.reply.Reply.{Reply}
-use Rattle.nm_model.specs.declared.reply.Reply.TheVariants.{Linked, Flagged}
 use Rattle.nm_model.specs.declared.reply.Refused.{Refused}
 use Rattle.nm_model.specs.declared.trace.Turn.{Turn}
 use Rattle.nm_model.specs.Knowledge.{knows}
@@ -21,15 +18,15 @@ use Rattle.nm_model.specs.Runs.{of}
 use Rattle.nm_model.specs.Searches.{Search}
 use Rattle.nm_model.specs.Ordered.{Configuration, HasKey, ordered, search_of, outcome_in, after_in, trace_in}
 use Rattle.nm_model.specs.Walks.{Entry, logged_by}
-use Rattle.nm_laws.proofs.ListOrders.{In, contained_in, in_contained, in_right}
-use Rattle.nm_order.specs.Exchanges.{is_won_link, HasFlagged}
+use Rattle.nm_laws.proofs.ListOrders.{In, in_contained}
+use Rattle.nm_order.specs.Exchanges.{is_won_link}
 use Rattle.nm_order.specs.History.{pin_of}
 use Rattle.nm_order.specs.Intervals.{IsCalled}
 use Rattle.nm_order.specs.Logs.{is_leaver, part_of, takes_part}
 use Rattle.nm_order.specs.LoggedTotals.{sum_of}
-use Rattle.nm_order.specs.Totals.{NothingIsPending, is_for, is_so, call_of, once, how_often}
+use Rattle.nm_order.specs.Totals.{NothingIsPending, is_so, call_of, once, how_often}
 use Rattle.nm_order.specs.WalksToArrivals.{is_won_flag}
-use Rattle.nm_order.proofs.FlagFates.{first, has_key, own_flagged}
+use Rattle.nm_order.proofs.FlagFates.{first, own_flagged}
 use Rattle.nm_order.proofs.OrderedLaws.{each_link_inserts, each_ordered}
 use Rattle.nm_order.proofs.OrderedMoments.{call_walks}
 use Rattle.nm_order.proofs.OwnFlags.{each_flag_marks}
@@ -89,14 +86,6 @@ times_none k (x ∷ xs) none =
     let rest = times_none k xs (λ there. none (inr there)) in
     let here : one_if (x == k) ≡ 0 = ap (λ (b : Bool). one_if b) (ne_eqb x k (λ e. absurd (none (inl (sym e))))) in
     omega (arith, rest, here)
-
-pub in_times : (k : ℕ) (xs : List ℕ) → 1 ≤ times k xs → In xs k
-in_times k [] some = absurd (omega (arith, some))
-in_times k (x ∷ xs) some = by (x == k) refl (in_times k xs)
-  where
-    by : (b : Bool) → (x == k) ≡ b → (1 ≤ times k xs → In xs k) → In (x ∷ xs) k
-    by true is rest = inl (sym (eqb-true x k is))
-    by false is rest = let none : one_if (x == k) ≡ 0 = ap (λ (b : Bool). one_if b) is in inr (rest (omega (arith, some, none)))
 
 -- a number of a list that ascends is there once
 pub times_once : (k : ℕ) (xs : List ℕ) → AllPairs (λ i j. i < j) xs → In xs k → times k xs ≡ 1

@@ -5,18 +5,16 @@ use Rattle.nm_edge.specs.Layouts.{Layout}
 use Rattle.nm_model.specs.declared.event.Op.{Op}
 use Rattle.nm_model.specs.declared.event.Op.TheVariants.{Has, Insert, Delete}
 use Rattle.nm_model.specs.declared.trace.Turn.{Turn}
-use Rattle.nm_steps.specs.Steps.{Board, Stand, IsSamePass, HasSeenAllOf}
+use Rattle.nm_steps.specs.Steps.{Board, Stand, HasSeenAllOf}
 use Rattle.nm_steps.proofs.Growing.{goes_on_itself, goes_on_through}
 use Rattle.nm_steps.proofs.Seeing.{seen_itself, seen_through}
 use Rattle.nm_calls.specs.Moments.{AnswerHasMoment}
 use Rattle.nm_tree.specs.Workers.{Hand}
 use Rattle.nm_set.specs.declared.fault.Fault.{Fault}
-use Rattle.nm_set.specs.declared.fault.Fault.TheVariants as fault
 use Rattle.nm_set.specs.declared.tended.Habit.{Habit}
 use Rattle.nm_set.specs.Tended.{SaysTended}
 use Rattle.nm_set.specs.Popping.{SaysPopTended, TendsPop, pop_rounds_bound}
 use Rattle.nm_model.specs.Histories.{AnswerStands}
-use Rattle.nm_set.proofs.Tending.{is_no_fault}
 use Rattle.nm_tree.proofs.Taking.{moment_since}
 use Rattle.nm_callers.specs.Meanwhile.{IsAnsweredThen, NoneDeleted, NoneInserted}
 use Rattle.nm_callers.specs.PuttingBack.{IsPutAgain, IsPutBack}
@@ -38,11 +36,6 @@ module _ (op : Op) (b : Board) (h : Habit) (k : ℕ) (w z : Hand) where
   pub same_layout : (r : Result Bool Fault) → SaysTended op b h k w z r → z.pass.view.layout ≡ w.pass.view.layout
   same_layout r (inl (held, is, same)) = ap (λ (y : Hand). y.pass.view.layout) same
   same_layout r (inr (free, t)) = ap (λ (p : Stand). p.view.layout) t.on.same
-
-  -- the same pass, where it was answered
-  pub same_pass : (answer : Bool) → SaysTended op b h k w z (Ok answer) → IsSamePass w.pass z.pass
-  same_pass answer (inl (held, is, same)) = is_no_fault answer fault.Held is
-  same_pass answer (inr (free, t)) = t.on.same
 
 -- ---- two calls
 

@@ -1,11 +1,10 @@
 -- Members that add tasks and take them.
-use Rattle.std.proofs.Common.{◌≡◌, ℕ, ◌+◌, ◌<◌, inl, inr, Bool, true, false, true≢false, ap, refl, ◌∙◌, arith}
+use Rattle.std.proofs.Common.{◌≡◌, ℕ, ◌+◌, ◌<◌, inl, inr, true, false, true≢false, ap, arith}
 use Rattle.std.specs.Prelude.{Option, Some, None, Result, Ok, Err, is_ok}
 use Rattle.nm_model.specs.declared.event.Op.TheVariants.{Insert}
 use Rattle.nm_pool.specs.declared.placement.Fit.{Fit}
 use Rattle.nm_steps.specs.declared.view.View.{View}
-use Rattle.nm_steps.specs.Steps.{Board, Stand}
-use Rattle.nm_steps.proofs.Seeing.{seen_itself}
+use Rattle.nm_steps.specs.Steps.{Board}
 use Rattle.nm_walks.specs.WonCounts.{won_flags, won_links}
 use Rattle.nm_calls.specs.Won.{HasWon}
 use Rattle.nm_tree.specs.Workers.{Hand}
@@ -16,10 +15,7 @@ use Rattle.nm_set.specs.Seats.{IsNewMember, Seated}
 use Rattle.nm_set.specs.Popping.{SaysPopTended}
 use Rattle.nm_set.specs.Tended.{GoesOnTended, SaysTended}
 use Rattle.nm_set.proofs.Tending.{follows_then, is_no_fault}
-use Rattle.nm_callers.specs.Queues.{HasWorked, IsAtRest, IsWorkerOf}
-
-pub nothing_yet : (w : Hand) → IsAtRest w → HasWorked w w 0 0
-nothing_yet w rest = record { same = refl; past = seen_itself w.pass; won = record { links = omega arith; flags = omega arith }; rest = rest }
+use Rattle.nm_callers.specs.Queues.{HasWorked}
 
 -- one call more
 works_on : (w x z : Hand) (n t m d most : ℕ) → HasWorked w x n t → GoesOnTended most x z → HasWon x.pass.view.log z.pass.view.log m d → z.pending ≡ None → HasWorked w z (n + m) (t + d)
@@ -62,16 +58,6 @@ takes_none b h w x z n done (inr did) =
     record { same = more.same; past = more.past; won = record { links = more.won.links; flags = omega (arith, flags) }; rest = more.rest }
 
 -- ---- members of a new set
-
-pub new_rests : (b : Board) (f : Fit) (k : ℕ) (m : Seated) → IsNewMember b f k m → IsAtRest m.hand
-new_rests b f k m is = record { free = is.new.3; settled = is.new.2 }
-
-pub still_there : (b : Board) (f : Fit) (k : ℕ) (m y : Seated) (n t : ℕ) → IsNewMember b f k m → y.board ≡ m.board → HasWorked m.hand y.hand n t → IsWorkerOf b k y
-still_there b f k m y n t is same did = record {
-  board = same ∙ is.board;
-  number = ap (λ (p : Stand). p.view.number) did.same ∙ ap (λ (v : View). v.number) is.new.1;
-  settled = did.rest.settled;
-}
 
 -- what it has won is what it has added and taken
 pub new_won : (b : Board) (f : Fit) (k : ℕ) (m : Seated) (z : Hand) (n t : ℕ) → IsNewMember b f k m → HasWorked m.hand z n t → (won_links z.pass.view.log ≡ n) × (won_flags z.pass.view.log ≡ t)

@@ -1,10 +1,9 @@
 -- What claiming a slot leaves, and giving it back.
-use Rattle.std.proofs.Common.{◌≡◌, ◌≢◌, ℕ, true, false, true≢false, sym, ap, ◌∙◌}
+use Rattle.std.proofs.Common.{◌≡◌, ap}
 use Rattle.std.specs.Prelude.{Some}
 use Rattle.nm_edge.specs.declared.node.NodeId.{NodeId}
 use Rattle.nm_model.specs.declared.knowledge.Draft.{Draft}
-use Rattle.nm_model.specs.Knowledge.{unfilled, is_private}
-use Rattle.nm_order.specs.Told.{IsNew}
+use Rattle.nm_model.specs.Knowledge.{unfilled}
 use Rattle.nm_pool.specs.Claims.{IsNewNode}
 use Rattle.nm_steps.specs.Rules.{knowledge}
 use Rattle.nm_steps.specs.Steps.{Stand}
@@ -16,7 +15,3 @@ use Rattle.nm_walks.proofs.Makes.{get_draft}
 -- its birth is stored
 pub new_birth : (p : Stand) (n : NodeId) → IsNewNode (knowledge p.view) n → (draft p n.slot).birth ≡ Some n.birth
 new_birth p n made = ap (λ (d : Draft). d.birth) (get_draft p n.slot (record unfilled { birth = Some n.birth }) made)
-
--- it is another than each slot that was private before
-pub new_apart : (p : Stand) (x y : ℕ) → IsNew p.view.layout p.view.number p.view.log x → is_private (knowledge p.view) y ≡ true → x ≢ y
-new_apart p x y new own at = true≢false (sym own ∙ (ap (is_private (knowledge p.view)) (sym at) ∙ new.not_held))

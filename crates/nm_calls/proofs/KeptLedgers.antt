@@ -1,11 +1,9 @@
 -- What a call leaves of the ledgers that its worker holds.
 use Rattle.std.proofs.Common.{◌≡◌, ℕ, false, List, [], ◌∷◌, ◌++◌, sym, ap, subst, ◌∙◌}
-use Rattle.std.specs.Prelude.{Option, option_map}
 use Rattle.nm_model.specs.declared.event.Event.{Event}
 use Rattle.nm_model.specs.declared.event.Event.TheVariants.{Leave, LeaveWith}
-use Rattle.nm_model.specs.declared.ledger.Ledger.{Ledger}
 use Rattle.nm_model.specs.declared.reply.Reply.TheVariants.{Departed}
-use Rattle.nm_model.specs.Ledgers.{held, labelled}
+use Rattle.nm_model.specs.Ledgers.{labelled}
 use Rattle.nm_steps.specs.Rules.{knowledge}
 use Rattle.nm_model.specs.Walks.{Entry}
 use Rattle.nm_limbo.specs.Queue.{BlockQueue}
@@ -20,12 +18,6 @@ use Rattle.nm_walks.proofs.Adding.{Adds, adds_these}
 use Rattle.nm_walks.proofs.KeptLedgers.{holds_on}
 
 -- ---- ledgers that stay
-
-pub ledgers_stay : (p q : Stand) → (knowledge q.view).ledgers ≡ (knowledge p.view).ledgers → KeepsLedgers p q
-ledgers_stay p q same = record {
-  others = λ o other. ap (λ (ls : List (Option Ledger)). held ls o) same;
-  freed = ap (λ (ls : List (Option Ledger)). option_map (λ (l : Ledger). l.freed) (held ls p.view.number)) same;
-}
 
 pub ledgers_then : (o p q : Stand) → IsSamePass o p → KeepsLedgers o p → KeepsLedgers p q → KeepsLedgers o q
 ledgers_then o p q same a b =

@@ -3,13 +3,11 @@ use Rattle.std.proofs.Common.{◌≡◌, ◌≢◌, inr, ℕ, zero, suc, ◌==�
 use Rattle.std.specs.Prelude.{Option, Some}
 use Rattle.std.proofs.lemmas.Bool.{and_from}
 use Rattle.nm_edge.specs.Layouts.{Layout}
-use Rattle.nm_edge.specs.Layouts.{IsLayout}
 use Rattle.nm_edge.specs.declared.edge.Side.{Side}
 use Rattle.nm_model.specs.declared.event.Event.TheVariants.{Leave, LeaveWith, SightFor}
 use Rattle.nm_model.specs.declared.event.Op.{Op}
 use Rattle.nm_model.specs.declared.event.Op.TheVariants.{Has}
-use Rattle.nm_model.specs.declared.knowledge.Brief.{Brief}
-use Rattle.nm_model.specs.declared.reply.Reply.TheVariants.{Pinned, Departed}
+use Rattle.nm_model.specs.declared.reply.Reply.TheVariants.{Departed}
 use Rattle.nm_model.specs.declared.arrivals.Arrival.{Arrival}
 use Rattle.nm_model.specs.declared.arrivals.Call.{Call}
 use Rattle.nm_model.specs.Maps.{has, is_number}
@@ -21,12 +19,11 @@ use Rattle.nm_order.specs.Facts.Since.{ThePin}
 use Rattle.nm_order.specs.Facts.Fact.{KnowsSlot, CallIs, EndedAt}
 use Rattle.nm_order.proofs.ArrivalsOfLooks.{any_there}
 use Rattle.nm_steps.specs.Steps.{Stand, MayStep}
-use Rattle.nm_steps.proofs.AfterSteps.{TellsRun, run_after}
-use Rattle.nm_epoch.specs.Resting.{IsPinnedAt, KeepsHands, epochs, search}
+use Rattle.nm_epoch.specs.Resting.{IsPinnedAt, epochs, search}
 use Rattle.nm_epoch.specs.Tries.{IsPinnedBy}
 use Rattle.nm_epoch.proofs.Allowed.{passes}
 use Rattle.nm_calls.specs.Calls.{LostWalks, HasMissed}
-use Rattle.nm_walks.specs.Telling.{Tells, IsInRun, IsPinnedSomewhere, OnlyLooks}
+use Rattle.nm_walks.specs.Telling.{Tells, IsPinnedSomewhere}
 
 -- ---- what a pin for a call tells
 
@@ -37,16 +34,8 @@ module _ (p : Stand) (epoch : ℕ) (op : Op) (key : ℕ) (at : IsPinnedAt epoch 
   pub knows_second : Tells p (KnowsSlot 2)
   knows_second = ap (λ m. has m 2) at.known
 
-  pub knows_root : Tells p (KnowsSlot 1)
-  knows_root = ap (λ m. has m 1) at.known
-
   pub call_is : Tells p (CallIs op key)
   call_is = ap (λ (s : Search). s.call) at.begun
-
--- its log is of a run
-pub pinned_in_run : (old : List Entry) (q : Stand) (op : Op) (key tries epoch : ℕ) → IsPinnedBy (SightFor op key) tries old q.view.log epoch → IsLayout q.view.layout → TellsRun q → IsInRun q
-pinned_in_run old q op key tries epoch pin fits tells =
-    record { fits = fits; run = run_after (record q { view = record q.view { log = _ } }) q (SightFor op key) (Pinned epoch) pin.5.1 refl tells }
 
 -- ---- answers
 
@@ -75,13 +64,6 @@ may_answer p k v leaf parent side answer labelled call ended is = record {
     shown false is = any_there (ended_beside k) (search p).walks a ended.0.among (beside_key (sym is))
 
 -- ---- hands
-
-pub looks_keep : (p q : Stand) → OnlyLooks p q → KeepsHands p q
-looks_keep p q only = record {
-  private = only.private;
-  labelled = λ none'. ap (λ (b : Brief). b.unlabelled) only.epochs ∙ none';
-  ledgers = λ none'. only.ledgers;
-}
 
 -- ---- all walks broken off
 

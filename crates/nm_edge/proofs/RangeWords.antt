@@ -4,7 +4,7 @@ use Rattle.std.specs.Prelude.{nat_lt}
 use Rattle.std.specs.Int.Count.{count_leading_zeros}
 use Rattle.std.specs.Int.Bits.{bit_and, bit_xor, and_step, xor_self, xor_add_and}
 use Rattle.std.proofs.Math.Nat.{div-div-eq-div-mul, div-mul-le_self, div-lt_iff_lt-mul, div-eq_of_lt, mod-eq_of_lt}
-use Rattle.std.proofs.lemmas.Bool.{eqb-true, eqb-false, eq-eqb, ne_eqb, lt-ltb, le-ltb, ltb-true, ltb-false}
+use Rattle.std.proofs.lemmas.Bool.{eqb-true, eqb-false, lt-ltb, le-ltb, ltb-true, ltb-false}
 use Rattle.std.proofs.lemmas.Nat.{xor_shr, xor_lt, and_le_l, and_le_r, pow_pos, le-div, leading_top}
 use Rattle.nm_edge.specs.Ranges.{covers_in, covers, IsParting}
 use Rattle.nm_edge.proofs.RangeBits.{covers_is_the_range}

@@ -14,7 +14,6 @@ use Rattle.nm_steps.specs.Steps.{Stand, Stepped, Continues, TakesStep, IsAdvance
 use Rattle.nm_steps.proofs.Noting.{noted}
 use Rattle.nm_steps.proofs.Seeing.{continues_then, continues_by}
 use Rattle.nm_epoch.specs.declared.answers.Advance.TheVariants.{Moved, Held, Lost}
-use Rattle.nm_epoch.specs.Reading.{Reads}
 use Rattle.nm_epoch.specs.Resting.{Settles, KeepsHands, GoesOnSettled, epochs}
 use Rattle.nm_epoch.specs.Scans.{LooksAt, SightThenScans, IsAdvance, lets_pass}
 use Rattle.nm_epoch.proofs.Marks.{IsLooking}
@@ -89,9 +88,6 @@ is_held p q at me e m v found old same look is other below h =
     )
 
 -- ---- what a look and a move leave
-
-pub read_goes_on : (e : ℕ) (p q : Stand) → Reads e p q → GoesOnSettled p q
-read_goes_on e p q reads = record { on = reads.on; settles = reads.settles; hands = reads.hands }
 
 pub look_goes_on : (me v : ℕ) (found : Option ℕ) (o p q : Stand) → GoesOnSettled o p → Continues p q → LooksAt me (epochs p).pin v found p.view.log q.view.log → GoesOnSettled o q
 look_goes_on me v found o p q was on look = record {

@@ -4,12 +4,11 @@ use Rattle.std.proofs.Common.{◌<◌, ◌≡◌, ◌⊎◌, ℕ, List, Bool, tr
 use Rattle.std.specs.Prelude.{Option, Some, None, IsSome, is_none, is_some, nat_le, unwrap_or, slice_index_or}
 use Rattle.nm_edge.specs.Keys.{IsKey}
 use Rattle.nm_edge.specs.Layouts.{Layout}
-use Rattle.nm_model.specs.declared.arrivals.Call.{Call}
 use Rattle.nm_model.specs.Walks.{Entry, search_after}
 use Rattle.nm_model.specs.declared.event.Op.{Op}
 use Rattle.nm_model.specs.declared.event.Event.TheVariants.{Announce, Advance, Leave, LeaveWith, Scan, SightFor}
 use Rattle.nm_model.specs.declared.reply.Refused.{Refused}
-use Rattle.nm_model.specs.Searches.{Search, idle}
+use Rattle.nm_model.specs.Searches.{idle}
 use Rattle.nm_model.specs.Memory.{opening}
 use Rattle.nm_model.specs.Step.{refusal, is_held_back, last_number, others_scanned}
 use Rattle.nm_laws.proofs.Steps.{passed}
@@ -17,7 +16,7 @@ use Rattle.nm_steps.specs.declared.view.View.{View}
 use Rattle.nm_steps.specs.Rules.{knowledge}
 use Rattle.nm_steps.specs.Steps.{Stand, MayStep, fresh_view}
 use Rattle.nm_steps.proofs.Extending.{neither}
-use Rattle.nm_epoch.specs.Resting.{IsResting, IsPinnedAt, epochs, search}
+use Rattle.nm_epoch.specs.Resting.{IsResting, epochs, search}
 use Rattle.nm_epoch.proofs.Marks.{marks, IsLooking, one_for_each, all_others}
 use Rattle.nm_epoch.specs.Scans.{lets_pass}
 use Rattle.nm_pool.proofs.Allowing.{passes_then}
@@ -69,13 +68,6 @@ leave_labelled p may = (passed _ _ _ (may.allowed (opening p.view.layout) tt)).0
 pub leave_with_labelled : (p : Stand) (answer : Bool) → MayStep p (LeaveWith answer) → (epochs p).unlabelled ≡ false
 unfolding refusal
 leave_with_labelled p answer may = (passed _ _ _ (may.allowed (opening p.view.layout) tt)).0
-
--- a worker that rests, or is pinned for a call that has only begun, may leave
-pub resting_may_leave : (p : Stand) → IsResting p → MayStep p Leave
-resting_may_leave p r = may_leave p r.labelled (ap (λ (s : Search). s.linked) r.idle) (ap (λ (s : Search). s.flagged) r.idle)
-
-pub pinned_may_leave : (e : ℕ) (call : Option Call) (p : Stand) → IsPinnedAt e call p → MayStep p Leave
-pinned_may_leave e call p at = may_leave p at.labelled (ap (λ (s : Search). s.linked) at.begun) (ap (λ (s : Search). s.flagged) at.begun)
 
 -- a worker that has done nothing yet rests
 pub fresh_rests : (L : Layout) (k : ℕ) (p : Stand) → p.view ≡ fresh_view L k → IsResting p

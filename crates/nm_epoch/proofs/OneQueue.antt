@@ -21,10 +21,6 @@ use Rattle.nm_order.specs.Hands.{AreApart}
 use Rattle.nm_epoch.specs.Collecting.{IsQueueOf, OnlyFrees, is_ripe, ripe_front, ripe_part, rest_of, freeing}
 use Rattle.nm_epoch.proofs.Fronts.{may_free, freed_reply, queue_after, others_after, retired_stays, epochs_stay, search_stays, nodes_stay, private_stay}
 
--- nothing is freed yet
-pub frees_nothing : (p : Stand) → OnlyFrees p p
-frees_nothing p = record { retired = λ o. refl; epochs_are = refl; search_is = refl; nodes = refl; private = refl }
-
 pub frees_then : (p q r : Stand) → OnlyFrees p q → OnlyFrees q r → OnlyFrees p r
 frees_then p q r first rest = record {
   retired = λ o. rest.retired o ∙ first.retired o;
@@ -42,9 +38,6 @@ pub record IsCollecting (epoch origin : ℕ) (start : Stand) (all : List Entry) 
   pub entries : p.view.log ++ map freeing (ripe_part epoch now) ≡ start.view.log ++ map freeing (ripe_part epoch all)
   pub left : rest_of epoch now ≡ rest_of epoch all
   pub count : length now + length (ripe_part epoch all) ≡ length all + length (ripe_part epoch now)
-
-pub collecting_from : (epoch origin : ℕ) (p : Stand) (all : List Entry) → IsQueueOf (knowledge p.view) origin all → IsCollecting epoch origin p all p all
-collecting_from epoch origin p all queue = record { queue = queue; others = λ o ne. refl; only = frees_nothing p; entries = refl; left = refl; count = refl }
 
 -- ---- ripe entries
 

@@ -1,5 +1,5 @@
 -- What a look at one worker's announcement leaves, and how the looks at all of them go on.
-use Rattle.std.proofs.Common.{◌≡◌, ◌≢◌, ◌⊎◌, ◌+◌, ◌<◌, inl, inr, ⊎_elim, ℕ, suc, Bool, true, false, List, [], ◌∷◌, ◌++◌, length, get_or, set, refl, sym, ap, subst, ◌∙◌, add-one, arith}
+use Rattle.std.proofs.Common.{◌≡◌, ◌≢◌, ◌⊎◌, ◌+◌, ◌<◌, inl, inr, ⊎_elim, ℕ, suc, Bool, true, false, List, [], ◌∷◌, ◌++◌, length, get_or, set, sym, ap, subst, ◌∙◌, add-one, arith}
 use Rattle.std.specs.Prelude.{Option, Some, slice_set}
 use Rattle.std.proofs.lemmas.List.{get_or-set_same, get_or-set_other}
 use mathlib.Core.Logic.{dite}
@@ -14,7 +14,7 @@ use Rattle.nm_model.specs.Step.{reply_scan}
 use Rattle.nm_steps.specs.Steps.{Stand, Stepped, IsSamePass}
 use Rattle.nm_epoch.specs.Resting.{Settles, epochs, search}
 use Rattle.nm_epoch.proofs.Marks.{marks, IsLooking, one_for_each, marks_after}
-use Rattle.nm_epoch.specs.Scans.{IsSightOf, LooksAt, SightThenScans, lets_pass}
+use Rattle.nm_epoch.specs.Scans.{LooksAt, SightThenScans, lets_pass}
 use Rattle.nm_epoch.proofs.Entries.{epochs_after, search_is}
 use Rattle.nm_epoch.proofs.KeptHands.{look_known}
 
@@ -90,11 +90,3 @@ looking_on me e v found old p q same look lets below h =
           (λ (ne : v ≢ me). h.own (omega arith)));
       marked = marked_on me v (epochs p).pin found p q same look e h.seen lets (rw (one_for_each p) below) h.marked;
     }
-
-pub looking_from : (me e : ℕ) (old : List Entry) (p : Stand) → IsSightOf e old p.view.log → (epochs p).seen ≡ Some e → IsLooking me e 0 old p
-looking_from me e old p sighted seen = record {
-  part = (p.view.log, sighted, refl);
-  seen = seen;
-  own = λ less. absurd (omega arith);
-  marked = λ v less. absurd (omega arith);
-}

@@ -1,5 +1,5 @@
 -- What a look at who is behind the epoch leaves in the log, oldest entry first.
-use Rattle.std.specs.Prelude.{◌≡◌, ◌+◌, ◌^◌, ◌<◌, ℕ, zero, suc, List, Option, if◌then◌else◌}
+use Rattle.std.specs.Prelude.{◌≡◌, ◌+◌, ◌^◌, ℕ, zero, suc, List, Option, if◌then◌else◌}
 use Rattle.nm_model.specs.Walks.{Entry}
 use Rattle.nm_epoch.specs.declared.answers.Behind.{Behind}
 use Rattle.nm_epoch.specs.Scans.{IsSightOf, LooksAt, lets_pass}

@@ -9,7 +9,6 @@ use Rattle.nm_files.specs.declared.fault.Reason.TheVariants as reason
 use Rattle.nm_files.specs.declared.header.Command.{Command}
 use Rattle.nm_files.specs.declared.header.Command.TheVariants.{Replay}
 use Rattle.nm_files.specs.declared.header.Header.{Header}
-use Rattle.nm_files.specs.Chain.{◌>>=◌}
 use Rattle.nm_files.specs.Lines.{parts, fields, is_field}
 use Rattle.nm_files.specs.Values.{worker_and_values}
 use Rattle.nm_files.specs.Formats.{Format}

@@ -5,7 +5,6 @@ use Rattle.nm_files.specs.declared.fault.Reason.{Reason}
 use Rattle.nm_files.specs.declared.fault.Reason.TheVariants as reason
 use Rattle.nm_files.specs.declared.fault.RunFault.{RunFault}
 use Rattle.nm_files.specs.declared.fault.RunFault.TheVariants as run
-use Rattle.nm_files.specs.Chain.{◌>>=◌}
 
 -- a line, and what is wrong with it
 pub record Fault : Type 0 where

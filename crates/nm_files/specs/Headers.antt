@@ -9,7 +9,6 @@ use Rattle.nm_files.specs.declared.header.Command.{Command}
 use Rattle.nm_files.specs.declared.header.Command.TheVariants.{Replay, Serial, Stress}
 use Rattle.nm_files.specs.declared.header.Limits.{Limits}
 use Rattle.nm_files.specs.declared.header.Header.{Header}
-use Rattle.nm_files.specs.Chain.{◌>>=◌}
 use Rattle.nm_files.specs.Lines.{number}
 use Rattle.nm_model.specs.Step.{outside}
 

@@ -5,7 +5,6 @@ use Rattle.std.specs.Char.{is_ascii_digit}
 use Rattle.std.specs.Str.Parse.{digits_value}
 use Rattle.nm_files.specs.declared.fault.Reason.{Reason}
 use Rattle.nm_files.specs.declared.fault.Reason.TheVariants as reason
-use Rattle.nm_files.specs.Chain.{◌>>=◌}
 
 -- the pieces between the bytes that are c: one more than there are such bytes
 abbrev pub pieces : ℕ → List ℕ → List (List ℕ)

@@ -13,7 +13,6 @@ use Rattle.nm_files.specs.declared.value.Argument.{Argument}
 use Rattle.nm_files.specs.declared.value.Argument.TheVariants as a
 use Rattle.nm_files.specs.declared.value.Value.{Value}
 use Rattle.nm_files.specs.declared.value.Value.TheVariants as value
-use Rattle.nm_files.specs.Chain.{◌>>=◌}
 use Rattle.nm_files.specs.Files.{least}
 use Rattle.nm_files.specs.Lines.{number, place}
 

@@ -35,9 +35,6 @@ named_at m (x ∷ xs) zero n h = let e = same_Some (named m x) n h in ap (λ (y 
 named_at m (x ∷ xs) (suc i) n h = named_at m xs i n h
 
 module _ (s : State) (h : ℕ → ℕ) (law : Lawful s h) (w a : ℕ) (d : Side) (x p : ℕ) (keep : Side) (k : Shown s h w a d x p keep) where
-  the_way : List Side
-  the_way = k.sides ++ keep ∷ []
-
   slots : slots_of (cut_nodes s.layout s.memory (of s w) x p keep) ≡ nodes_cut (below (picture s h)) (below (picture s h) a d) (k.sides ++ keep ∷ [])
   slots = slots_are s h law w a d x p keep k ∙ sym (from_successor s h law w a d x p keep k)
 

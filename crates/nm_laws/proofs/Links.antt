@@ -13,7 +13,7 @@ use Rattle.nm_model.specs.Paths.{follow}
 use Rattle.nm_laws.proofs.Pictures.{Spot}
 use Rattle.nm_laws.proofs.Pictures.Spot.{InPool, PrivateTo, OnPath, InQueue}
 use Rattle.nm_laws.proofs.Trees.{follow-append, follow_leaf, same_side-false, rest_after, Exchanged, not_taken, taken, is_taken, unvisited, same_side-true}
-use Rattle.nm_laws.proofs.Pictures.{Picture, below, Stands, Once, IsLive, InReach, TreeLaw, new_place, nowhere_else, alone, null_below, IsOnPath, on_path, in_reach}
+use Rattle.nm_laws.proofs.Pictures.{Picture, below, Stands, Once, IsLive, InReach, TreeLaw, new_place, nowhere_else, alone, null_below, IsOnPath, in_reach}
 use Rattle.std.proofs.Common.{append-nil}
 use Rattle.nm_laws.proofs.Trees.{append_cancel}
 use Rattle.nm_laws.proofs.Slots.{hand, hand-same, hand-other, with_edge_at, with_edge-other, is_exchanged}
@@ -76,12 +76,6 @@ module _ (r : Bool) (N : ℕ) (P : Picture) (w p : ℕ) (d : Side) (leaf new far
 
   not_live : (x : ℕ) → P.private w x ≡ true → IsLive P x → ⊥
   not_live x own l = true≢false (sym own ∙ l.shared w)
-
-  leaf_on_path : IsOnPath P leaf
-  leaf_on_path = rw (← leads_to_leaf) (on_path P p d p_on_path (rw leads_to_leaf link.leaf_slot))
-
-  leaf_not : (x : ℕ) → P.private w x ≡ true → leaf ≢ x
-  leaf_not x own e = off_path x own (rw e at leaf_on_path)
 
   not_p : (x : ℕ) → P.private w x ≡ true → x ≢ p
   not_p x own e = not_live x own (rw e link.live)

@@ -8,12 +8,11 @@ use Rattle.nm_model.specs.Places.{SlotPlace, slot_of, SlotStandsAt, OneSlotPlace
 use Rattle.nm_model.specs.Laws.{OfEachState}
 use Rattle.nm_model.specs.Places.SlotPlace.{InPool, PrivateTo, OnPath, InQueue}
 use Rattle.nm_model.specs.Runs.{State, of, start, after}
-use Rattle.nm_laws.proofs.Reaches.{IsReachable}
 use Rattle.nm_laws.proofs.Holders.{Holders}
 use Rattle.nm_laws.proofs.Pictures.{Spot, Stands, Once}
 use Rattle.nm_laws.proofs.Pictures.Spot.{InPool as SpotInPool, PrivateTo as SpotPrivateTo, OnPath as SpotOnPath, InQueue as SpotInQueue}
 use Rattle.nm_laws.proofs.Views.{picture}
-use Rattle.nm_laws.proofs.Lawful.{IsLawful, lawful, reachable_is_lawful}
+use Rattle.nm_laws.proofs.Lawful.{IsLawful, lawful}
 
 module _ (s : State) (h : ℕ → ℕ) (holders : Holders s h) (x : ℕ) where
   -- a spot, as the place where a state has it
@@ -50,7 +49,3 @@ lawful_places s l x some inside = one_place s l.holder l.law.holders x (l.law.tr
 
 pub each_slot_has_one_place : OfEachState EachSlotInOnePlace
 each_slot_has_one_place L enough turns = lawful_places (after (start L) turns) (lawful L enough turns)
-
--- the same of a state that can be reached
-pub reachable_places : (s : State) → IsReachable s → EachSlotInOnePlace s
-reachable_places s r = lawful_places s (reachable_is_lawful s r)

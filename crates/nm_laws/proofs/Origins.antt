@@ -213,9 +213,6 @@ pub record Manned (s : State) : Type 0 where
 pub staffed_next : (s : State) (t : ℕ × Event) → Staffed s → Staffed (next s t)
 staffed_next s t staffed = by_step Staffed (λ s w e x _. staffed_step s w e x) s t staffed
 
-pub manned_next : (s : State) (m : Manned s) (t : ℕ × Event) → Manned (next s t)
-manned_next s m t = let k = turned s m.holder m.staffed m.holders t in record { staffed = staffed_next s t m.staffed; holder = k.holder; holders = k.holders }
-
 abbrev pub manned_start : (L : Layout) → Manned (start L)
 manned_start L = record { staffed = staffed_start L; holder = λ o. o; holders = holders_start L }
 

@@ -114,15 +114,6 @@ new_place P Q x old new was is each once = record { place = new; here = is; only
     go q (inl e) = e
     go q (inr t) = absurd (t.1 (once.only q t.0 ∙ sym (once.only old was)))
 
--- its places go back to places that it had, and no two to one
-pub mapped_place : (P Q : Picture) (x : ℕ) (back : Spot → Spot) → ((q : Spot) → Stands Q x q → Stands P x (back q)) → ((q r : Spot) → Stands Q x q → Stands Q x r → back q ≡ back r → q ≡ r)
-    → (now : Spot) → Stands Q x now → Once P x → Once Q x
-mapped_place P Q x back were apart now is once = record {
-  place = now;
-  here = is;
-  only = λ q h. apart q now h is (once.only (back q) (were q h) ∙ sym (once.only (back now) (were now is)));
-}
-
 -- a slot that stands in one place stands in no other
 pub nowhere_else : (P : Picture) (x : ℕ) (p q : Spot) → Once P x → Stands P x p → Stands P x q → p ≡ q
 nowhere_else P x p q once a b = once.only p a ∙ sym (once.only q b)

@@ -1,13 +1,11 @@
 -- One more event leads on from a state that events lead to.
-use Rattle.std.proofs.Common.{◌≡◌, ℕ, List, [], ◌∷◌, ◌++◌, refl, ap, subst, ◌∙◌, ◌+◌, ◌<◌, length, take, get_or, Result, Ok, Err, OnOk, OnErr}
+use Rattle.std.proofs.Common.{◌≡◌, ℕ, List, [], ◌∷◌, ◌++◌, refl, ap, subst, ◌∙◌, ◌+◌, ◌<◌, length, take, get_or}
 use Rattle.std.proofs.lemmas.List.{take_more}
 use Rattle.std.specs.Prelude.{Option, Some, None}
 use Rattle.nm_edge.specs.Layouts.{Layout, IsLayout}
 use Rattle.nm_model.specs.declared.event.Event.{Event}
 use Rattle.nm_model.specs.declared.reply.Refused.{Refused}
-use Rattle.nm_model.specs.declared.reply.Reply.{Reply}
 use Rattle.nm_model.specs.declared.trace.Turn.{Turn}
-use Rattle.nm_model.specs.Answers.{IsAnswer}
 use Rattle.nm_model.specs.Runs.{State, start, refused, applied, unless_refused, next, outcome, after, trace}
 
 -- a state to which some events lead from the opening of some layout
@@ -54,12 +52,6 @@ reachable_next s t r =
 pub reachable_applied : (s : State) (w : ℕ) (e : Event) → refused s w e ≡ None → IsReachable s → IsReachable (applied s w e)
 unfolding next
 reachable_applied s w e allowed r = subst (λ (o : Option Refused). IsReachable (unless_refused o s (applied s w e))) allowed (reachable_next s (w, e) r)
-
--- whatever was answered, the state that is left is one to which events lead
-pub reachable_answered : (s new : State) (w : ℕ) (e : Event) (reply : Reply) (result : Result Reply Refused) → IsReachable s → IsAnswer (refused s w e) reply result
-    → OnOk result (new ≡ applied s w e) → OnErr result (new ≡ s) → IsReachable new
-reachable_answered s new w e reply (Ok r) reached answer ok err = rw ok (reachable_applied s w e answer.0 reached)
-reachable_answered s new w e reply (Err why) reached answer ok err = rw err reached
 
 -- the state after one turn more
 pub after-more : (s : State) (ts : List (ℕ × Event)) (i : ℕ) (d : ℕ × Event) → i < length ts → after s (take (i + 1) ts) ≡ next (after s (take i ts)) (get_or ts i d)

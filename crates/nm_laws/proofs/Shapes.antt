@@ -1,5 +1,5 @@
 -- Each event keeps the shape of a state: there is a word and a worker for each that the layout has.
-use Rattle.std.proofs.Common.{◌≡◌, ◌<◌, ◌-◌, ◌==◌, ℕ, true, cond, eqb, [], ◌∷◌, length, replicate, set, refl, ◌∙◌, subst, arith}
+use Rattle.std.proofs.Common.{◌≡◌, ◌<◌, ◌-◌, ◌==◌, ℕ, true, cond, eqb, length, replicate, set, refl, ◌∙◌, subst, arith}
 use Rattle.std.specs.Prelude.{None}
 use Rattle.std.proofs.lemmas.Bool.{cond_both, or_parts}
 use Rattle.std.proofs.lemmas.List.{length-set, length-replicate, length-map}

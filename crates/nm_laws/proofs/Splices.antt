@@ -293,9 +293,6 @@ module _ (N : ℕ) (P : Picture) (w n a : ℕ) (d : Side) (way : List Side) (e :
   reach_back : (u x : ℕ) → InReach Q u x → InReach P u x
   reach_back u x r = let b = walk_back r.from r.path in record { from = r.from; known = r.known; path = b.0; ends = b.1 ∙ r.ends; is_slot = r.is_slot }
 
-  path_back : (x : ℕ) → IsOnPath Q x → IsOnPath P x
-  path_back x r = let b = walk_back 1 r.path in record { path = b.0; ends = b.1 ∙ r.ends; is_slot = r.is_slot }
-
   live_back : (x : ℕ) → IsLive Q x → IsLive P x
   live_back x h = record { pooled = h.pooled; shared = h.shared }
 

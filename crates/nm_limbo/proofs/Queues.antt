@@ -25,9 +25,6 @@ module _ {X : Type 0} where
   pub somes_laid : (p : ℕ) (xs : List X) (r : ℕ) → somes (laid p xs r) ≡ xs
   somes_laid p xs r = somes_blank p (map Some xs ++ blank r) ∙ somes_items xs r
 
-  pub length_laid : (p : ℕ) (xs : List X) (r : ℕ) → length (laid p xs r) ≡ p + (length xs + r)
-  length_laid p xs r = omega (arith, length-append (blank p) (map Some xs ++ blank r), length-replicate {A = Option X} p None, length-append (map Some xs) (blank r), length-map xs Some, length-replicate {A = Option X} r None)
-
   pub laid_read : (p : ℕ) (x : X) (xs : List X) (r : ℕ) → get_or (laid p (x ∷ xs) r) p None ≡ Some x
   laid_read p x xs r = get_or_at (blank p) (Some x) (map Some xs ++ blank r) None p (length-replicate {A = Option X} p None)
 

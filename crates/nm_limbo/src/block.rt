@@ -1,8 +1,7 @@
 //! A block of raw memory, and the values that stand for who owns which part of it. They are taken
 //! apart here and in the chain alone: elsewhere who has them can only hand them on.
-ghost use Rattle.std.specs.Prelude.{◌≡◌, ℕ, ◌+◌, ◌*◌, ◌^◌, ◌<◌, IfOk, ⊤};
+ghost use Rattle.std.specs.Prelude.{◌≡◌, ◌+◌, ◌*◌, ◌^◌, ◌<◌, IfOk, ⊤};
 ghost use Rattle.std.specs.Mem.{type_size};
-ghost use base.Fml.{ftrue};
 ghost use denote.RawPtr.{Ptr, null_ptr};
 ghost use Rattle.nm_limbo.specs.Ownership.{room_owns, deed_owns};
 

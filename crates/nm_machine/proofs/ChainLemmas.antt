@@ -3,7 +3,7 @@
 use Rattle.std.proofs.Common.{◌≡◌, ◌≢◌, ◌<◌, length, ◌⊎◌, inl, inr, ℕ, zero, suc, ◌+◌, ◌==◌, eqb, ◌||◌, Bool, true, false, cond, Option, Some, None, is_some, unwrap_or, List, [], ◌∷◌, ◌++◌, set, refl, sym, ap, subst, ◌∙◌}
 use Rattle.std.specs.Prelude.{slice_index_or}
 use Rattle.std.proofs.Math.Numerals.{add-one}
-use Rattle.std.proofs.lemmas.Bool.{eq-eqb, ne_eqb, eqb-true}
+use Rattle.std.proofs.lemmas.Bool.{ne_eqb, eqb-true}
 use Rattle.std.proofs.lemmas.List.Elements.{All-push, All-set, All-nil}
 use Rattle.nm_edge.specs.declared.edge.Side.{Side}
 use Rattle.nm_edge.specs.declared.edge.Side.TheVariants.{Left, Right}
@@ -40,10 +40,6 @@ way_leads (suc n) k s p = one_step k s (λ t. way n k t p) (λ t. leads_to n k.k
 module _ (n m : ℕ) (known : List (ℕ × Seen)) (s p : ℕ) (more : n ≡ m + 1) where
   turn : leads_to n known s p ≡ (s == p) || from_next (next_slot_in known s) (λ t. leads_to m known t p)
   turn = rw (more, add-one) refl
-
-  -- at the last node
-  pub leads_here : s ≡ p → leads_to n known s p ≡ true
-  leads_here same = turn ∙ ap (λ b. b || from_next (next_slot_in known s) (λ t. leads_to m known t p)) (eq-eqb s p same)
 
   -- where the chain goes on, or ends
   pub leads_from : s ≢ p → (o : Option ℕ) → next_slot_in known s ≡ o → leads_to n known s p ≡ from_next o (λ t. leads_to m known t p)

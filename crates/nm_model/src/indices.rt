@@ -1,5 +1,5 @@
 //! Where the entries of each slot stand in a list, so that one is found without a look through all.
-ghost use Rattle.std.specs.Prelude.{◌≡◌, nat_le, length, OnOk, OnErr};
+ghost use Rattle.std.specs.Prelude.{◌≡◌, length, OnOk, OnErr};
 ghost use Rattle.nm_model.specs.Maps.{get, put};
 ghost use Rattle.nm_model.specs.Indexing.{Covers, is_at_least, with_index};
 

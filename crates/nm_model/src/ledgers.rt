@@ -1,5 +1,5 @@
 //! The ledgers that one worker holds.
-ghost use Rattle.std.specs.Prelude.{◌≡◌, ◌<◌, ◌^◌, length, map, option_map, is_some, position, replicate, slice_set, Some, None, IfOk, OnOk, OnErr};
+ghost use Rattle.std.specs.Prelude.{◌≡◌, ◌<◌, ◌^◌, length, option_map, is_some, position, replicate, slice_set, Some, None, IfOk, OnOk, OnErr};
 ghost use Rattle.std.specs.Option.{option_copied};
 ghost use Rattle.nm_model.specs.Maps.{or_else};
 ghost use Rattle.nm_model.specs.Reports.{in_queues};

@@ -1,5 +1,5 @@
 //! A finite map from slots.
-ghost use Rattle.std.specs.Prelude.{◌≡◌, ◌==◌, true, length, OnOk, OnErr, IfNone, IfSome, is_some, []};
+ghost use Rattle.std.specs.Prelude.{◌≡◌, ◌==◌, true, length, OnOk, OnErr, []};
 ghost use Rattle.nm_model.specs.Maps.{get, put, without, has};
 
 use std::alloc::{AllocError, Global};

@@ -65,9 +65,6 @@ module _ (s : State) (h : ℕ → ℕ) (law : Lawful s h) (w : ℕ) (ss : List S
 one_step : IsKept Both
 one_step s h law w births ss l both e ok ordered has = (flags_step s h law w births ss l both.0 e ok ordered has, one)
   where
-    ss' : List Search
-    ss' = learned_from ss w e (reply_of s w e)
-
     mine : search_of (learned_from ss w e (reply_of s w e)) w ≡ searched (search_of ss w) e (reply_of s w e)
     mine = get_or-set_same ss w (searched (search_of ss w) e (reply_of s w e)) idle (let size = l.sized in let lt = ok.worker in omega arith)
 

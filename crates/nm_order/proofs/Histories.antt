@@ -665,9 +665,6 @@ module _ (L : Layout) (enough : 5 ≤ L.nodes) (ts : List (ℕ × Event)) (t : �
     quiet_act : Act
     quiet_act = record { worker = t.0; pin = pin_of L ts t.0; op = q.op; key = q.k; answer = q.answer; moment = length was.before }
 
-    all_acts : List Act
-    all_acts = acts ++ m.made
-
     kept1 : Kept L (ts ++ t ∷ []) (acts ++ m.made)
     kept1 = kept_next acts old m
 

@@ -1,7 +1,7 @@
 -- The births that a worker had stored in the nodes of its won link stand in memory while its pin
 -- does: each of these nodes is reached, or was cut under the pin, and then it waits in a queue with
 -- no label below the pin's epoch. So nobody has it in private.
-use Rattle.std.proofs.Common.{◌≡◌, ◌≢◌, ℕ, zero, suc, ◌+◌, ◌-◌, ◌<◌, ◌≤◌, ◌⊎◌, inl, inr, ◌==◌, Bool, true, false, cond, ◌||◌, List, [], ◌∷◌, ◌++◌, length, map, refl, sym, ap, subst, ◌∙◌, arith, true≢false, Result, Ok}
+use Rattle.std.proofs.Common.{◌≡◌, ◌≢◌, ℕ, zero, suc, ◌+◌, ◌-◌, ◌<◌, ◌≤◌, ◌⊎◌, inl, inr, ◌==◌, Bool, true, false, cond, ◌||◌, List, [], ◌∷◌, length, map, refl, sym, ap, subst, ◌∙◌, arith, true≢false, Result, Ok}
 use Rattle.std.specs.Prelude.{Option, Some, None, IsSome, is_some, is_none, slice_get, option_map, unwrap_or, drop, All, Contains}
 use Rattle.std.proofs.lemmas.Bool.{cond-true, eqb-true, eq-eqb, or_cases}
 use Rattle.std.proofs.lemmas.Option.{none-some, same_Some, slice_get-get_or, slice_get-map}
@@ -22,7 +22,7 @@ use Rattle.nm_model.specs.Memory.{Memory, node, edge, child, named, put_edge}
 use Rattle.nm_model.specs.Queues.{unlabelled, with_label}
 use Rattle.nm_model.specs.Ledgers.{held, queue_of, labelled, with_cut, with_freed}
 use Rattle.nm_model.specs.Places.{slot_of}
-use Rattle.nm_model.specs.Knowledge.{Knowledge, newcomer, knows, is_private, seen_of, draft_of, beside}
+use Rattle.nm_model.specs.Knowledge.{Knowledge, knows, is_private, seen_of, draft_of, beside}
 use Rattle.nm_model.specs.Learning.{learn}
 use Rattle.nm_model.specs.Laws.{nodes_cut_of}
 use Rattle.nm_model.specs.Paths.{Reached}
@@ -47,7 +47,7 @@ use Rattle.nm_laws.proofs.Origins.OriginStep.{Unchanged, Relabelled, Extended, S
 use Rattle.nm_laws.proofs.KnownBirths.{written_same}
 use Rattle.nm_laws.proofs.Configurations.{refused_next, allowed_outcome, allowed_state, state_outcome, allowed_by_state}
 use Rattle.nm_order.specs.Intervals.{HasKey}
-use Rattle.nm_order.specs.Logs.{takes_part, part_of, known_after, known_by}
+use Rattle.nm_order.specs.Logs.{takes_part, part_of, known_by}
 use Rattle.nm_order.specs.Moments.{OfEachOrderedRun}
 use Rattle.nm_order.specs.OwnBirths.{no_births, with_linked, stored_by, stored_after, stored_in, births_by, OwnBirthsStand}
 use Rattle.nm_order.proofs.OrderedChanges.{off_root, off_known}
@@ -464,11 +464,3 @@ is_looked L w log x = by (seen_of (known_by L w log) x).birth
     by : (o : Option ℕ) → IsSome o → IsSome (or_else o (stored_in L w log x))
     by None none = absurd (true≢false (sym none))
     by (Some b) some = refl
-
-stored_more : (w : ℕ) (k : Knowledge) (births : ℕ → Option ℕ) (log : List Entry) (e : Entry) → stored_after w k births (log ++ e ∷ []) ≡ stored_by (known_after w k log) (stored_after w k births log) e
-stored_more w k births [] e = refl
-stored_more w k births (f ∷ log) e = stored_more w (learn w k f.0 f.1) (stored_by k births f) log e
-
--- with one entry more
-pub stored_push : (L : Layout) (w : ℕ) (log : List Entry) (e : Entry) → stored_in L w (log ++ e ∷ []) ≡ stored_by (known_by L w log) (stored_in L w log) e
-stored_push L w log e = stored_more w (newcomer L w) no_births log e

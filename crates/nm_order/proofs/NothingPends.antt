@@ -1,10 +1,8 @@
 -- Where the log of no worker tells of a leaf that its call has flagged, no delete is pending.
-use Rattle.std.proofs.Common.{◌≡◌, ℕ, ◌<◌, ◌≤◌, inl, inr, List, [], ◌∷◌, refl, sym, ap, subst, ◌∙◌, arith}
+use Rattle.std.proofs.Common.{◌≡◌, ℕ, ◌<◌, ◌≤◌, List, [], ◌∷◌, refl, sym, ap, subst, ◌∙◌}
 use Rattle.std.specs.Prelude.{Option, Some, None, Result, Ok, Err, All, unwrap_or}
-use Rattle.std.proofs.lemmas.Bool.{cases_lt}
 use Rattle.std.proofs.lemmas.Option.{none-some}
 use Rattle.nm_edge.specs.Layouts.{Layout}
-use Rattle.nm_edge.specs.declared.node.NodeId.{NodeId}
 use Rattle.nm_model.specs.declared.event.Event.{Event}
 use Rattle.nm_model.specs.declared.event.Event.TheVariants.{Flag}
 use Rattle.nm_model.specs.declared.reply.Reply.{Reply}
@@ -12,7 +10,7 @@ use Rattle.nm_model.specs.declared.reply.Refused.{Refused}
 use Rattle.nm_model.specs.Runs.{State}
 use Rattle.nm_model.specs.Searches.{Search, idle}
 use Rattle.nm_model.specs.Walks.{search_after}
-use Rattle.nm_model.specs.Ordered.{Configuration, ordered, after_in, trace_in, refused_in, outcome_in, search_of, HasKey}
+use Rattle.nm_model.specs.Ordered.{Configuration, ordered, after_in, trace_in, refused_in, search_of, HasKey}
 use Rattle.nm_laws.proofs.Configurations.{refused_outcome, allowed_by_state}
 use Rattle.nm_laws.proofs.Steps.{allowed}
 use Rattle.nm_laws.proofs.Retired.{layout_after}

@@ -9,7 +9,7 @@ use Rattle.nm_edge.specs.declared.edge.Side.TheVariants.{Left, Right}
 use Rattle.nm_model.specs.Paths.{follow}
 use Rattle.nm_model.specs.Searches.{side_of}
 use Rattle.nm_order.specs.Intervals.{GoesBy}
-use Rattle.nm_laws.proofs.Trees.{Children, Exchanged, rest_after, same_side, follow_none, follow-append, follow_leaf, not_taken, taken, Taken, append_cancel}
+use Rattle.nm_laws.proofs.Trees.{Children, Exchanged, rest_after, same_side, follow_none, follow-append, not_taken, taken, Taken, append_cancel}
 use Rattle.nm_laws.proofs.CutPaths.{Splicing, not_back, straight, new_down, old_path, led, still_alone}
 use Rattle.nm_order.proofs.Searching.{Keys, goes-append, goes_first, goes_on, goes_still, went_still, GoesOver, goes_over, on_way, Apart, apart_follow, apart_goes, apart_went}
 
@@ -37,9 +37,6 @@ had_child c c' p d t h some y f there = go (eqb y p && same_side d f) refl
 -- ---- a splice
 
 module _ (c c' : Children) (v : Keys) (a : ℕ) (d : Side) (way : List Side) (g : Splicing c c' a d way) (some : c a d ≢ 0) where
-  kept_slot : ℕ
-  kept_slot = follow c (c a d) way
-
   -- in the new tree the path to a, and on by d
   through : (k : ℕ) (r : List Side) → GoesBy c v k 1 g.front → side_of k (v a) ≡ d → GoesBy c' v k (follow c (c a d) way) r → GoesBy c' v k 1 (g.front ++ d ∷ r)
   through k r first turn rest =

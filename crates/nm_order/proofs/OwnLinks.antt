@@ -17,7 +17,7 @@ use Rattle.nm_model.specs.declared.reply.Reply.TheVariants.{Pinned, Departed, Li
 use Rattle.nm_model.specs.declared.reply.Refused.TheVariants.{NotOrdered, NoAnswer}
 use Rattle.nm_model.specs.declared.arrivals.Call.{Call}
 use Rattle.nm_model.specs.Maps.{is_number}
-use Rattle.nm_model.specs.Knowledge.{Knowledge, draft_of}
+use Rattle.nm_model.specs.Knowledge.{Knowledge}
 use Rattle.nm_model.specs.Searches.{Search, searched, look_for}
 use Rattle.nm_model.specs.Walks.{begins_anew}
 use Rattle.nm_model.specs.Ordered.{disorder, shows, shows_call, inserts, deletes, links_in_order, flags_in_order, shows_place, may_flag_at, new_leaf, has_removed}

@@ -11,7 +11,7 @@ use Rattle.nm_model.specs.declared.trace.Turn.{Turn}
 use Rattle.nm_model.specs.Knowledge.{Knowledge}
 use Rattle.nm_model.specs.Learning.{learn, resigned, inheriting}
 use Rattle.nm_model.specs.Step.{write}
-use Rattle.nm_model.specs.Runs.{State, of, reply_of, refused, applied}
+use Rattle.nm_model.specs.Runs.{State, of, reply_of, applied}
 use Rattle.nm_model.specs.Searches.{Search, searched}
 use Rattle.nm_model.specs.Walks.{Entry, logged_by, log_of, search_after}
 use Rattle.nm_model.specs.Ordered.{Configuration, ordered, refused_in, applied_in, next_in, outcome_in, after_in, trace_in}

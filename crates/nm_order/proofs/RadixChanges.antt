@@ -1,13 +1,13 @@
 -- What an event that is allowed and in order leaves of a radix tree; and what a link that is in order
 -- has shown of its keys.
-use Rattle.std.proofs.Common.{◌≡◌, ◌≢◌, ℕ, ◌<◌, ◌≤◌, inl, inr, ◌⊎◌, ◌==◌, Bool, true, false, cond, not, ◌&&◌, ◌||◌, List, [], ◌∷◌, ◌++◌, refl, sym, ap, subst, ◌∙◌, arith, true≢false}
+use Rattle.std.proofs.Common.{◌≡◌, ◌≢◌, ℕ, ◌≤◌, inl, inr, ◌⊎◌, ◌==◌, Bool, true, false, cond, not, ◌&&◌, ◌||◌, List, [], ◌∷◌, ◌++◌, refl, sym, ap, subst, ◌∙◌, arith, true≢false}
 use Rattle.std.specs.Prelude.{Option, Some, None, nat_lt, nat_le, slice_get, ◌/◌}
 use Rattle.std.specs.List.{list_any}
 use mathlib.Core.Path.{fun_ext}
-use Rattle.std.proofs.lemmas.Bool.{cond-false, ltb-true, ltb-false, leb-true, eqb-true, eq-eqb, and_parts, or_cases, false_from_ne_true}
+use Rattle.std.proofs.lemmas.Bool.{ltb-true, ltb-false, leb-true, eqb-true, and_parts, or_cases}
 use Rattle.nm_edge.specs.Edges.{Edge, to, other}
 use Rattle.nm_edge.specs.Keys.{IsKey}
-use Rattle.nm_edge.specs.Ranges.{covers, covers_in}
+use Rattle.nm_edge.specs.Ranges.{covers}
 use Rattle.nm_edge.specs.declared.edge.Side.{Side}
 use Rattle.nm_edge.specs.declared.edge.Side.TheVariants.{Left, Right}
 use Rattle.nm_model.specs.declared.event.Event.{Event}
@@ -15,7 +15,7 @@ use Rattle.nm_model.specs.declared.event.Event.TheVariants.{Link}
 use Rattle.nm_model.specs.declared.knowledge.Draft.{Draft}
 use Rattle.nm_model.specs.declared.arrivals.Arrival.{Arrival}
 use Rattle.nm_model.specs.Maps.{is_number}
-use Rattle.nm_model.specs.Memory.{Memory, edge, child, infinity_0, infinity_1, infinity_2}
+use Rattle.nm_model.specs.Memory.{Memory, edge, child, infinity_1, infinity_2}
 use Rattle.nm_model.specs.Knowledge.{knows, knows_leaf, draft_of}
 use Rattle.nm_model.specs.Paths.{follow}
 use Rattle.nm_model.specs.Runs.{State, of}
@@ -33,7 +33,6 @@ use Rattle.nm_laws.proofs.Links.{IsLink}
 use Rattle.nm_laws.proofs.TreeSlots.{leaf_known}
 use Rattle.nm_laws.proofs.TreeLink.{Linkable}
 use Rattle.nm_laws.proofs.TreeSteps.{Lawful}
-use Rattle.nm_laws.proofs.WalksOfLogs.{turned}
 use Rattle.nm_order.proofs.Searching.{Keys}
 use Rattle.nm_order.proofs.TreeChanges.{TreeChange}
 use Rattle.nm_order.proofs.TreeChanges.TreeChange.{Kept, Filled, Linked, Spliced}

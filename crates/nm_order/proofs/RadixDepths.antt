@@ -1,5 +1,5 @@
 -- How deep a radix tree is: the lowest bit of the key falls with each internal node on a path.
-use Rattle.std.proofs.Common.{◌≡◌, ◌≢◌, ℕ, zero, suc, ◌<◌, ◌≤◌, inl, inr, ◌⊎◌, Bool, true, false, List, [], ◌∷◌, ◌++◌, length, refl, sym, ap, subst, ◌∙◌, arith, true≢false}
+use Rattle.std.proofs.Common.{◌≡◌, ◌≢◌, ℕ, suc, ◌<◌, ◌≤◌, inl, inr, ◌⊎◌, true, false, List, [], ◌∷◌, ◌++◌, length, sym, ap, subst, ◌∙◌, arith, true≢false}
 use Rattle.std.specs.Prelude.{nat_lt}
 use Rattle.std.proofs.lemmas.Bool.{cases_lt}
 use Rattle.nm_edge.specs.Ranges.{covers}
@@ -7,7 +7,7 @@ use Rattle.nm_edge.specs.declared.edge.Side.{Side}
 use Rattle.nm_edge.specs.declared.edge.Side.TheVariants.{Left, Right}
 use Rattle.nm_model.specs.Paths.{follow}
 use Rattle.nm_model.specs.Searches.{side_of}
-use Rattle.nm_order.specs.Ranges.{StandsFor, IsNested}
+use Rattle.nm_order.specs.Ranges.{IsNested}
 use Rattle.nm_laws.proofs.Trees.{Children, follow_none, follow-append}
 use Rattle.nm_order.proofs.Searching.{Keys}
 use Rattle.nm_order.proofs.RangesOfKeys.{bits, bits_small, bits_fall, covers_zero}

@@ -1,7 +1,7 @@
 -- In a radix tree, what holds of each slot to which the walks after a call's flag can go on by nodes
 -- in whose range the key is, where it holds of each slot that the call's search comes to now and says
 -- that its range has the key: each event that is in order keeps it.
-use Rattle.std.proofs.Common.{◌≡◌, ◌≢◌, ℕ, ◌≤◌, ◌==◌, inl, inr, ◌⊎◌, true, false, List, [], ◌∷◌, refl, sym, ap, subst, ◌∙◌, arith, get_or-set_same, get_or-set_other}
+use Rattle.std.proofs.Common.{◌≡◌, ◌≢◌, ℕ, ◌≤◌, ◌==◌, inl, inr, ◌⊎◌, true, false, List, [], ◌∷◌, sym, ap, subst, ◌∙◌, arith, get_or-set_same, get_or-set_other}
 use Rattle.std.specs.Prelude.{Option, Some, slice_get}
 use Rattle.std.specs.List.{list_any}
 use native.Mathlib.Decide.{ℕ_discrete}
@@ -32,7 +32,7 @@ use Rattle.nm_laws.proofs.Steps.{Allowed}
 use Rattle.nm_laws.proofs.Trees.{follow_none}
 use Rattle.nm_laws.proofs.TreeSteps.{Lawful}
 use Rattle.nm_laws.proofs.WalksOfLogs.{turned}
-use Rattle.nm_order.specs.Intervals.{GoesBy, key}
+use Rattle.nm_order.specs.Intervals.{key}
 use Rattle.nm_order.specs.Facts.Since.{TheFlag}
 use Rattle.nm_order.proofs.TreeChanges.{tree_change}
 use Rattle.nm_order.proofs.OrderedWalks.{WalkLaw, is_side-true}
@@ -40,7 +40,7 @@ use Rattle.nm_order.proofs.OrderedSteps.{OrderLaw}
 use Rattle.nm_order.proofs.OnwardSlots.{EachNow}
 use Rattle.nm_order.proofs.OrderedMoments.{Lasting, lasting, lasting_stays, call_walks, walked_each}
 use Rattle.nm_order.proofs.RadixTrees.{Nests}
-use Rattle.nm_order.proofs.RadixWays.{EachIn, Covered, Rooted}
+use Rattle.nm_order.proofs.RadixWays.{EachIn, Rooted}
 use Rattle.nm_order.proofs.RadixMoments.{rooted, each_in_outlasts, first_in}
 use Rattle.nm_order.proofs.CallWalks.{WalksKept, GoesOn, goes_on_so, look_writes_nothing}
 use Rattle.nm_order.proofs.CallWalks.GoesOn.{Same, Looked}

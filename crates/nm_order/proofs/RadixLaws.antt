@@ -1,14 +1,11 @@
 -- The laws of radix trees, of each ordered run.
-use Rattle.std.proofs.Common.{◌≡◌, ◌≢◌, ℕ, ◌≤◌, true, List, [], length, sym, ap, subst, ◌∙◌}
-use Rattle.nm_edge.specs.Layouts.{Layout}
-use Rattle.nm_edge.specs.declared.edge.Side.{Side}
+use Rattle.std.proofs.Common.{◌≤◌, List, [], length, subst}
 use Rattle.nm_model.specs.Memory.{child}
-use Rattle.nm_model.specs.Paths.{follow, Reached}
-use Rattle.nm_model.specs.Ordered.{Configuration, ordered, after_in, trace_in}
+use Rattle.nm_model.specs.Ordered.{ordered, after_in, trace_in}
 use Rattle.nm_model.specs.Walks.{Entry, since_pin}
 use Rattle.nm_order.specs.Intervals.{OfEachOrdered, key}
 use Rattle.nm_order.specs.Ranges.{IsNested, RangesNest, PathsAreShort, OfEachRadixLog, WalksAreShort, WalksPassRouters}
-use Rattle.nm_order.proofs.OrderedLaws.{IsOrdered, each_ordered, law_of_state}
+use Rattle.nm_order.proofs.OrderedLaws.{each_ordered, law_of_state}
 use Rattle.nm_order.proofs.RadixMoments.{rooted}
 use Rattle.nm_order.proofs.RadixDepths.{path_short}
 use Rattle.nm_order.proofs.PartWalks.{comes_in_log, passes_in_log}

@@ -1,13 +1,13 @@
 -- A walk for k in a radix tree: as long as k is in the range of each node that it passes, what holds
 -- of what the root's search comes to holds of where it is; behind the first other one nothing stands
 -- for k. Each event that is allowed keeps it, and a look that takes the walk on.
-use Rattle.std.proofs.Common.{◌≡◌, ◌≢◌, ℕ, ◌<◌, ◌≤◌, inl, inr, ◌⊎◌, Bool, true, false, List, [], ◌∷◌, ◌++◌, refl, sym, ap, subst, ◌∙◌, arith, true≢false}
+use Rattle.std.proofs.Common.{◌≡◌, ◌≢◌, ℕ, ◌<◌, ◌≤◌, inl, inr, ◌⊎◌, Bool, true, false, List, [], ◌∷◌, refl, sym, ap, subst, ◌∙◌, arith, true≢false}
 use mathlib.Core.Path.{fun_ext}
 use Rattle.std.proofs.lemmas.Bool.{cases_lt}
 use Rattle.nm_edge.specs.Edges.{Edge}
 use Rattle.nm_edge.specs.Ranges.{covers}
 use Rattle.nm_edge.specs.declared.edge.Side.{Side}
-use Rattle.nm_edge.specs.declared.edge.Side.TheVariants.{Left, Right}
+use Rattle.nm_edge.specs.declared.edge.Side.TheVariants.{Left}
 use Rattle.nm_model.specs.declared.event.Event.{Event}
 use Rattle.nm_model.specs.Memory.{Memory, node, child, is_leaf, infinity_1, infinity_2}
 use Rattle.nm_model.specs.Knowledge.{knows, is_private}
@@ -16,7 +16,7 @@ use Rattle.nm_model.specs.Runs.{State, of}
 use Rattle.nm_model.specs.Searches.{side_of}
 use Rattle.nm_order.specs.Intervals.{GoesBy, key}
 use Rattle.nm_order.specs.Ranges.{StandsFor, IsNested}
-use Rattle.nm_laws.proofs.Trees.{Children, Exchanged, follow-append}
+use Rattle.nm_laws.proofs.Trees.{Children}
 use Rattle.nm_laws.proofs.CutPaths.{straight}
 use Rattle.nm_laws.proofs.Pictures.{IsOnPath, alone, null_below}
 use Rattle.nm_laws.proofs.Splices.{live_on_path, unmarked_not_queued}
@@ -123,9 +123,6 @@ module _ (s : State) (h : ℕ → ℕ) (law : Lawful s h) (w : ℕ) (r : Rooted 
 -- ---- a look
 
 module _ (c : Children) (v : Keys) (r : Rooted c v) (k : ℕ) (small : k < infinity_1) where
-  to_first : (q : List Side) → follow c 1 (Left ∷ Left ∷ q) ≡ follow c (c 2 Left) q
-  to_first q = ap (λ (y : ℕ). follow c (c y Left) q) r.root_left
-
   -- a search that goes on from slot 2's left edge is the root's
   pub first_goes : (q : List Side) → GoesBy c v k (c 2 Left) q → GoesBy c v k 1 (Left ∷ Left ∷ q)
   first_goes q goes = (

@@ -1,7 +1,7 @@
 -- Radix trees: what a node's child stands for lies on its side of the node's range. So the search for
 -- a key comes to each node in whose range it is. It outlasts a splice, a link, and what is done to a
 -- slot that no path comes to.
-use Rattle.std.proofs.Common.{◌≡◌, ◌≢◌, ℕ, zero, suc, ◌<◌, ◌≤◌, inl, inr, ◌⊎◌, eqb, Bool, true, false, cond, ◌&&◌, List, [], ◌∷◌, ◌++◌, append_assoc, refl, sym, ap, subst, ◌∙◌, arith, true≢false}
+use Rattle.std.proofs.Common.{◌≡◌, ◌≢◌, ℕ, zero, suc, ◌<◌, ◌≤◌, inl, inr, ◌⊎◌, eqb, Bool, true, false, cond, ◌&&◌, List, [], ◌∷◌, ◌++◌, refl, sym, ap, subst, ◌∙◌, arith}
 use Rattle.std.specs.Prelude.{Option, Some, None, nat_lt}
 use native.Mathlib.Decide.{ℕ_discrete}
 use Rattle.std.proofs.lemmas.Bool.{eqb-true, and_parts, cond-true, lt-ltb, ltb-true, ltb-false}
@@ -14,10 +14,10 @@ use Rattle.nm_model.specs.Paths.{follow}
 use Rattle.nm_model.specs.Searches.{side_of}
 use Rattle.nm_order.specs.Intervals.{GoesBy}
 use Rattle.nm_order.specs.Ranges.{StandsFor, IsNested}
-use Rattle.nm_laws.proofs.Trees.{Children, Exchanged, rest_after, same_side, same_side-true, follow_none, follow-append, not_taken, taken, Taken}
+use Rattle.nm_laws.proofs.Trees.{Children, Exchanged, rest_after, same_side, same_side-true, follow_none, follow-append, not_taken, taken}
 use Rattle.nm_laws.proofs.CutPaths.{Splicing, old_path, led}
 use Rattle.nm_order.proofs.Searching.{Keys, goes-append, Apart, apart_follow}
-use Rattle.nm_order.proofs.OrderedTrees.{InOrder, Linking, had_child, unless_at, one_or_other, down, never_back, new_still, far_still, front_is_it, leads_on, Below, below_new, at_leaf, at_far}
+use Rattle.nm_order.proofs.OrderedTrees.{InOrder, Linking, had_child, unless_at, one_or_other, down, new_still, far_still, Below, below_new, at_leaf, at_far}
 use Rattle.nm_order.proofs.OrderedTrees.Below.{Itself, Old, New}
 use Rattle.nm_order.proofs.RangesOfKeys.{covers_own, lies_in_half, half_has_range}
 

@@ -8,17 +8,17 @@ use Rattle.std.proofs.lemmas.Bool.{eqb-true, and_parts}
 use Rattle.std.proofs.lemmas.Option.{none-some}
 use Rattle.nm_edge.specs.Ranges.{covers}
 use Rattle.nm_edge.specs.declared.edge.Side.{Side}
-use Rattle.nm_edge.specs.declared.edge.Side.TheVariants.{Left, Right}
+use Rattle.nm_edge.specs.declared.edge.Side.TheVariants.{Left}
 use Rattle.nm_model.specs.Memory.{infinity_0, infinity_1, infinity_2}
 use Rattle.nm_model.specs.Paths.{follow}
 use Rattle.nm_model.specs.Searches.{side_of}
 use Rattle.nm_order.specs.Intervals.{GoesBy}
 use Rattle.nm_order.specs.Ranges.{StandsFor, IsNested}
-use Rattle.nm_laws.proofs.Trees.{Children, Exchanged, rest_after, same_side, same_side-true, follow_none, follow-append, not_taken, taken, Taken}
+use Rattle.nm_laws.proofs.Trees.{Children, Exchanged, rest_after, same_side, follow-append, not_taken, taken}
 use Rattle.nm_order.proofs.Searching.{Keys, goes-append, goes_still, went_still, GoesOver, goes_over, Apart, apart_follow, apart_went, on_way}
 use Rattle.nm_order.proofs.OrderedTrees.{InOrder}
 use Rattle.nm_order.proofs.OnwardSlots.{EachNow}
-use Rattle.nm_order.proofs.RadixTrees.{Nests, RadixLaw, which, left_if, climb, goes_too, stands_back, nested_still, nested_apart}
+use Rattle.nm_order.proofs.RadixTrees.{Nests, RadixLaw, which, left_if, climb, goes_too, nested_still, nested_apart}
 
 -- each node above the fixed ones to which a path comes from z is nested
 abbrev pub NestsFrom : Children → Keys → ℕ → Type 0

@@ -1,6 +1,6 @@
 -- Over a whole ordered run: an arrival of a standing call is that of a walk since the pin, and the
 -- call is the same at each moment since then.
-use Rattle.std.proofs.Common.{◌≡◌, ℕ, ◌<◌, ◌≤◌, inl, inr, length, List, [], ◌++◌, refl, sym, ap, subst, ◌∙◌, arith}
+use Rattle.std.proofs.Common.{◌≡◌, ℕ, ◌<◌, ◌≤◌, inl, inr, length, List, [], ◌++◌, refl, sym, ap, subst, ◌∙◌}
 use Rattle.std.specs.Prelude.{Option, Some, None, Result, Ok, Err, slice_get, unwrap_or, All}
 use Rattle.std.proofs.lemmas.Bool.{cases_lt}
 use Rattle.std.proofs.lemmas.List.{get_or_past}
@@ -17,7 +17,7 @@ use Rattle.nm_model.specs.Runs.{State, of, reply_of}
 use Rattle.nm_model.specs.Searches.{Search, idle}
 use Rattle.nm_model.specs.Walks.{log_of, since_pin, search_after, IsOfWalk}
 use Rattle.nm_model.specs.Ordered.{Configuration, ordered, search_of, refused_in, outcome_in, after_in, trace_in}
-use Rattle.nm_order.specs.Intervals.{HasCome, HasKey, IsCalled}
+use Rattle.nm_order.specs.Intervals.{HasKey, IsCalled}
 use Rattle.nm_order.specs.Moments.{PinStands}
 use Rattle.nm_laws.proofs.Configurations.{refused_outcome, allowed_outcome, after_in-append}
 use Rattle.nm_laws.proofs.WalksOfLogs.{arrivals_are_walks}

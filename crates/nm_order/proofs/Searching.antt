@@ -29,9 +29,6 @@ goes_on c v k s (e ∷ p) q g = goes_on c v k (c s e) p q g.1
 
 -- ---- two searches for one key
 
-abbrev IsNull : Children → Type 0
-IsNull c = (d : Side) → c 0 d ≡ 0
-
 -- searches for one key that end at leaves end at one
 pub one_leaf : (c : Children) → ((d : Side) → c 0 d ≡ 0) → (v : Keys) (k s : ℕ) (p q : List Side) → GoesBy c v k s p → GoesBy c v k s q
     → follow c s p ≢ 0 → follow c s q ≢ 0 → ((d : Side) → c (follow c s p) d ≡ 0) → ((d : Side) → c (follow c s q) d ≡ 0) → p ≡ q

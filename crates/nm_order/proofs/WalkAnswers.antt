@@ -4,39 +4,28 @@ use Rattle.std.proofs.Common.{◌≡◌, ◌≢◌, ℕ, suc, ◌<◌, ◌≤◌
 use Rattle.std.specs.Prelude.{Option, Some, None, All}
 use Rattle.std.specs.List.{list_any}
 use native.Mathlib.Decide.{ℕ_discrete}
-use Rattle.std.proofs.lemmas.Bool.{cases_lt, eqb-true, eqb-false, eq-eqb, or_parts}
+use Rattle.std.proofs.lemmas.Bool.{cases_lt, eq-eqb, or_parts}
 use Rattle.std.proofs.lemmas.List.{append_cancel_left}
 use Rattle.std.proofs.lemmas.List.Folds.{list_any-append}
 use Rattle.std.proofs.lemmas.Option.{none-some}
 use Rattle.nm_edge.specs.Layouts.{Layout}
-use Rattle.nm_edge.specs.declared.edge.Side.{Side}
 use Rattle.nm_model.specs.declared.event.Event.{Event}
-use Rattle.nm_model.specs.declared.event.Event.TheVariants.{Look}
-use Rattle.nm_model.specs.declared.event.Field.TheVariants.{Key, Edge as EdgeOn}
-use Rattle.nm_model.specs.declared.event.Op.TheVariants.{Has}
 use Rattle.nm_model.specs.declared.reply.Refused.{Refused}
-use Rattle.nm_model.specs.declared.reply.Reply.TheVariants.{KeyIs, EdgeIs}
 use Rattle.nm_model.specs.declared.trace.Turn.{Turn}
 use Rattle.nm_model.specs.Knowledge.{Knowledge}
-use Rattle.nm_model.specs.Memory.{node, is_leaf, infinity_1}
 use Rattle.nm_model.specs.Runs.{of, reply_of, refused}
-use Rattle.nm_model.specs.Searches.{side_of}
-use Rattle.nm_model.specs.Walks.{Entry, log_of, begins_anew, since_pin, IsPart, WalkComes, WalkReads, WalkEnds}
+use Rattle.nm_model.specs.Walks.{Entry, log_of, begins_anew, since_pin, WalkEnds}
 use Rattle.nm_model.specs.Ordered.{Configuration, ordered, disorder_in, refused_in, applied_in, next_in, after_in, trace_in}
 use Rattle.nm_laws.proofs.Configurations.{refused_next, allowed_next, allowed_outcome, after_in-append}
 use Rattle.nm_laws.proofs.Steps.{Allowed, allowed}
-use Rattle.nm_model.specs.Acts.{InSet, Gives}
-use Rattle.nm_order.specs.Intervals.{HasKey, InInterval, key}
+use Rattle.nm_order.specs.Intervals.{HasKey}
 use Rattle.nm_order.specs.Logs.{part_of, known_by}
-use Rattle.nm_order.specs.Moments.{OfEachOrderedRun, PinStands}
-use Rattle.nm_order.specs.StalePaths.{log_under_pin, WasReachedSince}
-use Rattle.nm_order.specs.WalkAnswers.{WasSoUnderPin, AnyWalkTells, WasSoSince, WalksTellOfTheirPin}
+use Rattle.nm_order.specs.Moments.{PinStands}
+use Rattle.nm_order.specs.WalkAnswers.{WasSoUnderPin, WasSoSince, WalksTellOfTheirPin}
 use Rattle.nm_order.proofs.AnswersSince.{later_keys}
 use Rattle.nm_order.proofs.CallWalks.{others_stay, own_knows}
-use Rattle.nm_order.proofs.FactLaws.{leaf_is}
 use Rattle.nm_order.proofs.KnowledgeStays.{learned_stays, answers}
-use Rattle.nm_order.proofs.LogParts.{part_grows, part_itself, part_within}
-use Rattle.nm_order.proofs.OrderedLaws.{IsOrdered, neither, ordered_next, each_ordered, law_of_state, keys_lie, one_leaf_for}
+use Rattle.nm_order.proofs.OrderedLaws.{IsOrdered, neither, ordered_next, each_ordered, law_of_state}
 use Rattle.nm_order.proofs.OwnTurns.{stands_parts}
 use Rattle.nm_order.proofs.PartsOfRuns.{logs_tell}
 use Rattle.nm_order.proofs.PartWalks.{ends_in_log}

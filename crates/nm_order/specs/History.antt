@@ -1,6 +1,6 @@
 -- The set's history: the calls of a run, in the order of their moments, as a history of one plain
 -- set.
-use Rattle.std.specs.Prelude.{Contains, ◌≡◌, ◌⊎◌, ◌↔◌, ℕ, ◌+◌, ◌<◌, ◌≤◌, Bool, true, false, not, List, [], ◌∷◌, ◌++◌, length, Ok, if◌then◌else◌}
+use Rattle.std.specs.Prelude.{Contains, ◌≡◌, ◌⊎◌, ℕ, ◌+◌, ◌<◌, ◌≤◌, Bool, true, false, not, List, [], ◌∷◌, ◌++◌, length, Ok, if◌then◌else◌}
 use Rattle.std.specs.List.{list_any}
 use Rattle.nm_edge.specs.Layouts.{Layout}
 use Rattle.nm_model.specs.declared.event.Op.{Op}

@@ -1,5 +1,5 @@
 -- Moments of an ordered run: what was so at some moment since a worker's pin was confirmed.
-use Rattle.std.specs.Prelude.{◌≡◌, ℕ, ◌≤◌, false, List, ◌++◌, All}
+use Rattle.std.specs.Prelude.{◌≡◌, ℕ, ◌≤◌, false, List, All}
 use Rattle.std.specs.List.{list_any}
 use Rattle.nm_edge.specs.Layouts.{Layout}
 use Rattle.nm_model.specs.declared.event.Event.{Event}

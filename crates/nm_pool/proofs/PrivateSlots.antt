@@ -1,7 +1,7 @@
 -- What a worker knows of its slots after a step on the pool or on a private slot.
 use Rattle.std.proofs.Common.{◌≡◌, ◌≢◌, ℕ, suc, ◌+◌, ◌-◌, ◌≤◌, eqb, Bool, true, false, true≢false, cond, List, [], ◌∷◌, refl, sym, ap, ◌∙◌, arith}
-use Rattle.std.specs.Prelude.{Some, None, is_some, unwrap_or, slice_get}
-use Rattle.std.proofs.lemmas.Bool.{cond-true, cond-false, eq-eqb, ne_eqb, eqb-true, false_from_ne_true}
+use Rattle.std.specs.Prelude.{Some, None, is_some, unwrap_or}
+use Rattle.std.proofs.lemmas.Bool.{cond-true, cond-false, eq-eqb, ne_eqb, eqb-true}
 use Rattle.std.specs.Ordering.{nat_cmp, is_eq}
 use Rattle.nm_model.specs.declared.event.Event.{Event}
 use Rattle.nm_model.specs.declared.event.Event.TheVariants.{Claim, Give, Look, Fill}
@@ -10,14 +10,11 @@ use Rattle.nm_model.specs.declared.reply.Reply.{Reply}
 use Rattle.nm_model.specs.declared.reply.Reply.TheVariants.{Claimed, Taken, Returned, BirthIs, Filled}
 use Rattle.nm_model.specs.declared.knowledge.Draft.{Draft}
 use Rattle.nm_model.specs.Maps.{get, put, without, has}
-use Rattle.nm_model.specs.Ledgers.{held, queue_of}
 use Rattle.nm_model.specs.Knowledge.{Knowledge, unfilled, is_private, draft_of}
 use Rattle.nm_model.specs.Learning.{learn, filled_in, look_private, look_known}
 use Rattle.nm_model.specs.Walks.{Entry}
 use Rattle.nm_laws.proofs.Learned.{learn_claimed, learn_taken, learn_returned, learn_look, learn_filled}
 use Rattle.nm_model.proofs.Tables.{get-put, at_eqb}
-use Rattle.nm_order.specs.Told.{IsNew}
-use Rattle.nm_steps.specs.declared.view.View.{View}
 use Rattle.nm_steps.specs.Rules.{knowledge}
 use Rattle.nm_steps.specs.Steps.{Board, Stand, IsOf, Stepped, IsSamePass}
 use Rattle.nm_steps.proofs.Presence.{known_push}
@@ -195,12 +192,4 @@ learns_both k l m a b = record {
   ledgers = b.ledgers ∙ a.ledgers;
   gone = b.gone ∙ a.gone;
   kept = λ s own. b.kept s (ap is_some (a.kept s own) ∙ own) ∙ a.kept s own;
-}
-
--- a slot that is new to a worker was new before it learned of other slots
-pub new_before : (v u : View) (x : ℕ) → LearnsSlots (knowledge v) (knowledge u) → IsNew u.layout u.number u.log x → IsNew v.layout v.number v.log x
-new_before v u x learned new = record {
-  not_held = false_from_ne_true _ (λ own. true≢false (sym (ap is_some (learned.kept x own) ∙ own) ∙ new.not_held));
-  not_known = sym (ap (λ m. has m x) learned.known) ∙ new.not_known;
-  not_queued = λ origin i e at. new.not_queued origin i e (ap (λ l. slice_get (queue_of (held l origin)) i) learned.ledgers ∙ at);
 }

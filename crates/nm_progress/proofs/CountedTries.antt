@@ -31,7 +31,7 @@ use Rattle.nm_progress.specs.Changes.{is_bare, is_at, changes, is_change, IsChan
 use Rattle.nm_progress.specs.Changes.Expects.{ToLink, ToFlag, ToCut}
 use Rattle.nm_progress.specs.Moves.{number_of}
 use Rattle.nm_progress.specs.Paid.{links_on, flags_on, cuts_on, tags_on, links_in, flags_in, cuts_in, tags_in}
-use Rattle.nm_progress.specs.Tries.{changes_edge, changes_of_others, helps_on, hinders, HindrancesArePaid, reading, losing, LosesTries, OfEachPart, TriesAreLostToChanges, TriesArePaid, TriesArePaidEver}
+use Rattle.nm_progress.specs.Tries.{changes_edge, changes_of_others, hinders, HindrancesArePaid, reading, losing, LosesTries, OfEachPart, TriesAreLostToChanges, TriesArePaid, TriesArePaidEver}
 use Rattle.nm_progress.specs.Tries.LosesTries.{NoTry, OneTry}
 use Rattle.nm_progress.proofs.LostTries.{later_keys, never_lost, look_leaves, stays_or_changed}
 use Rattle.nm_progress.proofs.SplicesPaid.{splices_are_paid, splices_are_paid_since}

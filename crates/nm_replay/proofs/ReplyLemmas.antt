@@ -2,7 +2,6 @@
 use Rattle.std.proofs.Common.{◌≡◌, ℕ, ◌+◌, ◌≤◌, List, [], ◌∷◌, ◌++◌, length, drop, refl, sym, ◌∙◌}
 use Rattle.std.proofs.lemmas.List.{append-nil, drop_all}
 use Rattle.nm_model.specs.declared.trace.Turn.{Turn}
-use Rattle.nm_files.specs.declared.fault.RunFault.TheVariants as run
 use Rattle.nm_replay.specs.Output.{lines_with}
 
 pub no_replies : (lines : List (List ℕ)) → lines_with lines [] ≡ []

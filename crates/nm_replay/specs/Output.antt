@@ -8,7 +8,6 @@ use Rattle.nm_model.specs.Runs.{State, start, after, trace}
 use Rattle.nm_model.specs.Reports.{counts}
 use Rattle.nm_model.specs.Ordered.{Configuration, opening_of, after_in, trace_in}
 use Rattle.nm_files.specs.declared.header.Header.{Header}
-use Rattle.nm_files.specs.Chain.{◌>>=◌}
 use Rattle.nm_files.specs.Lines.{parts}
 use Rattle.nm_files.specs.Files.{Fault}
 use Rattle.nm_files.specs.Entries.{Schedule, schedule_of}

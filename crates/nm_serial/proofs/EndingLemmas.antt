@@ -1,5 +1,5 @@
 -- What a run tells of its input, by the bytes of it that it read.
-use Rattle.std.proofs.Common.{◌≡◌, ◌≢◌, ◌⊎◌, ℕ, List, length, take, drop, Result, Ok, Err, refl, sym, ap, subst, inl, inr, arith, ◌∙◌}
+use Rattle.std.proofs.Common.{◌≡◌, ℕ, List, length, take, drop, Result, Ok, Err, refl, sym, ap, subst, inl, inr, arith, ◌∙◌}
 use Rattle.std.specs.Prelude.{Option, Some, None, IfSome, IfOk, OnOk, IfErr, IsOk, Vec}
 use Rattle.std.specs.Global.{Global}
 use Rattle.nm_files.specs.Lines.{parts}
@@ -14,7 +14,6 @@ use Rattle.nm_files.specs.declared.header.Command.{Command}
 use Rattle.nm_files.specs.Entries.{Script, first_line_of, line_of, script_of}
 use Rattle.nm_files.specs.Kinds.{calls}
 use Rattle.nm_serial.specs.Playing.{FailsSo, EndsSo, IsOfOneThread}
-use Rattle.nm_serial.specs.Stops.{IfStopped}
 use Rattle.nm_serial.specs.Texts.{IfGate, IsWritten, WritesText}
 
 -- what the bytes up to the limit say is what all say
@@ -61,10 +60,6 @@ pub tells_right : (command : Command) (known : Option (List ℕ)) (bytes : List 
 tells_right command None bytes read right = tt
 tells_right command (Some input) bytes read right = rw (enough command (Some input) bytes read) at right
 
--- an answer that is no writer's fault
-pub is_not_write : (command : Command) (bytes : List ℕ) (e : RunFault) → FailsSo command bytes e → e ≢ run.Write
-is_not_write command bytes e ends is = rw is at ends
-
 pub ok_always : {X E : Type 0} {P : Type 0} (r : Result X E) → P → OnOk r P
 ok_always (Ok x) p = p
 ok_always (Err e) p = tt
@@ -100,31 +95,6 @@ tells_gate IsStopped command (Some input) bytes run.Read read gate = tt
 tells_gate IsStopped command (Some input) bytes run.Write read gate = tt
 tells_gate IsStopped command (Some input) bytes (run.Gate worker line) read gate = (gate.0, sym (enough command (Some input) bytes read) ∙ gate.1, gate.2)
 tells_gate IsStopped command (Some input) bytes run.Thread read gate = tt
-
--- where the input was not judged, no gate stopped it
-pub no_gate : (IsStopped : Script → ℕ → ℕ → Type 0) (command : Command) (known : Option (List ℕ)) (e : RunFault) → (e ≡ run.Read) ⊎ ((e ≡ run.NoMemory) ⊎ (e ≡ run.Write)) → IfSome known (λ input. IfGate IsStopped command input e)
-no_gate IsStopped command None e is = tt
-no_gate IsStopped command (Some input) e (inl is) = rw is tt
-no_gate IsStopped command (Some input) e (inr (inl is)) = rw is tt
-no_gate IsStopped command (Some input) e (inr (inr is)) = rw is tt
-
--- nor does one stop a script that is not right
-pub no_gate_before : (IsStopped : Script → ℕ → ℕ → Type 0) (command : Command) (bytes : List ℕ) (e : RunFault) → Fails e (script_of command bytes) → IfGate IsStopped command bytes e
-no_gate_before IsStopped command bytes (run.Line line reason) fails = tt
-no_gate_before IsStopped command bytes run.NoMemory fails = tt
-no_gate_before IsStopped command bytes run.Read fails = tt
-no_gate_before IsStopped command bytes run.Write fails = tt
-no_gate_before IsStopped command bytes (run.Gate worker line) fails = absurd fails
-no_gate_before IsStopped command bytes run.Thread fails = tt
-
--- a script that is right was stopped so
-pub gate_of_script : (IsStopped : Script → ℕ → ℕ → Type 0) (command : Command) (bytes : List ℕ) (s : Script) (e : RunFault) → script_of command bytes ≡ Ok s → IfStopped (IsStopped s) e → IfGate IsStopped command bytes e
-gate_of_script IsStopped command bytes s (run.Line line reason) is stopped = tt
-gate_of_script IsStopped command bytes s run.NoMemory is stopped = tt
-gate_of_script IsStopped command bytes s run.Read is stopped = tt
-gate_of_script IsStopped command bytes s run.Write is stopped = tt
-gate_of_script IsStopped command bytes s (run.Gate worker line) is stopped = (s, is, stopped)
-gate_of_script IsStopped command bytes s run.Thread is stopped = tt
 
 -- its text is written for it
 pub text_of_script : {E : Type 0} (IsText : Script → List (List ℕ) → List ℕ → Type 0) (command : Command) (bytes : List ℕ) (s : Script) (rows : List (List ℕ)) (r : Result (Vec ℕ Global) E) → script_of command bytes ≡ Ok s → drop 1 (parts bytes) ≡ rows → IfOk r (λ v. IsText s rows v.items)

@@ -3,17 +3,12 @@ use Rattle.std.proofs.Common.{◌≡◌, ◌<◌, ◌++◌, ◌∙◌, ℕ, zero
 use Rattle.std.specs.Prelude.{slice_index_or}
 use Rattle.std.proofs.lemmas.List.Elements.{All-map}
 use Rattle.std.proofs.lemmas.List.Sums.{sum_by-cons}
-use Rattle.nm_files.specs.declared.fault.RunFault.{RunFault}
-use Rattle.nm_files.specs.declared.fault.RunFault.TheVariants as run
 use Rattle.nm_files.specs.declared.entry.ScriptCall.{ScriptCall}
-use Rattle.nm_files.specs.Entries.{Script}
 use Rattle.nm_steps.specs.Steps.{Board, IsOf}
 use Rattle.nm_tree.specs.Closing.{given_in}
 use Rattle.nm_tree.specs.Workers.{Hand, AreNew}
 use Rattle.nm_serial.specs.declared.threads.Played.{Played}
-use Rattle.nm_serial.specs.Stops.{IfStopped, IsRefusal, IsStop}
-use Rattle.nm_serial.specs.Texts.{IsGateStop, IsOpened}
-use Rattle.nm_serial.specs.Threads.{HaveAllPlayed, fault_in}
+use Rattle.nm_serial.specs.Threads.{HaveAllPlayed}
 use Rattle.nm_serial.proofs.CrewLemmas.{new_stand_for, present_all, present_stand_for}
 
 -- one more of both lists
@@ -47,29 +42,3 @@ module _ (lets stops : ℕ → ℕ → Type 0) (b : Board) (tries : ℕ) (es : L
   pub ended_stand_for_all : (n : ℕ) → AreNew b 0 ws → length ws ≡ n → b.layout.workers ≡ n → given_in (map (λ (p : Played). p.worker) ps) ≡ b.layout.workers
   ended_stand_for_all n new many sizes =
       same_many ws ps played.all (λ k w p lt. (played.each k w p lt).queues) ∙ (ap given_in (sym (present_all ws)) ∙ present_stand_for (map Some ws) ∙ new_stand_for b 0 ws new) ∙ many ∙ sym sizes
-
-  -- where they have stopped
-  pub gate_stop : (s : Script) (fault : RunFault) → IsOpened s b ws → tries ≡ s.header.tries → es ≡ s.entries → fault_in ps ≡ Some fault → IfStopped (IsGateStop lets stops s) fault
-  gate_stop s (run.Line line reason) opened same calls first = tt
-  gate_stop s run.NoMemory opened same calls first = tt
-  gate_stop s run.Read opened same calls first = tt
-  gate_stop s run.Write opened same calls first = tt
-  gate_stop s (run.Gate worker line) opened same calls first = record { tree = b; workers = ws; opened = opened; ended = ps; played = rw (same, calls) at played; first = first }
-  gate_stop s run.Thread opened same calls first = tt
-
--- a refusal is no stop at a gate
-pub no_stop : (P : ℕ → ℕ → Type 0) (e : RunFault) → IsRefusal e → IfStopped P e
-no_stop P (run.Line line reason) refused = absurd refused
-no_stop P run.NoMemory refused = tt
-no_stop P run.Read refused = absurd refused
-no_stop P run.Write refused = absurd refused
-no_stop P (run.Gate worker line) refused = absurd refused
-no_stop P run.Thread refused = tt
-
-pub is_stop : (e : RunFault) → IsRefusal e → IsStop e
-is_stop (run.Line line reason) refused = absurd refused
-is_stop run.NoMemory refused = tt
-is_stop run.Read refused = absurd refused
-is_stop run.Write refused = absurd refused
-is_stop (run.Gate worker line) refused = absurd refused
-is_stop run.Thread refused = tt

@@ -1,5 +1,5 @@
 -- The last lines of a script: a line of each worker, the keys, and how many slots stand where.
-use Rattle.std.specs.Prelude.{ℕ, List, [], ◌∷◌, ◌++◌, codes, decimal, map}
+use Rattle.std.specs.Prelude.{ℕ, List, ◌++◌, codes, decimal, map}
 use Rattle.nm_epoch.specs.declared.collecting.Entry.{Entry}
 use Rattle.nm_epoch.specs.Collecting.{queued}
 use Rattle.nm_print.specs.LastLines.{spaced_entries, queue_text}

@@ -19,10 +19,6 @@ use Rattle.nm_set.specs.declared.posting.Posted.{Posted}
 use Rattle.nm_set.specs.Posts.{IsTallyOf, pending_by}
 use Rattle.nm_set.specs.Seats.{IsLetGo}
 
-pub free_then : (w z : Hand) → IsLetGo w z → z.held ≡ None
-free_then w z (inl (free, is)) = ap (λ (u : Hand). u.held) is ∙ free
-free_then w z (inr (held, left)) = left.held
-
 -- a worker of which no delete is pending has done as much as it has won
 rests : (w : Hand) → HasSeen w.pass.view → IsBetweenCalls w → w.pending ≡ None → pending_by w.pass.view.number w.pass.view.past ≡ 0
 rests w seen between none = ap (λ (o : Option NodeId). cond (is_some o) 1 0) (none_seen w.pass w.pending w.held seen between.stands none)

@@ -1,8 +1,7 @@
 -- A key is taken by calls that tend the set: what each round leaves, and what the call tells by all of them.
-use Rattle.std.proofs.Common.{◌≡◌, ◌≤◌, ◌⊎◌, inl, inr, ℕ, suc, ◌+◌, ◌*◌, Bool, true, false, length, refl, sym, ap, subst, ◌∙◌, arith}
-use Rattle.std.specs.Prelude.{Option, Some, None, IsSome, Result, Ok, Err, IfOk}
+use Rattle.std.proofs.Common.{◌≡◌, ◌≤◌, inl, inr, ℕ, suc, ◌+◌, ◌*◌, Bool, true, false, length, sym, ap, subst, ◌∙◌, arith}
+use Rattle.std.specs.Prelude.{Option, Some, None, Result, Ok, Err, IfOk}
 use Rattle.std.proofs.Math.Nat.{suc-mul, mul-add, mul-le-mul_right}
-use Rattle.nm_edge.specs.Keys.{IsKey}
 use Rattle.nm_edge.specs.Layouts.{Layout}
 use Rattle.nm_model.specs.declared.event.Op.TheVariants.{Has, Delete}
 use Rattle.nm_steps.specs.Steps.{Board, Stand, HasSeenAllOf}
@@ -19,9 +18,9 @@ use Rattle.nm_tree.proofs.Taking.{found_by, found_in, gives_up_at, key_found, mo
 use Rattle.nm_set.specs.declared.fault.Fault.{Fault}
 use Rattle.nm_set.specs.declared.fault.Fault.TheVariants as fault
 use Rattle.nm_set.specs.declared.tended.Habit.{Habit}
-use Rattle.nm_set.specs.Tended.{FinishesPending, GoesOnTended, IsAsked, Tends, TendsDelete, flags_told_by, round_bound}
+use Rattle.nm_set.specs.Tended.{FinishesPending, GoesOnTended, IsAsked, Tends, TendsDelete, round_bound}
 use Rattle.nm_set.specs.Popping.{AskedForEnd, IsEndedBy, PopLeft, PopsOnce, SaysPopTended, TendsPop, TendsPopOf, flags_told_by_pop, pop_busy, pop_rounds_bound}
-use Rattle.nm_set.proofs.Tending.{IsOnward, Wins, follows_then, goes_asked, goes_more, goes_then, keeps_in_a_row, lose_same, none_there, onward_itself, pending_tends, settled, wins_after}
+use Rattle.nm_set.proofs.Tending.{IsOnward, follows_then, goes_asked, goes_more, goes_then, keeps_in_a_row, lose_same, none_there, onward_itself, pending_tends, settled, wins_after}
 
 -- ---- the two calls of a round
 

@@ -48,6 +48,3 @@ member_send = search (sendable, crosses, home_crosses.the_send, home_sync, worke
 
 pub set_send : IsSend set.the_row
 set_send = search (sendable, crosses, home_crosses.the_send, home_sync, tree.the_send, worker_crosses.the_send) depth 80
-
-pub set_sync : IsSync set.the_row
-set_sync = search (sendable, crosses, home_crosses.the_send, home_sync, tree.the_sync, worker_sync) depth 80

@@ -1,11 +1,9 @@
 -- What a caller of a worker's call has, of what the call tells and does.
-use Rattle.std.proofs.Common.{◌≡◌, ℕ, ℤ, Bool, inl, inr}
+use Rattle.std.proofs.Common.{ℕ, ℤ, Bool, inl, inr}
 use Rattle.std.specs.Prelude.{Option, Result}
-use Rattle.nm_edge.specs.Keys.{IsKey}
 use Rattle.nm_steps.specs.Steps.{Board}
 use Rattle.nm_tree.specs.declared.fault.CallFault.{CallFault as Lost}
 use Rattle.nm_tree.specs.Workers.{Hand}
-use Rattle.nm_tree.specs.Calls.{SaysFinish, LeavesFinish}
 use Rattle.nm_set.specs.declared.fault.Fault.{Fault}
 use Rattle.nm_set.specs.Seats.{Seated}
 use Rattle.nm_set.proofs.Tending.{asked_says}

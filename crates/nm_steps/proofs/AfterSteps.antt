@@ -1,6 +1,5 @@
 -- What a pass's log is after a step: a part of a run, since it does not end with a join.
 use Rattle.std.proofs.Common.{◌≡◌, Bool, true, false, [], ◌∷◌, ◌++◌, sym, ap, ◌∙◌, arith}
-use Rattle.nm_edge.specs.Layouts.{IsLayout}
 use Rattle.nm_model.specs.declared.event.Event.{Event}
 use Rattle.nm_model.specs.declared.event.Event.TheVariants.{Join}
 use Rattle.nm_model.specs.declared.reply.Reply.{Reply}
@@ -29,8 +28,3 @@ run_after p q e r step other run = run
 -- the hands of a pass in a run are apart
 pub apart_in_run : (p : Stand) → IsInRun p → AreApart p.view.layout (knowledge p.view)
 apart_in_run p run = hands_are_apart p.view.layout (let least = run.fits.least in omega arith) p.view.number p.view.log run.run.is_part
-
--- its hands are apart
-pub apart_after : (p q : Stand) (e : Event) (r : Reply) → q.view.log ≡ p.view.log ++ (e, r) ∷ [] → is_join e ≡ false → IsLayout q.view.layout → TellsRun q → AreApart q.view.layout (knowledge q.view)
-apart_after p q e r step other fits tells =
-    hands_are_apart q.view.layout (let least = fits.least in omega arith) q.view.number q.view.log (run_after p q e r step other tells).is_part

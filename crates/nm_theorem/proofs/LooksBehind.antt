@@ -1,10 +1,9 @@
 -- A look that was right at a moment of a run was right at one by its turns, at which its worker was
 -- pinned.
-use Rattle.std.proofs.Common.{◌≡◌, ◌⊎◌, inl, inr, ℕ, ◌<◌, ◌==◌, Bool, true, false, cond, ◌&&◌, ◌||◌, List, [], ◌∷◌, ◌++◌, length, append-nil, refl, sym, ap, subst, ◌∙◌, arith, true≢false}
-use Rattle.std.specs.Prelude.{Option, Some, None, IsSome, Result, Ok, Err, All}
+use Rattle.std.proofs.Common.{◌≡◌, ◌⊎◌, inl, inr, ℕ, ◌==◌, Bool, true, false, cond, ◌&&◌, ◌||◌, List, [], ◌∷◌, length, refl, sym, ap, subst, ◌∙◌, arith, true≢false}
+use Rattle.std.specs.Prelude.{Option, None, IsSome, Result, Ok, Err}
 use Rattle.std.specs.List.{list_any}
 use Rattle.std.proofs.lemmas.Bool.{eqb-true}
-use Rattle.std.proofs.lemmas.Option.{none-some}
 use Rattle.nm_edge.specs.Layouts.{Layout, IsLayout}
 use Rattle.nm_model.specs.declared.event.Event.{Event}
 use Rattle.nm_model.specs.declared.event.Event.TheVariants.{Sight, SightFor, Leave, LeaveWith}
@@ -16,7 +15,7 @@ use Rattle.nm_model.specs.declared.trace.Turn.{Turn}
 use Rattle.nm_model.specs.Memory.{Memory}
 use Rattle.nm_model.specs.Ordered.{ordered, after_in, trace_in}
 use Rattle.nm_model.specs.Walks.{Entry, logged_by, log_of}
-use Rattle.nm_model.specs.Headline.{confirms, departs, leaves, HasLeft, IsPinned, words_after}
+use Rattle.nm_model.specs.Headline.{confirms, departs, leaves, HasLeft, IsPinned}
 use Rattle.nm_model.specs.Acts.{InSet, Gives}
 use Rattle.nm_order.specs.Pinned.{pinned_by, pinned_after}
 use Rattle.nm_order.specs.WalkAnswers.{WasSoSince}

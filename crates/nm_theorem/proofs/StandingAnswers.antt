@@ -1,10 +1,9 @@
 -- An answer stands in each history of the turns that it ends, and of those that go on from them.
-use Rattle.std.proofs.Common.{◌≡◌, ℕ, suc, ◌+◌, ◌<◌, ◌≤◌, ◌==◌, inl, inr, Bool, true, false, cond, List, [], ◌∷◌, ◌++◌, length, append_assoc, append-nil, length-append, refl, sym, ap, subst, ◌∙◌, arith}
+use Rattle.std.proofs.Common.{◌≡◌, ℕ, ◌+◌, ◌<◌, ◌≤◌, ◌==◌, inl, inr, Bool, true, false, cond, List, [], ◌∷◌, ◌++◌, length, append_assoc, length-append, refl, sym, ap, subst, ◌∙◌, arith}
 use Rattle.std.specs.Prelude.{Option, Some, None, unwrap_or, Result, Ok, All}
 use Rattle.std.proofs.lemmas.Bool.{cases_lt, eq-eqb}
 use Rattle.std.proofs.lemmas.Option.{none-some, same_Some}
 use Rattle.nm_edge.specs.Layouts.{Layout, IsLayout}
-use Rattle.nm_model.specs.declared.event.Op.{Op}
 use Rattle.nm_model.specs.declared.event.Event.{Event}
 use Rattle.nm_model.specs.declared.event.Event.TheVariants.{Sight, SightFor, Leave, LeaveWith}
 use Rattle.nm_model.specs.declared.reply.Reply.{Reply}
@@ -15,13 +14,12 @@ use Rattle.nm_model.specs.declared.arrivals.Call.{Call}
 use Rattle.nm_model.specs.Searches.{Search, idle}
 use Rattle.nm_model.specs.Walks.{search_after}
 use Rattle.nm_model.specs.Ordered.{HasKey, ordered, search_of, after_in, trace_in}
-use Rattle.nm_model.specs.Acts.{Act, IsAmong}
+use Rattle.nm_model.specs.Acts.{Act}
 use Rattle.nm_order.specs.History.{pin_of}
 use Rattle.nm_order.specs.Logs.{part_of}
 use Rattle.nm_order.proofs.LastEntries.{ToldBy, told_by_part}
-use Rattle.nm_order.proofs.OwnTurns.{own_search}
 use Rattle.nm_order.proofs.RealTime.{begins_with}
-use Rattle.nm_model.specs.Histories.{Called, called_in, call_by, call_after, call_begun, IsAct, IsHistory, HasAct, answer_turn, AnswerStands}
+use Rattle.nm_model.specs.Histories.{Called, called_in, call_by, call_after, call_begun, IsAct, answer_turn}
 use Rattle.nm_model.specs.Histories.IsAct.{IsAnswered, IsPending}
 use Rattle.nm_theorem.specs.EachRun.{AnswersStand}
 use Rattle.nm_theorem.proofs.Runs.{enough_of}

@@ -1,6 +1,6 @@
 -- Two answers that stand, the later one of a worker that has seen what the first one's had: on the
 -- page alone. A key whose insert was answered true is found, where no delete of it has taken effect.
-use Rattle.std.proofs.Common.{◌≡◌, ◌<◌, ◌≤◌, inl, inr, ℕ, zero, suc, Bool, true, false, List, [], ◌∷◌, ◌++◌, length, refl, sym, ap, subst, ◌∙◌, arith}
+use Rattle.std.proofs.Common.{◌≡◌, ◌<◌, ◌≤◌, inl, inr, ℕ, suc, Bool, true, false, List, [], ◌∷◌, ◌++◌, length, refl, sym, ap, subst, ◌∙◌, arith}
 use Rattle.std.specs.Prelude.{slice_index_or, AllPairs}
 use Rattle.nm_edge.specs.Layouts.{Layout}
 use Rattle.nm_model.specs.declared.event.Op.{Op}
@@ -9,7 +9,7 @@ use Rattle.nm_model.specs.declared.trace.Turn.{Turn}
 use Rattle.nm_model.specs.Headline.{words_after}
 use Rattle.nm_model.specs.Acts.{InSet, Gives, Act, IsAmong, Replays, nothing, changed}
 use Rattle.nm_theorem.specs.EachRun.{IsTrueDelete}
-use Rattle.nm_model.specs.Histories.{Called, called_in, IsHistory, HasHistory, AnswerStands}
+use Rattle.nm_model.specs.Histories.{Called, IsHistory, AnswerStands}
 
 still : (S : ℕ → Type 0) (k : ℕ) (op : Op) (j : ℕ) (answer : Bool) → (op ≡ Delete → j ≡ k → answer ≡ true → ⊥) → S k → changed S op j answer k
 still S k Has j answer none' there = there

@@ -50,22 +50,6 @@ has_times o (h ∷ hs) (inr has) = let rest = has_times o hs has in let all = ti
 
 abbrev pub logs : View → List Held
 logs v = held_log v.number v.log ∷ v.others
-
-has_number_front : (o : ℕ) (hs gs : List Held) → HasNumber o hs → HasNumber o (hs ++ gs)
-has_number_front o [] gs has = absurd has
-has_number_front o (h ∷ hs) gs (inl is) = inl is
-has_number_front o (h ∷ hs) gs (inr has) = inr (has_number_front o hs gs has)
-
-has_number_back : (o : ℕ) (hs gs : List Held) → HasNumber o gs → HasNumber o (hs ++ gs)
-has_number_back o [] gs has = has
-has_number_back o (h ∷ hs) gs has = inr (has_number_back o hs gs has)
-
-number_in : (o : ℕ) (hs gs : List Held) → HasNumber o (hs ++ gs) → HasNumber o hs ⊎ HasNumber o gs
-number_in o [] gs has = inr has
-number_in o (h ∷ hs) gs (inl is) = inl (inl is)
-number_in o (h ∷ hs) gs (inr has) = elim (number_in o hs gs has) [
-  | inl front ↦ inl (inr front)
-  | inr back ↦ inr back
 ]
 
 -- ---- what is counted of a log

@@ -1,63 +1,15 @@
 -- Workers that have done nothing yet.
-use Rattle.std.proofs.Common.{false, ◌≡◌, ℕ, zero, suc, ◌<◌, ◌≤◌, ◌⊎◌, inl, inr, List, [], ◌∷◌, ◌++◌, length, refl, sym, ap, ◌∙◌, subst, arith}
-use Rattle.std.specs.Prelude.{Option, Some, None, IsSome, reverse, slice_index_or}
+use Rattle.std.proofs.Common.{◌≡◌, ℕ, zero, suc, ◌<◌, ◌≤◌, List, [], ◌∷◌, ◌++◌, length, refl, sym, ap, ◌∙◌, subst, arith}
+use Rattle.std.specs.Prelude.{reverse, slice_index_or}
 use Rattle.std.proofs.lemmas.List.{reverse-append}
-use Rattle.std.proofs.lemmas.Bool.Decides.{eqb_tells}
 use Rattle.nm_edge.specs.Layouts.{Layout}
-use Rattle.nm_model.specs.declared.ledger.Ledger.{Ledger}
-use Rattle.nm_model.specs.Ledgers.{held}
-use Rattle.nm_steps.specs.declared.view.Held.{Held}
 use Rattle.nm_steps.specs.declared.view.View.{View}
-use Rattle.nm_steps.specs.Rules.{knowledge}
 use Rattle.nm_steps.specs.Steps.{Board, Stand, AreFresh, fresh_view}
-use Rattle.nm_epoch.specs.declared.collecting.Entry.{Entry}
-use Rattle.nm_epoch.specs.declared.collecting.HeldQueue.{HeldQueue}
-use Rattle.nm_epoch.specs.Collecting.{IsQueueOf, HasFewBlocks, blank}
-use Rattle.nm_limbo.specs.Queue.{BlockQueue, block_queue}
-use Rattle.nm_calls.specs.Fresh.{HasDoneNothing}
 use Rattle.nm_pool.specs.declared.placement.Fit.{Fit}
 use Rattle.nm_tree.specs.Calls.{MayCall}
-use Rattle.nm_tree.specs.Workers.{Hand, HaveFit, IsWorker, HasOrigin, HasNumber, HoldNoSlot, HaveWorkers, IsFresh, AreAllFresh, IsNewWorker, AreMade, AreNew}
-use Rattle.nm_calls.proofs.FreshWorkers.{holds_nothing}
-use Rattle.nm_tree.proofs.OwnQueue.{own_counted}
+use Rattle.nm_tree.specs.Workers.{Hand, HaveFit, HaveWorkers, IsFresh, AreAllFresh, IsNewWorker, AreMade, AreNew}
 
 -- ---- one worker
-
-pub new_worker : (f : Fit) (p : Stand) (h : HeldQueue) (r : ℕ) → HasDoneNothing p → h.origin ≡ p.view.number → h.queue ≡ block_queue [] 0 0 → h.counts ≡ blank → p.view.others ≡ [] → p.view.spent ≡ false → p.view.layout.workers ≤ r
-    → IsWorker (record { pass = p; queues = h ∷ []; pending = None; held = None; fit = f }) 0 r
-new_worker f p h r d own blank' none' alone alive room =
-    let empty : h.queue.items ≡ [] = ap (λ (q : BlockQueue Entry). q.items) blank' in
-    let queue : IsQueueOf (knowledge p.view) h.origin h.queue.items =
-    let P : ℕ → Type 0 = λ o. IsQueueOf (knowledge p.view) o h.queue.items in
-    let Q : List Entry → Type 0 = λ es. IsQueueOf (knowledge p.view) p.view.number es in
-    subst P (sym own) (subst Q (sym empty) d.queue) in
-    let one : (o : ℕ) → IsSome (held (knowledge p.view).ledgers o) → HasOrigin o (h ∷ []) = λ o some'.
-    elim (eqb_tells o p.view.number) [
-      | inl is ↦ inl (own ∙ sym is.1)
-      | inr is ↦ absurd (not_some (held (knowledge p.view).ledgers o) (d.others o is.1) some')
-    ] in
-    record {
-      between = record { queues = (queue, tt, tt); all = one; ascend = tt; blocks = (let P : BlockQueue Entry → Type 0 = λ q. HasFewBlocks q in subst P (sym blank') (record { spare = omega arith; blocks = omega arith }), tt); private = d.private; stands = d.rests };
-      counted = (own_counted p h (holds_nothing p h d own blank' none'), tt);
-      few = omega arith;
-      own = own;
-      alive = alive;
-      numbers = record { each = λ o has. only o has; all = λ o has. back o (let P : List Held → Type 0 = λ hs. (p.view.number ≡ o) ⊎ HasNumber o hs in subst P alone has) };
-      resigned = let P : List Held → Type 0 = λ hs. HoldNoSlot p.view.layout hs in subst P (sym alone) tt;
-      room = room;
-    }
-  where
-    only : (o : ℕ) → HasOrigin o (h ∷ []) → (p.view.number ≡ o) ⊎ HasNumber o p.view.others
-    only o (inl is) = inl (sym own ∙ is)
-    only o (inr never) = absurd never
-
-    back : (o : ℕ) → (p.view.number ≡ o) ⊎ HasNumber o [] → HasOrigin o (h ∷ [])
-    back o (inl is) = inl (own ∙ is)
-    back o (inr never) = absurd never
-
-    not_some : (l : Option Ledger) → l ≡ None → IsSome l → ⊥
-    not_some None is some' = absurd (cc)
-    not_some (Some x) is some' = absurd (cc)
 
 -- ---- all workers
 

@@ -1,6 +1,6 @@
 -- A key is taken: what each round leaves, and what the call tells by all of them.
 use Rattle.std.proofs.Common.{◌≡◌, ◌<◌, ◌≤◌, ◌⊎◌, inl, inr, true≢false, ℕ, zero, suc, ◌+◌, ◌*◌, Bool, true, false, List, [], ◌∷◌, ◌++◌, append_assoc, length, refl, sym, ap, subst, ◌∙◌, arith}
-use Rattle.std.specs.Prelude.{Option, Some, None, IsSome, option_map, is_some, Result, Ok, Err, IfOk}
+use Rattle.std.specs.Prelude.{Option, Some, None, IsSome, option_map, is_some, Result, Ok, Err}
 use Rattle.std.proofs.Math.Nat.{suc-mul, mul-add, mul_assoc, mul_comm}
 use Rattle.std.proofs.lemmas.List.{length-append}
 use Rattle.nm_edge.specs.Keys.{IsKey}
@@ -27,9 +27,9 @@ use Rattle.nm_tree.specs.declared.fault.CallFault.{CallFault}
 use Rattle.nm_tree.specs.declared.fault.CallFault.TheVariants as fault
 use Rattle.nm_tree.specs.declared.popping.End.{End}
 use Rattle.nm_tree.specs.declared.popping.End.TheVariants.{First, Last}
-use Rattle.nm_tree.specs.Answers.{IsFree, flags_won}
+use Rattle.nm_tree.specs.Answers.{flags_won}
 use Rattle.nm_tree.specs.Calls.{MayCall, LeavesNear, LeavesDelete}
-use Rattle.nm_tree.specs.Popping.{comes_before, WereMissing, Takes, flags_popped, pop_bound, SaysPop, Finds, LosesRounds, EndsRound, HasPopped, LeavesPop}
+use Rattle.nm_tree.specs.Popping.{comes_before, WereMissing, pop_bound, SaysPop, Finds, LosesRounds, EndsRound, HasPopped, LeavesPop}
 use Rattle.nm_tree.specs.Workers.{Hand, KeepsOtherQueues, TakeRoom}
 use Rattle.nm_tree.proofs.QueueLists.{others_stay, room_stays}
 

@@ -2,7 +2,7 @@
 use Rattle.std.proofs.Common.{◌≡◌, ◌≢◌, ℕ, zero, suc, ◌+◌, ◌-◌, ◌≤◌, ◌⊎◌, inl, inr, eqb, Bool, true, false, true≢false, List, [], ◌∷◌, ◌++◌, refl, sym, ap, subst, ◌∙◌}
 use Rattle.std.specs.Prelude.{Option, Some, None, is_some, IfSome}
 use Rattle.std.proofs.lemmas.Bool.{cond-true, eqb-true, eqb-false}
-use Rattle.nm_edge.specs.Layouts.{Layout, IsLayout}
+use Rattle.nm_edge.specs.Layouts.{Layout}
 use Rattle.nm_edge.specs.declared.node.NodeId.{NodeId}
 use Rattle.nm_model.specs.declared.event.Event.{Event}
 use Rattle.nm_model.specs.declared.event.Event.TheVariants.{Claim, Give, Look, Fill}
@@ -28,7 +28,7 @@ use Rattle.nm_pool.specs.declared.placement.Fit.TheVariants as fit
 use Rattle.nm_pool.proofs.PrivateSlots.{known_after_step, put_another, put_there}
 use Rattle.nm_steps.specs.Rules.{knowledge}
 use Rattle.nm_steps.specs.Steps.{Stand, Stepped, IsSamePass}
-use Rattle.nm_steps.proofs.AfterSteps.{TellsRun, run_after, is_join}
+use Rattle.nm_steps.proofs.AfterSteps.{is_join}
 use Rattle.nm_walks.specs.Telling.{IsInRun}
 use Rattle.nm_walks.specs.Making.{KeepsOtherSlots, KeepsAllBut, OnlyMakes}
 use Rattle.nm_walks.proofs.Looks.{enough}
@@ -217,38 +217,15 @@ ends_over s old new (inr worn) = record {
   other = refl;
 }
 
-ends_passed : (from n : ℕ) (old new : List Entry) → DoneInTurn PassedOver from n old new → (new ≡ old) ⊎ EndsWith new
-ends_passed from zero old new done = inl done
-ends_passed from (suc n) old new done = inr (ends_over (from + n) done.0 new done.2)
-
-ends_made : (n : NodeId) (old new : List Entry) → MadeNew n old new → EndsWith new
-ends_made n old new made = record {
-  before = (old ++ (Claim n.slot, Claimed n.slot) ∷ []) ++ (Look n.slot Birth, BirthIs made.birth) ∷ [];
-  event = Fill n.slot Birth (made.birth + 1);
-  reply = Filled;
-  is = made.entries ∙ three (Claim n.slot, Claimed n.slot) (Look n.slot Birth, BirthIs made.birth) (Fill n.slot Birth (made.birth + 1), Filled) old;
-  other = refl;
-}
-
 ends_at : (nodes : ℕ) (slots : List ℕ) (old new : List Entry) → DoneAt (PassedWithin nodes) slots old new → (new ≡ old) ⊎ EndsWith new
 ends_at nodes [] old new done = inl done
 ends_at nodes (s ∷ slots) old new done = inr (ends_over s done.0 new done.2.2)
-
-ends_claim : (f : Fit) (nodes : ℕ) (old new : List Entry) (o : Option NodeId) → IsClaimBy f nodes old new o → (new ≡ old) ⊎ EndsWith new
-ends_claim fit.Lowest nodes old new None is = ends_passed 6 (nodes + 1 - 6) old new is
-ends_claim fit.Lowest nodes old new (Some n) is = inr (ends_made n is.before new is.made)
-ends_claim fit.Near nodes old new None is = ends_at nodes is.slots old new is.passed
-ends_claim fit.Near nodes old new (Some n) is = inr (ends_made n is.before new is.made)
 
 -- the log of a pass that is in a run is a part of one, by what it was before
 pub part_after : (p q : Stand) → IsSamePass p q → IsInRun q → IsLogOf p.view.layout p.view.number q.view.log
 part_after p q same run = subst (λ (s : Stand). IsLogOf s.view.layout s.view.number q.view.log) same run.run.is_part
 
 module _ (p q : Stand) (f : Fit) (nodes : ℕ) (o : Option NodeId) (same : IsSamePass p q) (is : IsClaimBy f nodes p.view.log q.view.log o) (run : IsInRun p) where
-  pub claim_in_run : IsLayout q.view.layout → TellsRun q → IsInRun q
-  claim_in_run fits tells = elim (ends_claim f nodes p.view.log q.view.log o is) [
-    | inl stays ↦ subst IsInRun (ap (λ (log : List Entry). record p { view = record p.view { log = log; past = q.view.past } }) (sym stays) ∙ sym same) (record { fits = run.fits; run = run.run })
-    | inr ends ↦ record { fits = fits; run = run_after (record q { view = record q.view { log = ends.before } }) q ends.event ends.reply ends.is ends.other tells }
   ]
 
   module _ (part : IsLogOf p.view.layout p.view.number q.view.log) where

@@ -2,7 +2,6 @@
 use Rattle.std.proofs.Common.{◌≡◌, ◌≢◌, ◌<◌, ◌⊎◌, inl, inr, ℕ, Bool, true, false, cond, refl, sym, ap, subst, ◌∙◌, arith}
 use Rattle.std.specs.Prelude.{Some, nat_lt}
 use Rattle.std.proofs.lemmas.Bool.{ltb-true, ltb-false}
-use native.Mathlib.Decide.{ℕ_discrete}
 use Rattle.nm_edge.specs.declared.edge.Side.{Side}
 use Rattle.nm_walks.specs.Places.{IsOver}
 use Rattle.nm_model.specs.declared.event.Op.TheVariants.{Insert}

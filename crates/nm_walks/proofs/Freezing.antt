@@ -11,7 +11,7 @@ use Rattle.nm_order.specs.Facts.Fact.{IsTagged, IsFlagged, IsBorn}
 use Rattle.nm_order.specs.Told.{FrozenTo}
 use Rattle.nm_order.specs.Told.FrozenTo.{ends_there, goes_down}
 use Rattle.nm_steps.specs.Steps.{Stand}
-use Rattle.nm_walks.specs.Cleanups.{FrozenAt, FreezesOne, Freezes, top}
+use Rattle.nm_walks.specs.Cleanups.{FrozenAt, FreezesOne, top}
 use Rattle.nm_walks.specs.Telling.{Tells, GoesOn}
 use Rattle.nm_walks.specs.Walks.{ChainLeads}
 use Rattle.nm_walks.specs.declared.spot.ChainEdge.{ChainEdge}
@@ -43,6 +43,3 @@ frozen_above p r q slot to parent side keep node leaf ns at here later tag rest 
 pub freezes_one : (p q : Stand) (slot : ℕ) (side : Side) (node leaf : NodeId) → FrozenAt p q slot side node leaf → FreezesOne slot side p.view.log q.view.log
 freezes_one p q slot side node leaf at =
     (at.edge, node.birth, leaf.birth, subst (λ (n : ℕ). q.view.log ≡ ((p.view.log ++ (Look slot (EdgeOn (other side)), EdgeIs at.edge) ∷ []) ++ (Look slot Birth, BirthIs node.birth) ∷ []) ++ (Look n Birth, BirthIs leaf.birth) ∷ []) (sym at.leads) at.looks)
-
-pub freezes_above : (l : ChainEdge) (c : List ChainEdge) (parent : ℕ) (keep : Side) (p r q : Stand) (node leaf : NodeId) → FrozenAt p r l.slot l.side node leaf → Freezes parent keep c r.view.log q.view.log → Freezes parent keep (l ∷ c) p.view.log q.view.log
-freezes_above l c parent keep p r q node leaf at rest = (r.view.log, freezes_one p r l.slot l.side node leaf at, rest)

@@ -1,22 +1,21 @@
 -- The walk of an insert: where it stands in a radix tree, and where it stops.
-use Rattle.std.proofs.Common.{◌≡◌, ◌≢◌, ◌≤◌, ◌<◌, ◌+◌, ◌⊎◌, inl, inr, ℕ, Bool, true, false, List, [], refl, sym, ap, subst, ◌∙◌, length, true≢false}
-use Rattle.std.specs.Prelude.{Option, Some, None, IfSome}
+use Rattle.std.proofs.Common.{◌≡◌, ◌≢◌, ◌≤◌, ◌+◌, ◌⊎◌, inl, inr, ℕ, Bool, true, false, List, refl, sym, ap, subst, ◌∙◌, true≢false}
 use native.Mathlib.Decide.{ℕ_discrete}
 use Rattle.nm_edge.specs.Edges.{Edge}
 use Rattle.nm_edge.specs.Keys.{IsKey}
 use Rattle.nm_edge.specs.Layouts.{Layout}
 use Rattle.nm_edge.specs.Ranges.{covers}
 use Rattle.nm_edge.specs.declared.edge.Side.{Side}
-use Rattle.nm_order.specs.Facts.Fact.{KnowsLeaf, ReadKey}
+use Rattle.nm_order.specs.Facts.Fact.{ReadKey}
 use Rattle.nm_steps.specs.Steps.{Board, Stand}
 use Rattle.nm_walks.specs.declared.looking.Onward.{Onward}
 use Rattle.nm_walks.specs.declared.spot.ChainEdge.{ChainEdge}
 use Rattle.nm_walks.specs.declared.spot.WalkEnd.{WalkEnd}
 use Rattle.nm_walks.specs.declared.spot.Spot.{Spot}
 use Rattle.nm_walks.specs.Bounds.{reach}
-use Rattle.nm_walks.specs.Telling.{Tells, GoesOn, OnlyLooks, OnwardTold, IsPinnedIn}
-use Rattle.nm_walks.specs.Walks.{begin, onto, Reads, Seeks, IsWalking, HasWalked, HasFound}
-use Rattle.nm_walks.specs.Places.{IsStop, Stops, HasStopped, HasNarrowed, HasEndedPlain, IsNarrowed, IsOver}
+use Rattle.nm_walks.specs.Telling.{Tells, GoesOn, OnwardTold, IsPinnedIn}
+use Rattle.nm_walks.specs.Walks.{begin, onto, Reads, IsWalking, HasFound}
+use Rattle.nm_walks.specs.Places.{IsStop, HasStopped, HasNarrowed, IsNarrowed, IsOver}
 use Rattle.nm_walks.proofs.GoingOn.{found_so}
 use Rattle.nm_walks.proofs.ShortWalks.{passes_router}
 use Rattle.nm_walks.proofs.Standing.{at_kept, onto-parent}
@@ -26,28 +25,6 @@ use Rattle.nm_walks.proofs.Standing.{at_kept, onto-parent}
 at_leaf : (radix : Bool) (k : ℕ) (on : Onward) → on.next.slot ≡ 0 → IsStop radix k on
 at_leaf false k on null = null
 at_leaf true k on null = inl null
-
-pub stopped_of : (L : Layout) (k : ℕ) (o q : Stand) (c : List ChainEdge) (r : WalkEnd) → HasWalked L k o q c r → HasStopped L k o q c r
-stopped_of L k o q c r w = record {
-  walk = (w.walk.0, w.walk.1, w.walk.2, w.walk.3, w.walk.4, at_leaf L.radix k w.walk.2 w.walk.5, w.walk.6, w.walk.7);
-  at = w.ended.at;
-  within = w.ended.within;
-  few = w.few;
-  found = λ _. w.found;
-}
-
--- as `seek` answers it
-pub seek_stops : (L : Layout) (k : ℕ) (o q : Stand) (c : List ChainEdge) (r : Option WalkEnd) → Seeks L k o.view.log q.view.log c r → Stops L k o.view.log q.view.log c r
-seek_stops L k o q c None h = h
-seek_stops L k o q c (Some r) h = let w = h.0 in ((w.0, w.1, w.2, w.3, w.4, at_leaf L.radix k w.2 w.5, w.6, w.7), h.1)
-
-pub seek_stopped : (L : Layout) (k : ℕ) (o q : Stand) (c : List ChainEdge) (r : Option WalkEnd) → IfSome r (HasWalked L k o q c) → IfSome r (HasStopped L k o q c)
-seek_stopped L k o q c None h = tt
-seek_stopped L k o q c (Some r) h = stopped_of L k o q c r h
-
-pub seek_plain : (L : Layout) (k : ℕ) (o q : Stand) (c : List ChainEdge) (r : Option WalkEnd) → IfSome r (HasWalked L k o q c) → IfSome r (HasEndedPlain o q k)
-seek_plain L k o q c None h = tt
-seek_plain L k o q c (Some r) h = record { leaf = h.ended.leaf; found = h.found }
 
 -- ---- ranges on the way
 

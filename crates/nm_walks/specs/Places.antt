@@ -1,5 +1,5 @@
 -- The walk of an insert: it ends at a leaf or, in a radix tree, comes to where the key may be put.
-use Rattle.std.specs.Prelude.{◌≡◌, ◌≢◌, ◌≤◌, ◌<◌, ◌+◌, ◌⊎◌, ℕ, Bool, true, false, List, [], length, Option, Some, None}
+use Rattle.std.specs.Prelude.{◌≡◌, ◌≤◌, ◌<◌, ◌+◌, ◌⊎◌, ℕ, Bool, true, false, List, [], length, Option, Some, None}
 use Rattle.nm_edge.specs.Layouts.{Layout}
 use Rattle.nm_edge.specs.Ranges.{covers}
 use Rattle.nm_edge.specs.declared.edge.Side.{Side}
@@ -7,7 +7,7 @@ use Rattle.nm_edge.specs.declared.edge.Side.TheVariants.{Left}
 use Rattle.nm_model.specs.Searches.{side_of}
 use Rattle.nm_model.specs.Walks.{Entry}
 use Rattle.nm_order.specs.Facts.{Since}
-use Rattle.nm_order.specs.Facts.Fact.{KnowsLeaf, ReadKey, EndedAt}
+use Rattle.nm_order.specs.Facts.Fact.{KnowsLeaf, ReadKey}
 use Rattle.nm_order.specs.Taught.{WalksAreFor as HasWalks}
 use Rattle.nm_steps.specs.Steps.{Stand}
 use Rattle.nm_walks.specs.declared.looking.Onward.{Onward}
@@ -18,7 +18,7 @@ use Rattle.nm_walks.specs.declared.spot.WalkEnd.{WalkEnd}
 use Rattle.nm_walks.specs.declared.spot.Spot.{Spot}
 use Rattle.nm_walks.specs.Bounds.{chain_bound, reach}
 use Rattle.nm_walks.specs.Telling.{Tells}
-use Rattle.nm_walks.specs.Walks.{Walks, Reads, IsBroken, IsAt, HasFound, EachWalkHasCome, IsWalking}
+use Rattle.nm_walks.specs.Walks.{Walks, Reads, IsBroken, IsAt, HasFound, IsWalking}
 
 -- ---- what such a walk leaves in the log
 

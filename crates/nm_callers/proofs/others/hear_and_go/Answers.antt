@@ -1,9 +1,8 @@
-use Rattle.std.proofs.Common.{◌≡◌, ◌∙◌, List, [], sym, ap, subst}
-use Rattle.nm_model.specs.Walks.{Entry}
+use Rattle.std.proofs.Common.{◌≡◌, ◌∙◌, [], ap, subst}
 use Rattle.nm_order.specs.Logs.{part_of}
 use Rattle.nm_steps.specs.declared.view.View.{View}
 use Rattle.nm_steps.specs.Rules.{Extends}
-use Rattle.nm_steps.specs.Steps.{Stand, HasSeen}
+use Rattle.nm_steps.specs.Steps.{Stand}
 use Rattle.nm_callers.proofs.AtRest.{no_turns}
 use Rattle.nm_callers.proofs.others.hear_and_go.Goals as goal
 

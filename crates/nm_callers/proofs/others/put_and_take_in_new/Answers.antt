@@ -1,4 +1,4 @@
-use Rattle.std.proofs.Common.{◌≡◌, ◌∙◌, ◌+◌, ℕ, List, [], ◌∷◌, length, length-append, ap, arith}
+use Rattle.std.proofs.Common.{◌≡◌, ◌∙◌, List, [], ◌∷◌, length, length-append, ap, arith}
 use Rattle.nm_edge.specs.Layouts.{Layout}
 use Rattle.nm_steps.specs.Steps.{Board}
 use Rattle.nm_set.specs.Seats.{Seated}

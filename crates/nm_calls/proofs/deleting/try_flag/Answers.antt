@@ -1,4 +1,4 @@
-use Rattle.std.proofs.Common.{rules, inr, refl, ◌∙◌, arith}
+use Rattle.std.proofs.Common.{inr, refl, ◌∙◌, arith}
 use Rattle.nm_model.specs.declared.event.Op.TheVariants.{Delete}
 use Rattle.nm_order.specs.Facts.Since.{ThePin}
 use Rattle.nm_walks.specs.Telling.{Tells}

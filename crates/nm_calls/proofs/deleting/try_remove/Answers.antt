@@ -1,4 +1,4 @@
-use Rattle.std.proofs.Common.{rules, inl, inr, ◌∙◌}
+use Rattle.std.proofs.Common.{inl, inr, ◌∙◌}
 use Rattle.nm_order.specs.Facts.Fact.{IsBorn}
 use Rattle.nm_calls.proofs.Removals.{elsewhere_shows, found_flagged, cleanup_shows}
 use Rattle.nm_calls.proofs.Adding.{seeks_adds}

@@ -1,4 +1,4 @@
-use Rattle.std.proofs.Common.{rules, true, false, add-one, arith, refl, ap, subst, ◌∙◌}
+use Rattle.std.proofs.Common.{true, false, add-one, arith, refl, ap, subst, ◌∙◌}
 use Rattle.std.specs.Prelude.{Option, None}
 use Rattle.nm_model.specs.declared.event.Event.TheVariants.{Leave, LeaveWith}
 use Rattle.nm_model.specs.declared.reply.Reply.TheVariants.{Departed}

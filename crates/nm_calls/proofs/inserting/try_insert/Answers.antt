@@ -1,4 +1,4 @@
-use Rattle.std.proofs.Common.{rules, inr, refl, sym, subst, ◌∙◌}
+use Rattle.std.proofs.Common.{rules, inr, refl, sym, subst}
 use Rattle.nm_model.specs.declared.event.Op.TheVariants.{Insert}
 use Rattle.nm_order.specs.Facts.Since.{ThePin}
 use Rattle.nm_order.specs.Facts.Fact.{EndedAt}

@@ -1,4 +1,4 @@
-use Rattle.std.proofs.Common.{◌≡◌, ◌≤◌, ◌+◌, ℕ, inr, arith}
+use Rattle.std.proofs.Common.{inr, arith}
 use Rattle.nm_order.specs.Facts.Fact.{KnowsSlot}
 use Rattle.nm_walks.specs.Bounds.{reach}
 use Rattle.nm_calls.specs.PrevKeys.{IsPrevBy}

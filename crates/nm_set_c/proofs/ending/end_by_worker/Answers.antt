@@ -1,4 +1,4 @@
-use Rattle.std.proofs.Common.{refl, sym, subst, inl, inr}
+use Rattle.std.proofs.Common.{refl, sym, subst, inl}
 use Rattle.nm_set_c.specs.Sets.{EndsByOwner}
 use Rattle.nm_set_c.specs.declared.outcome.Outcome.TheVariants.{Done}
 use Rattle.nm_set_c.specs.declared.owner.Owner.{Owner}

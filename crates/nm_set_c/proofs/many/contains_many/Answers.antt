@@ -1,4 +1,4 @@
-use Rattle.std.proofs.Common.{rules, ◌≡◌, ◌∙◌, inr, map, refl, ap}
+use Rattle.std.proofs.Common.{rules, ◌∙◌, inr, map, refl, ap}
 use Rattle.std.specs.Prelude.{Ok}
 use Rattle.nm_set_c.specs.Lookups.{lookup_of}
 use Rattle.nm_set_c.proofs.many.contains_many.Goals as goal

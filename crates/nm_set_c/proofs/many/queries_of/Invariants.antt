@@ -1,4 +1,4 @@
-use Rattle.std.proofs.Common.{◌≡◌, ◌++◌, map, take}
+use Rattle.std.proofs.Common.{◌≡◌, map, take}
 use Rattle.nm_calls.specs.InTurns.{key_of}
 use Rattle.nm_set_c.specs.Lookups.{key_looked_up}
 use Rattle.nm_set_c.proofs.many.queries_of.Given as goal

@@ -1,4 +1,4 @@
-use Rattle.std.proofs.Common.{rules, ◌≡◌, ◌<◌, ℕ}
+use Rattle.std.proofs.Common.{rules, ◌≡◌, ◌<◌}
 use Rattle.nm_set.specs.Popping.{SaysPopTended, TendsPopOf}
 use Rattle.nm_set.proofs.PopRounds.{pop_says}
 use Rattle.nm_tree.specs.declared.popping.End.TheVariants.{First}

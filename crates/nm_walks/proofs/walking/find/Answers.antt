@@ -1,5 +1,4 @@
 use Rattle.std.proofs.Common.{ap, subst, arith}
-use Rattle.nm_edge.specs.Layouts.{Layout}
 use Rattle.nm_walks.specs.Bounds.{reach}
 use Rattle.nm_walks.specs.Telling.{OnwardTold}
 use Rattle.nm_walks.specs.Walks.{Reads}

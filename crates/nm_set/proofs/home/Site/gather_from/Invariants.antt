@@ -1,4 +1,4 @@
-use Rattle.std.proofs.Common.{◌≡◌, ◌+◌, ◌≤◌, ℕ, length}
+use Rattle.std.proofs.Common.{◌+◌, ◌≤◌, ℕ, length}
 use Rattle.std.specs.Prelude.{vec_capacity}
 use Rattle.nm_set.specs.Seats.{AreOwn, AreSeats, BeginsWith}
 use Rattle.nm_set.proofs.home.Site.gather_from.Given as goal

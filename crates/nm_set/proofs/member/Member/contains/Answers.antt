@@ -2,7 +2,7 @@ use Rattle.std.proofs.Common.{rules, ◌≡◌, inl, inr, refl, subst}
 use Rattle.std.specs.Prelude.{None, Ok}
 use Rattle.nm_model.specs.declared.event.Op.TheVariants.{Has}
 use Rattle.nm_steps.specs.Steps.{Board}
-use Rattle.nm_set.specs.Tended.{Looks, busy}
+use Rattle.nm_set.specs.Tended.{Looks}
 use Rattle.nm_set.proofs.Disturbances.{looks_disturbed}
 use Rattle.nm_set.proofs.Tending.{pending_tends, contains_tends, goes_finishes, said}
 use Rattle.nm_set.proofs.member.Member.contains.Goals as goal

@@ -1,8 +1,7 @@
-use Rattle.std.proofs.Common.{◌≡◌, inl, inr, ℕ, Bool, refl, subst}
-use Rattle.std.specs.Prelude.{Option, Some, Result, Ok, Err}
+use Rattle.std.proofs.Common.{inr, ℕ, Bool, refl, subst}
+use Rattle.std.specs.Prelude.{Option, Some, Ok, Err}
 use Rattle.std.proofs.lemmas.Result.{err_from_is_err_and}
 use Rattle.nm_steps.specs.Steps.{Board}
-use Rattle.nm_set.specs.declared.fault.Fault.{Fault}
 use Rattle.nm_set.specs.Popping.{AskedForEnd}
 use Rattle.nm_set.specs.Tended.{TendsDelete}
 use Rattle.nm_set.proofs.member.Member.pop_once.Goals as goal

@@ -1,7 +1,5 @@
 use Rattle.std.proofs.Common.{ap, ◌∙◌, arith}
-use Rattle.std.specs.Prelude.{◌≡◌, length}
 use Rattle.nm_edge.specs.Layouts.{Layout}
-use Rattle.nm_tree.specs.Workers.{AreNew}
 use Rattle.nm_tree.proofs.Opening.{new_are_ready, all_fit, all_fresh, all_new, as_many, have_workers}
 use Rattle.nm_tree.proofs.tree.Tree.of.Goals as goal
 

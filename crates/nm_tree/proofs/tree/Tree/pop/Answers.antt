@@ -1,4 +1,4 @@
-use Rattle.std.proofs.Common.{inl, inr, refl, sym, ◌∙◌}
+use Rattle.std.proofs.Common.{inl, inr, refl, sym}
 use Rattle.nm_tree.proofs.Taking.{leaves_so, pends, pends_not}
 use Rattle.nm_tree.proofs.tree.Tree.pop.Goals as goal
 
