@@ -50,7 +50,6 @@ has_times o (h ∷ hs) (inr has) = let rest = has_times o hs has in let all = ti
 
 abbrev pub logs : View → List Held
 logs v = held_log v.number v.log ∷ v.others
-]
 
 -- ---- what is counted of a log
 

@@ -226,8 +226,6 @@ pub part_after : (p q : Stand) → IsSamePass p q → IsInRun q → IsLogOf p.vi
 part_after p q same run = subst (λ (s : Stand). IsLogOf s.view.layout s.view.number q.view.log) same run.run.is_part
 
 module _ (p q : Stand) (f : Fit) (nodes : ℕ) (o : Option NodeId) (same : IsSamePass p q) (is : IsClaimBy f nodes p.view.log q.view.log o) (run : IsInRun p) where
-  ]
-
   module _ (part : IsLogOf p.view.layout p.view.number q.view.log) where
     abbrev low : 5 ≤ p.view.layout.nodes
     low = enough p.view.layout run.fits
