@@ -19,7 +19,7 @@ use Rattle.nm_model.specs.Paths.{follow}
 use Rattle.nm_model.specs.Runs.{start}
 use Rattle.nm_model.proofs.Numbers.{repeated}
 use Rattle.nm_laws.proofs.Holders.{none_held}
-use Rattle.nm_laws.proofs.Trees.{follow_none}
+use Rattle.nm_laws.proofs.Trees.{follow_none, each_side}
 use Rattle.nm_laws.proofs.Pictures.{Picture, below, TreeLaw, Spot, Stands, Once}
 use Rattle.nm_laws.proofs.Pictures.Spot.{InPool, PrivateTo, OnPath, InQueue}
 use Rattle.nm_laws.proofs.Views.{picture, view, held_queue, queued_at, drafted_on}
@@ -30,11 +30,7 @@ abbrev opened : Layout → Picture
 opened L = view (start L).memory (newcomer L) (λ o. o)
 
 edge_six : (L : Layout) (x : ℕ) (d : Side) → (opened L).edges (suc (suc (suc (suc (suc (suc x)))))) d ≡ to 0
-edge_six L x d = ap (λ (n : Node). edge_of n d) (repeated (L.nodes - 5) x blank) ∙ plain d
-  where
-    plain : (d : Side) → edge_of blank d ≡ to 0
-    plain Left = refl
-    plain Right = refl
+edge_six L x d = ap (λ (n : Node). edge_of n d) (repeated (L.nodes - 5) x blank) ∙ each_side (λ e. edge_of blank e ≡ to 0) refl refl d
 
 -- nothing waits in a newcomer's queues
 pub new_queue : (L : Layout) (u o : ℕ) → held_queue (newcomer L u) o ≡ []

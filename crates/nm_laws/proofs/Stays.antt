@@ -4,7 +4,6 @@ use Rattle.std.specs.Prelude.{Option, Some, None, is_some, unwrap_or, nat_lt, Re
 use Rattle.std.proofs.lemmas.Bool.{cond_both, cond-true, eqb-true, and_parts, or_parts, not-false, false_from_ne_true}
 use Rattle.nm_edge.specs.Edges.{Edge, to, is_to, tagged}
 use Rattle.nm_edge.specs.declared.edge.Side.{Side}
-use Rattle.nm_edge.specs.declared.edge.Side.TheVariants.{Left, Right}
 use Rattle.nm_edge.specs.declared.node.NodeId.{NodeId}
 use Rattle.nm_model.specs.declared.event.Field.{Field}
 use Rattle.nm_model.specs.declared.event.Field.TheVariants.{Key, Edge as EdgeOn, Birth}
@@ -15,7 +14,7 @@ use Rattle.nm_model.specs.declared.reply.Reply.TheVariants.{Cut, Freed, Joined, 
 use Rattle.nm_model.specs.declared.reply.Refused.{Refused}
 use Rattle.nm_model.specs.declared.reply.Refused.TheVariants.{NoSlot, NotPrivate}
 use Rattle.nm_model.specs.Maps.{get, without, is_number}
-use Rattle.nm_model.specs.Memory.{Memory, node, edge, edge_of, put_node, put_edge}
+use Rattle.nm_model.specs.Memory.{Memory, node, edge, put_node, put_edge}
 use Rattle.nm_model.specs.Knowledge.{Knowledge, is_private, draft_of, read, beside}
 use Rattle.nm_model.specs.Learning.{learn, linked_in, flag_to}
 use Rattle.nm_model.specs.Paths.{follow, Reached}
@@ -25,7 +24,7 @@ use Rattle.nm_model.specs.Laws.{OnlySplicesAnswerCuts, OfEachState, NothingElseC
 use Rattle.nm_laws.proofs.Steps.{Allowed, allowed, passed, second}
 use Rattle.nm_model.proofs.Tables.{get-without, ascends-without}
 use Rattle.nm_laws.proofs.Learned.{learn_linked}
-use Rattle.nm_laws.proofs.Trees.{same_side, same_side-true, unvisited, same_follow}
+use Rattle.nm_laws.proofs.Trees.{same_side, same_side-true, unvisited, same_follow, each_side}
 use Rattle.nm_laws.proofs.Pictures.{below, IsLive, TreeLaw, reached_live, reached_within, path_not_queued}
 use Rattle.nm_laws.proofs.Slots.{with_edge_at, with_edges, is_exchanged}
 use Rattle.nm_laws.proofs.Splices.{live_on_path}
@@ -56,16 +55,8 @@ marks_stay m p d e inside slot = same_slots m (put_edge m p d e) (λ x g. ap (λ
 
 module _ (s : State) (h : ℕ → ℕ) (law : Lawful s h) (w : ℕ) where
   fill_stays : (x : ℕ) (f : Field) (v : ℕ) → x < length s.memory.nodes → is_private (of s w) x ≡ true → (y : ℕ) → Reached s.memory y → Reached (put_node s.memory x (filled_node (node s.memory x) f v)) y
-  fill_stays x Key v inside own y r = same_paths s.memory (put_node s.memory x (filled_node (node s.memory x) Key v)) (node_put_edges s.memory x (filled_node (node s.memory x) Key v) inside (λ d. go d)) y r
-    where
-      go : (d : Side) → edge_of (filled_node (node s.memory x) Key v) d ≡ edge s.memory x d
-      go Left = refl
-      go Right = refl
-  fill_stays x Birth v inside own y r = same_paths s.memory (put_node s.memory x (filled_node (node s.memory x) Birth v)) (node_put_edges s.memory x (filled_node (node s.memory x) Birth v) inside (λ d. go d)) y r
-    where
-      go : (d : Side) → edge_of (filled_node (node s.memory x) Birth v) d ≡ edge s.memory x d
-      go Left = refl
-      go Right = refl
+  fill_stays x Key v inside own y r = same_paths s.memory (put_node s.memory x (filled_node (node s.memory x) Key v)) (node_put_edges s.memory x (filled_node (node s.memory x) Key v) inside (each_side _ refl refl)) y r
+  fill_stays x Birth v inside own y r = same_paths s.memory (put_node s.memory x (filled_node (node s.memory x) Birth v)) (node_put_edges s.memory x (filled_node (node s.memory x) Birth v) inside (each_side _ refl refl)) y r
   fill_stays x (EdgeOn d) v inside own y r = record {
     path = r.path;
     ends = same_follow _ _ (λ z g. ap (λ (e : Edge). e.slot) (edge_put s.memory x d (to v) inside z g)) 1 r.path

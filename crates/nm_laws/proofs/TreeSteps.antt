@@ -77,6 +77,45 @@ link_checked s w p d leaf new ok = record {
     leaf_known : (knows (of s w) leaf ≡ true) × (may_be_over s.layout (of s w) leaf ≡ true)
     leaf_known = and_parts (knows (of s w) leaf) (may_be_over s.layout (of s w) leaf) three.1
 
+-- the same of a flag, whose leaf is no sentinel
+pub record FlagChecked (k : Knowledge) (p leaf : ℕ) : Type 0 where
+  pub high : 6 ≤ leaf
+  pub known : knows k p ≡ true
+  pub held : knows k leaf ≡ true
+  pub leafy : knows_leaf k leaf ≡ true
+
+pub flag_checked : (s : State) (w p : ℕ) (d : Side) (leaf : ℕ) → refusal_of s w (Flag p d leaf) ≡ None → FlagChecked (of s w) p leaf
+unfolding refusal
+flag_checked s w p d leaf ok =
+    let first = outside 1 s.layout.nodes p || outside 6 s.layout.nodes leaf in
+    let three = and_parts (knows (of s w) p) (knows (of s w) leaf && knows_leaf (of s w) leaf) (not-false _ (third first (is_none (of s w).brief.pin) (not (knows (of s w) p && (knows (of s w) leaf && knows_leaf (of s w) leaf))) NoSlot NotPinned NotHeld _ ok)) in
+    let two = and_parts (knows (of s w) leaf) (knows_leaf (of s w) leaf) three.1 in
+    record { high = (high_from 6 s.layout.nodes leaf (or_parts (outside 1 s.layout.nodes p) (outside 6 s.layout.nodes leaf) (passed _ _ _ ok).0).1).0; known = three.0; held = two.0; leafy = two.1 }
+
+-- of a tag: the node is known, and its other edge flagged
+pub tag_checked : (s : State) (w p : ℕ) (d : Side) → refusal_of s w (Tag p d) ≡ None → (knows (of s w) p ≡ true) × (is_flagged (read (of s w) p (other d)) ≡ true)
+unfolding refusal
+tag_checked s w p d ok = (
+  not-false (knows (of s w) p) (third (outside 1 s.layout.nodes p) (is_none (of s w).brief.pin) (not (knows (of s w) p)) NoSlot NotPinned NotHeld _ ok),
+  not-false (is_flagged (read (of s w) p (other d))) (fourth (outside 1 s.layout.nodes p) (is_none (of s w).brief.pin) (not (knows (of s w) p)) (not (is_flagged (read (of s w) p (other d)))) NoSlot NotPinned NotHeld NotFrozen _ ok),
+)
+
+-- and of a splice, whose successor and last parent are no sentinels
+pub record SpliceChecked (L : Layout) (k : Knowledge) (a x p : ℕ) (keep : Side) : Type 0 where
+  pub high : (6 ≤ x) × (6 ≤ p)
+  pub known : knows k a ≡ true
+  pub held : knows k x ≡ true
+  pub frozen : is_frozen L k x p keep ≡ true
+
+pub splice_checked : (s : State) (w a : ℕ) (d : Side) (x p : ℕ) (keep : Side) → refusal_of s w (Splice a d x p keep) ≡ None → SpliceChecked s.layout (of s w) a x p keep
+unfolding refusal
+splice_checked s w a d x p keep ok =
+    let first = outside 1 s.layout.nodes a || (outside 6 s.layout.nodes x || outside 6 s.layout.nodes p) in
+    let slots = or_parts (outside 6 s.layout.nodes x) (outside 6 s.layout.nodes p) (or_parts (outside 1 s.layout.nodes a) (outside 6 s.layout.nodes x || outside 6 s.layout.nodes p) (passed _ _ _ ok).0).1 in
+    let seen = and_parts (knows (of s w) a) (knows (of s w) x) (not-false _ (third first (is_none (of s w).brief.pin) (not (knows (of s w) a && knows (of s w) x)) NoSlot NotPinned NotHeld _ ok)) in
+    let frozen = not-false (is_frozen s.layout (of s w) x p keep) (fourth first (is_none (of s w).brief.pin) (not (knows (of s w) a && knows (of s w) x)) (not (is_frozen s.layout (of s w) x p keep)) NoSlot NotPinned NotHeld NotFrozen _ ok) in
+    record { high = ((high_from 6 s.layout.nodes x slots.0).0, (high_from 6 s.layout.nodes p slots.1).0); known = seen.0; held = seen.1; frozen = frozen }
+
 some_of : {X : Type 0} (o : Option X) → is_some o ≡ true → (x : X) × (o ≡ Some x)
 some_of None i = absurd (true≢false (sym i))
 some_of (Some x) i = (x, refl)
@@ -155,42 +194,10 @@ module _ (s : State) (h : ℕ → ℕ) (law : Lawful s h) (w : ℕ) where
       go (Link p d leaf new) ok alone =
           let c = link_checked s w p d leaf new ok in
           link_view s.layout s.layout.nodes s.memory (of s) h w p d leaf new _ law.roomy.nodes c.known c.held c.leafy c.own c.ready (law.drafts w) law.tree
-      go (Flag p d leaf) ok alone = flag_view s.layout.nodes s.memory (of s) h w p d leaf law.roomy.nodes high known leaf_known.0 leaf_known.1 law.tree
-        where
-          first : Bool
-          first = outside 1 s.layout.nodes p || outside 6 s.layout.nodes leaf
-
-          high : 6 ≤ leaf
-          high = (high_from 6 s.layout.nodes leaf (or_parts (outside 1 s.layout.nodes p) (outside 6 s.layout.nodes leaf) (passed _ _ _ ok).0).1).0
-
-          three : (knows (of s w) p && (knows (of s w) leaf && knows_leaf (of s w) leaf)) ≡ true
-          three = not-false _ (third first (is_none (of s w).brief.pin) (not (knows (of s w) p && (knows (of s w) leaf && knows_leaf (of s w) leaf))) NoSlot NotPinned NotHeld _ ok)
-
-          known : knows (of s w) p ≡ true
-          known = (and_parts (knows (of s w) p) (knows (of s w) leaf && knows_leaf (of s w) leaf) three).0
-
-          leaf_known : (knows (of s w) leaf ≡ true) × (knows_leaf (of s w) leaf ≡ true)
-          leaf_known = and_parts (knows (of s w) leaf) (knows_leaf (of s w) leaf) (and_parts (knows (of s w) p) (knows (of s w) leaf && knows_leaf (of s w) leaf) three).1
-      go (Tag p d) ok alone = tag_view s.layout.nodes s.memory (of s) h w p d law.roomy.nodes known twin law.tree
-        where
-          known : knows (of s w) p ≡ true
-          known = not-false (knows (of s w) p) (third (outside 1 s.layout.nodes p) (is_none (of s w).brief.pin) (not (knows (of s w) p)) NoSlot NotPinned NotHeld _ ok)
-
-          twin : is_flagged (read (of s w) p (other d)) ≡ true
-          twin = not-false (is_flagged (read (of s w) p (other d))) (fourth (outside 1 s.layout.nodes p) (is_none (of s w).brief.pin) (not (knows (of s w) p)) (not (is_flagged (read (of s w) p (other d)))) NoSlot NotPinned NotHeld NotFrozen _ ok)
-      go (Splice a d x p keep) ok alone = splice_view s.layout s.memory (of s) h w a d x p keep law.roomy.nodes (owned ok'.worker ok'.stays) (high_from 6 s.layout.nodes x slots.0).0 (high_from 6 s.layout.nodes p slots.1).0 seen.0 seen.1 frozen law.tree
-        where
-          first : Bool
-          first = outside 1 s.layout.nodes a || (outside 6 s.layout.nodes x || outside 6 s.layout.nodes p)
-
-          slots : (outside 6 s.layout.nodes x ≡ false) × (outside 6 s.layout.nodes p ≡ false)
-          slots = or_parts (outside 6 s.layout.nodes x) (outside 6 s.layout.nodes p) (or_parts (outside 1 s.layout.nodes a) (outside 6 s.layout.nodes x || outside 6 s.layout.nodes p) (passed _ _ _ ok).0).1
-
-          seen : (knows (of s w) a ≡ true) × (knows (of s w) x ≡ true)
-          seen = and_parts (knows (of s w) a) (knows (of s w) x) (not-false _ (third first (is_none (of s w).brief.pin) (not (knows (of s w) a && knows (of s w) x)) NoSlot NotPinned NotHeld _ ok))
-
-          frozen : is_frozen s.layout (of s w) x p keep ≡ true
-          frozen = not-false (is_frozen s.layout (of s w) x p keep) (fourth first (is_none (of s w).brief.pin) (not (knows (of s w) a && knows (of s w) x)) (not (is_frozen s.layout (of s w) x p keep)) NoSlot NotPinned NotHeld NotFrozen _ ok)
+      go (Flag p d leaf) ok alone = let c = flag_checked s w p d leaf ok in flag_view s.layout.nodes s.memory (of s) h w p d leaf law.roomy.nodes c.high c.known c.held c.leafy law.tree
+      go (Tag p d) ok alone = let c = tag_checked s w p d ok in tag_view s.layout.nodes s.memory (of s) h w p d law.roomy.nodes c.0 c.1 law.tree
+      go (Splice a d x p keep) ok alone = let c = splice_checked s w a d x p keep ok in
+          splice_view s.layout s.memory (of s) h w a d x p keep law.roomy.nodes (owned ok'.worker ok'.stays) c.high.0 c.high.1 c.known c.held c.frozen law.tree
       go (Join v) ok alone = absurd (alone v refl)
 
 -- ---- a join

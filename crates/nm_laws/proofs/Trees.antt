@@ -17,6 +17,11 @@ same_side Left Right = false
 same_side Right Left = false
 same_side Right Right = true
 
+-- what holds on the left and on the right holds on each side
+pub each_side : (P : Side → Type 0) → P Left → P Right → (d : Side) → P d
+each_side P l r Left = l
+each_side P l r Right = r
+
 pub same_side-true : (d e : Side) → same_side d e ≡ true → d ≡ e
 same_side-true Left Left h = refl
 same_side-true Left Right h = absurd (true≢false (sym h))
