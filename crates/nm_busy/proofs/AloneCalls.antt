@@ -407,7 +407,7 @@ module _ (p q : Stand) (seen_p : HasSeen p.view) (seen_q : HasSeen q.view) (enou
           first = first_keys s.before s.since more_keys
 
           known : of (after_in (after_in (ordered p.view.layout) (events_of p.view.past)) s.before).state p.view.number ≡ known_by p.view.layout p.view.number begun
-          known = part_teaches p.view.number p.view.layout enough s.before first (after_in (ordered p.view.layout) (events_of p.view.past)) o ∙ (ap (known_after p.view.number (of (after_in (ordered p.view.layout) (events_of p.view.past)).state p.view.number)) s.is_before
+          known = part_teaches p.view.number p.view.layout enough s.before (after_in (ordered p.view.layout) (events_of p.view.past)) o ∙ (ap (known_after p.view.number (of (after_in (ordered p.view.layout) (events_of p.view.past)).state p.view.number)) s.is_before
               ∙ (ap (λ (k : Knowledge). known_after p.view.number k pin.entries) (logs_tell p.view.layout (events_of p.view.past) p.view.number seen_p.worker ∙ ap (known_by p.view.layout p.view.number) (as_events p.view seen_p).is_part)
               ∙ (sym (known_longer p.view.number _ p.view.log pin.entries) ∙ ap (known_by p.view.layout p.view.number) (sym pin.are))))
 

@@ -47,6 +47,7 @@ use Rattle.nm_order.proofs.RadixTrees.{left_if}
 use Rattle.nm_order.proofs.RunExchanges.{first_keys}
 use Rattle.nm_order.proofs.Searching.{goes-append, goes_first, goes_on}
 use Rattle.nm_order.proofs.WalksOfRuns.{trace_in-append}
+use Rattle.nm_order.proofs.FrozenChains.{Within, Apart, Distinct, few}
 use Rattle.nm_walks.specs.declared.looking.Onward.{Onward}
 use Rattle.nm_walks.specs.declared.spot.ChainEdge.{ChainEdge}
 use Rattle.nm_walks.specs.declared.spot.Spot.{Spot}
@@ -54,7 +55,7 @@ use Rattle.nm_walks.specs.Bounds.{chain_bound}
 use Rattle.nm_walks.specs.Walks.{onto, chained, Walks, IsTooDeep}
 use Rattle.nm_progress.specs.Moves.{number_of}
 use Rattle.nm_progress.proofs.MoreTries.{Plain, plain_then}
-use Rattle.nm_progress.proofs.Reshapes.{is_reshape, StaysThere, calm_turns, look_there, tag_there, Within, Apart, Distinct, few}
+use Rattle.nm_progress.proofs.Reshapes.{is_reshape, StaysThere, calm_turns, look_there, tag_there}
 use Rattle.nm_progress.proofs.SplitTurns.{ordered_after}
 use Rattle.nm_busy.proofs.Astray.{OnPath, IsRead, walk_path, walk_plain, behind_read, read_there}
 use Rattle.nm_busy.proofs.LostPins.{part-append}

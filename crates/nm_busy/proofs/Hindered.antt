@@ -116,7 +116,7 @@ module _ (L : Layout) (enough : 5 ≤ L.nodes) (w : ℕ) where
           let first = first_keys s.before s.since all in
           let later = later_keys s.before s.since all in
           let o1 = ordered_after w L enough s.before first c o in
-          let known = part_teaches w L enough s.before first c o ∙ (ap (known_after w (of c.state w)) s.is_before ∙ (ap (λ (k : Knowledge). known_after w k a.entries) knowing ∙ (sym (known_longer w _ old a.entries) ∙ ap (known_by L w) (sym a.are)))) in
+          let known = part_teaches w L enough s.before c o ∙ (ap (known_after w (of c.state w)) s.is_before ∙ (ap (λ (k : Knowledge). known_after w k a.entries) knowing ∙ (sym (known_longer w _ old a.entries) ∙ ap (known_by L w) (sym a.are)))) in
           let one = a.counted c o knowing ran s.before first s.is_before in
           let two = b.counted (after_in c s.before) o1 known (subst (λ (l : List Entry). Ran l (after_in c s.before)) (sym a.are) (ran_on old a.entries c ran s.before first s.is_before)) s.since later s.is_since in
           let run = ap (λ (l : List (ℕ × Event)). number_of (hinders w) (trace_in c l)) s.is_run in

@@ -1,7 +1,7 @@
 -- No event but a splice that is won cuts anything.
-use Rattle.std.proofs.Common.{◌≡◌, ℕ, ◌+◌, ◌<◌, ◌≤◌, eqb, Bool, true, false, cond, not, ◌||◌, ◌&&◌, List, length, refl, sym, ap, ◌∙◌, arith, true≢false}
+use Rattle.std.proofs.Common.{◌≡◌, ℕ, ◌+◌, ◌<◌, ◌≤◌, eqb, Bool, true, false, cond, ◌&&◌, List, length, refl, sym, ap, ◌∙◌, arith, true≢false}
 use Rattle.std.specs.Prelude.{Option, Some, None, is_some, unwrap_or, nat_lt, Result, Ok, Err}
-use Rattle.std.proofs.lemmas.Bool.{cond_both, cond-true, eqb-true, and_parts, or_parts, not-false, false_from_ne_true}
+use Rattle.std.proofs.lemmas.Bool.{cond_both, cond-true, eqb-true, and_parts, or_parts, false_from_ne_true}
 use Rattle.nm_edge.specs.Edges.{Edge, to, is_to, tagged}
 use Rattle.nm_edge.specs.declared.edge.Side.{Side}
 use Rattle.nm_edge.specs.declared.node.NodeId.{NodeId}
@@ -12,7 +12,6 @@ use Rattle.nm_model.specs.declared.event.Event.TheVariants.{Sight, SightFor, Ann
 use Rattle.nm_model.specs.declared.reply.Reply.{Reply}
 use Rattle.nm_model.specs.declared.reply.Reply.TheVariants.{Cut, Freed, Joined, Labelled, Linked, Lost}
 use Rattle.nm_model.specs.declared.reply.Refused.{Refused}
-use Rattle.nm_model.specs.declared.reply.Refused.TheVariants.{NoSlot, NotPrivate}
 use Rattle.nm_model.specs.Maps.{get, without, is_number}
 use Rattle.nm_model.specs.Memory.{Memory, node, edge, put_node, put_edge}
 use Rattle.nm_model.specs.Knowledge.{Knowledge, is_private, draft_of, read, beside}
@@ -21,7 +20,7 @@ use Rattle.nm_model.specs.Paths.{follow, Reached}
 use Rattle.nm_model.specs.Step.{outside, is_edge, refusal, reply, write, filled as filled_node, kept, cut_nodes, node_linked}
 use Rattle.nm_model.specs.Runs.{State, of, start, after, next, outcome, refused, answered, unless_refused, applied, reply_of}
 use Rattle.nm_model.specs.Laws.{OnlySplicesAnswerCuts, OfEachState, NothingElseCuts}
-use Rattle.nm_laws.proofs.Steps.{Allowed, allowed, passed, second}
+use Rattle.nm_laws.proofs.Steps.{Allowed, allowed, passed}
 use Rattle.nm_model.proofs.Tables.{get-without, ascends-without}
 use Rattle.nm_laws.proofs.Learned.{learn_linked}
 use Rattle.nm_laws.proofs.Trees.{same_side, same_side-true, unvisited, same_follow, each_side}
@@ -30,7 +29,7 @@ use Rattle.nm_laws.proofs.Slots.{with_edge_at, with_edges, is_exchanged}
 use Rattle.nm_laws.proofs.Splices.{live_on_path}
 use Rattle.nm_laws.proofs.Views.{picture, view, with_worker, edge_put, queue_rows}
 use Rattle.nm_laws.proofs.TreeSlots.{is_to-true, node_put_edges}
-use Rattle.nm_laws.proofs.TreeSteps.{Lawful, tree_step, high_from}
+use Rattle.nm_laws.proofs.TreeSteps.{Lawful, tree_step, high_from, slot_inside, fill_checked}
 use Rattle.nm_laws.proofs.Changes.{Change, changed}
 use Rattle.nm_laws.proofs.Changes.Change.{Keeps, Labels, Cuts, Frees}
 use Rattle.nm_laws.proofs.Lawful.JoinOrNot.{IsJoin, IsNone}
@@ -124,9 +123,7 @@ module _ (s : State) (h : ℕ → ℕ) (law : Lawful s h) (w : ℕ) where
   write_stays (Look x f) ok uncut y r = r
   write_stays (Fill x f v) ok uncut y r =
       let parts = or_parts (outside 6 s.layout.nodes x) (is_edge f && nat_lt s.layout.nodes v) (passed _ _ _ ok.event).0 in
-      let range = high_from 6 s.layout.nodes x parts.0 in
-      let size = law.roomy.nodes in
-      fill_stays x f v (omega arith) (not-false (is_private (of s w) x) (second (outside 6 s.layout.nodes x || (is_edge f && nat_lt s.layout.nodes v)) (not (is_private (of s w) x)) NoSlot NotPrivate _ ok.event)) y r
+      fill_stays x f v (slot_inside s h law x 6 parts.0) (fill_checked s w (Fill x f v) ok.event x f v refl) y r
   write_stays (Link p d leaf new) ok uncut y r = link_stays p d leaf new ok y r
   write_stays (Flag p d leaf) ok uncut y r = by (is_to (edge s.memory p d) leaf) refl
     where

@@ -12,9 +12,9 @@ use Rattle.nm_edge.specs.declared.node.NodeId.{NodeId}
 use Rattle.nm_model.specs.declared.event.Field.{Field}
 use Rattle.nm_model.specs.declared.event.Field.TheVariants.{Key, Edge as EdgeOn, Birth}
 use Rattle.nm_model.specs.declared.event.Event.{Event}
-use Rattle.nm_model.specs.declared.event.Event.TheVariants.{Sight, SightFor, Leave, LeaveWith, Look, Link, Flag, Splice, Join}
+use Rattle.nm_model.specs.declared.event.Event.TheVariants.{Look, Join}
 use Rattle.nm_model.specs.declared.reply.Reply.{Reply}
-use Rattle.nm_model.specs.declared.reply.Reply.TheVariants.{Pinned, Departed, EdgeIs, Linked, Flagged, Cut}
+use Rattle.nm_model.specs.declared.reply.Reply.TheVariants.{EdgeIs}
 use Rattle.nm_model.specs.declared.arrivals.Call.{Call}
 use Rattle.nm_model.specs.declared.arrivals.Arrival.{Arrival}
 use Rattle.nm_model.specs.Memory.{Memory, child, edge}
@@ -31,6 +31,7 @@ use Rattle.nm_laws.proofs.Steps.{Allowed}
 use Rattle.nm_laws.proofs.TreeSteps.{Lawful}
 use Rattle.nm_laws.proofs.Views.{read_after}
 use Rattle.nm_laws.proofs.Trees.{same_side-refl}
+use Rattle.nm_laws.proofs.SearchesGrow.{begun_is, search_goes}
 use Rattle.nm_order.specs.Intervals.{HasKey, key}
 use Rattle.nm_order.specs.Facts.{Since, arrivals}
 use Rattle.nm_order.specs.Facts.Since.{ThePin, TheFlag}
@@ -52,29 +53,12 @@ pub data GoesOn (s : Search) (e : Event) (r : Reply) (t : Search) : Type 0 where
   Looked : (x : ℕ) (f : Field) → e ≡ Look x f → t ≡ look_for s s.call x f r → GoesOn s e r t
 
 pub goes_on_so : (s : Search) (e : Event) (r : Reply) → begins_anew (e, r) ≡ false → GoesOn s e r (searched s e r)
-unfolding searched
-goes_on_so s Sight (Pinned n) stands = absurd (true≢false stands)
-goes_on_so s (SightFor op key) (Pinned n) stands = absurd (true≢false stands)
-goes_on_so s Leave Departed stands = absurd (true≢false stands)
-goes_on_so s (LeaveWith answer) Departed stands = absurd (true≢false stands)
-goes_on_so s (Look x f) r stands = Looked x f refl refl
-goes_on_so s (Link p side leaf new) (Linked n) stands = Same refl refl refl
-goes_on_so s (Flag p side leaf) (Flagged n) stands = Same refl refl refl
-goes_on_so s (Splice a side x p keep) (Cut ns) stands = Same refl refl refl
-goes_on_so s e r stands = Same refl refl refl
+goes_on_so s = search_goes (GoesOn s) s (λ x f r. Looked x f refl refl) (λ p side leaf new n. Same refl refl refl) (λ p side leaf n. Same refl refl refl) (λ a side x p keep ns. Same refl refl refl) (λ e r. Same refl refl refl)
 
 -- where a pin begins or ends there are no walks
 pub begun_anew : (s : Search) (e : Event) (r : Reply) → begins_anew (e, r) ≡ true → (since : Since) → arrivals (searched s e r) since ≡ []
-unfolding searched
-begun_anew s Sight (Pinned n) stands ThePin = refl
-begun_anew s Sight (Pinned n) stands TheFlag = refl
-begun_anew s (SightFor op key) (Pinned n) stands ThePin = refl
-begun_anew s (SightFor op key) (Pinned n) stands TheFlag = refl
-begun_anew s Leave Departed stands ThePin = refl
-begun_anew s Leave Departed stands TheFlag = refl
-begun_anew s (LeaveWith answer) Departed stands ThePin = refl
-begun_anew s (LeaveWith answer) Departed stands TheFlag = refl
-begun_anew s e r stands since = absurd (true≢false (sym stands))
+begun_anew s e r anew ThePin = ap (λ (t : Search). t.walks) (begun_is s e r anew)
+begun_anew s e r anew TheFlag = ap (λ (t : Search). t.later) (begun_is s e r anew)
 
 -- ---- what is kept of each worker's walks
 

@@ -28,9 +28,9 @@ use Rattle.nm_order.proofs.OwnTurns.{own_search, OwnTurn, own_turn, stands_parts
 use Rattle.nm_order.proofs.OwnTurns.OwnTurn.{Quiet, Own}
 use Rattle.nm_order.proofs.FlaggedLeaves.{FlagStep, flag_step, anew_unflagged}
 use Rattle.nm_order.proofs.FlaggedLeaves.FlagStep.{SameFlag, NewFlag}
-use Rattle.nm_order.proofs.LaterFlags.{first_flag}
+use Rattle.nm_order.proofs.LaterFlags.{first_flag, won_flag_shown}
 use Rattle.nm_order.proofs.LaterFlagLaws.{EachFlagKept, flags_step, flags_start}
-use Rattle.nm_order.proofs.FlaggedNodes.{won_flag_shown, flag_marks}
+use Rattle.nm_order.proofs.FlaggedNodes.{flag_marks}
 
 -- ---- one flag a slot
 

@@ -25,9 +25,11 @@ use Rattle.nm_model.specs.Walks.{Entry, GrowsTo, begins_anew}
 use Rattle.nm_model.specs.Ordered.{Configuration, search_of, may_flag_at, deletes, flags_in_order, disorder, disorder_in, disorder_among, refused_in, outcome_in}
 use Rattle.nm_laws.proofs.Steps.{passed}
 use Rattle.nm_laws.proofs.Outcomes.{no_reply}
+use Rattle.nm_laws.proofs.SearchesGrow.{look_beside, search_goes, same_arrival}
 use Rattle.nm_order.specs.WalksToArrivals.{is_won_flag}
 use Rattle.nm_order.specs.FlagsOfCalls.{FlagsStay, LaterArrivalsOnlyGrow}
 use Rattle.nm_order.proofs.ArrivalsOfLooks.{grows_by}
+use Rattle.nm_order.proofs.OwnLinks.{IsFlagEntry, flag_entry}
 
 -- ---- a second flag is refused
 
@@ -70,28 +72,11 @@ flag_added s Sight (Pinned n) stands = absurd (true≢false stands)
 flag_added s (SightFor op key) (Pinned n) stands = absurd (true≢false stands)
 flag_added s Leave Departed stands = absurd (true≢false stands)
 flag_added s (LeaveWith answer) Departed stands = absurd (true≢false stands)
-flag_added s (Look slot f) r stands = by s.call
-  where
-    by : (o : Option Call) → (look_for s o slot f r).flagged ≡ s.flagged
-    by None = refl
-    by (Some call) = refl
+flag_added s (Look slot f) r stands = ap (λ (t : Search). t.flagged) (look_beside s s.call slot f r)
 flag_added s (Link p side leaf new) (Linked n) stands = refl
 flag_added s (Flag p side leaf) (Flagged n) stands = refl
 flag_added s (Splice a side x p keep) (Cut ns) stands = refl
 flag_added s e r stands = refl
-
--- what is won as a flag
-pub record IsWonFlag (e : Event) (r : Reply) : Type 0 where
-  pub parent : ℕ
-  pub side : Side
-  pub leaf : ℕ
-  pub node : NodeId
-  pub is_flag : e ≡ Flag parent side leaf
-  pub is_won : r ≡ Flagged node
-
-pub won_flag : (e : Event) (r : Reply) → is_won_flag (e, r) ≡ true → IsWonFlag e r
-won_flag (Flag p side leaf) (Flagged n) is = record { parent = p; side = side; leaf = leaf; node = n; is_flag = refl; is_won = refl }
-won_flag e r is = absurd (true≢false (sym is))
 
 pub kept_flag : (o : Option NodeId) (e : Event) (r : Reply) → is_won_flag (e, r) ≡ false → flag_by o (e, r) ≡ o
 kept_flag o (Flag p side leaf) (Flagged n) is = absurd (true≢false is)
@@ -100,8 +85,8 @@ kept_flag o e r is = refl
 -- a won flag is allowed only where there was none
 pub first_flag : (c : Configuration) (searches : List Search) → c.searches ≡ Some searches → (w : ℕ) (e : Event) (r : Reply) → refused_in c w e ≡ None → is_won_flag (e, r) ≡ true → (search_of searches w).flagged ≡ None
 first_flag c searches are w e r allowed won =
-    let f : IsWonFlag e r = won_flag e r won in
-    flag_allowed c searches are w f.parent f.side f.leaf (subst (λ (x : Event). refused_in c w x ≡ None) f.is_flag allowed)
+    let f : IsFlagEntry e r = flag_entry e r won in
+    flag_allowed c searches are w f.parent f.side f.leaf (subst (λ (x : Event). refused_in c w x ≡ None) f.is_event allowed)
 
 pub flags_stay : FlagsStay
 unfolding outcome_in
@@ -117,22 +102,11 @@ flags_stay c searches are w e r answers stands n has = flag_added (search_of sea
 
 -- ---- later arrivals
 
-same_arrival : (a : Arrival) → GrowsTo a a
-same_arrival a = record { slot = refl; parent = refl; side = refl; key = λ v is. is; ended = λ is. is }
-
 later_look : (s : Search) (slot : ℕ) (f : Field) (r : Reply) (call : Option Call) (flag : Option NodeId) → s.flagged ≡ flag → (a : Arrival) → Contains s.later a → (b : Arrival) × Contains (look_for s call slot f r).later b × GrowsTo a b
 later_look s slot f r None flag is a there = (a, there, same_arrival a)
 later_look s slot f r (Some call) None is a there = rw is (a, there, same_arrival a)
 later_look s slot f r (Some call) (Some n) is a there = rw is (grows_by call.key s.later (Look slot f, r) a there)
 
 pub later_grows : LaterArrivalsOnlyGrow
-unfolding searched
-later_grows s Sight (Pinned n) stands a there = absurd (true≢false stands)
-later_grows s (SightFor op key) (Pinned n) stands a there = absurd (true≢false stands)
-later_grows s Leave Departed stands a there = absurd (true≢false stands)
-later_grows s (LeaveWith answer) Departed stands a there = absurd (true≢false stands)
-later_grows s (Look slot f) r stands a there = later_look s slot f r s.call s.flagged refl a there
-later_grows s (Link p side leaf new) (Linked n) stands a there = (a, there, same_arrival a)
-later_grows s (Flag p side leaf) (Flagged n) stands a there = (a, there, same_arrival a)
-later_grows s (Splice x side y p keep) (Cut ns) stands a there = (a, there, same_arrival a)
-later_grows s e r stands a there = (a, there, same_arrival a)
+later_grows s = search_goes (λ e r t. (a : Arrival) → Contains s.later a → (b : Arrival) × Contains t.later b × GrowsTo a b) s (λ slot f r. later_look s slot f r s.call s.flagged refl)
+    (λ p side leaf new n a there. (a, there, same_arrival a)) (λ p side leaf n a there. (a, there, same_arrival a)) (λ x side y p keep ns a there. (a, there, same_arrival a)) (λ e r a there. (a, there, same_arrival a))

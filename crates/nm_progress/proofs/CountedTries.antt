@@ -149,7 +149,7 @@ module _ (L : Layout) (enough : 5 ≤ L.nodes) (w : ℕ) where
           o2 = ordered_next L enough (after_in c1 b.before) b.turn keys_b.1 ob
 
           knowing0 : of (after_in c a.before).state w ≡ known_by L w (so_far ++ first)
-          knowing0 = part_teaches w L enough a.before keys_a.0 c o ∙ (ap (known_after w (of c.state w)) a.is_before ∙ (ap (λ (k : Knowledge). known_after w k first) knowing ∙ sym (known_longer w _ so_far first)))
+          knowing0 = part_teaches w L enough a.before c o ∙ (ap (known_after w (of c.state w)) a.is_before ∙ (ap (λ (k : Knowledge). known_after w k first) knowing ∙ sym (known_longer w _ so_far first)))
 
           look : (a.turn ≡ (w, Look x (EdgeOn d))) × (outcome_in (after_in c a.before) (w, Look x (EdgeOn d)) ≡ Ok (EdgeIs (to s)))
           look = own_turn w c0 a.turn (Look x (EdgeOn d)) (EdgeIs (to s)) a.takes a.is_entry (λ v e. cc) a.is_allowed
@@ -180,7 +180,7 @@ module _ (L : Layout) (enough : 5 ≤ L.nodes) (w : ℕ) where
           knowing2 : of (next_in (after_in (next_in (after_in c a.before) a.turn) b.before) b.turn).state w ≡ known_by L w (so_far ++ (first ++ reading x d s ∷ (between ++ losing exchange found ∷ [])))
           knowing2 =
               learns (after_in c1 b.before) ob b.turn (losing exchange found) keys_b.1 b.takes b.is_allowed b.is_entry
-              ∙ (ap (λ (k : Knowledge). learn w k exchange (Lost found)) (part_teaches w L enough b.before keys_b.0 c1 o1 ∙ (ap (known_after w (of (next_in (after_in c a.before) a.turn).state w)) b.is_before
+              ∙ (ap (λ (k : Knowledge). learn w k exchange (Lost found)) (part_teaches w L enough b.before c1 o1 ∙ (ap (known_after w (of (next_in (after_in c a.before) a.turn).state w)) b.is_before
               ∙ ap (λ (k : Knowledge). known_after w k between) (learns c0 o0 a.turn (reading x d s) keys_a.1 a.takes a.is_allowed a.is_entry ∙ ap (λ (k : Knowledge). learn w k (Look x (EdgeOn d)) (EdgeIs (to s))) knowing0)))
               ∙ sym (ap (known_by L w) (sym (append_assoc so_far first (reading x d s ∷ (between ++ losing exchange found ∷ [])))) ∙ (known_longer w _ (so_far ++ first) (reading x d s ∷ (between ++ losing exchange found ∷ [])) ∙ known_longer w _ between (losing exchange found ∷ []))))
 

@@ -1,7 +1,7 @@
 -- Each tag of an edge without a mark is paid by the flag of the leaf beside it.
 use Rattle.std.proofs.Common.{◌≡◌, ◌≢◌, ℕ, suc, ◌+◌, ◌≤◌, ◌<◌, inl, inr, ◌⊎◌, eqb, ◌==◌, Bool, true, false, cond, not, ◌&&◌, List, [], ◌∷◌, ◌++◌, length, refl, sym, ap, subst, ◌∙◌, arith, true≢false}
-use Rattle.std.specs.Prelude.{Option, Some, None, is_none, Result, Ok, Err, All}
-use Rattle.std.proofs.lemmas.Bool.{cond-true, and_parts, and_from, eqb-true, eq-eqb, not-false, false_from_ne_true}
+use Rattle.std.specs.Prelude.{Option, Some, None, Result, Ok, Err, All}
+use Rattle.std.proofs.lemmas.Bool.{cond-true, and_parts, and_from, eqb-true, eq-eqb, false_from_ne_true}
 use Rattle.nm_edge.specs.Edges.{Edge, to, other, is_to, tagged, untagged}
 use Rattle.nm_edge.specs.Layouts.{Layout}
 use Rattle.nm_edge.specs.declared.edge.Side.{Side}
@@ -11,19 +11,18 @@ use Rattle.nm_model.specs.declared.event.Event.TheVariants.{Link, Flag, Tag, Spl
 use Rattle.nm_model.specs.declared.reply.Reply.{Reply}
 use Rattle.nm_model.specs.declared.reply.Reply.TheVariants.{Linked, Flagged, Was, Cut, Lost}
 use Rattle.nm_model.specs.declared.reply.Refused.{Refused}
-use Rattle.nm_model.specs.declared.reply.Refused.TheVariants.{NoSlot, NotPinned, NotHeld, NotFrozen}
 use Rattle.nm_model.specs.Memory.{Memory, edge, child, put_edge}
 use Rattle.nm_model.specs.Knowledge.{knows, is_private, read, is_tagged, is_flagged, slot_read}
 use Rattle.nm_model.specs.Paths.{follow, Reached}
-use Rattle.nm_model.specs.Step.{outside, cut_nodes, kept, refusal, reply, write}
+use Rattle.nm_model.specs.Step.{cut_nodes, kept, reply, write}
 use Rattle.nm_model.specs.Runs.{State, of, reply_of, applied}
 use Rattle.nm_model.specs.Ordered.{Configuration, ordered, refused_in, applied_in, next_in, outcome_in, after_in, trace_in}
 use Rattle.nm_laws.proofs.Configurations.{allowed_next, allowed_by_state}
 use Rattle.nm_laws.proofs.Outcomes.{same_reply, no_reply}
 use Rattle.nm_laws.proofs.ListOrders.{In}
-use Rattle.nm_laws.proofs.Steps.{Allowed, allowed, third, fourth}
+use Rattle.nm_laws.proofs.Steps.{Allowed, allowed}
 use Rattle.nm_laws.proofs.Trees.{same_side, same_side-refl, follow-append}
-use Rattle.nm_laws.proofs.TreeSteps.{Lawful}
+use Rattle.nm_laws.proofs.TreeSteps.{Lawful, tag_checked}
 use Rattle.nm_laws.proofs.Cuts.{Shown, shown}
 use Rattle.nm_laws.proofs.Pictures.{IsLive, IsOnPath, reached_live}
 use Rattle.nm_laws.proofs.Splices.{live_on_path, unmarked_not_queued}
@@ -82,13 +81,6 @@ tags_shown e o is = absurd (true≢false (sym is))
 -- flagged
 abbrev pub CoversUncut : Configuration → List ℕ → Type 0
 CoversUncut c ps = (y : ℕ) (g : Side) → Reached c.state.memory y → (edge c.state.memory y g).flag ≡ true → is_pure (edge c.state.memory y (other g)) ≡ false → In ps (child c.state.memory y g)
-
-tag_asks : (s : State) (w p : ℕ) (d : Side) → Allowed s w (Tag p d) → (knows (of s w) p ≡ true) × (is_flagged (read (of s w) p (other d)) ≡ true)
-unfolding refusal
-tag_asks s w p d ok = (
-  not-false (knows (of s w) p) (third (outside 1 s.layout.nodes p) (is_none (of s w).brief.pin) (not (knows (of s w) p)) NoSlot NotPinned NotHeld _ ok.event),
-  not-false (is_flagged (read (of s w) p (other d))) (fourth (outside 1 s.layout.nodes p) (is_none (of s w).brief.pin) (not (knows (of s w) p)) (not (is_flagged (read (of s w) p (other d)))) NoSlot NotPinned NotHeld NotFrozen _ ok.event),
-)
 
 tag_writes : (s : State) (w p : ℕ) (d : Side) → write s.memory (of s w) w (Tag p d) ≡ put_edge s.memory p d (tagged (edge s.memory p d))
 unfolding write
@@ -327,7 +319,7 @@ module _ (L : Layout) (enough : 5 ≤ L.nodes) (c : Configuration) (t : ℕ × E
           ok = subst (Allowed c.state t.0) k.3 (may (Was k.2) k.4)
 
           asks : (knows (of c.state t.0) k.0 ≡ true) × (is_flagged (read (of c.state t.0) k.0 (other k.1)) ≡ true)
-          asks = tag_asks c.state t.0 k.0 k.1 ok
+          asks = tag_checked c.state t.0 k.0 k.1 ok.event
 
           differ : (ns : List NodeId) → Was k.2 ≡ Cut ns → ⊥
           differ ns e = cc
