@@ -4,7 +4,6 @@ use Rattle.std.specs.Prelude.{Option, Result, Ok, Err, All}
 use Rattle.std.specs.List.{list_any}
 use Rattle.std.proofs.lemmas.Bool.{or_parts, eq-eqb, false_from_ne_true, and_from}
 use Rattle.std.proofs.lemmas.List.{append-nil, append_cancel_left}
-use Rattle.std.proofs.lemmas.List.Folds.{list_any-append}
 use Rattle.nm_edge.specs.Edges.{Edge, other}
 use Rattle.nm_edge.specs.Layouts.{Layout}
 use Rattle.nm_edge.specs.declared.edge.Side.{Side}
@@ -55,7 +54,7 @@ use Rattle.nm_progress.specs.Moves.{number_of, moves, moves_of_others}
 use Rattle.nm_progress.specs.Paid.{links_on, flags_on, cuts_on, tags_on}
 use Rattle.nm_progress.specs.Tries.{changes_edge, hinders, losing, reshapes_of_others}
 use Rattle.nm_progress.proofs.LostTries.{later_keys}
-use Rattle.nm_progress.proofs.MoreTries.{is_loud, Plain, plain_these, plain_then, log_prefix}
+use Rattle.nm_progress.proofs.MoreTries.{is_loud, Plain, plain_these, plain_then, log_prefix, AddsNone, adds_these, adds_then, none_within}
 use Rattle.nm_progress.proofs.Reshapes.{is_reshape, calm_turns}
 use Rattle.nm_progress.proofs.SplicesPaid.{FlagOrigin, flag_origin}
 use Rattle.nm_progress.proofs.SplicesPaid.FlagOrigin.{Before, Now}
@@ -152,26 +151,16 @@ abbrev is_edge_change : Entry → Bool
 is_edge_change e = changes_edge e.0 (Ok e.1)
 
 quiet_mute : (es : List Entry) → list_any is_loud es ≡ false → list_any is_edge_change es ≡ false
-quiet_mute [] quiet = refl
-quiet_mute (e ∷ es) quiet = by (or_parts (is_loud e) (list_any is_loud es) quiet) (quiet_mute es)
-  where
-    by : (is_loud e ≡ false) × (list_any is_loud es ≡ false) → (list_any is_loud es ≡ false → list_any is_edge_change es ≡ false) → list_any is_edge_change (e ∷ es) ≡ false
-    by parts rest = ap (λ (b : Bool). b || list_any is_edge_change es) (or_parts (begins_anew e) (changes_edge e.0 (Ok e.1)) parts.0).1 ∙ rest parts.1
+quiet_mute = none_within is_loud is_edge_change (λ e quiet. (or_parts (begins_anew e) (changes_edge e.0 (Ok e.1)) quiet).1)
 
-record Mute (old new : List Entry) : Type 0 where
-  entries : List Entry
-  are : new ≡ old ++ entries
-  mute : list_any is_edge_change entries ≡ false
+abbrev Mute : List Entry → List Entry → Type 0
+Mute = AddsNone is_edge_change
 
 mute_these : (more old new : List Entry) → list_any is_edge_change more ≡ false → new ≡ old ++ more → Mute old new
-mute_these more old new mute is = record { entries = more; are = is; mute = mute }
+mute_these = adds_these is_edge_change
 
 mute_then : (old mid new : List Entry) → Mute old mid → Mute mid new → Mute old new
-mute_then old mid new a b = record {
-  entries = a.entries ++ b.entries;
-  are = b.are ∙ (ap (λ (l : List Entry). l ++ b.entries) a.are ∙ append_assoc old a.entries b.entries);
-  mute = list_any-append is_edge_change a.entries b.entries ∙ (ap (λ (x : Bool). x || list_any is_edge_change b.entries) a.mute ∙ b.mute);
-}
+mute_then = adds_then is_edge_change
 
 pins_mute : (op : Op) (k n : ℕ) (old new : List Entry) → LostTries (SightFor op k) n old new → Mute old new
 pins_mute op k zero old new is = mute_these [] old new refl (is ∙ sym (append-nil old))
@@ -415,7 +404,7 @@ module _ (p q : Stand) (seen_p : HasSeen p.view) (seen_q : HasSeen q.view) (enou
           inner r = record {
             from = after_in (after_in (ordered p.view.layout) (events_of p.view.past)) s.before;
             is_ordered = ordered_after p.view.number p.view.layout enough s.before first (after_in (ordered p.view.layout) (events_of p.view.past)) o;
-            is_clean = clean_turns p.view.layout enough s.before first (after_in (ordered p.view.layout) (events_of p.view.past)) o (mute_turns p.view.number (after_in (ordered p.view.layout) (events_of p.view.past)) s.before own.0 (ap (list_any is_edge_change) s.is_before ∙ pin.mute)) clean;
+            is_clean = clean_turns p.view.layout enough s.before first (after_in (ordered p.view.layout) (events_of p.view.past)) o (mute_turns p.view.number (after_in (ordered p.view.layout) (events_of p.view.past)) s.before own.0 (ap (list_any is_edge_change) s.is_before ∙ pin.quiet)) clean;
             knows = known;
             ran = subst (λ (l : List Entry). Ran p.view.layout enough p.view.number l (after_in (after_in (ordered p.view.layout) (events_of p.view.past)) s.before)) (sym pin.are) (ran_on p.view.layout enough p.view.number p.view.log pin.entries (after_in (ordered p.view.layout) (events_of p.view.past)) (record { past = events_of p.view.past; keys = past_keys; is = refl; is_part = (as_events p.view seen_p).is_part }) s.before first s.is_before);
             turns = r.before;

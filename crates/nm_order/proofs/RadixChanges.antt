@@ -26,8 +26,7 @@ use Rattle.nm_model.proofs.Lists.{any_at}
 use Rattle.nm_model.proofs.Numbers.{number_is}
 use Rattle.nm_order.specs.Intervals.{key}
 use Rattle.nm_laws.proofs.Trees.{Children, Exchanged, follow-append}
-use Rattle.nm_laws.proofs.Pictures.{IsLive, IsOnPath, alone, null_below, reached_live}
-use Rattle.nm_laws.proofs.Splices.{live_on_path, unmarked_not_queued}
+use Rattle.nm_laws.proofs.Pictures.{IsLive, IsOnPath, reached_live}
 use Rattle.nm_laws.proofs.Views.{picture}
 use Rattle.nm_laws.proofs.Links.{IsLink}
 use Rattle.nm_laws.proofs.TreeSlots.{leaf_known}
@@ -39,31 +38,15 @@ use Rattle.nm_order.proofs.TreeChanges.TreeChange.{Kept, Filled, Linked, Spliced
 use Rattle.nm_order.proofs.OrderedTrees.{InOrder, Linking}
 use Rattle.nm_order.proofs.OrderedWalks.{WalkLaw, is_side-true}
 use Rattle.nm_order.proofs.OrderedChanges.{FixedKeys, left_of, off_root}
-use Rattle.nm_order.proofs.OrderedLinks.{right_of, far_key, leaf_on}
+use Rattle.nm_order.proofs.OrderedLinks.{right_of, far_key, leaf_on, grafted, above}
 use Rattle.nm_order.proofs.RadixTrees.{RadixLaw, Parting, Placed, which, radix_spliced, radix_apart, radix_links, radix_linked}
 
 -- ---- a link's slots
 
 module _ (s : State) (h : ℕ → ℕ) (law : Lawful s h) (w : ℕ) (fixed : FixedKeys s.memory) (p : ℕ) (d : Side) (leaf new far : ℕ) (dl : Side) (link : IsLink s.layout.radix s.layout.nodes (picture s h) w p d leaf new far dl) where
-  above : IsOnPath (picture s h) p
-  above = live_on_path s.layout.nodes (picture s h) p law.tree link.live link.is_slot link.inside (unmarked_not_queued s.layout.nodes (picture s h) p d leaf law.tree link.unmarked link.leaf_slot)
-
   pub placed : (c' : Children) → Exchanged (child s.memory) c' p d new → Placed (child s.memory) c' (key s.memory) p d leaf new far dl
   placed c' exchanged = record {
-    nothing = null_below s.layout.nodes (picture s h) law.tree;
-    alone = alone s.layout.nodes (picture s h) law.tree;
-    exchanged = exchanged;
-    front = above.path;
-    at_front = above.ends;
-    is_slot = link.is_slot;
-    leads = ap (λ (e : Edge). e.slot) link.unmarked;
-    leaf_slot = link.leaf_slot;
-    over_leaf = ap (λ (e : Edge). e.slot) link.over_leaf;
-    over_far = ap (λ (e : Edge). e.slot) link.over_far;
-    far_null = λ x. ap (λ (e : Edge). e.slot) (link.far_leaf x);
-    off_new = off_root s h law w new link.own;
-    off_far = off_root s h law w far link.far_own;
-    apart = link.apart;
+    graft = grafted s h law w p d leaf new far dl link c' exchanged;
     root_left = law.tree.root_left;
     leaves = law.tree.sentinels;
     first_key = fixed.root;
@@ -84,7 +67,7 @@ module _ (s : State) (h : ℕ → ℕ) (law : Lawful s h) (w : ℕ) (births : Bi
   side_is = leaf_on s h law w births k small fixed ws walks p d leaf new l link is_far_key
 
   on : IsOnPath (picture s h) p
-  on = above s h law w fixed p d leaf new l.far l.side link
+  on = above s h law w p d leaf new l.far l.side link
 
   leads : child s.memory p d ≡ leaf
   leads = ap (λ (e : Edge). e.slot) link.unmarked

@@ -27,7 +27,7 @@ use Rattle.nm_words.specs.Told.{told}
 use Rattle.nm_steps.specs.declared.view.View.{View}
 use Rattle.std.proofs.lemmas.List.{same_from_push}
 use Rattle.nm_steps.specs.Rules.{knowledge, known_births, answered_turn, logged, is_store, IsFound}
-use Rattle.nm_steps.specs.Steps.{Stand, May, IsReadyFor, IsDone, Stepped, HasTurn, IsOfRun, IsInRun, HasSeen, Tied, Laid, noted_sight}
+use Rattle.nm_steps.specs.Steps.{Stand, May, IsReadyFor, IsDone, Stepped, HasTurn, IsOfRun, IsInRun, HasSeen, Tied, Laid, noted_sight, TakesStep}
 use Rattle.nm_steps.proofs.Presence.{gone_kept, known_push}
 use Rattle.nm_steps.proofs.Asking.{within, seen_small, private_pooled}
 use Rattle.nm_steps.proofs.Extending.{IsPartOf, trace_after}
@@ -193,6 +193,15 @@ in_run_after it after number announcement brief e n tied may done =
       fits = subst (λ (v : View). IsLayout v.layout) (sym me) tied.fits;
       run = subst (λ (v : View). IsOfRun v.layout v.number v.log) (sym me) (run_grows it.me.0.layout it.me.0.number it.me.0.log e n done.found may);
     }
+
+-- what is done is a step of the pass, as clauses see it
+pub takes_step : (it after : Seat Unit View) (number announcement : ℕ) (brief : Brief) (e : Event) (n : ℕ) (p : Stand) (r : Reply) → Tied it number announcement brief → May it.me.0.layout it.me.0.number it.me.0.log e → IsDone it after e n
+    → Stepped p (standing after) e r → standing it ≡ p → TakesStep p (standing after) e r
+takes_step it after number announcement brief e n p r tied may done step is = record {
+  step = step;
+  past = has_turn p (standing after) e r step (subst (λ (x : Stand). HasTurned x (standing after) e) is (has_turned it after e n done));
+  run = in_run_after it after number announcement brief e n tied may done;
+}
 
 pub tied_after : (it after : Seat Unit View) (number announcement : ℕ) (brief new : Brief) (e : Event) (n : ℕ) → Tied it number announcement brief → May it.me.0.layout it.me.0.number it.me.0.log e → IsDone it after e n
     → new ≡ noted brief e (told it.me.0.layout (knowledge it.me.0) (known_births it.me.0) e n) → Tied after number announcement new
