@@ -13,7 +13,7 @@ use Rattle.nm_model.specs.declared.event.Field.TheVariants.{Key, Edge as EdgeOn,
 use Rattle.nm_model.specs.declared.event.Event.{Event}
 use Rattle.nm_model.specs.declared.event.Event.TheVariants.{Sight, SightFor, Announce, Leave, LeaveWith, Scan, Advance, Claim, Give, Look, Fill, Link, Flag, Tag, Splice, Join}
 use Rattle.nm_model.specs.declared.reply.Reply.{Reply}
-use Rattle.nm_model.specs.declared.reply.Reply.TheVariants.{Saw, Labelled, Pinned, Missed, Announced, Departed, Idle, In, Moved, Behind, Claimed, Taken, Returned, Freed, Linked, Flagged, Was, Cut, Lost}
+use Rattle.nm_model.specs.declared.reply.Reply.TheVariants.{Announced, Departed, Moved, Behind, Claimed, Taken, Returned, Freed, Linked, Flagged, Was, Cut, Lost}
 use Rattle.nm_model.specs.declared.reply.Refused.TheVariants.{NoSlot, NotPrivate, NotReady}
 use Rattle.nm_model.specs.declared.memory.Node.{Node}
 use Rattle.nm_model.specs.declared.knowledge.Draft.{Draft}
@@ -26,7 +26,7 @@ use Rattle.nm_model.specs.Step.{outside, is_edge, is_early, is_fork_over, is_lin
 use Rattle.nm_model.specs.Runs.{State, of, refusal_of, reply_of}
 use Rattle.nm_laws.proofs.Steps.{Allowed, passed, third}
 use Rattle.nm_model.proofs.Tables.{get-put, get-without, Ascends, ascends-without}
-use Rattle.nm_laws.proofs.Learned.{learn_sight_for, learn_leave_with, learn_claimed, learn_taken, learn_returned, learn_freed, learn_look, learn_filled, learn_linked, learn_link_lost}
+use Rattle.nm_laws.proofs.Learned.{learn_sight_for, learn_leave_with, learn_claimed, learn_taken, learn_returned, learn_freed, learn_look, learn_filled, learn_linked, learn_link_lost, scan_teaches, sight_teaches}
 use Rattle.nm_laws.proofs.TreeSlots.{put_pool}
 use Rattle.nm_laws.proofs.TreeSteps.{Lawful, high_from, slot_inside, fill_checked, link_checked}
 
@@ -63,11 +63,7 @@ same_aged s w m k words pool drafts = record {
 module _ (w : ℕ) (k : Knowledge) where
   drafts_sight : (r : Reply) → (learn w k Sight r).drafts ≡ k.drafts
   unfolding learn
-  drafts_sight (Saw e) = refl
-  drafts_sight (Labelled e) = refl
-  drafts_sight (Pinned e) = refl
-  drafts_sight (Missed e) = refl
-  drafts_sight _ = refl
+  drafts_sight r = ap (λ (l : Knowledge). l.drafts) (sight_teaches k r)
 
   drafts_announce : (r : Reply) → (learn w k Announce r).drafts ≡ k.drafts
   unfolding learn
@@ -81,9 +77,7 @@ module _ (w : ℕ) (k : Knowledge) where
 
   drafts_scan : (u : ℕ) (r : Reply) → (learn w k (Scan u) r).drafts ≡ k.drafts
   unfolding learn
-  drafts_scan u Idle = refl
-  drafts_scan u (In e) = refl
-  drafts_scan u _ = refl
+  drafts_scan u r = ap (λ (l : Knowledge). l.drafts) (scan_teaches k u r)
 
   drafts_advance : (r : Reply) → (learn w k Advance r).drafts ≡ k.drafts
   unfolding learn

@@ -1,5 +1,5 @@
 -- Trees as two children for each slot, 0 for none: what paths lead to after one edge is exchanged.
-use Rattle.std.proofs.Common.{◌≡◌, ℕ, eqb, Bool, true, false, cond, ◌&&◌, List, [], ◌∷◌, ◌++◌, refl, sym, ap, ◌∙◌, true≢false}
+use Rattle.std.proofs.Common.{◌≡◌, ℕ, eqb, Bool, true, false, cond, ◌&&◌, List, [], ◌∷◌, ◌++◌, refl, sym, ap, ◌∙◌, true≢false, zero, suc}
 use Rattle.std.specs.Prelude.{Option, Some, None}
 use Rattle.std.proofs.lemmas.Bool.{eqb-true, eq-eqb, and_parts, and_from}
 use Rattle.std.proofs.lemmas.Option.{none-some, same_Some}
@@ -21,6 +21,16 @@ same_side Right Right = true
 pub each_side : (P : Side → Type 0) → P Left → P Right → (d : Side) → P d
 each_side P l r Left = l
 each_side P l r Right = r
+
+-- what holds of each of the first six slots and of each later one holds of each slot
+pub each_slot : (P : ℕ → Type 0) → P 0 → P 1 → P 2 → P 3 → P 4 → P 5 → ((x : ℕ) → P (suc (suc (suc (suc (suc (suc x))))))) → (x : ℕ) → P x
+each_slot P a b c d e f later zero = a
+each_slot P a b c d e f later (suc zero) = b
+each_slot P a b c d e f later (suc (suc zero)) = c
+each_slot P a b c d e f later (suc (suc (suc zero))) = d
+each_slot P a b c d e f later (suc (suc (suc (suc zero)))) = e
+each_slot P a b c d e f later (suc (suc (suc (suc (suc zero))))) = f
+each_slot P a b c d e f later (suc (suc (suc (suc (suc (suc x)))))) = later x
 
 pub same_side-true : (d e : Side) → same_side d e ≡ true → d ≡ e
 same_side-true Left Left h = refl

@@ -51,7 +51,6 @@ use Rattle.nm_order.proofs.FactLaws.{all_kept, leaf_is}
 use Rattle.nm_order.proofs.CallWalks.{WalksKept, shape_after}
 use Rattle.nm_order.proofs.FlaggedLeaves.{FlagStep, flag_step, anew_unflagged}
 use Rattle.nm_order.proofs.FlaggedLeaves.FlagStep.{SameFlag, NewFlag}
-use Rattle.nm_order.proofs.LaterFlags.{first_flag}
 use Rattle.nm_order.proofs.LaterFlagLaws.{EachFlagKept, flags_step, flags_start}
 use Rattle.nm_order.proofs.WalksOfRuns.{over_turns}
 use Rattle.nm_order.proofs.CutTurns.{CutOrNot, cut_or_not, cut_shows, uncut_stays, mapped_among}
@@ -64,6 +63,7 @@ use Rattle.nm_order.proofs.RadixTrees.{Nests}
 use Rattle.nm_order.proofs.RadixWays.{EachIn, Rooted, none_has}
 use Rattle.nm_order.proofs.RadixMoments.{rooted}
 use Rattle.nm_order.proofs.RadixLater.{later_in}
+use Rattle.nm_order.proofs.OwnLinks.{first_flag}
 
 -- ---- the mark of an own splice
 

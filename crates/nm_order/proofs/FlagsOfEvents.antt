@@ -1,35 +1,29 @@
 -- One event: an ordered core refuses a second flag of a call, so its flag stays, and the arrivals
 -- behind it only grow.
 use Rattle.std.proofs.Common.{◌≡◌, ℕ, Bool, true, false, List, true≢false, refl, sym, ap, subst, ◌∙◌, Result, Ok}
-use Rattle.std.specs.Prelude.{Option, Some, None, is_none, Contains}
-use Rattle.std.specs.List.{list_any}
-use Rattle.std.proofs.lemmas.Bool.{and_parts, not-false}
+use Rattle.std.specs.Prelude.{Option, Some, None, Contains}
 use Rattle.std.proofs.lemmas.Option.{none-some}
 use Rattle.nm_edge.specs.declared.edge.Side.{Side}
 use Rattle.nm_edge.specs.declared.node.NodeId.{NodeId}
-use Rattle.nm_model.specs.declared.event.Op.{Op}
-use Rattle.nm_model.specs.declared.event.Op.TheVariants.{Has, Insert, Delete}
 use Rattle.nm_model.specs.declared.event.Event.{Event}
 use Rattle.nm_model.specs.declared.event.Event.TheVariants.{Sight, SightFor, Leave, LeaveWith, Look, Link, Flag, Splice}
 use Rattle.nm_model.specs.declared.event.Field.{Field}
 use Rattle.nm_model.specs.declared.reply.Reply.{Reply}
 use Rattle.nm_model.specs.declared.reply.Reply.TheVariants.{Pinned, Departed, Linked, Flagged, Cut}
 use Rattle.nm_model.specs.declared.reply.Refused.{Refused}
-use Rattle.nm_model.specs.declared.reply.Refused.TheVariants.{NotOrdered}
 use Rattle.nm_model.specs.declared.arrivals.Call.{Call}
 use Rattle.nm_model.specs.declared.arrivals.Arrival.{Arrival}
 use Rattle.nm_model.specs.Maps.{or_else}
 use Rattle.nm_model.specs.Runs.{of, refused, reply_of, answered}
 use Rattle.nm_model.specs.Searches.{Search, searched, look_for}
 use Rattle.nm_model.specs.Walks.{Entry, GrowsTo, begins_anew}
-use Rattle.nm_model.specs.Ordered.{Configuration, search_of, may_flag_at, deletes, flags_in_order, disorder, disorder_in, disorder_among, refused_in, outcome_in}
-use Rattle.nm_laws.proofs.Steps.{passed}
+use Rattle.nm_model.specs.Ordered.{Configuration, search_of, disorder, disorder_in, disorder_among, refused_in, outcome_in}
 use Rattle.nm_laws.proofs.Outcomes.{no_reply}
 use Rattle.nm_laws.proofs.SearchesGrow.{look_beside, search_goes, same_arrival}
 use Rattle.nm_order.specs.WalksToArrivals.{is_won_flag}
 use Rattle.nm_order.specs.FlagsOfCalls.{FlagsStay, LaterArrivalsOnlyGrow}
 use Rattle.nm_order.proofs.ArrivalsOfLooks.{grows_by}
-use Rattle.nm_order.proofs.OwnLinks.{IsFlagEntry, flag_entry}
+use Rattle.nm_order.proofs.OwnLinks.{IsFlagEntry, flag_entry, first_flag as first_of_call}
 
 -- ---- a second flag is refused
 
@@ -37,27 +31,13 @@ neither : (a b : Option Refused) → or_else a b ≡ None → b ≡ None
 neither None b h = h
 neither (Some r) b h = absurd (none-some r (sym h))
 
-unflagged : (o : Option NodeId) → is_none o ≡ true → o ≡ None
-unflagged None is = refl
-unflagged (Some n) is = absurd (true≢false (sym is))
-
--- a flag is in order only where the call has none
-flag_in_order : (s : Search) (o : Option Call) (p : ℕ) (side : Side) (leaf : ℕ) → flags_in_order s o p side leaf ≡ true → s.flagged ≡ None
-flag_in_order s None p side leaf is = absurd (true≢false (sym is))
-flag_in_order s (Some call) p side leaf is = by call.op is
-  where
-    by : (op : Op) → deletes s op call.key p side leaf ≡ true → s.flagged ≡ None
-    by Has is = absurd (true≢false (sym is))
-    by Insert is = absurd (true≢false (sym is))
-    by Delete is = unflagged s.flagged (and_parts (is_none s.flagged) (list_any (may_flag_at call.key p side leaf) s.walks) is).0
-
--- and so it is allowed
+-- a flag is allowed only where its call has none
 flag_allowed : (c : Configuration) (searches : List Search) → c.searches ≡ Some searches → (w p : ℕ) (side : Side) (leaf : ℕ) → refused_in c w (Flag p side leaf) ≡ None → (search_of searches w).flagged ≡ None
 unfolding refused_in
 flag_allowed c searches are w p side leaf allowed =
     let s : Search = search_of searches w in
     let in_order : disorder c.state.layout (of c.state w) s (Flag p side leaf) ≡ None = ap (λ ss. disorder_among c.state.layout ss (of c.state w) w (Flag p side leaf)) (sym are) ∙ neither (refused c.state w (Flag p side leaf)) (disorder_in c w (Flag p side leaf)) allowed in
-    flag_in_order s s.call p side leaf (not-false (flags_in_order s s.call p side leaf) (passed _ NotOrdered None in_order).0)
+    first_of_call c.state.layout (of c.state w) s p leaf side in_order
 
 -- ---- one event
 

@@ -35,17 +35,16 @@ use Rattle.nm_order.proofs.OrderedLaws.{IsOrdered, ordered_next, each_ordered, l
 use Rattle.nm_order.proofs.OwnFlags.{each_flag_marks}
 use Rattle.nm_order.proofs.OwnTurns.{own_search, OwnTurn, own_turn}
 use Rattle.nm_order.proofs.OwnTurns.OwnTurn.{Quiet, Own}
-use Rattle.nm_order.proofs.OwnLinks.{IsLinkEntry, link_entry, links_once, answer_shown, silent}
+use Rattle.nm_order.proofs.OwnLinks.{IsLinkEntry, link_entry, links_once, answer_shown, silent, first_flag}
 use Rattle.nm_order.proofs.RunMoments.{entries, allowed_entries}
 use Rattle.nm_order.proofs.RunExchanges.{first_keys, is_own_call, shown}
 use Rattle.nm_order.proofs.LegalAnswers.{each_other_answer}
 use Rattle.nm_order.proofs.RunWalks.{reply_is}
 use Rattle.nm_order.proofs.FlaggedLeaves.{FlagStep, flag_step, anew_unflagged}
 use Rattle.nm_order.proofs.FlaggedLeaves.FlagStep.{SameFlag, NewFlag}
-use Rattle.nm_order.proofs.LaterFlags.{first_flag}
 use Rattle.nm_order.proofs.FlaggedNodes.{FlaggedLeaf}
 use Rattle.nm_order.proofs.CutTurns.{is_cut, cut_shown, layout_is, uncut_stays, reached_or}
-use Rattle.nm_order.proofs.SetChanges.{set_stays, WinsNoLink}
+use Rattle.nm_order.proofs.SetChanges.{set_stays, WinsNoLink, cut_links_none}
 use Rattle.nm_order.proofs.TurnEdges.{nothing_below, stays_gone}
 use Rattle.nm_order.proofs.FlagFates.{own_flagged, StandsStill, CutSince, fates, not_elsewhere, one_more, first, has_key}
 use Rattle.nm_order.proofs.FlagOwners.{each_flag_has_one_call}
@@ -501,16 +500,6 @@ module _ (L : Layout) (enough : 5 ≤ L.nodes) (ts : List (ℕ × Event)) (t : �
       still_all : (w : ℕ) → IsStill w
       still_all w = none_anew w c t (Cut ns) is (cut_stands t.1 ns)
 
-      plain : WinsNoLink L enough c t has o
-      plain q told = subst (λ (r : Reply). is_won_link (t.1, r) ≡ false) (same_ok (Cut ns) q (sym is ∙ told)) (none t.1)
-        where
-          same_ok : (x y : Reply) → ◌≡◌ {A = Result Reply Refused} (Ok x) (Ok y) → x ≡ y
-          same_ok x y e = cc
-
-          none : (e : Event) → is_won_link (e, Cut ns) ≡ false
-          none (Link p d leaf new) = refl
-          none e = refl
-
       each : (a : Act) → IsAmong m.made a → NewAct a
       each a there = subst NewAct (sym e.3) (record {
         still = still_all a.worker;
@@ -533,7 +522,7 @@ module _ (L : Layout) (enough : 5 ≤ L.nodes) (ts : List (ℕ × Event)) (t : �
 
       live : (w : ℕ) (op : Op) (k : ℕ) → IsStill w → Calls c w op k → Changed c' w op → Changed c w op ⊎ HasActOfCall m.made w (pin_of L ts w) op k true
       live w Has k still call did = inl did
-      live w Insert k still call did = inl (linked_back w still plain did)
+      live w Insert k still call did = inl (linked_back w still (cut_links_none L enough c t has o ns is) did)
       live w Delete k still call x = by (flagged_fate w x.0 was x.2)
         where
           was : (own_search c w).flagged ≡ Some x.0

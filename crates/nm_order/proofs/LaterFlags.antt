@@ -1,24 +1,20 @@
 -- Where a walk that began after the flag came to the flagged leaf, the edge by which it came was
 -- read as flagged.
 use Rattle.std.proofs.Common.{◌≡◌, ◌≢◌, ℕ, ◌⊎◌, inl, inr, eqb, ◌==◌, Bool, true, false, cond, ◌&&◌, List, [], ◌∷◌, refl, sym, ap, subst, ◌∙◌, arith, true≢false}
-use Rattle.std.specs.Prelude.{Option, Some, None, is_none}
+use Rattle.std.specs.Prelude.{Option, Some, None}
 use Rattle.std.specs.List.{list_any}
-use Rattle.std.proofs.lemmas.Bool.{cond_both, cond-true, eqb-true, eq-eqb, and_parts, not-false}
+use Rattle.std.proofs.lemmas.Bool.{cond_both, cond-true, eqb-true, eq-eqb, and_parts}
 use Rattle.std.proofs.lemmas.Option.{none-some, same_Some}
 use Rattle.nm_edge.specs.Edges.{Edge, is_to}
-use Rattle.nm_edge.specs.Layouts.{Layout}
 use Rattle.nm_edge.specs.declared.edge.Side.{Side}
 use Rattle.nm_edge.specs.declared.edge.Side.TheVariants.{Left}
 use Rattle.nm_edge.specs.declared.node.NodeId.{NodeId}
 use Rattle.nm_model.specs.declared.event.Field.{Field}
 use Rattle.nm_model.specs.declared.event.Field.TheVariants.{Edge as EdgeOn}
-use Rattle.nm_model.specs.declared.event.Op.{Op}
-use Rattle.nm_model.specs.declared.event.Op.TheVariants.{Has, Insert, Delete}
 use Rattle.nm_model.specs.declared.event.Event.{Event}
 use Rattle.nm_model.specs.declared.event.Event.TheVariants.{Look, Flag}
 use Rattle.nm_model.specs.declared.reply.Reply.{Reply}
 use Rattle.nm_model.specs.declared.reply.Reply.TheVariants.{EdgeIs, Flagged, Lost}
-use Rattle.nm_model.specs.declared.reply.Refused.TheVariants.{NotOrdered}
 use Rattle.nm_model.specs.declared.arrivals.Call.{Call}
 use Rattle.nm_model.specs.declared.arrivals.Arrival.{Arrival}
 use Rattle.nm_model.specs.Memory.{Memory, edge, child, put_edge, named}
@@ -28,9 +24,8 @@ use Rattle.nm_model.specs.Paths.{follow}
 use Rattle.nm_model.specs.Step.{reply, write}
 use Rattle.nm_model.specs.Runs.{State, of, reply_of, applied}
 use Rattle.nm_model.specs.Searches.{Search, is_first, is_side, goes_on, turns, walked, look_for, later_walked}
-use Rattle.nm_model.specs.Ordered.{ordered, disorder, flags_in_order, deletes, may_flag_at}
 use Rattle.nm_model.proofs.Lists.{any_at}
-use Rattle.nm_laws.proofs.Steps.{Allowed, passed}
+use Rattle.nm_laws.proofs.Steps.{Allowed}
 use Rattle.nm_laws.proofs.Trees.{same_side-refl}
 use Rattle.nm_laws.proofs.Views.{read_after}
 use Rattle.nm_laws.proofs.TreeSlots.{is_to-true}
@@ -126,23 +121,6 @@ new_flag s h law w p leaf d n ok is l stays =
       root = flag_leads s h law w p d leaf (omega arith) asks.known (λ z. omega arith) (is_to-true (edge s.memory p d) leaf found.0);
       places = λ i a at. absurd (none-some a at);
     })
-
--- a flag in order is the first of its call
-pub first_flag : (K : Layout) (k : Knowledge) (S : Search) (p leaf : ℕ) (d : Side) → disorder K k S (Flag p d leaf) ≡ None → S.flagged ≡ None
-first_flag K k S p leaf d ordered = by S.call (not-false (flags_in_order S S.call p d leaf) (passed _ NotOrdered None ordered).0)
-  where
-    none : (o : Option NodeId) → is_none o ≡ true → o ≡ None
-    none None is = refl
-    none (Some n) is = absurd (true≢false (sym is))
-
-    by : (o : Option Call) → flags_in_order S o p d leaf ≡ true → S.flagged ≡ None
-    by None t = absurd (true≢false (sym t))
-    by (Some call) t = on call.op t
-      where
-        on : (op : Op) → deletes S op call.key p d leaf ≡ true → S.flagged ≡ None
-        on Has t = absurd (true≢false (sym t))
-        on Insert t = absurd (true≢false (sym t))
-        on Delete t = none S.flagged (and_parts (is_none S.flagged) (list_any (may_flag_at call.key p d leaf) S.walks) t).0
 
 -- ---- a look
 

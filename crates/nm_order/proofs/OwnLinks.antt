@@ -152,6 +152,14 @@ may_flag K k S p d leaf order = by S.call refl (not-false (flags_in_order S S.ca
             let parts = and_parts (is_none S.flagged) (list_any (may_flag_at call.key p d leaf) S.walks) t in
             record { call = call; is_call = is; is_op = i; fresh = no S.flagged parts.0; walked = parts.1 }
 
+-- a flag in order is the first of its call
+pub first_flag : (K : Layout) (k : Knowledge) (S : Search) (p leaf : ℕ) (d : Side) → disorder K k S (Flag p d leaf) ≡ None → S.flagged ≡ None
+first_flag K k S p leaf d order = none S.flagged (may_flag K k S p d leaf order).fresh
+  where
+    none : (o : Option NodeId) → is_some o ≡ false → o ≡ None
+    none None is = refl
+    none (Some n) is = absurd (true≢false is)
+
 flag_order : (K : Layout) (k : Knowledge) (S : Search) (e : Event) (r : Reply) → disorder K k S e ≡ None → (such : is_won_flag (e, r) ≡ true) → MayFlag S (flag_entry e r such).parent (flag_entry e r such).side (flag_entry e r such).leaf
 flag_order K k S e r order such = let l = flag_entry e r such in may_flag K k S l.parent l.side l.leaf (subst (λ (x : Event). disorder K k S x ≡ None) l.is_event order)
 

@@ -14,7 +14,7 @@ use Rattle.nm_model.specs.Paths.{follow}
 use Rattle.nm_model.specs.Searches.{side_of}
 use Rattle.nm_order.specs.Intervals.{GoesBy}
 use Rattle.nm_order.specs.Ranges.{StandsFor, IsNested}
-use Rattle.nm_laws.proofs.Trees.{Children, Exchanged, rest_after, same_side, same_side-true, follow_none, follow-append, not_taken, taken}
+use Rattle.nm_laws.proofs.Trees.{Children, Exchanged, rest_after, same_side, same_side-true, follow_none, follow-append, not_taken, taken, each_slot}
 use Rattle.nm_laws.proofs.CutPaths.{Splicing, old_path, led}
 use Rattle.nm_order.proofs.Searching.{Keys, goes-append, Apart, apart_follow}
 use Rattle.nm_order.proofs.OrderedTrees.{InOrder, Linking, had_child, unless_at, one_or_other, down, new_still, far_still, Below, below_new, at_leaf, at_far, Grafting}
@@ -35,13 +35,8 @@ pub record RadixLaw (c : Children) (v : Keys) : Type 0 where
 
 -- the fixed slots
 pub which : (z : ℕ) → (z ≡ 0) ⊎ ((z ≡ 1) ⊎ ((z ≡ 2) ⊎ (((3 ≤ z) × (z ≤ 5)) ⊎ (6 ≤ z))))
-which zero = inl refl
-which (suc zero) = inr (inl refl)
-which (suc (suc zero)) = inr (inr (inl refl))
-which (suc (suc (suc zero))) = inr (inr (inr (inl (omega arith, omega arith))))
-which (suc (suc (suc (suc zero)))) = inr (inr (inr (inl (omega arith, omega arith))))
-which (suc (suc (suc (suc (suc zero))))) = inr (inr (inr (inl (omega arith, omega arith))))
-which (suc (suc (suc (suc (suc (suc n)))))) = inr (inr (inr (inr (omega arith))))
+which = each_slot (λ z. (z ≡ 0) ⊎ ((z ≡ 1) ⊎ ((z ≡ 2) ⊎ (((3 ≤ z) × (z ≤ 5)) ⊎ (6 ≤ z))))) (inl refl) (inr (inl refl)) (inr (inr (inl refl))) (inr (inr (inr (inl (omega arith, omega arith))))) (inr (inr (inr (inl (omega arith, omega arith)))))
+    (inr (inr (inr (inl (omega arith, omega arith))))) (λ n. inr (inr (inr (inr (omega arith)))))
 
 pub left_if : (k n : ℕ) → k < n → side_of k n ≡ Left
 left_if k n lt = cond-true (nat_lt k n) Left Right (lt-ltb k n lt)

@@ -191,18 +191,40 @@ tries_are_lost_to_changes L enough w worker past turns keys n loses =
 
 -- ---- what pays for them
 
-four : (w : ℕ) (turns : List Turn) → number_of (changes_of_others w) turns ≤ links_in turns + (flags_in turns + (cuts_in turns + tags_in turns))
-four w [] = omega arith
-four w (t ∷ ts) = by (t.worker == w) (links_on t.event t.outcome) (flags_on t.event t.outcome) (cuts_on t.event t.outcome) (tags_on t.event t.outcome) (four w ts)
+-- what hinders a worker is a link, a flag, a splice or a tag
+few_hinder : (w : ℕ) (turns : List Turn) → number_of (hinders w) turns ≤ links_in turns + (flags_in turns + (cuts_in turns + tags_in turns))
+few_hinder w [] = omega arith
+few_hinder w (t ∷ ts) = by (t.worker == w) (links_on t.event t.outcome) (flags_on t.event t.outcome) (cuts_on t.event t.outcome) (tags_on t.event t.outcome) (few_hinder w ts)
   where
-    by : (o a b c d : Bool) → number_of (changes_of_others w) ts ≤ links_in ts + (flags_in ts + (cuts_in ts + tags_in ts))
-        → cond (not o && (a || (b || (c || d)))) 1 0 + number_of (changes_of_others w) ts ≤ (cond a 1 0 + links_in ts) + ((cond b 1 0 + flags_in ts) + ((cond c 1 0 + cuts_in ts) + (cond d 1 0 + tags_in ts)))
-    by true a b c d rest = omega (arith, rest)
+    by : (o a b c d : Bool) → number_of (hinders w) ts ≤ links_in ts + (flags_in ts + (cuts_in ts + tags_in ts))
+        → cond (cond o (c || d) (a || (b || (c || d)))) 1 0 + number_of (hinders w) ts ≤ (cond a 1 0 + links_in ts) + ((cond b 1 0 + flags_in ts) + ((cond c 1 0 + cuts_in ts) + (cond d 1 0 + tags_in ts)))
+    by true a b true d rest = omega (arith, rest)
+    by true a b false true rest = omega (arith, rest)
+    by true a b false false rest = omega (arith, rest)
     by false true b c d rest = omega (arith, rest)
     by false false true c d rest = omega (arith, rest)
     by false false false true d rest = omega (arith, rest)
     by false false false false true rest = omega (arith, rest)
     by false false false false false rest = omega (arith, rest)
+
+-- a change of another hinders
+pub others_hinder : (w : ℕ) (ts : List Turn) → number_of (changes_of_others w) ts ≤ number_of (hinders w) ts
+others_hinder w [] = omega arith
+others_hinder w (t ∷ ts) = by (t.worker == w) (links_on t.event t.outcome) (flags_on t.event t.outcome) (cuts_on t.event t.outcome) (tags_on t.event t.outcome) (others_hinder w ts)
+  where
+    by : (o a b c d : Bool) → number_of (changes_of_others w) ts ≤ number_of (hinders w) ts
+        → cond (not o && (a || (b || (c || d)))) 1 0 + number_of (changes_of_others w) ts ≤ cond (cond o (c || d) (a || (b || (c || d)))) 1 0 + number_of (hinders w) ts
+    by true a b true d rest = omega (arith, rest)
+    by true a b false true rest = omega (arith, rest)
+    by true a b false false rest = omega (arith, rest)
+    by false true b c d rest = omega (arith, rest)
+    by false false true c d rest = omega (arith, rest)
+    by false false false true d rest = omega (arith, rest)
+    by false false false false true rest = omega (arith, rest)
+    by false false false false false rest = omega (arith, rest)
+
+four : (w : ℕ) (turns : List Turn) → number_of (changes_of_others w) turns ≤ links_in turns + (flags_in turns + (cuts_in turns + tags_in turns))
+four w turns = let some = others_hinder w turns in let few = few_hinder w turns in omega (arith, some, few)
 
 pub tries_are_paid : OfEachPart TriesArePaid
 tries_are_paid L enough w worker past turns keys n loses =
@@ -220,23 +242,6 @@ tries_are_paid_ever L enough w worker turns keys n loses =
     let splices = splices_are_paid L enough turns keys in
     let tags = tags_are_paid L enough turns keys in
     omega (arith, lost, kinds, splices, tags)
-
--- ---- what hinders a worker
-
-few_hinder : (w : ℕ) (turns : List Turn) → number_of (hinders w) turns ≤ links_in turns + (flags_in turns + (cuts_in turns + tags_in turns))
-few_hinder w [] = omega arith
-few_hinder w (t ∷ ts) = by (t.worker == w) (links_on t.event t.outcome) (flags_on t.event t.outcome) (cuts_on t.event t.outcome) (tags_on t.event t.outcome) (few_hinder w ts)
-  where
-    by : (o a b c d : Bool) → number_of (hinders w) ts ≤ links_in ts + (flags_in ts + (cuts_in ts + tags_in ts))
-        → cond (cond o (c || d) (a || (b || (c || d)))) 1 0 + number_of (hinders w) ts ≤ (cond a 1 0 + links_in ts) + ((cond b 1 0 + flags_in ts) + ((cond c 1 0 + cuts_in ts) + (cond d 1 0 + tags_in ts)))
-    by true a b true d rest = omega (arith, rest)
-    by true a b false true rest = omega (arith, rest)
-    by true a b false false rest = omega (arith, rest)
-    by false true b c d rest = omega (arith, rest)
-    by false false true c d rest = omega (arith, rest)
-    by false false false true d rest = omega (arith, rest)
-    by false false false false true rest = omega (arith, rest)
-    by false false false false false rest = omega (arith, rest)
 
 pub hindrances_are_paid : HindrancesArePaid
 hindrances_are_paid L enough w past turns keys =

@@ -14,14 +14,14 @@ use Rattle.nm_model.specs.declared.reply.Reply.{Reply}
 use Rattle.nm_model.specs.declared.reply.Reply.TheVariants.{Saw, Labelled, Pinned, Missed, Announced, Departed, Moved, Behind, Claimed, Returned, Freed, Filled, Linked, Flagged, Was, Cut, Lost, Joined}
 use Rattle.nm_model.specs.declared.knowledge.Brief.{Brief}
 use Rattle.nm_model.specs.Knowledge.{Knowledge, is_private}
-use Rattle.nm_model.specs.Learning.{learn, learn_sight, look_private, look_known, resigned, inheriting}
+use Rattle.nm_model.specs.Learning.{learn, learn_sight, resigned, inheriting}
 use Rattle.nm_model.specs.Step.{last_number, refusal}
 use Rattle.nm_model.specs.Walks.{Entry}
 use Rattle.nm_model.specs.Ordered.{ordered, after_in, trace_in}
 use Rattle.nm_order.specs.Hands.{IsPooled}
 use Rattle.nm_order.specs.Logs.{is_leaver, part_of, known_by, IsLogOf}
 use Rattle.nm_order.specs.OwnBirths.{births_by}
-use Rattle.nm_order.proofs.OutsidePins.{brief_scan, brief_look_private, brief_look_known}
+use Rattle.nm_laws.proofs.Learned.{scan_teaches, look_teaches}
 use Rattle.nm_words.specs.Packing.{word_at, touched_field}
 use Rattle.nm_words.specs.Told.{told}
 use Rattle.nm_steps.specs.declared.view.View.{View}
@@ -62,13 +62,13 @@ brief_is_noted w k (SightFor op key) r = brief_sight k r
 brief_is_noted w k Announce (Announced e) = refl
 brief_is_noted w k Leave Departed = refl
 brief_is_noted w k (LeaveWith answer) Departed = refl
-brief_is_noted w k (Scan u) r = brief_scan k u r
+brief_is_noted w k (Scan u) r = ap (λ (l : Knowledge). l.brief) (scan_teaches k u r)
 brief_is_noted w k Advance (Moved e) = refl
 brief_is_noted w k Advance (Behind e) = refl
 brief_is_noted w k (Claim s) (Claimed t) = refl
 brief_is_noted w k (Give s) (Returned t) = refl
 brief_is_noted w k (Give s) (Freed m) = refl
-brief_is_noted w k (Look s f) r = cond_both (is_private k s) (look_private k s f r) (look_known k s f r) (λ x. x.brief ≡ k.brief) (λ _. brief_look_private k s f r) (λ _. brief_look_known k s f r)
+brief_is_noted w k (Look s f) r = ap (λ (l : Knowledge). l.brief) (look_teaches k s f r)
 brief_is_noted w k (Fill s f v) Filled = refl
 brief_is_noted w k (Link p side leaf new) (Linked m) = refl
 brief_is_noted w k (Link p side leaf new) (Lost e) = refl
