@@ -60,6 +60,7 @@ use Rattle.nm_progress.proofs.SplicesPaid.{FlagOrigin, flag_origin}
 use Rattle.nm_progress.proofs.SplicesPaid.FlagOrigin.{Before, Now}
 use Rattle.nm_progress.proofs.SplitTurns.{SplitTurn, split_turn, ordered_after, part_teaches, number_split}
 use Rattle.nm_progress.proofs.CountedTries.{known_longer}
+use Rattle.nm_progress.proofs.Covers.{one_if}
 use Rattle.nm_order.specs.Totals.{NothingIsPending}
 use Rattle.nm_busy.specs.Pending.{NonePends}
 use Rattle.nm_busy.proofs.PendingTurns.{nothing_is_pending}
@@ -82,9 +83,6 @@ use Rattle.nm_busy.proofs.Astray.{SplitPart, split_part, walk_plain, OnPath, wal
 none_own : (b : Bool) (x : Bool) → b ≡ true → (not b && x) ≡ false
 none_own true x is = refl
 none_own false x is = absurd (true≢false (sym is))
-
-abbrev one_if : Bool → ℕ
-one_if b = cond b 1 0
 
 -- of such turns none is of another
 own_none : (w : ℕ) (is_such : Turn → Bool) (ts : List Turn) → All (λ t. t.worker ≡ w) ts → number_of (λ t. not (t.worker == w) && is_such t) ts ≡ 0

@@ -33,6 +33,7 @@ use Rattle.nm_progress.proofs.CountedTries.{known_longer, own_turn, lost_count, 
 use Rattle.nm_progress.proofs.SplitTurns.{SplitTurn, split_turn, ordered_after, part_teaches, turn_in, number_split, number-append}
 use Rattle.nm_progress.proofs.MoreTries.{Plain}
 use Rattle.nm_progress.proofs.Reshapes.{is_reshape}
+use Rattle.nm_progress.proofs.Covers.{one_if}
 use Rattle.nm_busy.specs.Lost.{WasHindered}
 use Rattle.nm_busy.proofs.Astray.{SplitPart, split_part, by_others, one_astray, long_astray}
 use Rattle.nm_busy.proofs.DeepAstray.{deep_plain, not_too_deep}
@@ -127,9 +128,6 @@ module _ (L : Layout) (enough : 5 ≤ L.nodes) (w : ℕ) where
     counted = λ c o knowing ran ts keys is. one c ts (split_turn w ts c xs (e, r) ys is);
   }
     where
-      one_if : Bool → ℕ
-      one_if b = cond b 1 0
-
       one : (c : Configuration) (ts : List (ℕ × Event)) → SplitTurn w c ts xs (e, r) ys → 1 ≤ number_of (hinders w) (trace_in c ts)
       one c ts a =
           let own = own_turn w (after_in c a.before) a.turn e r a.takes a.is_entry alone a.is_allowed in

@@ -35,6 +35,7 @@ use Rattle.nm_epoch.specs.Tries.{LostTries, after_sight, IsMoved}
 use Rattle.nm_progress.specs.Moves.{number_of, moves_on, moves, moves_of_others, is_sight}
 use Rattle.nm_progress.proofs.Moves.{epochs_are_the_moves, missed_pins_are_moves}
 use Rattle.nm_progress.proofs.SplitTurns.{SplitTurn, split_turn, none_of_log}
+use Rattle.nm_progress.proofs.Covers.{one_if}
 use Rattle.nm_busy.specs.Pins.{LostPinsWereMovedPast}
 
 -- ---- parts
@@ -46,9 +47,6 @@ part-append w (t ∷ xs) ys = ap (λ (l : List Entry). cond (takes_part w t.work
 -- an entry moves the epoch
 abbrev pub is_move : Entry → Bool
 is_move e = moves_on e.0 (Ok e.1)
-
-abbrev one_if : Bool → ℕ
-one_if b = cond b 1 0
 
 -- where no entry of a worker's part does, all moves are of others
 pub all_of_others : (w : ℕ) (turns : List Turn) → list_any is_move (log_of w turns) ≡ false → number_of (moves_of_others w) turns ≡ number_of moves turns

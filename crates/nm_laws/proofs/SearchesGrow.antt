@@ -1,8 +1,8 @@
 -- While a pin stands, what its search knows only grows.
-use Rattle.std.proofs.Common.{◌≡◌, ℕ, zero, suc, ◌<◌, ◌==◌, Bool, true, false, cond, ◌&&◌, ◌||◌, List, [], ◌∷◌, ◌++◌, map, length, get_or, true≢false, refl, sym, arith}
+use Rattle.std.proofs.Common.{◌≡◌, ℕ, zero, suc, ◌<◌, ◌==◌, true, false, cond, ◌&&◌, ◌||◌, List, [], ◌∷◌, ◌++◌, map, length, get_or, true≢false, refl, sym, arith}
 use Rattle.std.specs.Prelude.{Option, Some, None, is_none, Contains}
 use Rattle.std.specs.List.{list_any}
-use Rattle.std.proofs.lemmas.Bool.{cond_both, and_parts}
+use Rattle.std.proofs.lemmas.Bool.{cond_both, and_parts, or_left}
 use Rattle.std.proofs.lemmas.Option.{none-some}
 use Rattle.nm_edge.specs.declared.edge.Side.{Side}
 use Rattle.nm_edge.specs.declared.node.NodeId.{NodeId}
@@ -89,10 +89,6 @@ look_grows : (s : Search) (slot : ℕ) (f : Field) (r : Reply) (o : Option Call)
 look_grows s slot f r None = itself s
 look_grows s slot f r (Some c) = grows s (look_for s (Some c) slot f r) refl (λ is. is) (λ is. is) (walked_grows c.key s.walks slot f r)
 
-either_true : (a b : Bool) → a ≡ true → (a || b) ≡ true
-either_true true b is = refl
-either_true false b is = absurd (true≢false (sym is))
-
 -- ---- one event
 
 -- a look changes the arrivals alone
@@ -131,5 +127,5 @@ pub only_grow : SearchesOnlyGrow
 only_grow s = search_goes (λ e r t. SearchGrows s t) s (λ slot f r. look_grows s slot f r s.call)
     (λ p side leaf new n. grows s (record s { linked = true }) refl (λ is. refl) (λ is. is) (unchanged s.walks))
     (λ p side leaf n. grows s (record s { flagged = Some n }) refl (λ is. is) (λ is. is) (unchanged s.walks))
-    (λ a side x p keep ns. grows s (record s { cut = s.cut || is_flagged_in s.flagged ns }) refl (λ is. is) (λ is. either_true s.cut (is_flagged_in s.flagged ns) is) (unchanged s.walks))
+    (λ a side x p keep ns. grows s (record s { cut = s.cut || is_flagged_in s.flagged ns }) refl (λ is. is) (λ is. or_left s.cut (is_flagged_in s.flagged ns) is) (unchanged s.walks))
     (λ e r. itself s)

@@ -34,6 +34,7 @@ use Rattle.nm_laws.proofs.Changes.{Change, changed}
 use Rattle.nm_laws.proofs.Changes.Change.{Keeps, Labels, Cuts, Frees}
 use Rattle.nm_laws.proofs.Lawful.JoinOrNot.{IsJoin, IsNone}
 use Rattle.nm_laws.proofs.Lawful.{JoinOrNot, join_or_not, IsLawful, lawful}
+use Rattle.nm_laws.proofs.Outcomes.{same_reply}
 
 same_slots : (m n : Memory) → ((x : ℕ) (d : Side) → (edge n x d).slot ≡ (edge m x d).slot) → (y : ℕ) → Reached m y → Reached n y
 same_slots m n same y r = record { path = r.path; ends = same_follow _ _ same 1 r.path ∙ r.ends; is_slot = r.is_slot }
@@ -161,9 +162,6 @@ cut_is_splice s t ns is = go (refused s t.0 t.1) refl is
   where
     differ : (r : Refused) → ◌≡◌ {A = Result Reply Refused} (Err r) (Ok (Cut ns)) → ⊥
     differ r e = cc
-
-    same_reply : (r q : Reply) → ◌≡◌ {A = Result Reply Refused} (Ok r) (Ok q) → r ≡ q
-    same_reply r q e = cc
 
     by : (k : Knowledge) → reply_of s t.0 t.1 ≡ Cut ns → Change s t.0 t.1 (reply_of s t.0 t.1) k → (a : ℕ) × (side : Side) × (successor : ℕ) × (parent : ℕ) × (keep : Side) × (t.1 ≡ Splice a side successor parent keep)
     by k r (Keeps _ _ un _) = absurd (un ns r)

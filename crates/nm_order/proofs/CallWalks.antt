@@ -4,7 +4,7 @@ use Rattle.std.proofs.Common.{◌≡◌, ◌≢◌, ℕ, inl, inr, eqb, ◌==◌
 use Rattle.std.specs.Prelude.{Option, Some, None, slice_get, is_none}
 use Rattle.std.specs.List.{list_any}
 use native.Mathlib.Decide.{ℕ_discrete}
-use Rattle.std.proofs.lemmas.Bool.{cond_both, eqb-true, eq-eqb, and_parts}
+use Rattle.std.proofs.lemmas.Bool.{cond_both, eqb-true, eq-eqb, and_parts, or_left, and_from}
 use Rattle.std.proofs.lemmas.Option.{none-some}
 use Rattle.nm_edge.specs.declared.edge.Side.{Side}
 use Rattle.nm_edge.specs.declared.edge.Side.TheVariants.{Left, Right}
@@ -86,11 +86,7 @@ others_stay s h law w e ok u ne = go (takes_part u w e) refl
 
 -- a worker learns what its event is answered
 pub own_knows : (s : State) (h : ℕ → ℕ) (law : Lawful s h) (w : ℕ) (e : Event) → Allowed s w e → of (applied s w e) w ≡ learn w (of s w) e (reply_of s w e)
-own_knows s h law w e ok = partaking s law.staffed w w e ok (either (w == w) _ (eq-eqb w w refl))
-  where
-    either : (a b : Bool) → a ≡ true → (a || b) ≡ true
-    either true b is = refl
-    either false b is = absurd (true≢false (sym is))
+own_knows s h law w e ok = partaking s law.staffed w w e ok (or_left (w == w) _ (eq-eqb w w refl))
 
 module _ (s : State) (h : ℕ → ℕ) (law : Lawful s h) (w : ℕ) where
   nulls_stand : (u : ℕ) → NullsStand s.memory (of s u)
@@ -107,19 +103,10 @@ module _ (s : State) (h : ℕ → ℕ) (law : Lawful s h) (w : ℕ) where
       (λ _. by d (is_read d) null)
     where
       is_read : (d : Side) → read (read_edge (of s w) x d (edge s.memory x d)) x d ≡ Some (edge s.memory x d)
-      is_read d = read_after (of s w) x d (edge s.memory x d) x d ∙ ap (λ (b : Bool). cond b (Some (edge s.memory x d)) (read (of s w) x d)) (both_true (eqb x x) _ (eq-eqb x x refl) (same_side-refl d))
-        where
-          both_true : (a b : Bool) → a ≡ true → b ≡ true → (a && b) ≡ true
-          both_true true true i j = refl
-          both_true true false i j = j
-          both_true false b i j = i
+      is_read d = read_after (of s w) x d (edge s.memory x d) x d ∙ ap (λ (b : Bool). cond b (Some (edge s.memory x d)) (read (of s w) x d)) (and_from (eqb x x) _ (eq-eqb x x refl) (same_side-refl d))
 
       by : (d : Side) → read (read_edge (of s w) x d (edge s.memory x d)) x d ≡ Some (edge s.memory x d) → child s.memory x d ≡ 0 → knows_leaf (read_edge (of s w) x d (edge s.memory x d)) x ≡ true
-      by Left is null = first (is_null (read (read_edge (of s w) x Left (edge s.memory x Left)) x Left)) _ (ap is_null is ∙ eq-eqb (child s.memory x Left) 0 null)
-        where
-          first : (a b : Bool) → a ≡ true → (a || b) ≡ true
-          first true b i = refl
-          first false b i = absurd (true≢false (sym i))
+      by Left is null = or_left (is_null (read (read_edge (of s w) x Left (edge s.memory x Left)) x Left)) _ (ap is_null is ∙ eq-eqb (child s.memory x Left) 0 null)
       by Right is null = second (is_null (read (read_edge (of s w) x Right (edge s.memory x Right)) x Left)) _ (ap is_null is ∙ eq-eqb (child s.memory x Right) 0 null)
         where
           second : (a b : Bool) → b ≡ true → (a || b) ≡ true

@@ -33,6 +33,7 @@ use Rattle.nm_model.proofs.Numbers.{repeated}
 use Rattle.nm_laws.proofs.Steps.{Allowed, allowed}
 use Rattle.nm_laws.proofs.SearchesGrow.{only_grow, look_beside, begun_is, search_goes}
 use Rattle.nm_laws.proofs.Configurations.{after_in-append, refused_next, allowed_next, allowed_outcome}
+use Rattle.nm_laws.proofs.Outcomes.{same_reply}
 use Rattle.nm_order.specs.Intervals.{HasKey, IsCalled, InInterval, Marks, key}
 use Rattle.nm_order.specs.Moments.{OfEachOrderedRun, PinStands}
 use Rattle.nm_order.specs.Exchanges.{MayAnswer, HasFlagged}
@@ -422,13 +423,10 @@ module _ (L : Layout) (enough : 5 ≤ L.nodes) where
                     at_leaf = sym (ap (λ (y : NodeId). y.slot) marked.2.names) ∙ ap (λ (y : NodeId). y.slot) same_node
 
                     differ : (ns : List NodeId) → ◌≡◌ {A = Result Reply Refused} (Ok r) (Ok (Cut ns)) → ⊥
-                    differ ns e = apart m ns (sym is_flagged ∙ same_ok r (Cut ns) e)
+                    differ ns e = apart m ns (sym is_flagged ∙ same_reply r (Cut ns) e)
                       where
                         apart : (m : NodeId) (ns : List NodeId) → Flagged m ≡ Cut ns → ⊥
                         apart m ns e = cc
-
-                        same_ok : (x y : Reply) → ◌≡◌ {A = Result Reply Refused} (Ok x) (Ok y) → x ≡ y
-                        same_ok x y e = cc
 
                     unflagged : (own_search c w).flagged ≡ None
                     unflagged = first_flag c.state.layout (of c.state w) (own_search c w) p leaf d (subst (λ (e : Event). disorder c.state.layout (of c.state w) (own_search c w) e ≡ None) is_flag order)

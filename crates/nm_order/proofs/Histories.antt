@@ -25,6 +25,7 @@ use Rattle.nm_model.specs.Searches.{Search, searched}
 use Rattle.nm_model.specs.Walks.{Entry, SearchGrows, begins_anew}
 use Rattle.nm_model.specs.Ordered.{Configuration, ordered, search_of, disorder, shows, has_removed, ended_at, ended_beside, ended_elsewhere, next_in, outcome_in, after_in}
 use Rattle.nm_laws.proofs.SearchesGrow.{only_grow}
+use Rattle.nm_laws.proofs.Outcomes.{same_reply}
 use Rattle.nm_order.specs.Intervals.{HasKey, IsCalled, Gains, Marks, key}
 use Rattle.nm_order.specs.Exchanges.{MayAnswer, is_won_link}
 use Rattle.nm_order.specs.Legal.{changes, WasLegal}
@@ -50,7 +51,7 @@ use Rattle.nm_order.proofs.FlagFates.{own_flagged, StandsStill, CutSince, fates,
 use Rattle.nm_order.proofs.FlagOwners.{each_flag_has_one_call}
 use Rattle.nm_order.proofs.PendingLeaves.{Anew, anew_is, no_pin, sight_told, call_told}
 use Rattle.nm_order.proofs.PendingLeaves.Anew.{PinsNow, LeavesNow, AnswersNow}
-use Rattle.nm_order.proofs.Timelines.{TurnChanges, Follows, follows_more, PutIn, put_in}
+use Rattle.nm_order.proofs.Timelines.{TurnChanges, Follows, follows_more, PutIn, put_in, among_either}
 use Rattle.nm_order.proofs.CutActs.{delete_of, CutMade, cut_made}
 use Rattle.nm_order.proofs.PinNumbers.{pin_more, call_pinned, pin_below, pin_stays}
 
@@ -266,11 +267,6 @@ module _ (L : Layout) (enough : 5 ≤ L.nodes) (ts : List (ℕ × Event)) (t : �
   not_so_far x y (Live called did answer pin later within) n same =
       n.fresh (subst (λ (op : Op). Changed c y.worker op) (same_op y.worker x.op y.op x.key y.key (subst (λ (w : ℕ). Calls c w x.op x.key) same.0 called) n.called) (subst (λ (w : ℕ). Changed c w x.op) same.0 did))
 
-  among_either : (xs ys : List Act) (a : Act) → IsAmong (xs ++ ys) a → IsAmong xs a ⊎ IsAmong ys a
-  among_either [] ys a there = inr there
-  among_either (x ∷ xs) ys a (inl is) = inl (inl is)
-  among_either (x ∷ xs) ys a (inr there) = elim (among_either xs ys a there) [ inl l ↦ inl (inr l) | inr r ↦ inr r ]
-
   among_left : (xs ys : List Act) (a : Act) → IsAmong xs a → IsAmong (xs ++ ys) a
   among_left [] ys a there = absurd there
   among_left (x ∷ xs) ys a (inl is) = inl is
@@ -370,13 +366,10 @@ module _ (L : Layout) (enough : 5 ≤ L.nodes) (ts : List (ℕ × Event)) (t : �
               at_leaf = sym (ap (λ (y : NodeId). y.slot) marks.2.names) ∙ ap (λ (y : NodeId). y.slot) (same_Some m n (sym flagged ∙ now_is))
 
               uncut : (ns : List NodeId) → outcome_in c t ≡ Ok (Cut ns) → ⊥
-              uncut ns cut = apart m ns (sym is_flagged ∙ same_ok r (Cut ns) (sym won ∙ cut))
+              uncut ns cut = apart m ns (sym is_flagged ∙ same_reply r (Cut ns) (sym won ∙ cut))
                 where
                   apart : (m : NodeId) (ns : List NodeId) → Flagged m ≡ Cut ns → ⊥
                   apart m ns e = cc
-
-                  same_ok : (x y : Reply) → ◌≡◌ {A = Result Reply Refused} (Ok x) (Ok y) → x ≡ y
-                  same_ok x y e = cc
 
   -- and it is cut by the turn, or was before
   flagged_fate : (w : ℕ) (n : NodeId) → (own_search c w).flagged ≡ Some n → (Reached c'.state.memory n.slot → ⊥) → (Reached c.state.memory n.slot → ⊥) ⊎ IsCut c.state.memory c'.state.memory n.slot
@@ -447,23 +440,20 @@ module _ (L : Layout) (enough : 5 ≤ L.nodes) (ts : List (ℕ × Event)) (t : �
       filled true t none = cc
       filled false t none = true≢false (sym t)
 
-      same_ok : (x y : Reply) → ◌≡◌ {A = Result Reply Refused} (Ok x) (Ok y) → x ≡ y
-      same_ok x y e = cc
-
       fresh : OwnTurn t.0 c t → (own_search c t.0).linked ≡ false
       fresh (Quiet same none) = absurd (filled (t.0 == t.0) (eq-eqb t.0 t.0 refl) (sym (allowed_entries t.0 c t r won) ∙ none))
       fresh (Own q is won' here learned order) = links_once.once c.state.layout (of c.state t.0) (own_search c t.0) t.1 r order such
 
       linked : OwnTurn t.0 c t → (own_search c' t.0).linked ≡ true
       linked (Quiet same none) = absurd (filled (t.0 == t.0) (eq-eqb t.0 t.0 refl) (sym (allowed_entries t.0 c t r won) ∙ none))
-      linked (Own q is won' here learned order) = ap (λ (S : Search). S.linked) learned ∙ links_once.done (own_search c t.0) t.1 q (ap (λ (x : Reply). is_won_link (t.1, x)) (same_ok q r (sym won' ∙ won)) ∙ such)
+      linked (Own q is won' here learned order) = ap (λ (S : Search). S.linked) learned ∙ links_once.done (own_search c t.0) t.1 q (ap (λ (x : Reply). is_won_link (t.1, x)) (same_reply q r (sym won' ∙ won)) ∙ such)
 
       each : (a : Act) → IsAmong (act ∷ []) a → NewAct a
       each a (inl is) = subst NewAct is (record { still = none_anew t.0 c t r won stands; called = call_is; fresh = λ did. true≢false (sym did ∙ fresh mine); did = linked mine; answer = refl; pin = refl; moment = refl })
       each a (inr none) = absurd none
 
       uncut : (ns : List NodeId) → outcome_in c t ≡ Ok (Cut ns) → ⊥
-      uncut ns cut = apart l.node ns (sym l.is_reply ∙ same_ok r (Cut ns) (sym won ∙ cut))
+      uncut ns cut = apart l.node ns (sym l.is_reply ∙ same_reply r (Cut ns) (sym won ∙ cut))
         where
           apart : (m : NodeId) (ns : List NodeId) → Linked m ≡ Cut ns → ⊥
           apart m ns e = cc
@@ -549,9 +539,6 @@ module _ (L : Layout) (enough : 5 ≤ L.nodes) (ts : List (ℕ × Event)) (t : �
   made_by : Made
   made_by = go (outcome_in c t) refl
     where
-      same_ok : (x y : Reply) → ◌≡◌ {A = Result Reply Refused} (Ok x) (Ok y) → x ≡ y
-      same_ok x y e = cc
-
       refuses : (q : Refused) (r : Reply) → ◌≡◌ {A = Result Reply Refused} (Err q) (Ok r) → ⊥
       refuses q r e = cc
 
@@ -568,7 +555,7 @@ module _ (L : Layout) (enough : 5 ≤ L.nodes) (ts : List (ℕ × Event)) (t : �
                   let ins = each_link_inserts L enough ts before t.0 l.parent l.side l.leaf l.new l.node (ap (outcome_in c) (sym turn) ∙ (is ∙ ap (λ (x : Reply). Ok x) l.is_reply)) in
                   made_link r is l ins.0 ins.1 (subst (λ (v : ℕ × Event). Gains c.state.memory (next_in c v).state.memory ins.0) (sym turn) ins.2)
           by false link true cut = let ns = cut_shown r cut in made_cut ns.0 (is ∙ ap (λ (x : Reply). Ok x) ns.1)
-          by false link false cut = made_none (λ q told. ap (λ (x : Reply). is_won_link (t.1, x)) (same_ok q r (sym told ∙ is)) ∙ link) (λ ns told. true≢false (sym (ap is_cut (same_ok r (Cut ns) (sym is ∙ told))) ∙ cut))
+          by false link false cut = made_none (λ q told. ap (λ (x : Reply). is_won_link (t.1, x)) (same_reply q r (sym told ∙ is)) ∙ link) (λ ns told. true≢false (sym (ap is_cut (same_reply r (Cut ns) (sym is ∙ told))) ∙ cut))
 
   -- ---- an answer that changes nothing
 

@@ -1,8 +1,8 @@
 -- While a pin stands, what its worker knows is only added to: an edge that it reads again is the
 -- same in what it had known of it.
-use Rattle.std.proofs.Common.{◌≡◌, ◌≢◌, ℕ, ◌⊎◌, inl, inr, eqb, ◌==◌, Bool, true, false, cond, not, ◌&&◌, ◌||◌, refl, sym, ap, ◌∙◌, true≢false}
+use Rattle.std.proofs.Common.{◌≡◌, ◌≢◌, ℕ, ◌⊎◌, inl, inr, eqb, ◌==◌, Bool, true, false, cond, not, ◌&&◌, refl, sym, ap, ◌∙◌, true≢false}
 use Rattle.std.specs.Prelude.{Option, Some, None}
-use Rattle.std.proofs.lemmas.Bool.{cond_both, eqb-true, eq-eqb, ne_eqb, and_parts, or_cases}
+use Rattle.std.proofs.lemmas.Bool.{cond_both, eqb-true, eq-eqb, ne_eqb, and_parts, or_cases, or_left, or_right}
 use Rattle.nm_edge.specs.Edges.{Edge, is_to, tagged}
 use Rattle.nm_edge.specs.declared.edge.Side.{Side}
 use Rattle.nm_edge.specs.declared.edge.Side.TheVariants.{Left, Right}
@@ -210,17 +210,9 @@ null_stays m k l stand stays x d null = elim (stays.reads x d) [
 
 pub leaf_stays : (m : Memory) (k l : Knowledge) → NullsStand m k → Stays m k l → (x : ℕ) → knows_leaf k x ≡ true → knows_leaf l x ≡ true
 leaf_stays m k l stand stays x leaf = elim (or_cases (is_null (read k x Left)) (is_null (read k x Right)) leaf) [
-  | inl left ↦ left_known (is_null (read l x Left)) (is_null (read l x Right)) (null_stays m k l stand stays x Left left)
-  | inr right ↦ right_known (is_null (read l x Left)) (is_null (read l x Right)) (null_stays m k l stand stays x Right right)
+  | inl left ↦ or_left (is_null (read l x Left)) (is_null (read l x Right)) (null_stays m k l stand stays x Left left)
+  | inr right ↦ or_right (is_null (read l x Left)) (is_null (read l x Right)) (null_stays m k l stand stays x Right right)
 ]
-  where
-    left_known : (a b : Bool) → a ≡ true → (a || b) ≡ true
-    left_known true b is = refl
-    left_known false b is = absurd (true≢false (sym is))
-
-    right_known : (a b : Bool) → b ≡ true → (a || b) ≡ true
-    right_known true b is = refl
-    right_known false b is = is
 
 -- ---- the answers of an event that is allowed
 

@@ -1,9 +1,9 @@
 -- Where a walk that began after the flag came to the flagged leaf, the edge by which it came was
 -- read as flagged.
-use Rattle.std.proofs.Common.{◌≡◌, ◌≢◌, ℕ, ◌⊎◌, inl, inr, eqb, ◌==◌, Bool, true, false, cond, ◌&&◌, List, [], ◌∷◌, refl, sym, ap, subst, ◌∙◌, arith, true≢false}
+use Rattle.std.proofs.Common.{◌≡◌, ◌≢◌, ℕ, ◌⊎◌, inl, inr, eqb, ◌==◌, Bool, true, false, cond, List, [], ◌∷◌, refl, sym, ap, subst, ◌∙◌, arith, true≢false}
 use Rattle.std.specs.Prelude.{Option, Some, None}
 use Rattle.std.specs.List.{list_any}
-use Rattle.std.proofs.lemmas.Bool.{cond_both, cond-true, eqb-true, eq-eqb, and_parts}
+use Rattle.std.proofs.lemmas.Bool.{cond_both, cond-true, eqb-true, eq-eqb, and_parts, and_from}
 use Rattle.std.proofs.lemmas.Option.{none-some, same_Some}
 use Rattle.nm_edge.specs.Edges.{Edge, is_to}
 use Rattle.nm_edge.specs.declared.edge.Side.{Side}
@@ -129,12 +129,7 @@ looked_read : (s : State) (w x : ℕ) (d : Side) → is_private (of s w) x ≡ f
 unfolding reply learn
 looked_read s w x d out = cond_both (is_private (of s w) x) (look_private (of s w) x (EdgeOn d) (EdgeIs (edge s.memory x d))) (look_known (of s w) x (EdgeOn d) (EdgeIs (edge s.memory x d))) (λ l. read l x d ≡ Some (edge s.memory x d))
     (λ own. absurd (true≢false (sym own ∙ out)))
-    (λ _. read_after (of s w) x d (edge s.memory x d) x d ∙ ap (λ (b : Bool). cond b (Some (edge s.memory x d)) (read (of s w) x d)) (both_true (eqb x x) _ (eq-eqb x x refl) (same_side-refl d)))
-  where
-    both_true : (a b : Bool) → a ≡ true → b ≡ true → (a && b) ≡ true
-    both_true true true i j = refl
-    both_true true false i j = j
-    both_true false b i j = i
+    (λ _. read_after (of s w) x d (edge s.memory x d) x d ∙ ap (λ (b : Bool). cond b (Some (edge s.memory x d)) (read (of s w) x d)) (and_from (eqb x x) _ (eq-eqb x x refl) (same_side-refl d)))
 
 module _ (s : State) (h : ℕ → ℕ) (law : Lawful s h) (w x : ℕ) (f : Field) (ok : Allowed s w (Look x f)) (stays : Stays s.memory (of s w) (of (applied s w (Look x f)) w)) where
   l : Knowledge

@@ -2,7 +2,7 @@
 use Rattle.std.proofs.Common.{◌≡◌, ℕ, Bool, true, false, cond, not, ◌&&◌, refl, sym, ap, subst, ◌∙◌, true≢false}
 use Rattle.std.specs.Prelude.{Option, Some, None, is_some, is_none}
 use Rattle.std.specs.List.{list_any}
-use Rattle.std.proofs.lemmas.Bool.{and_parts, or_parts, not-false}
+use Rattle.std.proofs.lemmas.Bool.{and_parts, or_parts, not-false, not-true}
 use Rattle.std.proofs.lemmas.Option.{same_Some}
 use Rattle.nm_edge.specs.Layouts.{Layout}
 use Rattle.nm_edge.specs.declared.edge.Side.{Side}
@@ -66,10 +66,6 @@ pub record MayLink (S : Search) : Type 0 where
 pub may_link : (K : Layout) (k : Knowledge) (S : Search) (p : ℕ) (d : Side) (leaf new : ℕ) → disorder K k S (Link p d leaf new) ≡ None → MayLink S
 may_link K k S p d leaf new order = by S.call refl (not-false (links_in_order K k S S.call p d leaf new) (passed _ NotOrdered None order).0)
   where
-    no : (b : Bool) → not b ≡ true → b ≡ false
-    no true h = absurd (true≢false (sym h))
-    no false h = refl
-
     by : (o : Option Call) → S.call ≡ o → links_in_order K k S o p d leaf new ≡ true → MayLink S
     by None is t = absurd (true≢false (sym t))
     by (Some call) is t = on call.op refl t
@@ -81,7 +77,7 @@ may_link K k S p d leaf new order = by S.call refl (not-false (links_in_order K 
           call = call;
           is_call = is;
           is_op = i;
-          fresh = no S.linked (and_parts (not S.linked) (is_number (new_leaf k leaf new).key call.key && shows_place K k call.key p d leaf new S.walks) t).0;
+          fresh = not-true S.linked (and_parts (not S.linked) (is_number (new_leaf k leaf new).key call.key && shows_place K k call.key p d leaf new S.walks) t).0;
         }
 
 link_order : (K : Layout) (k : Knowledge) (S : Search) (e : Event) (r : Reply) → disorder K k S e ≡ None → is_won_link (e, r) ≡ true → MayLink S

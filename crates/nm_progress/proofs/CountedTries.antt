@@ -37,16 +37,9 @@ use Rattle.nm_progress.proofs.LostTries.{later_keys, never_lost, look_leaves, st
 use Rattle.nm_progress.proofs.SplicesPaid.{splices_are_paid, splices_are_paid_since}
 use Rattle.nm_progress.proofs.TagsPaid.{tags_are_paid, tags_are_paid_since}
 use Rattle.nm_progress.proofs.SplitTurns.{SplitTurn, split_turn, ordered_after, part_teaches, turn_teaches, none_of_log, turn_in, number_split}
+use Rattle.nm_progress.proofs.Covers.{one_if}
 
 -- ---- one change
-
-or_left : (a b : Bool) → a ≡ true → (a || b) ≡ true
-or_left true b is = refl
-or_left false b is = absurd (true≢false (sym is))
-
-or_right : (a b : Bool) → b ≡ true → (a || b) ≡ true
-or_right true b is = refl
-or_right false b is = is
 
 -- a change of some edge is one of the four kinds
 pub change_is : (x : ℕ) (d : Side) (e : Event) (o : Result Reply Refused) → changes x d e o ≡ true → changes_edge e o ≡ true
@@ -62,9 +55,6 @@ some_change w x v d c ts k =
     let one : cond (changes_of_others w (turn_in (after_in c k.before) k.turn)) 1 0 ≡ 1 = ap one_if (and_from (not (k.turn.0 == w)) _ (ap not (ne_eqb k.turn.0 w k.another)) (change_is x d k.turn.1 (outcome_in (after_in c k.before) k.turn) k.changes)) in
     let all = ap (λ (l : List (ℕ × Event)). number_of (changes_of_others w) (trace_in c l)) k.is_run in
     omega (arith, parts, one, all)
-  where
-    one_if : Bool → ℕ
-    one_if b = cond b 1 0
 
 -- ---- lists
 

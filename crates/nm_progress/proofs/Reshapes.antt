@@ -45,6 +45,7 @@ use Rattle.nm_progress.proofs.EdgeFates.TurnFate.{Refuses, Makes}
 use Rattle.nm_progress.proofs.LostTries.{later_keys}
 use Rattle.nm_progress.proofs.SplitTurns.{SplitTurn, split_turn, number_split, number-append, ordered_after}
 use Rattle.nm_progress.proofs.TagsPaid.{unheld}
+use Rattle.nm_progress.proofs.Covers.{one_if}
 
 abbrev pub is_reshape : Turn → Bool
 is_reshape t = reshapes t.event t.outcome
@@ -168,9 +169,6 @@ none_reshapes : (e : Event) (x : Refused) → reshapes e (Err x) ≡ false
 none_reshapes (Link a b f g) x = refl
 none_reshapes (Splice a b f g h) x = refl
 none_reshapes e x = refl
-
-abbrev one_if : Bool → ℕ
-one_if b = cond b 1 0
 
 -- where a worker's own log links and cuts nothing, and no other does, nobody does
 pub nobody : (w : ℕ) (turns : List Turn) → list_any (λ (e : Entry). reshapes e.0 (Ok e.1)) (log_of w turns) ≡ false → number_of is_reshape turns ≡ number_of (reshapes_of_others w) turns

@@ -342,9 +342,6 @@ module _ (L : Layout) (enough : 5 ≤ L.nodes) (c : Configuration) (t : ℕ × E
           range : (1 ≤ k.0) × (k.0 ≤ c.state.layout.nodes)
           range = law.1.tree.known t.0 k.0 asks.0
 
-          high : 6 ≤ child c.state.memory k.0 (other k.1)
-          high = law.1.tree.flags k.0 (other k.1) live flagged
-
           there : child c.state.memory k.0 k.1 ≢ 0
           there = tag_not_null c.state law.0 law.1 t.0 k.0 k.1 ok.event
 
