@@ -32,12 +32,13 @@ use Rattle.nm_order.specs.Logs.{is_leaver, part_of, known_after, known_by, IsLog
 use Rattle.nm_order.proofs.PartsOfRuns.{logs_tell}
 use Rattle.nm_order.proofs.OrderedLaws.{IsOrdered, ordered_next, each_ordered, law_of_state}
 use Rattle.nm_order.proofs.RunExchanges.{first_keys}
-use Rattle.nm_order.proofs.WalksOfRuns.{trace_in-append, all_before, all_behind}
+use Rattle.nm_order.proofs.WalksOfRuns.{all_before, all_behind}
 use Rattle.nm_order.proofs.PendingLeaves.{each_flagged_leaf_is_pending}
+use Rattle.nm_steps.specs.Rules.{Extends}
 use Rattle.nm_pool.specs.declared.placement.Fit.{Fit}
 use Rattle.nm_steps.specs.Steps.{Stand, IsSamePass, HasSeen}
 use Rattle.nm_calls.specs.PlainWalks.{events_of}
-use Rattle.nm_calls.proofs.PlainLooks.{as_events, events_go_on}
+use Rattle.nm_calls.proofs.PlainLooks.{as_events}
 use Rattle.nm_epoch.specs.Tries.{LostTries, IsPinnedBy}
 use Rattle.nm_walks.specs.declared.making.Fork.{Fork}
 use Rattle.nm_walks.specs.declared.spot.ChainEdge.{ChainEdge}
@@ -68,7 +69,7 @@ use Rattle.nm_busy.specs.Alone.{IsAlone, LookupsAloneAreAnswered, InsertsAloneAr
 use Rattle.nm_busy.specs.Lookups.{WasBusy, WasReshaped}
 use Rattle.nm_busy.specs.Pins.{WasMovedPast}
 use Rattle.nm_busy.specs.Walked.{ManyWereBusy, NearWasBusy}
-use Rattle.nm_busy.proofs.LostPins.{part-append}
+use Rattle.nm_busy.proofs.LostPins.{keys_seen, part_on, part_added}
 use Rattle.nm_busy.proofs.LostLookups.{busy_lookups_were_disturbed}
 use Rattle.nm_busy.proofs.LostWalked.{busy_many_were_disturbed, busy_nexts_were_disturbed, busy_prevs_were_disturbed}
 use Rattle.nm_busy.proofs.Hindered.{Hinders, Ran, ran_on}
@@ -340,23 +341,17 @@ record AloneWalk (L : Layout) (enough : 5 ≤ L.nodes) (w : ℕ) (begun walked :
   is_walk : begun ++ part_of w (trace_in from turns) ≡ walked
 
 module _ (p q : Stand) (seen_p : HasSeen p.view) (seen_q : HasSeen q.view) (enough : 5 ≤ p.view.layout.nodes) (same : IsSamePass p q) (alone : IsAlone p q) (rests : NonePends p.view.layout p.view.past) where
-  number : p.view.number ≡ q.view.number
-  number = sym (ap (λ (s : Stand). s.view.number) same)
-
-  layout : p.view.layout ≡ q.view.layout
-  layout = sym (ap (λ (s : Stand). s.view.layout) same)
+  abbrev goes_on : Extends q.view.past p.view.past
+  goes_on = record { more = alone.turns; is = alone.is }
 
   keys : All (λ t. HasKey t.1) ((events_of p.view.past) ++ (events_of alone.turns))
-  keys = subst (λ (l : List (ℕ × Event)). All (λ t. HasKey t.1) l) (events_go_on q.view.past p.view.past (record { more = alone.turns; is = alone.is })) (as_events q.view seen_q).keys
+  keys = keys_seen p q seen_p seen_q same goes_on
 
   past_keys : All (λ t. HasKey t.1) (events_of p.view.past)
   past_keys = first_keys (events_of p.view.past) (events_of alone.turns) keys
 
-  is_new : part_of p.view.number (trace_in (ordered p.view.layout) ((events_of p.view.past) ++ (events_of alone.turns))) ≡ q.view.log
-  is_new = ap (λ (l : List (ℕ × Event)). part_of p.view.number (trace_in (ordered p.view.layout) l)) (sym (events_go_on q.view.past p.view.past (record { more = alone.turns; is = alone.is }))) ∙ ((λ i. part_of (number i) (trace_in (ordered (layout i)) (events_of q.view.past))) ∙ (as_events q.view seen_q).is_part)
-
   log_q : IsLogOf p.view.layout p.view.number q.view.log
-  log_q = record { worker = seen_p.worker; turns = (events_of p.view.past) ++ (events_of alone.turns); keys = keys; is_part = is_new }
+  log_q = record { worker = seen_p.worker; turns = (events_of p.view.past) ++ (events_of alone.turns); keys = keys; is_part = part_on p q seen_p seen_q same goes_on }
 
   pends_not : NothingIsPending p.view.layout (events_of p.view.past)
   pends_not = nothing_is_pending p.view.layout enough (events_of p.view.past) past_keys (subst (NonePends p.view.layout) (as_events p.view seen_p).are rests)
@@ -367,10 +362,6 @@ module _ (p q : Stand) (seen_p : HasSeen p.view) (seen_q : HasSeen q.view) (enou
   clean : Clean (after_in (ordered p.view.layout) (events_of p.view.past))
   clean y g r = false_from_ne_true _ (λ flag. let n = each_flagged_leaf_is_pending p.view.layout enough (events_of p.view.past) past_keys y g r flag in pends_not n.worker n.key n.flag)
 
-  whole : p.view.log ++ part_of p.view.number (trace_in (after_in (ordered p.view.layout) (events_of p.view.past)) (events_of alone.turns)) ≡ q.view.log
-  whole = ap (λ (l : List Entry). l ++ part_of p.view.number (trace_in (after_in (ordered p.view.layout) (events_of p.view.past)) (events_of alone.turns))) (sym (as_events p.view seen_p).is_part)
-      ∙ (sym (part-append p.view.number (trace_in (ordered p.view.layout) (events_of p.view.past)) (trace_in (after_in (ordered p.view.layout) (events_of p.view.past)) (events_of alone.turns))) ∙ (ap (part_of p.view.number) (sym (trace_in-append (ordered p.view.layout) (events_of p.view.past) (events_of alone.turns))) ∙ is_new))
-
   own_parts : (xs ys : List (ℕ × Event)) → All (λ t. t.0 ≡ p.view.number) (xs ++ ys) → All (λ t. t.0 ≡ p.view.number) xs × All (λ t. t.0 ≡ p.view.number) ys
   own_parts xs ys all = (all_before (λ t. t.0 ≡ p.view.number) xs ys all, all_behind (λ t. t.0 ≡ p.view.number) xs ys all)
 
@@ -378,8 +369,8 @@ module _ (p q : Stand) (seen_p : HasSeen p.view) (seen_q : HasSeen q.view) (enou
   alone_walk begun walked pin walk rest = made (split_part p.view.number pin.entries (after_in (ordered p.view.layout) (events_of p.view.past)) (events_of alone.turns) (walk.entries ++ rest.entries) parts)
     where
       parts : part_of p.view.number (trace_in (after_in (ordered p.view.layout) (events_of p.view.past)) (events_of alone.turns)) ≡ pin.entries ++ (walk.entries ++ rest.entries)
-      parts = append_cancel_left p.view.log _ _ (whole ∙ (rest.are ∙ (ap (λ (l : List Entry). l ++ rest.entries) (walk.are ∙ ap (λ (l : List Entry). l ++ walk.entries) pin.are)
-          ∙ (append_assoc (p.view.log ++ pin.entries) walk.entries rest.entries ∙ append_assoc p.view.log pin.entries (walk.entries ++ rest.entries)))))
+      parts = part_added p q seen_p seen_q same goes_on _ (rest.are ∙ (ap (λ (l : List Entry). l ++ rest.entries) (walk.are ∙ ap (λ (l : List Entry). l ++ walk.entries) pin.are)
+          ∙ (append_assoc (p.view.log ++ pin.entries) walk.entries rest.entries ∙ append_assoc p.view.log pin.entries (walk.entries ++ rest.entries))))
 
       made : SplitPart p.view.number (after_in (ordered p.view.layout) (events_of p.view.past)) (events_of alone.turns) pin.entries (walk.entries ++ rest.entries) → AloneWalk p.view.layout enough p.view.number begun walked
       made s = inner (split_part p.view.number walk.entries (after_in (after_in (ordered p.view.layout) (events_of p.view.past)) s.before) s.since rest.entries s.is_since)

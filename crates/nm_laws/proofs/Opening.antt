@@ -53,29 +53,21 @@ module _ (L : Layout) (enough : 5 ≤ L.nodes) where
   null = each_slot (λ x. (d : Side) → x ≢ 1 → x ≢ 2 → P.edges x d ≡ to 0) (each_side _ (λ a b. refl) (λ a b. refl)) (λ d a b. absurd (a refl)) (λ d a b. absurd (b refl))
       (each_side _ (λ a b. refl) (λ a b. refl)) (each_side _ (λ a b. refl) (λ a b. refl)) (each_side _ (λ a b. refl) (λ a b. refl)) (λ x d a b. edge_six L x d)
 
+  -- what holds of a null edge and of the edges of slots 1 and 2 holds of each
+  each_edge : (Q : Edge → Type 0) → Q (to 0) → ((d : Side) → Q (P.edges 1 d)) → ((d : Side) → Q (P.edges 2 d)) → (x : ℕ) (d : Side) → Q (P.edges x d)
+  each_edge Q none one two (suc zero) d = one d
+  each_edge Q none one two (suc (suc zero)) d = two d
+  each_edge Q none one two zero d = subst Q (sym (null zero d (λ h. absurd (omega arith)) (λ h. absurd (omega arith)))) none
+  each_edge Q none one two (suc (suc (suc x))) d = subst Q (sym (null (suc (suc (suc x))) d (λ h. absurd (omega arith)) (λ h. absurd (omega arith)))) none
+
   pub plain : (x : ℕ) (d : Side) → (P.edges x d).flag ≡ false
-  plain (suc zero) Left = refl
-  plain (suc zero) Right = refl
-  plain (suc (suc zero)) Left = refl
-  plain (suc (suc zero)) Right = refl
-  plain zero d = ap (λ (e : Edge). e.flag) (null zero d (λ h. absurd (omega arith)) (λ h. absurd (omega arith)))
-  plain (suc (suc (suc x))) d = ap (λ (e : Edge). e.flag) (null (suc (suc (suc x))) d (λ h. absurd (omega arith)) (λ h. absurd (omega arith)))
+  plain = each_edge (λ e. e.flag ≡ false) refl (each_side _ refl refl) (each_side _ refl refl)
 
   untagged : (x : ℕ) (d : Side) → (P.edges x d).tag ≡ false
-  untagged (suc zero) Left = refl
-  untagged (suc zero) Right = refl
-  untagged (suc (suc zero)) Left = refl
-  untagged (suc (suc zero)) Right = refl
-  untagged zero d = ap (λ (e : Edge). e.tag) (null zero d (λ h. absurd (omega arith)) (λ h. absurd (omega arith)))
-  untagged (suc (suc (suc x))) d = ap (λ (e : Edge). e.tag) (null (suc (suc (suc x))) d (λ h. absurd (omega arith)) (λ h. absurd (omega arith)))
+  untagged = each_edge (λ e. e.tag ≡ false) refl (each_side _ refl refl) (each_side _ refl refl)
 
   low : (x : ℕ) (d : Side) → below P x d ≤ 5
-  low (suc zero) Left = omega arith
-  low (suc zero) Right = omega arith
-  low (suc (suc zero)) Left = omega arith
-  low (suc (suc zero)) Right = omega arith
-  low zero d = let e = ap (λ (e : Edge). e.slot) (null zero d (λ h. absurd (omega arith)) (λ h. absurd (omega arith))) in omega arith
-  low (suc (suc (suc x))) d = let e = ap (λ (e : Edge). e.slot) (null (suc (suc (suc x))) d (λ h. absurd (omega arith)) (λ h. absurd (omega arith))) in omega arith
+  low = each_edge (λ e. e.slot ≤ 5) (omega arith) (each_side _ (omega arith) (omega arith)) (each_side _ (omega arith) (omega arith))
 
   nothing : (q : List Side) → follow (below P) 0 q ≡ 0
   nothing q = follow_none (below P) (λ d. ap (λ (e : Edge). e.slot) (null 0 d (λ h. absurd (omega arith)) (λ h. absurd (omega arith)))) q

@@ -1,6 +1,6 @@
 -- No event but a splice that is won cuts anything.
 use Rattle.std.proofs.Common.{◌≡◌, ℕ, ◌+◌, ◌<◌, ◌≤◌, eqb, Bool, true, false, cond, ◌&&◌, List, length, refl, sym, ap, ◌∙◌, arith, true≢false}
-use Rattle.std.specs.Prelude.{Option, Some, None, is_some, unwrap_or, nat_lt, Result, Ok, Err}
+use Rattle.std.specs.Prelude.{Option, Some, None, is_some, unwrap_or, nat_lt, Result, Ok}
 use Rattle.std.proofs.lemmas.Bool.{cond_both, cond-true, eqb-true, and_parts, or_parts, false_from_ne_true}
 use Rattle.nm_edge.specs.Edges.{Edge, to, is_to, tagged}
 use Rattle.nm_edge.specs.declared.edge.Side.{Side}
@@ -34,7 +34,7 @@ use Rattle.nm_laws.proofs.Changes.{Change, changed}
 use Rattle.nm_laws.proofs.Changes.Change.{Keeps, Labels, Cuts, Frees}
 use Rattle.nm_laws.proofs.Lawful.JoinOrNot.{IsJoin, IsNone}
 use Rattle.nm_laws.proofs.Lawful.{JoinOrNot, join_or_not, IsLawful, lawful}
-use Rattle.nm_laws.proofs.Outcomes.{same_reply}
+use Rattle.nm_laws.proofs.Outcomes.{same_reply, no_reply}
 
 same_slots : (m n : Memory) → ((x : ℕ) (d : Side) → (edge n x d).slot ≡ (edge m x d).slot) → (y : ℕ) → Reached m y → Reached n y
 same_slots m n same y r = record { path = r.path; ends = same_follow _ _ same 1 r.path ∙ r.ends; is_slot = r.is_slot }
@@ -160,9 +160,6 @@ cut_is_splice : (s : State) (t : ℕ × Event) (ns : List NodeId) → outcome s 
 unfolding outcome
 cut_is_splice s t ns is = go (refused s t.0 t.1) refl is
   where
-    differ : (r : Refused) → ◌≡◌ {A = Result Reply Refused} (Err r) (Ok (Cut ns)) → ⊥
-    differ r e = cc
-
     by : (k : Knowledge) → reply_of s t.0 t.1 ≡ Cut ns → Change s t.0 t.1 (reply_of s t.0 t.1) k → (a : ℕ) × (side : Side) × (successor : ℕ) × (parent : ℕ) × (keep : Side) × (t.1 ≡ Splice a side successor parent keep)
     by k r (Keeps _ _ un _) = absurd (un ns r)
     by k r (Labels _ _ q) = absurd (no (sym q ∙ r))
@@ -182,7 +179,7 @@ cut_is_splice s t ns is = go (refused s t.0 t.1) refl is
         no e = cc
 
     go : (o : Option Refused) → refused s t.0 t.1 ≡ o → ◌≡◌ {A = Result Reply Refused} (answered o (reply_of s t.0 t.1)) (Ok (Cut ns)) → (a : ℕ) × (side : Side) × (successor : ℕ) × (parent : ℕ) × (keep : Side) × (t.1 ≡ Splice a side successor parent keep)
-    go (Some r) i is = absurd (differ r is)
+    go (Some r) i is = absurd (no_reply r (Cut ns) is)
     go None i is = on (join_or_not t.1)
       where
         on : JoinOrNot t.1 → (a : ℕ) × (side : Side) × (successor : ℕ) × (parent : ℕ) × (keep : Side) × (t.1 ≡ Splice a side successor parent keep)

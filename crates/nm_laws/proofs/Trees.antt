@@ -64,6 +64,11 @@ pub append_cancel : (p q r : List Side) → p ++ q ≡ p ++ r → q ≡ r
 append_cancel [] q r h = h
 append_cancel (d ∷ p) q r h = append_cancel p q r (cc)
 
+-- no path goes on from its end to itself
+pub no_longer : (d : Side) (p q : List Side) → p ≡ p ++ d ∷ q → ⊥
+no_longer d [] q h = cc
+no_longer d (e ∷ p) q h = no_longer d p q (cc)
+
 -- ---- what is left of a path after it first takes the edge (p, d)
 
 abbrev pub rest_after : Children → ℕ → Side → ℕ → List Side → Option (List Side)

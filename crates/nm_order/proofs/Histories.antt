@@ -25,7 +25,7 @@ use Rattle.nm_model.specs.Searches.{Search, searched}
 use Rattle.nm_model.specs.Walks.{Entry, SearchGrows, begins_anew}
 use Rattle.nm_model.specs.Ordered.{Configuration, ordered, search_of, disorder, shows, has_removed, ended_at, ended_beside, ended_elsewhere, next_in, outcome_in, after_in}
 use Rattle.nm_laws.proofs.SearchesGrow.{only_grow}
-use Rattle.nm_laws.proofs.Outcomes.{same_reply}
+use Rattle.nm_laws.proofs.Outcomes.{same_reply, no_reply}
 use Rattle.nm_order.specs.Intervals.{HasKey, IsCalled, Gains, Marks, key}
 use Rattle.nm_order.specs.Exchanges.{MayAnswer, is_won_link}
 use Rattle.nm_order.specs.Legal.{changes, WasLegal}
@@ -539,11 +539,8 @@ module _ (L : Layout) (enough : 5 ≤ L.nodes) (ts : List (ℕ × Event)) (t : �
   made_by : Made
   made_by = go (outcome_in c t) refl
     where
-      refuses : (q : Refused) (r : Reply) → ◌≡◌ {A = Result Reply Refused} (Err q) (Ok r) → ⊥
-      refuses q r e = cc
-
       go : (q : Result Reply Refused) → outcome_in c t ≡ q → Made
-      go (Err q) is = made_none (λ r told. absurd (refuses q r (sym is ∙ told))) (λ ns cut. refuses q (Cut ns) (sym is ∙ cut))
+      go (Err q) is = made_none (λ r told. absurd (no_reply q r (sym is ∙ told))) (λ ns cut. no_reply q (Cut ns) (sym is ∙ cut))
       go (Ok r) is = by (is_won_link (t.1, r)) refl (is_cut r) refl
         where
           by : (a : Bool) → is_won_link (t.1, r) ≡ a → (b : Bool) → is_cut r ≡ b → Made
@@ -606,10 +603,7 @@ module _ (L : Layout) (enough : 5 ≤ L.nodes) (ts : List (ℕ × Event)) (t : �
             where
               on : (b : Bool) → changes call.op answer ≡ b → (q : Result Reply Refused) → outcome_in c t ≡ q → QuietAnswer ⊎ (QuietAnswer → ⊥)
               on true changing q out = inr (λ x. true≢false (sym changing ∙ ((λ i. changes (same_op t.0 call.op x.op call.key x.k called (is_own_call c t.0 x.op x.k x.may.called) i) (sym (same_answer x.answer x.is) i)) ∙ x.plain)))
-              on false plain (Err q) out = inr (λ x. refuses q Departed (sym out ∙ (ap (outcome_in c) x.is ∙ x.may.leaves)))
-                where
-                  refuses : (q : Refused) (r : Reply) → ◌≡◌ {A = Result Reply Refused} (Err q) (Ok r) → ⊥
-                  refuses q r e = cc
+              on false plain (Err q) out = inr (λ x. no_reply q Departed (sym out ∙ (ap (outcome_in c) x.is ∙ x.may.leaves)))
               on false plain (Ok r) out = inl (record {
                 op = call.op;
                 k = call.key;

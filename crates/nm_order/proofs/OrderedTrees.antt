@@ -1,6 +1,6 @@
 -- Trees in order: each node's key lies in its interval, and searches from a slot that a search has
 -- come to. Both outlast a splice and a link.
-use Rattle.std.proofs.Common.{◌≡◌, ◌≢◌, ℕ, inl, inr, ◌⊎◌, eqb, Bool, true, false, ◌&&◌, List, [], ◌∷◌, ◌++◌, append-nil, append_assoc, refl, sym, ap, subst, ◌∙◌}
+use Rattle.std.proofs.Common.{◌≡◌, ◌≢◌, ℕ, inl, inr, ◌⊎◌, eqb, Bool, true, false, ◌&&◌, List, [], ◌∷◌, ◌++◌, append_assoc, refl, sym, ap, subst, ◌∙◌}
 use Rattle.std.specs.Prelude.{Option, Some, None}
 use Rattle.std.proofs.lemmas.Bool.{eqb-true, and_parts, ne_eqb, and_left}
 use Rattle.nm_edge.specs.Edges.{other}
@@ -9,7 +9,7 @@ use Rattle.nm_edge.specs.declared.edge.Side.TheVariants.{Left, Right}
 use Rattle.nm_model.specs.Paths.{follow}
 use Rattle.nm_model.specs.Searches.{side_of}
 use Rattle.nm_order.specs.Intervals.{GoesBy}
-use Rattle.nm_laws.proofs.Trees.{Children, Exchanged, rest_after, same_side, follow_none, follow-append, not_taken, taken, Taken, append_cancel}
+use Rattle.nm_laws.proofs.Trees.{Children, Exchanged, rest_after, same_side, follow_none, follow-append, not_taken, taken, Taken, no_longer}
 use Rattle.nm_laws.proofs.CutPaths.{Splicing, not_back, straight, new_down, old_path, led, still_alone}
 use Rattle.nm_order.proofs.Searching.{Keys, goes-append, goes_first, goes_on, goes_still, went_still, GoesOver, goes_over, on_way, Apart, apart_follow, apart_goes, apart_went}
 
@@ -137,14 +137,8 @@ module _ (c c' : Children) (v : Keys) (p : ℕ) (d : Side) (leaf new far : ℕ) 
   pub down : (u : List Side) → follow c 1 (l.graft.front ++ d ∷ u) ≡ follow c leaf u
   down u = follow-append c 1 l.graft.front (d ∷ u) ∙ ap (λ (y : ℕ). follow c y u) (ap (λ (y : ℕ). c y d) l.graft.at_front ∙ l.graft.leads)
 
-  longer : (q u : List Side) → q ≡ q ++ d ∷ u → ⊥
-  longer q u h = nil (append_cancel q [] (d ∷ u) (append-nil q ∙ h))
-    where
-      nil : [] ≡ d ∷ u → ⊥
-      nil h = cc
-
   pub never_back : (u : List Side) → follow c leaf u ≡ p → ⊥
-  never_back u h = longer l.graft.front u (l.graft.alone l.graft.front (l.graft.front ++ d ∷ u) (λ z. l.graft.is_slot (sym l.graft.at_front ∙ z)) (l.graft.at_front ∙ sym (down u ∙ h)))
+  never_back u h = no_longer d l.graft.front u (l.graft.alone l.graft.front (l.graft.front ++ d ∷ u) (λ z. l.graft.is_slot (sym l.graft.at_front ∙ z)) (l.graft.at_front ∙ sym (down u ∙ h)))
 
   below_straight : (u : List Side) → rest_after c p d leaf u ≡ None
   below_straight u = go (rest_after c p d leaf u) refl
@@ -174,7 +168,7 @@ module _ (c c' : Children) (v : Keys) (p : ℕ) (d : Side) (leaf new far : ℕ) 
       go (Some r) h =
           let t = taken c c' p d new l.graft.exchanged 1 l.graft.front r h in
           let same : l.graft.front ≡ t.front = front_is_it t.front t.comes in
-          absurd (longer l.graft.front r (t.is ∙ ap (λ (y : List Side). y ++ d ∷ r) (sym same)))
+          absurd (no_longer d l.graft.front r (t.is ∙ ap (λ (y : List Side). y ++ d ∷ r) (sym same)))
 
   at_p : follow c' 1 l.graft.front ≡ p
   at_p = not_taken c c' p d new l.graft.exchanged 1 l.graft.front straight_to ∙ l.graft.at_front

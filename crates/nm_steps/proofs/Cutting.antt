@@ -3,6 +3,7 @@ use Rattle.std.proofs.Common.{◌≡◌, ◌≢◌, ℕ, zero, suc, ◌+◌, ◌
 use Rattle.std.specs.List.{count_by}
 use Rattle.std.proofs.lemmas.List.Sums.{sum_by-cons, sum_by-append}
 use Rattle.std.proofs.lemmas.Bool.Decides.{nat_tests}
+use Rattle.std.proofs.lemmas.Bool.{or_right}
 use mathlib.Core.Option.{some, some-injective, some-ne-none}
 use lib.ListN.{get_elem?}
 use Rattle.atomic_table.specs.Table.{State, Splits, Joins, opening, Final, Seen}
@@ -255,11 +256,7 @@ module _ (L : Layout) (id : ℕ) (v : View) (other : ℕ) (w : View) (alive : v.
   heirs_part = ap (part_of v.number) trace_is ∙ part_grows v.number before v.number (Join w.number) reply (ap (λ (b : Bool). b || eqb w.number v.number) (eq-eqb v.number v.number refl))
 
   leavers_part : part_of w.number (trace_in (ordered L) more) ≡ part_of w.number before ++ passing w ∷ []
-  leavers_part = ap (part_of w.number) trace_is ∙ part_grows w.number before v.number (Join w.number) reply (ap (λ (b : Bool). eqb v.number w.number || b) (eq-eqb w.number w.number refl) ∙ or_true (eqb v.number w.number))
-    where
-      or_true : (b : Bool) → (b || true) ≡ true
-      or_true true = refl
-      or_true false = refl
+  leavers_part = ap (part_of w.number) trace_is ∙ part_grows w.number before v.number (Join w.number) reply (ap (λ (b : Bool). eqb v.number w.number || b) (eq-eqb w.number w.number refl) ∙ or_right (eqb v.number w.number) true refl)
 
   others_part : (u : ℕ) → eqb v.number u ≡ false → eqb w.number u ≡ false → part_of u (trace_in (ordered L) more) ≡ part_of u before
   others_part u p q = ap (part_of u) trace_is ∙ part_stays u before v.number (Join w.number) reply (λ i. p i || q i)
