@@ -24,7 +24,7 @@ use Rattle.nm_model.proofs.Numbers.{repeated}
 use Rattle.nm_laws.proofs.Steps.{Allowed}
 use Rattle.nm_laws.proofs.SearchesGrow.{only_grow}
 use Rattle.nm_laws.proofs.TreeSteps.{Lawful, flag_checked}
-use Rattle.nm_order.specs.Intervals.{HasKey, Marks, key}
+use Rattle.nm_order.specs.Intervals.{HasKey, Marks}
 use Rattle.nm_order.proofs.OrderedChanges.{off_known}
 use Rattle.nm_order.proofs.OrderedSteps.{OrderLaw}
 use Rattle.nm_order.proofs.OrderedMoments.{lasting, lasting_stays}

@@ -27,7 +27,7 @@ use Rattle.nm_model.specs.Runs.{State, of, reply_of}
 use Rattle.nm_model.specs.Searches.{side_of, is_side, turns, is_by, is_first, goes_on, new_arrival, with_arrival, keyed, ended, walked}
 use Rattle.nm_order.specs.Intervals.{GoesBy, key}
 use Rattle.nm_model.proofs.Lists.{any_at, mapped_at, more_at}
-use Rattle.nm_laws.proofs.Steps.{Allowed, second}
+use Rattle.nm_laws.proofs.Steps.{Allowed}
 use Rattle.nm_laws.proofs.KnownBirths.{SameNode, written_same}
 use Rattle.nm_laws.proofs.Trees.{Exchanged, same_side, same_side-true}
 use Rattle.nm_laws.proofs.CutPaths.{straight}
