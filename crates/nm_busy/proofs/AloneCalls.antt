@@ -4,7 +4,6 @@ use Rattle.std.specs.Prelude.{Option, Result, Ok, Err, All}
 use Rattle.std.specs.List.{list_any}
 use Rattle.std.proofs.lemmas.Bool.{or_parts, eq-eqb, false_from_ne_true, and_from}
 use Rattle.std.proofs.lemmas.List.{append-nil, append_cancel_left}
-use Rattle.std.proofs.lemmas.List.Folds.{list_any-append}
 use Rattle.nm_edge.specs.Edges.{Edge, other}
 use Rattle.nm_edge.specs.Layouts.{Layout}
 use Rattle.nm_edge.specs.declared.edge.Side.{Side}
@@ -33,12 +32,13 @@ use Rattle.nm_order.specs.Logs.{is_leaver, part_of, known_after, known_by, IsLog
 use Rattle.nm_order.proofs.PartsOfRuns.{logs_tell}
 use Rattle.nm_order.proofs.OrderedLaws.{IsOrdered, ordered_next, each_ordered, law_of_state}
 use Rattle.nm_order.proofs.RunExchanges.{first_keys}
-use Rattle.nm_order.proofs.WalksOfRuns.{trace_in-append, all_before, all_behind}
+use Rattle.nm_order.proofs.WalksOfRuns.{all_before, all_behind}
 use Rattle.nm_order.proofs.PendingLeaves.{each_flagged_leaf_is_pending}
+use Rattle.nm_steps.specs.Rules.{Extends}
 use Rattle.nm_pool.specs.declared.placement.Fit.{Fit}
 use Rattle.nm_steps.specs.Steps.{Stand, IsSamePass, HasSeen}
 use Rattle.nm_calls.specs.PlainWalks.{events_of}
-use Rattle.nm_calls.proofs.PlainLooks.{as_events, events_go_on}
+use Rattle.nm_calls.proofs.PlainLooks.{as_events}
 use Rattle.nm_epoch.specs.Tries.{LostTries, IsPinnedBy}
 use Rattle.nm_walks.specs.declared.making.Fork.{Fork}
 use Rattle.nm_walks.specs.declared.spot.ChainEdge.{ChainEdge}
@@ -55,12 +55,13 @@ use Rattle.nm_progress.specs.Moves.{number_of, moves, moves_of_others}
 use Rattle.nm_progress.specs.Paid.{links_on, flags_on, cuts_on, tags_on}
 use Rattle.nm_progress.specs.Tries.{changes_edge, hinders, losing, reshapes_of_others}
 use Rattle.nm_progress.proofs.LostTries.{later_keys}
-use Rattle.nm_progress.proofs.MoreTries.{is_loud, Plain, plain_these, plain_then, log_prefix}
+use Rattle.nm_progress.proofs.MoreTries.{is_loud, Plain, plain_these, plain_then, log_prefix, AddsNone, adds_these, adds_then, none_within}
 use Rattle.nm_progress.proofs.Reshapes.{is_reshape, calm_turns}
 use Rattle.nm_progress.proofs.SplicesPaid.{FlagOrigin, flag_origin}
 use Rattle.nm_progress.proofs.SplicesPaid.FlagOrigin.{Before, Now}
 use Rattle.nm_progress.proofs.SplitTurns.{SplitTurn, split_turn, ordered_after, part_teaches, number_split}
 use Rattle.nm_progress.proofs.CountedTries.{known_longer}
+use Rattle.nm_progress.proofs.Covers.{one_if}
 use Rattle.nm_order.specs.Totals.{NothingIsPending}
 use Rattle.nm_busy.specs.Pending.{NonePends}
 use Rattle.nm_busy.proofs.PendingTurns.{nothing_is_pending}
@@ -68,7 +69,7 @@ use Rattle.nm_busy.specs.Alone.{IsAlone, LookupsAloneAreAnswered, InsertsAloneAr
 use Rattle.nm_busy.specs.Lookups.{WasBusy, WasReshaped}
 use Rattle.nm_busy.specs.Pins.{WasMovedPast}
 use Rattle.nm_busy.specs.Walked.{ManyWereBusy, NearWasBusy}
-use Rattle.nm_busy.proofs.LostPins.{part-append}
+use Rattle.nm_busy.proofs.LostPins.{keys_seen, part_on, part_added}
 use Rattle.nm_busy.proofs.LostLookups.{busy_lookups_were_disturbed}
 use Rattle.nm_busy.proofs.LostWalked.{busy_many_were_disturbed, busy_nexts_were_disturbed, busy_prevs_were_disturbed}
 use Rattle.nm_busy.proofs.Hindered.{Hinders, Ran, ran_on}
@@ -83,9 +84,6 @@ use Rattle.nm_busy.proofs.Astray.{SplitPart, split_part, walk_plain, OnPath, wal
 none_own : (b : Bool) (x : Bool) → b ≡ true → (not b && x) ≡ false
 none_own true x is = refl
 none_own false x is = absurd (true≢false (sym is))
-
-abbrev one_if : Bool → ℕ
-one_if b = cond b 1 0
 
 -- of such turns none is of another
 own_none : (w : ℕ) (is_such : Turn → Bool) (ts : List Turn) → All (λ t. t.worker ≡ w) ts → number_of (λ t. not (t.worker == w) && is_such t) ts ≡ 0
@@ -152,26 +150,16 @@ abbrev is_edge_change : Entry → Bool
 is_edge_change e = changes_edge e.0 (Ok e.1)
 
 quiet_mute : (es : List Entry) → list_any is_loud es ≡ false → list_any is_edge_change es ≡ false
-quiet_mute [] quiet = refl
-quiet_mute (e ∷ es) quiet = by (or_parts (is_loud e) (list_any is_loud es) quiet) (quiet_mute es)
-  where
-    by : (is_loud e ≡ false) × (list_any is_loud es ≡ false) → (list_any is_loud es ≡ false → list_any is_edge_change es ≡ false) → list_any is_edge_change (e ∷ es) ≡ false
-    by parts rest = ap (λ (b : Bool). b || list_any is_edge_change es) (or_parts (begins_anew e) (changes_edge e.0 (Ok e.1)) parts.0).1 ∙ rest parts.1
+quiet_mute = none_within is_loud is_edge_change (λ e quiet. (or_parts (begins_anew e) (changes_edge e.0 (Ok e.1)) quiet).1)
 
-record Mute (old new : List Entry) : Type 0 where
-  entries : List Entry
-  are : new ≡ old ++ entries
-  mute : list_any is_edge_change entries ≡ false
+abbrev Mute : List Entry → List Entry → Type 0
+Mute = AddsNone is_edge_change
 
 mute_these : (more old new : List Entry) → list_any is_edge_change more ≡ false → new ≡ old ++ more → Mute old new
-mute_these more old new mute is = record { entries = more; are = is; mute = mute }
+mute_these = adds_these is_edge_change
 
 mute_then : (old mid new : List Entry) → Mute old mid → Mute mid new → Mute old new
-mute_then old mid new a b = record {
-  entries = a.entries ++ b.entries;
-  are = b.are ∙ (ap (λ (l : List Entry). l ++ b.entries) a.are ∙ append_assoc old a.entries b.entries);
-  mute = list_any-append is_edge_change a.entries b.entries ∙ (ap (λ (x : Bool). x || list_any is_edge_change b.entries) a.mute ∙ b.mute);
-}
+mute_then = adds_then is_edge_change
 
 pins_mute : (op : Op) (k n : ℕ) (old new : List Entry) → LostTries (SightFor op k) n old new → Mute old new
 pins_mute op k zero old new is = mute_these [] old new refl (is ∙ sym (append-nil old))
@@ -353,23 +341,17 @@ record AloneWalk (L : Layout) (enough : 5 ≤ L.nodes) (w : ℕ) (begun walked :
   is_walk : begun ++ part_of w (trace_in from turns) ≡ walked
 
 module _ (p q : Stand) (seen_p : HasSeen p.view) (seen_q : HasSeen q.view) (enough : 5 ≤ p.view.layout.nodes) (same : IsSamePass p q) (alone : IsAlone p q) (rests : NonePends p.view.layout p.view.past) where
-  number : p.view.number ≡ q.view.number
-  number = sym (ap (λ (s : Stand). s.view.number) same)
-
-  layout : p.view.layout ≡ q.view.layout
-  layout = sym (ap (λ (s : Stand). s.view.layout) same)
+  abbrev goes_on : Extends q.view.past p.view.past
+  goes_on = record { more = alone.turns; is = alone.is }
 
   keys : All (λ t. HasKey t.1) ((events_of p.view.past) ++ (events_of alone.turns))
-  keys = subst (λ (l : List (ℕ × Event)). All (λ t. HasKey t.1) l) (events_go_on q.view.past p.view.past (record { more = alone.turns; is = alone.is })) (as_events q.view seen_q).keys
+  keys = keys_seen p q seen_p seen_q same goes_on
 
   past_keys : All (λ t. HasKey t.1) (events_of p.view.past)
   past_keys = first_keys (events_of p.view.past) (events_of alone.turns) keys
 
-  is_new : part_of p.view.number (trace_in (ordered p.view.layout) ((events_of p.view.past) ++ (events_of alone.turns))) ≡ q.view.log
-  is_new = ap (λ (l : List (ℕ × Event)). part_of p.view.number (trace_in (ordered p.view.layout) l)) (sym (events_go_on q.view.past p.view.past (record { more = alone.turns; is = alone.is }))) ∙ ((λ i. part_of (number i) (trace_in (ordered (layout i)) (events_of q.view.past))) ∙ (as_events q.view seen_q).is_part)
-
   log_q : IsLogOf p.view.layout p.view.number q.view.log
-  log_q = record { worker = seen_p.worker; turns = (events_of p.view.past) ++ (events_of alone.turns); keys = keys; is_part = is_new }
+  log_q = record { worker = seen_p.worker; turns = (events_of p.view.past) ++ (events_of alone.turns); keys = keys; is_part = part_on p q seen_p seen_q same goes_on }
 
   pends_not : NothingIsPending p.view.layout (events_of p.view.past)
   pends_not = nothing_is_pending p.view.layout enough (events_of p.view.past) past_keys (subst (NonePends p.view.layout) (as_events p.view seen_p).are rests)
@@ -380,10 +362,6 @@ module _ (p q : Stand) (seen_p : HasSeen p.view) (seen_q : HasSeen q.view) (enou
   clean : Clean (after_in (ordered p.view.layout) (events_of p.view.past))
   clean y g r = false_from_ne_true _ (λ flag. let n = each_flagged_leaf_is_pending p.view.layout enough (events_of p.view.past) past_keys y g r flag in pends_not n.worker n.key n.flag)
 
-  whole : p.view.log ++ part_of p.view.number (trace_in (after_in (ordered p.view.layout) (events_of p.view.past)) (events_of alone.turns)) ≡ q.view.log
-  whole = ap (λ (l : List Entry). l ++ part_of p.view.number (trace_in (after_in (ordered p.view.layout) (events_of p.view.past)) (events_of alone.turns))) (sym (as_events p.view seen_p).is_part)
-      ∙ (sym (part-append p.view.number (trace_in (ordered p.view.layout) (events_of p.view.past)) (trace_in (after_in (ordered p.view.layout) (events_of p.view.past)) (events_of alone.turns))) ∙ (ap (part_of p.view.number) (sym (trace_in-append (ordered p.view.layout) (events_of p.view.past) (events_of alone.turns))) ∙ is_new))
-
   own_parts : (xs ys : List (ℕ × Event)) → All (λ t. t.0 ≡ p.view.number) (xs ++ ys) → All (λ t. t.0 ≡ p.view.number) xs × All (λ t. t.0 ≡ p.view.number) ys
   own_parts xs ys all = (all_before (λ t. t.0 ≡ p.view.number) xs ys all, all_behind (λ t. t.0 ≡ p.view.number) xs ys all)
 
@@ -391,8 +369,8 @@ module _ (p q : Stand) (seen_p : HasSeen p.view) (seen_q : HasSeen q.view) (enou
   alone_walk begun walked pin walk rest = made (split_part p.view.number pin.entries (after_in (ordered p.view.layout) (events_of p.view.past)) (events_of alone.turns) (walk.entries ++ rest.entries) parts)
     where
       parts : part_of p.view.number (trace_in (after_in (ordered p.view.layout) (events_of p.view.past)) (events_of alone.turns)) ≡ pin.entries ++ (walk.entries ++ rest.entries)
-      parts = append_cancel_left p.view.log _ _ (whole ∙ (rest.are ∙ (ap (λ (l : List Entry). l ++ rest.entries) (walk.are ∙ ap (λ (l : List Entry). l ++ walk.entries) pin.are)
-          ∙ (append_assoc (p.view.log ++ pin.entries) walk.entries rest.entries ∙ append_assoc p.view.log pin.entries (walk.entries ++ rest.entries)))))
+      parts = part_added p q seen_p seen_q same goes_on _ (rest.are ∙ (ap (λ (l : List Entry). l ++ rest.entries) (walk.are ∙ ap (λ (l : List Entry). l ++ walk.entries) pin.are)
+          ∙ (append_assoc (p.view.log ++ pin.entries) walk.entries rest.entries ∙ append_assoc p.view.log pin.entries (walk.entries ++ rest.entries))))
 
       made : SplitPart p.view.number (after_in (ordered p.view.layout) (events_of p.view.past)) (events_of alone.turns) pin.entries (walk.entries ++ rest.entries) → AloneWalk p.view.layout enough p.view.number begun walked
       made s = inner (split_part p.view.number walk.entries (after_in (after_in (ordered p.view.layout) (events_of p.view.past)) s.before) s.since rest.entries s.is_since)
@@ -407,7 +385,7 @@ module _ (p q : Stand) (seen_p : HasSeen p.view) (seen_q : HasSeen q.view) (enou
           first = first_keys s.before s.since more_keys
 
           known : of (after_in (after_in (ordered p.view.layout) (events_of p.view.past)) s.before).state p.view.number ≡ known_by p.view.layout p.view.number begun
-          known = part_teaches p.view.number p.view.layout enough s.before first (after_in (ordered p.view.layout) (events_of p.view.past)) o ∙ (ap (known_after p.view.number (of (after_in (ordered p.view.layout) (events_of p.view.past)).state p.view.number)) s.is_before
+          known = part_teaches p.view.number p.view.layout enough s.before (after_in (ordered p.view.layout) (events_of p.view.past)) o ∙ (ap (known_after p.view.number (of (after_in (ordered p.view.layout) (events_of p.view.past)).state p.view.number)) s.is_before
               ∙ (ap (λ (k : Knowledge). known_after p.view.number k pin.entries) (logs_tell p.view.layout (events_of p.view.past) p.view.number seen_p.worker ∙ ap (known_by p.view.layout p.view.number) (as_events p.view seen_p).is_part)
               ∙ (sym (known_longer p.view.number _ p.view.log pin.entries) ∙ ap (known_by p.view.layout p.view.number) (sym pin.are))))
 
@@ -415,7 +393,7 @@ module _ (p q : Stand) (seen_p : HasSeen p.view) (seen_q : HasSeen q.view) (enou
           inner r = record {
             from = after_in (after_in (ordered p.view.layout) (events_of p.view.past)) s.before;
             is_ordered = ordered_after p.view.number p.view.layout enough s.before first (after_in (ordered p.view.layout) (events_of p.view.past)) o;
-            is_clean = clean_turns p.view.layout enough s.before first (after_in (ordered p.view.layout) (events_of p.view.past)) o (mute_turns p.view.number (after_in (ordered p.view.layout) (events_of p.view.past)) s.before own.0 (ap (list_any is_edge_change) s.is_before ∙ pin.mute)) clean;
+            is_clean = clean_turns p.view.layout enough s.before first (after_in (ordered p.view.layout) (events_of p.view.past)) o (mute_turns p.view.number (after_in (ordered p.view.layout) (events_of p.view.past)) s.before own.0 (ap (list_any is_edge_change) s.is_before ∙ pin.quiet)) clean;
             knows = known;
             ran = subst (λ (l : List Entry). Ran p.view.layout enough p.view.number l (after_in (after_in (ordered p.view.layout) (events_of p.view.past)) s.before)) (sym pin.are) (ran_on p.view.layout enough p.view.number p.view.log pin.entries (after_in (ordered p.view.layout) (events_of p.view.past)) (record { past = events_of p.view.past; keys = past_keys; is = refl; is_part = (as_events p.view seen_p).is_part }) s.before first s.is_before);
             turns = r.before;

@@ -1,7 +1,7 @@
 -- A walk that comes by 64 tagged edges, one behind the other, was led astray: in a tree that stays
 -- so many deletes of other workers would be pending.
 use Rattle.std.proofs.Common.{◌≡◌, ◌≢◌, ℕ, zero, suc, ◌<◌, ◌≤◌, Bool, true, false, cond, List, length, [], ◌∷◌, ◌++◌, append_assoc, refl, sym, ap, subst, ◌∙◌, arith}
-use Rattle.std.specs.Prelude.{Option, Some, None, Result, Ok, Err, All, unwrap_or}
+use Rattle.std.specs.Prelude.{Option, Some, All, unwrap_or}
 use Rattle.std.proofs.lemmas.Bool.{ne_eqb}
 use Rattle.std.proofs.lemmas.List.{append-nil, append_cancel_left, length-append}
 use Rattle.std.proofs.lemmas.List.Elements.{All-append}
@@ -13,26 +13,21 @@ use Rattle.nm_edge.specs.declared.edge.Side.TheVariants.{Left, Right}
 use Rattle.nm_edge.specs.declared.node.NodeId.{NodeId}
 use Rattle.nm_model.specs.declared.arrivals.Call.{Call}
 use Rattle.nm_model.specs.declared.event.Event.{Event}
-use Rattle.nm_model.specs.declared.event.Event.TheVariants.{Look, Flag}
+use Rattle.nm_model.specs.declared.event.Event.TheVariants.{Look}
 use Rattle.nm_model.specs.declared.event.Field.TheVariants.{Key as KeyOf, Edge as EdgeOn}
 use Rattle.nm_model.specs.declared.reply.Reply.TheVariants.{KeyIs, EdgeIs}
-use Rattle.nm_model.specs.declared.reply.Reply.{Reply}
-use Rattle.nm_model.specs.declared.reply.Refused.{Refused}
 use Rattle.nm_model.specs.Memory.{edge, child, named, infinity_1, infinity_2}
-use Rattle.nm_model.specs.Ordered.{Configuration, ordered, search_of, refused_in, after_in, trace_in}
+use Rattle.nm_model.specs.Ordered.{Configuration, ordered, search_of, after_in, trace_in}
 use Rattle.nm_model.specs.Paths.{follow, Reached}
 use Rattle.nm_model.specs.Knowledge.{knows}
-use Rattle.nm_model.specs.Runs.{State, of}
+use Rattle.nm_model.specs.Runs.{of}
 use Rattle.nm_model.specs.Searches.{Search, idle, side_of}
 use Rattle.nm_model.specs.Walks.{Entry, search_after}
-use Rattle.nm_laws.proofs.Configurations.{refused_outcome, allowed_by_state, after_in-append}
-use Rattle.nm_laws.proofs.Retired.{layout_after}
-use Rattle.nm_laws.proofs.Steps.{allowed}
+use Rattle.nm_laws.proofs.Configurations.{after_in-append}
 use Rattle.nm_laws.proofs.Pictures.{IsLive, alone, reached_live}
 use Rattle.nm_laws.proofs.Trees.{follow-append, follow_none, append_cancel}
 use Rattle.nm_laws.proofs.TreeSteps.{Lawful}
 use Rattle.nm_laws.proofs.Views.{picture}
-use Rattle.nm_order.specs.Exchanges.{HasFlagged}
 use Rattle.nm_order.specs.Intervals.{HasKey, GoesBy, key}
 use Rattle.nm_order.specs.Logs.{part_of}
 use Rattle.nm_order.specs.Pending.{IsOfOneDelete}
@@ -44,9 +39,10 @@ use Rattle.nm_order.proofs.OrderedMoments.{Lasting, call_walks}
 use Rattle.nm_order.proofs.OwnTurns.{own_search}
 use Rattle.nm_order.proofs.PendingLeaves.{each_flagged_leaf_is_pending, flag_noted}
 use Rattle.nm_order.proofs.RadixTrees.{left_if}
-use Rattle.nm_order.proofs.RunExchanges.{first_keys}
 use Rattle.nm_order.proofs.Searching.{goes-append, goes_first, goes_on}
 use Rattle.nm_order.proofs.WalksOfRuns.{trace_in-append}
+use Rattle.nm_order.proofs.FrozenChains.{Within, Apart, Distinct, few}
+use Rattle.nm_order.proofs.NothingPends.{flagger}
 use Rattle.nm_walks.specs.declared.looking.Onward.{Onward}
 use Rattle.nm_walks.specs.declared.spot.ChainEdge.{ChainEdge}
 use Rattle.nm_walks.specs.declared.spot.Spot.{Spot}
@@ -54,7 +50,7 @@ use Rattle.nm_walks.specs.Bounds.{chain_bound}
 use Rattle.nm_walks.specs.Walks.{onto, chained, Walks, IsTooDeep}
 use Rattle.nm_progress.specs.Moves.{number_of}
 use Rattle.nm_progress.proofs.MoreTries.{Plain, plain_then}
-use Rattle.nm_progress.proofs.Reshapes.{is_reshape, StaysThere, calm_turns, look_there, tag_there, Within, Apart, Distinct, few}
+use Rattle.nm_progress.proofs.Reshapes.{is_reshape, StaysThere, calm_turns, look_there, tag_there}
 use Rattle.nm_progress.proofs.SplitTurns.{ordered_after}
 use Rattle.nm_busy.proofs.Astray.{OnPath, IsRead, walk_path, walk_plain, behind_read, read_there}
 use Rattle.nm_busy.proofs.LostPins.{part-append}
@@ -216,29 +212,6 @@ module _ (L : Layout) (enough : 5 ≤ L.nodes) (past : List (ℕ × Event)) (key
           head : other e ∷ [] ≡ e ∷ r → other e ≡ e
           head h = cc
 
-  -- who has flagged a leaf is a worker of the tree
-  flagger : (u j : ℕ) → HasFlagged L past u j → u < L.workers
-  flagger u j f = go (refused_in before u event) refl
-    where
-      event : Event
-      event = Flag f.parent f.side f.leaf
-
-      before : Configuration
-      before = after_in (ordered L) f.before
-
-      here : IsOrdered L before
-      here = each_ordered L enough f.before (first_keys f.before ((u, event) ∷ f.since) (subst (All (λ t. HasKey t.1)) f.is_run keys))
-
-      layout : before.state.layout ≡ L
-      layout = ap (λ (s : State). s.layout) here.leads ∙ layout_after L here.events
-
-      no : (r : Refused) (q : Reply) → ◌≡◌ {A = Result Reply Refused} (Err r) (Ok q) → ⊥
-      no r q h = cc
-
-      go : (r : Option Refused) → refused_in before u event ≡ r → u < L.workers
-      go (Some r) why = absurd (no r _ (sym (refused_outcome before (u, event) r why) ∙ f.won))
-      go None why = subst (λ (l : Layout). u < l.workers) layout (allowed before.state u event (allowed_by_state before u event why)).worker
-
   -- beside one tagged edge
   module _ (q : List Side) (e : Side) (some : follow (child (after_in (ordered L) past).state.memory) 1 q ≢ 0) (tag : (edge (after_in (ordered L) past).state.memory (follow (child (after_in (ordered L) past).state.memory) 1 q) e).tag ≡ true) where
     abbrev x : ℕ
@@ -268,7 +241,7 @@ module _ (L : Layout) (enough : 5 ≤ L.nodes) (past : List (ℕ × Event)) (key
     }
 
     works : pending.worker < L.workers
-    works = flagger pending.worker pending.key pending.flag
+    works = flagger L enough past keys pending.worker pending.key pending.flag
 
     -- it is no leaf of a worker whose walk goes the other way
     not_own : GoesBy (child (after_in (ordered L) past).state.memory) (key (after_in (ordered L) past).state.memory) k 1 (q ++ e ∷ []) → Owns w (q ++ other e ∷ []) → ⊥

@@ -3,7 +3,6 @@
 use Rattle.std.proofs.Common.{◌≡◌, ℕ, ◌+◌, ◌*◌, ◌<◌, ◌≤◌, ◌==◌, Bool, true, false, cond, not, ◌&&◌, ◌||◌, List, [], ◌∷◌, ◌++◌, append_assoc, refl, sym, ap, subst, ◌∙◌, arith, true≢false}
 use Rattle.std.specs.Prelude.{Ok, All}
 use Rattle.std.proofs.lemmas.Bool.{eq-eqb}
-use Rattle.std.proofs.lemmas.List.{append_cancel_left}
 use Rattle.std.proofs.lemmas.List.Elements.{All-append}
 use Rattle.nm_edge.specs.Layouts.{Layout}
 use Rattle.nm_model.specs.declared.event.Event.{Event}
@@ -22,43 +21,29 @@ use Rattle.nm_order.proofs.RunExchanges.{first_keys}
 use Rattle.nm_order.proofs.WalksOfRuns.{trace_in-append}
 use Rattle.nm_steps.specs.Steps.{Stand, IsSamePass, HasSeenAllOf, HasSeen}
 use Rattle.nm_calls.specs.PlainWalks.{events_of}
-use Rattle.nm_calls.proofs.PlainLooks.{as_events, events_go_on}
+use Rattle.nm_calls.proofs.PlainLooks.{as_events}
 use Rattle.nm_laws.proofs.Configurations.{after_in-append}
 use Rattle.nm_walks.specs.Bounds.{chain_bound}
 use Rattle.nm_walks.specs.Walks.{IsTooLong, IsTooDeep}
 use Rattle.nm_progress.specs.Moves.{number_of}
 use Rattle.nm_progress.specs.Paid.{links_on, flags_on, cuts_on, tags_on, links_in, flags_in}
-use Rattle.nm_progress.specs.Tries.{changes_of_others, reshapes_of_others, helps_on, hinders, LosesTries}
+use Rattle.nm_progress.specs.Tries.{reshapes_of_others, helps_on, hinders, LosesTries}
 use Rattle.nm_progress.proofs.LostTries.{later_keys}
-use Rattle.nm_progress.proofs.CountedTries.{known_longer, own_turn, lost_count, hindrances_are_paid}
+use Rattle.nm_progress.proofs.CountedTries.{known_longer, own_turn, lost_count, hindrances_are_paid, others_hinder}
 use Rattle.nm_progress.proofs.SplitTurns.{SplitTurn, split_turn, ordered_after, part_teaches, turn_in, number_split, number-append}
 use Rattle.nm_progress.proofs.MoreTries.{Plain}
 use Rattle.nm_progress.proofs.Reshapes.{is_reshape}
+use Rattle.nm_progress.proofs.Covers.{one_if}
 use Rattle.nm_busy.specs.Lost.{WasHindered}
 use Rattle.nm_busy.proofs.Astray.{SplitPart, split_part, by_others, one_astray, long_astray}
 use Rattle.nm_busy.proofs.DeepAstray.{deep_plain, not_too_deep}
-use Rattle.nm_busy.proofs.LostPins.{part-append, turns_between}
+use Rattle.nm_busy.proofs.LostPins.{part-append, turns_between, keys_seen, part_added}
 use Rattle.nm_busy.proofs.Parts.{Longer}
 use Rattle.nm_busy.proofs.Steady.{IsFor}
 
 -- ---- turns
 
--- a change of another hinders, and so does a reshaping of another
-others_hinder : (w : ℕ) (ts : List Turn) → number_of (changes_of_others w) ts ≤ number_of (hinders w) ts
-others_hinder w [] = omega arith
-others_hinder w (t ∷ ts) = by (t.worker == w) (links_on t.event t.outcome) (flags_on t.event t.outcome) (cuts_on t.event t.outcome) (tags_on t.event t.outcome) (others_hinder w ts)
-  where
-    by : (o a b c d : Bool) → number_of (changes_of_others w) ts ≤ number_of (hinders w) ts
-        → cond (not o && (a || (b || (c || d)))) 1 0 + number_of (changes_of_others w) ts ≤ cond (cond o (c || d) (a || (b || (c || d)))) 1 0 + number_of (hinders w) ts
-    by true a b true d rest = omega (arith, rest)
-    by true a b false true rest = omega (arith, rest)
-    by true a b false false rest = omega (arith, rest)
-    by false true b c d rest = omega (arith, rest)
-    by false false true c d rest = omega (arith, rest)
-    by false false false true d rest = omega (arith, rest)
-    by false false false false true rest = omega (arith, rest)
-    by false false false false false rest = omega (arith, rest)
-
+-- a reshaping of another hinders
 shapes_hinder : (w : ℕ) (ts : List Turn) → number_of (reshapes_of_others w) ts ≤ number_of (hinders w) ts
 shapes_hinder w [] = omega arith
 shapes_hinder w (t ∷ ts) = by (t.worker == w) (links_on t.event t.outcome) (flags_on t.event t.outcome) (cuts_on t.event t.outcome) (tags_on t.event t.outcome) (shapes_hinder w ts)
@@ -116,7 +101,7 @@ module _ (L : Layout) (enough : 5 ≤ L.nodes) (w : ℕ) where
           let first = first_keys s.before s.since all in
           let later = later_keys s.before s.since all in
           let o1 = ordered_after w L enough s.before first c o in
-          let known = part_teaches w L enough s.before first c o ∙ (ap (known_after w (of c.state w)) s.is_before ∙ (ap (λ (k : Knowledge). known_after w k a.entries) knowing ∙ (sym (known_longer w _ old a.entries) ∙ ap (known_by L w) (sym a.are)))) in
+          let known = part_teaches w L enough s.before c o ∙ (ap (known_after w (of c.state w)) s.is_before ∙ (ap (λ (k : Knowledge). known_after w k a.entries) knowing ∙ (sym (known_longer w _ old a.entries) ∙ ap (known_by L w) (sym a.are)))) in
           let one = a.counted c o knowing ran s.before first s.is_before in
           let two = b.counted (after_in c s.before) o1 known (subst (λ (l : List Entry). Ran l (after_in c s.before)) (sym a.are) (ran_on old a.entries c ran s.before first s.is_before)) s.since later s.is_since in
           let run = ap (λ (l : List (ℕ × Event)). number_of (hinders w) (trace_in c l)) s.is_run in
@@ -143,9 +128,6 @@ module _ (L : Layout) (enough : 5 ≤ L.nodes) (w : ℕ) where
     counted = λ c o knowing ran ts keys is. one c ts (split_turn w ts c xs (e, r) ys is);
   }
     where
-      one_if : Bool → ℕ
-      one_if b = cond b 1 0
-
       one : (c : Configuration) (ts : List (ℕ × Event)) → SplitTurn w c ts xs (e, r) ys → 1 ≤ number_of (hinders w) (trace_in c ts)
       one c ts a =
           let own = own_turn w (after_in c a.before) a.turn e r a.takes a.is_entry alone a.is_allowed in
@@ -201,24 +183,14 @@ was_hindered p q n seen_p seen_q enough same on h = record {
   paid = subst (λ (ts : List Turn). n ≤ links_in ts + 3 * flags_in ts + 2 * p.view.layout.workers) (turns_between p q seen_p seen_q same on.goes_on) (let most = hindrances_are_paid p.view.layout enough p.view.number (events_of p.view.past) (events_of on.goes_on.more) keys in omega (arith, count, most));
 }
   where
-    number : p.view.number ≡ q.view.number
-    number = sym (ap (λ (s : Stand). s.view.number) same)
-
-    layout : p.view.layout ≡ q.view.layout
-    layout = sym (ap (λ (s : Stand). s.view.layout) same)
-
     keys : All (λ t. HasKey t.1) ((events_of p.view.past) ++ (events_of on.goes_on.more))
-    keys = subst (λ (l : List (ℕ × Event)). All (λ t. HasKey t.1) l) (events_go_on q.view.past p.view.past on.goes_on) (as_events q.view seen_q).keys
+    keys = keys_seen p q seen_p seen_q same on.goes_on
 
     past_keys : All (λ t. HasKey t.1) (events_of p.view.past)
     past_keys = first_keys (events_of p.view.past) (events_of on.goes_on.more) keys
 
-    is_new : part_of p.view.number (trace_in (ordered p.view.layout) ((events_of p.view.past) ++ (events_of on.goes_on.more))) ≡ q.view.log
-    is_new = ap (λ (l : List (ℕ × Event)). part_of p.view.number (trace_in (ordered p.view.layout) l)) (sym (events_go_on q.view.past p.view.past on.goes_on)) ∙ ((λ i. part_of (number i) (trace_in (ordered (layout i)) (events_of q.view.past))) ∙ (as_events q.view seen_q).is_part)
-
     part : part_of p.view.number (trace_in (after_in (ordered p.view.layout) (events_of p.view.past)) (events_of on.goes_on.more)) ≡ h.entries
-    part = append_cancel_left p.view.log _ _ (ap (λ (l : List Entry). l ++ part_of p.view.number (trace_in (after_in (ordered p.view.layout) (events_of p.view.past)) (events_of on.goes_on.more))) (sym (as_events p.view seen_p).is_part)
-        ∙ (sym (part-append p.view.number (trace_in (ordered p.view.layout) (events_of p.view.past)) (trace_in (after_in (ordered p.view.layout) (events_of p.view.past)) (events_of on.goes_on.more))) ∙ (ap (part_of p.view.number) (sym (trace_in-append (ordered p.view.layout) (events_of p.view.past) (events_of on.goes_on.more))) ∙ (is_new ∙ h.are))))
+    part = part_added p q seen_p seen_q same on.goes_on h.entries h.are
 
     count : n ≤ number_of (hinders p.view.number) (trace_in (after_in (ordered p.view.layout) (events_of p.view.past)) (events_of on.goes_on.more))
     count = h.counted (after_in (ordered p.view.layout) (events_of p.view.past)) (each_ordered p.view.layout enough (events_of p.view.past) past_keys) (logs_tell p.view.layout (events_of p.view.past) p.view.number seen_p.worker ∙ ap (known_by p.view.layout p.view.number) (as_events p.view seen_p).is_part) (record { past = events_of p.view.past; keys = past_keys; is = refl; is_part = (as_events p.view seen_p).is_part }) (events_of on.goes_on.more) (later_keys (events_of p.view.past) (events_of on.goes_on.more) keys) part

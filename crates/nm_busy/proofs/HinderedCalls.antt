@@ -1,13 +1,12 @@
 -- Why an insert or a delete was busy: others moved the epoch past its pin, or its tries were lost.
-use Rattle.std.proofs.Common.{◌≡◌, ◌≢◌, ℕ, zero, suc, ◌+◌, ◌-◌, ◌≤◌, inl, inr, ◌⊎◌, true, List, refl, sym, ap, subst, ◌∙◌, arith}
+use Rattle.std.proofs.Common.{◌≡◌, ◌≢◌, ℕ, zero, suc, ◌+◌, ◌-◌, ◌≤◌, inl, inr, ◌⊎◌, true, List, refl, sym, subst, ◌∙◌, arith}
 use Rattle.std.specs.Prelude.{Err}
 use Rattle.nm_edge.specs.declared.node.NodeId.{NodeId}
 use Rattle.nm_model.specs.declared.event.Event.{Event}
 use Rattle.nm_model.specs.declared.event.Event.TheVariants.{SightFor}
 use Rattle.nm_model.specs.declared.event.Op.TheVariants.{Insert, Delete}
 use Rattle.nm_model.specs.Walks.{Entry}
-use Rattle.nm_model.specs.Ordered.{ordered, trace_in}
-use Rattle.nm_order.specs.Logs.{part_of, IsLogOf}
+use Rattle.nm_order.specs.Logs.{IsLogOf}
 use Rattle.nm_steps.specs.Steps.{Stand, IsSamePass, HasSeenAllOf, HasSeen}
 use Rattle.nm_calls.specs.PlainWalks.{events_of}
 use Rattle.nm_calls.proofs.PlainLooks.{as_events}
@@ -27,7 +26,7 @@ use Rattle.nm_busy.proofs.Hindered.{Hinders, hinders_then, was_hindered}
 use Rattle.nm_busy.proofs.HinderedTries.{cleanup_steady, within, inserts_hinder, flags_hinder}
 use Rattle.nm_busy.proofs.HinderedRemovals.{Flagging, removals_steady, removals_hinder}
 use Rattle.nm_busy.proofs.Steady.{Steady, steady_call, pinned_for}
-use Rattle.nm_busy.proofs.LostPins.{lost_pins_were_moved_past}
+use Rattle.nm_busy.proofs.LostPins.{lost_pins_were_moved_past, part_seen}
 use Rattle.nm_busy.proofs.Parts.{Longer, longer_these, longer_then, longer_none, seeks_longer, pin_longer, returns_longer}
 
 module _ (p q : Stand) (seen_p : HasSeen p.view) (seen_q : HasSeen q.view) (enough : 5 ≤ p.view.layout.nodes) (same : IsSamePass p q) (on : HasSeenAllOf q p) where
@@ -37,14 +36,8 @@ module _ (p q : Stand) (seen_p : HasSeen p.view) (seen_q : HasSeen q.view) (enou
     worker = seen_p.worker;
     turns = events_of q.view.past;
     keys = (as_events q.view seen_q).keys;
-    is_part = (λ i. part_of (number i) (trace_in (ordered (layout i)) (events_of q.view.past))) ∙ (as_events q.view seen_q).is_part;
+    is_part = part_seen p q seen_q same;
   }
-    where
-      number : p.view.number ≡ q.view.number
-      number = sym (ap (λ (s : Stand). s.view.number) same)
-
-      layout : p.view.layout ≡ q.view.layout
-      layout = sym (ap (λ (s : Stand). s.view.layout) same)
 
   pub moved : (sight : Event) → is_sight sight ≡ true → (n : ℕ) → n ≢ 0 → IsMoved sight n p.view.log q.view.log → WasMovedPast p q n
   moved event is zero some m = absurd (some refl)

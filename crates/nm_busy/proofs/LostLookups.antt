@@ -1,7 +1,6 @@
 -- A look-up that is busy.
 use Rattle.std.proofs.Common.{◌≡◌, ℕ, zero, suc, ◌≤◌, inl, inr, List, [], ◌∷◌, ◌++◌, append_assoc, refl, sym, ap, subst, ◌∙◌, arith}
 use Rattle.std.specs.Prelude.{All}
-use Rattle.std.proofs.lemmas.List.{append_cancel_left}
 use Rattle.nm_model.specs.declared.event.Event.{Event}
 use Rattle.nm_model.specs.declared.event.Event.TheVariants.{SightFor, Leave}
 use Rattle.nm_model.specs.declared.event.Op.TheVariants.{Has}
@@ -16,13 +15,12 @@ use Rattle.nm_order.proofs.RunExchanges.{first_keys}
 use Rattle.nm_order.proofs.WalksOfRuns.{trace_in-append}
 use Rattle.nm_steps.specs.Steps.{Stand, IsSamePass, HasSeen, HasSeenAllOf}
 use Rattle.nm_calls.specs.PlainWalks.{events_of}
-use Rattle.nm_calls.proofs.PlainLooks.{as_events, events_go_on}
 use Rattle.nm_progress.specs.Moves.{number_of}
 use Rattle.nm_progress.specs.Tries.{reshapes_of_others}
 use Rattle.nm_progress.proofs.LostTries.{later_keys}
 use Rattle.nm_progress.proofs.SplitTurns.{ordered_after, number-append}
 use Rattle.nm_busy.specs.Lookups.{WasReshaped, BusyLookupsWereDisturbed}
-use Rattle.nm_busy.proofs.LostPins.{part-append, turns_between, lost_pins_were_moved_past}
+use Rattle.nm_busy.proofs.LostPins.{turns_between, lost_pins_were_moved_past, keys_seen, part_added}
 use Rattle.nm_busy.proofs.Parts.{Longer, pin_longer}
 use Rattle.nm_busy.proofs.Astray.{SplitPart, split_part, Strays, strays_longer, all_astray, lost_strays}
 
@@ -38,26 +36,15 @@ was_reshaped t p q seen_p seen_q enough same on pinned walked begun strays leave
     w : ℕ
     w = p.view.number
 
-    number : p.view.number ≡ q.view.number
-    number = sym (ap (λ (s : Stand). s.view.number) same)
-
-    layout : p.view.layout ≡ q.view.layout
-    layout = sym (ap (λ (s : Stand). s.view.layout) same)
-
     keys : All (λ t. HasKey t.1) ((events_of p.view.past) ++ (events_of on.goes_on.more))
-    keys = subst (λ (l : List (ℕ × Event)). All (λ t. HasKey t.1) l) (events_go_on q.view.past p.view.past on.goes_on) (as_events q.view seen_q).keys
-
-    is_new : part_of p.view.number (trace_in (ordered p.view.layout) ((events_of p.view.past) ++ (events_of on.goes_on.more))) ≡ q.view.log
-    is_new = ap (λ (l : List (ℕ × Event)). part_of p.view.number (trace_in (ordered p.view.layout) l)) (sym (events_go_on q.view.past p.view.past on.goes_on)) ∙ ((λ i. part_of (number i) (trace_in (ordered (layout i)) (events_of q.view.past))) ∙ (as_events q.view seen_q).is_part)
+    keys = keys_seen p q seen_p seen_q same on.goes_on
 
     walking : Longer pinned walked
     walking = strays_longer p.view.layout enough p.view.number t pinned walked strays
 
     part : part_of p.view.number (trace_in (after_in (ordered p.view.layout) (events_of p.view.past)) (events_of on.goes_on.more)) ≡ begun.entries ++ (walking.entries ++ (Leave, Departed) ∷ [])
-    part = append_cancel_left p.view.log _ _ (ap (λ (l : List Entry). l ++ part_of p.view.number (trace_in (after_in (ordered p.view.layout) (events_of p.view.past)) (events_of on.goes_on.more))) (sym (as_events p.view seen_p).is_part)
-        ∙ (sym (part-append p.view.number (trace_in (ordered p.view.layout) (events_of p.view.past)) (trace_in (after_in (ordered p.view.layout) (events_of p.view.past)) (events_of on.goes_on.more))) ∙ (ap (part_of p.view.number) (sym (trace_in-append (ordered p.view.layout) (events_of p.view.past) (events_of on.goes_on.more)))
-        ∙ (is_new ∙ (leaves ∙ (ap (λ (l : List Entry). l ++ (Leave, Departed) ∷ []) walking.are ∙ (ap (λ (l : List Entry). (l ++ walking.entries) ++ (Leave, Departed) ∷ []) begun.are
-        ∙ (append_assoc (p.view.log ++ begun.entries) walking.entries ((Leave, Departed) ∷ []) ∙ append_assoc p.view.log begun.entries (walking.entries ++ (Leave, Departed) ∷ [])))))))))
+    part = part_added p q seen_p seen_q same on.goes_on _ (leaves ∙ (ap (λ (l : List Entry). l ++ (Leave, Departed) ∷ []) walking.are ∙ (ap (λ (l : List Entry). (l ++ walking.entries) ++ (Leave, Departed) ∷ []) begun.are
+        ∙ (append_assoc (p.view.log ++ begun.entries) walking.entries ((Leave, Departed) ∷ []) ∙ append_assoc p.view.log begun.entries (walking.entries ++ (Leave, Departed) ∷ [])))))
 
     counted : SplitPart p.view.number (after_in (ordered p.view.layout) (events_of p.view.past)) (events_of on.goes_on.more) begun.entries (walking.entries ++ (Leave, Departed) ∷ []) → t ≤ number_of (reshapes_of_others p.view.number) (trace_in (after_in (ordered p.view.layout) (events_of p.view.past)) (events_of on.goes_on.more))
     counted s = inner (split_part p.view.number walking.entries (after_in (after_in (ordered p.view.layout) (events_of p.view.past)) s.before) s.since ((Leave, Departed) ∷ []) s.is_since)

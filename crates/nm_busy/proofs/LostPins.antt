@@ -15,8 +15,8 @@ use Rattle.nm_model.specs.declared.reply.Refused.{Refused}
 use Rattle.nm_model.specs.declared.trace.Turn.{Turn}
 use Rattle.nm_model.specs.Knowledge.{Knowledge}
 use Rattle.nm_model.specs.Learning.{learn}
-use Rattle.nm_model.specs.Step.{reply, reply_sight, confirmed}
-use Rattle.nm_model.specs.Runs.{State, of, reply_of}
+use Rattle.nm_model.specs.Step.{reply_sight, confirmed}
+use Rattle.nm_model.specs.Runs.{of, reply_of}
 use Rattle.nm_model.specs.Walks.{Entry, logged_by, log_of}
 use Rattle.nm_model.specs.Ordered.{Configuration, ordered, after_in, trace_in}
 use Rattle.nm_laws.proofs.Configurations.{after_in-append}
@@ -26,6 +26,7 @@ use Rattle.nm_order.proofs.LastEntries.{known_more, log_before}
 use Rattle.nm_order.proofs.OrderedLaws.{each_ordered, law_of_state}
 use Rattle.nm_order.proofs.PartsOfRuns.{logs_tell}
 use Rattle.nm_order.proofs.WalksOfRuns.{trace_in-append}
+use Rattle.nm_order.proofs.PendingLeaves.{sight_told}
 use Rattle.nm_steps.specs.Rules.{Extends}
 use Rattle.nm_steps.specs.Steps.{Stand, IsSamePass, HasSeen}
 use Rattle.nm_calls.specs.PlainWalks.{events_of}
@@ -34,6 +35,7 @@ use Rattle.nm_epoch.specs.Tries.{LostTries, after_sight, IsMoved}
 use Rattle.nm_progress.specs.Moves.{number_of, moves_on, moves, moves_of_others, is_sight}
 use Rattle.nm_progress.proofs.Moves.{epochs_are_the_moves, missed_pins_are_moves}
 use Rattle.nm_progress.proofs.SplitTurns.{SplitTurn, split_turn, none_of_log}
+use Rattle.nm_progress.proofs.Covers.{one_if}
 use Rattle.nm_busy.specs.Pins.{LostPinsWereMovedPast}
 
 -- ---- parts
@@ -45,9 +47,6 @@ part-append w (t ∷ xs) ys = ap (λ (l : List Entry). cond (takes_part w t.work
 -- an entry moves the epoch
 abbrev pub is_move : Entry → Bool
 is_move e = moves_on e.0 (Ok e.1)
-
-abbrev one_if : Bool → ℕ
-one_if b = cond b 1 0
 
 -- where no entry of a worker's part does, all moves are of others
 pub all_of_others : (w : ℕ) (turns : List Turn) → list_any is_move (log_of w turns) ≡ false → number_of (moves_of_others w) turns ≡ number_of moves turns
@@ -161,11 +160,13 @@ saw_shows k n e is = by k.brief.unlabelled k.brief.pin k.brief.announcement is
     by false None None told = cc
     by false None (Some a) told = miss (a == n) told
 
-sight_told : (s : State) (w : ℕ) → reply_of s w Sight ≡ reply_sight (of s w) s.memory.epoch
-unfolding reply
-sight_told s w = refl
-
 -- ---- between what was seen before and after
+
+-- what the events behind a run add to a worker's part
+part_more : (L : Layout) (w : ℕ) (past more : List (ℕ × Event)) (old new entries : List Entry) → part_of w (trace_in (ordered L) past) ≡ old → part_of w (trace_in (ordered L) (past ++ more)) ≡ new → new ≡ old ++ entries
+    → part_of w (trace_in (after_in (ordered L) past) more) ≡ entries
+part_more L w past more old new entries is_old is_new are = append_cancel_left old _ _ (ap (λ (l : List Entry). l ++ part_of w (trace_in (after_in (ordered L) past) more)) (sym is_old)
+    ∙ (sym (part-append w (trace_in (ordered L) past) (trace_in (after_in (ordered L) past) more)) ∙ (ap (part_of w) (sym (trace_in-append (ordered L) past more)) ∙ (is_new ∙ are))))
 
 module _ (L : Layout) (enough : 5 ≤ L.nodes) (w : ℕ) (worker : w < L.workers) (past more : List (ℕ × Event)) (keys : All (λ t. HasKey t.1) (past ++ more)) where
   c : Configuration
@@ -202,9 +203,8 @@ module _ (L : Layout) (enough : 5 ≤ L.nodes) (w : ℕ) (worker : w < L.workers
           omega (arith, grown, low, high, others, up)
         where
           part : part_of w (trace_in (after_in (ordered L) past) more) ≡ (Sight, Saw first) ∷ (r.entries ++ (Leave, Departed) ∷ [])
-          part = append_cancel_left old _ _ (ap (λ (l : List Entry). l ++ part_of w (trace_in (after_in (ordered L) past) more)) (sym is_old)
-              ∙ (sym (part-append w (trace_in (ordered L) past) (trace_in (after_in (ordered L) past) more)) ∙ (ap (part_of w) (sym (trace_in-append (ordered L) past more))
-              ∙ (is_new ∙ (leaves ∙ (ap (λ (l : List Entry). l ++ (Leave, Departed) ∷ []) r.are ∙ (append_assoc (after_sight old first) r.entries ((Leave, Departed) ∷ []) ∙ append_assoc old ((Sight, Saw first) ∷ []) (r.entries ++ (Leave, Departed) ∷ []))))))))
+          part = part_more L w past more old new _ is_old is_new
+              (leaves ∙ (ap (λ (l : List Entry). l ++ (Leave, Departed) ∷ []) r.are ∙ (append_assoc (after_sight old first) r.entries ((Leave, Departed) ∷ []) ∙ append_assoc old ((Sight, Saw first) ∷ []) (r.entries ++ (Leave, Departed) ∷ []))))
 
           quiet : list_any is_move ((Sight, Saw first) ∷ (r.entries ++ (Leave, Departed) ∷ [])) ≡ false
           quiet = list_any-append is_move r.entries ((Leave, Departed) ∷ []) ∙ ap (λ (b : Bool). b || false) r.quiet
@@ -226,22 +226,31 @@ turns_between p q seen_p seen_q same e =
     ∙ (ap (trace_in (ordered p.view.layout)) (sym (events_go_on q.view.past p.view.past e))
     ∙ (ap (λ (l : Layout). trace_in (ordered l) (events_of q.view.past)) (sym (ap (λ (s : Stand). s.view.layout) same)) ∙ (sym (as_events q.view seen_q).are ∙ e.is)))))
 
-pub lost_pins_were_moved_past : LostPinsWereMovedPast
-lost_pins_were_moved_past p q seen_p seen_q enough same on sight sees tries moved = record {
-  turns = on.goes_on.more;
-  is = on.goes_on.is;
-  moved = subst (λ (ts : List Turn). suc tries ≤ number_of (moves_of_others p.view.number) ts) (turns_between p q seen_p seen_q same on.goes_on) (moved_between L enough w seen_p.worker (events_of p.view.past) (events_of on.goes_on.more) (subst (λ (l : List (ℕ × Event)). All (λ t. HasKey t.1) l) (events_go_on q.view.past p.view.past on.goes_on) (as_events q.view seen_q).keys) p.view.log q.view.log (as_events p.view seen_p).is_part
-      (ap (λ (l : List (ℕ × Event)). part_of w (trace_in (ordered L) l)) (sym (events_go_on q.view.past p.view.past on.goes_on)) ∙ ((λ i. part_of (number i) (trace_in (ordered (layout i)) (events_of q.view.past))) ∙ (as_events q.view seen_q).is_part)) sight sees tries moved);
-}
+-- what a later moment of a pass has seen is a run of its worker
+pub part_seen : (p q : Stand) → HasSeen q.view → IsSamePass p q → part_of p.view.number (trace_in (ordered p.view.layout) (events_of q.view.past)) ≡ q.view.log
+part_seen p q seen_q same = (λ i. part_of (number i) (trace_in (ordered (layout i)) (events_of q.view.past))) ∙ (as_events q.view seen_q).is_part
   where
-    L : Layout
-    L = p.view.layout
-
-    w : ℕ
-    w = p.view.number
-
     number : p.view.number ≡ q.view.number
     number = sym (ap (λ (s : Stand). s.view.number) same)
 
     layout : p.view.layout ≡ q.view.layout
     layout = sym (ap (λ (s : Stand). s.view.layout) same)
+
+module _ (p q : Stand) (seen_p : HasSeen p.view) (seen_q : HasSeen q.view) (same : IsSamePass p q) (e : Extends q.view.past p.view.past) where
+  pub keys_seen : All (λ t. HasKey t.1) (events_of p.view.past ++ events_of e.more)
+  keys_seen = subst (λ (l : List (ℕ × Event)). All (λ t. HasKey t.1) l) (events_go_on q.view.past p.view.past e) (as_events q.view seen_q).keys
+
+  -- also as what the events between add to what the earlier moment has seen
+  pub part_on : part_of p.view.number (trace_in (ordered p.view.layout) (events_of p.view.past ++ events_of e.more)) ≡ q.view.log
+  part_on = ap (λ (l : List (ℕ × Event)). part_of p.view.number (trace_in (ordered p.view.layout) l)) (sym (events_go_on q.view.past p.view.past e)) ∙ part_seen p q seen_q same
+
+  pub part_added : (entries : List Entry) → q.view.log ≡ p.view.log ++ entries → part_of p.view.number (trace_in (after_in (ordered p.view.layout) (events_of p.view.past)) (events_of e.more)) ≡ entries
+  part_added entries are = part_more p.view.layout p.view.number (events_of p.view.past) (events_of e.more) p.view.log q.view.log entries (as_events p.view seen_p).is_part part_on are
+
+pub lost_pins_were_moved_past : LostPinsWereMovedPast
+lost_pins_were_moved_past p q seen_p seen_q enough same on sight sees tries moved = record {
+  turns = on.goes_on.more;
+  is = on.goes_on.is;
+  moved = subst (λ (ts : List Turn). suc tries ≤ number_of (moves_of_others p.view.number) ts) (turns_between p q seen_p seen_q same on.goes_on) (moved_between p.view.layout enough p.view.number seen_p.worker (events_of p.view.past) (events_of on.goes_on.more)
+      (keys_seen p q seen_p seen_q same on.goes_on) p.view.log q.view.log (as_events p.view seen_p).is_part (part_on p q seen_p seen_q same on.goes_on) sight sees tries moved);
+}

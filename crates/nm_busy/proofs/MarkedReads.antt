@@ -3,7 +3,7 @@
 use Rattle.std.proofs.Common.{◌≡◌, ◌≢◌, ℕ, zero, suc, ◌≤◌, inl, inr, ◌⊎◌, Bool, true, false, cond, not, ◌&&◌, ◌||◌, List, [], ◌∷◌, ◌++◌, append_assoc, refl, sym, ap, subst, ◌∙◌, arith, true≢false}
 use Rattle.std.specs.Prelude.{Option, Some, None, Ok}
 use Rattle.std.specs.List.{list_any}
-use Rattle.std.proofs.lemmas.Bool.{or_parts}
+use Rattle.std.proofs.lemmas.Bool.{or_parts, or_right}
 use Rattle.std.proofs.lemmas.Option.{same_Some}
 use Rattle.std.proofs.lemmas.List.{append-nil}
 use Rattle.std.proofs.lemmas.List.Folds.{list_any-append}
@@ -99,15 +99,11 @@ module _ (L : Layout) (enough : 5 ≤ L.nodes) (w : ℕ) where
   marked_high log x d s l (inr tagged) = tagged_slots_stand_high L enough w log l x s d tagged
 
   -- a lost exchange finds it so
-  or_tag : (a b : Bool) → b ≡ true → (a || b) ≡ true
-  or_tag true b is = refl
-  or_tag false b is = is
-
   tag_told : (log : List Entry) (entry : Entry) (x : ℕ) (d : Side) (s : ℕ) (e : Edge) → IsLogOf L w (log ++ entry ∷ []) → begins_anew entry ≡ false → known_by L w (log ++ entry ∷ []) ≡ read_edge (known_by L w log) x d e → Holds L w log (IsTagged x d s) → StillMarked e s
   tag_told log entry x d s e l begins now tagged = by (facts_stay L enough w log entry l begins (IsTagged x d s) tagged)
     where
       by : (f : Edge) × (read (known_by L w (log ++ entry ∷ [])) x d ≡ Some f) × (f.tag ≡ true) × (f.slot ≡ s) → StillMarked e s
-      by (f, is, tag, leads) = (ap (λ (e : Edge). e.slot) same ∙ leads, or_tag e.flag e.tag (ap (λ (e : Edge). e.tag) same ∙ tag))
+      by (f, is, tag, leads) = (ap (λ (e : Edge). e.slot) same ∙ leads, or_right e.flag e.tag (ap (λ (e : Edge). e.tag) same ∙ tag))
         where
           same : e ≡ f
           same = same_Some e f (sym (ap (λ (k : Knowledge). read k x d) now ∙ is_read (known_by L w log) x d e) ∙ is)

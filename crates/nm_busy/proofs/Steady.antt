@@ -1,76 +1,52 @@
 -- Entries that neither begin a pin nor win a flag: by them a worker's call goes on.
-use Rattle.std.proofs.Common.{◌≡◌, ℕ, Bool, false, ◌||◌, List, [], ◌∷◌, ◌++◌, append_assoc, refl, sym, ap, subst, ◌∙◌, true≢false}
-use Rattle.std.specs.Prelude.{Option, Some, None, Ok}
+use Rattle.std.proofs.Common.{◌≡◌, ℕ, Bool, false, ◌||◌, List, [], ◌∷◌, ◌++◌, refl, sym, ap, subst, ◌∙◌, true≢false}
+use Rattle.std.specs.Prelude.{Some, Ok}
 use Rattle.std.specs.List.{list_any}
 use Rattle.std.proofs.lemmas.Bool.{or_parts}
-use Rattle.std.proofs.lemmas.List.Folds.{list_any-append}
 use Rattle.nm_model.specs.declared.arrivals.Call.{Call}
 use Rattle.nm_model.specs.declared.event.Event.{Event}
-use Rattle.nm_model.specs.declared.event.Event.TheVariants.{Sight, SightFor, Announce, Leave, LeaveWith, Look, Link, Flag, Splice}
-use Rattle.nm_model.specs.declared.event.Field.{Field}
+use Rattle.nm_model.specs.declared.event.Event.TheVariants.{SightFor, Announce}
 use Rattle.nm_model.specs.declared.event.Op.{Op}
 use Rattle.nm_model.specs.declared.reply.Reply.{Reply}
-use Rattle.nm_model.specs.declared.reply.Reply.TheVariants.{Announced, Pinned, Departed, Linked, Flagged, Cut}
-use Rattle.nm_model.specs.Searches.{Search, idle, searched, look_for}
+use Rattle.nm_model.specs.declared.reply.Reply.TheVariants.{Announced, Pinned}
+use Rattle.nm_model.specs.Searches.{Search, idle, searched}
 use Rattle.nm_model.specs.Walks.{Entry, begins_anew, search_after}
 use Rattle.nm_epoch.specs.Tries.{IsPinnedBy}
+use Rattle.nm_laws.proofs.SearchesGrow.{look_beside, search_goes}
 use Rattle.nm_progress.specs.Paid.{links_on, flags_on, cuts_on, tags_on}
 use Rattle.nm_progress.specs.Tries.{changes_edge}
-use Rattle.nm_progress.proofs.MoreTries.{is_loud, Plain}
+use Rattle.nm_progress.proofs.MoreTries.{is_loud, Plain, AddsNone, adds_these, adds_then, none_within}
 
 -- ---- entries that neither begin a pin nor win a flag
 
 abbrev pub is_turning : Entry → Bool
 is_turning e = begins_anew e || flags_on e.0 (Ok e.1)
 
-pub record Steady (old new : List Entry) : Type 0 where
-  pub entries : List Entry
-  pub are : new ≡ old ++ entries
-  pub steady : list_any is_turning entries ≡ false
+abbrev pub Steady : List Entry → List Entry → Type 0
+Steady = AddsNone is_turning
 
 pub steady_these : (more old new : List Entry) → list_any is_turning more ≡ false → new ≡ old ++ more → Steady old new
-steady_these more old new steady is = record { entries = more; are = is; steady = steady }
+steady_these = adds_these is_turning
 
 pub steady_then : (old mid new : List Entry) → Steady old mid → Steady mid new → Steady old new
-steady_then old mid new a b = record {
-  entries = a.entries ++ b.entries;
-  are = b.are ∙ (ap (λ (l : List Entry). l ++ b.entries) a.are ∙ append_assoc old a.entries b.entries);
-  steady = list_any-append is_turning a.entries b.entries ∙ (ap (λ (x : Bool). x || list_any is_turning b.entries) a.steady ∙ b.steady);
-}
+steady_then = adds_then is_turning
 
 quiet_steady : (es : List Entry) → list_any is_loud es ≡ false → list_any is_turning es ≡ false
-quiet_steady [] quiet = refl
-quiet_steady (e ∷ es) quiet = by (or_parts (is_loud e) (list_any is_loud es) quiet) (quiet_steady es)
-  where
-    by : (is_loud e ≡ false) × (list_any is_loud es ≡ false) → (list_any is_loud es ≡ false → list_any is_turning es ≡ false) → list_any is_turning (e ∷ es) ≡ false
-    by parts rest =
-        let both = or_parts (begins_anew e) (changes_edge e.0 (Ok e.1)) parts.0 in
-        let links = or_parts (links_on e.0 (Ok e.1)) (flags_on e.0 (Ok e.1) || (cuts_on e.0 (Ok e.1) || tags_on e.0 (Ok e.1))) both.1 in
-        let flags = or_parts (flags_on e.0 (Ok e.1)) (cuts_on e.0 (Ok e.1) || tags_on e.0 (Ok e.1)) links.1 in
-        ap (λ (b : Bool). (b || flags_on e.0 (Ok e.1)) || list_any is_turning es) both.0 ∙ (ap (λ (b : Bool). b || list_any is_turning es) flags.0 ∙ rest parts.1)
+quiet_steady = none_within is_loud is_turning (λ e quiet.
+    let both = or_parts (begins_anew e) (changes_edge e.0 (Ok e.1)) quiet in
+    let links = or_parts (links_on e.0 (Ok e.1)) (flags_on e.0 (Ok e.1) || (cuts_on e.0 (Ok e.1) || tags_on e.0 (Ok e.1))) both.1 in
+    let flags = or_parts (flags_on e.0 (Ok e.1)) (cuts_on e.0 (Ok e.1) || tags_on e.0 (Ok e.1)) links.1 in ap (λ (b : Bool). b || flags_on e.0 (Ok e.1)) both.0 ∙ flags.0)
 
 pub plain_steady : (old new : List Entry) → Plain old new → Steady old new
-plain_steady old new p = record { entries = p.entries; are = p.are; steady = quiet_steady p.entries p.quiet }
+plain_steady old new p = record { entries = p.entries; are = p.are; quiet = quiet_steady p.entries p.quiet }
 
 -- by such entries a worker's call goes on, and so does the leaf that it has flagged
 abbrev pub SameCall : Search → Search → Type 0
 SameCall s t = (t.call ≡ s.call) × (t.flagged ≡ s.flagged)
 
-looked_same : (s : Search) (c : Option Call) (slot : ℕ) (f : Field) (r : Reply) → SameCall s (look_for s c slot f r)
-looked_same s None slot f r = (refl, refl)
-looked_same s (Some c) slot f r = (refl, refl)
-
 searched_same : (s : Search) (e : Event) (r : Reply) → is_turning (e, r) ≡ false → SameCall s (searched s e r)
-unfolding searched
-searched_same s Sight (Pinned n) is = absurd (true≢false is)
-searched_same s (SightFor op key) (Pinned n) is = absurd (true≢false is)
-searched_same s Leave Departed is = absurd (true≢false is)
-searched_same s (LeaveWith answer) Departed is = absurd (true≢false is)
-searched_same s (Look slot field) r is = looked_same s s.call slot field r
-searched_same s (Link p side leaf new) (Linked n) is = (refl, refl)
-searched_same s (Flag p side leaf) (Flagged n) is = absurd (true≢false is)
-searched_same s (Splice a side x p keep) (Cut ns) is = (refl, refl)
-searched_same s e r is = (refl, refl)
+searched_same s e r steady = search_goes (λ e r t. is_turning (e, r) ≡ false → SameCall s t) s (λ slot f r steady. let is = look_beside s s.call slot f r in (ap (λ (t : Search). t.call) is, ap (λ (t : Search). t.flagged) is))
+    (λ p side leaf new n steady. (refl, refl)) (λ p side leaf n steady. absurd (true≢false steady)) (λ a side x p keep ns steady. (refl, refl)) (λ e r steady. (refl, refl)) e r (or_parts (begins_anew (e, r)) (flags_on e (Ok r)) steady).0 steady
 
 search_same : (s : Search) (es : List Entry) → list_any is_turning es ≡ false → SameCall s (search_after s es)
 search_same s [] steady = (refl, refl)
@@ -85,7 +61,7 @@ search_on s [] ys = refl
 search_on s (x ∷ xs) ys = search_on (searched s x.0 x.1) xs ys
 
 pub steady_call : (old new : List Entry) → Steady old new → SameCall (search_after idle old) (search_after idle new)
-steady_call old new s = subst (λ (t : Search). SameCall (search_after idle old) t) (sym (ap (search_after idle) s.are ∙ search_on idle old s.entries)) (search_same (search_after idle old) s.entries s.steady)
+steady_call old new s = subst (λ (t : Search). SameCall (search_after idle old) t) (sym (ap (search_after idle) s.are ∙ search_on idle old s.entries)) (search_same (search_after idle old) s.entries s.quiet)
 
 -- ---- the key that a call is for
 

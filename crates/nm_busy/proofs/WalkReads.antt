@@ -1,8 +1,7 @@
 -- The last edge that a walk read, in its log: the parent was known then, and what follows are looks.
-use Rattle.std.proofs.Common.{◌≡◌, ◌≢◌, ℕ, zero, suc, ◌≤◌, Bool, true, false, cond, not, ◌&&◌, List, [], ◌∷◌, ◌++◌, append_assoc, refl, sym, ap, subst, ◌∙◌, arith, true≢false}
-use Rattle.std.specs.Prelude.{is_none}
+use Rattle.std.proofs.Common.{◌≡◌, ◌≢◌, ℕ, zero, suc, ◌≤◌, Bool, true, false, cond, List, [], ◌∷◌, ◌++◌, append_assoc, refl, sym, ap, subst, ◌∙◌, arith}
 use Rattle.std.specs.List.{list_any}
-use Rattle.std.proofs.lemmas.Bool.{not-false, false_from_ne_true}
+use Rattle.std.proofs.lemmas.Bool.{false_from_ne_true}
 use Rattle.std.proofs.lemmas.List.{append-nil}
 use Rattle.nm_edge.specs.Edges.{Edge}
 use Rattle.nm_edge.specs.Layouts.{Layout}
@@ -11,14 +10,12 @@ use Rattle.nm_edge.specs.declared.edge.Side.TheVariants.{Left, Right}
 use Rattle.nm_model.specs.declared.event.Event.TheVariants.{Look, Join}
 use Rattle.nm_model.specs.declared.event.Field.TheVariants.{Key as KeyOf, Edge as EdgeOn}
 use Rattle.nm_model.specs.declared.reply.Reply.TheVariants.{KeyIs, EdgeIs}
-use Rattle.nm_model.specs.declared.reply.Refused.TheVariants.{NoSlot, NotPinned, NotHeld}
 use Rattle.nm_model.specs.Knowledge.{Knowledge, knows, is_private}
-use Rattle.nm_model.specs.Step.{outside, refusal}
-use Rattle.nm_model.specs.Runs.{State, of}
+use Rattle.nm_model.specs.Runs.{of}
 use Rattle.nm_model.specs.Walks.{Entry}
-use Rattle.nm_laws.proofs.Steps.{Allowed, allowed, third}
+use Rattle.nm_laws.proofs.Steps.{allowed}
 use Rattle.nm_laws.proofs.Configurations.{allowed_by_state}
-use Rattle.nm_laws.proofs.TreeSteps.{Lawful}
+use Rattle.nm_laws.proofs.TreeSteps.{Lawful, look_checked}
 use Rattle.nm_order.specs.Facts.{Holds}
 use Rattle.nm_order.specs.Facts.Fact.{KnowsSlot}
 use Rattle.nm_order.specs.Logs.{IsLogOf}
@@ -84,14 +81,6 @@ module _ (L : Layout) (enough : 5 ≤ L.nodes) (w : ℕ) where
       → Holds L w (log ++ (Look x (EdgeOn d), EdgeIs e) ∷ []) (KnowsSlot x) × (e.slot ≢ 0 → Holds L w (log ++ (Look x (EdgeOn d), EdgeIs e) ∷ []) (KnowsSlot e.slot))
   edge_looked log x d e l known = (facts_stay L enough w log (Look x (EdgeOn d), EdgeIs e) l refl (KnowsSlot x) known, (edges_are_learned L enough w log (Look x (EdgeOn d), EdgeIs e) l x d e (ByLook x d e) known).leads)
 
-  look_passes : (s : State) (u x : ℕ) (d : Side) → Allowed s u (Look x (EdgeOn d)) → is_private (of s u) x ≡ false → knows (of s u) x ≡ true
-  unfolding refusal
-  look_passes s u x d ok shared = by (is_private (of s u) x) shared (third (outside 1 s.layout.nodes x) (not (is_private (of s u) x) && is_none (of s u).brief.pin) (not (is_private (of s u) x) && not (knows (of s u) x)) NoSlot NotPinned NotHeld _ ok.event)
-    where
-      by : (b : Bool) → b ≡ false → (not b && not (knows (of s u) x)) ≡ false → knows (of s u) x ≡ true
-      by true is none = absurd (true≢false is)
-      by false is none = not-false (knows (of s u) x) none
-
   -- who looks at slot 2 knows it
   second_known : (log : List Entry) (d : Side) (e : Edge) → IsLogOf L w (log ++ (Look 2 (EdgeOn d), EdgeIs e) ∷ []) → Holds L w log (KnowsSlot 2)
   second_known log d e l = by (last_entry L enough w log (Look 2 (EdgeOn d), EdgeIs e) l)
@@ -111,7 +100,7 @@ module _ (L : Layout) (enough : 5 ≤ L.nodes) (w : ℕ) where
               differ : Look 2 (EdgeOn d) ≡ Join v → ⊥
               differ i = cc
           on (Own own) = ap (λ (k : Knowledge). knows k 2) (sym t.told.knows) ∙ (ap (λ (u : ℕ). knows (of t.before.state u) 2) (sym own)
-              ∙ look_passes t.before.state t.by 2 d (allowed t.before.state t.by (Look 2 (EdgeOn d)) (allowed_by_state t.before t.by (Look 2 (EdgeOn d)) t.is_allowed)) (shared t.by))
+              ∙ look_checked t.before.state t.by 2 (EdgeOn d) (allowed t.before.state t.by (Look 2 (EdgeOn d)) (allowed_by_state t.before t.by (Look 2 (EdgeOn d)) t.is_allowed)).event (shared t.by))
 
   -- ---- walks
 

@@ -13,22 +13,22 @@ use Rattle.nm_model.specs.declared.event.Field.TheVariants.{Key, Edge as EdgeOn,
 use Rattle.nm_model.specs.declared.event.Event.{Event}
 use Rattle.nm_model.specs.declared.event.Event.TheVariants.{Sight, SightFor, Announce, Leave, LeaveWith, Scan, Advance, Claim, Give, Look, Fill, Link, Flag, Tag, Splice, Join}
 use Rattle.nm_model.specs.declared.reply.Reply.{Reply}
-use Rattle.nm_model.specs.declared.reply.Reply.TheVariants.{Saw, Labelled, Pinned, Missed, Announced, Departed, Idle, In, Moved, Behind, Claimed, Taken, Returned, Freed, Linked, Flagged, Was, Cut, Lost}
-use Rattle.nm_model.specs.declared.reply.Refused.TheVariants.{NoSlot, NotPinned, NotHeld, NotPrivate, NotReady}
+use Rattle.nm_model.specs.declared.reply.Reply.TheVariants.{Announced, Departed, Moved, Behind, Claimed, Taken, Returned, Freed, Linked, Flagged, Was, Cut, Lost}
+use Rattle.nm_model.specs.declared.reply.Refused.TheVariants.{NoSlot, NotPrivate, NotReady}
 use Rattle.nm_model.specs.declared.memory.Node.{Node}
 use Rattle.nm_model.specs.declared.knowledge.Draft.{Draft}
 use Rattle.nm_model.specs.Maps.{get, put, without, is_number}
 use Rattle.nm_model.specs.Memory.{Memory, blank, node, edge, in_pool, with_edge, put_node, put_edge}
 use Rattle.nm_model.specs.Ledgers.{front_of}
-use Rattle.nm_model.specs.Knowledge.{Knowledge, unfilled, knows, is_private, draft_of, read, beside}
+use Rattle.nm_model.specs.Knowledge.{Knowledge, unfilled, is_private, draft_of, read, beside}
 use Rattle.nm_model.specs.Learning.{learn, look_private, look_known, filled_in}
-use Rattle.nm_model.specs.Step.{outside, is_edge, is_early, is_fork_over, is_linkable, is_leaf_draft, reply_look, node_of, node_linked, exchanged, filled, kept, refusal, reply, write, may_be_over}
+use Rattle.nm_model.specs.Step.{outside, is_edge, is_early, is_fork_over, is_linkable, is_leaf_draft, reply_look, node_of, node_linked, exchanged, filled, kept, refusal, reply, write}
 use Rattle.nm_model.specs.Runs.{State, of, refusal_of, reply_of}
-use Rattle.nm_laws.proofs.Steps.{Allowed, passed, second, third, fifth}
+use Rattle.nm_laws.proofs.Steps.{Allowed, passed, third}
 use Rattle.nm_model.proofs.Tables.{get-put, get-without, Ascends, ascends-without}
-use Rattle.nm_laws.proofs.Learned.{learn_sight_for, learn_leave_with, learn_claimed, learn_taken, learn_returned, learn_freed, learn_look, learn_filled, learn_linked, learn_link_lost}
+use Rattle.nm_laws.proofs.Learned.{learn_sight_for, learn_leave_with, learn_claimed, learn_taken, learn_returned, learn_freed, learn_look, learn_filled, learn_linked, learn_link_lost, scan_teaches, sight_teaches}
 use Rattle.nm_laws.proofs.TreeSlots.{put_pool}
-use Rattle.nm_laws.proofs.TreeSteps.{Lawful, high_from}
+use Rattle.nm_laws.proofs.TreeSteps.{Lawful, high_from, slot_inside, fill_checked, link_checked}
 
 abbrev pub word : Memory → ℕ → ℕ
 word m x = (node m x).birth
@@ -63,11 +63,7 @@ same_aged s w m k words pool drafts = record {
 module _ (w : ℕ) (k : Knowledge) where
   drafts_sight : (r : Reply) → (learn w k Sight r).drafts ≡ k.drafts
   unfolding learn
-  drafts_sight (Saw e) = refl
-  drafts_sight (Labelled e) = refl
-  drafts_sight (Pinned e) = refl
-  drafts_sight (Missed e) = refl
-  drafts_sight _ = refl
+  drafts_sight r = ap (λ (l : Knowledge). l.drafts) (sight_teaches k r)
 
   drafts_announce : (r : Reply) → (learn w k Announce r).drafts ≡ k.drafts
   unfolding learn
@@ -81,9 +77,7 @@ module _ (w : ℕ) (k : Knowledge) where
 
   drafts_scan : (u : ℕ) (r : Reply) → (learn w k (Scan u) r).drafts ≡ k.drafts
   unfolding learn
-  drafts_scan u Idle = refl
-  drafts_scan u (In e) = refl
-  drafts_scan u _ = refl
+  drafts_scan u r = ap (λ (l : Knowledge). l.drafts) (scan_teaches k u r)
 
   drafts_advance : (r : Reply) → (learn w k Advance r).drafts ≡ k.drafts
   unfolding learn
@@ -333,14 +327,9 @@ module _ (s : State) (h : ℕ → ℕ) (law : Lawful s h) (w : ℕ) (born : Born
       go (Claim x) ok alone = claim_aged x (in_list x (passed _ _ _ ok).0)
       go (Give x) ok alone = give_aged x (in_list x (passed _ _ _ ok).0)
       go (Look x f) ok alone = look_aged x f
-      go (Fill x f v) ok alone = rw (learn_filled w (of s w) x f v) (fill_aged x f v inside own (third (outside 6 s.layout.nodes x || (is_edge f && nat_lt s.layout.nodes v)) (not (is_private (of s w) x)) (is_early (draft_of (of s w) x) f v (node s.memory x).birth) NoSlot NotPrivate NotReady _ ok))
-        where
-          inside : x < length s.memory.nodes
-          inside = let range = high_from 6 s.layout.nodes x (or_parts (outside 6 s.layout.nodes x) (is_edge f && nat_lt s.layout.nodes v) (passed _ _ _ ok).0).0 in let size = law.roomy.nodes in omega arith
-
-          own : is_private (of s w) x ≡ true
-          own = not-false (is_private (of s w) x) (second (outside 6 s.layout.nodes x || (is_edge f && nat_lt s.layout.nodes v)) (not (is_private (of s w) x)) NoSlot NotPrivate _ ok)
-      go (Link p d leaf new) ok alone = link_aged p d leaf new (not-false (is_linkable (of s w) new leaf) (fifth (outside 1 s.layout.nodes p || (outside 1 s.layout.nodes leaf || outside 6 s.layout.nodes new)) (is_none (of s w).brief.pin) (not (knows (of s w) p && (knows (of s w) leaf && may_be_over s.layout (of s w) leaf))) (not (is_private (of s w) new)) (not (is_linkable (of s w) new leaf)) NoSlot NotPinned NotHeld NotPrivate NotReady _ ok))
+      go (Fill x f v) ok alone = rw (learn_filled w (of s w) x f v) (fill_aged x f v (slot_inside s h law x 6 (or_parts (outside 6 s.layout.nodes x) (is_edge f && nat_lt s.layout.nodes v) (passed _ _ _ ok).0).0) (fill_checked s w (Fill x f v) ok x f v refl)
+          (third (outside 6 s.layout.nodes x || (is_edge f && nat_lt s.layout.nodes v)) (not (is_private (of s w) x)) (is_early (draft_of (of s w) x) f v (node s.memory x).birth) NoSlot NotPrivate NotReady _ ok))
+      go (Link p d leaf new) ok alone = link_aged p d leaf new (link_checked s w p d leaf new ok).ready
       go (Flag p d leaf) ok alone = same_aged s w _ _ (exchange_word s.memory p d leaf _) (exchange_pool s.memory p d leaf _) (drafts_flag w (of s w) p d leaf _)
       go (Tag p d) ok alone = same_aged s w _ _ (edge_word s.memory p d (tagged (edge s.memory p d))) (λ y. refl) (drafts_tag w (of s w) p d _)
       go (Splice a d x p keep) ok alone = same_aged s w _ _ (exchange_word s.memory a d x (kept (read (of s w) p keep))) (exchange_pool s.memory a d x (kept (read (of s w) p keep))) (drafts_splice w (of s w) a d x p keep _)

@@ -4,12 +4,11 @@ use Rattle.std.specs.Prelude.{Option, Some, None}
 use Rattle.std.proofs.lemmas.Bool.{eqb-true, eq-eqb, or_cases, or_left, or_right}
 use Rattle.std.proofs.lemmas.Option.{none-some, same_Some}
 use Rattle.nm_edge.specs.declared.edge.Side.{Side}
-use Rattle.nm_edge.specs.declared.edge.Side.TheVariants.{Left, Right}
 use Rattle.nm_edge.specs.Edges.{other}
 use Rattle.nm_laws.proofs.Trees.{same_side}
 use Rattle.nm_model.proofs.Numbers.{among}
 use Rattle.nm_model.specs.Paths.{follow}
-use Rattle.nm_laws.proofs.Trees.{Children, same_side-true, same_side-false, same_side-refl, follow-append, follow_leaf, append_cancel, rest_after, Exchanged, not_taken, Taken, taken, is_taken}
+use Rattle.nm_laws.proofs.Trees.{Children, each_side, same_side-true, same_side-false, same_side-refl, follow-append, follow_leaf, append_cancel, rest_after, Exchanged, not_taken, Taken, taken, is_taken}
 
 -- a way down, and beside each of its nodes a leaf
 abbrev pub IsFrozen : Children → ℕ → List Side → Type 0
@@ -79,14 +78,10 @@ stop c [] s x frozen h = absurd (true≢false (sym h))
 stop c (e ∷ way) s x frozen h = elim (or_cases (eqb x s) _ h) [
   | inl here ↦ let is = eqb-true x s here in record { path = []; short = refl; ends = sym is; is_slot = rw is frozen.0 }
   | inr later ↦ elim (or_cases (eqb x (c s (other e))) _ later) [
-    | inl twin ↦ let is = eqb-true x (c s (other e)) twin in record { path = other e ∷ []; short = off e; ends = sym is; is_slot = rw is frozen.1 }
+    | inl twin ↦ let is = eqb-true x (c s (other e)) twin in record { path = other e ∷ []; short = each_side (λ d. beyond (d ∷ way) (other d ∷ []) ≡ None) refl refl e; ends = sym is; is_slot = rw is frozen.1 }
     | inr on ↦ let r = stop c way (c s e) x frozen.3 on in record { path = e ∷ r.path; short = rw (same_side-refl e) r.short; ends = r.ends; is_slot = r.is_slot }
   ]
 ]
-  where
-    off : (e : Side) → beyond (e ∷ way) (other e ∷ []) ≡ None
-    off Left = refl
-    off Right = refl
 
 -- ---- the splice itself
 

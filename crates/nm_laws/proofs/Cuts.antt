@@ -1,24 +1,22 @@
 -- A splice that is won cuts just the nodes of its reply, and nothing else cuts anything.
-use Rattle.std.proofs.Common.{◌≡◌, ℕ, ◌<◌, Bool, true, false, cond, not, ◌||◌, ◌&&◌, List, [], ◌∷◌, ◌++◌, length, map, refl, sym, ap, ◌∙◌, arith, true≢false}
-use Rattle.std.specs.Prelude.{Option, Some, None, is_some, is_none, unwrap_or, Result, Ok, Err, Contains}
-use Rattle.std.proofs.lemmas.Bool.{cond-true, and_parts, or_parts, not-false}
+use Rattle.std.proofs.Common.{◌≡◌, ℕ, ◌<◌, Bool, true, false, cond, ◌&&◌, List, [], ◌∷◌, ◌++◌, length, map, refl, sym, ap, ◌∙◌, arith, true≢false}
+use Rattle.std.specs.Prelude.{Option, Some, None, is_some, unwrap_or, Ok, Contains}
+use Rattle.std.proofs.lemmas.Bool.{cond-true, and_parts}
 use Rattle.std.proofs.lemmas.Option.{slice_get-get_or, slice_get_within, get_or_from_slice_get}
 use Rattle.nm_edge.specs.Edges.{Edge, to, other, is_to}
 use Rattle.nm_edge.specs.declared.edge.Side.{Side}
 use Rattle.nm_edge.specs.declared.node.NodeId.{NodeId}
 use Rattle.nm_model.specs.declared.event.Event.TheVariants.{Splice}
-use Rattle.nm_model.specs.declared.reply.Reply.{Reply}
 use Rattle.nm_model.specs.declared.reply.Reply.TheVariants.{Cut, Lost}
 use Rattle.nm_model.specs.declared.reply.Refused.{Refused}
-use Rattle.nm_model.specs.declared.reply.Refused.TheVariants.{NoSlot, NotPinned, NotHeld, NotFrozen}
 use Rattle.nm_model.specs.Memory.{Memory, edge, named, put_edge}
-use Rattle.nm_model.specs.Knowledge.{knows, read, is_flagged, is_tagged, way, cut_by}
+use Rattle.nm_model.specs.Knowledge.{read, is_flagged, is_tagged, way, cut_by}
 use Rattle.nm_model.specs.Paths.{follow, at, IsCut}
-use Rattle.nm_model.specs.Step.{outside, is_frozen, refusal, reply, write, exchanged, kept, cut_nodes}
+use Rattle.nm_model.specs.Step.{reply, write, exchanged, kept, cut_nodes}
 use Rattle.nm_model.specs.Runs.{State, of, start, after, next, outcome, refused, answered, unless_refused, applied}
 use Rattle.nm_model.specs.Laws.{OfEachState, slots_of, CutsJust, NamesBirths, OfEachCut}
 use Rattle.nm_model.proofs.Numbers.{among}
-use Rattle.nm_laws.proofs.Steps.{Allowed, allowed, passed, third, fourth}
+use Rattle.nm_laws.proofs.Steps.{Allowed, allowed}
 use Rattle.nm_laws.proofs.Trees.{same_follow}
 use Rattle.nm_laws.proofs.CutPaths.{nodes_cut}
 use Rattle.nm_laws.proofs.Pictures.{below}
@@ -26,9 +24,9 @@ use Rattle.nm_laws.proofs.Splices.{spliced, IsSplice, cut_law, cut_law_back, amo
 use Rattle.nm_laws.proofs.Views.{picture, edge_put, held_queue}
 use Rattle.nm_laws.proofs.TreeSlots.{is_to-true}
 use Rattle.nm_laws.proofs.TreeSplice.{splice_shown, cut_is, named_slots}
-use Rattle.nm_laws.proofs.TreeSteps.{Lawful, high_from}
+use Rattle.nm_laws.proofs.TreeSteps.{Lawful, SpliceChecked, splice_checked}
 use Rattle.nm_laws.proofs.Lawful.{lawful}
-use Rattle.nm_laws.proofs.Outcomes.{same_reply}
+use Rattle.nm_laws.proofs.Outcomes.{same_reply, no_reply}
 
 -- ---- what is among a list
 
@@ -58,14 +56,11 @@ won_splice s w a d x p keep ns h = go (refused s w (Splice a d x p keep)) refl h
     by true i h = (i, same_cut _ _ h)
     by false i h = cc
 
-    differ : (r : Refused) → ◌≡◌ {A = Result Reply Refused} (Err r) (Ok (Cut ns)) → ⊥
-    differ r h = cc
-
     go : (o : Option Refused) → refused s w (Splice a d x p keep) ≡ o → answered o (reply s.layout s.memory (of s w) (Splice a d x p keep)) ≡ Ok (Cut ns) → Won s w a d x p keep ns
     go None is h =
         let k = by (is_to (edge s.memory a d) x) refl (same_reply _ _ h) in
         record { ok = allowed s w (Splice a d x p keep) is; won = k.0; nodes = k.1; next_is = ap (λ o. unless_refused o s (applied s w (Splice a d x p keep))) is }
-    go (Some r) is h = absurd (differ r h)
+    go (Some r) is h = absurd (no_reply r (Cut ns) h)
 
 -- what the splice has shown, by the picture of the state
 pub record Shown (s : State) (h : ℕ → ℕ) (w a : ℕ) (d : Side) (x p : ℕ) (keep : Side) : Type 0 where
@@ -78,20 +73,10 @@ pub record Shown (s : State) (h : ℕ → ℕ) (w a : ℕ) (d : Side) (x p : ℕ
   pub splice : IsSplice s.layout.nodes (picture s h) w (length (held_queue (of s (h w)) w)) a d (sides ++ keep ∷ []) (kept (read (of s w) p keep))
 
 pub shown : (s : State) (h : ℕ → ℕ) → Lawful s h → (w a : ℕ) (d : Side) (x p : ℕ) (keep : Side) → Allowed s w (Splice a d x p keep) → is_to (edge s.memory a d) x ≡ true → Shown s h w a d x p keep
-unfolding refusal
-shown s h law w a d x p keep ok won = by (way s.layout.nodes (of s w) x p) refl (and_parts (is_some (way s.layout.nodes (of s w) x p)) (is_tagged (read (of s w) p keep) && is_flagged (read (of s w) p (other keep))) frozen)
+shown s h law w a d x p keep ok won = by (way s.layout.nodes (of s w) x p) refl (and_parts (is_some (way s.layout.nodes (of s w) x p)) (is_tagged (read (of s w) p keep) && is_flagged (read (of s w) p (other keep))) c.frozen)
   where
-    first : Bool
-    first = outside 1 s.layout.nodes a || (outside 6 s.layout.nodes x || outside 6 s.layout.nodes p)
-
-    slots : (outside 6 s.layout.nodes x ≡ false) × (outside 6 s.layout.nodes p ≡ false)
-    slots = or_parts (outside 6 s.layout.nodes x) (outside 6 s.layout.nodes p) (or_parts (outside 1 s.layout.nodes a) (outside 6 s.layout.nodes x || outside 6 s.layout.nodes p) (passed _ _ _ ok.event).0).1
-
-    seen : (knows (of s w) a ≡ true) × (knows (of s w) x ≡ true)
-    seen = and_parts (knows (of s w) a) (knows (of s w) x) (not-false _ (third first (is_none (of s w).brief.pin) (not (knows (of s w) a && knows (of s w) x)) NoSlot NotPinned NotHeld _ ok.event))
-
-    frozen : is_frozen s.layout (of s w) x p keep ≡ true
-    frozen = not-false (is_frozen s.layout (of s w) x p keep) (fourth first (is_none (of s w).brief.pin) (not (knows (of s w) a && knows (of s w) x)) (not (is_frozen s.layout (of s w) x p keep)) NoSlot NotPinned NotHeld NotFrozen _ ok.event)
+    c : SpliceChecked s.layout (of s w) a x p keep
+    c = splice_checked s w a d x p keep ok.event
 
     by : (o : Option (List Side)) → way s.layout.nodes (of s w) x p ≡ o → (is_some (way s.layout.nodes (of s w) x p) ≡ true) × ((is_tagged (read (of s w) p keep) && is_flagged (read (of s w) p (other keep))) ≡ true) → Shown s h w a d x p keep
     by None found parts = absurd (true≢false (sym parts.0 ∙ ap is_some found))
@@ -103,9 +88,9 @@ shown s h law w a d x p keep ok won = by (way s.layout.nodes (of s w) x p) refl 
           found = found;
           tag = marks.0;
           flag = marks.1;
-          inside = let r = law.tree.known w a seen.0 in let size = law.roomy.nodes in omega arith;
+          inside = let r = law.tree.known w a c.known in let size = law.roomy.nodes in omega arith;
           is = is;
-          splice = splice_shown s.layout.nodes s.memory (of s) h w a d x p keep sides (high_from 6 s.layout.nodes x slots.0).0 (high_from 6 s.layout.nodes p slots.1).0 seen.0 seen.1 found marks.0 marks.1 is law.tree;
+          splice = splice_shown s.layout.nodes s.memory (of s) h w a d x p keep sides c.high.0 c.high.1 c.known c.held found marks.0 marks.1 is law.tree;
         }
 
 module _ (s : State) (h : ℕ → ℕ) (law : Lawful s h) (w a : ℕ) (d : Side) (x p : ℕ) (keep : Side) (k : Shown s h w a d x p keep) where

@@ -1,5 +1,5 @@
 -- The epoch is a pin's or one above it, over all events.
-use Rattle.std.proofs.Common.{◌≡◌, ℕ, ◌+◌, ◌==◌, ◌<◌, ◌≤◌, ◌≢◌, ◌⊎◌, inl, inr, Bool, true, false, cond, not, ◌||◌, List, length, get_or, refl, sym, ap, ◌∙◌, arith, get_or-set_same, get_or-set_other, true≢false, length-set, le_of_eq}
+use Rattle.std.proofs.Common.{◌≡◌, ℕ, ◌+◌, ◌==◌, ◌<◌, ◌≤◌, ◌≢◌, ◌⊎◌, inl, inr, Bool, true, false, cond, not, ◌||◌, List, length, get_or, refl, sym, ap, ◌∙◌, arith, get_or-set_same, get_or-set_other, true≢false, length-set, le_of_eq, subst}
 use Rattle.std.specs.Prelude.{Option, Some, None, is_some, is_none, unwrap_or, set}
 use Rattle.std.specs.List.{enumerate_from}
 use Rattle.std.proofs.lemmas.Bool.{cond_both, eqb-true, eq-eqb, or_parts, or_cases, not-false, cases_lt, leb-false}
@@ -11,19 +11,18 @@ use Rattle.nm_edge.specs.declared.edge.Side.{Side}
 use Rattle.nm_model.specs.declared.event.Event.{Event}
 use Rattle.nm_model.specs.declared.event.Event.TheVariants.{Sight, SightFor, Announce, Leave, LeaveWith, Scan, Advance, Claim, Give, Look, Fill, Link, Flag, Tag, Splice, Join}
 use Rattle.nm_model.specs.declared.event.Field.{Field}
-use Rattle.nm_model.specs.declared.event.Field.TheVariants.{Edge as EdgeOn, Birth}
 use Rattle.nm_model.specs.declared.reply.Reply.{Reply}
-use Rattle.nm_model.specs.declared.reply.Reply.TheVariants.{Labelled, Pinned, Missed, Moved, Behind, Claimed, Returned, Freed, BirthIs, EdgeIs, Filled, Linked, Flagged, Was, Cut, Lost, Joined}
+use Rattle.nm_model.specs.declared.reply.Reply.TheVariants.{Labelled, Pinned, Missed, Moved, Behind, Claimed, Returned, Freed, Filled, Linked, Flagged, Was, Cut, Lost, Joined}
 use Rattle.nm_model.specs.Maps.{is_number}
 use Rattle.nm_model.specs.Memory.{Memory, announcement, edge, put_edge}
 use Rattle.nm_model.specs.Knowledge.{Knowledge, newcomer}
-use Rattle.nm_model.specs.Learning.{learn, saw, labelling, pinned, moved as advanced, forgotten, look_known, look_private, resigned, inheriting}
+use Rattle.nm_model.specs.Learning.{learn, saw, labelling, pinned, moved as advanced, forgotten, resigned, inheriting}
 use Rattle.nm_model.specs.Step.{exchanged, reply_sight, confirmed, reply_scan, others_scanned, is_held_back, refusal, reply, write}
 use Rattle.nm_model.specs.Runs.{State, of, is_no_worker, join_refusal, refusal_of, applied}
 use Rattle.nm_model.proofs.Numbers.{number_is, repeated, passes_at, mark_or}
 use Rattle.nm_laws.proofs.Steps.{each, both, moved, Allowed, passed, is_worker}
 use Rattle.nm_laws.proofs.Sizes.{Staffed}
-use Rattle.nm_laws.proofs.Learned.{learn_sight_for, learn_leave_with, learn_saw, learn_labelled, learn_pinned, learn_missed, learn_announced, learn_departed, learn_idle, learn_in, learn_moved, learn_behind}
+use Rattle.nm_laws.proofs.Learned.{learn_sight_for, learn_leave_with, learn_saw, learn_labelled, learn_pinned, learn_missed, learn_announced, learn_departed, learn_idle, learn_in, learn_moved, learn_behind, look_teaches}
 
 -- the announcements, pins, sights and scans of all workers agree with the epoch
 pub record EpochLaw (s : State) : Type 0 where
@@ -58,22 +57,13 @@ module _ (w : ℕ) (k : Knowledge) where
   alike_give s (Freed n) = record { seen = refl; announcement = refl; pin = refl; scanned = refl }
   alike_give s _ = itself k
 
-  alike_known : (s : ℕ) (f : Field) (r : Reply) → Alike k (look_known k s f r)
-  alike_known s (EdgeOn side) (EdgeIs e) = record { seen = refl; announcement = refl; pin = refl; scanned = refl }
-  alike_known s Birth (BirthIs b) = record { seen = refl; announcement = refl; pin = refl; scanned = refl }
-  alike_known s _ _ = itself k
-
-  alike_private : (s : ℕ) (f : Field) (r : Reply) → Alike k (look_private k s f r)
-  alike_private s Birth (BirthIs b) = record { seen = refl; announcement = refl; pin = refl; scanned = refl }
-  alike_private s _ _ = itself k
-
   alike_either : (b : Bool) (l m : Knowledge) → Alike k l → Alike k m → Alike k (cond b l m)
   alike_either true l m p q = p
   alike_either false l m p q = q
 
   pub alike_look : (s : ℕ) (f : Field) (r : Reply) → Alike k (learn w k (Look s f) r)
   unfolding learn
-  alike_look s f r = alike_either _ _ _ (alike_private s f r) (alike_known s f r)
+  alike_look s f r = subst (Alike k) (sym (look_teaches k s f r)) (record { seen = refl; announcement = refl; pin = refl; scanned = refl })
 
   pub alike_fill : (s : ℕ) (f : Field) (v : ℕ) → Alike k (learn w k (Fill s f v) Filled)
   unfolding learn

@@ -3,7 +3,7 @@ use Rattle.std.proofs.Common.{◌≡◌, ℕ, zero, suc, ◌+◌, ◌-◌, ◌==
 use Rattle.std.specs.Prelude.{Option, Some, None, is_some, is_none, slice_get, drop, Result, Ok, Err, option_map}
 use native.Mathlib.Decide.{ℕ_discrete}
 use Rattle.std.specs.List.{list_any}
-use Rattle.std.proofs.lemmas.Bool.{cond_both, cond-true, eq-eqb, and_from, cases_lt}
+use Rattle.std.proofs.lemmas.Bool.{cond_both, cond-true, eq-eqb, and_from, cases_lt, or_right}
 use Rattle.std.proofs.lemmas.List.{length-map}
 use Rattle.std.proofs.lemmas.Option.{none-some, same_Some, slice_get-get_or}
 use Rattle.nm_edge.specs.Edges.{Edge, is_to}
@@ -54,10 +54,6 @@ IsLeave e = ⊥
 -- worker w left by that event
 abbrev left_by : ℕ → Event → Turn
 left_by w e = record { worker = w; event = e; outcome = Ok Departed }
-
-or-true : (b : Bool) → (b || true) ≡ true
-or-true true = refl
-or-true false = refl
 
 leave_departs : (e : Event) → IsLeave e → departs e (Ok Departed) ≡ true
 leave_departs Leave is = refl
@@ -155,7 +151,7 @@ left_or_pinned s staffed [] u p pin = inr pin
 left_or_pinned s staffed (t ∷ ts) u p pin = go (pin_turn s staffed t u p pin) (λ still. left_or_pinned (next s t) (staffed_next s t staffed) ts u p still)
   where
     on : HasLeft u (trace (next s t) ts) ⊎ ((of (after (next s t) ts) u).brief.pin ≡ Some p) → HasLeft u (told_as s t ∷ trace (next s t) ts) ⊎ ((of (after (next s t) ts) u).brief.pin ≡ Some p)
-    on (inl left) = inl (ap (λ (b : Bool). leaves u (told_as s t) || b) left ∙ or-true (leaves u (told_as s t)))
+    on (inl left) = inl (ap (λ (b : Bool). leaves u (told_as s t) || b) left ∙ or_right (leaves u (told_as s t)) true refl)
     on (inr still) = inr still
 
     go : IsLeaveOf u (told_as s t) ⊎ ((of (next s t) u).brief.pin ≡ Some p) → ((of (next s t) u).brief.pin ≡ Some p → HasLeft u (trace (next s t) ts) ⊎ ((of (after (next s t) ts) u).brief.pin ≡ Some p))

@@ -1,9 +1,9 @@
 -- Births that a worker knows, and what it stored in a private slot, stand in memory.
-use Rattle.std.proofs.Common.{◌≡◌, ℕ, ◌+◌, ◌==◌, ◌<◌, ◌≢◌, ◌⊎◌, inl, inr, eqb, Bool, true, false, cond, not, ◌||◌, ◌&&◌, [], length, get_or, refl, sym, ap, subst, ◌∙◌, arith, true≢false, get_or-set_same, get_or-set_other}
+use Rattle.std.proofs.Common.{◌≡◌, ℕ, ◌+◌, ◌==◌, ◌<◌, ◌≢◌, ◌⊎◌, inl, inr, eqb, Bool, true, false, cond, ◌&&◌, [], length, get_or, refl, sym, ap, ◌∙◌, arith, true≢false, get_or-set_same, get_or-set_other}
 use Rattle.std.specs.Prelude.{Option, Some, None, is_some, unwrap_or, nat_lt}
 use Rattle.std.specs.Ordering.{nat_cmp, is_eq}
 use native.Mathlib.Decide.{ℕ_discrete}
-use Rattle.std.proofs.lemmas.Bool.{cond_both, cond-true, cond-false, cases_lt, eqb-true, eq-eqb, ne_eqb, or_parts, not-false}
+use Rattle.std.proofs.lemmas.Bool.{cond_both, cond-true, cond-false, cases_lt, eqb-true, eq-eqb, ne_eqb, or_parts}
 use Rattle.std.proofs.lemmas.List.{set_past}
 use Rattle.std.proofs.lemmas.Option.{none-some, same_Some}
 use Rattle.nm_edge.specs.Edges.{Edge, to, is_to, tagged}
@@ -14,9 +14,7 @@ use Rattle.nm_model.specs.declared.event.Field.TheVariants.{Key, Edge as EdgeOn,
 use Rattle.nm_model.specs.declared.event.Event.{Event}
 use Rattle.nm_model.specs.declared.event.Event.TheVariants.{Sight, SightFor, Announce, Leave, LeaveWith, Scan, Advance, Claim, Give, Look, Fill, Link, Flag, Tag, Splice, Join}
 use Rattle.nm_model.specs.declared.reply.Reply.TheVariants.{Labelled, Pinned, Missed, Moved, Behind, Claimed, Taken, Returned, Freed, Linked, Flagged, Cut, Lost}
-use Rattle.nm_model.specs.declared.reply.Refused.{Refused}
 use Rattle.nm_edge.specs.Layouts.{Layout}
-use Rattle.nm_model.specs.declared.reply.Refused.TheVariants.{NoSlot, NotPrivate}
 use Rattle.nm_model.specs.declared.memory.Node.{Node}
 use Rattle.nm_model.specs.declared.knowledge.Seen.{Seen}
 use Rattle.nm_model.specs.declared.knowledge.Draft.{Draft}
@@ -26,11 +24,11 @@ use Rattle.nm_model.specs.Ledgers.{front_of}
 use Rattle.nm_model.specs.Knowledge.{Knowledge, unread, unfilled, knows, is_private, seen_of, draft_of, read, beside}
 use Rattle.nm_model.specs.Learning.{learn, saw, pinned, met, with_read, read_edge, look_private, look_known, filled_in, linked_in, flag_to}
 use Rattle.nm_model.specs.Step.{outside, is_edge, reply_sight, confirmed, reply_scan, reply_look, node_of, node_linked, cut_nodes, exchanged, filled, kept, refusal, reply, write}
-use Rattle.nm_model.specs.Runs.{State, of, start, next, refused, refusal_of, reply_of, applied, unless_refused}
+use Rattle.nm_model.specs.Runs.{State, of, start, next, refusal_of, reply_of, applied}
 use Rattle.nm_model.specs.Laws.{OfEachState}
 use Rattle.nm_model.specs.Lawful.{EachBirthStands}
 use Rattle.nm_model.proofs.Tables.{get-put, get-without, ascends-without}
-use Rattle.nm_laws.proofs.Steps.{each, Allowed, allowed, passed, second}
+use Rattle.nm_laws.proofs.Steps.{each, Allowed, passed}
 use Rattle.nm_laws.proofs.Epochs.{other_worker}
 use Rattle.nm_laws.proofs.Pins.{all_new}
 use Rattle.nm_laws.proofs.Learned.{learn_sight_for, learn_leave_with, learn_saw, learn_labelled, learn_pinned, learn_missed, learn_announced, learn_departed, learn_idle, learn_in, learn_moved, learn_behind, learn_claimed, learn_taken, learn_returned, learn_freed, learn_look, learn_filled, learn_linked, learn_link_lost, learn_flagged, learn_flag_lost, learn_was, learn_cut, learn_splice_lost}
@@ -38,9 +36,8 @@ use Rattle.nm_laws.proofs.Pictures.{nowhere_else}
 use Rattle.nm_laws.proofs.Pictures.Spot.{PrivateTo}
 use Rattle.nm_laws.proofs.Views.{picture, seen_met}
 use Rattle.nm_laws.proofs.Holders.{joins, by_worker}
-use Rattle.nm_laws.proofs.TreeSteps.{Lawful, high_from}
-use Rattle.nm_laws.proofs.Lawful.{applied_is, JoinOrNot, join_or_not}
-use Rattle.nm_laws.proofs.Lawful.JoinOrNot.{IsJoin, IsNone}
+use Rattle.nm_laws.proofs.TreeSteps.{Lawful, slot_inside, fill_checked}
+use Rattle.nm_laws.proofs.Lawful.{applied_is, each_turn}
 use Rattle.nm_laws.proofs.Turns.{LawfulTurn}
 use Rattle.nm_laws.proofs.Once.{OnceLaw, sound_over, sound_start}
 
@@ -178,10 +175,6 @@ drafted_private k x g none b = go (get k.drafts x)
     go None is = absurd (none-some b (sym none ∙ is))
     go (Some d) is = refl
 
-fill_private : (s : State) (w x : ℕ) (f : Field) (v : ℕ) → Allowed s w (Fill x f v) → is_private (of s w) x ≡ true
-unfolding refusal
-fill_private s w x f v ok = not-false (is_private (of s w) x) (second (outside 6 s.layout.nodes x || (is_edge f && nat_lt s.layout.nodes v)) (not (is_private (of s w) x)) NoSlot NotPrivate _ ok.event)
-
 module _ (s : State) (h : ℕ → ℕ) (law : Lawful s h) (w : ℕ) where
   -- a known slot is private to nobody
   known_not_private : (u v x : ℕ) → knows (of s u) x ≡ true → is_private (of s v) x ≡ true → ⊥
@@ -194,12 +187,6 @@ module _ (s : State) (h : ℕ → ℕ) (law : Lawful s h) (w : ℕ) where
       same : (u v : ℕ) → PrivateTo u ≡ PrivateTo v → u ≡ v
       same u v e = cc
 
-  fills_own : (e : Event) → Allowed s w e → (y : ℕ) (f : Field) (v : ℕ) → e ≡ Fill y f v → is_private (of s w) y ≡ true
-  fills_own e ok y f v is = by (subst (λ (z : Event). Allowed s w z) is ok)
-    where
-      by : Allowed s w (Fill y f v) → is_private (of s w) y ≡ true
-      by ok = fill_private s w y f v ok
-
   others_fit : (e : Event) → Allowed s w e → (u : ℕ) → u ≢ w → Fits s.memory (of s u) → Fits (write s.memory (of s w) w e) (of s u)
   others_fit e ok u ne fits = record {
     seen = λ x b is. (same x (λ own. known_not_private u w x (seen_known (of s u) x b is) own)).birth ∙ fits.seen x b is;
@@ -209,7 +196,7 @@ module _ (s : State) (h : ℕ → ℕ) (law : Lawful s h) (w : ℕ) where
   }
     where
       same : (x : ℕ) → (is_private (of s w) x ≡ true → ⊥) → SameNode s.memory (write s.memory (of s w) w e) x
-      same x apart = written_same s.memory (of s w) w e x (λ y f v is z. apart (rw z (fills_own e ok y f v is)))
+      same x apart = written_same s.memory (of s w) w e x (λ y f v is z. apart (rw z (fill_checked s w e ok.event y f v is)))
 
   fill_fits : (x : ℕ) (f : Field) (v : ℕ) → x < length s.memory.nodes → is_private (of s w) x ≡ true → Fits s.memory (of s w)
       → Fits (put_node s.memory x (filled (node s.memory x) f v)) (record (of s w) { drafts = put (of s w).drafts x (filled_in (draft_of (of s w) x) f v) })
@@ -357,8 +344,7 @@ module _ (s : State) (h : ℕ → ℕ) (law : Lawful s h) (w : ℕ) where
           (λ _. rw (learn_freed w (of s w) x _) (quiet_fits _ _ (λ y. record { birth = refl; key = refl }) (less_known (of s w) _ refl refl) fits))
       go (Look x f) ok alone = look_fits x f fits
       go (Fill x f v) ok alone = rw (learn_filled w (of s w) x f v) (fill_fits x f v
-          (let range = high_from 6 s.layout.nodes x (or_parts (outside 6 s.layout.nodes x) (is_edge f && nat_lt s.layout.nodes v) (passed _ _ _ ok).0).0 in let size = law.roomy.nodes in omega arith)
-          (not-false (is_private (of s w) x) (second (outside 6 s.layout.nodes x || (is_edge f && nat_lt s.layout.nodes v)) (not (is_private (of s w) x)) NoSlot NotPrivate _ ok)) fits)
+          (slot_inside s h law x 6 (or_parts (outside 6 s.layout.nodes x) (is_edge f && nat_lt s.layout.nodes v) (passed _ _ _ ok).0).0) (fill_checked s w (Fill x f v) ok x f v refl) fits)
       go (Link p d leaf new) ok alone = cond_both (is_to (edge s.memory p d) leaf) (Linked (node_linked (of s w) new)) (Lost (edge s.memory p d)) (λ r. Fits (write s.memory (of s w) w (Link p d leaf new)) (learn w (of s w) (Link p d leaf new) r))
           (λ _. rw (learn_linked w (of s w) p d leaf new (node_linked (of s w) new)) (quiet_fits _ _ (exchange_same s.memory p d leaf (to new)) (linked_less leaf new) fits))
           (λ _. rw (learn_link_lost w (of s w) p d leaf new (edge s.memory p d)) (quiet_fits _ _ (exchange_same s.memory p d leaf (to new)) (less_read (of s w) p d (edge s.memory p d)) fits))
@@ -379,23 +365,12 @@ fits_joined s w v inside there ne fits = by_worker s (applied s w (Join v)) w v 
     (fits_less s.memory (of s w) _ (less_known (of s w) _ refl refl) (fits w)) (fits_less s.memory (of s v) _ (less_known (of s v) _ refl refl) (fits v)) (λ u _ _. fits u)
 
 fits_next : (s : State) (h : ℕ → ℕ) → Lawful s h → OnceLaw s h → (t : ℕ × Event) (turn : LawfulTurn s h t) → ((u : ℕ) → Fits s.memory (of s u)) → (u : ℕ) → Fits (next s t).memory (of (next s t) u)
-unfolding next
-fits_next s h law once t turn fits = go (refused s t.0 t.1) refl
+fits_next s h law once t turn fits = each_turn s (λ t. (u : ℕ) → Fits (next s t).memory (of (next s t) u)) (λ t r is_next _. rw is_next fits)
+    (λ w e ok is_next _ alone. rw (is_next ∙ applied_is s w e alone) (each s.layout (λ u k. Fits (write s.memory (of s w) w e) k) s.workers w _ (inside w ok.worker) (own_fits s h law w e ok alone (fits w)) (λ u ne. others_fit s h law w e ok u ne (fits u))))
+    (λ w v ok is_next _. let there = other_worker s w v ok.event in rw is_next (fits_joined s w v (inside w ok.worker) (inside v there.1) there.0 fits)) t
   where
-    go : (o : Option Refused) → refused s t.0 t.1 ≡ o → (u : ℕ) → Fits (unless_refused o s (applied s t.0 t.1)).memory (of (unless_refused o s (applied s t.0 t.1)) u)
-    go (Some r) is = fits
-    go None is = by (join_or_not t.1)
-      where
-        ok : Allowed s t.0 t.1
-        ok = allowed s t.0 t.1 is
-
-        inside : t.0 < length s.workers
-        inside = let size = law.staffed.workers in let lt = ok.worker in omega arith
-
-        by : JoinOrNot t.1 → (u : ℕ) → Fits (applied s t.0 t.1).memory (of (applied s t.0 t.1) u)
-        by (IsNone alone) = rw (applied_is s t.0 t.1 alone) (each s.layout (λ u k. Fits (write s.memory (of s t.0) t.0 t.1) k) s.workers t.0 _ inside (own_fits s h law t.0 t.1 ok alone (fits t.0)) (λ u ne. others_fit s h law t.0 t.1 ok u ne (fits u)))
-        by (IsJoin v e) = subst (λ (x : Event). Allowed s t.0 x → (u : ℕ) → Fits (applied s t.0 x).memory (of (applied s t.0 x) u)) (sym e)
-            (λ ok. let there = other_worker s t.0 v ok.event in fits_joined s t.0 v inside (let size = law.staffed.workers in let lt = there.1 in omega arith) there.0 fits) ok
+    inside : (w : ℕ) → w < s.layout.workers → w < length s.workers
+    inside w lt = let size = law.staffed.workers in omega (arith, size, lt)
 
 fits_start : (L : Layout) (u : ℕ) → Fits (start L).memory (of (start L) u)
 fits_start L u = rw (all_new L u) (record { seen = λ x b is. absurd (none-some b is); looked = λ x b is. absurd (none-some b is); stored = λ x b is. absurd (none-some b is); key = λ x v is. absurd (none-some v is) })

@@ -11,7 +11,6 @@ use Rattle.nm_edge.specs.declared.node.NodeId.{NodeId}
 use Rattle.nm_model.specs.declared.event.Event.{Event}
 use Rattle.nm_model.specs.declared.event.Event.TheVariants.{Join}
 use Rattle.nm_model.specs.declared.reply.Reply.{Reply}
-use Rattle.nm_model.specs.declared.reply.Refused.{Refused}
 use Rattle.nm_model.specs.declared.reply.Refused.TheVariants.{NoWorker, NotReady}
 use Rattle.nm_model.specs.declared.ledger.Queued.{Queued}
 use Rattle.nm_model.specs.declared.ledger.Ledger.{Ledger}
@@ -19,10 +18,10 @@ use Rattle.nm_model.specs.Maps.{or_else}
 use Rattle.nm_model.specs.Memory.{named}
 use Rattle.nm_model.specs.Ledgers.{held, queue_of, unlabelled, with_label, labelled, with_cut, taken_over}
 use Rattle.nm_model.specs.Knowledge.{Knowledge, newcomer, way, cut_by}
-use Rattle.nm_model.specs.Runs.{State, of, start, after, next, refused, reply_of, applied, unless_refused, join_refusal, is_no_worker}
+use Rattle.nm_model.specs.Runs.{State, of, start, after, next, reply_of, applied, join_refusal, is_no_worker}
 use Rattle.nm_model.specs.Lawful.{MayPrecede, BriefsAreRight, LabelsDoNotFall, NoLabelIsAboveTheEpoch}
 use Rattle.nm_model.specs.Laws.{OfEachState}
-use Rattle.nm_laws.proofs.Steps.{each, Allowed, allowed, second}
+use Rattle.nm_laws.proofs.Steps.{each, second}
 use Rattle.nm_laws.proofs.Epochs.{other_worker}
 use Rattle.nm_laws.proofs.Pins.{all_new}
 use Rattle.nm_laws.proofs.Held.{held-label, held-retire_same, held-retire_other, held-taken_over}
@@ -32,8 +31,7 @@ use Rattle.nm_laws.proofs.Holders.{Holders, Joins, joins, by_worker, none_held}
 use Rattle.nm_laws.proofs.Views.{held_queue}
 use Rattle.nm_laws.proofs.TreeSplice.{Owns}
 use Rattle.nm_laws.proofs.TreeSteps.{Lawful, owned}
-use Rattle.nm_laws.proofs.Lawful.{applied_is, JoinOrNot, join_or_not}
-use Rattle.nm_laws.proofs.Lawful.JoinOrNot.{IsJoin, IsNone}
+use Rattle.nm_laws.proofs.Lawful.{applied_is, each_turn}
 use Rattle.nm_laws.proofs.Opening.{new_queue}
 use Rattle.nm_laws.proofs.Origins.{OriginStep, ledger_at}
 use Rattle.nm_laws.proofs.Origins.OriginStep.{Unchanged, Relabelled, Extended, Shortened}
@@ -245,26 +243,13 @@ clear_hands : (s : State) (w v : ℕ) → join_refusal s w v ≡ None → (of s 
 clear_hands s w v ok = (or_parts (not (length (of s v).drafts == 0)) (of s v).brief.unlabelled (second ((v == w) || is_no_worker s v) (not (length (of s v).drafts == 0) || (of s v).brief.unlabelled) NoWorker NotReady _ ok)).1
 
 briefed_next : (s : State) (h : ℕ → ℕ) → Lawful s h → ((u : ℕ) → Briefed u (of s u)) → (t : ℕ × Event) → (u : ℕ) → Briefed u (of (next s t) u)
-unfolding next
-briefed_next s h law b t = go (refused s t.0 t.1) refl
+briefed_next s h law b = each_turn s (λ t. (u : ℕ) → Briefed u (of (next s t) u)) (λ t r is_next _. rw is_next b)
+    (λ w e ok is_next _ alone. rw (is_next ∙ applied_is s w e alone) (each s.layout Briefed s.workers w _ (inside w ok.worker) (briefed_change s h law w (b w) e (reply_of s w e) _ ok.worker ok.stays (changed s w e ok alone).ledgers) (λ u _. b u)))
+    (λ w v ok is_next _. let there = other_worker s w v ok.event in rw is_next
+    (briefed_joined s h w v (applied s w (Join v)) law.holders (joins s w v (inside w ok.worker) (inside v there.1) there.0) there.0 ok.worker ok.stays (clear_hands s w v ok.event) b))
   where
-    go : (o : Option Refused) → refused s t.0 t.1 ≡ o → (u : ℕ) → Briefed u (of (unless_refused o s (applied s t.0 t.1)) u)
-    go (Some r) is = b
-    go None is = by (join_or_not t.1)
-      where
-        ok : Allowed s t.0 t.1
-        ok = allowed s t.0 t.1 is
-
-        inside : t.0 < length s.workers
-        inside = let size = law.staffed.workers in let lt = ok.worker in omega arith
-
-        by : JoinOrNot t.1 → (u : ℕ) → Briefed u (of (applied s t.0 t.1) u)
-        by (IsNone alone) = rw (applied_is s t.0 t.1 alone) (each s.layout Briefed s.workers t.0 _ inside
-            (briefed_change s h law t.0 (b t.0) t.1 (reply_of s t.0 t.1) _ ok.worker ok.stays (changed s t.0 t.1 ok alone).ledgers) (λ u _. b u))
-        by (IsJoin v e) = subst (λ (x : Event). Allowed s t.0 x → (u : ℕ) → Briefed u (of (applied s t.0 x) u)) (sym e)
-            (λ ok.
-            let there = other_worker s t.0 v ok.event in
-            briefed_joined s h t.0 v (applied s t.0 (Join v)) law.holders (joins s t.0 v inside (let size = law.staffed.workers in let lt = there.1 in omega arith) there.0) there.0 ok.worker ok.stays (clear_hands s t.0 v ok.event) b) ok
+    inside : (w : ℕ) → w < s.layout.workers → w < length s.workers
+    inside w lt = let size = law.staffed.workers in omega (arith, size, lt)
 
 -- ---- runs
 

@@ -1,14 +1,16 @@
 -- Every state of every run is lawful.
-use Rattle.std.proofs.Common.{◌≡◌, ℕ, ◌<◌, ◌≤◌, ◌≢◌, List, length, refl, sym, subst, arith, true≢false}
+use Rattle.std.proofs.Common.{◌≡◌, ℕ, ◌<◌, ◌≤◌, ◌≢◌, List, length, refl, sym, ap, subst, arith, true≢false}
+use Rattle.std.specs.Prelude.{Option, Some, None, Ok, Err}
 use Rattle.nm_edge.specs.Layouts.{Layout}
 use Rattle.nm_model.specs.declared.event.Event.{Event}
 use Rattle.nm_model.specs.declared.event.Event.TheVariants.{Join}
+use Rattle.nm_model.specs.declared.reply.Refused.{Refused}
 use Rattle.nm_model.specs.Knowledge.{Knowledge}
 use Rattle.nm_model.specs.Learning.{learn}
 use Rattle.nm_model.specs.Step.{write}
-use Rattle.nm_model.specs.Runs.{State, of, start, reply_of, applied, after}
+use Rattle.nm_model.specs.Runs.{State, of, start, reply_of, refused, applied, unless_refused, answered, next, outcome, after}
 use Rattle.nm_laws.proofs.Reaches.{IsReachable}
-use Rattle.nm_laws.proofs.Steps.{each, moved, Allowed, by_steps}
+use Rattle.nm_laws.proofs.Steps.{each, moved, Allowed, allowed, by_steps}
 use Rattle.nm_laws.proofs.Sizes.{staffed_step, staffed_start, roomy_step, roomy_start}
 use Rattle.nm_laws.proofs.Epochs.{epoch_step, other_worker}
 use Rattle.nm_laws.proofs.Pins.{epoch_start, all_new}
@@ -76,6 +78,30 @@ pub data JoinOrNot (e : Event) : Type 0 where
 pub join_or_not : (e : Event) → JoinOrNot e
 join_or_not (Join v) = IsJoin v refl
 join_or_not e = IsNone (λ v h. cc)
+
+-- what holds of a turn that is refused, of one that is no join and of a join, holds of every turn
+pub each_turn : (s : State) (P : ℕ × Event → Type 0)
+    → ((t : ℕ × Event) (r : Refused) → next s t ≡ s → outcome s t ≡ Err r → P t)
+    → ((w : ℕ) (e : Event) → Allowed s w e → next s (w, e) ≡ applied s w e → outcome s (w, e) ≡ Ok (reply_of s w e) → ((v : ℕ) → e ≡ Join v → ⊥) → P (w, e))
+    → ((w v : ℕ) → Allowed s w (Join v) → next s (w, Join v) ≡ applied s w (Join v) → outcome s (w, Join v) ≡ Ok (reply_of s w (Join v)) → P (w, Join v))
+    → (t : ℕ × Event) → P t
+unfolding next outcome
+each_turn s P stays moves joined t = go (refused s t.0 t.1) refl
+  where
+    go : (o : Option Refused) → refused s t.0 t.1 ≡ o → P t
+    go (Some r) is = stays t r (ap (λ x. unless_refused x s (applied s t.0 t.1)) is) (ap (λ x. answered x (reply_of s t.0 t.1)) is)
+    go None is = by (join_or_not t.1)
+      where
+        is_next : next s t ≡ applied s t.0 t.1
+        is_next = ap (λ x. unless_refused x s (applied s t.0 t.1)) is
+
+        is_outcome : outcome s t ≡ Ok (reply_of s t.0 t.1)
+        is_outcome = ap (λ x. answered x (reply_of s t.0 t.1)) is
+
+        by : JoinOrNot t.1 → P t
+        by (IsNone alone) = moves t.0 t.1 (allowed s t.0 t.1 is) is_next is_outcome alone
+        by (IsJoin v e) = subst (λ (x : Event). Allowed s t.0 x → next s (t.0, x) ≡ applied s t.0 x → outcome s (t.0, x) ≡ Ok (reply_of s t.0 x) → P (t.0, x)) (sym e)
+            (λ ok n q. joined t.0 v ok n q) (allowed s t.0 t.1 is) is_next is_outcome
 
 pub lawful_step : (s : State) (w : ℕ) (e : Event) → IsLawful s → Allowed s w e → IsLawful (applied s w e)
 lawful_step s w e lawful ok = go (join_or_not e)

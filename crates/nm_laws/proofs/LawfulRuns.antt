@@ -1,5 +1,5 @@
 -- What one run keeps, from any state that can be reached, and its grace.
-use Rattle.std.proofs.Common.{◌≡◌, ℕ, zero, suc, ◌+◌, ◌<◌, List, [], ◌∷◌, ◌++◌, length, take, refl, sym, ap, subst, ◌∙◌, arith}
+use Rattle.std.proofs.Common.{◌≡◌, ℕ, zero, suc, ◌<◌, List, [], ◌∷◌, ◌++◌, length, take, refl, sym, ap, subst, ◌∙◌, arith}
 use Rattle.std.specs.Prelude.{Some, Result, Ok, Contains}
 use Rattle.nm_edge.specs.declared.node.NodeId.{NodeId}
 use Rattle.nm_model.specs.declared.event.Event.{Event}
@@ -55,7 +55,7 @@ record Head (s : State) (ts : List (ℕ × Event)) (turn : Turn) (rest : List Tu
 pub same_head : (x y : Turn) (xs ys : List Turn) → x ∷ xs ≡ y ∷ ys → (x ≡ y) × (xs ≡ ys)
 same_head x y xs ys e = (cc, cc)
 
-no_turn : (x : Turn) (xs : List Turn) → [] ≡ x ∷ xs → ⊥
+pub no_turn : (x : Turn) (xs : List Turn) → [] ≡ x ∷ xs → ⊥
 no_turn x xs e = cc
 
 head_of : (s : State) (ts : List (ℕ × Event)) (turn : Turn) (rest : List Turn) → trace s ts ≡ turn ∷ rest → Head s ts turn rest

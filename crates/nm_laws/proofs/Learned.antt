@@ -1,19 +1,50 @@
 -- The rows of the table `learn`, one by one. Proofs cite these, and leave the table itself closed.
 use Rattle.std.proofs.Common.{◌≡◌, ℕ, ◌==◌, Bool, true, List, cond, refl}
 use Rattle.std.specs.Prelude.{Option, Some}
+use Rattle.std.proofs.lemmas.Bool.{cond_both}
 use Rattle.nm_edge.specs.Edges.{Edge, tagged}
 use Rattle.nm_edge.specs.declared.edge.Side.{Side}
 use Rattle.nm_edge.specs.declared.node.NodeId.{NodeId}
 use Rattle.nm_model.specs.declared.event.Field.{Field}
+use Rattle.nm_model.specs.declared.event.Field.TheVariants.{Edge as EdgeOn, Birth}
 use Rattle.nm_model.specs.declared.event.Event.TheVariants.{Sight, SightFor, Announce, Leave, LeaveWith, Scan, Advance, Claim, Give, Look, Fill, Link, Flag, Tag, Splice, Join}
 use Rattle.nm_model.specs.declared.event.Op.{Op}
 use Rattle.nm_model.specs.declared.reply.Reply.{Reply}
-use Rattle.nm_model.specs.declared.reply.Reply.TheVariants.{Saw, Labelled, Pinned, Missed, Announced, Departed, Idle, In, Moved, Behind, Claimed, Taken, Returned, Freed, Filled, Linked, Flagged, Was, Cut, Lost, Joined}
+use Rattle.nm_model.specs.declared.reply.Reply.TheVariants.{Saw, Labelled, Pinned, Missed, Announced, Departed, Idle, In, Moved, Behind, Claimed, Taken, Returned, Freed, Filled, Linked, Flagged, Was, Cut, Lost, Joined, BirthIs, EdgeIs}
 use Rattle.nm_model.specs.declared.ledger.Ledger.{Ledger}
 use Rattle.nm_model.specs.Maps.{put, without, is_number}
 use Rattle.nm_model.specs.Ledgers.{free}
 use Rattle.nm_model.specs.Knowledge.{Knowledge, unfilled, is_private, draft_of}
-use Rattle.nm_model.specs.Learning.{learn, saw, labelling, pinned, departed, scanned, moved, read_edge, look_known, look_private, filled_in, linked_in, flag_to, cutting, inheriting, resigned}
+use Rattle.nm_model.specs.Learning.{learn, saw, labelling, pinned, departed, scanned, moved, read_edge, look_known, look_private, filled_in, linked_in, flag_to, cutting, inheriting, resigned, learn_sight, learn_scan, looked}
+
+-- ---- what a sight, a scan and a look may change
+
+pub sight_teaches : (k : Knowledge) (r : Reply) → learn_sight k r ≡ record k { brief = (learn_sight k r).brief; scanned = (learn_sight k r).scanned; known = (learn_sight k r).known; ledgers = (learn_sight k r).ledgers }
+sight_teaches k (Saw e) = refl
+sight_teaches k (Labelled e) = refl
+sight_teaches k (Pinned e) = refl
+sight_teaches k (Missed e) = refl
+sight_teaches k _ = refl
+
+pub scan_teaches : (k : Knowledge) (u : ℕ) (r : Reply) → learn_scan k u r ≡ record k { scanned = (learn_scan k u r).scanned }
+scan_teaches k u Idle = refl
+scan_teaches k u (In e) = refl
+scan_teaches k u _ = refl
+
+pub look_teaches : (k : Knowledge) (s : ℕ) (f : Field) (r : Reply) → looked k s f r ≡ record k { known = (looked k s f r).known; drafts = (looked k s f r).drafts }
+look_teaches k s f r = cond_both (is_private k s) (look_private k s f r) (look_known k s f r) (λ (l : Knowledge). l ≡ record k { known = l.known; drafts = l.drafts })
+    (λ _. own f r) (λ _. shared f r)
+  where
+    own : (f : Field) (r : Reply) → look_private k s f r ≡ record k { known = (look_private k s f r).known; drafts = (look_private k s f r).drafts }
+    own Birth (BirthIs b) = refl
+    own _ _ = refl
+
+    shared : (f : Field) (r : Reply) → look_known k s f r ≡ record k { known = (look_known k s f r).known; drafts = (look_known k s f r).drafts }
+    shared (EdgeOn side) (EdgeIs e) = refl
+    shared Birth (BirthIs b) = refl
+    shared _ _ = refl
+
+-- ---- the rows
 
 module _ (w : ℕ) (k : Knowledge) where
   pub learn_saw : (e : ℕ) → learn w k Sight (Saw e) ≡ saw k e

@@ -8,13 +8,12 @@ use Rattle.nm_edge.specs.Edges.{Edge}
 use Rattle.nm_edge.specs.declared.edge.Side.{Side}
 use Rattle.nm_edge.specs.declared.edge.Side.TheVariants.{Left}
 use Rattle.nm_edge.specs.Edges.{to, other}
-use Rattle.nm_laws.proofs.Trees.{same_side}
+use Rattle.nm_laws.proofs.Trees.{same_side, no_longer}
 use Rattle.nm_model.specs.Paths.{follow}
 use Rattle.nm_laws.proofs.Pictures.{Spot}
 use Rattle.nm_laws.proofs.Pictures.Spot.{InPool, PrivateTo, OnPath, InQueue}
 use Rattle.nm_laws.proofs.Trees.{follow-append, follow_leaf, same_side-false, rest_after, Exchanged, not_taken, taken, is_taken, unvisited, same_side-true}
 use Rattle.nm_laws.proofs.Pictures.{Picture, below, Stands, Once, IsLive, InReach, TreeLaw, new_place, nowhere_else, alone, null_below, IsOnPath, in_reach}
-use Rattle.std.proofs.Common.{append-nil}
 use Rattle.nm_laws.proofs.Trees.{append_cancel}
 use Rattle.nm_laws.proofs.Slots.{hand, hand-same, hand-other, with_edge_at, with_edge-other, is_exchanged}
 use Rattle.nm_laws.proofs.Readings.{changed_or}
@@ -84,14 +83,8 @@ module _ (r : Bool) (N : ℕ) (P : Picture) (w p : ℕ) (d : Side) (leaf new far
   leaf_path : (u : List Side) → follow (below P) 1 (p_on_path.path ++ d ∷ u) ≡ follow (below P) leaf u
   leaf_path u = follow-append (below P) 1 p_on_path.path (d ∷ u) ∙ (ap (λ (s : ℕ). follow (below P) (below P s d) u) p_on_path.ends ∙ ap (λ (s : ℕ). follow (below P) s u) leads_to_leaf)
 
-  longer : (q u : List Side) → q ≡ q ++ d ∷ u → ⊥
-  longer q u h = nil (append_cancel q [] (d ∷ u) (append-nil q ∙ h))
-    where
-      nil : [] ≡ d ∷ u → ⊥
-      nil h = cc
-
   never_back : (u : List Side) → follow (below P) leaf u ≡ p → ⊥
-  never_back u h = longer p_on_path.path u (alone N P law p_on_path.path (p_on_path.path ++ d ∷ u) (rw p_on_path.ends link.is_slot) (p_on_path.ends ∙ sym (leaf_path u ∙ h)))
+  never_back u h = no_longer d p_on_path.path u (alone N P law p_on_path.path (p_on_path.path ++ d ∷ u) (rw p_on_path.ends link.is_slot) (p_on_path.ends ∙ sym (leaf_path u ∙ h)))
 
   unless_p : (x : ℕ) (g : Side) → x ≢ p → with_edge_at P.edges p d (to new) x g ≡ P.edges x g
   unless_p x g ne = with_edge-other P.edges p d (to new) x g ne
@@ -176,7 +169,7 @@ module _ (r : Bool) (N : ℕ) (P : Picture) (w p : ℕ) (d : Side) (leaf new far
       go (Some t) k =
           let i = taken (below P) (below Q) p d new exchange 1 p_on_path.path t k in
           let first : p_on_path.path ≡ i.front = alone N P law p_on_path.path i.front (rw p_on_path.ends link.is_slot) (p_on_path.ends ∙ sym i.comes) in
-          absurd (longer p_on_path.path t (i.is ∙ ap (λ (r : List Side). r ++ d ∷ t) (sym first)))
+          absurd (no_longer d p_on_path.path t (i.is ∙ ap (λ (r : List Side). r ++ d ∷ t) (sym first)))
 
   through : (t : List Side) → follow (below Q) 1 (p_on_path.path ++ d ∷ t) ≡ follow (below Q) new t
   through t = follow-append (below Q) 1 p_on_path.path (d ∷ t)

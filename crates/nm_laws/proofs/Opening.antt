@@ -19,7 +19,7 @@ use Rattle.nm_model.specs.Paths.{follow}
 use Rattle.nm_model.specs.Runs.{start}
 use Rattle.nm_model.proofs.Numbers.{repeated}
 use Rattle.nm_laws.proofs.Holders.{none_held}
-use Rattle.nm_laws.proofs.Trees.{follow_none}
+use Rattle.nm_laws.proofs.Trees.{follow_none, each_side, each_slot}
 use Rattle.nm_laws.proofs.Pictures.{Picture, below, TreeLaw, Spot, Stands, Once}
 use Rattle.nm_laws.proofs.Pictures.Spot.{InPool, PrivateTo, OnPath, InQueue}
 use Rattle.nm_laws.proofs.Views.{picture, view, held_queue, queued_at, drafted_on}
@@ -30,11 +30,7 @@ abbrev opened : Layout → Picture
 opened L = view (start L).memory (newcomer L) (λ o. o)
 
 edge_six : (L : Layout) (x : ℕ) (d : Side) → (opened L).edges (suc (suc (suc (suc (suc (suc x)))))) d ≡ to 0
-edge_six L x d = ap (λ (n : Node). edge_of n d) (repeated (L.nodes - 5) x blank) ∙ plain d
-  where
-    plain : (d : Side) → edge_of blank d ≡ to 0
-    plain Left = refl
-    plain Right = refl
+edge_six L x d = ap (λ (n : Node). edge_of n d) (repeated (L.nodes - 5) x blank) ∙ each_side (λ e. edge_of blank e ≡ to 0) refl refl d
 
 -- nothing waits in a newcomer's queues
 pub new_queue : (L : Layout) (u o : ℕ) → held_queue (newcomer L u) o ≡ []
@@ -54,41 +50,24 @@ module _ (L : Layout) (enough : 5 ≤ L.nodes) where
   no_queue o i x h = none-some x (sym (ap (λ q. queued_at q i) (new_queue L o o)) ∙ h)
 
   null : (x : ℕ) (d : Side) → x ≢ 1 → x ≢ 2 → P.edges x d ≡ to 0
-  null zero Left a b = refl
-  null zero Right a b = refl
-  null (suc zero) d a b = absurd (a refl)
-  null (suc (suc zero)) d a b = absurd (b refl)
-  null (suc (suc (suc zero))) Left a b = refl
-  null (suc (suc (suc zero))) Right a b = refl
-  null (suc (suc (suc (suc zero)))) Left a b = refl
-  null (suc (suc (suc (suc zero)))) Right a b = refl
-  null (suc (suc (suc (suc (suc zero))))) Left a b = refl
-  null (suc (suc (suc (suc (suc zero))))) Right a b = refl
-  null (suc (suc (suc (suc (suc (suc x)))))) d a b = edge_six L x d
+  null = each_slot (λ x. (d : Side) → x ≢ 1 → x ≢ 2 → P.edges x d ≡ to 0) (each_side _ (λ a b. refl) (λ a b. refl)) (λ d a b. absurd (a refl)) (λ d a b. absurd (b refl))
+      (each_side _ (λ a b. refl) (λ a b. refl)) (each_side _ (λ a b. refl) (λ a b. refl)) (each_side _ (λ a b. refl) (λ a b. refl)) (λ x d a b. edge_six L x d)
 
-  plain : (x : ℕ) (d : Side) → (P.edges x d).flag ≡ false
-  plain (suc zero) Left = refl
-  plain (suc zero) Right = refl
-  plain (suc (suc zero)) Left = refl
-  plain (suc (suc zero)) Right = refl
-  plain zero d = ap (λ (e : Edge). e.flag) (null zero d (λ h. absurd (omega arith)) (λ h. absurd (omega arith)))
-  plain (suc (suc (suc x))) d = ap (λ (e : Edge). e.flag) (null (suc (suc (suc x))) d (λ h. absurd (omega arith)) (λ h. absurd (omega arith)))
+  -- what holds of a null edge and of the edges of slots 1 and 2 holds of each
+  each_edge : (Q : Edge → Type 0) → Q (to 0) → ((d : Side) → Q (P.edges 1 d)) → ((d : Side) → Q (P.edges 2 d)) → (x : ℕ) (d : Side) → Q (P.edges x d)
+  each_edge Q none one two (suc zero) d = one d
+  each_edge Q none one two (suc (suc zero)) d = two d
+  each_edge Q none one two zero d = subst Q (sym (null zero d (λ h. absurd (omega arith)) (λ h. absurd (omega arith)))) none
+  each_edge Q none one two (suc (suc (suc x))) d = subst Q (sym (null (suc (suc (suc x))) d (λ h. absurd (omega arith)) (λ h. absurd (omega arith)))) none
+
+  pub plain : (x : ℕ) (d : Side) → (P.edges x d).flag ≡ false
+  plain = each_edge (λ e. e.flag ≡ false) refl (each_side _ refl refl) (each_side _ refl refl)
 
   untagged : (x : ℕ) (d : Side) → (P.edges x d).tag ≡ false
-  untagged (suc zero) Left = refl
-  untagged (suc zero) Right = refl
-  untagged (suc (suc zero)) Left = refl
-  untagged (suc (suc zero)) Right = refl
-  untagged zero d = ap (λ (e : Edge). e.tag) (null zero d (λ h. absurd (omega arith)) (λ h. absurd (omega arith)))
-  untagged (suc (suc (suc x))) d = ap (λ (e : Edge). e.tag) (null (suc (suc (suc x))) d (λ h. absurd (omega arith)) (λ h. absurd (omega arith)))
+  untagged = each_edge (λ e. e.tag ≡ false) refl (each_side _ refl refl) (each_side _ refl refl)
 
   low : (x : ℕ) (d : Side) → below P x d ≤ 5
-  low (suc zero) Left = omega arith
-  low (suc zero) Right = omega arith
-  low (suc (suc zero)) Left = omega arith
-  low (suc (suc zero)) Right = omega arith
-  low zero d = let e = ap (λ (e : Edge). e.slot) (null zero d (λ h. absurd (omega arith)) (λ h. absurd (omega arith))) in omega arith
-  low (suc (suc (suc x))) d = let e = ap (λ (e : Edge). e.slot) (null (suc (suc (suc x))) d (λ h. absurd (omega arith)) (λ h. absurd (omega arith))) in omega arith
+  low = each_edge (λ e. e.slot ≤ 5) (omega arith) (each_side _ (omega arith) (omega arith)) (each_side _ (omega arith) (omega arith))
 
   nothing : (q : List Side) → follow (below P) 0 q ≡ 0
   nothing q = follow_none (below P) (λ d. ap (λ (e : Edge). e.slot) (null 0 d (λ h. absurd (omega arith)) (λ h. absurd (omega arith)))) q
@@ -139,25 +118,18 @@ module _ (L : Layout) (enough : 5 ≤ L.nodes) where
       each (InQueue u i) h = absurd (no_queue u i _ h)
 
   places : (x : ℕ) → x ≢ 0 → x ≤ L.nodes → Once P x
-  places zero some inside = absurd (some refl)
-  places (suc zero) some inside = fixed 1 some refl refl
-  places (suc (suc zero)) some inside = fixed 2 some refl refl
-  places (suc (suc (suc zero))) some inside = fixed 3 some refl refl
-  places (suc (suc (suc (suc zero)))) some inside = fixed 4 some refl refl
-  places (suc (suc (suc (suc (suc zero))))) some inside = fixed 5 some refl refl
-  places (suc (suc (suc (suc (suc (suc x)))))) some inside = pooled x inside
+  places = each_slot (λ x. x ≢ 0 → x ≤ L.nodes → Once P x) (λ some inside. absurd (some refl)) (λ some inside. fixed 1 some refl refl) (λ some inside. fixed 2 some refl refl)
+      (λ some inside. fixed 3 some refl refl) (λ some inside. fixed 4 some refl refl) (λ some inside. fixed 5 some refl refl) (λ x some inside. pooled x inside)
 
   pool_range : (x : ℕ) → P.pool x ≡ true → (6 ≤ x) × (x ≤ L.nodes)
-  pool_range zero h = absurd (true≢false (sym h))
-  pool_range (suc zero) h = absurd (true≢false (sym h))
-  pool_range (suc (suc zero)) h = absurd (true≢false (sym h))
-  pool_range (suc (suc (suc zero))) h = absurd (true≢false (sym h))
-  pool_range (suc (suc (suc (suc zero)))) h = absurd (true≢false (sym h))
-  pool_range (suc (suc (suc (suc (suc zero))))) h = absurd (true≢false (sym h))
-  pool_range (suc (suc (suc (suc (suc (suc x)))))) h = (omega arith, elim (cases_lt x (L.nodes - 5)) [ inl lt ↦ omega arith | inr past ↦ absurd (true≢false (sym h ∙ over past)) ])
+  pool_range = each_slot (λ x. P.pool x ≡ true → (6 ≤ x) × (x ≤ L.nodes)) out out out out out out
+      (λ x h. (omega arith, elim (cases_lt x (L.nodes - 5)) [ inl lt ↦ omega arith | inr past ↦ absurd (true≢false (sym h ∙ over x past)) ]))
     where
-      over : L.nodes - 5 ≤ x → get_or (replicate (L.nodes - 5) true) x false ≡ false
-      over past = get_or_past (replicate (L.nodes - 5) true) x false (let n = length-replicate (L.nodes - 5) true in omega arith)
+      out : {x : ℕ} → false ≡ true → (6 ≤ x) × (x ≤ L.nodes)
+      out h = absurd (true≢false (sym h))
+
+      over : (x : ℕ) → L.nodes - 5 ≤ x → get_or (replicate (L.nodes - 5) true) x false ≡ false
+      over x past = get_or_past (replicate (L.nodes - 5) true) x false (let n = length-replicate (L.nodes - 5) true in omega arith)
 
   twin : (x : ℕ) (d : Side) → below P x d ≡ 0 → below P x (other d) ≡ 0
   twin (suc zero) Left h = absurd (omega arith)

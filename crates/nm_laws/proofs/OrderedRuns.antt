@@ -81,7 +81,7 @@ same_frees (x ∷ xs) [] a = absurd a
 same_frees (x ∷ xs) (y ∷ ys) a = λ i. same_freed x y a.0 i ++ same_frees xs ys a.1 i
 
 -- nor does it leave
-none_departs : (e : Event) (q : Refused) → departs e (Err q) ≡ false
+pub none_departs : (e : Event) (q : Refused) → departs e (Err q) ≡ false
 none_departs Leave q = refl
 none_departs (LeaveWith answer) q = refl
 none_departs e q = refl

@@ -9,7 +9,6 @@ use Rattle.nm_model.specs.declared.event.Event.{Event}
 use Rattle.nm_model.specs.declared.event.Event.TheVariants.{Give, Join}
 use Rattle.nm_model.specs.declared.reply.Reply.{Reply}
 use Rattle.nm_model.specs.declared.reply.Reply.TheVariants.{Cut, Freed}
-use Rattle.nm_model.specs.declared.reply.Refused.{Refused}
 use Rattle.nm_model.specs.declared.ledger.Queued.{Queued}
 use Rattle.nm_model.specs.declared.ledger.Ledger.{Ledger}
 use Rattle.nm_model.specs.Maps.{or_else}
@@ -18,17 +17,16 @@ use Rattle.nm_model.specs.Ledgers.{held, labelled, with_cut, with_freed, free, t
 use Rattle.nm_model.specs.Knowledge.{Knowledge}
 use Rattle.nm_model.specs.Learning.{learn}
 use Rattle.nm_model.specs.Step.{write}
-use Rattle.nm_model.specs.Runs.{State, of, start, after, trace, next, outcome, answered, refused, reply_of, applied, unless_refused}
+use Rattle.nm_model.specs.Runs.{State, of, start, after, trace, next, outcome, reply_of, applied}
 use Rattle.nm_model.specs.Laws.{nodes_cut_of, cuts_of}
-use Rattle.nm_laws.proofs.Steps.{each, moved, Allowed, allowed, by_step}
+use Rattle.nm_laws.proofs.Steps.{each, moved, Allowed, by_step}
 use Rattle.nm_laws.proofs.Sizes.{Staffed, staffed_step, staffed_start}
 use Rattle.nm_laws.proofs.Epochs.{other_worker}
 use Rattle.nm_laws.proofs.Held.{held-label, held-retire_same, held-retire_other, held-taken_over}
 use Rattle.nm_laws.proofs.Changes.{Ripe, IsWon, Change, Changed, changed}
 use Rattle.nm_laws.proofs.Changes.Change.{Keeps, Labels, Cuts, Frees}
 use Rattle.nm_laws.proofs.Holders.{Holders, heirs, Joins, joins, by_worker, holders_moved, holders_joined, holders_start}
-use Rattle.nm_laws.proofs.Lawful.{applied_is, JoinOrNot, join_or_not}
-use Rattle.nm_laws.proofs.Lawful.JoinOrNot.{IsJoin, IsNone}
+use Rattle.nm_laws.proofs.Lawful.{applied_is, each_turn}
 
 -- the ledger of an origin, by who holds it
 abbrev pub ledger_at : State → (ℕ → ℕ) → ℕ → Option Ledger
@@ -177,30 +175,9 @@ turned_joined s h staffed holders w v ok is_next is_outcome = record {
     j = joins s w v (let size = staffed.workers in let lt = ok.worker in omega arith) (let size = staffed.workers in let lt = there.1 in omega arith) there.0
 
 pub turned : (s : State) (h : ℕ → ℕ) → Staffed s → Holders s h → (t : ℕ × Event) → Turned s h t
-unfolding next outcome
-turned s h staffed holders t = go (refused s t.0 t.1) refl
-  where
-    go : (o : Option Refused) → refused s t.0 t.1 ≡ o → Turned s h t
-    go (Some r) is = record {
-      holder = h;
-      holders = rw is_next holders;
-      step = λ o. rw is_next (Unchanged refl (uncut s t o (ap (λ x. nodes_cut_of (answered x (reply_of s t.0 t.1))) is)));
-    }
-      where
-        is_next : next s t ≡ s
-        is_next = ap (λ x. unless_refused x s (applied s t.0 t.1)) is
-    go None is = by (join_or_not t.1)
-      where
-        is_next : next s t ≡ applied s t.0 t.1
-        is_next = ap (λ x. unless_refused x s (applied s t.0 t.1)) is
-
-        is_outcome : outcome s t ≡ Ok (reply_of s t.0 t.1)
-        is_outcome = ap (λ x. answered x (reply_of s t.0 t.1)) is
-
-        by : JoinOrNot t.1 → Turned s h t
-        by (IsNone alone) = turned_moved s h staffed holders t.0 t.1 (allowed s t.0 t.1 is) is_next is_outcome alone
-        by (IsJoin v e) = subst (λ (x : Event). Allowed s t.0 x → next s (t.0, x) ≡ applied s t.0 x → outcome s (t.0, x) ≡ Ok (reply_of s t.0 x) → Turned s h (t.0, x)) (sym e)
-            (λ ok n q. turned_joined s h staffed holders t.0 v ok n q) (allowed s t.0 t.1 is) is_next is_outcome
+turned s h staffed holders = each_turn s (Turned s h)
+    (λ t r is_next is_refused. record { holder = h; holders = rw is_next holders; step = λ o. rw is_next (Unchanged refl (uncut s t o (ap nodes_cut_of is_refused))) })
+    (turned_moved s h staffed holders) (turned_joined s h staffed holders)
 
 -- ---- what holds over runs
 

@@ -106,6 +106,22 @@ pub record TreeLaw (N : ℕ) (P : Picture) : Type 0 where
 pub same_place : (P Q : Picture) (x : ℕ) → ((q : Spot) → Stands P x q → Stands Q x q) → ((q : Spot) → Stands Q x q → Stands P x q) → Once P x → Once Q x
 same_place P Q x there back once = record { place = once.place; here = there once.place once.here; only = λ q h. once.only q (back q h) }
 
+-- pool, hands and queues have the slot as before, and each path leads where it led
+pub same_ways : (P Q : Picture) (x : ℕ) → Q.pool x ≡ P.pool x → ((u : ℕ) → Q.private u x ≡ P.private u x) → ((u i : ℕ) → Q.queue u i ≡ P.queue u i) → ((q : List Side) → follow (below Q) 1 q ≡ follow (below P) 1 q) → Once P x → Once Q x
+same_ways P Q x pool private queue path = same_place P Q x there back
+  where
+    there : (q : Spot) → Stands P x q → Stands Q x q
+    there InPool h = pool ∙ h
+    there (PrivateTo u) h = private u ∙ h
+    there (OnPath q) h = path q ∙ h
+    there (InQueue u i) h = queue u i ∙ h
+
+    back : (q : Spot) → Stands Q x q → Stands P x q
+    back InPool h = sym pool ∙ h
+    back (PrivateTo u) h = sym (private u) ∙ h
+    back (OnPath q) h = sym (path q) ∙ h
+    back (InQueue u i) h = sym (queue u i) ∙ h
+
 -- it goes from old to new, and stood nowhere else
 pub new_place : (P Q : Picture) (x : ℕ) (old new : Spot) → Stands P x old → Stands Q x new → ((q : Spot) → Stands Q x q → (q ≡ new) ⊎ (Stands P x q × (q ≢ old))) → Once P x → Once Q x
 new_place P Q x old new was is each once = record { place = new; here = is; only = λ q h. go q (each q h) }

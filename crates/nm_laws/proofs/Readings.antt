@@ -8,10 +8,8 @@ use Rattle.nm_edge.specs.declared.edge.Side.TheVariants.{Left}
 use Rattle.nm_edge.specs.Edges.{other}
 use Rattle.nm_laws.proofs.Trees.{same_side}
 use Rattle.nm_model.specs.Paths.{follow}
-use Rattle.nm_laws.proofs.Pictures.{Spot}
-use Rattle.nm_laws.proofs.Pictures.Spot.{InPool, PrivateTo, OnPath, InQueue}
 use Rattle.nm_laws.proofs.Trees.{follow-append, same_follow, same_side-true}
-use Rattle.nm_laws.proofs.Pictures.{Picture, below, Stands, IsLive, InReach, TreeLaw, same_place, within_path, reached_within, reached_live, path_not_queued, IsOnPath}
+use Rattle.nm_laws.proofs.Pictures.{Picture, below, IsLive, InReach, TreeLaw, same_ways, within_path, reached_within, reached_live, path_not_queued, IsOnPath}
 use Rattle.nm_laws.proofs.Slots.{with_edge_at, with_edge-other, with_edges}
 
 abbrev pub learned : Picture → (ℕ → ℕ → Bool) → (ℕ → ℕ → Side → Option Edge) → Picture
@@ -32,7 +30,7 @@ learn_keeps N P knows read law met heard = record {
   root_left = law.root_left;
   second = law.second;
   sentinels = law.sentinels;
-  places = λ x some inside. same_place P (learned P knows read) x (there x) (back x) (law.places x some inside);
+  places = λ x some inside. same_ways P (learned P knows read) x refl (λ u. refl) (λ u i. refl) (λ q. refl) (law.places x some inside);
   twins = λ x d h. law.twins x d (live x h);
   flags = λ x d h. law.flags x d (live x h);
   frozen = λ x d h. law.frozen x d (live x h);
@@ -50,18 +48,6 @@ learn_keeps N P knows read law met heard = record {
   where
     live : (x : ℕ) → IsLive (learned P knows read) x → IsLive P x
     live x h = record { pooled = h.pooled; shared = h.shared }
-
-    there : (x : ℕ) (q : Spot) → Stands P x q → Stands (learned P knows read) x q
-    there x InPool h = h
-    there x (PrivateTo u) h = h
-    there x (OnPath p) h = h
-    there x (InQueue u i) h = h
-
-    back : (x : ℕ) (q : Spot) → Stands (learned P knows read) x q → Stands P x q
-    back x InPool h = h
-    back x (PrivateTo u) h = h
-    back x (OnPath p) h = h
-    back x (InQueue u i) h = h
 
     were : (u x : ℕ) → InReach (learned P knows read) u x → InReach P u x ⊎ IsOnPath P x
     were u x r = go (met u r.from r.known)
@@ -136,7 +122,7 @@ mark_keeps N P p d e law mark = record {
   root_left = same 1 Left ∙ law.root_left;
   second = rw (same 2 Left) law.second;
   sentinels = λ x g a b. same x g ∙ law.sentinels x g a b;
-  places = λ x some inside. same_place P (with_edges P p d e) x (there x) (back x) (law.places x some inside);
+  places = λ x some inside. same_ways P (with_edges P p d e) x refl (λ u. refl) (λ u i. refl) (path 1) (law.places x some inside);
   twins = λ x g h z. same x (other g) ∙ law.twins x g (live x h) (sym (same x g) ∙ z);
   flags = λ x g h z. rw (same x g) (flag_high x g (live x h) (changed_or P p d e x g) z);
   frozen = λ x g h z. grows x (other g) (tag_twin x g (live x h) (changed_or P p d e x g) z);
@@ -167,18 +153,6 @@ mark_keeps N P p d e law mark = record {
 
     reach : (u x : ℕ) → InReach (with_edges P p d e) u x → InReach P u x
     reach u x r = record { from = r.from; known = r.known; path = r.path; ends = sym (path r.from r.path) ∙ r.ends; is_slot = r.is_slot }
-
-    there : (x : ℕ) (q : Spot) → Stands P x q → Stands (with_edges P p d e) x q
-    there x InPool h = h
-    there x (PrivateTo u) h = h
-    there x (OnPath q) h = path 1 q ∙ h
-    there x (InQueue u i) h = h
-
-    back : (x : ℕ) (q : Spot) → Stands (with_edges P p d e) x q → Stands P x q
-    back x InPool h = h
-    back x (PrivateTo u) h = h
-    back x (OnPath q) h = sym (path 1 q) ∙ h
-    back x (InQueue u i) h = h
 
     flag_high : (x : ℕ) (g : Side) → IsLive P x → ((x ≡ p) × (d ≡ g) × (with_edge_at P.edges p d e x g ≡ e)) ⊎ (with_edge_at P.edges p d e x g ≡ P.edges x g) → (with_edge_at P.edges p d e x g).flag ≡ true → 6 ≤ below P x g
     flag_high x g l (inl h) z = rw (h.0, ← h.1) (mark.flag_high (ap (λ (y : Edge). y.flag) (sym h.2) ∙ z))
@@ -229,7 +203,7 @@ time_keeps N P late law young = record {
   root_left = law.root_left;
   second = law.second;
   sentinels = law.sentinels;
-  places = λ x some inside. same_place P (timed P late) x (there x) (back x) (law.places x some inside);
+  places = λ x some inside. same_ways P (timed P late) x refl (λ u. refl) (λ u i. refl) (λ q. refl) (law.places x some inside);
   twins = λ x d h. law.twins x d (live x h);
   flags = λ x d h. law.flags x d (live x h);
   frozen = λ x d h. law.frozen x d (live x h);
@@ -250,15 +224,3 @@ time_keeps N P late law young = record {
 
     reach : (u x : ℕ) → InReach (timed P late) u x → InReach P u x
     reach u x r = record { from = r.from; known = r.known; path = r.path; ends = r.ends; is_slot = r.is_slot }
-
-    there : (x : ℕ) (q : Spot) → Stands P x q → Stands (timed P late) x q
-    there x InPool h = h
-    there x (PrivateTo u) h = h
-    there x (OnPath p) h = h
-    there x (InQueue u i) h = h
-
-    back : (x : ℕ) (q : Spot) → Stands (timed P late) x q → Stands P x q
-    back x InPool h = h
-    back x (PrivateTo u) h = h
-    back x (OnPath p) h = h
-    back x (InQueue u i) h = h

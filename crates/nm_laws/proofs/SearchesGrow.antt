@@ -1,19 +1,21 @@
 -- While a pin stands, what its search knows only grows.
-use Rattle.std.proofs.Common.{◌≡◌, ℕ, zero, suc, ◌<◌, ◌==◌, Bool, true, false, cond, ◌&&◌, ◌||◌, List, [], ◌∷◌, ◌++◌, map, length, get_or, true≢false, refl, sym, arith}
+use Rattle.std.proofs.Common.{◌≡◌, ℕ, zero, suc, ◌<◌, ◌==◌, true, false, cond, ◌&&◌, ◌||◌, List, [], ◌∷◌, ◌++◌, map, length, get_or, true≢false, refl, sym, arith}
 use Rattle.std.specs.Prelude.{Option, Some, None, is_none, Contains}
 use Rattle.std.specs.List.{list_any}
-use Rattle.std.proofs.lemmas.Bool.{cond_both, and_parts}
+use Rattle.std.proofs.lemmas.Bool.{cond_both, and_parts, or_left}
 use Rattle.std.proofs.lemmas.Option.{none-some}
 use Rattle.nm_edge.specs.declared.edge.Side.{Side}
+use Rattle.nm_edge.specs.declared.node.NodeId.{NodeId}
 use Rattle.nm_model.specs.declared.event.Field.{Field}
 use Rattle.nm_model.specs.declared.event.Field.TheVariants.{Key, Edge as EdgeOn}
+use Rattle.nm_model.specs.declared.event.Event.{Event}
 use Rattle.nm_model.specs.declared.event.Event.TheVariants.{Sight, SightFor, Leave, LeaveWith, Look, Link, Flag, Splice}
 use Rattle.nm_model.specs.declared.reply.Reply.{Reply}
 use Rattle.nm_model.specs.declared.reply.Reply.TheVariants.{Pinned, Departed, KeyIs, EdgeIs, Linked, Flagged, Cut}
 use Rattle.nm_model.specs.declared.arrivals.Call.{Call}
 use Rattle.nm_model.specs.declared.arrivals.Arrival.{Arrival}
-use Rattle.nm_model.specs.Searches.{Search, is_by, goes_on, is_first, new_arrival, with_arrival, keyed, ended, walk_edge, walked, is_flagged_in, look_for, searched}
-use Rattle.nm_model.specs.Walks.{GrowsTo, SearchGrows, SearchesOnlyGrow}
+use Rattle.nm_model.specs.Searches.{Search, is_by, goes_on, is_first, new_arrival, with_arrival, keyed, ended, walk_edge, walked, is_flagged_in, look_for, searched, idle}
+use Rattle.nm_model.specs.Walks.{GrowsTo, SearchGrows, SearchesOnlyGrow, begins_anew}
 
 -- ---- lists of arrivals
 
@@ -23,7 +25,8 @@ Grown [] bs = Unit {0}
 Grown (a ∷ xs) [] = ⊥
 Grown (a ∷ xs) (b ∷ bs) = GrowsTo a b × Grown xs bs
 
-same_arrival : (a : Arrival) → GrowsTo a a
+-- an arrival has grown to itself
+pub same_arrival : (a : Arrival) → GrowsTo a a
 same_arrival a = record { slot = refl; parent = refl; side = refl; key = λ v is. is; ended = λ is. is }
 
 same_arrivals : (xs more : List Arrival) → Grown xs (xs ++ more)
@@ -86,18 +89,43 @@ look_grows : (s : Search) (slot : ℕ) (f : Field) (r : Reply) (o : Option Call)
 look_grows s slot f r None = itself s
 look_grows s slot f r (Some c) = grows s (look_for s (Some c) slot f r) refl (λ is. is) (λ is. is) (walked_grows c.key s.walks slot f r)
 
-either_true : (a b : Bool) → a ≡ true → (a || b) ≡ true
-either_true true b is = refl
-either_true false b is = absurd (true≢false (sym is))
+-- ---- one event
+
+-- a look changes the arrivals alone
+pub look_beside : (s : Search) (o : Option Call) (slot : ℕ) (f : Field) (r : Reply) → look_for s o slot f r ≡ record s { walks = (look_for s o slot f r).walks; later = (look_for s o slot f r).later }
+look_beside s None slot f r = refl
+look_beside s (Some c) slot f r = refl
+
+-- where a pin is confirmed or left, nothing is known but the call
+pub begun_is : (s : Search) (e : Event) (r : Reply) → begins_anew (e, r) ≡ true → searched s e r ≡ record idle { call = (searched s e r).call }
+unfolding searched
+begun_is s Sight (Pinned n) anew = refl
+begun_is s (SightFor op key) (Pinned n) anew = refl
+begun_is s Leave Departed anew = refl
+begun_is s (LeaveWith answer) Departed anew = refl
+begun_is s e r anew = absurd (true≢false (sym anew))
+
+-- what holds behind a look, a link, a flag and a splice, and where the search stays, holds behind
+-- each event while the pin stands
+pub search_goes : (P : Event → Reply → Search → Type 0) (s : Search) → ((slot : ℕ) (f : Field) (r : Reply) → P (Look slot f) r (look_for s s.call slot f r))
+    → ((p : ℕ) (side : Side) (leaf new : ℕ) (n : NodeId) → P (Link p side leaf new) (Linked n) (record s { linked = true }))
+    → ((p : ℕ) (side : Side) (leaf : ℕ) (n : NodeId) → P (Flag p side leaf) (Flagged n) (record s { flagged = Some n }))
+    → ((a : ℕ) (side : Side) (x p : ℕ) (keep : Side) (ns : List NodeId) → P (Splice a side x p keep) (Cut ns) (record s { cut = s.cut || is_flagged_in s.flagged ns }))
+    → ((e : Event) (r : Reply) → P e r s) → (e : Event) (r : Reply) → begins_anew (e, r) ≡ false → P e r (searched s e r)
+unfolding searched
+search_goes P s looks links flags splices stays Sight (Pinned n) stands = absurd (true≢false stands)
+search_goes P s looks links flags splices stays (SightFor op key) (Pinned n) stands = absurd (true≢false stands)
+search_goes P s looks links flags splices stays Leave Departed stands = absurd (true≢false stands)
+search_goes P s looks links flags splices stays (LeaveWith answer) Departed stands = absurd (true≢false stands)
+search_goes P s looks links flags splices stays (Look slot f) r stands = looks slot f r
+search_goes P s looks links flags splices stays (Link p side leaf new) (Linked n) stands = links p side leaf new n
+search_goes P s looks links flags splices stays (Flag p side leaf) (Flagged n) stands = flags p side leaf n
+search_goes P s looks links flags splices stays (Splice a side x p keep) (Cut ns) stands = splices a side x p keep ns
+search_goes P s looks links flags splices stays e r stands = stays e r
 
 pub only_grow : SearchesOnlyGrow
-unfolding searched
-only_grow s Sight (Pinned n) stands = absurd (true≢false stands)
-only_grow s (SightFor op key) (Pinned n) stands = absurd (true≢false stands)
-only_grow s Leave Departed stands = absurd (true≢false stands)
-only_grow s (LeaveWith answer) Departed stands = absurd (true≢false stands)
-only_grow s (Look slot f) r stands = look_grows s slot f r s.call
-only_grow s (Link p side leaf new) (Linked n) stands = grows s (record s { linked = true }) refl (λ is. refl) (λ is. is) (unchanged s.walks)
-only_grow s (Flag p side leaf) (Flagged n) stands = grows s (record s { flagged = Some n }) refl (λ is. is) (λ is. is) (unchanged s.walks)
-only_grow s (Splice a side x p keep) (Cut ns) stands = grows s (record s { cut = s.cut || is_flagged_in s.flagged ns }) refl (λ is. is) (λ is. either_true s.cut (is_flagged_in s.flagged ns) is) (unchanged s.walks)
-only_grow s e r stands = itself s
+only_grow s = search_goes (λ e r t. SearchGrows s t) s (λ slot f r. look_grows s slot f r s.call)
+    (λ p side leaf new n. grows s (record s { linked = true }) refl (λ is. refl) (λ is. is) (unchanged s.walks))
+    (λ p side leaf n. grows s (record s { flagged = Some n }) refl (λ is. is) (λ is. is) (unchanged s.walks))
+    (λ a side x p keep ns. grows s (record s { cut = s.cut || is_flagged_in s.flagged ns }) refl (λ is. is) (λ is. or_left s.cut (is_flagged_in s.flagged ns) is) (unchanged s.walks))
+    (λ e r. itself s)

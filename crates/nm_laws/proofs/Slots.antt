@@ -1,6 +1,6 @@
 -- The laws of the tree are kept by claims, by gives of private slots and by fills.
-use Rattle.std.proofs.Common.{◌≡◌, ℕ, ◌≢◌, ◌≤◌, ◌⊎◌, inl, inr, eqb, Bool, true, false, cond, ◌||◌, ◌&&◌, List, [], refl, sym, ap, ◌∙◌, arith, true≢false}
-use Rattle.std.specs.Prelude.{Some, None}
+use Rattle.std.proofs.Common.{◌≡◌, ℕ, ◌≢◌, ◌≤◌, ◌⊎◌, inl, inr, eqb, Bool, true, false, cond, ◌||◌, ◌&&◌, List, [], refl, sym, ap, subst, ◌∙◌, arith, true≢false}
+use Rattle.std.specs.Prelude.{Option, Some, None}
 use native.Mathlib.Decide.{ℕ_discrete}
 use Rattle.std.proofs.lemmas.Bool.{and_left, cond_both, cond-true, cond-false, eqb-true, eqb-false, eq-eqb, ne_eqb, and_from}
 use Rattle.std.proofs.lemmas.Bool.Decides.{nat_tests}
@@ -14,7 +14,7 @@ use Rattle.nm_model.specs.Paths.{follow}
 use Rattle.nm_laws.proofs.Pictures.{Spot}
 use Rattle.nm_laws.proofs.Pictures.Spot.{InPool, PrivateTo, OnPath, InQueue}
 use Rattle.nm_laws.proofs.Trees.{Exchanged, unvisited, same_side-refl}
-use Rattle.nm_laws.proofs.Pictures.{Picture, below, Stands, Once, IsLive, InReach, TreeLaw, same_place, new_place, nowhere_else, reached_live, IsOnPath, on_path, in_reach}
+use Rattle.nm_laws.proofs.Pictures.{Picture, below, Stands, Once, IsLive, InReach, TreeLaw, same_ways, new_place, nowhere_else, reached_live, IsOnPath, on_path, in_reach}
 
 -- one slot's row is changed
 abbrev pub at_one : {X : Type 0} → (ℕ → X) → ℕ → X → ℕ → X
@@ -39,111 +39,34 @@ hand-other f w s b u q ne = grind (arith, nat_tests)
 pub hand-others : (f : ℕ → ℕ → Bool) (w s : ℕ) (b : Bool) (u q : ℕ) → u ≢ w → hand f w s b u q ≡ f u q
 hand-others f w s b u q ne = grind (arith, nat_tests)
 
--- ---- a slot goes from the pool to a worker
+-- ---- a slot goes from the pool to a worker, or back
 
-abbrev pub claimed : Picture → ℕ → ℕ → Picture
-claimed P w s = record { edges = P.edges; pool = at_one P.pool s false; private = hand P.private w s true; queue = P.queue; knows = P.knows; read = P.read; drafted = P.drafted; late = P.late }
+-- one slot's row in the pool and in a worker's hands is changed, and what is drafted
+abbrev handed : Picture → ℕ → ℕ → Bool → Bool → (ℕ → ℕ → Side → Option ℕ) → Picture
+handed P w s a b drafted = record { edges = P.edges; pool = at_one P.pool s a; private = hand P.private w s b; queue = P.queue; knows = P.knows; read = P.read; drafted = drafted; late = P.late }
 
-pub claim_keeps : (N : ℕ) (P : Picture) (w s : ℕ) → TreeLaw N P → P.pool s ≡ true → TreeLaw N (claimed P w s)
-claim_keeps N P w s law free = record {
+apart : (P : Picture) (s x : ℕ) → (IsLive P s → ⊥) → IsLive P x → x ≢ s
+apart P s x idle l e = idle (subst (IsLive P) e l)
+
+-- it keeps the laws where the slot is shared neither before nor after
+handed_keeps : (N : ℕ) (P : Picture) (w s : ℕ) (a b : Bool) (drafted : ℕ → ℕ → Side → Option ℕ) → TreeLaw N P → (IsLive P s → ⊥) → (IsLive (handed P w s a b drafted) s → ⊥)
+    → ((x : ℕ) → at_one P.pool s a x ≡ true → (6 ≤ x) × (x ≤ N)) → ((u x : ℕ) → hand P.private w s b u x ≡ true → (6 ≤ x) × (x ≤ N)) → (Once P s → Once (handed P w s a b drafted) s)
+    → ((u x : ℕ) (d : Side) (v : ℕ) → drafted u x d ≡ Some v → (hand P.private w s b u x ≡ true) × (P.edges x d ≡ to v)) → TreeLaw N (handed P w s a b drafted)
+handed_keeps N P w s a b drafted law idle idle' pools privates place drafts = record {
   room = law.room;
   nothing = law.nothing;
   within = law.within;
-  pools = λ x h. law.pools x (pool_back x h);
-  privates = λ u x h. elim (ℕ_discrete x s) [ yes e ↦ rw e (law.pools s free) | no ne ↦ law.privates u x (sym (hand-other P.private w s true u x ne) ∙ h) ];
+  pools = pools;
+  privates = privates;
   queues = law.queues;
   known = law.known;
   root_left = law.root_left;
   second = law.second;
   sentinels = law.sentinels;
-  places = places;
-  twins = λ x d h. law.twins x d (live_back x h);
-  flags = λ x d h. law.flags x d (live_back x h);
-  frozen = λ x d h. law.frozen x d (live_back x h);
-  queued = law.queued;
-  leaf_reached = law.leaf_reached;
-  leaf_known = λ u x d h. law.leaf_known u x d (reach_back u x h);
-  guarded = λ u x h. still_live x (law.guarded u x (reach_back u x h));
-  unlate = λ u x v i r. law.unlate u x v i (reach_back u x r);
-  reads = law.reads;
-  flag_read = law.flag_read;
-  tag_read = law.tag_read;
-  null_read = law.null_read;
-  drafts = λ u x d v h. let was = law.drafts u x d v h in (cond_both (eqb u w && eqb x s) true (P.private u x) (λ b. b ≡ true) (λ _. refl) (λ _. was.0), was.1);
-}
-  where
-    Q : Picture
-    Q = claimed P w s
-
-    pool_back : (x : ℕ) → (claimed P w s).pool x ≡ true → P.pool x ≡ true
-    pool_back x h = grind (arith, nat_tests)
-
-    reach_back : (u x : ℕ) → InReach (claimed P w s) u x → InReach P u x
-    reach_back u x r = record { from = r.from; known = r.known; path = r.path; ends = r.ends; is_slot = r.is_slot }
-
-    not_s : (x : ℕ) → P.pool x ≡ false → x ≢ s
-    not_s x h e = true≢false (sym free ∙ (ap P.pool (sym e) ∙ h))
-
-    still_live : (x : ℕ) → IsLive P x → IsLive (claimed P w s) x
-    still_live x h = record { pooled = at_one-other P.pool s x false (not_s x h.pooled) ∙ h.pooled; shared = λ u. hand-other P.private w s true u x (not_s x h.pooled) ∙ h.shared u }
-
-    live_not_s : (x : ℕ) → IsLive (claimed P w s) x → x ≢ s
-    live_not_s x h e = true≢false (sym (hand-same P.private w s true) ∙ (ap (λ (y : ℕ). (claimed P w s).private w y) (sym e) ∙ h.shared w))
-
-    live_back : (x : ℕ) → IsLive (claimed P w s) x → IsLive P x
-    live_back x h = record { pooled = sym (at_one-other P.pool s x false (live_not_s x h)) ∙ h.pooled; shared = λ u. sym (hand-other P.private w s true u x (live_not_s x h)) ∙ h.shared u }
-
-    others_there : (x : ℕ) → x ≢ s → (q : Spot) → Stands P x q → Stands (claimed P w s) x q
-    others_there x ne InPool h = at_one-other P.pool s x false ne ∙ h
-    others_there x ne (PrivateTo u) h = hand-other P.private w s true u x ne ∙ h
-    others_there x ne (OnPath p) h = h
-    others_there x ne (InQueue u i) h = h
-
-    others_back : (x : ℕ) → x ≢ s → (q : Spot) → Stands (claimed P w s) x q → Stands P x q
-    others_back x ne InPool h = sym (at_one-other P.pool s x false ne) ∙ h
-    others_back x ne (PrivateTo u) h = sym (hand-other P.private w s true u x ne) ∙ h
-    others_back x ne (OnPath p) h = h
-    others_back x ne (InQueue u i) h = h
-
-    each : (q : Spot) → Stands (claimed P w s) s q → (q ≡ PrivateTo w) ⊎ (Stands P s q × (q ≢ InPool))
-    each InPool h = absurd (true≢false (sym h ∙ at_one-same P.pool s false))
-    each (PrivateTo u) h = elim (ℕ_discrete u w) [ yes e ↦ inl (ap PrivateTo e) | no ne ↦ inr (sym (hand-others P.private w s true u s ne) ∙ h, λ e. cc) ]
-    each (OnPath p) h = inr (h, λ e. cc)
-    each (InQueue u i) h = inr (h, λ e. cc)
-
-    places : (x : ℕ) → x ≢ 0 → x ≤ N → Once (claimed P w s) x
-    places x some inside = elim (ℕ_discrete x s) [
-      | yes e ↦ rw e (new_place P (claimed P w s) s InPool (PrivateTo w) free (hand-same P.private w s true) each (law.places s (rw e at some) (rw e at inside)))
-      | no ne ↦ same_place P (claimed P w s) x (others_there x ne) (others_back x ne) (law.places x some inside)
-    ]
-
--- ---- a slot goes from a worker back to the pool
-
-abbrev pub returned : Picture → ℕ → ℕ → Picture
-returned P w s = record {
-  edges = P.edges;
-  pool = at_one P.pool s true;
-  private = hand P.private w s false;
-  queue = P.queue;
-  knows = P.knows;
-  read = P.read;
-  drafted = λ u x d. cond (eqb u w && eqb x s) None (P.drafted u x d);
-  late = P.late;
-}
-
-pub return_keeps : (N : ℕ) (P : Picture) (w s : ℕ) → TreeLaw N P → P.private w s ≡ true → TreeLaw N (returned P w s)
-return_keeps N P w s law own = record {
-  room = law.room;
-  nothing = law.nothing;
-  within = law.within;
-  pools = λ x h. elim (ℕ_discrete x s) [ yes e ↦ rw e (law.privates w s own) | no ne ↦ law.pools x (sym (at_one-other P.pool s x true ne) ∙ h) ];
-  privates = λ u x h. law.privates u x (private_back u x h);
-  queues = law.queues;
-  known = law.known;
-  root_left = law.root_left;
-  second = law.second;
-  sentinels = law.sentinels;
-  places = places;
+  places = λ x some inside. elim (ℕ_discrete x s) [
+    | yes e ↦ rw e (place (law.places s (rw e at some) (rw e at inside)))
+    | no ne ↦ same_ways P (handed P w s a b drafted) x (at_one-other P.pool s x a ne) (λ u. hand-other P.private w s b u x ne) (λ u i. refl) (λ q. refl) (law.places x some inside)
+  ];
   twins = λ x d h. law.twins x d (live_back x h);
   flags = λ x d h. law.flags x d (live_back x h);
   frozen = λ x d h. law.frozen x d (live_back x h);
@@ -159,6 +82,41 @@ return_keeps N P w s law own = record {
   drafts = drafts;
 }
   where
+    reach_back : (u x : ℕ) → InReach (handed P w s a b drafted) u x → InReach P u x
+    reach_back u x r = record { from = r.from; known = r.known; path = r.path; ends = r.ends; is_slot = r.is_slot }
+
+    still_live : (x : ℕ) → IsLive P x → IsLive (handed P w s a b drafted) x
+    still_live x h = let ne : x ≢ s = apart P s x idle h in record { pooled = at_one-other P.pool s x a ne ∙ h.pooled; shared = λ u. hand-other P.private w s b u x ne ∙ h.shared u }
+
+    live_back : (x : ℕ) → IsLive (handed P w s a b drafted) x → IsLive P x
+    live_back x h = let ne : x ≢ s = apart (handed P w s a b drafted) s x idle' h in record { pooled = sym (at_one-other P.pool s x a ne) ∙ h.pooled; shared = λ u. sym (hand-other P.private w s b u x ne) ∙ h.shared u }
+
+abbrev pub claimed : Picture → ℕ → ℕ → Picture
+claimed P w s = handed P w s false true P.drafted
+
+pub claim_keeps : (N : ℕ) (P : Picture) (w s : ℕ) → TreeLaw N P → P.pool s ≡ true → TreeLaw N (claimed P w s)
+claim_keeps N P w s law free = handed_keeps N P w s false true P.drafted law (λ l. true≢false (sym free ∙ l.pooled)) (λ l. true≢false (sym (hand-same P.private w s true) ∙ l.shared w)) (λ x h. law.pools x (pool_back x h))
+    (λ u x h. elim (ℕ_discrete x s) [ yes e ↦ rw e (law.pools s free) | no ne ↦ law.privates u x (sym (hand-other P.private w s true u x ne) ∙ h) ])
+    (new_place P (claimed P w s) s InPool (PrivateTo w) free (hand-same P.private w s true) each)
+    (λ u x d v h. let was = law.drafts u x d v h in (cond_both (eqb u w && eqb x s) true (P.private u x) (λ b. b ≡ true) (λ _. refl) (λ _. was.0), was.1))
+  where
+    pool_back : (x : ℕ) → (claimed P w s).pool x ≡ true → P.pool x ≡ true
+    pool_back x h = grind (arith, nat_tests)
+
+    each : (q : Spot) → Stands (claimed P w s) s q → (q ≡ PrivateTo w) ⊎ (Stands P s q × (q ≢ InPool))
+    each InPool h = absurd (true≢false (sym h ∙ at_one-same P.pool s false))
+    each (PrivateTo u) h = elim (ℕ_discrete u w) [ yes e ↦ inl (ap PrivateTo e) | no ne ↦ inr (sym (hand-others P.private w s true u s ne) ∙ h, λ e. cc) ]
+    each (OnPath p) h = inr (h, λ e. cc)
+    each (InQueue u i) h = inr (h, λ e. cc)
+
+abbrev pub returned : Picture → ℕ → ℕ → Picture
+returned P w s = handed P w s true false (λ u x d. cond (eqb u w && eqb x s) None (P.drafted u x d))
+
+pub return_keeps : (N : ℕ) (P : Picture) (w s : ℕ) → TreeLaw N P → P.private w s ≡ true → TreeLaw N (returned P w s)
+return_keeps N P w s law own = handed_keeps N P w s true false _ law (λ l. true≢false (sym own ∙ l.shared w)) (λ l. true≢false (sym (at_one-same P.pool s true) ∙ l.pooled))
+    (λ x h. elim (ℕ_discrete x s) [ yes e ↦ rw e (law.privates w s own) | no ne ↦ law.pools x (sym (at_one-other P.pool s x true ne) ∙ h) ]) (λ u x h. law.privates u x (private_back u x h))
+    (new_place P (returned P w s) s (PrivateTo w) InPool own (at_one-same P.pool s true) each) drafts
+  where
     private_back : (u x : ℕ) → (returned P w s).private u x ≡ true → P.private u x ≡ true
     private_back u x h = grind (arith, nat_tests)
 
@@ -168,33 +126,6 @@ return_keeps N P w s law own = record {
         go : (b : Bool) → cond b None (P.drafted u x d) ≡ Some v → (cond b false (P.private u x) ≡ true) × (P.edges x d ≡ to v)
         go true h = absurd (none-some v h)
         go false h = law.drafts u x d v h
-
-    reach_back : (u x : ℕ) → InReach (returned P w s) u x → InReach P u x
-    reach_back u x r = record { from = r.from; known = r.known; path = r.path; ends = r.ends; is_slot = r.is_slot }
-
-    not_s : (x : ℕ) → P.private w x ≡ false → x ≢ s
-    not_s x h e = true≢false (sym own ∙ (ap (P.private w) (sym e) ∙ h))
-
-    still_live : (x : ℕ) → IsLive P x → IsLive (returned P w s) x
-    still_live x h = record { pooled = at_one-other P.pool s x true (not_s x (h.shared w)) ∙ h.pooled; shared = λ u. hand-other P.private w s false u x (not_s x (h.shared w)) ∙ h.shared u }
-
-    live_not_s : (x : ℕ) → IsLive (returned P w s) x → x ≢ s
-    live_not_s x h e = true≢false (sym (at_one-same P.pool s true) ∙ (ap (λ (y : ℕ). (returned P w s).pool y) (sym e) ∙ h.pooled))
-
-    live_back : (x : ℕ) → IsLive (returned P w s) x → IsLive P x
-    live_back x h = record { pooled = sym (at_one-other P.pool s x true (live_not_s x h)) ∙ h.pooled; shared = λ u. sym (hand-other P.private w s false u x (live_not_s x h)) ∙ h.shared u }
-
-    others_there : (x : ℕ) → x ≢ s → (q : Spot) → Stands P x q → Stands (returned P w s) x q
-    others_there x ne InPool h = at_one-other P.pool s x true ne ∙ h
-    others_there x ne (PrivateTo u) h = hand-other P.private w s false u x ne ∙ h
-    others_there x ne (OnPath p) h = h
-    others_there x ne (InQueue u i) h = h
-
-    others_back : (x : ℕ) → x ≢ s → (q : Spot) → Stands (returned P w s) x q → Stands P x q
-    others_back x ne InPool h = sym (at_one-other P.pool s x true ne) ∙ h
-    others_back x ne (PrivateTo u) h = sym (hand-other P.private w s false u x ne) ∙ h
-    others_back x ne (OnPath p) h = h
-    others_back x ne (InQueue u i) h = h
 
     each : (q : Spot) → Stands (returned P w s) s q → (q ≡ InPool) ⊎ (Stands P s q × (q ≢ PrivateTo w))
     each InPool h = inl refl
@@ -207,12 +138,6 @@ return_keeps N P w s law own = record {
         worker_of u w e = cc
     each (OnPath p) h = inr (h, λ e. cc)
     each (InQueue u i) h = inr (h, λ e. cc)
-
-    places : (x : ℕ) → x ≢ 0 → x ≤ N → Once (returned P w s) x
-    places x some inside = elim (ℕ_discrete x s) [
-      | yes e ↦ rw e (new_place P (returned P w s) s (PrivateTo w) InPool own (at_one-same P.pool s true) each (law.places s (rw e at some) (rw e at inside)))
-      | no ne ↦ same_place P (returned P w s) x (others_there x ne) (others_back x ne) (law.places x some inside)
-    ]
 
 -- ---- an edge of a private slot is filled
 
@@ -258,7 +183,7 @@ fill_keeps N P w s d v law own small = record {
   root_left = down 1 Left (high 1 (λ h. omega arith)) ∙ law.root_left;
   second = rw (down 2 Left (high 2 (λ h. omega arith))) law.second;
   sentinels = λ x g a b. down x g (high x (λ h. omega arith)) ∙ law.sentinels x g a b;
-  places = λ x some inside. same_place P (filled P w s d v) x (there x) (back x) (law.places x some inside);
+  places = λ x some inside. same_ways P (filled P w s d v) x refl (λ u. refl) (λ u i. refl) path (law.places x some inside);
   twins = λ x g h e. down x (other g) (live_not x h) ∙ law.twins x g (live x h) (sym (down x g (live_not x h)) ∙ e);
   flags = λ x g h e. rw (down x g (live_not x h)) (law.flags x g (live x h) (ap (λ (y : Edge). y.flag) (sym (same x g (live_not x h))) ∙ e));
   frozen = λ x g h e. ap (λ (y : Edge). y.flag) (same x (other g) (live_not x h)) ∙ law.frozen x g (live x h) (ap (λ (y : Edge). y.tag) (sym (same x g (live_not x h))) ∙ e);
@@ -333,18 +258,6 @@ fill_keeps N P w s d v law own small = record {
             absurd (eqb-false u w i (worker_of u w clash))
         go false true false i j k h = law.drafts u x g n h
         go false false e i j k h = law.drafts u x g n h
-
-    there : (x : ℕ) (q : Spot) → Stands P x q → Stands (filled P w s d v) x q
-    there x InPool h = h
-    there x (PrivateTo u) h = h
-    there x (OnPath p) h = path p ∙ h
-    there x (InQueue u i) h = h
-
-    back : (x : ℕ) (q : Spot) → Stands (filled P w s d v) x q → Stands P x q
-    back x InPool h = h
-    back x (PrivateTo u) h = h
-    back x (OnPath p) h = sym (path p) ∙ h
-    back x (InQueue u i) h = h
 
     reach_back : (u x : ℕ) → InReach (filled P w s d v) u x → InReach P u x
     reach_back u x r = record { from = r.from; known = r.known; path = r.path; ends = sym (known_path u r.from r.known r.path) ∙ r.ends; is_slot = r.is_slot }

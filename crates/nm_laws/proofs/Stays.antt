@@ -1,10 +1,9 @@
 -- No event but a splice that is won cuts anything.
-use Rattle.std.proofs.Common.{◌≡◌, ℕ, ◌+◌, ◌<◌, ◌≤◌, eqb, Bool, true, false, cond, not, ◌||◌, ◌&&◌, List, length, refl, sym, ap, ◌∙◌, arith, true≢false}
-use Rattle.std.specs.Prelude.{Option, Some, None, is_some, unwrap_or, nat_lt, Result, Ok, Err}
-use Rattle.std.proofs.lemmas.Bool.{cond_both, cond-true, eqb-true, and_parts, or_parts, not-false, false_from_ne_true}
+use Rattle.std.proofs.Common.{◌≡◌, ℕ, ◌+◌, ◌<◌, ◌≤◌, eqb, Bool, true, false, cond, ◌&&◌, List, length, refl, sym, ap, ◌∙◌, arith, true≢false}
+use Rattle.std.specs.Prelude.{Option, Some, None, is_some, unwrap_or, nat_lt, Result, Ok}
+use Rattle.std.proofs.lemmas.Bool.{cond_both, cond-true, eqb-true, and_parts, or_parts, false_from_ne_true}
 use Rattle.nm_edge.specs.Edges.{Edge, to, is_to, tagged}
 use Rattle.nm_edge.specs.declared.edge.Side.{Side}
-use Rattle.nm_edge.specs.declared.edge.Side.TheVariants.{Left, Right}
 use Rattle.nm_edge.specs.declared.node.NodeId.{NodeId}
 use Rattle.nm_model.specs.declared.event.Field.{Field}
 use Rattle.nm_model.specs.declared.event.Field.TheVariants.{Key, Edge as EdgeOn, Birth}
@@ -13,29 +12,29 @@ use Rattle.nm_model.specs.declared.event.Event.TheVariants.{Sight, SightFor, Ann
 use Rattle.nm_model.specs.declared.reply.Reply.{Reply}
 use Rattle.nm_model.specs.declared.reply.Reply.TheVariants.{Cut, Freed, Joined, Labelled, Linked, Lost}
 use Rattle.nm_model.specs.declared.reply.Refused.{Refused}
-use Rattle.nm_model.specs.declared.reply.Refused.TheVariants.{NoSlot, NotPrivate}
 use Rattle.nm_model.specs.Maps.{get, without, is_number}
-use Rattle.nm_model.specs.Memory.{Memory, node, edge, edge_of, put_node, put_edge}
+use Rattle.nm_model.specs.Memory.{Memory, node, edge, put_node, put_edge}
 use Rattle.nm_model.specs.Knowledge.{Knowledge, is_private, draft_of, read, beside}
 use Rattle.nm_model.specs.Learning.{learn, linked_in, flag_to}
 use Rattle.nm_model.specs.Paths.{follow, Reached}
 use Rattle.nm_model.specs.Step.{outside, is_edge, refusal, reply, write, filled as filled_node, kept, cut_nodes, node_linked}
 use Rattle.nm_model.specs.Runs.{State, of, start, after, next, outcome, refused, answered, unless_refused, applied, reply_of}
 use Rattle.nm_model.specs.Laws.{OnlySplicesAnswerCuts, OfEachState, NothingElseCuts}
-use Rattle.nm_laws.proofs.Steps.{Allowed, allowed, passed, second}
+use Rattle.nm_laws.proofs.Steps.{Allowed, allowed, passed}
 use Rattle.nm_model.proofs.Tables.{get-without, ascends-without}
 use Rattle.nm_laws.proofs.Learned.{learn_linked}
-use Rattle.nm_laws.proofs.Trees.{same_side, same_side-true, unvisited, same_follow}
+use Rattle.nm_laws.proofs.Trees.{same_side, same_side-true, unvisited, same_follow, each_side}
 use Rattle.nm_laws.proofs.Pictures.{below, IsLive, TreeLaw, reached_live, reached_within, path_not_queued}
 use Rattle.nm_laws.proofs.Slots.{with_edge_at, with_edges, is_exchanged}
 use Rattle.nm_laws.proofs.Splices.{live_on_path}
 use Rattle.nm_laws.proofs.Views.{picture, view, with_worker, edge_put, queue_rows}
 use Rattle.nm_laws.proofs.TreeSlots.{is_to-true, node_put_edges}
-use Rattle.nm_laws.proofs.TreeSteps.{Lawful, tree_step, high_from}
+use Rattle.nm_laws.proofs.TreeSteps.{Lawful, tree_step, high_from, slot_inside, fill_checked}
 use Rattle.nm_laws.proofs.Changes.{Change, changed}
 use Rattle.nm_laws.proofs.Changes.Change.{Keeps, Labels, Cuts, Frees}
 use Rattle.nm_laws.proofs.Lawful.JoinOrNot.{IsJoin, IsNone}
 use Rattle.nm_laws.proofs.Lawful.{JoinOrNot, join_or_not, IsLawful, lawful}
+use Rattle.nm_laws.proofs.Outcomes.{same_reply, no_reply}
 
 same_slots : (m n : Memory) → ((x : ℕ) (d : Side) → (edge n x d).slot ≡ (edge m x d).slot) → (y : ℕ) → Reached m y → Reached n y
 same_slots m n same y r = record { path = r.path; ends = same_follow _ _ same 1 r.path ∙ r.ends; is_slot = r.is_slot }
@@ -56,16 +55,8 @@ marks_stay m p d e inside slot = same_slots m (put_edge m p d e) (λ x g. ap (λ
 
 module _ (s : State) (h : ℕ → ℕ) (law : Lawful s h) (w : ℕ) where
   fill_stays : (x : ℕ) (f : Field) (v : ℕ) → x < length s.memory.nodes → is_private (of s w) x ≡ true → (y : ℕ) → Reached s.memory y → Reached (put_node s.memory x (filled_node (node s.memory x) f v)) y
-  fill_stays x Key v inside own y r = same_paths s.memory (put_node s.memory x (filled_node (node s.memory x) Key v)) (node_put_edges s.memory x (filled_node (node s.memory x) Key v) inside (λ d. go d)) y r
-    where
-      go : (d : Side) → edge_of (filled_node (node s.memory x) Key v) d ≡ edge s.memory x d
-      go Left = refl
-      go Right = refl
-  fill_stays x Birth v inside own y r = same_paths s.memory (put_node s.memory x (filled_node (node s.memory x) Birth v)) (node_put_edges s.memory x (filled_node (node s.memory x) Birth v) inside (λ d. go d)) y r
-    where
-      go : (d : Side) → edge_of (filled_node (node s.memory x) Birth v) d ≡ edge s.memory x d
-      go Left = refl
-      go Right = refl
+  fill_stays x Key v inside own y r = same_paths s.memory (put_node s.memory x (filled_node (node s.memory x) Key v)) (node_put_edges s.memory x (filled_node (node s.memory x) Key v) inside (each_side _ refl refl)) y r
+  fill_stays x Birth v inside own y r = same_paths s.memory (put_node s.memory x (filled_node (node s.memory x) Birth v)) (node_put_edges s.memory x (filled_node (node s.memory x) Birth v) inside (each_side _ refl refl)) y r
   fill_stays x (EdgeOn d) v inside own y r = record {
     path = r.path;
     ends = same_follow _ _ (λ z g. ap (λ (e : Edge). e.slot) (edge_put s.memory x d (to v) inside z g)) 1 r.path
@@ -133,9 +124,7 @@ module _ (s : State) (h : ℕ → ℕ) (law : Lawful s h) (w : ℕ) where
   write_stays (Look x f) ok uncut y r = r
   write_stays (Fill x f v) ok uncut y r =
       let parts = or_parts (outside 6 s.layout.nodes x) (is_edge f && nat_lt s.layout.nodes v) (passed _ _ _ ok.event).0 in
-      let range = high_from 6 s.layout.nodes x parts.0 in
-      let size = law.roomy.nodes in
-      fill_stays x f v (omega arith) (not-false (is_private (of s w) x) (second (outside 6 s.layout.nodes x || (is_edge f && nat_lt s.layout.nodes v)) (not (is_private (of s w) x)) NoSlot NotPrivate _ ok.event)) y r
+      fill_stays x f v (slot_inside s h law x 6 parts.0) (fill_checked s w (Fill x f v) ok.event x f v refl) y r
   write_stays (Link p d leaf new) ok uncut y r = link_stays p d leaf new ok y r
   write_stays (Flag p d leaf) ok uncut y r = by (is_to (edge s.memory p d) leaf) refl
     where
@@ -171,12 +160,6 @@ cut_is_splice : (s : State) (t : ℕ × Event) (ns : List NodeId) → outcome s 
 unfolding outcome
 cut_is_splice s t ns is = go (refused s t.0 t.1) refl is
   where
-    differ : (r : Refused) → ◌≡◌ {A = Result Reply Refused} (Err r) (Ok (Cut ns)) → ⊥
-    differ r e = cc
-
-    same_reply : (r q : Reply) → ◌≡◌ {A = Result Reply Refused} (Ok r) (Ok q) → r ≡ q
-    same_reply r q e = cc
-
     by : (k : Knowledge) → reply_of s t.0 t.1 ≡ Cut ns → Change s t.0 t.1 (reply_of s t.0 t.1) k → (a : ℕ) × (side : Side) × (successor : ℕ) × (parent : ℕ) × (keep : Side) × (t.1 ≡ Splice a side successor parent keep)
     by k r (Keeps _ _ un _) = absurd (un ns r)
     by k r (Labels _ _ q) = absurd (no (sym q ∙ r))
@@ -196,7 +179,7 @@ cut_is_splice s t ns is = go (refused s t.0 t.1) refl is
         no e = cc
 
     go : (o : Option Refused) → refused s t.0 t.1 ≡ o → ◌≡◌ {A = Result Reply Refused} (answered o (reply_of s t.0 t.1)) (Ok (Cut ns)) → (a : ℕ) × (side : Side) × (successor : ℕ) × (parent : ℕ) × (keep : Side) × (t.1 ≡ Splice a side successor parent keep)
-    go (Some r) i is = absurd (differ r is)
+    go (Some r) i is = absurd (no_reply r (Cut ns) is)
     go None i is = on (join_or_not t.1)
       where
         on : JoinOrNot t.1 → (a : ℕ) × (side : Side) × (successor : ℕ) × (parent : ℕ) × (keep : Side) × (t.1 ≡ Splice a side successor parent keep)

@@ -18,6 +18,7 @@ use Rattle.nm_model.specs.Learning.{learn, saw, labelling, pinned}
 use Rattle.nm_model.specs.Places.{slot_of}
 use Rattle.nm_model.specs.Step.{reply_sight, confirmed, reply_scan}
 use Rattle.nm_model.proofs.Tables.{at_eqb}
+use Rattle.nm_laws.proofs.Trees.{each_side}
 use Rattle.nm_laws.proofs.Held.{held-label}
 use Rattle.nm_laws.proofs.Learned.{learn_saw, learn_labelled, learn_pinned, learn_missed, learn_announced, learn_departed, learn_idle, learn_in, learn_moved, learn_behind}
 use Rattle.nm_laws.proofs.Pictures.{InReach, IsOnPath, TreeLaw}
@@ -82,12 +83,8 @@ forgets_view N m kn h w law = learn_view N m kn h w (forgetful (kn w)) (record {
   private = λ x. refl;
   drafted = λ x d. refl;
   met = λ x is. absurd (true≢false (sym is));
-  heard = λ x d y is. absurd (none-some y (sym (nothing d) ∙ is));
+  heard = λ x d y is. absurd (none-some y (sym (each_side (λ e. read_on unread e ≡ None) refl refl d) ∙ is));
 }) law
-  where
-    nothing : (d : Side) → read_on unread d ≡ None
-    nothing Left = refl
-    nothing Right = refl
 
 -- a worker that knows no node changes its pin
 repins_view : (N : ℕ) (m : Memory) (kn : ℕ → Knowledge) (h : ℕ → ℕ) (w : ℕ) (p : Option ℕ) → TreeLaw N (view m kn h) → TreeLaw N (view m (with_worker kn w (repinned (forgetful (kn w)) p)) h)

@@ -23,7 +23,7 @@ use Rattle.nm_model.specs.Step.{reply_look, exchanged, filled as filled_node}
 use Rattle.nm_model.proofs.Tables.{get-put, get-without, Ascends}
 use Rattle.nm_laws.proofs.Held.{Front}
 use Rattle.nm_laws.proofs.Learned.{learn_claimed, learn_taken, learn_look, learn_filled, learn_flagged, learn_flag_lost, learn_was}
-use Rattle.nm_laws.proofs.Trees.{same_side}
+use Rattle.nm_laws.proofs.Trees.{same_side, each_side}
 use Rattle.nm_laws.proofs.Pictures.{InReach, IsLive, TreeLaw, nowhere_else}
 use Rattle.nm_laws.proofs.Pictures.Spot.{InPool, PrivateTo}
 use Rattle.nm_laws.proofs.Slots.{at_one, at_one-same, at_one-other, hand, hand-others, claimed, claim_keeps, returned, return_keeps, with_edges, with_edge-same, filled, fill_keeps}
@@ -51,12 +51,20 @@ drafted_none k s d h = go (get k.drafts s) d h
     go None Right h = refl
     go (Some x) d h = absurd (true≢false h)
 
+-- where a draft of a worker is put or dropped, the slot is in its hands or is not
+drafted_hand : (kn : ℕ → Knowledge) (w s : ℕ) (o : Option Draft) (u x : ℕ) → u ≡ w → is_some (cond (eqb x s) o (get (kn w).drafts x)) ≡ hand (λ v. is_private (kn v)) w s (is_some o) u x
+drafted_hand kn w s o u x e = go (eqb x s)
+  where
+    go : (b : Bool) → is_some (cond b o (get (kn w).drafts x)) ≡ cond (eqb u w && b) (is_some o) (is_private (kn u) x)
+    go true = sym (cond-true (eqb u w && true) (is_some o) (is_private (kn u) x) (and_from (eqb u w) true (eq-eqb u w e) refl))
+    go false = ap (λ (v : ℕ). is_private (kn v) x) (sym e) ∙ sym (cond-false (eqb u w && false) (is_some o) (is_private (kn u) x) (and_right (eqb u w) false refl))
+
 claim_won : (N : ℕ) (m : Memory) (kn : ℕ → Knowledge) (h : ℕ → ℕ) (w s : ℕ) → s < length m.pool → in_pool m s ≡ true → TreeLaw N (view m kn h) → TreeLaw N (view (put_pool m s false) (with_worker kn w (record (kn w) { drafts = put (kn w).drafts s unfilled })) h)
 claim_won N m kn h w s inside free law = law_of N (claimed (view m kn h) w s) _ (claim_keeps N (view m kn h) w s law free) (record {
   edges = λ x d. refl;
   pool = λ x. sym (pool_put m s false inside x);
   private = λ u x. sym (row (λ y. is_private y x) kn w k u (hand (λ v. is_private (kn v)) w s true u x)
-      (λ e. ap is_some (get-put (kn w).drafts s unfilled x) ∙ (own u x e)) (λ ne. sym (hand-others (λ v. is_private (kn v)) w s true u x ne)));
+      (λ e. ap is_some (get-put (kn w).drafts s unfilled x) ∙ drafted_hand kn w s (Some unfilled) u x e) (λ ne. sym (hand-others (λ v. is_private (kn v)) w s true u x ne)));
   queue = queue_rows kn h w k (λ o. refl);
   knows = λ u x. same_row (λ y. knows y x) kn w k refl u;
   read = λ u x d. same_row (λ y. read y x d) kn w k refl u;
@@ -67,13 +75,6 @@ claim_won N m kn h w s inside free law = law_of N (claimed (view m kn h) w s) _ 
     k : Knowledge
     k = record (kn w) { drafts = put (kn w).drafts s unfilled }
 
-    own : (u x : ℕ) → u ≡ w → is_some (cond (eqb x s) (Some unfilled) (get (kn w).drafts x)) ≡ hand (λ v. is_private (kn v)) w s true u x
-    own u x e = go (eqb x s)
-      where
-        go : (b : Bool) → is_some (cond b (Some unfilled) (get (kn w).drafts x)) ≡ cond (eqb u w && b) true (is_private (kn u) x)
-        go true = sym (cond-true (eqb u w && true) true (is_private (kn u) x) (and_from (eqb u w) true (eq-eqb u w e) refl))
-        go false = ap (λ (v : ℕ). is_private (kn v) x) (sym e) ∙ sym (cond-false (eqb u w && false) true (is_private (kn u) x) (and_right (eqb u w) false refl))
-
     not_mine : is_private (kn w) s ≡ false
     not_mine = false_from_ne_true _ (λ i.
         let r = law.pools s free in
@@ -82,12 +83,8 @@ claim_won N m kn h w s inside free law = law_of N (claimed (view m kn h) w s) _ 
     mine : (x : ℕ) (d : Side) → drafted_on (draft_of k x) d ≡ drafted_on (draft_of (kn w) x) d
     mine x d = ap (λ o. drafted_on (unwrap_or o unfilled) d) (get-put (kn w).drafts s unfilled x) ∙ go (eqb x s) refl
       where
-        blank' : (d : Side) → drafted_on unfilled d ≡ None
-        blank' Left = refl
-        blank' Right = refl
-
         go : (b : Bool) → eqb x s ≡ b → drafted_on (unwrap_or (cond b (Some unfilled) (get (kn w).drafts x)) unfilled) d ≡ drafted_on (draft_of (kn w) x) d
-        go true i = blank' d ∙ sym (ap (λ (v : ℕ). drafted_on (draft_of (kn w) v) d) (eqb-true x s i) ∙ drafted_none (kn w) s d not_mine)
+        go true i = each_side (λ e. drafted_on unfilled e ≡ None) refl refl d ∙ sym (ap (λ (v : ℕ). drafted_on (draft_of (kn w) v) d) (eqb-true x s i) ∙ drafted_none (kn w) s d not_mine)
         go false i = refl
 
 pool_same : (m : Memory) (s : ℕ) → s < length m.pool → in_pool m s ≡ false → (x : ℕ) → in_pool (put_pool m s false) x ≡ in_pool m x
@@ -112,7 +109,7 @@ return_view N m kn h w s inside own keys law = law_of N (returned (view m kn h) 
   edges = λ x d. refl;
   pool = λ x. sym (pool_put m s true inside x);
   private = λ u x. sym (row (λ y. is_private y x) kn w k u (hand (λ v. is_private (kn v)) w s false u x)
-      (λ e. ap is_some (get-without (kn w).drafts s x keys) ∙ (gone u x e)) (λ ne. sym (hand-others (λ v. is_private (kn v)) w s false u x ne)));
+      (λ e. ap is_some (get-without (kn w).drafts s x keys) ∙ drafted_hand kn w s None u x e) (λ ne. sym (hand-others (λ v. is_private (kn v)) w s false u x ne)));
   queue = queue_rows kn h w k (λ o. refl);
   knows = λ u x. same_row (λ y. knows y x) kn w k refl u;
   read = λ u x d. same_row (λ y. read y x d) kn w k refl u;
@@ -123,13 +120,6 @@ return_view N m kn h w s inside own keys law = law_of N (returned (view m kn h) 
   where
     k : Knowledge
     k = record (kn w) { drafts = without (kn w).drafts s }
-
-    gone : (u x : ℕ) → u ≡ w → is_some (cond (eqb x s) None (get (kn w).drafts x)) ≡ hand (λ v. is_private (kn v)) w s false u x
-    gone u x e = go (eqb x s)
-      where
-        go : (b : Bool) → is_some (cond b None (get (kn w).drafts x)) ≡ cond (eqb u w && b) false (is_private (kn u) x)
-        go true = sym (cond-true (eqb u w && true) false (is_private (kn u) x) (and_from (eqb u w) true (eq-eqb u w e) refl))
-        go false = ap (λ (v : ℕ). is_private (kn v) x) (sym e) ∙ sym (cond-false (eqb u w && false) false (is_private (kn u) x) (and_right (eqb u w) false refl))
 
     mine : (u x : ℕ) (d : Side) → u ≡ w → drafted_on (unwrap_or (cond (eqb x s) None (get (kn w).drafts x)) unfilled) d ≡ cond (eqb u w && eqb x s) None (drafted_on (draft_of (kn u) x) d)
     mine u x d e = go (eqb x s) d
@@ -208,11 +198,7 @@ like_draft k s n own same = record {
 look_private_view : (N : ℕ) (m : Memory) (kn : ℕ → Knowledge) (h : ℕ → ℕ) (w s : ℕ) (f : Field) → is_private (kn w) s ≡ true → TreeLaw N (view m kn h) → TreeLaw N (view m (with_worker kn w (look_private (kn w) s f (reply_look (node m s) f))) h)
 look_private_view N m kn h w s Key own law = quiet_view N m kn h w (kn w) (like_itself (kn w)) law
 look_private_view N m kn h w s (EdgeOn d) own law = quiet_view N m kn h w (kn w) (like_itself (kn w)) law
-look_private_view N m kn h w s Birth own law = quiet_view N m kn h w _ (like_draft (kn w) s _ own (λ d. same d)) law
-  where
-    same : (d : Side) → drafted_on (record (draft_of (kn w) s) { looked = Some (node m s).birth }) d ≡ drafted_on (draft_of (kn w) s) d
-    same Left = refl
-    same Right = refl
+look_private_view N m kn h w s Birth own law = quiet_view N m kn h w _ (like_draft (kn w) s _ own (each_side _ refl refl)) law
 
 look_known_view : (N : ℕ) (m : Memory) (kn : ℕ → Knowledge) (h : ℕ → ℕ) (w s : ℕ) (f : Field) → knows (kn w) s ≡ true → TreeLaw N (view m kn h) → TreeLaw N (view m (with_worker kn w (look_known (kn w) s f (reply_look (node m s) f))) h)
 look_known_view N m kn h w s Key known law = quiet_view N m kn h w (kn w) (like_itself (kn w)) law
@@ -229,28 +215,16 @@ node_put_edges m s n inside same x d = elim (ℕ_discrete x s) [
   | no ne ↦ ap (λ (y : Node). edge_of y d) (get_or-set_other m.nodes s x n blank ne)
 ]
 
+-- a fill that leaves the edges of the node and of its draft
+fill_beside : (N : ℕ) (m : Memory) (kn : ℕ → Knowledge) (h : ℕ → ℕ) (w s : ℕ) (f : Field) (v : ℕ) → s < length m.nodes → is_private (kn w) s ≡ true → ((d : Side) → drafted_on (filled_in (draft_of (kn w) s) f v) d ≡ drafted_on (draft_of (kn w) s) d)
+    → ((d : Side) → edge_of (filled_node (node m s) f v) d ≡ edge m s d) → TreeLaw N (view m kn h) → TreeLaw N (view (put_node m s (filled_node (node m s) f v)) (with_worker kn w (record (kn w) { drafts = put (kn w).drafts s (filled_in (draft_of (kn w) s) f v) })) h)
+fill_beside N m kn h w s f v inside own same kept law = quiet_view N (put_node m s (filled_node (node m s) f v)) kn h w _ (like_draft (kn w) s _ own same)
+    (law_of N (view m kn h) (view (put_node m s (filled_node (node m s) f v)) kn h) law (same_edges_view m (put_node m s (filled_node (node m s) f v)) kn h (node_put_edges m s (filled_node (node m s) f v) inside kept) (λ x. refl)))
+
 fill_done : (N : ℕ) (m : Memory) (kn : ℕ → Knowledge) (h : ℕ → ℕ) (w s : ℕ) (f : Field) (v : ℕ) → s < length m.nodes → is_private (kn w) s ≡ true → ((d : Side) → f ≡ EdgeOn d → v ≤ N) → TreeLaw N (view m kn h)
     → TreeLaw N (view (put_node m s (filled_node (node m s) f v)) (with_worker kn w (record (kn w) { drafts = put (kn w).drafts s (filled_in (draft_of (kn w) s) f v) })) h)
-fill_done N m kn h w s Key v inside own small law = quiet_view N (put_node m s (filled_node (node m s) Key v)) kn h w _ (like_draft (kn w) s _ own (λ d. same d))
-    (law_of N (view m kn h) (view (put_node m s (filled_node (node m s) Key v)) kn h) law (same_edges_view m (put_node m s (filled_node (node m s) Key v)) kn h (node_put_edges m s (filled_node (node m s) Key v) inside (λ d. kept_edge d)) (λ x. refl)))
-  where
-    same : (d : Side) → drafted_on (filled_in (draft_of (kn w) s) Key v) d ≡ drafted_on (draft_of (kn w) s) d
-    same Left = refl
-    same Right = refl
-
-    kept_edge : (d : Side) → edge_of (filled_node (node m s) Key v) d ≡ edge m s d
-    kept_edge Left = refl
-    kept_edge Right = refl
-fill_done N m kn h w s Birth v inside own small law = quiet_view N (put_node m s (filled_node (node m s) Birth v)) kn h w _ (like_draft (kn w) s _ own (λ d. same d))
-    (law_of N (view m kn h) (view (put_node m s (filled_node (node m s) Birth v)) kn h) law (same_edges_view m (put_node m s (filled_node (node m s) Birth v)) kn h (node_put_edges m s (filled_node (node m s) Birth v) inside (λ d. kept_edge d)) (λ x. refl)))
-  where
-    same : (d : Side) → drafted_on (filled_in (draft_of (kn w) s) Birth v) d ≡ drafted_on (draft_of (kn w) s) d
-    same Left = refl
-    same Right = refl
-
-    kept_edge : (d : Side) → edge_of (filled_node (node m s) Birth v) d ≡ edge m s d
-    kept_edge Left = refl
-    kept_edge Right = refl
+fill_done N m kn h w s Key v inside own small law = fill_beside N m kn h w s Key v inside own (each_side _ refl refl) (each_side _ refl refl) law
+fill_done N m kn h w s Birth v inside own small law = fill_beside N m kn h w s Birth v inside own (each_side _ refl refl) (each_side _ refl refl) law
 fill_done N m kn h w s (EdgeOn d) v inside own small law = law_of N (filled (view m kn h) w s d v) _ (fill_keeps N (view m kn h) w s d v law own (small d refl)) (record {
   edges = λ x g. sym (edge_put m s d (to v) inside x g);
   pool = λ x. refl;

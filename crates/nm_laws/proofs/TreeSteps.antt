@@ -1,5 +1,5 @@
 -- The laws of the tree are kept by every event that is allowed.
-use Rattle.std.proofs.Common.{◌≡◌, ℕ, ◌+◌, ◌≢◌, ◌<◌, ◌≤◌, eqb, Bool, true, false, cond, not, ◌||◌, ◌&&◌, ◌∷◌, length, refl, sym, ap, ◌∙◌, arith, true≢false}
+use Rattle.std.proofs.Common.{◌≡◌, ℕ, ◌+◌, ◌≢◌, ◌<◌, ◌≤◌, eqb, Bool, true, false, cond, not, ◌||◌, ◌&&◌, ◌∷◌, length, refl, sym, ap, ◌∙◌, arith, true≢false, subst}
 use Rattle.std.specs.Prelude.{Option, Some, None, is_some, is_none, unwrap_or, nat_lt, slice_get}
 use native.Mathlib.Decide.{ℕ_discrete}
 use Rattle.std.proofs.lemmas.Bool.{cond_both, cond-true, cond-false, eq-eqb, ne_eqb, or_parts, not-false, ltb-false, lt-ltb, and_parts}
@@ -15,7 +15,7 @@ use Rattle.nm_model.specs.declared.reply.Refused.TheVariants.{NoSlot, NotPinned,
 use Rattle.nm_model.specs.declared.ledger.Queued.{Queued}
 use Rattle.nm_model.specs.declared.ledger.Ledger.{Ledger}
 use Rattle.nm_model.specs.Maps.{or_else, is_number}
-use Rattle.nm_model.specs.Memory.{announcement}
+use Rattle.nm_model.specs.Memory.{announcement, child}
 use Rattle.nm_model.specs.Ledgers.{held, queue_of, front_of, taken_over}
 use Rattle.nm_model.specs.Knowledge.{Knowledge, knows, is_private, draft_of, read, is_flagged, knows_leaf}
 use Rattle.nm_model.specs.Learning.{learn}
@@ -32,7 +32,7 @@ use Rattle.nm_laws.proofs.Holders.{Holders, heirs, Joins, by_worker}
 use Rattle.nm_laws.proofs.Pictures.{InReach, TreeLaw}
 use Rattle.nm_laws.proofs.Views.{view, picture, SamePicture, with_worker, held_queue, queued_at, label_below, is_late, drafted_on}
 use Rattle.nm_laws.proofs.TreeEpochs.{sight_view, announce_view, scan_view, advance_view, leave_view}
-use Rattle.nm_laws.proofs.TreeSlots.{put_pool, claim_view, return_view, free_view, look_view, fill_view, flag_view, tag_view}
+use Rattle.nm_laws.proofs.TreeSlots.{put_pool, claim_view, return_view, free_view, look_view, fill_view, flag_view, tag_view, known_live, flag_known}
 use Rattle.nm_laws.proofs.TreeSplice.{Owns, splice_view}
 use Rattle.nm_laws.proofs.TreeLink.{link_view}
 
@@ -49,6 +49,10 @@ pub record Lawful (s : State) (h : ℕ → ℕ) : Type 0 where
   pub drafts : (w : ℕ) → Ascends (of s w).drafts
   pub known : (w : ℕ) → OnlyPinned (of s w)
   pub tree : TreeLaw s.layout.nodes (picture s h)
+
+-- a slot that is not out of range is one of the memory's
+pub slot_inside : (s : State) (h : ℕ → ℕ) → Lawful s h → (x least : ℕ) → outside least s.layout.nodes x ≡ false → x < length s.memory.nodes
+slot_inside s h law x least inside = let range = high_from least s.layout.nodes x inside in let size = law.roomy.nodes in omega arith
 
 -- what a link that is allowed has shown by its worker's knowledge
 pub record LinkChecked (L : Layout) (k : Knowledge) (p leaf new : ℕ) : Type 0 where
@@ -77,6 +81,57 @@ link_checked s w p d leaf new ok = record {
     leaf_known : (knows (of s w) leaf ≡ true) × (may_be_over s.layout (of s w) leaf ≡ true)
     leaf_known = and_parts (knows (of s w) leaf) (may_be_over s.layout (of s w) leaf) three.1
 
+-- the same of a flag, whose leaf is no sentinel
+pub record FlagChecked (k : Knowledge) (p leaf : ℕ) : Type 0 where
+  pub high : 6 ≤ leaf
+  pub known : knows k p ≡ true
+  pub held : knows k leaf ≡ true
+  pub leafy : knows_leaf k leaf ≡ true
+
+pub flag_checked : (s : State) (w p : ℕ) (d : Side) (leaf : ℕ) → refusal_of s w (Flag p d leaf) ≡ None → FlagChecked (of s w) p leaf
+unfolding refusal
+flag_checked s w p d leaf ok =
+    let first = outside 1 s.layout.nodes p || outside 6 s.layout.nodes leaf in
+    let three = and_parts (knows (of s w) p) (knows (of s w) leaf && knows_leaf (of s w) leaf) (not-false _ (third first (is_none (of s w).brief.pin) (not (knows (of s w) p && (knows (of s w) leaf && knows_leaf (of s w) leaf))) NoSlot NotPinned NotHeld _ ok)) in
+    let two = and_parts (knows (of s w) leaf) (knows_leaf (of s w) leaf) three.1 in
+    record { high = (high_from 6 s.layout.nodes leaf (or_parts (outside 1 s.layout.nodes p) (outside 6 s.layout.nodes leaf) (passed _ _ _ ok).0).1).0; known = three.0; held = two.0; leafy = two.1 }
+
+-- of a tag: the node is known, and its other edge flagged
+pub tag_checked : (s : State) (w p : ℕ) (d : Side) → refusal_of s w (Tag p d) ≡ None → (knows (of s w) p ≡ true) × (is_flagged (read (of s w) p (other d)) ≡ true)
+unfolding refusal
+tag_checked s w p d ok = (
+  not-false (knows (of s w) p) (third (outside 1 s.layout.nodes p) (is_none (of s w).brief.pin) (not (knows (of s w) p)) NoSlot NotPinned NotHeld _ ok),
+  not-false (is_flagged (read (of s w) p (other d))) (fourth (outside 1 s.layout.nodes p) (is_none (of s w).brief.pin) (not (knows (of s w) p)) (not (is_flagged (read (of s w) p (other d)))) NoSlot NotPinned NotHeld NotFrozen _ ok),
+)
+
+-- of a fill: its slot is the worker's own
+pub fill_checked : (s : State) (w : ℕ) (e : Event) → refusal_of s w e ≡ None → (x : ℕ) (f : Field) (v : ℕ) → e ≡ Fill x f v → is_private (of s w) x ≡ true
+unfolding refusal
+fill_checked s w e ok x f v is = not-false (is_private (of s w) x)
+    (second (outside 6 s.layout.nodes x || (is_edge f && nat_lt s.layout.nodes v)) (not (is_private (of s w) x)) NoSlot NotPrivate _ (subst (λ (y : Event). refusal_of s w y ≡ None) is ok))
+
+-- of a look: a slot that is not the worker's own is known
+pub look_checked : (s : State) (w x : ℕ) (f : Field) → refusal_of s w (Look x f) ≡ None → is_private (of s w) x ≡ false → knows (of s w) x ≡ true
+unfolding refusal
+look_checked s w x f ok out = not-false (knows (of s w) x)
+    (sym (ap (λ (b : Bool). not b && not (knows (of s w) x)) out) ∙ third (outside 1 s.layout.nodes x) (not (is_private (of s w) x) && is_none (of s w).brief.pin) (not (is_private (of s w) x) && not (knows (of s w) x)) NoSlot NotPinned NotHeld _ ok)
+
+-- and of a splice, whose successor and last parent are no sentinels
+pub record SpliceChecked (L : Layout) (k : Knowledge) (a x p : ℕ) (keep : Side) : Type 0 where
+  pub high : (6 ≤ x) × (6 ≤ p)
+  pub known : knows k a ≡ true
+  pub held : knows k x ≡ true
+  pub frozen : is_frozen L k x p keep ≡ true
+
+pub splice_checked : (s : State) (w a : ℕ) (d : Side) (x p : ℕ) (keep : Side) → refusal_of s w (Splice a d x p keep) ≡ None → SpliceChecked s.layout (of s w) a x p keep
+unfolding refusal
+splice_checked s w a d x p keep ok =
+    let first = outside 1 s.layout.nodes a || (outside 6 s.layout.nodes x || outside 6 s.layout.nodes p) in
+    let slots = or_parts (outside 6 s.layout.nodes x) (outside 6 s.layout.nodes p) (or_parts (outside 1 s.layout.nodes a) (outside 6 s.layout.nodes x || outside 6 s.layout.nodes p) (passed _ _ _ ok).0).1 in
+    let seen = and_parts (knows (of s w) a) (knows (of s w) x) (not-false _ (third first (is_none (of s w).brief.pin) (not (knows (of s w) a && knows (of s w) x)) NoSlot NotPinned NotHeld _ ok)) in
+    let frozen = not-false (is_frozen s.layout (of s w) x p keep) (fourth first (is_none (of s w).brief.pin) (not (knows (of s w) a && knows (of s w) x)) (not (is_frozen s.layout (of s w) x p keep)) NoSlot NotPinned NotHeld NotFrozen _ ok) in
+    record { high = ((high_from 6 s.layout.nodes x slots.0).0, (high_from 6 s.layout.nodes p slots.1).0); known = seen.0; held = seen.1; frozen = frozen }
+
 some_of : {X : Type 0} (o : Option X) → is_some o ≡ true → (x : X) × (o ≡ Some x)
 some_of None i = absurd (true≢false (sym i))
 some_of (Some x) i = (x, refl)
@@ -102,6 +157,15 @@ module _ (s : State) (h : ℕ → ℕ) (law : Lawful s h) (w : ℕ) where
       let here = law.holders.own w worker staying in
       let l = some_of (held (of s w).ledgers w) (ap (λ (y : ℕ). is_some (held (of s y).ledgers w)) (sym here) ∙ law.holders.some w worker) in
       record { holder = here; ledger = l.0; is_held = l.1; inside = let e = law.holders.sizes w in omega arith }
+
+  -- an edge that may be tagged is not null: its twin is flagged, and a shared node has two children
+  -- or none
+  pub tag_not_null : (p : ℕ) (d : Side) → refusal_of s w (Tag p d) ≡ None → child s.memory p d ≢ 0
+  tag_not_null p d ok null =
+      let c = tag_checked s w p d ok in
+      let live = known_live s.layout.nodes s.memory (of s) h w p law.tree c.0 in
+      let high = law.tree.flags p (other d) live (flag_known s.layout.nodes s.memory (of s) h w p (other d) law.tree c.1).0 in
+      let none : child s.memory p (other d) ≡ 0 = law.tree.twins p d live null in omega (arith, high, none)
 
   pub tree_step : (e : Event) → Allowed s w e → ((v : ℕ) → e ≡ Join v → ⊥) → TreeLaw s.layout.nodes (view (write s.memory (of s w) w e) (with_worker (of s) w (learn w (of s w) e (reply_of s w e))) h)
   unfolding refusal reply write
@@ -135,62 +199,21 @@ module _ (s : State) (h : ℕ → ℕ) (law : Lawful s h) (w : ℕ) where
               let k = freeable s w x ok out in
               let f : Front (of s w).ledgers x k.0 k.0.node = front (of s w).ledgers x k.0 k.0.node (front_slot (of s w).ledgers x k.0 k.1) k.1 in
               rw out (rw k.1 (rw (learn_freed w (of s w) x k.0.node) (free_view s.layout.nodes s.memory (of s) h w x k.0 k.0.node (in_pool_list x range.1) f (sym (law.holders.only w f.origin (ap is_some f.is_held))) (unseen x k.0 f k.2) law.tree)))
-      go (Look x f) ok alone = look_view s.layout.nodes s.memory (of s) h w x f held' law.tree
-        where
-          held' : is_private (of s w) x ≡ false → knows (of s w) x ≡ true
-          held' out = not-false (knows (of s w) x) (sym (ap (λ (b : Bool). not b && not (knows (of s w) x)) out) ∙ (third (outside 1 s.layout.nodes x) (not (is_private (of s w) x) && is_none (of s w).brief.pin) (not (is_private (of s w) x) && not (knows (of s w) x)) NoSlot NotPinned NotHeld _ ok))
-      go (Fill x f v) ok alone = fill_view s.layout.nodes s.memory (of s) h w x f v in_list own small law.tree
+      go (Look x f) ok alone = look_view s.layout.nodes s.memory (of s) h w x f (look_checked s w x f ok) law.tree
+      go (Fill x f v) ok alone = fill_view s.layout.nodes s.memory (of s) h w x f v (slot_inside s h law x 6 parts.0) (fill_checked s w (Fill x f v) ok x f v refl) small law.tree
         where
           parts : (outside 6 s.layout.nodes x ≡ false) × ((is_edge f && nat_lt s.layout.nodes v) ≡ false)
           parts = or_parts (outside 6 s.layout.nodes x) (is_edge f && nat_lt s.layout.nodes v) (passed _ _ _ ok).0
-
-          in_list : x < length s.memory.nodes
-          in_list = let range = high_from 6 s.layout.nodes x parts.0 in let size = law.roomy.nodes in omega arith
-
-          own : is_private (of s w) x ≡ true
-          own = not-false (is_private (of s w) x) (second (outside 6 s.layout.nodes x || (is_edge f && nat_lt s.layout.nodes v)) (not (is_private (of s w) x)) NoSlot NotPrivate _ ok)
 
           small : (d : Side) → f ≡ EdgeOn d → v ≤ s.layout.nodes
           small d is = ltb-false s.layout.nodes v (ap (λ (g : Field). is_edge g && nat_lt s.layout.nodes v) (sym is) ∙ parts.1)
       go (Link p d leaf new) ok alone =
           let c = link_checked s w p d leaf new ok in
           link_view s.layout s.layout.nodes s.memory (of s) h w p d leaf new _ law.roomy.nodes c.known c.held c.leafy c.own c.ready (law.drafts w) law.tree
-      go (Flag p d leaf) ok alone = flag_view s.layout.nodes s.memory (of s) h w p d leaf law.roomy.nodes high known leaf_known.0 leaf_known.1 law.tree
-        where
-          first : Bool
-          first = outside 1 s.layout.nodes p || outside 6 s.layout.nodes leaf
-
-          high : 6 ≤ leaf
-          high = (high_from 6 s.layout.nodes leaf (or_parts (outside 1 s.layout.nodes p) (outside 6 s.layout.nodes leaf) (passed _ _ _ ok).0).1).0
-
-          three : (knows (of s w) p && (knows (of s w) leaf && knows_leaf (of s w) leaf)) ≡ true
-          three = not-false _ (third first (is_none (of s w).brief.pin) (not (knows (of s w) p && (knows (of s w) leaf && knows_leaf (of s w) leaf))) NoSlot NotPinned NotHeld _ ok)
-
-          known : knows (of s w) p ≡ true
-          known = (and_parts (knows (of s w) p) (knows (of s w) leaf && knows_leaf (of s w) leaf) three).0
-
-          leaf_known : (knows (of s w) leaf ≡ true) × (knows_leaf (of s w) leaf ≡ true)
-          leaf_known = and_parts (knows (of s w) leaf) (knows_leaf (of s w) leaf) (and_parts (knows (of s w) p) (knows (of s w) leaf && knows_leaf (of s w) leaf) three).1
-      go (Tag p d) ok alone = tag_view s.layout.nodes s.memory (of s) h w p d law.roomy.nodes known twin law.tree
-        where
-          known : knows (of s w) p ≡ true
-          known = not-false (knows (of s w) p) (third (outside 1 s.layout.nodes p) (is_none (of s w).brief.pin) (not (knows (of s w) p)) NoSlot NotPinned NotHeld _ ok)
-
-          twin : is_flagged (read (of s w) p (other d)) ≡ true
-          twin = not-false (is_flagged (read (of s w) p (other d))) (fourth (outside 1 s.layout.nodes p) (is_none (of s w).brief.pin) (not (knows (of s w) p)) (not (is_flagged (read (of s w) p (other d)))) NoSlot NotPinned NotHeld NotFrozen _ ok)
-      go (Splice a d x p keep) ok alone = splice_view s.layout s.memory (of s) h w a d x p keep law.roomy.nodes (owned ok'.worker ok'.stays) (high_from 6 s.layout.nodes x slots.0).0 (high_from 6 s.layout.nodes p slots.1).0 seen.0 seen.1 frozen law.tree
-        where
-          first : Bool
-          first = outside 1 s.layout.nodes a || (outside 6 s.layout.nodes x || outside 6 s.layout.nodes p)
-
-          slots : (outside 6 s.layout.nodes x ≡ false) × (outside 6 s.layout.nodes p ≡ false)
-          slots = or_parts (outside 6 s.layout.nodes x) (outside 6 s.layout.nodes p) (or_parts (outside 1 s.layout.nodes a) (outside 6 s.layout.nodes x || outside 6 s.layout.nodes p) (passed _ _ _ ok).0).1
-
-          seen : (knows (of s w) a ≡ true) × (knows (of s w) x ≡ true)
-          seen = and_parts (knows (of s w) a) (knows (of s w) x) (not-false _ (third first (is_none (of s w).brief.pin) (not (knows (of s w) a && knows (of s w) x)) NoSlot NotPinned NotHeld _ ok))
-
-          frozen : is_frozen s.layout (of s w) x p keep ≡ true
-          frozen = not-false (is_frozen s.layout (of s w) x p keep) (fourth first (is_none (of s w).brief.pin) (not (knows (of s w) a && knows (of s w) x)) (not (is_frozen s.layout (of s w) x p keep)) NoSlot NotPinned NotHeld NotFrozen _ ok)
+      go (Flag p d leaf) ok alone = let c = flag_checked s w p d leaf ok in flag_view s.layout.nodes s.memory (of s) h w p d leaf law.roomy.nodes c.high c.known c.held c.leafy law.tree
+      go (Tag p d) ok alone = let c = tag_checked s w p d ok in tag_view s.layout.nodes s.memory (of s) h w p d law.roomy.nodes c.0 c.1 law.tree
+      go (Splice a d x p keep) ok alone = let c = splice_checked s w a d x p keep ok in
+          splice_view s.layout s.memory (of s) h w a d x p keep law.roomy.nodes (owned ok'.worker ok'.stays) c.high.0 c.high.1 c.known c.held c.frozen law.tree
       go (Join v) ok alone = absurd (alone v refl)
 
 -- ---- a join

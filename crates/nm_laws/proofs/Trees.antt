@@ -1,5 +1,5 @@
 -- Trees as two children for each slot, 0 for none: what paths lead to after one edge is exchanged.
-use Rattle.std.proofs.Common.{◌≡◌, ℕ, eqb, Bool, true, false, cond, ◌&&◌, List, [], ◌∷◌, ◌++◌, refl, sym, ap, ◌∙◌, true≢false}
+use Rattle.std.proofs.Common.{◌≡◌, ℕ, eqb, Bool, true, false, cond, ◌&&◌, List, [], ◌∷◌, ◌++◌, refl, sym, ap, ◌∙◌, true≢false, zero, suc}
 use Rattle.std.specs.Prelude.{Option, Some, None}
 use Rattle.std.proofs.lemmas.Bool.{eqb-true, eq-eqb, and_parts, and_from}
 use Rattle.std.proofs.lemmas.Option.{none-some, same_Some}
@@ -16,6 +16,21 @@ same_side Left Left = true
 same_side Left Right = false
 same_side Right Left = false
 same_side Right Right = true
+
+-- what holds on the left and on the right holds on each side
+pub each_side : (P : Side → Type 0) → P Left → P Right → (d : Side) → P d
+each_side P l r Left = l
+each_side P l r Right = r
+
+-- what holds of each of the first six slots and of each later one holds of each slot
+pub each_slot : (P : ℕ → Type 0) → P 0 → P 1 → P 2 → P 3 → P 4 → P 5 → ((x : ℕ) → P (suc (suc (suc (suc (suc (suc x))))))) → (x : ℕ) → P x
+each_slot P a b c d e f later zero = a
+each_slot P a b c d e f later (suc zero) = b
+each_slot P a b c d e f later (suc (suc zero)) = c
+each_slot P a b c d e f later (suc (suc (suc zero))) = d
+each_slot P a b c d e f later (suc (suc (suc (suc zero)))) = e
+each_slot P a b c d e f later (suc (suc (suc (suc (suc zero))))) = f
+each_slot P a b c d e f later (suc (suc (suc (suc (suc (suc x)))))) = later x
 
 pub same_side-true : (d e : Side) → same_side d e ≡ true → d ≡ e
 same_side-true Left Left h = refl
@@ -48,6 +63,11 @@ follow_leaf c null s leaf d q = rw (leaf d) (follow_none c null q)
 pub append_cancel : (p q r : List Side) → p ++ q ≡ p ++ r → q ≡ r
 append_cancel [] q r h = h
 append_cancel (d ∷ p) q r h = append_cancel p q r (cc)
+
+-- no path goes on from its end to itself
+pub no_longer : (d : Side) (p q : List Side) → p ≡ p ++ d ∷ q → ⊥
+no_longer d [] q h = cc
+no_longer d (e ∷ p) q h = no_longer d p q (cc)
 
 -- ---- what is left of a path after it first takes the edge (p, d)
 

@@ -1,7 +1,7 @@
 -- A whole turn from a lawful state: refused, of one worker, or a join. What it leaves of the laws,
 -- the ledgers, births and the pool.
 use Rattle.std.proofs.Common.{◌≡◌, ℕ, ◌<◌, ◌≤◌, ◌≢◌, ◌⊎◌, inl, inr, true, false, length, refl, sym, ap, subst, ◌∙◌, arith, get_or-set_same, get_or-set_other, le_of_eq}
-use Rattle.std.specs.Prelude.{Option, Some, None, Result, Ok, Err}
+use Rattle.std.specs.Prelude.{Ok, Err}
 use native.Mathlib.Decide.{ℕ_discrete}
 use Rattle.nm_model.specs.declared.event.Event.{Event}
 use Rattle.nm_model.specs.declared.event.Event.TheVariants.{Give, Join}
@@ -11,15 +11,15 @@ use Rattle.nm_model.specs.Memory.{Memory, in_pool}
 use Rattle.nm_model.specs.Knowledge.{Knowledge, newcomer}
 use Rattle.nm_model.specs.Learning.{learn}
 use Rattle.nm_model.specs.Step.{write, refusal}
-use Rattle.nm_model.specs.Runs.{State, of, next, outcome, answered, refused, reply_of, applied, unless_refused}
+use Rattle.nm_model.specs.Runs.{State, of, next, outcome, reply_of, applied}
 use Rattle.nm_model.specs.Laws.{nodes_cut_of}
-use Rattle.nm_laws.proofs.Steps.{each, moved, Allowed, allowed, passed}
+use Rattle.nm_laws.proofs.Steps.{each, moved, Allowed, passed}
 use Rattle.nm_laws.proofs.Epochs.{other_worker}
 use Rattle.nm_laws.proofs.Changes.{Changed, changed}
 use Rattle.nm_laws.proofs.Holders.{heirs, Joins, joins, by_worker}
 use Rattle.nm_laws.proofs.TreeSteps.{Lawful, high_from}
-use Rattle.nm_laws.proofs.Lawful.{applied_is, moved_lawful, join_lawful, JoinOrNot, join_or_not}
-use Rattle.nm_laws.proofs.Lawful.JoinOrNot.{IsJoin, IsNone}
+use Rattle.nm_laws.proofs.Lawful.{applied_is, moved_lawful, join_lawful, each_turn}
+use Rattle.nm_laws.proofs.Outcomes.{no_reply}
 use Rattle.nm_laws.proofs.Origins.{OriginStep, ledger_at, uncut, step_of, ledger_joined}
 use Rattle.nm_laws.proofs.Origins.OriginStep.{Unchanged}
 use Rattle.nm_laws.proofs.Births.{word, Unborn, BornFirst, Aged, aged}
@@ -130,33 +130,14 @@ module _ (s : State) (h : ℕ → ℕ) (law : Lawful s h) (born : (w : ℕ) → 
             (λ z. record { draft = z.draft; is = z.is; unborn = z.unborn }) (λ z. record { draft = z.draft; is = z.is; unborn = z.unborn }) (λ y _ _ z. z) u.0 u.1,
       )
 
+  turn_refused : (t : ℕ × Event) (r : Refused) → next s t ≡ s → outcome s t ≡ Err r → LawfulTurn s h t
+  turn_refused t r is_next is_refused = record {
+    holder = h;
+    law = rw is_next law;
+    step = λ o. rw is_next (Unchanged refl (uncut s t o (ap nodes_cut_of is_refused)));
+    aging = rw is_next (record { words = λ x. le_of_eq refl; idle = λ x i. inl i; born = born });
+    given = λ x q _ i. absurd (no_reply r q (sym is_refused ∙ i));
+  }
+
   pub lawful_turn : (t : ℕ × Event) → LawfulTurn s h t
-  unfolding next outcome
-  lawful_turn t = go (refused s t.0 t.1) refl
-    where
-      go : (o : Option Refused) → refused s t.0 t.1 ≡ o → LawfulTurn s h t
-      go (Some r) is = record {
-        holder = h;
-        law = rw is_next law;
-        step = λ o. rw is_next (Unchanged refl (uncut s t o (ap (λ x. nodes_cut_of (answered x (reply_of s t.0 t.1))) is)));
-        aging = rw is_next (record { words = λ x. le_of_eq refl; idle = λ x i. inl i; born = born });
-        given = λ x q _ i. absurd (differ q (sym (ap (λ y. answered y (reply_of s t.0 t.1)) is) ∙ i));
-      }
-        where
-          is_next : next s t ≡ s
-          is_next = ap (λ x. unless_refused x s (applied s t.0 t.1)) is
-
-          differ : (q : Reply) → ◌≡◌ {A = Result Reply Refused} (Err r) (Ok q) → ⊥
-          differ q e = cc
-      go None is = by (join_or_not t.1)
-        where
-          is_next : next s t ≡ applied s t.0 t.1
-          is_next = ap (λ x. unless_refused x s (applied s t.0 t.1)) is
-
-          is_outcome : outcome s t ≡ Ok (reply_of s t.0 t.1)
-          is_outcome = ap (λ x. answered x (reply_of s t.0 t.1)) is
-
-          by : JoinOrNot t.1 → LawfulTurn s h t
-          by (IsNone alone) = turn_moved t.0 t.1 (allowed s t.0 t.1 is) is_next is_outcome alone
-          by (IsJoin v e) = subst (λ (x : Event). Allowed s t.0 x → next s (t.0, x) ≡ applied s t.0 x → outcome s (t.0, x) ≡ Ok (reply_of s t.0 x) → LawfulTurn s h (t.0, x)) (sym e)
-              (λ ok n q. turn_joined t.0 v ok n q) (allowed s t.0 t.1 is) is_next is_outcome
+  lawful_turn = each_turn s (LawfulTurn s h) turn_refused turn_moved turn_joined

@@ -4,7 +4,7 @@ use Rattle.std.proofs.Common.{◌≡◌, ◌≢◌, ℕ, inl, inr, eqb, ◌==◌
 use Rattle.std.specs.Prelude.{Option, Some, None, slice_get, is_none}
 use Rattle.std.specs.List.{list_any}
 use native.Mathlib.Decide.{ℕ_discrete}
-use Rattle.std.proofs.lemmas.Bool.{cond_both, eqb-true, eq-eqb, and_parts}
+use Rattle.std.proofs.lemmas.Bool.{cond_both, eqb-true, eq-eqb, and_parts, or_left, and_from}
 use Rattle.std.proofs.lemmas.Option.{none-some}
 use Rattle.nm_edge.specs.declared.edge.Side.{Side}
 use Rattle.nm_edge.specs.declared.edge.Side.TheVariants.{Left, Right}
@@ -12,9 +12,9 @@ use Rattle.nm_edge.specs.declared.node.NodeId.{NodeId}
 use Rattle.nm_model.specs.declared.event.Field.{Field}
 use Rattle.nm_model.specs.declared.event.Field.TheVariants.{Key, Edge as EdgeOn, Birth}
 use Rattle.nm_model.specs.declared.event.Event.{Event}
-use Rattle.nm_model.specs.declared.event.Event.TheVariants.{Sight, SightFor, Leave, LeaveWith, Look, Link, Flag, Splice, Join}
+use Rattle.nm_model.specs.declared.event.Event.TheVariants.{Look, Join}
 use Rattle.nm_model.specs.declared.reply.Reply.{Reply}
-use Rattle.nm_model.specs.declared.reply.Reply.TheVariants.{Pinned, Departed, EdgeIs, Linked, Flagged, Cut}
+use Rattle.nm_model.specs.declared.reply.Reply.TheVariants.{EdgeIs}
 use Rattle.nm_model.specs.declared.arrivals.Call.{Call}
 use Rattle.nm_model.specs.declared.arrivals.Arrival.{Arrival}
 use Rattle.nm_model.specs.Memory.{Memory, child, edge}
@@ -31,6 +31,7 @@ use Rattle.nm_laws.proofs.Steps.{Allowed}
 use Rattle.nm_laws.proofs.TreeSteps.{Lawful}
 use Rattle.nm_laws.proofs.Views.{read_after}
 use Rattle.nm_laws.proofs.Trees.{same_side-refl}
+use Rattle.nm_laws.proofs.SearchesGrow.{begun_is, search_goes}
 use Rattle.nm_order.specs.Intervals.{HasKey, key}
 use Rattle.nm_order.specs.Facts.{Since, arrivals}
 use Rattle.nm_order.specs.Facts.Since.{ThePin, TheFlag}
@@ -52,29 +53,12 @@ pub data GoesOn (s : Search) (e : Event) (r : Reply) (t : Search) : Type 0 where
   Looked : (x : ℕ) (f : Field) → e ≡ Look x f → t ≡ look_for s s.call x f r → GoesOn s e r t
 
 pub goes_on_so : (s : Search) (e : Event) (r : Reply) → begins_anew (e, r) ≡ false → GoesOn s e r (searched s e r)
-unfolding searched
-goes_on_so s Sight (Pinned n) stands = absurd (true≢false stands)
-goes_on_so s (SightFor op key) (Pinned n) stands = absurd (true≢false stands)
-goes_on_so s Leave Departed stands = absurd (true≢false stands)
-goes_on_so s (LeaveWith answer) Departed stands = absurd (true≢false stands)
-goes_on_so s (Look x f) r stands = Looked x f refl refl
-goes_on_so s (Link p side leaf new) (Linked n) stands = Same refl refl refl
-goes_on_so s (Flag p side leaf) (Flagged n) stands = Same refl refl refl
-goes_on_so s (Splice a side x p keep) (Cut ns) stands = Same refl refl refl
-goes_on_so s e r stands = Same refl refl refl
+goes_on_so s = search_goes (GoesOn s) s (λ x f r. Looked x f refl refl) (λ p side leaf new n. Same refl refl refl) (λ p side leaf n. Same refl refl refl) (λ a side x p keep ns. Same refl refl refl) (λ e r. Same refl refl refl)
 
 -- where a pin begins or ends there are no walks
 pub begun_anew : (s : Search) (e : Event) (r : Reply) → begins_anew (e, r) ≡ true → (since : Since) → arrivals (searched s e r) since ≡ []
-unfolding searched
-begun_anew s Sight (Pinned n) stands ThePin = refl
-begun_anew s Sight (Pinned n) stands TheFlag = refl
-begun_anew s (SightFor op key) (Pinned n) stands ThePin = refl
-begun_anew s (SightFor op key) (Pinned n) stands TheFlag = refl
-begun_anew s Leave Departed stands ThePin = refl
-begun_anew s Leave Departed stands TheFlag = refl
-begun_anew s (LeaveWith answer) Departed stands ThePin = refl
-begun_anew s (LeaveWith answer) Departed stands TheFlag = refl
-begun_anew s e r stands since = absurd (true≢false (sym stands))
+begun_anew s e r anew ThePin = ap (λ (t : Search). t.walks) (begun_is s e r anew)
+begun_anew s e r anew TheFlag = ap (λ (t : Search). t.later) (begun_is s e r anew)
 
 -- ---- what is kept of each worker's walks
 
@@ -102,11 +86,7 @@ others_stay s h law w e ok u ne = go (takes_part u w e) refl
 
 -- a worker learns what its event is answered
 pub own_knows : (s : State) (h : ℕ → ℕ) (law : Lawful s h) (w : ℕ) (e : Event) → Allowed s w e → of (applied s w e) w ≡ learn w (of s w) e (reply_of s w e)
-own_knows s h law w e ok = partaking s law.staffed w w e ok (either (w == w) _ (eq-eqb w w refl))
-  where
-    either : (a b : Bool) → a ≡ true → (a || b) ≡ true
-    either true b is = refl
-    either false b is = absurd (true≢false (sym is))
+own_knows s h law w e ok = partaking s law.staffed w w e ok (or_left (w == w) _ (eq-eqb w w refl))
 
 module _ (s : State) (h : ℕ → ℕ) (law : Lawful s h) (w : ℕ) where
   nulls_stand : (u : ℕ) → NullsStand s.memory (of s u)
@@ -123,19 +103,10 @@ module _ (s : State) (h : ℕ → ℕ) (law : Lawful s h) (w : ℕ) where
       (λ _. by d (is_read d) null)
     where
       is_read : (d : Side) → read (read_edge (of s w) x d (edge s.memory x d)) x d ≡ Some (edge s.memory x d)
-      is_read d = read_after (of s w) x d (edge s.memory x d) x d ∙ ap (λ (b : Bool). cond b (Some (edge s.memory x d)) (read (of s w) x d)) (both_true (eqb x x) _ (eq-eqb x x refl) (same_side-refl d))
-        where
-          both_true : (a b : Bool) → a ≡ true → b ≡ true → (a && b) ≡ true
-          both_true true true i j = refl
-          both_true true false i j = j
-          both_true false b i j = i
+      is_read d = read_after (of s w) x d (edge s.memory x d) x d ∙ ap (λ (b : Bool). cond b (Some (edge s.memory x d)) (read (of s w) x d)) (and_from (eqb x x) _ (eq-eqb x x refl) (same_side-refl d))
 
       by : (d : Side) → read (read_edge (of s w) x d (edge s.memory x d)) x d ≡ Some (edge s.memory x d) → child s.memory x d ≡ 0 → knows_leaf (read_edge (of s w) x d (edge s.memory x d)) x ≡ true
-      by Left is null = first (is_null (read (read_edge (of s w) x Left (edge s.memory x Left)) x Left)) _ (ap is_null is ∙ eq-eqb (child s.memory x Left) 0 null)
-        where
-          first : (a b : Bool) → a ≡ true → (a || b) ≡ true
-          first true b i = refl
-          first false b i = absurd (true≢false (sym i))
+      by Left is null = or_left (is_null (read (read_edge (of s w) x Left (edge s.memory x Left)) x Left)) _ (ap is_null is ∙ eq-eqb (child s.memory x Left) 0 null)
       by Right is null = second (is_null (read (read_edge (of s w) x Right (edge s.memory x Right)) x Left)) _ (ap is_null is ∙ eq-eqb (child s.memory x Right) 0 null)
         where
           second : (a b : Bool) → b ≡ true → (a || b) ≡ true

@@ -27,6 +27,7 @@ use Rattle.nm_model.specs.Ordered.{Configuration, ordered, search_of, next_in, o
 use Rattle.nm_laws.proofs.Trees.{follow-append, append_cancel}
 use Rattle.nm_laws.proofs.Pictures.{alone}
 use Rattle.nm_laws.proofs.Views.{picture}
+use Rattle.nm_laws.proofs.Outcomes.{same_reply}
 use Rattle.nm_model.specs.Acts.{InSet, Act, changed, Replays, IsAmong, leaf_keys}
 use Rattle.nm_order.specs.Intervals.{HasKey, key}
 use Rattle.nm_order.specs.Removals.{IsKeyOf, Loses}
@@ -301,16 +302,13 @@ module _ (L : Layout) (enough : 5 ≤ L.nodes) (ts : List (ℕ × Event)) (keys 
         ap (λ (y : Act). y.op) d.is,
         ap (λ (y : Act). y.answer) d.is,
       );
-      link = λ k called q told such. absurd (true≢false (sym such ∙ no_link t.1 q (same_ok (Cut ns) q (sym is ∙ told))));
+      link = λ k called q told such. absurd (true≢false (sym such ∙ no_link t.1 q (same_reply (Cut ns) q (sym is ∙ told))));
     };
     once = deletes_once chain.0 (slots_of ns) chain.1 reached;
     each = λ a there. let d = each_delete chain.0 (slots_of ns) chain.1 reached a there in (d.slot, d.flagged, d.leaf, d.is, cut_at d.index d.slot d.at);
     all = λ x leaf cut. let i = (shows.0 x).0 cut in let at = slice_get-get_or (slots_of ns) i.0 x i.1 ∙ ap Some i.2 in leaf_deleted chain.0 (slots_of ns) chain.1 reached i.0 x at leaf;
   }
     where
-      same_ok : (x y : Reply) → ◌≡◌ {A = Result Reply Refused} (Ok x) (Ok y) → x ≡ y
-      same_ok x y e = cc
-
       no_link : (e : Event) (q : Reply) → Cut ns ≡ q → is_won_link (e, q) ≡ false
       no_link e q cut = subst (λ (q : Reply). is_won_link (e, q) ≡ false) cut (by e)
         where

@@ -26,7 +26,7 @@ use Rattle.nm_laws.proofs.Stays.{nothing_else_cuts, only_splices_answer_cuts}
 use Rattle.nm_laws.proofs.Cuts.{cuts_just, cuts_name_births}
 use Rattle.nm_laws.proofs.SplicedEdges.{IsFrozenChain, cuts_go_down}
 use Rattle.nm_laws.proofs.Configurations.{refused_next, refused_outcome, allowed_state, allowed_outcome, state_outcome}
-use Rattle.nm_laws.proofs.Outcomes.{same_reply}
+use Rattle.nm_laws.proofs.Outcomes.{same_reply, no_reply}
 use Rattle.nm_laws.proofs.Retired.{layout_after}
 use Rattle.nm_order.proofs.OrderedLaws.{IsOrdered, ordered_next, law_of_state}
 
@@ -94,9 +94,6 @@ module _ (L : Layout) (enough : 5 ≤ L.nodes) where
       → ((x : ℕ) → IsCut c.state.memory (next_in c t).state.memory x ↔ Contains (slots_of ns) x) × (ns ≡ map (named c.state.memory) (slots_of ns))
   cut_shows c t o ns is = go (refused_in c t.0 t.1) refl
     where
-      differ : (r : Refused) → ◌≡◌ {A = Result Reply Refused} (Err r) (Ok (Cut ns)) → ⊥
-      differ r e = cc
-
       Shows : State → State → Type 0
       Shows s s' = ((x : ℕ) → IsCut s.memory s'.memory x ↔ Contains (slots_of ns) x) × (ns ≡ map (named s.memory) (slots_of ns))
 
@@ -109,7 +106,7 @@ module _ (L : Layout) (enough : 5 ≤ L.nodes) where
           (cuts_just L enough o.events t.0 e.0 e.1 e.2 e.3 e.4 ns is', cuts_name_births L enough o.events t.0 e.0 e.1 e.2 e.3 e.4 ns is')
 
       go : (r : Option Refused) → refused_in c t.0 t.1 ≡ r → Shows c.state (next_in c t).state
-      go (Some r) why = absurd (differ r (sym (refused_outcome c t r why) ∙ is))
+      go (Some r) why = absurd (no_reply r (Cut ns) (sym (refused_outcome c t r why) ∙ is))
       go None why = subst (Shows c.state) (allowed_state c t why)
           (subst (λ (s : State). outcome s t ≡ Ok (Cut ns) → Shows s (next s t)) (sym o.leads) by (state_outcome c t why ∙ (sym (allowed_outcome c t why) ∙ is)))
 
@@ -117,9 +114,6 @@ module _ (L : Layout) (enough : 5 ≤ L.nodes) where
   pub cut_goes_down : (c : Configuration) (t : ℕ × Event) → IsOrdered L c → (ns : List NodeId) → outcome_in c t ≡ Ok (Cut ns) → (s : ℕ) × IsFrozenChain c.state.memory s (slots_of ns)
   cut_goes_down c t o ns is = go (refused_in c t.0 t.1) refl
     where
-      differ : (r : Refused) → ◌≡◌ {A = Result Reply Refused} (Err r) (Ok (Cut ns)) → ⊥
-      differ r e = cc
-
       by : outcome (after (start L) o.events) t ≡ Ok (Cut ns) → (s : ℕ) × IsFrozenChain (after (start L) o.events).memory s (slots_of ns)
       by is =
           let e = only_splices_answer_cuts L enough o.events t ns is in
@@ -127,18 +121,15 @@ module _ (L : Layout) (enough : 5 ≤ L.nodes) where
           (e.2, cuts_go_down L enough o.events t.0 e.0 e.1 e.2 e.3 e.4 ns (ap (outcome (after (start L) o.events)) (sym turn) ∙ is))
 
       go : (r : Option Refused) → refused_in c t.0 t.1 ≡ r → (s : ℕ) × IsFrozenChain c.state.memory s (slots_of ns)
-      go (Some r) why = absurd (differ r (sym (refused_outcome c t r why) ∙ is))
+      go (Some r) why = absurd (no_reply r (Cut ns) (sym (refused_outcome c t r why) ∙ is))
       go None why = subst (λ (s : State). outcome s t ≡ Ok (Cut ns) → (x : ℕ) × IsFrozenChain s.memory x (slots_of ns)) (sym o.leads) by (state_outcome c t why ∙ (sym (allowed_outcome c t why) ∙ is))
 
   -- that it is a splice
   pub cut_is_splice : (c : Configuration) (t : ℕ × Event) → IsOrdered L c → (ns : List NodeId) → outcome_in c t ≡ Ok (Cut ns) → (a : ℕ) × (side : Side) × (x : ℕ) × (p : ℕ) × (keep : Side) × (t.1 ≡ Splice a side x p keep)
   cut_is_splice c t o ns is = go (refused_in c t.0 t.1) refl
     where
-      differ : (r : Refused) → ◌≡◌ {A = Result Reply Refused} (Err r) (Ok (Cut ns)) → ⊥
-      differ r e = cc
-
       go : (r : Option Refused) → refused_in c t.0 t.1 ≡ r → (a : ℕ) × (side : Side) × (x : ℕ) × (p : ℕ) × (keep : Side) × (t.1 ≡ Splice a side x p keep)
-      go (Some r) why = absurd (differ r (sym (refused_outcome c t r why) ∙ is))
+      go (Some r) why = absurd (no_reply r (Cut ns) (sym (refused_outcome c t r why) ∙ is))
       go None why = only_splices_answer_cuts L enough o.events t ns (ap (λ (s : State). outcome s t) (sym o.leads) ∙ (state_outcome c t why ∙ (sym (allowed_outcome c t why) ∙ is)))
 
   -- each node that a cut names has the birth of its slot

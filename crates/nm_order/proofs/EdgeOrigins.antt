@@ -1,29 +1,28 @@
 -- Where each edge comes from that is reached after an event: it is one that was reached, but for
 -- its tag; it was flagged by the event; or it leads to a node that the event put in, or to none.
-use Rattle.std.proofs.Common.{◌≡◌, ◌≢◌, ℕ, ◌+◌, ◌<◌, inl, inr, ◌⊎◌, Bool, true, false, ◌&&◌, ◌||◌, length, [], ◌∷◌, ◌++◌, refl, sym, ap, subst, ◌∙◌, arith, true≢false, get_or-set_other}
-use Rattle.std.specs.Prelude.{Option, Some, None, nat_lt}
-use Rattle.std.proofs.lemmas.Bool.{cond_both, or_parts, not-false}
+use Rattle.std.proofs.Common.{◌≡◌, ◌≢◌, ℕ, ◌+◌, ◌<◌, inl, inr, ◌⊎◌, Bool, true, false, length, [], ◌∷◌, ◌++◌, refl, sym, ap, subst, ◌∙◌, arith, true≢false, get_or-set_other}
+use Rattle.std.specs.Prelude.{Option, Some, None}
+use Rattle.std.proofs.lemmas.Bool.{cond_both, or_parts}
 use Rattle.nm_edge.specs.Edges.{Edge, to, is_to, tagged, untagged}
 use Rattle.nm_edge.specs.declared.edge.Side.{Side}
 use Rattle.nm_model.specs.declared.memory.Node.{Node}
 use Rattle.nm_model.specs.declared.event.Event.{Event}
 use Rattle.nm_model.specs.declared.event.Event.TheVariants.{Fill, Link, Flag, Tag, Splice, Advance}
 use Rattle.nm_model.specs.declared.event.Field.{Field}
-use Rattle.nm_model.specs.declared.reply.Refused.TheVariants.{NoSlot, NotPrivate}
 use Rattle.nm_model.specs.Maps.{is_number}
 use Rattle.nm_model.specs.Memory.{Memory, blank, node, edge, edge_of, child, put_edge, put_node}
 use Rattle.nm_model.specs.Knowledge.{is_private, read, is_tagged, slot_read}
 use Rattle.nm_model.specs.Learning.{flag_to}
 use Rattle.nm_model.specs.Paths.{follow, Reached}
-use Rattle.nm_model.specs.Step.{outside, is_edge, filled, kept, refusal, write}
+use Rattle.nm_model.specs.Step.{outside, filled, kept, refusal, write}
 use Rattle.nm_model.specs.Runs.{State, of}
-use Rattle.nm_laws.proofs.Steps.{Allowed, passed, second}
+use Rattle.nm_laws.proofs.Steps.{Allowed, passed}
 use Rattle.nm_laws.proofs.Trees.{same_side, same_side-true, same_side-false, same_follow, follow-append}
 use Rattle.nm_laws.proofs.Pictures.{IsOnPath}
 use Rattle.nm_laws.proofs.Splices.{live_on_path, unmarked_not_queued}
 use Rattle.nm_laws.proofs.Views.{picture}
-use Rattle.nm_laws.proofs.TreeSlots.{is_to-true}
-use Rattle.nm_laws.proofs.TreeSteps.{Lawful, high_from}
+use Rattle.nm_laws.proofs.TreeSlots.{is_to-true, tag_known}
+use Rattle.nm_laws.proofs.TreeSteps.{Lawful, slot_inside, fill_checked}
 use Rattle.nm_laws.proofs.Cuts.{Shown, shown}
 use Rattle.nm_order.proofs.TreeChanges.{WonLink, won_link}
 use Rattle.nm_order.proofs.OrderedChanges.{off_root}
@@ -43,9 +42,6 @@ pub data EdgeOrigin (s : State) (w : ℕ) (e : Event) (m : Memory) (y : ℕ) (g 
 module _ (s : State) (h : ℕ → ℕ) (law : Lawful s h) (w : ℕ) where
   abbrev Origins : Event → Memory → Type 0
   Origins e m = (y : ℕ) → Reached m y → (g : Side) → EdgeOrigin s w e m y g
-
-  inside_list : (x : ℕ) (least : ℕ) → outside least s.layout.nodes x ≡ false → x < length s.memory.nodes
-  inside_list x least inside = let range = high_from least s.layout.nodes x inside in let size = law.roomy.nodes in omega arith
 
   -- no edge is changed
   kept_edges : (e : Event) (m : Memory) → ((y : ℕ) (g : Side) → edge m y g ≡ edge s.memory y g) → Origins e m
@@ -113,11 +109,7 @@ module _ (s : State) (h : ℕ → ℕ) (law : Lawful s h) (w : ℕ) where
       k = shown s h law w a d x p keep ok won
 
       so : (y : ℕ) (g : Side) → is_tagged (read (of s w) y g) ≡ true → slot_read (read (of s w) y g) ≡ child s.memory y g
-      so y g = go (read (of s w) y g) refl
-        where
-          go : (o : Option Edge) → read (of s w) y g ≡ o → is_tagged o ≡ true → slot_read o ≡ child s.memory y g
-          go None is t = absurd (true≢false (sym t))
-          go (Some e) is t = ap (λ (x : Edge). x.slot) (sym (law.tree.tag_read w y g e is t))
+      so y g tagged = ap slot_read (tag_known s.layout.nodes s.memory (of s) h w y g law.tree tagged)
 
       above : IsOnPath (picture s h) a
       above = live_on_path s.layout.nodes (picture s h) a law.tree k.splice.live k.splice.is_slot k.splice.inside (unmarked_not_queued s.layout.nodes (picture s h) a d (child s.memory a d) law.tree k.splice.unmarked (λ z. let high = k.splice.high in omega arith))
@@ -236,17 +228,13 @@ module _ (s : State) (h : ℕ → ℕ) (law : Lawful s h) (w : ℕ) where
       from (inr (inr (inr at))) = absurd (r.is_slot at)
       from (inr (inr (inl at))) = LeadsNowhere (ap (λ (t : ℕ). child (put_edge s.memory p d (to new)) t g) at ∙ (ap (λ (e : Edge). e.slot) (as_was k.drafts.far g (not_p k.drafts.far k.link.far_own)) ∙ ap (λ (e : Edge). e.slot) (k.link.far_leaf g)))
 
-  fill_own : (x : ℕ) (f : Field) (v : ℕ) → Allowed s w (Fill x f v) → is_private (of s w) x ≡ true
-  unfolding refusal
-  fill_own x f v ok = not-false (is_private (of s w) x) (second (outside 6 s.layout.nodes x || (is_edge f && nat_lt s.layout.nodes v)) _ NoSlot NotPrivate _ ok.event)
-
   pub edge_origins : (e : Event) → Allowed s w e → Origins e (write s.memory (of s w) w e)
   unfolding write refusal
   edge_origins Advance ok = cond_both (is_number (of s w).brief.seen s.memory.epoch) (record s.memory { epoch = s.memory.epoch + 1 }) s.memory (λ m. Origins Advance m) (λ _. kept_edges Advance (record s.memory { epoch = s.memory.epoch + 1 }) (λ y g. refl)) (λ _. kept_edges Advance s.memory (λ y g. refl))
-  edge_origins (Fill x f v) ok = filling x f v (fill_own x f v ok)
+  edge_origins (Fill x f v) ok = filling x f v (fill_checked s w (Fill x f v) ok.event x f v refl)
   edge_origins (Link p d leaf new) ok = cond_both (is_to (edge s.memory p d) leaf) (put_edge s.memory p d (to new)) s.memory (λ m. Origins (Link p d leaf new) m) (λ won. linking p d leaf new ok won) (λ _. kept_edges (Link p d leaf new) s.memory (λ y g. refl))
   edge_origins (Flag p d leaf) ok = cond_both (is_to (edge s.memory p d) leaf) (put_edge s.memory p d (flag_to leaf)) s.memory (λ m. Origins (Flag p d leaf) m)
-      (λ won. flagging p d leaf (inside_list p 1 (or_parts (outside 1 s.layout.nodes p) (outside 6 s.layout.nodes leaf) (passed _ _ _ ok.event).0).0) (is_to-true (edge s.memory p d) leaf won)) (λ _. kept_edges (Flag p d leaf) s.memory (λ y g. refl))
-  edge_origins (Tag p d) ok = tagging p d (inside_list p 1 (passed _ _ _ ok.event).0)
+      (λ won. flagging p d leaf (slot_inside s h law p 1 (or_parts (outside 1 s.layout.nodes p) (outside 6 s.layout.nodes leaf) (passed _ _ _ ok.event).0).0) (is_to-true (edge s.memory p d) leaf won)) (λ _. kept_edges (Flag p d leaf) s.memory (λ y g. refl))
+  edge_origins (Tag p d) ok = tagging p d (slot_inside s h law p 1 (passed _ _ _ ok.event).0)
   edge_origins (Splice a d x p keep) ok = cond_both (is_to (edge s.memory a d) x) (put_edge s.memory a d (kept (read (of s w) p keep))) s.memory (λ m. Origins (Splice a d x p keep) m) (λ won. splicing a d x p keep ok won) (λ _. kept_edges (Splice a d x p keep) s.memory (λ y g. refl))
   edge_origins e ok = kept_edges e (write s.memory (of s w) w e) (λ y g. refl)

@@ -13,9 +13,9 @@ use Rattle.nm_edge.specs.declared.edge.Side.TheVariants.{Left, Right}
 use Rattle.nm_edge.specs.declared.node.NodeId.{NodeId}
 use Rattle.nm_model.specs.declared.event.Op.TheVariants.{Delete}
 use Rattle.nm_model.specs.declared.event.Event.{Event}
-use Rattle.nm_model.specs.declared.event.Event.TheVariants.{Sight, SightFor, Leave, LeaveWith, Look, Link, Flag, Splice}
+use Rattle.nm_model.specs.declared.event.Event.TheVariants.{Flag, Splice}
 use Rattle.nm_model.specs.declared.reply.Reply.{Reply}
-use Rattle.nm_model.specs.declared.reply.Reply.TheVariants.{Pinned, Departed, Linked, Flagged, Cut}
+use Rattle.nm_model.specs.declared.reply.Reply.TheVariants.{Flagged, Cut}
 use Rattle.nm_model.specs.declared.reply.Refused.{Refused}
 use Rattle.nm_model.specs.declared.arrivals.Call.{Call}
 use Rattle.nm_model.specs.declared.arrivals.Arrival.{Arrival}
@@ -25,14 +25,15 @@ use Rattle.nm_model.specs.Paths.{follow, Reached}
 use Rattle.nm_model.specs.Step.{write}
 use Rattle.nm_model.specs.Laws.{slots_of}
 use Rattle.nm_model.specs.Runs.{State, of, refused, reply_of, applied}
-use Rattle.nm_model.specs.Searches.{Search, idle, searched, is_node, is_flagged_in, look_for}
+use Rattle.nm_model.specs.Searches.{Search, idle, searched, is_node, is_flagged_in}
 use Rattle.nm_model.specs.Walks.{begins_anew}
 use Rattle.nm_model.specs.Ordered.{Configuration, ordered, search_of, learned_from, has_removed, ended_elsewhere, refused_in, applied_in, next_in, outcome_in, after_in, trace_in, disorder, disorder_in}
 use Rattle.nm_model.proofs.Lists.{any_at}
 use Rattle.nm_model.proofs.Numbers.{repeated}
 use Rattle.nm_laws.proofs.Steps.{Allowed, allowed}
-use Rattle.nm_laws.proofs.SearchesGrow.{only_grow}
+use Rattle.nm_laws.proofs.SearchesGrow.{only_grow, look_beside, begun_is, search_goes}
 use Rattle.nm_laws.proofs.Configurations.{after_in-append, refused_next, allowed_next, allowed_outcome}
+use Rattle.nm_laws.proofs.Outcomes.{same_reply}
 use Rattle.nm_order.specs.Intervals.{HasKey, IsCalled, InInterval, Marks, key}
 use Rattle.nm_order.specs.Moments.{OfEachOrderedRun, PinStands}
 use Rattle.nm_order.specs.Exchanges.{MayAnswer, HasFlagged}
@@ -51,7 +52,6 @@ use Rattle.nm_order.proofs.FactLaws.{all_kept, leaf_is}
 use Rattle.nm_order.proofs.CallWalks.{WalksKept, shape_after}
 use Rattle.nm_order.proofs.FlaggedLeaves.{FlagStep, flag_step, anew_unflagged}
 use Rattle.nm_order.proofs.FlaggedLeaves.FlagStep.{SameFlag, NewFlag}
-use Rattle.nm_order.proofs.LaterFlags.{first_flag}
 use Rattle.nm_order.proofs.LaterFlagLaws.{EachFlagKept, flags_step, flags_start}
 use Rattle.nm_order.proofs.WalksOfRuns.{over_turns}
 use Rattle.nm_order.proofs.CutTurns.{CutOrNot, cut_or_not, cut_shows, uncut_stays, mapped_among}
@@ -64,6 +64,7 @@ use Rattle.nm_order.proofs.RadixTrees.{Nests}
 use Rattle.nm_order.proofs.RadixWays.{EachIn, Rooted, none_has}
 use Rattle.nm_order.proofs.RadixMoments.{rooted}
 use Rattle.nm_order.proofs.RadixLater.{later_in}
+use Rattle.nm_order.proofs.OwnLinks.{first_flag}
 
 -- ---- the mark of an own splice
 
@@ -72,28 +73,8 @@ data CutStep (s : Search) (e : Event) (r : Reply) (t : Search) : Type 0 where
   Splices : (a x p : ℕ) (d keep : Side) (ns : List NodeId) → e ≡ Splice a d x p keep → r ≡ Cut ns → t.cut ≡ (s.cut || is_flagged_in s.flagged ns) → t.flagged ≡ s.flagged → CutStep s e r t
 
 cut_step : (s : Search) (e : Event) (r : Reply) → begins_anew (e, r) ≡ false → CutStep s e r (searched s e r)
-unfolding searched
-cut_step s Sight (Pinned n) stands = absurd (true≢false stands)
-cut_step s (SightFor op key) (Pinned n) stands = absurd (true≢false stands)
-cut_step s Leave Departed stands = absurd (true≢false stands)
-cut_step s (LeaveWith answer) Departed stands = absurd (true≢false stands)
-cut_step s (Look x f) r stands = SameCut (go s.call)
-  where
-    go : (o : Option Call) → (look_for s o x f r).cut ≡ s.cut
-    go None = refl
-    go (Some c) = refl
-cut_step s (Link p side leaf new) (Linked n) stands = SameCut refl
-cut_step s (Flag p side leaf) (Flagged n) stands = SameCut refl
-cut_step s (Splice a side x p keep) (Cut ns) stands = Splices a x p side keep ns refl refl refl refl
-cut_step s e r stands = SameCut refl
-
-anew_uncut : (s : Search) (e : Event) (r : Reply) → begins_anew (e, r) ≡ true → (searched s e r).cut ≡ false
-unfolding searched
-anew_uncut s Sight (Pinned n) stands = refl
-anew_uncut s (SightFor op key) (Pinned n) stands = refl
-anew_uncut s Leave Departed stands = refl
-anew_uncut s (LeaveWith answer) Departed stands = refl
-anew_uncut s e r stands = absurd (true≢false (sym stands))
+cut_step s = search_goes (CutStep s) s (λ x f r. SameCut (ap (λ (t : Search). t.cut) (look_beside s s.call x f r))) (λ p side leaf new n. SameCut refl) (λ p side leaf n. SameCut refl)
+    (λ a side x p keep ns. Splices a x p side keep ns refl refl refl refl) (λ e r. SameCut refl)
 
 -- the leaf that is found among the nodes of a cut
 flagged_among : (n : NodeId) (ns : List NodeId) → is_flagged_in (Some n) ns ≡ true → Contains (slots_of ns) n.slot
@@ -116,7 +97,7 @@ uncut_step s h law w births ss l kept e ok ordered has u = elim (ℕ_discrete u 
     own S was e r none = go (begins_anew (e, r)) refl
       where
         go : (b : Bool) → begins_anew (e, r) ≡ b → (searched S e r).cut ≡ false
-        go true anew = anew_uncut S e r anew
+        go true anew = ap (λ (t : Search). t.cut) (begun_is S e r anew)
         go false stands = by (flag_step S e r stands) (cut_step S e r stands)
           where
             by : FlagStep S e r (searched S e r) → CutStep S e r (searched S e r) → (searched S e r).cut ≡ false
@@ -442,13 +423,10 @@ module _ (L : Layout) (enough : 5 ≤ L.nodes) where
                     at_leaf = sym (ap (λ (y : NodeId). y.slot) marked.2.names) ∙ ap (λ (y : NodeId). y.slot) same_node
 
                     differ : (ns : List NodeId) → ◌≡◌ {A = Result Reply Refused} (Ok r) (Ok (Cut ns)) → ⊥
-                    differ ns e = apart m ns (sym is_flagged ∙ same_ok r (Cut ns) e)
+                    differ ns e = apart m ns (sym is_flagged ∙ same_reply r (Cut ns) e)
                       where
                         apart : (m : NodeId) (ns : List NodeId) → Flagged m ≡ Cut ns → ⊥
                         apart m ns e = cc
-
-                        same_ok : (x y : Reply) → ◌≡◌ {A = Result Reply Refused} (Ok x) (Ok y) → x ≡ y
-                        same_ok x y e = cc
 
                     unflagged : (own_search c w).flagged ≡ None
                     unflagged = first_flag c.state.layout (of c.state w) (own_search c w) p leaf d (subst (λ (e : Event). disorder c.state.layout (of c.state w) (own_search c w) e ≡ None) is_flag order)

@@ -28,9 +28,10 @@ use Rattle.nm_order.proofs.OwnTurns.{own_search, OwnTurn, own_turn, stands_parts
 use Rattle.nm_order.proofs.OwnTurns.OwnTurn.{Quiet, Own}
 use Rattle.nm_order.proofs.FlaggedLeaves.{FlagStep, flag_step, anew_unflagged}
 use Rattle.nm_order.proofs.FlaggedLeaves.FlagStep.{SameFlag, NewFlag}
-use Rattle.nm_order.proofs.LaterFlags.{first_flag}
+use Rattle.nm_order.proofs.LaterFlags.{won_flag_shown}
 use Rattle.nm_order.proofs.LaterFlagLaws.{EachFlagKept, flags_step, flags_start}
-use Rattle.nm_order.proofs.FlaggedNodes.{won_flag_shown, flag_marks}
+use Rattle.nm_order.proofs.FlaggedNodes.{flag_marks}
+use Rattle.nm_order.proofs.OwnLinks.{first_flag}
 
 -- ---- one flag a slot
 

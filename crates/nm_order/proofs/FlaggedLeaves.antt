@@ -1,7 +1,7 @@
 -- A leaf that a call flagged is led to by flagged edges alone, from the root and from wherever a
 -- later walk of the call came.
-use Rattle.std.proofs.Common.{◌≡◌, ◌≢◌, ℕ, ◌<◌, ◌≤◌, ◌⊎◌, inl, inr, ◌==◌, true, false, cond, ◌&&◌, ◌||◌, List, [], ◌∷◌, ◌++◌, map, length, refl, sym, ap, subst, ◌∙◌, arith, true≢false}
-use Rattle.std.specs.Prelude.{Option, Some, None, is_none, slice_get}
+use Rattle.std.proofs.Common.{◌≡◌, ◌≢◌, ℕ, ◌<◌, ◌≤◌, ◌⊎◌, inl, inr, ◌==◌, true, false, cond, ◌&&◌, ◌||◌, List, [], ◌∷◌, ◌++◌, map, length, refl, sym, ap, subst, ◌∙◌, arith}
+use Rattle.std.specs.Prelude.{Some, None, is_none, slice_get}
 use Rattle.std.specs.List.{list_any}
 use Rattle.std.proofs.lemmas.Bool.{cond_both, eqb-false, or_cases}
 use Rattle.nm_edge.specs.Edges.{Edge, to}
@@ -10,16 +10,15 @@ use Rattle.nm_edge.specs.declared.node.NodeId.{NodeId}
 use Rattle.nm_model.specs.declared.event.Field.{Field}
 use Rattle.nm_model.specs.declared.event.Field.TheVariants.{Key, Edge as EdgeOn}
 use Rattle.nm_model.specs.declared.event.Event.{Event}
-use Rattle.nm_model.specs.declared.event.Event.TheVariants.{Sight, SightFor, Leave, LeaveWith, Look, Link, Flag, Splice}
+use Rattle.nm_model.specs.declared.event.Event.TheVariants.{Flag}
 use Rattle.nm_model.specs.declared.reply.Reply.{Reply}
-use Rattle.nm_model.specs.declared.reply.Reply.TheVariants.{Pinned, Departed, KeyIs, EdgeIs, Linked, Flagged, Cut}
-use Rattle.nm_model.specs.declared.arrivals.Call.{Call}
+use Rattle.nm_model.specs.declared.reply.Reply.TheVariants.{KeyIs, EdgeIs, Flagged}
 use Rattle.nm_model.specs.declared.arrivals.Arrival.{Arrival}
 use Rattle.nm_model.specs.Memory.{Memory, edge, child, put_edge}
 use Rattle.nm_model.specs.Knowledge.{knows}
 use Rattle.nm_model.specs.Learning.{flag_to}
 use Rattle.nm_model.specs.Paths.{follow}
-use Rattle.nm_model.specs.Searches.{Search, searched, keyed, ended, goes_on, is_first, is_by, new_arrival, with_arrival, walked, look_for}
+use Rattle.nm_model.specs.Searches.{Search, searched, keyed, ended, goes_on, is_first, is_by, new_arrival, with_arrival, walked}
 use Rattle.nm_model.specs.Walks.{begins_anew}
 use Rattle.nm_model.proofs.Lists.{mapped_at, more_at}
 use Rattle.nm_laws.proofs.Trees.{same_follow, follow-append}
@@ -28,6 +27,7 @@ use Rattle.nm_laws.proofs.Views.{picture, edge_put}
 use Rattle.nm_laws.proofs.Slots.{with_edge-same}
 use Rattle.nm_laws.proofs.Splices.{live_on_path, unmarked_not_queued}
 use Rattle.nm_laws.proofs.TreeSteps.{Lawful}
+use Rattle.nm_laws.proofs.SearchesGrow.{look_beside, begun_is, search_goes}
 use Rattle.nm_model.specs.Runs.{State, of}
 use Rattle.nm_order.proofs.FlaggedPaths.{LeadsFlagged, Put, put_case}
 use Rattle.nm_order.proofs.FlaggedPaths.Put.{Here, There}
@@ -65,28 +65,11 @@ pub data FlagStep (s : Search) (e : Event) (r : Reply) (t : Search) : Type 0 whe
   NewFlag : (p leaf : ℕ) (d : Side) (n : NodeId) → e ≡ Flag p d leaf → r ≡ Flagged n → t.flagged ≡ Some n → t.later ≡ s.later → FlagStep s e r t
 
 pub flag_step : (s : Search) (e : Event) (r : Reply) → begins_anew (e, r) ≡ false → FlagStep s e r (searched s e r)
-unfolding searched
-flag_step s Sight (Pinned n) stands = absurd (true≢false stands)
-flag_step s (SightFor op key) (Pinned n) stands = absurd (true≢false stands)
-flag_step s Leave Departed stands = absurd (true≢false stands)
-flag_step s (LeaveWith answer) Departed stands = absurd (true≢false stands)
-flag_step s (Look x f) r stands = SameFlag (go s.call)
-  where
-    go : (o : Option Call) → (look_for s o x f r).flagged ≡ s.flagged
-    go None = refl
-    go (Some c) = refl
-flag_step s (Link p side leaf new) (Linked n) stands = SameFlag refl
-flag_step s (Flag p side leaf) (Flagged n) stands = NewFlag p leaf side n refl refl refl refl
-flag_step s (Splice a side x p keep) (Cut ns) stands = SameFlag refl
-flag_step s e r stands = SameFlag refl
+flag_step s = search_goes (FlagStep s) s (λ x f r. SameFlag (ap (λ (t : Search). t.flagged) (look_beside s s.call x f r))) (λ p side leaf new n. SameFlag refl)
+    (λ p side leaf n. NewFlag p leaf side n refl refl refl refl) (λ a side x p keep ns. SameFlag refl) (λ e r. SameFlag refl)
 
 pub anew_unflagged : (s : Search) (e : Event) (r : Reply) → begins_anew (e, r) ≡ true → (searched s e r).flagged ≡ None
-unfolding searched
-anew_unflagged s Sight (Pinned n) stands = refl
-anew_unflagged s (SightFor op key) (Pinned n) stands = refl
-anew_unflagged s Leave Departed stands = refl
-anew_unflagged s (LeaveWith answer) Departed stands = refl
-anew_unflagged s e r stands = absurd (true≢false (sym stands))
+anew_unflagged s e r anew = ap (λ (t : Search). t.flagged) (begun_is s e r anew)
 
 put_here : (m : Memory) (p : ℕ) (d : Side) (e : Edge) → p < length m.nodes → edge (put_edge m p d e) p d ≡ e
 put_here m p d e inside = edge_put m p d e inside p d ∙ with_edge-same (edge m) p d e

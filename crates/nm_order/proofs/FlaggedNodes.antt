@@ -1,9 +1,8 @@
 -- What a call keeps as flagged is a leaf that it knows, with the call's key and that birth, in
 -- every ordered run.
-use Rattle.std.proofs.Common.{◌≡◌, ℕ, ◌≤◌, ◌==◌, Bool, true, false, cond, ◌&&◌, List, [], refl, sym, ap, subst, ◌∙◌, arith, get_or-set_same, get_or-set_other}
-use Rattle.std.specs.Prelude.{Some, None, slice_get, All}
+use Rattle.std.proofs.Common.{◌≡◌, ℕ, ◌≤◌, Bool, true, false, List, [], refl, sym, ap, subst, ◌∙◌, arith, get_or-set_same, get_or-set_other}
+use Rattle.std.specs.Prelude.{Some, None, All}
 use native.Mathlib.Decide.{ℕ_discrete}
-use Rattle.std.proofs.lemmas.Bool.{and_parts, eqb-true}
 use Rattle.std.proofs.lemmas.Option.{none-some, same_Some}
 use Rattle.nm_edge.specs.Edges.{is_to}
 use Rattle.nm_edge.specs.Layouts.{Layout}
@@ -12,32 +11,29 @@ use Rattle.nm_edge.specs.declared.node.NodeId.{NodeId}
 use Rattle.nm_model.specs.declared.event.Op.TheVariants.{Delete}
 use Rattle.nm_model.specs.declared.event.Event.{Event}
 use Rattle.nm_model.specs.declared.event.Event.TheVariants.{Flag}
-use Rattle.nm_model.specs.declared.reply.Reply.TheVariants.{Flagged, Lost}
+use Rattle.nm_model.specs.declared.reply.Reply.TheVariants.{Flagged}
 use Rattle.nm_model.specs.declared.arrivals.Call.{Call}
-use Rattle.nm_model.specs.declared.arrivals.Arrival.{Arrival}
-use Rattle.nm_model.specs.Maps.{is_number}
 use Rattle.nm_model.specs.Memory.{node, edge, named}
 use Rattle.nm_model.specs.Knowledge.{knows}
-use Rattle.nm_model.specs.Step.{reply, write}
+use Rattle.nm_model.specs.Step.{write}
 use Rattle.nm_model.specs.Runs.{State, of, reply_of, applied}
-use Rattle.nm_model.specs.Searches.{Search, idle, searched, is_by, is_side}
+use Rattle.nm_model.specs.Searches.{Search, idle, searched}
 use Rattle.nm_model.specs.Walks.{begins_anew}
-use Rattle.nm_model.specs.Ordered.{ordered, search_of, disorder, may_flag_at, ended_at, after_in}
-use Rattle.nm_model.proofs.Lists.{any_at}
-use Rattle.nm_model.proofs.Numbers.{repeated, number_is}
+use Rattle.nm_model.specs.Ordered.{ordered, search_of, disorder, after_in}
+use Rattle.nm_model.proofs.Numbers.{repeated}
 use Rattle.nm_laws.proofs.Steps.{Allowed}
 use Rattle.nm_laws.proofs.SearchesGrow.{only_grow}
-use Rattle.nm_laws.proofs.TreeSteps.{Lawful}
-use Rattle.nm_order.specs.Intervals.{HasKey, Marks, key}
+use Rattle.nm_laws.proofs.TreeSteps.{Lawful, flag_checked}
+use Rattle.nm_order.specs.Intervals.{HasKey, Marks}
 use Rattle.nm_order.proofs.OrderedChanges.{off_known}
 use Rattle.nm_order.proofs.OrderedSteps.{OrderLaw}
-use Rattle.nm_order.proofs.OrderedMoments.{lasting, lasting_stays, call_walks}
+use Rattle.nm_order.proofs.OrderedMoments.{lasting, lasting_stays}
 use Rattle.nm_order.proofs.OrderedInduction.{IsKept, OfSearches, each_run_keeps}
 use Rattle.nm_order.proofs.KnowledgeStays.{Stays, learned_stays, answers}
 use Rattle.nm_order.proofs.CallWalks.{others_stay, own_knows}
 use Rattle.nm_order.proofs.OwnLinks.{MayFlag, may_flag}
-use Rattle.nm_order.proofs.OwnFlags.{marks_leaf}
-use Rattle.nm_order.proofs.LaterFlags.{flag_asks}
+use Rattle.nm_order.proofs.OwnFlags.{marks_leaf, flag_reads}
+use Rattle.nm_order.proofs.LaterFlags.{won_flag_shown}
 use Rattle.nm_order.proofs.FlaggedLeaves.{FlagStep, flag_step, anew_unflagged}
 use Rattle.nm_order.proofs.FlaggedLeaves.FlagStep.{SameFlag, NewFlag}
 
@@ -70,37 +66,14 @@ module _ (s : State) (h : ℕ → ℕ) (law : Lawful s h) (w : ℕ) (e : Event) 
     lasts = known_lasts u n.slot f.known ∙ f.lasts;
   }
 
--- a flag that is won
-pub won_flag_shown : (s : State) (w p leaf : ℕ) (d : Side) (n : NodeId) → reply_of s w (Flag p d leaf) ≡ Flagged n → (is_to (edge s.memory p d) leaf ≡ true) × (named s.memory leaf ≡ n)
-unfolding reply
-won_flag_shown s w p leaf d n is = go (is_to (edge s.memory p d) leaf) refl is
-  where
-    go : (b : Bool) → is_to (edge s.memory p d) leaf ≡ b → cond b (Flagged (named s.memory leaf)) (Lost (edge s.memory p d)) ≡ Flagged n → (is_to (edge s.memory p d) leaf ≡ true) × (named s.memory leaf ≡ n)
-    go true won e = (won, cc)
-    go false won e = absurd (differ e)
-      where
-        differ : Lost (edge s.memory p d) ≡ Flagged n → ⊥
-        differ e = cc
-
 module _ (s : State) (h : ℕ → ℕ) (law : Lawful s h) (w : ℕ) (ss : List Search) (l : OrderLaw s ss) where
   -- it marks the leaf of its call's key
   pub flag_marks : (p leaf : ℕ) (d : Side) → Allowed s w (Flag p d leaf) → is_to (edge s.memory p d) leaf ≡ true → disorder s.layout (of s w) (search_of ss w) (Flag p d leaf) ≡ None
       → (call : Call) × ((search_of ss w).call ≡ Some call) × (call.op ≡ Delete) × Marks s.memory p d leaf (named s.memory leaf) call.key
-  flag_marks p leaf d ok won order = (m.call, m.is_call, m.is_op, marks_leaf s h law w p d leaf ok won m.call.key has)
+  flag_marks p leaf d ok won order = (m.call, m.is_call, m.is_op, marks_leaf s h law w p d leaf ok won m.call.key (flag_reads s w (search_of ss w) p d leaf m (l.walks w)))
     where
       m : MayFlag (search_of ss w) p d leaf
       m = may_flag s.layout (of s w) (search_of ss w) p d leaf order
-
-      found : (i : ℕ) × (a : Arrival) × (slice_get (search_of ss w).walks i ≡ Some a) × (may_flag_at m.call.key p d leaf a ≡ true)
-      found = any_at (may_flag_at m.call.key p d leaf) (search_of ss w).walks m.walked
-
-      has : key s.memory leaf ≡ m.call.key
-      has =
-          let parts = and_parts (is_by leaf p d found.1) (ended_at m.call.key found.1) found.3 in
-          let slot = eqb-true found.1.slot leaf (and_parts (found.1.slot == leaf) ((found.1.parent == p) && is_side found.1.side d) parts.0).0 in
-          let read = number_is found.1.key m.call.key (and_parts found.1.ended (is_number found.1.key m.call.key) parts.1).1 in
-          let walks = (call_walks s.layout.radix s.memory (knows (of s w)) (search_of ss w).call (search_of ss w).walks m.call m.is_call (l.walks w)).1 in
-          ap (key s.memory) (sym slot) ∙ walks.is_keyed found.0 found.1 m.call.key found.2 read
 
 flagged_step : IsKept EachFlaggedLeaf
 flagged_step s h law w births ss l kept e ok ordered has u n = elim (ℕ_discrete u w) [
@@ -134,7 +107,7 @@ flagged_step s h law w births ss l kept e ok ordered has u n = elim (ℕ_discret
                       call = k.0;
                       is_call = k.1;
                       is_op = k.2;
-                      known = (flag_asks s w p leaf d ok.event).2;
+                      known = (flag_checked s w p d leaf ok.event).held;
                       lasts = λ i. record { birth = (node s.memory leaf).birth; key = k.3.has_key i; leaf = k.3.childless i };
                     }))
 

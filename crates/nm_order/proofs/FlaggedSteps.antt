@@ -1,25 +1,24 @@
 -- Each event keeps each edge flagged that leads to a slot whose edges were all flagged.
-use Rattle.std.proofs.Common.{◌≡◌, ◌≢◌, ℕ, ◌+◌, ◌<◌, ◌⊎◌, inl, inr, Bool, true, false, ◌&&◌, ◌||◌, List, [], length, refl, sym, ap, subst, ◌∙◌, arith, true≢false, get_or-set_other}
-use Rattle.std.specs.Prelude.{Option, Some, None, nat_lt}
-use Rattle.std.proofs.lemmas.Bool.{cond_both, or_parts, not-false}
+use Rattle.std.proofs.Common.{◌≡◌, ◌≢◌, ℕ, ◌+◌, ◌<◌, ◌⊎◌, inl, inr, Bool, true, false, List, [], length, refl, sym, ap, subst, ◌∙◌, arith, true≢false, get_or-set_other}
+use Rattle.std.specs.Prelude.{Option, Some, None}
+use Rattle.std.proofs.lemmas.Bool.{cond_both, or_parts}
 use Rattle.nm_edge.specs.Edges.{Edge, to, is_to, other, tagged, untagged}
 use Rattle.nm_edge.specs.declared.edge.Side.{Side}
 use Rattle.nm_model.specs.declared.event.Field.{Field}
 use Rattle.nm_model.specs.declared.event.Event.{Event}
 use Rattle.nm_model.specs.declared.event.Event.TheVariants.{Fill, Link, Flag, Tag, Splice, Advance}
-use Rattle.nm_model.specs.declared.reply.Refused.TheVariants.{NoSlot, NotPrivate}
 use Rattle.nm_model.specs.declared.memory.Node.{Node}
 use Rattle.nm_model.specs.Maps.{is_number}
 use Rattle.nm_model.specs.Memory.{Memory, blank, node, edge, edge_of, child, put_edge, put_node}
 use Rattle.nm_model.specs.Knowledge.{is_private, read, is_tagged, slot_read}
 use Rattle.nm_model.specs.Learning.{flag_to}
 use Rattle.nm_model.specs.Paths.{follow}
-use Rattle.nm_model.specs.Step.{outside, is_edge, filled, kept, refusal, write}
+use Rattle.nm_model.specs.Step.{outside, filled, kept, refusal, write}
 use Rattle.nm_model.specs.Runs.{State, of}
-use Rattle.nm_laws.proofs.Steps.{Allowed, passed, second}
+use Rattle.nm_laws.proofs.Steps.{Allowed, passed}
 use Rattle.nm_laws.proofs.Trees.{same_side, same_side-true, same_side-false}
-use Rattle.nm_laws.proofs.TreeSlots.{is_to-true}
-use Rattle.nm_laws.proofs.TreeSteps.{Lawful, high_from}
+use Rattle.nm_laws.proofs.TreeSlots.{is_to-true, tag_known}
+use Rattle.nm_laws.proofs.TreeSteps.{Lawful, slot_inside, fill_checked}
 use Rattle.nm_laws.proofs.Cuts.{Shown, shown}
 use Rattle.nm_order.proofs.TreeChanges.{won_link}
 use Rattle.nm_order.proofs.FlaggedPaths.{LeadsFlagged, On, on_next, on_further, flag_on, closed, marked, filled_apart, way_ends, Put, put_case}
@@ -113,16 +112,9 @@ module _ (m : Memory) (n z p : ℕ) (d : Side) (leaf new far : ℕ) (dl : Side) 
 -- ---- every event
 
 module _ (s : State) (h : ℕ → ℕ) (law : Lawful s h) (w : ℕ) (n z : ℕ) (n_some : n ≢ 0) (n_shared : (x : ℕ) → is_private (of s w) x ≡ true → n ≢ x) (never : (x : ℕ) → is_private (of s w) x ≡ true → (q : List Side) → follow (child s.memory) z q ≡ x → ⊥) where
-  inside_list : (x : ℕ) (least : ℕ) → outside least s.layout.nodes x ≡ false → x < length s.memory.nodes
-  inside_list x least inside = let range = high_from least s.layout.nodes x inside in let size = law.roomy.nodes in omega arith
-
   filling : (x : ℕ) (f : Field) (v : ℕ) → Allowed s w (Fill x f v) → LeadsFlagged s.memory n z → LeadsFlagged (put_node s.memory x (filled (node s.memory x) f v)) n z
-  unfolding refusal
   filling x f v ok = filled_apart s.memory (put_node s.memory x (filled (node s.memory x) f v)) n z x
-      (λ y d ne. ap (λ (k : Node). edge_of k d) (get_or-set_other s.memory.nodes x y (filled (node s.memory x) f v) blank ne)) (never x own)
-    where
-      own : is_private (of s w) x ≡ true
-      own = not-false (is_private (of s w) x) (second (outside 6 s.layout.nodes x || (is_edge f && nat_lt s.layout.nodes v)) _ NoSlot NotPrivate _ ok.event)
+      (λ y d ne. ap (λ (k : Node). edge_of k d) (get_or-set_other s.memory.nodes x y (filled (node s.memory x) f v) blank ne)) (never x (fill_checked s w (Fill x f v) ok.event x f v refl))
 
   linking : (p : ℕ) (d : Side) (leaf new : ℕ) → Allowed s w (Link p d leaf new) → is_to (edge s.memory p d) leaf ≡ true → LeadsFlagged s.memory n z → LeadsFlagged (put_edge s.memory p d (to new)) n z
   linking p d leaf new ok won good =
@@ -139,11 +131,7 @@ module _ (s : State) (h : ℕ → ℕ) (law : Lawful s h) (w : ℕ) (n z : ℕ) 
       k = shown s h law w a d x p keep ok won
 
       so : (y : ℕ) (g : Side) → is_tagged (read (of s w) y g) ≡ true → slot_read (read (of s w) y g) ≡ child s.memory y g
-      so y g = go (read (of s w) y g) refl
-        where
-          go : (o : Option Edge) → read (of s w) y g ≡ o → is_tagged o ≡ true → slot_read o ≡ child s.memory y g
-          go None is t = absurd (true≢false (sym t))
-          go (Some e) is t = ap (λ (x : Edge). x.slot) (sym (law.tree.tag_read w y g e is t))
+      so y g tagged = ap slot_read (tag_known s.layout.nodes s.memory (of s) h w y g law.tree tagged)
 
       by : (o : Option Edge) → read (of s w) p keep ≡ o → is_tagged o ≡ true → LeadsFlagged (put_edge s.memory a d (kept o)) n z
       by None is t = absurd (true≢false (sym t))
@@ -157,7 +145,7 @@ module _ (s : State) (h : ℕ → ℕ) (law : Lawful s h) (w : ℕ) (n z : ℕ) 
   leads_flagged_still (Fill x f v) ok good = filling x f v ok good
   leads_flagged_still (Link p d leaf new) ok good = cond_both (is_to (edge s.memory p d) leaf) (put_edge s.memory p d (to new)) s.memory (λ m. LeadsFlagged m n z) (λ won. linking p d leaf new ok won good) (λ _. good)
   leads_flagged_still (Flag p d leaf) ok good = cond_both (is_to (edge s.memory p d) leaf) (put_edge s.memory p d (flag_to leaf)) s.memory (λ m. LeadsFlagged m n z)
-      (λ won. marked s.memory n z p d (flag_to leaf) (inside_list p 1 (or_parts (outside 1 s.layout.nodes p) (outside 6 s.layout.nodes leaf) (passed _ _ _ ok.event).0).0) (ap (λ (e : Edge). e.slot) (sym (is_to-true (edge s.memory p d) leaf won))) (λ _. refl) good) (λ _. good)
-  leads_flagged_still (Tag p d) ok good = marked s.memory n z p d (tagged (edge s.memory p d)) (inside_list p 1 (passed _ _ _ ok.event).0) refl (λ f. f) good
+      (λ won. marked s.memory n z p d (flag_to leaf) (slot_inside s h law p 1 (or_parts (outside 1 s.layout.nodes p) (outside 6 s.layout.nodes leaf) (passed _ _ _ ok.event).0).0) (ap (λ (e : Edge). e.slot) (sym (is_to-true (edge s.memory p d) leaf won))) (λ _. refl) good) (λ _. good)
+  leads_flagged_still (Tag p d) ok good = marked s.memory n z p d (tagged (edge s.memory p d)) (slot_inside s h law p 1 (passed _ _ _ ok.event).0) refl (λ f. f) good
   leads_flagged_still (Splice a d x p keep) ok good = cond_both (is_to (edge s.memory a d) x) (put_edge s.memory a d (kept (read (of s w) p keep))) s.memory (λ m. LeadsFlagged m n z) (λ won. splicing a d x p keep ok won good) (λ _. good)
   leads_flagged_still e ok good = good

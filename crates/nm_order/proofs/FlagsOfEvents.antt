@@ -1,33 +1,29 @@
 -- One event: an ordered core refuses a second flag of a call, so its flag stays, and the arrivals
 -- behind it only grow.
 use Rattle.std.proofs.Common.{◌≡◌, ℕ, Bool, true, false, List, true≢false, refl, sym, ap, subst, ◌∙◌, Result, Ok}
-use Rattle.std.specs.Prelude.{Option, Some, None, is_none, Contains}
-use Rattle.std.specs.List.{list_any}
-use Rattle.std.proofs.lemmas.Bool.{and_parts, not-false}
+use Rattle.std.specs.Prelude.{Option, Some, None, Contains}
 use Rattle.std.proofs.lemmas.Option.{none-some}
 use Rattle.nm_edge.specs.declared.edge.Side.{Side}
 use Rattle.nm_edge.specs.declared.node.NodeId.{NodeId}
-use Rattle.nm_model.specs.declared.event.Op.{Op}
-use Rattle.nm_model.specs.declared.event.Op.TheVariants.{Has, Insert, Delete}
 use Rattle.nm_model.specs.declared.event.Event.{Event}
 use Rattle.nm_model.specs.declared.event.Event.TheVariants.{Sight, SightFor, Leave, LeaveWith, Look, Link, Flag, Splice}
 use Rattle.nm_model.specs.declared.event.Field.{Field}
 use Rattle.nm_model.specs.declared.reply.Reply.{Reply}
 use Rattle.nm_model.specs.declared.reply.Reply.TheVariants.{Pinned, Departed, Linked, Flagged, Cut}
 use Rattle.nm_model.specs.declared.reply.Refused.{Refused}
-use Rattle.nm_model.specs.declared.reply.Refused.TheVariants.{NotOrdered}
 use Rattle.nm_model.specs.declared.arrivals.Call.{Call}
 use Rattle.nm_model.specs.declared.arrivals.Arrival.{Arrival}
 use Rattle.nm_model.specs.Maps.{or_else}
 use Rattle.nm_model.specs.Runs.{of, refused, reply_of, answered}
 use Rattle.nm_model.specs.Searches.{Search, searched, look_for}
 use Rattle.nm_model.specs.Walks.{Entry, GrowsTo, begins_anew}
-use Rattle.nm_model.specs.Ordered.{Configuration, search_of, may_flag_at, deletes, flags_in_order, disorder, disorder_in, disorder_among, refused_in, outcome_in}
-use Rattle.nm_laws.proofs.Steps.{passed}
+use Rattle.nm_model.specs.Ordered.{Configuration, search_of, disorder, disorder_in, disorder_among, refused_in, outcome_in}
 use Rattle.nm_laws.proofs.Outcomes.{no_reply}
+use Rattle.nm_laws.proofs.SearchesGrow.{look_beside, search_goes, same_arrival}
 use Rattle.nm_order.specs.WalksToArrivals.{is_won_flag}
 use Rattle.nm_order.specs.FlagsOfCalls.{FlagsStay, LaterArrivalsOnlyGrow}
 use Rattle.nm_order.proofs.ArrivalsOfLooks.{grows_by}
+use Rattle.nm_order.proofs.OwnLinks.{IsFlagEntry, flag_entry, first_flag as first_of_call}
 
 -- ---- a second flag is refused
 
@@ -35,27 +31,13 @@ neither : (a b : Option Refused) → or_else a b ≡ None → b ≡ None
 neither None b h = h
 neither (Some r) b h = absurd (none-some r (sym h))
 
-unflagged : (o : Option NodeId) → is_none o ≡ true → o ≡ None
-unflagged None is = refl
-unflagged (Some n) is = absurd (true≢false (sym is))
-
--- a flag is in order only where the call has none
-flag_in_order : (s : Search) (o : Option Call) (p : ℕ) (side : Side) (leaf : ℕ) → flags_in_order s o p side leaf ≡ true → s.flagged ≡ None
-flag_in_order s None p side leaf is = absurd (true≢false (sym is))
-flag_in_order s (Some call) p side leaf is = by call.op is
-  where
-    by : (op : Op) → deletes s op call.key p side leaf ≡ true → s.flagged ≡ None
-    by Has is = absurd (true≢false (sym is))
-    by Insert is = absurd (true≢false (sym is))
-    by Delete is = unflagged s.flagged (and_parts (is_none s.flagged) (list_any (may_flag_at call.key p side leaf) s.walks) is).0
-
--- and so it is allowed
+-- a flag is allowed only where its call has none
 flag_allowed : (c : Configuration) (searches : List Search) → c.searches ≡ Some searches → (w p : ℕ) (side : Side) (leaf : ℕ) → refused_in c w (Flag p side leaf) ≡ None → (search_of searches w).flagged ≡ None
 unfolding refused_in
 flag_allowed c searches are w p side leaf allowed =
     let s : Search = search_of searches w in
     let in_order : disorder c.state.layout (of c.state w) s (Flag p side leaf) ≡ None = ap (λ ss. disorder_among c.state.layout ss (of c.state w) w (Flag p side leaf)) (sym are) ∙ neither (refused c.state w (Flag p side leaf)) (disorder_in c w (Flag p side leaf)) allowed in
-    flag_in_order s s.call p side leaf (not-false (flags_in_order s s.call p side leaf) (passed _ NotOrdered None in_order).0)
+    first_of_call c.state.layout (of c.state w) s p leaf side in_order
 
 -- ---- one event
 
@@ -70,28 +52,11 @@ flag_added s Sight (Pinned n) stands = absurd (true≢false stands)
 flag_added s (SightFor op key) (Pinned n) stands = absurd (true≢false stands)
 flag_added s Leave Departed stands = absurd (true≢false stands)
 flag_added s (LeaveWith answer) Departed stands = absurd (true≢false stands)
-flag_added s (Look slot f) r stands = by s.call
-  where
-    by : (o : Option Call) → (look_for s o slot f r).flagged ≡ s.flagged
-    by None = refl
-    by (Some call) = refl
+flag_added s (Look slot f) r stands = ap (λ (t : Search). t.flagged) (look_beside s s.call slot f r)
 flag_added s (Link p side leaf new) (Linked n) stands = refl
 flag_added s (Flag p side leaf) (Flagged n) stands = refl
 flag_added s (Splice a side x p keep) (Cut ns) stands = refl
 flag_added s e r stands = refl
-
--- what is won as a flag
-pub record IsWonFlag (e : Event) (r : Reply) : Type 0 where
-  pub parent : ℕ
-  pub side : Side
-  pub leaf : ℕ
-  pub node : NodeId
-  pub is_flag : e ≡ Flag parent side leaf
-  pub is_won : r ≡ Flagged node
-
-pub won_flag : (e : Event) (r : Reply) → is_won_flag (e, r) ≡ true → IsWonFlag e r
-won_flag (Flag p side leaf) (Flagged n) is = record { parent = p; side = side; leaf = leaf; node = n; is_flag = refl; is_won = refl }
-won_flag e r is = absurd (true≢false (sym is))
 
 pub kept_flag : (o : Option NodeId) (e : Event) (r : Reply) → is_won_flag (e, r) ≡ false → flag_by o (e, r) ≡ o
 kept_flag o (Flag p side leaf) (Flagged n) is = absurd (true≢false is)
@@ -100,8 +65,8 @@ kept_flag o e r is = refl
 -- a won flag is allowed only where there was none
 pub first_flag : (c : Configuration) (searches : List Search) → c.searches ≡ Some searches → (w : ℕ) (e : Event) (r : Reply) → refused_in c w e ≡ None → is_won_flag (e, r) ≡ true → (search_of searches w).flagged ≡ None
 first_flag c searches are w e r allowed won =
-    let f : IsWonFlag e r = won_flag e r won in
-    flag_allowed c searches are w f.parent f.side f.leaf (subst (λ (x : Event). refused_in c w x ≡ None) f.is_flag allowed)
+    let f : IsFlagEntry e r = flag_entry e r won in
+    flag_allowed c searches are w f.parent f.side f.leaf (subst (λ (x : Event). refused_in c w x ≡ None) f.is_event allowed)
 
 pub flags_stay : FlagsStay
 unfolding outcome_in
@@ -117,22 +82,11 @@ flags_stay c searches are w e r answers stands n has = flag_added (search_of sea
 
 -- ---- later arrivals
 
-same_arrival : (a : Arrival) → GrowsTo a a
-same_arrival a = record { slot = refl; parent = refl; side = refl; key = λ v is. is; ended = λ is. is }
-
 later_look : (s : Search) (slot : ℕ) (f : Field) (r : Reply) (call : Option Call) (flag : Option NodeId) → s.flagged ≡ flag → (a : Arrival) → Contains s.later a → (b : Arrival) × Contains (look_for s call slot f r).later b × GrowsTo a b
 later_look s slot f r None flag is a there = (a, there, same_arrival a)
 later_look s slot f r (Some call) None is a there = rw is (a, there, same_arrival a)
 later_look s slot f r (Some call) (Some n) is a there = rw is (grows_by call.key s.later (Look slot f, r) a there)
 
 pub later_grows : LaterArrivalsOnlyGrow
-unfolding searched
-later_grows s Sight (Pinned n) stands a there = absurd (true≢false stands)
-later_grows s (SightFor op key) (Pinned n) stands a there = absurd (true≢false stands)
-later_grows s Leave Departed stands a there = absurd (true≢false stands)
-later_grows s (LeaveWith answer) Departed stands a there = absurd (true≢false stands)
-later_grows s (Look slot f) r stands a there = later_look s slot f r s.call s.flagged refl a there
-later_grows s (Link p side leaf new) (Linked n) stands a there = (a, there, same_arrival a)
-later_grows s (Flag p side leaf) (Flagged n) stands a there = (a, there, same_arrival a)
-later_grows s (Splice x side y p keep) (Cut ns) stands a there = (a, there, same_arrival a)
-later_grows s e r stands a there = (a, there, same_arrival a)
+later_grows s = search_goes (λ e r t. (a : Arrival) → Contains s.later a → (b : Arrival) × Contains t.later b × GrowsTo a b) s (λ slot f r. later_look s slot f r s.call s.flagged refl)
+    (λ p side leaf new n a there. (a, there, same_arrival a)) (λ p side leaf n a there. (a, there, same_arrival a)) (λ x side y p keep ns a there. (a, there, same_arrival a)) (λ e r a there. (a, there, same_arrival a))

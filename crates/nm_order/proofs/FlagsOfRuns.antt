@@ -22,7 +22,8 @@ use Rattle.nm_order.specs.FlagsOfCalls.{HasWonFlag, FlagsAreKept, NoSecondFlag}
 use Rattle.nm_order.proofs.SearchesOfLogs.{has_flag, since_flag_more, begun_anew, knows_log}
 use Rattle.nm_order.proofs.WalksOfRuns.{LogGrows, log_grows, search-append, since_pin-append, has_searches, over_turns, log_after, known_after, is_known, of_each_call}
 use Rattle.nm_order.proofs.WalksOfRuns.LogGrows.{Same, Longer}
-use Rattle.nm_order.proofs.FlagsOfEvents.{flag_by, flag_added, IsWonFlag, won_flag, kept_flag, first_flag}
+use Rattle.nm_order.proofs.FlagsOfEvents.{flag_by, flag_added, kept_flag, first_flag}
+use Rattle.nm_order.proofs.OwnLinks.{IsFlagEntry, flag_entry}
 
 -- ---- logs
 
@@ -59,9 +60,9 @@ first_won (e ∷ es) has = by (is_won_flag e) refl has (first_won es)
   where
     by : (b : Bool) → is_won_flag e ≡ b → (b || has_flag es) ≡ true → (has_flag es ≡ true → (n : NodeId) × HasWonFlag es n) → (n : NodeId) × HasWonFlag (e ∷ es) n
     by true won has rest =
-        let f : IsWonFlag e.0 e.1 = won_flag e.0 e.1 won in
+        let f : IsFlagEntry e.0 e.1 = flag_entry e.0 e.1 won in
         let behind : since_flag (e ∷ es) ≡ es = cond-true (is_won_flag e) es (since_flag es) won in
-        (f.node, record { before = []; parent = f.parent; side = f.side; leaf = f.leaf; is = λ i. (f.is_flag i, f.is_won i) ∷ sym behind i })
+        (f.node, record { before = []; parent = f.parent; side = f.side; leaf = f.leaf; is = λ i. (f.is_event i, f.is_reply i) ∷ sym behind i })
     by false not_won has rest =
         let h = rest has in
         let behind : since_flag (e ∷ es) ≡ since_flag es = cond-false (is_won_flag e) es (since_flag es) not_won in

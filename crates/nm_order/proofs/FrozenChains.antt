@@ -47,16 +47,16 @@ chain_way (steps d ne goes rest) zero long = absurd (omega (arith, long))
 chain_way {k} {p} {x} (steps d ne goes rest) (suc fuel) long = ap is_some (way_next (suc fuel) fuel k x p d (omega arith) ne goes) ∙ (some_before d (way fuel k (slot_read (read k x d)) p) ∙ chain_way rest fuel (omega (arith, long)))
 
 -- each is a slot of the layout
-abbrev Within : ℕ → List ℕ → Type 0
+abbrev pub Within : ℕ → List ℕ → Type 0
 Within N [] = Unit {0}
 Within N (x ∷ xs) = ((1 ≤ x) × (x ≤ N)) × Within N xs
 
 -- none is another
-abbrev Apart : ℕ → List ℕ → Type 0
+abbrev pub Apart : ℕ → List ℕ → Type 0
 Apart x [] = Unit {0}
 Apart x (y ∷ ys) = (eqb x y ≡ false) × Apart x ys
 
-abbrev Distinct : List ℕ → Type 0
+abbrev pub Distinct : List ℕ → Type 0
 Distinct [] = Unit {0}
 Distinct (x ∷ xs) = Apart x xs × Distinct xs
 
@@ -85,7 +85,7 @@ zero_apart N [] within = tt
 zero_apart N (x ∷ xs) within = (ne_eqb 0 x (λ z. let low = within.0.0 in omega arith), zero_apart N xs within.1)
 
 -- slots of the layout of which none is another are no more than the layout has
-few : (N : ℕ) (xs : List ℕ) → Distinct xs → Within N xs → length xs ≤ N
+pub few : (N : ℕ) (xs : List ℕ) → Distinct xs → Within N xs → length xs ≤ N
 few N xs distinct within = let all = length-le_from_distinct_below (0 ∷ xs) (suc N) (are_distinct (0 ∷ xs) (zero_apart N xs within, distinct)) below in omega (arith, all)
   where
     below : (q : ℕ) → list_any (eqb q) (0 ∷ xs) ≡ true → q < suc N

@@ -25,6 +25,7 @@ use Rattle.nm_model.specs.Searches.{Search, searched}
 use Rattle.nm_model.specs.Walks.{Entry, SearchGrows, begins_anew}
 use Rattle.nm_model.specs.Ordered.{Configuration, ordered, search_of, disorder, shows, has_removed, ended_at, ended_beside, ended_elsewhere, next_in, outcome_in, after_in}
 use Rattle.nm_laws.proofs.SearchesGrow.{only_grow}
+use Rattle.nm_laws.proofs.Outcomes.{same_reply, no_reply}
 use Rattle.nm_order.specs.Intervals.{HasKey, IsCalled, Gains, Marks, key}
 use Rattle.nm_order.specs.Exchanges.{MayAnswer, is_won_link}
 use Rattle.nm_order.specs.Legal.{changes, WasLegal}
@@ -35,23 +36,22 @@ use Rattle.nm_order.proofs.OrderedLaws.{IsOrdered, ordered_next, each_ordered, l
 use Rattle.nm_order.proofs.OwnFlags.{each_flag_marks}
 use Rattle.nm_order.proofs.OwnTurns.{own_search, OwnTurn, own_turn}
 use Rattle.nm_order.proofs.OwnTurns.OwnTurn.{Quiet, Own}
-use Rattle.nm_order.proofs.OwnLinks.{IsLinkEntry, link_entry, links_once, answer_shown, silent}
+use Rattle.nm_order.proofs.OwnLinks.{IsLinkEntry, link_entry, links_once, answer_shown, silent, first_flag}
 use Rattle.nm_order.proofs.RunMoments.{entries, allowed_entries}
 use Rattle.nm_order.proofs.RunExchanges.{first_keys, is_own_call, shown}
 use Rattle.nm_order.proofs.LegalAnswers.{each_other_answer}
 use Rattle.nm_order.proofs.RunWalks.{reply_is}
 use Rattle.nm_order.proofs.FlaggedLeaves.{FlagStep, flag_step, anew_unflagged}
 use Rattle.nm_order.proofs.FlaggedLeaves.FlagStep.{SameFlag, NewFlag}
-use Rattle.nm_order.proofs.LaterFlags.{first_flag}
 use Rattle.nm_order.proofs.FlaggedNodes.{FlaggedLeaf}
 use Rattle.nm_order.proofs.CutTurns.{is_cut, cut_shown, layout_is, uncut_stays, reached_or}
-use Rattle.nm_order.proofs.SetChanges.{set_stays, WinsNoLink}
+use Rattle.nm_order.proofs.SetChanges.{set_stays, WinsNoLink, cut_links_none}
 use Rattle.nm_order.proofs.TurnEdges.{nothing_below, stays_gone}
 use Rattle.nm_order.proofs.FlagFates.{own_flagged, StandsStill, CutSince, fates, not_elsewhere, one_more, first, has_key}
 use Rattle.nm_order.proofs.FlagOwners.{each_flag_has_one_call}
 use Rattle.nm_order.proofs.PendingLeaves.{Anew, anew_is, no_pin, sight_told, call_told}
 use Rattle.nm_order.proofs.PendingLeaves.Anew.{PinsNow, LeavesNow, AnswersNow}
-use Rattle.nm_order.proofs.Timelines.{TurnChanges, Follows, follows_more, PutIn, put_in}
+use Rattle.nm_order.proofs.Timelines.{TurnChanges, Follows, follows_more, PutIn, put_in, among_either}
 use Rattle.nm_order.proofs.CutActs.{delete_of, CutMade, cut_made}
 use Rattle.nm_order.proofs.PinNumbers.{pin_more, call_pinned, pin_below, pin_stays}
 
@@ -267,11 +267,6 @@ module _ (L : Layout) (enough : 5 ≤ L.nodes) (ts : List (ℕ × Event)) (t : �
   not_so_far x y (Live called did answer pin later within) n same =
       n.fresh (subst (λ (op : Op). Changed c y.worker op) (same_op y.worker x.op y.op x.key y.key (subst (λ (w : ℕ). Calls c w x.op x.key) same.0 called) n.called) (subst (λ (w : ℕ). Changed c w x.op) same.0 did))
 
-  among_either : (xs ys : List Act) (a : Act) → IsAmong (xs ++ ys) a → IsAmong xs a ⊎ IsAmong ys a
-  among_either [] ys a there = inr there
-  among_either (x ∷ xs) ys a (inl is) = inl (inl is)
-  among_either (x ∷ xs) ys a (inr there) = elim (among_either xs ys a there) [ inl l ↦ inl (inr l) | inr r ↦ inr r ]
-
   among_left : (xs ys : List Act) (a : Act) → IsAmong xs a → IsAmong (xs ++ ys) a
   among_left [] ys a there = absurd there
   among_left (x ∷ xs) ys a (inl is) = inl is
@@ -371,13 +366,10 @@ module _ (L : Layout) (enough : 5 ≤ L.nodes) (ts : List (ℕ × Event)) (t : �
               at_leaf = sym (ap (λ (y : NodeId). y.slot) marks.2.names) ∙ ap (λ (y : NodeId). y.slot) (same_Some m n (sym flagged ∙ now_is))
 
               uncut : (ns : List NodeId) → outcome_in c t ≡ Ok (Cut ns) → ⊥
-              uncut ns cut = apart m ns (sym is_flagged ∙ same_ok r (Cut ns) (sym won ∙ cut))
+              uncut ns cut = apart m ns (sym is_flagged ∙ same_reply r (Cut ns) (sym won ∙ cut))
                 where
                   apart : (m : NodeId) (ns : List NodeId) → Flagged m ≡ Cut ns → ⊥
                   apart m ns e = cc
-
-                  same_ok : (x y : Reply) → ◌≡◌ {A = Result Reply Refused} (Ok x) (Ok y) → x ≡ y
-                  same_ok x y e = cc
 
   -- and it is cut by the turn, or was before
   flagged_fate : (w : ℕ) (n : NodeId) → (own_search c w).flagged ≡ Some n → (Reached c'.state.memory n.slot → ⊥) → (Reached c.state.memory n.slot → ⊥) ⊎ IsCut c.state.memory c'.state.memory n.slot
@@ -448,23 +440,20 @@ module _ (L : Layout) (enough : 5 ≤ L.nodes) (ts : List (ℕ × Event)) (t : �
       filled true t none = cc
       filled false t none = true≢false (sym t)
 
-      same_ok : (x y : Reply) → ◌≡◌ {A = Result Reply Refused} (Ok x) (Ok y) → x ≡ y
-      same_ok x y e = cc
-
       fresh : OwnTurn t.0 c t → (own_search c t.0).linked ≡ false
       fresh (Quiet same none) = absurd (filled (t.0 == t.0) (eq-eqb t.0 t.0 refl) (sym (allowed_entries t.0 c t r won) ∙ none))
       fresh (Own q is won' here learned order) = links_once.once c.state.layout (of c.state t.0) (own_search c t.0) t.1 r order such
 
       linked : OwnTurn t.0 c t → (own_search c' t.0).linked ≡ true
       linked (Quiet same none) = absurd (filled (t.0 == t.0) (eq-eqb t.0 t.0 refl) (sym (allowed_entries t.0 c t r won) ∙ none))
-      linked (Own q is won' here learned order) = ap (λ (S : Search). S.linked) learned ∙ links_once.done (own_search c t.0) t.1 q (ap (λ (x : Reply). is_won_link (t.1, x)) (same_ok q r (sym won' ∙ won)) ∙ such)
+      linked (Own q is won' here learned order) = ap (λ (S : Search). S.linked) learned ∙ links_once.done (own_search c t.0) t.1 q (ap (λ (x : Reply). is_won_link (t.1, x)) (same_reply q r (sym won' ∙ won)) ∙ such)
 
       each : (a : Act) → IsAmong (act ∷ []) a → NewAct a
       each a (inl is) = subst NewAct is (record { still = none_anew t.0 c t r won stands; called = call_is; fresh = λ did. true≢false (sym did ∙ fresh mine); did = linked mine; answer = refl; pin = refl; moment = refl })
       each a (inr none) = absurd none
 
       uncut : (ns : List NodeId) → outcome_in c t ≡ Ok (Cut ns) → ⊥
-      uncut ns cut = apart l.node ns (sym l.is_reply ∙ same_ok r (Cut ns) (sym won ∙ cut))
+      uncut ns cut = apart l.node ns (sym l.is_reply ∙ same_reply r (Cut ns) (sym won ∙ cut))
         where
           apart : (m : NodeId) (ns : List NodeId) → Linked m ≡ Cut ns → ⊥
           apart m ns e = cc
@@ -501,16 +490,6 @@ module _ (L : Layout) (enough : 5 ≤ L.nodes) (ts : List (ℕ × Event)) (t : �
       still_all : (w : ℕ) → IsStill w
       still_all w = none_anew w c t (Cut ns) is (cut_stands t.1 ns)
 
-      plain : WinsNoLink L enough c t has o
-      plain q told = subst (λ (r : Reply). is_won_link (t.1, r) ≡ false) (same_ok (Cut ns) q (sym is ∙ told)) (none t.1)
-        where
-          same_ok : (x y : Reply) → ◌≡◌ {A = Result Reply Refused} (Ok x) (Ok y) → x ≡ y
-          same_ok x y e = cc
-
-          none : (e : Event) → is_won_link (e, Cut ns) ≡ false
-          none (Link p d leaf new) = refl
-          none e = refl
-
       each : (a : Act) → IsAmong m.made a → NewAct a
       each a there = subst NewAct (sym e.3) (record {
         still = still_all a.worker;
@@ -533,7 +512,7 @@ module _ (L : Layout) (enough : 5 ≤ L.nodes) (ts : List (ℕ × Event)) (t : �
 
       live : (w : ℕ) (op : Op) (k : ℕ) → IsStill w → Calls c w op k → Changed c' w op → Changed c w op ⊎ HasActOfCall m.made w (pin_of L ts w) op k true
       live w Has k still call did = inl did
-      live w Insert k still call did = inl (linked_back w still plain did)
+      live w Insert k still call did = inl (linked_back w still (cut_links_none L enough c t has o ns is) did)
       live w Delete k still call x = by (flagged_fate w x.0 was x.2)
         where
           was : (own_search c w).flagged ≡ Some x.0
@@ -560,14 +539,8 @@ module _ (L : Layout) (enough : 5 ≤ L.nodes) (ts : List (ℕ × Event)) (t : �
   made_by : Made
   made_by = go (outcome_in c t) refl
     where
-      same_ok : (x y : Reply) → ◌≡◌ {A = Result Reply Refused} (Ok x) (Ok y) → x ≡ y
-      same_ok x y e = cc
-
-      refuses : (q : Refused) (r : Reply) → ◌≡◌ {A = Result Reply Refused} (Err q) (Ok r) → ⊥
-      refuses q r e = cc
-
       go : (q : Result Reply Refused) → outcome_in c t ≡ q → Made
-      go (Err q) is = made_none (λ r told. absurd (refuses q r (sym is ∙ told))) (λ ns cut. refuses q (Cut ns) (sym is ∙ cut))
+      go (Err q) is = made_none (λ r told. absurd (no_reply q r (sym is ∙ told))) (λ ns cut. no_reply q (Cut ns) (sym is ∙ cut))
       go (Ok r) is = by (is_won_link (t.1, r)) refl (is_cut r) refl
         where
           by : (a : Bool) → is_won_link (t.1, r) ≡ a → (b : Bool) → is_cut r ≡ b → Made
@@ -579,7 +552,7 @@ module _ (L : Layout) (enough : 5 ≤ L.nodes) (ts : List (ℕ × Event)) (t : �
                   let ins = each_link_inserts L enough ts before t.0 l.parent l.side l.leaf l.new l.node (ap (outcome_in c) (sym turn) ∙ (is ∙ ap (λ (x : Reply). Ok x) l.is_reply)) in
                   made_link r is l ins.0 ins.1 (subst (λ (v : ℕ × Event). Gains c.state.memory (next_in c v).state.memory ins.0) (sym turn) ins.2)
           by false link true cut = let ns = cut_shown r cut in made_cut ns.0 (is ∙ ap (λ (x : Reply). Ok x) ns.1)
-          by false link false cut = made_none (λ q told. ap (λ (x : Reply). is_won_link (t.1, x)) (same_ok q r (sym told ∙ is)) ∙ link) (λ ns told. true≢false (sym (ap is_cut (same_ok r (Cut ns) (sym is ∙ told))) ∙ cut))
+          by false link false cut = made_none (λ q told. ap (λ (x : Reply). is_won_link (t.1, x)) (same_reply q r (sym told ∙ is)) ∙ link) (λ ns told. true≢false (sym (ap is_cut (same_reply r (Cut ns) (sym is ∙ told))) ∙ cut))
 
   -- ---- an answer that changes nothing
 
@@ -630,10 +603,7 @@ module _ (L : Layout) (enough : 5 ≤ L.nodes) (ts : List (ℕ × Event)) (t : �
             where
               on : (b : Bool) → changes call.op answer ≡ b → (q : Result Reply Refused) → outcome_in c t ≡ q → QuietAnswer ⊎ (QuietAnswer → ⊥)
               on true changing q out = inr (λ x. true≢false (sym changing ∙ ((λ i. changes (same_op t.0 call.op x.op call.key x.k called (is_own_call c t.0 x.op x.k x.may.called) i) (sym (same_answer x.answer x.is) i)) ∙ x.plain)))
-              on false plain (Err q) out = inr (λ x. refuses q Departed (sym out ∙ (ap (outcome_in c) x.is ∙ x.may.leaves)))
-                where
-                  refuses : (q : Refused) (r : Reply) → ◌≡◌ {A = Result Reply Refused} (Err q) (Ok r) → ⊥
-                  refuses q r e = cc
+              on false plain (Err q) out = inr (λ x. no_reply q Departed (sym out ∙ (ap (outcome_in c) x.is ∙ x.may.leaves)))
               on false plain (Ok r) out = inl (record {
                 op = call.op;
                 k = call.key;

@@ -1,9 +1,9 @@
 -- While a pin stands, what its worker knows is only added to: an edge that it reads again is the
 -- same in what it had known of it.
-use Rattle.std.proofs.Common.{◌≡◌, ◌≢◌, ℕ, ◌≤◌, ◌⊎◌, inl, inr, eqb, ◌==◌, Bool, true, false, cond, not, ◌&&◌, ◌||◌, [], refl, sym, ap, ◌∙◌, arith, true≢false}
-use Rattle.std.specs.Prelude.{Option, Some, None, is_none}
-use Rattle.std.proofs.lemmas.Bool.{cond_both, eqb-true, eq-eqb, ne_eqb, and_parts, or_cases, not-false}
-use Rattle.nm_edge.specs.Edges.{Edge, is_to, other, tagged}
+use Rattle.std.proofs.Common.{◌≡◌, ◌≢◌, ℕ, ◌⊎◌, inl, inr, eqb, ◌==◌, Bool, true, false, cond, not, ◌&&◌, refl, sym, ap, ◌∙◌, true≢false}
+use Rattle.std.specs.Prelude.{Option, Some, None}
+use Rattle.std.proofs.lemmas.Bool.{cond_both, eqb-true, eq-eqb, ne_eqb, and_parts, or_cases, or_left, or_right}
+use Rattle.nm_edge.specs.Edges.{Edge, is_to, tagged}
 use Rattle.nm_edge.specs.declared.edge.Side.{Side}
 use Rattle.nm_edge.specs.declared.edge.Side.TheVariants.{Left, Right}
 use Rattle.nm_model.specs.declared.event.Field.{Field}
@@ -12,20 +12,18 @@ use Rattle.nm_model.specs.declared.event.Event.{Event}
 use Rattle.nm_model.specs.declared.event.Event.TheVariants.{Sight, SightFor, Announce, Leave, LeaveWith, Scan, Advance, Claim, Give, Look, Fill, Link, Flag, Tag, Splice, Join}
 use Rattle.nm_model.specs.declared.reply.Reply.{Reply}
 use Rattle.nm_model.specs.declared.reply.Reply.TheVariants.{Saw, Labelled, Pinned, Missed, Announced, Departed, Idle, In, Moved, Behind, Claimed, Returned, Freed, BirthIs, EdgeIs, Filled, Linked, Flagged, Was, Cut, Lost, Joined}
-use Rattle.nm_model.specs.declared.reply.Refused.TheVariants.{NoSlot, NotPinned, NotHeld, NotFrozen}
 use Rattle.nm_model.specs.declared.knowledge.Seen.{Seen}
 use Rattle.nm_model.specs.Memory.{Memory, node, edge, child}
-use Rattle.nm_model.specs.Knowledge.{Knowledge, knows, is_private, seen_of, read, read_on, is_flagged, is_null, knows_leaf}
+use Rattle.nm_model.specs.Knowledge.{Knowledge, is_private, seen_of, read, read_on, is_null, knows_leaf}
 use Rattle.nm_model.specs.Learning.{learn, learn_sight, learn_scan, look_known, look_private, met, with_read, read_edge, flag_to, resigned, inheriting}
-use Rattle.nm_model.specs.Step.{outside, refusal, reply, reply_exchange}
-use Rattle.nm_model.specs.Runs.{State, of, refusal_of, reply_of}
+use Rattle.nm_model.specs.Step.{reply, reply_exchange}
+use Rattle.nm_model.specs.Runs.{State, refusal_of, reply_of}
 use Rattle.nm_model.specs.Walks.{begins_anew}
-use Rattle.nm_laws.proofs.Steps.{Allowed, third, fourth}
+use Rattle.nm_laws.proofs.Steps.{Allowed}
 use Rattle.nm_model.proofs.Tables.{has_put_there}
 use Rattle.nm_laws.proofs.Trees.{same_side, same_side-true}
-use Rattle.nm_laws.proofs.Pictures.{IsLive}
-use Rattle.nm_laws.proofs.Views.{picture, seen_met, has_met_there, read_after, read_birth, seen_put}
-use Rattle.nm_laws.proofs.TreeSteps.{Lawful}
+use Rattle.nm_laws.proofs.Views.{seen_met, has_met_there, read_after, read_birth, seen_put}
+use Rattle.nm_laws.proofs.TreeSteps.{Lawful, tag_not_null}
 use Rattle.nm_order.proofs.SearchSteps.{StillKnown, still_read}
 
 -- ---- what an answer says of the memory
@@ -212,17 +210,9 @@ null_stays m k l stand stays x d null = elim (stays.reads x d) [
 
 pub leaf_stays : (m : Memory) (k l : Knowledge) → NullsStand m k → Stays m k l → (x : ℕ) → knows_leaf k x ≡ true → knows_leaf l x ≡ true
 leaf_stays m k l stand stays x leaf = elim (or_cases (is_null (read k x Left)) (is_null (read k x Right)) leaf) [
-  | inl left ↦ left_known (is_null (read l x Left)) (is_null (read l x Right)) (null_stays m k l stand stays x Left left)
-  | inr right ↦ right_known (is_null (read l x Left)) (is_null (read l x Right)) (null_stays m k l stand stays x Right right)
+  | inl left ↦ or_left (is_null (read l x Left)) (is_null (read l x Right)) (null_stays m k l stand stays x Left left)
+  | inr right ↦ or_right (is_null (read l x Left)) (is_null (read l x Right)) (null_stays m k l stand stays x Right right)
 ]
-  where
-    left_known : (a b : Bool) → a ≡ true → (a || b) ≡ true
-    left_known true b is = refl
-    left_known false b is = absurd (true≢false (sym is))
-
-    right_known : (a b : Bool) → b ≡ true → (a || b) ≡ true
-    right_known true b is = refl
-    right_known false b is = is
 
 -- ---- the answers of an event that is allowed
 
@@ -230,33 +220,15 @@ lost_is : (e : Edge) (x : ℕ) (won : Reply) (P : Reply → Type 0) → (is_to e
 lost_is e x won P first second = cond_both (is_to e x) won (Lost e) P first (λ _. second)
 
 pub answers : (s : State) (h : ℕ → ℕ) (law : Lawful s h) (w : ℕ) (e : Event) → Allowed s w e → Answers s.memory e (reply_of s w e)
-unfolding refusal reply
+unfolding reply
 answers s h law w e ok = go e ok.event
   where
-    -- a tag is of a known node whose other edge is known flagged, so neither edge is null
-    tag_leads : (p : ℕ) (d : Side) → refusal_of s w (Tag p d) ≡ None → child s.memory p d ≢ 0
-    tag_leads p d ok null = let high : 6 ≤ child s.memory p (other d) = law.tree.flags p (other d) live (flag_of (read (of s w) p (other d)) refl twin) in
-        let none : child s.memory p (other d) ≡ 0 = law.tree.twins p d live null in absurd (omega arith)
-      where
-        known : knows (of s w) p ≡ true
-        known = not-false (knows (of s w) p) (third (outside 1 s.layout.nodes p) (is_none (of s w).brief.pin) (not (knows (of s w) p)) NoSlot NotPinned NotHeld _ ok)
-
-        twin : is_flagged (read (of s w) p (other d)) ≡ true
-        twin = not-false (is_flagged (read (of s w) p (other d))) (fourth (outside 1 s.layout.nodes p) (is_none (of s w).brief.pin) (not (knows (of s w) p)) (not (is_flagged (read (of s w) p (other d)))) NoSlot NotPinned NotHeld NotFrozen _ ok)
-
-        live : IsLive (picture s h) p
-        live = law.tree.guarded w p (record { from = p; known = known; path = []; ends = refl; is_slot = λ z. (let r = law.tree.known w p known in absurd (omega arith)) })
-
-        flag_of : (o : Option Edge) → read (of s w) p (other d) ≡ o → is_flagged o ≡ true → (edge s.memory p (other d)).flag ≡ true
-        flag_of None is t = absurd (true≢false (sym t))
-        flag_of (Some e) is t = (law.tree.flag_read w p (other d) e is t).0
-
     go : (e : Event) → refusal_of s w e ≡ None → Answers s.memory e (reply_of s w e)
     go (Look x Key) ok = tt
     go (Look x (EdgeOn d)) ok = refl
     go (Look x Birth) ok = refl
     go (Link p d leaf new) ok = lost_is (edge s.memory p d) leaf _ (Answers s.memory (Link p d leaf new)) (λ _. tt) refl
     go (Flag p d leaf) ok = lost_is (edge s.memory p d) leaf _ (Answers s.memory (Flag p d leaf)) (λ t. t) refl
-    go (Tag p d) ok = (refl, tag_leads p d ok)
+    go (Tag p d) ok = (refl, tag_not_null s h law w p d ok)
     go (Splice a d x p keep) ok = lost_is (edge s.memory a d) x _ (Answers s.memory (Splice a d x p keep)) (λ _. tt) refl
     go e ok = tt

@@ -30,7 +30,8 @@ use Rattle.nm_order.proofs.CallWalks.{GoesOn, goes_on_so, begun_anew, others_sta
 use Rattle.nm_order.proofs.CallWalks.GoesOn.{Same, Looked}
 use Rattle.nm_order.proofs.FlaggedLeaves.{FlagStep, flag_step, anew_unflagged}
 use Rattle.nm_order.proofs.FlaggedLeaves.FlagStep.{SameFlag, NewFlag}
-use Rattle.nm_order.proofs.LaterFlags.{LeafFlagged, FlagKept, unflagged, kept_still, new_flag, first_flag, look_flags}
+use Rattle.nm_order.proofs.LaterFlags.{LeafFlagged, FlagKept, unflagged, kept_still, new_flag, look_flags}
+use Rattle.nm_order.proofs.OwnLinks.{first_flag}
 
 -- ---- one event of the worker itself
 

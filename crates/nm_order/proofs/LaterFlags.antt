@@ -1,40 +1,35 @@
 -- Where a walk that began after the flag came to the flagged leaf, the edge by which it came was
 -- read as flagged.
-use Rattle.std.proofs.Common.{◌≡◌, ◌≢◌, ℕ, ◌⊎◌, inl, inr, eqb, ◌==◌, Bool, true, false, cond, not, ◌&&◌, ◌||◌, List, [], ◌∷◌, refl, sym, ap, subst, ◌∙◌, arith, true≢false}
-use Rattle.std.specs.Prelude.{Option, Some, None, is_none}
+use Rattle.std.proofs.Common.{◌≡◌, ◌≢◌, ℕ, ◌⊎◌, inl, inr, eqb, ◌==◌, Bool, true, false, cond, List, [], ◌∷◌, refl, sym, ap, subst, ◌∙◌, arith, true≢false}
+use Rattle.std.specs.Prelude.{Option, Some, None}
 use Rattle.std.specs.List.{list_any}
-use Rattle.std.proofs.lemmas.Bool.{cond_both, cond-true, eqb-true, eq-eqb, and_parts, or_parts, not-false}
+use Rattle.std.proofs.lemmas.Bool.{cond_both, cond-true, eqb-true, eq-eqb, and_parts, and_from}
 use Rattle.std.proofs.lemmas.Option.{none-some, same_Some}
 use Rattle.nm_edge.specs.Edges.{Edge, is_to}
-use Rattle.nm_edge.specs.Layouts.{Layout}
 use Rattle.nm_edge.specs.declared.edge.Side.{Side}
 use Rattle.nm_edge.specs.declared.edge.Side.TheVariants.{Left}
 use Rattle.nm_edge.specs.declared.node.NodeId.{NodeId}
 use Rattle.nm_model.specs.declared.event.Field.{Field}
 use Rattle.nm_model.specs.declared.event.Field.TheVariants.{Edge as EdgeOn}
-use Rattle.nm_model.specs.declared.event.Op.{Op}
-use Rattle.nm_model.specs.declared.event.Op.TheVariants.{Has, Insert, Delete}
 use Rattle.nm_model.specs.declared.event.Event.{Event}
 use Rattle.nm_model.specs.declared.event.Event.TheVariants.{Look, Flag}
 use Rattle.nm_model.specs.declared.reply.Reply.{Reply}
 use Rattle.nm_model.specs.declared.reply.Reply.TheVariants.{EdgeIs, Flagged, Lost}
-use Rattle.nm_model.specs.declared.reply.Refused.TheVariants.{NoSlot, NotPinned, NotHeld, NotOrdered}
 use Rattle.nm_model.specs.declared.arrivals.Call.{Call}
 use Rattle.nm_model.specs.declared.arrivals.Arrival.{Arrival}
 use Rattle.nm_model.specs.Memory.{Memory, edge, child, put_edge, named}
-use Rattle.nm_model.specs.Knowledge.{Knowledge, knows, knows_leaf, is_private, read}
+use Rattle.nm_model.specs.Knowledge.{Knowledge, knows, is_private, read}
 use Rattle.nm_model.specs.Learning.{learn, look_known, look_private, flag_to}
 use Rattle.nm_model.specs.Paths.{follow}
-use Rattle.nm_model.specs.Step.{outside, refusal, reply, write}
-use Rattle.nm_model.specs.Runs.{State, of, reply_of, refusal_of, applied}
+use Rattle.nm_model.specs.Step.{reply, write}
+use Rattle.nm_model.specs.Runs.{State, of, reply_of, applied}
 use Rattle.nm_model.specs.Searches.{Search, is_first, is_side, goes_on, turns, walked, look_for, later_walked}
-use Rattle.nm_model.specs.Ordered.{ordered, disorder, flags_in_order, deletes, may_flag_at}
 use Rattle.nm_model.proofs.Lists.{any_at}
-use Rattle.nm_laws.proofs.Steps.{Allowed, passed, third}
+use Rattle.nm_laws.proofs.Steps.{Allowed}
 use Rattle.nm_laws.proofs.Trees.{same_side-refl}
 use Rattle.nm_laws.proofs.Views.{read_after}
 use Rattle.nm_laws.proofs.TreeSlots.{is_to-true}
-use Rattle.nm_laws.proofs.TreeSteps.{Lawful, high_from}
+use Rattle.nm_laws.proofs.TreeSteps.{Lawful, flag_checked}
 use Rattle.nm_order.proofs.OrderedChanges.{off_known, off_root}
 use Rattle.nm_order.proofs.OrderedSteps.{looked_known, known_not_private, low_not_private}
 use Rattle.nm_order.proofs.KnowledgeStays.{Stays, Answers, answers}
@@ -99,24 +94,16 @@ module _ (s : State) (h : ℕ → ℕ) (law : Lawful s h) (w : ℕ) (e : Event) 
 
 -- ---- a flag that is won
 
-flag_found : (s : State) (w p leaf : ℕ) (d : Side) (n : NodeId) → reply_of s w (Flag p d leaf) ≡ Flagged n → (n.slot ≡ leaf) × (is_to (edge s.memory p d) leaf ≡ true)
+pub won_flag_shown : (s : State) (w p leaf : ℕ) (d : Side) (n : NodeId) → reply_of s w (Flag p d leaf) ≡ Flagged n → (is_to (edge s.memory p d) leaf ≡ true) × (named s.memory leaf ≡ n)
 unfolding reply
-flag_found s w p leaf d n is = go (is_to (edge s.memory p d) leaf) refl is
+won_flag_shown s w p leaf d n is = go (is_to (edge s.memory p d) leaf) refl is
   where
-    go : (b : Bool) → is_to (edge s.memory p d) leaf ≡ b → cond b (Flagged (named s.memory leaf)) (Lost (edge s.memory p d)) ≡ Flagged n → (n.slot ≡ leaf) × (is_to (edge s.memory p d) leaf ≡ true)
-    go true won e = (cc, won)
+    go : (b : Bool) → is_to (edge s.memory p d) leaf ≡ b → cond b (Flagged (named s.memory leaf)) (Lost (edge s.memory p d)) ≡ Flagged n → (is_to (edge s.memory p d) leaf ≡ true) × (named s.memory leaf ≡ n)
+    go true won e = (won, cc)
     go false won e = absurd (differ e)
       where
         differ : Lost (edge s.memory p d) ≡ Flagged n → ⊥
         differ e = cc
-
-pub flag_asks : (s : State) (w p leaf : ℕ) (d : Side) → refusal_of s w (Flag p d leaf) ≡ None → (outside 6 s.layout.nodes leaf ≡ false) × (knows (of s w) p ≡ true) × (knows (of s w) leaf ≡ true)
-unfolding refusal
-flag_asks s w p leaf d ok =
-    let first = outside 1 s.layout.nodes p || outside 6 s.layout.nodes leaf in
-    let three = and_parts (knows (of s w) p) (knows (of s w) leaf && knows_leaf (of s w) leaf) (not-false _ (third first (is_none (of s w).brief.pin) (not (knows (of s w) p && (knows (of s w) leaf && knows_leaf (of s w) leaf))) NoSlot NotPinned NotHeld _ ok)) in
-    let two = and_parts (knows (of s w) leaf) (knows_leaf (of s w) leaf) three.1 in
-    ((or_parts (outside 1 s.layout.nodes p) (outside 6 s.layout.nodes leaf) (passed _ _ _ ok).0).1, three.0, two.0)
 
 flag_written : (s : State) (w p leaf : ℕ) (d : Side) → is_to (edge s.memory p d) leaf ≡ true → (applied s w (Flag p d leaf)).memory ≡ put_edge s.memory p d (flag_to leaf)
 unfolding applied write
@@ -124,33 +111,16 @@ flag_written s w p leaf d won = cond-true (is_to (edge s.memory p d) leaf) (put_
 
 pub new_flag : (s : State) (h : ℕ → ℕ) (law : Lawful s h) (w p leaf : ℕ) (d : Side) (n : NodeId) → Allowed s w (Flag p d leaf) → reply_of s w (Flag p d leaf) ≡ Flagged n → (l : Knowledge) → Stays s.memory (of s w) l → LeafFlagged (applied s w (Flag p d leaf)).memory l [] n.slot
 new_flag s h law w p leaf d n ok is l stays =
-    let found = flag_found s w p leaf d n is in
-    let asks = flag_asks s w p leaf d ok.event in
-    let high = high_from 6 s.layout.nodes leaf asks.0 in
-    let range = law.tree.known w p asks.1 in
+    let found = won_flag_shown s w p leaf d n is in
+    let asks = flag_checked s w p d leaf ok.event in
+    let high = asks.high in
+    let range = law.tree.known w p asks.known in
     let size = law.roomy.nodes in
-    rw (found.0, flag_written s w p leaf d found.1) (record {
-      known = stays.known leaf asks.2;
-      root = flag_leads s h law w p d leaf (omega arith) asks.1 (λ z. omega arith) (is_to-true (edge s.memory p d) leaf found.1);
+    rw (← found.1, flag_written s w p leaf d found.0) (record {
+      known = stays.known leaf asks.held;
+      root = flag_leads s h law w p d leaf (omega arith) asks.known (λ z. omega arith) (is_to-true (edge s.memory p d) leaf found.0);
       places = λ i a at. absurd (none-some a at);
     })
-
--- a flag in order is the first of its call
-pub first_flag : (K : Layout) (k : Knowledge) (S : Search) (p leaf : ℕ) (d : Side) → disorder K k S (Flag p d leaf) ≡ None → S.flagged ≡ None
-first_flag K k S p leaf d ordered = by S.call (not-false (flags_in_order S S.call p d leaf) (passed _ NotOrdered None ordered).0)
-  where
-    none : (o : Option NodeId) → is_none o ≡ true → o ≡ None
-    none None is = refl
-    none (Some n) is = absurd (true≢false (sym is))
-
-    by : (o : Option Call) → flags_in_order S o p d leaf ≡ true → S.flagged ≡ None
-    by None t = absurd (true≢false (sym t))
-    by (Some call) t = on call.op t
-      where
-        on : (op : Op) → deletes S op call.key p d leaf ≡ true → S.flagged ≡ None
-        on Has t = absurd (true≢false (sym t))
-        on Insert t = absurd (true≢false (sym t))
-        on Delete t = none S.flagged (and_parts (is_none S.flagged) (list_any (may_flag_at call.key p d leaf) S.walks) t).0
 
 -- ---- a look
 
@@ -159,12 +129,7 @@ looked_read : (s : State) (w x : ℕ) (d : Side) → is_private (of s w) x ≡ f
 unfolding reply learn
 looked_read s w x d out = cond_both (is_private (of s w) x) (look_private (of s w) x (EdgeOn d) (EdgeIs (edge s.memory x d))) (look_known (of s w) x (EdgeOn d) (EdgeIs (edge s.memory x d))) (λ l. read l x d ≡ Some (edge s.memory x d))
     (λ own. absurd (true≢false (sym own ∙ out)))
-    (λ _. read_after (of s w) x d (edge s.memory x d) x d ∙ ap (λ (b : Bool). cond b (Some (edge s.memory x d)) (read (of s w) x d)) (both_true (eqb x x) _ (eq-eqb x x refl) (same_side-refl d)))
-  where
-    both_true : (a b : Bool) → a ≡ true → b ≡ true → (a && b) ≡ true
-    both_true true true i j = refl
-    both_true true false i j = j
-    both_true false b i j = i
+    (λ _. read_after (of s w) x d (edge s.memory x d) x d ∙ ap (λ (b : Bool). cond b (Some (edge s.memory x d)) (read (of s w) x d)) (and_from (eqb x x) _ (eq-eqb x x refl) (same_side-refl d)))
 
 module _ (s : State) (h : ℕ → ℕ) (law : Lawful s h) (w x : ℕ) (f : Field) (ok : Allowed s w (Look x f)) (stays : Stays s.memory (of s w) (of (applied s w (Look x f)) w)) where
   l : Knowledge

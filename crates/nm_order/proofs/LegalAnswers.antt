@@ -3,7 +3,7 @@
 use Rattle.std.proofs.Common.{◌≡◌, ℕ, ◌≤◌, ◌==◌, Bool, true, false, not, List, [], refl, sym, ap, subst, ◌∙◌, arith, true≢false}
 use Rattle.std.specs.Prelude.{Option, Some, is_none, slice_get, All}
 use Rattle.std.specs.List.{list_any}
-use Rattle.std.proofs.lemmas.Bool.{and_parts, eq-eqb}
+use Rattle.std.proofs.lemmas.Bool.{and_parts, eq-eqb, not-true}
 use Rattle.std.proofs.lemmas.Option.{same_Some}
 use Rattle.nm_edge.specs.Layouts.{Layout}
 use Rattle.nm_model.specs.declared.event.Op.{Op}
@@ -60,11 +60,7 @@ module _ (L : Layout) (enough : 5 ≤ L.nodes) (turns : List (ℕ × Event)) (ke
       let b = any_at (ended_beside k) (own_search (after_in (ordered L) turns) w).walks any in
       let parts = and_parts b.1.ended (not (is_number b.1.key k)) b.3 in
       let t = told b.0 b.1 b.2 parts.0 in
-      subst (WasSoUnderPin L turns w k) (no (t.0 == k) (ap (λ (o : Option ℕ). not (is_number o k)) (sym t.1) ∙ parts.1)) t.2
-    where
-      no : (b : Bool) → not b ≡ true → b ≡ false
-      no true h = absurd (true≢false (sym h))
-      no false h = refl
+      subst (WasSoUnderPin L turns w k) (not-true (t.0 == k) (ap (λ (o : Option ℕ). not (is_number o k)) (sym t.1) ∙ parts.1)) t.2
 
   unchanged : (answer : Bool) → changes op answer ≡ false → shows (own_search (after_in (ordered L) turns) w) op k answer ≡ true → WasLegal L turns w op k answer
   unchanged = by op refl

@@ -34,7 +34,7 @@ module _ (L : Layout) (enough : 5 ≤ L.nodes) (turns : List (ℕ × Event)) (ke
       own = ap (λ (o : Option (List Search)). search_of (unwrap_or o []) w) told.is_ordered.are ∙ told.search
 
   -- who has flagged a leaf is a worker of the tree
-  flagger : (w k : ℕ) → HasFlagged L turns w k → w < L.workers
+  pub flagger : (w k : ℕ) → HasFlagged L turns w k → w < L.workers
   flagger w k f = go (refused_in before w event) refl
     where
       event : Event

@@ -1,9 +1,9 @@
 -- The keys of a tree that is in order ascend from left to right.
-use Rattle.std.proofs.Common.{◌≡◌, ◌≢◌, ℕ, zero, suc, ◌<◌, ◌≤◌, inl, inr, ◌⊎◌, ◌==◌, Bool, true, false, cond, ◌&&◌, List, [], ◌∷◌, ◌++◌, length, refl, sym, ap, subst, ◌∙◌, arith}
+use Rattle.std.proofs.Common.{◌≡◌, ◌≢◌, ℕ, zero, suc, ◌<◌, inl, inr, ◌⊎◌, ◌==◌, Bool, true, false, cond, ◌&&◌, List, [], ◌∷◌, ◌++◌, length, refl, sym, ap, subst, ◌∙◌, arith}
 use Rattle.std.specs.Prelude.{Option, Some, None, nat_lt, slice_get, slice_index_or, AllPairs}
 use Rattle.std.specs.List.{filter_map, cons_option}
 use native.Mathlib.Decide.{ℕ_discrete}
-use Rattle.std.proofs.lemmas.Bool.{ltb-true, ltb-false, lt-ltb, eqb-true, and_parts}
+use Rattle.std.proofs.lemmas.Bool.{ltb-true, lt-ltb, eqb-true, and_parts}
 use Rattle.std.proofs.lemmas.Option.{none-some, same_Some, slice_get-get_or}
 use Rattle.std.proofs.lemmas.List.Elements.{filter_map-append}
 use Rattle.nm_edge.specs.declared.edge.Side.{Side}
@@ -17,6 +17,7 @@ use Rattle.nm_model.proofs.Counting.{times, times_apart}
 use Rattle.nm_laws.proofs.Trees.{follow-append}
 use Rattle.nm_order.proofs.Searching.{goes_on}
 use Rattle.nm_order.proofs.OrderedTrees.{InOrder}
+use Rattle.nm_order.proofs.RadixTrees.{less_of_left, more_of_right}
 use Rattle.nm_model.proofs.SetKeys.{tree_fork, no_slots}
 
 -- ---- rising lists
@@ -50,20 +51,6 @@ rising_pairs (x ∷ xs) h zero (suc j) d less inside = h.0 (slice_index_or xs j 
 rising_pairs (x ∷ xs) h (suc i) (suc j) d less inside = rising_pairs xs h.1 i j d (omega arith) (omega arith)
 
 -- ---- the keys below a slot
-
-left_is_less : (k n : ℕ) → side_of k n ≡ Left → k < n
-left_is_less k n h = go (nat_lt k n) refl h
-  where
-    go : (b : Bool) → nat_lt k n ≡ b → cond b Left Right ≡ Left → k < n
-    go true i h = ltb-true k n i
-    go false i h = cc
-
-right_is_more : (k n : ℕ) → side_of k n ≡ Right → n ≤ k
-right_is_more k n h = go (nat_lt k n) refl h
-  where
-    go : (b : Bool) → nat_lt k n ≡ b → cond b Left Right ≡ Right → n ≤ k
-    go true i h = cc
-    go false i h = ltb-false k n i
 
 module _ (m : Memory) where
   forked : (d x : ℕ) → x ≢ 0 → keys_below (suc d) m x ≡ cons_option (set_key (node m x)) (keys_below d m (child m x Left) ++ keys_below d m (child m x Right))
@@ -157,8 +144,8 @@ module _ (m : Memory) where
         go : (o : Option ℕ) → set_key (node m (follow (child m) 1 q)) ≡ o → Rising (keys_below d m (child m (follow (child m) 1 q) Left)) → Rising (keys_below d m (child m (follow (child m) 1 q) Right))
             → Rising (cons_option o (keys_below d m (child m (follow (child m) 1 q) Left) ++ keys_below d m (child m (follow (child m) 1 q) Right)))
         go None is left right = rising_append _ _ left right (λ a b i j.
-            let less = left_is_less a _ (goes_to q Left a (under d (child m (follow (child m) 1 q) Left) a i)) in
-            let more = right_is_more b _ (goes_to q Right b (under d (child m (follow (child m) 1 q) Right) b j)) in omega arith)
+            let less = less_of_left a _ (goes_to q Left a (under d (child m (follow (child m) 1 q) Left) a i)) in
+            let more = more_of_right b _ (goes_to q Right b (under d (child m (follow (child m) 1 q) Right) b j)) in omega arith)
         go (Some n) is left right =
             let leaf = (leaf_key (follow (child m) 1 q) n is).0 in
             rw (none_below d (child m (follow (child m) 1 q) Left) (null_of leaf Left), none_below d (child m (follow (child m) 1 q) Right) (null_of leaf Right)) ((λ j h. absurd (none-some j h.1)), tt)

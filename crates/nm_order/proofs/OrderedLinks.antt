@@ -22,7 +22,7 @@ use Rattle.nm_order.specs.Intervals.{GoesBy, key}
 use Rattle.nm_laws.proofs.Trees.{Children, Exchanged, follow-append, follow_none}
 use Rattle.nm_model.proofs.Lists.{any_at}
 use Rattle.nm_order.proofs.Searching.{Keys, goes-append}
-use Rattle.nm_order.proofs.OrderedTrees.{InOrder, Linking}
+use Rattle.nm_order.proofs.OrderedTrees.{InOrder, Linking, Grafting}
 use Rattle.nm_order.proofs.OrderedWalks.{WalkLaw, CameFrom, is_side-true}
 use Rattle.nm_order.proofs.OrderedWalks.CameFrom.{FromRoot, FromSlot}
 use Rattle.nm_laws.proofs.Pictures.{IsOnPath, alone, null_below}
@@ -38,6 +38,32 @@ use Rattle.nm_order.proofs.OrderedChanges.{FixedKeys, left_of, off_root}
 pub right_of : (k n : ℕ) → (k < n → ⊥) → side_of k n ≡ Right
 right_of k n past = cond-false (nat_lt k n) Left Right (false_from_ne_true (nat_lt k n) (λ h. past (ltb-true k n h)))
 
+-- ---- a link's slots
+
+module _ (s : State) (h : ℕ → ℕ) (law : Lawful s h) (w p : ℕ) (d : Side) (leaf new far : ℕ) (dl : Side) (link : IsLink s.layout.radix s.layout.nodes (picture s h) w p d leaf new far dl) where
+  pub above : IsOnPath (picture s h) p
+  above = live_on_path s.layout.nodes (picture s h) p law.tree link.live link.is_slot link.inside (unmarked_not_queued s.layout.nodes (picture s h) p d leaf law.tree link.unmarked link.leaf_slot)
+
+  abbrev pub grafted : (c' : ℕ → Side → ℕ) → Exchanged (child s.memory) c' p d new → Grafting (child s.memory) c' p d leaf new far dl
+  grafted c' exchanged = record {
+    nothing = null_below s.layout.nodes (picture s h) law.tree;
+    alone = alone s.layout.nodes (picture s h) law.tree;
+    exchanged = exchanged;
+    front = above.path;
+    at_front = above.ends;
+    is_slot = link.is_slot;
+    leads = ap (λ (e : Edge). e.slot) link.unmarked;
+    leaf_slot = link.leaf_slot;
+    over_leaf = ap (λ (e : Edge). e.slot) link.over_leaf;
+    over_far = ap (λ (e : Edge). e.slot) link.over_far;
+    far_null = λ x. ap (λ (e : Edge). e.slot) (link.far_leaf x);
+    off_new = off_root s h law w new link.own;
+    off_far = off_root s h law w far link.far_own;
+    apart = link.apart;
+  }
+
+-- ---- what a link that is in order has shown
+
 module _ (s : State) (h : ℕ → ℕ) (law : Lawful s h) (w : ℕ) (births : BirthsStand s w) (k : ℕ) (small : IsKey k) (fixed : FixedKeys s.memory) (ws : List Arrival) (walks : WalkLaw s.layout.radix (child s.memory) (key s.memory) (knows (of s w)) k ws)
     (p : ℕ) (d : Side) (leaf new : ℕ) (l : Linkable (of s w) new leaf) (link : IsLink s.layout.radix s.layout.nodes (picture s h) w p d leaf new l.far l.side) (is_far_key : is_number (new_leaf (of s w) leaf new).key k ≡ true) where
   abbrev c : Children
@@ -46,8 +72,8 @@ module _ (s : State) (h : ℕ → ℕ) (law : Lawful s h) (w : ℕ) (births : Bi
   abbrev v : Keys
   v = key s.memory
 
-  on : IsOnPath (picture s h) p
-  on = live_on_path s.layout.nodes (picture s h) p law.tree link.live link.is_slot link.inside (unmarked_not_queued s.layout.nodes (picture s h) p d leaf law.tree link.unmarked link.leaf_slot)
+  abbrev on : IsOnPath (picture s h) p
+  on = above s h law w p d leaf new l.far l.side link
 
   leads : child s.memory p d ≡ leaf
   leads = ap (λ (e : Edge). e.slot) link.unmarked
@@ -161,20 +187,7 @@ module _ (s : State) (h : ℕ → ℕ) (law : Lawful s h) (w : ℕ) (births : Bi
           let far_goes : GoesBy c v (v l.far) 1 (on.path ++ d ∷ []) = goes-append c v (v l.far) 1 on.path (d ∷ []) (rw far_key g.goes) (ap (λ (y : ℕ). side_of (v l.far) (v y)) on.ends ∙ rw far_key g.turns, tt) in
           let leaf_goes : GoesBy c v (v leaf) 1 (on.path ++ d ∷ []) = subst (λ (y : ℕ). GoesBy c v (v y) 1 (on.path ++ d ∷ [])) to_leaf (order (on.path ++ d ∷ []) (λ z. link.leaf_slot (sym to_leaf ∙ z))) in
           record {
-            nothing = null_below s.layout.nodes (picture s h) law.tree;
-            alone = alone s.layout.nodes (picture s h) law.tree;
-            exchanged = exchanged;
-            front = on.path;
-            at_front = on.ends;
-            is_slot = link.is_slot;
-            leads = leads;
-            leaf_slot = link.leaf_slot;
-            over_leaf = ap (λ (e : Edge). e.slot) link.over_leaf;
-            over_far = ap (λ (e : Edge). e.slot) link.over_far;
-            far_null = λ x. ap (λ (e : Edge). e.slot) (link.far_leaf x);
-            off_new = off_root s h law w new link.own;
-            off_far = off_root s h law w l.far link.far_own;
-            apart = link.apart;
+            graft = grafted s h law w p d leaf new l.far l.side link c' exchanged;
             old_side = old_side f.leaf_side;
             far_side = f.far_side;
             new_goes = new_goes far_goes leaf_goes f.new_key;

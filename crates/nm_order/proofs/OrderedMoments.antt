@@ -1,11 +1,11 @@
 -- What holds of each slot to which a search can go on from a known one, where it holds of each slot
 -- that the root's own search comes to now: each event that is allowed keeps it, and a look that
 -- takes walks on.
-use Rattle.std.proofs.Common.{◌≡◌, ◌≢◌, ℕ, ◌<◌, inl, inr, ◌⊎◌, eqb, ◌==◌, Bool, true, false, cond, not, ◌&&◌, ◌||◌, List, [], ◌∷◌, ◌++◌, map, refl, sym, ap, subst, ◌∙◌, arith}
-use Rattle.std.specs.Prelude.{Option, Some, None, is_none, nat_lt, slice_get}
+use Rattle.std.proofs.Common.{◌≡◌, ◌≢◌, ℕ, ◌<◌, inl, inr, ◌⊎◌, eqb, ◌==◌, Bool, true, false, cond, ◌&&◌, ◌||◌, List, [], ◌∷◌, ◌++◌, map, refl, sym, ap, subst, ◌∙◌, arith}
+use Rattle.std.specs.Prelude.{Option, Some, None, is_none, slice_get}
 use Rattle.std.specs.List.{list_any}
 use mathlib.Core.Path.{fun_ext}
-use Rattle.std.proofs.lemmas.Bool.{cond_both, eqb-true, and_parts, ne_eqb, or_cases, not-false}
+use Rattle.std.proofs.lemmas.Bool.{cond_both, eqb-true, and_parts, ne_eqb, or_cases}
 use Rattle.std.proofs.lemmas.Option.{none-some, same_Some}
 use Rattle.nm_edge.specs.Edges.{Edge}
 use Rattle.nm_edge.specs.Keys.{IsKey}
@@ -14,28 +14,27 @@ use Rattle.nm_edge.specs.declared.edge.Side.TheVariants.{Left, Right}
 use Rattle.nm_model.specs.declared.event.Field.{Field}
 use Rattle.nm_model.specs.declared.event.Field.TheVariants.{Key, Edge as EdgeOn}
 use Rattle.nm_model.specs.declared.event.Event.{Event}
-use Rattle.nm_model.specs.declared.event.Event.TheVariants.{Fill, Look}
+use Rattle.nm_model.specs.declared.event.Event.TheVariants.{Look}
 use Rattle.nm_model.specs.declared.reply.Reply.{Reply}
 use Rattle.nm_model.specs.declared.reply.Reply.TheVariants.{KeyIs, EdgeIs}
-use Rattle.nm_model.specs.declared.reply.Refused.TheVariants.{NoSlot, NotPrivate}
 use Rattle.nm_model.specs.declared.arrivals.Call.{Call}
 use Rattle.nm_model.specs.declared.arrivals.Arrival.{Arrival}
 use Rattle.nm_model.specs.Memory.{Memory, node, child, edge, is_leaf, infinity_1, infinity_2}
 use Rattle.nm_model.specs.Knowledge.{knows, is_private}
 use Rattle.nm_model.specs.Paths.{follow}
-use Rattle.nm_model.specs.Step.{outside, is_edge, refusal, reply, write}
+use Rattle.nm_model.specs.Step.{reply, write}
 use Rattle.nm_model.specs.Runs.{State, of, reply_of}
 use Rattle.nm_model.specs.Searches.{side_of, is_side, turns, is_by, is_first, goes_on, new_arrival, with_arrival, keyed, ended, walked}
 use Rattle.nm_order.specs.Intervals.{GoesBy, key}
 use Rattle.nm_model.proofs.Lists.{any_at, mapped_at, more_at}
-use Rattle.nm_laws.proofs.Steps.{Allowed, second}
+use Rattle.nm_laws.proofs.Steps.{Allowed}
 use Rattle.nm_laws.proofs.KnownBirths.{SameNode, written_same}
 use Rattle.nm_laws.proofs.Trees.{Exchanged, same_side, same_side-true}
 use Rattle.nm_laws.proofs.CutPaths.{straight}
 use Rattle.nm_laws.proofs.Pictures.{IsOnPath, alone}
 use Rattle.nm_laws.proofs.Splices.{live_on_path, unmarked_not_queued}
 use Rattle.nm_laws.proofs.Views.{picture}
-use Rattle.nm_laws.proofs.TreeSteps.{Lawful}
+use Rattle.nm_laws.proofs.TreeSteps.{Lawful, fill_checked}
 use Rattle.nm_laws.proofs.WalksOfLogs.{turned}
 use Rattle.nm_order.proofs.OrderedTrees.{Onward}
 use Rattle.nm_order.proofs.TreeChanges.{TreeChange, tree_change}
@@ -86,14 +85,6 @@ call_walks shape m known None ws call is f = absurd (none-some call is)
 call_walks shape m known (Some other) ws call is f = subst (λ (y : Call). IsKey y.key × WalkLaw shape (child m) (key m) known y.key ws) (same_Some other call is) f
 
 module _ (s : State) (h : ℕ → ℕ) (law : Lawful s h) (w : ℕ) where
-  -- a fill is of a slot of the worker's own
-  fills_own : (e : Event) → Allowed s w e → (y : ℕ) (f : Field) (v : ℕ) → e ≡ Fill y f v → is_private (of s w) y ≡ true
-  unfolding refusal
-  fills_own e ok y f v is = by (subst (λ (z : Event). Allowed s w z) is ok)
-    where
-      by : Allowed s w (Fill y f v) → is_private (of s w) y ≡ true
-      by ok = not-false (is_private (of s w) y) (second (outside 6 s.layout.nodes y || (is_edge f && nat_lt s.layout.nodes v)) (not (is_private (of s w) y)) NoSlot NotPrivate _ ok.event)
-
   -- what lasts of a slot that the worker does not hold
   pub lasting_stays : (e : Event) → Allowed s w e → (x : ℕ) → (is_private (of s w) x ≡ true → ⊥) → lasting (write s.memory (of s w) w e) x ≡ lasting s.memory x
   lasting_stays e ok x free = λ i. record { birth = same.birth i; key = same.key i; leaf = leaf (tree_change s h law w e ok) i }
@@ -102,7 +93,7 @@ module _ (s : State) (h : ℕ → ℕ) (law : Lawful s h) (w : ℕ) where
       m' = write s.memory (of s w) w e
 
       same : SameNode s.memory (write s.memory (of s w) w e) x
-      same = written_same s.memory (of s w) w e x (λ y f v is i. free (rw i (fills_own e ok y f v is)))
+      same = written_same s.memory (of s w) w e x (λ y f v is i. free (rw i (fill_checked s w e ok.event y f v is)))
 
       -- both edges lead where they led
       unmoved : child m' x Left ≡ child s.memory x Left → child m' x Right ≡ child s.memory x Right → is_leaf (node m' x) ≡ is_leaf (node s.memory x)
@@ -163,11 +154,12 @@ module _ (s : State) (h : ℕ → ℕ) (law : Lawful s h) (w : ℕ) where
       let from_root : GoesBy (child s.memory) (key s.memory) k 1 (Left ∷ Left ∷ q) = (at_root, (ap (λ (y : ℕ). side_of k (key s.memory y)) left ∙ at_second, subst (λ (y : ℕ). GoesBy (child s.memory) (key s.memory) k (child s.memory y Left) q) (sym left) goes)) in
       subst (λ (y : ℕ). W y (lasting s.memory y)) path (now (Left ∷ Left ∷ q) from_root (λ z. some (sym path ∙ z)))
 
-  pub look_each : (k : ℕ) (ws : List Arrival) (x : ℕ) (f : Field) → IsKey k → FixedKeys s.memory → WalkLaw s.layout.radix (child s.memory) (key s.memory) (knows (of s w)) k ws → (W : ℕ → Lasting → Type 0) → EachNow (child s.memory) (key s.memory) (lasting s.memory) k W
-      → ((i : ℕ) (a : Arrival) → slice_get ws i ≡ Some a → EachOnward (child s.memory) (key s.memory) (lasting s.memory) k W a.slot)
-      → (i : ℕ) (a : Arrival) → slice_get (walked k ws x f (reply_of s w (Look x f))) i ≡ Some a → EachOnward (child s.memory) (key s.memory) (lasting s.memory) k W a.slot
+  -- a look adds to the walks for k the slot behind slot 2's left edge, or the one below a slot from which a walk goes on
+  pub look_adds : (P : ℕ → Type 0) (k : ℕ) (ws : List Arrival) (x : ℕ) (f : Field) → WalkLaw s.layout.radix (child s.memory) (key s.memory) (knows (of s w)) k ws → P (child s.memory 2 Left)
+      → ((d : Side) → knows (of s w) x ≡ true → P x → side_of k (key s.memory x) ≡ d → P (child s.memory x d)) → ((i : ℕ) (a : Arrival) → slice_get ws i ≡ Some a → P a.slot)
+      → (i : ℕ) (a : Arrival) → slice_get (walked k ws x f (reply_of s w (Look x f))) i ≡ Some a → P a.slot
   unfolding reply
-  look_each k ws x f small fixed walks W now old = walked_each (EachOnward (child s.memory) (key s.memory) (lasting s.memory) k W) k ws x f (reply_of s w (Look x f)) old new
+  look_adds P k ws x f walks begins goes old = walked_each P k ws x f (reply_of s w (Look x f)) old new
     where
       at_edge : (d : Side) (e : Edge) → EdgeIs (edge s.memory x d) ≡ EdgeIs e → edge s.memory x d ≡ e
       at_edge d e h = cc
@@ -175,17 +167,22 @@ module _ (s : State) (h : ℕ → ℕ) (law : Lawful s h) (w : ℕ) where
       read : (f : Field) (d : Side) (e : Edge) → f ≡ EdgeOn d → reply_of s w (Look x f) ≡ EdgeIs e → child s.memory x d ≡ e.slot
       read f d e is r = ap (λ (y : Edge). y.slot) (at_edge d e (sym (ap (λ (g : Field). reply_of s w (Look x g)) is) ∙ r))
 
-      new : (d : Side) (e : Edge) → f ≡ EdgeOn d → reply_of s w (Look x f) ≡ EdgeIs e → (is_first x d ≡ true) ⊎ (list_any (goes_on k x d) ws ≡ true) → EachOnward (child s.memory) (key s.memory) (lasting s.memory) k W e.slot
-      new d e is r from = subst (EachOnward (child s.memory) (key s.memory) (lasting s.memory) k W) (read f d e is r) (go from)
+      new : (d : Side) (e : Edge) → f ≡ EdgeOn d → reply_of s w (Look x f) ≡ EdgeIs e → (is_first x d ≡ true) ⊎ (list_any (goes_on k x d) ws ≡ true) → P e.slot
+      new d e is r from = subst P (read f d e is r) (go from)
         where
-          go : (is_first x d ≡ true) ⊎ (list_any (goes_on k x d) ws ≡ true) → EachOnward (child s.memory) (key s.memory) (lasting s.memory) k W (child s.memory x d)
+          go : (is_first x d ≡ true) ⊎ (list_any (goes_on k x d) ws ≡ true) → P (child s.memory x d)
           go (inl root) =
               let parts = and_parts (x == 2) (is_side d Left) root in
-              rw (eqb-true x 2 parts.0, is_side-true d Left parts.1) (first_each k (omega (arith, small)) fixed W now)
+              rw (eqb-true x 2 parts.0, is_side-true d Left parts.1) begins
           go (inr any) =
               let b = any_at (goes_on k x d) ws any in
               let parts = and_parts (b.1.slot == x) (turns k b.1.key d) b.3 in
               let slot : b.1.slot ≡ x = eqb-true b.1.slot x parts.0 in
               let n = turned k b.1.key d parts.1 in
               let turn : side_of k (key s.memory x) ≡ d = ap (λ (y : ℕ). side_of k (key s.memory y)) (sym slot) ∙ (ap (side_of k) (walks.is_keyed b.0 b.1 n.0 b.2 n.1) ∙ n.2) in
-              λ q goes some. subst (EachOnward (child s.memory) (key s.memory) (lasting s.memory) k W) slot (old b.0 b.1 b.2) (d ∷ q) (turn, goes) some
+              goes d (subst (λ (y : ℕ). knows (of s w) y ≡ true) slot (walks.is_known b.0 b.1 b.2)) (subst P slot (old b.0 b.1 b.2)) turn
+
+  pub look_each : (k : ℕ) (ws : List Arrival) (x : ℕ) (f : Field) → IsKey k → FixedKeys s.memory → WalkLaw s.layout.radix (child s.memory) (key s.memory) (knows (of s w)) k ws → (W : ℕ → Lasting → Type 0) → EachNow (child s.memory) (key s.memory) (lasting s.memory) k W
+      → ((i : ℕ) (a : Arrival) → slice_get ws i ≡ Some a → EachOnward (child s.memory) (key s.memory) (lasting s.memory) k W a.slot)
+      → (i : ℕ) (a : Arrival) → slice_get (walked k ws x f (reply_of s w (Look x f))) i ≡ Some a → EachOnward (child s.memory) (key s.memory) (lasting s.memory) k W a.slot
+  look_each k ws x f small fixed walks W now = look_adds (EachOnward (child s.memory) (key s.memory) (lasting s.memory) k W) k ws x f walks (first_each k (omega (arith, small)) fixed W now) (λ d known each turn q goes some. each (d ∷ q) (turn, goes) some)

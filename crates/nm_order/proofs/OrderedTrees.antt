@@ -1,6 +1,6 @@
 -- Trees in order: each node's key lies in its interval, and searches from a slot that a search has
 -- come to. Both outlast a splice and a link.
-use Rattle.std.proofs.Common.{◌≡◌, ◌≢◌, ℕ, inl, inr, ◌⊎◌, eqb, Bool, true, false, ◌&&◌, List, [], ◌∷◌, ◌++◌, append-nil, append_assoc, refl, sym, ap, subst, ◌∙◌}
+use Rattle.std.proofs.Common.{◌≡◌, ◌≢◌, ℕ, inl, inr, ◌⊎◌, eqb, Bool, true, false, ◌&&◌, List, [], ◌∷◌, ◌++◌, append_assoc, refl, sym, ap, subst, ◌∙◌}
 use Rattle.std.specs.Prelude.{Option, Some, None}
 use Rattle.std.proofs.lemmas.Bool.{eqb-true, and_parts, ne_eqb, and_left}
 use Rattle.nm_edge.specs.Edges.{other}
@@ -9,7 +9,7 @@ use Rattle.nm_edge.specs.declared.edge.Side.TheVariants.{Left, Right}
 use Rattle.nm_model.specs.Paths.{follow}
 use Rattle.nm_model.specs.Searches.{side_of}
 use Rattle.nm_order.specs.Intervals.{GoesBy}
-use Rattle.nm_laws.proofs.Trees.{Children, Exchanged, rest_after, same_side, follow_none, follow-append, not_taken, taken, Taken, append_cancel}
+use Rattle.nm_laws.proofs.Trees.{Children, Exchanged, rest_after, same_side, follow_none, follow-append, not_taken, taken, Taken, no_longer}
 use Rattle.nm_laws.proofs.CutPaths.{Splicing, not_back, straight, new_down, old_path, led, still_alone}
 use Rattle.nm_order.proofs.Searching.{Keys, goes-append, goes_first, goes_on, goes_still, went_still, GoesOver, goes_over, on_way, Apart, apart_follow, apart_goes, apart_went}
 
@@ -93,9 +93,8 @@ module _ (c c' : Children) (v : Keys) (a : ℕ) (d : Side) (way : List Side) (g 
 -- ---- a link
 
 -- p, on the path front, leads by d to a slot; new, which no path comes to, is over that slot and the
--- new leaf far, each on its own side, as is all that stands below the slot. The searches for the
--- keys of new and far come to p, and go on by d
-pub record Linking (c c' : Children) (v : Keys) (p : ℕ) (d : Side) (leaf new far : ℕ) (dl : Side) : Type 0 where
+-- new leaf far
+pub record Grafting (c c' : Children) (p : ℕ) (d : Side) (leaf new far : ℕ) (dl : Side) : Type 0 where
   pub nothing : (e : Side) → c 0 e ≡ 0
   pub alone : (q r : List Side) → follow c 1 q ≢ 0 → follow c 1 q ≡ follow c 1 r → q ≡ r
   pub exchanged : Exchanged c c' p d new
@@ -110,10 +109,15 @@ pub record Linking (c c' : Children) (v : Keys) (p : ℕ) (d : Side) (leaf new f
   pub off_new : (q : List Side) → follow c 1 q ≡ new → ⊥
   pub off_far : (q : List Side) → follow c 1 q ≡ far → ⊥
   pub apart : new ≢ far
+
+-- and far and all that stands below the slot are each on their own side of new. The searches for the
+-- keys of new and far come to p, and go on by d
+pub record Linking (c c' : Children) (v : Keys) (p : ℕ) (d : Side) (leaf new far : ℕ) (dl : Side) : Type 0 where
+  pub graft : Grafting c c' p d leaf new far dl
   pub old_side : (u : List Side) → follow c leaf u ≢ 0 → side_of (v (follow c leaf u)) (v new) ≡ dl
   pub far_side : side_of (v far) (v new) ≡ other dl
-  pub new_goes : GoesBy c v (v new) 1 (front ++ d ∷ [])
-  pub far_goes : GoesBy c v (v far) 1 (front ++ d ∷ [])
+  pub new_goes : GoesBy c v (v new) 1 (graft.front ++ d ∷ [])
+  pub far_goes : GoesBy c v (v far) 1 (graft.front ++ d ∷ [])
 
 pub one_or_other : (e d : Side) → (e ≡ d) ⊎ (e ≡ other d)
 one_or_other Left Left = inl refl
@@ -123,68 +127,62 @@ one_or_other Right Right = inl refl
 
 module _ (c c' : Children) (v : Keys) (p : ℕ) (d : Side) (leaf new far : ℕ) (dl : Side) (l : Linking c c' v p d leaf new far dl) where
   null_still : (e : Side) → c' 0 e ≡ 0
-  null_still e = unless_at c c' p d new 0 e l.exchanged (λ z. l.is_slot (sym z)) ∙ l.nothing e
+  null_still e = unless_at c c' p d new 0 e l.graft.exchanged (λ z. l.graft.is_slot (sym z)) ∙ l.graft.nothing e
 
   -- a slot without children is not p
   not_p : (x : ℕ) → ((f : Side) → c x f ≡ 0) → x ≢ p
-  not_p x none e = l.leaf_slot (sym l.leads ∙ (ap (λ (y : ℕ). c y d) (sym e) ∙ none d))
+  not_p x none e = l.graft.leaf_slot (sym l.graft.leads ∙ (ap (λ (y : ℕ). c y d) (sym e) ∙ none d))
 
   -- paths by p's edge, of which none comes back to p
-  pub down : (u : List Side) → follow c 1 (l.front ++ d ∷ u) ≡ follow c leaf u
-  down u = follow-append c 1 l.front (d ∷ u) ∙ ap (λ (y : ℕ). follow c y u) (ap (λ (y : ℕ). c y d) l.at_front ∙ l.leads)
-
-  longer : (q u : List Side) → q ≡ q ++ d ∷ u → ⊥
-  longer q u h = nil (append_cancel q [] (d ∷ u) (append-nil q ∙ h))
-    where
-      nil : [] ≡ d ∷ u → ⊥
-      nil h = cc
+  pub down : (u : List Side) → follow c 1 (l.graft.front ++ d ∷ u) ≡ follow c leaf u
+  down u = follow-append c 1 l.graft.front (d ∷ u) ∙ ap (λ (y : ℕ). follow c y u) (ap (λ (y : ℕ). c y d) l.graft.at_front ∙ l.graft.leads)
 
   pub never_back : (u : List Side) → follow c leaf u ≡ p → ⊥
-  never_back u h = longer l.front u (l.alone l.front (l.front ++ d ∷ u) (λ z. l.is_slot (sym l.at_front ∙ z)) (l.at_front ∙ sym (down u ∙ h)))
+  never_back u h = no_longer d l.graft.front u (l.graft.alone l.graft.front (l.graft.front ++ d ∷ u) (λ z. l.graft.is_slot (sym l.graft.at_front ∙ z)) (l.graft.at_front ∙ sym (down u ∙ h)))
 
   below_straight : (u : List Side) → rest_after c p d leaf u ≡ None
   below_straight u = go (rest_after c p d leaf u) refl
     where
       go : (o : Option (List Side)) → rest_after c p d leaf u ≡ o → o ≡ None
       go None h = refl
-      go (Some r) h = let t = taken c c' p d new l.exchanged leaf u r h in absurd (never_back t.front t.comes)
+      go (Some r) h = let t = taken c c' p d new l.graft.exchanged leaf u r h in absurd (never_back t.front t.comes)
 
   under_leaf : (u : List Side) → follow c' leaf u ≡ follow c leaf u
-  under_leaf u = not_taken c c' p d new l.exchanged leaf u (below_straight u)
+  under_leaf u = not_taken c c' p d new l.graft.exchanged leaf u (below_straight u)
 
   pub new_still : (e : Side) → c' new e ≡ c new e
-  new_still e = unless_at c c' p d new new e l.exchanged (λ i. l.off_new l.front (l.at_front ∙ sym i))
+  new_still e = unless_at c c' p d new new e l.graft.exchanged (λ i. l.graft.off_new l.graft.front (l.graft.at_front ∙ sym i))
 
   pub far_still : (f : Side) → c' far f ≡ 0
-  far_still f = unless_at c c' p d new far f l.exchanged (not_p far l.far_null) ∙ l.far_null f
+  far_still f = unless_at c c' p d new far f l.graft.exchanged (not_p far l.graft.far_null) ∙ l.graft.far_null f
 
-  pub front_is_it : (front : List Side) → follow c 1 front ≡ p → l.front ≡ front
-  front_is_it front at = l.alone l.front front (λ z. l.is_slot (sym l.at_front ∙ z)) (l.at_front ∙ sym at)
+  pub front_is_it : (front : List Side) → follow c 1 front ≡ p → l.graft.front ≡ front
+  front_is_it front at = l.graft.alone l.graft.front front (λ z. l.graft.is_slot (sym l.graft.at_front ∙ z)) (l.graft.at_front ∙ sym at)
 
   -- nor does the path to p take the edge
-  straight_to : rest_after c p d 1 l.front ≡ None
-  straight_to = go (rest_after c p d 1 l.front) refl
+  straight_to : rest_after c p d 1 l.graft.front ≡ None
+  straight_to = go (rest_after c p d 1 l.graft.front) refl
     where
-      go : (o : Option (List Side)) → rest_after c p d 1 l.front ≡ o → o ≡ None
+      go : (o : Option (List Side)) → rest_after c p d 1 l.graft.front ≡ o → o ≡ None
       go None h = refl
       go (Some r) h =
-          let t = taken c c' p d new l.exchanged 1 l.front r h in
-          let same : l.front ≡ t.front = front_is_it t.front t.comes in
-          absurd (longer l.front r (t.is ∙ ap (λ (y : List Side). y ++ d ∷ r) (sym same)))
+          let t = taken c c' p d new l.graft.exchanged 1 l.graft.front r h in
+          let same : l.graft.front ≡ t.front = front_is_it t.front t.comes in
+          absurd (no_longer d l.graft.front r (t.is ∙ ap (λ (y : List Side). y ++ d ∷ r) (sym same)))
 
-  at_p : follow c' 1 l.front ≡ p
-  at_p = not_taken c c' p d new l.exchanged 1 l.front straight_to ∙ l.at_front
+  at_p : follow c' 1 l.graft.front ≡ p
+  at_p = not_taken c c' p d new l.graft.exchanged 1 l.graft.front straight_to ∙ l.graft.at_front
 
-  pub leads_on : (r : List Side) → follow c' 1 (l.front ++ d ∷ r) ≡ follow c' new r
-  leads_on r = follow-append c' 1 l.front (d ∷ r) ∙ ap (λ (y : ℕ). follow c' y r) (ap (λ (y : ℕ). c' y d) at_p ∙ l.exchanged.here)
+  pub leads_on : (r : List Side) → follow c' 1 (l.graft.front ++ d ∷ r) ≡ follow c' new r
+  leads_on r = follow-append c' 1 l.graft.front (d ∷ r) ∙ ap (λ (y : ℕ). follow c' y r) (ap (λ (y : ℕ). c' y d) at_p ∙ l.graft.exchanged.here)
 
   -- a search that came to p and went on by d goes on from the new node
-  into : (k : ℕ) (r : List Side) → GoesBy c v k 1 (l.front ++ d ∷ []) → GoesBy c' v k new r → GoesBy c' v k 1 (l.front ++ d ∷ r)
+  into : (k : ℕ) (r : List Side) → GoesBy c v k 1 (l.graft.front ++ d ∷ []) → GoesBy c' v k new r → GoesBy c' v k 1 (l.graft.front ++ d ∷ r)
   into k r to_edge rest =
-      let first : GoesBy c v k 1 l.front = goes_first c v k 1 l.front (d ∷ []) to_edge in
-      let turn : side_of k (v p) ≡ d = ap (λ (y : ℕ). side_of k (v y)) (sym l.at_front) ∙ (goes_on c v k 1 l.front (d ∷ []) to_edge).0 in
-      goes-append c' v k 1 l.front (d ∷ r) (goes_still c c' v p d new l.exchanged k 1 l.front straight_to first)
-      (ap (λ (y : ℕ). side_of k (v y)) at_p ∙ turn, subst (λ (y : ℕ). GoesBy c' v k y r) (sym (ap (λ (y : ℕ). c' y d) at_p ∙ l.exchanged.here)) rest)
+      let first : GoesBy c v k 1 l.graft.front = goes_first c v k 1 l.graft.front (d ∷ []) to_edge in
+      let turn : side_of k (v p) ≡ d = ap (λ (y : ℕ). side_of k (v y)) (sym l.graft.at_front) ∙ (goes_on c v k 1 l.graft.front (d ∷ []) to_edge).0 in
+      goes-append c' v k 1 l.graft.front (d ∷ r) (goes_still c c' v p d new l.graft.exchanged k 1 l.graft.front straight_to first)
+      (ap (λ (y : ℕ). side_of k (v y)) at_p ∙ turn, subst (λ (y : ℕ). GoesBy c' v k y r) (sym (ap (λ (y : ℕ). c' y d) at_p ∙ l.graft.exchanged.here)) rest)
 
   -- what stands below the new node
   pub data Below (r : List Side) : Type 0 where
@@ -198,39 +196,39 @@ module _ (c c' : Children) (v : Keys) (p : ℕ) (d : Side) (leaf new far : ℕ) 
     where
       ends : (r : List Side) → e ≡ other dl → follow c' (c' new e) r ≢ 0 → r ≡ []
       ends [] i there = refl
-      ends (f ∷ r) i there = absurd (there (ap (λ (z : ℕ). follow c' (c' z f) r) (new_still e ∙ (ap (c new) i ∙ l.over_far)) ∙ (ap (λ (z : ℕ). follow c' z r) (far_still f) ∙ follow_none c' null_still r)))
+      ends (f ∷ r) i there = absurd (there (ap (λ (z : ℕ). follow c' (c' z f) r) (new_still e ∙ (ap (c new) i ∙ l.graft.over_far)) ∙ (ap (λ (z : ℕ). follow c' z r) (far_still f) ∙ follow_none c' null_still r)))
 
       go : (e ≡ dl) ⊎ (e ≡ other dl) → Below (e ∷ r)
       go (inl i) = Old r (ap (λ (y : Side). y ∷ r) i)
       go (inr i) = New (ap (λ (y : List Side). e ∷ y) (ends r i there) ∙ ap (λ (y : Side). y ∷ []) i)
 
   pub at_leaf : (u : List Side) → follow c' new (dl ∷ u) ≡ follow c leaf u
-  at_leaf u = ap (λ (y : ℕ). follow c' y u) (new_still dl ∙ l.over_leaf) ∙ under_leaf u
+  at_leaf u = ap (λ (y : ℕ). follow c' y u) (new_still dl ∙ l.graft.over_leaf) ∙ under_leaf u
 
   pub at_far : follow c' new (other dl ∷ []) ≡ far
-  at_far = new_still (other dl) ∙ l.over_far
+  at_far = new_still (other dl) ∙ l.graft.over_far
 
   module _ (order : InOrder c v) where
     -- what stood below p's edge stands below the new node
-    old_goes : (u : List Side) → follow c leaf u ≢ 0 → GoesBy c' v (v (follow c leaf u)) 1 (l.front ++ d ∷ dl ∷ u)
-    old_goes u some = into (v (follow c leaf u)) (dl ∷ u) (goes_first c v (v (follow c leaf u)) 1 (l.front ++ d ∷ []) u whole) (
+    old_goes : (u : List Side) → follow c leaf u ≢ 0 → GoesBy c' v (v (follow c leaf u)) 1 (l.graft.front ++ d ∷ dl ∷ u)
+    old_goes u some = into (v (follow c leaf u)) (dl ∷ u) (goes_first c v (v (follow c leaf u)) 1 (l.graft.front ++ d ∷ []) u whole) (
       l.old_side u some,
-      subst (λ (y : ℕ). GoesBy c' v (v (follow c leaf u)) y u) (sym (new_still dl ∙ l.over_leaf)) (goes_still c c' v p d new l.exchanged (v (follow c leaf u)) leaf u (below_straight u) rest),
+      subst (λ (y : ℕ). GoesBy c' v (v (follow c leaf u)) y u) (sym (new_still dl ∙ l.graft.over_leaf)) (goes_still c c' v p d new l.graft.exchanged (v (follow c leaf u)) leaf u (below_straight u) rest),
     )
       where
         k : ℕ
         k = v (follow c leaf u)
 
-        goes : GoesBy c v (v (follow c leaf u)) 1 (l.front ++ d ∷ u)
-        goes = subst (λ (y : ℕ). GoesBy c v (v y) 1 (l.front ++ d ∷ u)) (down u) (order (l.front ++ d ∷ u) (λ z. some (sym (down u) ∙ z)))
+        goes : GoesBy c v (v (follow c leaf u)) 1 (l.graft.front ++ d ∷ u)
+        goes = subst (λ (y : ℕ). GoesBy c v (v y) 1 (l.graft.front ++ d ∷ u)) (down u) (order (l.graft.front ++ d ∷ u) (λ z. some (sym (down u) ∙ z)))
 
-        whole : GoesBy c v (v (follow c leaf u)) 1 ((l.front ++ d ∷ []) ++ u)
-        whole = subst (λ (q : List Side). GoesBy c v (v (follow c leaf u)) 1 q) (sym (append_assoc l.front (d ∷ []) u)) goes
+        whole : GoesBy c v (v (follow c leaf u)) 1 ((l.graft.front ++ d ∷ []) ++ u)
+        whole = subst (λ (q : List Side). GoesBy c v (v (follow c leaf u)) 1 q) (sym (append_assoc l.graft.front (d ∷ []) u)) goes
 
         rest : GoesBy c v (v (follow c leaf u)) leaf u
-        rest = subst (λ (y : ℕ). GoesBy c v (v (follow c leaf u)) y u) (down []) (goes_on c v (v (follow c leaf u)) 1 (l.front ++ d ∷ []) u whole)
+        rest = subst (λ (y : ℕ). GoesBy c v (v (follow c leaf u)) y u) (down []) (goes_on c v (v (follow c leaf u)) 1 (l.graft.front ++ d ∷ []) u whole)
 
-    below_in_order : (r : List Side) → follow c' new r ≢ 0 → Below r → GoesBy c' v (v (follow c' new r)) 1 (l.front ++ d ∷ r)
+    below_in_order : (r : List Side) → follow c' new r ≢ 0 → Below r → GoesBy c' v (v (follow c' new r)) 1 (l.graft.front ++ d ∷ r)
     below_in_order r there (Itself is) = rw is (into (v new) [] l.new_goes tt)
     below_in_order r there (Old u is) =
         let ends : follow c' new r ≡ follow c leaf u = ap (follow c' new) is ∙ at_leaf u in
@@ -242,35 +240,35 @@ module _ (c c' : Children) (v : Keys) (p : ℕ) (d : Side) (leaf new far : ℕ) 
       where
         go : (o : Option (List Side)) → rest_after c p d 1 q ≡ o → GoesBy c' v (v (follow c' 1 q)) 1 q
         go None h =
-            let was : follow c' 1 q ≡ follow c 1 q = not_taken c c' p d new l.exchanged 1 q h in
-            goes_still c c' v p d new l.exchanged (v (follow c' 1 q)) 1 q h (rw was (order q (rw (← was) there)))
+            let was : follow c' 1 q ≡ follow c 1 q = not_taken c c' p d new l.graft.exchanged 1 q h in
+            goes_still c c' v p d new l.graft.exchanged (v (follow c' 1 q)) 1 q h (rw was (order q (rw (← was) there)))
         go (Some r) h =
-            let t = taken c c' p d new l.exchanged 1 q r h in
-            let path : q ≡ l.front ++ d ∷ r = t.is ∙ ap (λ (y : List Side). y ++ d ∷ r) (sym (front_is_it t.front t.comes)) in
+            let t = taken c c' p d new l.graft.exchanged 1 q r h in
+            let path : q ≡ l.graft.front ++ d ∷ r = t.is ∙ ap (λ (y : List Side). y ++ d ∷ r) (sym (front_is_it t.front t.comes)) in
             let ends : follow c' 1 q ≡ follow c' new r = ap (follow c' 1) path ∙ leads_on r in
             rw (ends, path) (below_in_order r (rw (← ends) there) (below_new r (rw (← ends) there)))
 
   -- the path to the new node is the only one to it
-  path_to_new : (r : List Side) → follow c' 1 r ≡ new → new ≢ 0 → r ≡ l.front ++ d ∷ []
+  path_to_new : (r : List Side) → follow c' 1 r ≡ new → new ≢ 0 → r ≡ l.graft.front ++ d ∷ []
   path_to_new r at some = go (rest_after c p d 1 r) refl
     where
-      go : (o : Option (List Side)) → rest_after c p d 1 r ≡ o → r ≡ l.front ++ d ∷ []
-      go None h = absurd (l.off_new r (sym (not_taken c c' p d new l.exchanged 1 r h) ∙ at))
+      go : (o : Option (List Side)) → rest_after c p d 1 r ≡ o → r ≡ l.graft.front ++ d ∷ []
+      go None h = absurd (l.graft.off_new r (sym (not_taken c c' p d new l.graft.exchanged 1 r h) ∙ at))
       go (Some q) h = by (below_new q (λ z. some (sym ends ∙ z)))
         where
           t : Taken c c' p d new 1 r q
-          t = taken c c' p d new l.exchanged 1 r q h
+          t = taken c c' p d new l.graft.exchanged 1 r q h
 
-          path : r ≡ l.front ++ d ∷ q
+          path : r ≡ l.graft.front ++ d ∷ q
           path = t.is ∙ ap (λ (y : List Side). y ++ d ∷ q) (sym (front_is_it t.front t.comes))
 
           ends : follow c' new q ≡ new
           ends = sym (leads_on q) ∙ (sym (ap (follow c' 1) path) ∙ at)
 
-          by : Below q → r ≡ l.front ++ d ∷ []
-          by (Itself is) = path ∙ ap (λ (y : List Side). l.front ++ d ∷ y) is
-          by (Old u is) = absurd (l.off_new (l.front ++ d ∷ u) (down u ∙ (sym (at_leaf u) ∙ (ap (follow c' new) (sym is) ∙ ends))))
-          by (New is) = absurd (l.apart (sym ends ∙ (ap (follow c' new) is ∙ at_far)))
+          by : Below q → r ≡ l.graft.front ++ d ∷ []
+          by (Itself is) = path ∙ ap (λ (y : List Side). l.graft.front ++ d ∷ y) is
+          by (Old u is) = absurd (l.graft.off_new (l.graft.front ++ d ∷ u) (down u ∙ (sym (at_leaf u) ∙ (ap (follow c' new) (sym is) ∙ ends))))
+          by (New is) = absurd (l.graft.apart (sym ends ∙ (ap (follow c' new) is ∙ at_far)))
 
   -- over a leaf alone
   pub onward_linked : ((f : Side) → c leaf f ≡ 0) → (k z : ℕ) → new ≢ 0 → ((q : List Side) → follow c z q ≡ new → ⊥) → Onward c v k z → Onward c' v k z
@@ -281,8 +279,8 @@ module _ (c c' : Children) (v : Keys) (p : ℕ) (d : Side) (leaf new far : ℕ) 
 
       -- below the leaf there is nothing
       childless : (u : List Side) (y : ℕ) → follow c leaf u ≡ y → c' y f ≡ 0
-      childless [] y is = ap (λ (x : ℕ). c' x f) (sym is) ∙ (unless_at c c' p d new leaf f l.exchanged (not_p leaf leaf_null) ∙ leaf_null f)
-      childless (e ∷ u) y is = ap (λ (x : ℕ). c' x f) (sym is ∙ (ap (λ (x : ℕ). follow c x u) (leaf_null e) ∙ follow_none c l.nothing u)) ∙ null_still f
+      childless [] y is = ap (λ (x : ℕ). c' x f) (sym is) ∙ (unless_at c c' p d new leaf f l.graft.exchanged (not_p leaf leaf_null) ∙ leaf_null f)
+      childless (e ∷ u) y is = ap (λ (x : ℕ). c' x f) (sym is ∙ (ap (λ (x : ℕ). follow c x u) (leaf_null e) ∙ follow_none c l.graft.nothing u)) ∙ null_still f
 
       -- it is the new node, or another that was reached
       reached_by : (y : ℕ) → follow c' 1 r ≡ y → c' y f ≢ 0 → y ≢ new → (rest_after c p d 1 r ≡ None)
@@ -293,7 +291,7 @@ module _ (c c' : Children) (v : Keys) (p : ℕ) (d : Side) (leaf new far : ℕ) 
           by (Some t) h = absurd (on (below_new t (λ e. some_slot (ends ∙ e))))
             where
               ends : follow c' 1 r ≡ follow c' new t
-              ends = (taken c c' p d new l.exchanged 1 r t h).leads
+              ends = (taken c c' p d new l.graft.exchanged 1 r t h).leads
 
               on : Below t → ⊥
               on (Itself is) = ne (sym at ∙ (ends ∙ ap (follow c' new) is))
@@ -302,22 +300,22 @@ module _ (c c' : Children) (v : Keys) (p : ℕ) (d : Side) (leaf new far : ℕ) 
 
       go : (o : Option (List Side)) → rest_after c p d z q ≡ o → GoesBy c' v k 1 r
       go None h =
-          let still : follow c' z q ≡ follow c z q = not_taken c c' p d new l.exchanged z q h in
-          let child = had_child c c' p d new l.exchanged (λ e. l.leaf_slot (sym l.leads ∙ e)) (follow c z q) f (λ e. there (ap (λ (y : ℕ). c' y f) still ∙ e)) in
+          let still : follow c' z q ≡ follow c z q = not_taken c c' p d new l.graft.exchanged z q h in
+          let child = had_child c c' p d new l.graft.exchanged (λ e. l.graft.leaf_slot (sym l.graft.leads ∙ e)) (follow c z q) f (λ e. there (ap (λ (y : ℕ). c' y f) still ∙ e)) in
           let none = reached_by (follow c' z q) same there (λ e. off q (sym still ∙ e)) in
-          goes_still c c' v p d new l.exchanged k 1 r none (onward q r child.0 (went_still c c' v p d new l.exchanged k z q h goes) child.1 (sym (not_taken c c' p d new l.exchanged 1 r none) ∙ (same ∙ still)))
+          goes_still c c' v p d new l.graft.exchanged k 1 r none (onward q r child.0 (went_still c c' v p d new l.graft.exchanged k z q h goes) child.1 (sym (not_taken c c' p d new l.graft.exchanged 1 r none) ∙ (same ∙ still)))
       go (Some rest) h = by (below_new rest (λ e. some_slot (same ∙ (over.ends ∙ e))))
         where
-          over : GoesOver c c' v p d new l.exchanged k z q rest
-          over = goes_over c c' v p d new l.exchanged k z q rest h goes
+          over : GoesOver c c' v p d new l.graft.exchanged k z q rest
+          over = goes_over c c' v p d new l.graft.exchanged k z q rest h goes
 
-          to_p : GoesBy c v k 1 l.front
-          to_p = onward over.front l.front d over.goes (λ e. l.leaf_slot (sym l.leads ∙ (ap (λ (y : ℕ). c y d) (sym over.comes) ∙ e))) (l.at_front ∙ sym over.comes)
+          to_p : GoesBy c v k 1 l.graft.front
+          to_p = onward over.front l.graft.front d over.goes (λ e. l.graft.leaf_slot (sym l.graft.leads ∙ (ap (λ (y : ℕ). c y d) (sym over.comes) ∙ e))) (l.graft.at_front ∙ sym over.comes)
 
           by : Below rest → GoesBy c' v k 1 r
           by (Itself is) =
               let at : follow c' 1 r ≡ new = same ∙ (over.ends ∙ ap (follow c' new) is) in
-              rw (path_to_new r at some) (into k [] (goes-append c v k 1 l.front (d ∷ []) to_p (ap (λ (y : ℕ). side_of k (v y)) l.at_front ∙ over.turns, tt)) tt)
+              rw (path_to_new r at some) (into k [] (goes-append c v k 1 l.graft.front (d ∷ []) to_p (ap (λ (y : ℕ). side_of k (v y)) l.graft.at_front ∙ over.turns, tt)) tt)
           by (Old u is) = absurd (there (childless u (follow c' z q) (sym (over.ends ∙ (ap (follow c' new) is ∙ at_leaf u)))))
           by (New is) = absurd (there (ap (λ (x : ℕ). c' x f) (over.ends ∙ (ap (follow c' new) is ∙ at_far)) ∙ far_still f))
 
@@ -350,7 +348,7 @@ module _ (c c' : Children) (v : Keys) (p : ℕ) (d : Side) (leaf new far : ℕ) 
   -- the new leaf is under the new node
   pub new_leaf : LeafOf c' far
   new_leaf = record {
-    path = l.front ++ d ∷ other dl ∷ [];
+    path = l.graft.front ++ d ∷ other dl ∷ [];
     ends = leads_on c c' v p d leaf new far dl l (other dl ∷ []) ∙ at_far c c' v p d leaf new far dl l;
     is_slot = far_slot;
     null = far_still c c' v p d leaf new far dl l;
@@ -363,52 +361,52 @@ module _ (c c' : Children) (v : Keys) (p : ℕ) (d : Side) (leaf new far : ℕ) 
       go : (o : Option (List Side)) → rest_after c p d 1 was.path ≡ o → LeafOf c' x
       go None h = record {
         path = was.path;
-        ends = not_taken c c' p d new l.exchanged 1 was.path h ∙ was.ends;
+        ends = not_taken c c' p d new l.graft.exchanged 1 was.path h ∙ was.ends;
         is_slot = was.is_slot;
-        null = λ f. unless_at c c' p d new x f l.exchanged (not_p c c' v p d leaf new far dl l x was.null) ∙ was.null f;
+        null = λ f. unless_at c c' p d new x f l.graft.exchanged (not_p c c' v p d leaf new far dl l x was.null) ∙ was.null f;
       }
       go (Some r) h = record {
-        path = l.front ++ d ∷ dl ∷ r;
+        path = l.graft.front ++ d ∷ dl ∷ r;
         ends = leads_on c c' v p d leaf new far dl l (dl ∷ r) ∙ (at_leaf c c' v p d leaf new far dl l r ∙ ends);
         is_slot = was.is_slot;
-        null = λ f. unless_at c c' p d new x f l.exchanged (not_p c c' v p d leaf new far dl l x was.null) ∙ was.null f;
+        null = λ f. unless_at c c' p d new x f l.graft.exchanged (not_p c c' v p d leaf new far dl l x was.null) ∙ was.null f;
       }
         where
           t : Taken c c' p d new 1 was.path r
-          t = taken c c' p d new l.exchanged 1 was.path r h
+          t = taken c c' p d new l.graft.exchanged 1 was.path r h
 
           ends : follow c leaf r ≡ x
-          ends = ap (λ (y : ℕ). follow c y r) (sym (ap (λ (y : ℕ). c y d) t.comes ∙ l.leads)) ∙ (sym (follow-append c 1 t.front (d ∷ r)) ∙ (sym (ap (follow c 1) t.is) ∙ was.ends))
+          ends = ap (λ (y : ℕ). follow c y r) (sym (ap (λ (y : ℕ). c y d) t.comes ∙ l.graft.leads)) ∙ (sym (follow-append c 1 t.front (d ∷ r)) ∙ (sym (ap (follow c 1) t.is) ∙ was.ends))
 
   -- a leaf was one, but for the new one
   pub leaf_was : (x : ℕ) → LeafOf c' x → LeafOf c x ⊎ (x ≡ far)
   leaf_was x now = go (rest_after c p d 1 now.path) refl
     where
       back : (y : ℕ) → y ≢ p → (f : Side) → c' y f ≡ 0 → c y f ≡ 0
-      back y ne f none = sym (unless_at c c' p d new y f l.exchanged ne) ∙ none
+      back y ne f none = sym (unless_at c c' p d new y f l.graft.exchanged ne) ∙ none
 
       apart : x ≢ p
-      apart e = some (sym l.exchanged.here ∙ (ap (λ (y : ℕ). c' y d) (sym e) ∙ now.null d))
+      apart e = some (sym l.graft.exchanged.here ∙ (ap (λ (y : ℕ). c' y d) (sym e) ∙ now.null d))
 
       go : (o : Option (List Side)) → rest_after c p d 1 now.path ≡ o → LeafOf c x ⊎ (x ≡ far)
       go None h = inl (record {
         path = now.path;
-        ends = sym (not_taken c c' p d new l.exchanged 1 now.path h) ∙ now.ends;
+        ends = sym (not_taken c c' p d new l.graft.exchanged 1 now.path h) ∙ now.ends;
         is_slot = now.is_slot;
         null = λ f. back x apart f (now.null f);
       })
       go (Some r) h = by (below_new c c' v p d leaf new far dl l r (λ z. now.is_slot (sym now.ends ∙ (ends ∙ z))))
         where
           ends : follow c' 1 now.path ≡ follow c' new r
-          ends = (taken c c' p d new l.exchanged 1 now.path r h).leads
+          ends = (taken c c' p d new l.graft.exchanged 1 now.path r h).leads
 
           by : Below c c' v p d leaf new far dl l r → LeafOf c x ⊎ (x ≡ far)
           by (Itself is) =
               let here : x ≡ new = sym now.ends ∙ (ends ∙ ap (follow c' new) is) in
-              absurd (l.leaf_slot (sym l.over_leaf ∙ (sym (new_still c c' v p d leaf new far dl l dl) ∙ (ap (λ (y : ℕ). c' y dl) (sym here) ∙ now.null dl))))
+              absurd (l.graft.leaf_slot (sym l.graft.over_leaf ∙ (sym (new_still c c' v p d leaf new far dl l dl) ∙ (ap (λ (y : ℕ). c' y dl) (sym here) ∙ now.null dl))))
           by (Old u is) =
               let here : follow c leaf u ≡ x = sym (sym now.ends ∙ (ends ∙ (ap (follow c' new) is ∙ at_leaf c c' v p d leaf new far dl l u))) in
-              inl (record { path = l.front ++ d ∷ u; ends = down c c' v p d leaf new far dl l u ∙ here; is_slot = now.is_slot; null = λ f. back x apart f (now.null f) })
+              inl (record { path = l.graft.front ++ d ∷ u; ends = down c c' v p d leaf new far dl l u ∙ here; is_slot = now.is_slot; null = λ f. back x apart f (now.null f) })
           by (New is) = inr (sym now.ends ∙ (ends ∙ (ap (follow c' new) is ∙ at_far c c' v p d leaf new far dl l)))
 
   -- the new leaf's key was no leaf's
@@ -418,11 +416,11 @@ module _ (c c' : Children) (v : Keys) (p : ℕ) (d : Side) (leaf new far : ℕ) 
       to_x : GoesBy c v (v far) 1 was.path
       to_x = subst (λ (n : ℕ). GoesBy c v n 1 was.path) (ap v was.ends ∙ same) (order was.path (λ z. was.is_slot (sym was.ends ∙ z)))
 
-      on : (u : List Side) × (was.path ≡ (l.front ++ d ∷ []) ++ u)
-      on = on_way c l.nothing v (v far) 1 was.path (l.front ++ d ∷ []) to_x l.far_goes (rw was.ends was.null) (λ z. l.leaf_slot (sym (down c c' v p d leaf new far dl l []) ∙ z))
+      on : (u : List Side) × (was.path ≡ (l.graft.front ++ d ∷ []) ++ u)
+      on = on_way c l.graft.nothing v (v far) 1 was.path (l.graft.front ++ d ∷ []) to_x l.far_goes (rw was.ends was.null) (λ z. l.graft.leaf_slot (sym (down c c' v p d leaf new far dl l []) ∙ z))
 
       here : follow c leaf on.0 ≡ x
-      here = sym (down c c' v p d leaf new far dl l on.0) ∙ (ap (follow c 1) (sym (append_assoc l.front (d ∷ []) on.0) ∙ sym on.1) ∙ was.ends)
+      here = sym (down c c' v p d leaf new far dl l on.0) ∙ (ap (follow c 1) (sym (append_assoc l.graft.front (d ∷ []) on.0) ∙ sym on.1) ∙ was.ends)
 
       sides : (e : Side) → e ≡ other e → ⊥
       sides Left h = cc

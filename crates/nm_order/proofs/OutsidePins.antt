@@ -8,13 +8,12 @@ use Rattle.nm_edge.specs.Layouts.{Layout}
 use Rattle.nm_model.specs.declared.event.Event.{Event}
 use Rattle.nm_model.specs.declared.event.Event.TheVariants.{Sight, SightFor, Announce, Leave, LeaveWith, Scan, Advance, Claim, Give, Look, Fill, Link, Flag, Tag, Splice, Join}
 use Rattle.nm_model.specs.declared.event.Field.{Field}
-use Rattle.nm_model.specs.declared.event.Field.TheVariants.{Edge as EdgeOn, Birth}
 use Rattle.nm_model.specs.declared.reply.Reply.{Reply}
-use Rattle.nm_model.specs.declared.reply.Reply.TheVariants.{Saw, Labelled, Pinned, Missed, Announced, Departed, Idle, In, Moved, Behind, Claimed, Returned, Freed, BirthIs, EdgeIs, Filled, Was, Joined}
+use Rattle.nm_model.specs.declared.reply.Reply.TheVariants.{Saw, Labelled, Pinned, Missed, Announced, Departed, Moved, Behind, Claimed, Returned, Freed, Filled, Was, Joined}
 use Rattle.nm_model.specs.declared.arrivals.Call.{Call}
 use Rattle.nm_model.specs.declared.knowledge.Brief.{Brief}
-use Rattle.nm_model.specs.Knowledge.{Knowledge, is_private}
-use Rattle.nm_model.specs.Learning.{learn, learn_sight, learn_scan, look_private, look_known, resigned, inheriting}
+use Rattle.nm_model.specs.Knowledge.{Knowledge}
+use Rattle.nm_model.specs.Learning.{learn, learn_sight, learn_scan, resigned, inheriting}
 use Rattle.nm_model.specs.Memory.{Memory}
 use Rattle.nm_model.specs.Runs.{State, of, refusal_of}
 use Rattle.nm_model.specs.Searches.{Search, idle, searched, begun, look_for}
@@ -23,6 +22,7 @@ use Rattle.nm_model.specs.Walks.{Entry, search_after}
 use Rattle.nm_laws.proofs.Epochs.{alike_link, alike_flag, alike_tag, alike_splice}
 use Rattle.nm_laws.proofs.Steps.{allowed, passed, second}
 use Rattle.nm_laws.proofs.Configurations.{allowed_by_state}
+use Rattle.nm_laws.proofs.Learned.{scan_teaches, look_teaches}
 use Rattle.nm_order.specs.Logs.{known_by, IsLogOf}
 use Rattle.nm_order.specs.Unpinned.{HasNoCall, UnpinnedWorkersHaveNoCall}
 use Rattle.nm_order.proofs.LastEntries.{known_more, search_more, PartOf, LastEntry, last_entry}
@@ -45,24 +45,6 @@ after_sight k s call _ law = law
 same_brief : (k l : Knowledge) (s : Search) → l.brief ≡ k.brief → Law k s → Law l s
 same_brief k l s same law = λ pin. let had = law (sym (ap (λ (b : Brief). b.pin) same) ∙ pin) in record { labelled = ap (λ (b : Brief). b.unlabelled) same ∙ had.labelled; idle = had.idle }
 
-pub brief_scan : (k : Knowledge) (u : ℕ) (r : Reply) → (learn_scan k u r).brief ≡ k.brief
-brief_scan k u Idle = refl
-brief_scan k u (In e) = refl
-brief_scan k u _ = refl
-
-pub brief_look_private : (k : Knowledge) (x : ℕ) (f : Field) (r : Reply) → (look_private k x f r).brief ≡ k.brief
-brief_look_private k x Birth (BirthIs b) = refl
-brief_look_private k x _ _ = refl
-
-pub brief_look_known : (k : Knowledge) (x : ℕ) (f : Field) (r : Reply) → (look_known k x f r).brief ≡ k.brief
-brief_look_known k x (EdgeOn side) (EdgeIs e) = refl
-brief_look_known k x Birth (BirthIs b) = refl
-brief_look_known k x _ _ = refl
-
-look_stays : (w : ℕ) (k : Knowledge) (x : ℕ) (f : Field) (r : Reply) → (learn w k (Look x f) r).brief ≡ k.brief
-unfolding learn
-look_stays w k x f r = cond_both (is_private k x) (look_private k x f r) (look_known k x f r) (λ (l : Knowledge). l.brief ≡ k.brief) (λ _. brief_look_private k x f r) (λ _. brief_look_known k x f r)
-
 join_stays : (w : ℕ) (k : Knowledge) (v : ℕ) (r : Reply) → (learn w k (Join v) r).brief ≡ k.brief
 unfolding learn
 join_stays w k v (Joined ls) = cond_both (w == v) (resigned k) (inheriting k ls) (λ (l : Knowledge). l.brief ≡ k.brief) (λ _. refl) (λ _. refl)
@@ -84,14 +66,14 @@ module _ (L : Layout) (m : Memory) (w : ℕ) (k : Knowledge) (s : Search) (law :
   after_event Leave Departed ok = λ pin. record { labelled = (passed _ _ _ ok).0; idle = refl }
   after_event (LeaveWith answer) Departed ok = λ pin. record { labelled = (passed _ _ _ ok).0; idle = refl }
   after_event Announce (Announced e) ok = λ pin. record { labelled = (law pin).labelled; idle = (law pin).idle }
-  after_event (Scan u) r ok = same_brief k (learn_scan k u r) s (brief_scan k u r) law
+  after_event (Scan u) r ok = same_brief k (learn_scan k u r) s (ap (λ (l : Knowledge). l.brief) (scan_teaches k u r)) law
   after_event Advance (Moved e) ok = λ pin. record { labelled = (law pin).labelled; idle = (law pin).idle }
   after_event Advance (Behind e) ok = λ pin. record { labelled = (law pin).labelled; idle = (law pin).idle }
   after_event (Claim x) (Claimed y) ok = λ pin. record { labelled = (law pin).labelled; idle = (law pin).idle }
   after_event (Give x) (Returned y) ok = λ pin. record { labelled = (law pin).labelled; idle = (law pin).idle }
   after_event (Give x) (Freed n) ok = λ pin. record { labelled = (law pin).labelled; idle = (law pin).idle }
   after_event (Look x f) r ok = λ pin.
-      let had = same_brief k (learn w k (Look x f) r) s (look_stays w k x f r) law pin in
+      let had = same_brief k (learn w k (Look x f) r) s (ap (λ (l : Knowledge). l.brief) (look_teaches k x f r)) law pin in
       record { labelled = had.labelled; idle = no_walks x f r s had.idle }
   after_event (Fill x f v) Filled ok = λ pin. record { labelled = (law pin).labelled; idle = (law pin).idle }
   after_event (Link p side leaf new) r ok = λ pin. absurd (pinned k.brief.pin _ (second _ (is_none k.brief.pin) _ _ _ ok) (alike_link w k p side leaf new r).pin pin)

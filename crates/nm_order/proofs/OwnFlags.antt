@@ -1,8 +1,8 @@
 -- A flag that is won is one of a call to delete: it marks the edge to a reached leaf, which has
 -- that call's key.
-use Rattle.std.proofs.Common.{◌≡◌, ◌≢◌, ℕ, ◌≤◌, ◌==◌, Bool, true, false, cond, not, ◌&&◌, ◌||◌, [], ◌∷◌, ◌++◌, refl, sym, ap, subst, ◌∙◌, arith}
-use Rattle.std.specs.Prelude.{Option, Some, None, is_none, Result, Ok, slice_get}
-use Rattle.std.proofs.lemmas.Bool.{and_parts, and_from, or_parts, not-false, eqb-true, eq-eqb}
+use Rattle.std.proofs.Common.{◌≡◌, ◌≢◌, ℕ, ◌≤◌, ◌==◌, Bool, true, false, cond, ◌&&◌, [], ◌∷◌, ◌++◌, refl, sym, ap, subst, ◌∙◌, arith}
+use Rattle.std.specs.Prelude.{Option, Some, None, Result, Ok}
+use Rattle.std.proofs.lemmas.Bool.{and_parts, and_from, eqb-true, eq-eqb}
 use Rattle.nm_edge.specs.Edges.{Edge, to, is_to}
 use Rattle.nm_edge.specs.Layouts.{Layout}
 use Rattle.nm_edge.specs.declared.edge.Side.{Side}
@@ -14,62 +14,46 @@ use Rattle.nm_model.specs.declared.event.Event.TheVariants.{Flag}
 use Rattle.nm_model.specs.declared.reply.Reply.{Reply}
 use Rattle.nm_model.specs.declared.reply.Reply.TheVariants.{Flagged, Lost}
 use Rattle.nm_model.specs.declared.reply.Refused.{Refused}
-use Rattle.nm_model.specs.declared.reply.Refused.TheVariants.{NoSlot, NotPinned, NotHeld}
-use Rattle.nm_model.specs.declared.arrivals.Arrival.{Arrival}
 use Rattle.nm_model.specs.Maps.{is_number, or_else}
 use Rattle.nm_model.specs.Memory.{node, edge, child, is_leaf, named}
-use Rattle.nm_model.specs.Knowledge.{knows, knows_leaf}
+use Rattle.nm_model.specs.Knowledge.{knows}
 use Rattle.nm_model.specs.Paths.{Reached}
-use Rattle.nm_model.specs.Step.{outside, refusal, reply}
+use Rattle.nm_model.specs.Step.{reply}
 use Rattle.nm_model.specs.Runs.{State, of, refused, answered}
-use Rattle.nm_model.specs.Searches.{is_by, is_side}
+use Rattle.nm_model.specs.Searches.{is_by, is_side, Search}
 use Rattle.nm_model.specs.Ordered.{Configuration, ordered, search_of, disorder, disorder_among, disorder_in, may_flag_at, ended_at, refused_in, outcome_in, after_in}
 use Rattle.nm_order.specs.Intervals.{key, IsCalled, Marks, FlagsMarkLeaves, OfEachOrdered}
 use Rattle.nm_model.proofs.Lists.{any_at}
 use Rattle.nm_model.proofs.Numbers.{number_is}
-use Rattle.nm_laws.proofs.Steps.{Allowed, allowed, passed, third}
+use Rattle.nm_laws.proofs.Steps.{Allowed, allowed}
 use Rattle.nm_laws.proofs.Trees.{follow-append}
 use Rattle.nm_laws.proofs.Pictures.{IsOnPath}
 use Rattle.nm_laws.proofs.Splices.{live_on_path, unmarked_not_queued}
 use Rattle.nm_laws.proofs.TreeSlots.{is_to-true, known_live, leaf_known}
-use Rattle.nm_laws.proofs.TreeSteps.{Lawful, high_from}
+use Rattle.nm_laws.proofs.TreeSteps.{Lawful, FlagChecked, flag_checked}
 use Rattle.nm_laws.proofs.Views.{picture}
 use Rattle.nm_laws.proofs.Outcomes.{same_reply, no_reply}
 use Rattle.nm_order.proofs.OrderedMoments.{call_walks}
 use Rattle.nm_order.proofs.OrderedLaws.{IsOrdered, neither, each_ordered, law_of_state}
 use Rattle.nm_order.proofs.OwnLinks.{MayFlag, may_flag}
+use Rattle.nm_order.proofs.OrderedSteps.{ForCall}
 
 -- ---- the tree
 
 module _ (s : State) (h : ℕ → ℕ) (law : Lawful s h) (w p : ℕ) (d : Side) (leaf : ℕ) (ok : Allowed s w (Flag p d leaf)) (won : is_to (edge s.memory p d) leaf ≡ true) where
-  -- what the refusals leave of the two slots
-  record FlagChecked : Type 0 where
-    known : knows (of s w) p ≡ true
-    held : knows (of s w) leaf ≡ true
-    leafy : knows_leaf (of s w) leaf ≡ true
-    high : 6 ≤ leaf
-
-  flag_checked : FlagChecked
-  unfolding refusal
-  flag_checked = record { known = two.0; held = leaf_two.0; leafy = leaf_two.1; high = (high_from 6 s.layout.nodes leaf (or_parts (outside 1 s.layout.nodes p) (outside 6 s.layout.nodes leaf) (passed _ _ _ ok.event).0).1).0 }
-    where
-      two : (knows (of s w) p ≡ true) × ((knows (of s w) leaf && knows_leaf (of s w) leaf) ≡ true)
-      two = and_parts (knows (of s w) p) (knows (of s w) leaf && knows_leaf (of s w) leaf)
-          (not-false _ (third (outside 1 s.layout.nodes p || outside 6 s.layout.nodes leaf) (is_none (of s w).brief.pin) (not (knows (of s w) p && (knows (of s w) leaf && knows_leaf (of s w) leaf))) NoSlot NotPinned NotHeld _ ok.event))
-
-      leaf_two : (knows (of s w) leaf ≡ true) × (knows_leaf (of s w) leaf ≡ true)
-      leaf_two = and_parts (knows (of s w) leaf) (knows_leaf (of s w) leaf) two.1
+  checked : FlagChecked (of s w) p leaf
+  checked = flag_checked s w p d leaf ok.event
 
   unmarked : edge s.memory p d ≡ to leaf
   unmarked = is_to-true (edge s.memory p d) leaf won
 
   leaf_slot : leaf ≢ 0
-  leaf_slot z = let high = flag_checked.high in absurd (omega arith)
+  leaf_slot z = let high = checked.high in absurd (omega arith)
 
   parent_on : IsOnPath (picture s h) p
   parent_on =
-      let range = law.tree.known w p flag_checked.known in
-      live_on_path s.layout.nodes (picture s h) p law.tree (known_live s.layout.nodes s.memory (of s) h w p law.tree flag_checked.known) (λ z. omega arith) (omega arith)
+      let range = law.tree.known w p checked.known in
+      live_on_path s.layout.nodes (picture s h) p law.tree (known_live s.layout.nodes s.memory (of s) h w p law.tree checked.known) (λ z. omega arith) (omega arith)
       (unmarked_not_queued s.layout.nodes (picture s h) p d leaf law.tree unmarked leaf_slot)
 
   parent_is_reached : Reached s.memory p
@@ -86,7 +70,7 @@ module _ (s : State) (h : ℕ → ℕ) (law : Lawful s h) (w p : ℕ) (d : Side)
   is_leaf_now = and_from ((node s.memory leaf).left.slot == 0) ((node s.memory leaf).right.slot == 0) (eq-eqb _ 0 (null Left)) (eq-eqb _ 0 (null Right))
     where
       null : (f : Side) → (edge s.memory leaf f).slot ≡ 0
-      null = leaf_known s.layout.nodes s.memory (of s) h w leaf law.tree (known_live s.layout.nodes s.memory (of s) h w leaf law.tree flag_checked.held) flag_checked.leafy
+      null = leaf_known s.layout.nodes s.memory (of s) h w leaf law.tree (known_live s.layout.nodes s.memory (of s) h w leaf law.tree checked.held) checked.leafy
 
   pub marks_leaf : (k : ℕ) → key s.memory leaf ≡ k → Marks s.memory p d leaf (named s.memory leaf) k
   marks_leaf k has = record { parent_reached = parent_is_reached; unmarked = unmarked; reached = leaf_is_reached; childless = is_leaf_now; has_key = has; names = refl }
@@ -99,6 +83,15 @@ same_flagged n q h = cc
 no_flag : (e : Edge) (n : NodeId) → Lost e ≡ Flagged n → ⊥
 no_flag e n h = cc
 
+-- the walk that ends at a leaf which may be flagged has read the call's key there
+pub flag_reads : (s : State) (w : ℕ) (S : Search) (p : ℕ) (d : Side) (leaf : ℕ) (m : MayFlag S p d leaf) → ForCall s.layout.radix s.memory (knows (of s w)) S.call S.walks → key s.memory leaf ≡ m.call.key
+flag_reads s w S p d leaf m law =
+    let found = any_at (may_flag_at m.call.key p d leaf) S.walks m.walked in
+    let parts = and_parts (is_by leaf p d found.1) (ended_at m.call.key found.1) found.3 in
+    let slot = eqb-true found.1.slot leaf (and_parts (found.1.slot == leaf) ((found.1.parent == p) && is_side found.1.side d) parts.0).0 in
+    let read = number_is found.1.key m.call.key (and_parts found.1.ended (is_number found.1.key m.call.key) parts.1).1 in
+    ap (key s.memory) (sym slot) ∙ (call_walks s.layout.radix s.memory (knows (of s w)) S.call S.walks m.call m.is_call law).1.is_keyed found.0 found.1 m.call.key found.2 read
+
 module _ (L : Layout) (enough : 5 ≤ L.nodes) (c : Configuration) (o : IsOrdered L c) where
   h : ℕ → ℕ
   h = (law_of_state L enough c o).0
@@ -109,21 +102,10 @@ module _ (L : Layout) (enough : 5 ≤ L.nodes) (c : Configuration) (o : IsOrdere
 
   -- a walk of the call ended at the leaf, and read the call's key there
   of_call : (w p : ℕ) (d : Side) (leaf : ℕ) → disorder c.state.layout (of c.state w) (search_of o.searches w) (Flag p d leaf) ≡ None → (k : ℕ) × IsCalled c w Delete k × (key c.state.memory leaf ≡ k)
-  of_call w p d leaf order = (m.call.key, record { searches = o.searches; are = o.are; is_call = m.is_call ∙ ap (λ (op : Op). Some (record { op = op; key = m.call.key })) m.is_op }, has)
+  of_call w p d leaf order = (m.call.key, record { searches = o.searches; are = o.are; is_call = m.is_call ∙ ap (λ (op : Op). Some (record { op = op; key = m.call.key })) m.is_op }, flag_reads c.state w (search_of o.searches w) p d leaf m (o.law.walks w))
     where
       m : MayFlag (search_of o.searches w) p d leaf
       m = may_flag c.state.layout (of c.state w) (search_of o.searches w) p d leaf order
-
-      found : (i : ℕ) × (a : Arrival) × (slice_get (search_of o.searches w).walks i ≡ Some a) × (may_flag_at m.call.key p d leaf a ≡ true)
-      found = any_at (may_flag_at m.call.key p d leaf) (search_of o.searches w).walks m.walked
-
-      has : key c.state.memory leaf ≡ m.call.key
-      has =
-          let parts = and_parts (is_by leaf p d found.1) (ended_at m.call.key found.1) found.3 in
-          let slot = eqb-true found.1.slot leaf (and_parts (found.1.slot == leaf) ((found.1.parent == p) && is_side found.1.side d) parts.0).0 in
-          let read = number_is found.1.key m.call.key (and_parts found.1.ended (is_number found.1.key m.call.key) parts.1).1 in
-          let walks = (call_walks c.state.layout.radix c.state.memory (knows (of c.state w)) (search_of o.searches w).call (search_of o.searches w).walks m.call m.is_call (o.law.walks w)).1 in
-          ap (key c.state.memory) (sym slot) ∙ walks.is_keyed found.0 found.1 m.call.key found.2 read
 
   flags_mark : FlagsMarkLeaves c
   unfolding outcome_in refused_in reply

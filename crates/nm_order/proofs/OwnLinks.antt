@@ -2,28 +2,28 @@
 use Rattle.std.proofs.Common.{◌≡◌, ℕ, Bool, true, false, cond, not, ◌&&◌, refl, sym, ap, subst, ◌∙◌, true≢false}
 use Rattle.std.specs.Prelude.{Option, Some, None, is_some, is_none}
 use Rattle.std.specs.List.{list_any}
-use Rattle.std.proofs.lemmas.Bool.{and_parts, or_parts, not-false}
+use Rattle.std.proofs.lemmas.Bool.{and_parts, or_parts, not-false, not-true}
 use Rattle.std.proofs.lemmas.Option.{same_Some}
 use Rattle.nm_edge.specs.Layouts.{Layout}
 use Rattle.nm_edge.specs.declared.edge.Side.{Side}
 use Rattle.nm_edge.specs.declared.node.NodeId.{NodeId}
-use Rattle.nm_model.specs.declared.event.Field.{Field}
 use Rattle.nm_model.specs.declared.event.Op.{Op}
 use Rattle.nm_model.specs.declared.event.Op.TheVariants.{Has, Insert, Delete}
 use Rattle.nm_model.specs.declared.event.Event.{Event}
-use Rattle.nm_model.specs.declared.event.Event.TheVariants.{Sight, SightFor, Leave, LeaveWith, Look, Link, Flag, Splice}
+use Rattle.nm_model.specs.declared.event.Event.TheVariants.{Leave, LeaveWith, Link, Flag}
 use Rattle.nm_model.specs.declared.reply.Reply.{Reply}
-use Rattle.nm_model.specs.declared.reply.Reply.TheVariants.{Pinned, Departed, Linked, Flagged, Cut}
+use Rattle.nm_model.specs.declared.reply.Reply.TheVariants.{Linked, Flagged}
 use Rattle.nm_model.specs.declared.reply.Refused.TheVariants.{NotOrdered, NoAnswer}
 use Rattle.nm_model.specs.declared.arrivals.Call.{Call}
 use Rattle.nm_model.specs.Maps.{is_number}
 use Rattle.nm_model.specs.Knowledge.{Knowledge}
-use Rattle.nm_model.specs.Searches.{Search, searched, look_for}
+use Rattle.nm_model.specs.Searches.{Search, searched}
 use Rattle.nm_model.specs.Walks.{begins_anew}
 use Rattle.nm_model.specs.Ordered.{disorder, shows, shows_call, inserts, deletes, links_in_order, flags_in_order, shows_place, may_flag_at, new_leaf, has_removed}
 use Rattle.nm_order.specs.Exchanges.{is_won_link, links_told, flags_told}
 use Rattle.nm_order.specs.WalksToArrivals.{is_won_flag}
 use Rattle.nm_laws.proofs.Steps.{passed}
+use Rattle.nm_laws.proofs.SearchesGrow.{look_beside, begun_is, search_goes}
 use Rattle.nm_order.proofs.OwnExchanges.{IsOnce}
 
 -- ---- links
@@ -44,29 +44,12 @@ link_entry e r such = absurd (true≢false (sym such))
 abbrev pub has_linked : Search → Bool
 has_linked S = S.linked
 
-look_linked : (S : Search) (o : Option Call) (x : ℕ) (f : Field) (r : Reply) → (look_for S o x f r).linked ≡ S.linked
-look_linked S None x f r = refl
-look_linked S (Some c) x f r = refl
-
 link_anew : (S : Search) (e : Event) (r : Reply) → begins_anew (e, r) ≡ true → has_linked (searched S e r) ≡ false
-unfolding searched
-link_anew S Sight (Pinned n) anew = refl
-link_anew S (SightFor op key) (Pinned n) anew = refl
-link_anew S Leave Departed anew = refl
-link_anew S (LeaveWith answer) Departed anew = refl
-link_anew S e r anew = absurd (true≢false (sym anew))
+link_anew S e r anew = ap has_linked (begun_is S e r anew)
 
 link_kept : (S : Search) (e : Event) (r : Reply) → begins_anew (e, r) ≡ false → is_won_link (e, r) ≡ false → has_linked (searched S e r) ≡ has_linked S
-unfolding searched
-link_kept S Sight (Pinned n) old plain = absurd (true≢false old)
-link_kept S (SightFor op key) (Pinned n) old plain = absurd (true≢false old)
-link_kept S Leave Departed old plain = absurd (true≢false old)
-link_kept S (LeaveWith answer) Departed old plain = absurd (true≢false old)
-link_kept S (Look x f) r old plain = look_linked S S.call x f r
-link_kept S (Link p d leaf new) (Linked n) old plain = absurd (true≢false plain)
-link_kept S (Flag p d leaf) (Flagged n) old plain = refl
-link_kept S (Splice a d x p keep) (Cut ns) old plain = refl
-link_kept S e r old plain = refl
+link_kept S = search_goes (λ e r T. is_won_link (e, r) ≡ false → has_linked T ≡ has_linked S) S (λ x f r plain. ap has_linked (look_beside S S.call x f r)) (λ p d leaf new n plain. absurd (true≢false plain))
+    (λ p d leaf n plain. refl) (λ a d x p keep ns plain. refl) (λ e r plain. refl)
 
 link_done : (S : Search) (e : Event) (r : Reply) → is_won_link (e, r) ≡ true → has_linked (searched S e r) ≡ true
 unfolding searched
@@ -83,10 +66,6 @@ pub record MayLink (S : Search) : Type 0 where
 pub may_link : (K : Layout) (k : Knowledge) (S : Search) (p : ℕ) (d : Side) (leaf new : ℕ) → disorder K k S (Link p d leaf new) ≡ None → MayLink S
 may_link K k S p d leaf new order = by S.call refl (not-false (links_in_order K k S S.call p d leaf new) (passed _ NotOrdered None order).0)
   where
-    no : (b : Bool) → not b ≡ true → b ≡ false
-    no true h = absurd (true≢false (sym h))
-    no false h = refl
-
     by : (o : Option Call) → S.call ≡ o → links_in_order K k S o p d leaf new ≡ true → MayLink S
     by None is t = absurd (true≢false (sym t))
     by (Some call) is t = on call.op refl t
@@ -98,7 +77,7 @@ may_link K k S p d leaf new order = by S.call refl (not-false (links_in_order K 
           call = call;
           is_call = is;
           is_op = i;
-          fresh = no S.linked (and_parts (not S.linked) (is_number (new_leaf k leaf new).key call.key && shows_place K k call.key p d leaf new S.walks) t).0;
+          fresh = not-true S.linked (and_parts (not S.linked) (is_number (new_leaf k leaf new).key call.key && shows_place K k call.key p d leaf new S.walks) t).0;
         }
 
 link_order : (K : Layout) (k : Knowledge) (S : Search) (e : Event) (r : Reply) → disorder K k S e ≡ None → is_won_link (e, r) ≡ true → MayLink S
@@ -130,29 +109,12 @@ flag_entry e r such = absurd (true≢false (sym such))
 abbrev pub has_flagged : Search → Bool
 has_flagged S = is_some S.flagged
 
-look_flagged : (S : Search) (o : Option Call) (x : ℕ) (f : Field) (r : Reply) → is_some (look_for S o x f r).flagged ≡ is_some S.flagged
-look_flagged S None x f r = refl
-look_flagged S (Some c) x f r = refl
-
 flag_anew : (S : Search) (e : Event) (r : Reply) → begins_anew (e, r) ≡ true → has_flagged (searched S e r) ≡ false
-unfolding searched
-flag_anew S Sight (Pinned n) anew = refl
-flag_anew S (SightFor op key) (Pinned n) anew = refl
-flag_anew S Leave Departed anew = refl
-flag_anew S (LeaveWith answer) Departed anew = refl
-flag_anew S e r anew = absurd (true≢false (sym anew))
+flag_anew S e r anew = ap has_flagged (begun_is S e r anew)
 
 flag_kept : (S : Search) (e : Event) (r : Reply) → begins_anew (e, r) ≡ false → is_won_flag (e, r) ≡ false → has_flagged (searched S e r) ≡ has_flagged S
-unfolding searched
-flag_kept S Sight (Pinned n) old plain = absurd (true≢false old)
-flag_kept S (SightFor op key) (Pinned n) old plain = absurd (true≢false old)
-flag_kept S Leave Departed old plain = absurd (true≢false old)
-flag_kept S (LeaveWith answer) Departed old plain = absurd (true≢false old)
-flag_kept S (Look x f) r old plain = look_flagged S S.call x f r
-flag_kept S (Link p d leaf new) (Linked n) old plain = refl
-flag_kept S (Flag p d leaf) (Flagged n) old plain = absurd (true≢false plain)
-flag_kept S (Splice a d x p keep) (Cut ns) old plain = refl
-flag_kept S e r old plain = refl
+flag_kept S = search_goes (λ e r T. is_won_flag (e, r) ≡ false → has_flagged T ≡ has_flagged S) S (λ x f r plain. ap has_flagged (look_beside S S.call x f r)) (λ p d leaf new n plain. refl)
+    (λ p d leaf n plain. absurd (true≢false plain)) (λ a d x p keep ns plain. refl) (λ e r plain. refl)
 
 flag_done : (S : Search) (e : Event) (r : Reply) → is_won_flag (e, r) ≡ true → has_flagged (searched S e r) ≡ true
 unfolding searched
@@ -185,6 +147,14 @@ may_flag K k S p d leaf order = by S.call refl (not-false (flags_in_order S S.ca
         on Delete i t =
             let parts = and_parts (is_none S.flagged) (list_any (may_flag_at call.key p d leaf) S.walks) t in
             record { call = call; is_call = is; is_op = i; fresh = no S.flagged parts.0; walked = parts.1 }
+
+-- a flag in order is the first of its call
+pub first_flag : (K : Layout) (k : Knowledge) (S : Search) (p leaf : ℕ) (d : Side) → disorder K k S (Flag p d leaf) ≡ None → S.flagged ≡ None
+first_flag K k S p leaf d order = none S.flagged (may_flag K k S p d leaf order).fresh
+  where
+    none : (o : Option NodeId) → is_some o ≡ false → o ≡ None
+    none None is = refl
+    none (Some n) is = absurd (true≢false is)
 
 flag_order : (K : Layout) (k : Knowledge) (S : Search) (e : Event) (r : Reply) → disorder K k S e ≡ None → (such : is_won_flag (e, r) ≡ true) → MayFlag S (flag_entry e r such).parent (flag_entry e r such).side (flag_entry e r such).leaf
 flag_order K k S e r order such = let l = flag_entry e r such in may_flag K k S l.parent l.side l.leaf (subst (λ (x : Event). disorder K k S x ≡ None) l.is_event order)

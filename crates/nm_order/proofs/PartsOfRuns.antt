@@ -117,7 +117,8 @@ module _ (w : ℕ) where
       go (Some r) is = subst (λ (d : Configuration). Staffed d.state) (sym (refused_next c t r is)) staffed
       go None is = subst Staffed (sym (next_state c t is)) (staffed_step c.state t.0 t.1 staffed)
 
-  tells : (ts : List (ℕ × Event)) (c : Configuration) → Staffed c.state → of (after_in c ts).state w ≡ known_after w (of c.state w) (part_of w (trace_in c ts))
+  -- what is known behind a run is what its part tells
+  pub tells : (ts : List (ℕ × Event)) (c : Configuration) → Staffed c.state → of (after_in c ts).state w ≡ known_after w (of c.state w) (part_of w (trace_in c ts))
   unfolding after_in trace_in
   tells [] c staffed = refl
   tells (t ∷ ts) c staffed = go (refused_in c t.0 t.1) refl (tells ts (next_in c t) (staffed_next c t staffed))

@@ -1,6 +1,6 @@
 -- In every ordered run each flagged edge of a reached node leads to the leaf that a standing call
 -- keeps as flagged.
-use Rattle.std.proofs.Common.{◌≡◌, ℕ, zero, suc, ◌-◌, ◌≤◌, map, inl, inr, ◌⊎◌, ◌==◌, Bool, true, false, cond, List, [], ◌∷◌, ◌++◌, refl, sym, ap, subst, ◌∙◌, arith, true≢false}
+use Rattle.std.proofs.Common.{◌≡◌, ℕ, zero, suc, ◌≤◌, map, inl, inr, ◌⊎◌, ◌==◌, Bool, true, false, cond, List, [], ◌∷◌, ◌++◌, refl, sym, ap, subst, ◌∙◌, arith, true≢false}
 use Rattle.std.specs.Prelude.{Option, Some, None, is_some, is_none, unwrap_or, Ok, Contains, All, ◌↔◌, slice_get}
 use Rattle.std.specs.List.{list_any}
 use Rattle.std.proofs.lemmas.Bool.{eq-eqb, eqb-true, and_parts, and_from, or_cases}
@@ -9,7 +9,6 @@ use Rattle.nm_edge.specs.Edges.{Edge, to, other, is_to}
 use Rattle.nm_edge.specs.Layouts.{Layout}
 use Rattle.nm_edge.specs.declared.edge.Side.{Side}
 use Rattle.nm_edge.specs.declared.edge.Side.TheVariants.{Left, Right}
-use Rattle.nm_model.specs.declared.memory.Node.{Node}
 use Rattle.nm_edge.specs.declared.node.NodeId.{NodeId}
 use Rattle.nm_model.specs.declared.event.Op.{Op}
 use Rattle.nm_model.specs.declared.event.Op.TheVariants.{Delete}
@@ -18,13 +17,12 @@ use Rattle.nm_model.specs.declared.event.Event.TheVariants.{Sight, SightFor, Lea
 use Rattle.nm_model.specs.declared.reply.Reply.{Reply}
 use Rattle.nm_model.specs.declared.reply.Reply.TheVariants.{Pinned, Departed, Saw, Labelled, Flagged, Lost, Cut}
 use Rattle.nm_model.specs.declared.reply.Refused.{Refused}
-use Rattle.nm_model.specs.Memory.{node, edge, child, named, is_leaf, opening, blank, edge_of}
+use Rattle.nm_model.specs.Memory.{node, edge, child, named, is_leaf, opening}
 use Rattle.nm_model.specs.Knowledge.{Knowledge}
 use Rattle.nm_model.specs.Lawful.{OnlyThePinnedKnow}
 use Rattle.nm_model.specs.Paths.{Reached, IsCut}
 use Rattle.nm_model.specs.Laws.{slots_of}
 use Rattle.nm_laws.proofs.SplicedEdges.{IsFrozenChain}
-use Rattle.nm_model.proofs.Numbers.{repeated}
 use Rattle.nm_order.specs.Pending.{IsOfOneDelete, FlaggedLeavesArePending, CutLeavesAreOfOneDelete}
 use Rattle.nm_order.specs.Moments.{OfEachOrderedRun}
 use Rattle.nm_order.proofs.RunExchanges.{first_keys}
@@ -40,17 +38,17 @@ use Rattle.nm_laws.proofs.Pictures.{reached_live}
 use Rattle.nm_laws.proofs.Views.{picture}
 use Rattle.nm_laws.proofs.Configurations.{refused_next, allowed_outcome}
 use Rattle.nm_laws.proofs.Outcomes.{same_reply}
+use Rattle.nm_laws.proofs.Opening.{plain}
 use Rattle.nm_order.specs.Intervals.{HasKey, IsCalled}
 use Rattle.nm_order.specs.Exchanges.{HasFlagged}
 use Rattle.nm_order.proofs.OrderedMoments.{Lasting}
 use Rattle.nm_order.proofs.OrderedLaws.{IsOrdered, ordered_next, each_ordered, law_of_state}
 use Rattle.nm_order.proofs.OwnTurns.{own_search, OwnTurn, own_turn}
 use Rattle.nm_order.proofs.OwnTurns.OwnTurn.{Quiet, Own}
-use Rattle.nm_order.proofs.OwnLinks.{answer_shown, silent}
+use Rattle.nm_order.proofs.OwnLinks.{answer_shown, silent, first_flag}
 use Rattle.nm_order.proofs.RunMoments.{allowed_entries}
 use Rattle.nm_order.proofs.FlaggedLeaves.{FlagStep, flag_step}
 use Rattle.nm_order.proofs.FlaggedLeaves.FlagStep.{SameFlag, NewFlag}
-use Rattle.nm_order.proofs.LaterFlags.{first_flag}
 use Rattle.nm_order.proofs.RunWalks.{reply_is}
 use Rattle.nm_order.proofs.WalksOfRuns.{over_turns}
 use Rattle.nm_order.proofs.EdgeOrigins.{EdgeOrigin}
@@ -250,23 +248,7 @@ module _ (L : Layout) (enough : 5 ≤ L.nodes) where
 
   -- at the opening no edge is flagged
   pub none_flagged : (y : ℕ) (g : Side) → (edge (opening L) y g).flag ≡ false
-  none_flagged zero Left = refl
-  none_flagged zero Right = refl
-  none_flagged (suc zero) Left = refl
-  none_flagged (suc zero) Right = refl
-  none_flagged (suc (suc zero)) Left = refl
-  none_flagged (suc (suc zero)) Right = refl
-  none_flagged (suc (suc (suc zero))) Left = refl
-  none_flagged (suc (suc (suc zero))) Right = refl
-  none_flagged (suc (suc (suc (suc zero)))) Left = refl
-  none_flagged (suc (suc (suc (suc zero)))) Right = refl
-  none_flagged (suc (suc (suc (suc (suc zero))))) Left = refl
-  none_flagged (suc (suc (suc (suc (suc zero))))) Right = refl
-  none_flagged (suc (suc (suc (suc (suc (suc y)))))) g = ap (λ (n : Node). (edge_of n g).flag) (repeated (L.nodes - 5) y blank) ∙ by g
-    where
-      by : (g : Side) → (edge_of blank g).flag ≡ false
-      by Left = refl
-      by Right = refl
+  none_flagged = plain L enough
 
   pub owned : (ts : List (ℕ × Event)) → All (λ t. HasKey t.1) ts → Owned ts
   unfolding after_in

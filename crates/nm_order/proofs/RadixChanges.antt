@@ -1,10 +1,10 @@
 -- What an event that is allowed and in order leaves of a radix tree; and what a link that is in order
 -- has shown of its keys.
-use Rattle.std.proofs.Common.{◌≡◌, ◌≢◌, ℕ, ◌≤◌, inl, inr, ◌⊎◌, ◌==◌, Bool, true, false, cond, not, ◌&&◌, ◌||◌, List, [], ◌∷◌, ◌++◌, refl, sym, ap, subst, ◌∙◌, arith, true≢false}
+use Rattle.std.proofs.Common.{◌≡◌, ℕ, ◌≤◌, inl, inr, ◌⊎◌, ◌==◌, Bool, true, false, cond, not, ◌&&◌, ◌||◌, List, [], ◌∷◌, ◌++◌, refl, sym, ap, subst, ◌∙◌, arith, true≢false}
 use Rattle.std.specs.Prelude.{Option, Some, None, nat_lt, nat_le, slice_get, ◌/◌}
 use Rattle.std.specs.List.{list_any}
 use mathlib.Core.Path.{fun_ext}
-use Rattle.std.proofs.lemmas.Bool.{ltb-true, ltb-false, leb-true, eqb-true, and_parts, or_cases}
+use Rattle.std.proofs.lemmas.Bool.{ltb-true, ltb-false, leb-true, eqb-true, and_parts, or_cases, not-true}
 use Rattle.nm_edge.specs.Edges.{Edge, to, other}
 use Rattle.nm_edge.specs.Keys.{IsKey}
 use Rattle.nm_edge.specs.Ranges.{covers}
@@ -26,8 +26,7 @@ use Rattle.nm_model.proofs.Lists.{any_at}
 use Rattle.nm_model.proofs.Numbers.{number_is}
 use Rattle.nm_order.specs.Intervals.{key}
 use Rattle.nm_laws.proofs.Trees.{Children, Exchanged, follow-append}
-use Rattle.nm_laws.proofs.Pictures.{IsLive, IsOnPath, alone, null_below, reached_live}
-use Rattle.nm_laws.proofs.Splices.{live_on_path, unmarked_not_queued}
+use Rattle.nm_laws.proofs.Pictures.{IsLive, IsOnPath, reached_live}
 use Rattle.nm_laws.proofs.Views.{picture}
 use Rattle.nm_laws.proofs.Links.{IsLink}
 use Rattle.nm_laws.proofs.TreeSlots.{leaf_known}
@@ -39,31 +38,15 @@ use Rattle.nm_order.proofs.TreeChanges.TreeChange.{Kept, Filled, Linked, Spliced
 use Rattle.nm_order.proofs.OrderedTrees.{InOrder, Linking}
 use Rattle.nm_order.proofs.OrderedWalks.{WalkLaw, is_side-true}
 use Rattle.nm_order.proofs.OrderedChanges.{FixedKeys, left_of, off_root}
-use Rattle.nm_order.proofs.OrderedLinks.{right_of, far_key, leaf_on}
+use Rattle.nm_order.proofs.OrderedLinks.{right_of, far_key, leaf_on, grafted, above}
 use Rattle.nm_order.proofs.RadixTrees.{RadixLaw, Parting, Placed, which, radix_spliced, radix_apart, radix_links, radix_linked}
 
 -- ---- a link's slots
 
 module _ (s : State) (h : ℕ → ℕ) (law : Lawful s h) (w : ℕ) (fixed : FixedKeys s.memory) (p : ℕ) (d : Side) (leaf new far : ℕ) (dl : Side) (link : IsLink s.layout.radix s.layout.nodes (picture s h) w p d leaf new far dl) where
-  above : IsOnPath (picture s h) p
-  above = live_on_path s.layout.nodes (picture s h) p law.tree link.live link.is_slot link.inside (unmarked_not_queued s.layout.nodes (picture s h) p d leaf law.tree link.unmarked link.leaf_slot)
-
   pub placed : (c' : Children) → Exchanged (child s.memory) c' p d new → Placed (child s.memory) c' (key s.memory) p d leaf new far dl
   placed c' exchanged = record {
-    nothing = null_below s.layout.nodes (picture s h) law.tree;
-    alone = alone s.layout.nodes (picture s h) law.tree;
-    exchanged = exchanged;
-    front = above.path;
-    at_front = above.ends;
-    is_slot = link.is_slot;
-    leads = ap (λ (e : Edge). e.slot) link.unmarked;
-    leaf_slot = link.leaf_slot;
-    over_leaf = ap (λ (e : Edge). e.slot) link.over_leaf;
-    over_far = ap (λ (e : Edge). e.slot) link.over_far;
-    far_null = λ x. ap (λ (e : Edge). e.slot) (link.far_leaf x);
-    off_new = off_root s h law w new link.own;
-    off_far = off_root s h law w far link.far_own;
-    apart = link.apart;
+    graft = grafted s h law w p d leaf new far dl link c' exchanged;
     root_left = law.tree.root_left;
     leaves = law.tree.sentinels;
     first_key = fixed.root;
@@ -84,7 +67,7 @@ module _ (s : State) (h : ℕ → ℕ) (law : Lawful s h) (w : ℕ) (births : Bi
   side_is = leaf_on s h law w births k small fixed ws walks p d leaf new l link is_far_key
 
   on : IsOnPath (picture s h) p
-  on = above s h law w fixed p d leaf new l.far l.side link
+  on = above s h law w p d leaf new l.far l.side link
 
   leads : child s.memory p d ≡ leaf
   leads = ap (λ (e : Edge). e.slot) link.unmarked
@@ -114,7 +97,7 @@ module _ (s : State) (h : ℕ → ℕ) (law : Lawful s h) (w : ℕ) (births : Bi
 
       by : (is_first p d ≡ true) ⊎ (list_any (narrows k p d) ws ≡ true) → ((p ≡ 2) × (d ≡ Left)) ⊎ ((6 ≤ p) × ((covers (v p) (v l.far) ≡ true) × (side_of (v l.far) (v p) ≡ d)))
       by (inl root) = let two = and_parts (p == 2) (is_side d Left) root in inl (eqb-true p 2 two.0, is_side-true d Left two.1)
-      by (inr any) = go b.1.key refl two.1
+      by (inr any) = not-true b.1.key refl two.1
         where
           b : (i : ℕ) × (a : Arrival) × (slice_get ws i ≡ Some a) × (narrows k p d a ≡ true)
           b = any_at (narrows k p d) ws any
@@ -125,9 +108,9 @@ module _ (s : State) (h : ℕ → ℕ) (law : Lawful s h) (w : ℕ) (births : Bi
           at : (b.1.slot ≡ p) × (turns k b.1.key d ≡ true)
           at = let parts = and_parts (b.1.slot == p) (turns k b.1.key d) two.0 in (eqb-true b.1.slot p parts.0, parts.1)
 
-          go : (o : Option ℕ) → b.1.key ≡ o → is_covered k o ≡ true → ((p ≡ 2) × (d ≡ Left)) ⊎ ((6 ≤ p) × ((covers (v p) (v l.far) ≡ true) × (side_of (v l.far) (v p) ≡ d)))
-          go None is t = absurd (true≢false (sym t))
-          go (Some n) is t =
+          not-true : (o : Option ℕ) → b.1.key ≡ o → is_covered k o ≡ true → ((p ≡ 2) × (d ≡ Left)) ⊎ ((6 ≤ p) × ((covers (v p) (v l.far) ≡ true) × (side_of (v l.far) (v p) ≡ d)))
+          not-true None is t = absurd (true≢false (sym t))
+          not-true (Some n) is t =
               let side : side_of k n ≡ d = is_side-true (side_of k n) d (ap (λ o. turns k o d) (sym is) ∙ at.1) in
               below_root n (ap v (sym at.0) ∙ walks.is_keyed b.0 b.1 n b.2 is) t side (which p)
 
@@ -160,11 +143,7 @@ module _ (s : State) (h : ℕ → ℕ) (law : Lawful s h) (w : ℕ) (births : Bi
           forks = and_parts (not (r == k) && (knows_leaf (of s w) leaf || not (covers r k))) (parts (draft_of (of s w) new) leaf k r (draft_of (of s w) new).key) t
 
           none_in : not (covers r k) ≡ true → covers r k ≡ false
-          none_in h = go (covers r k) h
-            where
-              go : (b : Bool) → not b ≡ true → b ≡ false
-              go true h = absurd (true≢false (sym h))
-              go false h = refl
+          none_in h = not-true (covers r k) h
 
           over : ((f : Side) → child s.memory leaf f ≡ 0) ⊎ ((6 ≤ leaf) × (covers (v leaf) (v l.far) ≡ false))
           over = elim (or_cases (knows_leaf (of s w) leaf) (not (covers r k)) (and_parts (not (r == k)) _ forks.0).1) [
@@ -177,7 +156,7 @@ module _ (s : State) (h : ℕ → ℕ) (law : Lawful s h) (w : ℕ) (births : Bi
 
           on : (o : Option ℕ) → (draft_of (of s w) new).key ≡ o → parts (draft_of (of s w) new) leaf k r o ≡ true → Parting (child s.memory) (key s.memory) p d leaf new l.far l.side
           on None at t = absurd (true≢false (sym t))
-          on (Some R) at t = go (nat_lt k R) refl (and_parts (covers R k && covers R r) _ t).1
+          on (Some R) at t = not-true (nat_lt k R) refl (and_parts (covers R k && covers R r) _ t).1
             where
               new_is : key s.memory new ≡ R
               new_is = births.key new R at
@@ -198,12 +177,12 @@ module _ (s : State) (h : ℕ → ℕ) (law : Lawful s h) (w : ℕ) (births : Bi
                 high_far = (law.tree.privates w l.far link.far_own).0;
               }
 
-              go : (b : Bool) → nat_lt k R ≡ b → cond b (nat_le R r && is_number (draft_of (of s w) new).right leaf) (nat_lt r R && is_number (draft_of (of s w) new).left leaf) ≡ true → Parting (child s.memory) (key s.memory) p d leaf new l.far l.side
-              go true less t =
+              not-true : (b : Bool) → nat_lt k R ≡ b → cond b (nat_le R r && is_number (draft_of (of s w) new).right leaf) (nat_lt r R && is_number (draft_of (of s w) new).left leaf) ≡ true → Parting (child s.memory) (key s.memory) p d leaf new l.far l.side
+              not-true true less t =
                   let two = and_parts (nat_le R r) (is_number (draft_of (of s w) new).right leaf) t in
                   let side : l.side ≡ Right = side_is Right (law.tree.drafts w new Right leaf (number_is (draft_of (of s w) new).right leaf two.1)).1 in
                   made (right_of r R (λ lt. let more = leb-true R r two.0 in omega (arith, lt, more)) ∙ sym side) (left_of k R (ltb-true k R less) ∙ ap other (sym side))
-              go false more t =
+              not-true false more t =
                   let two = and_parts (nat_lt r R) (is_number (draft_of (of s w) new).left leaf) t in
                   let side : l.side ≡ Left = side_is Left (law.tree.drafts w new Left leaf (number_is (draft_of (of s w) new).left leaf two.1)).1 in
                   made (left_of r R (ltb-true r R two.0) ∙ sym side) (right_of k R (λ lt. let past = ltb-false k R more in omega (arith, lt, past)) ∙ ap other (sym side))

@@ -14,10 +14,10 @@ use Rattle.nm_model.specs.Paths.{follow}
 use Rattle.nm_model.specs.Searches.{side_of}
 use Rattle.nm_order.specs.Intervals.{GoesBy}
 use Rattle.nm_order.specs.Ranges.{StandsFor, IsNested}
-use Rattle.nm_laws.proofs.Trees.{Children, Exchanged, rest_after, same_side, same_side-true, follow_none, follow-append, not_taken, taken}
+use Rattle.nm_laws.proofs.Trees.{Children, Exchanged, rest_after, same_side, same_side-true, follow_none, follow-append, not_taken, taken, each_slot}
 use Rattle.nm_laws.proofs.CutPaths.{Splicing, old_path, led}
 use Rattle.nm_order.proofs.Searching.{Keys, goes-append, Apart, apart_follow}
-use Rattle.nm_order.proofs.OrderedTrees.{InOrder, Linking, had_child, unless_at, one_or_other, down, new_still, far_still, Below, below_new, at_leaf, at_far}
+use Rattle.nm_order.proofs.OrderedTrees.{InOrder, Linking, had_child, unless_at, one_or_other, down, new_still, far_still, Below, below_new, at_leaf, at_far, Grafting}
 use Rattle.nm_order.proofs.OrderedTrees.Below.{Itself, Old, New}
 use Rattle.nm_order.proofs.RangesOfKeys.{covers_own, lies_in_half, half_has_range}
 
@@ -35,13 +35,8 @@ pub record RadixLaw (c : Children) (v : Keys) : Type 0 where
 
 -- the fixed slots
 pub which : (z : ℕ) → (z ≡ 0) ⊎ ((z ≡ 1) ⊎ ((z ≡ 2) ⊎ (((3 ≤ z) × (z ≤ 5)) ⊎ (6 ≤ z))))
-which zero = inl refl
-which (suc zero) = inr (inl refl)
-which (suc (suc zero)) = inr (inr (inl refl))
-which (suc (suc (suc zero))) = inr (inr (inr (inl (omega arith, omega arith))))
-which (suc (suc (suc (suc zero)))) = inr (inr (inr (inl (omega arith, omega arith))))
-which (suc (suc (suc (suc (suc zero))))) = inr (inr (inr (inl (omega arith, omega arith))))
-which (suc (suc (suc (suc (suc (suc n)))))) = inr (inr (inr (inr (omega arith))))
+which = each_slot (λ z. (z ≡ 0) ⊎ ((z ≡ 1) ⊎ ((z ≡ 2) ⊎ (((3 ≤ z) × (z ≤ 5)) ⊎ (6 ≤ z))))) (inl refl) (inr (inl refl)) (inr (inr (inl refl))) (inr (inr (inr (inl (omega arith, omega arith))))) (inr (inr (inr (inl (omega arith, omega arith)))))
+    (inr (inr (inr (inl (omega arith, omega arith))))) (λ n. inr (inr (inr (inr (omega arith)))))
 
 pub left_if : (k n : ℕ) → k < n → side_of k n ≡ Left
 left_if k n lt = cond-true (nat_lt k n) Left Right (lt-ltb k n lt)
@@ -256,31 +251,18 @@ pub record Parting (c : Children) (v : Keys) (p : ℕ) (d : Side) (leaf new far 
 
 -- the slots of the link, and the fixed ones
 pub record Placed (c c' : Children) (v : Keys) (p : ℕ) (d : Side) (leaf new far : ℕ) (dl : Side) : Type 0 where
-  pub nothing : (e : Side) → c 0 e ≡ 0
-  pub alone : (q r : List Side) → follow c 1 q ≢ 0 → follow c 1 q ≡ follow c 1 r → q ≡ r
-  pub exchanged : Exchanged c c' p d new
-  pub front : List Side
-  pub at_front : follow c 1 front ≡ p
-  pub is_slot : p ≢ 0
-  pub leads : c p d ≡ leaf
-  pub leaf_slot : leaf ≢ 0
-  pub over_leaf : c new dl ≡ leaf
-  pub over_far : c new (other dl) ≡ far
-  pub far_null : (f : Side) → c far f ≡ 0
-  pub off_new : (q : List Side) → follow c 1 q ≡ new → ⊥
-  pub off_far : (q : List Side) → follow c 1 q ≡ far → ⊥
-  pub apart : new ≢ far
+  pub graft : Grafting c c' p d leaf new far dl
   pub root_left : c 1 Left ≡ 2
   pub leaves : (x : ℕ) (f : Side) → 3 ≤ x → x ≤ 5 → c x f ≡ 0
   pub first_key : v 1 ≡ infinity_2
   pub second_key : v 2 ≡ infinity_1
 
 module _ (c c' : Children) (v : Keys) (p : ℕ) (d : Side) (leaf new far : ℕ) (dl : Side) (b : Placed c c' v p d leaf new far dl) (t : Parting c v p d leaf new far dl) (law : RadixLaw c v) where
-  to_leaf : follow c 1 (b.front ++ d ∷ []) ≡ leaf
-  to_leaf = follow-append c 1 b.front (d ∷ []) ∙ (ap (λ (y : ℕ). c y d) b.at_front ∙ b.leads)
+  to_leaf : follow c 1 (b.graft.front ++ d ∷ []) ≡ leaf
+  to_leaf = follow-append c 1 b.graft.front (d ∷ []) ∙ (ap (λ (y : ℕ). c y d) b.graft.at_front ∙ b.graft.leads)
 
   child_there : c p d ≢ 0
-  child_there z = b.leaf_slot (sym b.leads ∙ z)
+  child_there z = b.graft.leaf_slot (sym b.graft.leads ∙ z)
 
   parted : nat_lt (v far) (v new) ≡ nat_lt (v leaf) (v new) → ⊥
   parted same = not_both dl (sym t.leaf_side ∙ (sym (side_test (v far) (v new) (v leaf) (v new) same) ∙ t.far_side))
@@ -293,13 +275,13 @@ module _ (c c' : Children) (v : Keys) (p : ℕ) (d : Side) (leaf new far : ℕ) 
       by : ((f : Side) → c leaf f ≡ 0) ⊎ ((6 ≤ leaf) × (covers (v leaf) (v far) ≡ false)) → (covers (v new) k ≡ true) × (side_of k (v new) ≡ dl)
       by (inl null) = absurd (at.1 (null at.0))
       by (inr (high, none)) =
-          let own : covers (v leaf) (v leaf) ≡ true = (subst (λ (y : ℕ). IsNested c v y) to_leaf (law.nests (b.front ++ d ∷ []) (rw to_leaf high))).own at.0 at.1 in
+          let own : covers (v leaf) (v leaf) ≡ true = (subst (λ (y : ℕ). IsNested c v y) to_leaf (law.nests (b.graft.front ++ d ∷ []) (rw to_leaf high))).own at.0 at.1 in
           let found = lies_in_half 64 (v new) (v leaf) (v far) k t.covers_leaf t.covers_far own none (has high) in
           (found.0, side_test k (v new) (v leaf) (v new) found.1 ∙ t.leaf_side)
 
   -- the slot's own key
   leaf_itself : StandsFor c v leaf (v leaf)
-  leaf_itself = subst (λ (y : ℕ). StandsFor c v y (v y)) to_leaf (itself c v b.nothing law.nests (b.front ++ d ∷ []))
+  leaf_itself = subst (λ (y : ℕ). StandsFor c v y (v y)) to_leaf (itself c v b.graft.nothing law.nests (b.graft.front ++ d ∷ []))
 
   -- what the new node's range has is in that of its parent, on the edge's side
   pub new_stands : (k : ℕ) → 6 ≤ p → covers (v new) k ≡ true → (covers (v p) k ≡ true) × (side_of k (v p) ≡ d)
@@ -308,7 +290,7 @@ module _ (c c' : Children) (v : Keys) (p : ℕ) (d : Side) (leaf new far : ℕ) 
       by : ((p ≡ 2) × (d ≡ Left)) ⊎ ((6 ≤ p) × ((covers (v p) (v far) ≡ true) × (side_of (v far) (v p) ≡ d))) → (covers (v p) k ≡ true) × (side_of k (v p) ≡ d)
       by (inl two) = let is = two.0 in absurd (omega (arith, up, is))
       by (inr at) =
-          let leaf_in : (covers (v p) (v leaf) ≡ true) × (side_of (v leaf) (v p) ≡ d) = (subst (λ (y : ℕ). IsNested c v y) b.at_front (law.nests b.front (rw b.at_front up))).below d (v leaf) child_there (subst (λ (y : ℕ). StandsFor c v y (v leaf)) (sym b.leads) leaf_itself) in
+          let leaf_in : (covers (v p) (v leaf) ≡ true) × (side_of (v leaf) (v p) ≡ d) = (subst (λ (y : ℕ). IsNested c v y) b.graft.at_front (law.nests b.graft.front (rw b.graft.at_front up))).below d (v leaf) child_there (subst (λ (y : ℕ). StandsFor c v y (v leaf)) (sym b.graft.leads) leaf_itself) in
           let found = half_has_range 64 (v p) (v new) (v leaf) (v far) k at.1.0 leaf_in.0 (test_of_side (v far) (v p) (v leaf) (v p) (at.1.1 ∙ sym leaf_in.1)) t.covers_far t.covers_leaf parted has in
           (found.0, side_test k (v p) (v far) (v p) found.1 ∙ at.1.1)
 
@@ -317,8 +299,8 @@ module _ (c c' : Children) (v : Keys) (p : ℕ) (d : Side) (leaf new far : ℕ) 
   leaf_low = by (which leaf)
     where
       -- no other path comes to the slot
-      path : (q : List Side) → follow c 1 q ≡ leaf → b.front ++ d ∷ [] ≡ q
-      path q is = b.alone (b.front ++ d ∷ []) q (λ z. b.leaf_slot (sym to_leaf ∙ z)) (to_leaf ∙ sym is)
+      path : (q : List Side) → follow c 1 q ≡ leaf → b.graft.front ++ d ∷ [] ≡ q
+      path q is = b.graft.alone (b.graft.front ++ d ∷ []) q (λ z. b.graft.leaf_slot (sym to_leaf ∙ z)) (to_leaf ∙ sym is)
 
       short : (front : List Side) (e : Side) → front ++ d ∷ [] ≡ e ∷ [] → (front ≡ []) × (d ≡ e)
       short [] e h = (refl, (let s : d ∷ [] ≡ e ∷ [] = h in cc))
@@ -333,11 +315,11 @@ module _ (c c' : Children) (v : Keys) (p : ℕ) (d : Side) (leaf new far : ℕ) 
           let rest = short front g tail in
           (ap (λ (y : Side). y ∷ front) head ∙ ap (λ (ys : List Side). e ∷ ys) rest.0, rest.1)
 
-      parent_two : b.front ≡ Left ∷ [] → p ≡ 2
-      parent_two is = sym b.at_front ∙ (ap (follow c 1) is ∙ b.root_left)
+      parent_two : b.graft.front ≡ Left ∷ [] → p ≡ 2
+      parent_two is = sym b.graft.at_front ∙ (ap (follow c 1) is ∙ b.root_left)
 
-      no_way : (q : List Side) → q ≡ b.front ++ d ∷ [] → q ≡ [] → ⊥
-      no_way q is none = nil b.front (sym is ∙ none)
+      no_way : (q : List Side) → q ≡ b.graft.front ++ d ∷ [] → q ≡ [] → ⊥
+      no_way q is none = nil b.graft.front (sym is ∙ none)
         where
           nil : (front : List Side) → front ++ d ∷ [] ≡ [] → ⊥
           nil [] h = cc
@@ -363,19 +345,19 @@ module _ (c c' : Children) (v : Keys) (p : ℕ) (d : Side) (leaf new far : ℕ) 
       fixed (suc (suc zero)) is low high = absurd (omega arith)
       fixed (suc (suc (suc zero))) is low high = subst (λ (y : ℕ). v y ≤ infinity_0) (sym is) law.third
       fixed (suc (suc (suc (suc zero)))) is low high =
-          let two = last b.front Left Right (path (Left ∷ Right ∷ []) (ap (λ (y : ℕ). c y Right) b.root_left ∙ (law.second_right ∙ sym is))) in
+          let two = last b.graft.front Left Right (path (Left ∷ Right ∷ []) (ap (λ (y : ℕ). c y Right) b.root_left ∙ (law.second_right ∙ sym is))) in
           absurd (at_right two.1 (parent_two two.0))
       fixed (suc (suc (suc (suc (suc zero))))) is low high =
-          let one = short b.front Right (path (Right ∷ []) (law.right ∙ sym is)) in
-          absurd (at_root (sym b.at_front ∙ ap (follow c 1) one.0))
+          let one = short b.graft.front Right (path (Right ∷ []) (law.right ∙ sym is)) in
+          absurd (at_root (sym b.graft.at_front ∙ ap (follow c 1) one.0))
       fixed (suc (suc (suc (suc (suc (suc n)))))) is low high = absurd (omega arith)
 
       by : (leaf ≡ 0) ⊎ ((leaf ≡ 1) ⊎ ((leaf ≡ 2) ⊎ (((3 ≤ leaf) × (leaf ≤ 5)) ⊎ (6 ≤ leaf)))) → v leaf ≤ infinity_0
-      by (inl z) = absurd (b.leaf_slot z)
-      by (inr (inl one)) = absurd (no_way (b.front ++ d ∷ []) refl (path [] (sym one)))
-      by (inr (inr (inl two))) = absurd (at_root (sym b.at_front ∙ ap (follow c 1) (short b.front Left (path (Left ∷ []) (b.root_left ∙ sym two))).0))
+      by (inl z) = absurd (b.graft.leaf_slot z)
+      by (inr (inl one)) = absurd (no_way (b.graft.front ++ d ∷ []) refl (path [] (sym one)))
+      by (inr (inr (inl two))) = absurd (at_root (sym b.graft.at_front ∙ ap (follow c 1) (short b.graft.front Left (path (Left ∷ []) (b.root_left ∙ sym two))).0))
       by (inr (inr (inr (inl range)))) = fixed leaf refl range.0 range.1
-      by (inr (inr (inr (inr high)))) = subst (λ (y : ℕ). v y ≤ infinity_0) to_leaf (law.low (b.front ++ d ∷ []) (rw to_leaf high))
+      by (inr (inr (inr (inr high)))) = subst (λ (y : ℕ). v y ≤ infinity_0) to_leaf (law.low (b.graft.front ++ d ∷ []) (rw to_leaf high))
 
   -- nor is that of the new node
   pub new_low : v new ≤ infinity_0
@@ -386,21 +368,21 @@ module _ (c c' : Children) (v : Keys) (p : ℕ) (d : Side) (leaf new far : ℕ) 
       by Right one two = let more = more_of_right (v leaf) (v new) one in let few = leaf_low in omega (arith, more, few)
 
   -- the search for a key in the parent's range comes to the parent
-  comes : InOrder c v → (k : ℕ) → k ≤ infinity_0 → (6 ≤ p → covers (v p) k ≡ true) → GoesBy c v k 1 b.front
+  comes : InOrder c v → (k : ℕ) → k ≤ infinity_0 → (6 ≤ p → covers (v p) k ≡ true) → GoesBy c v k 1 b.graft.front
   comes order k small has = by t.place
     where
-      by : ((p ≡ 2) × (d ≡ Left)) ⊎ ((6 ≤ p) × ((covers (v p) (v far) ≡ true) × (side_of (v far) (v p) ≡ d))) → GoesBy c v k 1 b.front
+      by : ((p ≡ 2) × (d ≡ Left)) ⊎ ((6 ≤ p) × ((covers (v p) (v far) ≡ true) × (side_of (v far) (v p) ≡ d))) → GoesBy c v k 1 b.graft.front
       by (inl two) =
-          let path : Left ∷ [] ≡ b.front = b.alone (Left ∷ []) b.front (λ z. (let two' : 2 ≡ 0 = sym b.root_left ∙ z in omega (arith, two'))) (b.root_left ∙ (sym two.0 ∙ sym b.at_front)) in
+          let path : Left ∷ [] ≡ b.graft.front = b.graft.alone (Left ∷ []) b.graft.front (λ z. (let two' : 2 ≡ 0 = sym b.root_left ∙ z in omega (arith, two'))) (b.root_left ∙ (sym two.0 ∙ sym b.graft.at_front)) in
           subst (GoesBy c v k 1) path (ap (side_of k) b.first_key ∙ left_if k infinity_2 (omega (arith, small)), tt)
       by (inr at) =
-          let low : v p ≤ infinity_0 = subst (λ (y : ℕ). v y ≤ infinity_0) b.at_front (law.low b.front (rw b.at_front at.0)) in
-          goes_too c v b.nothing law.nests b.leaves b.first_key b.second_key [] b.front (v p) k (omega (arith, low)) (omega (arith, small)) (rw b.at_front b.is_slot)
-          (rw b.at_front (inr ((d, child_there), has))) (subst (λ (y : ℕ). GoesBy c v (v y) 1 b.front) b.at_front (order b.front (rw b.at_front b.is_slot)))
+          let low : v p ≤ infinity_0 = subst (λ (y : ℕ). v y ≤ infinity_0) b.graft.at_front (law.low b.graft.front (rw b.graft.at_front at.0)) in
+          goes_too c v b.graft.nothing law.nests b.leaves b.first_key b.second_key [] b.graft.front (v p) k (omega (arith, low)) (omega (arith, small)) (rw b.graft.at_front b.graft.is_slot)
+          (rw b.graft.at_front (inr ((d, child_there), has))) (subst (λ (y : ℕ). GoesBy c v (v y) 1 b.graft.front) b.graft.at_front (order b.graft.front (rw b.graft.at_front b.graft.is_slot)))
 
   -- and goes on by the edge
-  goes_by : InOrder c v → (k : ℕ) → k ≤ infinity_0 → (6 ≤ p → (covers (v p) k ≡ true) × (side_of k (v p) ≡ d)) → GoesBy c v k 1 (b.front ++ d ∷ [])
-  goes_by order k small has = goes-append c v k 1 b.front (d ∷ []) (comes order k small (λ up. (has up).0)) (ap (λ (y : ℕ). side_of k (v y)) b.at_front ∙ turn t.place, tt)
+  goes_by : InOrder c v → (k : ℕ) → k ≤ infinity_0 → (6 ≤ p → (covers (v p) k ≡ true) × (side_of k (v p) ≡ d)) → GoesBy c v k 1 (b.graft.front ++ d ∷ [])
+  goes_by order k small has = goes-append c v k 1 b.graft.front (d ∷ []) (comes order k small (λ up. (has up).0)) (ap (λ (y : ℕ). side_of k (v y)) b.graft.at_front ∙ turn t.place, tt)
     where
       turn : ((p ≡ 2) × (d ≡ Left)) ⊎ ((6 ≤ p) × ((covers (v p) (v far) ≡ true) × (side_of (v far) (v p) ≡ d))) → side_of k (v p) ≡ d
       turn (inl two) = ap (λ (y : ℕ). side_of k (v y)) two.0 ∙ (ap (side_of k) b.second_key ∙ (left_if k infinity_1 (omega (arith, small)) ∙ sym two.1))
@@ -408,22 +390,9 @@ module _ (c c' : Children) (v : Keys) (p : ℕ) (d : Side) (leaf new far : ℕ) 
 
   pub radix_links : InOrder c v → Linking c c' v p d leaf new far dl
   radix_links order = record {
-    nothing = b.nothing;
-    alone = b.alone;
-    exchanged = b.exchanged;
-    front = b.front;
-    at_front = b.at_front;
-    is_slot = b.is_slot;
-    leads = b.leads;
-    leaf_slot = b.leaf_slot;
-    over_leaf = b.over_leaf;
-    over_far = b.over_far;
-    far_null = b.far_null;
-    off_new = b.off_new;
-    off_far = b.off_far;
-    apart = b.apart;
+    graft = b.graft;
     old_side = λ u some. (leaf_stands (v (follow c leaf u)) (subst (λ (y : ℕ). StandsFor c v y (v (follow c leaf u))) to_leaf
-        (climb c v b.nothing law.nests (b.front ++ d ∷ []) u (v (follow c leaf u)) (rw to_leaf some) (rw to_leaf (under u))))).1;
+        (climb c v b.graft.nothing law.nests (b.graft.front ++ d ∷ []) u (v (follow c leaf u)) (rw to_leaf some) (rw to_leaf (under u))))).1;
     far_side = t.far_side;
     new_goes = goes_by order (v new) new_low (λ up. new_stands (v new) up (covers_own 64 (v new) (v far) t.covers_far));
     far_goes = goes_by order (v far) t.small (λ up. new_stands (v far) up t.covers_far);
@@ -431,8 +400,8 @@ module _ (c c' : Children) (v : Keys) (p : ℕ) (d : Side) (leaf new far : ℕ) 
     where
       under : (u : List Side) → StandsFor c v (follow c leaf u) (v (follow c leaf u))
       under u =
-          let at : follow c 1 ((b.front ++ d ∷ []) ++ u) ≡ follow c leaf u = follow-append c 1 (b.front ++ d ∷ []) u ∙ ap (λ (y : ℕ). follow c y u) to_leaf in
-          subst (λ (y : ℕ). StandsFor c v y (v y)) at (itself c v b.nothing law.nests ((b.front ++ d ∷ []) ++ u))
+          let at : follow c 1 ((b.graft.front ++ d ∷ []) ++ u) ≡ follow c leaf u = follow-append c 1 (b.graft.front ++ d ∷ []) u ∙ ap (λ (y : ℕ). follow c y u) to_leaf in
+          subst (λ (y : ℕ). StandsFor c v y (v y)) at (itself c v b.graft.nothing law.nests ((b.graft.front ++ d ∷ []) ++ u))
 
   module _ (l : Linking c c' v p d leaf new far dl) where
     new_slot : new ≢ 0
@@ -440,10 +409,10 @@ module _ (c c' : Children) (v : Keys) (p : ℕ) (d : Side) (leaf new far : ℕ) 
 
     -- an old node
     old_nested : (q : List Side) → 6 ≤ follow c 1 q → IsNested c' v (follow c 1 q)
-    old_nested q up = nested_still c c' v p d new b.exchanged child_there new_slot (follow c 1 q) (law.nests q up) (λ e k stands. rw e (by k (rw (← e) up) stands))
+    old_nested q up = nested_still c c' v p d new b.graft.exchanged child_there new_slot (follow c 1 q) (law.nests q up) (λ e k stands. rw e (by k (rw (← e) up) stands))
       where
         by : (k : ℕ) → 6 ≤ p → StandsFor c' v new k → (covers (v p) k ≡ true) × (side_of k (v p) ≡ d)
-        by k up (inl (null, is)) = absurd (b.leaf_slot (sym b.over_leaf ∙ (sym (new_still c c' v p d leaf new far dl l dl) ∙ null dl)))
+        by k up (inl (null, is)) = absurd (b.graft.leaf_slot (sym b.graft.over_leaf ∙ (sym (new_still c c' v p d leaf new far dl l dl) ∙ null dl)))
         by k up (inr (at, has)) = new_stands k up (has t.high_new)
 
     new_nested : IsNested c' v new
@@ -454,13 +423,13 @@ module _ (c c' : Children) (v : Keys) (p : ℕ) (d : Side) (leaf new far : ℕ) 
       where
         by : (f : Side) (k : ℕ) → StandsFor c' v (c' new f) k → (f ≡ dl) ⊎ (f ≡ other dl) → (covers (v new) k ≡ true) × (side_of k (v new) ≡ f)
         by f k stands (inl is) =
-            let at : c' new f ≡ leaf = new_still c c' v p d leaf new far dl l f ∙ (ap (c new) is ∙ b.over_leaf) in
-            let found = leaf_stands k (stands_back c c' v p d new b.exchanged child_there new_slot leaf k (subst (λ (y : ℕ). StandsFor c' v y k) at stands)) in
+            let at : c' new f ≡ leaf = new_still c c' v p d leaf new far dl l f ∙ (ap (c new) is ∙ b.graft.over_leaf) in
+            let found = leaf_stands k (stands_back c c' v p d new b.graft.exchanged child_there new_slot leaf k (subst (λ (y : ℕ). StandsFor c' v y k) at stands)) in
             (found.0, found.1 ∙ sym is)
         by f k stands (inr is) = go (subst (λ (y : ℕ). StandsFor c' v y k) at stands)
           where
             at : c' new f ≡ far
-            at = new_still c c' v p d leaf new far dl l f ∙ (ap (c new) is ∙ b.over_far)
+            at = new_still c c' v p d leaf new far dl l f ∙ (ap (c new) is ∙ b.graft.over_far)
 
             go : StandsFor c' v far k → (covers (v new) k ≡ true) × (side_of k (v new) ≡ f)
             go (inl (null, same)) = subst (λ (n : ℕ). (covers (v new) n ≡ true) × (side_of n (v new) ≡ f)) same (t.covers_far, t.far_side ∙ sym is)
@@ -477,17 +446,17 @@ module _ (c c' : Children) (v : Keys) (p : ℕ) (d : Side) (leaf new far : ℕ) 
     each_node P old itself_is far_is q up = go (rest_after c p d 1 q) refl
       where
         go : (o : Option (List Side)) → rest_after c p d 1 q ≡ o → P (follow c' 1 q)
-        go None h = let same : follow c' 1 q ≡ follow c 1 q = not_taken c c' p d new b.exchanged 1 q h in subst P (sym same) (old q (rw (← same) up))
+        go None h = let same : follow c' 1 q ≡ follow c 1 q = not_taken c c' p d new b.graft.exchanged 1 q h in subst P (sym same) (old q (rw (← same) up))
         go (Some r) h = by (below_new c c' v p d leaf new far dl l r (λ z. (let is = ends ∙ z in omega (arith, up, is))))
           where
             ends : follow c' 1 q ≡ follow c' new r
-            ends = (taken c c' p d new b.exchanged 1 q r h).leads
+            ends = (taken c c' p d new b.graft.exchanged 1 q r h).leads
 
             by : Below c c' v p d leaf new far dl l r → P (follow c' 1 q)
             by (Itself is) = subst P (sym (ends ∙ ap (follow c' new) is)) itself_is
             by (Old u is) =
-                let same : follow c' 1 q ≡ follow c 1 (l.front ++ d ∷ u) = ends ∙ (ap (follow c' new) is ∙ (at_leaf c c' v p d leaf new far dl l u ∙ sym (down c c' v p d leaf new far dl l u))) in
-                subst P (sym same) (old (l.front ++ d ∷ u) (rw (← same) up))
+                let same : follow c' 1 q ≡ follow c 1 (l.graft.front ++ d ∷ u) = ends ∙ (ap (follow c' new) is ∙ (at_leaf c c' v p d leaf new far dl l u ∙ sym (down c c' v p d leaf new far dl l u))) in
+                subst P (sym same) (old (l.graft.front ++ d ∷ u) (rw (← same) up))
             by (New is) = subst P (sym (ends ∙ (ap (follow c' new) is ∙ at_far c c' v p d leaf new far dl l))) far_is
 
     pub radix_linked : RadixLaw c' v
@@ -495,8 +464,8 @@ module _ (c c' : Children) (v : Keys) (p : ℕ) (d : Side) (leaf new far : ℕ) 
       nests = each_node (IsNested c' v) old_nested new_nested far_nested;
       low = each_node (λ y. v y ≤ infinity_0) law.low new_low t.small;
       third = law.third;
-      right = fixed_still c c' p d new b.exchanged 1 Right (λ e f. at_one (sym e) t.place) ∙ law.right;
-      second_right = fixed_still c c' p d new b.exchanged 2 Right (λ e f. at_two (sym e) f t.place) ∙ law.second_right;
+      right = fixed_still c c' p d new b.graft.exchanged 1 Right (λ e f. at_one (sym e) t.place) ∙ law.right;
+      second_right = fixed_still c c' p d new b.graft.exchanged 2 Right (λ e f. at_two (sym e) f t.place) ∙ law.second_right;
     }
       where
         at_one : p ≡ 1 → ((p ≡ 2) × (d ≡ Left)) ⊎ ((6 ≤ p) × ((covers (v p) (v far) ≡ true) × (side_of (v far) (v p) ≡ d))) → ⊥

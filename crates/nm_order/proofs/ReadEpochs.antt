@@ -8,14 +8,15 @@ use Rattle.nm_edge.specs.Layouts.{Layout}
 use Rattle.nm_model.specs.declared.event.Event.{Event}
 use Rattle.nm_model.specs.declared.event.Event.TheVariants.{Sight, SightFor, Announce, Leave, LeaveWith, Scan, Advance, Claim, Give, Look, Fill, Link, Flag, Tag, Splice, Join}
 use Rattle.nm_model.specs.declared.reply.Reply.{Reply}
-use Rattle.nm_model.specs.declared.reply.Reply.TheVariants.{Saw, Labelled, Pinned, Missed, Announced, Departed, Idle, In, Moved, Behind, Filled, Was}
+use Rattle.nm_model.specs.declared.reply.Reply.TheVariants.{Saw, Labelled, Pinned, Missed, Announced, Departed, Moved, Behind, Filled, Was}
 use Rattle.nm_model.specs.Maps.{is_number}
 use Rattle.nm_model.specs.Knowledge.{Knowledge}
-use Rattle.nm_model.specs.Learning.{learn, learn_sight, learn_scan}
+use Rattle.nm_model.specs.Learning.{learn, learn_sight}
 use Rattle.nm_model.specs.Step.{confirmed, reply_sight, reply}
 use Rattle.nm_model.specs.Runs.{State, of, reply_of}
 use Rattle.nm_model.specs.Walks.{Entry}
 use Rattle.nm_laws.proofs.Epochs.{alike_claim, alike_give, alike_look, alike_fill, alike_link, alike_flag, alike_tag, alike_splice, alike_join}
+use Rattle.nm_laws.proofs.Learned.{scan_teaches}
 use Rattle.nm_order.specs.Logs.{known_by, IsLogOf}
 use Rattle.nm_order.specs.Reads.{sight_epoch, epoch_read, HasRead, ReadLast, EpochsAreReadInOrder}
 use Rattle.nm_order.proofs.LastEntries.{known_more, PartOf, LastEntry, last_entry}
@@ -47,11 +48,6 @@ sight_stays k (Pinned x) is = absurd (none-some x (sym is))
 sight_stays k (Missed x) is = absurd (none-some x (sym is))
 sight_stays k _ is = refl
 
-scan_stays : (k : Knowledge) (u : ℕ) (r : Reply) → (learn_scan k u r).brief.seen ≡ k.brief.seen
-scan_stays k u Idle = refl
-scan_stays k u (In e) = refl
-scan_stays k u _ = refl
-
 stays : (w : ℕ) (k : Knowledge) (event : Event) (r : Reply) → epoch_read event r ≡ None → (learn w k event r).brief.seen ≡ k.brief.seen
 unfolding learn
 stays w k Sight r is = sight_stays k r is
@@ -59,7 +55,7 @@ stays w k (SightFor op key) r is = sight_stays k r is
 stays w k Announce (Announced e) is = refl
 stays w k Leave Departed is = refl
 stays w k (LeaveWith answer) Departed is = refl
-stays w k (Scan u) r is = scan_stays k u r
+stays w k (Scan u) r is = ap (λ (l : Knowledge). l.brief.seen) (scan_teaches k u r)
 stays w k Advance (Moved x) is = absurd (none-some x (sym is))
 stays w k Advance (Behind x) is = absurd (none-some x (sym is))
 stays w k (Claim s) r is = (alike_claim w k s r).seen

@@ -19,7 +19,7 @@ use Rattle.nm_model.specs.declared.arrivals.Arrival.{Arrival}
 use Rattle.nm_model.specs.Searches.{Search, idle, walked, later_walked, look_for, searched}
 use Rattle.nm_model.specs.Walks.{Entry, IsPart, IsOfWalk, search_after, begins_anew, since_pin}
 use Rattle.nm_model.specs.Walks.IsPart.{nothing, skips}
-use Rattle.nm_laws.proofs.SearchesGrow.{only_grow}
+use Rattle.nm_laws.proofs.SearchesGrow.{only_grow, begun_is}
 use Rattle.nm_laws.proofs.WalksOfLogs.{arrivals_are_walks}
 use Rattle.nm_order.specs.WalksToArrivals.{is_won_flag, since_flag}
 use Rattle.nm_order.proofs.LogParts.{part_itself}
@@ -102,12 +102,7 @@ pub record IsNew (s : Search) : Type 0 where
   pub flagged : s.flagged ≡ None
 
 pub begun_anew : (s : Search) (e : Event) (r : Reply) → begins_anew (e, r) ≡ true → IsNew (searched s e r)
-unfolding searched
-begun_anew s Sight (Pinned n) anew = record { walks = refl; later = refl; flagged = refl }
-begun_anew s (SightFor op key) (Pinned n) anew = record { walks = refl; later = refl; flagged = refl }
-begun_anew s Leave Departed anew = record { walks = refl; later = refl; flagged = refl }
-begun_anew s (LeaveWith answer) Departed anew = record { walks = refl; later = refl; flagged = refl }
-begun_anew s e r anew = absurd (true≢false (sym anew))
+begun_anew s e r anew = let is = begun_is s e r anew in record { walks = ap (λ (t : Search). t.walks) is; later = ap (λ (t : Search). t.later) is; flagged = ap (λ (t : Search). t.flagged) is }
 
 -- ---- the part behind the flag
 

@@ -20,7 +20,7 @@ use Rattle.nm_model.specs.Runs.{State, of, start, refusal_of, applied}
 use Rattle.nm_model.specs.Ordered.{Configuration}
 use Rattle.nm_laws.proofs.Steps.{Allowed, passed, by_steps}
 use Rattle.nm_laws.proofs.TreeSteps.{Lawful, high_from}
-use Rattle.nm_laws.proofs.Trees.{follow_none}
+use Rattle.nm_laws.proofs.Trees.{follow_none, each_slot}
 use Rattle.nm_laws.proofs.Pictures.{Spot, Stands, Once, IsLive}
 use Rattle.nm_laws.proofs.Pictures.Spot.{InPool, PrivateTo, OnPath, InQueue}
 use Rattle.nm_laws.proofs.Views.{picture}
@@ -49,25 +49,15 @@ sentinels_stay s w e keys ok x low high = (written_same s.memory (of s w) w e x 
 
 sentinels_start : (L : Layout) → SentinelKeys (start L)
 unfolding SentinelKeys
-sentinels_start L zero low high = absurd (omega arith)
-sentinels_start L (suc zero) low high = refl
-sentinels_start L (suc (suc zero)) low high = refl
-sentinels_start L (suc (suc (suc zero))) low high = refl
-sentinels_start L (suc (suc (suc (suc zero)))) low high = refl
-sentinels_start L (suc (suc (suc (suc (suc zero))))) low high = refl
-sentinels_start L (suc (suc (suc (suc (suc (suc n)))))) low high = absurd (omega arith)
+sentinels_start L = each_slot (λ x. 1 ≤ x → x ≤ 5 → (node (start L).memory x).key ≡ fixed_key x) (λ low high. absurd (omega (arith, low))) (λ low high. refl) (λ low high. refl) (λ low high. refl) (λ low high. refl) (λ low high. refl)
+    (λ n low high. absurd (omega (arith, high)))
 
 pub sentinels_of : (L : Layout) (c : Configuration) → IsOrdered L c → SentinelKeys c.state
 sentinels_of L c o = subst SentinelKeys (sym o.leads) (by_steps SentinelKeys sentinels_stay o.events (start L) (sentinels_start L))
 
 high_key : (x : ℕ) → 1 ≤ x → x ≤ 5 → infinity_0 ≤ fixed_key x
-high_key zero low high = absurd (omega arith)
-high_key (suc zero) low high = omega arith
-high_key (suc (suc zero)) low high = omega arith
-high_key (suc (suc (suc zero))) low high = omega arith
-high_key (suc (suc (suc (suc zero)))) low high = omega arith
-high_key (suc (suc (suc (suc (suc zero))))) low high = omega arith
-high_key (suc (suc (suc (suc (suc (suc n)))))) low high = absurd (omega arith)
+high_key = each_slot (λ x. 1 ≤ x → x ≤ 5 → infinity_0 ≤ fixed_key x) (λ low high. absurd (omega (arith, low))) (λ low high. omega arith) (λ low high. omega arith) (λ low high. omega arith) (λ low high. omega arith) (λ low high. omega arith)
+    (λ n low high. absurd (omega (arith, high)))
 
 pub sentinel_is_high : (s : State) → SentinelKeys s → (x : ℕ) → 1 ≤ x → x ≤ 5 → infinity_0 ≤ (node s.memory x).key
 unfolding SentinelKeys

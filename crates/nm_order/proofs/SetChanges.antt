@@ -23,6 +23,7 @@ use Rattle.nm_laws.proofs.Trees.{rest_after, same_follow}
 use Rattle.nm_laws.proofs.CutPaths.{old_path, led}
 use Rattle.nm_laws.proofs.TreeSteps.{Lawful}
 use Rattle.nm_laws.proofs.Configurations.{refused_next, allowed_next, allowed_outcome}
+use Rattle.nm_laws.proofs.Outcomes.{same_reply}
 use Rattle.nm_model.specs.Acts.{InSet}
 use Rattle.nm_order.specs.Intervals.{HasKey, OfEachOrdered, key}
 use Rattle.nm_order.specs.Exchanges.{is_won_link}
@@ -105,22 +106,20 @@ module _ (L : Layout) (enough : 5 ≤ L.nodes) (c : Configuration) (t : ℕ × E
     (λ s. record { slot = s.slot; reached = uncut_stays L enough c t o uncut s.slot s.reached; leaf = same_leaf s.slot s.reached ∙ s.leaf; has_key = same_key s.slot s.reached ∙ s.has_key }),
   )
 
+  -- a turn that answers a cut wins no link
+  pub cut_links_none : (ns : List NodeId) → outcome_in c t ≡ Ok (Cut ns) → WinsNoLink
+  cut_links_none ns is q told = subst (λ (r : Reply). is_won_link (t.1, r) ≡ false) (same_reply (Cut ns) q (sym is ∙ told)) (none t.1)
+    where
+      none : (e : Event) → is_won_link (e, Cut ns) ≡ false
+      none (Link p d leaf new) = refl
+      none e = refl
+
   -- a cut takes the keys of its leaves
   pub cut_takes : (ns : List NodeId) → outcome_in c t ≡ Ok (Cut ns) → Loses c.state.memory (next_in c t).state.memory ns
   cut_takes ns is = record { had = had; now = λ k. (there k, back k) }
     where
       cuts : (x : ℕ) → IsCut c.state.memory (next_in c t).state.memory x ↔ Contains (slots_of ns) x
       cuts = (cut_shows L enough c t o ns is).0
-
-      plain : WinsNoLink
-      plain q told = subst (λ (r : Reply). is_won_link (t.1, r) ≡ false) (same_ok (Cut ns) q (sym is ∙ told)) (none t.1)
-        where
-          same_ok : (x y : Reply) → ◌≡◌ {A = Result Reply Refused} (Ok x) (Ok y) → x ≡ y
-          same_ok x y e = cc
-
-          none : (e : Event) → is_won_link (e, Cut ns) ≡ false
-          none (Link p d leaf new) = refl
-          none e = refl
 
       gone : (k : ℕ) (l : IsKeyOf c.state.memory ns k) → IsCut c.state.memory (next_in c t).state.memory l.leaf.slot
       gone k l = (cuts l.leaf.slot).1 (mapped_among (λ (n : NodeId). n.slot) ns l.leaf l.among)
@@ -132,7 +131,7 @@ module _ (L : Layout) (enough : 5 ≤ L.nodes) (c : Configuration) (t : ℕ × E
       there k s = (record { slot = s.slot; reached = was; leaf = leaf; has_key = has_key }, none)
         where
           was : Reached c.state.memory s.slot
-          was = turn_was_reached plain s.slot s.reached
+          was = turn_was_reached (cut_links_none ns is) s.slot s.reached
 
           leaf : is_leaf (node c.state.memory s.slot) ≡ true
           leaf = sym (same_leaf s.slot was) ∙ s.leaf

@@ -260,31 +260,32 @@ module _ (L : Layout) (u k : ℕ) where
 pub layout_is : (L : Layout) → 5 ≤ L.nodes → (turns : List (ℕ × Event)) → All (λ t. HasKey t.1) turns → (after_in (ordered L) turns).state.layout ≡ L
 layout_is L enough turns keys = let o = each_ordered L enough turns keys in ap (λ (s : State). s.layout) o.leads ∙ layout_after L o.events
 
+-- a slot that was at its place since the pin was reached there
+reached_since : (L : Layout) (u k : ℕ) (turns : List (ℕ × Event)) (slot : ℕ) → WasAt L u k turns slot (lasting (after_in (ordered L) turns).state.memory slot) → WasReachedSince (ordered L) turns u k slot
+reached_since L u k turns slot was = record {
+  before = was.before;
+  since = was.since;
+  is_run = was.is_run;
+  pinned = was.pinned;
+  stands = was.stands;
+  reached = was.reached;
+  lies = was.lies;
+  same_birth = ap (λ (n : Lasting). n.birth) was.lasts;
+  same_key = ap (λ (n : Lasting). n.key) was.lasts;
+  same_kind = ap (λ (n : Lasting). n.leaf) was.lasts;
+}
+
 pub any_walk_was_reached : OfEachOrderedRun AnyWalkWasReached
 any_walk_was_reached L enough turns keys search u k slot parent side small walk = by ((held_after L u k enough turns keys).comes slot parent side walk)
   where
     by : IsOnWay (after_in (ordered L) turns).state u k (WasAt L u k turns) (NotThen L u k turns) slot → WasReachedSince (ordered L) turns u k slot
-    by way = found (way.each shape small [] tt some)
+    by way = reached_since L u k turns slot (way.each shape small [] tt some)
       where
         shape : (after_in (ordered L) turns).state.layout.radix ≡ false
         shape = ap (λ (K : Layout). K.radix) (layout_is L enough turns keys) ∙ search
 
         some : slot ≢ 0
         some z = let r = (law_of_state L enough (after_in (ordered L) turns) (each_ordered L enough turns keys)).1.tree.known u slot way.known in absurd (omega arith)
-
-        found : WasAt L u k turns slot (lasting (after_in (ordered L) turns).state.memory slot) → WasReachedSince (ordered L) turns u k slot
-        found was = record {
-          before = was.before;
-          since = was.since;
-          is_run = was.is_run;
-          pinned = was.pinned;
-          stands = was.stands;
-          reached = was.reached;
-          lies = was.lies;
-          same_birth = ap (λ (n : Lasting). n.birth) was.lasts;
-          same_key = ap (λ (n : Lasting). n.key) was.lasts;
-          same_kind = ap (λ (n : Lasting). n.leaf) was.lasts;
-        }
 
 -- in a radix tree: it was reached, or at such a moment no leaf had k, and it does not stand for k
 pub radix_walk : (L : Layout) → 5 ≤ L.nodes → (turns : List (ℕ × Event)) → All (λ t. HasKey t.1) turns → L.radix ≡ true → (u k slot parent : ℕ) (side : Side) → k < infinity_1
@@ -294,24 +295,10 @@ radix_walk L enough turns keys radix u k slot parent side small walk = by ((held
   where
     by : IsOnWay (after_in (ordered L) turns).state u k (WasAt L u k turns) (NotThen L u k turns) slot
         → WasReachedSince (ordered L) turns u k slot ⊎ (WasSoUnderPin L turns u k false × (StandsFor (child (after_in (ordered L) turns).state.memory) (key (after_in (ordered L) turns).state.memory) slot k → ⊥))
-    by way = elim (way.radix (ap (λ (K : Layout). K.radix) (layout_is L enough turns keys) ∙ radix) small).inside [ inl each ↦ inl (found (each [] tt tt some)) | inr out ↦ inr out ]
+    by way = elim (way.radix (ap (λ (K : Layout). K.radix) (layout_is L enough turns keys) ∙ radix) small).inside [ inl each ↦ inl (reached_since L u k turns slot (each [] tt tt some)) | inr out ↦ inr out ]
       where
         some : slot ≢ 0
         some z = let r = (law_of_state L enough (after_in (ordered L) turns) (each_ordered L enough turns keys)).1.tree.known u slot way.known in absurd (omega arith)
-
-        found : WasAt L u k turns slot (lasting (after_in (ordered L) turns).state.memory slot) → WasReachedSince (ordered L) turns u k slot
-        found was = record {
-          before = was.before;
-          since = was.since;
-          is_run = was.is_run;
-          pinned = was.pinned;
-          stands = was.stands;
-          reached = was.reached;
-          lies = was.lies;
-          same_birth = ap (λ (n : Lasting). n.birth) was.lasts;
-          same_key = ap (λ (n : Lasting). n.key) was.lasts;
-          same_kind = ap (λ (n : Lasting). n.leaf) was.lasts;
-        }
 
 -- no walk of a radix tree is long
 pub any_walk_is_short : OfEachOrderedRun AnyWalkIsShort

@@ -1,7 +1,7 @@
 -- What an entry teaches of edges and births, and what a pin for a call knows at once.
 use Rattle.std.proofs.Common.{◌≡◌, ◌≢◌, ℕ, ◌≤◌, inr, eqb, Bool, true, false, not, ◌&&◌, ◌||◌, List, [], ◌∷◌, ◌++◌, refl, sym, ap, subst, ◌∙◌}
 use Rattle.std.specs.Prelude.{Option, Some}
-use Rattle.std.proofs.lemmas.Bool.{cond-true, cond-false, eq-eqb, ne_eqb, and_from}
+use Rattle.std.proofs.lemmas.Bool.{cond-true, cond-false, eq-eqb, ne_eqb, and_from, or_right}
 use Rattle.nm_edge.specs.Edges.{Edge, tagged}
 use Rattle.nm_edge.specs.Layouts.{Layout}
 use Rattle.nm_edge.specs.declared.edge.Side.{Side}
@@ -42,13 +42,9 @@ module _ (k : Knowledge) (x : ℕ) (side : Side) (e : Edge) where
       null_read : (o : Option Edge) → o ≡ Some e → is_null o ≡ true
       null_read o is = ap is_null is ∙ eq-eqb e.slot 0 null
 
-      either : (b : Bool) → (b || true) ≡ true
-      either true = refl
-      either false = refl
-
       go : (d : Side) → read (read_edge k x side e) x d ≡ Some e → knows_leaf (read_edge k x side e) x ≡ true
       go Left is = ap (λ (b : Bool). b || is_null (read (read_edge k x side e) x Right)) (null_read (read (read_edge k x side e) x Left) is)
-      go Right is = ap (λ (b : Bool). is_null (read (read_edge k x side e) x Left) || b) (null_read (read (read_edge k x side e) x Right) is) ∙ either (is_null (read (read_edge k x side e) x Left))
+      go Right is = ap (λ (b : Bool). is_null (read (read_edge k x side e) x Left) || b) (null_read (read (read_edge k x side e) x Right) is) ∙ or_right (is_null (read (read_edge k x side e) x Left)) true refl
 
 -- ---- what an entry that tells an edge leaves
 

@@ -228,7 +228,7 @@ all_quiet c m [] q a there = absurd there
 all_quiet c m (x ∷ acts) q a (inl is) = ap (λ (y : Act). y.moment) (sym is) ∙ q.0
 all_quiet c m (x ∷ acts) q a (inr there) = all_quiet c m acts q.4 a there
 
-among_either : (xs ys : List Act) (a : Act) → IsAmong (xs ++ ys) a → IsAmong xs a ⊎ IsAmong ys a
+pub among_either : (xs ys : List Act) (a : Act) → IsAmong (xs ++ ys) a → IsAmong xs a ⊎ IsAmong ys a
 among_either [] ys a there = inr there
 among_either (x ∷ xs) ys a (inl is) = inl (inl is)
 among_either (x ∷ xs) ys a (inr there) = elim (among_either xs ys a there) [ inl l ↦ inl (inr l) | inr r ↦ inr r ]

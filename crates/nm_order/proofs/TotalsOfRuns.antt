@@ -1,7 +1,7 @@
 -- In every ordered run each key stands unflagged as often as it was linked, less as often as it was
 -- flagged.
 use Rattle.std.proofs.Common.{◌≡◌, ◌≢◌, ℕ, ◌+◌, ◌≤◌, inl, inr, ◌⊎◌, ◌==◌, Bool, true, false, cond, ◌&&◌, List, [], ◌∷◌, ◌++◌, refl, sym, ap, subst, ◌∙◌, arith, true≢false}
-use Rattle.std.specs.Prelude.{Option, Some, None, unwrap_or, Result, Ok, All}
+use Rattle.std.specs.Prelude.{Option, Some, None, unwrap_or, Ok, All}
 use Rattle.std.proofs.lemmas.Bool.{and_parts, eqb-true, eqb-false}
 use Rattle.nm_edge.specs.Edges.{Edge}
 use Rattle.nm_edge.specs.Keys.{IsKey}
@@ -25,6 +25,7 @@ use Rattle.nm_model.specs.Searches.{Search}
 use Rattle.nm_model.specs.Ordered.{Configuration, ordered, search_of, refused_in, next_in, outcome_in, after_in}
 use Rattle.nm_laws.proofs.Trees.{follow_none}
 use Rattle.nm_laws.proofs.Configurations.{refused_next, refused_outcome, allowed_outcome}
+use Rattle.nm_laws.proofs.Outcomes.{same_reply}
 use Rattle.nm_model.specs.Acts.{InSet}
 use Rattle.nm_order.specs.Intervals.{HasKey, IsCalled, Gains, Marks, key}
 use Rattle.nm_order.specs.Moments.{OfEachOrderedRun}
@@ -108,10 +109,7 @@ module _ (L : Layout) (enough : 5 ≤ L.nodes) (ts : List (ℕ × Event)) (t : �
 
     module _ (r : Reply) (won : outcome_in c t ≡ Ok r) where
       differ_cut : (ns : List NodeId) → outcome_in c t ≡ Ok (Cut ns) → r ≡ Cut ns
-      differ_cut ns is = same_ok r (Cut ns) (sym won ∙ is)
-        where
-          same_ok : (x y : Reply) → ◌≡◌ {A = Result Reply Refused} (Ok x) (Ok y) → x ≡ y
-          same_ok x y e = cc
+      differ_cut ns is = same_reply r (Cut ns) (sym won ∙ is)
 
       is_of : (is_such : Entry → Bool) (b : Bool) → is_such (t.1, r) ≡ b → is_so is_such t.1 (outcome_in c t) ≡ b
       is_of is_such b is = ap (is_so is_such t.1) won ∙ is
@@ -213,10 +211,7 @@ module _ (L : Layout) (enough : 5 ≤ L.nodes) (ts : List (ℕ × Event)) (t : �
                                 (ap (λ (y : Lasting). y.leaf) (turn_lasts L enough c t has o s.slot s.reached) ∙ s.leaf) u.leaf (ap (λ (y : Lasting). y.key) (turn_lasts L enough c t has o s.slot s.reached) ∙ (s.has_key ∙ sym u.has_key))
 
       no_link_won : is_won_link (t.1, r) ≡ false → WinsNoLink L enough c t has o
-      no_link_won plain q told = ap (λ (x : Reply). is_won_link (t.1, x)) (same_ok q r (sym told ∙ won)) ∙ plain
-        where
-          same_ok : (x y : Reply) → ◌≡◌ {A = Result Reply Refused} (Ok x) (Ok y) → x ≡ y
-          same_ok x y e = cc
+      no_link_won plain q told = ap (λ (x : Reply). is_won_link (t.1, x)) (same_reply q r (sym told ∙ won)) ∙ plain
 
       -- ---- a flag
 
@@ -305,14 +300,11 @@ module _ (L : Layout) (enough : 5 ≤ L.nodes) (ts : List (ℕ × Event)) (t : �
       of_neither : is_won_link (t.1, r) ≡ false → is_won_flag (t.1, r) ≡ false → Next
       of_neither a b = same (once_none is_won_link k c t (is_of is_won_link false a)) (once_none is_won_flag k c t (is_of is_won_flag false b)) (unflagged_stays L enough c t has o k none) (back_unless (no_link_won a))
         where
-          same_ok : (x y : Reply) → ◌≡◌ {A = Result Reply Refused} (Ok x) (Ok y) → x ≡ y
-          same_ok x y e = cc
-
           none : FlagsNone L enough c t has o k
           none p d leaf is why reached unmarked key_is = true≢false (sym (λ i. is_won_flag (is i, told i)) ∙ b)
             where
               told : r ≡ Flagged (named c.state.memory leaf)
-              told = same_ok r (Flagged (named c.state.memory leaf)) (sym won ∙ (allowed_outcome c t why ∙ ap (λ (x : Reply). Ok x) (ap (reply_of c.state t.0) is ∙ flag_told c.state t.0 p leaf d unmarked)))
+              told = same_reply r (Flagged (named c.state.memory leaf)) (sym won ∙ (allowed_outcome c t why ∙ ap (λ (x : Reply). Ok x) (ap (reply_of c.state t.0) is ∙ flag_told c.state t.0 p leaf d unmarked)))
 
       of_reply : Next
       of_reply = go (is_won_link (t.1, r)) refl (is_won_flag (t.1, r)) refl

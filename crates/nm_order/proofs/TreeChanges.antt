@@ -1,8 +1,7 @@
 -- What an event that is allowed does to the tree: nothing that matters, one field of a private
 -- slot, a link, or a splice.
-use Rattle.std.proofs.Common.{◌≡◌, ◌≢◌, ℕ, ◌+◌, ◌<◌, ◌≤◌, List, eqb, Bool, true, false, cond, not, ◌&&◌, ◌||◌, length, refl, sym, ap, ◌∙◌, arith, get_or-set_other}
-use Rattle.std.specs.Prelude.{nat_lt}
-use Rattle.std.proofs.lemmas.Bool.{cond_both, cond-false, eqb-true, and_parts, or_parts, not-false}
+use Rattle.std.proofs.Common.{◌≡◌, ◌≢◌, ℕ, ◌+◌, ◌<◌, ◌≤◌, List, eqb, Bool, true, false, cond, ◌&&◌, length, refl, sym, ap, ◌∙◌, arith, get_or-set_other}
+use Rattle.std.proofs.lemmas.Bool.{cond_both, cond-false, eqb-true, and_parts, or_parts}
 use Rattle.nm_edge.specs.Edges.{Edge, to, is_to, tagged}
 use Rattle.nm_edge.specs.declared.edge.Side.{Side}
 use Rattle.nm_edge.specs.declared.edge.Side.TheVariants.{Left, Right}
@@ -10,16 +9,15 @@ use Rattle.nm_model.specs.declared.memory.Node.{Node}
 use Rattle.nm_model.specs.declared.event.Field.{Field}
 use Rattle.nm_model.specs.declared.event.Event.{Event}
 use Rattle.nm_model.specs.declared.event.Event.TheVariants.{Fill, Link, Flag, Tag, Splice, Advance}
-use Rattle.nm_model.specs.declared.reply.Refused.TheVariants.{NoSlot, NotPrivate}
 use Rattle.nm_model.specs.Maps.{is_number}
 use Rattle.nm_model.specs.Memory.{Memory, blank, node, edge, child, put_edge, put_node}
 use Rattle.nm_model.specs.Knowledge.{is_private, read}
 use Rattle.nm_model.specs.Learning.{flag_to}
-use Rattle.nm_model.specs.Step.{outside, is_edge, exchanged, filled, kept, refusal, write}
+use Rattle.nm_model.specs.Step.{outside, exchanged, filled, kept, refusal, write}
 use Rattle.nm_model.specs.Paths.{follow}
 use Rattle.nm_model.specs.Runs.{State, of}
 use Rattle.nm_order.specs.Intervals.{key}
-use Rattle.nm_laws.proofs.Steps.{Allowed, passed, second}
+use Rattle.nm_laws.proofs.Steps.{Allowed, passed}
 use Rattle.nm_laws.proofs.Trees.{Exchanged, same_side, same_side-true}
 use Rattle.nm_order.proofs.Searching.{Apart}
 use Rattle.nm_laws.proofs.CutPaths.{Splicing}
@@ -29,7 +27,7 @@ use Rattle.nm_laws.proofs.Links.{IsLink}
 use Rattle.nm_laws.proofs.Views.{picture, edge_put}
 use Rattle.nm_laws.proofs.TreeSlots.{is_to-true}
 use Rattle.nm_laws.proofs.TreeLink.{Linkable, linkable, link_shown}
-use Rattle.nm_laws.proofs.TreeSteps.{Lawful, high_from, LinkChecked, link_checked}
+use Rattle.nm_laws.proofs.TreeSteps.{Lawful, LinkChecked, link_checked, slot_inside, fill_checked}
 use Rattle.nm_laws.proofs.Cuts.{shown}
 use Rattle.nm_laws.proofs.KnownBirths.{written_same}
 
@@ -58,19 +56,12 @@ marked m p d e inside same x g = ap (λ (y : Edge). y.slot) (edge_put m p d e in
     by false h = refl
 
 module _ (s : State) (h : ℕ → ℕ) (law : Lawful s h) (w : ℕ) where
-  within_list : (x : ℕ) (least : ℕ) → outside least s.layout.nodes x ≡ false → x < length s.memory.nodes
-  within_list x least inside = let range = high_from least s.layout.nodes x inside in let size = law.roomy.nodes in omega arith
-
   pub same_keys : (e : Event) → ((y : ℕ) (f : Field) (v : ℕ) → e ≡ Fill y f v → ⊥) → (x : ℕ) → key (write s.memory (of s w) w e) x ≡ key s.memory x
   same_keys e unfilled x = (written_same s.memory (of s w) w e x (λ y f v i. absurd (unfilled y f v i))).key
 
   filling : (x : ℕ) (f : Field) (v : ℕ) → Allowed s w (Fill x f v) → TreeChange s h w (Fill x f v) (put_node s.memory x (filled (node s.memory x) f v))
-  unfolding refusal
-  filling x f v ok = Filled x own (record { edges = λ y d ne. side y d (get_or-set_other s.memory.nodes x y (filled (node s.memory x) f v) blank ne); keys = λ y ne. ap (λ (n : Node). n.key) (get_or-set_other s.memory.nodes x y (filled (node s.memory x) f v) blank ne) })
+  filling x f v ok = Filled x (fill_checked s w (Fill x f v) ok.event x f v refl) (record { edges = λ y d ne. side y d (get_or-set_other s.memory.nodes x y (filled (node s.memory x) f v) blank ne); keys = λ y ne. ap (λ (n : Node). n.key) (get_or-set_other s.memory.nodes x y (filled (node s.memory x) f v) blank ne) })
     where
-      own : is_private (of s w) x ≡ true
-      own = not-false (is_private (of s w) x) (second (outside 6 s.layout.nodes x || (is_edge f && nat_lt s.layout.nodes v)) (not (is_private (of s w) x)) NoSlot NotPrivate _ ok.event)
-
       side : (y : ℕ) (d : Side) → node (put_node s.memory x (filled (node s.memory x) f v)) y ≡ node s.memory y → child (put_node s.memory x (filled (node s.memory x) f v)) y d ≡ child s.memory y d
       side y Left same = ap (λ (n : Node). n.left.slot) same
       side y Right same = ap (λ (n : Node). n.right.slot) same
@@ -115,7 +106,7 @@ module _ (s : State) (h : ℕ → ℕ) (law : Lawful s h) (w : ℕ) where
       same_keys' x = same_keys (Flag p d leaf) (λ y f v i. cc) x
 
       inside : p < length s.memory.nodes
-      inside = within_list p 1 (or_parts (outside 1 s.layout.nodes p) (outside 6 s.layout.nodes leaf) (passed _ _ _ ok.event).0).0
+      inside = slot_inside s h law p 1 (or_parts (outside 1 s.layout.nodes p) (outside 6 s.layout.nodes leaf) (passed _ _ _ ok.event).0).0
 
       by : (b : Bool) → is_to (edge s.memory p d) leaf ≡ b → (x : ℕ) (g : Side) → child (cond b (put_edge s.memory p d (flag_to leaf)) s.memory) x g ≡ child s.memory x g
       by true won x g = marked s.memory p d (flag_to leaf) inside (sym (ap (λ (e : Edge). e.slot) (is_to-true (edge s.memory p d) leaf won))) x g
@@ -149,6 +140,6 @@ module _ (s : State) (h : ℕ → ℕ) (law : Lawful s h) (w : ℕ) where
   tree_change (Fill x f v) ok = filling x f v ok
   tree_change (Link p d leaf new) ok = linking p d leaf new ok
   tree_change (Flag p d leaf) ok = flagging p d leaf ok
-  tree_change (Tag p d) ok = Kept (λ x g. marked s.memory p d (tagged (edge s.memory p d)) (within_list p 1 (passed _ _ _ ok.event).0) refl x g) (same_keys (Tag p d) (λ y f v i. cc))
+  tree_change (Tag p d) ok = Kept (λ x g. marked s.memory p d (tagged (edge s.memory p d)) (slot_inside s h law p 1 (passed _ _ _ ok.event).0) refl x g) (same_keys (Tag p d) (λ y f v i. cc))
   tree_change (Splice a d x p keep) ok = splicing_off a d x p keep ok
   tree_change e ok = Kept (λ x d. refl) (λ x. refl)

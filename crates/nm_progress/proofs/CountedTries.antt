@@ -37,16 +37,9 @@ use Rattle.nm_progress.proofs.LostTries.{later_keys, never_lost, look_leaves, st
 use Rattle.nm_progress.proofs.SplicesPaid.{splices_are_paid, splices_are_paid_since}
 use Rattle.nm_progress.proofs.TagsPaid.{tags_are_paid, tags_are_paid_since}
 use Rattle.nm_progress.proofs.SplitTurns.{SplitTurn, split_turn, ordered_after, part_teaches, turn_teaches, none_of_log, turn_in, number_split}
+use Rattle.nm_progress.proofs.Covers.{one_if}
 
 -- ---- one change
-
-or_left : (a b : Bool) → a ≡ true → (a || b) ≡ true
-or_left true b is = refl
-or_left false b is = absurd (true≢false (sym is))
-
-or_right : (a b : Bool) → b ≡ true → (a || b) ≡ true
-or_right true b is = refl
-or_right false b is = is
 
 -- a change of some edge is one of the four kinds
 pub change_is : (x : ℕ) (d : Side) (e : Event) (o : Result Reply Refused) → changes x d e o ≡ true → changes_edge e o ≡ true
@@ -62,9 +55,6 @@ some_change w x v d c ts k =
     let one : cond (changes_of_others w (turn_in (after_in c k.before) k.turn)) 1 0 ≡ 1 = ap one_if (and_from (not (k.turn.0 == w)) _ (ap not (ne_eqb k.turn.0 w k.another)) (change_is x d k.turn.1 (outcome_in (after_in c k.before) k.turn) k.changes)) in
     let all = ap (λ (l : List (ℕ × Event)). number_of (changes_of_others w) (trace_in c l)) k.is_run in
     omega (arith, parts, one, all)
-  where
-    one_if : Bool → ℕ
-    one_if b = cond b 1 0
 
 -- ---- lists
 
@@ -149,7 +139,7 @@ module _ (L : Layout) (enough : 5 ≤ L.nodes) (w : ℕ) where
           o2 = ordered_next L enough (after_in c1 b.before) b.turn keys_b.1 ob
 
           knowing0 : of (after_in c a.before).state w ≡ known_by L w (so_far ++ first)
-          knowing0 = part_teaches w L enough a.before keys_a.0 c o ∙ (ap (known_after w (of c.state w)) a.is_before ∙ (ap (λ (k : Knowledge). known_after w k first) knowing ∙ sym (known_longer w _ so_far first)))
+          knowing0 = part_teaches w L enough a.before c o ∙ (ap (known_after w (of c.state w)) a.is_before ∙ (ap (λ (k : Knowledge). known_after w k first) knowing ∙ sym (known_longer w _ so_far first)))
 
           look : (a.turn ≡ (w, Look x (EdgeOn d))) × (outcome_in (after_in c a.before) (w, Look x (EdgeOn d)) ≡ Ok (EdgeIs (to s)))
           look = own_turn w c0 a.turn (Look x (EdgeOn d)) (EdgeIs (to s)) a.takes a.is_entry (λ v e. cc) a.is_allowed
@@ -180,7 +170,7 @@ module _ (L : Layout) (enough : 5 ≤ L.nodes) (w : ℕ) where
           knowing2 : of (next_in (after_in (next_in (after_in c a.before) a.turn) b.before) b.turn).state w ≡ known_by L w (so_far ++ (first ++ reading x d s ∷ (between ++ losing exchange found ∷ [])))
           knowing2 =
               learns (after_in c1 b.before) ob b.turn (losing exchange found) keys_b.1 b.takes b.is_allowed b.is_entry
-              ∙ (ap (λ (k : Knowledge). learn w k exchange (Lost found)) (part_teaches w L enough b.before keys_b.0 c1 o1 ∙ (ap (known_after w (of (next_in (after_in c a.before) a.turn).state w)) b.is_before
+              ∙ (ap (λ (k : Knowledge). learn w k exchange (Lost found)) (part_teaches w L enough b.before c1 o1 ∙ (ap (known_after w (of (next_in (after_in c a.before) a.turn).state w)) b.is_before
               ∙ ap (λ (k : Knowledge). known_after w k between) (learns c0 o0 a.turn (reading x d s) keys_a.1 a.takes a.is_allowed a.is_entry ∙ ap (λ (k : Knowledge). learn w k (Look x (EdgeOn d)) (EdgeIs (to s))) knowing0)))
               ∙ sym (ap (known_by L w) (sym (append_assoc so_far first (reading x d s ∷ (between ++ losing exchange found ∷ [])))) ∙ (known_longer w _ (so_far ++ first) (reading x d s ∷ (between ++ losing exchange found ∷ [])) ∙ known_longer w _ between (losing exchange found ∷ []))))
 
@@ -191,18 +181,40 @@ tries_are_lost_to_changes L enough w worker past turns keys n loses =
 
 -- ---- what pays for them
 
-four : (w : ℕ) (turns : List Turn) → number_of (changes_of_others w) turns ≤ links_in turns + (flags_in turns + (cuts_in turns + tags_in turns))
-four w [] = omega arith
-four w (t ∷ ts) = by (t.worker == w) (links_on t.event t.outcome) (flags_on t.event t.outcome) (cuts_on t.event t.outcome) (tags_on t.event t.outcome) (four w ts)
+-- what hinders a worker is a link, a flag, a splice or a tag
+few_hinder : (w : ℕ) (turns : List Turn) → number_of (hinders w) turns ≤ links_in turns + (flags_in turns + (cuts_in turns + tags_in turns))
+few_hinder w [] = omega arith
+few_hinder w (t ∷ ts) = by (t.worker == w) (links_on t.event t.outcome) (flags_on t.event t.outcome) (cuts_on t.event t.outcome) (tags_on t.event t.outcome) (few_hinder w ts)
   where
-    by : (o a b c d : Bool) → number_of (changes_of_others w) ts ≤ links_in ts + (flags_in ts + (cuts_in ts + tags_in ts))
-        → cond (not o && (a || (b || (c || d)))) 1 0 + number_of (changes_of_others w) ts ≤ (cond a 1 0 + links_in ts) + ((cond b 1 0 + flags_in ts) + ((cond c 1 0 + cuts_in ts) + (cond d 1 0 + tags_in ts)))
-    by true a b c d rest = omega (arith, rest)
+    by : (o a b c d : Bool) → number_of (hinders w) ts ≤ links_in ts + (flags_in ts + (cuts_in ts + tags_in ts))
+        → cond (cond o (c || d) (a || (b || (c || d)))) 1 0 + number_of (hinders w) ts ≤ (cond a 1 0 + links_in ts) + ((cond b 1 0 + flags_in ts) + ((cond c 1 0 + cuts_in ts) + (cond d 1 0 + tags_in ts)))
+    by true a b true d rest = omega (arith, rest)
+    by true a b false true rest = omega (arith, rest)
+    by true a b false false rest = omega (arith, rest)
     by false true b c d rest = omega (arith, rest)
     by false false true c d rest = omega (arith, rest)
     by false false false true d rest = omega (arith, rest)
     by false false false false true rest = omega (arith, rest)
     by false false false false false rest = omega (arith, rest)
+
+-- a change of another hinders
+pub others_hinder : (w : ℕ) (ts : List Turn) → number_of (changes_of_others w) ts ≤ number_of (hinders w) ts
+others_hinder w [] = omega arith
+others_hinder w (t ∷ ts) = by (t.worker == w) (links_on t.event t.outcome) (flags_on t.event t.outcome) (cuts_on t.event t.outcome) (tags_on t.event t.outcome) (others_hinder w ts)
+  where
+    by : (o a b c d : Bool) → number_of (changes_of_others w) ts ≤ number_of (hinders w) ts
+        → cond (not o && (a || (b || (c || d)))) 1 0 + number_of (changes_of_others w) ts ≤ cond (cond o (c || d) (a || (b || (c || d)))) 1 0 + number_of (hinders w) ts
+    by true a b true d rest = omega (arith, rest)
+    by true a b false true rest = omega (arith, rest)
+    by true a b false false rest = omega (arith, rest)
+    by false true b c d rest = omega (arith, rest)
+    by false false true c d rest = omega (arith, rest)
+    by false false false true d rest = omega (arith, rest)
+    by false false false false true rest = omega (arith, rest)
+    by false false false false false rest = omega (arith, rest)
+
+four : (w : ℕ) (turns : List Turn) → number_of (changes_of_others w) turns ≤ links_in turns + (flags_in turns + (cuts_in turns + tags_in turns))
+four w turns = let some = others_hinder w turns in let few = few_hinder w turns in omega (arith, some, few)
 
 pub tries_are_paid : OfEachPart TriesArePaid
 tries_are_paid L enough w worker past turns keys n loses =
@@ -220,23 +232,6 @@ tries_are_paid_ever L enough w worker turns keys n loses =
     let splices = splices_are_paid L enough turns keys in
     let tags = tags_are_paid L enough turns keys in
     omega (arith, lost, kinds, splices, tags)
-
--- ---- what hinders a worker
-
-few_hinder : (w : ℕ) (turns : List Turn) → number_of (hinders w) turns ≤ links_in turns + (flags_in turns + (cuts_in turns + tags_in turns))
-few_hinder w [] = omega arith
-few_hinder w (t ∷ ts) = by (t.worker == w) (links_on t.event t.outcome) (flags_on t.event t.outcome) (cuts_on t.event t.outcome) (tags_on t.event t.outcome) (few_hinder w ts)
-  where
-    by : (o a b c d : Bool) → number_of (hinders w) ts ≤ links_in ts + (flags_in ts + (cuts_in ts + tags_in ts))
-        → cond (cond o (c || d) (a || (b || (c || d)))) 1 0 + number_of (hinders w) ts ≤ (cond a 1 0 + links_in ts) + ((cond b 1 0 + flags_in ts) + ((cond c 1 0 + cuts_in ts) + (cond d 1 0 + tags_in ts)))
-    by true a b true d rest = omega (arith, rest)
-    by true a b false true rest = omega (arith, rest)
-    by true a b false false rest = omega (arith, rest)
-    by false true b c d rest = omega (arith, rest)
-    by false false true c d rest = omega (arith, rest)
-    by false false false true d rest = omega (arith, rest)
-    by false false false false true rest = omega (arith, rest)
-    by false false false false false rest = omega (arith, rest)
 
 pub hindrances_are_paid : HindrancesArePaid
 hindrances_are_paid L enough w past turns keys =

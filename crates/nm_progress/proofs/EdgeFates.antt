@@ -1,9 +1,9 @@
 -- What becomes of the edge of a node that is in nobody's hands, over one event and over one turn.
-use Rattle.std.proofs.Common.{◌≡◌, ℕ, ◌+◌, ◌<◌, ◌≤◌, ◌==◌, Bool, true, false, cond, ◌&&◌, ◌||◌, List, length, [], ◌∷◌, refl, sym, ap, subst, ◌∙◌, arith, true≢false, get_or-set_other}
-use Rattle.std.specs.Prelude.{Option, Some, None, nat_lt, Ok, Err}
+use Rattle.std.proofs.Common.{◌≡◌, ℕ, ◌+◌, ◌<◌, ◌≤◌, ◌==◌, Bool, true, false, cond, List, length, [], ◌∷◌, refl, sym, ap, subst, ◌∙◌, arith, true≢false, get_or-set_other}
+use Rattle.std.specs.Prelude.{Option, Some, None, Ok, Err}
 use Rattle.std.specs.List.{list_any}
 use native.Mathlib.Decide.{ℕ_discrete}
-use Rattle.std.proofs.lemmas.Bool.{cond_both, or_parts, not-false, eq-eqb, and_from}
+use Rattle.std.proofs.lemmas.Bool.{cond_both, or_parts, eq-eqb, and_from}
 use Rattle.nm_edge.specs.Edges.{Edge, to, is_to, tagged}
 use Rattle.nm_edge.specs.Layouts.{Layout}
 use Rattle.nm_edge.specs.declared.edge.Side.{Side}
@@ -16,18 +16,17 @@ use Rattle.nm_model.specs.declared.event.Field.{Field}
 use Rattle.nm_model.specs.declared.reply.Reply.{Reply}
 use Rattle.nm_model.specs.declared.reply.Reply.TheVariants.{Linked, Flagged, Was, Cut, Lost}
 use Rattle.nm_model.specs.declared.reply.Refused.{Refused}
-use Rattle.nm_model.specs.declared.reply.Refused.TheVariants.{NoSlot, NotPrivate}
 use Rattle.nm_model.specs.Maps.{is_number}
 use Rattle.nm_model.specs.Memory.{Memory, blank, node, edge, edge_of, put_edge, put_node, named}
 use Rattle.nm_model.specs.Knowledge.{knows, is_private, read}
 use Rattle.nm_model.specs.Learning.{flag_to}
-use Rattle.nm_model.specs.Step.{outside, is_edge, filled, kept, refusal, reply, write, node_linked, cut_nodes}
+use Rattle.nm_model.specs.Step.{outside, filled, kept, refusal, reply, write, node_linked, cut_nodes}
 use Rattle.nm_model.specs.Runs.{State, of, reply_of, applied, refused}
 use Rattle.nm_model.specs.Walks.{begins_anew}
 use Rattle.nm_model.specs.Ordered.{Configuration, refused_in, applied_in, disorder_in, next_in, outcome_in}
-use Rattle.nm_laws.proofs.Steps.{Allowed, allowed, passed, second}
+use Rattle.nm_laws.proofs.Steps.{Allowed, allowed, passed}
 use Rattle.nm_laws.proofs.TreeSlots.{is_to-true}
-use Rattle.nm_laws.proofs.TreeSteps.{Lawful, high_from}
+use Rattle.nm_laws.proofs.TreeSteps.{Lawful, slot_inside, fill_checked}
 use Rattle.nm_laws.proofs.Configurations.{refused_next, refused_outcome, allowed_next, allowed_outcome}
 use Rattle.nm_laws.proofs.Cuts.{shown}
 use Rattle.nm_order.proofs.TreeChanges.{won_link}
@@ -55,13 +54,6 @@ pub data EdgeFate (s : State) (w : ℕ) (e : Event) (m : Memory) (r : Reply) (x 
 module _ (s : State) (h : ℕ → ℕ) (law : Lawful s h) (w x : ℕ) (d : Side) (shared : is_private (of s w) x ≡ false) where
   abbrev Fate : Event → Memory → Reply → Type 0
   Fate e m r = EdgeFate s w e m r x d
-
-  inside_list : (y : ℕ) (least : ℕ) → outside least s.layout.nodes y ≡ false → y < length s.memory.nodes
-  inside_list y least inside = let range = high_from least s.layout.nodes y inside in let size = law.roomy.nodes in omega arith
-
-  fill_own : (y : ℕ) (f : Field) (v : ℕ) → Allowed s w (Fill y f v) → is_private (of s w) y ≡ true
-  unfolding refusal
-  fill_own y f v ok = not-false (is_private (of s w) y) (second (outside 6 s.layout.nodes y || (is_edge f && nat_lt s.layout.nodes v)) _ NoSlot NotPrivate _ ok.event)
 
   filling : (y : ℕ) (f : Field) (v : ℕ) (r : Reply) → is_private (of s w) y ≡ true → Fate (Fill y f v) (put_node s.memory y (filled (node s.memory y) f v)) r
   filling y f v r own = Kept (ap (λ (k : Node). edge_of k d) (get_or-set_other s.memory.nodes y x (filled (node s.memory y) f v) blank (λ at. true≢false (sym (ap (is_private (of s w)) at ∙ own) ∙ shared))))
@@ -103,10 +95,10 @@ module _ (s : State) (h : ℕ → ℕ) (law : Lawful s h) (w x : ℕ) (d : Side)
   pub edge_fates : (e : Event) → Allowed s w e → Fate e (write s.memory (of s w) w e) (reply_of s w e)
   unfolding write reply refusal
   edge_fates Advance ok = Kept (cond_both (is_number (of s w).brief.seen s.memory.epoch) (record s.memory { epoch = s.memory.epoch + 1 }) s.memory (λ m. edge m x d ≡ edge s.memory x d) (λ _. refl) (λ _. refl))
-  edge_fates (Fill y f v) ok = filling y f v _ (fill_own y f v ok)
+  edge_fates (Fill y f v) ok = filling y f v _ (fill_checked s w (Fill y f v) ok.event y f v refl)
   edge_fates (Link p g leaf new) ok = exchange (Link p g leaf new) (is_to (edge s.memory p g) leaf) (put_edge s.memory p g (to new)) (Linked (node_linked (of s w) new)) (Lost (edge s.memory p g)) (λ won. linking p g leaf new _ (let k = won_link s h law w p g leaf new ok won in let b = k.link.inside in let size = law.roomy.nodes in omega arith) won refl)
-  edge_fates (Flag p g leaf) ok = exchange (Flag p g leaf) (is_to (edge s.memory p g) leaf) (put_edge s.memory p g (flag_to leaf)) (Flagged (named s.memory leaf)) (Lost (edge s.memory p g)) (λ won. flagging p g leaf _ (inside_list p 1 (or_parts (outside 1 s.layout.nodes p) (outside 6 s.layout.nodes leaf) (passed _ _ _ ok.event).0).0) won refl)
-  edge_fates (Tag p g) ok = tagging p g _ (inside_list p 1 (passed _ _ _ ok.event).0) refl
+  edge_fates (Flag p g leaf) ok = exchange (Flag p g leaf) (is_to (edge s.memory p g) leaf) (put_edge s.memory p g (flag_to leaf)) (Flagged (named s.memory leaf)) (Lost (edge s.memory p g)) (λ won. flagging p g leaf _ (slot_inside s h law p 1 (or_parts (outside 1 s.layout.nodes p) (outside 6 s.layout.nodes leaf) (passed _ _ _ ok.event).0).0) won refl)
+  edge_fates (Tag p g) ok = tagging p g _ (slot_inside s h law p 1 (passed _ _ _ ok.event).0) refl
   edge_fates (Splice a g y p keep) ok = exchange (Splice a g y p keep) (is_to (edge s.memory a g) y) (put_edge s.memory a g (kept (read (of s w) p keep))) (Cut (cut_nodes s.layout s.memory (of s w) y p keep)) (Lost (edge s.memory a g)) (λ won. splicing a g y p keep _ (shown s h law w a g y p keep ok won).inside won refl)
   edge_fates e ok = Kept refl
 

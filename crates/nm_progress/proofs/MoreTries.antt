@@ -27,38 +27,44 @@ log_prefix L w xs (y ∷ ys) l = log_before L w xs y (log_prefix L w (xs ++ y �
 abbrev pub is_loud : Entry → Bool
 is_loud e = begins_anew e || changes_edge e.0 (Ok e.1)
 
+-- where no entry is of a kind, none is of a kind within it
+pub none_within : (such part : Entry → Bool) → ((e : Entry) → such e ≡ false → part e ≡ false) → (es : List Entry) → list_any such es ≡ false → list_any part es ≡ false
+none_within such part within [] none = refl
+none_within such part within (e ∷ es) none = let parts = or_parts (such e) (list_any such es) none in ap (λ (b : Bool). b || list_any part es) (within e parts.0) ∙ none_within such part within es parts.1
+
 pub quiet_pins : (es : List Entry) → list_any is_loud es ≡ false → list_any begins_anew es ≡ false
-quiet_pins [] quiet = refl
-quiet_pins (e ∷ es) quiet = by (or_parts (is_loud e) (list_any is_loud es) quiet) (quiet_pins es)
-  where
-    by : (is_loud e ≡ false) × (list_any is_loud es ≡ false) → (list_any is_loud es ≡ false → list_any begins_anew es ≡ false) → list_any begins_anew (e ∷ es) ≡ false
-    by parts rest = ap (λ (b : Bool). b || list_any begins_anew es) (or_parts (begins_anew e) (changes_edge e.0 (Ok e.1)) parts.0).0 ∙ rest parts.1
+quiet_pins = none_within is_loud begins_anew (λ e quiet. (or_parts (begins_anew e) (changes_edge e.0 (Ok e.1)) quiet).0)
 
 pub quiet_edges : (x : ℕ) (d : Side) (es : List Entry) → list_any is_loud es ≡ false → list_any (is_change x d) es ≡ false
-quiet_edges x d [] quiet = refl
-quiet_edges x d (e ∷ es) quiet = by (or_parts (is_loud e) (list_any is_loud es) quiet) (quiet_edges x d es)
-  where
-    by : (is_loud e ≡ false) × (list_any is_loud es ≡ false) → (list_any is_loud es ≡ false → list_any (is_change x d) es ≡ false) → list_any (is_change x d) (e ∷ es) ≡ false
-    by parts rest = ap (λ (b : Bool). b || list_any (is_change x d) es) (false_from_ne_true (is_change x d e) (λ is. true≢false (sym (change_is x d e.0 (Ok e.1) is) ∙ (or_parts (begins_anew e) (changes_edge e.0 (Ok e.1)) parts.0).1))) ∙ rest parts.1
+quiet_edges x d = none_within is_loud (is_change x d) (λ e quiet. false_from_ne_true (is_change x d e) (λ is. true≢false (sym (change_is x d e.0 (Ok e.1) is) ∙ (or_parts (begins_anew e) (changes_edge e.0 (Ok e.1)) quiet).1)))
 
--- a log that has grown by such entries
-pub record Plain (old new : List Entry) : Type 0 where
+-- a log that has grown by entries of which none is of a kind
+pub record AddsNone (such : Entry → Bool) (old new : List Entry) : Type 0 where
   pub entries : List Entry
   pub are : new ≡ old ++ entries
-  pub quiet : list_any is_loud entries ≡ false
+  pub quiet : list_any such entries ≡ false
+
+pub adds_these : (such : Entry → Bool) (more old new : List Entry) → list_any such more ≡ false → new ≡ old ++ more → AddsNone such old new
+adds_these such more old new quiet is = record { entries = more; are = is; quiet = quiet }
+
+pub adds_then : (such : Entry → Bool) (old mid new : List Entry) → AddsNone such old mid → AddsNone such mid new → AddsNone such old new
+adds_then such old mid new a b = record {
+  entries = a.entries ++ b.entries;
+  are = b.are ∙ (ap (λ (l : List Entry). l ++ b.entries) a.are ∙ append_assoc old a.entries b.entries);
+  quiet = list_any-append such a.entries b.entries ∙ (ap (λ (x : Bool). x || list_any such b.entries) a.quiet ∙ b.quiet);
+}
+
+abbrev pub Plain : List Entry → List Entry → Type 0
+Plain = AddsNone is_loud
 
 pub plain_none : (old new : List Entry) → new ≡ old → Plain old new
 plain_none old new is = record { entries = []; are = is ∙ sym (append-nil old); quiet = refl }
 
 pub plain_these : (more old new : List Entry) → list_any is_loud more ≡ false → new ≡ old ++ more → Plain old new
-plain_these more old new quiet is = record { entries = more; are = is; quiet = quiet }
+plain_these = adds_these is_loud
 
 pub plain_then : (old mid new : List Entry) → Plain old mid → Plain mid new → Plain old new
-plain_then old mid new a b = record {
-  entries = a.entries ++ b.entries;
-  are = b.are ∙ (ap (λ (l : List Entry). l ++ b.entries) a.are ∙ append_assoc old a.entries b.entries);
-  quiet = list_any-append is_loud a.entries b.entries ∙ (ap (λ (x : Bool). x || list_any is_loud b.entries) a.quiet ∙ b.quiet);
-}
+plain_then = adds_then is_loud
 
 -- ---- tries behind one another
 

@@ -21,11 +21,9 @@ use Rattle.nm_order.proofs.LastEntries.{known_more, PartOf, LastEntry, last_entr
 use Rattle.nm_order.proofs.LastEntries.PartOf.{Own, Resigns}
 use Rattle.nm_order.proofs.OrderedLaws.{law_of_state}
 use Rattle.nm_progress.specs.Moves.{moves_on, EpochsAreTheMoves, is_sight, MissedPinsAreMoves}
+use Rattle.nm_progress.proofs.Covers.{one_if}
 
 -- ---- the epoch
-
-abbrev one_if : Bool → ℕ
-one_if b = cond b 1 0
 
 epoch_step : (s : State) (w : ℕ) (e : Event) → (write s.memory (of s w) w e).epoch ≡ s.memory.epoch + cond (moves_on e (Ok (reply_of s w e))) 1 0
 unfolding write reply

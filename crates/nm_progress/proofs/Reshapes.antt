@@ -1,11 +1,10 @@
 -- While nothing is linked or cut off, each reached node stays, with its key and the slots to which
 -- its edges lead; and no path is longer than there are slots.
-use Rattle.std.proofs.Common.{◌≡◌, ◌≢◌, ℕ, suc, ◌+◌, ◌<◌, ◌≤◌, inl, inr, eqb, ◌==◌, Bool, true, false, cond, not, ◌&&◌, List, length, [], ◌∷◌, ◌++◌, append_assoc, refl, sym, ap, subst, ◌∙◌, arith, true≢false}
+use Rattle.std.proofs.Common.{◌≡◌, ◌≢◌, ℕ, suc, ◌+◌, ◌≤◌, eqb, ◌==◌, Bool, true, false, cond, not, ◌&&◌, List, length, [], ◌∷◌, ◌++◌, append_assoc, refl, sym, ap, subst, ◌∙◌, arith, true≢false}
 use Rattle.std.specs.Prelude.{Result, Ok, Err, All}
-use Rattle.std.specs.List.{list_any, IsDistinct, AllByRecursion}
-use Rattle.std.proofs.lemmas.Bool.{or_parts, or_cases, eqb-true, ne_eqb}
+use Rattle.std.specs.List.{list_any}
+use Rattle.std.proofs.lemmas.Bool.{or_parts, ne_eqb}
 use Rattle.std.proofs.lemmas.List.{append-nil}
-use Rattle.std.proofs.lemmas.Map.Steps.{length-le_from_distinct_below}
 use Rattle.nm_edge.specs.Edges.{Edge}
 use Rattle.nm_edge.specs.Layouts.{Layout}
 use Rattle.nm_edge.specs.declared.edge.Side.{Side}
@@ -36,6 +35,7 @@ use Rattle.nm_order.proofs.CutTurns.{uncut_stays, cut_is_splice}
 use Rattle.nm_order.proofs.OrderedMoments.{Lasting}
 use Rattle.nm_order.proofs.SetChanges.{turn_lasts}
 use Rattle.nm_order.proofs.ToldLaws.{key_told}
+use Rattle.nm_order.proofs.FrozenChains.{Within, Apart, Distinct, few}
 use Rattle.nm_progress.specs.Moves.{number_of}
 use Rattle.nm_progress.specs.Paid.{links_on, cuts_on}
 use Rattle.nm_progress.specs.Tries.{reshapes, reshapes_of_others}
@@ -45,6 +45,7 @@ use Rattle.nm_progress.proofs.EdgeFates.TurnFate.{Refuses, Makes}
 use Rattle.nm_progress.proofs.LostTries.{later_keys}
 use Rattle.nm_progress.proofs.SplitTurns.{SplitTurn, split_turn, number_split, number-append, ordered_after}
 use Rattle.nm_progress.proofs.TagsPaid.{unheld}
+use Rattle.nm_progress.proofs.Covers.{one_if}
 
 abbrev pub is_reshape : Turn → Bool
 is_reshape t = reshapes t.event t.outcome
@@ -169,9 +170,6 @@ none_reshapes (Link a b f g) x = refl
 none_reshapes (Splice a b f g h) x = refl
 none_reshapes e x = refl
 
-abbrev one_if : Bool → ℕ
-one_if b = cond b 1 0
-
 -- where a worker's own log links and cuts nothing, and no other does, nobody does
 pub nobody : (w : ℕ) (turns : List Turn) → list_any (λ (e : Entry). reshapes e.0 (Ok e.1)) (log_of w turns) ≡ false → number_of is_reshape turns ≡ number_of (reshapes_of_others w) turns
 nobody w [] none = refl
@@ -190,47 +188,6 @@ nobody w (t ∷ ts) none = go (t.worker == w) t.outcome none (nobody w ts)
     go true (Err x) none rest = let same = rest none in let zero_is = ap one_if (none_reshapes t.event x) in omega (arith, same, zero_is)
 
 -- ---- paths
-
-abbrev pub Within : ℕ → List ℕ → Type 0
-Within N [] = Unit {0}
-Within N (x ∷ xs) = ((1 ≤ x) × (x ≤ N)) × Within N xs
-
-abbrev pub Apart : ℕ → List ℕ → Type 0
-Apart x [] = Unit {0}
-Apart x (y ∷ ys) = (eqb x y ≡ false) × Apart x ys
-
-abbrev pub Distinct : List ℕ → Type 0
-Distinct [] = Unit {0}
-Distinct (x ∷ xs) = Apart x xs × Distinct xs
-
-all_apart : (x : ℕ) (xs : List ℕ) → Apart x xs → AllByRecursion (λ y. eqb x y ≡ false) xs
-all_apart x [] apart = tt
-all_apart x (y ∷ ys) apart = (apart.0, all_apart x ys apart.1)
-
-are_distinct : (xs : List ℕ) → Distinct xs → IsDistinct eqb xs
-unfolding IsDistinct
-are_distinct [] distinct = tt
-are_distinct (x ∷ xs) distinct = (all_apart x xs distinct.0, are_distinct xs distinct.1)
-
-within_is : (N : ℕ) (xs : List ℕ) → Within N xs → (q : ℕ) → list_any (eqb q) xs ≡ true → (1 ≤ q) × (q ≤ N)
-within_is N [] within q is = absurd (true≢false (sym is))
-within_is N (x ∷ xs) within q is = elim (or_cases (eqb q x) (list_any (eqb q) xs) is) [
-  | inl here ↦ rw (eqb-true q x here) within.0
-  | inr later ↦ within_is N xs within.1 q later
-]
-
-zero_apart : (N : ℕ) (xs : List ℕ) → Within N xs → Apart 0 xs
-zero_apart N [] within = tt
-zero_apart N (x ∷ xs) within = (ne_eqb 0 x (λ z. let low = within.0.0 in absurd (omega (arith, low, z))), zero_apart N xs within.1)
-
-pub few : (N : ℕ) (xs : List ℕ) → Distinct xs → Within N xs → length xs ≤ N
-few N xs distinct within = let all = length-le_from_distinct_below (0 ∷ xs) (suc N) (are_distinct (0 ∷ xs) (zero_apart N xs within, distinct)) below in omega (arith, all)
-  where
-    below : (q : ℕ) → list_any (eqb q) (0 ∷ xs) ≡ true → q < suc N
-    below q is = elim (or_cases (eqb q 0) (list_any (eqb q) xs) is) [
-      | inl here ↦ (let z = eqb-true q 0 here in omega (arith, z))
-      | inr later ↦ (let r = within_is N xs within q later in omega (arith, r))
-    ]
 
 abbrev slots_on : (ℕ → Side → ℕ) → ℕ → List Side → List ℕ
 slots_on ch s [] = s ∷ []

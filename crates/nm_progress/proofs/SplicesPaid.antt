@@ -1,5 +1,5 @@
 -- Each splice takes a flagged leaf out of the tree, and each such leaf was flagged once.
-use Rattle.std.proofs.Common.{◌≡◌, ℕ, zero, suc, ◌+◌, ◌≤◌, ◌<◌, inl, inr, ◌⊎◌, Bool, true, false, cond, List, [], ◌∷◌, map, length, refl, sym, ap, subst, ◌∙◌, arith, true≢false}
+use Rattle.std.proofs.Common.{◌≡◌, ℕ, zero, suc, ◌+◌, ◌≤◌, ◌<◌, inl, inr, ◌⊎◌, Bool, true, false, cond, List, [], ◌∷◌, map, length, refl, sym, ap, subst, ◌∙◌, arith, true≢false, ◌≢◌}
 use Rattle.std.specs.Prelude.{Option, Some, None, unwrap_or, Result, Ok, All, Contains, ◌↔◌, slice_get}
 use native.Mathlib.Decide.{ℕ_discrete}
 use Rattle.std.proofs.lemmas.Bool.{cases_lt}
@@ -36,16 +36,14 @@ use Rattle.nm_order.proofs.TurnEdges.{turn_origin, step_down}
 use Rattle.nm_order.proofs.EdgeOrigins.EdgeOrigin.{WasThere, IsFlaggedNow, LeadsToNew, LeadsNowhere}
 use Rattle.nm_order.proofs.EdgeOrigins.{EdgeOrigin}
 use Rattle.nm_order.proofs.PendingLeaves.{flag_leads_high, flag_told, owned}
+use Rattle.nm_progress.specs.Moves.{number_of}
 use Rattle.nm_progress.specs.Paid.{flags_on, cuts_on, flags_in, cuts_in, SplicesArePaid, SplicesArePaidSince}
-use Rattle.nm_progress.proofs.Covers.{Without, taken_out}
+use Rattle.nm_progress.proofs.Covers.{NextList, next_list}
 use Rattle.nm_progress.proofs.LostTries.{later_keys, answered_so}
 
-abbrev pub one_if : Bool → ℕ
-one_if b = cond b 1 0
-
--- the list has the slot of each leaf at a flagged edge of a reached node
-abbrev pub Covers : Configuration → List ℕ → Type 0
-Covers c ps = (y : ℕ) (g : Side) → Reached c.state.memory y → (edge c.state.memory y g).flag ≡ true → In ps (child c.state.memory y g)
+-- a leaf at a flagged edge of a reached node
+abbrev pub IsFlaggedLeaf : Configuration → ℕ → Type 0
+IsFlaggedLeaf c x = (y : ℕ) × (g : Side) × Reached c.state.memory y × ((edge c.state.memory y g).flag ≡ true) × (child c.state.memory y g ≡ x)
 
 -- ---- a cut names at least two nodes
 
@@ -144,71 +142,64 @@ module _ (L : Layout) (enough : 5 ≤ L.nodes) (c : Configuration) (t : ℕ × E
       by (LeadsToNew p d leaf new is unmarked held none) = absurd (true≢false (sym flag ∙ none))
       by (LeadsNowhere none) = absurd (let high = flag_leads_high L enough (next_in c t) after y g r flag in omega (arith, high, none))
 
-  -- a list that covers what is flagged, behind the turn
-  pub record NextCover (ps : List ℕ) : Type 0 where
-    pub list : List ℕ
-    pub covers : Covers (next_in c t) list
-    pub paid : length list + one_if (cuts_on t.1 (outcome_in c t)) ≤ length ps + one_if (flags_on t.1 (outcome_in c t))
-
   flags_or_cuts : (e : Event) (r : Result Reply Refused) → flags_on e r ≡ true → cuts_on e r ≡ false
   flags_or_cuts (Flag p d leaf) (Ok (Flagged n)) is = refl
   flags_or_cuts e r is = absurd (true≢false (sym is))
 
-  pub next_cover : (ps : List ℕ) → Covers c ps → NextCover ps
-  next_cover ps covers = by (flags_on t.1 (outcome_in c t)) refl (cuts_on t.1 (outcome_in c t)) refl
+  -- a list that covers what is flagged, behind the turn
+  pub next_cover : (slots : List ℕ) → ((x : ℕ) → IsFlaggedLeaf c x → In slots x) → NextList (IsFlaggedLeaf c) (IsFlaggedLeaf (next_in c t)) (flags_on t.1 (outcome_in c t)) (cuts_on t.1 (outcome_in c t)) slots
+  next_cover = next_list (IsFlaggedLeaf c) (IsFlaggedLeaf (next_in c t)) (flags_on t.1 (outcome_in c t)) (cuts_on t.1 (outcome_in c t)) (flags_or_cuts t.1 (outcome_in c t)) adds takes stays
     where
-      by : (b : Bool) → flags_on t.1 (outcome_in c t) ≡ b → (a : Bool) → cuts_on t.1 (outcome_in c t) ≡ a → NextCover ps
-      by true flags a cuts = flagged (flags_shown t.1 (outcome_in c t) flags)
+      adds : flags_on t.1 (outcome_in c t) ≡ true → (new : ℕ) × ((x : ℕ) → IsFlaggedLeaf (next_in c t) x → (x ≡ new) ⊎ IsFlaggedLeaf c x)
+      adds flags = (f.2, λ x is. on x is (flag_origin is.0 is.1 is.2 is.3))
         where
-          none : one_if (cuts_on t.1 (outcome_in c t)) ≡ 0
-          none = ap one_if (flags_or_cuts t.1 (outcome_in c t) flags)
+          f : (p : ℕ) × (d : Side) × (leaf : ℕ) × (n : NodeId) × (t.1 ≡ Flag p d leaf) × (outcome_in c t ≡ Ok (Flagged n))
+          f = flags_shown t.1 (outcome_in c t) flags
 
-          some : one_if (flags_on t.1 (outcome_in c t)) ≡ 1
-          some = ap one_if flags
+          same_leaf : (a b : ℕ) (x y : ℕ) (d g : Side) → Flag x d a ≡ Flag y g b → b ≡ a
+          same_leaf a b x y d g e = cc
 
-          flagged : (p : ℕ) × (d : Side) × (leaf : ℕ) × (n : NodeId) × (t.1 ≡ Flag p d leaf) × (outcome_in c t ≡ Ok (Flagged n)) → NextCover ps
-          flagged f = record { list = f.2 ∷ ps; covers = λ y g r flag. on y g (flag_origin y g r flag); paid = omega (arith, none, some) }
-            where
-              same_leaf : (a b : ℕ) (x y : ℕ) (d g : Side) → Flag x d a ≡ Flag y g b → b ≡ a
-              same_leaf a b x y d g e = cc
+          on : (x : ℕ) (is : IsFlaggedLeaf (next_in c t) x) → FlagOrigin is.0 is.1 → (x ≡ f.2) ⊎ IsFlaggedLeaf c x
+          on x is (Before p d reached flag leads) = inr (p, d, reached, flag, leads ∙ is.4)
+          on x is (Now leaf event at won) = inl (sym is.4 ∙ (at ∙ same_leaf f.2 leaf f.0 is.0 f.1 is.1 (sym f.4 ∙ event)))
 
-              on : (y : ℕ) (g : Side) → FlagOrigin y g → (child (next_in c t).state.memory y g ≡ f.2) ⊎ In ps (child (next_in c t).state.memory y g)
-              on y g (Before p d reached flag leads) = inr (subst (In ps) leads (covers p d reached flag))
-              on y g (Now leaf is at won) = inl (at ∙ same_leaf f.2 leaf f.0 y f.1 g (sym f.4 ∙ is))
-      by false flags true cuts = cut (takes_leaf (cuts_shown t.1 (outcome_in c t) cuts).0 (cuts_shown t.1 (outcome_in c t) cuts).1)
+      stays : flags_on t.1 (outcome_in c t) ≡ false → (x : ℕ) → IsFlaggedLeaf (next_in c t) x → IsFlaggedLeaf c x
+      stays flags x is = on (flag_origin is.0 is.1 is.2 is.3)
         where
-          some : one_if (cuts_on t.1 (outcome_in c t)) ≡ 1
-          some = ap one_if cuts
+          on : FlagOrigin is.0 is.1 → IsFlaggedLeaf c x
+          on (Before p d reached was leads) = (p, d, reached, was, leads ∙ is.4)
+          on (Now leaf event at won) = absurd (true≢false (sym won ∙ flags))
 
-          cut : TakesLeaf → NextCover ps
-          cut k = made (taken_out ps k.leaf (subst (In ps) k.leads (covers k.parent k.side k.reached k.flagged)))
-            where
-              made : Without ps k.leaf → NextCover ps
-              made w = record { list = w.rest; covers = λ y g r flag. on y g r flag (flag_origin y g r flag); paid = let size = w.shorter in omega (arith, some, size) }
-                where
-                  on : (y : ℕ) (g : Side) → Reached (next_in c t).state.memory y → (edge (next_in c t).state.memory y g).flag ≡ true → FlagOrigin y g → In w.rest (child (next_in c t).state.memory y g)
-                  on y g r flag (Before p d reached was leads) = w.others (child (next_in c t).state.memory y g) (λ at. k.gone (subst (Reached (next_in c t).state.memory) at (step_down (next_in c t).state.memory y g r (λ z. let high = flag_leads_high L enough (next_in c t) after y g r flag in absurd (omega (arith, high, z)))))) (subst (In ps) leads (covers p d reached was))
-                  on y g r flag (Now leaf is at won) = absurd (true≢false (sym won ∙ flags))
-      by false flags false cuts = record { list = ps; covers = λ y g r flag. on y g (flag_origin y g r flag); paid = let none = ap one_if cuts in omega (arith, none) }
+      takes : flags_on t.1 (outcome_in c t) ≡ false → cuts_on t.1 (outcome_in c t) ≡ true → (gone : ℕ) × IsFlaggedLeaf c gone × ((x : ℕ) → IsFlaggedLeaf (next_in c t) x → (x ≢ gone) × IsFlaggedLeaf c x)
+      takes flags cuts = (k.leaf, (k.parent, k.side, k.reached, k.flagged, k.leads), λ x is. (apart x is, stays flags x is))
         where
-          on : (y : ℕ) (g : Side) → FlagOrigin y g → In ps (child (next_in c t).state.memory y g)
-          on y g (Before p d reached was leads) = subst (In ps) leads (covers p d reached was)
-          on y g (Now leaf is at won) = absurd (true≢false (sym won ∙ flags))
+          k : TakesLeaf
+          k = takes_leaf (cuts_shown t.1 (outcome_in c t) cuts).0 (cuts_shown t.1 (outcome_in c t) cuts).1
+
+          apart : (x : ℕ) → IsFlaggedLeaf (next_in c t) x → x ≢ k.leaf
+          apart x is at = k.gone (subst (Reached (next_in c t).state.memory) (is.4 ∙ at) (step_down (next_in c t).state.memory is.0 is.1 is.2 (λ z. let high = flag_leads_high L enough (next_in c t) after is.0 is.1 is.2 is.3 in absurd (omega (arith, high, z)))))
 
 -- ---- over a run
 
 module _ (L : Layout) (enough : 5 ≤ L.nodes) where
-  pub paid_from : (turns : List (ℕ × Event)) → All (λ t. HasKey t.1) turns → (c : Configuration) → IsOrdered L c → (ps : List ℕ) → Covers c ps → cuts_in (trace_in c turns) ≤ flags_in (trace_in c turns) + length ps
+  -- what each turn takes of what was flagged, a run takes no more often than it was flagged
+  pub paid_over : (Such : Configuration → ℕ → Type 0) (takes : Event → Result Reply Refused → Bool)
+      → ((c : Configuration) (t : ℕ × Event) → HasKey t.1 → IsOrdered L c → (slots : List ℕ) → ((x : ℕ) → Such c x → In slots x) → NextList (Such c) (Such (next_in c t)) (flags_on t.1 (outcome_in c t)) (takes t.1 (outcome_in c t)) slots)
+      → (turns : List (ℕ × Event)) → All (λ t. HasKey t.1) turns → (c : Configuration) → IsOrdered L c → (slots : List ℕ) → ((x : ℕ) → Such c x → In slots x)
+      → number_of (λ t. takes t.event t.outcome) (trace_in c turns) ≤ flags_in (trace_in c turns) + length slots
   unfolding trace_in
-  paid_from [] keys c o ps covers = omega arith
-  paid_from (t ∷ ts) keys c o ps covers = by (next_cover L enough c t (keys 0 t (omega arith)) o ps covers) (paid_from ts (λ i d below. keys (suc i) d (omega (arith, below))) (next_in c t) (ordered_next L enough c t (keys 0 t (omega arith)) o))
-    where
-      by : NextCover L enough c t (keys 0 t (omega arith)) o ps → ((qs : List ℕ) → Covers (next_in c t) qs → cuts_in (trace_in (next_in c t) ts) ≤ flags_in (trace_in (next_in c t) ts) + length qs) → cuts_in (trace_in c (t ∷ ts)) ≤ flags_in (trace_in c (t ∷ ts)) + length ps
-      by n further = let rest = further n.list n.covers in let one = n.paid in omega (arith, rest, one)
+  paid_over Such takes step [] keys c o slots covers = omega arith
+  paid_over Such takes step (t ∷ ts) keys c o slots covers =
+      let n = step c t (keys 0 t (omega arith)) o slots covers in
+      let rest = paid_over Such takes step ts (λ i d below. keys (suc i) d (omega (arith, below))) (next_in c t) (ordered_next L enough c t (keys 0 t (omega arith)) o) n.list n.covers in
+      let one = n.paid in omega (arith, rest, one)
 
-  pub no_flags : Covers (ordered L) []
+  pub paid_from : (turns : List (ℕ × Event)) → All (λ t. HasKey t.1) turns → (c : Configuration) → IsOrdered L c → (slots : List ℕ) → ((x : ℕ) → IsFlaggedLeaf c x → In slots x) → cuts_in (trace_in c turns) ≤ flags_in (trace_in c turns) + length slots
+  paid_from = paid_over IsFlaggedLeaf cuts_on (next_cover L enough)
+
+  pub no_flags : (x : ℕ) → IsFlaggedLeaf (ordered L) x → In [] x
   unfolding after_in
-  no_flags y g r flag = let u = owned L enough [] (λ i d below. absurd (omega (arith, below))) y g r flag in absurd (none-some _ (sym (ap (λ (S : Search). S.flagged) (repeated L.workers u.0 idle)) ∙ u.1))
+  no_flags x is = let u = owned L enough [] (λ i d below. absurd (omega (arith, below))) is.0 is.1 is.2 is.3 in absurd (none-some _ (sym (ap (λ (S : Search). S.flagged) (repeated L.workers u.0 idle)) ∙ u.1))
 
 pub splices_are_paid : OfEachOrderedRun SplicesArePaid
 unfolding after_in
@@ -252,10 +243,11 @@ module _ (L : Layout) (enough : 5 ≤ L.nodes) where
     | inr past ↦ absurd (none-some m (sym (ap (λ (S : Search). S.flagged) (ap (λ (l : Option (List Search)). search_of (unwrap_or l []) u) o.are ∙ get_or_past o.searches u idle (let size = o.law.sized in let same = ap (λ (m : Layout). m.workers) (layout_is L enough c o) in omega (arith, size, same, past)))) ∙ is))
   ]
 
-  pub covered : (past : List (ℕ × Event)) → All (λ t. HasKey t.1) past → Covers (after_in (ordered L) past) (pending (after_in (ordered L) past) L.workers)
-  covered past keys y g r flag =
-      let u = owned L enough past keys y g r flag in
-      has_pending (after_in (ordered L) past) u.0 (named (after_in (ordered L) past).state.memory (child (after_in (ordered L) past).state.memory y g)) u.1 L.workers (is_worker (after_in (ordered L) past) (each_ordered L enough past keys) u.0 _ u.1)
+  pub covered : (past : List (ℕ × Event)) → All (λ t. HasKey t.1) past → (x : ℕ) → IsFlaggedLeaf (after_in (ordered L) past) x → In (pending (after_in (ordered L) past) L.workers) x
+  covered past keys x is =
+      let u = owned L enough past keys is.0 is.1 is.2 is.3 in
+      subst (In (pending (after_in (ordered L) past) L.workers)) is.4
+      (has_pending (after_in (ordered L) past) u.0 (named (after_in (ordered L) past).state.memory (child (after_in (ordered L) past).state.memory is.0 is.1)) u.1 L.workers (is_worker (after_in (ordered L) past) (each_ordered L enough past keys) u.0 _ u.1))
 
 pub splices_are_paid_since : SplicesArePaidSince
 splices_are_paid_since L enough past turns keys =

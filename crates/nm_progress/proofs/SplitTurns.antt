@@ -9,17 +9,16 @@ use Rattle.nm_model.specs.declared.event.Event.{Event}
 use Rattle.nm_model.specs.declared.reply.Reply.{Reply}
 use Rattle.nm_model.specs.declared.reply.Refused.{Refused}
 use Rattle.nm_model.specs.declared.trace.Turn.{Turn}
-use Rattle.nm_model.specs.Knowledge.{Knowledge}
 use Rattle.nm_model.specs.Learning.{learn}
 use Rattle.nm_model.specs.Runs.{State, of, reply_of}
 use Rattle.nm_model.specs.Walks.{Entry, logged_by, log_of}
 use Rattle.nm_model.specs.Ordered.{Configuration, refused_in, next_in, outcome_in, after_in, trace_in}
-use Rattle.nm_laws.proofs.Steps.{Allowed, allowed}
+use Rattle.nm_laws.proofs.Steps.{allowed}
 use Rattle.nm_laws.proofs.Configurations.{refused_next, allowed_by_state}
 use Rattle.nm_order.specs.Intervals.{HasKey}
 use Rattle.nm_order.specs.Logs.{is_leaver, takes_part, part_of, known_after}
 use Rattle.nm_order.proofs.OrderedLaws.{IsOrdered, ordered_next, law_of_state}
-use Rattle.nm_order.proofs.PartsOfRuns.{partaking, apart, refused_adds, others_add, own_adds, next_state}
+use Rattle.nm_order.proofs.PartsOfRuns.{partaking, refused_adds, others_add, own_adds, next_state, tells}
 use Rattle.nm_order.proofs.WalksOfRuns.{trace_in-append}
 use Rattle.nm_progress.specs.Moves.{number_of}
 
@@ -106,24 +105,8 @@ module _ (w : ℕ) where
     ordered_after [] keys c o = o
     ordered_after (t ∷ ts) keys c o = ordered_after ts (λ i d below. keys (suc i) d (omega (arith, below))) (next_in c t) (ordered_next L enough c t (keys 0 t (omega arith)) o)
 
-    pub part_teaches : (ts : List (ℕ × Event)) → All (λ t. HasKey t.1) ts → (c : Configuration) → IsOrdered L c → of (after_in c ts).state w ≡ known_after w (of c.state w) (part_of w (trace_in c ts))
-    unfolding after_in trace_in
-    part_teaches [] keys c o = refl
-    part_teaches (t ∷ ts) keys c o = go (refused_in c t.0 t.1) refl (part_teaches ts (λ i d below. keys (suc i) d (omega (arith, below))) (next_in c t) (ordered_next L enough c t (keys 0 t (omega arith)) o))
-      where
-        go : (q : Option Refused) → refused_in c t.0 t.1 ≡ q → of (after_in (next_in c t) ts).state w ≡ known_after w (of (next_in c t).state w) (part_of w (trace_in (next_in c t) ts))
-            → of (after_in (next_in c t) ts).state w ≡ known_after w (of c.state w) (part_of w (trace_in c (t ∷ ts)))
-        go (Some r) is rest = rest ∙ (ap (λ (d : Configuration). known_after w (of d.state w) (part_of w (trace_in d ts))) (refused_next c t r is) ∙ sym (ap (known_after w (of c.state w)) (refused_adds w c t ts r is)))
-        go None is rest = by (takes_part w t.0 t.1) refl
-          where
-            ok : Allowed c.state t.0 t.1
-            ok = allowed c.state t.0 t.1 (allowed_by_state c t.0 t.1 is)
-
-            by : (b : Bool) → takes_part w t.0 t.1 ≡ b → of (after_in (next_in c t) ts).state w ≡ known_after w (of c.state w) (part_of w (trace_in c (t ∷ ts)))
-            by true takes = rest ∙ (ap (λ (k : Knowledge). known_after w k (part_of w (trace_in (next_in c t) ts))) (ap (λ (s : State). of s w) (next_state w c t is) ∙ partaking c.state (law_of_state L enough c o).1.staffed t.0 w t.1 ok takes)
-                ∙ sym (ap (known_after w (of c.state w)) (own_adds w c t ts is takes)))
-            by false none = rest ∙ (ap (λ (k : Knowledge). known_after w k (part_of w (trace_in (next_in c t) ts))) (ap (λ (s : State). of s w) (next_state w c t is) ∙ apart c.state (law_of_state L enough c o).1.staffed t.0 w t.1 ok none)
-                ∙ sym (ap (known_after w (of c.state w)) (others_add w c t ts is none)))
+    pub part_teaches : (ts : List (ℕ × Event)) → (c : Configuration) → IsOrdered L c → of (after_in c ts).state w ≡ known_after w (of c.state w) (part_of w (trace_in c ts))
+    part_teaches ts c o = tells w ts c (law_of_state L enough c o).1.staffed
 
     -- a turn in which it takes part
     pub turn_teaches : (c : Configuration) → IsOrdered L c → (t : ℕ × Event) → takes_part w t.0 t.1 ≡ true → refused_in c t.0 t.1 ≡ None → of (next_in c t).state w ≡ learn w (of c.state w) t.1 (reply_of c.state t.0 t.1)

@@ -1,7 +1,7 @@
 -- Each tag of an edge without a mark is paid by the flag of the leaf beside it.
-use Rattle.std.proofs.Common.{◌≡◌, ◌≢◌, ℕ, suc, ◌+◌, ◌≤◌, ◌<◌, inl, inr, ◌⊎◌, eqb, ◌==◌, Bool, true, false, cond, not, ◌&&◌, List, [], ◌∷◌, ◌++◌, length, refl, sym, ap, subst, ◌∙◌, arith, true≢false}
-use Rattle.std.specs.Prelude.{Option, Some, None, is_none, Result, Ok, Err, All}
-use Rattle.std.proofs.lemmas.Bool.{cond-true, and_parts, and_from, eqb-true, eq-eqb, not-false, false_from_ne_true}
+use Rattle.std.proofs.Common.{◌≡◌, ◌≢◌, ℕ, ◌≤◌, ◌<◌, inl, inr, ◌⊎◌, eqb, ◌==◌, Bool, true, false, cond, not, ◌&&◌, List, [], ◌∷◌, ◌++◌, length, refl, sym, ap, subst, ◌∙◌, arith, true≢false}
+use Rattle.std.specs.Prelude.{Option, Some, None, Result, Ok, Err, All}
+use Rattle.std.proofs.lemmas.Bool.{cond-true, and_parts, and_from, eqb-true, eq-eqb, false_from_ne_true}
 use Rattle.nm_edge.specs.Edges.{Edge, to, other, is_to, tagged, untagged}
 use Rattle.nm_edge.specs.Layouts.{Layout}
 use Rattle.nm_edge.specs.declared.edge.Side.{Side}
@@ -11,23 +11,23 @@ use Rattle.nm_model.specs.declared.event.Event.TheVariants.{Link, Flag, Tag, Spl
 use Rattle.nm_model.specs.declared.reply.Reply.{Reply}
 use Rattle.nm_model.specs.declared.reply.Reply.TheVariants.{Linked, Flagged, Was, Cut, Lost}
 use Rattle.nm_model.specs.declared.reply.Refused.{Refused}
-use Rattle.nm_model.specs.declared.reply.Refused.TheVariants.{NoSlot, NotPinned, NotHeld, NotFrozen}
 use Rattle.nm_model.specs.Memory.{Memory, edge, child, put_edge}
 use Rattle.nm_model.specs.Knowledge.{knows, is_private, read, is_tagged, is_flagged, slot_read}
 use Rattle.nm_model.specs.Paths.{follow, Reached}
-use Rattle.nm_model.specs.Step.{outside, cut_nodes, kept, refusal, reply, write}
+use Rattle.nm_model.specs.Step.{cut_nodes, kept, reply, write}
 use Rattle.nm_model.specs.Runs.{State, of, reply_of, applied}
-use Rattle.nm_model.specs.Ordered.{Configuration, ordered, refused_in, applied_in, next_in, outcome_in, after_in, trace_in}
+use Rattle.nm_model.specs.Ordered.{Configuration, ordered, refused_in, applied_in, next_in, outcome_in, after_in}
 use Rattle.nm_laws.proofs.Configurations.{allowed_next, allowed_by_state}
 use Rattle.nm_laws.proofs.Outcomes.{same_reply, no_reply}
 use Rattle.nm_laws.proofs.ListOrders.{In}
-use Rattle.nm_laws.proofs.Steps.{Allowed, allowed, third, fourth}
+use Rattle.nm_laws.proofs.Steps.{Allowed, allowed}
 use Rattle.nm_laws.proofs.Trees.{same_side, same_side-refl, follow-append}
-use Rattle.nm_laws.proofs.TreeSteps.{Lawful}
+use Rattle.nm_laws.proofs.TreeSteps.{Lawful, tag_checked, tag_not_null}
 use Rattle.nm_laws.proofs.Cuts.{Shown, shown}
 use Rattle.nm_laws.proofs.Pictures.{IsLive, IsOnPath, reached_live}
 use Rattle.nm_laws.proofs.Splices.{live_on_path, unmarked_not_queued}
 use Rattle.nm_laws.proofs.Views.{picture, edge_put}
+use Rattle.nm_laws.proofs.TreeSlots.{flag_known}
 use Rattle.nm_order.specs.Intervals.{HasKey}
 use Rattle.nm_order.specs.Exchanges.{is_won_link}
 use Rattle.nm_order.specs.Moments.{OfEachOrderedRun}
@@ -43,11 +43,11 @@ use Rattle.nm_order.proofs.EdgeOrigins.EdgeOrigin.{WasThere, IsFlaggedNow, Leads
 use Rattle.nm_order.proofs.EdgeOrigins.{EdgeOrigin}
 use Rattle.nm_order.proofs.PendingLeaves.{flag_leads_high}
 use Rattle.nm_progress.specs.Changes.{is_bare}
-use Rattle.nm_progress.specs.Paid.{flags_on, tags_on, flags_in, tags_in, TagsArePaid, TagsArePaidSince}
-use Rattle.nm_progress.proofs.Covers.{Without, taken_out}
+use Rattle.nm_progress.specs.Paid.{flags_on, tags_on, TagsArePaid, TagsArePaidSince}
+use Rattle.nm_progress.proofs.Covers.{NextList, next_list}
 use Rattle.nm_progress.proofs.OneParents.{one_parent}
 use Rattle.nm_progress.proofs.LostTries.{later_keys, answered_so}
-use Rattle.nm_progress.proofs.SplicesPaid.{one_if, flags_shown, no_flags, pending, few_pending, covered}
+use Rattle.nm_progress.proofs.SplicesPaid.{flags_shown, paid_over, no_flags, pending, few_pending, covered}
 use Rattle.nm_progress.proofs.EdgeFates.{EdgeFate, TurnFate, turn_fates}
 use Rattle.nm_progress.proofs.EdgeFates.EdgeFate.{Kept, IsLinked, IsFlagged, IsTagged, IsSpliced}
 use Rattle.nm_progress.proofs.EdgeFates.TurnFate.{Refuses, Makes}
@@ -78,17 +78,9 @@ tags_shown : (e : Event) (o : Result Reply Refused) → tags_on e o ≡ true →
 tags_shown (Tag p d) (Ok (Was e)) is = (p, d, e, refl, refl, is)
 tags_shown e o is = absurd (true≢false (sym is))
 
--- each leaf at a flagged edge of a reached node, but where the edge beside is tagged and not
--- flagged
-abbrev pub CoversUncut : Configuration → List ℕ → Type 0
-CoversUncut c ps = (y : ℕ) (g : Side) → Reached c.state.memory y → (edge c.state.memory y g).flag ≡ true → is_pure (edge c.state.memory y (other g)) ≡ false → In ps (child c.state.memory y g)
-
-tag_asks : (s : State) (w p : ℕ) (d : Side) → Allowed s w (Tag p d) → (knows (of s w) p ≡ true) × (is_flagged (read (of s w) p (other d)) ≡ true)
-unfolding refusal
-tag_asks s w p d ok = (
-  not-false (knows (of s w) p) (third (outside 1 s.layout.nodes p) (is_none (of s w).brief.pin) (not (knows (of s w) p)) NoSlot NotPinned NotHeld _ ok.event),
-  not-false (is_flagged (read (of s w) p (other d))) (fourth (outside 1 s.layout.nodes p) (is_none (of s w).brief.pin) (not (knows (of s w) p)) (not (is_flagged (read (of s w) p (other d)))) NoSlot NotPinned NotHeld NotFrozen _ ok.event),
-)
+-- such a leaf, but where the edge beside is tagged and not flagged
+abbrev pub IsUncutLeaf : Configuration → ℕ → Type 0
+IsUncutLeaf c x = (y : ℕ) × (g : Side) × Reached c.state.memory y × ((edge c.state.memory y g).flag ≡ true) × (is_pure (edge c.state.memory y (other g)) ≡ false) × (child c.state.memory y g ≡ x)
 
 tag_writes : (s : State) (w p : ℕ) (d : Side) → write s.memory (of s w) w (Tag p d) ≡ put_edge s.memory p d (tagged (edge s.memory p d))
 unfolding write
@@ -327,7 +319,7 @@ module _ (L : Layout) (enough : 5 ≤ L.nodes) (c : Configuration) (t : ℕ × E
           ok = subst (Allowed c.state t.0) k.3 (may (Was k.2) k.4)
 
           asks : (knows (of c.state t.0) k.0 ≡ true) × (is_flagged (read (of c.state t.0) k.0 (other k.1)) ≡ true)
-          asks = tag_asks c.state t.0 k.0 k.1 ok
+          asks = tag_checked c.state t.0 k.0 k.1 ok.event
 
           differ : (ns : List NodeId) → Was k.2 ≡ Cut ns → ⊥
           differ ns e = cc
@@ -342,11 +334,7 @@ module _ (L : Layout) (enough : 5 ≤ L.nodes) (c : Configuration) (t : ℕ × E
           unmarked = bare_parts (edge c.state.memory k.0 k.1) (ap is_bare (sym was_is) ∙ k.5)
 
           flagged : (edge c.state.memory k.0 (other k.1)).flag ≡ true
-          flagged = by (read (of c.state t.0) k.0 (other k.1)) refl asks.1
-            where
-              by : (o : Option Edge) → read (of c.state t.0) k.0 (other k.1) ≡ o → is_flagged o ≡ true → (edge c.state.memory k.0 (other k.1)).flag ≡ true
-              by None is f = absurd (true≢false (sym f))
-              by (Some e) is f = (law.1.tree.flag_read t.0 k.0 (other k.1) e is f).0
+          flagged = (flag_known c.state.layout.nodes c.state.memory (of c.state) law.0 t.0 k.0 (other k.1) law.1.tree asks.1).0
 
           live : IsLive (picture c.state law.0) k.0
           live = live_then c.state law.0 law.1 t.0 k.0 asks.0
@@ -354,11 +342,8 @@ module _ (L : Layout) (enough : 5 ≤ L.nodes) (c : Configuration) (t : ℕ × E
           range : (1 ≤ k.0) × (k.0 ≤ c.state.layout.nodes)
           range = law.1.tree.known t.0 k.0 asks.0
 
-          high : 6 ≤ child c.state.memory k.0 (other k.1)
-          high = law.1.tree.flags k.0 (other k.1) live flagged
-
           there : child c.state.memory k.0 k.1 ≢ 0
-          there z = absurd (let null = law.1.tree.twins k.0 k.1 live z in omega (arith, high, null))
+          there = tag_not_null c.state law.0 law.1 t.0 k.0 k.1 ok.event
 
           on_path : IsOnPath (picture c.state law.0) k.0
           on_path = live_on_path c.state.layout.nodes (picture c.state law.0) k.0 law.1.tree live (λ z. absurd (omega (arith, range, z))) range.1 (unmarked_not_queued c.state.layout.nodes (picture c.state law.0) k.0 k.1 (child c.state.memory k.0 k.1) law.1.tree unmarked there)
@@ -399,84 +384,58 @@ module _ (L : Layout) (enough : 5 ≤ L.nodes) (c : Configuration) (t : ℕ × E
 
   -- ---- a list behind the turn
 
-  pub record NextUncut (ps : List ℕ) : Type 0 where
-    pub list : List ℕ
-    pub covers : CoversUncut (next_in c t) list
-    pub paid : length list + one_if (tags_on t.1 (outcome_in c t)) ≤ length ps + one_if (flags_on t.1 (outcome_in c t))
-
   flags_or_tags : (e : Event) (r : Result Reply Refused) → flags_on e r ≡ true → tags_on e r ≡ false
   flags_or_tags (Flag p d leaf) (Ok (Flagged n)) is = refl
   flags_or_tags e r is = absurd (true≢false (sym is))
 
-  pub next_uncut : (ps : List ℕ) → CoversUncut c ps → NextUncut ps
-  next_uncut ps covers = by (flags_on t.1 (outcome_in c t)) refl (tags_on t.1 (outcome_in c t)) refl
+  pub next_uncut : (slots : List ℕ) → ((x : ℕ) → IsUncutLeaf c x → In slots x) → NextList (IsUncutLeaf c) (IsUncutLeaf (next_in c t)) (flags_on t.1 (outcome_in c t)) (tags_on t.1 (outcome_in c t)) slots
+  next_uncut = next_list (IsUncutLeaf c) (IsUncutLeaf (next_in c t)) (flags_on t.1 (outcome_in c t)) (tags_on t.1 (outcome_in c t)) (flags_or_tags t.1 (outcome_in c t)) adds takes stays
     where
-      by : (b : Bool) → flags_on t.1 (outcome_in c t) ≡ b → (a : Bool) → tags_on t.1 (outcome_in c t) ≡ a → NextUncut ps
-      by true flags a tags = flagged (flags_shown t.1 (outcome_in c t) flags)
+      adds : flags_on t.1 (outcome_in c t) ≡ true → (new : ℕ) × ((x : ℕ) → IsUncutLeaf (next_in c t) x → (x ≡ new) ⊎ IsUncutLeaf c x)
+      adds flags = (f.2, λ x is. on x is (uncut_origin is.0 is.1 is.2 is.3 is.4))
         where
-          none : one_if (tags_on t.1 (outcome_in c t)) ≡ 0
-          none = ap one_if (flags_or_tags t.1 (outcome_in c t) flags)
+          f : (p : ℕ) × (d : Side) × (leaf : ℕ) × (n : NodeId) × (t.1 ≡ Flag p d leaf) × (outcome_in c t ≡ Ok (Flagged n))
+          f = flags_shown t.1 (outcome_in c t) flags
 
-          some : one_if (flags_on t.1 (outcome_in c t)) ≡ 1
-          some = ap one_if flags
+          same_leaf : (a b : ℕ) (x y : ℕ) (d g : Side) → Flag x d a ≡ Flag y g b → b ≡ a
+          same_leaf a b x y d g e = cc
 
-          flagged : (p : ℕ) × (d : Side) × (leaf : ℕ) × (n : NodeId) × (t.1 ≡ Flag p d leaf) × (outcome_in c t ≡ Ok (Flagged n)) → NextUncut ps
-          flagged f = record { list = f.2 ∷ ps; covers = λ y g r flag uncut. on y g (uncut_origin y g r flag uncut); paid = omega (arith, none, some) }
+          on : (x : ℕ) (is : IsUncutLeaf (next_in c t) x) → UncutOrigin is.0 is.1 → (x ≡ f.2) ⊎ IsUncutLeaf c x
+          on x is (Before p d reached flag uncut leads) = inr (p, d, reached, flag, uncut, leads ∙ is.5)
+          on x is (Now leaf event at won) = inl (sym is.5 ∙ (at ∙ same_leaf f.2 leaf f.0 is.0 f.1 is.1 (sym f.4 ∙ event)))
+
+      stays : flags_on t.1 (outcome_in c t) ≡ false → (x : ℕ) → IsUncutLeaf (next_in c t) x → IsUncutLeaf c x
+      stays flags x is = on (uncut_origin is.0 is.1 is.2 is.3 is.4)
+        where
+          on : UncutOrigin is.0 is.1 → IsUncutLeaf c x
+          on (Before p d reached was pure leads) = (p, d, reached, was, pure, leads ∙ is.5)
+          on (Now leaf event at won) = absurd (true≢false (sym won ∙ flags))
+
+      takes : flags_on t.1 (outcome_in c t) ≡ false → tags_on t.1 (outcome_in c t) ≡ true → (gone : ℕ) × IsUncutLeaf c gone × ((x : ℕ) → IsUncutLeaf (next_in c t) x → (x ≢ gone) × IsUncutLeaf c x)
+      takes flags tags = (child c.state.memory k.node (other k.side), (k.node, other k.side, k.reached, k.flagged, k.uncut, refl), λ x is. (apart x is, stays flags x is))
+        where
+          k : PaysTag
+          k = pays_tag tags
+
+          apart : (x : ℕ) → IsUncutLeaf (next_in c t) x → x ≢ child c.state.memory k.node (other k.side)
+          apart x is at = true≢false (sym k.cut ∙ (ap (λ (z : ℕ). is_pure (edge (next_in c t).state.memory z k.side)) (sym one.0) ∙ (ap (λ (f : Side). is_pure (edge (next_in c t).state.memory is.0 f)) (sym (ap other one.1 ∙ twice_other k.side)) ∙ is.4)))
             where
-              same_leaf : (a b : ℕ) (x y : ℕ) (d g : Side) → Flag x d a ≡ Flag y g b → b ≡ a
-              same_leaf a b x y d g e = cc
+              some_child : child (next_in c t).state.memory is.0 is.1 ≢ 0
+              some_child z = let high = flag_leads_high L enough (next_in c t) after is.0 is.1 is.2 is.3 in absurd (omega (arith, high, z))
 
-              on : (y : ℕ) (g : Side) → UncutOrigin y g → (child (next_in c t).state.memory y g ≡ f.2) ⊎ In ps (child (next_in c t).state.memory y g)
-              on y g (Before p d reached flag uncut leads) = inr (subst (In ps) leads (covers p d reached flag uncut))
-              on y g (Now leaf is at won) = inl (at ∙ same_leaf f.2 leaf f.0 y f.1 g (sym f.4 ∙ is))
-      by false flags true tags = tag (pays_tag tags)
-        where
-          some : one_if (tags_on t.1 (outcome_in c t)) ≡ 1
-          some = ap one_if tags
-
-          tag : PaysTag → NextUncut ps
-          tag k = made (taken_out ps (child c.state.memory k.node (other k.side)) (covers k.node (other k.side) k.reached k.flagged k.uncut))
-            where
-              made : Without ps (child c.state.memory k.node (other k.side)) → NextUncut ps
-              made w = record { list = w.rest; covers = λ y g r flag uncut. on y g r flag uncut (uncut_origin y g r flag uncut); paid = let size = w.shorter in omega (arith, some, size) }
-                where
-                  apart : (y : ℕ) (g : Side) → Reached (next_in c t).state.memory y → (edge (next_in c t).state.memory y g).flag ≡ true → is_pure (edge (next_in c t).state.memory y (other g)) ≡ false → child (next_in c t).state.memory y g ≢ child c.state.memory k.node (other k.side)
-                  apart y g r flag uncut at = true≢false (sym k.cut ∙ (ap (λ (z : ℕ). is_pure (edge (next_in c t).state.memory z k.side)) (sym one.0) ∙ (ap (λ (f : Side). is_pure (edge (next_in c t).state.memory y f)) (sym (ap other one.1 ∙ twice_other k.side)) ∙ uncut)))
-                    where
-                      some_child : child (next_in c t).state.memory y g ≢ 0
-                      some_child z = let high = flag_leads_high L enough (next_in c t) after y g r flag in absurd (omega (arith, high, z))
-
-                      one : (y ≡ k.node) × (g ≡ other k.side)
-                      one = one_parent L enough (next_in c t) after y k.node g (other k.side) r k.stays some_child (at ∙ sym k.same)
-
-                  on : (y : ℕ) (g : Side) → Reached (next_in c t).state.memory y → (edge (next_in c t).state.memory y g).flag ≡ true → is_pure (edge (next_in c t).state.memory y (other g)) ≡ false → UncutOrigin y g → In w.rest (child (next_in c t).state.memory y g)
-                  on y g r flag uncut (Before p d reached was pure leads) = w.others (child (next_in c t).state.memory y g) (apart y g r flag uncut) (subst (In ps) leads (covers p d reached was pure))
-                  on y g r flag uncut (Now leaf is at won) = absurd (true≢false (sym won ∙ flags))
-      by false flags false tags = record { list = ps; covers = λ y g r flag uncut. on y g (uncut_origin y g r flag uncut); paid = let none = ap one_if tags in omega (arith, none) }
-        where
-          on : (y : ℕ) (g : Side) → UncutOrigin y g → In ps (child (next_in c t).state.memory y g)
-          on y g (Before p d reached was pure leads) = subst (In ps) leads (covers p d reached was pure)
-          on y g (Now leaf is at won) = absurd (true≢false (sym won ∙ flags))
+              one : (is.0 ≡ k.node) × (is.1 ≡ other k.side)
+              one = one_parent L enough (next_in c t) after is.0 k.node is.1 (other k.side) is.2 k.stays some_child (is.5 ∙ (at ∙ sym k.same))
 
 -- ---- over a run
-
-module _ (L : Layout) (enough : 5 ≤ L.nodes) where
-  pub tags_paid_from : (turns : List (ℕ × Event)) → All (λ t. HasKey t.1) turns → (c : Configuration) → IsOrdered L c → (ps : List ℕ) → CoversUncut c ps → tags_in (trace_in c turns) ≤ flags_in (trace_in c turns) + length ps
-  unfolding trace_in
-  tags_paid_from [] keys c o ps covers = omega arith
-  tags_paid_from (t ∷ ts) keys c o ps covers = by (next_uncut L enough c t (keys 0 t (omega arith)) o ps covers) (tags_paid_from ts (λ i d below. keys (suc i) d (omega (arith, below))) (next_in c t) (ordered_next L enough c t (keys 0 t (omega arith)) o))
-    where
-      by : NextUncut L enough c t (keys 0 t (omega arith)) o ps → ((qs : List ℕ) → CoversUncut (next_in c t) qs → tags_in (trace_in (next_in c t) ts) ≤ flags_in (trace_in (next_in c t) ts) + length qs) → tags_in (trace_in c (t ∷ ts)) ≤ flags_in (trace_in c (t ∷ ts)) + length ps
-      by n further = let rest = further n.list n.covers in let one = n.paid in omega (arith, rest, one)
 
 pub tags_are_paid : OfEachOrderedRun TagsArePaid
 unfolding after_in
 tags_are_paid L enough turns keys =
-    let all = tags_paid_from L enough turns keys (ordered L) (each_ordered L enough [] (λ i d below. absurd (omega (arith, below)))) [] (λ y g r flag uncut. no_flags L enough y g r flag) in omega (arith, all)
+    let all = paid_over L enough IsUncutLeaf tags_on (next_uncut L enough) turns keys (ordered L) (each_ordered L enough [] (λ i d below. absurd (omega (arith, below)))) [] (λ x is. no_flags L enough x (is.0, is.1, is.2, is.3, is.5)) in omega (arith, all)
 
 pub tags_are_paid_since : TagsArePaidSince
 tags_are_paid_since L enough past turns keys =
     let before : All (λ t. HasKey t.1) past = first_keys past turns keys in
-    let all = tags_paid_from L enough turns (later_keys past turns keys) (after_in (ordered L) past) (each_ordered L enough past before) (pending (after_in (ordered L) past) L.workers) (λ y g r flag uncut. covered L enough past before y g r flag) in
+    let all = paid_over L enough IsUncutLeaf tags_on (next_uncut L enough) turns (later_keys past turns keys) (after_in (ordered L) past) (each_ordered L enough past before) (pending (after_in (ordered L) past) L.workers) (λ x is. covered L enough past before x (is.0, is.1, is.2, is.3, is.5)) in
     let few = few_pending (after_in (ordered L) past) L.workers in
     omega (arith, all, few)

@@ -3,7 +3,7 @@ use Rattle.std.proofs.Common.{◌≡◌, ℕ, ◌^◌, ◌<◌, ◌≤◌, Bool,
 use Rattle.std.specs.Prelude.{Option, Some, None, IsSome, is_none, is_some, nat_lt, unwrap_or}
 use Rattle.std.proofs.lemmas.Bool.{or_parts, leb-false}
 use Rattle.std.proofs.lemmas.Option.{none-some}
-use Rattle.nm_edge.specs.Edges.{Edge, IsEdge, edge_in, is_word, unpacked, word_of}
+use Rattle.nm_edge.specs.Edges.{Edge, edge_in, is_word, unpacked, word_of}
 use Rattle.nm_edge.specs.Layouts.{Layout, IsLayout}
 use Rattle.nm_edge.specs.Words.{IsSlot, IsField, at_edge}
 use Rattle.nm_edge.specs.declared.edge.Side.{Side}
@@ -15,7 +15,7 @@ use Rattle.nm_model.specs.declared.memory.Node.{Node}
 use Rattle.nm_model.specs.Memory.{Memory, edge, blank, opening}
 use Rattle.nm_model.specs.Knowledge.{Knowledge, draft_of, is_private}
 use Rattle.nm_model.specs.Step.{refusal, outside, is_edge, others_scanned, is_held_back, last_number}
-use Rattle.nm_model.specs.Runs.{State, of, start}
+use Rattle.nm_model.specs.Runs.{of}
 use Rattle.nm_model.specs.Walks.{Entry}
 use Rattle.nm_model.specs.Ordered.{ordered, after_in}
 use Rattle.nm_model.specs.Lawful.{EpochsAgree}
@@ -26,17 +26,15 @@ use Rattle.nm_order.specs.Logs.{known_by, IsLogOf}
 use Rattle.nm_order.proofs.HeldSlots.{hands_are_apart}
 use Rattle.nm_order.proofs.PartsOfRuns.{logs_tell}
 use Rattle.nm_order.proofs.OrderedLaws.{IsOrdered, each_ordered}
-use Rattle.nm_words.specs.Packing.{Fits, InRange, StateFits, StateIsInRange, NullEdgesAreUnmarked, word_at, field_of, touched_field}
-use Rattle.nm_words.proofs.PackedEvents.{each_state_fits}
+use Rattle.nm_words.specs.Packing.{StateIsInRange, word_at, field_of, touched_field}
 use Rattle.nm_words.proofs.PackedReads.{each_word_is_its_field}
 use Rattle.nm_edge.proofs.Packing.{unpacked_word}
 use Rattle.nm_edge.proofs.Words.{places_are_rows}
-use Rattle.nm_words.proofs.MarkedEdges.{each_null_unmarked}
 use Rattle.nm_words.proofs.PackedSizes.{each_state_in_range}
-use Rattle.nm_laws.proofs.Reachable.{layout_kept}
 use Rattle.nm_laws.proofs.TreeSteps.{high_from}
 use Rattle.nm_steps.specs.Rules.{is_store, IsFound}
 use Rattle.nm_steps.specs.Steps.{May, IsAsLooked}
+use Rattle.nm_steps.proofs.FoundBirths.{ReadOf, read_of}
 
 some_of : (o : Option ℕ) → is_none o ≡ false → IsSome o
 some_of None h = absurd (true≢false h)
@@ -141,31 +139,14 @@ module _ (L : Layout) (w : ℕ) (log : List Entry) where
 
 -- where an edge's word is found, it is that of an edge
 pub finds_edge : (L : Layout) (w : ℕ) (log : List Entry) (e : Event) (n x : ℕ) (side : Side) → IsFound L w log e n → is_store e ≡ false → touched_field w e ≡ at_edge x side → IsSlot L x → is_word n ≡ true
-finds_edge L w log e n x side f loads at slot = is_some_true (is_word n) (edge_in n) (edge s.memory x side) (ap unpacked found_is ∙ unpacked_word (edge s.memory x side) marks (let size = range.edges x side in let most = f.fits.most in let below : (edge s.memory x side).slot < 2 ^ 32 = omega (arith, size, most) in below))
+finds_edge L w log e n x side f loads at slot = is_some_true (is_word n) (edge_in n) (edge r.memory x side)
+    (ap unpacked found_is ∙ unpacked_word (edge r.memory x side) (r.marks x side) (let size = r.range.edges x side in let most = f.fits.most in let below : (edge r.memory x side).slot < 2 ^ 32 = omega (arith, size, most) in below))
   where
-    enough : 5 ≤ L.nodes
-    enough = let least = f.fits.least in omega arith
+    r : ReadOf L w e n
+    r = read_of L w log e n f loads
 
-    o : IsOrdered L (after_in (ordered L) f.turns)
-    o = each_ordered L enough f.turns f.keys
-
-    s : State
-    s = (after_in (ordered L) f.turns).state
-
-    same : s.layout ≡ L
-    same = ap (λ (t : State). t.layout) o.leads ∙ layout_kept (start L) o.events
-
-    fits : Fits L s.memory
-    fits = subst (λ (l : Layout). Fits l s.memory) same (subst StateFits (sym o.leads) (each_state_fits L enough o.events))
-
-    range : InRange L s.memory
-    range = subst (λ (l : Layout). InRange l s.memory) same (subst StateIsInRange (sym o.leads) (each_state_in_range L enough o.events))
-
-    marks : IsEdge (edge s.memory x side)
-    marks = subst NullEdgesAreUnmarked (sym o.leads) (each_null_unmarked L enough o.events) x side
-
-    found_is : n ≡ word_of (edge s.memory x side)
-    found_is = f.word loads ∙ (ap (word_at L s.memory) at ∙ each_word_is_its_field L s.memory (at_edge x side) fits slot)
+    found_is : n ≡ word_of (edge r.memory x side)
+    found_is = r.is ∙ (ap (word_at L r.memory) at ∙ each_word_is_its_field L r.memory (at_edge x side) r.fits slot)
 
     is_some_true : (b : Bool) (e d : Edge) → cond b (Some e) None ≡ Some d → b ≡ true
     is_some_true true e d h = refl

@@ -3,6 +3,7 @@ use Rattle.std.proofs.Common.{◌≡◌, ◌≢◌, ℕ, zero, suc, ◌+◌, ◌
 use Rattle.std.specs.List.{count_by}
 use Rattle.std.proofs.lemmas.List.Sums.{sum_by-cons, sum_by-append}
 use Rattle.std.proofs.lemmas.Bool.Decides.{nat_tests}
+use Rattle.std.proofs.lemmas.Bool.{or_right}
 use mathlib.Core.Option.{some, some-injective, some-ne-none}
 use lib.ListN.{get_elem?}
 use Rattle.atomic_table.specs.Table.{State, Splits, Joins, opening, Final, Seen}
@@ -26,7 +27,7 @@ use Rattle.nm_steps.proofs.Counts.{sum_after, at_most_sum, both_at_most_sum}
 use Rattle.nm_steps.proofs.Growing.{goes_on_itself, goes_on_from_nothing, goes_on_by, behind_by}
 use Rattle.nm_steps.proofs.Presence.{gone_kept, known_push}
 use Rattle.nm_steps.proofs.Extending.{IsPartOf, words_after_join, trace_after_join}
-use Rattle.nm_steps.proofs.Keeping.{live, stands_live, once_is, part_grows, part_stays}
+use Rattle.nm_steps.proofs.Keeping.{live, stands_live, once_is, part_grows, part_stays, each_set}
 use Rattle.nm_laws.proofs.Configurations.{keys_more}
 
 -- ---- the opening
@@ -104,44 +105,14 @@ cuts L id v left right keep stay count lag s k at = record {
   turns = k.turns;
   keys = k.keys;
   words_are = k.words_are;
-  shown = each;
-  here = each_here;
+  shown = each (IsShown L (trace_in (ordered L) k.turns)) (keep (trace_in (ordered L) k.turns) (k.shown id v at)) k.shown;
+  here = each IsHere (stay (k.here id v at)) k.here;
   once = λ w. sum_by-append (stands w) (set s.views id left) (right ∷ []) ∙ omega (arith, sum_by-cons (stands w) right [], sum_after (stands w) s.views id v left at, count w, k.once w);
-  lags = each_behind;
+  lags = each (LagsBehind (trace_in (ordered L) k.turns)) (lag (trace_in (ordered L) k.turns) (k.lags id v at)) k.lags;
 }
   where
-    both : IsShown L (trace_in (ordered L) k.turns) left × IsShown L (trace_in (ordered L) k.turns) right
-    both = keep (trace_in (ordered L) k.turns) (k.shown id v at)
-
-    each : (j : ℕ) (u : View) → get_elem? (set s.views id left ++ right ∷ []) j ≡ some u → IsShown L (trace_in (ordered L) k.turns) u
-    each j u is =
-        ⊎_elim
-        (λ (x : get_elem? (set s.views id left) j ≡ some u).
-        ⊎_elim (λ (y : (j ≡ id) × (left ≡ u)). subst (IsShown L (trace_in (ordered L) k.turns)) y.1 both.0) (λ (y : (j ≢ id) × (get_elem? s.views j ≡ some u)). k.shown j u y.1) (at_set s.views id j left u x))
-        (λ (x : right ≡ u). subst (IsShown L (trace_in (ordered L) k.turns)) x both.1)
-        (at_snoc (set s.views id left) right u j is)
-
-    both_behind : LagsBehind (trace_in (ordered L) k.turns) left × LagsBehind (trace_in (ordered L) k.turns) right
-    both_behind = lag (trace_in (ordered L) k.turns) (k.lags id v at)
-
-    each_behind : (j : ℕ) (u : View) → get_elem? (set s.views id left ++ right ∷ []) j ≡ some u → LagsBehind (trace_in (ordered L) k.turns) u
-    each_behind j u is =
-        ⊎_elim
-        (λ (x : get_elem? (set s.views id left) j ≡ some u).
-        ⊎_elim (λ (y : (j ≡ id) × (left ≡ u)). subst (LagsBehind (trace_in (ordered L) k.turns)) y.1 both_behind.0) (λ (y : (j ≢ id) × (get_elem? s.views j ≡ some u)). k.lags j u y.1) (at_set s.views id j left u x))
-        (λ (x : right ≡ u). subst (LagsBehind (trace_in (ordered L) k.turns)) x both_behind.1)
-        (at_snoc (set s.views id left) right u j is)
-
-    both_here : IsHere left × IsHere right
-    both_here = stay (k.here id v at)
-
-    each_here : (j : ℕ) (u : View) → get_elem? (set s.views id left ++ right ∷ []) j ≡ some u → IsHere u
-    each_here j u is =
-        ⊎_elim
-        (λ (x : get_elem? (set s.views id left) j ≡ some u).
-        ⊎_elim (λ (y : (j ≡ id) × (left ≡ u)). subst IsHere y.1 both_here.0) (λ (y : (j ≢ id) × (get_elem? s.views j ≡ some u)). k.here j u y.1) (at_set s.views id j left u x))
-        (λ (x : right ≡ u). subst IsHere x both_here.1)
-        (at_snoc (set s.views id left) right u j is)
+    each : (P : View → Type 0) → P left × P right → ((j : ℕ) (u : View) → get_elem? s.views j ≡ some u → P u) → (j : ℕ) (u : View) → get_elem? (set s.views id left ++ right ∷ []) j ≡ some u → P u
+    each P both others j u is = ⊎_elim (each_set P s.views id left both.0 (λ j u _. others j u) j u) (λ (x : right ≡ u). subst P x both.1) (at_snoc (set s.views id left) right u j is)
 
 logs_both : (l m L : Layout) (t : List Turn) (hs gs : List Held) → l ≡ m → LogsAre l L t hs → LogsAre m L t gs → LogsAre l L t (hs ++ gs)
 logs_both l m L t [] gs e a b = subst (λ (x : Layout). LogsAre x L t gs) (sym e) b
@@ -194,6 +165,16 @@ deals L id k v is below =
 pub writes_down : (L : Layout) (id : ℕ) (v : View) → Splits (Kept L) id v v (noted_down v)
 writes_down L id v = cuts L id v v (noted_down v) (λ t a. (a, tt)) (λ h. (h, λ e. absurd (true≢false e))) (λ w. add-zero (stands w v)) (λ ts b. (b, record { past = b.past; heard = goes_on_from_nothing ts }))
 
+-- what holds of two views that are set, and of each other, holds of each
+each_two : (P : View → Type 0) (views : List View) (id other : ℕ) (now then' : View) → P now → P then' → ((j : ℕ) (u : View) → j ≢ id → j ≢ other → get_elem? views j ≡ some u → P u)
+    → (j : ℕ) (u : View) → get_elem? (set (set views id now) other then') j ≡ some u → P u
+each_two P views id other now then' first second others j u is =
+    ⊎_elim
+    (λ (x : (j ≡ other) × (then' ≡ u)). subst P x.1 second)
+    (λ (x : (j ≢ other) × (get_elem? (set views id now) j ≡ some u)).
+    ⊎_elim (λ (y : (j ≡ id) × (now ≡ u)). subst P y.1 first) (λ (y : (j ≢ id) × (get_elem? views j ≡ some u)). others j u y.0 x.0 y.1) (at_set views id j now u x.1))
+    (at_set (set views id now) other j then' u is)
+
 -- a view may hear of what one has seen that stands for nobody
 pub hears : (L : Layout) (id : ℕ) (v : View) (other : ℕ) (w : View) → w.spent ≡ true → Joins (Kept L) id v other w (informed v w) nobody
 hears L id v other w spent s k at apart at' = record {
@@ -201,10 +182,10 @@ hears L id v other w spent s k at apart at' = record {
   turns = k.turns;
   keys = k.keys;
   words_are = k.words_are;
-  shown = each (IsShown L (trace_in (ordered L) k.turns)) (k.shown id v at) tt k.shown;
-  here = each IsHere (k.here id v at) (λ e. absurd (true≢false e)) k.here;
+  shown = each_two (IsShown L (trace_in (ordered L) k.turns)) s.views id other (informed v w) nobody (k.shown id v at) tt (λ j u _ _. k.shown j u);
+  here = each_two IsHere s.views id other (informed v w) nobody (k.here id v at) (λ e. absurd (true≢false e)) (λ j u _ _. k.here j u);
   once = λ n. omega (arith, sum_after (stands n) (set s.views id (informed v w)) other w nobody at', sum_after (stands n) s.views id v (informed v w) at, no_log n, k.once n);
-  lags = each (LagsBehind (trace_in (ordered L) k.turns)) (record { past = (k.lags id v at).past; heard = (k.lags other w was).past }) (record { past = goes_on_from_nothing (trace_in (ordered L) k.turns); heard = goes_on_from_nothing (trace_in (ordered L) k.turns) }) k.lags;
+  lags = each_two (LagsBehind (trace_in (ordered L) k.turns)) s.views id other (informed v w) nobody (record { past = (k.lags id v at).past; heard = (k.lags other w was).past }) (record { past = goes_on_from_nothing (trace_in (ordered L) k.turns); heard = goes_on_from_nothing (trace_in (ordered L) k.turns) }) (λ j u _ _. k.lags j u);
 }
   where
     was : get_elem? s.views other ≡ some w
@@ -212,15 +193,6 @@ hears L id v other w spent s k at apart at' = record {
 
     no_log : (n : ℕ) → stands n w ≡ 0
     no_log n = ap (λ (b : Bool). times n (cond b [] (held_log w.number w.log ∷ w.others))) spent
-
-    each : (P : View → Type 0) → P (informed v w) → P nobody → ((j : ℕ) (u : View) → get_elem? s.views j ≡ some u → P u)
-        → (j : ℕ) (u : View) → get_elem? (set (set s.views id (informed v w)) other nobody) j ≡ some u → P u
-    each P own none others j u is =
-        ⊎_elim
-        (λ (x : (j ≡ other) × (nobody ≡ u)). subst P x.1 none)
-        (λ (x : (j ≢ other) × (get_elem? (set s.views id (informed v w)) j ≡ some u)).
-        ⊎_elim (λ (y : (j ≡ id) × (informed v w ≡ u)). subst P y.1 own) (λ (y : (j ≢ id) × (get_elem? s.views j ≡ some u)). others j u y.1) (at_set s.views id j (informed v w) u x.1))
-        (at_set (set s.views id (informed v w)) other j nobody u is)
 
 -- ---- joining
 
@@ -284,11 +256,7 @@ module _ (L : Layout) (id : ℕ) (v : View) (other : ℕ) (w : View) (alive : v.
   heirs_part = ap (part_of v.number) trace_is ∙ part_grows v.number before v.number (Join w.number) reply (ap (λ (b : Bool). b || eqb w.number v.number) (eq-eqb v.number v.number refl))
 
   leavers_part : part_of w.number (trace_in (ordered L) more) ≡ part_of w.number before ++ passing w ∷ []
-  leavers_part = ap (part_of w.number) trace_is ∙ part_grows w.number before v.number (Join w.number) reply (ap (λ (b : Bool). eqb v.number w.number || b) (eq-eqb w.number w.number refl) ∙ or_true (eqb v.number w.number))
-    where
-      or_true : (b : Bool) → (b || true) ≡ true
-      or_true true = refl
-      or_true false = refl
+  leavers_part = ap (part_of w.number) trace_is ∙ part_grows w.number before v.number (Join w.number) reply (ap (λ (b : Bool). eqb v.number w.number || b) (eq-eqb w.number w.number refl) ∙ or_right (eqb v.number w.number) true refl)
 
   others_part : (u : ℕ) → eqb v.number u ≡ false → eqb w.number u ≡ false → part_of u (trace_in (ordered L) more) ≡ part_of u before
   others_part u p q = ap (part_of u) trace_is ∙ part_stays u before v.number (Join w.number) reply (λ i. p i || q i)
@@ -366,25 +334,11 @@ module _ (L : Layout) (id : ℕ) (v : View) (other : ℕ) (w : View) (alive : v.
     turns = more;
     keys = keys_more k.turns (v.number, Join w.number) k.keys tt;
     words_are = k.words_are ∙ sym (words_after_join L v.number w.number v.log w.log k.turns heir leaver differ empty);
-    shown = λ j u is.
-        ⊎_elim
-        (λ (x : (j ≡ other) × (nobody ≡ u)). subst (IsShown L (trace_in (ordered L) more)) x.1 tt)
-        (λ (x : (j ≢ other) × (get_elem? (set s.views id (joining_view v w)) j ≡ some u)).
-        ⊎_elim (λ (y : (j ≡ id) × (joining_view v w ≡ u)). subst (IsShown L (trace_in (ordered L) more)) y.1 together) (λ (y : (j ≢ id) × (get_elem? s.views j ≡ some u)). elsewhere j u y.0 x.0 y.1) (at_set s.views id j (joining_view v w) u x.1))
-        (at_set (set s.views id (joining_view v w)) other j nobody u is);
-    here = λ j u is.
-        ⊎_elim
-        (λ (x : (j ≡ other) × (nobody ≡ u)). subst IsHere x.1 (λ e. absurd (true≢false e)))
-        (λ (x : (j ≢ other) × (get_elem? (set s.views id (joining_view v w)) j ≡ some u)).
-        ⊎_elim (λ (y : (j ≡ id) × (joining_view v w ≡ u)). subst IsHere y.1 here_joined) (λ (y : (j ≢ id) × (get_elem? s.views j ≡ some u)). k.here j u y.1) (at_set s.views id j (joining_view v w) u x.1))
-        (at_set (set s.views id (joining_view v w)) other j nobody u is);
+    shown = each_two (IsShown L (trace_in (ordered L) more)) s.views id other (joining_view v w) nobody together tt elsewhere;
+    here = each_two IsHere s.views id other (joining_view v w) nobody here_joined (λ e. absurd (true≢false e)) (λ j u _ _. k.here j u);
     once = λ n. omega (arith, sum_after (stands n) (set s.views id (joining_view v w)) other w nobody at'', sum_after (stands n) s.views id v (joining_view v w) at, counted n, k.once n);
-    lags = λ j u is.
-        ⊎_elim
-        (λ (x : (j ≡ other) × (nobody ≡ u)). subst (LagsBehind (trace_in (ordered L) more)) x.1 (record { past = goes_on_from_nothing (trace_in (ordered L) more); heard = goes_on_from_nothing (trace_in (ordered L) more) }))
-        (λ (x : (j ≢ other) × (get_elem? (set s.views id (joining_view v w)) j ≡ some u)).
-        ⊎_elim (λ (y : (j ≡ id) × (joining_view v w ≡ u)). subst (LagsBehind (trace_in (ordered L) more)) y.1 behind_joined) (λ (y : (j ≢ id) × (get_elem? s.views j ≡ some u)). longer u (behind_by before turn u (k.lags j u y.1))) (at_set s.views id j (joining_view v w) u x.1))
-        (at_set (set s.views id (joining_view v w)) other j nobody u is);
+    lags = each_two (LagsBehind (trace_in (ordered L) more)) s.views id other (joining_view v w) nobody behind_joined
+        (record { past = goes_on_from_nothing (trace_in (ordered L) more); heard = goes_on_from_nothing (trace_in (ordered L) more) }) (λ j u _ _ is. longer u (behind_by before turn u (k.lags j u is)));
   }
 
 -- the first stands for both, and the join is an event of both

@@ -82,6 +82,11 @@ others_kept l L t t' w same (h ∷ hs) c a = cases (eqb w h.number) refl (λ q. 
 left_same : (L : Layout) (w : ℕ) (log : List Entry) (e : Event) (r : Reply) → May L w log e → (learn w (known_by L w log) e r).gone ≡ (known_by L w log).gone
 left_same L w log e r may = gone_kept w (known_by L w log) e r (no_leaver L w log e may w)
 
+-- what holds of a view that is set, and of each other, holds of each
+pub each_set : (P : View → Type 0) (views : List View) (id : ℕ) (now : View) → P now → ((j : ℕ) (u : View) → j ≢ id → get_elem? views j ≡ some u → P u) → (j : ℕ) (u : View) → get_elem? (set views id now) j ≡ some u → P u
+each_set P views id now own others j u is =
+    ⊎_elim (λ (x : (j ≡ id) × (now ≡ u)). subst P x.1 own) (λ (x : (j ≢ id) × (get_elem? views j ≡ some u)). others j u x.0 x.1) (at_set views id j now u is)
+
 module _ (L : Layout) (words : List ℕ) (views : List View) (id : ℕ) (v : View) (e : Event) (i : ℕ)
     (k : Runs L words views) (at : get_elem? views id ≡ some v) (alive : v.spent ≡ false) (layout : v.layout ≡ L)
     (index : i ≡ word L (touched_field v.number e)) (may : May L v.number v.log e) where
@@ -148,34 +153,13 @@ module _ (L : Layout) (words : List ℕ) (views : List View) (id : ℕ) (v : Vie
       let self = stands_live v alive in
       others_kept u.layout L trace (trace_in (ordered L) more) v.number other_part (holdings u) (omega (arith, counted.0)) (k.shown j u is)
 
-  shown_after : (j : ℕ) (u : View) → get_elem? (set views id now) j ≡ some u → IsShown L (trace_in (ordered L) more) u
-  shown_after j u is =
-      ⊎_elim
-      (λ (x : (j ≡ id) × (now ≡ u)). subst (IsShown L (trace_in (ordered L) more)) x.1 shown_own)
-      (λ (x : (j ≢ id) × (get_elem? views j ≡ some u)). shown_other j u x.0 x.1)
-      (at_set views id j now u is)
-
   here_now : (knowledge now).gone ≡ false
   here_now =
       ap (λ (l : Layout). (known_by l v.number now.log).gone) layout
       ∙ (ap (λ x. x.gone) (known_push v.number L v.log (e, reply)) ∙ (left_same L v.number v.log e reply may ∙ part.here))
 
-  here_after : (j : ℕ) (u : View) → get_elem? (set views id now) j ≡ some u → u.spent ≡ false → (knowledge u).gone ≡ false
-  here_after j u is live_u =
-      ⊎_elim
-      (λ (x : (j ≡ id) × (now ≡ u)). subst (λ (y : View). (knowledge y).gone ≡ false) x.1 here_now)
-      (λ (x : (j ≢ id) × (get_elem? views j ≡ some u)). k.here j u x.1 live_u)
-      (at_set views id j now u is)
-
   longer : (P : List Turn → Type 0) → P (trace ++ answered_turn v.number e reply ∷ []) → P (trace_in (ordered L) more)
   longer P = subst P (sym trace_is)
-
-  behind_after : (j : ℕ) (u : View) → get_elem? (set views id now) j ≡ some u → LagsBehind (trace_in (ordered L) more) u
-  behind_after j u is =
-      ⊎_elim
-      (λ (x : (j ≡ id) × (now ≡ u)). subst (LagsBehind (trace_in (ordered L) more)) x.1 (longer (λ ts. LagsBehind ts now) (record { past = goes_on_itself now.past; heard = goes_on_by trace v.heard (answered_turn v.number e reply) (k.lags id v at).heard })))
-      (λ (x : (j ≢ id) × (get_elem? views j ≡ some u)). longer (λ ts. LagsBehind ts u) (behind_by trace (answered_turn v.number e reply) u (k.lags j u x.1)))
-      (at_set views id j now u is)
 
   same_stands : (w : ℕ) → stands w now ≡ stands w v
   same_stands w =
@@ -195,10 +179,12 @@ module _ (L : Layout) (words : List ℕ) (views : List View) (id : ℕ) (v : Vie
     turns = more;
     keys = keys_more k.turns (v.number, e) k.keys may.key;
     words_are = words_now;
-    shown = shown_after;
-    here = here_after;
+    shown = each_set (IsShown L (trace_in (ordered L) more)) views id now shown_own shown_other;
+    here = each_set (λ (u : View). u.spent ≡ false → (knowledge u).gone ≡ false) views id now (λ _. here_now) (λ j u _. k.here j u);
     once = λ w. omega (arith, sum_after (stands w) views id v now at, same_stands w, k.once w);
-    lags = behind_after;
+    lags = each_set (LagsBehind (trace_in (ordered L) more)) views id now
+        (longer (λ ts. LagsBehind ts now) (record { past = goes_on_itself now.past; heard = goes_on_by trace v.heard (answered_turn v.number e reply) (k.lags id v at).heard }))
+        (λ j u _ is. longer (λ ts. LagsBehind ts u) (behind_by trace (answered_turn v.number e reply) u (k.lags j u is)));
   }
 
 abbrev no_step : Step Unit

@@ -14,20 +14,20 @@ use Rattle.nm_model.specs.declared.reply.Reply.{Reply}
 use Rattle.nm_model.specs.declared.reply.Reply.TheVariants.{Saw, Labelled, Pinned, Missed, Announced, Departed, Moved, Behind, Claimed, Returned, Freed, Filled, Linked, Flagged, Was, Cut, Lost, Joined}
 use Rattle.nm_model.specs.declared.knowledge.Brief.{Brief}
 use Rattle.nm_model.specs.Knowledge.{Knowledge, is_private}
-use Rattle.nm_model.specs.Learning.{learn, learn_sight, look_private, look_known, resigned, inheriting}
+use Rattle.nm_model.specs.Learning.{learn, learn_sight, resigned, inheriting}
 use Rattle.nm_model.specs.Step.{last_number, refusal}
 use Rattle.nm_model.specs.Walks.{Entry}
 use Rattle.nm_model.specs.Ordered.{ordered, after_in, trace_in}
 use Rattle.nm_order.specs.Hands.{IsPooled}
 use Rattle.nm_order.specs.Logs.{is_leaver, part_of, known_by, IsLogOf}
 use Rattle.nm_order.specs.OwnBirths.{births_by}
-use Rattle.nm_order.proofs.OutsidePins.{brief_scan, brief_look_private, brief_look_known}
+use Rattle.nm_laws.proofs.Learned.{scan_teaches, look_teaches}
 use Rattle.nm_words.specs.Packing.{word_at, touched_field}
 use Rattle.nm_words.specs.Told.{told}
 use Rattle.nm_steps.specs.declared.view.View.{View}
 use Rattle.std.proofs.lemmas.List.{same_from_push}
 use Rattle.nm_steps.specs.Rules.{knowledge, known_births, answered_turn, logged, is_store, IsFound}
-use Rattle.nm_steps.specs.Steps.{Stand, May, IsReadyFor, IsDone, Stepped, HasTurn, IsOfRun, IsInRun, HasSeen, Tied, Laid, noted_sight}
+use Rattle.nm_steps.specs.Steps.{Stand, May, IsReadyFor, IsDone, Stepped, HasTurn, IsOfRun, IsInRun, HasSeen, Tied, Laid, noted_sight, TakesStep}
 use Rattle.nm_steps.proofs.Presence.{gone_kept, known_push}
 use Rattle.nm_steps.proofs.Asking.{within, seen_small, private_pooled}
 use Rattle.nm_steps.proofs.Extending.{IsPartOf, trace_after}
@@ -62,13 +62,13 @@ brief_is_noted w k (SightFor op key) r = brief_sight k r
 brief_is_noted w k Announce (Announced e) = refl
 brief_is_noted w k Leave Departed = refl
 brief_is_noted w k (LeaveWith answer) Departed = refl
-brief_is_noted w k (Scan u) r = brief_scan k u r
+brief_is_noted w k (Scan u) r = ap (λ (l : Knowledge). l.brief) (scan_teaches k u r)
 brief_is_noted w k Advance (Moved e) = refl
 brief_is_noted w k Advance (Behind e) = refl
 brief_is_noted w k (Claim s) (Claimed t) = refl
 brief_is_noted w k (Give s) (Returned t) = refl
 brief_is_noted w k (Give s) (Freed m) = refl
-brief_is_noted w k (Look s f) r = cond_both (is_private k s) (look_private k s f r) (look_known k s f r) (λ x. x.brief ≡ k.brief) (λ _. brief_look_private k s f r) (λ _. brief_look_known k s f r)
+brief_is_noted w k (Look s f) r = ap (λ (l : Knowledge). l.brief) (look_teaches k s f r)
 brief_is_noted w k (Fill s f v) Filled = refl
 brief_is_noted w k (Link p side leaf new) (Linked m) = refl
 brief_is_noted w k (Link p side leaf new) (Lost e) = refl
@@ -193,6 +193,15 @@ in_run_after it after number announcement brief e n tied may done =
       fits = subst (λ (v : View). IsLayout v.layout) (sym me) tied.fits;
       run = subst (λ (v : View). IsOfRun v.layout v.number v.log) (sym me) (run_grows it.me.0.layout it.me.0.number it.me.0.log e n done.found may);
     }
+
+-- what is done is a step of the pass, as clauses see it
+pub takes_step : (it after : Seat Unit View) (number announcement : ℕ) (brief : Brief) (e : Event) (n : ℕ) (p : Stand) (r : Reply) → Tied it number announcement brief → May it.me.0.layout it.me.0.number it.me.0.log e → IsDone it after e n
+    → Stepped p (standing after) e r → standing it ≡ p → TakesStep p (standing after) e r
+takes_step it after number announcement brief e n p r tied may done step is = record {
+  step = step;
+  past = has_turn p (standing after) e r step (subst (λ (x : Stand). HasTurned x (standing after) e) is (has_turned it after e n done));
+  run = in_run_after it after number announcement brief e n tied may done;
+}
 
 pub tied_after : (it after : Seat Unit View) (number announcement : ℕ) (brief new : Brief) (e : Event) (n : ℕ) → Tied it number announcement brief → May it.me.0.layout it.me.0.number it.me.0.log e → IsDone it after e n
     → new ≡ noted brief e (told it.me.0.layout (knowledge it.me.0) (known_births it.me.0) e n) → Tied after number announcement new

@@ -1,5 +1,5 @@
 -- A read that changes nothing ties a seat's logs to a run.
-use Rattle.std.proofs.Common.{◌≡◌, ◌≢◌, ℕ, ◌<◌, ◌≤◌, false, List, [], ◌∷◌, set, refl, sym, ap, ◌∙◌, subst, ⊎_elim, arith}
+use Rattle.std.proofs.Common.{◌≡◌, ℕ, ◌<◌, ◌≤◌, false, List, [], ◌∷◌, set, refl, sym, ap, ◌∙◌, subst, arith}
 use Rattle.std.specs.Prelude.{slice_index, slice_set}
 use Rattle.std.proofs.lemmas.List.{set-get_or}
 use mathlib.Core.Option.{some, none}
@@ -7,7 +7,6 @@ use lib.ListN.{get_elem?}
 use Rattle.atomic_table.specs.Table.{step, Allows, keeps}
 use Rattle.atomic_table.specs.Seated.{TableId}
 use Rattle.atomic_table.specs.declared.shared.Seat.{Seat}
-use Rattle.atomic_table.proofs.Lists.{at_set}
 use Rattle.nm_edge.specs.Layouts.{Layout, IsLayout}
 use Rattle.nm_edge.specs.Words.{word, at_epoch}
 use Rattle.nm_edge.proofs.Words.{fields_within}
@@ -20,7 +19,7 @@ use Rattle.nm_steps.specs.Steps.{Laid}
 use Rattle.nm_steps.specs.Ties.{StandsInRun, TellsItsStanding}
 use Rattle.nm_steps.proofs.Counts.{at_most_sum, sum_after}
 use Rattle.nm_steps.proofs.Growing.{goes_on_itself, goes_on_from_nothing}
-use Rattle.nm_steps.proofs.Keeping.{live, stands_live, once_is}
+use Rattle.nm_steps.proofs.Keeping.{live, stands_live, once_is, each_set}
 
 -- the log of a seat's own worker is its part of the run
 own_part : (L : Layout) (words : List ℕ) (views : List View) (id : ℕ) (v : View) → (k : Runs L words views) → get_elem? views id ≡ some v → v.spent ≡ false → part_of v.number (trace_in (ordered L) k.turns) ≡ v.log
@@ -49,13 +48,6 @@ abbrev pub up_to : List Turn → View → View
 up_to turns v = record v { past = turns; heard = [] }
 
 module _ (L : Layout) (words : List ℕ) (views : List View) (id : ℕ) (v : View) (k : Runs L words views) (at : get_elem? views id ≡ some v) where
-  each_at : (P : View → Type 0) → P (up_to (trace_in (ordered L) k.turns) v) → ((j : ℕ) (u : View) → get_elem? views j ≡ some u → P u) → (j : ℕ) (u : View) → get_elem? (set views id (up_to (trace_in (ordered L) k.turns) v)) j ≡ some u → P u
-  each_at P own others j u is =
-      ⊎_elim
-      (λ (x : (j ≡ id) × (up_to (trace_in (ordered L) k.turns) v ≡ u)). subst P x.1 own)
-      (λ (x : (j ≢ id) × (get_elem? views j ≡ some u)). others j u x.1)
-      (at_set views id j (up_to (trace_in (ordered L) k.turns) v) u is)
-
   -- a seat may see the run so far at any time
   pub seen_so_far : Runs L words (set views id (up_to (trace_in (ordered L) k.turns) v))
   seen_so_far = record {
@@ -63,10 +55,10 @@ module _ (L : Layout) (words : List ℕ) (views : List View) (id : ℕ) (v : Vie
     turns = k.turns;
     keys = k.keys;
     words_are = k.words_are;
-    shown = each_at (IsShown L (trace_in (ordered L) k.turns)) (k.shown id v at) k.shown;
-    here = each_at (λ (u : View). u.spent ≡ false → (knowledge u).gone ≡ false) (k.here id v at) k.here;
+    shown = each_set (IsShown L (trace_in (ordered L) k.turns)) views id (up_to (trace_in (ordered L) k.turns) v) (k.shown id v at) (λ j u _. k.shown j u);
+    here = each_set (λ (u : View). u.spent ≡ false → (knowledge u).gone ≡ false) views id (up_to (trace_in (ordered L) k.turns) v) (k.here id v at) (λ j u _. k.here j u);
     once = λ w. omega (arith, sum_after (stands w) views id v (up_to (trace_in (ordered L) k.turns) v) at, k.once w);
-    lags = each_at (LagsBehind (trace_in (ordered L) k.turns)) (record { past = goes_on_itself (trace_in (ordered L) k.turns); heard = goes_on_from_nothing (trace_in (ordered L) k.turns) }) k.lags;
+    lags = each_set (LagsBehind (trace_in (ordered L) k.turns)) views id (up_to (trace_in (ordered L) k.turns) v) (record { past = goes_on_itself (trace_in (ordered L) k.turns); heard = goes_on_from_nothing (trace_in (ordered L) k.turns) }) (λ j u _. k.lags j u);
   }
 
 ties : (L : Layout) (slots id : ℕ) (v : View) (i : ℕ) → v.spent ≡ false → v.layout ≡ L → Allows (Kept L) slots id (v, []) i (λ n. n) (TellsItsStanding (step slots i 0 0 none) (v, []))

@@ -1,5 +1,5 @@
 -- The five fixed slots are in no pool and in nobody's hands, and keep their births.
-use Rattle.std.proofs.Common.{◌≡◌, ◌≢◌, ℕ, ◌≤◌, Bool, false, List, [], ◌∷◌, refl, ap, subst, ◌∙◌, arith}
+use Rattle.std.proofs.Common.{◌≡◌, ◌≢◌, ℕ, ◌≤◌, Bool, false, List, [], ◌∷◌, refl, ap, ◌∙◌, arith}
 use Rattle.std.specs.Prelude.{Option, Some, None}
 use Rattle.std.proofs.lemmas.Bool.{false_from_ne_true}
 use Rattle.nm_edge.specs.Layouts.{Layout, IsLayout}
@@ -15,12 +15,12 @@ use Rattle.nm_laws.proofs.Steps.{Allowed, allowed}
 use Rattle.nm_laws.proofs.Configurations.{refused_next, allowed_next, allowed_by_state}
 use Rattle.nm_laws.proofs.Lawful.{IsLawful}
 use Rattle.nm_laws.proofs.KnownBirths.{written_same}
+use Rattle.nm_laws.proofs.TreeSteps.{fill_checked}
 use Rattle.nm_order.proofs.CallWalks.{memory_after}
 use Rattle.nm_model.specs.Headline.{words_after, IsStill}
 use Rattle.nm_theorem.proofs.Runs.{lawful_opening, lawful_next, lawful_after}
 use Rattle.nm_theorem.proofs.WrittenWords.{run_words, opening_words}
 use Rattle.nm_theorem.proofs.Hands.{run_hands}
-use Rattle.nm_theorem.proofs.StandingOfRuns.{fill_own}
 
 module _ (x : ℕ) (low : x ≤ 5) where
   not_own : (s : State) → IsLawful s → (u : ℕ) → is_private (of s u) x ≡ false
@@ -42,7 +42,7 @@ module _ (x : ℕ) (low : x ≤ 5) where
           ok = allowed c.state t.0 t.1 (allowed_by_state c t.0 t.1 is)
 
           apart : (y : ℕ) (f : Field) (v : ℕ) → t.1 ≡ Fill y f v → x ≢ y
-          apart y f v fills same = let high = (l.law.tree.privates t.0 y (fill_own c.state t.0 y f v (subst (λ (e : Event). Allowed c.state t.0 e) fills ok))).0 in omega (arith, low, high, same)
+          apart y f v fills same = let high = (l.law.tree.privates t.0 y (fill_checked c.state t.0 t.1 ok.event y f v fills)).0 in omega (arith, low, high, same)
 
   turns_keep : (ts : List (ℕ × Event)) (c : Configuration) → IsLawful c.state → (node (after_in c ts).state.memory x).birth ≡ (node c.state.memory x).birth
   unfolding after_in

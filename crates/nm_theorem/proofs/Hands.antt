@@ -1,8 +1,8 @@
 -- What a worker has in its hands is what its turns tell: what it claimed, and has neither given
 -- back nor linked since.
 use Rattle.std.proofs.Common.{◌≡◌, ℕ, ◌==◌, eqb, Bool, true, false, cond, not, ◌||◌, ◌&&◌, List, [], ◌∷◌, refl, sym, ap, subst, ◌∙◌, true≢false}
-use Rattle.std.specs.Prelude.{Option, Some, None, is_some, unwrap_or, nat_lt, Result, Ok, Err}
-use Rattle.std.proofs.lemmas.Bool.{cond_both, eqb-true, eq-eqb, not-false}
+use Rattle.std.specs.Prelude.{Option, Some, None, is_some, unwrap_or, Result, Ok, Err}
+use Rattle.std.proofs.lemmas.Bool.{cond_both, eqb-true, eq-eqb}
 use Rattle.nm_edge.specs.Edges.{Edge, is_to, other}
 use Rattle.nm_edge.specs.Layouts.{Layout, IsLayout}
 use Rattle.nm_edge.specs.declared.edge.Side.{Side}
@@ -13,24 +13,24 @@ use Rattle.nm_model.specs.declared.event.Field.TheVariants.{Edge as EdgeOn, Birt
 use Rattle.nm_model.specs.declared.event.Event.{Event}
 use Rattle.nm_model.specs.declared.event.Event.TheVariants.{Sight, SightFor, Announce, Leave, LeaveWith, Scan, Advance, Claim, Give, Look, Fill, Link, Flag, Tag, Splice, Join}
 use Rattle.nm_model.specs.declared.reply.Reply.{Reply}
-use Rattle.nm_model.specs.declared.reply.Reply.TheVariants.{Saw, Labelled, Pinned, Missed, Announced, Departed, Idle, In, Moved, Behind, Claimed, Returned, Freed, BirthIs, EdgeIs, Filled, Linked, Flagged, Was, Cut, Lost, Joined}
+use Rattle.nm_model.specs.declared.reply.Reply.TheVariants.{Announced, Departed, Moved, Behind, Claimed, Returned, Freed, BirthIs, EdgeIs, Filled, Linked, Flagged, Was, Cut, Lost, Joined}
 use Rattle.nm_model.specs.declared.reply.Refused.{Refused}
-use Rattle.nm_model.specs.declared.reply.Refused.TheVariants.{NoSlot, NotPrivate}
 use Rattle.nm_model.specs.declared.knowledge.Draft.{Draft}
 use Rattle.nm_model.specs.Maps.{get, has, put, without}
 use Rattle.nm_model.specs.Memory.{Memory, edge, child, opening}
 use Rattle.nm_model.specs.Knowledge.{Knowledge, is_private, draft_of, unfilled, beside}
-use Rattle.nm_model.specs.Learning.{learn, learn_sight, learn_scan, look_private, look_known, filled_in, resigned, inheriting}
-use Rattle.nm_model.specs.Step.{refusal, reply, outside, is_edge, node_linked}
+use Rattle.nm_model.specs.Learning.{learn, look_private, look_known, filled_in, resigned, inheriting}
+use Rattle.nm_model.specs.Step.{reply, node_linked}
 use Rattle.nm_model.specs.Runs.{State, of, reply_of, applied}
 use Rattle.nm_model.specs.Ordered.{Configuration, opening_of, refused_in, next_in, applied_in, outcome_in, after_in, trace_in}
 use Rattle.nm_model.proofs.Tables.{get-put, get-without, Ascends, ascends-without}
-use Rattle.nm_laws.proofs.Steps.{Allowed, allowed, second}
+use Rattle.nm_laws.proofs.Steps.{Allowed, allowed}
 use Rattle.nm_laws.proofs.Configurations.{refused_next, refused_outcome, allowed_next, allowed_outcome, opening_state, allowed_by_state}
 use Rattle.nm_laws.proofs.Lawful.{IsLawful}
 use Rattle.nm_laws.proofs.Pins.{all_new}
 use Rattle.nm_laws.proofs.TreeSlots.{known_live, has_put_own}
-use Rattle.nm_laws.proofs.TreeSteps.{Lawful, LinkChecked, link_checked}
+use Rattle.nm_laws.proofs.TreeSteps.{Lawful, LinkChecked, link_checked, fill_checked}
+use Rattle.nm_laws.proofs.Learned.{sight_teaches, scan_teaches}
 use Rattle.nm_order.specs.Logs.{is_leaver}
 use Rattle.nm_order.proofs.PartsOfRuns.{partaking, apart}
 use Rattle.nm_order.proofs.TreeChanges.{WonLink, won_link}
@@ -57,18 +57,6 @@ record NewLeaf (m : Memory) (k : Knowledge) (leaf new : ℕ) : Type 0 where
   over_far : child m new (other side) ≡ far
 
 module _ (m : Memory) (w : ℕ) (k : Knowledge) (asc : Ascends k.drafts) (x : ℕ) where
-  by_sight : (r : Reply) → is_private (learn_sight k r) x ≡ is_private k x
-  by_sight (Saw e) = refl
-  by_sight (Labelled e) = refl
-  by_sight (Pinned e) = refl
-  by_sight (Missed e) = refl
-  by_sight _ = refl
-
-  by_scan : (u : ℕ) (r : Reply) → is_private (learn_scan k u r) x ≡ is_private k x
-  by_scan u Idle = refl
-  by_scan u (In e) = refl
-  by_scan u _ = refl
-
   by_own_look : (s : ℕ) (f : Field) (r : Reply) → is_private k s ≡ true → is_private (look_private k s f r) x ≡ is_private k x
   by_own_look s Birth (BirthIs b) own = has_put_own k s (record (draft_of k s) { looked = Some b }) own x
   by_own_look s _ _ own = refl
@@ -126,12 +114,12 @@ module _ (m : Memory) (w : ℕ) (k : Knowledge) (asc : Ascends k.drafts) (x : �
   learned : (e : Event) (r : Reply) → ((s : ℕ) (f : Field) (v : ℕ) → e ≡ Fill s f v → is_private k s ≡ true) → ((p : ℕ) (d : Side) (leaf new : ℕ) (n : NodeId) → e ≡ Link p d leaf new → r ≡ Linked n → NewLeaf m k leaf new)
       → is_private (learn w k e r) x ≡ goes_on m e (Ok r) x (is_private k x)
   unfolding learn
-  learned Sight r fills links = by_sight r ∙ stays (is_private k x)
-  learned (SightFor op key) r fills links = by_sight r ∙ stays (is_private k x)
+  learned Sight r fills links = ap (λ (l : Knowledge). is_private l x) (sight_teaches k r) ∙ stays (is_private k x)
+  learned (SightFor op key) r fills links = ap (λ (l : Knowledge). is_private l x) (sight_teaches k r) ∙ stays (is_private k x)
   learned Announce (Announced e) fills links = stays (is_private k x)
   learned Leave Departed fills links = stays (is_private k x)
   learned (LeaveWith answer) Departed fills links = stays (is_private k x)
-  learned (Scan u) r fills links = by_scan u r ∙ stays (is_private k x)
+  learned (Scan u) r fills links = ap (λ (l : Knowledge). is_private l x) (scan_teaches k u r) ∙ stays (is_private k x)
   learned Advance (Moved e) fills links = stays (is_private k x)
   learned Advance (Behind e) fills links = stays (is_private k x)
   learned (Claim s) (Claimed t) fills links = by_claim s
@@ -159,10 +147,6 @@ module _ (m : Memory) (w : ℕ) (k : Knowledge) (asc : Ascends k.drafts) (x : �
 -- ---- an event that is allowed
 
 module _ (s : State) (h : ℕ → ℕ) (law : Lawful s h) (u : ℕ) (e : Event) (ok : Allowed s u e) (w x : ℕ) where
-  fills_own : (y : ℕ) (f : Field) (v : ℕ) → e ≡ Fill y f v → is_private (of s u) y ≡ true
-  unfolding refusal
-  fills_own y f v is = not-false (is_private (of s u) y) (second (outside 6 s.layout.nodes y || (is_edge f && nat_lt s.layout.nodes v)) (not (is_private (of s u) y)) NoSlot NotPrivate _ (subst (λ (z : Event). Allowed s u z) is ok).event)
-
   links_new : (p : ℕ) (d : Side) (leaf new : ℕ) (n : NodeId) → e ≡ Link p d leaf new → reply_of s u e ≡ Linked n → NewLeaf s.memory (of s u) leaf new
   unfolding reply
   links_new p d leaf new n is linked = by (is_to (edge s.memory p d) leaf) refl (sym (ap (reply_of s u) is) ∙ linked)
@@ -196,7 +180,7 @@ module _ (s : State) (h : ℕ → ℕ) (law : Lawful s h) (u : ℕ) (e : Event) 
       own : u ≡ w → is_private (of (applied s u e) w) x ≡ goes_on s.memory e (Ok (reply_of s u e)) x (is_private (of s w) x)
       own same = ap (λ (k : Knowledge). is_private k x) (partaking s law.staffed u w e ok (ap (λ (b : Bool). b || is_leaver w e) (eq-eqb u w same)))
           ∙ subst (λ (v : ℕ). is_private (learn v (of s v) e (reply_of s u e)) x ≡ goes_on s.memory e (Ok (reply_of s u e)) x (is_private (of s v) x)) same
-          (learned s.memory u (of s u) (law.drafts u) x e (reply_of s u e) fills_own links_new)
+          (learned s.memory u (of s u) (law.drafts u) x e (reply_of s u e) (fill_checked s u e ok.event) links_new)
 
       go : (b : Bool) → (u == w) ≡ b → (l : Bool) → is_leaver w e ≡ l
           → is_private (of (applied s u e) w) x ≡ cond b (goes_on s.memory e (Ok (reply_of s u e)) x (is_private (of s w) x)) (is_private (of s w) x)

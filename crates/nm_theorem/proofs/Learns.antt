@@ -1,10 +1,10 @@
 -- What a worker learns of slots by an event with its reply is what the reply tells: the slot of an
 -- edge of a node that it knows.
-use Rattle.std.proofs.Common.{◌≡◌, ◌≢◌, ℕ, ◌≤◌, ◌⊎◌, inl, inr, ◌==◌, Bool, true, false, cond, not, ◌&&◌, ◌||◌, List, [], refl, sym, ap, ◌∙◌, arith, true≢false}
-use Rattle.std.specs.Prelude.{Option, Some, None, is_some, is_none, Ok}
+use Rattle.std.proofs.Common.{◌≡◌, ◌≢◌, ℕ, ◌≤◌, ◌⊎◌, inl, inr, ◌==◌, Bool, true, false, cond, List, [], refl, sym, ap, ◌∙◌, arith, true≢false}
+use Rattle.std.specs.Prelude.{Option, Some, None, is_some, Ok}
 use Rattle.std.specs.Ordering.{nat_cmp, is_eq}
 use Rattle.std.proofs.lemmas.Option.{none-some, same_Some}
-use Rattle.std.proofs.lemmas.Bool.{cond_both, eqb-true, and_parts, not-false}
+use Rattle.std.proofs.lemmas.Bool.{cond_both, eqb-true}
 use Rattle.nm_edge.specs.Edges.{Edge, tagged}
 use Rattle.nm_edge.specs.declared.edge.Side.{Side}
 use Rattle.nm_model.specs.declared.event.Field.{Field}
@@ -13,18 +13,16 @@ use Rattle.nm_model.specs.declared.event.Event.{Event}
 use Rattle.nm_model.specs.declared.event.Event.TheVariants.{Sight, SightFor, Announce, Leave, LeaveWith, Scan, Advance, Claim, Give, Look, Fill, Link, Flag, Tag, Splice, Join}
 use Rattle.nm_model.specs.declared.reply.Reply.{Reply}
 use Rattle.nm_model.specs.declared.reply.Reply.TheVariants.{Saw, Labelled, Pinned, Missed, Announced, Departed, Idle, In, Moved, Behind, Claimed, Returned, Freed, BirthIs, EdgeIs, Filled, Linked, Flagged, Was, Cut, Lost, Joined}
-use Rattle.nm_model.specs.declared.reply.Refused.TheVariants.{NoSlot, NotPinned, NotHeld}
 use Rattle.nm_model.specs.declared.knowledge.Seen.{Seen}
 use Rattle.nm_model.specs.Maps.{has}
-use Rattle.nm_model.specs.Knowledge.{Knowledge, knows, is_private, seen_of, knows_leaf, unread}
+use Rattle.nm_model.specs.Knowledge.{Knowledge, knows, is_private, seen_of, unread}
 use Rattle.nm_model.specs.Learning.{learn, learn_sight, learn_scan, look_private, look_known, met, read_edge, with_read, flag_to, rooted, resigned, inheriting}
-use Rattle.nm_model.specs.Step.{refusal, outside}
 use Rattle.nm_model.specs.Runs.{State, of}
 use Rattle.nm_model.proofs.Tables.{at_eqb, has_put, has_put_there}
-use Rattle.nm_laws.proofs.Steps.{Allowed, third}
+use Rattle.nm_laws.proofs.Steps.{Allowed}
 use Rattle.nm_laws.proofs.Views.{has_met}
 use Rattle.nm_laws.proofs.TreeSlots.{known_live}
-use Rattle.nm_laws.proofs.TreeSteps.{Lawful, link_checked}
+use Rattle.nm_laws.proofs.TreeSteps.{Lawful, link_checked, flag_checked, tag_checked, splice_checked, look_checked}
 use Rattle.nm_order.proofs.OrderedSteps.{met_is_known}
 use Rattle.nm_model.specs.Headline.{confirms, departs, edge_told}
 
@@ -40,9 +38,6 @@ pub record ByReply (k l : Knowledge) (e : Event) (r : Reply) (x : ℕ) : Type 0 
 pub record Learns (k l : Knowledge) (e : Event) (r : Reply) : Type 0 where
   pub pin : (p : ℕ) → l.brief.pin ≡ Some p → ((k.brief.pin ≡ Some p) × (departs e (Ok r) ≡ false)) ⊎ (confirms e (Ok r) ≡ true)
   pub known : (x : ℕ) → 3 ≤ x → knows l x ≡ true → ((knows k x ≡ true) × (departs e (Ok r) ≡ false)) ⊎ ByReply k l e r x
-
-both_known : (a b : Bool) → not (a && b) ≡ false → (a ≡ true) × (b ≡ true)
-both_known a b held = and_parts a b (not-false (a && b) held)
 
 rooted_low : (x : ℕ) → has rooted x ≡ true → 3 ≤ x → ⊥
 rooted_low x is six = go (is_eq (nat_cmp x 1)) refl (is_eq (nat_cmp x 2)) refl is
@@ -116,29 +111,6 @@ module _ (s : State) (h : ℕ → ℕ) (law : Lawful s h) (w : ℕ) where
       go y (inr was) = was
   known_look x f r known = quiet (of s w) _ (Look x f) r refl refl refl
 
-  tag_known : (p : ℕ) (d : Side) → Allowed s w (Tag p d) → knows (of s w) p ≡ true
-  unfolding refusal
-  tag_known p d ok = not-false (knows (of s w) p) (third (outside 1 s.layout.nodes p) (is_none (of s w).brief.pin) (not (knows (of s w) p)) NoSlot NotPinned NotHeld _ ok.event)
-
-  flag_known : (p : ℕ) (d : Side) (leaf : ℕ) → Allowed s w (Flag p d leaf) → (knows (of s w) p ≡ true) × (knows (of s w) leaf ≡ true)
-  unfolding refusal
-  flag_known p d leaf ok =
-      let held = both_known (knows (of s w) p) (knows (of s w) leaf && knows_leaf (of s w) leaf) (third (outside 1 s.layout.nodes p || outside 6 s.layout.nodes leaf) (is_none (of s w).brief.pin) (not (knows (of s w) p && (knows (of s w) leaf && knows_leaf (of s w) leaf))) NoSlot NotPinned NotHeld _ ok.event) in
-      (held.0, (and_parts (knows (of s w) leaf) (knows_leaf (of s w) leaf) held.1).0)
-
-  splice_known : (a : ℕ) (d : Side) (y p : ℕ) (keep : Side) → Allowed s w (Splice a d y p keep) → knows (of s w) a ≡ true
-  unfolding refusal
-  splice_known a d y p keep ok = (both_known (knows (of s w) a) (knows (of s w) y) (third (outside 1 s.layout.nodes a || (outside 6 s.layout.nodes y || outside 6 s.layout.nodes p)) (is_none (of s w).brief.pin) (not (knows (of s w) a && knows (of s w) y)) NoSlot NotPinned NotHeld _ ok.event)).0
-
-  look_known_slot : (x : ℕ) (f : Field) → Allowed s w (Look x f) → is_private (of s w) x ≡ false → knows (of s w) x ≡ true
-  unfolding refusal
-  look_known_slot x f ok free = loose (is_private (of s w) x) (knows (of s w) x) (third (outside 1 s.layout.nodes x) (not (is_private (of s w) x) && is_none (of s w).brief.pin) (not (is_private (of s w) x) && not (knows (of s w) x)) NoSlot NotPinned NotHeld _ ok.event) free
-    where
-      loose : (b d : Bool) → (not b && not d) ≡ false → b ≡ false → d ≡ true
-      loose b true held is = refl
-      loose true false held is = absurd (true≢false is)
-      loose false false held is = absurd (true≢false held)
-
   by_link : (p : ℕ) (d : Side) (leaf new : ℕ) (l : Knowledge) (r : Reply) → l.known ≡ met (of s w).known new → l.brief.pin ≡ (of s w).brief.pin → edge_told (Link p d leaf new) (Ok r) ≡ Some (p, new) → knows (of s w) p ≡ true → Learns (of s w) l (Link p d leaf new) r
   by_link p d leaf new l r same pin tells known = record {
     pin = λ q is. inl (sym pin ∙ is, refl);
@@ -162,15 +134,15 @@ module _ (s : State) (h : ℕ → ℕ) (law : Lawful s h) (w : ℕ) where
   learned (Claim x) (Claimed t) ok = quiet (of s w) _ (Claim x) (Claimed t) refl refl refl
   learned (Give x) (Returned t) ok = quiet (of s w) _ (Give x) (Returned t) refl refl refl
   learned (Give x) (Freed n) ok = quiet (of s w) _ (Give x) (Freed n) refl refl refl
-  learned (Look x f) r ok = cond_both (is_private (of s w) x) (look_private (of s w) x f r) (look_known (of s w) x f r) (λ (l : Knowledge). Learns (of s w) l (Look x f) r) (λ _. own_look x f r) (λ free. known_look x f r (look_known_slot x f ok free))
+  learned (Look x f) r ok = cond_both (is_private (of s w) x) (look_private (of s w) x f r) (look_known (of s w) x f r) (λ (l : Knowledge). Learns (of s w) l (Look x f) r) (λ _. own_look x f r) (λ free. known_look x f r (look_checked s w x f ok.event free))
   learned (Fill x f v) Filled ok = quiet (of s w) _ (Fill x f v) Filled refl refl refl
   learned (Link p d leaf new) (Linked n) ok = by_link p d leaf new _ (Linked n) refl refl refl (link_checked s w p d leaf new ok.event).known
   learned (Link p d leaf new) (Lost f) ok = let known = (link_checked s w p d leaf new ok.event).known in by_read (of s w) p d f (Link p d leaf new) (Lost f) refl known (unowned p known) (λ y is. inr (same_slot y f.slot p is))
-  learned (Flag p d leaf) (Flagged n) ok = let known = flag_known p d leaf ok in by_read (of s w) p d (flag_to leaf) (Flag p d leaf) (Flagged n) refl known.0 (unowned p known.0) (λ y is. inl (ap (knows (of s w)) is ∙ known.1))
-  learned (Flag p d leaf) (Lost f) ok = let known = flag_known p d leaf ok in by_read (of s w) p d f (Flag p d leaf) (Lost f) refl known.0 (unowned p known.0) (λ y is. inr (same_slot y f.slot p is))
-  learned (Tag p d) (Was f) ok = let known = tag_known p d ok in by_read (of s w) p d (tagged f) (Tag p d) (Was f) refl known (unowned p known) (λ y is. inr (same_slot y f.slot p is))
+  learned (Flag p d leaf) (Flagged n) ok = let known = flag_checked s w p d leaf ok.event in by_read (of s w) p d (flag_to leaf) (Flag p d leaf) (Flagged n) refl known.known (unowned p known.known) (λ y is. inl (ap (knows (of s w)) is ∙ known.held))
+  learned (Flag p d leaf) (Lost f) ok = let known = flag_checked s w p d leaf ok.event in by_read (of s w) p d f (Flag p d leaf) (Lost f) refl known.known (unowned p known.known) (λ y is. inr (same_slot y f.slot p is))
+  learned (Tag p d) (Was f) ok = let known = (tag_checked s w p d ok.event).0 in by_read (of s w) p d (tagged f) (Tag p d) (Was f) refl known (unowned p known) (λ y is. inr (same_slot y f.slot p is))
   learned (Splice a d y p keep) (Cut ns) ok = quiet (of s w) _ (Splice a d y p keep) (Cut ns) refl refl refl
-  learned (Splice a d y p keep) (Lost f) ok = let known = splice_known a d y p keep ok in by_read (of s w) a d f (Splice a d y p keep) (Lost f) refl known (unowned a known) (λ z is. inr (same_slot z f.slot a is))
+  learned (Splice a d y p keep) (Lost f) ok = let known = (splice_checked s w a d y p keep ok.event).known in by_read (of s w) a d f (Splice a d y p keep) (Lost f) refl known (unowned a known) (λ z is. inr (same_slot z f.slot a is))
   learned (Join v) (Joined ls) ok = cond_both (w == v) (resigned (of s w)) (inheriting (of s w) ls) (λ (l : Knowledge). Learns (of s w) l (Join v) (Joined ls)) (λ _. quiet (of s w) _ (Join v) (Joined ls) refl refl refl) (λ _. quiet (of s w) _ (Join v) (Joined ls) refl refl refl)
   learned e r ok = quiet (of s w) _ e r refl refl refl
 

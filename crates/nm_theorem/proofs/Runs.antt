@@ -10,7 +10,7 @@ use Rattle.nm_model.specs.Ordered.{Configuration, IsReached, opening_of, refused
 use Rattle.nm_laws.proofs.Steps.{allowed}
 use Rattle.nm_laws.proofs.Lawful.{IsLawful, lawful_start, lawful_step}
 use Rattle.nm_laws.proofs.Configurations.{refused_next, allowed_next, reached_plain, reached_ordered, opening_state, allowed_by_state, same_layout}
-use Rattle.nm_laws.proofs.LawfulRuns.{same_head, take_first as first_of}
+use Rattle.nm_laws.proofs.LawfulRuns.{same_head, no_turn, take_first as first_of}
 
 -- a turn as the trace tells it
 abbrev pub told_in : Configuration → ℕ × Event → Turn
@@ -31,9 +31,6 @@ pub record Head (c : Configuration) (ts : List (ℕ × Event)) (turn : Turn) (re
   pub all : ts ≡ event ∷ others
   pub turn_is : turn ≡ told_in c event
   pub rest_is : rest ≡ trace_in (next_in c event) others
-
-no_turn : (x : Turn) (xs : List Turn) → [] ≡ x ∷ xs → ⊥
-no_turn x xs e = cc
 
 pub head_of : (c : Configuration) (ts : List (ℕ × Event)) (turn : Turn) (rest : List Turn) → trace_in c ts ≡ turn ∷ rest → Head c ts turn rest
 unfolding trace_in

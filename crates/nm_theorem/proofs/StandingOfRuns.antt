@@ -1,8 +1,8 @@
 -- What is touched was told, what was told stays, and only holders store: of the turns of every run.
-use Rattle.std.proofs.Common.{◌≡◌, ◌≢◌, ℕ, ◌≤◌, Bool, true, false, not, ◌&&◌, ◌||◌, List, ◌∷◌, ◌++◌, append_assoc, refl, sym, ap, subst, ◌∙◌, arith}
-use Rattle.std.specs.Prelude.{Option, Some, None, nat_lt, Result, Ok, Err, Contains, All}
+use Rattle.std.proofs.Common.{◌≡◌, ◌≢◌, ℕ, ◌≤◌, Bool, true, false, List, ◌∷◌, ◌++◌, append_assoc, refl, sym, ap, subst, ◌∙◌, arith}
+use Rattle.std.specs.Prelude.{Option, Some, None, Result, Ok, Err, Contains, All}
 use Rattle.std.specs.List.{list_any}
-use Rattle.std.proofs.lemmas.Bool.{not-false, false_from_ne_true}
+use Rattle.std.proofs.lemmas.Bool.{false_from_ne_true}
 use Rattle.nm_edge.specs.Layouts.{Layout, IsLayout}
 use Rattle.nm_model.specs.declared.event.Field.{Field}
 use Rattle.nm_model.specs.declared.event.Field.TheVariants.{Edge as EdgeOn}
@@ -11,21 +11,20 @@ use Rattle.nm_model.specs.declared.event.Event.TheVariants.{Look, Fill, Link, Fl
 use Rattle.nm_model.specs.declared.reply.Reply.{Reply}
 use Rattle.nm_model.specs.declared.reply.Reply.TheVariants.{Filled}
 use Rattle.nm_model.specs.declared.reply.Refused.{Refused}
-use Rattle.nm_model.specs.declared.reply.Refused.TheVariants.{NoSlot, NotPrivate}
 use Rattle.nm_model.specs.declared.trace.Turn.{Turn}
 use Rattle.nm_model.specs.Memory.{Memory, node, in_pool, opening}
 use Rattle.nm_model.specs.Knowledge.{Knowledge, knows, is_private}
 use Rattle.nm_model.specs.Lawful.{ReadsStand}
-use Rattle.nm_model.specs.Step.{refusal, outside, is_edge}
-use Rattle.nm_model.specs.Runs.{State, of, reply_of}
+use Rattle.nm_model.specs.Runs.{of, reply_of}
 use Rattle.nm_model.specs.Ordered.{Configuration, HasKey, opening_of, refused_in, next_in, applied_in, outcome_in, after_in, trace_in}
-use Rattle.nm_laws.proofs.Steps.{Allowed, allowed, second}
+use Rattle.nm_laws.proofs.Steps.{Allowed, allowed}
 use Rattle.nm_laws.proofs.Configurations.{refused_outcome, allowed_next, allowed_outcome, after_in-append, reached_state, allowed_by_state}
 use Rattle.nm_laws.proofs.Lawful.{IsLawful}
 use Rattle.nm_laws.proofs.LawfulRuns.{lawful_state}
 use Rattle.nm_laws.proofs.KnownBirths.{written_same}
 use Rattle.nm_laws.proofs.Pictures.{IsLive}
 use Rattle.nm_laws.proofs.Views.{view}
+use Rattle.nm_laws.proofs.TreeSteps.{fill_checked}
 use Rattle.nm_order.proofs.CallWalks.{own_knows, memory_after}
 use Rattle.nm_order.proofs.WalksOfRuns.{trace_in-append, all_before}
 use Rattle.nm_model.specs.Headline.{leaves, has_after, words_after, touched, edge_told, HasLeft, WasTold, OnlyWhatWasToldIsTouched, IsStill, OnlyHoldersStore}
@@ -36,11 +35,6 @@ use Rattle.nm_theorem.proofs.Hands.{run_hands}
 use Rattle.nm_theorem.proofs.StaysOfRuns.{touch_known, Still, turns_stay, live, one_first, trace_first, was_allowed}
 use Rattle.nm_theorem.proofs.Learns.{told_known}
 use Rattle.nm_theorem.proofs.ToldOfRuns.{are_told}
-
-module _ (s : State) (w : ℕ) where
-  pub fill_own : (y : ℕ) (f : Field) (v : ℕ) → Allowed s w (Fill y f v) → is_private (of s w) y ≡ true
-  unfolding refusal
-  fill_own y f v ok = not-false (is_private (of s w) y) (second (outside 6 s.layout.nodes y || (is_edge f && nat_lt s.layout.nodes v)) (not (is_private (of s w) y)) NoSlot NotPrivate _ ok.event)
 
 -- ---- a telling turn
 
@@ -134,7 +128,7 @@ module _ (L : Layout) (fits : IsLayout L) (b : Bool) (ts : List (ℕ × Event)) 
         known = touch_known c.state a.lawful.holder a.lawful.law a.event.0 x (sym (hands_are x) ∙ free) (a.stand a.event.0) a.event.1 (is_allowed r answer) (subst (λ (e : Event). Contains (touched e) x) event_is touches)
 
     stored_own : (s v : ℕ) (f : Field) → t.event ≡ Fill s f v → t.outcome ≡ Ok Filled → has_after (opening L) t.worker s false before ≡ true
-    stored_own s v f is answer = hands_are s ∙ fill_own c.state a.event.0 s f v (subst (λ (e : Event). Allowed c.state a.event.0 e) (sym event_is ∙ is) (is_allowed Filled answer))
+    stored_own s v f is answer = hands_are s ∙ fill_checked c.state a.event.0 a.event.1 (is_allowed Filled answer).event s f v (sym event_is ∙ is)
 
   telling_stays : (before between rest : List Turn) (t : Turn) (from x : ℕ) → trace_in (opening_of L b) ts ≡ before ++ t ∷ (between ++ rest) → edge_told t.event t.outcome ≡ Some (from, x) → has_after (opening L) t.worker from false before ≡ false → 1 ≤ x
       → (HasLeft t.worker between → ⊥) → IsStill L before (before ++ t ∷ between) x

@@ -1,10 +1,10 @@
 -- What a worker touches it knows, and what it knows stays for as long as it has not left: what is
 -- known is in no pool and in nobody's hands.
-use Rattle.std.proofs.Common.{◌≡◌, ◌≢◌, ℕ, zero, suc, ◌==◌, inl, inr, ◌⊎◌, Bool, true, false, cond, not, ◌||◌, ◌&&◌, List, [], ◌∷◌, refl, sym, ap, subst, ◌∙◌, arith, true≢false}
-use Rattle.std.specs.Prelude.{Option, Some, None, is_some, is_none, nat_lt, Ok, Contains}
+use Rattle.std.proofs.Common.{◌≡◌, ◌≢◌, ℕ, zero, suc, ◌==◌, inl, inr, ◌⊎◌, true, false, cond, List, [], ◌∷◌, refl, sym, ap, subst, ◌∙◌, arith, true≢false}
+use Rattle.std.specs.Prelude.{Option, Some, None, is_some, Ok, Contains}
 use Rattle.std.specs.List.{list_any}
 use native.Mathlib.Decide.{ℕ_discrete}
-use Rattle.std.proofs.lemmas.Bool.{cond_both, and_parts, or_parts, not-false, eq-eqb, false_from_ne_true, and_from}
+use Rattle.std.proofs.lemmas.Bool.{cond_both, and_parts, or_parts, eq-eqb, false_from_ne_true, and_from}
 use Rattle.nm_edge.specs.declared.edge.Side.{Side}
 use Rattle.nm_model.specs.declared.event.Field.{Field}
 use Rattle.nm_model.specs.declared.event.Op.{Op}
@@ -13,21 +13,20 @@ use Rattle.nm_model.specs.declared.event.Event.TheVariants.{Sight, SightFor, Lea
 use Rattle.nm_model.specs.declared.reply.Reply.{Reply}
 use Rattle.nm_model.specs.declared.reply.Reply.TheVariants.{Saw, Labelled, Pinned}
 use Rattle.nm_model.specs.declared.reply.Refused.{Refused}
-use Rattle.nm_model.specs.declared.reply.Refused.TheVariants.{NoSlot, NotPinned, NotHeld, NotPrivate, NotFrozen}
 use Rattle.nm_model.specs.Memory.{Memory, node, edge}
-use Rattle.nm_model.specs.Knowledge.{Knowledge, knows, knows_leaf, is_private, read, is_tagged, way}
+use Rattle.nm_model.specs.Knowledge.{Knowledge, knows, is_private, read, is_tagged, way}
 use Rattle.nm_model.specs.Lawful.{ReadsStand}
-use Rattle.nm_model.specs.Step.{refusal, reply, outside, is_edge, is_frozen, reply_sight, confirmed}
+use Rattle.nm_model.specs.Step.{reply, reply_sight, confirmed}
 use Rattle.nm_model.specs.Runs.{State, of, reply_of, applied}
 use Rattle.nm_model.specs.Walks.{begins_anew}
 use Rattle.nm_model.specs.Ordered.{Configuration, refused_in, next_in, applied_in, outcome_in, after_in, trace_in}
-use Rattle.nm_laws.proofs.Steps.{Allowed, allowed, second, third, fourth}
+use Rattle.nm_laws.proofs.Steps.{Allowed, allowed}
 use Rattle.nm_laws.proofs.Configurations.{refused_next, refused_outcome, allowed_next, allowed_outcome, allowed_by_state}
 use Rattle.nm_laws.proofs.Lawful.{IsLawful}
 use Rattle.nm_laws.proofs.KnownBirths.{written_same}
 use Rattle.nm_laws.proofs.Pictures.{IsLive}
 use Rattle.nm_laws.proofs.TreeSlots.{known_live, tag_known}
-use Rattle.nm_laws.proofs.TreeSteps.{Lawful, LinkChecked, link_checked}
+use Rattle.nm_laws.proofs.TreeSteps.{Lawful, LinkChecked, link_checked, FlagChecked, flag_checked, tag_checked, SpliceChecked, splice_checked, look_checked, fill_checked}
 use Rattle.nm_laws.proofs.Views.{view}
 use Rattle.nm_laws.proofs.Outcomes.{no_reply}
 use Rattle.nm_order.proofs.CallWalks.{others_stay, own_knows, memory_after}
@@ -44,9 +43,6 @@ one_of y ys x (suc k, below, at) = inr (k, omega (arith, below), at)
 no_more : (x : ℕ) → Contains [] x → ⊥
 no_more x c = let b = c.1 in omega (arith, b)
 
-both_known : (a b : Bool) → not (a && b) ≡ false → (a ≡ true) × (b ≡ true)
-both_known a b held = and_parts a b (not-false (a && b) held)
-
 module _ (s : State) (h : ℕ → ℕ) (law : Lawful s h) (w : ℕ) (x : ℕ) (free : is_private (of s w) x ≡ false) where
   abbrev k : Knowledge
   k = of s w
@@ -62,17 +58,10 @@ module _ (s : State) (h : ℕ → ℕ) (law : Lawful s h) (w : ℕ) (x : ℕ) (f
   tag_of_known p side stand tag = stand.known p side (edge s.memory p side) (tag_known s.layout.nodes s.memory (of s) h w p side law.tree tag)
 
   pub touch_known : ReadsStand s w → (e : Event) → Allowed s w e → Contains (touched e) x → knows (of s w) x ≡ true
-  unfolding refusal
   touch_known stand (Look y f) ok c = by (one_of y [] x c)
     where
-      loose : (b d : Bool) → (not b && not d) ≡ false → b ≡ false → d ≡ true
-      loose b true held is = refl
-      loose true false held is = absurd (true≢false is)
-      loose false false held is = absurd (true≢false held)
-
       by : (y ≡ x) ⊎ Contains [] x → knows (of s w) x ≡ true
-      by (inl same) = knows_it y (loose (is_private (of s w) y) (knows (of s w) y) (third (outside 1 s.layout.nodes y) (not (is_private (of s w) y) && is_none (of s w).brief.pin) (not (is_private (of s w) y) && not (knows (of s w) y)) NoSlot NotPinned NotHeld _ ok.event)
-          (ap (is_private (of s w)) same ∙ free)) same
+      by (inl same) = knows_it y (look_checked s w y f ok.event (ap (is_private (of s w)) same ∙ free)) same
       by (inr more) = absurd (no_more x more)
   touch_known stand (Link p d leaf new) ok c = by (one_of p (leaf ∷ new ∷ []) x c)
     where
@@ -92,45 +81,39 @@ module _ (s : State) (h : ℕ → ℕ) (law : Lawful s h) (w : ℕ) (x : ℕ) (f
       by (inr more) = next (one_of leaf (new ∷ []) x more)
   touch_known stand (Flag p d leaf) ok c = by (one_of p (leaf ∷ []) x c)
     where
-      held : (knows (of s w) p ≡ true) × ((knows (of s w) leaf && knows_leaf (of s w) leaf) ≡ true)
-      held = both_known (knows (of s w) p) (knows (of s w) leaf && knows_leaf (of s w) leaf) (third (outside 1 s.layout.nodes p || outside 6 s.layout.nodes leaf) (is_none (of s w).brief.pin) (not (knows (of s w) p && (knows (of s w) leaf && knows_leaf (of s w) leaf))) NoSlot NotPinned NotHeld _ ok.event)
+      held : FlagChecked (of s w) p leaf
+      held = flag_checked s w p d leaf ok.event
 
       next : (leaf ≡ x) ⊎ Contains [] x → knows (of s w) x ≡ true
-      next (inl same) = knows_it leaf (and_parts (knows (of s w) leaf) (knows_leaf (of s w) leaf) held.1).0 same
+      next (inl same) = knows_it leaf held.held same
       next (inr more) = absurd (no_more x more)
 
       by : (p ≡ x) ⊎ Contains (leaf ∷ []) x → knows (of s w) x ≡ true
-      by (inl same) = knows_it p held.0 same
+      by (inl same) = knows_it p held.known same
       by (inr more) = next (one_of leaf [] x more)
   touch_known stand (Tag p d) ok c = by (one_of p [] x c)
     where
       by : (p ≡ x) ⊎ Contains [] x → knows (of s w) x ≡ true
-      by (inl same) = knows_it p (not-false (knows (of s w) p) (third (outside 1 s.layout.nodes p) (is_none (of s w).brief.pin) (not (knows (of s w) p)) NoSlot NotPinned NotHeld _ ok.event)) same
+      by (inl same) = knows_it p (tag_checked s w p d ok.event).0 same
       by (inr more) = absurd (no_more x more)
   touch_known stand (Splice a d y p keep) ok c = by (one_of a (y ∷ p ∷ []) x c)
     where
-      first : Bool
-      first = outside 1 s.layout.nodes a || (outside 6 s.layout.nodes y || outside 6 s.layout.nodes p)
-
-      held : (knows (of s w) a ≡ true) × (knows (of s w) y ≡ true)
-      held = both_known (knows (of s w) a) (knows (of s w) y) (third (outside 1 s.layout.nodes a || (outside 6 s.layout.nodes y || outside 6 s.layout.nodes p)) (is_none (of s w).brief.pin) (not (knows (of s w) a && knows (of s w) y)) NoSlot NotPinned NotHeld _ ok.event)
-
-      frozen : is_frozen s.layout (of s w) y p keep ≡ true
-      frozen = not-false (is_frozen s.layout (of s w) y p keep) (fourth (outside 1 s.layout.nodes a || (outside 6 s.layout.nodes y || outside 6 s.layout.nodes p)) (is_none (of s w).brief.pin) (not (knows (of s w) a && knows (of s w) y)) (not (is_frozen s.layout (of s w) y p keep)) NoSlot NotPinned NotHeld NotFrozen _ ok.event)
+      held : SpliceChecked s.layout (of s w) a y p keep
+      held = splice_checked s w a d y p keep ok.event
 
       parent : knows (of s w) p ≡ true
-      parent = tag_of_known p keep stand (and_parts (is_tagged (read (of s w) p keep)) _ (and_parts (is_some (way s.layout.nodes (of s w) y p)) _ frozen).1).0
+      parent = tag_of_known p keep stand (and_parts (is_tagged (read (of s w) p keep)) _ (and_parts (is_some (way s.layout.nodes (of s w) y p)) _ held.frozen).1).0
 
       last : (p ≡ x) ⊎ Contains [] x → knows (of s w) x ≡ true
       last (inl same) = knows_it p parent same
       last (inr more) = absurd (no_more x more)
 
       next : (y ≡ x) ⊎ Contains (p ∷ []) x → knows (of s w) x ≡ true
-      next (inl same) = knows_it y held.1 same
+      next (inl same) = knows_it y held.held same
       next (inr more) = last (one_of p [] x more)
 
       by : (a ≡ x) ⊎ Contains (y ∷ p ∷ []) x → knows (of s w) x ≡ true
-      by (inl same) = knows_it a held.0 same
+      by (inl same) = knows_it a held.known same
       by (inr more) = next (one_of y (p ∷ []) x more)
   touch_known stand e ok c = absurd (no_more x c)
 
@@ -167,14 +150,10 @@ module _ (w x : ℕ) where
   live s l known = known_live s.layout.nodes s.memory (of s) l.holder w x l.law.tree known
 
   event_stays : (s : State) → IsLawful s → (u : ℕ) (e : Event) → Allowed s u e → (u ≡ w → departs e (Ok (reply_of s u e)) ≡ false) → knows (of s w) x ≡ true → Still w x s (applied s u e)
-  unfolding refusal
   event_stays s l u e ok stays known = record { known = elim (ℕ_discrete w u) [ yes same ↦ mine same | no ne ↦ (others_stay s l.holder l.law u e ok w ne).known x known ]; birth = ap (λ (m : Memory). (node m x).birth) (memory_after s u e) ∙ (written_same s.memory (of s u) u e x apart).birth }
     where
       apart : (y : ℕ) (f : Field) (v : ℕ) → e ≡ Fill y f v → x ≢ y
-      apart y f v is same = true≢false (sym mine ∙ (ap (is_private (of s u)) (sym same) ∙ (live s l known).shared u))
-        where
-          mine : is_private (of s u) y ≡ true
-          mine = not-false (is_private (of s u) y) (second (outside 6 s.layout.nodes y || (is_edge f && nat_lt s.layout.nodes v)) (not (is_private (of s u) y)) NoSlot NotPrivate _ (subst (λ (z : Event). Allowed s u z) is ok).event)
+      apart y f v is same = true≢false (sym (fill_checked s u e ok.event y f v is) ∙ (ap (is_private (of s u)) (sym same) ∙ (live s l known).shared u))
 
       mine : w ≡ u → knows (of (applied s u e) w) x ≡ true
       mine same = subst (λ (v : ℕ). knows (of (applied s u e) v) x ≡ true) (sym same)

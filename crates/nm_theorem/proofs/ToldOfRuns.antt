@@ -1,6 +1,6 @@
 -- What a worker knows was told to it under its pin: of every run.
 use Rattle.std.proofs.Common.{◌≡◌, ◌≢◌, ℕ, ◌≤◌, ◌⊎◌, inl, inr, ◌==◌, Bool, true, false, ◌&&◌, ◌||◌, List, [], ◌∷◌, ◌++◌, append_assoc, refl, sym, ap, subst, ◌∙◌, true≢false}
-use Rattle.std.specs.Prelude.{Option, Some, None, Ok, Err}
+use Rattle.std.specs.Prelude.{Option, Some, None, Ok}
 use Rattle.std.specs.List.{list_any}
 use native.Mathlib.Decide.{ℕ_discrete}
 use Rattle.std.proofs.lemmas.Option.{none-some}
@@ -9,7 +9,7 @@ use Rattle.std.proofs.lemmas.List.{append-nil}
 use Rattle.std.proofs.lemmas.List.Folds.{list_any-append}
 use Rattle.nm_edge.specs.Layouts.{Layout, IsLayout}
 use Rattle.nm_model.specs.declared.event.Event.{Event}
-use Rattle.nm_model.specs.declared.event.Event.TheVariants.{Leave, LeaveWith, Join}
+use Rattle.nm_model.specs.declared.event.Event.TheVariants.{Join}
 use Rattle.nm_model.specs.declared.reply.Reply.{Reply}
 use Rattle.nm_model.specs.declared.reply.Reply.TheVariants.{Joined}
 use Rattle.nm_model.specs.declared.reply.Refused.{Refused}
@@ -25,6 +25,7 @@ use Rattle.nm_laws.proofs.Steps.{Allowed, allowed}
 use Rattle.nm_laws.proofs.Configurations.{refused_next, refused_outcome, allowed_next, allowed_outcome, after_in-append, opening_state, allowed_by_state}
 use Rattle.nm_laws.proofs.Lawful.{IsLawful}
 use Rattle.nm_laws.proofs.Pins.{all_new}
+use Rattle.nm_laws.proofs.OrderedRuns.{none_departs}
 use Rattle.nm_order.specs.Logs.{is_leaver}
 use Rattle.nm_order.proofs.PartsOfRuns.{partaking, apart}
 use Rattle.nm_order.proofs.CallWalks.{own_knows}
@@ -77,11 +78,6 @@ record Moves (w : ℕ) (c : Configuration) (t : ℕ × Event) (d : State) : Type
   pin : (p : ℕ) → (of d w).brief.pin ≡ Some p → (((of c.state w).brief.pin ≡ Some p) × (leaves w (told_in c t) ≡ false)) ⊎ ((t.0 ≡ w) × (confirms t.1 (outcome_in c t) ≡ true))
   known : (x : ℕ) → 3 ≤ x → knows (of d w) x ≡ true → ((knows (of c.state w) x ≡ true) × (leaves w (told_in c t) ≡ false))
       ⊎ ((t.0 ≡ w) × (from : ℕ) × (edge_told t.1 (outcome_in c t) ≡ Some (from, x)) × (is_private (of c.state w) from ≡ false) × ((of d w).brief.pin ≡ (of c.state w).brief.pin))
-
-departs_err : (e : Event) (q : Refused) → departs e (Err q) ≡ false
-departs_err Leave q = refl
-departs_err (LeaveWith answer) q = refl
-departs_err e q = refl
 
 and_false : (a b : Bool) → b ≡ false → (a && b) ≡ false
 and_false true b none = none
@@ -156,7 +152,7 @@ module _ (w : ℕ) where
     where
       go : (o : Option Refused) → refused_in c t.0 t.1 ≡ o → Moves w c t (next_in c t).state
       go (Some q) is = subst (λ (d : Configuration). Moves w c t d.state) (sym (refused_next c t q is))
-          (same_moves c t c.state (and_false (t.0 == w) (departs t.1 (outcome_in c t)) (ap (departs t.1) (refused_outcome c t q is) ∙ departs_err t.1 q)) (λ x. refl) refl)
+          (same_moves c t c.state (and_false (t.0 == w) (departs t.1 (outcome_in c t)) (ap (departs t.1) (refused_outcome c t q is) ∙ none_departs t.1 q)) (λ x. refl) refl)
       go None is = subst (λ (d : Configuration). Moves w c t d.state) (sym (allowed_next c t is)) (elim (ℕ_discrete w t.0) [ yes same ↦ own_moves c t l ok (allowed_outcome c t is) (sym same) | no ne ↦ other_moves c t l ok ne ])
         where
           ok : Allowed c.state t.0 t.1

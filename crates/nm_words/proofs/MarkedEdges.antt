@@ -1,5 +1,5 @@
 -- No null edge of a memory has a mark.
-use Rattle.std.proofs.Common.{◌≡◌, ℕ, zero, suc, ◌==◌, ◌≤◌, ◌+◌, ◌-◌, Bool, true, false, not, refl, sym, ap, subst, ◌∙◌, true≢false, arith}
+use Rattle.std.proofs.Common.{◌≡◌, ℕ, ◌==◌, ◌≤◌, ◌+◌, ◌-◌, Bool, true, false, not, refl, sym, ap, subst, ◌∙◌, true≢false, arith}
 use Rattle.std.specs.Prelude.{Option, Some, None, nat_lt}
 use Rattle.std.proofs.lemmas.Bool.{cond_both, or_parts, ltb-false}
 use Rattle.nm_edge.specs.Edges.{Edge, IsEdge, to, is_to, tagged, untagged}
@@ -20,6 +20,7 @@ use Rattle.nm_model.specs.Laws.{OfEachState}
 use Rattle.nm_model.proofs.Numbers.{repeated}
 use Rattle.nm_laws.proofs.Steps.{Allowed, by_steps, passed}
 use Rattle.nm_laws.proofs.Lawful.{IsLawful, lawful_step, lawful_start}
+use Rattle.nm_laws.proofs.Trees.{each_slot}
 use Rattle.nm_words.specs.Packing.{NullEdgesAreUnmarked}
 use Rattle.nm_words.proofs.PackedSizes.{set_keeps}
 
@@ -105,13 +106,8 @@ unfolding applied
 keeps_unmarked s w e k ok = record { lawful = lawful_step s w e k.lawful ok; unmarked = unmarked_step s k.lawful k.unmarked w e ok }
 
 unmarked_start : (L : Layout) → Unmarked (start L).memory
-unmarked_start L zero = both (node (start L).memory 0) (to_is 0) (to_is 0)
-unmarked_start L (suc zero) = both (node (start L).memory 1) (to_is 2) (to_is 5)
-unmarked_start L (suc (suc zero)) = both (node (start L).memory 2) (to_is 3) (to_is 4)
-unmarked_start L (suc (suc (suc zero))) = both (node (start L).memory 3) (to_is 0) (to_is 0)
-unmarked_start L (suc (suc (suc (suc zero)))) = both (node (start L).memory 4) (to_is 0) (to_is 0)
-unmarked_start L (suc (suc (suc (suc (suc zero))))) = both (node (start L).memory 5) (to_is 0) (to_is 0)
-unmarked_start L (suc (suc (suc (suc (suc (suc x)))))) = subst Plain (sym (repeated (L.nodes - 5) x blank)) (both blank (to_is 0) (to_is 0))
+unmarked_start L = each_slot _ (both (node (start L).memory 0) (to_is 0) (to_is 0)) (both (node (start L).memory 1) (to_is 2) (to_is 5)) (both (node (start L).memory 2) (to_is 3) (to_is 4)) (both (node (start L).memory 3) (to_is 0) (to_is 0))
+    (both (node (start L).memory 4) (to_is 0) (to_is 0)) (both (node (start L).memory 5) (to_is 0) (to_is 0)) (λ x. subst Plain (sym (repeated (L.nodes - 5) x blank)) (both blank (to_is 0) (to_is 0)))
 
 pub each_null_unmarked : OfEachState NullEdgesAreUnmarked
 each_null_unmarked L enough turns = (by_steps IsLawfulAndUnmarked keeps_unmarked turns (start L) (record { lawful = lawful_start L enough; unmarked = unmarked_start L })).unmarked

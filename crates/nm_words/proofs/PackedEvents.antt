@@ -1,9 +1,9 @@
 -- Each event that is allowed touches one word: in every state of every run.
-use Rattle.std.proofs.Common.{◌≡◌, ◌≢◌, ℕ, ◌+◌, ◌*◌, ◌==◌, inl, inr, Bool, true, false, cond, not, ◌&&◌, ◌||◌, [], refl, sym, ap, ◌∙◌, arith, true≢false}
-use Rattle.std.specs.Prelude.{Option, Some, None, is_none, nat_lt, bit_or, slice_index, slice_set}
-use Rattle.std.proofs.lemmas.Bool.{or_parts, leb-false, not-false, false_from_ne_true}
+use Rattle.std.proofs.Common.{◌≡◌, ℕ, ◌+◌, ◌*◌, ◌==◌, inl, inr, Bool, true, false, cond, ◌&&◌, ◌||◌, refl, sym, ap, ◌∙◌, arith}
+use Rattle.std.specs.Prelude.{Option, Some, None, nat_lt, bit_or, slice_index, slice_set}
+use Rattle.std.proofs.lemmas.Bool.{or_parts, leb-false, false_from_ne_true}
 use Rattle.std.proofs.lemmas.List.{set-get_or}
-use Rattle.nm_edge.specs.Edges.{Edge, word_of, to, is_to, tagged, other}
+use Rattle.nm_edge.specs.Edges.{Edge, word_of, to, is_to, tagged}
 use Rattle.nm_edge.specs.Layouts.{Layout}
 use Rattle.nm_edge.specs.Words.{at_epoch, at_edge, IsField, IsSlot, word, pool_place}
 use Rattle.nm_edge.specs.declared.edge.Side.{Side}
@@ -13,18 +13,15 @@ use Rattle.nm_model.specs.declared.event.Event.TheVariants.{Sight, SightFor, Ann
 use Rattle.nm_model.specs.declared.event.Field.{Field as NodeField}
 use Rattle.nm_model.specs.declared.event.Field.TheVariants.{Key, Edge as EdgeOn, Birth}
 use Rattle.nm_model.specs.declared.reply.Refused.{Refused}
-use Rattle.nm_model.specs.declared.reply.Refused.TheVariants.{NoSlot, NotPinned, NotHeld, NotFrozen}
 use Rattle.nm_model.specs.Maps.{is_number}
-use Rattle.nm_model.specs.Memory.{Memory, node, edge, child, put_node, with_edge}
-use Rattle.nm_model.specs.Knowledge.{knows, read, is_flagged}
+use Rattle.nm_model.specs.Memory.{Memory, node, edge, put_node, with_edge}
+use Rattle.nm_model.specs.Knowledge.{read}
 use Rattle.nm_model.specs.Step.{outside, is_edge, exchanged, filled, kept, refusal, write}
 use Rattle.nm_model.specs.Runs.{State, of, start, refusal_of, refused, applied, unless_refused, next, after}
 use Rattle.nm_model.specs.Laws.{OfEachState}
 use Rattle.nm_words.specs.Packing.{Fits, words_of, word_at, field_of, touched_field, filling, left_word, with_word, AtMostOne, StateFits, FixedBitsAreZero, EventsTouchOneWord, AtMostOneWordChanges}
-use Rattle.nm_laws.proofs.Steps.{Allowed, allowed, passed, third, fourth}
-use Rattle.nm_laws.proofs.Pictures.{InReach}
-use Rattle.nm_laws.proofs.Views.{picture}
-use Rattle.nm_laws.proofs.TreeSteps.{Lawful, high_from}
+use Rattle.nm_laws.proofs.Steps.{Allowed, allowed, passed}
+use Rattle.nm_laws.proofs.TreeSteps.{Lawful, high_from, tag_not_null}
 use Rattle.nm_laws.proofs.Lawful.{IsLawful, lawful}
 use Rattle.nm_words.proofs.EdgeWords.{word_to, word_flagged, word_is_to, word_tagged}
 use Rattle.nm_words.proofs.PackedReads.{all_words, field_read, each_bit_is_its_slot}
@@ -91,29 +88,6 @@ module _ (s : State) (h : ℕ → ℕ) (law : Lawful s h) (w : ℕ) where
       go (Splice a side x p keep) ok = high_from 1 s.layout.nodes a (or_parts (outside 1 s.layout.nodes a) (outside 6 s.layout.nodes x || outside 6 s.layout.nodes p) (passed _ _ _ ok).0).0
       go (Join v) ok = tt
 
-  -- an edge that may be tagged is not null: its twin is flagged, and a shared node has two children
-  -- or none
-  not_null : (p : ℕ) (side : Side) → Allowed s w (Tag p side) → child s.memory p side ≢ 0
-  unfolding refusal
-  not_null p side ok' null = flagged (read (of s w) p (other side)) refl twin
-    where
-      known : knows (of s w) p ≡ true
-      known = not-false (knows (of s w) p) (third (outside 1 s.layout.nodes p) (is_none (of s w).brief.pin) (not (knows (of s w) p)) NoSlot NotPinned NotHeld _ ok'.event)
-
-      twin : is_flagged (read (of s w) p (other side)) ≡ true
-      twin = not-false (is_flagged (read (of s w) p (other side))) (fourth (outside 1 s.layout.nodes p) (is_none (of s w).brief.pin) (not (knows (of s w) p)) (not (is_flagged (read (of s w) p (other side)))) NoSlot NotPinned NotHeld NotFrozen _ ok'.event)
-
-      reach : InReach (picture s h) w p
-      reach = record { from = p; known = known; path = []; ends = refl; is_slot = λ z. let r = law.tree.known w p known in absurd (omega (arith, r.0, z)) }
-
-      flagged : (o : Option Edge) → read (of s w) p (other side) ≡ o → is_flagged o ≡ true → ⊥
-      flagged None at is = true≢false (sym is)
-      flagged (Some e) at is =
-          let live = law.tree.guarded w p reach in
-          let high = law.tree.flags p (other side) live (law.tree.flag_read w p (other side) e at is).0 in
-          let none = law.tree.twins p side live null in
-          absurd (omega (arith, high, none))
-
   one_word : (e : Event) → Allowed s w e → words_of s.layout (write s.memory (of s w) w e) ≡ with_word s.layout s.memory (touched_field w e) (left_word s.layout (of s w) e (word_at s.layout s.memory (touched_field w e)))
   unfolding refusal write
   one_word e ok' = go e ok' (touches_field e ok')
@@ -143,7 +117,7 @@ module _ (s : State) (h : ℕ → ℕ) (law : Lawful s h) (w : ℕ) where
       go (Flag p side leaf) ok at = exchange_written s.layout s.memory p side leaf (4 * leaf + 1) _ fits at (word_flagged leaf)
       go (Tag p side) ok at =
           edge_written s.layout s.memory p side (tagged (edge s.memory p side)) fits at
-          ∙ ap (with_word s.layout s.memory (at_edge p side)) (word_tagged (edge s.memory p side) (not_null p side ok) ∙ ap (λ n. bit_or n 2) (sym (field_read s.layout s.memory fits (at_edge p side) at)))
+          ∙ ap (with_word s.layout s.memory (at_edge p side)) (word_tagged (edge s.memory p side) (tag_not_null s h law w p side ok.event) ∙ ap (λ n. bit_or n 2) (sym (field_read s.layout s.memory fits (at_edge p side) at)))
       go (Splice a side x p keep) ok at = exchange_written s.layout s.memory a side x _ (kept (read (of s w) p keep)) fits at refl
       go (Join v) ok at = unchanged s.layout s.memory 0
 

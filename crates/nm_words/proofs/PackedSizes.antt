@@ -28,6 +28,7 @@ use Rattle.nm_laws.proofs.Steps.{Allowed, second, third, fourth, by_steps}
 use Rattle.nm_laws.proofs.Lawful.{IsLawful, lawful_start, lawful_step}
 use Rattle.nm_words.proofs.NumberBits.{number_below}
 use Rattle.nm_laws.proofs.Reachable.{layout_kept}
+use Rattle.nm_laws.proofs.Trees.{each_slot}
 use Rattle.nm_words.proofs.PackedReads.{field_read}
 use Rattle.nm_words.proofs.PackedEvents.{each_state_fits}
 
@@ -150,13 +151,7 @@ small_start : (L : Layout) → Small (start L).memory
 small_start L = record { epoch = omega arith; announcements = λ w e is. absurd (none-some e (sym (repeated L.workers w None) ∙ is)); births = births }
   where
     births : (x : ℕ) → (node (start L).memory x).birth ≤ last_number
-    births zero = omega arith
-    births (suc zero) = omega arith
-    births (suc (suc zero)) = omega arith
-    births (suc (suc (suc zero))) = omega arith
-    births (suc (suc (suc (suc zero)))) = omega arith
-    births (suc (suc (suc (suc (suc zero))))) = omega arith
-    births (suc (suc (suc (suc (suc (suc x)))))) = omega (arith, ap (λ (n : Node). n.birth) (repeated (L.nodes - 5) x blank))
+    births = each_slot (λ x. (node (start L).memory x).birth ≤ last_number) (omega arith) (omega arith) (omega arith) (omega arith) (omega arith) (omega arith) (λ x. omega (arith, ap (λ (n : Node). n.birth) (repeated (L.nodes - 5) x blank)))
 
 pub each_state_in_range : OfEachState StateIsInRange
 each_state_in_range L enough turns =
@@ -213,13 +208,7 @@ keyed_after [] s keyed stored = keyed
 keyed_after (t ∷ ts) s keyed stored = keyed_after ts (next s t) (keyed_next s t keyed (stored 0 t (omega arith))) (λ i d h. stored (suc i) d (omega (arith, h)))
 
 keyed_start : (L : Layout) → Keyed (start L).memory
-keyed_start L zero = lit< tt
-keyed_start L (suc zero) = lit< tt
-keyed_start L (suc (suc zero)) = lit< tt
-keyed_start L (suc (suc (suc zero))) = lit< tt
-keyed_start L (suc (suc (suc (suc zero)))) = lit< tt
-keyed_start L (suc (suc (suc (suc (suc zero))))) = lit< tt
-keyed_start L (suc (suc (suc (suc (suc (suc x)))))) = omega (arith, ap (λ (n : Node). n.key) (repeated (L.nodes - 5) x blank))
+keyed_start L = each_slot _ (lit< tt) (lit< tt) (lit< tt) (lit< tt) (lit< tt) (lit< tt) (λ x. omega (arith, ap (λ (n : Node). n.key) (repeated (L.nodes - 5) x blank)))
 
 pub words_stay_below : WordsStayBelow
 words_stay_below L enough few turns stored f h =

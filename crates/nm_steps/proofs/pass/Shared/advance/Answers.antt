@@ -2,7 +2,7 @@ use Rattle.std.proofs.Common.{rules, arith, ◌≤◌}
 use Rattle.nm_steps.specs.Rules.{knowledge, known_births}
 use Rattle.nm_model.specs.Step.{last_number}
 use Rattle.nm_steps.proofs.Asking.{advance_seen}
-use Rattle.nm_steps.proofs.Noting.{has_turned, has_turn, in_run_after, tied_after, noted_moved, noted_behind}
+use Rattle.nm_steps.proofs.Noting.{tied_after, noted_moved, noted_behind, takes_step}
 use Rattle.nm_steps.proofs.pass.Shared.advance.Goals as goal
 
 pub unreachable-requires : goal.unreachable-requires
@@ -24,15 +24,7 @@ pub invariant_of-pass-else-found-seen : goal.invariant_of-pass-else-found-seen
 invariant_of-pass-else-found-seen c = tied_after _ _ _ _ _ _ _ _ c.pass.invariant (rw (← c.pass.view_is) at c.requires.may) c.exchange-found.ensures (noted_behind c.pass.inside.seat.me.0.layout (knowledge c.pass.inside.seat.me.0) (known_births c.pass.inside.seat.me.0) c.pass.inside.brief c.in-Some.seen c.exchange-found.result c.pass.invariant.brief_is (search rules) (search rules))
 
 pub returns-then-found-seen-clause-took : goal.returns-then-found-seen-clause-took
-returns-then-found-seen-clause-took c = record {
-  step = search rules;
-  past = has_turn _ _ _ _ (search rules) (rw (← c.pass.view_is) (has_turned _ _ _ _ c.exchange-found.ensures));
-  run = in_run_after _ _ _ _ _ _ _ c.pass.invariant (rw (← c.pass.view_is) at c.requires.may) c.exchange-found.ensures;
-}
+returns-then-found-seen-clause-took c = takes_step _ _ _ _ _ _ _ _ _ c.pass.invariant (rw (← c.pass.view_is) at c.requires.may) c.exchange-found.ensures (search rules) c.pass.view_is
 
 pub returns-else-found-seen-clause-took : goal.returns-else-found-seen-clause-took
-returns-else-found-seen-clause-took c = record {
-  step = search rules;
-  past = has_turn _ _ _ _ (search rules) (rw (← c.pass.view_is) (has_turned _ _ _ _ c.exchange-found.ensures));
-  run = in_run_after _ _ _ _ _ _ _ c.pass.invariant (rw (← c.pass.view_is) at c.requires.may) c.exchange-found.ensures;
-}
+returns-else-found-seen-clause-took c = takes_step _ _ _ _ _ _ _ _ _ c.pass.invariant (rw (← c.pass.view_is) at c.requires.may) c.exchange-found.ensures (search rules) c.pass.view_is

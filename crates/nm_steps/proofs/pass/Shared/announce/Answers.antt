@@ -1,7 +1,7 @@
 use Rattle.std.proofs.Common.{rules, arith, ◌≤◌}
 use Rattle.nm_model.specs.Step.{last_number}
 use Rattle.nm_steps.proofs.Asking.{announce_seen}
-use Rattle.nm_steps.proofs.Noting.{ready, announcement_in, has_turned, has_turn, in_run_after, tied_after}
+use Rattle.nm_steps.proofs.Noting.{ready, announcement_in, tied_after, takes_step}
 use Rattle.nm_steps.proofs.pass.Shared.announce.Goals as goal
 
 pub unreachable-requires : goal.unreachable-requires
@@ -17,8 +17,4 @@ pub invariant_of-pass : goal.invariant_of-pass
 invariant_of-pass c = tied_after _ _ _ _ _ _ _ _ c.pass.invariant (rw (← c.pass.view_is) at c.requires.may) c.store.ensures (search rules)
 
 pub returns : goal.returns
-returns c = record {
-  step = search rules;
-  past = has_turn _ _ _ _ (search rules) (rw (← c.pass.view_is) (has_turned _ _ _ _ c.store.ensures));
-  run = in_run_after _ _ _ _ _ _ _ c.pass.invariant (rw (← c.pass.view_is) at c.requires.may) c.store.ensures;
-}
+returns c = takes_step _ _ _ _ _ _ _ _ _ c.pass.invariant (rw (← c.pass.view_is) at c.requires.may) c.store.ensures (search rules) c.pass.view_is

@@ -1,7 +1,7 @@
 use Rattle.std.proofs.Common.{rules}
 use Rattle.nm_steps.proofs.Asking.{claim_slot}
 use Rattle.nm_steps.proofs.ClaimedSlots.{claimed_new}
-use Rattle.nm_steps.proofs.Noting.{ready, has_turned, has_turn, in_run_after, tied_after}
+use Rattle.nm_steps.proofs.Noting.{ready, tied_after, takes_step}
 use Rattle.nm_steps.proofs.pass.Shared.claim.Goals as goal
 
 pub pool-place-requires : goal.pool-place-requires
@@ -17,8 +17,4 @@ pub returns-clause-new : goal.returns-clause-new
 returns-clause-new c = λ won. rw (← c.pass.view_is) (claimed_new _ _ _ c.args.slot c.clear-found.result c.clear-found.ensures.found (rw (← c.pass.view_is) at c.requires.may) (search rules))
 
 pub returns-clause-took : goal.returns-clause-took
-returns-clause-took c = record {
-  step = search rules;
-  past = has_turn _ _ _ _ (search rules) (rw (← c.pass.view_is) (has_turned _ _ _ _ c.clear-found.ensures));
-  run = in_run_after _ _ _ _ _ _ _ c.pass.invariant (rw (← c.pass.view_is) at c.requires.may) c.clear-found.ensures;
-}
+returns-clause-took c = takes_step _ _ _ _ _ _ _ _ _ c.pass.invariant (rw (← c.pass.view_is) at c.requires.may) c.clear-found.ensures (search rules) c.pass.view_is

@@ -1,6 +1,6 @@
 use Rattle.std.proofs.Common.{rules}
 use Rattle.nm_steps.proofs.Asking.{fill_slot}
-use Rattle.nm_steps.proofs.Noting.{ready, has_turned, has_turn, in_run_after, tied_after}
+use Rattle.nm_steps.proofs.Noting.{ready, tied_after, takes_step}
 use Rattle.nm_steps.proofs.pass.Shared.fill_edge.Goals as goal
 
 pub edge-word-requires : goal.edge-word-requires
@@ -13,8 +13,4 @@ pub invariant_of-pass : goal.invariant_of-pass
 invariant_of-pass c = tied_after _ _ _ _ _ _ _ _ c.pass.invariant (rw (← c.pass.view_is, ← c.from.ensures) at c.requires.may) c.store.ensures (search rules)
 
 pub returns : goal.returns
-returns c = record {
-  step = search rules;
-  past = has_turn _ _ _ _ (search rules) (rw (← c.pass.view_is, ← c.from.ensures) (has_turned _ _ _ _ c.store.ensures));
-  run = in_run_after _ _ _ _ _ _ _ c.pass.invariant (rw (← c.pass.view_is, ← c.from.ensures) at c.requires.may) c.store.ensures;
-}
+returns c = rw (← c.from.ensures) (takes_step _ _ _ _ _ _ _ _ _ c.pass.invariant (rw (← c.pass.view_is, ← c.from.ensures) at c.requires.may) c.store.ensures (search rules) c.pass.view_is)

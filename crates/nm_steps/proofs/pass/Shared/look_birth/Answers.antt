@@ -1,7 +1,7 @@
 use Rattle.std.proofs.Common.{rules, refl}
 use Rattle.nm_steps.proofs.Asking.{look_slot}
 use Rattle.nm_steps.proofs.FoundBirths.{finds_birth}
-use Rattle.nm_steps.proofs.Noting.{ready, has_turned, has_turn, in_run_after, tied_after}
+use Rattle.nm_steps.proofs.Noting.{ready, tied_after, takes_step}
 use Rattle.nm_steps.proofs.pass.Shared.look_birth.Goals as goal
 
 pub birth-word-requires : goal.birth-word-requires
@@ -17,8 +17,4 @@ pub returns-clause-small : goal.returns-clause-small
 returns-clause-small c = finds_birth _ _ _ _ _ c.args.slot c.load.ensures.found refl refl (look_slot _ _ _ c.args.slot _ (rw (← c.pass.view_is) at c.requires.may))
 
 pub returns-clause-took : goal.returns-clause-took
-returns-clause-took c = record {
-  step = search rules;
-  past = has_turn _ _ _ _ (search rules) (rw (← c.pass.view_is) (has_turned _ _ _ _ c.load.ensures));
-  run = in_run_after _ _ _ _ _ _ _ c.pass.invariant (rw (← c.pass.view_is) at c.requires.may) c.load.ensures;
-}
+returns-clause-took c = takes_step _ _ _ _ _ _ _ _ _ c.pass.invariant (rw (← c.pass.view_is) at c.requires.may) c.load.ensures (search rules) c.pass.view_is

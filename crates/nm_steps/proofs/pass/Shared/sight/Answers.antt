@@ -1,5 +1,5 @@
 use Rattle.std.proofs.Common.{rules}
-use Rattle.nm_steps.proofs.Noting.{ready, has_turned, has_turn, in_run_after, tied_after, may_sight}
+use Rattle.nm_steps.proofs.Noting.{ready, tied_after, may_sight, takes_step}
 use Rattle.nm_steps.specs.Rules.{knowledge}
 use Rattle.nm_steps.specs.Steps.{sight_reply}
 use Rattle.nm_steps.proofs.Sighting.{sight_answers}
@@ -15,8 +15,4 @@ pub returns-clause-reply : goal.returns-clause-reply
 returns-clause-reply c = sight_answers _ _ _ c.pass.inside.brief c.note_sight.new.brief (knowledge c.args.pass.now.view).brief (sight_reply c.sighted-reply.result) c.load-found.result (tied_after _ _ _ _ _ c.note_sight.new.brief _ _ c.pass.invariant (may_sight _ _ _) c.load-found.ensures (search rules)) c.note_sight.ensures c.sighted-reply.ensures (search rules)
 
 pub returns-clause-took : goal.returns-clause-took
-returns-clause-took c = record {
-  step = search rules;
-  past = has_turn _ _ _ _ (search rules) (rw (← c.pass.view_is) (has_turned _ _ _ _ c.load-found.ensures));
-  run = in_run_after _ _ _ _ _ _ _ c.pass.invariant (may_sight _ _ _) c.load-found.ensures;
-}
+returns-clause-took c = takes_step _ _ _ _ _ _ _ _ _ c.pass.invariant (may_sight _ _ _) c.load-found.ensures (search rules) c.pass.view_is

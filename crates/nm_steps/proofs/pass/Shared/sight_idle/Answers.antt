@@ -1,5 +1,5 @@
 use Rattle.std.proofs.Common.{rules}
-use Rattle.nm_steps.proofs.Noting.{ready, has_turned, has_turn, in_run_after, tied_after, may_sight}
+use Rattle.nm_steps.proofs.Noting.{ready, tied_after, may_sight, takes_step}
 use Rattle.nm_steps.specs.Rules.{knowledge, known_births}
 use Rattle.nm_steps.proofs.Sighting.{noted_idle}
 use Rattle.nm_steps.proofs.pass.Shared.sight_idle.Goals as goal
@@ -11,8 +11,4 @@ pub invariant_of-pass : goal.invariant_of-pass
 invariant_of-pass c = tied_after _ _ _ _ _ _ _ _ c.pass.invariant (may_sight _ _ _) c.load-epoch.ensures (noted_idle c.pass.inside.seat.me.0.layout (knowledge c.pass.inside.seat.me.0) (known_births c.pass.inside.seat.me.0) c.pass.inside.brief c.load-epoch.result c.pass.invariant.brief_is (rw (← c.pass.view_is) at c.requires.unpinned) (rw (← c.pass.view_is) at c.requires.silent) (rw (← c.pass.view_is) at c.requires.labelled))
 
 pub returns : goal.returns
-returns c = record {
-  step = search rules;
-  past = has_turn _ _ _ _ (search rules) (rw (← c.pass.view_is) (has_turned _ _ _ _ c.load-epoch.ensures));
-  run = in_run_after _ _ _ _ _ _ _ c.pass.invariant (may_sight _ _ _) c.load-epoch.ensures;
-}
+returns c = takes_step _ _ _ _ _ _ _ _ _ c.pass.invariant (may_sight _ _ _) c.load-epoch.ensures (search rules) c.pass.view_is

@@ -1,6 +1,6 @@
 use Rattle.std.proofs.Common.{rules, refl}
 use Rattle.nm_steps.proofs.Asking.{splice_slot, finds_edge}
-use Rattle.nm_steps.proofs.Noting.{ready, has_turned, has_turn, in_run_after, tied_after}
+use Rattle.nm_steps.proofs.Noting.{ready, tied_after, takes_step}
 use Rattle.nm_steps.proofs.pass.Shared.splice.Goals as goal
 
 pub edge-word-requires : goal.edge-word-requires
@@ -19,15 +19,7 @@ pub invariant_of-pass-2 : goal.invariant_of-pass-2
 invariant_of-pass-2 c = tied_after _ _ _ _ _ _ _ _ c.pass.invariant (rw (← c.pass.view_is) at c.requires.may) c.exchange-found.ensures (search rules)
 
 pub returns : goal.returns
-returns c = record {
-  step = search rules;
-  past = has_turn _ _ _ _ (search rules) (rw (← c.pass.view_is) (has_turned _ _ _ _ c.exchange-found.ensures));
-  run = in_run_after _ _ _ _ _ _ _ c.pass.invariant (rw (← c.pass.view_is) at c.requires.may) c.exchange-found.ensures;
-}
+returns c = takes_step _ _ _ _ _ _ _ _ _ c.pass.invariant (rw (← c.pass.view_is) at c.requires.may) c.exchange-found.ensures (search rules) c.pass.view_is
 
 pub returns-then-found-old : goal.returns-then-found-old
-returns-then-found-old c = record {
-  step = search rules;
-  past = has_turn _ _ _ _ (search rules) (rw (← c.pass.view_is) (has_turned _ _ _ _ c.exchange-found.ensures));
-  run = in_run_after _ _ _ _ _ _ _ c.pass.invariant (rw (← c.pass.view_is) at c.requires.may) c.exchange-found.ensures;
-}
+returns-then-found-old c = takes_step _ _ _ _ _ _ _ _ _ c.pass.invariant (rw (← c.pass.view_is) at c.requires.may) c.exchange-found.ensures (search rules) c.pass.view_is
