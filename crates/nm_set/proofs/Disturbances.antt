@@ -1,9 +1,9 @@
 -- What a call that was busy to the last tells of the others.
 use Rattle.std.proofs.Common.{◌≡◌, ◌≤◌, ◌+◌, ◌*◌, ℕ, zero, suc, Bool, List, [], ◌++◌, append-nil, append_assoc, refl, sym, ap, subst, ◌∙◌, inl, inr, arith}
-use Rattle.std.specs.Prelude.{Result, Ok, Err}
+use Rattle.std.specs.Prelude.{None, Result, Ok, Err}
 use Rattle.std.proofs.Math.Nat.{suc-mul, zero-mul}
 use Rattle.nm_edge.specs.Layouts.{Layout}
-use Rattle.nm_model.specs.declared.event.Op.TheVariants.{Delete}
+use Rattle.nm_model.specs.declared.event.Op.TheVariants.{Has, Insert, Delete}
 use Rattle.nm_model.specs.declared.trace.Turn.{Turn}
 use Rattle.nm_steps.specs.Steps.{Board, Stand, HasSeenAllOf}
 use Rattle.nm_progress.specs.Moves.{number_of, moves_of_others}
@@ -20,8 +20,8 @@ use Rattle.nm_set.specs.declared.fault.Fault.TheVariants as fault
 use Rattle.nm_set.specs.declared.fault.InsertFault.{InsertFault}
 use Rattle.nm_set.specs.declared.tended.Habit.{Habit}
 use Rattle.nm_set.specs.Asked.{Asked}
-use Rattle.nm_set.specs.Tended.{InARow, IsAsked, Looks, Inserts, Deletes, InsertsOn, DeletesOn, InsertsTended, RemovesTended, TendsInsert, HasTended, UnlessHeld, WasDisturbed, WasHeldUp, GoesOnTended, FinishesPending, round_bound, busy, of_finish, of_insert}
-use Rattle.nm_set.proofs.Tending.{Follows, follows_then, goes_finishes, goes_tidied, goes_relieved, goes_inserts, finishes_err, plain_told, fullness_told}
+use Rattle.nm_set.specs.Tended.{InARow, IsRetried, Retries, RetriesInsert, RetriesDelete, InsertsTended, RemovesTended, TendsInsert, HasTended, UnlessHeld, WasDisturbed, WasHeldUp, FinishesPending, IsMadeTidy, busy, of_finish, of_insert}
+use Rattle.nm_set.proofs.Tending.{Follows, follows_then, goes_relieved, goes_retries, finishes_err, plain_told, fullness_told, ready}
 
 -- ---- turns that are counted, between two moments of a pass
 
@@ -81,7 +81,7 @@ module _ (count : ℕ → List Turn → ℕ) (adds : (w : ℕ) (xs ys : List Tur
           meanwhile = let whole = suc-mul n tries in subst (Meanwhile w.pass z.pass) (omega (arith, whole)) (meanwhile_then (n * tries) tries w.pass m.pass z.pass r.number r.meanwhile (once m z r.layout made));
         }
 
-    pub each_round : (rounds : ℕ) (w z : Hand) → w.pass.view.layout ≡ L → IsAsked leaves lost rounds w z lost → Meanwhile w.pass z.pass ((rounds + 1) * tries)
+    pub each_round : (rounds : ℕ) (w z : Hand) → w.pass.view.layout ≡ L → IsRetried leaves lost rounds w z lost → Meanwhile w.pass z.pass ((rounds + 1) * tries)
     each_round rounds w z at a = by (row a.before w a.begun at a.each)
       where
         by : Row a.before w a.begun → Meanwhile w.pass z.pass ((rounds + 1) * tries)
@@ -119,7 +119,7 @@ look_once p q times past (inr (inl moved)) = record { turns = moved.turns; is = 
 look_once p q times past (inr (inr reshaped)) = record { turns = reshaped.turns; is = reshaped.is; least = (let some = reshaped.reshaped in omega (arith, some)) }
 
 -- all of the look-ups, of which there is one more than rounds, behind what was done before
-pub looks_disturbed : (b : Board) (h : Habit) (k : ℕ) (w x z : Hand) → Follows w.pass x.pass → Looks b h k x z busy → WasDisturbed w.pass z.pass ((h.rounds + 1) * h.tries)
+pub looks_disturbed : (b : Board) (h : Habit) (k : ℕ) (w x z : Hand) → Follows w.pass x.pass → Retries Has b h k x z busy → WasDisturbed w.pass z.pass ((h.rounds + 1) * h.tries)
 looks_disturbed b h k w x z on looks =
     let m = meanwhile_since disturbing disturbing_parts ((h.rounds + 1) * h.tries) w.pass x.pass z.pass on
     (each_round disturbing disturbing_parts (Asked (LeavesHas b.layout h.tries k)) busy h.tries x.pass.view.layout
@@ -141,67 +141,54 @@ module _ (b : Board) (h : Habit) (k : ℕ) where
   abbrev Times : ℕ
   Times = (h.rounds + 1) * h.tries
 
-  inserts_lost : (w z : Hand) → Inserts b h k w z busy → Meanwhile holding_up holding_parts w.pass z.pass Times
+  inserts_lost : (w z : Hand) → Retries Insert b h k w z busy → Meanwhile holding_up holding_parts w.pass z.pass Times
   inserts_lost w z a = each_round holding_up holding_parts (Asked (LeavesInsert b.layout h.tries k)) busy h.tries w.pass.view.layout
       (λ x y did. record { same = did.1.says.same; past = did.1.says.past })
       (λ x y at did. change_once x.pass y.pass h.tries did.1.says.past (did.1.disturbed refl)) h.rounds w z refl a
 
-  deletes_lost : (w z : Hand) → Deletes b h k w z busy → Meanwhile holding_up holding_parts w.pass z.pass Times
+  deletes_lost : (w z : Hand) → Retries Delete b h k w z busy → Meanwhile holding_up holding_parts w.pass z.pass Times
   deletes_lost w z a = each_round holding_up holding_parts (Asked (LeavesDelete b.layout h.tries k)) busy h.tries w.pass.view.layout
       (λ x y did. record { same = did.1.says.same; past = did.1.says.past })
       (λ x y at did. change_once x.pass y.pass h.tries did.1.says.past (did.1.disturbed refl)) h.rounds w z refl a
+
+  -- behind what is done first
+  since_tidy : (w y z : Hand) → IsMadeTidy b h w y → Meanwhile holding_up holding_parts y.pass z.pass Times → WasHeldUp w.pass z.pass Times
+  since_tidy w y z made lost = let at = ready b h w y made in held_up w.pass y.pass z.pass Times (record { same = at.on.same; past = at.on.past }) lost
 
   pub inserts_held_up : (w z : Hand) (r : Result Bool InsertFault) → of_insert r ≡ busy → TendsInsert b h k w z r → WasHeldUp w.pass z.pass Times
   inserts_held_up w z r told (inl held) = absurd (let no = sym told ∙ held.1 in cc)
   inserts_held_up w z r told (inr (free, t)) = by t.did
     where
+      last : (q : Result Bool Fault) (x y : Hand) → of_insert r ≡ q → Retries Insert b h k x y q → Meanwhile holding_up holding_parts x.pass y.pass Times
+      last q x y is did = inserts_lost x y (subst (λ (p : Result Bool Fault). Retries Insert b h k x y p) (sym is ∙ told) did)
+
+      after : (x : Hand) → x.held ≡ None → RetriesInsert b h k x z r → Meanwhile holding_up holding_parts x.pass z.pass Times
+      after x held (inl (q, did, known, is)) = last q x z (ap of_insert is ∙ plain_told q) did
+      after x held (inr (u, v, behind, q, full, found, retried, is)) =
+          let first = goes_retries Insert b h k x u (Err (fault.Call call.Full)) held full in
+          let second = goes_relieved b h.tries u v first.held found.relieved in
+          let to_v = follows_then x.pass u.pass v.pass (record { same = first.same; past = first.past }) (record { same = second.same; past = second.past }) in
+          meanwhile_since holding_up holding_parts Times x.pass v.pass z.pass to_v (last q v z (ap of_insert is ∙ fullness_told behind (waiting_in z.queues) q) retried)
+
       by : InsertsTended b h k w z r → WasHeldUp w.pass z.pass Times
       by (inl pending) = absurd (let no = sym told ∙ pending.1 in cc)
-      by (inr (answer, x, finished, (y, tidied, on))) = made on
-        where
-          first : GoesOnTended (suc h.rounds * round_bound h.tries b.layout) w x
-          first = goes_finishes b h w x (Ok answer) free finished
-
-          second : GoesOnTended (round_bound h.tries b.layout) x y
-          second = goes_tidied b h.tries h.collect_after x y first.held tidied
-
-          to_y : Follows w.pass y.pass
-          to_y = follows_then w.pass x.pass y.pass (record { same = first.same; past = first.past }) (record { same = second.same; past = second.past })
-
-          made : InsertsOn b h k y z r → WasHeldUp w.pass z.pass Times
-          made (inl (q, did, known, is)) = held_up w.pass y.pass z.pass Times to_y (inserts_lost y z (subst (λ (p : Result Bool Fault). Inserts b h k y z p) (sym (ap of_insert is ∙ plain_told q) ∙ told) did))
-          made (inr (u, v, behind, q, full, found, again, is)) = held_up w.pass v.pass z.pass Times to_v (inserts_lost v z (subst (λ (p : Result Bool Fault). Inserts b h k v z p) (sym (ap of_insert is ∙ fullness_told behind (waiting_in z.queues) q) ∙ told) again))
-            where
-              third : GoesOnTended (suc h.rounds * round_bound h.tries b.layout) y u
-              third = goes_inserts b h k y u (Err (fault.Call call.Full)) second.held full
-
-              fourth : GoesOnTended (round_bound h.tries b.layout) u v
-              fourth = goes_relieved b h.tries u v third.held found.relieved
-
-              to_v : Follows w.pass v.pass
-              to_v = follows_then w.pass y.pass v.pass to_y (follows_then y.pass u.pass v.pass (record { same = third.same; past = third.past }) (record { same = fourth.same; past = fourth.past }))
+      by (inr (answer, x, finished, (y, tidied, did))) =
+          let made : IsMadeTidy b h w y = record { free = free; answer = answer; between = x; finished = finished; tidied = tidied } in
+          since_tidy w y z made (after y (ready b h w y made).on.held did)
 
   pub deletes_held_up : (w z : Hand) → UnlessHeld (HasTended (RemovesTended b h k) b h Delete k w z busy) w z busy → WasHeldUp w.pass z.pass Times
   deletes_held_up w z (inl held) = absurd (let no = held.1 in cc)
   deletes_held_up w z (inr (free, t)) = by t.did
     where
+      no_busy : (x : Hand) (f : Result Bool Lost) → FinishesPending b h x z f → busy ≡ of_finish f → ⊥
+      no_busy x (Ok answer) done is = cc
+      no_busy x (Err lost) done is = absurd (let same = finishes_err b h x z lost done in let which = is in cc)
+
+      after : (x : Hand) → RetriesDelete b h k x z busy → Meanwhile holding_up holding_parts x.pass z.pass Times
+      after x (inl one) = deletes_lost x z one.0
+      after x (inr (u, f, unfinished, finishes, told)) = absurd (no_busy u f finishes told)
+
       by : RemovesTended b h k w z busy → WasHeldUp w.pass z.pass Times
       by (inl pending) = absurd (let no = pending.1 in cc)
-      by (inr (answer, x, finished, (y, tidied, on))) = made on
-        where
-          first : GoesOnTended (suc h.rounds * round_bound h.tries b.layout) w x
-          first = goes_finishes b h w x (Ok answer) free finished
-
-          second : GoesOnTended (round_bound h.tries b.layout) x y
-          second = goes_tidied b h.tries h.collect_after x y first.held tidied
-
-          to_y : Follows w.pass y.pass
-          to_y = follows_then w.pass x.pass y.pass (record { same = first.same; past = first.past }) (record { same = second.same; past = second.past })
-
-          made : DeletesOn b h k y z busy → WasHeldUp w.pass z.pass Times
-          made (inl one) = held_up w.pass y.pass z.pass Times to_y (deletes_lost y z one.0)
-          made (inr (u, f, unfinished, finishes, told)) = absurd (no_busy f finishes told)
-            where
-              no_busy : (f : Result Bool Lost) → FinishesPending b h u z f → busy ≡ of_finish f → ⊥
-              no_busy (Ok answer) done is = cc
-              no_busy (Err lost) done is = absurd (let same = finishes_err b h u z lost done in let which = is in cc)
+      by (inr (answer, x, finished, (y, tidied, did))) =
+          since_tidy w y z (record { free = free; answer = answer; between = x; finished = finished; tidied = tidied }) (after y did)

@@ -12,14 +12,6 @@ use Rattle.nm_set.specs.States.{site_of, standing_of, closing_set, open_set}
 use Rattle.nm_set.proofs.SetEnds.{Gathers, ended, left, had_gathered, gathered_now, as_before, if_ok, if_err, says_ended}
 use Rattle.nm_set.proofs.set.Set.close.Goals as goal
 
-pub returns-in-Closing-clause-says : goal.returns-in-Closing-clause-says
-returns-in-Closing-clause-says c =
-    let s = c.args.self in
-    let site = c.in-Closing.site in
-    let ws : List Hand = c.self.inside.kept.items in
-    let g : Gathers s site ws = had_gathered s site ws (subst (λ (x : State). standing_of x ws ≡ s) c.in-Closing.is c.self.view_is) (subst (λ (x : State). AreOwn (site_of x).tree ws) c.in-Closing.is c.self.invariant.0) in
-    if_ok (λ (r : Report). IsClosed site.tree ws r.queues.items r.keys.items r.free r.reached) (SaysEnded s) c.end.result c.end.ensures.closed (λ r is. says_ended s r (ended s site ws g r is))
-
 pub returns-in-Closing-clause-closed : goal.returns-in-Closing-clause-closed
 returns-in-Closing-clause-closed c =
     let s = c.args.self in
@@ -27,6 +19,9 @@ returns-in-Closing-clause-closed c =
     let ws : List Hand = c.self.inside.kept.items in
     let g : Gathers s site ws = had_gathered s site ws (subst (λ (x : State). standing_of x ws ≡ s) c.in-Closing.is c.self.view_is) (subst (λ (x : State). AreOwn (site_of x).tree ws) c.in-Closing.is c.self.invariant.0) in
     if_ok (λ (r : Report). IsClosed site.tree ws r.queues.items r.keys.items r.free r.reached) (EndsSet s) c.end.result c.end.ensures.closed (ended s site ws g)
+
+pub returns-in-Closing-clause-says : goal.returns-in-Closing-clause-says
+returns-in-Closing-clause-says c = if_ok (EndsSet c.args.self) (SaysEnded c.args.self) c.end.result (returns-in-Closing-clause-closed c) (says_ended c.args.self)
 
 pub returns-in-Closing-clause-refused : goal.returns-in-Closing-clause-refused
 returns-in-Closing-clause-refused c =
@@ -36,19 +31,6 @@ returns-in-Closing-clause-refused c =
     let g : Gathers s site ws = had_gathered s site ws (subst (λ (x : State). standing_of x ws ≡ s) c.in-Closing.is c.self.view_is) (subst (λ (x : State). AreOwn (site_of x).tree ws) c.in-Closing.is c.self.invariant.0) in
     if_err (λ (e : CloseError). e.set ≡ closing_set site ws) (λ (e : CloseError). IsTreesReason site.tree ws e.reason) (λ (e : CloseError). IsLeftOpen s e.reason e.set) c.end.result c.end.ensures.refused c.end.ensures.reason
     (λ e is told. left s site ws g e.set is e.reason told)
-
-pub returns-in-Ok-clause-says : goal.returns-in-Ok-clause-says
-returns-in-Ok-clause-says c =
-    let s = c.args.self in
-    let kept : List Hand = c.self.inside.kept.items in
-    let site : Site = c.gather-site.result.0 in
-    let ws : List Hand = c.gather-site.result.1.items in
-    let home = arc_value c.in-Open.home in
-    let there = subst (λ (x : State). standing_of x kept ≡ s) c.in-Open.is c.self.view_is in
-    let own = subst (λ (x : Site). AreOwn x.tree ws) c.in-Ok.ensures.ok c.gather-site.ensures.own in
-    let now : Gathers s home ws = gathered_now s home kept ws there c.gather-site.ensures.kept own in
-    let g : Gathers s site ws = subst (λ (x : Site). Gathers s x ws) (sym (c.gather-site.ensures.site ∙ c.in-Ok.ensures.ok)) now in
-    if_ok (λ (r : Report). IsClosed site.tree ws r.queues.items r.keys.items r.free r.reached) (SaysEnded s) c.end-in-Ok.result c.end-in-Ok.ensures.closed (λ r is. says_ended s r (ended s site ws g r is))
 
 pub returns-in-Ok-clause-closed : goal.returns-in-Ok-clause-closed
 returns-in-Ok-clause-closed c =
@@ -62,6 +44,9 @@ returns-in-Ok-clause-closed c =
     let now : Gathers s home ws = gathered_now s home kept ws there c.gather-site.ensures.kept own in
     let g : Gathers s site ws = subst (λ (x : Site). Gathers s x ws) (sym (c.gather-site.ensures.site ∙ c.in-Ok.ensures.ok)) now in
     if_ok (λ (r : Report). IsClosed site.tree ws r.queues.items r.keys.items r.free r.reached) (EndsSet s) c.end-in-Ok.result c.end-in-Ok.ensures.closed (ended s site ws g)
+
+pub returns-in-Ok-clause-says : goal.returns-in-Ok-clause-says
+returns-in-Ok-clause-says c = if_ok (EndsSet c.args.self) (SaysEnded c.args.self) c.end-in-Ok.result (returns-in-Ok-clause-closed c) (says_ended c.args.self)
 
 pub returns-in-Ok-clause-refused : goal.returns-in-Ok-clause-refused
 returns-in-Ok-clause-refused c =

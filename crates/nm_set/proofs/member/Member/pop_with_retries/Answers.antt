@@ -5,7 +5,7 @@ use Rattle.nm_set.specs.declared.fault.Fault.{Fault}
 use Rattle.nm_tree.specs.Workers.{Hand}
 use Rattle.nm_set.specs.Popping.{PopsOnce, pop_busy}
 use Rattle.nm_set.specs.Tended.{InARow}
-use Rattle.nm_set.proofs.member.Member.pop_in_rounds.Goals as goal
+use Rattle.nm_set.proofs.member.Member.pop_with_retries.Goals as goal
 
 pub loop-round-preserved : goal.loop-round-preserved
 loop-round-preserved c =
