@@ -4,10 +4,10 @@ use Rattle.nm_model.specs.Maps.{get}
 use Rattle.nm_steps.specs.Steps.{Stand}
 use Rattle.nm_steps.proofs.Seeing.{seen_all}
 use Rattle.nm_tree.specs.Workers.{Hand, held_in, pending_in}
-use Rattle.nm_tree.proofs.QueueLists.{lacks_after, others_after, stands_within, room_after}
+use Rattle.nm_tree.proofs.QueueLists.{lacks_after, stands_within, room_after}
 use Rattle.nm_tree.proofs.Staying.{resting_in, rests_in, rests_as, free_in}
 use Rattle.nm_tree.proofs.Disturbed.{delete_disturbed, delete_lost, delete_alone}
-use Rattle.nm_tree.proofs.Changing.{kept_there, changed}
+use Rattle.nm_tree.proofs.Changing.{kept_there, changed, others_kept}
 use Rattle.nm_calls.specs.declared.deleting.Missed.{Missed}
 use Rattle.nm_calls.specs.Deletes.{DeleteDid, LacksRoomOr, LosesAfterFlag}
 use Rattle.nm_tree.specs.declared.fault.CallFault.TheVariants as fault
@@ -44,10 +44,7 @@ returns-in-Ok-clause-says c = record {
   moment = search rules;
   won = search rules;
   steps = search rules;
-  queues = (
-      rw (← c.worker.view_is)
-      (others_after c.worker.inside.home c.worker.inside.pass.view.number c.worker.inside.queues.items c.delete.new.held c.worker.invariant.own (c.delete.ensures.kept.own ∙ ap (λ (x : Stand). x.view.number) c.delete.ensures.after.same))
-      );
+  queues = others_kept _ _ c.worker.inside.home c.delete.new.pass c.delete.new.held c.worker.view_is c.worker.invariant.own c.delete.ensures.kept.own c.delete.ensures.after.same;
   blocks = rw (← c.worker.view_is) (room_after c.worker.inside.home _ c.worker.inside.queues.items _ c.delete.new.held c.worker.invariant.own c.index_mut-own.ensures.value c.delete.ensures.blocks);
   held = search rules;
   fit = search rules;
@@ -79,10 +76,7 @@ returns-in-Err-Busy-clause-says c = record {
   moment = search rules;
   won = search rules;
   steps = search rules;
-  queues = (
-      rw (← c.worker.view_is)
-      (others_after c.worker.inside.home c.worker.inside.pass.view.number c.worker.inside.queues.items c.delete.new.held c.worker.invariant.own (c.delete.ensures.kept.own ∙ ap (λ (x : Stand). x.view.number) c.delete.ensures.after.same))
-      );
+  queues = others_kept _ _ c.worker.inside.home c.delete.new.pass c.delete.new.held c.worker.view_is c.worker.invariant.own c.delete.ensures.kept.own c.delete.ensures.after.same;
   blocks = rw (← c.worker.view_is) (room_after c.worker.inside.home _ c.worker.inside.queues.items _ c.delete.new.held c.worker.invariant.own c.index_mut-own.ensures.value c.delete.ensures.blocks);
   held = search rules;
   fit = search rules;
@@ -128,10 +122,7 @@ returns-in-Err-NoMemory-clause-says c = record {
   moment = search rules;
   won = search rules;
   steps = search rules;
-  queues = (
-      rw (← c.worker.view_is)
-      (others_after c.worker.inside.home c.worker.inside.pass.view.number c.worker.inside.queues.items c.delete.new.held c.worker.invariant.own (c.delete.ensures.kept.own ∙ ap (λ (x : Stand). x.view.number) c.delete.ensures.after.same))
-      );
+  queues = others_kept _ _ c.worker.inside.home c.delete.new.pass c.delete.new.held c.worker.view_is c.worker.invariant.own c.delete.ensures.kept.own c.delete.ensures.after.same;
   blocks = rw (← c.worker.view_is) (room_after c.worker.inside.home _ c.worker.inside.queues.items _ c.delete.new.held c.worker.invariant.own c.index_mut-own.ensures.value c.delete.ensures.blocks);
   held = search rules;
   fit = search rules;
@@ -166,10 +157,7 @@ returns-in-Err-Unfinished-clause-says c = record {
   moment = search rules;
   won = search rules;
   steps = search rules;
-  queues = (
-      rw (← c.worker.view_is)
-      (others_after c.worker.inside.home c.worker.inside.pass.view.number c.worker.inside.queues.items c.delete.new.held c.worker.invariant.own (c.delete.ensures.kept.own ∙ ap (λ (x : Stand). x.view.number) c.delete.ensures.after.same))
-      );
+  queues = others_kept _ _ c.worker.inside.home c.delete.new.pass c.delete.new.held c.worker.view_is c.worker.invariant.own c.delete.ensures.kept.own c.delete.ensures.after.same;
   blocks = rw (← c.worker.view_is) (room_after c.worker.inside.home _ c.worker.inside.queues.items _ c.delete.new.held c.worker.invariant.own c.index_mut-own.ensures.value c.delete.ensures.blocks);
   held = search rules;
   fit = search rules;

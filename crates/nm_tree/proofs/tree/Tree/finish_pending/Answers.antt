@@ -6,8 +6,8 @@ use Rattle.nm_steps.specs.Steps.{Stand}
 use Rattle.nm_calls.specs.Moments.{AnswerHasMoment, HadNoCall}
 use Rattle.nm_steps.proofs.Seeing.{seen_all}
 use Rattle.nm_tree.specs.Workers.{Hand, pending_in}
-use Rattle.nm_tree.proofs.QueueLists.{lacks_after, others_after, stands_within, room_after}
-use Rattle.nm_tree.proofs.Changing.{kept_there, changed}
+use Rattle.nm_tree.proofs.QueueLists.{lacks_after, stands_within, room_after}
+use Rattle.nm_tree.proofs.Changing.{kept_there, changed, others_kept}
 use Rattle.nm_tree.proofs.Staying.{removing_in}
 use Rattle.std.specs.Prelude.{true}
 use Rattle.nm_tree.proofs.Disturbed.{finish_lost}
@@ -41,10 +41,7 @@ returns-then-not-finish-clause-says c = record {
   moment = search rules;
   won = search rules;
   steps = search rules;
-  queues = (
-      rw (← c.worker.view_is)
-      (others_after c.worker.inside.home c.worker.inside.pass.view.number c.worker.inside.queues.items c.finish.new.held c.worker.invariant.own (c.finish.ensures.kept.own ∙ ap (λ (x : Stand). x.view.number) c.finish.ensures.after.same))
-      );
+  queues = others_kept _ _ c.worker.inside.home c.finish.new.pass c.finish.new.held c.worker.view_is c.worker.invariant.own c.finish.ensures.kept.own c.finish.ensures.after.same;
   blocks = rw (← c.worker.view_is) (room_after c.worker.inside.home _ c.worker.inside.queues.items _ c.finish.new.held c.worker.invariant.own c.index_mut-own.ensures.value c.finish.ensures.blocks);
   held = search rules;
   fit = search rules;
@@ -89,10 +86,7 @@ returns-clause-says c = record {
       );
   won = search rules;
   steps = search rules;
-  queues = (
-      rw (← c.worker.view_is)
-      (others_after c.worker.inside.home c.worker.inside.pass.view.number c.worker.inside.queues.items c.finish.new.held c.worker.invariant.own (c.finish.ensures.kept.own ∙ ap (λ (x : Stand). x.view.number) c.finish.ensures.after.same))
-      );
+  queues = others_kept _ _ c.worker.inside.home c.finish.new.pass c.finish.new.held c.worker.view_is c.worker.invariant.own c.finish.ensures.kept.own c.finish.ensures.after.same;
   blocks = rw (← c.worker.view_is) (room_after c.worker.inside.home _ c.worker.inside.queues.items _ c.finish.new.held c.worker.invariant.own c.index_mut-own.ensures.value c.finish.ensures.blocks);
   held = search rules;
   fit = search rules;
