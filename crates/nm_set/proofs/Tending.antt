@@ -34,9 +34,9 @@ use Rattle.nm_tree.specs.declared.fault.CallFault.TheVariants as call
 use Rattle.nm_calls.specs.declared.deleting.Unfinished.{Unfinished}
 use Rattle.nm_tree.specs.Workers.{Hand, IsIdle, KeepsOtherQueues, waiting_in}
 use Rattle.nm_tree.specs.Answers.{links_won, flags_won}
-use Rattle.nm_tree.proofs.QueueLists.{others_stay, room_stays}
 use Rattle.nm_tree.proofs.Quiet.{Quiet, advanced, collected}
 use Rattle.nm_tree.proofs.Taking.{moment_since}
+use Rattle.nm_tree.proofs.Untouched.{finishes_none}
 use Rattle.nm_set.specs.declared.fault.Fault.{Fault}
 use Rattle.nm_set.specs.declared.fault.Fault.TheVariants as fault
 use Rattle.nm_set.specs.declared.fault.Fullness.{Fullness}
@@ -197,6 +197,10 @@ row_begins step (suc n) w m z first (x, rest, last) = (x, row_begins step n w m 
 -- the first call is the last one
 pub asked_once : {R : Type 0} (leaves : Hand → Hand → R → Type 0) (lost : R) (rounds : ℕ) (w z : Hand) (r : R) → leaves w z r → (r ≡ lost → 0 ≡ rounds) → IsRetried leaves lost rounds w z r
 asked_once leaves lost rounds w z r did all = record { before = 0; begun = w; each = refl; last = did; few = omega arith; all = all }
+
+-- so many have lost before the last one
+pub asked_till : {R : Type 0} (leaves : Board → Hand → Hand → R → Type 0) (b d : Board) (lost : R) (rounds n : ℕ) (w x z : Hand) (r : R) → InARow (λ u v. leaves b u v lost) n w x → d ≡ b → leaves d x z r → n ≤ rounds → (r ≡ lost → n ≡ rounds) → IsRetried (leaves b) lost rounds w z r
+asked_till leaves b d lost rounds n w x z r each same last few all = record { before = n; begun = x; each = each; last = subst (λ (e : Board). leaves e x z r) same last; few = few; all = all }
 
 -- where the first call has lost, the others of as many rounds are those of one round less
 pub asked_more : {R : Type 0} (leaves : Hand → Hand → R → Type 0) (lost : R) (rounds : ℕ) (w m z : Hand) (r : R) → 1 ≤ rounds → leaves w m lost → IsRetried leaves lost (rounds - 1) m z r → IsRetried leaves lost rounds w z r
@@ -742,29 +746,10 @@ removes_tend b h k w y z r made idle did =
 
 -- where nothing is pending, there is nothing to finish
 finishes_nothing : (b : Board) (h : Habit) (w : Hand) → w.pending ≡ None → FinishesPending b h w w (Ok false)
-finishes_nothing b h w none = asked_once (LeavesFinish b.layout h.tries) (Err call.Unfinished) h.rounds w w (Ok false) stays (λ e. absurd (differ e))
+finishes_nothing b h w none = asked_once (LeavesFinish b.layout h.tries) (Err call.Unfinished) h.rounds w w (Ok false) (finishes_none b.layout h.tries w none) (λ e. absurd (differ e))
   where
     differ : ◌≡◌ {A = Result Bool Lost} (Ok false) (Err call.Unfinished) → ⊥
     differ e = cc
-
-    stays : LeavesFinish b.layout h.tries w w (Ok false)
-    stays = record {
-      says = record {
-        same = refl;
-        past = seen_itself w.pass;
-        told = (none, refl);
-        moment = tt;
-        won = wins_nothing w;
-        steps = omega arith;
-        queues = others_stay w.pass.view.number w.queues;
-        blocks = room_stays w.queues;
-        held = refl;
-        fit = refl;
-      };
-      did = (none, refl);
-      lacks = tt;
-      lost = λ is. absurd (let no = is in cc);
-    }
 
 -- then it is tidy without it
 pub was_tidy : (b : Board) (h : Habit) (w : Hand) → IsTidy h w → IsMadeTidy b h w w
