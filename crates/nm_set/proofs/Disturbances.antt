@@ -25,7 +25,17 @@ use Rattle.nm_set.proofs.Tending.{Follows, follows_then, goes_relieved, goes_ret
 
 -- ---- turns that are counted, between two moments of a pass
 
-module _ (count : ℕ → List Turn → ℕ) (adds : (w : ℕ) (xs ys : List Turn) → count w (xs ++ ys) ≡ count w xs + count w ys) where
+module _ (disturbs : ℕ → Turn → Bool) where
+  -- of others that moved the epoch on, and of such turns, so many
+  abbrev count : ℕ → List Turn → ℕ
+  count w turns = number_of (moves_of_others w) turns + number_of (disturbs w) turns
+
+  adds : (w : ℕ) (xs ys : List Turn) → count w (xs ++ ys) ≡ count w xs + count w ys
+  adds w xs ys =
+      let a = number-append (moves_of_others w) xs ys in
+      let b = number-append (disturbs w) xs ys in
+      omega (arith, a, b)
+
   -- at least so many
   pub record Meanwhile (p q : Stand) (times : ℕ) : Type 0 where
     pub turns : List Turn
@@ -91,29 +101,9 @@ module _ (count : ℕ → List Turn → ℕ) (adds : (w : ℕ) (xs ys : List Tur
             subst (λ (n : ℕ). Meanwhile w.pass z.pass ((n + 1) * tries)) all
             (subst (Meanwhile w.pass z.pass) (omega (arith, whole)) (meanwhile_then (a.before * tries) tries w.pass a.begun.pass z.pass r.number r.meanwhile (once a.begun z r.layout a.last)))
 
--- ---- two counts
-
-abbrev disturbing : ℕ → List Turn → ℕ
-disturbing w turns = number_of (moves_of_others w) turns + number_of (reshapes_of_others w) turns
-
-disturbing_parts : (w : ℕ) (xs ys : List Turn) → disturbing w (xs ++ ys) ≡ disturbing w xs + disturbing w ys
-disturbing_parts w xs ys =
-    let a = number-append (moves_of_others w) xs ys in
-    let b = number-append (reshapes_of_others w) xs ys in
-    omega (arith, a, b)
-
-abbrev holding_up : ℕ → List Turn → ℕ
-holding_up w turns = number_of (moves_of_others w) turns + number_of (hinders w) turns
-
-holding_parts : (w : ℕ) (xs ys : List Turn) → holding_up w (xs ++ ys) ≡ holding_up w xs + holding_up w ys
-holding_parts w xs ys =
-    let a = number-append (moves_of_others w) xs ys in
-    let b = number-append (hinders w) xs ys in
-    omega (arith, a, b)
-
 -- ---- look-ups
 
-look_once : (p q : Stand) (times : ℕ) → HasSeenAllOf q p → WasBusy p q times → Meanwhile disturbing disturbing_parts p q times
+look_once : (p q : Stand) (times : ℕ) → HasSeenAllOf q p → WasBusy p q times → Meanwhile reshapes_of_others p q times
 look_once p q times past (inl none) = record { turns = past.goes_on.more; is = past.goes_on.is; least = omega (arith, none) }
 look_once p q times past (inr (inl moved)) = record { turns = moved.turns; is = moved.is; least = (let some = moved.moved in omega (arith, some)) }
 look_once p q times past (inr (inr reshaped)) = record { turns = reshaped.turns; is = reshaped.is; least = (let some = reshaped.reshaped in omega (arith, some)) }
@@ -121,54 +111,54 @@ look_once p q times past (inr (inr reshaped)) = record { turns = reshaped.turns;
 -- all of the look-ups, of which there is one more than rounds, behind what was done before
 pub looks_disturbed : (b : Board) (h : Habit) (k : ℕ) (w x z : Hand) → Follows w.pass x.pass → Retries Has b h k x z busy → WasDisturbed w.pass z.pass ((h.rounds + 1) * h.tries)
 looks_disturbed b h k w x z on looks =
-    let m = meanwhile_since disturbing disturbing_parts ((h.rounds + 1) * h.tries) w.pass x.pass z.pass on
-    (each_round disturbing disturbing_parts (Asked (LeavesHas b.layout h.tries k)) busy h.tries x.pass.view.layout
+    let m = meanwhile_since reshapes_of_others ((h.rounds + 1) * h.tries) w.pass x.pass z.pass on
+    (each_round reshapes_of_others (Asked (LeavesHas b.layout h.tries k)) busy h.tries x.pass.view.layout
     (λ y v did. record { same = did.1.says.same; past = did.1.says.past })
     (λ y v at did. look_once y.pass v.pass h.tries did.1.says.past (did.1.says.disturbed refl)) h.rounds x z refl looks) in
     record { turns = m.turns; is = m.is; disturbed = m.least }
 
 -- ---- inserts and deletes
 
-change_once : (p q : Stand) (times : ℕ) → HasSeenAllOf q p → ChangeWasBusy p q times → Meanwhile holding_up holding_parts p q times
+change_once : (p q : Stand) (times : ℕ) → HasSeenAllOf q p → ChangeWasBusy p q times → Meanwhile hinders p q times
 change_once p q times past (inl none) = record { turns = past.goes_on.more; is = past.goes_on.is; least = omega (arith, none) }
 change_once p q times past (inr (inl moved)) = record { turns = moved.turns; is = moved.is; least = (let some = moved.moved in omega (arith, some)) }
 change_once p q times past (inr (inr lost)) = record { turns = lost.turns; is = lost.is; least = (let some = lost.hindered in omega (arith, some)) }
 
-held_up : (p q r : Stand) (times : ℕ) → Follows p q → Meanwhile holding_up holding_parts q r times → WasHeldUp p r times
-held_up p q r times on second = let m = meanwhile_since holding_up holding_parts times p q r on second in record { turns = m.turns; is = m.is; held_up = m.least }
+held_up : (p q r : Stand) (times : ℕ) → Follows p q → Meanwhile hinders q r times → WasHeldUp p r times
+held_up p q r times on second = let m = meanwhile_since hinders times p q r on second in record { turns = m.turns; is = m.is; held_up = m.least }
 
 module _ (b : Board) (h : Habit) (k : ℕ) where
   abbrev Times : ℕ
   Times = (h.rounds + 1) * h.tries
 
-  inserts_lost : (w z : Hand) → Retries Insert b h k w z busy → Meanwhile holding_up holding_parts w.pass z.pass Times
-  inserts_lost w z a = each_round holding_up holding_parts (Asked (LeavesInsert b.layout h.tries k)) busy h.tries w.pass.view.layout
+  inserts_lost : (w z : Hand) → Retries Insert b h k w z busy → Meanwhile hinders w.pass z.pass Times
+  inserts_lost w z a = each_round hinders (Asked (LeavesInsert b.layout h.tries k)) busy h.tries w.pass.view.layout
       (λ x y did. record { same = did.1.says.same; past = did.1.says.past })
       (λ x y at did. change_once x.pass y.pass h.tries did.1.says.past (did.1.disturbed refl)) h.rounds w z refl a
 
-  deletes_lost : (w z : Hand) → Retries Delete b h k w z busy → Meanwhile holding_up holding_parts w.pass z.pass Times
-  deletes_lost w z a = each_round holding_up holding_parts (Asked (LeavesDelete b.layout h.tries k)) busy h.tries w.pass.view.layout
+  deletes_lost : (w z : Hand) → Retries Delete b h k w z busy → Meanwhile hinders w.pass z.pass Times
+  deletes_lost w z a = each_round hinders (Asked (LeavesDelete b.layout h.tries k)) busy h.tries w.pass.view.layout
       (λ x y did. record { same = did.1.says.same; past = did.1.says.past })
       (λ x y at did. change_once x.pass y.pass h.tries did.1.says.past (did.1.disturbed refl)) h.rounds w z refl a
 
   -- behind what is done first
-  since_tidy : (w y z : Hand) → IsMadeTidy b h w y → Meanwhile holding_up holding_parts y.pass z.pass Times → WasHeldUp w.pass z.pass Times
+  since_tidy : (w y z : Hand) → IsMadeTidy b h w y → Meanwhile hinders y.pass z.pass Times → WasHeldUp w.pass z.pass Times
   since_tidy w y z made lost = let at = ready b h w y made in held_up w.pass y.pass z.pass Times (record { same = at.on.same; past = at.on.past }) lost
 
   pub inserts_held_up : (w z : Hand) (r : Result Bool InsertFault) → of_insert r ≡ busy → TendsInsert b h k w z r → WasHeldUp w.pass z.pass Times
   inserts_held_up w z r told (inl held) = absurd (let no = sym told ∙ held.1 in cc)
   inserts_held_up w z r told (inr (free, t)) = by t.did
     where
-      last : (q : Result Bool Fault) (x y : Hand) → of_insert r ≡ q → Retries Insert b h k x y q → Meanwhile holding_up holding_parts x.pass y.pass Times
+      last : (q : Result Bool Fault) (x y : Hand) → of_insert r ≡ q → Retries Insert b h k x y q → Meanwhile hinders x.pass y.pass Times
       last q x y is did = inserts_lost x y (subst (λ (p : Result Bool Fault). Retries Insert b h k x y p) (sym is ∙ told) did)
 
-      after : (x : Hand) → x.held ≡ None → RetriesInsert b h k x z r → Meanwhile holding_up holding_parts x.pass z.pass Times
+      after : (x : Hand) → x.held ≡ None → RetriesInsert b h k x z r → Meanwhile hinders x.pass z.pass Times
       after x held (inl (q, did, known, is)) = last q x z (ap of_insert is ∙ plain_told q) did
       after x held (inr (u, v, behind, q, full, found, retried, is)) =
           let first = goes_retries Insert b h k x u (Err (fault.Call call.Full)) held full in
           let second = goes_relieved b h.tries u v first.held found.relieved in
           let to_v = follows_then x.pass u.pass v.pass (record { same = first.same; past = first.past }) (record { same = second.same; past = second.past }) in
-          meanwhile_since holding_up holding_parts Times x.pass v.pass z.pass to_v (last q v z (ap of_insert is ∙ fullness_told behind (waiting_in z.queues) q) retried)
+          meanwhile_since hinders Times x.pass v.pass z.pass to_v (last q v z (ap of_insert is ∙ fullness_told behind (waiting_in z.queues) q) retried)
 
       by : InsertsTended b h k w z r → WasHeldUp w.pass z.pass Times
       by (inl pending) = absurd (let no = sym told ∙ pending.1 in cc)
@@ -184,7 +174,7 @@ module _ (b : Board) (h : Habit) (k : ℕ) where
       no_busy x (Ok answer) done is = cc
       no_busy x (Err lost) done is = absurd (let same = finishes_err b h x z lost done in let which = is in cc)
 
-      after : (x : Hand) → RetriesDelete b h k x z busy → Meanwhile holding_up holding_parts x.pass z.pass Times
+      after : (x : Hand) → RetriesDelete b h k x z busy → Meanwhile hinders x.pass z.pass Times
       after x (inl one) = deletes_lost x z one.0
       after x (inr (u, f, unfinished, finishes, told)) = absurd (no_busy u f finishes told)
 
