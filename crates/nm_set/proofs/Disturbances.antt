@@ -21,7 +21,7 @@ use Rattle.nm_set.specs.declared.fault.InsertFault.{InsertFault}
 use Rattle.nm_set.specs.declared.tended.Habit.{Habit}
 use Rattle.nm_set.specs.Asked.{Asked}
 use Rattle.nm_set.specs.Tended.{InARow, IsRetried, Retries, RetriesInsert, RetriesDelete, InsertsTended, RemovesTended, TendsInsert, HasTended, UnlessHeld, WasDisturbed, WasHeldUp, FinishesPending, IsMadeTidy, busy, of_finish, of_insert}
-use Rattle.nm_set.proofs.Tending.{Follows, follows_then, goes_relieved, goes_retries, finishes_err, plain_told, fullness_told, ready}
+use Rattle.nm_set.proofs.Tending.{Follows, follows_then, goes_relieved, calls_go, finishes_err, plain_told, fullness_told, ready}
 
 -- ---- turns that are counted, between two moments of a pass
 
@@ -59,7 +59,7 @@ module _ (disturbs : ℕ → Turn → Bool) where
       subst (Meanwhile p r) (omega arith)
       (meanwhile_then 0 m p q r (ap (λ (x : Stand). x.view.number) on.same) (record { turns = on.past.goes_on.more; is = on.past.goes_on.is; least = omega arith }) second)
 
-  -- a call that was lost so in each of its rounds, one more than may be made again; each in a tree of
+  -- a call that was lost so in each of its rounds, one more than its retries; each in a tree of
   -- this layout
   module _ {R : Type 0} (leaves : Hand → Hand → R → Type 0) (lost : R) (tries : ℕ) (L : Layout)
       (follows : (x y : Hand) → leaves x y lost → Follows x.pass y.pass)
@@ -155,7 +155,7 @@ module _ (b : Board) (h : Habit) (k : ℕ) where
       after : (x : Hand) → x.held ≡ None → RetriesInsert b h k x z r → Meanwhile hinders x.pass z.pass Times
       after x held (inl (q, did, known, is)) = last q x z (ap of_insert is ∙ plain_told q) did
       after x held (inr (u, v, behind, q, full, found, retried, is)) =
-          let first = goes_retries Insert b h k x u (Err (fault.Call call.Full)) held full in
+          let first = calls_go Insert b h k x u (Err (fault.Call call.Full)) held full in
           let second = goes_relieved b h.tries u v first.held found.relieved in
           let to_v = follows_then x.pass u.pass v.pass (record { same = first.same; past = first.past }) (record { same = second.same; past = second.past }) in
           meanwhile_since hinders Times x.pass v.pass z.pass to_v (last q v z (ap of_insert is ∙ fullness_told behind (waiting_in z.queues) q) retried)

@@ -20,7 +20,7 @@ use Rattle.nm_set.specs.declared.fault.Fault.TheVariants as fault
 use Rattle.nm_set.specs.declared.tended.Habit.{Habit}
 use Rattle.nm_set.specs.Tended.{FinishesPending, GoesOnTended, IsRetried, Tends, TendsDelete, round_bound}
 use Rattle.nm_set.specs.Popping.{AskedForEnd, IsEndedBy, PopLeft, PopsOnce, SaysPopTended, TendsPop, TendsPopOf, flags_told_by_pop, pop_busy, pop_rounds_bound}
-use Rattle.nm_set.proofs.Tending.{IsOnward, follows_then, goes_asked, goes_more, goes_then, keeps_in_a_row, lose_same, none_there, onward_itself, pending_tends, settled, wins_after}
+use Rattle.nm_set.proofs.Tending.{IsOnward, follows_then, retried_goes, goes_more, goes_then, keeps_in_a_row, lose_same, none_there, onward_itself, pending_tends, settled, wins_after}
 
 -- ---- the two calls of a round
 
@@ -194,7 +194,7 @@ pops_tend end b h w x z answer r free f a =
       left = left_since (comes_before end) w a.begun z r past begun.none last.left;
       won = wins_after 0 (flags_told_by_pop r) w a.begun z (wins_after 0 0 w x a.begun at.won begun.won) last.won;
       on = goes_more (suc h.rounds * most + suc h.rounds * round_most h b.layout) (pop_rounds_bound h b.layout) w z (omega (arith, whole))
-          (goes_then w x z at.on (goes_asked (PopsOnce end b h) pop_busy (round_most h b.layout) (λ p q s held made. once_goes end b h p q s held made) h.rounds x z r at.on.held a));
+          (goes_then w x z at.on (retried_goes (PopsOnce end b h) pop_busy (round_most h b.layout) (λ p q s held made. once_goes end b h p q s held made) h.rounds x z r at.on.held a));
     }
 
 -- where the delete of an earlier call is not finished, nothing else is done

@@ -195,16 +195,16 @@ row_begins step zero w m z first rest = (w, refl, subst (step w) (sym rest) firs
 row_begins step (suc n) w m z first (x, rest, last) = (x, row_begins step n w m x first rest, last)
 
 -- the first call is the last one
-pub asked_once : {R : Type 0} (leaves : Hand → Hand → R → Type 0) (lost : R) (rounds : ℕ) (w z : Hand) (r : R) → leaves w z r → (r ≡ lost → 0 ≡ rounds) → IsRetried leaves lost rounds w z r
-asked_once leaves lost rounds w z r did all = record { before = 0; begun = w; each = refl; last = did; few = omega arith; all = all }
+pub not_retried : {R : Type 0} (leaves : Hand → Hand → R → Type 0) (lost : R) (rounds : ℕ) (w z : Hand) (r : R) → leaves w z r → (r ≡ lost → 0 ≡ rounds) → IsRetried leaves lost rounds w z r
+not_retried leaves lost rounds w z r did all = record { before = 0; begun = w; each = refl; last = did; few = omega arith; all = all }
 
 -- so many have lost before the last one
-pub asked_till : {R : Type 0} (leaves : Board → Hand → Hand → R → Type 0) (b d : Board) (lost : R) (rounds n : ℕ) (w x z : Hand) (r : R) → InARow (λ u v. leaves b u v lost) n w x → d ≡ b → leaves d x z r → n ≤ rounds → (r ≡ lost → n ≡ rounds) → IsRetried (leaves b) lost rounds w z r
-asked_till leaves b d lost rounds n w x z r each same last few all = record { before = n; begun = x; each = each; last = subst (λ (e : Board). leaves e x z r) same last; few = few; all = all }
+pub retried_till : {R : Type 0} (leaves : Board → Hand → Hand → R → Type 0) (b d : Board) (lost : R) (rounds n : ℕ) (w x z : Hand) (r : R) → InARow (λ u v. leaves b u v lost) n w x → d ≡ b → leaves d x z r → n ≤ rounds → (r ≡ lost → n ≡ rounds) → IsRetried (leaves b) lost rounds w z r
+retried_till leaves b d lost rounds n w x z r each same last few all = record { before = n; begun = x; each = each; last = subst (λ (e : Board). leaves e x z r) same last; few = few; all = all }
 
 -- where the first call has lost, the others of as many rounds are those of one round less
-pub asked_more : {R : Type 0} (leaves : Hand → Hand → R → Type 0) (lost : R) (rounds : ℕ) (w m z : Hand) (r : R) → 1 ≤ rounds → leaves w m lost → IsRetried leaves lost (rounds - 1) m z r → IsRetried leaves lost rounds w z r
-asked_more leaves lost rounds w m z r some first rest = record {
+pub retried_more : {R : Type 0} (leaves : Hand → Hand → R → Type 0) (lost : R) (rounds : ℕ) (w m z : Hand) (r : R) → 1 ≤ rounds → leaves w m lost → IsRetried leaves lost (rounds - 1) m z r → IsRetried leaves lost rounds w z r
+retried_more leaves lost rounds w m z r some first rest = record {
   before = suc rest.before;
   begun = rest.begun;
   each = row_begins (λ x y. leaves x y lost) rest.before w m rest.begun first rest.each;
@@ -224,9 +224,9 @@ goes_in_a_row step most each (suc n) w x z free (m, row, made) last =
     let one = suc-mul (suc n) most in
     goes_more (suc n * most + most) (suc (suc n) * most) w z (omega (arith, one)) (goes_then w x z first (last first.held))
 
-pub goes_asked : {R : Type 0} (leaves : Hand → Hand → R → Type 0) (lost : R) (most : ℕ) → ((x y : Hand) (r : R) → x.held ≡ None → leaves x y r → GoesOnTended most x y)
+pub retried_goes : {R : Type 0} (leaves : Hand → Hand → R → Type 0) (lost : R) (most : ℕ) → ((x y : Hand) (r : R) → x.held ≡ None → leaves x y r → GoesOnTended most x y)
     → (rounds : ℕ) (w z : Hand) (r : R) → w.held ≡ None → IsRetried leaves lost rounds w z r → GoesOnTended (suc rounds * most) w z
-goes_asked leaves lost most each rounds w z r free a =
+retried_goes leaves lost most each rounds w z r free a =
     let few = a.few in
     goes_more (suc a.before * most) (suc rounds * most) w z (mul-le-mul_right most (omega (arith, few)))
     (goes_in_a_row (λ x y. leaves x y lost) most (λ x y held made. each x y lost held made) a.before w a.begun z free a.each (λ held. each a.begun z r held a.last))
@@ -305,7 +305,7 @@ finished L t w z true l = l.says.told.1
 finished L t w z false l = ap (λ (y : Hand). y.pending) l.says.told.1 ∙ l.says.told.0
 
 pub goes_finishes : (b : Board) (h : Habit) (w z : Hand) (r : Result Bool Lost) → w.held ≡ None → FinishesPending b h w z r → GoesOnTended (suc h.rounds * round_bound h.tries b.layout) w z
-goes_finishes b h w z r free f = goes_asked (LeavesFinish b.layout h.tries) (Err call.Unfinished) (round_bound h.tries b.layout) (λ x y q held made. goes_finish b.layout h.tries x y q held made) h.rounds w z r free f
+goes_finishes b h w z r free f = retried_goes (LeavesFinish b.layout h.tries) (Err call.Unfinished) (round_bound h.tries b.layout) (λ x y q held made. goes_finish b.layout h.tries x y q held made) h.rounds w z r free f
 
 -- ---- what is won
 
@@ -421,8 +421,8 @@ called Delete L t k w z l did = record {
   };
 }
 
-pub goes_retries : (op : Op) (b : Board) (h : Habit) (k : ℕ) (w z : Hand) (r : Result Bool Fault) → w.held ≡ None → Retries op b h k w z r → GoesOnTended (suc h.rounds * round_bound h.tries b.layout) w z
-goes_retries op b h k w z r free a = goes_asked (Asked (Leaves op b.layout h.tries k)) busy (round_bound h.tries b.layout) each h.rounds w z r free a
+pub calls_go : (op : Op) (b : Board) (h : Habit) (k : ℕ) (w z : Hand) (r : Result Bool Fault) → w.held ≡ None → Retries op b h k w z r → GoesOnTended (suc h.rounds * round_bound h.tries b.layout) w z
+calls_go op b h k w z r free a = retried_goes (Asked (Leaves op b.layout h.tries k)) busy (round_bound h.tries b.layout) each h.rounds w z r free a
   where
     each : (x y : Hand) (q : Result Bool Fault) → x.held ≡ None → Asked (Leaves op b.layout h.tries k) x y q → GoesOnTended (round_bound h.tries b.layout) x y
     each x y q held made = let told = asked_free (Leaves op b.layout h.tries k) x y q held made in (called op b.layout h.tries k x y told.0 told.1).on
@@ -548,7 +548,7 @@ contains_tends b h k w x z answer r free f looks =
       full = λ is. absurd (subst (Asked (LeavesHas b.layout h.tries k) looks.begun z) is looks.last).1.says.told;
       left = told.left;
       won = told.won;
-      on = in_all h.rounds (suc h.rounds + suc h.rounds) most w z (omega arith) (rounds_then (suc h.rounds) (suc h.rounds) most w x z at.on (goes_retries Has b h k x z r at.on.held looks));
+      on = in_all h.rounds (suc h.rounds + suc h.rounds) most w z (omega arith) (rounds_then (suc h.rounds) (suc h.rounds) most w x z at.on (calls_go Has b h k x z r at.on.held looks));
     }
 
 -- the same behind a collection that was due
@@ -589,19 +589,19 @@ fullness_told behind n (Err (fault.Call call.Unfinished)) = refl
 fullness_told behind n (Err (fault.Call call.Pending)) = refl
 
 -- an insert, and one more behind a collection
-inserts_on : (b : Board) (h : Habit) (k : ℕ) (o w z : Hand) (r : Result Bool InsertFault) → HasSeenAllOf w.pass o.pass → Wins o w 0 0 → w.pending ≡ None → w.held ≡ None → RetriesInsert b h k w z r → IsTold Insert k o z (of_insert r) × GoesOnTended ((suc h.rounds + 1 + suc h.rounds) * round_bound h.tries b.layout) w z
-inserts_on b h k o w z r past won none free (inl (t, did, known, is)) =
+insert_retried : (b : Board) (h : Habit) (k : ℕ) (o w z : Hand) (r : Result Bool InsertFault) → HasSeenAllOf w.pass o.pass → Wins o w 0 0 → w.pending ≡ None → w.held ≡ None → RetriesInsert b h k w z r → IsTold Insert k o z (of_insert r) × GoesOnTended ((suc h.rounds + 1 + suc h.rounds) * round_bound h.tries b.layout) w z
+insert_retried b h k o w z r past won none free (inl (t, did, known, is)) =
     let most = round_bound h.tries b.layout in
-    (subst (λ (q : Result Bool Fault). IsTold Insert k o z q) (sym (ap of_insert is ∙ plain_told t)) (retries_told Insert b h k o w z t past won none free did), goes_more (suc h.rounds * most) ((suc h.rounds + 1 + suc h.rounds) * most) w z (mul-le-mul_right most (omega arith)) (goes_retries Insert b h k w z t free did))
-inserts_on b h k o w z r past won none free (inr (x, y, behind, t, first, found, again, is)) =
+    (subst (λ (q : Result Bool Fault). IsTold Insert k o z q) (sym (ap of_insert is ∙ plain_told t)) (retries_told Insert b h k o w z t past won none free did), goes_more (suc h.rounds * most) ((suc h.rounds + 1 + suc h.rounds) * most) w z (mul-le-mul_right most (omega arith)) (calls_go Insert b h k w z t free did))
+insert_retried b h k o w z r past won none free (inr (x, y, behind, t, first, found, once_more, is)) =
     let most = round_bound h.tries b.layout in
     let relieved = found.relieved in
     let full = retries_told Insert b h k o w x (Err (fault.Call call.Full)) past won none free first in
-    let before = goes_retries Insert b h k w x (Err (fault.Call call.Full)) free first in
+    let before = calls_go Insert b h k w x (Err (fault.Call call.Full)) free first in
     let since = goes_relieved b h.tries x y before.held relieved in
     let seen = seen_through o.pass w.pass y.pass past (seen_through w.pass x.pass y.pass before.past since.past) in
-    let told = retries_told Insert b h k o y z t seen (wins_after 0 0 o x y full.won (relieved_wins b x y relieved)) (relieved_place b x y relieved ∙ full.left) since.held again in
-    (subst (λ (q : Result Bool Fault). IsTold Insert k o z q) (sym (ap of_insert is ∙ fullness_told behind (waiting_in z.queues) t)) told, rounds_then (suc h.rounds + 1) (suc h.rounds) most w y z (rounds_then (suc h.rounds) 1 most w x y before (one_round most x y since)) (goes_retries Insert b h k y z t since.held again))
+    let told = retries_told Insert b h k o y z t seen (wins_after 0 0 o x y full.won (relieved_wins b x y relieved)) (relieved_place b x y relieved ∙ full.left) since.held once_more in
+    (subst (λ (q : Result Bool Fault). IsTold Insert k o z q) (sym (ap of_insert is ∙ fullness_told behind (waiting_in z.queues) t)) told, rounds_then (suc h.rounds + 1) (suc h.rounds) most w y z (rounds_then (suc h.rounds) 1 most w x y before (one_round most x y since)) (calls_go Insert b h k y z t since.held once_more))
 
 -- ---- who holds memory back
 
@@ -653,10 +653,10 @@ module _ (o p q z : Stand) (first : Follows o p) (last : Follows q z) where
 -- what it tells of that, where it was full
 inserts_full : (b : Board) (h : Habit) (k : ℕ) (o w z : Hand) (r : Result Bool InsertFault) → Follows o.pass w.pass → w.held ≡ None → RetriesInsert b h k w z r → of_insert r ≡ Err (fault.Call call.Full) → (f : Fullness) × (r ≡ Err (inserting.Full f)) × WasFull o z f
 inserts_full b h k o w z r past free (inl (t, did, known, is)) full = absurd (known (sym (ap of_insert is ∙ plain_told t) ∙ full))
-inserts_full b h k o w z r past free (inr (x, y, behind, t, first, found, again, is)) full =
-    let before = goes_retries Insert b h k w x (Err (fault.Call call.Full)) free first in
+inserts_full b h k o w z r past free (inr (x, y, behind, t, first, found, once_more, is)) full =
+    let before = calls_go Insert b h k w x (Err (fault.Call call.Full)) free first in
     let since = goes_relieved b h.tries x y before.held found.relieved in
-    let on = goes_retries Insert b h k y z t since.held again in
+    let on = calls_go Insert b h k y z t since.held once_more in
     let to_x = follows_then o.pass w.pass x.pass past (record { same = before.same; past = before.past }) in
     let from_y : Follows y.pass z.pass = record { same = on.same; past = on.past } in
     let number : x.pass.view.number ≡ o.pass.view.number = ap (λ (p : Stand). p.view.number) to_x.same in
@@ -677,7 +677,7 @@ adds_tend : (b : Board) (h : Habit) (k : ℕ) (w y z : Hand) (r : Result Bool In
 adds_tend b h k w y z r made did =
     let at = ready b h w y made in
     let most = round_bound h.tries b.layout in
-    let told = inserts_on b h k w y z r at.on.past at.won at.none at.on.held did in
+    let told = insert_retried b h k w y z r at.on.past at.won at.none at.on.held did in
     record {
       moment = told.0.moment;
       full = λ is. (let found = inserts_full b h k w y z r (record { same = at.on.same; past = at.on.past }) at.on.held did is in (found.0, found.2));
@@ -705,14 +705,14 @@ full_told b h k w z f (inr (free, t)) = by t.did
         subst (WasFull w z) (same found.0 found.1) found.2
 
 -- a delete, and what is left to do of it
-deletes_on : (b : Board) (h : Habit) (k : ℕ) (o w z : Hand) (r : Result Bool Fault) → HasSeenAllOf w.pass o.pass → Wins o w 0 0 → IsIdle w → w.pending ≡ None → w.held ≡ None → RetriesDelete b h k w z r → IsTold Delete k o z r × GoesOnTended ((suc h.rounds + suc h.rounds) * round_bound h.tries b.layout) w z
-deletes_on b h k o w z r past won idle none free (inl (did, known)) =
+delete_retried : (b : Board) (h : Habit) (k : ℕ) (o w z : Hand) (r : Result Bool Fault) → HasSeenAllOf w.pass o.pass → Wins o w 0 0 → IsIdle w → w.pending ≡ None → w.held ≡ None → RetriesDelete b h k w z r → IsTold Delete k o z r × GoesOnTended ((suc h.rounds + suc h.rounds) * round_bound h.tries b.layout) w z
+delete_retried b h k o w z r past won idle none free (inl (did, known)) =
     let most = round_bound h.tries b.layout in
-    (retries_told Delete b h k o w z r past won none free did, goes_more (suc h.rounds * most) ((suc h.rounds + suc h.rounds) * most) w z (mul-le-mul_right most (omega arith)) (goes_retries Delete b h k w z r free did))
-deletes_on b h k o w z r past won idle none free (inr (x, f, first, rest, is)) =
+    (retries_told Delete b h k o w z r past won none free did, goes_more (suc h.rounds * most) ((suc h.rounds + suc h.rounds) * most) w z (mul-le-mul_right most (omega arith)) (calls_go Delete b h k w z r free did))
+delete_retried b h k o w z r past won idle none free (inr (x, f, first, rest, is)) =
     let most = round_bound h.tries b.layout in
     let flagged = retries_told Delete b h k o w x (Err (fault.Call call.Unfinished)) past won none free first in
-    let before = goes_retries Delete b h k w x (Err (fault.Call call.Unfinished)) free first in
+    let before = calls_go Delete b h k w x (Err (fault.Call call.Unfinished)) free first in
     let had : HadNoCall w.pass x.pass = record { same = before.same; past = before.past; call = idle none } in
     let told = finish_told b h k flagged.left.0 o w x z f past flagged.won had flagged.left.1 rest in
     (subst (λ (q : Result Bool Fault). IsTold Delete k o z q) (sym is) told, rounds_then (suc h.rounds) (suc h.rounds) most w x z before (goes_finishes b h x z f before.held rest))
@@ -733,7 +733,7 @@ removes_tend : (b : Board) (h : Habit) (k : ℕ) (w y z : Hand) (r : Result Bool
 removes_tend b h k w y z r made idle did =
     let at = ready b h w y made in
     let most = round_bound h.tries b.layout in
-    let told = deletes_on b h k w y z r at.on.past at.won idle at.none at.on.held did in
+    let told = delete_retried b h k w y z r at.on.past at.won idle at.none at.on.held did in
     record {
       moment = told.0.moment;
       full = λ is. absurd (deletes_never_full b h k y z r did is);
@@ -746,7 +746,7 @@ removes_tend b h k w y z r made idle did =
 
 -- where nothing is pending, there is nothing to finish
 finishes_nothing : (b : Board) (h : Habit) (w : Hand) → w.pending ≡ None → FinishesPending b h w w (Ok false)
-finishes_nothing b h w none = asked_once (LeavesFinish b.layout h.tries) (Err call.Unfinished) h.rounds w w (Ok false) (finishes_none b.layout h.tries w none) (λ e. absurd (differ e))
+finishes_nothing b h w none = not_retried (LeavesFinish b.layout h.tries) (Err call.Unfinished) h.rounds w w (Ok false) (finishes_none b.layout h.tries w none) (λ e. absurd (differ e))
   where
     differ : ◌≡◌ {A = Result Bool Lost} (Ok false) (Err call.Unfinished) → ⊥
     differ e = cc
@@ -757,7 +757,7 @@ was_tidy b h w tidy = record { free = tidy.free; answer = false; between = w; fi
 
 -- a call that has answered at once
 pub answered : (op : Op) (b : Board) (h : Habit) (k : ℕ) (w z : Hand) (answer : Bool) → Asked (Leaves op b.layout h.tries k) w z (Ok answer) → Retries op b h k w z (Ok answer)
-answered op b h k w z answer did = asked_once (Asked (Leaves op b.layout h.tries k)) busy h.rounds w z (Ok answer) did (λ e. is_no_fault _ _ e)
+answered op b h k w z answer did = not_retried (Asked (Leaves op b.layout h.tries k)) busy h.rounds w z (Ok answer) did (λ e. is_no_fault _ _ e)
 
 pub insert_answered : (b : Board) (h : Habit) (k : ℕ) (w z : Hand) (answer : Bool) → Asked (LeavesInsert b.layout h.tries k) w z (Ok answer) → RetriesInsert b h k w z (Ok answer)
 insert_answered b h k w z answer did = inl (Ok answer, answered Insert b h k w z answer did, λ e. is_no_fault _ _ e, refl)

@@ -6,7 +6,7 @@ use Rattle.nm_tree.specs.declared.fault.CallFault.TheVariants.{Unfinished}
 use Rattle.nm_tree.specs.Calls.{LeavesFinish}
 use Rattle.nm_set.specs.declared.tended.Habit.{Habit}
 use Rattle.nm_set.specs.Tended.{FinishesPending}
-use Rattle.nm_set.proofs.Tending.{asked_more}
+use Rattle.nm_set.proofs.Tending.{retried_more}
 use Rattle.nm_set.proofs.member.Member.finish_with_retries.Goals as goal
 
 pub returns-clause-did : goal.returns-clause-did
@@ -21,4 +21,4 @@ returns-clause-did c =
     let first = subst (λ (t : Result Bool Lost). LeavesFinish b.layout h.tries w m t) (c.if-not-is_lost.ensures.yes refl) c.finish-told.ensures.did in
     let rest : FinishesPending b (record h { rounds = h.rounds - 1 }) m z r =
     subst (λ (g : Habit). FinishesPending b g m z r) c.without_one.ensures (subst (λ (d : Board). FinishesPending d c.without_one.result m z r) c.finish-told.ensures.board c.retry_finish.ensures.did) in
-    asked_more (LeavesFinish b.layout h.tries) (Err Unfinished) h.rounds w m z r (omega (arith, some)) first rest
+    retried_more (LeavesFinish b.layout h.tries) (Err Unfinished) h.rounds w m z r (omega (arith, some)) first rest

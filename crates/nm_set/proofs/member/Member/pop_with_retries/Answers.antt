@@ -5,7 +5,7 @@ use Rattle.nm_set.specs.declared.fault.Fault.{Fault}
 use Rattle.nm_tree.specs.Workers.{Hand}
 use Rattle.nm_set.specs.Popping.{PopsOnce, pop_busy}
 use Rattle.nm_set.specs.Tended.{InARow}
-use Rattle.nm_set.proofs.Tending.{asked_till}
+use Rattle.nm_set.proofs.Tending.{retried_till}
 use Rattle.nm_set.proofs.member.Member.pop_with_retries.Goals as goal
 
 pub loop-round-preserved : goal.loop-round-preserved
@@ -24,7 +24,7 @@ loop-round-preserved c =
 pub returns-then-not-is_busy-clause-did : goal.returns-then-not-is_busy-clause-did
 returns-then-not-is_busy-clause-did c =
     let at = c.loop-round in
-    asked_till (λ b. PopsOnce c.args.end b c.args.habit.now) c.args.self.now.board at.self.board pop_busy c.args.habit.now.rounds at._round c.args.self.now.hand at.self.hand c.pop_once-told.new.self.hand c.pop_once-told.result
+    retried_till (λ b. PopsOnce c.args.end b c.args.habit.now) c.args.self.now.board at.self.board pop_busy c.args.habit.now.rounds at._round c.args.self.now.hand at.self.hand c.pop_once-told.new.self.hand c.pop_once-told.result
     at.invariant.each at.invariant.board c.pop_once-told.ensures.did (omega (arith, c.loop-round-test.true)) (λ told. absurd (c.if-not-is_busy.ensures.no refl told))
 
 pub returns-clause-did : goal.returns-clause-did
@@ -32,5 +32,5 @@ returns-clause-did c =
     let at = c.loop-round in
     let past = c.loop-round-test.false in
     let within = at.auto._round-end in
-    asked_till (λ b. PopsOnce c.args.end b c.args.habit.now) c.args.self.now.board at.self.board pop_busy c.args.habit.now.rounds at._round c.args.self.now.hand at.self.hand c.pop_once.new.self.hand c.pop_once.result
+    retried_till (λ b. PopsOnce c.args.end b c.args.habit.now) c.args.self.now.board at.self.board pop_busy c.args.habit.now.rounds at._round c.args.self.now.hand at.self.hand c.pop_once.new.self.hand c.pop_once.result
     at.invariant.each at.invariant.board c.pop_once.ensures.did within (λ told. omega (arith, past, within))

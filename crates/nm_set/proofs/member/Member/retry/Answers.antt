@@ -2,7 +2,7 @@ use Rattle.std.proofs.Common.{◌-◌, refl, subst, arith}
 use Rattle.nm_set.specs.declared.tended.Habit.{Habit}
 use Rattle.nm_set.specs.Asked.{Asked}
 use Rattle.nm_set.specs.Tended.{busy, Leaves, Retries}
-use Rattle.nm_set.proofs.Tending.{asked_more}
+use Rattle.nm_set.proofs.Tending.{retried_more}
 use Rattle.nm_set.proofs.member.Member.retry.Goals as goal
 
 pub returns-clause-did : goal.returns-clause-did
@@ -16,4 +16,4 @@ returns-clause-did c =
     let some = c.if-habit-eq0.false in
     let leaves = Asked (Leaves c.args.op b.layout h.tries k) in
     let rest : Retries c.args.op b (record h { rounds = h.rounds - 1 }) k m z r = subst (λ (g : Habit). Retries c.args.op b g k m z r) c.without_one.ensures c.ask_with_retries.ensures.did in
-    λ w first. asked_more leaves busy h.rounds w m z r (omega (arith, some)) (subst (leaves w m) (c.if-not-is_busy.ensures.yes refl) first) rest
+    λ w first. retried_more leaves busy h.rounds w m z r (omega (arith, some)) (subst (leaves w m) (c.if-not-is_busy.ensures.yes refl) first) rest
