@@ -1,5 +1,5 @@
 -- What was done with the tree and the worker that a member holds, of the member.
-use Rattle.std.proofs.Common.{◌≡◌, ◌∙◌, sym, subst}
+use Rattle.std.proofs.Common.{◌≡◌, sym, subst}
 use Rattle.std.specs.Prelude.{None, Result, Ok, Err}
 use Rattle.nm_steps.specs.Steps.{Board}
 use Rattle.nm_tree.specs.declared.fault.CallFault.{CallFault as Lost}

@@ -1,7 +1,6 @@
 use Rattle.std.proofs.Common.{rules, inl, inr, None, Some, ap, refl, subst, ◌∙◌, arith}
 use Rattle.std.specs.Prelude.{Ok, Err, slice_set}
 use Rattle.nm_model.specs.Maps.{get}
-use Rattle.nm_steps.specs.Steps.{Stand}
 use Rattle.nm_steps.proofs.Seeing.{seen_all}
 use Rattle.nm_tree.specs.Workers.{Hand, held_in, pending_in}
 use Rattle.nm_tree.proofs.QueueLists.{lacks_after, stands_within, room_after}
