@@ -1,12 +1,13 @@
 -- Walks that go on in turns.
 use Rattle.std.proofs.Common.{◌≡◌, ◌≢◌, ◌<◌, ◌+◌, ℕ, zero, suc, Bool, true, false, List, [], ◌∷◌, length, refl, sym, ap, subst, ◌∙◌, arith}
-use Rattle.std.specs.Prelude.{map, slice_index_or, None, All, Contains}
+use Rattle.std.specs.Prelude.{map, slice_index_or, All, Contains}
 use Rattle.std.specs.List.{AllWithin, HoldsAt}
 use Rattle.std.proofs.Math.ListN.{get_or, set}
 use Rattle.std.proofs.lemmas.List.{length-map}
 use Rattle.std.proofs.lemmas.List.Elements.{All-set, AllWithin-more_set}
 use Rattle.nm_edge.specs.Edges.{Edge}
-use Rattle.nm_edge.specs.Layouts.{Layout, IsLayout}
+use Rattle.nm_edge.specs.Keys.{IsKey}
+use Rattle.nm_edge.specs.Layouts.{Layout}
 use Rattle.nm_edge.specs.declared.edge.Side.TheVariants.{Left}
 use Rattle.nm_model.specs.declared.event.Event.TheVariants.{Look}
 use Rattle.nm_model.specs.declared.event.Field.TheVariants.{Edge as EdgeOn}
@@ -14,19 +15,18 @@ use Rattle.nm_model.specs.declared.reply.Reply.TheVariants.{EdgeIs}
 use Rattle.nm_model.specs.Walks.{Entry}
 use Rattle.nm_order.specs.Facts.Fact.{KnowsSlot}
 use Rattle.nm_order.proofs.RadixLaws.{walks_are_short}
-use Rattle.nm_steps.specs.Steps.{Board, Stand, Stepped, HasSeen, IsSamePass, HasSeenAllOf}
-use Rattle.nm_epoch.specs.Resting.{epochs}
+use Rattle.nm_steps.specs.Steps.{Board, Stand, Stepped}
 use Rattle.nm_walks.specs.declared.looking.Onward.{Onward}
 use Rattle.nm_calls.specs.declared.many.Query.{Query}
 use Rattle.nm_walks.specs.Bounds.{reach}
 use Rattle.nm_calls.specs.InTurns.{GiveUp, HasBegun, IsUnderWay, key_of, query_read}
 use Rattle.nm_walks.specs.AddedLooks.{AddsLooks}
-use Rattle.nm_calls.specs.PlainWalks.{HasPassed, WasSo, most_looks}
+use Rattle.nm_calls.specs.PlainWalks.{HasEndedSo, HasPassed, most_looks}
 use Rattle.nm_walks.specs.Telling.{Tells, GoesOn, EdgeTold, OnwardTold, IsPinnedIn}
 use Rattle.nm_walks.specs.Walks.{Reads}
 use Rattle.nm_walks.proofs.Looks.{enough}
 use Rattle.nm_walks.proofs.ShortWalks.{far_of}
-use Rattle.nm_calls.proofs.PlainLooks.{come_still, ended_still, comes_first, comes_on, ends_so, was_so}
+use Rattle.nm_calls.proofs.PlainLooks.{come_still, ended_still, comes_first, comes_on, ends_so}
 
 -- ---- they stay under way
 
@@ -129,7 +129,6 @@ given_up b old q pinned n queries keys same all (i, below, left) far looks = of 
 
 -- ---- the answers
 
-pub all_were_so : (o p q : Stand) → HasSeen o.view → IsLayout o.view.layout → (epochs o).pin ≡ None → IsSamePass o p → HasSeenAllOf p o → HasSeen p.view → IsSamePass p q → HasSeenAllOf q p
-    → (queries : List Query) → All (IsUnderWay 0 p) queries → All (λ x. x.node ≡ 0) queries → All (λ x. WasSo o q x.key x.found) queries
-all_were_so o p q first fits unpinned same past mid on more queries all ended i d below =
-    let u = all i d below in was_so o p q first fits unpinned same past mid on more (slice_index_or queries i d).key (slice_index_or queries i d).found u.is_key (u.ends (ended i d below))
+pub all_were_so : (p : Stand) (Was : ℕ → Bool → Type 0) → ((k : ℕ) (answer : Bool) → IsKey k → HasEndedSo p k answer → Was k answer)
+    → (queries : List Query) → All (IsUnderWay 0 p) queries → All (λ x. x.node ≡ 0) queries → All (λ x. Was x.key x.found) queries
+all_were_so p Was so queries all ended i d below = let u = all i d below in so (slice_index_or queries i d).key (slice_index_or queries i d).found u.is_key (u.ends (ended i d below))

@@ -1,7 +1,8 @@
 -- Looks that are added to a log under a pin for no call: a walk begins, goes on, and tells of its
 -- key.
 use Rattle.std.proofs.Common.{◌≡◌, ◌≢◌, ◌≤◌, inl, inr, ℕ, zero, suc, ◌+◌, ◌*◌, ◌==◌, Bool, true, false, cond, List, [], ◌∷◌, ◌++◌, append-nil, append_assoc, length, refl, sym, ap, subst, ◌∙◌, arith}
-use Rattle.std.specs.Prelude.{filter, None, All}
+use Rattle.std.specs.Prelude.{filter, Option, None, All, Result, Ok, Err, IfOk, IfErr}
+use Rattle.std.proofs.lemmas.Result.{IfErr-weaker}
 use Rattle.std.specs.List.{list_all}
 use Rattle.std.proofs.lemmas.Bool.{and_parts, and_from}
 use Rattle.std.proofs.lemmas.List.{length-append, length-map, map-append}
@@ -17,7 +18,8 @@ use Rattle.nm_model.specs.declared.event.Field.TheVariants.{Edge as EdgeOn}
 use Rattle.nm_model.specs.declared.reply.Reply.TheVariants.{EdgeIs, Departed}
 use Rattle.nm_model.specs.declared.trace.Turn.{Turn}
 use Rattle.nm_model.specs.Ordered.{Configuration, ordered, next_in, trace_in, turn_of, HasKey}
-use Rattle.nm_model.specs.Searches.{side_of}
+use Rattle.nm_model.specs.declared.knowledge.Brief.{Brief}
+use Rattle.nm_model.specs.Searches.{Search, side_of}
 use Rattle.nm_model.specs.Walks.{Entry, since_pin, IsPart}
 use Rattle.nm_model.specs.Walks.Leads.{begins, leads_on}
 use Rattle.nm_order.specs.Exchanges.{is_won_link}
@@ -30,16 +32,23 @@ use Rattle.nm_theorem.proofs.LooksBehind.{was_behind}
 use Rattle.nm_order.proofs.WalkAnswers.{walks_tell_of_their_pin}
 use Rattle.nm_steps.specs.declared.view.View.{View}
 use Rattle.nm_steps.specs.Rules.{Extends}
-use Rattle.nm_steps.specs.Steps.{Stand, Stepped, HasSeen, IsSamePass, HasSeenAllOf}
-use Rattle.nm_epoch.specs.Resting.{epochs}
+use Rattle.nm_steps.specs.Steps.{Stand, Stepped, TakesStep, Continues, MayStep, HasSeen}
+use Rattle.nm_steps.proofs.Seeing.{same_by_step, same_then, seen_by_turn, seen_through}
+use Rattle.nm_epoch.specs.Resting.{IsPinnedAt, IsResting, KeepsHands, epochs}
+use Rattle.nm_epoch.proofs.KeptHands.{kept_on}
+use Rattle.nm_epoch.proofs.Allowed.{may_leave}
 use Rattle.nm_epoch.specs.Tries.{IsPinnedBy, IsMoved}
 use Rattle.nm_walks.specs.declared.looking.Onward.{Onward}
 use Rattle.nm_walks.specs.AddedLooks.{is_look, AddsLooks}
-use Rattle.nm_calls.specs.PlainWalks.{HasPassed, HasEndedSo, LooksUnderPin, PlainMissed, WasSo, events_of}
+use Rattle.nm_calls.specs.PlainWalks.{HasPassed, HasEndedSo, LooksUnderPin, PlainMissed, WasSo, events_of, most_looks}
+use Rattle.nm_calls.specs.NextKeys.{AfterNear}
+use Rattle.nm_calls.specs.declared.lookup.Busy.{Busy}
+use Rattle.nm_walks.specs.Bounds.{reach}
+use Rattle.nm_walks.specs.Telling.{GoesOn, OnlyLooks}
 use Rattle.nm_walks.specs.Walks.{Reads}
 use Rattle.nm_walks.specs.WonCounts.{is_won_splice}
 use Rattle.nm_walks.proofs.Adding.{Adds, adds_then, adds_these}
-use Rattle.nm_calls.proofs.Adding.{plain_pin_adds}
+use Rattle.nm_calls.proofs.Adding.{plain_pin_adds, plain_moved_adds, has_won, cuts_none}
 use Rattle.nm_walks.proofs.Looks.{enough}
 use Rattle.nm_walks.proofs.PlainLooks.{first_look, look_is, looks_longer, since_grows, walk_looks}
 
@@ -161,14 +170,16 @@ was_so_longer L past turns later w k answer more was = record {
   gives = was.gives;
 }
 
--- a walk has ended under a pin that was confirmed behind o, and all goes on to q
-pub was_so : (o p q : Stand) → HasSeen o.view → IsLayout o.view.layout → (epochs o).pin ≡ None → IsSamePass o p → HasSeenAllOf p o → HasSeen p.view → IsSamePass p q → HasSeenAllOf q p
+-- a walk has ended under the pin that a has taken behind o, and q is where the worker has left it
+pub was_so : (o a p q : Stand) → HasSeen o.view → IsLayout o.view.layout → (epochs o).pin ≡ None → Continues o a → GoesOn a p → HasSeen p.view → TakesStep p q Leave Departed
     → (k : ℕ) (answer : Bool) → IsKey k → HasEndedSo p k answer → WasSo o q k answer
-was_so o p q first fits unpinned same past mid on more k answer key e =
+was_so o a p q first fits unpinned pinned walked mid leaves k answer key e =
+    let same = same_then o a p pinned.same walked.same in
+    let past = seen_through o a p pinned.past walked.past in
     let seen : AreEvents p.view = as_events p.view mid in
     let grown : events_of p.view.past ≡ events_of o.view.past ++ events_of past.goes_on.more = events_go_on p.view.past o.view.past past.goes_on in
-    subst (λ (s : Stand). WasSoBehind s.view.layout o.view.past q.view.past s.view.number k answer) (sym on)
-    (was_so_longer p.view.layout o.view.past p.view.past q.view.past p.view.number k answer more.goes_on
+    subst (λ (s : Stand). WasSoBehind s.view.layout o.view.past q.view.past s.view.number k answer) (sym (same_by_step p q Leave Departed leaves.step))
+    (was_so_longer p.view.layout o.view.past p.view.past q.view.past p.view.number k answer (seen_by_turn p q Leave Departed leaves.past).goes_on
     (was_behind p.view.layout (subst IsLayout (sym (ap (λ (s : Stand). s.view.layout) same)) fits) (events_of o.view.past) (events_of p.view.past) o.view.past p.view.past (sym (length-map o.view.past turn_of)) seen.are p.view.number k answer
     (subst (λ (s : Stand). WasSoSince s.view.layout (events_of o.view.past) (events_of p.view.past) s.view.number k answer) (sym same)
     (subst (λ (b : Bool). WasSoSince o.view.layout (events_of o.view.past) (events_of p.view.past) o.view.number k b) (sym e.5)
@@ -181,6 +192,10 @@ was_so o p q first fits unpinned same past mid on more k answer key e =
     k e.0 e.1 e.3 e.2 (let le = key in omega (arith, le)) e.4))))))
 
 -- ---- the whole call
+
+-- the worker may leave where its walks end
+pub may_end : (e : ℕ) (a p : Stand) → IsPinnedAt e None a → OnlyLooks a p → MayStep p Leave
+may_end e a p at only = may_leave p (ap (λ (b : Brief). b.unlabelled) only.epochs ∙ at.labelled) (only.linked ∙ ap (λ (s : Search). s.linked) at.begun) (only.flagged ∙ ap (λ (s : Search). s.flagged) at.begun)
 
 -- a pin, looks and a leave: what they add
 pub call_adds : (tries most : ℕ) (old new : List Entry) → LooksUnderPin tries most old new → Adds 0 0 0 (2 * tries + 1 + (most + 1)) old new
@@ -195,3 +210,50 @@ pin_missed gives_up (suc t) old new some moved = inl moved
 pub walks_missed : (gives_up : List Entry → List Entry → Type 0) (tries : ℕ) (old a z new : List Entry) (epoch : ℕ) → IsPinnedBy Sight tries old a epoch → gives_up a z → new ≡ z ++ (Leave, Departed) ∷ [] → PlainMissed gives_up tries old new
 walks_missed gives_up zero old a z new epoch pin gives leaves = let few = pin.3 in absurd (omega (arith, few))
 walks_missed gives_up (suc t) old a z new epoch pin gives leaves = inr (a, z, epoch, pin, gives, leaves)
+
+-- a call for the nearest key that has lost each try of its pin
+pub after_no_pin : (Was : Stand → Stand → Option ℕ → Type 0) (gives_up : List Entry → List Entry → Type 0) (L : Layout) (tries : ℕ) (o a : Stand) (e : Busy) → tries ≢ 0
+    → Continues o a → IsMoved Sight tries o.view.log a.view.log → IsResting a → KeepsHands o a → AfterNear Was gives_up L tries o a (Err e)
+after_no_pin Was gives_up L tries o a e some pinning moved rests kept =
+    let added = plain_moved_adds tries o.view.log a.view.log moved in
+    record {
+      same = pinning.same;
+      past = pinning.past;
+      did = tt;
+      moment = tt;
+      missed = pin_missed gives_up tries o.view.log a.view.log some moved;
+      won = has_won _ _ added;
+      uncut = cuts_none _ _ added;
+      steps = (let few = added.steps in omega (arith, few));
+      rests = rests;
+      hands = kept;
+    }
+
+-- and one that pins at a, has walked at p, and has left at q
+pub after_walks : (Was : Stand → Stand → Option ℕ → Type 0) (gives_up : List Entry → List Entry → Type 0) (L : Layout) (tries epoch : ℕ) (o a p q : Stand) (r : Result (Option ℕ) Busy)
+    → Continues o a → IsPinnedBy Sight tries o.view.log a.view.log epoch → KeepsHands o a
+    → GoesOn a p → OnlyLooks a p → AddsLooks (tries * most_looks (reach L) 1) a.view.log p.view.log
+    → TakesStep p q Leave Departed → IsResting q → KeepsHands p q
+    → IfOk r (Was o q) → IfErr r (λ e. gives_up a.view.log p.view.log) → AfterNear Was gives_up L tries o q r
+after_walks Was gives_up L tries epoch o a p q r pinning pinned hands walked only looks leaves rests kept moment given_up =
+    let did : LooksUnderPin tries (tries * most_looks (reach L) 1) o.view.log q.view.log = record { pinned = a.view.log; epoch = epoch; pin = pinned; looked = p.view.log; looks = looks; leaves = ap (λ (s : Stand). s.view.log) leaves.step } in
+    let added = call_adds tries (tries * most_looks (reach L) 1) o.view.log q.view.log did in
+    record {
+      same = same_then o p q (same_then o a p pinning.same walked.same) (same_by_step p q Leave Departed leaves.step);
+      past = seen_through o p q (seen_through o a p pinning.past walked.past) (seen_by_turn p q Leave Departed leaves.past);
+      did = any_ok r did;
+      moment = moment;
+      missed = IfErr-weaker r _ _ (λ e gives. walks_missed gives_up tries o.view.log a.view.log p.view.log q.view.log epoch pinned gives did.leaves) given_up;
+      won = has_won _ _ added;
+      uncut = cuts_none _ _ added;
+      steps = (let few = added.steps in omega (arith, few));
+      rests = rests;
+      hands = kept_on o p q (kept_on o a p hands looks_keep) kept;
+    }
+  where
+    any_ok : {P : Type 0} (x : Result (Option ℕ) Busy) → P → IfOk x (λ found. P)
+    any_ok (Ok found) did = did
+    any_ok (Err e) did = tt
+
+    looks_keep : KeepsHands a p
+    looks_keep = record { private = only.private; labelled = λ was. ap (λ (b : Brief). b.unlabelled) only.epochs ∙ was; ledgers = λ was. only.ledgers }

@@ -88,16 +88,23 @@ read_below d bound on = record {
 
 -- ---- the whole call
 
--- what a call for the next key leaves of its pass, by its answer: as of a look-up, but that what it
--- tells of keys was so at moments of the call
-pub record AfterNext (L : Layout) (tries k : ℕ) (p q : Stand) (r : Result (Option ℕ) Busy) : Type 0 where
+-- what a call for the key nearest to one leaves of its pass, by its answer: as of a look-up, but that
+-- what it tells of keys, as `Was` says, was so at moments of the call; `GivesUp` is how its walks end
+-- without an answer
+pub record AfterNear (Was : Stand → Stand → Option ℕ → Type 0)
+    (GivesUp : List Entry → List Entry → Type 0) (L : Layout) (tries : ℕ) (p q : Stand)
+    (r : Result (Option ℕ) Busy) : Type 0 where
   pub same : IsSamePass p q
   pub past : HasSeenAllOf q p
   pub did : IfOk r (λ f. LooksUnderPin tries (tries * most_looks (reach L) 1) p.view.log q.view.log)
-  pub moment : IfOk r (WasNext p q k)
-  pub missed : IfErr r (λ e. PlainMissed (GiveUp L tries k) tries p.view.log q.view.log)
+  pub moment : IfOk r (Was p q)
+  pub missed : IfErr r (λ e. PlainMissed GivesUp tries p.view.log q.view.log)
   pub won : HasWon p.view.log q.view.log 0 0
   pub uncut : won_splices q.view.log ≡ won_splices p.view.log
   pub steps : length q.view.log ≤ length p.view.log + 3 * tries + tries * most_looks (reach L) 1 + 2
   pub rests : IsResting q
   pub hands : KeepsHands p q
+
+-- and one for the next key
+abbrev pub AfterNext : Layout → ℕ → ℕ → Stand → Stand → Result (Option ℕ) Busy → Type 0
+AfterNext L tries k = AfterNear (λ p q. WasNext p q k) (GiveUp L tries k) L tries

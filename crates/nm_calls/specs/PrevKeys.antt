@@ -1,23 +1,19 @@
 -- The greatest key that is not above a given one, in a set that is in use.
-use Rattle.std.specs.Prelude.{◌≡◌, ◌≢◌, ◌⊎◌, ◌<◌, ◌≤◌, ◌+◌, ◌*◌, ℕ, zero, suc, Bool, true, false, List, Option, Some, None, length, Result, IfOk, IfErr}
+use Rattle.std.specs.Prelude.{◌≡◌, ◌≢◌, ◌⊎◌, ◌<◌, ◌≤◌, ◌+◌, ℕ, zero, suc, Bool, true, false, List, Option, Some, None, Result}
 use Rattle.nm_edge.specs.Keys.{IsKey}
 use Rattle.nm_edge.specs.Layouts.{Layout}
 use Rattle.nm_model.specs.Walks.{Entry}
 use Rattle.nm_order.specs.Facts.Fact.{KnowsSlot}
-use Rattle.nm_steps.specs.Steps.{Stand, IsSamePass, HasSeenAllOf}
-use Rattle.nm_epoch.specs.Resting.{IsResting, KeepsHands}
+use Rattle.nm_steps.specs.Steps.{Stand}
 use Rattle.nm_calls.specs.declared.lookup.Busy.{Busy}
 use Rattle.nm_walks.specs.declared.looking.Onward.{Onward}
 use Rattle.nm_calls.specs.declared.prev_key.PrevWalk.{PrevWalk}
 use Rattle.nm_walks.specs.declared.spot.ChainEdge.{ChainEdge}
 use Rattle.nm_walks.specs.declared.spot.Spot.{Spot}
-use Rattle.nm_walks.specs.Bounds.{reach}
-use Rattle.nm_calls.specs.NextKeys.{ComesBy, HasNone}
-use Rattle.nm_calls.specs.PlainWalks.{WasSo, LooksUnderPin, PlainMissed, most_looks}
+use Rattle.nm_calls.specs.NextKeys.{AfterNear, ComesBy, HasNone}
+use Rattle.nm_calls.specs.PlainWalks.{WasSo}
 use Rattle.nm_walks.specs.Telling.{Tells}
 use Rattle.nm_walks.specs.Walks.{Walks, EndsAtLeaf, IsTooLong}
-use Rattle.nm_walks.specs.WonCounts.{won_splices}
-use Rattle.nm_calls.specs.Won.{HasWon}
 
 -- where `Was j answer` says of a key j, at a moment of its own, whether the set had it: it had this
 -- key, which is not above `key`, and no key between them; or no key up to `key`
@@ -76,14 +72,5 @@ read_above d bound on = record {
 -- ---- the whole call
 
 -- what a call for the key before leaves of its pass, by its answer: as of one for the next key
-pub record AfterPrev (L : Layout) (tries k : ℕ) (p q : Stand) (r : Result (Option ℕ) Busy) : Type 0 where
-  pub same : IsSamePass p q
-  pub past : HasSeenAllOf q p
-  pub did : IfOk r (λ f. LooksUnderPin tries (tries * most_looks (reach L) 1) p.view.log q.view.log)
-  pub moment : IfOk r (WasPrev p q k)
-  pub missed : IfErr r (λ e. PlainMissed (GiveUp L tries k) tries p.view.log q.view.log)
-  pub won : HasWon p.view.log q.view.log 0 0
-  pub uncut : won_splices q.view.log ≡ won_splices p.view.log
-  pub steps : length q.view.log ≤ length p.view.log + 3 * tries + tries * most_looks (reach L) 1 + 2
-  pub rests : IsResting q
-  pub hands : KeepsHands p q
+abbrev pub AfterPrev : Layout → ℕ → ℕ → Stand → Stand → Result (Option ℕ) Busy → Type 0
+AfterPrev L tries k = AfterNear (λ p q. WasPrev p q k) (GiveUp L tries k) L tries

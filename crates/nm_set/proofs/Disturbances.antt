@@ -1,9 +1,9 @@
 -- What a call that was busy to the last tells of the others.
 use Rattle.std.proofs.Common.{◌≡◌, ◌≤◌, ◌+◌, ◌*◌, ℕ, zero, suc, Bool, List, [], ◌++◌, append-nil, append_assoc, refl, sym, ap, subst, ◌∙◌, inl, inr, arith}
-use Rattle.std.specs.Prelude.{Result, Ok, Err}
+use Rattle.std.specs.Prelude.{None, Result, Ok, Err}
 use Rattle.std.proofs.Math.Nat.{suc-mul, zero-mul}
 use Rattle.nm_edge.specs.Layouts.{Layout}
-use Rattle.nm_model.specs.declared.event.Op.TheVariants.{Delete}
+use Rattle.nm_model.specs.declared.event.Op.TheVariants.{Has, Insert, Delete}
 use Rattle.nm_model.specs.declared.trace.Turn.{Turn}
 use Rattle.nm_steps.specs.Steps.{Board, Stand, HasSeenAllOf}
 use Rattle.nm_progress.specs.Moves.{number_of, moves_of_others}
@@ -20,12 +20,22 @@ use Rattle.nm_set.specs.declared.fault.Fault.TheVariants as fault
 use Rattle.nm_set.specs.declared.fault.InsertFault.{InsertFault}
 use Rattle.nm_set.specs.declared.tended.Habit.{Habit}
 use Rattle.nm_set.specs.Asked.{Asked}
-use Rattle.nm_set.specs.Tended.{InARow, IsAsked, Looks, Inserts, Deletes, InsertsOn, DeletesOn, InsertsTended, RemovesTended, TendsInsert, HasTended, UnlessHeld, WasDisturbed, WasHeldUp, GoesOnTended, FinishesPending, round_bound, busy, of_finish, of_insert}
-use Rattle.nm_set.proofs.Tending.{Follows, follows_then, goes_finishes, goes_tidied, goes_relieved, goes_inserts, finishes_err, plain_told, fullness_told}
+use Rattle.nm_set.specs.Tended.{InARow, IsRetried, Retries, RetriesInsert, RetriesDelete, InsertsTended, RemovesTended, TendsInsert, HasTended, UnlessHeld, WasDisturbed, WasHeldUp, FinishesPending, IsMadeTidy, busy, of_finish, of_insert}
+use Rattle.nm_set.proofs.Tending.{Follows, follows_then, goes_relieved, calls_go, finishes_err, plain_told, fullness_told, ready}
 
 -- ---- turns that are counted, between two moments of a pass
 
-module _ (count : ℕ → List Turn → ℕ) (adds : (w : ℕ) (xs ys : List Turn) → count w (xs ++ ys) ≡ count w xs + count w ys) where
+module _ (disturbs : ℕ → Turn → Bool) where
+  -- of others that moved the epoch on, and of such turns, so many
+  abbrev count : ℕ → List Turn → ℕ
+  count w turns = number_of (moves_of_others w) turns + number_of (disturbs w) turns
+
+  adds : (w : ℕ) (xs ys : List Turn) → count w (xs ++ ys) ≡ count w xs + count w ys
+  adds w xs ys =
+      let a = number-append (moves_of_others w) xs ys in
+      let b = number-append (disturbs w) xs ys in
+      omega (arith, a, b)
+
   -- at least so many
   pub record Meanwhile (p q : Stand) (times : ℕ) : Type 0 where
     pub turns : List Turn
@@ -49,7 +59,7 @@ module _ (count : ℕ → List Turn → ℕ) (adds : (w : ℕ) (xs ys : List Tur
       subst (Meanwhile p r) (omega arith)
       (meanwhile_then 0 m p q r (ap (λ (x : Stand). x.view.number) on.same) (record { turns = on.past.goes_on.more; is = on.past.goes_on.is; least = omega arith }) second)
 
-  -- a call that was lost so in each of its rounds, one more than may be made again; each in a tree of
+  -- a call that was lost so in each of its rounds, one more than its retries; each in a tree of
   -- this layout
   module _ {R : Type 0} (leaves : Hand → Hand → R → Type 0) (lost : R) (tries : ℕ) (L : Layout)
       (follows : (x y : Hand) → leaves x y lost → Follows x.pass y.pass)
@@ -81,7 +91,7 @@ module _ (count : ℕ → List Turn → ℕ) (adds : (w : ℕ) (xs ys : List Tur
           meanwhile = let whole = suc-mul n tries in subst (Meanwhile w.pass z.pass) (omega (arith, whole)) (meanwhile_then (n * tries) tries w.pass m.pass z.pass r.number r.meanwhile (once m z r.layout made));
         }
 
-    pub each_round : (rounds : ℕ) (w z : Hand) → w.pass.view.layout ≡ L → IsAsked leaves lost rounds w z lost → Meanwhile w.pass z.pass ((rounds + 1) * tries)
+    pub each_round : (rounds : ℕ) (w z : Hand) → w.pass.view.layout ≡ L → IsRetried leaves lost rounds w z lost → Meanwhile w.pass z.pass ((rounds + 1) * tries)
     each_round rounds w z at a = by (row a.before w a.begun at a.each)
       where
         by : Row a.before w a.begun → Meanwhile w.pass z.pass ((rounds + 1) * tries)
@@ -91,117 +101,84 @@ module _ (count : ℕ → List Turn → ℕ) (adds : (w : ℕ) (xs ys : List Tur
             subst (λ (n : ℕ). Meanwhile w.pass z.pass ((n + 1) * tries)) all
             (subst (Meanwhile w.pass z.pass) (omega (arith, whole)) (meanwhile_then (a.before * tries) tries w.pass a.begun.pass z.pass r.number r.meanwhile (once a.begun z r.layout a.last)))
 
--- ---- two counts
-
-abbrev disturbing : ℕ → List Turn → ℕ
-disturbing w turns = number_of (moves_of_others w) turns + number_of (reshapes_of_others w) turns
-
-disturbing_parts : (w : ℕ) (xs ys : List Turn) → disturbing w (xs ++ ys) ≡ disturbing w xs + disturbing w ys
-disturbing_parts w xs ys =
-    let a = number-append (moves_of_others w) xs ys in
-    let b = number-append (reshapes_of_others w) xs ys in
-    omega (arith, a, b)
-
-abbrev holding_up : ℕ → List Turn → ℕ
-holding_up w turns = number_of (moves_of_others w) turns + number_of (hinders w) turns
-
-holding_parts : (w : ℕ) (xs ys : List Turn) → holding_up w (xs ++ ys) ≡ holding_up w xs + holding_up w ys
-holding_parts w xs ys =
-    let a = number-append (moves_of_others w) xs ys in
-    let b = number-append (hinders w) xs ys in
-    omega (arith, a, b)
-
 -- ---- look-ups
 
-look_once : (p q : Stand) (times : ℕ) → HasSeenAllOf q p → WasBusy p q times → Meanwhile disturbing disturbing_parts p q times
+look_once : (p q : Stand) (times : ℕ) → HasSeenAllOf q p → WasBusy p q times → Meanwhile reshapes_of_others p q times
 look_once p q times past (inl none) = record { turns = past.goes_on.more; is = past.goes_on.is; least = omega (arith, none) }
 look_once p q times past (inr (inl moved)) = record { turns = moved.turns; is = moved.is; least = (let some = moved.moved in omega (arith, some)) }
 look_once p q times past (inr (inr reshaped)) = record { turns = reshaped.turns; is = reshaped.is; least = (let some = reshaped.reshaped in omega (arith, some)) }
 
 -- all of the look-ups, of which there is one more than rounds, behind what was done before
-pub looks_disturbed : (b : Board) (h : Habit) (k : ℕ) (w x z : Hand) → Follows w.pass x.pass → Looks b h k x z busy → WasDisturbed w.pass z.pass ((h.rounds + 1) * h.tries)
+pub looks_disturbed : (b : Board) (h : Habit) (k : ℕ) (w x z : Hand) → Follows w.pass x.pass → Retries Has b h k x z busy → WasDisturbed w.pass z.pass ((h.rounds + 1) * h.tries)
 looks_disturbed b h k w x z on looks =
-    let m = meanwhile_since disturbing disturbing_parts ((h.rounds + 1) * h.tries) w.pass x.pass z.pass on
-    (each_round disturbing disturbing_parts (Asked (LeavesHas b.layout h.tries k)) busy h.tries x.pass.view.layout
+    let m = meanwhile_since reshapes_of_others ((h.rounds + 1) * h.tries) w.pass x.pass z.pass on
+    (each_round reshapes_of_others (Asked (LeavesHas b.layout h.tries k)) busy h.tries x.pass.view.layout
     (λ y v did. record { same = did.1.says.same; past = did.1.says.past })
     (λ y v at did. look_once y.pass v.pass h.tries did.1.says.past (did.1.says.disturbed refl)) h.rounds x z refl looks) in
     record { turns = m.turns; is = m.is; disturbed = m.least }
 
 -- ---- inserts and deletes
 
-change_once : (p q : Stand) (times : ℕ) → HasSeenAllOf q p → ChangeWasBusy p q times → Meanwhile holding_up holding_parts p q times
+change_once : (p q : Stand) (times : ℕ) → HasSeenAllOf q p → ChangeWasBusy p q times → Meanwhile hinders p q times
 change_once p q times past (inl none) = record { turns = past.goes_on.more; is = past.goes_on.is; least = omega (arith, none) }
 change_once p q times past (inr (inl moved)) = record { turns = moved.turns; is = moved.is; least = (let some = moved.moved in omega (arith, some)) }
 change_once p q times past (inr (inr lost)) = record { turns = lost.turns; is = lost.is; least = (let some = lost.hindered in omega (arith, some)) }
 
-held_up : (p q r : Stand) (times : ℕ) → Follows p q → Meanwhile holding_up holding_parts q r times → WasHeldUp p r times
-held_up p q r times on second = let m = meanwhile_since holding_up holding_parts times p q r on second in record { turns = m.turns; is = m.is; held_up = m.least }
+held_up : (p q r : Stand) (times : ℕ) → Follows p q → Meanwhile hinders q r times → WasHeldUp p r times
+held_up p q r times on second = let m = meanwhile_since hinders times p q r on second in record { turns = m.turns; is = m.is; held_up = m.least }
 
 module _ (b : Board) (h : Habit) (k : ℕ) where
   abbrev Times : ℕ
   Times = (h.rounds + 1) * h.tries
 
-  inserts_lost : (w z : Hand) → Inserts b h k w z busy → Meanwhile holding_up holding_parts w.pass z.pass Times
-  inserts_lost w z a = each_round holding_up holding_parts (Asked (LeavesInsert b.layout h.tries k)) busy h.tries w.pass.view.layout
+  inserts_lost : (w z : Hand) → Retries Insert b h k w z busy → Meanwhile hinders w.pass z.pass Times
+  inserts_lost w z a = each_round hinders (Asked (LeavesInsert b.layout h.tries k)) busy h.tries w.pass.view.layout
       (λ x y did. record { same = did.1.says.same; past = did.1.says.past })
       (λ x y at did. change_once x.pass y.pass h.tries did.1.says.past (did.1.disturbed refl)) h.rounds w z refl a
 
-  deletes_lost : (w z : Hand) → Deletes b h k w z busy → Meanwhile holding_up holding_parts w.pass z.pass Times
-  deletes_lost w z a = each_round holding_up holding_parts (Asked (LeavesDelete b.layout h.tries k)) busy h.tries w.pass.view.layout
+  deletes_lost : (w z : Hand) → Retries Delete b h k w z busy → Meanwhile hinders w.pass z.pass Times
+  deletes_lost w z a = each_round hinders (Asked (LeavesDelete b.layout h.tries k)) busy h.tries w.pass.view.layout
       (λ x y did. record { same = did.1.says.same; past = did.1.says.past })
       (λ x y at did. change_once x.pass y.pass h.tries did.1.says.past (did.1.disturbed refl)) h.rounds w z refl a
+
+  -- behind what is done first
+  since_tidy : (w y z : Hand) → IsMadeTidy b h w y → Meanwhile hinders y.pass z.pass Times → WasHeldUp w.pass z.pass Times
+  since_tidy w y z made lost = let at = ready b h w y made in held_up w.pass y.pass z.pass Times (record { same = at.on.same; past = at.on.past }) lost
 
   pub inserts_held_up : (w z : Hand) (r : Result Bool InsertFault) → of_insert r ≡ busy → TendsInsert b h k w z r → WasHeldUp w.pass z.pass Times
   inserts_held_up w z r told (inl held) = absurd (let no = sym told ∙ held.1 in cc)
   inserts_held_up w z r told (inr (free, t)) = by t.did
     where
+      last : (q : Result Bool Fault) (x y : Hand) → of_insert r ≡ q → Retries Insert b h k x y q → Meanwhile hinders x.pass y.pass Times
+      last q x y is did = inserts_lost x y (subst (λ (p : Result Bool Fault). Retries Insert b h k x y p) (sym is ∙ told) did)
+
+      after : (x : Hand) → x.held ≡ None → RetriesInsert b h k x z r → Meanwhile hinders x.pass z.pass Times
+      after x held (inl (q, did, known, is)) = last q x z (ap of_insert is ∙ plain_told q) did
+      after x held (inr (u, v, behind, q, full, found, retried, is)) =
+          let first = calls_go Insert b h k x u (Err (fault.Call call.Full)) held full in
+          let second = goes_relieved b h.tries u v first.held found.relieved in
+          let to_v = follows_then x.pass u.pass v.pass (record { same = first.same; past = first.past }) (record { same = second.same; past = second.past }) in
+          meanwhile_since hinders Times x.pass v.pass z.pass to_v (last q v z (ap of_insert is ∙ fullness_told behind (waiting_in z.queues) q) retried)
+
       by : InsertsTended b h k w z r → WasHeldUp w.pass z.pass Times
       by (inl pending) = absurd (let no = sym told ∙ pending.1 in cc)
-      by (inr (answer, x, finished, (y, tidied, on))) = made on
-        where
-          first : GoesOnTended (suc h.rounds * round_bound h.tries b.layout) w x
-          first = goes_finishes b h w x (Ok answer) free finished
-
-          second : GoesOnTended (round_bound h.tries b.layout) x y
-          second = goes_tidied b h.tries h.collect_after x y first.held tidied
-
-          to_y : Follows w.pass y.pass
-          to_y = follows_then w.pass x.pass y.pass (record { same = first.same; past = first.past }) (record { same = second.same; past = second.past })
-
-          made : InsertsOn b h k y z r → WasHeldUp w.pass z.pass Times
-          made (inl (q, did, known, is)) = held_up w.pass y.pass z.pass Times to_y (inserts_lost y z (subst (λ (p : Result Bool Fault). Inserts b h k y z p) (sym (ap of_insert is ∙ plain_told q) ∙ told) did))
-          made (inr (u, v, behind, q, full, found, again, is)) = held_up w.pass v.pass z.pass Times to_v (inserts_lost v z (subst (λ (p : Result Bool Fault). Inserts b h k v z p) (sym (ap of_insert is ∙ fullness_told behind (waiting_in z.queues) q) ∙ told) again))
-            where
-              third : GoesOnTended (suc h.rounds * round_bound h.tries b.layout) y u
-              third = goes_inserts b h k y u (Err (fault.Call call.Full)) second.held full
-
-              fourth : GoesOnTended (round_bound h.tries b.layout) u v
-              fourth = goes_relieved b h.tries u v third.held found.relieved
-
-              to_v : Follows w.pass v.pass
-              to_v = follows_then w.pass y.pass v.pass to_y (follows_then y.pass u.pass v.pass (record { same = third.same; past = third.past }) (record { same = fourth.same; past = fourth.past }))
+      by (inr (answer, x, finished, (y, tidied, did))) =
+          let made : IsMadeTidy b h w y = record { free = free; answer = answer; between = x; finished = finished; tidied = tidied } in
+          since_tidy w y z made (after y (ready b h w y made).on.held did)
 
   pub deletes_held_up : (w z : Hand) → UnlessHeld (HasTended (RemovesTended b h k) b h Delete k w z busy) w z busy → WasHeldUp w.pass z.pass Times
   deletes_held_up w z (inl held) = absurd (let no = held.1 in cc)
   deletes_held_up w z (inr (free, t)) = by t.did
     where
+      no_busy : (x : Hand) (f : Result Bool Lost) → FinishesPending b h x z f → busy ≡ of_finish f → ⊥
+      no_busy x (Ok answer) done is = cc
+      no_busy x (Err lost) done is = absurd (let same = finishes_err b h x z lost done in let which = is in cc)
+
+      after : (x : Hand) → RetriesDelete b h k x z busy → Meanwhile hinders x.pass z.pass Times
+      after x (inl one) = deletes_lost x z one.0
+      after x (inr (u, f, unfinished, finishes, told)) = absurd (no_busy u f finishes told)
+
       by : RemovesTended b h k w z busy → WasHeldUp w.pass z.pass Times
       by (inl pending) = absurd (let no = pending.1 in cc)
-      by (inr (answer, x, finished, (y, tidied, on))) = made on
-        where
-          first : GoesOnTended (suc h.rounds * round_bound h.tries b.layout) w x
-          first = goes_finishes b h w x (Ok answer) free finished
-
-          second : GoesOnTended (round_bound h.tries b.layout) x y
-          second = goes_tidied b h.tries h.collect_after x y first.held tidied
-
-          to_y : Follows w.pass y.pass
-          to_y = follows_then w.pass x.pass y.pass (record { same = first.same; past = first.past }) (record { same = second.same; past = second.past })
-
-          made : DeletesOn b h k y z busy → WasHeldUp w.pass z.pass Times
-          made (inl one) = held_up w.pass y.pass z.pass Times to_y (deletes_lost y z one.0)
-          made (inr (u, f, unfinished, finishes, told)) = absurd (no_busy f finishes told)
-            where
-              no_busy : (f : Result Bool Lost) → FinishesPending b h u z f → busy ≡ of_finish f → ⊥
-              no_busy (Ok answer) done is = cc
-              no_busy (Err lost) done is = absurd (let same = finishes_err b h u z lost done in let which = is in cc)
+      by (inr (answer, x, finished, (y, tidied, did))) =
+          since_tidy w y z (record { free = free; answer = answer; between = x; finished = finished; tidied = tidied }) (after y did)

@@ -233,37 +233,29 @@ begins_so m me e pin old mid new last s is =
           ∙ (append_assoc (old ++ (event.Sight, s.1.0) ∷ []) scans.0 (last ∷ []) ∙ append_assoc old ((event.Sight, s.1.0) ∷ []) (scans.0 ++ last ∷ []))),
     )
 
-moved_so : (m me : ℕ) (pin : Option ℕ) (old new : List LogEntry) (next : ℕ) → IsAdvance m me pin old new (advance.Moved next) → Moves old new
-moved_so m me pin old new next (e, mid, scans, is, ends) =
-    let begins = begins_so m me e pin old mid new (event.Advance, reply.Moved next) scans ends in
+-- so of a last answer from which that epoch is learned
+ended_so : (m me e found : ℕ) (pin : Option ℕ) (old mid new : List LogEntry) (last : Reply) → ((k : Knowledge) (w : ℕ) → (learn w k event.Advance last).brief.seen ≡ Some found) → (found ≡ e + 1) ⊎ (found ≢ e)
+    → SightThenScans me pin e m old mid → new ≡ mid ++ (event.Advance, last) ∷ [] → Moves old new
+ended_so m me e found pin old mid new last told finds scans ends =
+    let begins = begins_so m me e pin old mid new (event.Advance, last) scans ends in
     record {
       read = e;
       sight = scans.1.0;
       tells = scans.1.1;
       mid = begins.0;
-      last = reply.Moved next;
-      found = next;
-      told = learns_moved next;
-      finds = inl is;
+      last = last;
+      found = found;
+      told = told;
+      finds = finds;
       begins = begins.1;
       ends = (mid, ends);
     }
 
+moved_so : (m me : ℕ) (pin : Option ℕ) (old new : List LogEntry) (next : ℕ) → IsAdvance m me pin old new (advance.Moved next) → Moves old new
+moved_so m me pin old new next (e, mid, scans, is, ends) = ended_so m me e next pin old mid new (reply.Moved next) (learns_moved next) (inl is) scans ends
+
 lost_so : (m me : ℕ) (pin : Option ℕ) (old new : List LogEntry) (found : ℕ) → IsAdvance m me pin old new (advance.Lost found) → Moves old new
-lost_so m me pin old new found (e, mid, scans, is, ends) =
-    let begins = begins_so m me e pin old mid new (event.Advance, reply.Behind found) scans ends in
-    record {
-      read = e;
-      sight = scans.1.0;
-      tells = scans.1.1;
-      mid = begins.0;
-      last = reply.Behind found;
-      found = found;
-      told = learns_behind found;
-      finds = inr is;
-      begins = begins.1;
-      ends = (mid, ends);
-    }
+lost_so m me pin old new found (e, mid, scans, is, ends) = ended_so m me e found pin old mid new (reply.Behind found) (learns_behind found) (inr is) scans ends
 
 -- behind it a later epoch has been seen
 moves_on : (p q : Stand) → 5 ≤ p.view.layout.nodes → HasSeen p.view → HasSeen q.view → IsSamePass p q → HasSeenAllOf q p → Moves p.view.log q.view.log → epoch_seen p + 1 ≤ epoch_seen q

@@ -5,6 +5,7 @@ pub mod SetEnds
 pub mod Letters
 pub mod LettingGo
 pub mod Sending
+pub mod Inside
 pub mod Tending
 pub mod Emptied
 pub mod Disturbances

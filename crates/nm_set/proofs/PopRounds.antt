@@ -18,9 +18,9 @@ use Rattle.nm_tree.proofs.Taking.{found_by, found_in, gives_up_at, key_found, mo
 use Rattle.nm_set.specs.declared.fault.Fault.{Fault}
 use Rattle.nm_set.specs.declared.fault.Fault.TheVariants as fault
 use Rattle.nm_set.specs.declared.tended.Habit.{Habit}
-use Rattle.nm_set.specs.Tended.{FinishesPending, GoesOnTended, IsAsked, Tends, TendsDelete, round_bound}
+use Rattle.nm_set.specs.Tended.{FinishesPending, GoesOnTended, IsRetried, Tends, TendsDelete, round_bound}
 use Rattle.nm_set.specs.Popping.{AskedForEnd, IsEndedBy, PopLeft, PopsOnce, SaysPopTended, TendsPop, TendsPopOf, flags_told_by_pop, pop_busy, pop_rounds_bound}
-use Rattle.nm_set.proofs.Tending.{IsOnward, follows_then, goes_asked, goes_more, goes_then, keeps_in_a_row, lose_same, none_there, onward_itself, pending_tends, settled, wins_after}
+use Rattle.nm_set.proofs.Tending.{IsOnward, follows_then, retried_goes, goes_more, goes_then, keeps_in_a_row, lose_same, none_there, onward_itself, pending_tends, settled, wins_after}
 
 -- ---- the two calls of a round
 
@@ -177,7 +177,7 @@ onward_pop end b h w x y on did =
     let t = once_tends end b h x y on.none on.free pop_busy did in
     record { none = t.left; free = t.on.held; follows = follows_then w.pass x.pass y.pass on.follows (record { same = t.on.same; past = t.on.past }); won = wins_after 0 0 w x y on.won t.won }
 
-pub pops_tend : (end : End) (b : Board) (h : Habit) (w x z : Hand) (answer : Bool) (r : Result (Option ℕ) Fault) → w.held ≡ None → FinishesPending b h w x (Ok answer) → IsAsked (PopsOnce end b h) pop_busy h.rounds x z r
+pub pops_tend : (end : End) (b : Board) (h : Habit) (w x z : Hand) (answer : Bool) (r : Result (Option ℕ) Fault) → w.held ≡ None → FinishesPending b h w x (Ok answer) → IsRetried (PopsOnce end b h) pop_busy h.rounds x z r
     → TendsPop (comes_before end) (pop_rounds_bound h b.layout) w z r
 pops_tend end b h w x z answer r free f a =
     let at = settled b h w x answer free f in
@@ -194,7 +194,7 @@ pops_tend end b h w x z answer r free f a =
       left = left_since (comes_before end) w a.begun z r past begun.none last.left;
       won = wins_after 0 (flags_told_by_pop r) w a.begun z (wins_after 0 0 w x a.begun at.won begun.won) last.won;
       on = goes_more (suc h.rounds * most + suc h.rounds * round_most h b.layout) (pop_rounds_bound h b.layout) w z (omega (arith, whole))
-          (goes_then w x z at.on (goes_asked (PopsOnce end b h) pop_busy (round_most h b.layout) (λ p q s held made. once_goes end b h p q s held made) h.rounds x z r at.on.held a));
+          (goes_then w x z at.on (retried_goes (PopsOnce end b h) pop_busy (round_most h b.layout) (λ p q s held made. once_goes end b h p q s held made) h.rounds x z r at.on.held a));
     }
 
 -- where the delete of an earlier call is not finished, nothing else is done

@@ -11,6 +11,7 @@ use Rattle.nm_tree.specs.Workers.{Hand}
 use Rattle.nm_set.specs.declared.fault.CloseReason.{CloseReason}
 use Rattle.nm_set.specs.declared.fault.CloseReason.TheVariants as because
 use Rattle.nm_set.specs.declared.home.Site.{Site}
+use Rattle.nm_set.specs.declared.set.CloseError.{CloseError}
 use Rattle.nm_set.specs.declared.set.State.{State}
 use Rattle.nm_set.specs.declared.set.State.TheVariants.{Open, Closing}
 use Rattle.nm_set.specs.Seats.{AreOwn, BeginsWith, IsOwn, Seated, Standing}
@@ -110,8 +111,10 @@ gathered_now s site kept all is (home, are) own = record {
     differ e = cc
 
 -- of one that keeps a member's worker alone
-pub gathered_with : (m : Seated) (site : Site) (all : List Hand) → site.tree ≡ m.board → m.hand.fit ≡ site.fit → BeginsWith (m.hand ∷ []) all → AreOwn site.tree all → Gathers (set_of m) site all
-gathered_with m site all tree fit begins own = gathered_now (set_of m) site (m.hand ∷ []) all (sites ∙ fits) begins own
+pub gathered_with : (m : Seated) (site : Site) (w : Hand) (all : List Hand) (t : Standing) → site.tree ≡ m.board → m.hand.fit ≡ site.fit → w ≡ m.hand → BeginsWith (w ∷ []) all → t ≡ closing_set site all → AreOwn t.board t.kept
+    → Gathers (set_of m) site all
+gathered_with m site w all t tree fit mine begins is own =
+    gathered_now (set_of m) site (m.hand ∷ []) all (sites ∙ fits) (subst (λ (x : Hand). BeginsWith (x ∷ []) all) mine begins) (subst (λ (x : Standing). AreOwn x.board x.kept) is own)
   where
     sites : open_set site (m.hand ∷ []) ≡ record { board = m.board; fit = site.fit; closing = false; kept = m.hand ∷ [] }
     sites = ap (λ (b : Board). record { board = b; fit = site.fit; closing = false; kept = m.hand ∷ [] }) tree
@@ -132,3 +135,13 @@ if_ok P Q (Err e) p f = tt
 pub if_err : {X E : Type 0} (P Q R : E → Type 0) (r : Result X E) → IfErr r P → IfErr r Q → ((e : E) → P e → Q e → R e) → IfErr r R
 if_err P Q R (Ok x) p q f = tt
 if_err P Q R (Err e) p q f = f e p q
+
+-- a close that has such workers
+module _ (s : Standing) (site : Site) (all : List Hand) (g : Gathers s site all) (told : Result Report CloseError) where
+  pub closes : IfOk told (λ r. IsClosed site.tree all r.queues.items r.keys.items r.free r.reached) → IfOk told (EndsSet s)
+  closes closed = if_ok (λ (r : Report). IsClosed site.tree all r.queues.items r.keys.items r.free r.reached) (EndsSet s) told closed (ended s site all g)
+
+  pub refuses : IfErr told (λ e. e.set ≡ closing_set site all) → IfErr told (λ e. IsTreesReason site.tree all e.reason) → IfErr told (λ e. IsLeftOpen s e.reason e.set)
+  refuses refused reason =
+      if_err (λ (e : CloseError). e.set ≡ closing_set site all) (λ (e : CloseError). IsTreesReason site.tree all e.reason) (λ (e : CloseError). IsLeftOpen s e.reason e.set) told refused reason
+      (λ e is why. left s site all g e.set is e.reason why)

@@ -34,9 +34,9 @@ use Rattle.nm_tree.specs.declared.fault.CallFault.TheVariants as call
 use Rattle.nm_calls.specs.declared.deleting.Unfinished.{Unfinished}
 use Rattle.nm_tree.specs.Workers.{Hand, IsIdle, KeepsOtherQueues, waiting_in}
 use Rattle.nm_tree.specs.Answers.{links_won, flags_won}
-use Rattle.nm_tree.proofs.QueueLists.{others_stay, room_stays}
 use Rattle.nm_tree.proofs.Quiet.{Quiet, advanced, collected}
 use Rattle.nm_tree.proofs.Taking.{moment_since}
+use Rattle.nm_tree.proofs.Untouched.{finishes_none}
 use Rattle.nm_set.specs.declared.fault.Fault.{Fault}
 use Rattle.nm_set.specs.declared.fault.Fault.TheVariants as fault
 use Rattle.nm_set.specs.declared.fault.Fullness.{Fullness}
@@ -45,7 +45,7 @@ use Rattle.nm_set.specs.declared.fault.InsertFault.TheVariants as inserting
 use Rattle.nm_set.specs.declared.tended.Habit.{Habit}
 use Rattle.nm_tree.specs.Calls.{LeavesHas, LeavesInsert, LeavesDelete, LeavesFinish, LeavesAdvance, LeavesCollect}
 use Rattle.nm_set.specs.Asked.{Asked}
-use Rattle.nm_set.specs.Tended.{OnlyLoses, OthersOnlyLose, GoesOnTended, InARow, IsAsked, busy, Looks, Inserts, Deletes, FinishesPending, IsRelieved, IsTidied, InsertsOn, InsertsTended, of_insert, plain, with_fullness, HasReadSince, WasElsewhere, WasMovedOn, of_finish, DeletesOn, IsLeft, links_told_by, flags_told_by, round_bound, WasFull, Tends, TendsInsert, TendsDelete, IsTidy, HasTended, UnlessHeld, SaysTended}
+use Rattle.nm_set.specs.Tended.{OnlyLoses, OthersOnlyLose, GoesOnTended, InARow, IsRetried, busy, Leaves, Retries, FinishesPending, IsRelieved, IsTidied, RetriesInsert, InsertsTended, of_insert, plain, with_fullness, HasReadSince, WasElsewhere, WasMovedOn, of_finish, RetriesDelete, IsLeft, links_told_by, flags_told_by, round_bound, WasFull, Tends, TendsInsert, TendsDelete, IsTidy, IsMadeTidy, MakesTidy, HasTended, UnlessHeld, SaysTended}
 use Rattle.std.specs.List.{prefix_len}
 
 -- nothing is not there
@@ -145,36 +145,6 @@ in_round t L a b x is few = omega (arith, few)
 in_tries : (t : ℕ) (L : Layout) (a b x : ℕ) → x ≡ t * (4 * reach L + 512) → b ≤ a + x + 10 → b ≤ a + (x + 7 * L.nodes + 2 * L.workers + 12)
 in_tries t L a b x is few = omega (arith, few)
 
-goes_has : (L : Layout) (t k : ℕ) (w z : Hand) (r : Result Bool Lost) → LeavesHas L t k w z r → GoesOnTended (round_bound t L) w z
-goes_has L t k w z r l = record {
-  same = l.says.same;
-  past = l.says.past;
-  queues = lose_same w.pass.view.number w.queues z.queues l.says.queues;
-  steps = in_tries t L (length w.pass.view.log) (length z.pass.view.log) (t * (4 * reach L + 512)) refl l.says.steps;
-  held = l.says.held;
-  fit = l.says.fit;
-}
-
-goes_insert : (L : Layout) (t k : ℕ) (w z : Hand) (r : Result Bool Lost) → LeavesInsert L t k w z r → GoesOnTended (round_bound t L) w z
-goes_insert L t k w z r l = record {
-  same = l.says.same;
-  past = l.says.past;
-  queues = lose_by_call w.pass.view.number w.queues z.queues l.says.queues;
-  steps = in_round t L (length w.pass.view.log) (length z.pass.view.log) (t * (4 * reach L + 512)) refl l.says.steps;
-  held = l.says.held;
-  fit = l.says.fit;
-}
-
-goes_delete : (L : Layout) (t k : ℕ) (w z : Hand) (r : Result Bool Lost) → LeavesDelete L t k w z r → GoesOnTended (round_bound t L) w z
-goes_delete L t k w z r l = record {
-  same = l.says.same;
-  past = l.says.past;
-  queues = lose_by_call w.pass.view.number w.queues z.queues l.says.queues;
-  steps = in_tries t L (length w.pass.view.log) (length z.pass.view.log) (t * (4 * reach L + 512)) refl l.says.steps;
-  held = l.says.held;
-  fit = l.says.fit;
-}
-
 goes_finish : (L : Layout) (t : ℕ) (w z : Hand) (r : Result Bool Lost) → w.held ≡ None → LeavesFinish L t w z r → GoesOnTended (round_bound t L) w z
 goes_finish L t w z r free l = record {
   same = l.says.same;
@@ -217,7 +187,7 @@ pub goes_tidied : (b : Board) (t many : ℕ) (w z : Hand) → w.held ≡ None �
 goes_tidied b t many w z free (inl did) = goes_relieved b t w z free did.1
 goes_tidied b t many w z free (inr did) = subst (GoesOnTended (round_bound t b.layout) w) (sym did.1) (goes_more 0 (round_bound t b.layout) w w (omega arith) (goes_nowhere w free))
 
--- ---- calls that are made again
+-- ---- retries
 
 -- one step before so many
 row_begins : (step : Hand → Hand → Type 0) (n : ℕ) (w m z : Hand) → step w m → InARow step n m z → InARow step (suc n) w z
@@ -225,12 +195,16 @@ row_begins step zero w m z first rest = (w, refl, subst (step w) (sym rest) firs
 row_begins step (suc n) w m z first (x, rest, last) = (x, row_begins step n w m x first rest, last)
 
 -- the first call is the last one
-pub asked_once : {R : Type 0} (leaves : Hand → Hand → R → Type 0) (lost : R) (rounds : ℕ) (w z : Hand) (r : R) → leaves w z r → (r ≡ lost → 0 ≡ rounds) → IsAsked leaves lost rounds w z r
-asked_once leaves lost rounds w z r did all = record { before = 0; begun = w; each = refl; last = did; few = omega arith; all = all }
+pub not_retried : {R : Type 0} (leaves : Hand → Hand → R → Type 0) (lost : R) (rounds : ℕ) (w z : Hand) (r : R) → leaves w z r → (r ≡ lost → 0 ≡ rounds) → IsRetried leaves lost rounds w z r
+not_retried leaves lost rounds w z r did all = record { before = 0; begun = w; each = refl; last = did; few = omega arith; all = all }
+
+-- so many have lost before the last one
+pub retried_till : {R : Type 0} (leaves : Board → Hand → Hand → R → Type 0) (b d : Board) (lost : R) (rounds n : ℕ) (w x z : Hand) (r : R) → InARow (λ u v. leaves b u v lost) n w x → d ≡ b → leaves d x z r → n ≤ rounds → (r ≡ lost → n ≡ rounds) → IsRetried (leaves b) lost rounds w z r
+retried_till leaves b d lost rounds n w x z r each same last few all = record { before = n; begun = x; each = each; last = subst (λ (e : Board). leaves e x z r) same last; few = few; all = all }
 
 -- where the first call has lost, the others of as many rounds are those of one round less
-pub asked_more : {R : Type 0} (leaves : Hand → Hand → R → Type 0) (lost : R) (rounds : ℕ) (w m z : Hand) (r : R) → 1 ≤ rounds → leaves w m lost → IsAsked leaves lost (rounds - 1) m z r → IsAsked leaves lost rounds w z r
-asked_more leaves lost rounds w m z r some first rest = record {
+pub retried_more : {R : Type 0} (leaves : Hand → Hand → R → Type 0) (lost : R) (rounds : ℕ) (w m z : Hand) (r : R) → 1 ≤ rounds → leaves w m lost → IsRetried leaves lost (rounds - 1) m z r → IsRetried leaves lost rounds w z r
+retried_more leaves lost rounds w m z r some first rest = record {
   before = suc rest.before;
   begun = rest.begun;
   each = row_begins (λ x y. leaves x y lost) rest.before w m rest.begun first rest.each;
@@ -250,9 +224,9 @@ goes_in_a_row step most each (suc n) w x z free (m, row, made) last =
     let one = suc-mul (suc n) most in
     goes_more (suc n * most + most) (suc (suc n) * most) w z (omega (arith, one)) (goes_then w x z first (last first.held))
 
-pub goes_asked : {R : Type 0} (leaves : Hand → Hand → R → Type 0) (lost : R) (most : ℕ) → ((x y : Hand) (r : R) → x.held ≡ None → leaves x y r → GoesOnTended most x y)
-    → (rounds : ℕ) (w z : Hand) (r : R) → w.held ≡ None → IsAsked leaves lost rounds w z r → GoesOnTended (suc rounds * most) w z
-goes_asked leaves lost most each rounds w z r free a =
+pub retried_goes : {R : Type 0} (leaves : Hand → Hand → R → Type 0) (lost : R) (most : ℕ) → ((x y : Hand) (r : R) → x.held ≡ None → leaves x y r → GoesOnTended most x y)
+    → (rounds : ℕ) (w z : Hand) (r : R) → w.held ≡ None → IsRetried leaves lost rounds w z r → GoesOnTended (suc rounds * most) w z
+retried_goes leaves lost most each rounds w z r free a =
     let few = a.few in
     goes_more (suc a.before * most) (suc rounds * most) w z (mul-le-mul_right most (omega (arith, few)))
     (goes_in_a_row (λ x y. leaves x y lost) most (λ x y held made. each x y lost held made) a.before w a.begun z free a.each (λ held. each a.begun z r held a.last))
@@ -331,27 +305,7 @@ finished L t w z true l = l.says.told.1
 finished L t w z false l = ap (λ (y : Hand). y.pending) l.says.told.1 ∙ l.says.told.0
 
 pub goes_finishes : (b : Board) (h : Habit) (w z : Hand) (r : Result Bool Lost) → w.held ≡ None → FinishesPending b h w z r → GoesOnTended (suc h.rounds * round_bound h.tries b.layout) w z
-goes_finishes b h w z r free f = goes_asked (LeavesFinish b.layout h.tries) (Err call.Unfinished) (round_bound h.tries b.layout) (λ x y q held made. goes_finish b.layout h.tries x y q held made) h.rounds w z r free f
-
--- ---- calls that are made again
-
-goes_looks : (b : Board) (h : Habit) (k : ℕ) (w z : Hand) (r : Result Bool Fault) → w.held ≡ None → Looks b h k w z r → GoesOnTended (suc h.rounds * round_bound h.tries b.layout) w z
-goes_looks b h k w z r free a =
-    let each : (x y : Hand) (q : Result Bool Fault) → x.held ≡ None → Asked (LeavesHas b.layout h.tries k) x y q → GoesOnTended (round_bound h.tries b.layout) x y
-    = λ x y q held made. (let told = asked_free (LeavesHas b.layout h.tries k) x y q held made in goes_has b.layout h.tries k x y told.0 told.1) in
-    goes_asked (Asked (LeavesHas b.layout h.tries k)) busy (round_bound h.tries b.layout) each h.rounds w z r free a
-
-pub goes_inserts : (b : Board) (h : Habit) (k : ℕ) (w z : Hand) (r : Result Bool Fault) → w.held ≡ None → Inserts b h k w z r → GoesOnTended (suc h.rounds * round_bound h.tries b.layout) w z
-goes_inserts b h k w z r free a =
-    let each : (x y : Hand) (q : Result Bool Fault) → x.held ≡ None → Asked (LeavesInsert b.layout h.tries k) x y q → GoesOnTended (round_bound h.tries b.layout) x y
-    = λ x y q held made. (let told = asked_free (LeavesInsert b.layout h.tries k) x y q held made in goes_insert b.layout h.tries k x y told.0 told.1) in
-    goes_asked (Asked (LeavesInsert b.layout h.tries k)) busy (round_bound h.tries b.layout) each h.rounds w z r free a
-
-goes_deletes : (b : Board) (h : Habit) (k : ℕ) (w z : Hand) (r : Result Bool Fault) → w.held ≡ None → Deletes b h k w z r → GoesOnTended (suc h.rounds * round_bound h.tries b.layout) w z
-goes_deletes b h k w z r free a =
-    let each : (x y : Hand) (q : Result Bool Fault) → x.held ≡ None → Asked (LeavesDelete b.layout h.tries k) x y q → GoesOnTended (round_bound h.tries b.layout) x y
-    = λ x y q held made. (let told = asked_free (LeavesDelete b.layout h.tries k) x y q held made in goes_delete b.layout h.tries k x y told.0 told.1) in
-    goes_asked (Asked (LeavesDelete b.layout h.tries k)) busy (round_bound h.tries b.layout) each h.rounds w z r free a
+goes_finishes b h w z r free f = retried_goes (LeavesFinish b.layout h.tries) (Err call.Unfinished) (round_bound h.tries b.layout) (λ x y q held made. goes_finish b.layout h.tries x y q held made) h.rounds w z r free f
 
 -- ---- what is won
 
@@ -416,6 +370,63 @@ delete_flags (Err call.NoMemory) = refl
 delete_flags (Err call.Unfinished) = refl
 delete_flags (Err call.Pending) = refl
 
+-- ---- what the three calls of the tree have in common
+
+-- the answer has its moment, nothing is pending but where that is told, it has won what it tells and
+-- no more, and has gone on in one round
+record Called (op : Op) (L : Layout) (t k : ℕ) (w z : Hand) (l : Result Bool Lost) : Type 0 where
+  moment : IfOk l (AnswerHasMoment w.pass z.pass op k)
+  left : (o : Hand) → w.pending ≡ None → IsLeft k o z (of_finish l)
+  won : Wins w z (links_told_by op (of_finish l)) (flags_told_by op (of_finish l))
+  on : GoesOnTended (round_bound t L) w z
+
+called : (op : Op) (L : Layout) (t k : ℕ) (w z : Hand) (l : Result Bool Lost) → Leaves op L t k w z l → Called op L t k w z l
+called Has L t k w z l did = record {
+  moment = did.says.moment;
+  left = λ o none. has_left L t k o w z l none did;
+  won = did.says.won;
+  on = record {
+    same = did.says.same;
+    past = did.says.past;
+    queues = lose_same w.pass.view.number w.queues z.queues did.says.queues;
+    steps = in_tries t L (length w.pass.view.log) (length z.pass.view.log) (t * (4 * reach L + 512)) refl did.says.steps;
+    held = did.says.held;
+    fit = did.says.fit;
+  };
+}
+called Insert L t k w z l did = record {
+  moment = did.says.moment;
+  left = λ o none. insert_left L t k o w z l none did;
+  won = subst (λ (n : ℕ). Wins w z n 0) (insert_links l) did.says.won;
+  on = record {
+    same = did.says.same;
+    past = did.says.past;
+    queues = lose_by_call w.pass.view.number w.queues z.queues did.says.queues;
+    steps = in_round t L (length w.pass.view.log) (length z.pass.view.log) (t * (4 * reach L + 512)) refl did.says.steps;
+    held = did.says.held;
+    fit = did.says.fit;
+  };
+}
+called Delete L t k w z l did = record {
+  moment = did.says.moment;
+  left = λ o none. delete_left L t k o w z l none did;
+  won = subst (λ (n : ℕ). Wins w z 0 n) (delete_flags l) did.says.won;
+  on = record {
+    same = did.says.same;
+    past = did.says.past;
+    queues = lose_by_call w.pass.view.number w.queues z.queues did.says.queues;
+    steps = in_tries t L (length w.pass.view.log) (length z.pass.view.log) (t * (4 * reach L + 512)) refl did.says.steps;
+    held = did.says.held;
+    fit = did.says.fit;
+  };
+}
+
+pub calls_go : (op : Op) (b : Board) (h : Habit) (k : ℕ) (w z : Hand) (r : Result Bool Fault) → w.held ≡ None → Retries op b h k w z r → GoesOnTended (suc h.rounds * round_bound h.tries b.layout) w z
+calls_go op b h k w z r free a = retried_goes (Asked (Leaves op b.layout h.tries k)) busy (round_bound h.tries b.layout) each h.rounds w z r free a
+  where
+    each : (x y : Hand) (q : Result Bool Fault) → x.held ≡ None → Asked (Leaves op b.layout h.tries k) x y q → GoesOnTended (round_bound h.tries b.layout) x y
+    each x y q held made = let told = asked_free (Leaves op b.layout h.tries k) x y q held made in (called op b.layout h.tries k x y told.0 told.1).on
+
 -- behind calls that lost each of their tries nothing is pending, held or won, and the pass has gone
 -- on
 pub record IsOnward (w z : Hand) : Type 0 where
@@ -427,23 +438,20 @@ pub record IsOnward (w z : Hand) : Type 0 where
 pub onward_itself : (w : Hand) → w.pending ≡ None → w.held ≡ None → IsOnward w w
 onward_itself w none free = record { none = none; free = free; follows = follows_itself w.pass; won = wins_nothing w }
 
-onward_has : (L : Layout) (t k : ℕ) (w x y : Hand) → IsOnward w x → Asked (LeavesHas L t k) x y busy → IsOnward w y
-onward_has L t k w x y on did = record { none = did.1.says.told.1; free = did.1.says.held; follows = follows_then w.pass x.pass y.pass on.follows (record { same = did.1.says.same; past = did.1.says.past }); won = wins_after 0 0 w x y on.won did.1.says.won }
+-- which wins nothing
+busy_wins : (op : Op) (w z : Hand) → Wins w z (links_told_by op busy) (flags_told_by op busy) → Wins w z 0 0
+busy_wins Has w z won = won
+busy_wins Insert w z won = won
+busy_wins Delete w z won = won
 
-onward_insert : (L : Layout) (t k : ℕ) (w x y : Hand) → IsOnward w x → Asked (LeavesInsert L t k) x y busy → IsOnward w y
-onward_insert L t k w x y on did = record { none = did.1.says.told.1; free = did.1.says.held; follows = follows_then w.pass x.pass y.pass on.follows (record { same = did.1.says.same; past = did.1.says.past }); won = wins_after 0 0 w x y on.won did.1.says.won }
+onward : (op : Op) (L : Layout) (t k : ℕ) (w x y : Hand) → IsOnward w x → Asked (Leaves op L t k) x y busy → IsOnward w y
+onward op L t k w x y on did =
+    let c = called op L t k x y (Err call.Busy) did.1 in
+    record { none = c.left w on.none; free = c.on.held; follows = follows_then w.pass x.pass y.pass on.follows (record { same = c.on.same; past = c.on.past }); won = wins_after 0 0 w x y on.won (busy_wins op x y c.won) }
 
-onward_delete : (L : Layout) (t k : ℕ) (w x y : Hand) → IsOnward w x → Asked (LeavesDelete L t k) x y busy → IsOnward w y
-onward_delete L t k w x y on did = record { none = did.1.says.told.1; free = did.1.says.held; follows = follows_then w.pass x.pass y.pass on.follows (record { same = did.1.says.same; past = did.1.says.past }); won = wins_after 0 0 w x y on.won did.1.says.won }
-
-begun_look : (b : Board) (h : Habit) (k : ℕ) (w z : Hand) (r : Result Bool Fault) → w.pending ≡ None → w.held ≡ None → (a : Looks b h k w z r) → IsOnward w a.begun
-begun_look b h k w z r none free a = keeps_in_a_row (IsOnward w) (λ x y. Asked (LeavesHas b.layout h.tries k) x y busy) (λ x y on did. onward_has b.layout h.tries k w x y on did) a.before w a.begun (onward_itself w none free) a.each
-
-begun_insert : (b : Board) (h : Habit) (k : ℕ) (w z : Hand) (r : Result Bool Fault) → w.pending ≡ None → w.held ≡ None → (a : Inserts b h k w z r) → IsOnward w a.begun
-begun_insert b h k w z r none free a = keeps_in_a_row (IsOnward w) (λ x y. Asked (LeavesInsert b.layout h.tries k) x y busy) (λ x y on did. onward_insert b.layout h.tries k w x y on did) a.before w a.begun (onward_itself w none free) a.each
-
-begun_delete : (b : Board) (h : Habit) (k : ℕ) (w z : Hand) (r : Result Bool Fault) → w.pending ≡ None → w.held ≡ None → (a : Deletes b h k w z r) → IsOnward w a.begun
-begun_delete b h k w z r none free a = keeps_in_a_row (IsOnward w) (λ x y. Asked (LeavesDelete b.layout h.tries k) x y busy) (λ x y on did. onward_delete b.layout h.tries k w x y on did) a.before w a.begun (onward_itself w none free) a.each
+-- so it is where the last of them begins
+begun : (op : Op) (b : Board) (h : Habit) (k : ℕ) (w z : Hand) (r : Result Bool Fault) → w.pending ≡ None → w.held ≡ None → (a : Retries op b h k w z r) → IsOnward w a.begun
+begun op b h k w z r none free a = keeps_in_a_row (IsOnward w) (λ x y. Asked (Leaves op b.layout h.tries k) x y busy) (λ x y on did. onward op b.layout h.tries k w x y on did) a.before w a.begun (onward_itself w none free) a.each
 
 -- ---- what is told last
 
@@ -453,45 +461,24 @@ record IsTold (op : Op) (k : ℕ) (o z : Hand) (r : Result Bool Fault) : Type 0 
   left : IsLeft k o z r
   won : Wins o z (links_told_by op r) (flags_told_by op r)
 
-look_told : (b : Board) (h : Habit) (k : ℕ) (o w z : Hand) (r : Result Bool Fault) → HasSeenAllOf w.pass o.pass → Wins o w 0 0 → w.pending ≡ None → w.held ≡ None → Looks b h k w z r → IsTold Has k o z r
-look_told b h k o w z r past won none free a =
+retries_told : (op : Op) (b : Board) (h : Habit) (k : ℕ) (o w z : Hand) (r : Result Bool Fault) → HasSeenAllOf w.pass o.pass → Wins o w 0 0 → w.pending ≡ None → w.held ≡ None → Retries op b h k w z r → IsTold op k o z r
+retries_told op b h k o w z r past won none free a =
     let x = a.begun in
-    let on = begun_look b h k w z r none free a in
-    let told = asked_free (LeavesHas b.layout h.tries k) x z r on.free a.last in
-    subst (λ (q : Result Bool Fault). IsTold Has k o z q) (sym told.2) (record {
-      moment = moment_if o.pass x.pass z.pass Has k told.0 (seen_through o.pass w.pass x.pass past on.follows.past) told.1.says.moment;
-      left = has_left b.layout h.tries k o x z told.0 on.none told.1;
-      won = wins_after 0 0 o x z (wins_after 0 0 o w x won on.won) told.1.says.won;
-    })
-
-insert_told : (b : Board) (h : Habit) (k : ℕ) (o w z : Hand) (r : Result Bool Fault) → HasSeenAllOf w.pass o.pass → Wins o w 0 0 → w.pending ≡ None → w.held ≡ None → Inserts b h k w z r → IsTold Insert k o z r
-insert_told b h k o w z r past won none free a =
-    let x = a.begun in
-    let on = begun_insert b h k w z r none free a in
-    let told = asked_free (LeavesInsert b.layout h.tries k) x z r on.free a.last in
-    subst (λ (q : Result Bool Fault). IsTold Insert k o z q) (sym told.2) (record {
-      moment = moment_if o.pass x.pass z.pass Insert k told.0 (seen_through o.pass w.pass x.pass past on.follows.past) told.1.says.moment;
-      left = insert_left b.layout h.tries k o x z told.0 on.none told.1;
-      won = subst (λ (n : ℕ). Wins o z n 0) (insert_links told.0) (wins_after (links_won told.0) 0 o x z (wins_after 0 0 o w x won on.won) told.1.says.won);
-    })
-
-delete_told : (b : Board) (h : Habit) (k : ℕ) (o w z : Hand) (r : Result Bool Fault) → HasSeenAllOf w.pass o.pass → Wins o w 0 0 → w.pending ≡ None → w.held ≡ None → Deletes b h k w z r → IsTold Delete k o z r
-delete_told b h k o w z r past won none free a =
-    let x = a.begun in
-    let on = begun_delete b h k w z r none free a in
-    let told = asked_free (LeavesDelete b.layout h.tries k) x z r on.free a.last in
-    subst (λ (q : Result Bool Fault). IsTold Delete k o z q) (sym told.2) (record {
-      moment = moment_if o.pass x.pass z.pass Delete k told.0 (seen_through o.pass w.pass x.pass past on.follows.past) told.1.says.moment;
-      left = delete_left b.layout h.tries k o x z told.0 on.none told.1;
-      won = subst (λ (n : ℕ). Wins o z 0 n) (delete_flags told.0) (wins_after 0 (flags_won told.0) o x z (wins_after 0 0 o w x won on.won) told.1.says.won);
+    let on = begun op b h k w z r none free a in
+    let told = asked_free (Leaves op b.layout h.tries k) x z r on.free a.last in
+    let c = called op b.layout h.tries k x z told.0 told.1 in
+    subst (λ (q : Result Bool Fault). IsTold op k o z q) (sym told.2) (record {
+      moment = moment_if o.pass x.pass z.pass op k told.0 (seen_through o.pass w.pass x.pass past on.follows.past) c.moment;
+      left = c.left o on.none;
+      won = wins_after (links_told_by op (of_finish told.0)) (flags_told_by op (of_finish told.0)) o x z (wins_after 0 0 o w x won on.won) c.won;
     })
 
 -- a delete that is finished: y is where it began, with no call, and x where its leaf was flagged
 finish_told : (b : Board) (h : Habit) (k : ℕ) (leaf : NodeId) (o y x z : Hand) (f : Result Bool Lost) → HasSeenAllOf y.pass o.pass → Wins o x 0 1 → HadNoCall y.pass x.pass → x.pending ≡ Some (record { key = k; leaf = leaf }) → FinishesPending b h x z f → IsTold Delete k o z (of_finish f)
 finish_told b h k leaf o y x z (Ok true) past won had is a =
     let mine : Unfinished = record { key = k; leaf = leaf } in
-    let begun = follow_in_a_row (λ p q. LeavesFinish b.layout h.tries p q (Err call.Unfinished)) (λ p q made. record { same = made.says.same; past = made.says.past }) a.before x a.begun a.each in
-    let on = follows_then y.pass x.pass a.begun.pass (record { same = had.same; past = had.past }) begun in
+    let follows = follow_in_a_row (λ p q. LeavesFinish b.layout h.tries p q (Err call.Unfinished)) (λ p q made. record { same = made.says.same; past = made.says.past }) a.before x a.begun a.each in
+    let on = follows_then y.pass x.pass a.begun.pass (record { same = had.same; past = had.past }) follows in
     let same = ap (λ (u : Option Unfinished). unwrap_or u mine) (sym a.last.says.moment.1 ∙ (pends b h x z (Ok true) a ∙ is)) in
     let at = a.last.says.moment.2 y.pass (record { same = on.same; past = on.past; call = had.call }) in
     record {
@@ -551,24 +538,24 @@ pub record IsSettled (b : Board) (h : Habit) (w x : Hand) : Type 0 where
 pub settled : (b : Board) (h : Habit) (w x : Hand) (answer : Bool) → w.held ≡ None → FinishesPending b h w x (Ok answer) → IsSettled b h w x
 settled b h w x answer free f = record { none = finished b.layout h.tries f.begun x answer f.last; won = finishes_wins b h w x (Ok answer) f; on = goes_finishes b h w x (Ok answer) free f }
 
-pub contains_tends : (b : Board) (h : Habit) (k : ℕ) (w x z : Hand) (answer : Bool) (r : Result Bool Fault) → w.held ≡ None → FinishesPending b h w x (Ok answer) → Looks b h k x z r → Tends b h Has k w z r
+pub contains_tends : (b : Board) (h : Habit) (k : ℕ) (w x z : Hand) (answer : Bool) (r : Result Bool Fault) → w.held ≡ None → FinishesPending b h w x (Ok answer) → Retries Has b h k x z r → Tends b h Has k w z r
 contains_tends b h k w x z answer r free f looks =
     let at = settled b h w x answer free f in
     let most = round_bound h.tries b.layout in
-    let told = look_told b h k w x z r at.on.past at.won at.none at.on.held looks in
+    let told = retries_told Has b h k w x z r at.on.past at.won at.none at.on.held looks in
     record {
       moment = told.moment;
       full = λ is. absurd (subst (Asked (LeavesHas b.layout h.tries k) looks.begun z) is looks.last).1.says.told;
       left = told.left;
       won = told.won;
-      on = in_all h.rounds (suc h.rounds + suc h.rounds) most w z (omega arith) (rounds_then (suc h.rounds) (suc h.rounds) most w x z at.on (goes_looks b h k x z r at.on.held looks));
+      on = in_all h.rounds (suc h.rounds + suc h.rounds) most w z (omega arith) (rounds_then (suc h.rounds) (suc h.rounds) most w x z at.on (calls_go Has b h k x z r at.on.held looks));
     }
 
 -- the same behind a collection that was due
-record IsReady (b : Board) (h : Habit) (w y : Hand) : Type 0 where
-  none : y.pending ≡ None
-  won : Wins w y 0 0
-  on : GoesOnTended ((suc h.rounds + 1) * round_bound h.tries b.layout) w y
+pub record IsReady (b : Board) (h : Habit) (w y : Hand) : Type 0 where
+  pub none : y.pending ≡ None
+  pub won : Wins w y 0 0
+  pub on : GoesOnTended ((suc h.rounds + 1) * round_bound h.tries b.layout) w y
 
 relieved_place : (b : Board) (w z : Hand) → IsRelieved b w z → z.pending ≡ w.pending
 relieved_place b w z r = r.collects.place.0 ∙ (r.moves_again.place.0 ∙ r.moves.place.0)
@@ -577,14 +564,14 @@ tidied_place : (b : Board) (many : ℕ) (w z : Hand) → IsTidied b many w z →
 tidied_place b many w z (inl did) = relieved_place b w z did.1
 tidied_place b many w z (inr did) = ap (λ (y : Hand). y.pending) did.1
 
-ready : (b : Board) (h : Habit) (w x y : Hand) (answer : Bool) → w.held ≡ None → FinishesPending b h w x (Ok answer) → IsTidied b h.collect_after x y → IsReady b h w y
-ready b h w x y answer free f tidied =
-    let at = settled b h w x answer free f in
+pub ready : (b : Board) (h : Habit) (w y : Hand) → IsMadeTidy b h w y → IsReady b h w y
+ready b h w y m =
+    let at = settled b h w m.between m.answer m.free m.finished in
     let most = round_bound h.tries b.layout in
     record {
-      none = tidied_place b h.collect_after x y tidied ∙ at.none;
-      won = wins_after 0 0 w x y at.won (tidied_wins b h.collect_after x y tidied);
-      on = rounds_then (suc h.rounds) 1 most w x y at.on (one_round most x y (goes_tidied b h.tries h.collect_after x y at.on.held tidied));
+      none = tidied_place b h.collect_after m.between y m.tidied ∙ at.none;
+      won = wins_after 0 0 w m.between y at.won (tidied_wins b h.collect_after m.between y m.tidied);
+      on = rounds_then (suc h.rounds) 1 most w m.between y at.on (one_round most m.between y (goes_tidied b h.tries h.collect_after m.between y at.on.held m.tidied));
     }
 
 -- what an insert tells, with who holds memory back or without
@@ -602,19 +589,19 @@ fullness_told behind n (Err (fault.Call call.Unfinished)) = refl
 fullness_told behind n (Err (fault.Call call.Pending)) = refl
 
 -- an insert, and one more behind a collection
-inserts_on : (b : Board) (h : Habit) (k : ℕ) (o w z : Hand) (r : Result Bool InsertFault) → HasSeenAllOf w.pass o.pass → Wins o w 0 0 → w.pending ≡ None → w.held ≡ None → InsertsOn b h k w z r → IsTold Insert k o z (of_insert r) × GoesOnTended ((suc h.rounds + 1 + suc h.rounds) * round_bound h.tries b.layout) w z
-inserts_on b h k o w z r past won none free (inl (t, did, known, is)) =
+insert_retried : (b : Board) (h : Habit) (k : ℕ) (o w z : Hand) (r : Result Bool InsertFault) → HasSeenAllOf w.pass o.pass → Wins o w 0 0 → w.pending ≡ None → w.held ≡ None → RetriesInsert b h k w z r → IsTold Insert k o z (of_insert r) × GoesOnTended ((suc h.rounds + 1 + suc h.rounds) * round_bound h.tries b.layout) w z
+insert_retried b h k o w z r past won none free (inl (t, did, known, is)) =
     let most = round_bound h.tries b.layout in
-    (subst (λ (q : Result Bool Fault). IsTold Insert k o z q) (sym (ap of_insert is ∙ plain_told t)) (insert_told b h k o w z t past won none free did), goes_more (suc h.rounds * most) ((suc h.rounds + 1 + suc h.rounds) * most) w z (mul-le-mul_right most (omega arith)) (goes_inserts b h k w z t free did))
-inserts_on b h k o w z r past won none free (inr (x, y, behind, t, first, found, again, is)) =
+    (subst (λ (q : Result Bool Fault). IsTold Insert k o z q) (sym (ap of_insert is ∙ plain_told t)) (retries_told Insert b h k o w z t past won none free did), goes_more (suc h.rounds * most) ((suc h.rounds + 1 + suc h.rounds) * most) w z (mul-le-mul_right most (omega arith)) (calls_go Insert b h k w z t free did))
+insert_retried b h k o w z r past won none free (inr (x, y, behind, t, first, found, once_more, is)) =
     let most = round_bound h.tries b.layout in
     let relieved = found.relieved in
-    let full = insert_told b h k o w x (Err (fault.Call call.Full)) past won none free first in
-    let before = goes_inserts b h k w x (Err (fault.Call call.Full)) free first in
+    let full = retries_told Insert b h k o w x (Err (fault.Call call.Full)) past won none free first in
+    let before = calls_go Insert b h k w x (Err (fault.Call call.Full)) free first in
     let since = goes_relieved b h.tries x y before.held relieved in
     let seen = seen_through o.pass w.pass y.pass past (seen_through w.pass x.pass y.pass before.past since.past) in
-    let told = insert_told b h k o y z t seen (wins_after 0 0 o x y full.won (relieved_wins b x y relieved)) (relieved_place b x y relieved ∙ full.left) since.held again in
-    (subst (λ (q : Result Bool Fault). IsTold Insert k o z q) (sym (ap of_insert is ∙ fullness_told behind (waiting_in z.queues) t)) told, rounds_then (suc h.rounds + 1) (suc h.rounds) most w y z (rounds_then (suc h.rounds) 1 most w x y before (one_round most x y since)) (goes_inserts b h k y z t since.held again))
+    let told = retries_told Insert b h k o y z t seen (wins_after 0 0 o x y full.won (relieved_wins b x y relieved)) (relieved_place b x y relieved ∙ full.left) since.held once_more in
+    (subst (λ (q : Result Bool Fault). IsTold Insert k o z q) (sym (ap of_insert is ∙ fullness_told behind (waiting_in z.queues) t)) told, rounds_then (suc h.rounds + 1) (suc h.rounds) most w y z (rounds_then (suc h.rounds) 1 most w x y before (one_round most x y since)) (calls_go Insert b h k y z t since.held once_more))
 
 -- ---- who holds memory back
 
@@ -664,12 +651,12 @@ module _ (o p q z : Stand) (first : Follows o p) (last : Follows q z) where
   }
 
 -- what it tells of that, where it was full
-inserts_full : (b : Board) (h : Habit) (k : ℕ) (o w z : Hand) (r : Result Bool InsertFault) → Follows o.pass w.pass → w.held ≡ None → InsertsOn b h k w z r → of_insert r ≡ Err (fault.Call call.Full) → (f : Fullness) × (r ≡ Err (inserting.Full f)) × WasFull o z f
+inserts_full : (b : Board) (h : Habit) (k : ℕ) (o w z : Hand) (r : Result Bool InsertFault) → Follows o.pass w.pass → w.held ≡ None → RetriesInsert b h k w z r → of_insert r ≡ Err (fault.Call call.Full) → (f : Fullness) × (r ≡ Err (inserting.Full f)) × WasFull o z f
 inserts_full b h k o w z r past free (inl (t, did, known, is)) full = absurd (known (sym (ap of_insert is ∙ plain_told t) ∙ full))
-inserts_full b h k o w z r past free (inr (x, y, behind, t, first, found, again, is)) full =
-    let before = goes_inserts b h k w x (Err (fault.Call call.Full)) free first in
+inserts_full b h k o w z r past free (inr (x, y, behind, t, first, found, once_more, is)) full =
+    let before = calls_go Insert b h k w x (Err (fault.Call call.Full)) free first in
     let since = goes_relieved b h.tries x y before.held found.relieved in
-    let on = goes_inserts b h k y z t since.held again in
+    let on = calls_go Insert b h k y z t since.held once_more in
     let to_x = follows_then o.pass w.pass x.pass past (record { same = before.same; past = before.past }) in
     let from_y : Follows y.pass z.pass = record { same = on.same; past = on.past } in
     let number : x.pass.view.number ≡ o.pass.view.number = ap (λ (p : Stand). p.view.number) to_x.same in
@@ -686,11 +673,11 @@ inserts_full b h k o w z r past free (inr (x, y, behind, t, first, found, again,
       },
     )
 
-pub adds_tend : (b : Board) (h : Habit) (k : ℕ) (w x y z : Hand) (answer : Bool) (r : Result Bool InsertFault) → w.held ≡ None → FinishesPending b h w x (Ok answer) → IsTidied b h.collect_after x y → InsertsOn b h k y z r → Tends b h Insert k w z (of_insert r)
-adds_tend b h k w x y z answer r free f tidied did =
-    let at = ready b h w x y answer free f tidied in
+adds_tend : (b : Board) (h : Habit) (k : ℕ) (w y z : Hand) (r : Result Bool InsertFault) → IsMadeTidy b h w y → RetriesInsert b h k y z r → Tends b h Insert k w z (of_insert r)
+adds_tend b h k w y z r made did =
+    let at = ready b h w y made in
     let most = round_bound h.tries b.layout in
-    let told = inserts_on b h k w y z r at.on.past at.won at.none at.on.held did in
+    let told = insert_retried b h k w y z r at.on.past at.won at.none at.on.held did in
     record {
       moment = told.0.moment;
       full = λ is. (let found = inserts_full b h k w y z r (record { same = at.on.same; past = at.on.past }) at.on.held did is in (found.0, found.2));
@@ -713,25 +700,25 @@ full_told b h k w z f (inr (free, t)) = by t.did
     by : InsertsTended b h k w z (Err (inserting.Full f)) → WasFull w z f
     by (inl pending) = absurd (not_full_but call.Pending (λ e. cc) (sym pending.1))
     by (inr (answer, x, finished, (y, tidied, on))) =
-        let at = ready b h w x y answer free finished tidied in
+        let at = ready b h w y (record { free = free; answer = answer; between = x; finished = finished; tidied = tidied }) in
         let found = inserts_full b h k w y z (Err (inserting.Full f)) (record { same = at.on.same; past = at.on.past }) at.on.held on refl in
         subst (WasFull w z) (same found.0 found.1) found.2
 
 -- a delete, and what is left to do of it
-deletes_on : (b : Board) (h : Habit) (k : ℕ) (o w z : Hand) (r : Result Bool Fault) → HasSeenAllOf w.pass o.pass → Wins o w 0 0 → IsIdle w → w.pending ≡ None → w.held ≡ None → DeletesOn b h k w z r → IsTold Delete k o z r × GoesOnTended ((suc h.rounds + suc h.rounds) * round_bound h.tries b.layout) w z
-deletes_on b h k o w z r past won idle none free (inl (did, known)) =
+delete_retried : (b : Board) (h : Habit) (k : ℕ) (o w z : Hand) (r : Result Bool Fault) → HasSeenAllOf w.pass o.pass → Wins o w 0 0 → IsIdle w → w.pending ≡ None → w.held ≡ None → RetriesDelete b h k w z r → IsTold Delete k o z r × GoesOnTended ((suc h.rounds + suc h.rounds) * round_bound h.tries b.layout) w z
+delete_retried b h k o w z r past won idle none free (inl (did, known)) =
     let most = round_bound h.tries b.layout in
-    (delete_told b h k o w z r past won none free did, goes_more (suc h.rounds * most) ((suc h.rounds + suc h.rounds) * most) w z (mul-le-mul_right most (omega arith)) (goes_deletes b h k w z r free did))
-deletes_on b h k o w z r past won idle none free (inr (x, f, first, rest, is)) =
+    (retries_told Delete b h k o w z r past won none free did, goes_more (suc h.rounds * most) ((suc h.rounds + suc h.rounds) * most) w z (mul-le-mul_right most (omega arith)) (calls_go Delete b h k w z r free did))
+delete_retried b h k o w z r past won idle none free (inr (x, f, first, rest, is)) =
     let most = round_bound h.tries b.layout in
-    let flagged = delete_told b h k o w x (Err (fault.Call call.Unfinished)) past won none free first in
-    let before = goes_deletes b h k w x (Err (fault.Call call.Unfinished)) free first in
+    let flagged = retries_told Delete b h k o w x (Err (fault.Call call.Unfinished)) past won none free first in
+    let before = calls_go Delete b h k w x (Err (fault.Call call.Unfinished)) free first in
     let had : HadNoCall w.pass x.pass = record { same = before.same; past = before.past; call = idle none } in
     let told = finish_told b h k flagged.left.0 o w x z f past flagged.won had flagged.left.1 rest in
     (subst (λ (q : Result Bool Fault). IsTold Delete k o z q) (sym is) told, rounds_then (suc h.rounds) (suc h.rounds) most w x z before (goes_finishes b h x z f before.held rest))
 
 -- a delete asks for no slot
-deletes_never_full : (b : Board) (h : Habit) (k : ℕ) (w z : Hand) (r : Result Bool Fault) → DeletesOn b h k w z r → r ≡ Err (fault.Call call.Full) → ⊥
+deletes_never_full : (b : Board) (h : Habit) (k : ℕ) (w z : Hand) (r : Result Bool Fault) → RetriesDelete b h k w z r → r ≡ Err (fault.Call call.Full) → ⊥
 deletes_never_full b h k w z r (inl (did, known)) is = absurd (subst (Asked (LeavesDelete b.layout h.tries k) did.begun z) is did.last).1.says.told
 deletes_never_full b h k w z r (inr (x, f, first, rest, told)) is = by f rest (sym told ∙ is)
   where
@@ -742,11 +729,11 @@ deletes_never_full b h k w z r (inr (x, f, first, rest, told)) is = by f rest (s
         unlike : call.Unfinished ≡ call.Full → ⊥
         unlike i = cc
 
-pub removes_tend : (b : Board) (h : Habit) (k : ℕ) (w x y z : Hand) (answer : Bool) (r : Result Bool Fault) → w.held ≡ None → FinishesPending b h w x (Ok answer) → IsTidied b h.collect_after x y → IsIdle y → DeletesOn b h k y z r → Tends b h Delete k w z r
-removes_tend b h k w x y z answer r free f tidied idle did =
-    let at = ready b h w x y answer free f tidied in
+removes_tend : (b : Board) (h : Habit) (k : ℕ) (w y z : Hand) (r : Result Bool Fault) → IsMadeTidy b h w y → IsIdle y → RetriesDelete b h k y z r → Tends b h Delete k w z r
+removes_tend b h k w y z r made idle did =
+    let at = ready b h w y made in
     let most = round_bound h.tries b.layout in
-    let told = deletes_on b h k w y z r at.on.past at.won idle at.none at.on.held did in
+    let told = delete_retried b h k w y z r at.on.past at.won idle at.none at.on.held did in
     record {
       moment = told.0.moment;
       full = λ is. absurd (deletes_never_full b h k y z r did is);
@@ -759,54 +746,40 @@ removes_tend b h k w x y z answer r free f tidied idle did =
 
 -- where nothing is pending, there is nothing to finish
 finishes_nothing : (b : Board) (h : Habit) (w : Hand) → w.pending ≡ None → FinishesPending b h w w (Ok false)
-finishes_nothing b h w none = asked_once (LeavesFinish b.layout h.tries) (Err call.Unfinished) h.rounds w w (Ok false) stays (λ e. absurd (differ e))
+finishes_nothing b h w none = not_retried (LeavesFinish b.layout h.tries) (Err call.Unfinished) h.rounds w w (Ok false) (finishes_none b.layout h.tries w none) (λ e. absurd (differ e))
   where
     differ : ◌≡◌ {A = Result Bool Lost} (Ok false) (Err call.Unfinished) → ⊥
     differ e = cc
 
-    stays : LeavesFinish b.layout h.tries w w (Ok false)
-    stays = record {
-      says = record {
-        same = refl;
-        past = seen_itself w.pass;
-        told = (none, refl);
-        moment = tt;
-        won = wins_nothing w;
-        steps = omega arith;
-        queues = others_stay w.pass.view.number w.queues;
-        blocks = room_stays w.queues;
-        held = refl;
-        fit = refl;
-      };
-      did = (none, refl);
-      lacks = tt;
-      lost = λ is. absurd (let no = is in cc);
-    }
+-- then it is tidy without it
+pub was_tidy : (b : Board) (h : Habit) (w : Hand) → IsTidy h w → IsMadeTidy b h w w
+was_tidy b h w tidy = record { free = tidy.free; answer = false; between = w; finished = finishes_nothing b h w tidy.none; tidied = inr (tidy.few, refl) }
 
--- a call that is made at once, and has answered
-pub inserts_answered : (b : Board) (h : Habit) (k : ℕ) (w z : Hand) (answer : Bool) → Asked (LeavesInsert b.layout h.tries k) w z (Ok answer) → InsertsOn b h k w z (Ok answer)
-inserts_answered b h k w z answer did =
-    inl (Ok answer, asked_once (Asked (LeavesInsert b.layout h.tries k)) busy h.rounds w z (Ok answer) did (λ e. is_no_fault _ _ e), λ e. is_no_fault _ _ e, refl)
+-- a call that has answered at once
+pub answered : (op : Op) (b : Board) (h : Habit) (k : ℕ) (w z : Hand) (answer : Bool) → Asked (Leaves op b.layout h.tries k) w z (Ok answer) → Retries op b h k w z (Ok answer)
+answered op b h k w z answer did = not_retried (Asked (Leaves op b.layout h.tries k)) busy h.rounds w z (Ok answer) did (λ e. is_no_fault _ _ e)
 
-pub deletes_answered : (b : Board) (h : Habit) (k : ℕ) (w z : Hand) (answer : Bool) → Asked (LeavesDelete b.layout h.tries k) w z (Ok answer) → DeletesOn b h k w z (Ok answer)
-deletes_answered b h k w z answer did =
-    inl (asked_once (Asked (LeavesDelete b.layout h.tries k)) busy h.rounds w z (Ok answer) did (λ e. is_no_fault _ _ e), λ e. is_no_fault _ _ e)
+pub insert_answered : (b : Board) (h : Habit) (k : ℕ) (w z : Hand) (answer : Bool) → Asked (LeavesInsert b.layout h.tries k) w z (Ok answer) → RetriesInsert b h k w z (Ok answer)
+insert_answered b h k w z answer did = inl (Ok answer, answered Insert b h k w z answer did, λ e. is_no_fault _ _ e, refl)
 
--- what was tidied, and then inserted or deleted
-pub inserts_tend : (b : Board) (h : Habit) (k : ℕ) (w x y z : Hand) (answer : Bool) (r : Result Bool InsertFault) → w.held ≡ None → FinishesPending b h w x (Ok answer) → IsTidied b h.collect_after x y → InsertsOn b h k y z r → TendsInsert b h k w z r
-inserts_tend b h k w x y z answer r free f tidied did =
-    inr (free, record { did = inr (answer, x, f, (y, tidied, did)); tends = adds_tend b h k w x y z answer r free f tidied did })
+pub delete_answered : (b : Board) (h : Habit) (k : ℕ) (w z : Hand) (answer : Bool) → Asked (LeavesDelete b.layout h.tries k) w z (Ok answer) → RetriesDelete b h k w z (Ok answer)
+delete_answered b h k w z answer did = inl (answered Delete b h k w z answer did, λ e. is_no_fault _ _ e)
 
-pub deletes_tend : (b : Board) (h : Habit) (k : ℕ) (w x y z : Hand) (answer : Bool) (r : Result Bool Fault) → w.held ≡ None → FinishesPending b h w x (Ok answer) → IsTidied b h.collect_after x y → IsIdle y → DeletesOn b h k y z r → TendsDelete b h k w z r
-deletes_tend b h k w x y z answer r free f tidied idle did =
-    inr (free, record { did = inr (answer, x, f, (y, tidied, did)); tends = removes_tend b h k w x y z answer r free f tidied idle did })
+-- what was made tidy, and then inserted or deleted
+pub inserts_tend : (b : Board) (h : Habit) (k : ℕ) (w y z : Hand) (r : Result Bool InsertFault) → IsMadeTidy b h w y → RetriesInsert b h k y z r → TendsInsert b h k w z r
+inserts_tend b h k w y z r made did =
+    inr (made.free, record { did = inr (made.answer, made.between, made.finished, (y, made.tidied, did)); tends = adds_tend b h k w y z r made did })
 
--- the same where nothing was to be done first
-pub inserts_at_once : (b : Board) (h : Habit) (k : ℕ) (w z : Hand) (r : Result Bool InsertFault) → IsTidy h w → InsertsOn b h k w z r → TendsInsert b h k w z r
-inserts_at_once b h k w z r tidy did = inserts_tend b h k w w w z false r tidy.free (finishes_nothing b h w tidy.none) (inr (tidy.few, refl)) did
+pub deletes_tend : (b : Board) (h : Habit) (k : ℕ) (w y z : Hand) (r : Result Bool Fault) → IsMadeTidy b h w y → IsIdle y → RetriesDelete b h k y z r → TendsDelete b h k w z r
+deletes_tend b h k w y z r made idle did =
+    inr (made.free, record { did = inr (made.answer, made.between, made.finished, (y, made.tidied, did)); tends = removes_tend b h k w y z r made idle did })
 
-pub deletes_at_once : (b : Board) (h : Habit) (k : ℕ) (w z : Hand) (r : Result Bool Fault) → IsTidy h w → IsIdle w → DeletesOn b h k w z r → TendsDelete b h k w z r
-deletes_at_once b h k w z r tidy idle did = deletes_tend b h k w w w z false r tidy.free (finishes_nothing b h w tidy.none) (inr (tidy.few, refl)) idle did
+-- and what is told where it was not made tidy
+pub not_tidied : (does : Hand → Hand → Result Bool Fault → Type 0) (b : Board) (h : Habit) (op : Op) (k : ℕ) (w z : Hand) (f : Fault) → (FinishesPending b h w z (Err call.Unfinished) → f ≡ fault.Call call.Pending → does w z (Err f))
+    → MakesTidy b h w z (Err f) → UnlessHeld {A = Bool} (HasTended does b h op k w z (Err f)) w z (Err f)
+not_tidied does b h op k w z f pending (inl held) = inl (held.0, ap (λ (g : Fault). Err g) held.1, held.2)
+not_tidied does b h op k w z f pending (inr (free, unfinished, is)) =
+    inr (free, record { did = pending unfinished is; tends = subst (λ (g : Fault). Tends b h op k w z (Err g)) (sym is) (pending_tends b h op k w z call.Unfinished free unfinished).1 })
 
 -- ---- what a caller has
 

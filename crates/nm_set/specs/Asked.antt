@@ -1,6 +1,6 @@
 -- What each call leaves of its member's worker: what the tree's call of the same name leaves, where
 -- the worker may be asked.
-use Rattle.std.specs.Prelude.{◌≡◌, ℕ, Bool, None, IsSome, Result, Ok, Err}
+use Rattle.std.specs.Prelude.{◌≡◌, ℕ, None, IsSome, Result, Ok, Err}
 use Rattle.nm_tree.specs.declared.fault.CallFault.{CallFault as Lost}
 use Rattle.nm_tree.specs.Workers.{Hand}
 use Rattle.nm_tree.specs.Calls.{LeavesPin, LeavesUnpin}
@@ -12,9 +12,9 @@ use Rattle.nm_set.specs.declared.fault.NotHeld.{NotHeld}
 
 -- a worker that its caller holds is not asked, and nothing has changed; else the call leaves what
 -- the tree's does
-abbrev pub Asked : (Hand → Hand → Result Bool Lost → Type 0) → Hand → Hand → Result Bool Fault
-    → Type 0
-Asked leaves w z (Ok b) = (w.held ≡ None) × leaves w z (Ok b)
+abbrev pub Asked : {A : Type 0} → (Hand → Hand → Result A Lost → Type 0) → Hand → Hand
+    → Result A Fault → Type 0
+Asked leaves w z (Ok told) = (w.held ≡ None) × leaves w z (Ok told)
 Asked leaves w z (Err (fault.Call f)) = (w.held ≡ None) × leaves w z (Err f)
 Asked leaves w z (Err fault.Held) = IsSome w.held × (z ≡ w)
 

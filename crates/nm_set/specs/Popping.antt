@@ -15,7 +15,7 @@ use Rattle.nm_set.specs.declared.fault.Fault.{Fault}
 use Rattle.nm_set.specs.declared.fault.Fault.TheVariants as fault
 use Rattle.nm_set.specs.declared.tended.Habit.{Habit}
 use Rattle.nm_set.specs.NextKeys.{AskedNext, AskedPrev}
-use Rattle.nm_set.specs.Tended.{FinishesThen, GoesOnTended, IsAsked, TendsDelete, UnlessHeld, round_bound}
+use Rattle.nm_set.specs.Tended.{FinishesThen, GoesOnTended, IsRetried, TendsDelete, UnlessHeld, round_bound}
 
 -- ---- how it is done
 
@@ -51,7 +51,7 @@ PopsOnce end b h w z (Err f) = AskedForEnd end b.layout h.tries w z (Err f)
 -- nothing, `rounds` and one at most
 abbrev pub PopsTended : End → Board → Habit → Hand → Hand → Result (Option ℕ) Fault → Type 0
 PopsTended end b h w z r =
-    FinishesThen b h (λ x. IsAsked (PopsOnce end b h) pop_busy h.rounds x z r) w z r
+    FinishesThen b h (λ x. IsRetried (PopsOnce end b h) pop_busy h.rounds x z r) w z r
 
 -- ---- what a caller has
 

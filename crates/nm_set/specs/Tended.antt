@@ -1,5 +1,5 @@
--- Calls that tend the set: one that loses its tries is made again, a delete is finished, and the
--- nodes that wait are collected.
+-- Calls that tend the set: one that loses its tries is retried, a delete is finished, and the nodes
+-- that wait are collected.
 use Rattle.std.specs.Prelude.{◌≡◌, ◌≢◌, ◌⊎◌, ◌+◌, ◌*◌, ◌≤◌, ◌<◌, ℕ, zero, suc, Bool, true, length, drop, List, [], ◌∷◌, ◌++◌, Option, Some, None, IsSome, Result, Ok, Err, IfOk, Contains as HasAmong}
 use Rattle.nm_edge.specs.Layouts.{Layout}
 use Rattle.nm_edge.specs.declared.node.NodeId.{NodeId}
@@ -55,16 +55,15 @@ pub record GoesOnTended (most : ℕ) (w z : Hand) : Type 0 where
   pub held : z.held ≡ None
   pub fit : z.fit ≡ w.fit
 
--- ---- calls that are made again
+-- ---- retries
 
 -- so many steps in a row
 abbrev pub InARow : (Hand → Hand → Type 0) → ℕ → Hand → Hand → Type 0
 InARow step zero w z = z ≡ w
 InARow step (suc n) w z = (m : Hand) × InARow step n w m × step m z
 
--- a call is made again while it tells `lost`, so many times at most; what the last one tells is
--- told
-pub record IsAsked {R : Type 0} (leaves : Hand → Hand → R → Type 0) (lost : R) (rounds : ℕ)
+-- a call is retried while it tells `lost`, so many times at most; what the last one tells is told
+pub record IsRetried {R : Type 0} (leaves : Hand → Hand → R → Type 0) (lost : R) (rounds : ℕ)
     (w z : Hand) (r : R) : Type 0 where
   pub before : ℕ
   pub begun : Hand
@@ -77,21 +76,20 @@ pub record IsAsked {R : Type 0} (leaves : Hand → Hand → R → Type 0) (lost 
 abbrev pub busy : Result Bool Fault
 busy = Err (fault.Call call.Busy)
 
--- `Looks`, `Inserts`, `Deletes`: look-ups, inserts and deletes that are made again while they lose
--- each of their tries
-abbrev pub Looks : Board → Habit → ℕ → Hand → Hand → Result Bool Fault → Type 0
-Looks b h k w z r = IsAsked (Asked (LeavesHas b.layout h.tries k)) busy h.rounds w z r
+-- what the tree's call of each operation leaves
+abbrev pub Leaves : Op → Layout → ℕ → ℕ → Hand → Hand → Result Bool Lost → Type 0
+Leaves Has = LeavesHas
+Leaves Insert = LeavesInsert
+Leaves Delete = LeavesDelete
 
-abbrev pub Inserts : Board → Habit → ℕ → Hand → Hand → Result Bool Fault → Type 0
-Inserts b h k w z r = IsAsked (Asked (LeavesInsert b.layout h.tries k)) busy h.rounds w z r
-
-abbrev pub Deletes : Board → Habit → ℕ → Hand → Hand → Result Bool Fault → Type 0
-Deletes b h k w z r = IsAsked (Asked (LeavesDelete b.layout h.tries k)) busy h.rounds w z r
+-- a call of that operation, which is retried while it loses each of its tries
+abbrev pub Retries : Op → Board → Habit → ℕ → Hand → Hand → Result Bool Fault → Type 0
+Retries op b h k w z r = IsRetried (Asked (Leaves op b.layout h.tries k)) busy h.rounds w z r
 
 -- the delete that is pending, if one is, while it is not finished
 abbrev pub FinishesPending : Board → Habit → Hand → Hand → Result Bool Lost → Type 0
 FinishesPending b h w z r =
-    IsAsked (LeavesFinish b.layout h.tries) (Err call.Unfinished) h.rounds w z r
+    IsRetried (LeavesFinish b.layout h.tries) (Err call.Unfinished) h.rounds w z r
 
 -- ---- collecting
 
@@ -159,6 +157,22 @@ pub record IsTidy (h : Habit) (w : Hand) : Type 0 where
   pub none : w.pending ≡ None
   pub few : waiting_in w.queues < h.collect_after
 
+-- its caller does not hold it, the delete of an earlier call is finished, where one was pending, and
+-- then it has collected where so many nodes waited
+pub record IsMadeTidy (b : Board) (h : Habit) (w z : Hand) : Type 0 where
+  pub free : w.held ≡ None
+  pub answer : Bool
+  pub between : Hand
+  pub finished : FinishesPending b h w between (Ok answer)
+  pub tidied : IsTidied b h.collect_after between z
+
+-- so it is, or its caller holds it, or that delete is not finished
+abbrev pub MakesTidy : Board → Habit → Hand → Hand → Result (Unit {0}) Fault → Type 0
+MakesTidy b h w z (Ok _) = IsMadeTidy b h w z
+MakesTidy b h w z (Err f) = (IsSome w.held × (f ≡ fault.Held) × (z ≡ w))
+    ⊎ ((w.held ≡ None) × FinishesPending b h w z (Err call.Unfinished)
+    × (f ≡ fault.Call call.Pending))
+
 -- ---- who disturbed
 
 -- between what p had seen and what q has seen, other workers have moved the epoch on, or linked or
@@ -196,12 +210,12 @@ with_fullness behind waiting (Err (fault.Call call.Full)) =
 with_fullness behind waiting told = plain told
 
 -- that no slot is free is told only behind a collection, and by an insert that was made once more
-abbrev pub InsertsOn : Board → Habit → ℕ → Hand → Hand → Result Bool InsertFault → Type 0
-InsertsOn b h k w z r = ((told : Result Bool Fault) × Inserts b h k w z told
+abbrev pub RetriesInsert : Board → Habit → ℕ → Hand → Hand → Result Bool InsertFault → Type 0
+RetriesInsert b h k w z r = ((told : Result Bool Fault) × Retries Insert b h k w z told
     × (told ≢ Err (fault.Call call.Full)) × (r ≡ plain told))
     ⊎ ((x y : Hand) × (behind : Option ℕ) × (told : Result Bool Fault)
-    × Inserts b h k w x (Err (fault.Call call.Full)) × FindsBehind b x y behind
-    × Inserts b h k y z told × (r ≡ with_fullness behind (waiting_in z.queues) told))
+    × Retries Insert b h k w x (Err (fault.Call call.Full)) × FindsBehind b x y behind
+    × Retries Insert b h k y z told × (r ≡ with_fullness behind (waiting_in z.queues) told))
 
 -- what a finish tells, as a delete tells it
 abbrev pub of_finish : Result Bool Lost → Result Bool Fault
@@ -209,9 +223,10 @@ of_finish (Ok answer) = Ok answer
 of_finish (Err lost) = Err (fault.Call lost)
 
 -- a delete whose leaf is flagged goes on with that
-abbrev pub DeletesOn : Board → Habit → ℕ → Hand → Hand → Result Bool Fault → Type 0
-DeletesOn b h k w z r = (Deletes b h k w z r × (r ≢ Err (fault.Call call.Unfinished)))
-    ⊎ ((x : Hand) × (f : Result Bool Lost) × Deletes b h k w x (Err (fault.Call call.Unfinished))
+abbrev pub RetriesDelete : Board → Habit → ℕ → Hand → Hand → Result Bool Fault → Type 0
+RetriesDelete b h k w z r = (Retries Delete b h k w z r × (r ≢ Err (fault.Call call.Unfinished)))
+    ⊎ ((x : Hand) × (f : Result Bool Lost)
+    × Retries Delete b h k w x (Err (fault.Call call.Unfinished))
     × FinishesPending b h x z f × (r ≡ of_finish f))
 
 -- first the delete of an earlier call is finished, where one is pending; what is told of where it
@@ -225,15 +240,15 @@ FinishesThen b h rest w z r = (FinishesPending b h w z (Err call.Unfinished)
 -- `Contains`, `InsertsTended`, `RemovesTended`: first the delete of an earlier call is finished, and
 -- then each of the three calls is made
 abbrev pub Contains : Board → Habit → ℕ → Hand → Hand → Result Bool Fault → Type 0
-Contains b h k w z r = FinishesThen b h (λ x. Looks b h k x z r) w z r
+Contains b h k w z r = FinishesThen b h (λ x. Retries Has b h k x z r) w z r
 
 abbrev pub InsertsTended : Board → Habit → ℕ → Hand → Hand → Result Bool InsertFault → Type 0
 InsertsTended b h k w z r = FinishesThen b h
-    (λ x. (y : Hand) × IsTidied b h.collect_after x y × InsertsOn b h k y z r) w z (of_insert r)
+    (λ x. (y : Hand) × IsTidied b h.collect_after x y × RetriesInsert b h k y z r) w z (of_insert r)
 
 abbrev pub RemovesTended : Board → Habit → ℕ → Hand → Hand → Result Bool Fault → Type 0
 RemovesTended b h k w z r = FinishesThen b h
-    (λ x. (y : Hand) × IsTidied b h.collect_after x y × DeletesOn b h k y z r) w z r
+    (λ x. (y : Hand) × IsTidied b h.collect_after x y × RetriesDelete b h k y z r) w z r
 
 -- ---- what a caller has of each
 

@@ -2,7 +2,7 @@
 ghost use Rattle.std.specs.Prelude.{◌≡◌, ◌≢◌, ◌<◌, true, false};
 ghost use Rattle.nm_tree.specs.declared.popping.End.TheVariants as ends;
 ghost use Rattle.nm_set.specs.Popping.{AskedForEnd, PopsOnce, SaysPopTended, TendsPopOf, pop_busy};
-ghost use Rattle.nm_set.specs.Tended.{IsAsked};
+ghost use Rattle.nm_set.specs.Tended.{IsRetried};
 
 use crate::fault::Fault;
 use crate::member::Member;
@@ -27,7 +27,7 @@ impl Member {
     /// than all that the worker had seen before.
     ///
     /// As `remove` does, it finishes the delete of an earlier call, and collects where so many nodes
-    /// wait. A round that came to nothing is made again, `rounds` times at most. Nothing is pending
+    /// wait. A round that came to nothing is retried, `rounds` times at most. Nothing is pending
     /// behind an answer, `Busy` and `NoMemory`.
     ///
     /// `Held`, `Pending`, `NoMemory`: as `remove` tells them. `Busy`: each round has come to
@@ -64,16 +64,16 @@ impl Member {
         if self.held().is_some() {
             return Err(Fault::Held);
         }
-        let Ok(_done) = self.finish_again(habit) else {
+        let Ok(_done) = self.finish_with_retries(habit) else {
             return Err(Fault::Call(CallFault::Pending));
         };
-        self.pop_in_rounds(end, habit)
+        self.pop_with_retries(end, habit)
     }
 
-    /// Rounds, until one has not come to nothing.
-    fn pop_in_rounds(&mut self, end: End, habit: &Habit) -> Result<Option<Key>, Fault>
+    /// Rounds, until one has not come to nothing: `rounds` and one at most.
+    fn pop_with_retries(&mut self, end: End, habit: &Habit) -> Result<Option<Key>, Fault>
         ensures board { self.new.board ≡ self.old.board }
-        ensures did { IsAsked (PopsOnce end self.old.board habit.now) pop_busy habit.now.rounds
+        ensures did { IsRetried (PopsOnce end self.old.board habit.now) pop_busy habit.now.rounds
             self.old.hand self.new.hand result }
     {
         for _round in 0..habit.rounds {

@@ -1,17 +1,17 @@
-//! Calls that tend the set: a call that has lost its tries is made again, a delete that has begun
-//! is finished, and retired nodes are collected.
+//! Calls that tend the set: a call that has lost its tries is retried, a delete that has begun is
+//! finished, and retired nodes are collected.
 ghost use Rattle.std.specs.Prelude.{◌≡◌, ◌≢◌, ◌≤◌, ◌+◌, ◌-◌, ◌*◌, true, false, None, Err};
 ghost use Rattle.nm_model.specs.declared.event.Op.TheVariants.{Has, Insert, Delete};
 ghost use Rattle.nm_tree.specs.declared.fault.CallFault.TheVariants as lost;
-ghost use Rattle.nm_tree.specs.Calls.{LeavesHas, LeavesInsert, LeavesDelete};
 ghost use Rattle.nm_tree.specs.Workers.{Hand};
 ghost use Rattle.nm_set.specs.Asked.{Asked};
 ghost use Rattle.nm_set.specs.declared.fault.Fullness.{Fullness};
-ghost use Rattle.nm_set.specs.Tended.{busy, IsTidied, IsTidy, FindsBehind, Looks, Inserts, Deletes, FinishesPending, InsertsOn, DeletesOn, SaysTended, WasDisturbed, WasFull, WasHeldUp, TendsHas, TendsInsert, TendsDelete, found_behind, of_insert, plain, with_fullness};
+ghost use Rattle.nm_set.specs.Tended.{busy, IsTidy, MakesTidy, FindsBehind, FinishesPending, Leaves, Retries, RetriesDelete, RetriesInsert, SaysTended, WasDisturbed, WasFull, WasHeldUp, TendsHas, TendsInsert, TendsDelete, found_behind, of_insert, plain, with_fullness};
 
 use crate::fault::{Fault, Fullness, InsertFault};
 use crate::member::Member;
 use nm_edge::Key;
+use nm_model::Op;
 use nm_tree::{Advance, CallFault};
 
 /// What a call that tends the set may spend, and when it collects. Such a call takes at most 3
@@ -22,8 +22,8 @@ use nm_tree::{Advance, CallFault};
 pub struct Habit {
     /// The tries of each call of the tree. With fewer than 2 no remove answers true at once.
     pub tries: u32,
-    /// How often a call that has lost each of its tries is made again, and how often a delete that
-    /// has begun is gone on with.
+    /// How often a call that has lost each of its tries is retried, and how often a delete that has
+    /// begun is gone on with.
     pub rounds: u32,
     /// From how many waiting nodes on an insert or a remove first moves the epoch on and collects.
     /// While another worker stays pinned, each of these looks for it again.
@@ -126,7 +126,7 @@ fn without_one(habit: &Habit) -> Habit
 impl Member {
     /// Whether the set has the key.
     ///
-    /// A look-up that has lost each of its tries is made again, `rounds` times at most. Before the
+    /// A look-up that has lost each of its tries is retried, `rounds` times at most. Before the
     /// first one the delete of an earlier call is finished, where one is pending, by `rounds` and
     /// one calls of `finish` at most. So nothing is pending behind an answer, and behind `Busy`.
     ///
@@ -146,18 +146,18 @@ impl Member {
         if self.held().is_some() {
             return Err(Fault::Held);
         }
-        let Ok(_done) = self.finish_again(habit) else {
+        let Ok(_done) = self.finish_with_retries(habit) else {
             return Err(Fault::Call(CallFault::Pending));
         };
-        self.has_again(key, habit)
+        self.contains_with_retries(key, habit)
     }
 
     /// Inserts a key, and answers whether it was not in the set.
     ///
-    /// As `contains` does, it finishes the delete of an earlier call, and makes an insert that has
-    /// lost each of its tries again. Where `collect_after` nodes or more wait in the queues that
-    /// the worker holds, it first asks the epoch to move on, twice, and collects; so it does where
-    /// no slot was free, and then inserts once more. Nothing is pending behind an answer, `Busy`,
+    /// As `contains` does, it finishes the delete of an earlier call, and retries an insert that has
+    /// lost each of its tries. Where `collect_after` nodes or more wait in the queues that the
+    /// worker holds, it first asks the epoch to move on, twice, and collects; so it does where no
+    /// slot was free, and then inserts once more. Nothing is pending behind an answer, `Busy`,
     /// `Full` and `NoMemory`.
     ///
     /// `Held`, `Pending`, `Busy`: as `contains` tells them. `Full`: no slot was free for a new
@@ -186,17 +186,17 @@ impl Member {
             .insert(&mut self.guest.worker, key, habit.tries)
         {
             Ok(answer) => Ok(answer),
-            Err(lost) => self.insert_behind(key, habit, Fault::Call(lost)),
+            Err(lost) => self.retry_insert(key, habit, Fault::Call(lost)),
         }
     }
 
     /// Deletes a key, and answers whether it was in the set: true once the leaf with the key is cut
     /// off.
     ///
-    /// As `contains` does, it finishes the delete of an earlier call, and makes a delete that has
-    /// lost each of its tries again; one that has flagged its leaf goes on by `rounds` and one
-    /// calls of `finish` at most. It collects first where `insert` does. Nothing is pending behind an
-    /// answer, `Busy` and `NoMemory`.
+    /// As `contains` does, it finishes the delete of an earlier call, and retries a delete that has
+    /// lost each of its tries; one that has flagged its leaf goes on by `rounds` and one calls of
+    /// `finish` at most. It collects first where `insert` does. Nothing is pending behind an answer,
+    /// `Busy` and `NoMemory`.
     ///
     /// `Held`, `Pending`, `Busy`: as `contains` tells them. `NoMemory`: the room of a try was
     /// refused before the leaf was flagged. `Unfinished`: the leaf is flagged, so that the key goes
@@ -221,7 +221,7 @@ impl Member {
             .delete(&mut self.guest.worker, key, habit.tries)
         {
             Ok(answer) => Ok(answer),
-            Err(lost) => self.delete_behind(key, habit, Fault::Call(lost)),
+            Err(lost) => self.retry_remove(key, habit, Fault::Call(lost)),
         }
     }
 
@@ -243,16 +243,12 @@ impl Member {
         ensures board { self.new.board ≡ self.old.board }
         ensures did { TendsInsert self.old.board habit.now key self.old.hand self.new.hand result }
     {
-        if self.held().is_some() {
-            return Err(InsertFault::Other(Fault::Held));
+        if let Err(fault) = self.make_tidy(habit) {
+            return Err(InsertFault::Other(fault));
         }
-        let Ok(_done) = self.finish_again(habit) else {
-            return Err(InsertFault::Other(Fault::Call(CallFault::Pending)));
-        };
-        self.tidy(habit);
         match self.try_insert(key, habit.tries) {
             Ok(answer) => Ok(answer),
-            Err(fault) => self.insert_behind(key, habit, fault),
+            Err(fault) => self.retry_insert(key, habit, fault),
         }
     }
 
@@ -263,64 +259,69 @@ impl Member {
         ensures board { self.new.board ≡ self.old.board }
         ensures did { TendsDelete self.old.board habit.now key self.old.hand self.new.hand result }
     {
-        if self.held().is_some() {
-            return Err(Fault::Held);
-        }
-        let Ok(_done) = self.finish_again(habit) else {
-            return Err(Fault::Call(CallFault::Pending));
-        };
-        self.tidy(habit);
+        self.make_tidy(habit)?;
         self.is_of_a_run();
         match self.try_remove(key, habit.tries) {
             Ok(answer) => Ok(answer),
-            Err(fault) => self.delete_behind(key, habit, fault),
+            Err(fault) => self.retry_remove(key, habit, fault),
         }
     }
 
-    /// A collection, where many nodes wait.
-    fn tidy(&mut self, habit: &Habit)
+    /// Finishes the delete of an earlier call, where one is pending, and collects, where many nodes
+    /// wait.
+    ///
+    /// `Held`: the caller holds the worker; nothing has changed. `Pending`: that delete is not
+    /// finished, and nothing else is done.
+    fn make_tidy(&mut self, habit: &Habit) -> Result<(), Fault>
         ensures board { self.new.board ≡ self.old.board }
-        ensures did { IsTidied self.old.board habit.now.collect_after self.old.hand self.new.hand }
+        ensures did { MakesTidy self.old.board habit.now self.old.hand self.new.hand result }
     {
+        if self.held().is_some() {
+            return Err(Fault::Held);
+        }
+        let Ok(_done) = self.finish_with_retries(habit) else {
+            return Err(Fault::Call(CallFault::Pending));
+        };
         if self.queue_len() >= u64::from(habit.collect_after) {
             self.relieve();
         }
+        Ok(())
     }
 
-    /// What is done of an insert behind a first one that has told this fault: it is made again while
-    /// it loses each of its tries, and once more behind a collection where no slot was free.
+    /// Retries an insert, behind a first one that has told this fault; and where no slot was free,
+    /// it is made once more behind a collection, with retries.
     #[cold]
     #[inline(never)]
-    fn insert_behind(&mut self, key: Key, habit: &Habit, fault: Fault) -> Result<bool, InsertFault>
+    fn retry_insert(&mut self, key: Key, habit: &Habit, fault: Fault) -> Result<bool, InsertFault>
         ensures board { self.new.board ≡ self.old.board }
         ensures did { (w : Hand)
-            → Asked (LeavesInsert self.old.board.layout habit.now.tries key) w self.old.hand
-            (Err fault) → InsertsOn self.old.board habit.now key w self.new.hand result }
+            → Asked (Leaves Insert self.old.board.layout habit.now.tries key) w self.old.hand
+            (Err fault) → RetriesInsert self.old.board habit.now key w self.new.hand result }
     {
-        let told = self.insert_again(key, habit, fault);
+        let told = self.retry(Op::Insert, key, habit, fault);
         if !is_full(&told) {
             return plain(told);
         }
         let behind = self.relieve();
-        let told = self.insert_rounds(key, habit);
+        let told = self.ask_with_retries(Op::Insert, key, habit);
         with_fullness(behind, self.queue_len(), told)
     }
 
-    /// What is done of a delete behind a first one that has told this fault: it is made again while it
-    /// loses each of its tries, and what is left to do of it is done.
+    /// Retries a delete, behind a first one that has told this fault, and finishes it where its leaf
+    /// is flagged.
     #[cold]
     #[inline(never)]
-    fn delete_behind(&mut self, key: Key, habit: &Habit, fault: Fault) -> Result<bool, Fault>
+    fn retry_remove(&mut self, key: Key, habit: &Habit, fault: Fault) -> Result<bool, Fault>
         ensures board { self.new.board ≡ self.old.board }
         ensures did { (w : Hand)
-            → Asked (LeavesDelete self.old.board.layout habit.now.tries key) w self.old.hand
-            (Err fault) → DeletesOn self.old.board habit.now key w self.new.hand result }
+            → Asked (Leaves Delete self.old.board.layout habit.now.tries key) w self.old.hand
+            (Err fault) → RetriesDelete self.old.board habit.now key w self.new.hand result }
     {
-        let told = self.delete_again(key, habit, fault);
+        let told = self.retry(Op::Delete, key, habit, fault);
         if !is_unfinished(&told) {
             return told;
         }
-        match self.finish_again(habit) {
+        match self.finish_with_retries(habit) {
             Ok(answer) => Ok(answer),
             Err(fault) => Err(Fault::Call(fault)),
         }
@@ -344,115 +345,69 @@ impl Member {
         behind_of(&first, &second)
     }
 
-    /// Look-ups, until one has not lost each of its tries: nearly always it is the first one.
+    /// A look-up, with retries: nearly always the first one answers.
     #[inline(always)]
-    fn has_again(&mut self, key: Key, habit: &Habit) -> Result<bool, Fault>
+    fn contains_with_retries(&mut self, key: Key, habit: &Habit) -> Result<bool, Fault>
         ensures board { self.new.board ≡ self.old.board }
-        ensures did { Looks self.old.board habit.now key self.old.hand self.new.hand result }
+        ensures did { Retries Has self.old.board habit.now key self.old.hand self.new.hand result }
     {
         match self.try_contains(key, habit.tries) {
             Ok(answer) => Ok(answer),
-            Err(fault) => self.has_behind(key, habit, fault),
+            Err(fault) => self.retry(Op::Has, key, habit, fault),
         }
     }
 
-    /// What is done of them behind a first look-up that has told this fault. What it keeps in memory
-    /// for `has_rounds` is made here, out of the way of a look-up that answers.
+    /// Retries a call, behind a first one that has told this fault. What it keeps in memory for
+    /// `ask_with_retries` is made here, out of the way of a call that answers.
     #[inline(always)]
-    fn has_behind(&mut self, key: Key, habit: &Habit, fault: Fault) -> Result<bool, Fault>
+    fn retry(&mut self, op: Op, key: Key, habit: &Habit, fault: Fault) -> Result<bool, Fault>
         ensures board { self.new.board ≡ self.old.board }
         ensures did { (w : Hand)
-            → Asked (LeavesHas self.old.board.layout habit.now.tries key) w self.old.hand
-            (Err fault) → Looks self.old.board habit.now key w self.new.hand result }
+            → Asked (Leaves op self.old.board.layout habit.now.tries key) w self.old.hand
+            (Err fault) → Retries op self.old.board habit.now key w self.new.hand result }
     {
         let told = Err(fault);
         if !is_busy(&told) || habit.rounds == 0 {
             return told;
         }
-        self.has_rounds(key, &without_one(habit))
+        self.ask_with_retries(op, key, &without_one(habit))
     }
 
-    /// Look-ups, until one has not lost each of its tries.
+    /// The call of that operation, until one has not lost each of its tries: `rounds` and one times
+    /// at most.
     #[cold]
     #[inline(never)]
-    fn has_rounds(&mut self, key: Key, habit: &Habit) -> Result<bool, Fault>
+    fn ask_with_retries(&mut self, op: Op, key: Key, habit: &Habit) -> Result<bool, Fault>
         ensures board { self.new.board ≡ self.old.board }
-        ensures did { Looks self.old.board habit.now key self.old.hand self.new.hand result }
+        ensures did { Retries op self.old.board habit.now key self.old.hand self.new.hand result }
     {
         for _round in 0..habit.rounds {
-            let told = self.try_contains(key, habit.tries);
+            let told = self.ask(op, key, habit.tries);
             if !is_busy(&told) {
                 return told;
             }
         }
-        self.try_contains(key, habit.tries)
+        self.ask(op, key, habit.tries)
     }
 
-    /// Inserts, behind a first one that has told this fault, until one has not lost each of its
-    /// tries.
-    fn insert_again(&mut self, key: Key, habit: &Habit, fault: Fault) -> Result<bool, Fault>
-        ensures board { self.new.board ≡ self.old.board }
-        ensures did { (w : Hand)
-            → Asked (LeavesInsert self.old.board.layout habit.now.tries key) w self.old.hand
-            (Err fault) → Inserts self.old.board habit.now key w self.new.hand result }
-    {
-        let told = Err(fault);
-        if !is_busy(&told) || habit.rounds == 0 {
-            return told;
-        }
-        self.insert_rounds(key, &without_one(habit))
-    }
-
-    /// Inserts, until one has not lost each of its tries.
+    /// The call of that operation.
     #[cold]
     #[inline(never)]
-    fn insert_rounds(&mut self, key: Key, habit: &Habit) -> Result<bool, Fault>
+    fn ask(&mut self, op: Op, key: Key, tries: u32) -> Result<bool, Fault>
         ensures board { self.new.board ≡ self.old.board }
-        ensures did { Inserts self.old.board habit.now key self.old.hand self.new.hand result }
+        ensures did { Asked (Leaves op self.old.board.layout tries key) self.old.hand
+            self.new.hand result }
     {
-        for _round in 0..habit.rounds {
-            let told = self.try_insert(key, habit.tries);
-            if !is_busy(&told) {
-                return told;
-            }
+        match op {
+            Op::Has => self.try_contains(key, tries),
+            Op::Insert => self.try_insert(key, tries),
+            Op::Delete => self.try_remove(key, tries),
         }
-        self.try_insert(key, habit.tries)
     }
 
-    /// Deletes, behind a first one that has told this fault, until one has not lost each of its
-    /// tries.
-    fn delete_again(&mut self, key: Key, habit: &Habit, fault: Fault) -> Result<bool, Fault>
-        ensures board { self.new.board ≡ self.old.board }
-        ensures did { (w : Hand)
-            → Asked (LeavesDelete self.old.board.layout habit.now.tries key) w self.old.hand
-            (Err fault) → Deletes self.old.board habit.now key w self.new.hand result }
-    {
-        let told = Err(fault);
-        if !is_busy(&told) || habit.rounds == 0 {
-            return told;
-        }
-        self.delete_rounds(key, &without_one(habit))
-    }
-
-    /// Deletes, until one has not lost each of its tries.
-    #[cold]
-    #[inline(never)]
-    fn delete_rounds(&mut self, key: Key, habit: &Habit) -> Result<bool, Fault>
-        ensures board { self.new.board ≡ self.old.board }
-        ensures did { Deletes self.old.board habit.now key self.old.hand self.new.hand result }
-    {
-        for _round in 0..habit.rounds {
-            let told = self.try_remove(key, habit.tries);
-            if !is_busy(&told) {
-                return told;
-            }
-        }
-        self.try_remove(key, habit.tries)
-    }
-
-    /// What is left to do of a delete, until it is done: nearly always there is nothing.
+    /// What is left to do of a delete, with retries: nearly always there is nothing.
     #[inline(always)]
-    pub(crate) fn finish_again(&mut self, habit: &Habit) -> Result<bool, CallFault>
+    pub(crate) fn finish_with_retries(&mut self, habit: &Habit) -> Result<bool, CallFault>
         ensures board { self.new.board ≡ self.old.board }
         ensures did { FinishesPending self.old.board habit.now self.old.hand self.new.hand result }
     {
@@ -460,13 +415,13 @@ impl Member {
         if !is_lost(&told) || habit.rounds == 0 {
             return told;
         }
-        self.finish_rounds(&without_one(habit))
+        self.retry_finish(&without_one(habit))
     }
 
-    /// What is left to do of a delete, until it is done.
+    /// What is left to do of a delete, until it is done: `rounds` and one times at most.
     #[cold]
     #[inline(never)]
-    fn finish_rounds(&mut self, habit: &Habit) -> Result<bool, CallFault>
+    fn retry_finish(&mut self, habit: &Habit) -> Result<bool, CallFault>
         ensures board { self.new.board ≡ self.old.board }
         ensures did { FinishesPending self.old.board habit.now self.old.hand self.new.hand result }
     {

@@ -17,11 +17,19 @@ use Rattle.nm_walks.specs.Cleanups.{HoldsCuts}
 use Rattle.nm_walks.specs.WonCounts.{won_links, won_flags, won_splices}
 use Rattle.nm_pool.specs.declared.placement.Fit.{Fit}
 use Rattle.nm_calls.specs.declared.deleting.Unfinished.{Unfinished}
-use Rattle.nm_tree.specs.Workers.{Hand, IsAs, IsWorker, IsCounted, AreCounted, AreOf, HasOrigin, QueueStandsAt, OnlyOwnLedger, log_held_of, log_among, ledger_in}
+use Rattle.nm_tree.specs.Workers.{Hand, IsAs, KeepsOtherQueues, IsWorker, IsCounted, AreCounted, AreOf, HasOrigin, QueueStandsAt, OnlyOwnLedger, log_held_of, log_among, ledger_in}
 use Rattle.nm_walks.specs.Rooms.{TakesRoom}
-use Rattle.nm_tree.proofs.QueueLists.{few_after, stands_there, stands_after, held_there, held_after, has_after, had_before, ascend_after, not_both, not_none, origin_at}
+use Rattle.nm_tree.proofs.QueueLists.{others_after, few_after, stands_there, stands_after, held_there, held_after, has_after, had_before, ascend_after, not_both, not_none, origin_at}
 use Rattle.nm_tree.proofs.OwnQueue.{TellAlike, all_counted_still, counted_still, holds_own, own_counted}
 use Rattle.nm_tree.proofs.Numbers.{numbers_stay, resigned_stay, room_stays}
+
+-- ---- queues of others
+
+-- what a worker had but for its own queue it has still: v is what it held, and w as it was seen
+pub others_kept : (v w : Hand) (home : ℕ) (q : Stand) (g : HeldQueue) → v ≡ w → QueueStandsAt home v.pass.view.number v.queues → g.origin ≡ q.view.number → IsSamePass v.pass q
+    → KeepsOtherQueues w.pass.view.number w.queues (slice_set v.queues home g)
+others_kept v w home q g seen stands own same =
+    subst (λ (x : Hand). KeepsOtherQueues x.pass.view.number x.queues (slice_set v.queues home g)) seen (others_after home v.pass.view.number v.queues g stands (own ∙ ap (λ (x : Stand). x.view.number) same))
 
 -- ---- logs and ledgers of others
 

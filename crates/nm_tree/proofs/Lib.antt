@@ -6,6 +6,7 @@ pub mod Quiet
 pub mod HeldLedgers
 pub mod Numbers
 pub mod Staying
+pub mod Untouched
 pub mod Changing
 pub mod FlaggedSeen
 pub mod Disturbed

@@ -13,7 +13,7 @@ use Rattle.nm_steps.specs.Steps.{Stand, IsSamePass}
 use Rattle.nm_epoch.specs.declared.collecting.HeldQueue.{HeldQueue}
 use Rattle.nm_epoch.specs.Collecting.{AreHeld}
 use Rattle.std.proofs.lemmas.Option.{none-some}
-use Rattle.nm_epoch.specs.Resting.{IsResting, IsSettled, Settles, IsPinnedAt, epochs, search}
+use Rattle.nm_epoch.specs.Resting.{IsResting, IsSettled, KeepsHands, Settles, IsPinnedAt, epochs, search}
 use Rattle.nm_epoch.proofs.SeveralQueues.{queue_stays}
 use Rattle.nm_calls.specs.Deletes.{IsRemoving}
 use Rattle.nm_walks.specs.Telling.{IsInRun}
@@ -116,6 +116,13 @@ rests_in p s is as' = let P : Standing → Type 0 = λ x. IsAs p (pending_in x) 
 
 pub rests_as : (p : Stand) (s : Standing) → s ≡ standing.Resting → IsResting p → IsAs p (pending_in s) (held_in s)
 rests_as p s is rests = let P : Standing → Type 0 = λ x. IsAs p (pending_in x) (held_in x) in subst P (sym is) rests
+
+-- nor does it have or win anything behind a call with which it rests again
+pub stays_resting : {r : ℕ} {f g : Fit} (p q : Stand) (hs : List HeldQueue) (s : Standing) (home : ℕ) → s ≡ standing.Resting
+    → IsWorker (record { pass = p; queues = hs; pending = pending_in s; held = held_in s; fit = f }) home r → IsSamePass p q → Quiet p.view.log q.view.log → KeepsHands p q → IsResting q
+    → IsWorker (record { pass = q; queues = hs; pending = pending_in s; held = held_in s; fit = g }) home r
+stays_resting {r} {f} {g} p q hs s home at is same quiet hands rests =
+    stays (record { pass = p; queues = hs; pending = pending_in s; held = held_in s; fit = f }) home q (pending_in s) (held_in s) is same quiet hands.private (hands.ledgers (rests_in p s at is.between.stands).labelled) (rests_as q s at rests)
 
 -- and then no delete was pending, and none is
 pub free_in : (s : Standing) → s ≡ standing.Resting → (pending_in s ≡ None) × (pending_in s ≡ None)

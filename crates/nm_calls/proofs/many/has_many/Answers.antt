@@ -1,16 +1,12 @@
-use Rattle.std.proofs.Common.{rules, ◌∙◌, List, map, length, sym, ap, arith}
-use Rattle.nm_model.specs.declared.knowledge.Brief.{Brief}
-use Rattle.nm_model.specs.Searches.{Search}
-use Rattle.nm_model.specs.Walks.{Entry}
-use Rattle.nm_steps.specs.Steps.{Stand, IsSamePass}
-use Rattle.nm_steps.proofs.Seeing.{seen_through, seen_by_turn, seen_all}
-use Rattle.nm_epoch.proofs.Allowed.{may_leave}
+use Rattle.std.proofs.Common.{rules, map, length, ap, arith}
+use Rattle.nm_steps.specs.Steps.{Stand}
+use Rattle.nm_steps.proofs.Seeing.{seen_all}
 use Rattle.nm_walks.specs.Bounds.{reach}
 use Rattle.nm_calls.specs.InTurns.{GiveUp, key_of, most_looks}
-use Rattle.nm_calls.specs.PlainWalks.{LooksUnderPin}
+use Rattle.nm_calls.specs.PlainWalks.{LooksUnderPin, WasSo}
 use Rattle.nm_calls.proofs.Adding.{has_won, cuts_none, plain_moved_adds}
 use Rattle.nm_calls.proofs.InTurnsLooks.{all_were_so}
-use Rattle.nm_calls.proofs.PlainLooks.{call_adds, pin_missed, walks_missed}
+use Rattle.nm_calls.proofs.PlainLooks.{was_so, may_end, call_adds, pin_missed, walks_missed}
 use Rattle.nm_calls.proofs.many.has_many.Goals as goal
 
 pub returns-in_default : goal.returns-in_default
@@ -29,10 +25,7 @@ returns-in_default c = record {
 }
 
 pub unpin-requires-clause-may : goal.unpin-requires-clause-may
-unpin-requires-clause-may c =
-    let at = c.in-Ok.ensures.at in
-    let only = c.walk_all-ended.ensures.only in
-    may_leave c.walk_all-ended.new.pass (ap (λ (b : Brief). b.unlabelled) only.epochs ∙ at.labelled) (only.linked ∙ ap (λ (s : Search). s.linked) at.begun) (only.flagged ∙ ap (λ (s : Search). s.flagged) at.begun)
+unpin-requires-clause-may c = may_end c.in-Ok._epoch c.pin.new.pass c.walk_all-ended.new.pass c.in-Ok.ensures.at c.walk_all-ended.ensures.only
 
 pub returns-then-ended : goal.returns-then-ended
 returns-then-ended c =
@@ -48,14 +41,10 @@ returns-then-ended c =
       keys = search rules;
       moment = (
           let o = c.args.pass.now in
-          let a = c.pin.new.pass in
           let p = c.walk_all-ended.new.pass in
           let q = c.unpin.new.pass in
           let walked = c.walk_all-ended.ensures in
-          let first : IsSamePass o p = search rules in
-          let last : IsSamePass p q = c.unpin.ensures.took.step ∙ ap (λ (l : List Entry). record p { view = record p.view { log = l; past = q.view.past } }) (sym (ap (λ (s : Stand). s.view.log) c.unpin.ensures.took.step)) in
-          all_were_so o p q c.is_of_a_run.ensures.seen c.is_of_a_run.ensures.fits c.requires.rests.unpinned first (seen_through o a p c.pin.ensures.on.past walked.on.past) c.is_of_a_run-2.ensures.seen last (seen_by_turn _ _ _ _ c.unpin.ensures.took.past)
-          c.walk_all-ended.new.queries walked.under_way (walked.ended c.if-ended.true)
+          all_were_so p (WasSo o q) (was_so o c.pin.new.pass p q c.is_of_a_run.ensures.seen c.is_of_a_run.ensures.fits c.requires.rests.unpinned c.pin.ensures.on walked.on c.is_of_a_run-2.ensures.seen c.unpin.ensures.took) c.walk_all-ended.new.queries walked.under_way (walked.ended c.if-ended.true)
           );
       missed = search rules;
       won = has_won _ _ added;

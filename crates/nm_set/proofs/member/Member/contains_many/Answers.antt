@@ -1,23 +1,21 @@
 use Rattle.std.proofs.Common.{rules, ◌≡◌, sym, subst}
-use Rattle.std.specs.Prelude.{Result, None}
-use Rattle.nm_steps.specs.Steps.{Board}
-use Rattle.nm_tree.specs.declared.fault.CallFault.{CallFault as Lost}
-use Rattle.nm_set.specs.declared.fault.Fault.{Fault}
-use Rattle.nm_set.specs.Seats.{Seated}
+use Rattle.std.specs.Prelude.{None}
 use Rattle.nm_tree.specs.Calls.{LeavesHasMany}
 use Rattle.nm_set.specs.InTurns.{AskedMany}
+use Rattle.nm_set.proofs.Inside.{of_member}
 use Rattle.nm_set.proofs.member.Member.contains_many.Goals as goal
 use Rattle.nm_set.proofs.member.Member.contains_many.Goals.{in-Ok, in-Err}
 
 pub returns-clause-did : goal.returns-clause-did
 returns-clause-did c =
-    let P : Seated → Type 0 = λ s. LeavesHasMany s.board.layout c.args.tries c.args.queries.now c.has_many.new.queries s.hand c.has_many.new.worker c.has_many.result in
-    let Q : Board → Type 0 = λ b. LeavesHasMany b.layout c.args.tries c.args.queries.now c.has_many.new.queries c.self.inside.guest.worker c.has_many.new.worker c.has_many.result in
-    let R : Result (Unit {0}) Lost → Type 0 = λ r. LeavesHasMany c.args.self.now.board.layout c.args.tries c.args.queries.now c.has_many.new.queries c.args.self.now.hand c.has_many.new.worker r in
-    let S : Result (Unit {0}) Fault → Type 0 = λ r. AskedMany c.args.self.now.board.layout c.args.tries c.args.queries.now c.has_many.new.queries c.args.self.now.hand c.has_many.new.worker r in
-    let did : R c.has_many.result = subst P c.self.view_is (subst Q c.tree.ensures c.has_many.ensures) in
-    let free : c.args.self.now.hand.held ≡ None = search rules in
+    let L = c.args.self.now.board.layout in
+    let old = c.args.queries.now in
+    let new = c.has_many.new.queries in
+    let w = c.args.self.now.hand in
+    let z = c.has_many.new.worker in
+    let did = of_member (λ b v. LeavesHasMany b.layout c.args.tries old new v z c.has_many.result) _ _ _ c.self.view_is c.tree.ensures c.has_many.ensures in
+    let free : w.held ≡ None = search rules in
     elim c.match-has_many.branch [
-      | in-Ok w ↦ subst S (sym w.result-is) (free, subst R w.in-Ok.is did)
-      | in-Err w ↦ subst S (sym w.result-is) (free, subst R w.in-Err.is did)
+      | in-Ok m ↦ subst (AskedMany L c.args.tries old new w z) (sym m.result-is) (free, subst (LeavesHasMany L c.args.tries old new w z) m.in-Ok.is did)
+      | in-Err m ↦ subst (AskedMany L c.args.tries old new w z) (sym m.result-is) (free, subst (LeavesHasMany L c.args.tries old new w z) m.in-Err.is did)
     ]

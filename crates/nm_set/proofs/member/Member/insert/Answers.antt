@@ -1,15 +1,15 @@
 use Rattle.std.proofs.Common.{refl, subst}
 use Rattle.std.specs.Prelude.{Ok, Err}
 use Rattle.nm_model.specs.declared.event.Op.TheVariants.{Insert}
-use Rattle.nm_steps.specs.Steps.{Board}
 use Rattle.nm_tree.specs.Calls.{LeavesInsert}
 use Rattle.nm_tree.specs.Workers.{Hand}
 use Rattle.nm_set.specs.declared.fault.Fault.TheVariants as fault
 use Rattle.nm_set.specs.Asked.{Asked}
 use Rattle.nm_set.specs.Seats.{Seated}
-use Rattle.nm_set.specs.Tended.{InsertsOn, TendsInsert}
+use Rattle.nm_set.specs.Tended.{RetriesInsert, TendsInsert}
 use Rattle.nm_set.proofs.Disturbances.{inserts_held_up}
-use Rattle.nm_set.proofs.Tending.{inserts_answered, inserts_at_once, full_told, said}
+use Rattle.nm_set.proofs.Inside.{of_member}
+use Rattle.nm_set.proofs.Tending.{insert_answered, inserts_tend, full_told, said, was_tidy}
 use Rattle.nm_set.proofs.member.Member.insert.Goals as goal
 
 pub returns-in-Ok-clause-did : goal.returns-in-Ok-clause-did
@@ -18,12 +18,10 @@ returns-in-Ok-clause-did c =
     let h = c.args.habit.now in
     let k = c.args.key in
     let w = c.args.self.now.hand in
-    let m = c.insert.new.worker in
+    let z = c.insert.new.worker in
     let tidy = c.if-not-is_tidy.ensures refl in
-    let P : Seated → Type 0 = λ s. LeavesInsert s.board.layout h.tries k s.hand m (Ok c.in-Ok.answer) in
-    let Q : Board → Type 0 = λ d. LeavesInsert d.layout h.tries k c.self.inside.guest.worker m (Ok c.in-Ok.answer) in
-    let did = subst P c.self.view_is (subst Q c.tree.ensures c.in-Ok.ensures.leaves) in
-    inserts_at_once b h k w m (Ok c.in-Ok.answer) tidy (inserts_answered b h k w m c.in-Ok.answer (tidy.free, did))
+    let did = of_member (λ d v. LeavesInsert d.layout h.tries k v z (Ok c.in-Ok.answer)) _ _ _ c.self.view_is c.tree.ensures c.in-Ok.ensures.leaves in
+    inserts_tend b h k w w z (Ok c.in-Ok.answer) (was_tidy b h w tidy) (insert_answered b h k w z c.in-Ok.answer (tidy.free, did))
 
 pub returns-in-Err-clause-did : goal.returns-in-Err-clause-did
 returns-in-Err-clause-did c =
@@ -32,13 +30,11 @@ returns-in-Err-clause-did c =
     let k = c.args.key in
     let w = c.args.self.now.hand in
     let m = c.insert.new.worker in
+    let z = c.retry_insert.new.self.hand in
     let tidy = c.if-not-is_tidy.ensures refl in
-    let z = c.insert_behind.new.self.hand in
-    let P : Seated → Type 0 = λ s. LeavesInsert s.board.layout h.tries k s.hand m (Err c.in-Err.lost) in
-    let Q : Board → Type 0 = λ d. LeavesInsert d.layout h.tries k c.self.inside.guest.worker m (Err c.in-Err.lost) in
-    let did = subst P c.self.view_is (subst Q c.tree.ensures c.in-Err.ensures.leaves) in
-    let R : Seated → Type 0 = λ s. (v : Hand) → Asked (LeavesInsert s.board.layout h.tries k) v m (Err (fault.Call c.in-Err.lost)) → InsertsOn s.board h k v z c.insert_behind.result in
-    inserts_at_once b h k w z c.insert_behind.result tidy (subst R c.self.view_is c.insert_behind.ensures.did w (tidy.free, did))
+    let did = of_member (λ d v. LeavesInsert d.layout h.tries k v m (Err c.in-Err.lost)) _ _ _ c.self.view_is c.tree.ensures c.in-Err.ensures.leaves in
+    let P : Seated → Type 0 = λ s. (v : Hand) → Asked (LeavesInsert s.board.layout h.tries k) v m (Err (fault.Call c.in-Err.lost)) → RetriesInsert s.board h k v z c.retry_insert.result in
+    inserts_tend b h k w w z c.retry_insert.result (was_tidy b h w tidy) (subst P c.self.view_is c.retry_insert.ensures.did w (tidy.free, did))
 
 pub returns-in-Ok-clause-says : goal.returns-in-Ok-clause-says
 returns-in-Ok-clause-says c = said c.args.self.now.board c.args.habit.now Insert c.args.key c.args.self.now.hand _ _ (returns-in-Ok-clause-did c)
@@ -62,7 +58,7 @@ returns-in-Err-clause-full c f is =
     let b = c.args.self.now.board in
     let h = c.args.habit.now in
     let w = c.args.self.now.hand in
-    let z = c.insert_behind.new.self.hand in
+    let z = c.retry_insert.new.self.hand in
     full_told b h c.args.key w z f (subst (TendsInsert b h c.args.key w z) is (returns-in-Err-clause-did c))
 
 pub returns-then-not-is_tidy-clause-disturbed : goal.returns-then-not-is_tidy-clause-disturbed
@@ -71,4 +67,4 @@ returns-then-not-is_tidy-clause-disturbed c is =
 
 pub returns-in-Err-clause-disturbed : goal.returns-in-Err-clause-disturbed
 returns-in-Err-clause-disturbed c is =
-    inserts_held_up c.args.self.now.board c.args.habit.now c.args.key c.args.self.now.hand c.insert_behind.new.self.hand c.insert_behind.result is (returns-in-Err-clause-did c)
+    inserts_held_up c.args.self.now.board c.args.habit.now c.args.key c.args.self.now.hand c.retry_insert.new.self.hand c.retry_insert.result is (returns-in-Err-clause-did c)

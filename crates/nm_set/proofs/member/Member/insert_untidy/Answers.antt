@@ -1,49 +1,41 @@
-use Rattle.std.proofs.Common.{rules, ◌≡◌, ◌∙◌, inl, inr, refl, subst}
-use Rattle.std.specs.Prelude.{None, Ok, Err}
+use Rattle.std.proofs.Common.{◌∙◌, inl, ap, subst}
+use Rattle.std.specs.Prelude.{Ok, Err}
 use Rattle.nm_model.specs.declared.event.Op.TheVariants.{Insert}
 use Rattle.nm_steps.specs.Steps.{Board}
 use Rattle.nm_tree.specs.Calls.{LeavesInsert}
+use Rattle.nm_set.specs.declared.fault.Fault.{Fault}
+use Rattle.nm_set.specs.declared.fault.InsertFault.TheVariants as inserting
 use Rattle.nm_set.specs.Asked.{Asked}
-use Rattle.nm_set.specs.Tended.{IsTidied, InsertsOn}
-use Rattle.nm_set.proofs.Tending.{pending_tends, inserts_answered, inserts_tend}
+use Rattle.nm_set.specs.Tended.{InsertsTended, RetriesInsert}
+use Rattle.nm_set.proofs.Tending.{not_tidied, insert_answered, inserts_tend}
 use Rattle.nm_set.proofs.member.Member.insert_untidy.Goals as goal
-
-pub returns-in_default-clause-did : goal.returns-in_default-clause-did
-returns-in_default-clause-did c =
-    let free : c.args.self.now.hand.held ≡ None = search rules in
-    let told = pending_tends c.args.self.now.board c.args.habit.now Insert c.args.key c.args.self.now.hand c.finish_again.new.self.hand c.in_default.field-0 free c.in_default.ensures.did in
-    inr (free, record { did = inl (told.0, refl); tends = told.1 })
-
-pub returns-in-Ok-try_insert-clause-did : goal.returns-in-Ok-try_insert-clause-did
-returns-in-Ok-try_insert-clause-did c =
-    let b = c.args.self.now.board in
-    let h = c.args.habit.now in
-    let k = c.args.key in
-    let w = c.args.self.now.hand in
-    let x = c.finish_again.new.self.hand in
-    let y = c.tidy.new.self.hand in
-    let free : w.held ≡ None = search rules in
-    let first = c.finish_again.ensures.board in
-    let same : c.tidy.new.self.board ≡ b = c.tidy.ensures.board ∙ first in
-    let tidied = subst (λ (d : Board). IsTidied d h.collect_after x y) first c.tidy.ensures.did in
-    let told = subst (λ (d : Board). Asked (LeavesInsert d.layout h.tries k) y c.try_insert.new.self.hand (Ok c.in-Ok-try_insert.answer)) same c.in-Ok-try_insert.ensures.did in
-    let did = inserts_answered b h k y c.try_insert.new.self.hand c.in-Ok-try_insert.answer told in
-    inserts_tend b h k w x y c.try_insert.new.self.hand c.in-Ok._done (Ok c.in-Ok-try_insert.answer) free c.in-Ok.ensures.did tidied did
 
 pub returns-in-Err-clause-did : goal.returns-in-Err-clause-did
 returns-in-Err-clause-did c =
     let b = c.args.self.now.board in
     let h = c.args.habit.now in
     let k = c.args.key in
-    let w = c.args.self.now.hand in
-    let x = c.finish_again.new.self.hand in
-    let y = c.tidy.new.self.hand in
-    let free : w.held ≡ None = search rules in
-    let first = c.finish_again.ensures.board in
-    let same : c.tidy.new.self.board ≡ b = c.tidy.ensures.board ∙ first in
-    let tidied = subst (λ (d : Board). IsTidied d h.collect_after x y) first c.tidy.ensures.did in
+    not_tidied (λ x y told. InsertsTended b h k x y (Err (inserting.Other c.in-Err.fault))) b h Insert k c.args.self.now.hand c.make_tidy.new.self.hand c.in-Err.fault (λ pending is. inl (pending, ap (λ (f : Fault). Err f) is)) c.in-Err.ensures.did
+
+pub returns-in-Ok-clause-did : goal.returns-in-Ok-clause-did
+returns-in-Ok-clause-did c =
+    let b = c.args.self.now.board in
+    let h = c.args.habit.now in
+    let k = c.args.key in
+    let y = c.make_tidy.new.self.hand in
+    let z = c.try_insert.new.self.hand in
+    let did = subst (λ (d : Board). Asked (LeavesInsert d.layout h.tries k) y z (Ok c.in-Ok.answer)) c.make_tidy.ensures.board c.in-Ok.ensures.did in
+    inserts_tend b h k c.args.self.now.hand y z (Ok c.in-Ok.answer) c.in_default.ensures.did (insert_answered b h k y z c.in-Ok.answer did)
+
+pub returns-in-Err-try_insert-clause-did : goal.returns-in-Err-try_insert-clause-did
+returns-in-Err-try_insert-clause-did c =
+    let b = c.args.self.now.board in
+    let h = c.args.habit.now in
+    let k = c.args.key in
+    let y = c.make_tidy.new.self.hand in
     let m = c.try_insert.new.self.hand in
-    let z = c.insert_behind.new.self.hand in
-    let P : Board → Type 0 = λ d. Asked (LeavesInsert d.layout h.tries k) y m (Err c.in-Err.fault) → InsertsOn d h k y z c.insert_behind.result in
-    let did = subst P (c.try_insert.ensures.board ∙ same) (c.insert_behind.ensures.did y) (subst (λ (d : Board). Asked (LeavesInsert d.layout h.tries k) y m (Err c.in-Err.fault)) same c.in-Err.ensures.did) in
-    inserts_tend b h k w x y c.insert_behind.new.self.hand c.in-Ok._done c.insert_behind.result free c.in-Ok.ensures.did tidied did
+    let z = c.retry_insert.new.self.hand in
+    let same = c.make_tidy.ensures.board in
+    let P : Board → Type 0 = λ d. Asked (LeavesInsert d.layout h.tries k) y m (Err c.in-Err-try_insert.fault) → RetriesInsert d h k y z c.retry_insert.result in
+    let first = subst (λ (d : Board). Asked (LeavesInsert d.layout h.tries k) y m (Err c.in-Err-try_insert.fault)) same c.in-Err-try_insert.ensures.did in
+    inserts_tend b h k c.args.self.now.hand y z c.retry_insert.result c.in_default.ensures.did (subst P (c.try_insert.ensures.board ∙ same) (c.retry_insert.ensures.did y) first)

@@ -1,5 +1,5 @@
 use Rattle.std.proofs.Common.{inr, ℕ, Bool, refl, subst}
-use Rattle.std.specs.Prelude.{Option, Some, Ok, Err}
+use Rattle.std.specs.Prelude.{Option, Ok, Err}
 use Rattle.std.proofs.lemmas.Result.{err_from_is_err_and}
 use Rattle.nm_steps.specs.Steps.{Board}
 use Rattle.nm_set.specs.Popping.{AskedForEnd}

@@ -1,26 +1,21 @@
-use Rattle.std.proofs.Common.{rules, ◌≡◌, Bool, sym, subst}
-use Rattle.std.specs.Prelude.{Result, None}
-use Rattle.nm_steps.specs.Steps.{Board}
-use Rattle.nm_tree.specs.declared.fault.CallFault.{CallFault as Lost}
-use Rattle.nm_set.specs.declared.fault.Fault.{Fault}
-use Rattle.nm_set.specs.Seats.{Seated}
+use Rattle.std.proofs.Common.{rules, ◌≡◌}
+use Rattle.std.specs.Prelude.{None}
 use Rattle.nm_tree.specs.Calls.{LeavesHas, SaysHas}
-use Rattle.nm_set.specs.Asked.{Asked}
+use Rattle.nm_set.proofs.Inside.{of_member, told_ok, told_err}
 use Rattle.nm_set.proofs.Tending.{asked_says}
 use Rattle.nm_set.proofs.member.Member.try_contains.Goals as goal
 use Rattle.nm_set.proofs.member.Member.try_contains.Goals.{in-Ok, in-Err}
 
 pub returns-clause-did : goal.returns-clause-did
 returns-clause-did c =
-    let P : Seated → Type 0 = λ s. LeavesHas s.board.layout c.args.tries c.args.key s.hand c.has.new.worker c.has.result in
-    let Q : Board → Type 0 = λ b. LeavesHas b.layout c.args.tries c.args.key c.self.inside.guest.worker c.has.new.worker c.has.result in
-    let R : Result Bool Lost → Type 0 = λ r. LeavesHas c.args.self.now.board.layout c.args.tries c.args.key c.args.self.now.hand c.has.new.worker r in
-    let S : Result Bool Fault → Type 0 = λ r. Asked (LeavesHas c.args.self.now.board.layout c.args.tries c.args.key) c.args.self.now.hand c.has.new.worker r in
-    let did : R c.has.result = subst P c.self.view_is (subst Q c.tree.ensures c.has.ensures.leaves) in
-    let free : c.args.self.now.hand.held ≡ None = search rules in
+    let leaves = LeavesHas c.args.self.now.board.layout c.args.tries c.args.key in
+    let w = c.args.self.now.hand in
+    let z = c.has.new.worker in
+    let did = of_member (λ b v. LeavesHas b.layout c.args.tries c.args.key v z c.has.result) _ _ _ c.self.view_is c.tree.ensures c.has.ensures.leaves in
+    let free : w.held ≡ None = search rules in
     elim c.match-has.branch [
-      | in-Ok w ↦ subst S (sym w.result-is) (free, subst R w.in-Ok.is did)
-      | in-Err w ↦ subst S (sym w.result-is) (free, subst R w.in-Err.is did)
+      | in-Ok m ↦ told_ok leaves w z _ _ _ free did m.in-Ok.is m.result-is
+      | in-Err m ↦ told_err leaves w z _ _ _ free did m.in-Err.is m.result-is
     ]
 
 pub returns-clause-says : goal.returns-clause-says

@@ -1,26 +1,21 @@
-use Rattle.std.proofs.Common.{rules, ◌≡◌, Bool, sym, subst}
-use Rattle.std.specs.Prelude.{Result, None}
-use Rattle.nm_steps.specs.Steps.{Board}
-use Rattle.nm_tree.specs.declared.fault.CallFault.{CallFault as Lost}
-use Rattle.nm_set.specs.declared.fault.Fault.{Fault}
-use Rattle.nm_set.specs.Seats.{Seated}
+use Rattle.std.proofs.Common.{rules, ◌≡◌}
+use Rattle.std.specs.Prelude.{None}
 use Rattle.nm_tree.specs.Calls.{LeavesInsert, SaysInsert}
-use Rattle.nm_set.specs.Asked.{Asked}
+use Rattle.nm_set.proofs.Inside.{of_member, told_ok, told_err}
 use Rattle.nm_set.proofs.Tending.{asked_says}
 use Rattle.nm_set.proofs.member.Member.try_insert.Goals as goal
 use Rattle.nm_set.proofs.member.Member.try_insert.Goals.{in-Ok, in-Err}
 
 pub returns-clause-did : goal.returns-clause-did
 returns-clause-did c =
-    let P : Seated → Type 0 = λ s. LeavesInsert s.board.layout c.args.tries c.args.key s.hand c.insert.new.worker c.insert.result in
-    let Q : Board → Type 0 = λ b. LeavesInsert b.layout c.args.tries c.args.key c.self.inside.guest.worker c.insert.new.worker c.insert.result in
-    let R : Result Bool Lost → Type 0 = λ r. LeavesInsert c.args.self.now.board.layout c.args.tries c.args.key c.args.self.now.hand c.insert.new.worker r in
-    let S : Result Bool Fault → Type 0 = λ r. Asked (LeavesInsert c.args.self.now.board.layout c.args.tries c.args.key) c.args.self.now.hand c.insert.new.worker r in
-    let did : R c.insert.result = subst P c.self.view_is (subst Q c.tree.ensures c.insert.ensures.leaves) in
-    let free : c.args.self.now.hand.held ≡ None = search rules in
+    let leaves = LeavesInsert c.args.self.now.board.layout c.args.tries c.args.key in
+    let w = c.args.self.now.hand in
+    let z = c.insert.new.worker in
+    let did = of_member (λ b v. LeavesInsert b.layout c.args.tries c.args.key v z c.insert.result) _ _ _ c.self.view_is c.tree.ensures c.insert.ensures.leaves in
+    let free : w.held ≡ None = search rules in
     elim c.match-insert.branch [
-      | in-Ok w ↦ subst S (sym w.result-is) (free, subst R w.in-Ok.is did)
-      | in-Err w ↦ subst S (sym w.result-is) (free, subst R w.in-Err.is did)
+      | in-Ok m ↦ told_ok leaves w z _ _ _ free did m.in-Ok.is m.result-is
+      | in-Err m ↦ told_err leaves w z _ _ _ free did m.in-Err.is m.result-is
     ]
 
 pub returns-clause-says : goal.returns-clause-says

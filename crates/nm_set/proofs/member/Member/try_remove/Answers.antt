@@ -1,26 +1,21 @@
-use Rattle.std.proofs.Common.{rules, ◌≡◌, Bool, sym, subst}
-use Rattle.std.specs.Prelude.{Result, None}
-use Rattle.nm_steps.specs.Steps.{Board}
-use Rattle.nm_tree.specs.declared.fault.CallFault.{CallFault as Lost}
-use Rattle.nm_set.specs.declared.fault.Fault.{Fault}
-use Rattle.nm_set.specs.Seats.{Seated}
+use Rattle.std.proofs.Common.{rules, ◌≡◌}
+use Rattle.std.specs.Prelude.{None}
 use Rattle.nm_tree.specs.Calls.{LeavesDelete, SaysDelete}
-use Rattle.nm_set.specs.Asked.{Asked}
+use Rattle.nm_set.proofs.Inside.{of_member, told_ok, told_err}
 use Rattle.nm_set.proofs.Tending.{asked_says}
 use Rattle.nm_set.proofs.member.Member.try_remove.Goals as goal
 use Rattle.nm_set.proofs.member.Member.try_remove.Goals.{in-Ok, in-Err}
 
 pub returns-clause-did : goal.returns-clause-did
 returns-clause-did c =
-    let P : Seated → Type 0 = λ s. LeavesDelete s.board.layout c.args.tries c.args.key s.hand c.delete.new.worker c.delete.result in
-    let Q : Board → Type 0 = λ b. LeavesDelete b.layout c.args.tries c.args.key c.self.inside.guest.worker c.delete.new.worker c.delete.result in
-    let R : Result Bool Lost → Type 0 = λ r. LeavesDelete c.args.self.now.board.layout c.args.tries c.args.key c.args.self.now.hand c.delete.new.worker r in
-    let S : Result Bool Fault → Type 0 = λ r. Asked (LeavesDelete c.args.self.now.board.layout c.args.tries c.args.key) c.args.self.now.hand c.delete.new.worker r in
-    let did : R c.delete.result = subst P c.self.view_is (subst Q c.tree.ensures c.delete.ensures.leaves) in
-    let free : c.args.self.now.hand.held ≡ None = search rules in
+    let leaves = LeavesDelete c.args.self.now.board.layout c.args.tries c.args.key in
+    let w = c.args.self.now.hand in
+    let z = c.delete.new.worker in
+    let did = of_member (λ b v. LeavesDelete b.layout c.args.tries c.args.key v z c.delete.result) _ _ _ c.self.view_is c.tree.ensures c.delete.ensures.leaves in
+    let free : w.held ≡ None = search rules in
     elim c.match-delete.branch [
-      | in-Ok w ↦ subst S (sym w.result-is) (free, subst R w.in-Ok.is did)
-      | in-Err w ↦ subst S (sym w.result-is) (free, subst R w.in-Err.is did)
+      | in-Ok m ↦ told_ok leaves w z _ _ _ free did m.in-Ok.is m.result-is
+      | in-Err m ↦ told_err leaves w z _ _ _ free did m.in-Err.is m.result-is
     ]
 
 pub returns-clause-says : goal.returns-clause-says

@@ -1,81 +1,47 @@
 use Rattle.std.proofs.Common.{◌≡◌, ◌∙◌, List, sym, ap, subst}
 use Rattle.std.specs.Arc.{arc_value}
-use Rattle.nm_tree.specs.declared.closing.Report.{Report}
-use Rattle.nm_tree.specs.Closing.{IsClosed}
 use Rattle.nm_tree.specs.Workers.{Hand}
-use Rattle.nm_set.specs.declared.set.CloseError.{CloseError}
 use Rattle.nm_set.specs.declared.home.Site.{Site}
 use Rattle.nm_set.specs.declared.set.State.{State}
 use Rattle.nm_set.specs.Seats.{AreOwn}
-use Rattle.nm_set.specs.Ends.{EndsSet, IsLeftOpen, IsTreesReason, SaysEnded}
-use Rattle.nm_set.specs.States.{site_of, standing_of, closing_set, open_set}
-use Rattle.nm_set.proofs.SetEnds.{Gathers, ended, left, had_gathered, gathered_now, as_before, if_ok, if_err, says_ended}
+use Rattle.nm_set.specs.Ends.{EndsSet, SaysEnded}
+use Rattle.nm_set.specs.States.{site_of, standing_of, open_set}
+use Rattle.nm_set.proofs.SetEnds.{Gathers, closes, refuses, had_gathered, gathered_now, as_before, if_ok, says_ended}
 use Rattle.nm_set.proofs.set.Set.close.Goals as goal
 
-pub returns-in-Closing-clause-says : goal.returns-in-Closing-clause-says
-returns-in-Closing-clause-says c =
+had : (c : goal.After-end) → Gathers c.args.self c.in-Closing.site c.self.inside.kept.items
+had c =
     let s = c.args.self in
-    let site = c.in-Closing.site in
     let ws : List Hand = c.self.inside.kept.items in
-    let g : Gathers s site ws = had_gathered s site ws (subst (λ (x : State). standing_of x ws ≡ s) c.in-Closing.is c.self.view_is) (subst (λ (x : State). AreOwn (site_of x).tree ws) c.in-Closing.is c.self.invariant.0) in
-    if_ok (λ (r : Report). IsClosed site.tree ws r.queues.items r.keys.items r.free r.reached) (SaysEnded s) c.end.result c.end.ensures.closed (λ r is. says_ended s r (ended s site ws g r is))
+    had_gathered s c.in-Closing.site ws (subst (λ (x : State). standing_of x ws ≡ s) c.in-Closing.is c.self.view_is) (subst (λ (x : State). AreOwn (site_of x).tree ws) c.in-Closing.is c.self.invariant.0)
 
 pub returns-in-Closing-clause-closed : goal.returns-in-Closing-clause-closed
-returns-in-Closing-clause-closed c =
-    let s = c.args.self in
-    let site = c.in-Closing.site in
-    let ws : List Hand = c.self.inside.kept.items in
-    let g : Gathers s site ws = had_gathered s site ws (subst (λ (x : State). standing_of x ws ≡ s) c.in-Closing.is c.self.view_is) (subst (λ (x : State). AreOwn (site_of x).tree ws) c.in-Closing.is c.self.invariant.0) in
-    if_ok (λ (r : Report). IsClosed site.tree ws r.queues.items r.keys.items r.free r.reached) (EndsSet s) c.end.result c.end.ensures.closed (ended s site ws g)
+returns-in-Closing-clause-closed c = closes c.args.self c.in-Closing.site c.self.inside.kept.items (had c) c.end.result c.end.ensures.closed
+
+pub returns-in-Closing-clause-says : goal.returns-in-Closing-clause-says
+returns-in-Closing-clause-says c = if_ok (EndsSet c.args.self) (SaysEnded c.args.self) c.end.result (returns-in-Closing-clause-closed c) (says_ended c.args.self)
 
 pub returns-in-Closing-clause-refused : goal.returns-in-Closing-clause-refused
-returns-in-Closing-clause-refused c =
-    let s = c.args.self in
-    let site = c.in-Closing.site in
-    let ws : List Hand = c.self.inside.kept.items in
-    let g : Gathers s site ws = had_gathered s site ws (subst (λ (x : State). standing_of x ws ≡ s) c.in-Closing.is c.self.view_is) (subst (λ (x : State). AreOwn (site_of x).tree ws) c.in-Closing.is c.self.invariant.0) in
-    if_err (λ (e : CloseError). e.set ≡ closing_set site ws) (λ (e : CloseError). IsTreesReason site.tree ws e.reason) (λ (e : CloseError). IsLeftOpen s e.reason e.set) c.end.result c.end.ensures.refused c.end.ensures.reason
-    (λ e is told. left s site ws g e.set is e.reason told)
+returns-in-Closing-clause-refused c = refuses c.args.self c.in-Closing.site c.self.inside.kept.items (had c) c.end.result c.end.ensures.refused c.end.ensures.reason
 
-pub returns-in-Ok-clause-says : goal.returns-in-Ok-clause-says
-returns-in-Ok-clause-says c =
+gathers : (c : goal.After-end-in-Ok) → Gathers c.args.self c.gather-site.result.0 c.gather-site.result.1.items
+gathers c =
     let s = c.args.self in
     let kept : List Hand = c.self.inside.kept.items in
-    let site : Site = c.gather-site.result.0 in
     let ws : List Hand = c.gather-site.result.1.items in
     let home = arc_value c.in-Open.home in
     let there = subst (λ (x : State). standing_of x kept ≡ s) c.in-Open.is c.self.view_is in
     let own = subst (λ (x : Site). AreOwn x.tree ws) c.in-Ok.ensures.ok c.gather-site.ensures.own in
-    let now : Gathers s home ws = gathered_now s home kept ws there c.gather-site.ensures.kept own in
-    let g : Gathers s site ws = subst (λ (x : Site). Gathers s x ws) (sym (c.gather-site.ensures.site ∙ c.in-Ok.ensures.ok)) now in
-    if_ok (λ (r : Report). IsClosed site.tree ws r.queues.items r.keys.items r.free r.reached) (SaysEnded s) c.end-in-Ok.result c.end-in-Ok.ensures.closed (λ r is. says_ended s r (ended s site ws g r is))
+    subst (λ (x : Site). Gathers s x ws) (sym (c.gather-site.ensures.site ∙ c.in-Ok.ensures.ok)) (gathered_now s home kept ws there c.gather-site.ensures.kept own)
 
 pub returns-in-Ok-clause-closed : goal.returns-in-Ok-clause-closed
-returns-in-Ok-clause-closed c =
-    let s = c.args.self in
-    let kept : List Hand = c.self.inside.kept.items in
-    let site : Site = c.gather-site.result.0 in
-    let ws : List Hand = c.gather-site.result.1.items in
-    let home = arc_value c.in-Open.home in
-    let there = subst (λ (x : State). standing_of x kept ≡ s) c.in-Open.is c.self.view_is in
-    let own = subst (λ (x : Site). AreOwn x.tree ws) c.in-Ok.ensures.ok c.gather-site.ensures.own in
-    let now : Gathers s home ws = gathered_now s home kept ws there c.gather-site.ensures.kept own in
-    let g : Gathers s site ws = subst (λ (x : Site). Gathers s x ws) (sym (c.gather-site.ensures.site ∙ c.in-Ok.ensures.ok)) now in
-    if_ok (λ (r : Report). IsClosed site.tree ws r.queues.items r.keys.items r.free r.reached) (EndsSet s) c.end-in-Ok.result c.end-in-Ok.ensures.closed (ended s site ws g)
+returns-in-Ok-clause-closed c = closes c.args.self c.gather-site.result.0 c.gather-site.result.1.items (gathers c) c.end-in-Ok.result c.end-in-Ok.ensures.closed
+
+pub returns-in-Ok-clause-says : goal.returns-in-Ok-clause-says
+returns-in-Ok-clause-says c = if_ok (EndsSet c.args.self) (SaysEnded c.args.self) c.end-in-Ok.result (returns-in-Ok-clause-closed c) (says_ended c.args.self)
 
 pub returns-in-Ok-clause-refused : goal.returns-in-Ok-clause-refused
-returns-in-Ok-clause-refused c =
-    let s = c.args.self in
-    let kept : List Hand = c.self.inside.kept.items in
-    let site : Site = c.gather-site.result.0 in
-    let ws : List Hand = c.gather-site.result.1.items in
-    let home = arc_value c.in-Open.home in
-    let there = subst (λ (x : State). standing_of x kept ≡ s) c.in-Open.is c.self.view_is in
-    let own = subst (λ (x : Site). AreOwn x.tree ws) c.in-Ok.ensures.ok c.gather-site.ensures.own in
-    let now : Gathers s home ws = gathered_now s home kept ws there c.gather-site.ensures.kept own in
-    let g : Gathers s site ws = subst (λ (x : Site). Gathers s x ws) (sym (c.gather-site.ensures.site ∙ c.in-Ok.ensures.ok)) now in
-    if_err (λ (e : CloseError). e.set ≡ closing_set site ws) (λ (e : CloseError). IsTreesReason site.tree ws e.reason) (λ (e : CloseError). IsLeftOpen s e.reason e.set) c.end-in-Ok.result c.end-in-Ok.ensures.refused c.end-in-Ok.ensures.reason
-    (λ e is told. left s site ws g e.set is e.reason told)
+returns-in-Ok-clause-refused c = refuses c.args.self c.gather-site.result.0 c.gather-site.result.1.items (gathers c) c.end-in-Ok.result c.end-in-Ok.ensures.refused c.end-in-Ok.ensures.reason
 
 pub returns-in-Err-clause-refused : goal.returns-in-Err-clause-refused
 returns-in-Err-clause-refused c =

@@ -1,41 +1,24 @@
 use Rattle.std.proofs.Common.{rules, inl, inr, None, Some, ap, refl, subst, ◌∙◌, arith}
 use Rattle.std.specs.Prelude.{Ok, Err, slice_set}
 use Rattle.nm_model.specs.Maps.{get}
-use Rattle.nm_steps.specs.Steps.{Stand}
 use Rattle.nm_steps.proofs.Seeing.{seen_all}
 use Rattle.nm_tree.specs.Workers.{Hand, held_in, pending_in}
-use Rattle.nm_tree.proofs.QueueLists.{lacks_after, others_stay, others_after, stands_within, room_stays, room_after}
+use Rattle.nm_tree.proofs.QueueLists.{lacks_after, stands_within, room_after}
 use Rattle.nm_tree.proofs.Staying.{resting_in, rests_in, rests_as, free_in}
 use Rattle.nm_tree.proofs.Disturbed.{delete_disturbed, delete_lost, delete_alone}
-use Rattle.nm_tree.proofs.Changing.{kept_there, changed}
+use Rattle.nm_tree.proofs.Changing.{kept_there, changed, others_kept}
 use Rattle.nm_calls.specs.declared.deleting.Missed.{Missed}
 use Rattle.nm_calls.specs.Deletes.{DeleteDid, LacksRoomOr, LosesAfterFlag}
 use Rattle.nm_tree.specs.declared.fault.CallFault.TheVariants as fault
 use Rattle.nm_tree.proofs.Telling.{deleted_so}
+use Rattle.nm_tree.proofs.Untouched.{delete_pending}
 use Rattle.nm_tree.proofs.tree.Tree.delete.Goals as goal
 
-pub returns-in-Pending-clause-says : goal.returns-in-Pending-clause-says
-returns-in-Pending-clause-says c = record {
-  same = search rules;
-  past = search (rules, seen_all);
-  told = search rules;
-  moment = search rules;
-  won = search rules;
-  steps = search rules;
-  queues = others_stay c.args.worker.now.pass.view.number c.args.worker.now.queues;
-  blocks = room_stays c.args.worker.now.queues;
-  held = search rules;
-  fit = search rules;
-}
-
 pub returns-in-Pending-clause-leaves : goal.returns-in-Pending-clause-leaves
-returns-in-Pending-clause-leaves c = record {
-  says = returns-in-Pending-clause-says c;
-  did = search rules;
-  lacks = search rules;
-  disturbed = λ is. absurd (let no = is in cc);
-  lost = λ is. absurd (let no = is in cc);
-}
+returns-in-Pending-clause-leaves c = delete_pending c.args.self.now.layout c.args.tries c.args.key c.args.worker.now (search rules) c.requires.free
+
+pub returns-in-Pending-clause-says : goal.returns-in-Pending-clause-says
+returns-in-Pending-clause-says c = (returns-in-Pending-clause-leaves c).says
 
 pub index_mut-own-requires : goal.index_mut-own-requires
 index_mut-own-requires c = omega (arith, stands_within c.worker.inside.home _ c.worker.inside.queues.items c.worker.invariant.own, c.worker.inside.queues.ok.0)
@@ -60,10 +43,7 @@ returns-in-Ok-clause-says c = record {
   moment = search rules;
   won = search rules;
   steps = search rules;
-  queues = (
-      rw (← c.worker.view_is)
-      (others_after c.worker.inside.home c.worker.inside.pass.view.number c.worker.inside.queues.items c.delete.new.held c.worker.invariant.own (c.delete.ensures.kept.own ∙ ap (λ (x : Stand). x.view.number) c.delete.ensures.after.same))
-      );
+  queues = others_kept _ _ c.worker.inside.home c.delete.new.pass c.delete.new.held c.worker.view_is c.worker.invariant.own c.delete.ensures.kept.own c.delete.ensures.after.same;
   blocks = rw (← c.worker.view_is) (room_after c.worker.inside.home _ c.worker.inside.queues.items _ c.delete.new.held c.worker.invariant.own c.index_mut-own.ensures.value c.delete.ensures.blocks);
   held = search rules;
   fit = search rules;
@@ -95,10 +75,7 @@ returns-in-Err-Busy-clause-says c = record {
   moment = search rules;
   won = search rules;
   steps = search rules;
-  queues = (
-      rw (← c.worker.view_is)
-      (others_after c.worker.inside.home c.worker.inside.pass.view.number c.worker.inside.queues.items c.delete.new.held c.worker.invariant.own (c.delete.ensures.kept.own ∙ ap (λ (x : Stand). x.view.number) c.delete.ensures.after.same))
-      );
+  queues = others_kept _ _ c.worker.inside.home c.delete.new.pass c.delete.new.held c.worker.view_is c.worker.invariant.own c.delete.ensures.kept.own c.delete.ensures.after.same;
   blocks = rw (← c.worker.view_is) (room_after c.worker.inside.home _ c.worker.inside.queues.items _ c.delete.new.held c.worker.invariant.own c.index_mut-own.ensures.value c.delete.ensures.blocks);
   held = search rules;
   fit = search rules;
@@ -144,10 +121,7 @@ returns-in-Err-NoMemory-clause-says c = record {
   moment = search rules;
   won = search rules;
   steps = search rules;
-  queues = (
-      rw (← c.worker.view_is)
-      (others_after c.worker.inside.home c.worker.inside.pass.view.number c.worker.inside.queues.items c.delete.new.held c.worker.invariant.own (c.delete.ensures.kept.own ∙ ap (λ (x : Stand). x.view.number) c.delete.ensures.after.same))
-      );
+  queues = others_kept _ _ c.worker.inside.home c.delete.new.pass c.delete.new.held c.worker.view_is c.worker.invariant.own c.delete.ensures.kept.own c.delete.ensures.after.same;
   blocks = rw (← c.worker.view_is) (room_after c.worker.inside.home _ c.worker.inside.queues.items _ c.delete.new.held c.worker.invariant.own c.index_mut-own.ensures.value c.delete.ensures.blocks);
   held = search rules;
   fit = search rules;
@@ -182,10 +156,7 @@ returns-in-Err-Unfinished-clause-says c = record {
   moment = search rules;
   won = search rules;
   steps = search rules;
-  queues = (
-      rw (← c.worker.view_is)
-      (others_after c.worker.inside.home c.worker.inside.pass.view.number c.worker.inside.queues.items c.delete.new.held c.worker.invariant.own (c.delete.ensures.kept.own ∙ ap (λ (x : Stand). x.view.number) c.delete.ensures.after.same))
-      );
+  queues = others_kept _ _ c.worker.inside.home c.delete.new.pass c.delete.new.held c.worker.view_is c.worker.invariant.own c.delete.ensures.kept.own c.delete.ensures.after.same;
   blocks = rw (← c.worker.view_is) (room_after c.worker.inside.home _ c.worker.inside.queues.items _ c.delete.new.held c.worker.invariant.own c.index_mut-own.ensures.value c.delete.ensures.blocks);
   held = search rules;
   fit = search rules;

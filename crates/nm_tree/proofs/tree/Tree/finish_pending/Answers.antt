@@ -6,35 +6,20 @@ use Rattle.nm_steps.specs.Steps.{Stand}
 use Rattle.nm_calls.specs.Moments.{AnswerHasMoment, HadNoCall}
 use Rattle.nm_steps.proofs.Seeing.{seen_all}
 use Rattle.nm_tree.specs.Workers.{Hand, pending_in}
-use Rattle.nm_tree.proofs.QueueLists.{lacks_after, others_stay, others_after, stands_within, room_stays, room_after}
-use Rattle.nm_tree.proofs.Changing.{kept_there, changed}
+use Rattle.nm_tree.proofs.QueueLists.{lacks_after, stands_within, room_after}
+use Rattle.nm_tree.proofs.Changing.{kept_there, changed, others_kept}
 use Rattle.nm_tree.proofs.Staying.{removing_in}
 use Rattle.std.specs.Prelude.{true}
 use Rattle.nm_tree.proofs.Disturbed.{finish_lost}
 use Rattle.nm_tree.proofs.Telling.{finished_so}
+use Rattle.nm_tree.proofs.Untouched.{finishes_none}
 use Rattle.nm_tree.proofs.tree.Tree.finish_pending.Goals as goal
 
-pub returns-in_default-clause-says : goal.returns-in_default-clause-says
-returns-in_default-clause-says c = record {
-  same = search rules;
-  past = search (rules, seen_all);
-  told = search rules;
-  moment = search rules;
-  won = search rules;
-  steps = search rules;
-  queues = others_stay c.args.worker.now.pass.view.number c.args.worker.now.queues;
-  blocks = room_stays c.args.worker.now.queues;
-  held = search rules;
-  fit = search rules;
-}
-
 pub returns-in_default-clause-leaves : goal.returns-in_default-clause-leaves
-returns-in_default-clause-leaves c = record {
-  says = returns-in_default-clause-says c;
-  did = search rules;
-  lacks = search rules;
-  lost = λ is. absurd (let no = is in cc);
-}
+returns-in_default-clause-leaves c = finishes_none c.args.self.now.layout c.args.tries c.args.worker.now (search rules)
+
+pub returns-in_default-clause-says : goal.returns-in_default-clause-says
+returns-in_default-clause-says c = (returns-in_default-clause-leaves c).says
 
 pub index_mut-own-requires : goal.index_mut-own-requires
 index_mut-own-requires c = omega (arith, stands_within c.worker.inside.home _ c.worker.inside.queues.items c.worker.invariant.own, c.worker.inside.queues.ok.0)
@@ -56,10 +41,7 @@ returns-then-not-finish-clause-says c = record {
   moment = search rules;
   won = search rules;
   steps = search rules;
-  queues = (
-      rw (← c.worker.view_is)
-      (others_after c.worker.inside.home c.worker.inside.pass.view.number c.worker.inside.queues.items c.finish.new.held c.worker.invariant.own (c.finish.ensures.kept.own ∙ ap (λ (x : Stand). x.view.number) c.finish.ensures.after.same))
-      );
+  queues = others_kept _ _ c.worker.inside.home c.finish.new.pass c.finish.new.held c.worker.view_is c.worker.invariant.own c.finish.ensures.kept.own c.finish.ensures.after.same;
   blocks = rw (← c.worker.view_is) (room_after c.worker.inside.home _ c.worker.inside.queues.items _ c.finish.new.held c.worker.invariant.own c.index_mut-own.ensures.value c.finish.ensures.blocks);
   held = search rules;
   fit = search rules;
@@ -104,10 +86,7 @@ returns-clause-says c = record {
       );
   won = search rules;
   steps = search rules;
-  queues = (
-      rw (← c.worker.view_is)
-      (others_after c.worker.inside.home c.worker.inside.pass.view.number c.worker.inside.queues.items c.finish.new.held c.worker.invariant.own (c.finish.ensures.kept.own ∙ ap (λ (x : Stand). x.view.number) c.finish.ensures.after.same))
-      );
+  queues = others_kept _ _ c.worker.inside.home c.finish.new.pass c.finish.new.held c.worker.view_is c.worker.invariant.own c.finish.ensures.kept.own c.finish.ensures.after.same;
   blocks = rw (← c.worker.view_is) (room_after c.worker.inside.home _ c.worker.inside.queues.items _ c.finish.new.held c.worker.invariant.own c.index_mut-own.ensures.value c.finish.ensures.blocks);
   held = search rules;
   fit = search rules;

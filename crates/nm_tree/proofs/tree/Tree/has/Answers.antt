@@ -4,7 +4,8 @@ use Rattle.nm_tree.specs.declared.worker.Standing.TheVariants as standing
 use Rattle.nm_tree.specs.Workers.{Hand}
 use Rattle.nm_tree.proofs.Disturbed.{lookup_disturbed, lookup_alone}
 use Rattle.nm_tree.proofs.Quiet.{has_quiet}
-use Rattle.nm_tree.proofs.Staying.{stays, resting_in, rests_in, rests_as, free_in}
+use Rattle.nm_tree.proofs.Staying.{stays_resting, resting_in, free_in}
+use Rattle.nm_tree.proofs.Untouched.{has_pending}
 use Rattle.nm_tree.proofs.tree.Tree.has.Goals as goal
 use Rattle.nm_tree.proofs.tree.Tree.has.Goals.{in-Ok, in-Err}
 
@@ -12,29 +13,13 @@ resting : (c : goal.Joined-has) → c.worker.inside.standing ≡ standing.Restin
 resting c = resting_in c.worker.inside.standing (ap (λ (w : Hand). w.held) c.worker.view_is ∙ c.requires.free) c.in_default.not-Pending
 
 pub invariant_of-worker : goal.invariant_of-worker
-invariant_of-worker c =
-    let was = rests_in c.worker.inside.pass c.worker.inside.standing (resting c) c.worker.invariant.between.stands in
-    stays _ c.worker.inside.home c.has.new.pass _ _ c.worker.invariant c.has.ensures.same
-    (has_quiet _ c.args.tries c.args.key _ _ c.has.result c.has.ensures.did c.has.ensures.missed)
-    c.has.ensures.hands.private (c.has.ensures.hands.ledgers was.labelled)
-    (rests_as c.has.new.pass c.worker.inside.standing (resting c) c.has.ensures.rests)
-
-pub returns-in-Pending-clause-says : goal.returns-in-Pending-clause-says
-returns-in-Pending-clause-says c = record {
-  same = search rules;
-  past = search (rules, seen_all);
-  told = search rules;
-  disturbed = λ is. absurd (let no = is in cc);
-  moment = search rules;
-  won = search rules;
-  steps = search rules;
-  queues = search rules;
-  held = search rules;
-  fit = search rules;
-}
+invariant_of-worker c = stays_resting c.worker.inside.pass c.has.new.pass _ c.worker.inside.standing c.worker.inside.home (resting c) c.worker.invariant c.has.ensures.same (has_quiet _ c.args.tries c.args.key _ _ c.has.result c.has.ensures.did c.has.ensures.missed) c.has.ensures.hands c.has.ensures.rests
 
 pub returns-in-Pending-clause-leaves : goal.returns-in-Pending-clause-leaves
-returns-in-Pending-clause-leaves c = record { says = returns-in-Pending-clause-says c; did = search rules }
+returns-in-Pending-clause-leaves c = has_pending c.args.self.now.layout c.args.tries c.args.key c.args.worker.now (search rules) c.requires.free
+
+pub returns-in-Pending-clause-says : goal.returns-in-Pending-clause-says
+returns-in-Pending-clause-says c = (returns-in-Pending-clause-leaves c).says
 
 pub returns-clause-says : goal.returns-clause-says
 returns-clause-says c = record {

@@ -6,7 +6,7 @@ use Rattle.nm_busy.proofs.AloneCalls.{many_alone}
 use Rattle.nm_tree.specs.Workers.{Hand}
 use Rattle.nm_tree.proofs.Disturbed.{many_disturbed}
 use Rattle.nm_tree.proofs.Quiet.{quiet_so}
-use Rattle.nm_tree.proofs.Staying.{stays, resting_in, rests_in, rests_as, free_in}
+use Rattle.nm_tree.proofs.Staying.{stays_resting, resting_in, free_in}
 use Rattle.nm_tree.proofs.tree.Tree.has_many.Goals as goal
 use Rattle.nm_tree.proofs.tree.Tree.has_many.Goals.{in-Ok, in-Err}
 
@@ -14,11 +14,7 @@ resting : (c : goal.Joined-has_many) → c.worker.inside.standing ≡ standing.R
 resting c = resting_in c.worker.inside.standing (ap (λ (w : Hand). w.held) c.worker.view_is ∙ c.requires.free) c.in_default.not-Pending
 
 pub invariant_of-worker : goal.invariant_of-worker
-invariant_of-worker c =
-    let was = rests_in c.worker.inside.pass c.worker.inside.standing (resting c) c.worker.invariant.between.stands in
-    stays _ c.worker.inside.home c.has_many.new.pass _ _ c.worker.invariant c.has_many.ensures.same (quiet_so _ _ c.has_many.ensures.won c.has_many.ensures.uncut)
-    c.has_many.ensures.hands.private (c.has_many.ensures.hands.ledgers was.labelled)
-    (rests_as c.has_many.new.pass c.worker.inside.standing (resting c) c.has_many.ensures.rests)
+invariant_of-worker c = stays_resting c.worker.inside.pass c.has_many.new.pass _ c.worker.inside.standing c.worker.inside.home (resting c) c.worker.invariant c.has_many.ensures.same (quiet_so _ _ c.has_many.ensures.won c.has_many.ensures.uncut) c.has_many.ensures.hands c.has_many.ensures.rests
 
 pub returns : goal.returns
 returns c = record {

@@ -8,7 +8,7 @@ use Rattle.nm_tree.specs.declared.fault.CallFault.TheVariants as fault
 use Rattle.nm_tree.specs.Workers.{Hand}
 use Rattle.nm_tree.proofs.Disturbed.{next_disturbed}
 use Rattle.nm_tree.proofs.Quiet.{quiet_so}
-use Rattle.nm_tree.proofs.Staying.{stays, resting_in, rests_in, rests_as, free_in}
+use Rattle.nm_tree.proofs.Staying.{stays_resting, resting_in, free_in}
 use Rattle.nm_tree.proofs.tree.Tree.next.Goals as goal
 use Rattle.nm_tree.proofs.tree.Tree.next.Goals.{in-Ok, in-Err}
 
@@ -16,11 +16,7 @@ resting : (c : goal.Joined-next) → c.worker.inside.standing ≡ standing.Resti
 resting c = resting_in c.worker.inside.standing (ap (λ (w : Hand). w.held) c.worker.view_is ∙ c.requires.free) c.in_default.not-Pending
 
 pub invariant_of-worker : goal.invariant_of-worker
-invariant_of-worker c =
-    let was = rests_in c.worker.inside.pass c.worker.inside.standing (resting c) c.worker.invariant.between.stands in
-    stays _ c.worker.inside.home c.next.new.pass _ _ c.worker.invariant c.next.ensures.same (quiet_so _ _ c.next.ensures.won c.next.ensures.uncut)
-    c.next.ensures.hands.private (c.next.ensures.hands.ledgers was.labelled)
-    (rests_as c.next.new.pass c.worker.inside.standing (resting c) c.next.ensures.rests)
+invariant_of-worker c = stays_resting c.worker.inside.pass c.next.new.pass _ c.worker.inside.standing c.worker.inside.home (resting c) c.worker.invariant c.next.ensures.same (quiet_so _ _ c.next.ensures.won c.next.ensures.uncut) c.next.ensures.hands c.next.ensures.rests
 
 why : (c : goal.Joined-next) → IsErrOf c.match-next.result fault.Busy → NearWasBusy c.args.worker.now.pass c.next.new.pass c.args.tries
 why c is =

@@ -8,7 +8,7 @@ use Rattle.nm_tree.specs.declared.fault.CallFault.TheVariants as fault
 use Rattle.nm_tree.specs.Workers.{Hand}
 use Rattle.nm_tree.proofs.Disturbed.{prev_disturbed}
 use Rattle.nm_tree.proofs.Quiet.{quiet_so}
-use Rattle.nm_tree.proofs.Staying.{stays, resting_in, rests_in, rests_as, free_in}
+use Rattle.nm_tree.proofs.Staying.{stays_resting, resting_in, free_in}
 use Rattle.nm_tree.proofs.tree.Tree.prev.Goals as goal
 use Rattle.nm_tree.proofs.tree.Tree.prev.Goals.{in-Ok, in-Err}
 
@@ -16,11 +16,7 @@ resting : (c : goal.Joined-prev) → c.worker.inside.standing ≡ standing.Resti
 resting c = resting_in c.worker.inside.standing (ap (λ (w : Hand). w.held) c.worker.view_is ∙ c.requires.free) c.in_default.not-Pending
 
 pub invariant_of-worker : goal.invariant_of-worker
-invariant_of-worker c =
-    let was = rests_in c.worker.inside.pass c.worker.inside.standing (resting c) c.worker.invariant.between.stands in
-    stays _ c.worker.inside.home c.prev.new.pass _ _ c.worker.invariant c.prev.ensures.same (quiet_so _ _ c.prev.ensures.won c.prev.ensures.uncut)
-    c.prev.ensures.hands.private (c.prev.ensures.hands.ledgers was.labelled)
-    (rests_as c.prev.new.pass c.worker.inside.standing (resting c) c.prev.ensures.rests)
+invariant_of-worker c = stays_resting c.worker.inside.pass c.prev.new.pass _ c.worker.inside.standing c.worker.inside.home (resting c) c.worker.invariant c.prev.ensures.same (quiet_so _ _ c.prev.ensures.won c.prev.ensures.uncut) c.prev.ensures.hands c.prev.ensures.rests
 
 why : (c : goal.Joined-prev) → IsErrOf c.match-prev.result fault.Busy → NearWasBusy c.args.worker.now.pass c.prev.new.pass c.args.tries
 why c is =

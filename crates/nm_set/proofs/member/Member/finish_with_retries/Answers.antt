@@ -6,8 +6,8 @@ use Rattle.nm_tree.specs.declared.fault.CallFault.TheVariants.{Unfinished}
 use Rattle.nm_tree.specs.Calls.{LeavesFinish}
 use Rattle.nm_set.specs.declared.tended.Habit.{Habit}
 use Rattle.nm_set.specs.Tended.{FinishesPending}
-use Rattle.nm_set.proofs.Tending.{asked_more}
-use Rattle.nm_set.proofs.member.Member.finish_again.Goals as goal
+use Rattle.nm_set.proofs.Tending.{retried_more}
+use Rattle.nm_set.proofs.member.Member.finish_with_retries.Goals as goal
 
 pub returns-clause-did : goal.returns-clause-did
 returns-clause-did c =
@@ -15,10 +15,10 @@ returns-clause-did c =
     let h = c.args.habit.now in
     let w = c.args.self.now.hand in
     let m = c.finish-told.new.self.hand in
-    let z = c.finish_rounds.new.self.hand in
-    let r = c.finish_rounds.result in
+    let z = c.retry_finish.new.self.hand in
+    let r = c.retry_finish.result in
     let some = c.if-habit-eq0.false in
     let first = subst (λ (t : Result Bool Lost). LeavesFinish b.layout h.tries w m t) (c.if-not-is_lost.ensures.yes refl) c.finish-told.ensures.did in
     let rest : FinishesPending b (record h { rounds = h.rounds - 1 }) m z r =
-    subst (λ (g : Habit). FinishesPending b g m z r) c.without_one.ensures (subst (λ (d : Board). FinishesPending d c.without_one.result m z r) c.finish-told.ensures.board c.finish_rounds.ensures.did) in
-    asked_more (LeavesFinish b.layout h.tries) (Err Unfinished) h.rounds w m z r (omega (arith, some)) first rest
+    subst (λ (g : Habit). FinishesPending b g m z r) c.without_one.ensures (subst (λ (d : Board). FinishesPending d c.without_one.result m z r) c.finish-told.ensures.board c.retry_finish.ensures.did) in
+    retried_more (LeavesFinish b.layout h.tries) (Err Unfinished) h.rounds w m z r (omega (arith, some)) first rest

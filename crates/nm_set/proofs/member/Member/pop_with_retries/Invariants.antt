@@ -1,7 +1,7 @@
 use Rattle.std.proofs.Common.{◌≡◌}
 use Rattle.nm_set.specs.Popping.{PopsOnce, pop_busy}
 use Rattle.nm_set.specs.Tended.{InARow}
-use Rattle.nm_set.proofs.member.Member.pop_in_rounds.Given as goal
+use Rattle.nm_set.proofs.member.Member.pop_with_retries.Given as goal
 
 abbrev pub invariant-loop-round : goal.invariant-loop-round
 invariant-loop-round l = record {

@@ -3,7 +3,7 @@ use Rattle.std.specs.Prelude.{Err}
 use Rattle.nm_tree.specs.declared.fault.CallFault.TheVariants.{Unfinished}
 use Rattle.nm_tree.specs.Calls.{LeavesFinish}
 use Rattle.nm_set.specs.Tended.{InARow}
-use Rattle.nm_set.proofs.member.Member.finish_rounds.Given as goal
+use Rattle.nm_set.proofs.member.Member.retry_finish.Given as goal
 
 abbrev pub invariant-loop-round : goal.invariant-loop-round
 invariant-loop-round l = record {

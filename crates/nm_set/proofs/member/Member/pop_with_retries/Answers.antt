@@ -5,7 +5,8 @@ use Rattle.nm_set.specs.declared.fault.Fault.{Fault}
 use Rattle.nm_tree.specs.Workers.{Hand}
 use Rattle.nm_set.specs.Popping.{PopsOnce, pop_busy}
 use Rattle.nm_set.specs.Tended.{InARow}
-use Rattle.nm_set.proofs.member.Member.pop_in_rounds.Goals as goal
+use Rattle.nm_set.proofs.Tending.{retried_till}
+use Rattle.nm_set.proofs.member.Member.pop_with_retries.Goals as goal
 
 pub loop-round-preserved : goal.loop-round-preserved
 loop-round-preserved c =
@@ -22,27 +23,14 @@ loop-round-preserved c =
 
 pub returns-then-not-is_busy-clause-did : goal.returns-then-not-is_busy-clause-did
 returns-then-not-is_busy-clause-did c =
-    let P : Board → Type 0 = λ b. PopsOnce c.args.end b c.args.habit.now c.loop-round.self.hand c.pop_once-told.new.self.hand c.pop_once-told.result in
-    record {
-      before = c.loop-round._round;
-      begun = c.loop-round.self.hand;
-      each = c.loop-round.invariant.each;
-      last = subst P c.loop-round.invariant.board c.pop_once-told.ensures.did;
-      few = omega (arith, c.loop-round-test.true);
-      all = λ told. absurd (c.if-not-is_busy.ensures.no refl told);
-    }
+    let at = c.loop-round in
+    retried_till (λ b. PopsOnce c.args.end b c.args.habit.now) c.args.self.now.board at.self.board pop_busy c.args.habit.now.rounds at._round c.args.self.now.hand at.self.hand c.pop_once-told.new.self.hand c.pop_once-told.result
+    at.invariant.each at.invariant.board c.pop_once-told.ensures.did (omega (arith, c.loop-round-test.true)) (λ told. absurd (c.if-not-is_busy.ensures.no refl told))
 
 pub returns-clause-did : goal.returns-clause-did
 returns-clause-did c =
-    let P : Board → Type 0 = λ b. PopsOnce c.args.end b c.args.habit.now c.loop-round.self.hand c.pop_once.new.self.hand c.pop_once.result in
+    let at = c.loop-round in
     let past = c.loop-round-test.false in
-    let within = c.loop-round.auto._round-end in
-    let all : c.loop-round._round ≡ c.args.habit.now.rounds = omega (arith, past, within) in
-    record {
-      before = c.loop-round._round;
-      begun = c.loop-round.self.hand;
-      each = c.loop-round.invariant.each;
-      last = subst P c.loop-round.invariant.board c.pop_once.ensures.did;
-      few = within;
-      all = λ told. all;
-    }
+    let within = at.auto._round-end in
+    retried_till (λ b. PopsOnce c.args.end b c.args.habit.now) c.args.self.now.board at.self.board pop_busy c.args.habit.now.rounds at._round c.args.self.now.hand at.self.hand c.pop_once.new.self.hand c.pop_once.result
+    at.invariant.each at.invariant.board c.pop_once.ensures.did within (λ told. omega (arith, past, within))

@@ -1,0 +1,90 @@
+-- What a call leaves of a worker with which it does nothing: since a key is pending, or where there
+-- is none to finish.
+use Rattle.std.proofs.Common.{◌≡◌, ℕ, List, false, refl, arith}
+use Rattle.std.specs.Prelude.{None, IsSome, Ok, Err}
+use Rattle.nm_edge.specs.Layouts.{Layout}
+use Rattle.nm_model.specs.Walks.{Entry}
+use Rattle.nm_steps.proofs.Seeing.{seen_itself}
+use Rattle.nm_calls.specs.Won.{HasWon}
+use Rattle.nm_tree.specs.declared.fault.CallFault.TheVariants as fault
+use Rattle.nm_tree.specs.Workers.{Hand}
+use Rattle.nm_tree.specs.Calls.{LeavesHas, LeavesInsert, LeavesDelete, LeavesFinish}
+use Rattle.nm_tree.proofs.QueueLists.{others_stay, room_stays}
+
+nothing_won : (log : List Entry) → HasWon log log 0 0
+nothing_won log = record { links = omega arith; flags = omega arith }
+
+module _ (L : Layout) (tries k : ℕ) (w : Hand) (there : IsSome w.pending) (free : w.held ≡ None) where
+  pub has_pending : LeavesHas L tries k w w (Err fault.Pending)
+  has_pending = record {
+    says = record {
+      same = refl;
+      past = seen_itself w.pass;
+      told = (there, refl);
+      disturbed = λ is. absurd (let no = is in cc);
+      moment = tt;
+      won = nothing_won w.pass.view.log;
+      steps = omega arith;
+      queues = refl;
+      held = free;
+      fit = refl;
+    };
+    did = (there, refl);
+  }
+
+  pub insert_pending : LeavesInsert L tries k w w (Err fault.Pending)
+  insert_pending = record {
+    says = record {
+      same = refl;
+      past = seen_itself w.pass;
+      told = (there, refl);
+      moment = tt;
+      won = nothing_won w.pass.view.log;
+      steps = omega arith;
+      queues = others_stay w.pass.view.number w.queues;
+      blocks = room_stays w.queues;
+      held = free;
+      fit = refl;
+    };
+    did = (there, refl);
+    disturbed = λ is. absurd (let no = is in cc);
+  }
+
+  pub delete_pending : LeavesDelete L tries k w w (Err fault.Pending)
+  delete_pending = record {
+    says = record {
+      same = refl;
+      past = seen_itself w.pass;
+      told = (there, refl);
+      moment = tt;
+      won = nothing_won w.pass.view.log;
+      steps = omega arith;
+      queues = others_stay w.pass.view.number w.queues;
+      blocks = room_stays w.queues;
+      held = free;
+      fit = refl;
+    };
+    did = (there, refl);
+    lacks = tt;
+    disturbed = λ is. absurd (let no = is in cc);
+    lost = λ is. absurd (let no = is in cc);
+  }
+
+pub finishes_none : (L : Layout) (tries : ℕ) (w : Hand) → w.pending ≡ None → LeavesFinish L tries w w (Ok false)
+finishes_none L tries w none' = record {
+  says = record {
+    same = refl;
+    past = seen_itself w.pass;
+    told = (none', refl);
+    moment = tt;
+    won = nothing_won w.pass.view.log;
+    steps = omega arith;
+    queues = others_stay w.pass.view.number w.queues;
+    blocks = room_stays w.queues;
+    held = refl;
+    fit = refl;
+  };
+  did = (none', refl);
+  lacks = tt;
+  lost = λ is. absurd (let no = is in cc);
+}
