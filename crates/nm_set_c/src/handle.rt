@@ -112,5 +112,26 @@ impl Handle {
     }
 }
 
+/// Asks a worker or a report by its handle, in the body of an export, which so claims what the
+/// handle owns, makes one call of it, gives it back, and gives the outcome's number. A handle that
+/// owns something else is told as `Kind`.
+macro_rules! ask {
+    ($alloc:ident, $handle:ident, $kind:ident($owned:ident) => $call:expr) => {{
+        let mut owner = match $handle.claim($alloc) {
+            Ok(owner) => owner,
+            Err(told) => return told.code(),
+        };
+        let $crate::owner::Owner::$kind($owned) = &mut *owner else {
+            $handle.put(owner);
+            return $crate::outcome::Outcome::Kind.code();
+        };
+        let outcome = $call;
+        $handle.put(owner);
+        outcome.code()
+    }};
+}
+
+pub(crate) use ask;
+
 /// Two words, as C declares it.
 const _: () = prove!(std::mem::size_of::<Handle>() == 16);
