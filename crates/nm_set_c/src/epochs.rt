@@ -7,7 +7,7 @@ ghost use Rattle.nm_set_c.specs.Outcomes.{IsCodeOf};
 ghost use Rattle.nm_set_c.specs.Owners.{HasDone, OfWorker};
 ghost use Rattle.nm_set_c.specs.Workers.{DoesPin, DoesUnpin, DoesAdvance, DoesBehind, DoesCollect};
 
-use crate::handle::{Handle, ask};
+use crate::handle::{Handle, by_handle};
 use crate::outcome::Outcome;
 use nm_set::{Advance, CallPinFault, Member, PinFault};
 use std::alloc::Global;
@@ -24,7 +24,7 @@ pub extern "C" fn nm_worker_pin(
     ensures { IsCodeOf (OfWorker (DoesPin tries epoch.old epoch.new) (epoch.new ≡ epoch.old)
         (held_by worker.old) (held_by worker.new)) result }
 {
-    ask!(alloc, worker, Worker(member) => pin(member, tries, epoch))
+    by_handle!(alloc, worker, Worker(member) => pin(member, tries, epoch))
 }
 
 fn pin(member: &mut Member, tries: u32, epoch: &mut u64) -> Outcome
@@ -50,7 +50,7 @@ fn pin(member: &mut Member, tries: u32, epoch: &mut u64) -> Outcome
 pub extern "C" fn nm_worker_unpin(alloc: Global, worker: &mut Handle) -> i32
     ensures { IsCodeOf (OfWorker (DoesUnpin) ⊤ (held_by worker.old) (held_by worker.new)) result }
 {
-    ask!(alloc, worker, Worker(member) => unpin(member))
+    by_handle!(alloc, worker, Worker(member) => unpin(member))
 }
 
 fn unpin(member: &mut Member) -> Outcome
@@ -76,7 +76,7 @@ pub extern "C" fn nm_worker_advance(
         ((epoch.new ≡ epoch.old) × (behind.new ≡ behind.old)) (held_by worker.old)
         (held_by worker.new)) result }
 {
-    ask!(alloc, worker, Worker(member) => advance(member, epoch, behind))
+    by_handle!(alloc, worker, Worker(member) => advance(member, epoch, behind))
 }
 
 fn advance(member: &mut Member, epoch: &mut u64, behind: &mut u32) -> Outcome
@@ -117,7 +117,7 @@ pub extern "C" fn nm_worker_behind(
         ((epoch.new ≡ epoch.old) × (mask.new ≡ mask.old)) (held_by worker.old) (held_by worker.new))
         result }
 {
-    ask!(alloc, worker, Worker(member) => behind(member, epoch, mask))
+    by_handle!(alloc, worker, Worker(member) => behind(member, epoch, mask))
 }
 
 fn behind(member: &mut Member, epoch: &mut u64, mask: &mut u64) -> Outcome
@@ -142,7 +142,7 @@ pub extern "C" fn nm_worker_collect(
         ((epoch.new ≡ epoch.old) × (freed.new ≡ freed.old)) (held_by worker.old)
         (held_by worker.new)) result }
 {
-    ask!(alloc, worker, Worker(member) => collect(member, epoch, freed))
+    by_handle!(alloc, worker, Worker(member) => collect(member, epoch, freed))
 }
 
 fn collect(member: &mut Member, epoch: &mut u64, freed: &mut u64) -> Outcome

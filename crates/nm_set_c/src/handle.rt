@@ -112,10 +112,10 @@ impl Handle {
     }
 }
 
-/// Asks a worker or a report by its handle, in the body of an export, which so claims what the
-/// handle owns, makes one call of it, gives it back, and gives the outcome's number. A handle that
-/// owns something else is told as `Kind`.
-macro_rules! ask {
+/// What an export does with a worker or a report, by its handle: it claims what the handle owns,
+/// makes this call of it, gives it back, and has the outcome's number. It returns from the export
+/// where the claim is refused, and where the handle owns something else: `Kind`.
+macro_rules! by_handle {
     ($alloc:ident, $handle:ident, $kind:ident($owned:ident) => $call:expr) => {{
         let mut owner = match $handle.claim($alloc) {
             Ok(owner) => owner,
@@ -131,7 +131,7 @@ macro_rules! ask {
     }};
 }
 
-pub(crate) use ask;
+pub(crate) use by_handle;
 
 /// Two words, as C declares it.
 const _: () = prove!(std::mem::size_of::<Handle>() == 16);

@@ -7,7 +7,7 @@ ghost use Rattle.nm_set_c.specs.Outcomes.{IsCodeOf};
 ghost use Rattle.nm_set_c.specs.Owners.{HasDone, OfWorker};
 ghost use Rattle.nm_set_c.specs.Workers.{DoesTryContains, DoesTryInsert, DoesTryRemove, DoesFinish, TellsTryContains, TellsTryInsert, TellsTryRemove, TellsFinish};
 
-use crate::handle::{Handle, ask};
+use crate::handle::{Handle, by_handle};
 use crate::outcome::Outcome;
 use nm_edge::Key;
 use nm_set::Member;
@@ -27,7 +27,7 @@ pub extern "C" fn nm_worker_try_contains(
     ensures did { IsCodeOf (OfWorker (DoesTryContains tries key) ⊤ (held_by worker.old) (held_by worker.new))
         result }
 {
-    ask!(alloc, worker, Worker(member) => try_contains(member, key, tries))
+    by_handle!(alloc, worker, Worker(member) => try_contains(member, key, tries))
 }
 
 #[inline(always)]
@@ -55,7 +55,7 @@ pub extern "C" fn nm_worker_try_insert(
     ensures did { IsCodeOf (OfWorker (DoesTryInsert tries key) ⊤ (held_by worker.old) (held_by worker.new))
         result }
 {
-    ask!(alloc, worker, Worker(member) => try_insert(member, key, tries))
+    by_handle!(alloc, worker, Worker(member) => try_insert(member, key, tries))
 }
 
 #[inline(always)]
@@ -83,7 +83,7 @@ pub extern "C" fn nm_worker_try_remove(
     ensures did { IsCodeOf (OfWorker (DoesTryRemove tries key) ⊤ (held_by worker.old) (held_by worker.new))
         result }
 {
-    ask!(alloc, worker, Worker(member) => try_remove(member, key, tries))
+    by_handle!(alloc, worker, Worker(member) => try_remove(member, key, tries))
 }
 
 #[inline(always)]
@@ -107,7 +107,7 @@ pub extern "C" fn nm_worker_finish(alloc: Global, worker: &mut Handle, tries: u3
     ensures did { IsCodeOf (OfWorker (DoesFinish tries) ⊤ (held_by worker.old) (held_by worker.new))
         result }
 {
-    ask!(alloc, worker, Worker(member) => finish(member, tries))
+    by_handle!(alloc, worker, Worker(member) => finish(member, tries))
 }
 
 #[inline(always)]

@@ -9,7 +9,7 @@ ghost use Rattle.nm_set_c.specs.Lookups.{DoesContainsMany, IsUnasked, lookup_of,
 ghost use Rattle.nm_set_c.specs.Outcomes.{IsCodeOf};
 ghost use Rattle.nm_set_c.specs.Owners.{HasDone, OfWorker};
 
-use crate::handle::{Handle, ask};
+use crate::handle::{Handle, by_handle};
 use crate::outcome::Outcome;
 use nm_edge::Key;
 use nm_set::{Fault, Member, Query};
@@ -38,7 +38,7 @@ pub extern "C" fn nm_worker_contains_many(
     ensures { IsCodeOf (OfWorker (DoesContainsMany tries lookups.old lookups.new)
         (lookups.new ≡ lookups.old) (held_by worker.old) (held_by worker.new)) result }
 {
-    ask!(alloc, worker, Worker(member) => contains_many(alloc, member, lookups, tries))
+    by_handle!(alloc, worker, Worker(member) => contains_many(alloc, member, lookups, tries))
 }
 
 fn contains_many(alloc: Global, member: &mut Member, lookups: &mut [Lookup], tries: u32) -> Outcome

@@ -7,7 +7,7 @@ ghost use Rattle.nm_set_c.specs.NextKeys.{DoesNext, DoesPrev, found_written, of_
 ghost use Rattle.nm_set_c.specs.Outcomes.{IsCodeOf};
 ghost use Rattle.nm_set_c.specs.Owners.{HasDone, OfWorker};
 
-use crate::handle::{Handle, ask};
+use crate::handle::{Handle, by_handle};
 use crate::outcome::Outcome;
 use nm_edge::Key;
 use nm_set::{Fault, Member};
@@ -27,7 +27,7 @@ pub extern "C" fn nm_worker_next(
     ensures { IsCodeOf (OfWorker (DoesNext tries key found.old found.new) (found.new ≡ found.old)
         (held_by worker.old) (held_by worker.new)) result }
 {
-    ask!(alloc, worker, Worker(member) => next(member, key, tries, found))
+    by_handle!(alloc, worker, Worker(member) => next(member, key, tries, found))
 }
 
 fn next(member: &mut Member, key: u64, tries: u32, found: &mut u64) -> Outcome
@@ -54,7 +54,7 @@ pub extern "C" fn nm_worker_prev(
     ensures { IsCodeOf (OfWorker (DoesPrev tries key found.old found.new) (found.new ≡ found.old)
         (held_by worker.old) (held_by worker.new)) result }
 {
-    ask!(alloc, worker, Worker(member) => prev(member, key, tries, found))
+    by_handle!(alloc, worker, Worker(member) => prev(member, key, tries, found))
 }
 
 fn prev(member: &mut Member, key: u64, tries: u32, found: &mut u64) -> Outcome

@@ -8,7 +8,7 @@ ghost use Rattle.nm_set_c.specs.Notes.{DoesPost, DoesRead};
 ghost use Rattle.nm_set_c.specs.Outcomes.{IsCodeOf};
 ghost use Rattle.nm_set_c.specs.Owners.{HasDone, OfWorker};
 
-use crate::handle::{Handle, ask};
+use crate::handle::{Handle, by_handle};
 use crate::outcome::Outcome;
 use nm_set::{Member, PostFault};
 use std::alloc::Global;
@@ -27,7 +27,7 @@ pub extern "C" fn nm_worker_post(
         ((inserted.new ≡ inserted.old) × (removed.new ≡ removed.old)) (held_by worker.old)
         (held_by worker.new)) result }
 {
-    ask!(alloc, worker, Worker(member) => post(member, inserted, removed))
+    by_handle!(alloc, worker, Worker(member) => post(member, inserted, removed))
 }
 
 fn post(member: &mut Member, inserted: &mut u64, removed: &mut u64) -> Outcome
@@ -58,7 +58,7 @@ pub extern "C" fn nm_worker_read(
         ((inserted.new ≡ inserted.old) × (removed.new ≡ removed.old)) (held_by worker.old)
         (held_by worker.new)) result }
 {
-    ask!(alloc, worker, Worker(member) => read(member, number, inserted, removed))
+    by_handle!(alloc, worker, Worker(member) => read(member, number, inserted, removed))
 }
 
 fn read(member: &mut Member, number: u32, inserted: &mut u64, removed: &mut u64) -> Outcome

@@ -7,7 +7,7 @@ ghost use Rattle.nm_set_c.specs.NextKeys.{DoesPopFirst, DoesPopLast, TellsPopFir
 ghost use Rattle.nm_set_c.specs.Outcomes.{IsCodeOf};
 ghost use Rattle.nm_set_c.specs.Owners.{HasDone, OfWorker};
 
-use crate::handle::{Handle, ask};
+use crate::handle::{Handle, by_handle};
 use crate::next_key::tell_found;
 use crate::outcome::Outcome;
 use nm_set::{Habit, Member};
@@ -28,7 +28,7 @@ pub extern "C" fn nm_worker_pop_first(
     ensures did { IsCodeOf (OfWorker (DoesPopFirst habit.now taken.old taken.new)
         (taken.new ≡ taken.old) (held_by worker.old) (held_by worker.new)) result }
 {
-    ask!(alloc, worker, Worker(member) => pop_first(member, habit, taken))
+    by_handle!(alloc, worker, Worker(member) => pop_first(member, habit, taken))
 }
 
 fn pop_first(member: &mut Member, habit: &Habit, taken: &mut u64) -> Outcome
@@ -54,7 +54,7 @@ pub extern "C" fn nm_worker_pop_last(
     ensures did { IsCodeOf (OfWorker (DoesPopLast habit.now taken.old taken.new)
         (taken.new ≡ taken.old) (held_by worker.old) (held_by worker.new)) result }
 {
-    ask!(alloc, worker, Worker(member) => pop_last(member, habit, taken))
+    by_handle!(alloc, worker, Worker(member) => pop_last(member, habit, taken))
 }
 
 fn pop_last(member: &mut Member, habit: &Habit, taken: &mut u64) -> Outcome

@@ -7,7 +7,7 @@ ghost use Rattle.nm_set_c.specs.Outcomes.{IsCodeOf};
 ghost use Rattle.nm_set_c.specs.Owners.{HasDone, OfWorker};
 ghost use Rattle.nm_set_c.specs.Workers.{DoesContains, DoesInsert, DoesRemove, TellsContains, TellsInsert, TellsRemove};
 
-use crate::handle::{Handle, ask};
+use crate::handle::{Handle, by_handle};
 use crate::outcome::Outcome;
 use nm_edge::Key;
 use nm_set::{Habit, Member};
@@ -27,7 +27,7 @@ pub extern "C" fn nm_worker_contains(
     ensures did { IsCodeOf (OfWorker (DoesContains habit.now key) ⊤ (held_by worker.old)
         (held_by worker.new)) result }
 {
-    ask!(alloc, worker, Worker(member) => contains(member, key, habit))
+    by_handle!(alloc, worker, Worker(member) => contains(member, key, habit))
 }
 
 #[inline(always)]
@@ -55,7 +55,7 @@ pub extern "C" fn nm_worker_insert(
     ensures did { IsCodeOf (OfWorker (DoesInsert habit.now key) ⊤ (held_by worker.old)
         (held_by worker.new)) result }
 {
-    ask!(alloc, worker, Worker(member) => insert(member, key, habit))
+    by_handle!(alloc, worker, Worker(member) => insert(member, key, habit))
 }
 
 #[inline(always)]
@@ -83,7 +83,7 @@ pub extern "C" fn nm_worker_remove(
     ensures did { IsCodeOf (OfWorker (DoesRemove habit.now key) ⊤ (held_by worker.old)
         (held_by worker.new)) result }
 {
-    ask!(alloc, worker, Worker(member) => remove(member, key, habit))
+    by_handle!(alloc, worker, Worker(member) => remove(member, key, habit))
 }
 
 #[inline(always)]
