@@ -4,5 +4,4 @@ pub mod Swaps
 pub mod Holds
 pub mod Items
 pub mod Owners
-pub mod Telling
 pub mod Sending

@@ -3,11 +3,15 @@ use Rattle.std.proofs.Common.{◌≡◌, refl, sym, subst, inl, inr}
 use Rattle.nm_set.specs.Seats.{Seated}
 use Rattle.nm_tree.specs.declared.closing.Report.{Report}
 use Rattle.nm_set_c.specs.Handles.{Hold, Open, IsRefused}
-use Rattle.nm_set_c.specs.Owners.{OwnsWorker, OfWorker, OwnsReport, OfReport}
+use Rattle.nm_set_c.specs.Owners.{HasDone, OwnsWorker, OfWorker, OwnsReport, OfReport}
 use Rattle.nm_set_c.specs.declared.outcome.Outcome.{Outcome}
 use Rattle.nm_set_c.specs.declared.outcome.Outcome.TheVariants.{Kind}
 use Rattle.nm_set_c.specs.declared.owner.Owner.{Owner}
 use Rattle.nm_set_c.specs.declared.owner.Owner.TheVariants.{Set, Worker, Ended, Nothing}
+
+pub has_done : {A : Type 0} (does : A → A → Outcome → Type 0) (m n : A) (o : Outcome) → does m n o → HasDone does m n o
+unfolding HasDone
+has_done does m n o d = d
 
 -- ---- of a worker's handle: it is refused, or has a worker, or something else
 
@@ -19,6 +23,11 @@ pub told_worker : (does : Seated → Seated → Outcome → Type 0) (same : Type
     → old ≡ Open (Worker m) → new ≡ Open (Worker n) → does m n o → OfWorker does same old new o
 unfolding OfWorker OwnsWorker
 told_worker does same old new m n o e f d = inr (Worker m, e, (n, f, d))
+
+pub asked_worker : (does : Seated → Seated → Outcome → Type 0) (same : Type 0) (old new : Hold) (m n : Seated) (o : Outcome)
+    → HasDone does m n o → new ≡ Open (Worker n) → old ≡ Open (Worker m) → OfWorker does same old new o
+unfolding HasDone
+asked_worker does same old new m n o d f e = told_worker does same old new m n o e f d
 
 pub does_worker : (does : Seated → Seated → Outcome → Type 0) (same : Type 0) (x : Owner) (m n : Seated) (o : Outcome) → x ≡ Worker m → does m n o → OwnsWorker does same x (Open (Worker n)) o
 unfolding OwnsWorker
@@ -63,3 +72,12 @@ pub other_report : (does : Report → Report → Outcome → Type 0) (same : Typ
     → ((r : Report) → x ≡ Ended r → ⊥) → old ≡ Open x → new ≡ Open x → same → OfReport does same old new Kind
 unfolding OfReport
 other_report does same old new x not e f s = inr (x, e, subst (λ (h : Hold). OwnsReport does same x h Kind) (sym f) (is_no_report does same x not s))
+
+-- ---- by which an export is proved: one of a worker that tells what it reads, one of a worker that
+-- makes a call, whose clauses are not opened there, and one of a report
+
+pub ruleset told_of_worker = (refused_worker, told_worker, other_worker)
+
+pub ruleset asked_of_worker = (has_done, refused_worker, asked_worker, other_worker)
+
+pub ruleset told_of_report = (refused_report, told_report, other_report)

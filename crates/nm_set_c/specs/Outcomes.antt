@@ -6,8 +6,6 @@ use Rattle.nm_model.specs.declared.new_error.NewError.{NewError}
 use Rattle.nm_model.specs.declared.new_error.NewError.TheVariants as making
 use Rattle.nm_set.specs.declared.fault.Fault.{Fault}
 use Rattle.nm_set.specs.declared.fault.Fault.TheVariants as fault
-use Rattle.nm_set.specs.declared.fault.InsertFault.{InsertFault}
-use Rattle.nm_set.specs.declared.fault.InsertFault.TheVariants as inserting
 use Rattle.nm_set.specs.declared.fault.MemberFault.{MemberFault}
 use Rattle.nm_set.specs.declared.fault.MemberFault.TheVariants as taking
 use Rattle.nm_set.specs.declared.fault.ResignReason.{ResignReason}
@@ -51,7 +49,7 @@ IsCodeOf P n = (o : Outcome) × (n ≡ code_of o) × P o
 
 -- ---- what the calls of a set and its workers answer, as outcomes
 
--- `of_bool`, `of_lost`, `of_fault`, `of_insert_fault`, `of_answer`, `of_finished`, `of_new`, `of_taking`,
+-- `of_bool`, `of_lost`, `of_fault`, `of_answer`, `of_finished`, `of_new`, `of_taking`,
 -- `of_staying`, `of_reason`: the outcome of what a call of `nm_set` answers
 abbrev pub of_bool : Bool → Outcome
 of_bool true = outcome.Yes
@@ -67,10 +65,6 @@ of_lost lost.Pending = outcome.Pending
 abbrev pub of_fault : Fault → Outcome
 of_fault fault.Held = outcome.Held
 of_fault (fault.Call f) = of_lost f
-
-abbrev pub of_insert_fault : InsertFault → Outcome
-of_insert_fault (inserting.Full found) = outcome.Full
-of_insert_fault (inserting.Other f) = of_fault f
 
 abbrev pub of_answer : Result Bool Fault → Outcome
 of_answer (Ok b) = of_bool b

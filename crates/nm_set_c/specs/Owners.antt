@@ -8,6 +8,10 @@ use Rattle.nm_set_c.specs.declared.outcome.Outcome.TheVariants as outcome
 use Rattle.nm_set_c.specs.declared.owner.Owner.{Owner}
 use Rattle.nm_set_c.specs.declared.owner.Owner.TheVariants.{Set, Worker, Ended, Nothing}
 
+-- what a call does, as one word: of m, which it is asked of, n, which it leaves, and what it tells
+unfoldable pub HasDone : {A : Type 0} → (A → A → Outcome → Type 0) → A → A → Outcome → Type 0
+HasDone does m n o = does m n o
+
 -- refused, since what an open handle owns is of another kind: the handle is as it was, and so is
 -- what else is named
 abbrev pub IsKind : Type 0 → Owner → Hold → Outcome → Type 0

@@ -31,12 +31,12 @@ use Rattle.nm_set_c.specs.declared.workers.Ledger.{Ledger}
 -- ---- keys
 
 -- the worker's call answers, and what it answers is told
-pub record Answers (leaves : Hand → Hand → Result Bool Lost → Type 0) (m n : Seated)
+pub record Answers (does : Hand → Hand → Result Bool Fault → Type 0) (m n : Seated)
     (o : Outcome) : Type 0 where
   pub answer : Result Bool Fault
   pub told : o ≡ of_answer answer
   pub board : n.board ≡ m.board
-  pub did : Asked leaves m.hand n.hand answer
+  pub did : does m.hand n.hand answer
 
 -- the same of a call that goes on with a delete
 pub record Finishes (leaves : Hand → Hand → Result Bool Lost → Type 0) (m n : Seated)
@@ -54,13 +54,13 @@ OfKey k did m n o = (IsKey k × did) ⊎ ((IsKey k → ⊥) × (o ≡ outcome.Ke
 -- `DoesAdvance`, `DoesBehind`, `DoesCollect`: a call of a worker: its outcome, what it writes, and
 -- all clauses of the member's call
 abbrev pub DoesTryContains : ℕ → ℕ → Seated → Seated → Outcome → Type 0
-DoesTryContains tries k m n o = OfKey k (Answers (LeavesHas m.board.layout tries k) m n o) m n o
+DoesTryContains tries k m n o = OfKey k (Answers (Asked (LeavesHas m.board.layout tries k)) m n o) m n o
 
 abbrev pub DoesTryInsert : ℕ → ℕ → Seated → Seated → Outcome → Type 0
-DoesTryInsert tries k m n o = OfKey k (Answers (LeavesInsert m.board.layout tries k) m n o) m n o
+DoesTryInsert tries k m n o = OfKey k (Answers (Asked (LeavesInsert m.board.layout tries k)) m n o) m n o
 
 abbrev pub DoesTryRemove : ℕ → ℕ → Seated → Seated → Outcome → Type 0
-DoesTryRemove tries k m n o = OfKey k (Answers (LeavesDelete m.board.layout tries k) m n o) m n o
+DoesTryRemove tries k m n o = OfKey k (Answers (Asked (LeavesDelete m.board.layout tries k)) m n o) m n o
 
 abbrev pub DoesFinish : ℕ → Seated → Seated → Outcome → Type 0
 DoesFinish tries m n o = Finishes (LeavesFinish m.board.layout tries) m n o
@@ -68,26 +68,18 @@ DoesFinish tries m n o = Finishes (LeavesFinish m.board.layout tries) m n o
 -- `TellsTryContains`, `TellsTryInsert`, `TellsTryRemove`, `TellsFinish`: what a caller has of such a
 -- call
 abbrev pub TellsTryContains : ℕ → ℕ → Seated → Seated → Outcome → Type 0
-TellsTryContains tries k m n o = OfKey k (Answers (SaysHas m.board.layout tries k) m n o) m n o
+TellsTryContains tries k m n o = OfKey k (Answers (Asked (SaysHas m.board.layout tries k)) m n o) m n o
 
 abbrev pub TellsTryInsert : ℕ → ℕ → Seated → Seated → Outcome → Type 0
-TellsTryInsert tries k m n o = OfKey k (Answers (SaysInsert m.board.layout tries k) m n o) m n o
+TellsTryInsert tries k m n o = OfKey k (Answers (Asked (SaysInsert m.board.layout tries k)) m n o) m n o
 
 abbrev pub TellsTryRemove : ℕ → ℕ → Seated → Seated → Outcome → Type 0
-TellsTryRemove tries k m n o = OfKey k (Answers (SaysDelete m.board.layout tries k) m n o) m n o
+TellsTryRemove tries k m n o = OfKey k (Answers (Asked (SaysDelete m.board.layout tries k)) m n o) m n o
 
 abbrev pub TellsFinish : ℕ → Seated → Seated → Outcome → Type 0
 TellsFinish tries m n o = Finishes (SaysFinish m.board.layout tries) m n o
 
 -- ---- keys, by calls that tend the set
-
--- the member's call that tends the set answers, and what it answers is told
-pub record AnswersTending (does : Hand → Hand → Result Bool Fault → Type 0) (m n : Seated)
-    (o : Outcome) : Type 0 where
-  pub answer : Result Bool Fault
-  pub told : o ≡ of_answer answer
-  pub board : n.board ≡ m.board
-  pub did : does m.hand n.hand answer
 
 -- an insert that tends the set, by what it tells without who holds memory back
 abbrev pub InsertsTelling : Board → Habit → ℕ → Hand → Hand → Result Bool Fault → Type 0
@@ -96,23 +88,23 @@ InsertsTelling b h k w z r =
 
 -- `DoesContains`, `DoesInsert`, `DoesRemove`: the same of the member's calls that tend the set
 abbrev pub DoesContains : Habit → ℕ → Seated → Seated → Outcome → Type 0
-DoesContains h k m n o = OfKey k (AnswersTending (TendsHas m.board h k) m n o) m n o
+DoesContains h k m n o = OfKey k (Answers (TendsHas m.board h k) m n o) m n o
 
 abbrev pub DoesInsert : Habit → ℕ → Seated → Seated → Outcome → Type 0
-DoesInsert h k m n o = OfKey k (AnswersTending (InsertsTelling m.board h k) m n o) m n o
+DoesInsert h k m n o = OfKey k (Answers (InsertsTelling m.board h k) m n o) m n o
 
 abbrev pub DoesRemove : Habit → ℕ → Seated → Seated → Outcome → Type 0
-DoesRemove h k m n o = OfKey k (AnswersTending (TendsDelete m.board h k) m n o) m n o
+DoesRemove h k m n o = OfKey k (Answers (TendsDelete m.board h k) m n o) m n o
 
 -- `TellsContains`, `TellsInsert`, `TellsRemove`: what a caller has of it
 abbrev pub TellsContains : Habit → ℕ → Seated → Seated → Outcome → Type 0
-TellsContains h k m n o = OfKey k (AnswersTending (SaysTended Has m.board h k) m n o) m n o
+TellsContains h k m n o = OfKey k (Answers (SaysTended Has m.board h k) m n o) m n o
 
 abbrev pub TellsInsert : Habit → ℕ → Seated → Seated → Outcome → Type 0
-TellsInsert h k m n o = OfKey k (AnswersTending (SaysTended Insert m.board h k) m n o) m n o
+TellsInsert h k m n o = OfKey k (Answers (SaysTended Insert m.board h k) m n o) m n o
 
 abbrev pub TellsRemove : Habit → ℕ → Seated → Seated → Outcome → Type 0
-TellsRemove h k m n o = OfKey k (AnswersTending (SaysTended Delete m.board h k) m n o) m n o
+TellsRemove h k m n o = OfKey k (Answers (SaysTended Delete m.board h k) m n o) m n o
 
 -- ---- epochs
 

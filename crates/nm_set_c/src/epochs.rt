@@ -1,15 +1,14 @@
 //! Calls on the epoch, by the handle of a worker.
-#![tactic(auto, using(crate::proofs::Owners::refused_worker, crate::proofs::Owners::told_worker, crate::proofs::Owners::other_worker))]
+#![tactic(auto, using(crate::proofs::Owners::asked_of_worker))]
 
 ghost use Rattle.std.specs.Prelude.{◌≡◌, ⊤};
 ghost use Rattle.nm_set_c.specs.Handles.{held_by};
 ghost use Rattle.nm_set_c.specs.Outcomes.{IsCodeOf};
-ghost use Rattle.nm_set_c.specs.Owners.{OfWorker};
+ghost use Rattle.nm_set_c.specs.Owners.{HasDone, OfWorker};
 ghost use Rattle.nm_set_c.specs.Workers.{DoesPin, DoesUnpin, DoesAdvance, DoesBehind, DoesCollect};
 
-use crate::handle::Handle;
+use crate::handle::{Handle, by_handle};
 use crate::outcome::Outcome;
-use crate::owner::Owner;
 use nm_set::{Advance, CallPinFault, Member, PinFault};
 use std::alloc::Global;
 
@@ -25,20 +24,11 @@ pub extern "C" fn nm_worker_pin(
     ensures { IsCodeOf (OfWorker (DoesPin tries epoch.old epoch.new) (epoch.new ≡ epoch.old)
         (held_by worker.old) (held_by worker.new)) result }
 {
-    let mut owner = match worker.claim(alloc) {
-        Ok(owner) => owner,
-        Err(told) => return told.code(),
-    };
-    let outcome = match &mut *owner {
-        Owner::Worker(member) => pin(member, tries, epoch),
-        _ => Outcome::Kind,
-    };
-    worker.put(owner);
-    outcome.code()
+    by_handle!(alloc, worker, Worker(member) => pin(member, tries, epoch))
 }
 
 fn pin(member: &mut Member, tries: u32, epoch: &mut u64) -> Outcome
-    ensures { DoesPin tries epoch.old epoch.new member.old member.new result }
+    ensures { HasDone (DoesPin tries epoch.old epoch.new) member.old member.new result }
 {
     match member.pin(tries) {
         Ok(pinned) => {
@@ -60,20 +50,11 @@ fn pin(member: &mut Member, tries: u32, epoch: &mut u64) -> Outcome
 pub extern "C" fn nm_worker_unpin(alloc: Global, worker: &mut Handle) -> i32
     ensures { IsCodeOf (OfWorker (DoesUnpin) ⊤ (held_by worker.old) (held_by worker.new)) result }
 {
-    let mut owner = match worker.claim(alloc) {
-        Ok(owner) => owner,
-        Err(told) => return told.code(),
-    };
-    let outcome = match &mut *owner {
-        Owner::Worker(member) => unpin(member),
-        _ => Outcome::Kind,
-    };
-    worker.put(owner);
-    outcome.code()
+    by_handle!(alloc, worker, Worker(member) => unpin(member))
 }
 
 fn unpin(member: &mut Member) -> Outcome
-    ensures { DoesUnpin member.old member.new result }
+    ensures { HasDone DoesUnpin member.old member.new result }
 {
     match member.unpin() {
         Ok(()) => Outcome::Done,
@@ -95,20 +76,11 @@ pub extern "C" fn nm_worker_advance(
         ((epoch.new ≡ epoch.old) × (behind.new ≡ behind.old)) (held_by worker.old)
         (held_by worker.new)) result }
 {
-    let mut owner = match worker.claim(alloc) {
-        Ok(owner) => owner,
-        Err(told) => return told.code(),
-    };
-    let outcome = match &mut *owner {
-        Owner::Worker(member) => advance(member, epoch, behind),
-        _ => Outcome::Kind,
-    };
-    worker.put(owner);
-    outcome.code()
+    by_handle!(alloc, worker, Worker(member) => advance(member, epoch, behind))
 }
 
 fn advance(member: &mut Member, epoch: &mut u64, behind: &mut u32) -> Outcome
-    ensures { DoesAdvance epoch.old epoch.new behind.old behind.new member.old member.new result }
+    ensures { HasDone (DoesAdvance epoch.old epoch.new behind.old behind.new) member.old member.new result }
 {
     match member.advance() {
         Advance::Moved { epoch: moved } => {
@@ -145,20 +117,11 @@ pub extern "C" fn nm_worker_behind(
         ((epoch.new ≡ epoch.old) × (mask.new ≡ mask.old)) (held_by worker.old) (held_by worker.new))
         result }
 {
-    let mut owner = match worker.claim(alloc) {
-        Ok(owner) => owner,
-        Err(told) => return told.code(),
-    };
-    let outcome = match &mut *owner {
-        Owner::Worker(member) => behind(member, epoch, mask),
-        _ => Outcome::Kind,
-    };
-    worker.put(owner);
-    outcome.code()
+    by_handle!(alloc, worker, Worker(member) => behind(member, epoch, mask))
 }
 
 fn behind(member: &mut Member, epoch: &mut u64, mask: &mut u64) -> Outcome
-    ensures { DoesBehind epoch.new mask.new member.old member.new result }
+    ensures { HasDone (DoesBehind epoch.new mask.new) member.old member.new result }
 {
     let found = member.behind();
     *epoch = found.epoch;
@@ -179,20 +142,11 @@ pub extern "C" fn nm_worker_collect(
         ((epoch.new ≡ epoch.old) × (freed.new ≡ freed.old)) (held_by worker.old)
         (held_by worker.new)) result }
 {
-    let mut owner = match worker.claim(alloc) {
-        Ok(owner) => owner,
-        Err(told) => return told.code(),
-    };
-    let outcome = match &mut *owner {
-        Owner::Worker(member) => collect(member, epoch, freed),
-        _ => Outcome::Kind,
-    };
-    worker.put(owner);
-    outcome.code()
+    by_handle!(alloc, worker, Worker(member) => collect(member, epoch, freed))
 }
 
 fn collect(member: &mut Member, epoch: &mut u64, freed: &mut u64) -> Outcome
-    ensures { DoesCollect epoch.new freed.new member.old member.new result }
+    ensures { HasDone (DoesCollect epoch.new freed.new) member.old member.new result }
 {
     let collected = member.collect();
     *epoch = collected.epoch;

@@ -112,5 +112,26 @@ impl Handle {
     }
 }
 
+/// What an export does with a worker or a report, by its handle: it claims what the handle owns,
+/// makes this call of it, gives it back, and has the outcome's number. It returns from the export
+/// where the claim is refused, and where the handle owns something else: `Kind`.
+macro_rules! by_handle {
+    ($alloc:ident, $handle:ident, $kind:ident($owned:ident) => $call:expr) => {{
+        let mut owner = match $handle.claim($alloc) {
+            Ok(owner) => owner,
+            Err(told) => return told.code(),
+        };
+        let $crate::owner::Owner::$kind($owned) = &mut *owner else {
+            $handle.put(owner);
+            return $crate::outcome::Outcome::Kind.code();
+        };
+        let outcome = $call;
+        $handle.put(owner);
+        outcome.code()
+    }};
+}
+
+pub(crate) use by_handle;
+
 /// Two words, as C declares it.
 const _: () = prove!(std::mem::size_of::<Handle>() == 16);

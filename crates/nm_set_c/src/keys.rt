@@ -1,15 +1,14 @@
 //! Calls for a key, by the handle of a worker.
-#![tactic(auto, using(crate::proofs::Owners::refused_worker, crate::proofs::Owners::told_worker, crate::proofs::Owners::other_worker))]
+#![tactic(auto, using(crate::proofs::Owners::asked_of_worker))]
 
 ghost use Rattle.std.specs.Prelude.{⊤};
 ghost use Rattle.nm_set_c.specs.Handles.{held_by};
 ghost use Rattle.nm_set_c.specs.Outcomes.{IsCodeOf};
-ghost use Rattle.nm_set_c.specs.Owners.{OfWorker};
+ghost use Rattle.nm_set_c.specs.Owners.{HasDone, OfWorker};
 ghost use Rattle.nm_set_c.specs.Workers.{DoesTryContains, DoesTryInsert, DoesTryRemove, DoesFinish, TellsTryContains, TellsTryInsert, TellsTryRemove, TellsFinish};
 
-use crate::handle::Handle;
+use crate::handle::{Handle, by_handle};
 use crate::outcome::Outcome;
-use crate::owner::Owner;
 use nm_edge::Key;
 use nm_set::Member;
 use std::alloc::Global;
@@ -28,27 +27,17 @@ pub extern "C" fn nm_worker_try_contains(
     ensures did { IsCodeOf (OfWorker (DoesTryContains tries key) ⊤ (held_by worker.old) (held_by worker.new))
         result }
 {
-    let mut owner = match worker.claim(alloc) {
-        Ok(owner) => owner,
-        Err(told) => return told.code(),
-    };
-    let outcome = match &mut *owner {
-        Owner::Worker(member) => try_contains(member, key, tries),
-        _ => Outcome::Kind,
-    };
-    worker.put(owner);
-    outcome.code()
+    by_handle!(alloc, worker, Worker(member) => try_contains(member, key, tries))
 }
 
+#[inline(always)]
 fn try_contains(member: &mut Member, key: u64, tries: u32) -> Outcome
-    ensures { DoesTryContains tries key member.old member.new result }
+    ensures tells { HasDone (TellsTryContains tries key) member.old member.new result }
+    ensures did { HasDone (DoesTryContains tries key) member.old member.new result }
 {
-    let Some(key) = Key::new(key) else {
-        return Outcome::Key;
-    };
-    match member.try_contains(key, tries) {
-        Ok(answer) => Outcome::of(answer),
-        Err(fault) => Outcome::of_fault(fault),
+    match Key::new(key) {
+        Some(key) => Outcome::of_answer(member.try_contains(key, tries)),
+        None => Outcome::Key,
     }
 }
 
@@ -66,27 +55,17 @@ pub extern "C" fn nm_worker_try_insert(
     ensures did { IsCodeOf (OfWorker (DoesTryInsert tries key) ⊤ (held_by worker.old) (held_by worker.new))
         result }
 {
-    let mut owner = match worker.claim(alloc) {
-        Ok(owner) => owner,
-        Err(told) => return told.code(),
-    };
-    let outcome = match &mut *owner {
-        Owner::Worker(member) => try_insert(member, key, tries),
-        _ => Outcome::Kind,
-    };
-    worker.put(owner);
-    outcome.code()
+    by_handle!(alloc, worker, Worker(member) => try_insert(member, key, tries))
 }
 
+#[inline(always)]
 fn try_insert(member: &mut Member, key: u64, tries: u32) -> Outcome
-    ensures { DoesTryInsert tries key member.old member.new result }
+    ensures tells { HasDone (TellsTryInsert tries key) member.old member.new result }
+    ensures did { HasDone (DoesTryInsert tries key) member.old member.new result }
 {
-    let Some(key) = Key::new(key) else {
-        return Outcome::Key;
-    };
-    match member.try_insert(key, tries) {
-        Ok(answer) => Outcome::of(answer),
-        Err(fault) => Outcome::of_fault(fault),
+    match Key::new(key) {
+        Some(key) => Outcome::of_answer(member.try_insert(key, tries)),
+        None => Outcome::Key,
     }
 }
 
@@ -104,27 +83,17 @@ pub extern "C" fn nm_worker_try_remove(
     ensures did { IsCodeOf (OfWorker (DoesTryRemove tries key) ⊤ (held_by worker.old) (held_by worker.new))
         result }
 {
-    let mut owner = match worker.claim(alloc) {
-        Ok(owner) => owner,
-        Err(told) => return told.code(),
-    };
-    let outcome = match &mut *owner {
-        Owner::Worker(member) => try_remove(member, key, tries),
-        _ => Outcome::Kind,
-    };
-    worker.put(owner);
-    outcome.code()
+    by_handle!(alloc, worker, Worker(member) => try_remove(member, key, tries))
 }
 
+#[inline(always)]
 fn try_remove(member: &mut Member, key: u64, tries: u32) -> Outcome
-    ensures { DoesTryRemove tries key member.old member.new result }
+    ensures tells { HasDone (TellsTryRemove tries key) member.old member.new result }
+    ensures did { HasDone (DoesTryRemove tries key) member.old member.new result }
 {
-    let Some(key) = Key::new(key) else {
-        return Outcome::Key;
-    };
-    match member.try_remove(key, tries) {
-        Ok(answer) => Outcome::of(answer),
-        Err(fault) => Outcome::of_fault(fault),
+    match Key::new(key) {
+        Some(key) => Outcome::of_answer(member.try_remove(key, tries)),
+        None => Outcome::Key,
     }
 }
 
@@ -138,23 +107,13 @@ pub extern "C" fn nm_worker_finish(alloc: Global, worker: &mut Handle, tries: u3
     ensures did { IsCodeOf (OfWorker (DoesFinish tries) ⊤ (held_by worker.old) (held_by worker.new))
         result }
 {
-    let mut owner = match worker.claim(alloc) {
-        Ok(owner) => owner,
-        Err(told) => return told.code(),
-    };
-    let outcome = match &mut *owner {
-        Owner::Worker(member) => finish(member, tries),
-        _ => Outcome::Kind,
-    };
-    worker.put(owner);
-    outcome.code()
+    by_handle!(alloc, worker, Worker(member) => finish(member, tries))
 }
 
+#[inline(always)]
 fn finish(member: &mut Member, tries: u32) -> Outcome
-    ensures { DoesFinish tries member.old member.new result }
+    ensures tells { HasDone (TellsFinish tries) member.old member.new result }
+    ensures did { HasDone (DoesFinish tries) member.old member.new result }
 {
-    match member.finish(tries) {
-        Ok(answer) => Outcome::of(answer),
-        Err(fault) => Outcome::of_lost(fault),
-    }
+    Outcome::of_finished(member.finish(tries))
 }

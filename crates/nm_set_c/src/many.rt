@@ -1,5 +1,5 @@
 //! Keys that are looked up together, by the handle of a worker.
-#![tactic(auto, using(crate::proofs::Owners::refused_worker, crate::proofs::Owners::told_worker, crate::proofs::Owners::other_worker))]
+#![tactic(auto, using(crate::proofs::Owners::asked_of_worker))]
 
 ghost use Rattle.std.specs.Prelude.{◌≡◌, length, map, IfOk, IfErr};
 ghost use Rattle.nm_calls.specs.InTurns.{key_of};
@@ -7,11 +7,10 @@ ghost use Rattle.nm_set.specs.InTurns.{AskedMany};
 ghost use Rattle.nm_set_c.specs.Handles.{held_by};
 ghost use Rattle.nm_set_c.specs.Lookups.{DoesContainsMany, IsUnasked, lookup_of, key_looked_up};
 ghost use Rattle.nm_set_c.specs.Outcomes.{IsCodeOf};
-ghost use Rattle.nm_set_c.specs.Owners.{OfWorker};
+ghost use Rattle.nm_set_c.specs.Owners.{HasDone, OfWorker};
 
-use crate::handle::Handle;
+use crate::handle::{Handle, by_handle};
 use crate::outcome::Outcome;
-use crate::owner::Owner;
 use nm_edge::Key;
 use nm_set::{Fault, Member, Query};
 use std::alloc::Global;
@@ -39,20 +38,11 @@ pub extern "C" fn nm_worker_contains_many(
     ensures { IsCodeOf (OfWorker (DoesContainsMany tries lookups.old lookups.new)
         (lookups.new ≡ lookups.old) (held_by worker.old) (held_by worker.new)) result }
 {
-    let mut owner = match worker.claim(alloc) {
-        Ok(owner) => owner,
-        Err(told) => return told.code(),
-    };
-    let outcome = match &mut *owner {
-        Owner::Worker(member) => contains_many(alloc, member, lookups, tries),
-        _ => Outcome::Kind,
-    };
-    worker.put(owner);
-    outcome.code()
+    by_handle!(alloc, worker, Worker(member) => contains_many(alloc, member, lookups, tries))
 }
 
 fn contains_many(alloc: Global, member: &mut Member, lookups: &mut [Lookup], tries: u32) -> Outcome
-    ensures { DoesContainsMany tries lookups.old lookups.new member.old member.new result }
+    ensures { HasDone (DoesContainsMany tries lookups.old lookups.new) member.old member.new result }
 {
     let mut queries = match queries_of(alloc, lookups) {
         Ok(queries) => queries,

@@ -1,15 +1,14 @@
 //! The next key of a set that is in use, and the one before, by the handle of a worker.
-#![tactic(auto, using(crate::proofs::Owners::refused_worker, crate::proofs::Owners::told_worker, crate::proofs::Owners::other_worker))]
+#![tactic(auto, using(crate::proofs::Owners::asked_of_worker))]
 
 ghost use Rattle.std.specs.Prelude.{◌≡◌};
 ghost use Rattle.nm_set_c.specs.Handles.{held_by};
 ghost use Rattle.nm_set_c.specs.NextKeys.{DoesNext, DoesPrev, found_written, of_found};
 ghost use Rattle.nm_set_c.specs.Outcomes.{IsCodeOf};
-ghost use Rattle.nm_set_c.specs.Owners.{OfWorker};
+ghost use Rattle.nm_set_c.specs.Owners.{HasDone, OfWorker};
 
-use crate::handle::Handle;
+use crate::handle::{Handle, by_handle};
 use crate::outcome::Outcome;
-use crate::owner::Owner;
 use nm_edge::Key;
 use nm_set::{Fault, Member};
 use std::alloc::Global;
@@ -28,20 +27,11 @@ pub extern "C" fn nm_worker_next(
     ensures { IsCodeOf (OfWorker (DoesNext tries key found.old found.new) (found.new ≡ found.old)
         (held_by worker.old) (held_by worker.new)) result }
 {
-    let mut owner = match worker.claim(alloc) {
-        Ok(owner) => owner,
-        Err(told) => return told.code(),
-    };
-    let outcome = match &mut *owner {
-        Owner::Worker(member) => next(member, key, tries, found),
-        _ => Outcome::Kind,
-    };
-    worker.put(owner);
-    outcome.code()
+    by_handle!(alloc, worker, Worker(member) => next(member, key, tries, found))
 }
 
 fn next(member: &mut Member, key: u64, tries: u32, found: &mut u64) -> Outcome
-    ensures { DoesNext tries key found.old found.new member.old member.new result }
+    ensures { HasDone (DoesNext tries key found.old found.new) member.old member.new result }
 {
     let Some(key) = Key::new(key) else {
         return Outcome::Key;
@@ -64,20 +54,11 @@ pub extern "C" fn nm_worker_prev(
     ensures { IsCodeOf (OfWorker (DoesPrev tries key found.old found.new) (found.new ≡ found.old)
         (held_by worker.old) (held_by worker.new)) result }
 {
-    let mut owner = match worker.claim(alloc) {
-        Ok(owner) => owner,
-        Err(told) => return told.code(),
-    };
-    let outcome = match &mut *owner {
-        Owner::Worker(member) => prev(member, key, tries, found),
-        _ => Outcome::Kind,
-    };
-    worker.put(owner);
-    outcome.code()
+    by_handle!(alloc, worker, Worker(member) => prev(member, key, tries, found))
 }
 
 fn prev(member: &mut Member, key: u64, tries: u32, found: &mut u64) -> Outcome
-    ensures { DoesPrev tries key found.old found.new member.old member.new result }
+    ensures { HasDone (DoesPrev tries key found.old found.new) member.old member.new result }
 {
     let Some(key) = Key::new(key) else {
         return Outcome::Key;

@@ -1,16 +1,15 @@
 //! Notes of what a worker has seen, by its handle: left on its post, and read by another worker of
 //! its set.
-#![tactic(auto, using(crate::proofs::Owners::refused_worker, crate::proofs::Owners::told_worker, crate::proofs::Owners::other_worker))]
+#![tactic(auto, using(crate::proofs::Owners::asked_of_worker))]
 
 ghost use Rattle.std.specs.Prelude.{◌≡◌};
 ghost use Rattle.nm_set_c.specs.Handles.{held_by};
 ghost use Rattle.nm_set_c.specs.Notes.{DoesPost, DoesRead};
 ghost use Rattle.nm_set_c.specs.Outcomes.{IsCodeOf};
-ghost use Rattle.nm_set_c.specs.Owners.{OfWorker};
+ghost use Rattle.nm_set_c.specs.Owners.{HasDone, OfWorker};
 
-use crate::handle::Handle;
+use crate::handle::{Handle, by_handle};
 use crate::outcome::Outcome;
-use crate::owner::Owner;
 use nm_set::{Member, PostFault};
 use std::alloc::Global;
 
@@ -28,20 +27,11 @@ pub extern "C" fn nm_worker_post(
         ((inserted.new ≡ inserted.old) × (removed.new ≡ removed.old)) (held_by worker.old)
         (held_by worker.new)) result }
 {
-    let mut owner = match worker.claim(alloc) {
-        Ok(owner) => owner,
-        Err(told) => return told.code(),
-    };
-    let outcome = match &mut *owner {
-        Owner::Worker(member) => post(member, inserted, removed),
-        _ => Outcome::Kind,
-    };
-    worker.put(owner);
-    outcome.code()
+    by_handle!(alloc, worker, Worker(member) => post(member, inserted, removed))
 }
 
 fn post(member: &mut Member, inserted: &mut u64, removed: &mut u64) -> Outcome
-    ensures { DoesPost inserted.old inserted.new removed.old removed.new member.old member.new result }
+    ensures { HasDone (DoesPost inserted.old inserted.new removed.old removed.new) member.old member.new result }
 {
     match member.post() {
         Some(posted) => {
@@ -68,20 +58,11 @@ pub extern "C" fn nm_worker_read(
         ((inserted.new ≡ inserted.old) × (removed.new ≡ removed.old)) (held_by worker.old)
         (held_by worker.new)) result }
 {
-    let mut owner = match worker.claim(alloc) {
-        Ok(owner) => owner,
-        Err(told) => return told.code(),
-    };
-    let outcome = match &mut *owner {
-        Owner::Worker(member) => read(member, number, inserted, removed),
-        _ => Outcome::Kind,
-    };
-    worker.put(owner);
-    outcome.code()
+    by_handle!(alloc, worker, Worker(member) => read(member, number, inserted, removed))
 }
 
 fn read(member: &mut Member, number: u32, inserted: &mut u64, removed: &mut u64) -> Outcome
-    ensures { DoesRead number inserted.old inserted.new removed.old removed.new member.old member.new result }
+    ensures { HasDone (DoesRead number inserted.old inserted.new removed.old removed.new) member.old member.new result }
 {
     match member.read(number) {
         Ok(Some(posted)) => {

@@ -1,6 +1,7 @@
 //! What a call tells C: an answer or a fault, as a number.
 ghost use Rattle.std.specs.Prelude.{◌≡◌};
-ghost use Rattle.nm_set_c.specs.Outcomes.{code_of, of_bool, of_lost, of_fault, of_insert_fault, of_new, of_taking, of_staying, of_reason};
+ghost use Rattle.nm_set.specs.Tended.{of_insert};
+ghost use Rattle.nm_set_c.specs.Outcomes.{code_of, of_bool, of_lost, of_fault, of_answer, of_finished, of_new, of_taking, of_staying, of_reason};
 
 use nm_set::{CallFault, CloseReason, Fault, InsertFault, MemberFault, NewError, ResignReason};
 
@@ -126,13 +127,34 @@ impl Outcome {
         }
     }
 
-    /// Why an insert that tends the set has not answered.
-    pub(crate) fn of_insert(fault: InsertFault) -> Outcome
-        ensures { result ≡ of_insert_fault fault }
+    /// What a worker's call for a key has answered, or why it has not.
+    pub(crate) fn of_answer(answer: Result<bool, Fault>) -> Outcome
+        ensures { result ≡ of_answer answer }
     {
-        match fault {
-            InsertFault::Full(_) => Outcome::Full,
-            InsertFault::Other(fault) => Outcome::of_fault(fault),
+        match answer {
+            Ok(answer) => Outcome::of(answer),
+            Err(fault) => Outcome::of_fault(fault),
+        }
+    }
+
+    /// The same of an insert that tends the set, without who holds memory back.
+    pub(crate) fn of_inserted(answer: Result<bool, InsertFault>) -> Outcome
+        ensures { result ≡ of_answer (of_insert answer) }
+    {
+        match answer {
+            Ok(answer) => Outcome::of(answer),
+            Err(InsertFault::Full(_)) => Outcome::Full,
+            Err(InsertFault::Other(fault)) => Outcome::of_fault(fault),
+        }
+    }
+
+    /// The same of a call that goes on with a delete.
+    pub(crate) fn of_finished(answer: Result<bool, CallFault>) -> Outcome
+        ensures { result ≡ of_finished answer }
+    {
+        match answer {
+            Ok(answer) => Outcome::of(answer),
+            Err(fault) => Outcome::of_lost(fault),
         }
     }
 

@@ -1,16 +1,15 @@
 //! The least and the greatest key are taken, by the handle of a worker.
-#![tactic(auto, using(crate::proofs::Owners::refused_worker, crate::proofs::Owners::told_worker, crate::proofs::Owners::other_worker))]
+#![tactic(auto, using(crate::proofs::Owners::asked_of_worker))]
 
 ghost use Rattle.std.specs.Prelude.{◌≡◌};
 ghost use Rattle.nm_set_c.specs.Handles.{held_by};
 ghost use Rattle.nm_set_c.specs.NextKeys.{DoesPopFirst, DoesPopLast, TellsPopFirst, TellsPopLast};
 ghost use Rattle.nm_set_c.specs.Outcomes.{IsCodeOf};
-ghost use Rattle.nm_set_c.specs.Owners.{OfWorker};
+ghost use Rattle.nm_set_c.specs.Owners.{HasDone, OfWorker};
 
-use crate::handle::Handle;
+use crate::handle::{Handle, by_handle};
 use crate::next_key::tell_found;
 use crate::outcome::Outcome;
-use crate::owner::Owner;
 use nm_set::{Habit, Member};
 use std::alloc::Global;
 
@@ -29,20 +28,12 @@ pub extern "C" fn nm_worker_pop_first(
     ensures did { IsCodeOf (OfWorker (DoesPopFirst habit.now taken.old taken.new)
         (taken.new ≡ taken.old) (held_by worker.old) (held_by worker.new)) result }
 {
-    let mut owner = match worker.claim(alloc) {
-        Ok(owner) => owner,
-        Err(told) => return told.code(),
-    };
-    let outcome = match &mut *owner {
-        Owner::Worker(member) => pop_first(member, habit, taken),
-        _ => Outcome::Kind,
-    };
-    worker.put(owner);
-    outcome.code()
+    by_handle!(alloc, worker, Worker(member) => pop_first(member, habit, taken))
 }
 
 fn pop_first(member: &mut Member, habit: &Habit, taken: &mut u64) -> Outcome
-    ensures { DoesPopFirst habit.now taken.old taken.new member.old member.new result }
+    ensures tells { HasDone (TellsPopFirst habit.now taken.old taken.new) member.old member.new result }
+    ensures did { HasDone (DoesPopFirst habit.now taken.old taken.new) member.old member.new result }
 {
     let answer = member.pop_first(habit);
     tell_found(answer, taken)
@@ -63,20 +54,12 @@ pub extern "C" fn nm_worker_pop_last(
     ensures did { IsCodeOf (OfWorker (DoesPopLast habit.now taken.old taken.new)
         (taken.new ≡ taken.old) (held_by worker.old) (held_by worker.new)) result }
 {
-    let mut owner = match worker.claim(alloc) {
-        Ok(owner) => owner,
-        Err(told) => return told.code(),
-    };
-    let outcome = match &mut *owner {
-        Owner::Worker(member) => pop_last(member, habit, taken),
-        _ => Outcome::Kind,
-    };
-    worker.put(owner);
-    outcome.code()
+    by_handle!(alloc, worker, Worker(member) => pop_last(member, habit, taken))
 }
 
 fn pop_last(member: &mut Member, habit: &Habit, taken: &mut u64) -> Outcome
-    ensures { DoesPopLast habit.now taken.old taken.new member.old member.new result }
+    ensures tells { HasDone (TellsPopLast habit.now taken.old taken.new) member.old member.new result }
+    ensures did { HasDone (DoesPopLast habit.now taken.old taken.new) member.old member.new result }
 {
     let answer = member.pop_last(habit);
     tell_found(answer, taken)

@@ -1,5 +1,5 @@
 //! Calls on the report of a set that was closed, by its handle.
-#![tactic(auto, using(crate::proofs::Owners::refused_report, crate::proofs::Owners::told_report, crate::proofs::Owners::other_report))]
+#![tactic(auto, using(crate::proofs::Owners::told_of_report))]
 
 ghost use Rattle.std.specs.Prelude.{◌≡◌};
 ghost use Rattle.nm_set_c.specs.Handles.{held_by};
@@ -7,9 +7,8 @@ ghost use Rattle.nm_set_c.specs.Outcomes.{IsCodeOf};
 ghost use Rattle.nm_set_c.specs.Owners.{OfReport};
 ghost use Rattle.nm_set_c.specs.Reports.{TellsSlots, TellsKeys, TellsKey, TellsQueue, TakesOldest};
 
-use crate::handle::Handle;
+use crate::handle::{Handle, by_handle};
 use crate::outcome::Outcome;
-use crate::owner::Owner;
 use nm_set::Report;
 use std::alloc::Global;
 
@@ -38,24 +37,11 @@ pub extern "C" fn nm_report_slots(
         ((free.new ≡ free.old) × (reached.new ≡ reached.old)) (held_by report.old)
         (held_by report.new)) result }
 {
-    let mut owner = match report.claim(alloc) {
-        Ok(owner) => owner,
-        Err(told) => return told.code(),
-    };
-    let outcome = match &mut *owner {
-        Owner::Ended(ended) => slots(ended, free, reached),
-        _ => Outcome::Kind,
-    };
-    report.put(owner);
-    outcome.code()
-}
-
-fn slots(report: &mut Report, free: &mut u32, reached: &mut u32) -> Outcome
-    ensures { TellsSlots free.new reached.new report.old report.new result }
-{
-    *free = report.free;
-    *reached = report.reached;
-    Outcome::Done
+    by_handle!(alloc, report, Ended(ended) => {
+        *free = ended.free;
+        *reached = ended.reached;
+        Outcome::Done
+    })
 }
 
 /// How many keys the set had: `Done`. `Closed`, `InUse`, `Kind`.
@@ -64,23 +50,10 @@ pub extern "C" fn nm_report_keys(alloc: Global, report: &mut Handle, count: &mut
     ensures { IsCodeOf (OfReport (TellsKeys count.new) (count.new ≡ count.old) (held_by report.old)
         (held_by report.new)) result }
 {
-    let mut owner = match report.claim(alloc) {
-        Ok(owner) => owner,
-        Err(told) => return told.code(),
-    };
-    let outcome = match &mut *owner {
-        Owner::Ended(ended) => keys(ended, count),
-        _ => Outcome::Kind,
-    };
-    report.put(owner);
-    outcome.code()
-}
-
-fn keys(report: &mut Report, count: &mut u64) -> Outcome
-    ensures { TellsKeys count.new report.old report.new result }
-{
-    *count = report.keys.len() as u64;
-    Outcome::Done
+    by_handle!(alloc, report, Ended(ended) => {
+        *count = ended.keys.len() as u64;
+        Outcome::Done
+    })
 }
 
 /// The key at an index, from 0 on, by which the keys ascend: `Done`, or `Number` where there are no
@@ -95,16 +68,7 @@ pub extern "C" fn nm_report_key(
     ensures { IsCodeOf (OfReport (TellsKey index key.old key.new) (key.new ≡ key.old)
         (held_by report.old) (held_by report.new)) result }
 {
-    let mut owner = match report.claim(alloc) {
-        Ok(owner) => owner,
-        Err(told) => return told.code(),
-    };
-    let outcome = match &mut *owner {
-        Owner::Ended(ended) => key_at(ended, index, key),
-        _ => Outcome::Kind,
-    };
-    report.put(owner);
-    outcome.code()
+    by_handle!(alloc, report, Ended(ended) => key_at(ended, index, key))
 }
 
 fn key_at(report: &mut Report, index: u64, key: &mut u64) -> Outcome
@@ -131,16 +95,7 @@ pub extern "C" fn nm_report_queue(
     ensures { IsCodeOf (OfReport (TellsQueue worker nodes.old nodes.new) (nodes.new ≡ nodes.old)
         (held_by report.old) (held_by report.new)) result }
 {
-    let mut owner = match report.claim(alloc) {
-        Ok(owner) => owner,
-        Err(told) => return told.code(),
-    };
-    let outcome = match &mut *owner {
-        Owner::Ended(ended) => queue_of(ended, worker, nodes),
-        _ => Outcome::Kind,
-    };
-    report.put(owner);
-    outcome.code()
+    by_handle!(alloc, report, Ended(ended) => queue_of(ended, worker, nodes))
 }
 
 fn queue_of(report: &mut Report, worker: u32, nodes: &mut u64) -> Outcome
@@ -167,16 +122,7 @@ pub extern "C" fn nm_report_waiting(
     ensures { IsCodeOf (OfReport (TakesOldest worker waiting.old waiting.new)
         (waiting.new ≡ waiting.old) (held_by report.old) (held_by report.new)) result }
 {
-    let mut owner = match report.claim(alloc) {
-        Ok(owner) => owner,
-        Err(told) => return told.code(),
-    };
-    let outcome = match &mut *owner {
-        Owner::Ended(ended) => oldest(ended, worker, waiting),
-        _ => Outcome::Kind,
-    };
-    report.put(owner);
-    outcome.code()
+    by_handle!(alloc, report, Ended(ended) => oldest(ended, worker, waiting))
 }
 
 fn oldest(report: &mut Report, worker: u32, waiting: &mut Waiting) -> Outcome

@@ -98,6 +98,7 @@ fn open(alloc: Global, handle: &mut Handle, owner: Owner) -> Outcome
 ///
 /// Several threads may take workers by one handle of a set: each has it for the moment of the take
 /// alone, and looks again for a while where it finds another one there.
+#[tactic(auto, using(crate::proofs::Holds::refused_same, crate::proofs::Holds::refused_there))]
 #[unsafe(no_mangle)]
 pub extern "C" fn nm_set_worker(
     alloc: Global,
@@ -154,6 +155,7 @@ fn keep(alloc: Global, worker: &mut Handle, given: Result<Member, Outcome>) -> O
 /// Takes a worker that is at home, where the caller names no number: `Set::attach` of `nm_set`,
 /// which looks at the seats in the order of their numbers (as tests show). Else as `nm_set_worker`,
 /// but no `Number`.
+#[tactic(auto, using(crate::proofs::Holds::refused_same, crate::proofs::Holds::refused_there))]
 #[unsafe(no_mangle)]
 pub extern "C" fn nm_set_attach(alloc: Global, set: &mut Handle, worker: &mut Handle) -> i32
     ensures worker { IsCodeOf (Attaches (held_by set.old) (held_by worker.old) (held_by worker.new))
@@ -190,6 +192,7 @@ fn any_of(owner: &Owner) -> Result<Member, Outcome>
 
 /// Whether a close would miss the worker of a number, since a handle has it: `Yes`, `No`:
 /// `Set::is_away` of `nm_set`. `Number`, `Closing`; `Closed`, `InUse`, `Kind`.
+#[tactic(auto, using(crate::proofs::Holds::refused_same, crate::proofs::Holds::refused_there))]
 #[unsafe(no_mangle)]
 pub extern "C" fn nm_set_away(alloc: Global, set: &mut Handle, number: u32) -> i32
     ensures told { IsCodeOf (Misses number (held_by set.old)) result }

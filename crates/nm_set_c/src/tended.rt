@@ -1,15 +1,14 @@
 //! Calls for a key that tend the set, by the handle of a worker.
-#![tactic(auto, using(crate::proofs::Owners::refused_worker, crate::proofs::Owners::told_worker, crate::proofs::Owners::other_worker))]
+#![tactic(auto, using(crate::proofs::Owners::asked_of_worker))]
 
 ghost use Rattle.std.specs.Prelude.{⊤};
 ghost use Rattle.nm_set_c.specs.Handles.{held_by};
 ghost use Rattle.nm_set_c.specs.Outcomes.{IsCodeOf};
-ghost use Rattle.nm_set_c.specs.Owners.{OfWorker};
+ghost use Rattle.nm_set_c.specs.Owners.{HasDone, OfWorker};
 ghost use Rattle.nm_set_c.specs.Workers.{DoesContains, DoesInsert, DoesRemove, TellsContains, TellsInsert, TellsRemove};
 
-use crate::handle::Handle;
+use crate::handle::{Handle, by_handle};
 use crate::outcome::Outcome;
-use crate::owner::Owner;
 use nm_edge::Key;
 use nm_set::{Habit, Member};
 use std::alloc::Global;
@@ -28,27 +27,17 @@ pub extern "C" fn nm_worker_contains(
     ensures did { IsCodeOf (OfWorker (DoesContains habit.now key) ⊤ (held_by worker.old)
         (held_by worker.new)) result }
 {
-    let mut owner = match worker.claim(alloc) {
-        Ok(owner) => owner,
-        Err(told) => return told.code(),
-    };
-    let outcome = match &mut *owner {
-        Owner::Worker(member) => contains(member, key, habit),
-        _ => Outcome::Kind,
-    };
-    worker.put(owner);
-    outcome.code()
+    by_handle!(alloc, worker, Worker(member) => contains(member, key, habit))
 }
 
+#[inline(always)]
 fn contains(member: &mut Member, key: u64, habit: &Habit) -> Outcome
-    ensures { DoesContains habit.now key member.old member.new result }
+    ensures tells { HasDone (TellsContains habit.now key) member.old member.new result }
+    ensures did { HasDone (DoesContains habit.now key) member.old member.new result }
 {
-    let Some(key) = Key::new(key) else {
-        return Outcome::Key;
-    };
-    match member.contains(key, habit) {
-        Ok(answer) => Outcome::of(answer),
-        Err(fault) => Outcome::of_fault(fault),
+    match Key::new(key) {
+        Some(key) => Outcome::of_answer(member.contains(key, habit)),
+        None => Outcome::Key,
     }
 }
 
@@ -66,27 +55,17 @@ pub extern "C" fn nm_worker_insert(
     ensures did { IsCodeOf (OfWorker (DoesInsert habit.now key) ⊤ (held_by worker.old)
         (held_by worker.new)) result }
 {
-    let mut owner = match worker.claim(alloc) {
-        Ok(owner) => owner,
-        Err(told) => return told.code(),
-    };
-    let outcome = match &mut *owner {
-        Owner::Worker(member) => insert(member, key, habit),
-        _ => Outcome::Kind,
-    };
-    worker.put(owner);
-    outcome.code()
+    by_handle!(alloc, worker, Worker(member) => insert(member, key, habit))
 }
 
+#[inline(always)]
 fn insert(member: &mut Member, key: u64, habit: &Habit) -> Outcome
-    ensures { DoesInsert habit.now key member.old member.new result }
+    ensures tells { HasDone (TellsInsert habit.now key) member.old member.new result }
+    ensures did { HasDone (DoesInsert habit.now key) member.old member.new result }
 {
-    let Some(key) = Key::new(key) else {
-        return Outcome::Key;
-    };
-    match member.insert(key, habit) {
-        Ok(answer) => Outcome::of(answer),
-        Err(fault) => Outcome::of_insert(fault),
+    match Key::new(key) {
+        Some(key) => Outcome::of_inserted(member.insert(key, habit)),
+        None => Outcome::Key,
     }
 }
 
@@ -104,26 +83,16 @@ pub extern "C" fn nm_worker_remove(
     ensures did { IsCodeOf (OfWorker (DoesRemove habit.now key) ⊤ (held_by worker.old)
         (held_by worker.new)) result }
 {
-    let mut owner = match worker.claim(alloc) {
-        Ok(owner) => owner,
-        Err(told) => return told.code(),
-    };
-    let outcome = match &mut *owner {
-        Owner::Worker(member) => remove(member, key, habit),
-        _ => Outcome::Kind,
-    };
-    worker.put(owner);
-    outcome.code()
+    by_handle!(alloc, worker, Worker(member) => remove(member, key, habit))
 }
 
+#[inline(always)]
 fn remove(member: &mut Member, key: u64, habit: &Habit) -> Outcome
-    ensures { DoesRemove habit.now key member.old member.new result }
+    ensures tells { HasDone (TellsRemove habit.now key) member.old member.new result }
+    ensures did { HasDone (DoesRemove habit.now key) member.old member.new result }
 {
-    let Some(key) = Key::new(key) else {
-        return Outcome::Key;
-    };
-    match member.remove(key, habit) {
-        Ok(answer) => Outcome::of(answer),
-        Err(fault) => Outcome::of_fault(fault),
+    match Key::new(key) {
+        Some(key) => Outcome::of_answer(member.remove(key, habit)),
+        None => Outcome::Key,
     }
 }

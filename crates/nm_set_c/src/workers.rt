@@ -1,5 +1,5 @@
 //! What a worker tells of itself, and the end of another one, by its handle.
-#![tactic(auto, using(crate::proofs::Owners::refused_worker, crate::proofs::Owners::told_worker, crate::proofs::Owners::other_worker))]
+#![tactic(auto, using(crate::proofs::Owners::told_of_worker))]
 
 ghost use Rattle.std.specs.Prelude.{◌≡◌, ⊤};
 ghost use Rattle.nm_tree.specs.Workers.{waiting_in};
@@ -9,7 +9,7 @@ ghost use Rattle.nm_set_c.specs.Handles.Hold.{Open};
 ghost use Rattle.nm_set_c.specs.Owners.{OfWorker, OwnsWorker};
 ghost use Rattle.nm_set_c.specs.Workers.{DoesResign, TellsNumber, TellsOption, TellsLedger, pending_key};
 
-use crate::handle::Handle;
+use crate::handle::{Handle, by_handle};
 use crate::outcome::Outcome;
 use crate::owner::Owner;
 use nm_set::Member;
@@ -40,23 +40,10 @@ pub extern "C" fn nm_worker_number(alloc: Global, worker: &mut Handle, number: &
     ensures { IsCodeOf (OfWorker (λ m. TellsNumber m.hand.pass.view.number number.new m)
         (number.new ≡ number.old) (held_by worker.old) (held_by worker.new)) result }
 {
-    let mut owner = match worker.claim(alloc) {
-        Ok(owner) => owner,
-        Err(told) => return told.code(),
-    };
-    let outcome = match &mut *owner {
-        Owner::Worker(member) => number_of(member, number),
-        _ => Outcome::Kind,
-    };
-    worker.put(owner);
-    outcome.code()
-}
-
-fn number_of(member: &mut Member, number: &mut u32) -> Outcome
-    ensures { TellsNumber member.old.hand.pass.view.number number.new member.old member.new result }
-{
-    *number = member.number();
-    Outcome::Done
+    by_handle!(alloc, worker, Worker(member) => {
+        *number = member.number();
+        Outcome::Done
+    })
 }
 
 /// How many nodes wait in the queues that the worker holds: `Done`. `Closed`, `InUse`, `Kind`.
@@ -65,24 +52,10 @@ pub extern "C" fn nm_worker_queue_len(alloc: Global, worker: &mut Handle, nodes:
     ensures { IsCodeOf (OfWorker (λ m. TellsNumber (waiting_in m.hand.queues) nodes.new m)
         (nodes.new ≡ nodes.old) (held_by worker.old) (held_by worker.new)) result }
 {
-    let mut owner = match worker.claim(alloc) {
-        Ok(owner) => owner,
-        Err(told) => return told.code(),
-    };
-    let outcome = match &mut *owner {
-        Owner::Worker(member) => queue_len(member, nodes),
-        _ => Outcome::Kind,
-    };
-    worker.put(owner);
-    outcome.code()
-}
-
-fn queue_len(member: &mut Member, nodes: &mut u64) -> Outcome
-    ensures { TellsNumber (waiting_in member.old.hand.queues) nodes.new member.old member.new
-        result }
-{
-    *nodes = member.queue_len();
-    Outcome::Done
+    by_handle!(alloc, worker, Worker(member) => {
+        *nodes = member.queue_len();
+        Outcome::Done
+    })
 }
 
 /// The key of a delete that has flagged its leaf and not answered yet: `Yes` and the key, or `No`.
@@ -92,16 +65,7 @@ pub extern "C" fn nm_worker_pending(alloc: Global, worker: &mut Handle, key: &mu
     ensures { IsCodeOf (OfWorker (λ m. TellsOption (pending_key m.hand) key.old key.new m)
         (key.new ≡ key.old) (held_by worker.old) (held_by worker.new)) result }
 {
-    let mut owner = match worker.claim(alloc) {
-        Ok(owner) => owner,
-        Err(told) => return told.code(),
-    };
-    let outcome = match &mut *owner {
-        Owner::Worker(member) => pending(member, key),
-        _ => Outcome::Kind,
-    };
-    worker.put(owner);
-    outcome.code()
+    by_handle!(alloc, worker, Worker(member) => pending(member, key))
 }
 
 fn pending(member: &mut Member, key: &mut u64) -> Outcome
@@ -124,16 +88,7 @@ pub extern "C" fn nm_worker_held(alloc: Global, worker: &mut Handle, epoch: &mut
     ensures { IsCodeOf (OfWorker (λ m. TellsOption m.hand.held epoch.old epoch.new m)
         (epoch.new ≡ epoch.old) (held_by worker.old) (held_by worker.new)) result }
 {
-    let mut owner = match worker.claim(alloc) {
-        Ok(owner) => owner,
-        Err(told) => return told.code(),
-    };
-    let outcome = match &mut *owner {
-        Owner::Worker(member) => held(member, epoch),
-        _ => Outcome::Kind,
-    };
-    worker.put(owner);
-    outcome.code()
+    by_handle!(alloc, worker, Worker(member) => held(member, epoch))
 }
 
 fn held(member: &mut Member, epoch: &mut u64) -> Outcome
@@ -154,31 +109,18 @@ pub extern "C" fn nm_worker_ledger(alloc: Global, worker: &mut Handle, ledger: &
     ensures { IsCodeOf (OfWorker (TellsLedger ledger.new) (ledger.new ≡ ledger.old)
         (held_by worker.old) (held_by worker.new)) result }
 {
-    let mut owner = match worker.claim(alloc) {
-        Ok(owner) => owner,
-        Err(told) => return told.code(),
-    };
-    let outcome = match &mut *owner {
-        Owner::Worker(member) => ledger_of(member, ledger),
-        _ => Outcome::Kind,
-    };
-    worker.put(owner);
-    outcome.code()
-}
-
-fn ledger_of(member: &mut Member, ledger: &mut Ledger) -> Outcome
-    ensures { TellsLedger ledger.new member.old member.new result }
-{
-    let counts = member.ledger();
-    *ledger = Ledger {
-        links: counts.links,
-        flags: counts.flags,
-        splices: counts.splices,
-        retired: counts.retired,
-        freed: counts.freed,
-        queued: counts.queued,
-    };
-    Outcome::Done
+    by_handle!(alloc, worker, Worker(member) => {
+        let counts = member.ledger();
+        *ledger = Ledger {
+            links: counts.links,
+            flags: counts.flags,
+            splices: counts.splices,
+            retired: counts.retired,
+            freed: counts.freed,
+            queued: counts.queued,
+        };
+        Outcome::Done
+    })
 }
 
 /// A worker that is at home resigns to this one, which then holds all that it held, and it never

@@ -1,15 +1,6 @@
-use Rattle.std.proofs.Common.{rules, ◌≡◌}
-use Rattle.nm_set_c.specs.Handles.{held_by}
-use Rattle.nm_set_c.specs.Reports.{TakesOldest}
-use Rattle.nm_set_c.specs.declared.outcome.Outcome.TheVariants.{Kind}
-use Rattle.nm_set_c.proofs.Owners.{told_report, other_report}
+use Rattle.std.proofs.Common.{rules}
+use Rattle.nm_set_c.proofs.Owners.{told_report}
 use Rattle.nm_set_c.proofs.reports.nm_report_waiting.Goals as goal
-use Rattle.nm_set_c.proofs.reports.nm_report_waiting.Goals.{in-Ended, in_default}
 
 pub returns : goal.returns
-returns c =
-    let Same : Type 0 = c.match-deref_mut.waiting ≡ c.args.waiting.now in
-    elim c.match-deref_mut.branch [
-      | in-Ended w ↦ (w.oldest-outcome.result, search rules, told_report (TakesOldest c.args.worker c.args.waiting.now c.match-deref_mut.waiting) Same (held_by c.args.report.now) (held_by c.put.new.self) w.in-Ended.ended w.oldest-outcome.new.report w.oldest-outcome.result (search rules) (search rules) (search rules))
-      | in_default w ↦ (Kind, search rules, other_report (TakesOldest c.args.worker c.args.waiting.now c.match-deref_mut.waiting) Same (held_by c.args.report.now) (held_by c.put.new.self) c.deref_mut.result.now w.in_default.not-Ended (search rules) (search rules) w.waiting-is)
-    ]
+returns c = search (rules, told_report)
