@@ -9,7 +9,11 @@ from typing import Iterator, NamedTuple
 
 SCHEDULES = ("crates/nm_core/specs/Schedules.antt", "crates/nm_core/specs/RadixSchedules.antt")
 THEOREM = "crates/nm_theorem/specs/Worked.antt"
+SHORTHANDS = "crates/nm_model/specs/Shorthands.antt"
 PARTS = ("inserting", "deleting", "cut", "waiting", "leaving", "free_turn", "claim_turn")
+# A definition of turns, with the names of its numbers, and a use of one.
+PART = re.compile(r"^(\w+)((?: \w+)*) =\s(.*?)(?:\n\n|\Z)", re.M | re.S)
+USE = re.compile(r"(\w+)((?: \d+)*)")
 TURN = re.compile(r"t (\d) (\(.*?\)|\w+) \((Ok|Err) (.*)\)")
 # How a trace spells an event, or a reply, that it does not call by its name there.
 EVENTS = {"SightFor": "sight", "LeaveWith": "leave"}
@@ -48,11 +52,40 @@ def line_of(line: str) -> str | None:
     return f"{worker} {' '.join(words_of(event, EVENTS))} = {answer}"
 
 
-def lines_of(text: str) -> list[str]:
-    return [it for it in map(line_of, text.splitlines()) if it]
+def items_of(text: str) -> list[str]:
+    """The items of a list, of which each is a turn or a part: split where no bracket is open."""
+    items, depth = [""], 0
+    for word in re.findall(r"\s+|∷|\+\+|[()]|[^\s()]+", text):
+        depth += (word == "(") - (word == ")")
+        if word in ("∷", "++") and depth == 0:
+            items.append("")
+        else:
+            items[-1] += word
+    return [it.strip() for it in items]
 
 
-def schedules(text: str) -> Iterator[Worked]:
+class Parts:
+    """The lists of turns that texts define, by their names."""
+
+    def __init__(self, *texts: str) -> None:
+        self.parts = {found[1]: (found[2].split(), found[3])
+                      for text in texts for found in PART.finditer(text)}
+
+    def lines_of(self, text: str) -> list[str]:
+        """The turns of a list in the spelling of a trace, with those of each part that it names."""
+        return [line for it in items_of(text) for line in self.lines_of_item(it)]
+
+    def lines_of_item(self, item: str) -> list[str]:
+        line = line_of(item)
+        found = USE.fullmatch(item)
+        if line or not found or found[1] not in self.parts:
+            return [line] if line else []
+        names, body = self.parts[found[1]]
+        numbers = dict(zip(names, found[2].split()))
+        return self.lines_of(re.sub(r"\w+", lambda it: numbers.get(it[0], it[0]), body))
+
+
+def schedules(text: str, parts: Parts) -> Iterator[Worked]:
     """The worked schedules of a file. One in which a worker resigns is left out: a trace has no
     such step."""
     for found in re.finditer(r"^(\w+) = record \{\n(.*?)^\}", text, re.M | re.S):
@@ -61,11 +94,10 @@ def schedules(text: str) -> Iterator[Worked]:
         if sizes and "(Join " not in body:
             version = 4 if sizes[1] else 3 if "SightFor" in body else 2
             turns = body.partition("turns =")[2].partition("ledgers =")[0]
-            yield Worked(name, f"schedule {version} {sizes[2]} {sizes[3]}", lines_of(turns))
+            yield Worked(name, f"schedule {version} {sizes[2]} {sizes[3]}", parts.lines_of(turns))
 
 
-def theorem_turns(text: str) -> Worked:
+def theorem_turns(parts: Parts) -> Worked:
     """The worked turns of the theorem: the turns of its parts, one after the other."""
-    bodies = [re.search(rf"^{part} =(.*?)\n\n", text, re.M | re.S) for part in PARTS]
-    lines = [line for it in bodies if it for line in lines_of(it[1])]
+    lines = [line for it in PARTS for line in parts.lines_of_item(it)]
     return Worked("worked_turns", "schedule 3 8 2", lines)

@@ -34,8 +34,8 @@ use Rattle.nm_order.proofs.OrderedLaws.{IsOrdered, ordered_next, each_ordered, l
 use Rattle.nm_order.proofs.RunExchanges.{first_keys}
 use Rattle.nm_order.proofs.WalksOfRuns.{all_before, all_behind}
 use Rattle.nm_order.proofs.PendingLeaves.{each_flagged_leaf_is_pending}
+use Rattle.nm_edge.specs.declared.placement.Fit.{Fit}
 use Rattle.nm_steps.specs.Rules.{Extends}
-use Rattle.nm_pool.specs.declared.placement.Fit.{Fit}
 use Rattle.nm_steps.specs.Steps.{Stand, IsSamePass, HasSeen}
 use Rattle.nm_calls.specs.PlainWalks.{events_of}
 use Rattle.nm_calls.proofs.PlainLooks.{as_events}

@@ -12,7 +12,7 @@ use Rattle.nm_model.specs.declared.event.Field.TheVariants.{Birth}
 use Rattle.nm_model.specs.declared.reply.Reply.TheVariants.{Labelled, BirthIs, Was, Cut, Lost}
 use Rattle.nm_model.specs.Walks.{Entry}
 use Rattle.nm_order.specs.Logs.{IsLogOf}
-use Rattle.nm_pool.specs.declared.placement.Fit.{Fit}
+use Rattle.nm_edge.specs.declared.placement.Fit.{Fit}
 use Rattle.nm_walks.specs.declared.making.Fork.{Fork}
 use Rattle.nm_walks.specs.declared.spot.ChainEdge.{ChainEdge}
 use Rattle.nm_walks.specs.declared.spot.WalkEnd.{WalkEnd}

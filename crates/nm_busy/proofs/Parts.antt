@@ -10,8 +10,8 @@ use Rattle.nm_edge.specs.Edges.{Edge}
 use Rattle.nm_model.specs.declared.event.Event.{Event}
 use Rattle.nm_model.specs.Walks.{Entry}
 use Rattle.nm_pool.specs.Claims.{DoneInTurn, DoneAt, PassedOver, PassedWithin, IsClaimBy}
-use Rattle.nm_pool.specs.declared.placement.Fit.{Fit}
-use Rattle.nm_pool.specs.declared.placement.Fit.TheVariants as fit
+use Rattle.nm_edge.specs.declared.placement.Fit.{Fit}
+use Rattle.nm_edge.specs.declared.placement.Fit.TheVariants as fit
 use Rattle.nm_epoch.specs.Tries.{LostTries, IsPinnedBy}
 use Rattle.nm_walks.specs.declared.making.Fork.{Fork}
 use Rattle.nm_walks.specs.declared.cutting.Kept.{Kept}

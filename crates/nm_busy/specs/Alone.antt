@@ -1,7 +1,7 @@
 -- A call while which no other worker makes a turn.
 use Rattle.std.specs.Prelude.{◌≡◌, ℕ, ◌≤◌, List, ◌++◌, All, Err}
 use Rattle.nm_model.specs.declared.trace.Turn.{Turn}
-use Rattle.nm_pool.specs.declared.placement.Fit.{Fit}
+use Rattle.nm_edge.specs.declared.placement.Fit.{Fit}
 use Rattle.nm_steps.specs.Steps.{Stand, IsSamePass, HasSeenAllOf, HasSeen}
 use Rattle.nm_calls.specs.declared.inserting.NotInserted.TheVariants as fault
 use Rattle.nm_calls.specs.declared.deleting.Missed.TheVariants as missed

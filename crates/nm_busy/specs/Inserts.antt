@@ -1,6 +1,6 @@
 -- What an insert that answers `Busy` tells of the others.
 use Rattle.std.specs.Prelude.{ℕ, ◌≤◌, Err}
-use Rattle.nm_pool.specs.declared.placement.Fit.{Fit}
+use Rattle.nm_edge.specs.declared.placement.Fit.{Fit}
 use Rattle.nm_steps.specs.Steps.{Stand, IsSamePass, HasSeenAllOf, HasSeen}
 use Rattle.nm_walks.specs.Bounds.{chain_bound}
 use Rattle.nm_calls.specs.declared.inserting.NotInserted.TheVariants as fault

@@ -1,6 +1,6 @@
 -- The last member of a new set, and the others.
 use Rattle.std.proofs.Common.{◌≡◌, ◌+◌, ℕ, suc, List, [], ◌∷◌, ◌++◌, length, refl, sym, subst, arith}
-use Rattle.nm_pool.specs.declared.placement.Fit.{Fit}
+use Rattle.nm_edge.specs.declared.placement.Fit.{Fit}
 use Rattle.nm_steps.specs.Steps.{Board}
 use Rattle.nm_tree.specs.Workers.{AreNew}
 use Rattle.nm_set.specs.Seats.{AreNewMembers, IsNewMember, Seated}

@@ -2,7 +2,7 @@
 //! laws of runs.
 ghost use Rattle.std.specs.Prelude.{◌≡◌, ◌<◌, ◌+◌, ℕ, [], true, false, length, IfSome};
 ghost use Rattle.nm_order.specs.Logs.{part_of};
-ghost use Rattle.nm_pool.specs.declared.placement.Fit.{Fit};
+ghost use Rattle.nm_edge.specs.declared.placement.Fit.{Fit};
 ghost use Rattle.nm_set.specs.Seats.{AreNewMembers, IsNewMember};
 
 use nm_edge::Key;

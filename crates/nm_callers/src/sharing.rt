@@ -1,7 +1,7 @@
 //! A queue of tasks: two members add tasks, a third takes the least ones, and the report of the set
 //! tells what is left. By the clauses of `nm_set` and the laws of runs.
 ghost use Rattle.std.specs.Prelude.{◌≡◌, ◌+◌, ◌∷◌, [], IfSome, length};
-ghost use Rattle.nm_pool.specs.declared.placement.Fit.{Fit};
+ghost use Rattle.nm_edge.specs.declared.placement.Fit.{Fit};
 ghost use Rattle.nm_set.specs.Seats.{AreNewMembers, IsNewMember};
 ghost use Rattle.nm_steps.specs.Steps.{Board};
 ghost use Rattle.nm_callers.specs.Queues.{AddUp, HasWorked, IsAtRest, IsWorkerOf};

@@ -11,8 +11,8 @@ use Rattle.nm_model.specs.declared.event.Event.TheVariants.{Sight, SightFor}
 use Rattle.nm_model.specs.Walks.{Entry}
 use Rattle.nm_epoch.specs.Tries.{LostTry, WonTry, LostTries, IsPinnedBy, IsMoved}
 use Rattle.nm_pool.specs.Claims.{DoneInTurn, DoneAt, PassedOver, PassedWithin, IsClaim, IsClaimBy}
-use Rattle.nm_pool.specs.declared.placement.Fit.{Fit}
-use Rattle.nm_pool.specs.declared.placement.Fit.TheVariants as fit
+use Rattle.nm_edge.specs.declared.placement.Fit.{Fit}
+use Rattle.nm_edge.specs.declared.placement.Fit.TheVariants as fit
 use Rattle.nm_walks.specs.declared.spot.ChainEdge.{ChainEdge}
 use Rattle.nm_walks.specs.declared.spot.WalkEnd.{WalkEnd}
 use Rattle.nm_walks.specs.declared.spot.Spot.{Spot}

@@ -9,7 +9,7 @@ use Rattle.nm_model.specs.declared.event.Op.TheVariants.{Insert}
 use Rattle.nm_model.specs.declared.reply.Reply.TheVariants.{Linked, Lost}
 use Rattle.nm_model.specs.Walks.{Entry}
 use Rattle.nm_epoch.specs.Tries.{IsPinnedBy}
-use Rattle.nm_pool.specs.declared.placement.Fit.{Fit}
+use Rattle.nm_edge.specs.declared.placement.Fit.{Fit}
 use Rattle.nm_walks.specs.declared.making.Fork.{Fork}
 use Rattle.nm_calls.specs.declared.inserting.NotInserted.{NotInserted}
 use Rattle.nm_calls.specs.declared.inserting.NotInserted.TheVariants as fault

@@ -9,7 +9,7 @@ use Rattle.nm_model.specs.declared.reply.Reply.{Reply}
 use Rattle.nm_model.specs.declared.reply.Reply.TheVariants.{Departed, Linked, Lost}
 use Rattle.nm_model.specs.Walks.{Entry}
 use Rattle.nm_order.specs.Facts.Since.{ThePin}
-use Rattle.nm_pool.specs.declared.placement.Fit.{Fit}
+use Rattle.nm_edge.specs.declared.placement.Fit.{Fit}
 use Rattle.nm_steps.specs.Steps.{Stand, IsSamePass, HasSeenAllOf, IsInRun}
 use Rattle.nm_epoch.specs.Resting.{epochs, search, IsResting}
 use Rattle.nm_walks.specs.declared.making.Fork.{Fork}

@@ -19,10 +19,9 @@ ghost use Rattle.nm_calls.specs.Leaving.{HasChangedNothing};
 
 use crate::helping::{help, make_room, make_room_for};
 use crate::leaving::{answer, leave};
-use nm_edge::Key;
+use nm_edge::{Key, Placement};
 use nm_epoch::{HeldQueue, pin_for};
 use nm_model::Op;
-use nm_pool::Placement;
 use nm_steps::{Pass, Shared};
 use nm_walks::{ChainEdges, Fork, WalkEnd, Workspace, claim_fork, give_back, grow, place, seek};
 

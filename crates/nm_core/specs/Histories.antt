@@ -1,14 +1,15 @@
 -- Worked schedules of ordered cores with their histories: the calls in the order of their moments.
-use Rattle.std.specs.Prelude.{ℕ, true, false, List, [], ◌∷◌, map, Some, Ok, Contains}
+use Rattle.std.specs.Prelude.{ℕ, true, false, List, [], ◌∷◌, ◌++◌, map, Some, Ok, Contains}
 use Rattle.nm_edge.specs.Layouts.{dense}
 use Rattle.nm_edge.specs.declared.edge.Side.TheVariants.{Left, Right}
-use Rattle.nm_model.specs.declared.event.Field.TheVariants.{Key, Edge as EdgeOn, Birth}
+use Rattle.nm_model.specs.declared.event.Field.TheVariants.{Key, Edge as EdgeOn}
 use Rattle.nm_model.specs.declared.event.Op.TheVariants.{Has, Insert, Delete}
 use Rattle.nm_model.specs.declared.event.Event.{Event}
-use Rattle.nm_model.specs.declared.event.Event.TheVariants.{Sight, SightFor, Announce, LeaveWith, Claim, Look, Fill, Link, Flag, Tag, Splice}
-use Rattle.nm_model.specs.declared.reply.Reply.TheVariants.{Saw, Labelled, Pinned, Announced, Departed, Claimed, KeyIs, EdgeIs, Filled, Linked, Flagged, Was, Cut}
+use Rattle.nm_model.specs.declared.event.Event.TheVariants.{Sight, SightFor, Announce, LeaveWith, Look, Link, Flag, Tag, Splice}
+use Rattle.nm_model.specs.declared.reply.Reply.TheVariants.{Saw, Labelled, Pinned, Announced, Departed, KeyIs, EdgeIs, Linked, Flagged, Was, Cut}
+use Rattle.nm_model.specs.declared.trace.Turn.{Turn}
 use Rattle.nm_model.specs.Ordered.{turn_of}
-use Rattle.nm_model.specs.Shorthands.{t, e, n}
+use Rattle.nm_model.specs.Shorthands.{t, e, n, makes}
 use Rattle.nm_core.specs.Schedules.{Worked, IsAsWorkedInOrder, q, l}
 use Rattle.nm_model.specs.Acts.{Act, IsAmong, Replays, nothing}
 use Rattle.nm_order.specs.History.{InOrderOfMoments, EachOnce, IsActOfRun, HasActOfCall, IsRunHistory}
@@ -36,6 +37,33 @@ pub record IsAsTold (x : Told) : Type 0 where
   pub only : (acts : List Act) → IsRunHistory x.schedule.layout (events_of x) acts → (a : Act)
       → IsAmong acts a → HasActOfCall x.acts a.worker a.pin a.op a.key a.answer
 
+-- worker 0 inserts 5, alone
+abbrev pub inserted : List Turn
+inserted =
+    t 0 Sight (Ok (Saw 0)) ∷
+    t 0 Announce (Ok (Announced 0)) ∷
+    t 0 (SightFor Insert 5) (Ok (Pinned 0)) ∷
+    t 0 (Look 2 (EdgeOn Left)) (Ok (EdgeIs (e 3 false false))) ∷
+    t 0 (Look 3 Key) (Ok (KeyIs 18446744073709551613)) ∷
+    t 0 (Look 3 (EdgeOn Left)) (Ok (EdgeIs (e 0 false false))) ∷
+    makes 0 6 7 18446744073709551613 7 3 5 ++
+    t 0 (Link 2 Left 3 6) (Ok (Linked (n 6 1))) ∷
+    t 0 (LeaveWith true) (Ok Departed) ∷
+    []
+
+-- and flags its leaf to delete it
+abbrev pub flagged : List Turn
+flagged =
+    t 0 Announce (Ok (Announced 0)) ∷
+    t 0 (SightFor Delete 5) (Ok (Pinned 0)) ∷
+    t 0 (Look 2 (EdgeOn Left)) (Ok (EdgeIs (e 6 false false))) ∷
+    t 0 (Look 6 Key) (Ok (KeyIs 18446744073709551613)) ∷
+    t 0 (Look 6 (EdgeOn Left)) (Ok (EdgeIs (e 7 false false))) ∷
+    t 0 (Look 7 Key) (Ok (KeyIs 5)) ∷
+    t 0 (Look 7 (EdgeOn Right)) (Ok (EdgeIs (e 0 false false))) ∷
+    t 0 (Flag 6 Left 7) (Ok (Flagged (n 7 1))) ∷
+    []
+
 -- worker 0 inserts 5, and flags its leaf to delete it. Worker 1, which inserts 6, comes to the
 -- flagged leaf, cuts it off and links. The delete is never answered, and its moment is the other's
 -- splice
@@ -44,32 +72,8 @@ helped = record {
   schedule = record {
     layout = dense 9 2;
     turns =
-        t 0 Sight (Ok (Saw 0)) ∷
-        t 0 Announce (Ok (Announced 0)) ∷
-        t 0 (SightFor Insert 5) (Ok (Pinned 0)) ∷
-        t 0 (Look 2 (EdgeOn Left)) (Ok (EdgeIs (e 3 false false))) ∷
-        t 0 (Look 3 Key) (Ok (KeyIs 18446744073709551613)) ∷
-        t 0 (Look 3 (EdgeOn Left)) (Ok (EdgeIs (e 0 false false))) ∷
-        t 0 (Claim 6) (Ok (Claimed 6)) ∷
-        t 0 (Fill 6 Birth 1) (Ok Filled) ∷
-        t 0 (Claim 7) (Ok (Claimed 7)) ∷
-        t 0 (Fill 7 Birth 1) (Ok Filled) ∷
-        t 0 (Fill 6 Key 18446744073709551613) (Ok Filled) ∷
-        t 0 (Fill 6 (EdgeOn Left) 7) (Ok Filled) ∷
-        t 0 (Fill 6 (EdgeOn Right) 3) (Ok Filled) ∷
-        t 0 (Fill 7 Key 5) (Ok Filled) ∷
-        t 0 (Fill 7 (EdgeOn Left) 0) (Ok Filled) ∷
-        t 0 (Fill 7 (EdgeOn Right) 0) (Ok Filled) ∷
-        t 0 (Link 2 Left 3 6) (Ok (Linked (n 6 1))) ∷
-        t 0 (LeaveWith true) (Ok Departed) ∷
-        t 0 Announce (Ok (Announced 0)) ∷
-        t 0 (SightFor Delete 5) (Ok (Pinned 0)) ∷
-        t 0 (Look 2 (EdgeOn Left)) (Ok (EdgeIs (e 6 false false))) ∷
-        t 0 (Look 6 Key) (Ok (KeyIs 18446744073709551613)) ∷
-        t 0 (Look 6 (EdgeOn Left)) (Ok (EdgeIs (e 7 false false))) ∷
-        t 0 (Look 7 Key) (Ok (KeyIs 5)) ∷
-        t 0 (Look 7 (EdgeOn Right)) (Ok (EdgeIs (e 0 false false))) ∷
-        t 0 (Flag 6 Left 7) (Ok (Flagged (n 7 1))) ∷
+        inserted ++
+        flagged ++
         t 1 Sight (Ok (Saw 0)) ∷
         t 1 Announce (Ok (Announced 0)) ∷
         t 1 (SightFor Insert 6) (Ok (Pinned 0)) ∷
@@ -84,16 +88,7 @@ helped = record {
         t 1 (Look 2 (EdgeOn Left)) (Ok (EdgeIs (e 3 false false))) ∷
         t 1 (Look 3 Key) (Ok (KeyIs 18446744073709551613)) ∷
         t 1 (Look 3 (EdgeOn Left)) (Ok (EdgeIs (e 0 false false))) ∷
-        t 1 (Claim 8) (Ok (Claimed 8)) ∷
-        t 1 (Fill 8 Birth 1) (Ok Filled) ∷
-        t 1 (Claim 9) (Ok (Claimed 9)) ∷
-        t 1 (Fill 9 Birth 1) (Ok Filled) ∷
-        t 1 (Fill 8 Key 18446744073709551613) (Ok Filled) ∷
-        t 1 (Fill 8 (EdgeOn Left) 9) (Ok Filled) ∷
-        t 1 (Fill 8 (EdgeOn Right) 3) (Ok Filled) ∷
-        t 1 (Fill 9 Key 6) (Ok Filled) ∷
-        t 1 (Fill 9 (EdgeOn Left) 0) (Ok Filled) ∷
-        t 1 (Fill 9 (EdgeOn Right) 0) (Ok Filled) ∷
+        makes 1 8 9 18446744073709551613 9 3 6 ++
         t 1 (Link 2 Left 3 8) (Ok (Linked (n 8 1))) ∷
         t 1 (LeaveWith true) (Ok Departed) ∷
         [];
@@ -118,38 +113,14 @@ stale = record {
   schedule = record {
     layout = dense 7 2;
     turns =
-        t 0 Sight (Ok (Saw 0)) ∷
-        t 0 Announce (Ok (Announced 0)) ∷
-        t 0 (SightFor Insert 5) (Ok (Pinned 0)) ∷
-        t 0 (Look 2 (EdgeOn Left)) (Ok (EdgeIs (e 3 false false))) ∷
-        t 0 (Look 3 Key) (Ok (KeyIs 18446744073709551613)) ∷
-        t 0 (Look 3 (EdgeOn Left)) (Ok (EdgeIs (e 0 false false))) ∷
-        t 0 (Claim 6) (Ok (Claimed 6)) ∷
-        t 0 (Fill 6 Birth 1) (Ok Filled) ∷
-        t 0 (Claim 7) (Ok (Claimed 7)) ∷
-        t 0 (Fill 7 Birth 1) (Ok Filled) ∷
-        t 0 (Fill 6 Key 18446744073709551613) (Ok Filled) ∷
-        t 0 (Fill 6 (EdgeOn Left) 7) (Ok Filled) ∷
-        t 0 (Fill 6 (EdgeOn Right) 3) (Ok Filled) ∷
-        t 0 (Fill 7 Key 5) (Ok Filled) ∷
-        t 0 (Fill 7 (EdgeOn Left) 0) (Ok Filled) ∷
-        t 0 (Fill 7 (EdgeOn Right) 0) (Ok Filled) ∷
-        t 0 (Link 2 Left 3 6) (Ok (Linked (n 6 1))) ∷
-        t 0 (LeaveWith true) (Ok Departed) ∷
+        inserted ++
         t 1 Sight (Ok (Saw 0)) ∷
         t 1 Announce (Ok (Announced 0)) ∷
         t 1 (SightFor Has 5) (Ok (Pinned 0)) ∷
         t 1 (Look 2 (EdgeOn Left)) (Ok (EdgeIs (e 6 false false))) ∷
         t 1 (Look 6 Key) (Ok (KeyIs 18446744073709551613)) ∷
         t 1 (Look 6 (EdgeOn Left)) (Ok (EdgeIs (e 7 false false))) ∷
-        t 0 Announce (Ok (Announced 0)) ∷
-        t 0 (SightFor Delete 5) (Ok (Pinned 0)) ∷
-        t 0 (Look 2 (EdgeOn Left)) (Ok (EdgeIs (e 6 false false))) ∷
-        t 0 (Look 6 Key) (Ok (KeyIs 18446744073709551613)) ∷
-        t 0 (Look 6 (EdgeOn Left)) (Ok (EdgeIs (e 7 false false))) ∷
-        t 0 (Look 7 Key) (Ok (KeyIs 5)) ∷
-        t 0 (Look 7 (EdgeOn Right)) (Ok (EdgeIs (e 0 false false))) ∷
-        t 0 (Flag 6 Left 7) (Ok (Flagged (n 7 1))) ∷
+        flagged ++
         t 0 (Tag 6 Right) (Ok (Was (e 3 false false))) ∷
         t 0 (Splice 2 Left 6 6 Right) (Ok (Cut (n 6 1 ∷ n 7 1 ∷ []))) ∷
         t 0 Sight (Ok (Labelled 0)) ∷

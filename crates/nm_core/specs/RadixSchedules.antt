@@ -1,12 +1,12 @@
 -- A worked schedule of a radix tree.
-use Rattle.std.specs.Prelude.{true, false, [], ◌∷◌, Some, Ok}
+use Rattle.std.specs.Prelude.{true, false, [], ◌∷◌, ◌++◌, Some, Ok}
 use Rattle.nm_edge.specs.Layouts.{dense, in_radix}
 use Rattle.nm_edge.specs.declared.edge.Side.TheVariants.{Left, Right}
-use Rattle.nm_model.specs.declared.event.Field.TheVariants.{Key, Edge as EdgeOn, Birth}
+use Rattle.nm_model.specs.declared.event.Field.TheVariants.{Key, Edge as EdgeOn}
 use Rattle.nm_model.specs.declared.event.Op.TheVariants.{Insert, Delete}
-use Rattle.nm_model.specs.declared.event.Event.TheVariants.{Sight, SightFor, Announce, LeaveWith, Claim, Look, Fill, Link, Flag, Tag, Splice}
-use Rattle.nm_model.specs.declared.reply.Reply.TheVariants.{Saw, Labelled, Pinned, Announced, Departed, Claimed, KeyIs, EdgeIs, Filled, Linked, Flagged, Was, Cut, Lost}
-use Rattle.nm_model.specs.Shorthands.{t, e, n}
+use Rattle.nm_model.specs.declared.event.Event.TheVariants.{Sight, SightFor, Announce, LeaveWith, Look, Link, Flag, Tag, Splice}
+use Rattle.nm_model.specs.declared.reply.Reply.TheVariants.{Saw, Labelled, Pinned, Announced, Departed, KeyIs, EdgeIs, Linked, Flagged, Was, Cut, Lost}
+use Rattle.nm_model.specs.Shorthands.{t, e, n, makes}
 use Rattle.nm_core.specs.Schedules.{Worked, q, l}
 
 -- worker 0 inserts 5, then 6 beside it and 100 over the internal node 8, whose range is from 4 to 7.
@@ -22,16 +22,7 @@ parent_cut = record {
       t 0 (Look 2 (EdgeOn Left)) (Ok (EdgeIs (e 3 false false))) ∷
       t 0 (Look 3 Key) (Ok (KeyIs 18446744073709551613)) ∷
       t 0 (Look 3 (EdgeOn Left)) (Ok (EdgeIs (e 0 false false))) ∷
-      t 0 (Claim 6) (Ok (Claimed 6)) ∷
-      t 0 (Fill 6 Birth 1) (Ok Filled) ∷
-      t 0 (Claim 7) (Ok (Claimed 7)) ∷
-      t 0 (Fill 7 Birth 1) (Ok Filled) ∷
-      t 0 (Fill 6 Key 9223372036854775808) (Ok Filled) ∷
-      t 0 (Fill 6 (EdgeOn Left) 7) (Ok Filled) ∷
-      t 0 (Fill 6 (EdgeOn Right) 3) (Ok Filled) ∷
-      t 0 (Fill 7 Key 5) (Ok Filled) ∷
-      t 0 (Fill 7 (EdgeOn Left) 0) (Ok Filled) ∷
-      t 0 (Fill 7 (EdgeOn Right) 0) (Ok Filled) ∷
+      makes 0 6 7 9223372036854775808 7 3 5 ++
       t 0 (Link 2 Left 3 6) (Ok (Linked (n 6 1))) ∷
       t 0 (LeaveWith true) (Ok Departed) ∷
       t 0 Announce (Ok (Announced 0)) ∷
@@ -41,16 +32,7 @@ parent_cut = record {
       t 0 (Look 6 (EdgeOn Left)) (Ok (EdgeIs (e 7 false false))) ∷
       t 0 (Look 7 Key) (Ok (KeyIs 5)) ∷
       t 0 (Look 7 (EdgeOn Right)) (Ok (EdgeIs (e 0 false false))) ∷
-      t 0 (Claim 8) (Ok (Claimed 8)) ∷
-      t 0 (Fill 8 Birth 1) (Ok Filled) ∷
-      t 0 (Claim 9) (Ok (Claimed 9)) ∷
-      t 0 (Fill 9 Birth 1) (Ok Filled) ∷
-      t 0 (Fill 8 Key 6) (Ok Filled) ∷
-      t 0 (Fill 8 (EdgeOn Left) 7) (Ok Filled) ∷
-      t 0 (Fill 8 (EdgeOn Right) 9) (Ok Filled) ∷
-      t 0 (Fill 9 Key 6) (Ok Filled) ∷
-      t 0 (Fill 9 (EdgeOn Left) 0) (Ok Filled) ∷
-      t 0 (Fill 9 (EdgeOn Right) 0) (Ok Filled) ∷
+      makes 0 8 9 6 7 9 6 ++
       t 0 (Link 6 Left 7 8) (Ok (Linked (n 8 1))) ∷
       t 0 (LeaveWith true) (Ok Departed) ∷
       t 0 Announce (Ok (Announced 0)) ∷
@@ -59,16 +41,7 @@ parent_cut = record {
       t 0 (Look 6 Key) (Ok (KeyIs 9223372036854775808)) ∷
       t 0 (Look 6 (EdgeOn Left)) (Ok (EdgeIs (e 8 false false))) ∷
       t 0 (Look 8 Key) (Ok (KeyIs 6)) ∷
-      t 0 (Claim 10) (Ok (Claimed 10)) ∷
-      t 0 (Fill 10 Birth 1) (Ok Filled) ∷
-      t 0 (Claim 11) (Ok (Claimed 11)) ∷
-      t 0 (Fill 11 Birth 1) (Ok Filled) ∷
-      t 0 (Fill 10 Key 64) (Ok Filled) ∷
-      t 0 (Fill 10 (EdgeOn Left) 8) (Ok Filled) ∷
-      t 0 (Fill 10 (EdgeOn Right) 11) (Ok Filled) ∷
-      t 0 (Fill 11 Key 100) (Ok Filled) ∷
-      t 0 (Fill 11 (EdgeOn Left) 0) (Ok Filled) ∷
-      t 0 (Fill 11 (EdgeOn Right) 0) (Ok Filled) ∷
+      makes 0 10 11 64 8 11 100 ++
       t 0 (Link 6 Left 8 10) (Ok (Linked (n 10 1))) ∷
       t 0 (LeaveWith true) (Ok Departed) ∷
       t 0 Announce (Ok (Announced 0)) ∷
@@ -79,16 +52,7 @@ parent_cut = record {
       t 0 (Look 10 Key) (Ok (KeyIs 64)) ∷
       t 0 (Look 10 (EdgeOn Left)) (Ok (EdgeIs (e 8 false false))) ∷
       t 0 (Look 8 Key) (Ok (KeyIs 6)) ∷
-      t 0 (Claim 12) (Ok (Claimed 12)) ∷
-      t 0 (Fill 12 Birth 1) (Ok Filled) ∷
-      t 0 (Claim 13) (Ok (Claimed 13)) ∷
-      t 0 (Fill 13 Birth 1) (Ok Filled) ∷
-      t 0 (Fill 12 Key 8) (Ok Filled) ∷
-      t 0 (Fill 12 (EdgeOn Left) 8) (Ok Filled) ∷
-      t 0 (Fill 12 (EdgeOn Right) 13) (Ok Filled) ∷
-      t 0 (Fill 13 Key 12) (Ok Filled) ∷
-      t 0 (Fill 13 (EdgeOn Left) 0) (Ok Filled) ∷
-      t 0 (Fill 13 (EdgeOn Right) 0) (Ok Filled) ∷
+      makes 0 12 13 8 8 13 12 ++
       t 1 Sight (Ok (Saw 0)) ∷
       t 1 Announce (Ok (Announced 0)) ∷
       t 1 (SightFor Delete 100) (Ok (Pinned 0)) ∷

@@ -1,6 +1,6 @@
 -- Worked schedules: the events with the outcome of each, and the ledgers, the epoch and the counts
 -- at the end.
-use Rattle.std.specs.Prelude.{◌≡◌, ℕ, true, false, List, [], ◌∷◌, map, Option, Some, None, Ok, Err}
+use Rattle.std.specs.Prelude.{◌≡◌, ℕ, true, false, List, [], ◌∷◌, ◌++◌, map, Option, Some, None, Ok, Err}
 use Rattle.nm_edge.specs.Layouts.{Layout, dense}
 use Rattle.nm_edge.specs.declared.node.NodeId.{NodeId}
 use Rattle.nm_edge.specs.declared.edge.Side.TheVariants.{Left, Right}
@@ -14,7 +14,7 @@ use Rattle.nm_model.specs.declared.ledger.Queued.{Queued}
 use Rattle.nm_model.specs.declared.ledger.Ledger.{Ledger}
 use Rattle.nm_model.specs.declared.places.Places.{Places}
 use Rattle.nm_model.specs.Reports.{report, ordered_report}
-use Rattle.nm_model.specs.Shorthands.{t, e, n}
+use Rattle.nm_model.specs.Shorthands.{t, e, n, makes, pins}
 
 -- a worked schedule
 pub record Worked : Type 0 where
@@ -50,14 +50,28 @@ q node label = record { node = node; label = label }
 abbrev pub l : List NodeId → List NodeId → List Queued → Option Ledger
 l retired freed queue = Some (record { retired = retired; freed = freed; queue = queue })
 
+-- worker 0 pins the epoch and inserts 10
+abbrev pub ten : List Turn
+ten =
+    pins 0 ++
+    t 0 (Look 2 (EdgeOn Left)) (Ok (EdgeIs (e 3 false false))) ∷
+    t 0 (Look 3 (EdgeOn Left)) (Ok (EdgeIs (e 0 false false))) ∷
+    makes 0 6 7 18446744073709551613 7 3 10 ++
+    t 0 (Link 2 Left 3 6) (Ok (Linked (n 6 1))) ∷
+    t 0 (Look 6 (EdgeOn Left)) (Ok (EdgeIs (e 7 false false))) ∷
+    t 0 (Look 7 (EdgeOn Left)) (Ok (EdgeIs (e 0 false false))) ∷
+    []
+
+-- and 20 behind it
+abbrev pub ten_and_twenty : List Turn
+ten_and_twenty = ten ++ makes 0 8 9 20 7 9 20 ++ t 0 (Link 6 Left 7 8) (Ok (Linked (n 8 1))) ∷ []
+
 -- a worker that stays pinned holds the epoch back
 abbrev pub held_back : Worked
 held_back = record {
   layout = dense 7 2;
   turns =
-      t 1 Sight (Ok (Saw 0)) ∷
-      t 1 Announce (Ok (Announced 0)) ∷
-      t 1 Sight (Ok (Pinned 0)) ∷
+      pins 1 ++
       t 0 Sight (Ok (Saw 0)) ∷
       t 0 (Scan 1) (Ok (In 0)) ∷
       t 0 Advance (Ok (Moved 1)) ∷
@@ -154,9 +168,7 @@ words_and_places = record {
       t 0 (Look 6 Key) (Ok (KeyIs 10)) ∷
       t 0 (Claim 6) (Ok Taken) ∷
       t 0 (Claim 5) (Err NoSlot) ∷
-      t 0 Sight (Ok (Saw 0)) ∷
-      t 0 Announce (Ok (Announced 0)) ∷
-      t 0 Sight (Ok (Pinned 0)) ∷
+      pins 0 ++
       t 0 (Look 3 Key) (Err NotHeld) ∷
       t 0 (Look 2 (EdgeOn Left)) (Ok (EdgeIs (e 3 false false))) ∷
       t 0 (Look 3 Key) (Ok (KeyIs 18446744073709551613)) ∷
@@ -177,53 +189,14 @@ abbrev pub long_chain : Worked
 long_chain = record {
   layout = dense 16 2;
   turns =
-      t 0 Sight (Ok (Saw 0)) ∷
-      t 0 Announce (Ok (Announced 0)) ∷
-      t 0 Sight (Ok (Pinned 0)) ∷
-      t 0 (Look 2 (EdgeOn Left)) (Ok (EdgeIs (e 3 false false))) ∷
-      t 0 (Look 3 (EdgeOn Left)) (Ok (EdgeIs (e 0 false false))) ∷
-      t 0 (Claim 6) (Ok (Claimed 6)) ∷
-      t 0 (Fill 6 Birth 1) (Ok Filled) ∷
-      t 0 (Claim 7) (Ok (Claimed 7)) ∷
-      t 0 (Fill 7 Birth 1) (Ok Filled) ∷
-      t 0 (Fill 6 Key 18446744073709551613) (Ok Filled) ∷
-      t 0 (Fill 6 (EdgeOn Left) 7) (Ok Filled) ∷
-      t 0 (Fill 6 (EdgeOn Right) 3) (Ok Filled) ∷
-      t 0 (Fill 7 Key 10) (Ok Filled) ∷
-      t 0 (Fill 7 (EdgeOn Left) 0) (Ok Filled) ∷
-      t 0 (Fill 7 (EdgeOn Right) 0) (Ok Filled) ∷
-      t 0 (Link 2 Left 3 6) (Ok (Linked (n 6 1))) ∷
-      t 0 (Look 6 (EdgeOn Left)) (Ok (EdgeIs (e 7 false false))) ∷
-      t 0 (Look 7 (EdgeOn Left)) (Ok (EdgeIs (e 0 false false))) ∷
-      t 0 (Claim 8) (Ok (Claimed 8)) ∷
-      t 0 (Fill 8 Birth 1) (Ok Filled) ∷
-      t 0 (Claim 9) (Ok (Claimed 9)) ∷
-      t 0 (Fill 9 Birth 1) (Ok Filled) ∷
-      t 0 (Fill 8 Key 20) (Ok Filled) ∷
-      t 0 (Fill 8 (EdgeOn Left) 7) (Ok Filled) ∷
-      t 0 (Fill 8 (EdgeOn Right) 9) (Ok Filled) ∷
-      t 0 (Fill 9 Key 20) (Ok Filled) ∷
-      t 0 (Fill 9 (EdgeOn Left) 0) (Ok Filled) ∷
-      t 0 (Fill 9 (EdgeOn Right) 0) (Ok Filled) ∷
-      t 0 (Link 6 Left 7 8) (Ok (Linked (n 8 1))) ∷
+      ten_and_twenty ++
       t 0 (Look 8 (EdgeOn Right)) (Ok (EdgeIs (e 9 false false))) ∷
       t 0 (Look 9 (EdgeOn Left)) (Ok (EdgeIs (e 0 false false))) ∷
-      t 0 (Claim 10) (Ok (Claimed 10)) ∷
-      t 0 (Fill 10 Birth 1) (Ok Filled) ∷
-      t 0 (Claim 11) (Ok (Claimed 11)) ∷
-      t 0 (Fill 11 Birth 1) (Ok Filled) ∷
-      t 0 (Fill 10 Key 30) (Ok Filled) ∷
-      t 0 (Fill 10 (EdgeOn Left) 9) (Ok Filled) ∷
-      t 0 (Fill 10 (EdgeOn Right) 11) (Ok Filled) ∷
-      t 0 (Fill 11 Key 30) (Ok Filled) ∷
-      t 0 (Fill 11 (EdgeOn Left) 0) (Ok Filled) ∷
-      t 0 (Fill 11 (EdgeOn Right) 0) (Ok Filled) ∷
+      makes 0 10 11 30 9 11 30 ++
       t 0 (Link 8 Right 9 10) (Ok (Linked (n 10 1))) ∷
       t 0 (Flag 8 Left 7) (Ok (Flagged (n 7 1))) ∷
       t 0 (Tag 8 Right) (Ok (Was (e 10 false false))) ∷
-      t 1 Sight (Ok (Saw 0)) ∷
-      t 1 Announce (Ok (Announced 0)) ∷
-      t 1 Sight (Ok (Pinned 0)) ∷
+      pins 1 ++
       t 1 (Look 2 (EdgeOn Left)) (Ok (EdgeIs (e 6 false false))) ∷
       t 1 (Look 6 (EdgeOn Left)) (Ok (EdgeIs (e 8 false false))) ∷
       t 1 (Look 8 (EdgeOn Left)) (Ok (EdgeIs (e 7 true false))) ∷
@@ -250,39 +223,9 @@ abbrev pub both_flagged : Worked
 both_flagged = record {
   layout = dense 16 2;
   turns =
-      t 0 Sight (Ok (Saw 0)) ∷
-      t 0 Announce (Ok (Announced 0)) ∷
-      t 0 Sight (Ok (Pinned 0)) ∷
-      t 0 (Look 2 (EdgeOn Left)) (Ok (EdgeIs (e 3 false false))) ∷
-      t 0 (Look 3 (EdgeOn Left)) (Ok (EdgeIs (e 0 false false))) ∷
-      t 0 (Claim 6) (Ok (Claimed 6)) ∷
-      t 0 (Fill 6 Birth 1) (Ok Filled) ∷
-      t 0 (Claim 7) (Ok (Claimed 7)) ∷
-      t 0 (Fill 7 Birth 1) (Ok Filled) ∷
-      t 0 (Fill 6 Key 18446744073709551613) (Ok Filled) ∷
-      t 0 (Fill 6 (EdgeOn Left) 7) (Ok Filled) ∷
-      t 0 (Fill 6 (EdgeOn Right) 3) (Ok Filled) ∷
-      t 0 (Fill 7 Key 10) (Ok Filled) ∷
-      t 0 (Fill 7 (EdgeOn Left) 0) (Ok Filled) ∷
-      t 0 (Fill 7 (EdgeOn Right) 0) (Ok Filled) ∷
-      t 0 (Link 2 Left 3 6) (Ok (Linked (n 6 1))) ∷
-      t 0 (Look 6 (EdgeOn Left)) (Ok (EdgeIs (e 7 false false))) ∷
-      t 0 (Look 7 (EdgeOn Left)) (Ok (EdgeIs (e 0 false false))) ∷
-      t 0 (Claim 8) (Ok (Claimed 8)) ∷
-      t 0 (Fill 8 Birth 1) (Ok Filled) ∷
-      t 0 (Claim 9) (Ok (Claimed 9)) ∷
-      t 0 (Fill 9 Birth 1) (Ok Filled) ∷
-      t 0 (Fill 8 Key 20) (Ok Filled) ∷
-      t 0 (Fill 8 (EdgeOn Left) 7) (Ok Filled) ∷
-      t 0 (Fill 8 (EdgeOn Right) 9) (Ok Filled) ∷
-      t 0 (Fill 9 Key 20) (Ok Filled) ∷
-      t 0 (Fill 9 (EdgeOn Left) 0) (Ok Filled) ∷
-      t 0 (Fill 9 (EdgeOn Right) 0) (Ok Filled) ∷
-      t 0 (Link 6 Left 7 8) (Ok (Linked (n 8 1))) ∷
+      ten_and_twenty ++
       t 0 (Flag 8 Left 7) (Ok (Flagged (n 7 1))) ∷
-      t 1 Sight (Ok (Saw 0)) ∷
-      t 1 Announce (Ok (Announced 0)) ∷
-      t 1 Sight (Ok (Pinned 0)) ∷
+      pins 1 ++
       t 1 (Look 2 (EdgeOn Left)) (Ok (EdgeIs (e 6 false false))) ∷
       t 1 (Look 6 (EdgeOn Left)) (Ok (EdgeIs (e 8 false false))) ∷
       t 1 (Look 8 (EdgeOn Right)) (Ok (EdgeIs (e 9 false false))) ∷
@@ -311,49 +254,10 @@ abbrev pub helping : Worked
 helping = record {
   layout = dense 16 2;
   turns =
-      t 0 Sight (Ok (Saw 0)) ∷
-      t 0 Announce (Ok (Announced 0)) ∷
-      t 0 Sight (Ok (Pinned 0)) ∷
-      t 0 (Look 2 (EdgeOn Left)) (Ok (EdgeIs (e 3 false false))) ∷
-      t 0 (Look 3 (EdgeOn Left)) (Ok (EdgeIs (e 0 false false))) ∷
-      t 0 (Claim 6) (Ok (Claimed 6)) ∷
-      t 0 (Fill 6 Birth 1) (Ok Filled) ∷
-      t 0 (Claim 7) (Ok (Claimed 7)) ∷
-      t 0 (Fill 7 Birth 1) (Ok Filled) ∷
-      t 0 (Fill 6 Key 18446744073709551613) (Ok Filled) ∷
-      t 0 (Fill 6 (EdgeOn Left) 7) (Ok Filled) ∷
-      t 0 (Fill 6 (EdgeOn Right) 3) (Ok Filled) ∷
-      t 0 (Fill 7 Key 10) (Ok Filled) ∷
-      t 0 (Fill 7 (EdgeOn Left) 0) (Ok Filled) ∷
-      t 0 (Fill 7 (EdgeOn Right) 0) (Ok Filled) ∷
-      t 0 (Link 2 Left 3 6) (Ok (Linked (n 6 1))) ∷
-      t 0 (Look 6 (EdgeOn Left)) (Ok (EdgeIs (e 7 false false))) ∷
-      t 0 (Look 7 (EdgeOn Left)) (Ok (EdgeIs (e 0 false false))) ∷
-      t 0 (Claim 8) (Ok (Claimed 8)) ∷
-      t 0 (Fill 8 Birth 1) (Ok Filled) ∷
-      t 0 (Claim 9) (Ok (Claimed 9)) ∷
-      t 0 (Fill 9 Birth 1) (Ok Filled) ∷
-      t 0 (Fill 8 Key 20) (Ok Filled) ∷
-      t 0 (Fill 8 (EdgeOn Left) 7) (Ok Filled) ∷
-      t 0 (Fill 8 (EdgeOn Right) 9) (Ok Filled) ∷
-      t 0 (Fill 9 Key 20) (Ok Filled) ∷
-      t 0 (Fill 9 (EdgeOn Left) 0) (Ok Filled) ∷
-      t 0 (Fill 9 (EdgeOn Right) 0) (Ok Filled) ∷
-      t 0 (Link 6 Left 7 8) (Ok (Linked (n 8 1))) ∷
+      ten_and_twenty ++
       t 0 (Look 8 (EdgeOn Left)) (Ok (EdgeIs (e 7 false false))) ∷
-      t 0 (Claim 10) (Ok (Claimed 10)) ∷
-      t 0 (Fill 10 Birth 1) (Ok Filled) ∷
-      t 0 (Claim 11) (Ok (Claimed 11)) ∷
-      t 0 (Fill 11 Birth 1) (Ok Filled) ∷
-      t 0 (Fill 10 Key 15) (Ok Filled) ∷
-      t 0 (Fill 10 (EdgeOn Left) 7) (Ok Filled) ∷
-      t 0 (Fill 10 (EdgeOn Right) 11) (Ok Filled) ∷
-      t 0 (Fill 11 Key 15) (Ok Filled) ∷
-      t 0 (Fill 11 (EdgeOn Left) 0) (Ok Filled) ∷
-      t 0 (Fill 11 (EdgeOn Right) 0) (Ok Filled) ∷
-      t 1 Sight (Ok (Saw 0)) ∷
-      t 1 Announce (Ok (Announced 0)) ∷
-      t 1 Sight (Ok (Pinned 0)) ∷
+      makes 0 10 11 15 7 11 15 ++
+      pins 1 ++
       t 1 (Look 2 (EdgeOn Left)) (Ok (EdgeIs (e 6 false false))) ∷
       t 1 (Look 6 (EdgeOn Left)) (Ok (EdgeIs (e 8 false false))) ∷
       t 1 (Look 8 (EdgeOn Left)) (Ok (EdgeIs (e 7 false false))) ∷
@@ -383,24 +287,7 @@ abbrev pub order_and_age : Worked
 order_and_age = record {
   layout = dense 7 1;
   turns =
-      t 0 Sight (Ok (Saw 0)) ∷
-      t 0 Announce (Ok (Announced 0)) ∷
-      t 0 Sight (Ok (Pinned 0)) ∷
-      t 0 (Look 2 (EdgeOn Left)) (Ok (EdgeIs (e 3 false false))) ∷
-      t 0 (Look 3 (EdgeOn Left)) (Ok (EdgeIs (e 0 false false))) ∷
-      t 0 (Claim 6) (Ok (Claimed 6)) ∷
-      t 0 (Fill 6 Birth 1) (Ok Filled) ∷
-      t 0 (Claim 7) (Ok (Claimed 7)) ∷
-      t 0 (Fill 7 Birth 1) (Ok Filled) ∷
-      t 0 (Fill 6 Key 18446744073709551613) (Ok Filled) ∷
-      t 0 (Fill 6 (EdgeOn Left) 7) (Ok Filled) ∷
-      t 0 (Fill 6 (EdgeOn Right) 3) (Ok Filled) ∷
-      t 0 (Fill 7 Key 10) (Ok Filled) ∷
-      t 0 (Fill 7 (EdgeOn Left) 0) (Ok Filled) ∷
-      t 0 (Fill 7 (EdgeOn Right) 0) (Ok Filled) ∷
-      t 0 (Link 2 Left 3 6) (Ok (Linked (n 6 1))) ∷
-      t 0 (Look 6 (EdgeOn Left)) (Ok (EdgeIs (e 7 false false))) ∷
-      t 0 (Look 7 (EdgeOn Left)) (Ok (EdgeIs (e 0 false false))) ∷
+      ten ++
       t 0 (Splice 2 Left 6 6 Right) (Err NotFrozen) ∷
       t 0 (Flag 6 Left 7) (Ok (Flagged (n 7 1))) ∷
       t 0 (Tag 6 Right) (Ok (Was (e 3 false false))) ∷
@@ -433,35 +320,7 @@ abbrev pub refusals : Worked
 refusals = record {
   layout = dense 16 2;
   turns =
-      t 0 Sight (Ok (Saw 0)) ∷
-      t 0 Announce (Ok (Announced 0)) ∷
-      t 0 Sight (Ok (Pinned 0)) ∷
-      t 0 (Look 2 (EdgeOn Left)) (Ok (EdgeIs (e 3 false false))) ∷
-      t 0 (Look 3 (EdgeOn Left)) (Ok (EdgeIs (e 0 false false))) ∷
-      t 0 (Claim 6) (Ok (Claimed 6)) ∷
-      t 0 (Fill 6 Birth 1) (Ok Filled) ∷
-      t 0 (Claim 7) (Ok (Claimed 7)) ∷
-      t 0 (Fill 7 Birth 1) (Ok Filled) ∷
-      t 0 (Fill 6 Key 18446744073709551613) (Ok Filled) ∷
-      t 0 (Fill 6 (EdgeOn Left) 7) (Ok Filled) ∷
-      t 0 (Fill 6 (EdgeOn Right) 3) (Ok Filled) ∷
-      t 0 (Fill 7 Key 10) (Ok Filled) ∷
-      t 0 (Fill 7 (EdgeOn Left) 0) (Ok Filled) ∷
-      t 0 (Fill 7 (EdgeOn Right) 0) (Ok Filled) ∷
-      t 0 (Link 2 Left 3 6) (Ok (Linked (n 6 1))) ∷
-      t 0 (Look 6 (EdgeOn Left)) (Ok (EdgeIs (e 7 false false))) ∷
-      t 0 (Look 7 (EdgeOn Left)) (Ok (EdgeIs (e 0 false false))) ∷
-      t 0 (Claim 8) (Ok (Claimed 8)) ∷
-      t 0 (Fill 8 Birth 1) (Ok Filled) ∷
-      t 0 (Claim 9) (Ok (Claimed 9)) ∷
-      t 0 (Fill 9 Birth 1) (Ok Filled) ∷
-      t 0 (Fill 8 Key 20) (Ok Filled) ∷
-      t 0 (Fill 8 (EdgeOn Left) 7) (Ok Filled) ∷
-      t 0 (Fill 8 (EdgeOn Right) 9) (Ok Filled) ∷
-      t 0 (Fill 9 Key 20) (Ok Filled) ∷
-      t 0 (Fill 9 (EdgeOn Left) 0) (Ok Filled) ∷
-      t 0 (Fill 9 (EdgeOn Right) 0) (Ok Filled) ∷
-      t 0 (Link 6 Left 7 8) (Ok (Linked (n 8 1))) ∷
+      ten_and_twenty ++
       t 0 (Scan 2) (Err NoWorker) ∷
       t 1 Advance (Err NotReady) ∷
       t 1 Announce (Err NotReady) ∷
@@ -528,16 +387,7 @@ insert_in_order = record {
       t 0 (Look 3 Key) (Ok (KeyIs 18446744073709551613)) ∷
       t 0 (Look 3 (EdgeOn Left)) (Ok (EdgeIs (e 0 false false))) ∷
       t 0 (LeaveWith false) (Err NoAnswer) ∷
-      t 0 (Claim 6) (Ok (Claimed 6)) ∷
-      t 0 (Fill 6 Birth 1) (Ok Filled) ∷
-      t 0 (Claim 7) (Ok (Claimed 7)) ∷
-      t 0 (Fill 7 Birth 1) (Ok Filled) ∷
-      t 0 (Fill 6 Key 18446744073709551613) (Ok Filled) ∷
-      t 0 (Fill 6 (EdgeOn Left) 7) (Ok Filled) ∷
-      t 0 (Fill 6 (EdgeOn Right) 3) (Ok Filled) ∷
-      t 0 (Fill 7 Key 4) (Ok Filled) ∷
-      t 0 (Fill 7 (EdgeOn Left) 0) (Ok Filled) ∷
-      t 0 (Fill 7 (EdgeOn Right) 0) (Ok Filled) ∷
+      makes 0 6 7 18446744073709551613 7 3 4 ++
       t 0 (Link 2 Left 3 6) (Err NotOrdered) ∷
       t 0 (Fill 7 Key 5) (Ok Filled) ∷
       t 0 (Link 2 Left 3 6) (Ok (Linked (n 6 1))) ∷
@@ -562,16 +412,7 @@ delete_in_order = record {
       t 0 (Look 2 (EdgeOn Left)) (Ok (EdgeIs (e 3 false false))) ∷
       t 0 (Look 3 Key) (Ok (KeyIs 18446744073709551613)) ∷
       t 0 (Look 3 (EdgeOn Left)) (Ok (EdgeIs (e 0 false false))) ∷
-      t 0 (Claim 6) (Ok (Claimed 6)) ∷
-      t 0 (Fill 6 Birth 1) (Ok Filled) ∷
-      t 0 (Claim 7) (Ok (Claimed 7)) ∷
-      t 0 (Fill 7 Birth 1) (Ok Filled) ∷
-      t 0 (Fill 6 Key 18446744073709551613) (Ok Filled) ∷
-      t 0 (Fill 6 (EdgeOn Left) 7) (Ok Filled) ∷
-      t 0 (Fill 6 (EdgeOn Right) 3) (Ok Filled) ∷
-      t 0 (Fill 7 Key 5) (Ok Filled) ∷
-      t 0 (Fill 7 (EdgeOn Left) 0) (Ok Filled) ∷
-      t 0 (Fill 7 (EdgeOn Right) 0) (Ok Filled) ∷
+      makes 0 6 7 18446744073709551613 7 3 5 ++
       t 0 (Link 2 Left 3 6) (Ok (Linked (n 6 1))) ∷
       t 0 (LeaveWith true) (Ok Departed) ∷
       t 0 Announce (Ok (Announced 0)) ∷

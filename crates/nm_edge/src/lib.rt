@@ -1,5 +1,5 @@
 //! What the words of the tree hold: keys, edges, the two sides of a node, nodes by slot and birth,
-//! and the sizes of a tree.
+//! the sizes of a tree, and where a worker looks for a free slot.
 #![tactic(auto)]
 
 mod edge;
@@ -7,6 +7,7 @@ mod key;
 mod laws;
 mod layout;
 mod node;
+mod placement;
 mod ranges;
 
 pub use edge::{Edge, Side};
@@ -20,6 +21,7 @@ pub use layout::{
     PoolPlace, SLOTS_OF_A_ROW, place_in_row,
 };
 pub use node::{LAST_NUMBER, NodeId};
+pub use placement::{Fit, Placement};
 pub use ranges::{covers, parting};
 
 #[cfg(test)]

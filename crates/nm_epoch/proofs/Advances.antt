@@ -20,7 +20,7 @@ use Rattle.nm_epoch.proofs.Marks.{IsLooking}
 use Rattle.nm_epoch.proofs.Entries.{epochs_after, search_is}
 use Rattle.nm_epoch.proofs.KeptHands.{is_label, hands_kept, kept_on, look_keeps}
 use Rattle.nm_epoch.proofs.Scanning.{look_epochs, settles_on}
-use Rattle.nm_pool.proofs.PrivateSlots.{known_after_step}
+use Rattle.nm_steps.proofs.Presence.{known_after_step}
 
 -- ---- the last step
 

@@ -19,7 +19,7 @@ use Rattle.nm_steps.proofs.Extending.{neither}
 use Rattle.nm_epoch.specs.Resting.{IsResting, epochs, search}
 use Rattle.nm_epoch.proofs.Marks.{marks, IsLooking, one_for_each, all_others}
 use Rattle.nm_epoch.specs.Scans.{lets_pass}
-use Rattle.nm_pool.proofs.Allowing.{passes_then}
+use Rattle.nm_model.proofs.Checks.{passes_then}
 
 -- a check that does not fail, with none behind it
 pub passes : (b : Bool) (r : Refused) → b ≡ false → cond b (Some r) None ≡ None

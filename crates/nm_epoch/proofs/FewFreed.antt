@@ -20,7 +20,7 @@ use Rattle.nm_epoch.specs.declared.collecting.HeldQueue.{HeldQueue}
 use Rattle.nm_epoch.specs.Collecting.{AreHeld, IsQueueOf, IsCollection, NoneHas, blank, queued, freeing, is_ripe, ripe_part, ripe_of}
 use Rattle.nm_epoch.proofs.Fronts.{shown_queue}
 use Rattle.nm_epoch.proofs.Steps.{one_longer}
-use Rattle.nm_pool.proofs.Steps.{longer_by}
+use Rattle.nm_model.proofs.Lists.{longer_by}
 
 abbrev slots : List Entry → List ℕ
 slots es = map (λ (e : Entry). e.node.slot) es

@@ -26,7 +26,7 @@ use Rattle.nm_epoch.specs.Collecting.{queued, IsQueueOf, KeepsRetired}
 use Rattle.nm_order.specs.Hands.{WaitsAt, AreApart}
 use Rattle.nm_epoch.proofs.Allowed.{passes}
 use Rattle.nm_epoch.proofs.Entries.{epochs_after, search_is}
-use Rattle.nm_pool.proofs.Allowing.{not_outside, passes_then}
+use Rattle.nm_model.proofs.Checks.{not_outside, passes_then}
 
 -- ---- lists alone
 

@@ -16,7 +16,7 @@ use Rattle.nm_steps.specs.Rules.{knowledge}
 use Rattle.nm_steps.specs.Steps.{Stand, Stepped, IsSamePass, IsSight, sight_of}
 use Rattle.nm_epoch.specs.Resting.{KeepsHands, epochs}
 use Rattle.nm_epoch.specs.Scans.{LooksAt}
-use Rattle.nm_pool.proofs.PrivateSlots.{known_after_step}
+use Rattle.nm_steps.proofs.Presence.{known_after_step}
 
 -- a step on the epoch or on an announcement
 abbrev pub is_quiet : Event → Bool

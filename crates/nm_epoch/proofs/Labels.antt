@@ -15,7 +15,7 @@ use Rattle.nm_steps.specs.Rules.{knowledge}
 use Rattle.nm_steps.specs.Steps.{Stand, Stepped}
 use Rattle.nm_epoch.specs.declared.collecting.Entry.{Entry}
 use Rattle.nm_epoch.specs.Collecting.{queued, labelled_so, TakesLabels}
-use Rattle.nm_pool.proofs.PrivateSlots.{known_after_step}
+use Rattle.nm_steps.proofs.Presence.{known_after_step}
 
 with_labels : (e : ℕ) (ns : List NodeId) → map (with_label e) (map unlabelled ns) ≡ map queued (map (labelled_so e) ns)
 with_labels e [] = refl

@@ -26,7 +26,7 @@ use Rattle.nm_epoch.specs.Collecting.{queued, IsQueueOf, AreHeld, KeepsRetired, 
 use Rattle.nm_epoch.specs.Resting.{epochs}
 use Rattle.nm_order.specs.Reads.{sight_epoch}
 use Rattle.nm_order.proofs.ReadEpochs.{confirmed_finds}
-use Rattle.nm_pool.proofs.PrivateSlots.{known_after_step}
+use Rattle.nm_steps.proofs.Presence.{known_after_step}
 
 -- ---- labels that are there stay
 

@@ -16,7 +16,7 @@ use Rattle.nm_steps.specs.Steps.{Stand, Stepped, IsSight, noted_sight, sight_of}
 use Rattle.nm_epoch.specs.Resting.{IsSettled, Settles, epochs, search}
 use Rattle.nm_epoch.proofs.Entries.{epochs_after, search_is}
 use Rattle.nm_order.specs.Reads.{sight_epoch}
-use Rattle.nm_pool.proofs.PrivateSlots.{known_after_step}
+use Rattle.nm_steps.proofs.Presence.{known_after_step}
 
 -- ---- the epoch read
 

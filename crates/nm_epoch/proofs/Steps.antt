@@ -13,7 +13,7 @@ use Rattle.nm_epoch.specs.declared.answers.Moved.{Moved as LostPin}
 use Rattle.nm_epoch.specs.Scans.{IsSightOf, LooksAt, AllLetPass, SightThenScans, IsAdvance}
 use Rattle.nm_epoch.specs.Watches.{AllWatched, SightThenWatch}
 use Rattle.nm_epoch.specs.Tries.{LostTries, IsPinnedBy, IsMoved, after_sight}
-use Rattle.nm_pool.proofs.Steps.{longer_by}
+use Rattle.nm_model.proofs.Lists.{longer_by}
 
 pub one_longer : (old new : List Entry) (x : Entry) → new ≡ old ++ x ∷ [] → length new ≡ length old + 1
 one_longer old new x is = longer_by old new (x ∷ []) is

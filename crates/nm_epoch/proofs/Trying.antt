@@ -23,7 +23,7 @@ use Rattle.nm_epoch.specs.Tries.{WonTry, LostTry, LostTries, IsMoved, after_sigh
 use Rattle.nm_epoch.proofs.Entries.{epochs_after, search_is}
 use Rattle.nm_epoch.proofs.KeptHands.{is_quiet, is_label, hands_kept, kept_on}
 use Rattle.nm_epoch.proofs.Allowed.{may_sight_for}
-use Rattle.nm_pool.proofs.PrivateSlots.{known_after_step}
+use Rattle.nm_steps.proofs.Presence.{known_after_step}
 
 -- ---- the confirming sight
 

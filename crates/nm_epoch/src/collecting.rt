@@ -8,9 +8,8 @@ ghost use Rattle.nm_epoch.specs.Resting.{epochs};
 ghost use Rattle.nm_epoch.specs.Collecting.{IsQueueOf, AreHeld, FreesFront, FreesFronts, Collects, ripe_front, blank};
 
 use crate::looking::read;
-use nm_edge::NodeId;
+use nm_edge::{NodeId, Placement};
 use nm_limbo::BlockQueue;
-use nm_pool::Placement;
 use nm_steps::{Pass, Shared};
 use std::alloc::Global;
 

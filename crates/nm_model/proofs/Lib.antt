@@ -1,5 +1,6 @@
 pub mod Numbers
 pub mod Lists
+pub mod Checks
 pub mod Counting
 pub mod Tables
 pub mod Freeing

@@ -4,9 +4,8 @@ ghost use Rattle.nm_calls.specs.Fresh.{HasDoneNothing};
 ghost use Rattle.nm_pass_tests.specs.Plays.{IsAtRest, IsPendingFor};
 
 use nm_calls::{Missed, NotInserted, Unfinished, delete, finish, has, insert};
-use nm_edge::{Key, NodeId};
+use nm_edge::{Fit, Key, NodeId, Placement};
 use nm_epoch::HeldQueue;
-use nm_pool::{Fit, Placement};
 use nm_steps::{Pass, Shared};
 use nm_walks::{ChainEdges, Workspace, choose, seek, tag};
 use std::alloc::Global;

@@ -1,7 +1,7 @@
 //! Claims by a placement.
 use super::passes::only;
-use nm_edge::{Layout, NodeId};
-use nm_pool::{Fit, Placement, claim_by, give};
+use nm_edge::{Fit, Layout, NodeId, Placement};
+use nm_pool::{claim_by, give};
 use nm_steps::Shared;
 use std::test::Fail;
 

@@ -5,8 +5,8 @@ ghost use Rattle.nm_steps.specs.Rules.{knowledge};
 ghost use Rattle.nm_steps.specs.Steps.{AreFresh, Continues, IsOf};
 ghost use Rattle.nm_calls.specs.Fresh.{HasDoneNothing};
 
-use nm_edge::NodeId;
-use nm_pool::{Fit, Placement, claim_by};
+use nm_edge::{Fit, NodeId, Placement};
+use nm_pool::claim_by;
 use nm_steps::{Pass, Shared};
 
 /// The pass of a table of one worker.

@@ -1,26 +1,19 @@
 -- A worker may claim a slot of the pool's range, and of a private one look at the birth, raise it,
 -- and give the slot back.
 use Rattle.std.proofs.Common.{◌≡◌, ℕ, ◌+◌, ◌≤◌, ◌<◌, ◌==◌, Bool, true, false, not, ◌||◌, ◌&&◌, cond, List, [], refl, ap, ◌∙◌, arith}
-use Rattle.std.specs.Prelude.{Option, Some, None, is_some, is_none, nat_lt}
-use Rattle.std.proofs.lemmas.Bool.{cond-false, le-ltb, eq-eqb, ne_eqb}
+use Rattle.std.specs.Prelude.{Option, Some, None, is_some, is_none}
+use Rattle.std.proofs.lemmas.Bool.{eq-eqb, ne_eqb}
 use Rattle.nm_edge.specs.Layouts.{Layout}
 use Rattle.nm_model.specs.declared.event.Event.TheVariants.{Claim, Give, Look, Fill}
 use Rattle.nm_model.specs.declared.event.Field.TheVariants.{Birth}
-use Rattle.nm_model.specs.declared.reply.Refused.{Refused}
 use Rattle.nm_model.specs.declared.reply.Refused.TheVariants.{NoSlot, NotPinned, NotHeld, NotPrivate, NotReady, Spent}
 use Rattle.nm_model.specs.Memory.{node}
 use Rattle.nm_model.specs.Knowledge.{Knowledge, knows, is_private, draft_of}
 use Rattle.nm_model.specs.Step.{refusal, outside, last_number, free_checks, first, is_early}
 use Rattle.nm_model.specs.Walks.{Entry}
 use Rattle.nm_order.specs.Logs.{known_by}
+use Rattle.nm_model.proofs.Checks.{not_outside, passes_then}
 use Rattle.nm_steps.specs.Steps.{May}
-
-pub not_outside : (low n s : ℕ) → low ≤ s → s ≤ n → outside low n s ≡ false
-not_outside low n s least most = ap (λ (b : Bool). b || nat_lt n s) (le-ltb s low least) ∙ le-ltb n s most
-
--- a check that passes_then, and those that follow
-pub passes_then : (b : Bool) (r : Refused) (o : Option Refused) → b ≡ false → o ≡ None → cond b (Some r) o ≡ None
-passes_then b r o is rest = cond-false b (Some r) o is ∙ rest
 
 module _ (L : Layout) (w : ℕ) (log : List Entry) (s : ℕ) (least : 6 ≤ s) (most : s ≤ L.nodes) where
   abbrev k : Knowledge

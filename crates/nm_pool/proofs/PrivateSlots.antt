@@ -3,21 +3,19 @@ use Rattle.std.proofs.Common.{◌≡◌, ◌≢◌, ℕ, suc, ◌+◌, ◌-◌, 
 use Rattle.std.specs.Prelude.{Some, None, is_some, unwrap_or}
 use Rattle.std.proofs.lemmas.Bool.{cond-true, cond-false, eq-eqb, ne_eqb, eqb-true}
 use Rattle.std.specs.Ordering.{nat_cmp, is_eq}
-use Rattle.nm_model.specs.declared.event.Event.{Event}
 use Rattle.nm_model.specs.declared.event.Event.TheVariants.{Claim, Give, Look, Fill}
 use Rattle.nm_model.specs.declared.event.Field.TheVariants.{Birth}
-use Rattle.nm_model.specs.declared.reply.Reply.{Reply}
 use Rattle.nm_model.specs.declared.reply.Reply.TheVariants.{Claimed, Taken, Returned, BirthIs, Filled}
 use Rattle.nm_model.specs.declared.knowledge.Draft.{Draft}
 use Rattle.nm_model.specs.Maps.{get, put, without, has}
 use Rattle.nm_model.specs.Knowledge.{Knowledge, unfilled, is_private, draft_of}
-use Rattle.nm_model.specs.Learning.{learn, filled_in, look_private, look_known}
+use Rattle.nm_model.specs.Learning.{filled_in, look_private, look_known}
 use Rattle.nm_model.specs.Walks.{Entry}
 use Rattle.nm_laws.proofs.Learned.{learn_claimed, learn_taken, learn_returned, learn_look, learn_filled}
 use Rattle.nm_model.proofs.Tables.{get-put, at_eqb}
 use Rattle.nm_steps.specs.Rules.{knowledge}
 use Rattle.nm_steps.specs.Steps.{Board, Stand, IsOf, Stepped, IsSamePass}
-use Rattle.nm_steps.proofs.Presence.{known_push}
+use Rattle.nm_steps.proofs.Presence.{known_after_step}
 use Rattle.nm_pool.specs.Claims.{Doing, DoneBelow, LearnsSlots}
 
 -- ---- lists of slots
@@ -30,9 +28,6 @@ one_more Done from s old mid new le each here =
     rw count (mid, each, rw last here)
 
 -- ---- what a step adds
-
-pub known_after_step : (p q : Stand) (e : Event) (r : Reply) → Stepped p q e r → knowledge q.view ≡ learn p.view.number (knowledge p.view) e r
-known_after_step p q e r is = ap (λ (s : Stand). knowledge s.view) is ∙ known_push p.view.number p.view.layout p.view.log (e, r)
 
 abbrev with_draft : Knowledge → ℕ → Draft → Knowledge
 with_draft k s d = record k { drafts = put k.drafts s d }

@@ -1,19 +1,16 @@
 -- How many steps claims take at most.
-use Rattle.std.proofs.Common.{◌≡◌, inl, inr, ℕ, zero, suc, ◌+◌, ◌*◌, ◌-◌, ◌≤◌, List, [], ◌∷◌, ◌++◌, length, ap, ◌∙◌, arith}
+use Rattle.std.proofs.Common.{◌≡◌, inl, inr, ℕ, zero, suc, ◌+◌, ◌*◌, ◌-◌, ◌≤◌, List, [], ◌∷◌, length, ap, arith}
 use Rattle.std.specs.Prelude.{Option, Some, None}
-use Rattle.std.proofs.lemmas.List.{length-append}
 use Rattle.nm_edge.specs.declared.node.NodeId.{NodeId}
 use Rattle.nm_model.specs.Walks.{Entry}
+use Rattle.nm_model.proofs.Lists.{longer_by}
 use Rattle.nm_pool.specs.Claims.{Doing, DoneInTurn, DoneAt, PassedOver, PassedWithin, IsClaimBy}
-use Rattle.nm_pool.specs.declared.placement.Fit.{Fit}
-use Rattle.nm_pool.specs.declared.placement.Fit.TheVariants as fit
+use Rattle.nm_edge.specs.declared.placement.Fit.{Fit}
+use Rattle.nm_edge.specs.declared.placement.Fit.TheVariants as fit
 
 -- what is done at one slot takes so many steps at most
 abbrev TakesFew : ℕ → Doing → Type 0
 TakesFew most Done = (s : ℕ) (old new : List Entry) → Done s old new → length new ≤ length old + most
-
-pub longer_by : (old new more : List Entry) → new ≡ old ++ more → length new ≡ length old + length more
-longer_by old new more is = ap (λ (log : List Entry). length log) is ∙ length-append old more
 
 few_in_turn : (most : ℕ) (Done : Doing) → TakesFew most Done → (from n : ℕ) (old new : List Entry) → DoneInTurn Done from n old new → length new ≤ length old + most * n
 few_in_turn most Done few from zero old new done = let same : length new ≡ length old = ap (λ (log : List Entry). length log) done in omega (arith, same)

@@ -10,8 +10,8 @@ use Rattle.nm_model.specs.Step.{last_number}
 use Rattle.nm_model.specs.Walks.{Entry}
 use Rattle.nm_pool.specs.declared.nodes.Tried.{Tried}
 use Rattle.nm_pool.specs.declared.nodes.Tried.TheVariants as tried
-use Rattle.nm_pool.specs.declared.placement.Fit.{Fit}
-use Rattle.nm_pool.specs.declared.placement.Fit.TheVariants as fit
+use Rattle.nm_edge.specs.declared.placement.Fit.{Fit}
+use Rattle.nm_edge.specs.declared.placement.Fit.TheVariants as fit
 pub use Rattle.nm_steps.specs.Rows.{Doing, DoneInTurn, DoneBelow, FoundTaken}
 
 -- the slot was claimed, found worn, with the greatest birth, and given back

@@ -2,13 +2,13 @@
 use Rattle.std.specs.Prelude.{◌≡◌, true, false, List, [], ◌∷◌, ◌++◌, map, Ok}
 use Rattle.nm_edge.specs.Layouts.{Layout, dense}
 use Rattle.nm_edge.specs.declared.edge.Side.TheVariants.{Left, Right}
-use Rattle.nm_model.specs.declared.event.Field.TheVariants.{Key, Edge as EdgeOn, Birth}
+use Rattle.nm_model.specs.declared.event.Field.TheVariants.{Key, Edge as EdgeOn}
 use Rattle.nm_model.specs.declared.event.Op.TheVariants.{Insert, Delete}
-use Rattle.nm_model.specs.declared.event.Event.TheVariants.{Sight, SightFor, Announce, LeaveWith, Claim, Look, Fill, Link, Flag, Tag, Splice, Scan, Advance}
-use Rattle.nm_model.specs.declared.reply.Reply.TheVariants.{Saw, Labelled, Pinned, Missed, Announced, Departed, Claimed, Idle, Moved, KeyIs, EdgeIs, Filled, Linked, Flagged, Was, Cut, Lost}
+use Rattle.nm_model.specs.declared.event.Event.TheVariants.{Sight, SightFor, Announce, LeaveWith, Look, Link, Flag, Tag, Splice, Scan, Advance}
+use Rattle.nm_model.specs.declared.reply.Reply.TheVariants.{Saw, Labelled, Pinned, Missed, Announced, Departed, Idle, Moved, KeyIs, EdgeIs, Linked, Flagged, Was, Cut, Lost}
 use Rattle.nm_model.specs.declared.trace.Turn.{Turn}
 use Rattle.nm_model.specs.Ordered.{ordered, trace_in, turn_of}
-use Rattle.nm_model.specs.Shorthands.{t, e, n}
+use Rattle.nm_model.specs.Shorthands.{t, e, n, makes}
 use Rattle.nm_order.specs.Logs.{part_of}
 use Rattle.nm_progress.specs.Moves.{number_of, moves, moves_of_others}
 use Rattle.nm_progress.specs.Paid.{links_in, flags_in, cuts_in, tags_in}
@@ -27,16 +27,7 @@ inserting =
     t 0 (Look 2 (EdgeOn Left)) (Ok (EdgeIs (e 3 false false))) ∷
     t 0 (Look 3 Key) (Ok (KeyIs 18446744073709551613)) ∷
     t 0 (Look 3 (EdgeOn Left)) (Ok (EdgeIs (e 0 false false))) ∷
-    t 0 (Claim 6) (Ok (Claimed 6)) ∷
-    t 0 (Fill 6 Birth 1) (Ok Filled) ∷
-    t 0 (Claim 7) (Ok (Claimed 7)) ∷
-    t 0 (Fill 7 Birth 1) (Ok Filled) ∷
-    t 0 (Fill 6 Key 18446744073709551613) (Ok Filled) ∷
-    t 0 (Fill 6 (EdgeOn Left) 7) (Ok Filled) ∷
-    t 0 (Fill 6 (EdgeOn Right) 3) (Ok Filled) ∷
-    t 0 (Fill 7 Key 10) (Ok Filled) ∷
-    t 0 (Fill 7 (EdgeOn Left) 0) (Ok Filled) ∷
-    t 0 (Fill 7 (EdgeOn Right) 0) (Ok Filled) ∷
+    makes 0 6 7 18446744073709551613 7 3 10 ++
     t 0 (Link 2 Left 3 6) (Ok (Linked (n 6 1))) ∷
     t 0 (LeaveWith true) (Ok Departed) ∷
     t 1 Sight (Ok (Saw 0)) ∷
@@ -56,16 +47,7 @@ reads =
     t 1 (Look 6 (EdgeOn Left)) (Ok (EdgeIs (e 7 false false))) ∷
     t 1 (Look 7 Key) (Ok (KeyIs 10)) ∷
     t 1 (Look 7 (EdgeOn Left)) (Ok (EdgeIs (e 0 false false))) ∷
-    t 1 (Claim 8) (Ok (Claimed 8)) ∷
-    t 1 (Fill 8 Birth 1) (Ok Filled) ∷
-    t 1 (Claim 9) (Ok (Claimed 9)) ∷
-    t 1 (Fill 9 Birth 1) (Ok Filled) ∷
-    t 1 (Fill 8 Key 10) (Ok Filled) ∷
-    t 1 (Fill 8 (EdgeOn Left) 9) (Ok Filled) ∷
-    t 1 (Fill 8 (EdgeOn Right) 7) (Ok Filled) ∷
-    t 1 (Fill 9 Key 5) (Ok Filled) ∷
-    t 1 (Fill 9 (EdgeOn Left) 0) (Ok Filled) ∷
-    t 1 (Fill 9 (EdgeOn Right) 0) (Ok Filled) ∷
+    makes 1 8 9 10 9 7 5 ++
     t 0 Sight (Ok (Saw 1)) ∷
     t 0 Announce (Ok (Announced 1)) ∷
     t 0 (SightFor Delete 10) (Ok (Pinned 1)) ∷

@@ -9,7 +9,7 @@ use Rattle.nm_files.specs.Lines.{parts}
 use Rattle.nm_files.specs.declared.header.Command.{Command}
 use Rattle.nm_files.specs.Entries.{Script, script_of}
 use Rattle.nm_steps.specs.Steps.{Board}
-use Rattle.nm_pool.specs.declared.placement.Fit.TheVariants.{Lowest}
+use Rattle.nm_edge.specs.declared.placement.Fit.TheVariants.{Lowest}
 use Rattle.nm_tree.specs.Workers.{Hand, AreNew, HaveFit}
 use Rattle.nm_serial.specs.Crews.{PlaysAll, present}
 use Rattle.nm_serial.specs.Endings.{IsEnding}

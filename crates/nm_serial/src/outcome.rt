@@ -1,7 +1,7 @@
 //! The end of a script: the tree is closed, and the last lines tell what is left.
 ghost use Rattle.std.specs.Prelude.{◌≡◌, ◌<◌, ◌^◌, ◌++◌, All, IfOk, OnOk, IfErr};
 ghost use Rattle.nm_steps.specs.Steps.{IsOf};
-ghost use Rattle.nm_pool.specs.declared.placement.Fit.TheVariants.{Lowest};
+ghost use Rattle.nm_edge.specs.declared.placement.Fit.TheVariants.{Lowest};
 ghost use Rattle.nm_tree.specs.Closing.{given_in};
 ghost use Rattle.nm_tree.specs.Trees.{IsNewTree};
 ghost use Rattle.nm_tree.specs.Workers.{waiting_in};

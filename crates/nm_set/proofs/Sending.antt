@@ -7,7 +7,7 @@ use Rattle.atomic_table.proofs.shared.Seat.TheSendSync as seat_crosses
 use Rattle.counted_slot.proofs.Counted.TheSendSync as counted
 use Rattle.nm_steps.specs.contracts.pass.Pass as pass
 use Rattle.nm_steps.specs.contracts.pass.notes.Note as note
-use Rattle.nm_pool.proofs.placement.Placement.TheSendSync as placement
+use Rattle.nm_edge.proofs.placement.Placement.TheSendSync as placement
 use Rattle.nm_epoch.proofs.collecting.HeldQueue.TheSendSync as queue
 use Rattle.nm_tree.specs.contracts.worker.Worker as worker
 use Rattle.nm_tree.proofs.worker.Worker.TheSendSync as worker_crosses

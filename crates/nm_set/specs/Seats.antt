@@ -1,7 +1,7 @@
 -- Members of a set, and the seats where its workers are while nobody has them.
 use Rattle.std.specs.Prelude.{◌≡◌, ◌⊎◌, ◌+◌, ◌<◌, ◌≤◌, ℕ, suc, length, Bool, true, false, List, [], ◌∷◌, ◌++◌, None, IsSome, Result, Ok, Err}
 use Rattle.nm_steps.specs.Steps.{Board, IsOf}
-use Rattle.nm_pool.specs.declared.placement.Fit.{Fit}
+use Rattle.nm_edge.specs.declared.placement.Fit.{Fit}
 use Rattle.nm_tree.specs.Calls.{LeavesUnpin}
 use Rattle.nm_tree.specs.Workers.{AreNew, Hand}
 use Rattle.nm_set.specs.declared.fault.MemberFault.{MemberFault}

@@ -7,7 +7,7 @@ use Rattle.nm_set.specs.declared.set.State.{State}
 use Rattle.nm_set.specs.declared.set.State.TheVariants.{Open, Closing}
 use Rattle.nm_set.specs.Seats.{HasRoom, Standing}
 use Rattle.nm_edge.specs.Layouts.{Layout}
-use Rattle.nm_pool.specs.declared.placement.Fit.{Fit}
+use Rattle.nm_edge.specs.declared.placement.Fit.{Fit}
 
 -- the tree, and its fit
 abbrev pub site_of : State → Site

@@ -1,7 +1,7 @@
 //! Calls on a set, by its handle.
 ghost use Rattle.std.specs.Prelude.{◌≡◌, ◌⊎◌, None};
 ghost use Rattle.nm_edge.specs.Layouts.{in_radix, spaced};
-ghost use Rattle.nm_pool.specs.declared.placement.Fit.TheVariants.{Lowest, Near};
+ghost use Rattle.nm_edge.specs.declared.placement.Fit.TheVariants.{Lowest, Near};
 ghost use Rattle.nm_set_c.specs.Handles.{held_by};
 ghost use Rattle.nm_set_c.specs.Handles.Hold.{Closed, Open};
 ghost use Rattle.nm_set_c.specs.Outcomes.{IsCodeOf};

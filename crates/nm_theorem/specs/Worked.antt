@@ -4,16 +4,16 @@ use Rattle.std.specs.Prelude.{◌≡◌, ℕ, true, false, List, [], ◌∷◌, 
 use Rattle.nm_edge.specs.Layouts.{Layout, dense}
 use Rattle.nm_edge.specs.declared.edge.Side.TheVariants.{Left, Right}
 use Rattle.nm_edge.specs.declared.node.NodeId.{NodeId}
-use Rattle.nm_model.specs.declared.event.Field.TheVariants.{Key, Edge as EdgeOn, Birth}
+use Rattle.nm_model.specs.declared.event.Field.TheVariants.{Key, Edge as EdgeOn}
 use Rattle.nm_model.specs.declared.event.Op.TheVariants.{Insert, Delete}
-use Rattle.nm_model.specs.declared.event.Event.TheVariants.{Sight, SightFor, Announce, Leave, LeaveWith, Scan, Advance, Claim, Give, Look, Fill, Link, Flag, Tag, Splice}
-use Rattle.nm_model.specs.declared.reply.Reply.TheVariants.{Saw, Labelled, Pinned, Announced, Departed, Idle, In, Moved, Claimed, Freed, KeyIs, EdgeIs, Filled, Linked, Flagged, Was, Cut}
+use Rattle.nm_model.specs.declared.event.Event.TheVariants.{Sight, SightFor, Announce, Leave, LeaveWith, Scan, Advance, Claim, Give, Look, Link, Flag, Tag, Splice}
+use Rattle.nm_model.specs.declared.reply.Reply.TheVariants.{Saw, Labelled, Pinned, Announced, Departed, Idle, In, Moved, Claimed, Freed, KeyIs, EdgeIs, Linked, Flagged, Was, Cut}
 use Rattle.nm_model.specs.declared.reply.Refused.TheVariants.{NotReady, TooYoung}
 use Rattle.nm_model.specs.declared.trace.Turn.{Turn}
 use Rattle.nm_model.specs.Memory.{opening}
 use Rattle.nm_model.specs.Ordered.{ordered, trace_in, turn_of}
 use Rattle.nm_model.specs.Paths.{IsCut}
-use Rattle.nm_model.specs.Shorthands.{t, e, n}
+use Rattle.nm_model.specs.Shorthands.{t, e, n, makes, pins}
 use Rattle.nm_model.specs.Acts.{Act, IsAmong, HasInARow}
 use Rattle.nm_model.specs.Headline.{words_after, after_turn, nodes_cut_of, nodes_freed_of, cuts_of, freed_of, waits_of, IsPinned, HasLeft, StandsAt, has_after, edge_told, WasTold, IsStill}
 use Rattle.nm_model.specs.Headline.Place.{InPool, InHands, OnPath, Waits}
@@ -25,25 +25,14 @@ layout = dense 8 2
 -- worker 1 is pinned, and stays so while worker 0 inserts 10
 abbrev pub inserting : List Turn
 inserting =
-    t 1 Sight (Ok (Saw 0)) ∷
-    t 1 Announce (Ok (Announced 0)) ∷
-    t 1 Sight (Ok (Pinned 0)) ∷
+    pins 1 ++
     t 0 Sight (Ok (Saw 0)) ∷
     t 0 Announce (Ok (Announced 0)) ∷
     t 0 (SightFor Insert 10) (Ok (Pinned 0)) ∷
     t 0 (Look 2 (EdgeOn Left)) (Ok (EdgeIs (e 3 false false))) ∷
     t 0 (Look 3 Key) (Ok (KeyIs 18446744073709551613)) ∷
     t 0 (Look 3 (EdgeOn Left)) (Ok (EdgeIs (e 0 false false))) ∷
-    t 0 (Claim 6) (Ok (Claimed 6)) ∷
-    t 0 (Fill 6 Birth 1) (Ok Filled) ∷
-    t 0 (Claim 7) (Ok (Claimed 7)) ∷
-    t 0 (Fill 7 Birth 1) (Ok Filled) ∷
-    t 0 (Fill 6 Key 18446744073709551613) (Ok Filled) ∷
-    t 0 (Fill 6 (EdgeOn Left) 7) (Ok Filled) ∷
-    t 0 (Fill 6 (EdgeOn Right) 3) (Ok Filled) ∷
-    t 0 (Fill 7 Key 10) (Ok Filled) ∷
-    t 0 (Fill 7 (EdgeOn Left) 0) (Ok Filled) ∷
-    t 0 (Fill 7 (EdgeOn Right) 0) (Ok Filled) ∷
+    makes 0 6 7 18446744073709551613 7 3 10 ++
     t 0 (Link 2 Left 3 6) (Ok (Linked (n 6 1))) ∷
     []
 

@@ -15,7 +15,7 @@ use Rattle.nm_epoch.specs.declared.collecting.HeldQueue.{HeldQueue}
 use Rattle.nm_epoch.specs.Collecting.{AreHeld, NoneHas, IsQueueOf}
 use Rattle.nm_walks.specs.Cleanups.{HoldsCuts}
 use Rattle.nm_walks.specs.WonCounts.{won_links, won_flags, won_splices}
-use Rattle.nm_pool.specs.declared.placement.Fit.{Fit}
+use Rattle.nm_edge.specs.declared.placement.Fit.{Fit}
 use Rattle.nm_calls.specs.declared.deleting.Unfinished.{Unfinished}
 use Rattle.nm_tree.specs.Workers.{Hand, IsAs, KeepsOtherQueues, IsWorker, IsCounted, AreCounted, AreOf, HasOrigin, QueueStandsAt, OnlyOwnLedger, log_held_of, log_among, ledger_in}
 use Rattle.nm_walks.specs.Rooms.{TakesRoom}

@@ -3,7 +3,7 @@ use Rattle.std.proofs.Common.{◌≡◌, ◌-◌, ◌≤◌, ℕ, List, sym, ap,
 use Rattle.std.specs.Prelude.{Err}
 use Rattle.nm_edge.specs.Layouts.{Layout, IsLayout}
 use Rattle.nm_edge.specs.declared.node.NodeId.{NodeId}
-use Rattle.nm_pool.specs.declared.placement.Fit.{Fit}
+use Rattle.nm_edge.specs.declared.placement.Fit.{Fit}
 use Rattle.nm_steps.specs.Steps.{Board, Stand, IsOf, IsSamePass, HasSeen, HasSeenAllOf}
 use Rattle.nm_calls.specs.declared.inserting.NotInserted.TheVariants as lost
 use Rattle.nm_calls.specs.declared.deleting.Missed.TheVariants as missed

@@ -13,7 +13,7 @@ use Rattle.nm_epoch.specs.declared.collecting.Tally.{Tally}
 use Rattle.nm_epoch.specs.Collecting.{IsQueueOf, AreHeld, HasLost, HaveLost, Collects, KeepsOtherLedgers, KeepsRetired, freed_more, ripe_part, ripe_of, capped}
 use Rattle.nm_epoch.specs.Resting.{epochs}
 use Rattle.nm_walks.specs.WonCounts.{CountsWon}
-use Rattle.nm_pool.specs.declared.placement.Fit.{Fit}
+use Rattle.nm_edge.specs.declared.placement.Fit.{Fit}
 use Rattle.nm_epoch.proofs.OneQueue.{both_parts}
 use Rattle.nm_tree.specs.Workers.{Hand, IsWorker, IsCounted, AreCounted, HasOrigin, AreAbove, Ascend, QueueStandsAt, log_held_of, ledger_in}
 use Rattle.nm_tree.proofs.HeldLedgers.{split_in_run, retired_alike}

@@ -5,7 +5,7 @@ use Rattle.std.proofs.lemmas.List.{reverse-append}
 use Rattle.nm_edge.specs.Layouts.{Layout}
 use Rattle.nm_steps.specs.declared.view.View.{View}
 use Rattle.nm_steps.specs.Steps.{Board, Stand, AreFresh, fresh_view}
-use Rattle.nm_pool.specs.declared.placement.Fit.{Fit}
+use Rattle.nm_edge.specs.declared.placement.Fit.{Fit}
 use Rattle.nm_tree.specs.Calls.{MayCall}
 use Rattle.nm_tree.specs.Workers.{Hand, HaveFit, HaveWorkers, IsFresh, AreAllFresh, IsNewWorker, AreMade, AreNew}
 

@@ -17,7 +17,7 @@ use Rattle.nm_epoch.specs.Resting.{IsResting, IsSettled, KeepsHands, Settles, Is
 use Rattle.nm_epoch.proofs.SeveralQueues.{queue_stays}
 use Rattle.nm_calls.specs.Deletes.{IsRemoving}
 use Rattle.nm_walks.specs.Telling.{IsInRun}
-use Rattle.nm_pool.specs.declared.placement.Fit.{Fit}
+use Rattle.nm_edge.specs.declared.placement.Fit.{Fit}
 use Rattle.nm_tree.specs.declared.worker.Standing.{Standing}
 use Rattle.nm_tree.specs.declared.worker.Standing.TheVariants as standing
 use Rattle.nm_calls.specs.declared.deleting.Unfinished.{Unfinished}

@@ -1,7 +1,7 @@
 -- A new tree.
 use Rattle.std.specs.Prelude.{◌≡◌, List, length, All}
 use Rattle.nm_edge.specs.Layouts.{Layout}
-use Rattle.nm_pool.specs.declared.placement.Fit.{Fit}
+use Rattle.nm_edge.specs.declared.placement.Fit.{Fit}
 use Rattle.nm_steps.specs.Steps.{Board}
 use Rattle.nm_tree.specs.Calls.{MayCall}
 use Rattle.nm_tree.specs.Workers.{Hand, AreNew, HaveFit}

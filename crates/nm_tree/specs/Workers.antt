@@ -18,7 +18,7 @@ use Rattle.nm_walks.specs.Bounds.{cut_bound}
 use Rattle.nm_calls.specs.Deletes.{IsRemoving}
 use Rattle.nm_walks.specs.Rooms.{TakesRoom}
 use Rattle.nm_walks.specs.WonCounts.{CountsWon, won_links, won_flags, won_splices}
-use Rattle.nm_pool.specs.declared.placement.Fit.{Fit}
+use Rattle.nm_edge.specs.declared.placement.Fit.{Fit}
 use Rattle.nm_tree.specs.declared.worker.Counts.{Counts}
 use Rattle.nm_calls.specs.declared.deleting.Unfinished.{Unfinished}
 use Rattle.nm_tree.specs.declared.worker.Standing.{Standing}

@@ -25,9 +25,9 @@ pub use closing::{
 };
 pub use fault::{CallFault, PinFault};
 pub use nm_calls::Query;
+pub use nm_edge::Fit;
 pub use nm_epoch::{Advance, Behind, Collected, Entry, HeldQueue, Tally};
 pub use nm_model::NewError;
-pub use nm_pool::Fit;
 pub use nm_steps::Note;
 pub use popping::End;
 pub use resigning::{ResignFault, ResignReason};

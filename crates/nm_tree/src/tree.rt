@@ -5,10 +5,9 @@ ghost use Rattle.nm_tree.specs.Trees.{IsNewTree};
 ghost use Rattle.nm_tree.specs.Workers.{AreAllFresh, AreMade, HaveWorkers, IsFresh, IsNewWorker};
 
 use crate::worker::{Standing, Worker};
-use nm_edge::{FIRST_SLOT, Layout, LayoutError, MOST_NODES};
+use nm_edge::{FIRST_SLOT, Fit, Layout, LayoutError, MOST_NODES, Placement};
 use nm_epoch::HeldQueue;
 use nm_model::NewError;
-use nm_pool::{Fit, Placement};
 use nm_steps::{Pass, Shared};
 use nm_walks::Workspace;
 use std::alloc::{AllocError, Global};

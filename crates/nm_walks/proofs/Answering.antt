@@ -11,7 +11,7 @@ use Rattle.nm_epoch.specs.Resting.{search}
 use Rattle.nm_epoch.proofs.Entries.{epochs_after, search_is}
 use Rattle.nm_epoch.proofs.Labels.{drafts_stay}
 use Rattle.nm_walks.specs.Labelling.{OnlyLabels}
-use Rattle.nm_pool.proofs.PrivateSlots.{known_after_step}
+use Rattle.nm_steps.proofs.Presence.{known_after_step}
 
 -- ---- a label
 

@@ -23,9 +23,10 @@ use Rattle.nm_order.specs.Logs.{known_by, IsLogOf}
 use Rattle.nm_order.proofs.LastEntries.{known_more, search_more, log_before}
 use Rattle.nm_order.proofs.ToldClaims.{claims_are_new}
 use Rattle.nm_pool.specs.Claims.{DoneAt, FoundWorn, MadeNew, PassedOver, PassedWithin, IsClaimBy, DoneInTurn, FoundTaken, LearnsSlots}
-use Rattle.nm_pool.specs.declared.placement.Fit.{Fit}
-use Rattle.nm_pool.specs.declared.placement.Fit.TheVariants as fit
-use Rattle.nm_pool.proofs.PrivateSlots.{known_after_step, put_another, put_there}
+use Rattle.nm_edge.specs.declared.placement.Fit.{Fit}
+use Rattle.nm_edge.specs.declared.placement.Fit.TheVariants as fit
+use Rattle.nm_steps.proofs.Presence.{known_after_step}
+use Rattle.nm_pool.proofs.PrivateSlots.{put_another, put_there}
 use Rattle.nm_steps.specs.Rules.{knowledge}
 use Rattle.nm_steps.specs.Steps.{Stand, Stepped, IsSamePass}
 use Rattle.nm_steps.proofs.AfterSteps.{is_join}

@@ -41,8 +41,8 @@ use Rattle.nm_walks.proofs.Looks.{enough, known_inside, grown}
 use Rattle.nm_order.proofs.LinkedBirths.{is_looked}
 use Rattle.nm_epoch.proofs.Entries.{search_is}
 use Rattle.nm_walks.proofs.Marks.{slot_inside, only_reads, edge_found}
-use Rattle.nm_pool.proofs.Allowing.{not_outside, passes_then}
-use Rattle.nm_pool.proofs.PrivateSlots.{known_after_step}
+use Rattle.nm_model.proofs.Checks.{not_outside, passes_then}
+use Rattle.nm_steps.proofs.Presence.{known_after_step}
 
 -- ---- the births of a frozen chain
 

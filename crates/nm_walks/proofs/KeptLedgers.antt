@@ -24,7 +24,7 @@ use Rattle.nm_walks.specs.WonCounts.{CountsWon}
 use Rattle.nm_epoch.specs.Collecting.{capped}
 use Rattle.nm_walks.proofs.Adding.{Adds, counts_on}
 use Rattle.nm_walks.proofs.Looks.{enough}
-use Rattle.nm_pool.proofs.PrivateSlots.{known_after_step}
+use Rattle.nm_steps.proofs.Presence.{known_after_step}
 
 -- ---- ledgers that stay
 

@@ -40,8 +40,8 @@ use Rattle.nm_walks.specs.Making.{draft, IsFork, IsInserting, IsPlace, IsRouter,
 use Rattle.nm_walks.specs.Places.{IsOver}
 use Rattle.nm_walks.proofs.Looks.{enough, known_inside, grown, told_after, goes_on}
 use Rattle.nm_walks.proofs.Makes.{private_from_birth, drafts_ascend, without_it, without_another, search_then}
-use Rattle.nm_pool.proofs.Allowing.{not_outside, passes_then}
-use Rattle.nm_pool.proofs.PrivateSlots.{known_after_step}
+use Rattle.nm_model.proofs.Checks.{not_outside, passes_then}
+use Rattle.nm_steps.proofs.Presence.{known_after_step}
 
 -- ---- what the drafts of the new nodes show
 

@@ -40,7 +40,7 @@ use Rattle.nm_steps.specs.Rules.{knowledge}
 use Rattle.nm_steps.specs.Steps.{Stand, MayStep, Stepped, HasSeenAllOf}
 use Rattle.nm_steps.proofs.AfterSteps.{TellsRun, run_after, is_join}
 use Rattle.nm_walks.specs.Telling.{Tells, IsInRun, GoesOn, OnlyLooks, IsPinnedSomewhere, KeyTold, EdgeTold}
-use Rattle.nm_pool.proofs.Allowing.{not_outside}
+use Rattle.nm_model.proofs.Checks.{not_outside}
 
 pub enough : (L : Layout) → IsLayout L → 5 ≤ L.nodes
 enough L fits = let least = fits.least in omega arith

@@ -33,8 +33,9 @@ use Rattle.nm_steps.specs.Steps.{Stand, MayStep, Stepped, IsSamePass, HasSeenAll
 use Rattle.nm_steps.proofs.AfterSteps.{TellsRun, run_after, is_join}
 use Rattle.nm_walks.specs.Telling.{IsInRun, GoesOn}
 use Rattle.nm_walks.specs.Making.{draft, IsFilled, KeepsOtherSlots, OnlyMakes, with_node}
-use Rattle.nm_pool.proofs.Allowing.{not_outside, passes_then}
-use Rattle.nm_pool.proofs.PrivateSlots.{known_after_step, put_another, put_there}
+use Rattle.nm_model.proofs.Checks.{not_outside, passes_then}
+use Rattle.nm_steps.proofs.Presence.{known_after_step}
+use Rattle.nm_pool.proofs.PrivateSlots.{put_another, put_there}
 
 -- ---- drafts
 

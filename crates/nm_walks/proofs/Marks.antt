@@ -37,8 +37,8 @@ use Rattle.nm_walks.specs.Telling.{Tells, IsInRun, OnlyLooks, IsPinnedSomewhere}
 use Rattle.nm_walks.specs.Marking.{TagTold, EdgeFound, IsToBeFlagged, OnlyFlags, FlagWon, FlagLost}
 use Rattle.nm_epoch.proofs.Entries.{search_is}
 use Rattle.nm_walks.proofs.Looks.{enough, known_inside, grown, told_after}
-use Rattle.nm_pool.proofs.Allowing.{not_outside, passes_then}
-use Rattle.nm_pool.proofs.PrivateSlots.{known_after_step}
+use Rattle.nm_model.proofs.Checks.{not_outside, passes_then}
+use Rattle.nm_steps.proofs.Presence.{known_after_step}
 
 -- ---- checks
 

@@ -11,7 +11,7 @@ use Rattle.nm_model.specs.Walks.{Entry}
 use Rattle.nm_order.specs.Facts.Fact.{KnowsSlot, CallIs}
 use Rattle.nm_order.specs.Taught.{EdgeLearned}
 use Rattle.nm_pool.specs.Claims.{IsClaimBy}
-use Rattle.nm_pool.specs.declared.placement.Fit.{Fit}
+use Rattle.nm_edge.specs.declared.placement.Fit.{Fit}
 use Rattle.nm_steps.specs.Rules.{knowledge}
 use Rattle.nm_steps.specs.Steps.{Stand}
 use Rattle.nm_epoch.specs.Resting.{epochs, search}

@@ -7,8 +7,7 @@ ghost use Rattle.nm_walks.specs.Growing.{ClaimsFork, HasFork, IfReady, Returns, 
 
 use crate::making::{Contents, Fork, claim, fill, give, link};
 use crate::spot::WalkEnd;
-use nm_edge::{Edge, parting};
-use nm_pool::Placement;
+use nm_edge::{Edge, Placement, parting};
 use nm_steps::{Pass, Shared};
 
 /// Claims an internal node and then a leaf. `None`: one of the claims answered nothing, and nothing

@@ -14,8 +14,8 @@ ghost use Rattle.nm_walks.specs.Telling.{Tells, GoesOn, IsPinnedIn};
 ghost use Rattle.nm_walks.specs.Making.{draft, KeepsOtherSlots, KeepsAllBut, OnlyMakes, with_node, HasFilled, IsInserting, HasLinked, HasLost};
 
 use crate::spot::Spot;
-use nm_edge::{Edge, NodeId, Side};
-use nm_pool::{Placement, claim_by};
+use nm_edge::{Edge, NodeId, Placement, Side};
+use nm_pool::claim_by;
 use nm_steps::{Pass, Shared};
 
 /// What is stored in a new node: its key, and its edges, which are 0 at a leaf.

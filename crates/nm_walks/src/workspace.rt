@@ -3,8 +3,7 @@ ghost use Rattle.std.specs.Prelude.{◌≡◌};
 
 use crate::spot::ChainEdges;
 use arrayvec::ArrayVec;
-use nm_edge::NodeId;
-use nm_pool::Placement;
+use nm_edge::{NodeId, Placement};
 
 /// How many nodes a splice cuts off at most: `CHAIN_BOUND` internal ones, and the flagged leaf
 /// beside each.

@@ -2,7 +2,7 @@ use Rattle.std.proofs.Common.{◌≡◌, ◌<◌, ◌≤◌, ◌∙◌, inl, inr
 use Rattle.std.specs.Prelude.{◌⊎◌}
 use Rattle.std.proofs.lemmas.Bool.{cases_lt}
 use Rattle.nm_order.specs.Logs.{part_of}
-use Rattle.nm_pool.specs.declared.placement.Fit.{Fit}
+use Rattle.nm_edge.specs.declared.placement.Fit.{Fit}
 use Rattle.nm_steps.specs.declared.view.View.{View}
 use Rattle.nm_set.specs.Seats.{AreNewMembers, IsNewMember, Seated}
 use Rattle.nm_callers.proofs.others.send_home.Goals as goal

@@ -1,6 +1,6 @@
 use Rattle.std.proofs.Common.{◌≡◌, ◌+◌, ◌<◌, ℕ, [], length}
 use Rattle.nm_order.specs.Logs.{part_of}
-use Rattle.nm_pool.specs.declared.placement.Fit.{Fit}
+use Rattle.nm_edge.specs.declared.placement.Fit.{Fit}
 use Rattle.nm_set.specs.Seats.{AreNewMembers}
 use Rattle.nm_callers.proofs.others.send_home.Given as goal
 

@@ -1,6 +1,6 @@
 use Rattle.std.proofs.Common.{◌≡◌, ◌+◌, ap, subst, ◌∙◌}
 use Rattle.nm_edge.specs.Layouts.{Layout}
-use Rattle.nm_pool.specs.declared.placement.Fit.TheVariants as fit
+use Rattle.nm_edge.specs.declared.placement.Fit.TheVariants as fit
 use Rattle.nm_pool.specs.Claims.{IsClaimBetween}
 use Rattle.nm_pool.proofs.AnyOrder.{is_lowest}
 use Rattle.nm_pool.proofs.Steps.{claim_steps}

@@ -3,7 +3,7 @@ use Rattle.std.specs.Prelude.{None, Some}
 use Rattle.nm_edge.specs.Layouts.{Layout}
 use Rattle.nm_pool.specs.Claims.{IsClaimBetween}
 use Rattle.nm_pool.proofs.AnyOrder.{IsClaimOfFew, near_above, near_below, near_nowhere}
-use Rattle.nm_pool.proofs.placement.claim_near.Goals as goal
+use Rattle.nm_pool.proofs.claims.claim_near.Goals as goal
 
 pub returns-in-Some-clause-part : goal.returns-in-Some-clause-part
 returns-in-Some-clause-part c =
