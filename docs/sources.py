@@ -357,8 +357,10 @@ def at_top(text):
 
 
 def record_behind(place):
-    """The record that a definition is, or the one of its own file that it names; else None."""
-    own = {it for it in leads_to(place) if it[:2] == place[:2] and definitions()[it].fields}
+    """The record that a definition is, or the one of its own file, or else of its crate, that it
+    names; else None."""
+    records = {it for it in leads_to(place) if it[0] == place[0] and definitions()[it].fields}
+    own = {it for it in records if it[1] == place[1]} or records
     if not definitions()[place].fields and len(own) == 1:
         (place,) = own
     return definitions()[place] if definitions()[place].fields else None

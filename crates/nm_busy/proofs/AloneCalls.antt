@@ -36,7 +36,7 @@ use Rattle.nm_order.proofs.WalksOfRuns.{all_before, all_behind}
 use Rattle.nm_order.proofs.PendingLeaves.{each_flagged_leaf_is_pending}
 use Rattle.nm_edge.specs.declared.placement.Fit.{Fit}
 use Rattle.nm_steps.specs.Rules.{Extends}
-use Rattle.nm_steps.specs.Steps.{Stand, IsSamePass, HasSeen}
+use Rattle.nm_steps.specs.Steps.{PassView, IsSamePass, HasSeen}
 use Rattle.nm_calls.specs.PlainWalks.{events_of}
 use Rattle.nm_calls.proofs.PlainLooks.{as_events}
 use Rattle.nm_epoch.specs.Tries.{LostTries, IsPinnedBy}
@@ -102,14 +102,14 @@ own_events w (t ∷ ts) own zero d below = own 0 t (omega arith)
 own_events w (t ∷ ts) own (suc i) d below = own_events w ts (λ j e l. own (suc j) e (omega (arith, l))) i d (omega (arith, below))
 
 -- so none has moved the epoch on, nor linked or cut off a node
-none_moved : (p q : Stand) (n : ℕ) → IsAlone p q → WasMovedPast p q n → n ≡ 0
+none_moved : (p q : PassView) (n : ℕ) → IsAlone p q → WasMovedPast p q n → n ≡ 0
 none_moved p q n alone m =
     let same_is = same_turns p.view.past m.turns alone.turns q.view.past m.is alone.is in
     let none = ap (λ (l : List Turn). number_of (moves_of_others p.view.number) l) same_is ∙ own_none p.view.number moves alone.turns alone.own in
     let few = m.moved in
     omega (arith, none, few)
 
-none_reshaped : (p q : Stand) (n : ℕ) → IsAlone p q → WasReshaped p q n → n ≡ 0
+none_reshaped : (p q : PassView) (n : ℕ) → IsAlone p q → WasReshaped p q n → n ≡ 0
 none_reshaped p q n alone m =
     let same_is = same_turns p.view.past m.turns alone.turns q.view.past m.is alone.is in
     let none = ap (λ (l : List Turn). number_of (reshapes_of_others p.view.number) l) same_is ∙ own_none p.view.number is_reshape alone.turns alone.own in
@@ -126,12 +126,12 @@ lookups_alone_are_answered k tries p q seen_p seen_q enough same on alone missed
 
 -- ---- under a plain pin
 
-pub many_alone : (p q : Stand) (tries : ℕ) → IsAlone p q → ManyWereBusy p q tries → tries ≡ 0
+pub many_alone : (p q : PassView) (tries : ℕ) → IsAlone p q → ManyWereBusy p q tries → tries ≡ 0
 many_alone p q tries alone (inl none) = none
 many_alone p q tries alone (inr (inl m)) = none_moved p q tries alone m
 many_alone p q tries alone (inr (inr m)) = let none = none_reshaped p q 1 alone m.1 in absurd (omega (arith, none))
 
-pub near_alone : (p q : Stand) (tries : ℕ) → IsAlone p q → NearWasBusy p q tries → tries ≤ 1
+pub near_alone : (p q : PassView) (tries : ℕ) → IsAlone p q → NearWasBusy p q tries → tries ≤ 1
 near_alone p q tries alone (inl so) = let none = many_alone p q tries alone so in omega (arith, none)
 near_alone p q tries alone (inr (times, half, m)) = let none = none_reshaped p q times alone m in omega (arith, half, none)
 
@@ -340,7 +340,7 @@ record AloneWalk (L : Layout) (enough : 5 ≤ L.nodes) (w : ℕ) (begun walked :
   calm : number_of changes_turn (trace_in from turns) ≡ 0
   is_walk : begun ++ part_of w (trace_in from turns) ≡ walked
 
-module _ (p q : Stand) (seen_p : HasSeen p.view) (seen_q : HasSeen q.view) (enough : 5 ≤ p.view.layout.nodes) (same : IsSamePass p q) (alone : IsAlone p q) (rests : NonePends p.view.layout p.view.past) where
+module _ (p q : PassView) (seen_p : HasSeen p.view) (seen_q : HasSeen q.view) (enough : 5 ≤ p.view.layout.nodes) (same : IsSamePass p q) (alone : IsAlone p q) (rests : NonePends p.view.layout p.view.past) where
   abbrev goes_on : Extends q.view.past p.view.past
   goes_on = record { more = alone.turns; is = alone.is }
 

@@ -19,7 +19,7 @@ use Rattle.nm_order.proofs.OrderedLaws.{IsOrdered, each_ordered}
 use Rattle.nm_order.proofs.PartsOfRuns.{logs_tell}
 use Rattle.nm_order.proofs.RunExchanges.{first_keys}
 use Rattle.nm_order.proofs.WalksOfRuns.{trace_in-append}
-use Rattle.nm_steps.specs.Steps.{Stand, IsSamePass, HasSeenAllOf, HasSeen}
+use Rattle.nm_steps.specs.Steps.{PassView, IsSamePass, HasSeenAllOf, HasSeen}
 use Rattle.nm_calls.specs.PlainWalks.{events_of}
 use Rattle.nm_calls.proofs.PlainLooks.{as_events}
 use Rattle.nm_laws.proofs.Configurations.{after_in-append}
@@ -175,7 +175,7 @@ module _ (L : Layout) (enough : 5 ≤ L.nodes) (w : ℕ) where
 
 -- ---- between two moments of a pass
 
-pub was_hindered : (p q : Stand) (n : ℕ) → HasSeen p.view → HasSeen q.view → (enough : 5 ≤ p.view.layout.nodes) → IsSamePass p q → HasSeenAllOf q p → Hinders p.view.layout enough p.view.number p.view.log q.view.log n → WasHindered p q n
+pub was_hindered : (p q : PassView) (n : ℕ) → HasSeen p.view → HasSeen q.view → (enough : 5 ≤ p.view.layout.nodes) → IsSamePass p q → HasSeenAllOf q p → Hinders p.view.layout enough p.view.number p.view.log q.view.log n → WasHindered p q n
 was_hindered p q n seen_p seen_q enough same on h = record {
   turns = on.goes_on.more;
   is = on.goes_on.is;

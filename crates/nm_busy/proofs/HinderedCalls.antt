@@ -7,7 +7,7 @@ use Rattle.nm_model.specs.declared.event.Event.TheVariants.{SightFor}
 use Rattle.nm_model.specs.declared.event.Op.TheVariants.{Insert, Delete}
 use Rattle.nm_model.specs.Walks.{Entry}
 use Rattle.nm_order.specs.Logs.{IsLogOf}
-use Rattle.nm_steps.specs.Steps.{Stand, IsSamePass, HasSeenAllOf, HasSeen}
+use Rattle.nm_steps.specs.Steps.{PassView, IsSamePass, HasSeenAllOf, HasSeen}
 use Rattle.nm_calls.specs.PlainWalks.{events_of}
 use Rattle.nm_calls.proofs.PlainLooks.{as_events}
 use Rattle.nm_epoch.specs.Tries.{IsMoved}
@@ -29,7 +29,7 @@ use Rattle.nm_busy.proofs.Steady.{Steady, steady_call, pinned_for}
 use Rattle.nm_busy.proofs.LostPins.{lost_pins_were_moved_past, part_seen}
 use Rattle.nm_busy.proofs.Parts.{Longer, longer_these, longer_then, longer_none, seeks_longer, pin_longer, returns_longer}
 
-module _ (p q : Stand) (seen_p : HasSeen p.view) (seen_q : HasSeen q.view) (enough : 5 ≤ p.view.layout.nodes) (same : IsSamePass p q) (on : HasSeenAllOf q p) where
+module _ (p q : PassView) (seen_p : HasSeen p.view) (seen_q : HasSeen q.view) (enough : 5 ≤ p.view.layout.nodes) (same : IsSamePass p q) (on : HasSeenAllOf q p) where
   -- what q has seen is a run of the worker of p
   log_q : IsLogOf p.view.layout p.view.number q.view.log
   log_q = record {

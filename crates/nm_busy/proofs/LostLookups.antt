@@ -13,7 +13,7 @@ use Rattle.nm_order.specs.Logs.{part_of}
 use Rattle.nm_order.proofs.OrderedLaws.{each_ordered}
 use Rattle.nm_order.proofs.RunExchanges.{first_keys}
 use Rattle.nm_order.proofs.WalksOfRuns.{trace_in-append}
-use Rattle.nm_steps.specs.Steps.{Stand, IsSamePass, HasSeen, HasSeenAllOf}
+use Rattle.nm_steps.specs.Steps.{PassView, IsSamePass, HasSeen, HasSeenAllOf}
 use Rattle.nm_calls.specs.PlainWalks.{events_of}
 use Rattle.nm_progress.specs.Moves.{number_of}
 use Rattle.nm_progress.specs.Tries.{reshapes_of_others}
@@ -26,7 +26,7 @@ use Rattle.nm_busy.proofs.Astray.{SplitPart, split_part, Strays, strays_longer, 
 
 -- between the begin and the end of a call of which such parts of the log are, as many as others have
 -- linked or cut off nodes
-pub was_reshaped : (t : ℕ) (p q : Stand) → HasSeen p.view → HasSeen q.view → (enough : 5 ≤ p.view.layout.nodes) → IsSamePass p q → HasSeenAllOf q p → (pinned walked : List Entry) → Longer p.view.log pinned → Strays p.view.layout enough p.view.number t pinned walked → q.view.log ≡ walked ++ (Leave, Departed) ∷ [] → WasReshaped p q t
+pub was_reshaped : (t : ℕ) (p q : PassView) → HasSeen p.view → HasSeen q.view → (enough : 5 ≤ p.view.layout.nodes) → IsSamePass p q → HasSeenAllOf q p → (pinned walked : List Entry) → Longer p.view.log pinned → Strays p.view.layout enough p.view.number t pinned walked → q.view.log ≡ walked ++ (Leave, Departed) ∷ [] → WasReshaped p q t
 was_reshaped t p q seen_p seen_q enough same on pinned walked begun strays leaves = record {
   turns = on.goes_on.more;
   is = on.goes_on.is;

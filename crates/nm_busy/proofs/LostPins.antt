@@ -28,7 +28,7 @@ use Rattle.nm_order.proofs.PartsOfRuns.{logs_tell}
 use Rattle.nm_order.proofs.WalksOfRuns.{trace_in-append}
 use Rattle.nm_order.proofs.PendingLeaves.{sight_told}
 use Rattle.nm_steps.specs.Rules.{Extends}
-use Rattle.nm_steps.specs.Steps.{Stand, IsSamePass, HasSeen}
+use Rattle.nm_steps.specs.Steps.{PassView, IsSamePass, HasSeen}
 use Rattle.nm_calls.specs.PlainWalks.{events_of}
 use Rattle.nm_calls.proofs.PlainLooks.{as_events, events_go_on}
 use Rattle.nm_epoch.specs.Tries.{LostTries, after_sight, IsMoved}
@@ -218,25 +218,25 @@ module _ (L : Layout) (enough : 5 ≤ L.nodes) (w : ℕ) (worker : w < L.workers
 -- ---- by what a pass has seen
 
 -- the turns between are those of the events between
-pub turns_between : (p q : Stand) → HasSeen p.view → HasSeen q.view → IsSamePass p q → (e : Extends q.view.past p.view.past) → trace_in (after_in (ordered p.view.layout) (events_of p.view.past)) (events_of e.more) ≡ e.more
+pub turns_between : (p q : PassView) → HasSeen p.view → HasSeen q.view → IsSamePass p q → (e : Extends q.view.past p.view.past) → trace_in (after_in (ordered p.view.layout) (events_of p.view.past)) (events_of e.more) ≡ e.more
 turns_between p q seen_p seen_q same e =
     append_cancel_left p.view.past _ e.more
     (ap (λ (ts : List Turn). ts ++ trace_in (after_in (ordered p.view.layout) (events_of p.view.past)) (events_of e.more)) (as_events p.view seen_p).are
     ∙ (sym (trace_in-append (ordered p.view.layout) (events_of p.view.past) (events_of e.more))
     ∙ (ap (trace_in (ordered p.view.layout)) (sym (events_go_on q.view.past p.view.past e))
-    ∙ (ap (λ (l : Layout). trace_in (ordered l) (events_of q.view.past)) (sym (ap (λ (s : Stand). s.view.layout) same)) ∙ (sym (as_events q.view seen_q).are ∙ e.is)))))
+    ∙ (ap (λ (l : Layout). trace_in (ordered l) (events_of q.view.past)) (sym (ap (λ (s : PassView). s.view.layout) same)) ∙ (sym (as_events q.view seen_q).are ∙ e.is)))))
 
 -- what a later moment of a pass has seen is a run of its worker
-pub part_seen : (p q : Stand) → HasSeen q.view → IsSamePass p q → part_of p.view.number (trace_in (ordered p.view.layout) (events_of q.view.past)) ≡ q.view.log
+pub part_seen : (p q : PassView) → HasSeen q.view → IsSamePass p q → part_of p.view.number (trace_in (ordered p.view.layout) (events_of q.view.past)) ≡ q.view.log
 part_seen p q seen_q same = (λ i. part_of (number i) (trace_in (ordered (layout i)) (events_of q.view.past))) ∙ (as_events q.view seen_q).is_part
   where
     number : p.view.number ≡ q.view.number
-    number = sym (ap (λ (s : Stand). s.view.number) same)
+    number = sym (ap (λ (s : PassView). s.view.number) same)
 
     layout : p.view.layout ≡ q.view.layout
-    layout = sym (ap (λ (s : Stand). s.view.layout) same)
+    layout = sym (ap (λ (s : PassView). s.view.layout) same)
 
-module _ (p q : Stand) (seen_p : HasSeen p.view) (seen_q : HasSeen q.view) (same : IsSamePass p q) (e : Extends q.view.past p.view.past) where
+module _ (p q : PassView) (seen_p : HasSeen p.view) (seen_q : HasSeen q.view) (same : IsSamePass p q) (e : Extends q.view.past p.view.past) where
   pub keys_seen : All (λ t. HasKey t.1) (events_of p.view.past ++ events_of e.more)
   keys_seen = subst (λ (l : List (ℕ × Event)). All (λ t. HasKey t.1) l) (events_go_on q.view.past p.view.past e) (as_events q.view seen_q).keys
 

@@ -3,7 +3,7 @@ use Rattle.std.proofs.Common.{◌≡◌, ◌≤◌, ◌+◌, ◌*◌, ℕ, zero,
 use Rattle.nm_model.specs.declared.event.Event.TheVariants.{Sight, Leave}
 use Rattle.nm_model.specs.declared.reply.Reply.TheVariants.{Departed}
 use Rattle.nm_model.specs.Walks.{Entry}
-use Rattle.nm_steps.specs.Steps.{Stand, IsSamePass, HasSeen, HasSeenAllOf}
+use Rattle.nm_steps.specs.Steps.{PassView, IsSamePass, HasSeen, HasSeenAllOf}
 use Rattle.nm_walks.specs.Walks.{IsTooLong}
 use Rattle.nm_busy.specs.Walked.{NearWasBusy, BusyManyWereDisturbed, BusyNextsWereDisturbed, BusyPrevsWereDisturbed}
 use Rattle.nm_busy.proofs.Astray.{Strays, long_astray, strays_longer}
@@ -25,7 +25,7 @@ busy_many_were_disturbed ks (suc t) p q seen_p seen_q enough same on (inr (pinne
 -- ---- the nearest key
 
 -- of a call whose walks went on under its pin
-module _ (tries : ℕ) (p q : Stand) (seen_p : HasSeen p.view) (seen_q : HasSeen q.view) (enough : 5 ≤ p.view.layout.nodes) (same : IsSamePass p q) (on : HasSeenAllOf q p) (pinned walked : List Entry) (begun : Longer p.view.log pinned) (leaves : q.view.log ≡ walked ++ (Leave, Departed) ∷ []) where
+module _ (tries : ℕ) (p q : PassView) (seen_p : HasSeen p.view) (seen_q : HasSeen q.view) (enough : 5 ≤ p.view.layout.nodes) (same : IsSamePass p q) (on : HasSeenAllOf q p) (pinned walked : List Entry) (begun : Longer p.view.log pinned) (leaves : q.view.log ≡ walked ++ (Leave, Departed) ∷ []) where
   -- as many of them as there may be have found none
   of_twos : (m : ℕ) × (tries ≤ 2 * m + 1) × Strays p.view.layout enough p.view.number m pinned walked → NearWasBusy p q tries
   of_twos (m, half, strays) = inr (m, half, was_reshaped m p q seen_p seen_q enough same on pinned walked begun strays leaves)

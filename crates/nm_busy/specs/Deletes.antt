@@ -1,7 +1,7 @@
 -- What a delete tells of the others that answers `Busy`, or that it is not finished.
 use Rattle.std.specs.Prelude.{ℕ, ◌-◌, ◌≤◌, Err}
 use Rattle.nm_edge.specs.declared.node.NodeId.{NodeId}
-use Rattle.nm_steps.specs.Steps.{Stand, IsSamePass, HasSeenAllOf, HasSeen}
+use Rattle.nm_steps.specs.Steps.{PassView, IsSamePass, HasSeenAllOf, HasSeen}
 use Rattle.nm_walks.specs.Bounds.{chain_bound}
 use Rattle.nm_calls.specs.declared.deleting.Missed.TheVariants as missed
 use Rattle.nm_calls.specs.Deletes.{DeleteDid, IsRemoving, LosesAfterFlag, LosesEachTry}
@@ -9,7 +9,7 @@ use Rattle.nm_busy.specs.Lost.{WasHindered, ChangeWasBusy}
 
 -- by its contract each delete that is busy was lost so
 abbrev pub BusyDeletesWereLost : Type 0
-BusyDeletesWereLost = (k tries : ℕ) (p q : Stand) → HasSeen p.view → HasSeen q.view
+BusyDeletesWereLost = (k tries : ℕ) (p q : PassView) → HasSeen p.view → HasSeen q.view
     → 5 ≤ p.view.layout.nodes → p.view.layout.workers ≤ chain_bound → IsSamePass p q → HasSeenAllOf q p
     → DeleteDid p.view.layout tries k p.view.log q.view.log (Err missed.Busy)
     → ChangeWasBusy p q tries
@@ -17,7 +17,7 @@ BusyDeletesWereLost = (k tries : ℕ) (p q : Stand) → HasSeen p.view → HasSe
 -- and one that has flagged its leaf n and lost all tries since: those before and behind the flag,
 -- but for the one that won it, and the cleanup that follows it
 abbrev pub UnfinishedDeletesWereLost : Type 0
-UnfinishedDeletesWereLost = (k tries : ℕ) (n : NodeId) (p q : Stand) → HasSeen p.view
+UnfinishedDeletesWereLost = (k tries : ℕ) (n : NodeId) (p q : PassView) → HasSeen p.view
     → HasSeen q.view → 5 ≤ p.view.layout.nodes → p.view.layout.workers ≤ chain_bound
     → IsSamePass p q → HasSeenAllOf q p
     → IsRemoving q k n → LosesAfterFlag p.view.layout tries k p.view.log q.view.log n
@@ -25,7 +25,7 @@ UnfinishedDeletesWereLost = (k tries : ℕ) (n : NodeId) (p q : Stand) → HasSe
 
 -- and where such a delete is gone on with, each try that is lost
 abbrev pub UnfinishedFinishesWereLost : Type 0
-UnfinishedFinishesWereLost = (k tries : ℕ) (n : NodeId) (p q : Stand) → HasSeen p.view
+UnfinishedFinishesWereLost = (k tries : ℕ) (n : NodeId) (p q : PassView) → HasSeen p.view
     → HasSeen q.view → 5 ≤ p.view.layout.nodes → p.view.layout.workers ≤ chain_bound
     → IsSamePass p q → HasSeenAllOf q p
     → IsRemoving q k n → LosesEachTry p.view.layout k n tries p.view.log q.view.log

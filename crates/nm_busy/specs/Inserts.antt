@@ -1,7 +1,7 @@
 -- What an insert that answers `Busy` tells of the others.
 use Rattle.std.specs.Prelude.{ℕ, ◌≤◌, Err}
 use Rattle.nm_edge.specs.declared.placement.Fit.{Fit}
-use Rattle.nm_steps.specs.Steps.{Stand, IsSamePass, HasSeenAllOf, HasSeen}
+use Rattle.nm_steps.specs.Steps.{PassView, IsSamePass, HasSeenAllOf, HasSeen}
 use Rattle.nm_walks.specs.Bounds.{chain_bound}
 use Rattle.nm_calls.specs.declared.inserting.NotInserted.TheVariants as fault
 use Rattle.nm_calls.specs.Inserts.{InsertDid}
@@ -9,7 +9,7 @@ use Rattle.nm_busy.specs.Lost.{ChangeWasBusy}
 
 -- by its contract each insert that is busy was lost so
 abbrev pub BusyInsertsWereLost : Type 0
-BusyInsertsWereLost = (fit : Fit) (k tries : ℕ) (p q : Stand) → HasSeen p.view → HasSeen q.view
+BusyInsertsWereLost = (fit : Fit) (k tries : ℕ) (p q : PassView) → HasSeen p.view → HasSeen q.view
     → 5 ≤ p.view.layout.nodes → p.view.layout.workers ≤ chain_bound → IsSamePass p q → HasSeenAllOf q p
     → InsertDid fit p.view.layout tries k p.view.log q.view.log (Err fault.Busy)
     → ChangeWasBusy p q tries

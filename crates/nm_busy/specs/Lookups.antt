@@ -1,7 +1,7 @@
 -- What a look-up that answers `Busy` tells of the others.
 use Rattle.std.specs.Prelude.{◌≡◌, ◌⊎◌, ℕ, ◌≤◌, List, ◌++◌}
 use Rattle.nm_model.specs.declared.trace.Turn.{Turn}
-use Rattle.nm_steps.specs.Steps.{Stand, IsSamePass, HasSeenAllOf, HasSeen}
+use Rattle.nm_steps.specs.Steps.{PassView, IsSamePass, HasSeenAllOf, HasSeen}
 use Rattle.nm_calls.specs.Calls.{HasMissed}
 use Rattle.nm_progress.specs.Moves.{number_of}
 use Rattle.nm_progress.specs.Tries.{reshapes_of_others}
@@ -9,19 +9,19 @@ use Rattle.nm_busy.specs.Pins.{WasMovedPast}
 
 -- between what p had seen and what q has seen, others have linked or cut off nodes at least so
 -- often
-pub record WasReshaped (p q : Stand) (times : ℕ) : Type 0 where
+pub record WasReshaped (p q : PassView) (times : ℕ) : Type 0 where
   pub turns : List Turn
   pub is : q.view.past ≡ p.view.past ++ turns
   pub reshaped : times ≤ number_of (reshapes_of_others p.view.number) turns
 
 -- why a look-up was busy: it might make no try; or as often as it might try, others moved the epoch
 -- on, or they linked or cut off nodes
-abbrev pub WasBusy : Stand → Stand → ℕ → Type 0
+abbrev pub WasBusy : PassView → PassView → ℕ → Type 0
 WasBusy p q tries = (tries ≡ 0) ⊎ WasMovedPast p q tries ⊎ WasReshaped p q tries
 
 -- so of each look-up, by its contract
 abbrev pub BusyLookupsWereDisturbed : Type 0
-BusyLookupsWereDisturbed = (k tries : ℕ) (p q : Stand) → HasSeen p.view → HasSeen q.view
+BusyLookupsWereDisturbed = (k tries : ℕ) (p q : PassView) → HasSeen p.view → HasSeen q.view
     → 5 ≤ p.view.layout.nodes → IsSamePass p q → HasSeenAllOf q p
     → HasMissed p.view.layout tries k p.view.log q.view.log
     → WasBusy p q tries

@@ -1,7 +1,7 @@
 -- What a call tells of the others that walks under a pin for no call, and answers `Busy`.
 use Rattle.std.specs.Prelude.{◌≡◌, ◌⊎◌, ℕ, ◌+◌, ◌*◌, ◌≤◌, false, List}
 use Rattle.nm_model.specs.Walks.{Entry}
-use Rattle.nm_steps.specs.Steps.{Stand, IsSamePass, HasSeenAllOf, HasSeen}
+use Rattle.nm_steps.specs.Steps.{PassView, IsSamePass, HasSeenAllOf, HasSeen}
 use Rattle.nm_calls.specs.InTurns.{GiveUp as GiveUpInTurns}
 use Rattle.nm_calls.specs.NextKeys.{GiveUp as GiveUpNext}
 use Rattle.nm_calls.specs.PlainWalks.{PlainMissed}
@@ -11,20 +11,20 @@ use Rattle.nm_busy.specs.Pins.{WasMovedPast}
 
 -- why a look-up of several keys was busy: it might make no try; or others moved the epoch on as often
 -- as it might try; or, in the shape of Natarajan and Mittal alone, they linked or cut off a node
-abbrev pub ManyWereBusy : Stand → Stand → ℕ → Type 0
+abbrev pub ManyWereBusy : PassView → PassView → ℕ → Type 0
 ManyWereBusy p q tries = (tries ≡ 0) ⊎ WasMovedPast p q tries
     ⊎ (p.view.layout.radix ≡ false) × WasReshaped p q 1
 
 -- why a call for the key nearest to one was busy: so; or others linked or cut off nodes half as often
 -- as it might try
-abbrev pub NearWasBusy : Stand → Stand → ℕ → Type 0
+abbrev pub NearWasBusy : PassView → PassView → ℕ → Type 0
 NearWasBusy p q tries = ManyWereBusy p q tries
     ⊎ ((times : ℕ) × (tries ≤ 2 * times + 1) × WasReshaped p q times)
 
 -- by its contract each call is busy so, whose walks give up like that
-abbrev pub OfEachWalked : (Stand → ℕ → List Entry → List Entry → Type 0)
-    → (Stand → Stand → ℕ → Type 0) → Type 0
-OfEachWalked GivesUp WasBusy = (tries : ℕ) (p q : Stand) → HasSeen p.view → HasSeen q.view
+abbrev pub OfEachWalked : (PassView → ℕ → List Entry → List Entry → Type 0)
+    → (PassView → PassView → ℕ → Type 0) → Type 0
+OfEachWalked GivesUp WasBusy = (tries : ℕ) (p q : PassView) → HasSeen p.view → HasSeen q.view
     → 5 ≤ p.view.layout.nodes → IsSamePass p q → HasSeenAllOf q p
     → PlainMissed (GivesUp p tries) tries p.view.log q.view.log → WasBusy p q tries
 

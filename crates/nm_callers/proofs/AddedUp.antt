@@ -30,19 +30,19 @@ use Rattle.nm_steps.specs.Rules.{Extends}
 use Rattle.nm_tree.specs.declared.closing.Report.{Report}
 use Rattle.nm_tree.specs.Closing.{HasJoinedAlone}
 use Rattle.nm_tree.specs.Running.{HasSeenTurns}
-use Rattle.nm_tree.specs.Workers.{Hand, IsIdle}
-use Rattle.nm_set.specs.Seats.{Standing}
+use Rattle.nm_tree.specs.Workers.{WorkerView, IsIdle}
+use Rattle.nm_set.specs.Seats.{SetView}
 use Rattle.nm_set.specs.Ends.{EndsSet}
 use Rattle.nm_callers.specs.Queues.{AddUp}
 use Rattle.nm_callers.proofs.RunSums.{KeysOf, by_workers, flag_keys, link_keys, none_joined, none_pend, own_many, same_length, so_many, times, times-append, times_none, times_once}
 use Rattle.nm_callers.proofs.Unmade.{no_call_then, who_calls}
 
 -- each worker of the tree from number k on, in their order, has nothing pending
-abbrev pub Settled : Layout → ℕ → List Hand → Type 0
+abbrev pub Settled : Layout → ℕ → List WorkerView → Type 0
 Settled L k [] = k ≡ L.workers
 Settled L k (w ∷ ws) = (w.pass.view.number ≡ k) × (w.pending ≡ None) × IsIdle w × HasSeenTurns w.pass.view × Settled L (suc k) ws
 
-not_below : (L : Layout) (k : ℕ) (ws : List Hand) → Settled L k ws → k ≤ L.workers
+not_below : (L : Layout) (k : ℕ) (ws : List WorkerView) → Settled L k ws → k ≤ L.workers
 not_below L k [] is = omega (arith, is)
 not_below L k (w ∷ ws) is = let rest = not_below L (suc k) ws is.4 in omega (arith, rest)
 
@@ -50,7 +50,7 @@ not_below L k (w ∷ ws) is = let rest = not_below L (suc k) ws is.4 in omega (a
 
 module _ (is_such : Entry → Bool) (no_join : (v : ℕ) (r : Reply) → is_such (Join v, r) ≡ false) (L : Layout) (turns : List Turn) where
   -- is counted in the turns
-  won_in_all : (w : Hand) → HasSeenTurns w.pass.view → Extends turns w.pass.view.past → HasJoinedAlone turns w.pass.view.past w.pass.view.number → own_many is_such no_join w.pass.view.number turns ≡ length (filter is_such w.pass.view.log)
+  won_in_all : (w : WorkerView) → HasSeenTurns w.pass.view → Extends turns w.pass.view.past → HasJoinedAlone turns w.pass.view.past w.pass.view.number → own_many is_such no_join w.pass.view.number turns ≡ length (filter is_such w.pass.view.log)
   won_in_all w seen on joins =
       let v = w.pass.view.number in
       let parts = ap (part_of v) on.is ∙ part-append v w.pass.view.past on.more in
@@ -61,28 +61,28 @@ module _ (is_such : Entry → Bool) (no_join : (v : ℕ) (r : Reply) → is_such
       omega (arith, counts, own, none)
 
   -- the sum
-  sum_is : (k : ℕ) (ws rest : List Hand) → Settled L k ws → All (λ (w : Hand). Extends turns w.pass.view.past) (ws ++ rest) → All (λ (w : Hand). HasJoinedAlone turns w.pass.view.past w.pass.view.number) (ws ++ rest)
-      → sum_of (λ v. own_many is_such no_join v turns) k + sum_by (λ (w : Hand). length (filter is_such w.pass.view.log)) ws ≡ sum_of (λ v. own_many is_such no_join v turns) L.workers
+  sum_is : (k : ℕ) (ws rest : List WorkerView) → Settled L k ws → All (λ (w : WorkerView). Extends turns w.pass.view.past) (ws ++ rest) → All (λ (w : WorkerView). HasJoinedAlone turns w.pass.view.past w.pass.view.number) (ws ++ rest)
+      → sum_of (λ v. own_many is_such no_join v turns) k + sum_by (λ (w : WorkerView). length (filter is_such w.pass.view.log)) ws ≡ sum_of (λ v. own_many is_such no_join v turns) L.workers
   sum_is k [] rest is on joins = let same = ap (λ (n : ℕ). sum_of (λ v. own_many is_such no_join v turns) n) is in omega (arith, same)
   sum_is k (w ∷ ws) rest is on joins =
-      let here = won_in_all w is.3 (All-head (λ (w : Hand). Extends turns w.pass.view.past) w (ws ++ rest) on) (All-head (λ (w : Hand). HasJoinedAlone turns w.pass.view.past w.pass.view.number) w (ws ++ rest) joins) in
+      let here = won_in_all w is.3 (All-head (λ (w : WorkerView). Extends turns w.pass.view.past) w (ws ++ rest) on) (All-head (λ (w : WorkerView). HasJoinedAlone turns w.pass.view.past w.pass.view.number) w (ws ++ rest) joins) in
       let at : own_many is_such no_join k turns ≡ length (filter is_such w.pass.view.log) = subst (λ (v : ℕ). own_many is_such no_join v turns ≡ length (filter is_such w.pass.view.log)) is.0 here in
-      let more = sum_is (suc k) ws rest is.4 (All-tail (λ (w : Hand). Extends turns w.pass.view.past) w (ws ++ rest) on) (All-tail (λ (w : Hand). HasJoinedAlone turns w.pass.view.past w.pass.view.number) w (ws ++ rest) joins) in
-      let first = sum_by-cons (λ (w : Hand). length (filter is_such w.pass.view.log)) w ws in
+      let more = sum_is (suc k) ws rest is.4 (All-tail (λ (w : WorkerView). Extends turns w.pass.view.past) w (ws ++ rest) on) (All-tail (λ (w : WorkerView). HasJoinedAlone turns w.pass.view.past w.pass.view.number) w (ws ++ rest) joins) in
+      let first = sum_by-cons (λ (w : WorkerView). length (filter is_such w.pass.view.log)) w ws in
       omega (arith, at, more, first)
 
 -- ---- who has no call
 
-rests : (L : Layout) (turns : List Turn) (k : ℕ) (ws rest : List Hand) → Settled L k ws → All (λ (w : Hand). Extends turns w.pass.view.past) (ws ++ rest) → All (λ (w : Hand). HasJoinedAlone turns w.pass.view.past w.pass.view.number) (ws ++ rest)
+rests : (L : Layout) (turns : List Turn) (k : ℕ) (ws rest : List WorkerView) → Settled L k ws → All (λ (w : WorkerView). Extends turns w.pass.view.past) (ws ++ rest) → All (λ (w : WorkerView). HasJoinedAlone turns w.pass.view.past w.pass.view.number) (ws ++ rest)
     → (v : ℕ) → k ≤ v → v < L.workers → call_begun v turns ≡ None
 rests L turns k [] rest is on joins v low high = absurd (omega (arith, is, low, high))
-rests L turns k (w ∷ ws) rest is on joins v low high = by (cases_lt k v) (rests L turns (suc k) ws rest is.4 (All-tail (λ (w : Hand). Extends turns w.pass.view.past) w (ws ++ rest) on) (All-tail (λ (w : Hand). HasJoinedAlone turns w.pass.view.past w.pass.view.number) w (ws ++ rest) joins) v)
+rests L turns k (w ∷ ws) rest is on joins v low high = by (cases_lt k v) (rests L turns (suc k) ws rest is.4 (All-tail (λ (w : WorkerView). Extends turns w.pass.view.past) w (ws ++ rest) on) (All-tail (λ (w : WorkerView). HasJoinedAlone turns w.pass.view.past w.pass.view.number) w (ws ++ rest) joins) v)
   where
     g : Extends turns w.pass.view.past
-    g = All-head (λ (w : Hand). Extends turns w.pass.view.past) w (ws ++ rest) on
+    g = All-head (λ (w : WorkerView). Extends turns w.pass.view.past) w (ws ++ rest) on
 
     j : HasJoinedAlone turns w.pass.view.past w.pass.view.number
-    j = All-head (λ (w : Hand). HasJoinedAlone turns w.pass.view.past w.pass.view.number) w (ws ++ rest) joins
+    j = All-head (λ (w : WorkerView). HasJoinedAlone turns w.pass.view.past w.pass.view.number) w (ws ++ rest) joins
 
     here : call_begun w.pass.view.number turns ≡ None
     here = ap (call_begun w.pass.view.number) g.is ∙ no_call_then w.pass.view.number w.pass.view.past g.more (is.2 is.1) (λ t r there mine told. j g.more t r g.is (in_contained g.more t there) mine told)
@@ -93,9 +93,9 @@ rests L turns k (w ∷ ws) rest is on joins v low high = by (cases_lt k v) (rest
 
 -- ---- a closed set
 
-module _ (s : Standing) (r : Report) (settled : Settled s.board.layout 0 s.kept) (e : EndsSet s r) where
+module _ (s : SetView) (r : Report) (settled : Settled s.tree.layout 0 s.kept) (e : EndsSet s r) where
   abbrev L : Layout
-  L = s.board.layout
+  L = s.tree.layout
 
   abbrev turns : List Turn
   turns = e.closed.says.turns
@@ -170,7 +170,7 @@ module _ (s : Standing) (r : Report) (settled : Settled s.board.layout 0 s.kept)
   below : (t : Turn) (q : Reply) → In (trace_in (ordered L) events) t → t.outcome ≡ Ok q → t.worker < L.workers
   below t q there told = e.closed.says.headline.workers t q (in_contained turns t (subst (λ (ts : List Turn). In ts t) (sym same) there)) told
 
-  sums : (is_such : Entry → Bool) (no_join : (v : ℕ) (q : Reply) → is_such (Join v, q) ≡ false) → sum_by (λ (w : Hand). length (filter is_such w.pass.view.log)) s.kept ≡ so_many is_such (trace_in (ordered L) events)
+  sums : (is_such : Entry → Bool) (no_join : (v : ℕ) (q : Reply) → is_such (Join v, q) ≡ false) → sum_by (λ (w : WorkerView). length (filter is_such w.pass.view.log)) s.kept ≡ so_many is_such (trace_in (ordered L) events)
   sums is_such no_join =
       let all = sum_is is_such no_join L turns 0 s.kept e.home settled e.closed.says.goes_on e.closed.says.own in
       let whole = ap (λ (ts : List Turn). sum_of (λ v. own_many is_such no_join v ts) L.workers) same in

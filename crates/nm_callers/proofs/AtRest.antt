@@ -37,7 +37,7 @@ use Rattle.nm_order.proofs.WalksOfRuns.{trace_in-append}
 use Rattle.nm_model.specs.Histories.{AnswerStands}
 use Rattle.nm_theorem.proofs.Runs.{enough_of}
 use Rattle.nm_steps.specs.Rules.{Extends}
-use Rattle.nm_steps.specs.Steps.{Stand, IsSamePass, HasSeen, HasSeenAllOf}
+use Rattle.nm_steps.specs.Steps.{PassView, IsSamePass, HasSeen, HasSeenAllOf}
 use Rattle.nm_steps.proofs.Growing.{goes_on_through}
 use Rattle.nm_calls.specs.Moments.{AnswerHasMoment}
 use Rattle.nm_walks.specs.WonCounts.{won_links, won_flags}
@@ -85,7 +85,7 @@ none_first {X = X} (x ∷ xs) ys e = absurd (let size = ap (λ (zs : List X). le
 
 -- ---- one worker's call, from p to q, beside which the others have made no turn at all
 
-module _ (p q : Stand) (k : ℕ) (key : IsKey k) (seen : HasSeen q.view) (fits : IsLayout q.view.layout) (others : (w : ℕ) → w < q.view.layout.workers → w ≢ q.view.number → part_of w q.view.past ≡ []) where
+module _ (p q : PassView) (k : ℕ) (key : IsKey k) (seen : HasSeen q.view) (fits : IsLayout q.view.layout) (others : (w : ℕ) → w < q.view.layout.workers → w ≢ q.view.number → part_of w q.view.past ≡ []) where
   abbrev L : Layout
   L = q.view.layout
 
@@ -211,7 +211,7 @@ module _ (p q : Stand) (k : ℕ) (key : IsKey k) (seen : HasSeen q.view) (fits :
       by (inr so) = so.1 m.gives
 
   -- a call behind an earlier one of the same worker, from start to one
-  module _ (start one : Stand) (layout : one.view.layout ≡ L) (number : one.view.number ≡ u) (past : HasSeenAllOf p one) (grown : HasSeenAllOf q p) where
+  module _ (start one : PassView) (layout : one.view.layout ≡ L) (number : one.view.number ≡ u) (past : HasSeenAllOf p one) (grown : HasSeenAllOf q p) where
     later : Extends q.view.past one.view.past
     later = goes_on_through q.view.past p.view.past one.view.past grown.goes_on past.goes_on
 
@@ -316,11 +316,11 @@ pub no_turns : (w : ℕ) (later earlier : List Turn) → Extends later earlier �
 no_turns w later earlier on none = none_first (part_of w earlier) (part_of w on.more) (sym (ap (part_of w) on.is ∙ part-append w earlier on.more) ∙ none)
 
 -- no other worker has made a turn in what a pass has seen
-abbrev pub OthersRest : Stand → Type 0
+abbrev pub OthersRest : PassView → Type 0
 OthersRest p = (w : ℕ) → w < p.view.layout.workers → w ≢ p.view.number → part_of w p.view.past ≡ []
 
-pub rested_before : (p q : Stand) → IsSamePass p q → HasSeenAllOf q p → OthersRest q → OthersRest p
+pub rested_before : (p q : PassView) → IsSamePass p q → HasSeenAllOf q p → OthersRest q → OthersRest p
 rested_before p q same on rest w less other =
-    let layout : q.view.layout ≡ p.view.layout = ap (λ (s : Stand). s.view.layout) same in
-    let number : q.view.number ≡ p.view.number = ap (λ (s : Stand). s.view.number) same in
+    let layout : q.view.layout ≡ p.view.layout = ap (λ (s : PassView). s.view.layout) same in
+    let number : q.view.number ≡ p.view.number = ap (λ (s : PassView). s.view.number) same in
     no_turns w q.view.past p.view.past on.goes_on (rest w (subst (λ (l : Layout). w < l.workers) (sym layout) less) (λ e. other (e ∙ number)))

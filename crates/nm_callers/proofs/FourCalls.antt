@@ -7,12 +7,12 @@ use Rattle.nm_edge.specs.Keys.{IsKey}
 use Rattle.nm_model.specs.declared.event.Op.{Op}
 use Rattle.nm_model.specs.declared.event.Op.TheVariants.{Has, Insert, Delete}
 use Rattle.nm_order.specs.Logs.{part_of}
-use Rattle.nm_steps.specs.Steps.{Board, Stand, HasSeen}
+use Rattle.nm_steps.specs.Steps.{TreeView, PassView, HasSeen}
 use Rattle.nm_steps.proofs.Seeing.{seen_itself}
 use Rattle.nm_calls.specs.Moments.{AnswerHasMoment}
 use Rattle.nm_walks.specs.WonCounts.{won_links, won_flags}
 use Rattle.nm_calls.specs.Won.{HasWon}
-use Rattle.nm_tree.specs.Workers.{Hand}
+use Rattle.nm_tree.specs.Workers.{WorkerView}
 use Rattle.nm_set.specs.declared.fault.Fault.TheVariants as fault
 use Rattle.nm_set.specs.declared.tended.Habit.{Habit}
 use Rattle.nm_set.specs.Tended.{SaysTended, Tends, links_told_by, flags_told_by}
@@ -20,14 +20,14 @@ use Rattle.nm_set.proofs.Tending.{is_no_fault}
 use Rattle.nm_callers.proofs.AtRest.{OthersRest, rested_before, inserts_first, finds_own, deletes_own, misses_own}
 
 -- a call that was answered was made
-tends : (op : Op) (b : Board) (h : Habit) (k : ℕ) (w z : Hand) (answer : Bool) → SaysTended op b h k w z (Ok answer) → Tends b h op k w z (Ok answer)
+tends : (op : Op) (b : TreeView) (h : Habit) (k : ℕ) (w z : WorkerView) (answer : Bool) → SaysTended op b h k w z (Ok answer) → Tends b h op k w z (Ok answer)
 tends op b h k w z answer (inl (held, is, same)) = is_no_fault answer fault.Held is
 tends op b h k w z answer (inr (free, t)) = t
 
-pub same_number : (op : Op) (b : Board) (h : Habit) (k : ℕ) (w z : Hand) (answer : Bool) → SaysTended op b h k w z (Ok answer) → z.pass.view.number ≡ w.pass.view.number
-same_number op b h k w z answer said = ap (λ (s : Stand). s.view.number) (tends op b h k w z answer said).on.same
+pub same_number : (op : Op) (b : TreeView) (h : Habit) (k : ℕ) (w z : WorkerView) (answer : Bool) → SaysTended op b h k w z (Ok answer) → z.pass.view.number ≡ w.pass.view.number
+same_number op b h k w z answer said = ap (λ (s : PassView). s.view.number) (tends op b h k w z answer said).on.same
 
-module _ (h : Habit) (k : ℕ) (key : IsKey k) (b1 b2 b3 b4 : Board) (y0 y1 y2 y3 y4 : Hand) (a1 a2 a3 a4 : Bool)
+module _ (h : Habit) (k : ℕ) (key : IsKey k) (b1 b2 b3 b4 : TreeView) (y0 y1 y2 y3 y4 : WorkerView) (a1 a2 a3 a4 : Bool)
     (said1 : SaysTended Insert b1 h k y0 y1 (Ok a1)) (said2 : SaysTended Has b2 h k y1 y2 (Ok a2)) (said3 : SaysTended Delete b3 h k y2 y3 (Ok a3)) (said4 : SaysTended Has b4 h k y3 y4 (Ok a4))
     (links : won_links y0.pass.view.log ≡ 0) (flags : won_flags y0.pass.view.log ≡ 0)
     (seen1 : HasSeen y1.pass.view) (seen2 : HasSeen y2.pass.view) (seen3 : HasSeen y3.pass.view) (seen4 : HasSeen y4.pass.view) (fits4 : IsLayout y4.pass.view.layout) (rest4 : OthersRest y4.pass) where
@@ -53,19 +53,19 @@ module _ (h : Habit) (k : ℕ) (key : IsKey k) (b1 b2 b3 b4 : Board) (y0 y1 y2 y
   rest1 = rested_before y1.pass y2.pass t2.on.same t2.on.past rest2
 
   fits3 : IsLayout y3.pass.view.layout
-  fits3 = subst IsLayout (ap (λ (s : Stand). s.view.layout) t4.on.same) fits4
+  fits3 = subst IsLayout (ap (λ (s : PassView). s.view.layout) t4.on.same) fits4
 
   fits2 : IsLayout y2.pass.view.layout
-  fits2 = subst IsLayout (ap (λ (s : Stand). s.view.layout) t3.on.same) fits3
+  fits2 = subst IsLayout (ap (λ (s : PassView). s.view.layout) t3.on.same) fits3
 
   fits1 : IsLayout y1.pass.view.layout
-  fits1 = subst IsLayout (ap (λ (s : Stand). s.view.layout) t2.on.same) fits2
+  fits1 = subst IsLayout (ap (λ (s : PassView). s.view.layout) t2.on.same) fits2
 
   layout2 : y1.pass.view.layout ≡ y2.pass.view.layout
-  layout2 = sym (ap (λ (s : Stand). s.view.layout) t2.on.same)
+  layout2 = sym (ap (λ (s : PassView). s.view.layout) t2.on.same)
 
   number2 : y1.pass.view.number ≡ y2.pass.view.number
-  number2 = sym (ap (λ (s : Stand). s.view.number) t2.on.same)
+  number2 = sym (ap (λ (s : PassView). s.view.number) t2.on.same)
 
   pub is_added : a1 ≡ true
   is_added = inserts_first y0.pass y1.pass k key seen1 fits1 rest1 a1 t1.moment (λ no.
@@ -88,7 +88,7 @@ module _ (h : Habit) (k : ℕ) (key : IsKey k) (b1 b2 b3 b4 : Board) (y0 y1 y2 y
 
   pub is_removed : a3 ≡ true
   is_removed = deletes_own y2.pass y3.pass k key seen3 fits3 rest3 y0.pass y1.pass
-      (layout2 ∙ sym (ap (λ (s : Stand). s.view.layout) t3.on.same)) (number2 ∙ sym (ap (λ (s : Stand). s.view.number) t3.on.same)) t2.on.past t3.on.past a3 t3.moment added (λ no.
+      (layout2 ∙ sym (ap (λ (s : PassView). s.view.layout) t3.on.same)) (number2 ∙ sym (ap (λ (s : PassView). s.view.number) t3.on.same)) t2.on.past t3.on.past a3 t3.moment added (λ no.
       let won = subst (λ (a : Bool). HasWon y2.pass.view.log y3.pass.view.log (links_told_by Delete (Ok a)) (flags_told_by Delete (Ok a))) no t3.won in
       let f = won.flags in
       omega (arith, f, unflagged2))
@@ -104,10 +104,10 @@ module _ (h : Habit) (k : ℕ) (key : IsKey k) (b1 b2 b3 b4 : Board) (y0 y1 y2 y
 
   pub is_gone : a4 ≡ false
   is_gone = misses_own y3.pass y4.pass k key seen4 fits4 rest4 y2.pass y3.pass
-      (sym (ap (λ (s : Stand). s.view.layout) t4.on.same)) (sym (ap (λ (s : Stand). s.view.number) t4.on.same)) (seen_itself y3.pass) t4.on.past a4 t4.moment removed few
+      (sym (ap (λ (s : PassView). s.view.layout) t4.on.same)) (sym (ap (λ (s : PassView). s.view.number) t4.on.same)) (seen_itself y3.pass) t4.on.past a4 t4.moment removed few
 
 -- the only worker with a greater number than those that rest
-pub rests_below : (p : Stand) (n : ℕ) → p.view.number ≡ n → p.view.layout.workers ≡ n + 1 → ((i : ℕ) → i < n → part_of i p.view.past ≡ []) → OthersRest p
+pub rests_below : (p : PassView) (n : ℕ) → p.view.number ≡ n → p.view.layout.workers ≡ n + 1 → ((i : ℕ) → i < n → part_of i p.view.past ≡ []) → OthersRest p
 rests_below p n number workers rest w less other = by (cases_lt w n)
   where
     by : (w < n) ⊎ (n ≤ w) → part_of w p.view.past ≡ []

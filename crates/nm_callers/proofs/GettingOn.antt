@@ -1,27 +1,27 @@
 -- A call that was busy: others got on.
 use Rattle.std.proofs.Common.{◌≡◌, ℕ, inl, inr, true, sym, ◌∙◌, arith, true≢false}
-use Rattle.nm_steps.specs.Steps.{Stand, HasSeenAllOf}
+use Rattle.nm_steps.specs.Steps.{PassView, HasSeenAllOf}
 use Rattle.nm_busy.specs.Lost.{ChangeWasBusy}
 use Rattle.nm_busy.specs.Pins.{WasMovedPast}
 use Rattle.nm_busy.specs.Walked.{ManyWereBusy, NearWasBusy}
 use Rattle.nm_set.specs.Tended.{WasDisturbed}
 use Rattle.nm_callers.specs.Beside.{GotOn, WasDisturbedByHalf}
 
-pub got_on : (p q : Stand) (times : ℕ) → HasSeenAllOf q p → ChangeWasBusy p q times → GotOn p q times
+pub got_on : (p q : PassView) (times : ℕ) → HasSeenAllOf q p → ChangeWasBusy p q times → GotOn p q times
 got_on p q times past (inl none) = record { turns = past.goes_on.more; is = past.goes_on.is; got_on = omega (arith, none) }
 got_on p q times past (inr (inl moved)) = record { turns = moved.turns; is = moved.is; got_on = (let some = moved.moved in omega (arith, some)) }
 got_on p q times past (inr (inr lost)) = record { turns = lost.turns; is = lost.is; got_on = (let some = lost.paid in omega (arith, some)) }
 
 -- ---- of look-ups of several keys, and of calls for the nearest one
 
-moved_on : (p q : Stand) (n : ℕ) → WasMovedPast p q n → WasDisturbed p q n
+moved_on : (p q : PassView) (n : ℕ) → WasMovedPast p q n → WasDisturbed p q n
 moved_on p q n m = record { turns = m.turns; is = m.is; disturbed = (let some = m.moved in omega (arith, some)) }
 
-pub many_disturbed : (p q : Stand) (tries : ℕ) → p.view.layout.radix ≡ true → HasSeenAllOf q p → ManyWereBusy p q tries → WasDisturbed p q tries
+pub many_disturbed : (p q : PassView) (tries : ℕ) → p.view.layout.radix ≡ true → HasSeenAllOf q p → ManyWereBusy p q tries → WasDisturbed p q tries
 many_disturbed p q tries radix past (inl none) = record { turns = past.goes_on.more; is = past.goes_on.is; disturbed = omega (arith, none) }
 many_disturbed p q tries radix past (inr (inl moved)) = moved_on p q tries moved
 many_disturbed p q tries radix past (inr (inr long)) = absurd (true≢false (sym radix ∙ long.0))
 
-pub near_disturbed : (p q : Stand) (tries : ℕ) → p.view.layout.radix ≡ true → HasSeenAllOf q p → NearWasBusy p q tries → WasDisturbedByHalf p q tries
+pub near_disturbed : (p q : PassView) (tries : ℕ) → p.view.layout.radix ≡ true → HasSeenAllOf q p → NearWasBusy p q tries → WasDisturbedByHalf p q tries
 near_disturbed p q tries radix past (inl so) = (tries, omega arith, many_disturbed p q tries radix past so)
 near_disturbed p q tries radix past (inr (times, half, shaped)) = (times, half, record { turns = shaped.turns; is = shaped.is; disturbed = (let some = shaped.reshaped in omega (arith, some)) })

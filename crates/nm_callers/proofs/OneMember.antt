@@ -17,16 +17,16 @@ use Rattle.nm_order.proofs.RealTime.{begins_with}
 use Rattle.nm_model.specs.Histories.{AnswerStands, answer_turn, call_begun}
 use Rattle.nm_steps.specs.declared.view.View.{View}
 use Rattle.nm_steps.specs.Rules.{Extends}
-use Rattle.nm_steps.specs.Steps.{Board}
+use Rattle.nm_steps.specs.Steps.{TreeView}
 use Rattle.nm_epoch.specs.Collecting.{capped}
 use Rattle.nm_epoch.specs.declared.collecting.HeldQueue.{HeldQueue}
 use Rattle.nm_tree.specs.declared.closing.Report.{Report}
 use Rattle.nm_tree.specs.Closing.{HasJoinedAlone, SaysClosed}
 use Rattle.nm_tree.specs.Running.{AreOfWorkers, HasSeenTurns, TrueAnswersHaveWon, WinsIn, wins}
-use Rattle.nm_tree.specs.Workers.{Hand, log_held_of}
+use Rattle.nm_tree.specs.Workers.{WorkerView, log_held_of}
 use Rattle.nm_tree.proofs.JoinsAlone.{told_in_part}
 use Rattle.nm_tree.proofs.TurnTotals.{wins_flags}
-use Rattle.nm_set.specs.Seats.{IsOwn, Standing}
+use Rattle.nm_set.specs.Seats.{IsOwn, SetView}
 use Rattle.nm_set.specs.Ends.{SaysEnded}
 use Rattle.nm_callers.specs.Adding.{HasAdded}
 use Rattle.nm_callers.specs.Meanwhile.{NoneDeleted}
@@ -50,16 +50,16 @@ no_look is = absurd (cc)
 not_a_join : (answer : Bool) (v : ℕ) → ◌≡◌ {A = Event} (LeaveWith answer) (Join v) → ⊥
 not_a_join answer v is = absurd (cc)
 
-module _ (b : Board) (z : Hand) (home : List Hand) (k : ℕ) (queues : List HeldQueue) (kept : List ℕ) (free reached : ℕ) (one : b.layout.workers ≡ 1) (own : IsOwn b z) (seen : HasSeenTurns z.pass.view) (added : HasAdded k z)
+module _ (b : TreeView) (z : WorkerView) (home : List WorkerView) (k : ℕ) (queues : List HeldQueue) (kept : List ℕ) (free reached : ℕ) (one : b.layout.workers ≡ 1) (own : IsOwn b z) (seen : HasSeenTurns z.pass.view) (added : HasAdded k z)
     (is : SaysClosed b (z ∷ home) queues kept free reached) where
   abbrev v : View
   v = z.pass.view
 
   on : Extends is.turns v.past
-  on = All-head (λ (w : Hand). Extends is.turns w.pass.view.past) z home is.goes_on
+  on = All-head (λ (w : WorkerView). Extends is.turns w.pass.view.past) z home is.goes_on
 
   joins : HasJoinedAlone is.turns v.past v.number
-  joins = All-head (λ (w : Hand). HasJoinedAlone is.turns w.pass.view.past w.pass.view.number) z home is.own
+  joins = All-head (λ (w : WorkerView). HasJoinedAlone is.turns w.pass.view.past w.pass.view.number) z home is.own
 
   answer : AnswerStands b.layout added.start.view.past v.past v.number Insert k true
   answer = subst (λ (L : Layout). AnswerStands L added.start.view.past v.past v.number Insert k true) own.own.layout added.moment
@@ -138,8 +138,8 @@ module _ (b : Board) (z : Hand) (home : List Hand) (k : ℕ) (queues : List Held
       (stays_where_none_deleted b.layout added.start.view.past v.past is.turns v.number k added.key answer on is.headline.plain_set none_deleted, omega (arith, key))
 
 -- of a set that kept that worker alone
-pub reported : (s : Standing) (z : Hand) (k : ℕ) (r : Report) → s.kept ≡ z ∷ [] → s.board.layout.workers ≡ 1 → IsOwn s.board z → HasSeenTurns z.pass.view → HasAdded k z → SaysEnded s r → Contains r.keys.items k
+pub reported : (s : SetView) (z : WorkerView) (k : ℕ) (r : Report) → s.kept ≡ z ∷ [] → s.tree.layout.workers ≡ 1 → IsOwn s.tree z → HasSeenTurns z.pass.view → HasAdded k z → SaysEnded s r → Contains r.keys.items k
 reported s z k r kept one own seen added e =
-    let C : List Hand → Type 0 = λ ws. SaysClosed s.board ws r.queues.items r.keys.items r.free r.reached in
-    let ws = ap (λ (us : List Hand). us ++ e.home) kept in
-    has_key s.board z e.home k r.queues.items r.keys.items r.free r.reached one own seen added (subst C ws e.says)
+    let C : List WorkerView → Type 0 = λ ws. SaysClosed s.tree ws r.queues.items r.keys.items r.free r.reached in
+    let ws = ap (λ (us : List WorkerView). us ++ e.home) kept in
+    has_key s.tree z e.home k r.queues.items r.keys.items r.free r.reached one own seen added (subst C ws e.says)

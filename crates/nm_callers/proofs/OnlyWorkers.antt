@@ -12,15 +12,15 @@ use Rattle.nm_order.specs.Exchanges.{is_won_link}
 use Rattle.nm_model.specs.Acts.{Act, IsAmong}
 use Rattle.nm_order.specs.Logs.{part_of}
 use Rattle.nm_steps.specs.declared.view.View.{View}
-use Rattle.nm_steps.specs.Steps.{Board, Stand}
+use Rattle.nm_steps.specs.Steps.{TreeView, PassView}
 use Rattle.nm_steps.proofs.Growing.{goes_on_itself}
 use Rattle.nm_model.specs.Histories.{IsHistory, call_begun}
 use Rattle.nm_calls.specs.Moments.{AnswerHasMoment}
 use Rattle.nm_walks.specs.WonCounts.{won_links}
 use Rattle.nm_tree.specs.Running.{HasSeenTurns, wins}
-use Rattle.nm_tree.specs.Workers.{Hand}
+use Rattle.nm_tree.specs.Workers.{WorkerView}
 use Rattle.nm_tree.proofs.TurnTotals.{wins_links}
-use Rattle.nm_set.specs.Seats.{IsNewMember, IsOwn, Seated}
+use Rattle.nm_set.specs.Seats.{IsNewMember, IsOwn, MemberView}
 use Rattle.nm_set.specs.declared.fault.Fault.{Fault}
 use Rattle.nm_set.specs.declared.tended.Habit.{Habit}
 use Rattle.nm_set.specs.Tended.{SaysTended}
@@ -45,7 +45,7 @@ no_look : Insert ≡ Has → ⊥
 no_look is = absurd (cc)
 
 -- it has looked a key up
-finds_nothing : (p z : Stand) (k : ℕ) → HasSeenTurns z.view → z.view.layout.workers ≡ 1 → won_links z.view.log ≡ 0 → (answer : Bool) → AnswerHasMoment p z Has k answer → answer ≡ false
+finds_nothing : (p z : PassView) (k : ℕ) → HasSeenTurns z.view → z.view.layout.workers ≡ 1 → won_links z.view.log ≡ 0 → (answer : Bool) → AnswerHasMoment p z Has k answer → answer ≡ false
 finds_nothing p z k seen one links answer look =
     let v = z.view in
     let number = answers_below v.layout p.view.past v.past v.number Has k answer look seen.workers in
@@ -55,12 +55,12 @@ finds_nothing p z k seen one links answer look =
     never_inserted_then_missed v.layout p.view.past v.past v.past v.number k answer look (goes_on_itself v.past) look.history missing
 
 -- the only member of a set, which had done nothing, has looked a key up
-pub only_finds_nothing : (b d : Board) (h : Habit) (k : ℕ) (m : Seated) (z : Hand) (r : Result Bool Fault) → (n : ℕ) × IsNewMember m.board m.hand.fit n m → m.board.layout.workers ≡ 1 → d ≡ m.board → IsOwn d z → HasSeenTurns z.pass.view
-    → SaysTended Has b h k m.hand z r → IfOk r (λ answer. answer ≡ false)
+pub only_finds_nothing : (b d : TreeView) (h : Habit) (k : ℕ) (m : MemberView) (z : WorkerView) (r : Result Bool Fault) → (n : ℕ) × IsNewMember m.tree m.worker.fit n m → m.tree.layout.workers ≡ 1 → d ≡ m.tree → IsOwn d z → HasSeenTurns z.pass.view
+    → SaysTended Has b h k m.worker z r → IfOk r (λ answer. answer ≡ false)
 only_finds_nothing b d h k m z r new one same own seen (inl (held, is, still)) = subst (λ (q : Result Bool Fault). IfOk q (λ answer. answer ≡ false)) (sym is) tt
 only_finds_nothing b d h k m z r new one same own seen (inr (free, t)) =
     let no_links = ap (λ (v : View). won_links v.log) new.1.new.1 in
     let links = t.won.links in
-    let workers : z.pass.view.layout.workers ≡ 1 = ap (λ (l : Layout). l.workers) own.own.layout ∙ (ap (λ (c : Board). c.layout.workers) same ∙ one) in
-    each_ok r (AnswerHasMoment m.hand.pass z.pass Has k) (λ (answer : Bool). answer ≡ false)
-    (finds_nothing m.hand.pass z.pass k seen workers (omega (arith, links, no_links))) t.moment
+    let workers : z.pass.view.layout.workers ≡ 1 = ap (λ (l : Layout). l.workers) own.own.layout ∙ (ap (λ (c : TreeView). c.layout.workers) same ∙ one) in
+    each_ok r (AnswerHasMoment m.worker.pass z.pass Has k) (λ (answer : Bool). answer ≡ false)
+    (finds_nothing m.worker.pass z.pass k seen workers (omega (arith, links, no_links))) t.moment

@@ -14,7 +14,7 @@ use Rattle.nm_order.specs.WalksToArrivals.{is_won_flag}
 use Rattle.nm_order.proofs.AnswersSince.{part-append}
 use Rattle.nm_model.specs.Histories.{call_begun}
 use Rattle.nm_steps.specs.Rules.{Extends}
-use Rattle.nm_steps.specs.Steps.{Stand, HasHeard, HasSeenAllOf}
+use Rattle.nm_steps.specs.Steps.{PassView, HasHeard, HasSeenAllOf}
 use Rattle.nm_steps.proofs.Growing.{goes_on_through}
 use Rattle.nm_calls.specs.Moments.{AnswerHasMoment}
 use Rattle.nm_walks.specs.WonCounts.{won_flags}
@@ -41,7 +41,7 @@ no_look is = absurd (cc)
 
 -- one has inserted the key, from start on; two was told, as before, and has looked it up, as after;
 -- and then one has heard what two had seen, as last
-module _ (k : ℕ) (start one before after last : Stand) (workers : after.view.layout.workers ≡ 2) (layout : one.view.layout ≡ after.view.layout) (differ : one.view.number ≢ after.view.number)
+module _ (k : ℕ) (start one before after last : PassView) (workers : after.view.layout.workers ≡ 2) (layout : one.view.layout ≡ after.view.layout) (differ : one.view.number ≢ after.view.number)
     (inserted : AnswerHasMoment start one Insert k true) (answer : Bool) (looked : AnswerHasMoment before after Has k answer) (told : HasSeenAllOf before one) (grown : HasSeenAllOf after before) (heard : HasHeard one last) (knows : HasSeenAllOf last after)
     (first : HasSeenTurns one.view) (second : HasSeenTurns after.view) (third : HasSeenTurns last.view) (flags_one : won_flags one.view.log ≡ 0) (flags_two : won_flags after.view.log ≡ 0) where
   abbrev L : Layout
@@ -58,7 +58,7 @@ module _ (k : ℕ) (start one before after last : Stand) (workers : after.view.l
 
   -- its part of what it has seen at last is what it had done
   own : part_of one.view.number last.view.past ≡ one.view.log
-  own = ap (λ (n : ℕ). part_of n last.view.past) (sym (ap (λ (p : Stand). p.view.number) heard)) ∙ (third.own ∙ ap (λ (p : Stand). p.view.log) heard)
+  own = ap (λ (n : ℕ). part_of n last.view.past) (sym (ap (λ (p : PassView). p.view.number) heard)) ∙ (third.own ∙ ap (λ (p : PassView). p.view.log) heard)
 
   whole : last.view.past ≡ one.view.past ++ (later.more ++ knows.goes_on.more)
   whole = knows.goes_on.is ∙ (ap (λ (ts : List Turn). ts ++ knows.goes_on.more) later.is ∙ append_assoc one.view.past later.more knows.goes_on.more)

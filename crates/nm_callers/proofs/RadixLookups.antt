@@ -11,7 +11,7 @@ use Rattle.nm_calls.specs.Calls.{HasMissed}
 use Rattle.nm_tree.specs.declared.fault.CallFault.{CallFault}
 use Rattle.nm_tree.specs.declared.fault.CallFault.TheVariants as fault
 use Rattle.nm_tree.specs.Answers.{HasAnswered}
-use Rattle.nm_tree.specs.Workers.{Hand}
+use Rattle.nm_tree.specs.Workers.{WorkerView}
 
 -- a look-up was busy since its pins were lost
 missed_by_pins : (L : Layout) → L.radix ≡ true → (tries k : ℕ) (old new : List Entry) → HasMissed L tries k old new → (tries ≡ 0) ⊎ IsMoved (SightFor Has k) tries old new
@@ -19,7 +19,7 @@ missed_by_pins L radix zero k old new m = inl refl
 missed_by_pins L radix (suc t) k old new (inl moved) = inr moved
 missed_by_pins L radix (suc t) k old new (inr m) = absurd (true≢false (sym radix ∙ m.4.2.0))
 
-pub busy_by_pins : (L : Layout) → L.radix ≡ true → (tries k : ℕ) (w z : Hand) (r : Result Bool CallFault) → HasAnswered L tries k w z r → r ≡ Err fault.Busy → (tries ≡ 0) ⊎ IsMoved (SightFor Has k) tries w.pass.view.log z.pass.view.log
+pub busy_by_pins : (L : Layout) → L.radix ≡ true → (tries k : ℕ) (w z : WorkerView) (r : Result Bool CallFault) → HasAnswered L tries k w z r → r ≡ Err fault.Busy → (tries ≡ 0) ⊎ IsMoved (SightFor Has k) tries w.pass.view.log z.pass.view.log
 busy_by_pins L radix tries k w z r did is =
     missed_by_pins L radix tries k w.pass.view.log z.pass.view.log (subst (λ (s : Result Bool CallFault). HasAnswered L tries k w z s) is did).1
 

@@ -9,7 +9,7 @@ use Rattle.nm_model.specs.declared.event.Op.TheVariants.{Delete}
 use Rattle.nm_model.specs.declared.trace.Turn.{Turn}
 use Rattle.nm_model.specs.Acts.{Act, IsAmong, Replays, nothing, changed, InSet}
 use Rattle.nm_steps.specs.Rules.{Extends}
-use Rattle.nm_steps.specs.Steps.{Stand, HasSeenAllOf}
+use Rattle.nm_steps.specs.Steps.{PassView, HasSeenAllOf}
 use Rattle.nm_steps.proofs.Growing.{goes_on_itself, goes_on_through}
 use Rattle.nm_theorem.specs.EachRun.{IsTrueDelete}
 use Rattle.nm_model.specs.Histories.{Called, IsHistory, HasHistory, AnswerStands}
@@ -24,7 +24,7 @@ use Rattle.nm_callers.proofs.TwoAnswers.{Ascend, no_later, others_ascend, stays,
 -- ---- none is passed over
 
 -- no key that stood all along, in turns that go on from those of the call
-pub passes_none : (start o x : Stand) (now : List Turn) (key k : ℕ) → length start.view.past ≤ length o.view.past → Extends now x.view.past → Takes ◌<◌ o x (Some key) → IsKey k → StandsThroughout x.view.layout start.view.past now k → key ≤ k
+pub passes_none : (start o x : PassView) (now : List Turn) (key k : ℕ) → length start.view.past ≤ length o.view.past → Extends now x.view.past → Takes ◌<◌ o x (Some key) → IsKey k → StandsThroughout x.view.layout start.view.past now k → key ≤ k
 passes_none start o x now key k early on takes is stands = by (cases_lt k key)
   where
     by : (k < key) ⊎ (key ≤ k) → key ≤ k
@@ -37,7 +37,7 @@ passes_none start o x now key k early on takes is stands = by (cases_lt k key)
 -- ---- one behind the other
 
 -- a key was taken from w to x, and one from y to z, by a worker that was told of x
-pub takes_apart : (a b : ℕ) (w x y z : Stand) → Takes ◌<◌ w x (Some a) → Takes ◌<◌ y z (Some b) → HasSeenAllOf y x → HasSeenAllOf z y → x.view.layout ≡ z.view.layout
+pub takes_apart : (a b : ℕ) (w x y z : PassView) → Takes ◌<◌ w x (Some a) → Takes ◌<◌ y z (Some b) → HasSeenAllOf y x → HasSeenAllOf z y → x.view.layout ≡ z.view.layout
     → NoneInserted z.view.layout w.view.past z.view.past a → a ≢ b
 takes_apart a b w x y z took takes told on layout none same =
     let again : AnswerHasMoment y z Delete a true = subst (λ (k : ℕ). AnswerHasMoment y z Delete k true) (sym same) takes.1 in
@@ -80,7 +80,7 @@ not_twice L start one two last was then' w u k other s t early soon on further (
     (λ i there puts. let within = none acts h i there puts in (omega (arith, within, early, begins, late), omega (arith, within, soon, begins', late'))) a.1 b.1
 
 -- two keys that were taken, behind what both workers had seen, are two
-pub taken_apart : (L : Layout) (start w x y z : Stand) (last : List Turn) (a b : ℕ) → x.view.number ≢ z.view.number → x.view.layout ≡ L → z.view.layout ≡ L → Takes ◌<◌ w x (Some a) → Takes ◌<◌ y z (Some b) → HasSeenAllOf w start → HasSeenAllOf y start
+pub taken_apart : (L : Layout) (start w x y z : PassView) (last : List Turn) (a b : ℕ) → x.view.number ≢ z.view.number → x.view.layout ≡ L → z.view.layout ≡ L → Takes ◌<◌ w x (Some a) → Takes ◌<◌ y z (Some b) → HasSeenAllOf w start → HasSeenAllOf y start
     → Extends last x.view.past → Extends last z.view.past → HasHistory L last → NoneInserted L start.view.past last a → a ≢ b
 taken_apart L start w x y z last a b other layout layout' took takes early soon on further history none same =
     not_twice L start.view.past x.view.past z.view.past last w.view.past y.view.past x.view.number z.view.number a other

@@ -5,11 +5,11 @@ use Rattle.nm_edge.specs.Layouts.{Layout}
 use Rattle.nm_model.specs.declared.event.Op.{Op}
 use Rattle.nm_model.specs.declared.event.Op.TheVariants.{Has, Insert, Delete}
 use Rattle.nm_model.specs.declared.trace.Turn.{Turn}
-use Rattle.nm_steps.specs.Steps.{Board, Stand, HasSeenAllOf}
+use Rattle.nm_steps.specs.Steps.{TreeView, PassView, HasSeenAllOf}
 use Rattle.nm_steps.proofs.Growing.{goes_on_itself, goes_on_through}
 use Rattle.nm_steps.proofs.Seeing.{seen_itself, seen_through}
 use Rattle.nm_calls.specs.Moments.{AnswerHasMoment}
-use Rattle.nm_tree.specs.Workers.{Hand}
+use Rattle.nm_tree.specs.Workers.{WorkerView}
 use Rattle.nm_set.specs.declared.fault.Fault.{Fault}
 use Rattle.nm_set.specs.declared.tended.Habit.{Habit}
 use Rattle.nm_set.specs.Tended.{SaysTended}
@@ -24,23 +24,23 @@ use Rattle.nm_callers.proofs.TwoAnswers.{deleted_then_not_again, never_inserted_
 
 -- ---- a call that tends the set, whether its worker was held or not
 
-module _ (op : Op) (b : Board) (h : Habit) (k : ℕ) (w z : Hand) where
+module _ (op : Op) (b : TreeView) (h : Habit) (k : ℕ) (w z : WorkerView) where
   pub moment_of : (r : Result Bool Fault) → SaysTended op b h k w z r → IfOk r (AnswerHasMoment w.pass z.pass op k)
   moment_of r (inl (held, is, same)) = subst (λ (q : Result Bool Fault). IfOk q (AnswerHasMoment w.pass z.pass op k)) (sym is) tt
   moment_of r (inr (free, t)) = t.moment
 
   pub seen_behind : (r : Result Bool Fault) → SaysTended op b h k w z r → HasSeenAllOf z.pass w.pass
-  seen_behind r (inl (held, is, same)) = subst (λ (y : Hand). HasSeenAllOf y.pass w.pass) (sym same) (seen_itself w.pass)
+  seen_behind r (inl (held, is, same)) = subst (λ (y : WorkerView). HasSeenAllOf y.pass w.pass) (sym same) (seen_itself w.pass)
   seen_behind r (inr (free, t)) = t.on.past
 
   pub same_layout : (r : Result Bool Fault) → SaysTended op b h k w z r → z.pass.view.layout ≡ w.pass.view.layout
-  same_layout r (inl (held, is, same)) = ap (λ (y : Hand). y.pass.view.layout) same
-  same_layout r (inr (free, t)) = ap (λ (p : Stand). p.view.layout) t.on.same
+  same_layout r (inl (held, is, same)) = ap (λ (y : WorkerView). y.pass.view.layout) same
+  same_layout r (inr (free, t)) = ap (λ (p : PassView). p.view.layout) t.on.same
 
 -- ---- two calls
 
 -- a call that was answered true, from w to x, and a look-up, from x to z
-pub looks_then : (Undoes : Layout → List Turn → List Turn → ℕ → Type 0) (op : Op) (so : Bool) → IsAnsweredThen Undoes op so → (b d : Board) (h : Habit) (k : ℕ) (w x z : Hand) (r : Result Bool Fault)
+pub looks_then : (Undoes : Layout → List Turn → List Turn → ℕ → Type 0) (op : Op) (so : Bool) → IsAnsweredThen Undoes op so → (b d : TreeView) (h : Habit) (k : ℕ) (w x z : WorkerView) (r : Result Bool Fault)
     → SaysTended op b h k w x (Ok true) → SaysTended Has d h k x z r → Undoes z.pass.view.layout w.pass.view.past z.pass.view.past k → IfOk r (λ answer. answer ≡ so)
 looks_then Undoes op so law b d h k w x z r called looked none =
     each_ok r (AnswerHasMoment x.pass z.pass Has k) (λ (answer : Bool). answer ≡ so) (λ answer look.
@@ -48,18 +48,18 @@ looks_then Undoes op so law b d h k w x z r called looked none =
     (moment_of Has d h k x z r looked)
 
 -- a look-up from w to z, where no insert has put the key in
-pub looks_first : (b : Board) (h : Habit) (k : ℕ) (w z : Hand) (r : Result Bool Fault) → SaysTended Has b h k w z r → NoneInserted z.pass.view.layout [] z.pass.view.past k → IfOk r (λ answer. answer ≡ false)
+pub looks_first : (b : TreeView) (h : Habit) (k : ℕ) (w z : WorkerView) (r : Result Bool Fault) → SaysTended Has b h k w z r → NoneInserted z.pass.view.layout [] z.pass.view.past k → IfOk r (λ answer. answer ≡ false)
 looks_first b h k w z r looked none =
     each_ok r (AnswerHasMoment w.pass z.pass Has k) (λ (answer : Bool). answer ≡ false) (λ answer look.
     never_inserted_then_missed z.pass.view.layout w.pass.view.past z.pass.view.past z.pass.view.past z.pass.view.number k answer look (goes_on_itself z.pass.view.past) look.history none)
     (moment_of Has b h k w z r looked)
 
 -- what both calls have seen
-pub seen_both : (op : Op) (b d : Board) (h : Habit) (k : ℕ) (w x z : Hand) (r s : Result Bool Fault) → SaysTended op b h k w x r → SaysTended Has d h k x z s → HasSeenAllOf z.pass w.pass
+pub seen_both : (op : Op) (b d : TreeView) (h : Habit) (k : ℕ) (w x z : WorkerView) (r s : Result Bool Fault) → SaysTended op b h k w x r → SaysTended Has d h k x z s → HasSeenAllOf z.pass w.pass
 seen_both op b d h k w x z r s called looked = seen_through w.pass x.pass z.pass (seen_behind op b h k w x r called) (seen_behind Has d h k x z s looked)
 
 -- a remove that was answered true, from w to x, and another one's, from y to z, which was told of x
-pub takes_once : (b d : Board) (h : Habit) (k : ℕ) (w x y z : Hand) (r : Result Bool Fault) → SaysTended Delete b h k w x (Ok true) → SaysTended Delete d h k y z r → HasSeenAllOf y.pass x.pass → x.pass.view.layout ≡ z.pass.view.layout
+pub takes_once : (b d : TreeView) (h : Habit) (k : ℕ) (w x y z : WorkerView) (r : Result Bool Fault) → SaysTended Delete b h k w x (Ok true) → SaysTended Delete d h k y z r → HasSeenAllOf y.pass x.pass → x.pass.view.layout ≡ z.pass.view.layout
     → NoneInserted z.pass.view.layout w.pass.view.past z.pass.view.past k → IfOk r (λ answer. answer ≡ false)
 takes_once b d h k w x y z r took tries told layout none =
     each_ok r (AnswerHasMoment y.pass z.pass Delete k) (λ (answer : Bool). answer ≡ false) (λ answer is.
@@ -69,15 +69,15 @@ takes_once b d h k w x y z r took tries told layout none =
     (goes_on_through z.pass.view.past y.pass.view.past x.pass.view.past (seen_behind Delete d h k y z r tries).goes_on told.goes_on) (goes_on_itself z.pass.view.past) is.history none)
     (moment_of Delete d h k y z r tries)
 
-pub puts_again : (k : ℕ) (w y z : Hand) (r : Option Bool) → AnswerHasMoment w.pass y.pass Insert k true → IsPutBack k y z r → IsPutAgain k w z r
+pub puts_again : (k : ℕ) (w y z : WorkerView) (r : Option Bool) → AnswerHasMoment w.pass y.pass Insert k true → IsPutBack k y z r → IsPutAgain k w z r
 puts_again k w y z None added back = tt
 puts_again k w y z (Some answer) added back = (y, added, back)
 
-pub puts_back : (k : ℕ) (w x z : Hand) (r : Option Bool) → AnswerHasMoment w.pass x.pass Delete k true → (NoneDeleted z.pass.view.layout x.pass.view.past z.pass.view.past k → IfSome r (λ answer. answer ≡ true)) → IsPutBack k w z r
+pub puts_back : (k : ℕ) (w x z : WorkerView) (r : Option Bool) → AnswerHasMoment w.pass x.pass Delete k true → (NoneDeleted z.pass.view.layout x.pass.view.past z.pass.view.past k → IfSome r (λ answer. answer ≡ true)) → IsPutBack k w z r
 puts_back k w x z None removed found = tt
 puts_back k w x z (Some answer) removed found = (x, removed, found)
 
 -- a call that took a key has done so
-pub has_popped : (b : Board) (h : Habit) (k : ℕ) (w z : Hand) → SaysPopTended ◌<◌ b h w z (Ok (Some k)) → TendsPop ◌<◌ (pop_rounds_bound h b.layout) w z (Ok (Some k))
+pub has_popped : (b : TreeView) (h : Habit) (k : ℕ) (w z : WorkerView) → SaysPopTended ◌<◌ b h w z (Ok (Some k)) → TendsPop ◌<◌ (pop_rounds_bound h b.layout) w z (Ok (Some k))
 has_popped b h k w z (inl held) = absurd (true≢false (ap (λ (r : Result (Option ℕ) Fault). is_ok r) held.1))
 has_popped b h k w z (inr did) = did.1

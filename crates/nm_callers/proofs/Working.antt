@@ -4,21 +4,21 @@ use Rattle.std.specs.Prelude.{Option, Some, None, Result, Ok, Err, is_ok}
 use Rattle.nm_model.specs.declared.event.Op.TheVariants.{Insert}
 use Rattle.nm_edge.specs.declared.placement.Fit.{Fit}
 use Rattle.nm_steps.specs.declared.view.View.{View}
-use Rattle.nm_steps.specs.Steps.{Board}
+use Rattle.nm_steps.specs.Steps.{TreeView}
 use Rattle.nm_walks.specs.WonCounts.{won_flags, won_links}
 use Rattle.nm_calls.specs.Won.{HasWon}
-use Rattle.nm_tree.specs.Workers.{Hand}
+use Rattle.nm_tree.specs.Workers.{WorkerView}
 use Rattle.nm_set.specs.declared.fault.Fault.{Fault}
 use Rattle.nm_set.specs.declared.fault.Fault.TheVariants as fault
 use Rattle.nm_set.specs.declared.tended.Habit.{Habit}
-use Rattle.nm_set.specs.Seats.{IsNewMember, Seated}
+use Rattle.nm_set.specs.Seats.{IsNewMember, MemberView}
 use Rattle.nm_set.specs.Popping.{SaysPopTended}
 use Rattle.nm_set.specs.Tended.{GoesOnTended, SaysTended}
 use Rattle.nm_set.proofs.Tending.{follows_then, is_no_fault}
 use Rattle.nm_callers.specs.Queues.{HasWorked}
 
 -- one call more
-works_on : (w x z : Hand) (n t m d most : ℕ) → HasWorked w x n t → GoesOnTended most x z → HasWon x.pass.view.log z.pass.view.log m d → z.pending ≡ None → HasWorked w z (n + m) (t + d)
+works_on : (w x z : WorkerView) (n t m d most : ℕ) → HasWorked w x n t → GoesOnTended most x z → HasWon x.pass.view.log z.pass.view.log m d → z.pending ≡ None → HasWorked w z (n + m) (t + d)
 works_on w x z n t m d most done on won settled =
     let both = follows_then w.pass x.pass z.pass (record { same = done.same; past = done.past }) (record { same = on.same; past = on.past }) in
     let links = done.won.links in
@@ -32,11 +32,11 @@ works_on w x z n t m d most done on won settled =
       rest = record { free = on.held; settled = settled };
     }
 
-pub adds_one : (b : Board) (h : Habit) (k : ℕ) (w x z : Hand) (n : ℕ) → HasWorked w x n 0 → SaysTended Insert b h k x z (Ok true) → HasWorked w z (n + 1) 0
+pub adds_one : (b : TreeView) (h : Habit) (k : ℕ) (w x z : WorkerView) (n : ℕ) → HasWorked w x n 0 → SaysTended Insert b h k x z (Ok true) → HasWorked w z (n + 1) 0
 adds_one b h k w x z n done (inl held) = is_no_fault true fault.Held held.1
 adds_one b h k w x z n done (inr did) = works_on w x z n 0 1 0 _ done did.1.on did.1.won did.1.left
 
-pub adds_none : (b : Board) (h : Habit) (k : ℕ) (w x z : Hand) (n : ℕ) → HasWorked w x n 0 → SaysTended Insert b h k x z (Ok false) → HasWorked w z n 0
+pub adds_none : (b : TreeView) (h : Habit) (k : ℕ) (w x z : WorkerView) (n : ℕ) → HasWorked w x n 0 → SaysTended Insert b h k x z (Ok false) → HasWorked w z n 0
 adds_none b h k w x z n done (inl held) = is_no_fault false fault.Held held.1
 adds_none b h k w x z n done (inr did) =
     let more = works_on w x z n 0 0 0 _ done did.1.on did.1.won did.1.left in
@@ -46,11 +46,11 @@ adds_none b h k w x z n done (inr did) =
 told_held : {B : Type 0} (found : Option ℕ) → ◌≡◌ {A = Result (Option ℕ) Fault} (Ok found) (Err fault.Held) → B
 told_held found is = absurd (true≢false (ap (λ (r : Result (Option ℕ) Fault). is_ok r) is))
 
-pub takes_one : (b : Board) (h : Habit) (k : ℕ) (w x z : Hand) (n : ℕ) → HasWorked w x 0 n → SaysPopTended ◌<◌ b h x z (Ok (Some k)) → HasWorked w z 0 (n + 1)
+pub takes_one : (b : TreeView) (h : Habit) (k : ℕ) (w x z : WorkerView) (n : ℕ) → HasWorked w x 0 n → SaysPopTended ◌<◌ b h x z (Ok (Some k)) → HasWorked w z 0 (n + 1)
 takes_one b h k w x z n done (inl held) = told_held (Some k) held.1
 takes_one b h k w x z n done (inr did) = works_on w x z 0 n 0 1 _ done did.1.on did.1.won did.1.left
 
-pub takes_none : (b : Board) (h : Habit) (w x z : Hand) (n : ℕ) → HasWorked w x 0 n → SaysPopTended ◌<◌ b h x z (Ok None) → HasWorked w z 0 n
+pub takes_none : (b : TreeView) (h : Habit) (w x z : WorkerView) (n : ℕ) → HasWorked w x 0 n → SaysPopTended ◌<◌ b h x z (Ok None) → HasWorked w z 0 n
 takes_none b h w x z n done (inl held) = told_held None held.1
 takes_none b h w x z n done (inr did) =
     let more = works_on w x z 0 n 0 0 _ done did.1.on did.1.won did.1.left in
@@ -60,10 +60,10 @@ takes_none b h w x z n done (inr did) =
 -- ---- members of a new set
 
 -- what it has won is what it has added and taken
-pub new_won : (b : Board) (f : Fit) (k : ℕ) (m : Seated) (z : Hand) (n t : ℕ) → IsNewMember b f k m → HasWorked m.hand z n t → (won_links z.pass.view.log ≡ n) × (won_flags z.pass.view.log ≡ t)
+pub new_won : (b : TreeView) (f : Fit) (k : ℕ) (m : MemberView) (z : WorkerView) (n t : ℕ) → IsNewMember b f k m → HasWorked m.worker z n t → (won_links z.pass.view.log ≡ n) × (won_flags z.pass.view.log ≡ t)
 new_won b f k m z n t is did =
-    let links : won_links m.hand.pass.view.log ≡ 0 = ap (λ (v : View). won_links v.log) is.new.1 in
-    let flags : won_flags m.hand.pass.view.log ≡ 0 = ap (λ (v : View). won_flags v.log) is.new.1 in
+    let links : won_links m.worker.pass.view.log ≡ 0 = ap (λ (v : View). won_links v.log) is.new.1 in
+    let flags : won_flags m.worker.pass.view.log ≡ 0 = ap (λ (v : View). won_flags v.log) is.new.1 in
     let more = did.won.links in
     let less = did.won.flags in
     (omega (arith, links, more), omega (arith, flags, less))

@@ -4,12 +4,12 @@ use Rattle.nm_edge.specs.Keys.{IsKey}
 use Rattle.nm_model.specs.declared.event.Op.TheVariants.{Insert}
 use Rattle.nm_calls.specs.Moments.{AnswerHasMoment}
 use Rattle.nm_walks.specs.WonCounts.{won_flags}
-use Rattle.nm_steps.specs.Steps.{Stand}
-use Rattle.nm_tree.specs.Workers.{Hand}
+use Rattle.nm_steps.specs.Steps.{PassView}
+use Rattle.nm_tree.specs.Workers.{WorkerView}
 
 -- its last call was an insert of that key, which was answered true; and it has flagged nothing
-pub record HasAdded (k : ℕ) (w : Hand) : Type 0 where
+pub record HasAdded (k : ℕ) (w : WorkerView) : Type 0 where
   pub key : IsKey k
-  pub start : Stand
+  pub start : PassView
   pub moment : AnswerHasMoment start w.pass Insert k true
   pub unflagged : won_flags w.pass.view.log ≡ 0

@@ -2,35 +2,35 @@
 use Rattle.std.specs.Prelude.{◌≡◌, ◌+◌, ℕ, List, None, length, sum_by}
 use Rattle.nm_walks.specs.WonCounts.{won_flags, won_links}
 use Rattle.nm_calls.specs.Won.{HasWon}
-use Rattle.nm_steps.specs.Steps.{Board, HasSeenAllOf, IsSamePass}
-use Rattle.nm_tree.specs.Workers.{Hand}
-use Rattle.nm_set.specs.Seats.{Seated}
+use Rattle.nm_steps.specs.Steps.{TreeView, HasSeenAllOf, IsSamePass}
+use Rattle.nm_tree.specs.Workers.{WorkerView}
+use Rattle.nm_set.specs.Seats.{MemberView}
 
 -- a worker that is not held, and has nothing pending
-pub record IsAtRest (w : Hand) : Type 0 where
+pub record IsAtRest (w : WorkerView) : Type 0 where
   pub free : w.held ≡ None
   pub settled : w.pending ≡ None
 
 -- it has gone on, has added and taken so many tasks, and is at rest again
-pub record HasWorked (w z : Hand) (added taken : ℕ) : Type 0 where
+pub record HasWorked (w z : WorkerView) (added taken : ℕ) : Type 0 where
   pub same : IsSamePass w.pass z.pass
   pub past : HasSeenAllOf z.pass w.pass
   pub won : HasWon w.pass.view.log z.pass.view.log added taken
   pub rest : IsAtRest z
 
 -- the member of worker k of that tree, with nothing pending
-pub record IsWorkerOf (b : Board) (k : ℕ) (m : Seated) : Type 0 where
-  pub board : m.board ≡ b
-  pub number : m.hand.pass.view.number ≡ k
-  pub settled : m.hand.pending ≡ None
+pub record IsWorkerOf (b : TreeView) (k : ℕ) (m : MemberView) : Type 0 where
+  pub tree : m.tree ≡ b
+  pub number : m.worker.pass.view.number ≡ k
+  pub settled : m.worker.pending ≡ None
 
 -- `added_by`, `taken_by`: how many tasks these workers have added, and taken: their links and flags
-abbrev pub added_by : List Hand → ℕ
-added_by ws = sum_by (λ (w : Hand). won_links w.pass.view.log) ws
+abbrev pub added_by : List WorkerView → ℕ
+added_by ws = sum_by (λ (w : WorkerView). won_links w.pass.view.log) ws
 
-abbrev pub taken_by : List Hand → ℕ
-taken_by ws = sum_by (λ (w : Hand). won_flags w.pass.view.log) ws
+abbrev pub taken_by : List WorkerView → ℕ
+taken_by ws = sum_by (λ (w : WorkerView). won_flags w.pass.view.log) ws
 
 -- what these workers have added is what they have taken, and what is left
-abbrev pub AddUp : List Hand → List ℕ → Type 0
+abbrev pub AddUp : List WorkerView → List ℕ → Type 0
 AddUp ws left = added_by ws ≡ taken_by ws + length left

@@ -22,10 +22,10 @@ pub struct Looked {
 /// key is not there, unless an add, behind all that the member had seen before, which was nothing,
 /// has put it in.
 pub fn look_first(member: &mut Member, key: Key, habit: &Habit) -> Option<bool>
-    requires new { (n : ℕ) × IsNewMember member.old.board member.old.hand.fit n member.old }
-    ensures board { member.new.board ≡ member.old.board }
-    ensures missed { NoneInserted member.new.hand.pass.view.layout member.old.hand.pass.view.past
-        member.new.hand.pass.view.past key → IfSome result (λ b. b ≡ false) }
+    requires new { (n : ℕ) × IsNewMember member.old.tree member.old.worker.fit n member.old }
+    ensures tree { member.new.tree ≡ member.old.tree }
+    ensures missed { NoneInserted member.new.worker.pass.view.layout member.old.worker.pass.view.past
+        member.new.worker.pass.view.past key → IfSome result (λ b. b ≡ false) }
 {
     member.contains(key, habit).ok()
 }
@@ -40,10 +40,10 @@ pub fn look_in_new(
     key: Key,
     habit: &Habit,
 ) -> Option<Looked>
-    ensures own { IfSome result (λ r. r.member.board ≡ r.set.board) }
-    ensures others { IfSome result (λ r. AreNewMembers r.set.board r.set.fit 0 r.others.items) }
-    ensures missed { IfSome result (λ r. NoneInserted r.member.hand.pass.view.layout []
-        r.member.hand.pass.view.past key → IfSome r.found (λ b. b ≡ false)) }
+    ensures own { IfSome result (λ r. r.member.tree ≡ r.set.tree) }
+    ensures others { IfSome result (λ r. AreNewMembers r.set.tree r.set.fit 0 r.others.items) }
+    ensures missed { IfSome result (λ r. NoneInserted r.member.worker.pass.view.layout []
+        r.member.worker.pass.view.past key → IfSome r.found (λ b. b ≡ false)) }
 {
     let Ok((set, mut others)) = Set::with_members(alloc, nodes, workers) else {
         return None;
@@ -61,9 +61,9 @@ pub fn look_in_new(
 /// The only member of a set, which has done nothing yet, looks a key up. `None`: the call was not
 /// answered. Else the key is not there: nobody else could have put it in.
 pub fn look_only(member: &mut Member, key: Key, habit: &Habit) -> Option<bool>
-    requires new { (n : ℕ) × IsNewMember member.old.board member.old.hand.fit n member.old }
-    requires one { member.old.board.layout.workers ≡ 1 }
-    ensures board { member.new.board ≡ member.old.board }
+    requires new { (n : ℕ) × IsNewMember member.old.tree member.old.worker.fit n member.old }
+    requires one { member.old.tree.layout.workers ≡ 1 }
+    ensures tree { member.new.tree ≡ member.old.tree }
     ensures missed { IfSome result (λ b. b ≡ false) }
 {
     let found = member.contains(key, habit);

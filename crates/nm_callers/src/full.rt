@@ -15,8 +15,8 @@ pub fn add_or_blame(
     key: Key,
     habit: &Habit,
 ) -> Result<Option<bool>, Option<u32>>
-    ensures board { member.new.board ≡ member.old.board }
-    ensures blamed { IfErr result (IsToBlame member.old.hand member.new.hand) }
+    ensures tree { member.new.tree ≡ member.old.tree }
+    ensures blamed { IfErr result (IsToBlame member.old.worker member.new.worker) }
 {
     match member.insert(key, habit) {
         Ok(answer) => Ok(Some(answer)),

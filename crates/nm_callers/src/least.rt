@@ -2,7 +2,7 @@
 //! the page alone.
 ghost use Rattle.std.specs.Prelude.{ℕ, ◌≢◌, ◌≤◌, ◌<◌, None, IfSome};
 ghost use Rattle.nm_edge.specs.Keys.{IsKey};
-ghost use Rattle.nm_steps.specs.Steps.{Stand, IsOf, IsSamePass, HasSeenAllOf};
+ghost use Rattle.nm_steps.specs.Steps.{PassView, IsOf, IsSamePass, HasSeenAllOf};
 ghost use Rattle.nm_tree.specs.Calls.{MayCall};
 ghost use Rattle.nm_tree.specs.Popping.{Takes};
 ghost use Rattle.nm_callers.specs.Meanwhile.{NoneInserted};
@@ -107,10 +107,10 @@ pub fn take_in_threads<R: Threads + Sync>(
     requires two { MayCall tree.now two }
     requires reader { IsOf tree.now reader.old.pass }
     requires others { one.pass.view.number ≢ two.pass.view.number }
-    ensures apart { (start : Stand) → HasSeenAllOf one.pass start → HasSeenAllOf two.pass start
+    ensures apart { (start : PassView) → HasSeenAllOf one.pass start → HasSeenAllOf two.pass start
         → IfSome result (λ keys. NoneInserted tree.now.layout start.view.past
         reader.new.pass.view.past keys.0 → keys.0 ≢ keys.1) }
-    ensures passed { (start : Stand) → HasSeenAllOf one.pass start → HasSeenAllOf two.pass start
+    ensures passed { (start : PassView) → HasSeenAllOf one.pass start → HasSeenAllOf two.pass start
         → (k : ℕ) → IsKey k
         → StandsThroughout tree.now.layout start.view.past reader.new.pass.view.past k
         → IfSome result (λ keys. (keys.0 ≤ k) × (keys.1 ≤ k)) }

@@ -19,8 +19,8 @@ pub struct Written {
 
 /// Inserts a key, and leaves a note.
 fn insert_and_post(mut member: Member, key: Key, habit: &Habit) -> Written
-    ensures board { result.member.board ≡ member.board }
-    ensures written { IfSome result.posted (HasWritten key member.hand result.member.hand) }
+    ensures tree { result.member.tree ≡ member.tree }
+    ensures written { IfSome result.posted (HasWritten key member.worker result.member.worker) }
 {
     let told = member.insert(key, habit);
     member.is_of_a_run();
@@ -44,8 +44,8 @@ pub struct Reading {
 
 /// Hears what the worker of a number has left, and asks for a key where that one had inserted some.
 fn read_and_look(member: &mut Member, writer: u32, key: Key, habit: &Habit) -> Option<bool>
-    ensures board { member.new.board ≡ member.old.board }
-    ensures found { IfSome result (HasLookedBehind writer key member.new.hand) }
+    ensures tree { member.new.tree ≡ member.old.tree }
+    ensures found { IfSome result (HasLookedBehind writer key member.new.worker) }
 {
     match member.read(writer) {
         Ok(Some(told)) if told.inserted > 0 => member.contains(key, habit).ok(),
@@ -61,22 +61,22 @@ fn write_and_read<R: Threads + Sync>(
     key: Key,
     habit: Habit,
 ) -> (Written, Reading)
-    ensures first { result.0.member.board ≡ first.board }
-    ensures second { result.1.member.board ≡ second.board }
-    ensures written { IfSome result.0.posted (HasWritten key first.hand result.0.member.hand) }
+    ensures first { result.0.member.tree ≡ first.tree }
+    ensures second { result.1.member.tree ≡ second.tree }
+    ensures written { IfSome result.0.posted (HasWritten key first.worker result.0.member.worker) }
     ensures found { IfSome result.1.found
-        (HasLookedBehind first.hand.pass.view.number key result.1.member.hand) }
+        (HasLookedBehind first.worker.pass.view.number key result.1.member.worker) }
 {
     let writer = first.number();
     join(
         rt,
         move || -> Written
-            ensures board { result.member.board ≡ first.board }
-            ensures written { IfSome result.posted (HasWritten key first.hand result.member.hand) }
+            ensures tree { result.member.tree ≡ first.tree }
+            ensures written { IfSome result.posted (HasWritten key first.worker result.member.worker) }
         { insert_and_post(first, key, &habit) },
         move || -> Reading
-            ensures board { result.member.board ≡ second.board }
-            ensures found { IfSome result.found (HasLookedBehind writer key result.member.hand) }
+            ensures tree { result.member.tree ≡ second.tree }
+            ensures found { IfSome result.found (HasLookedBehind writer key result.member.worker) }
         {
             let mut member = second;
             let found = read_and_look(&mut member, writer, key, &habit);
@@ -96,11 +96,11 @@ pub fn insert_while_read<R: Threads + Sync>(
     key: Key,
     habit: Habit,
 ) -> Reading
-    requires same { first.board ≡ second.board }
-    requires unlinked { won_links first.hand.pass.view.log ≡ 0 }
-    requires unflagged { won_flags first.hand.pass.view.log ≡ 0 }
-    ensures found { NoneDeleted first.hand.pass.view.layout first.hand.pass.view.past
-        result.member.hand.pass.view.past key → IfSome result.found (λ b. b ≡ true) }
+    requires same { first.tree ≡ second.tree }
+    requires unlinked { won_links first.worker.pass.view.log ≡ 0 }
+    requires unflagged { won_flags first.worker.pass.view.log ≡ 0 }
+    ensures found { NoneDeleted first.worker.pass.view.layout first.worker.pass.view.past
+        result.member.worker.pass.view.past key → IfSome result.found (λ b. b ≡ true) }
 {
     let (written, reading) = write_and_read(rt, first, second, key, habit);
     let Written {

@@ -12,10 +12,10 @@ use nm_set::{Habit, Member};
 /// set. Else it is there, unless a remove, behind all that the member had seen before, has taken it
 /// away.
 pub fn add_then_find(member: &mut Member, key: Key, habit: &Habit) -> Option<bool>
-    ensures board { member.new.board ≡ member.old.board }
-    ensures past { HasSeenAllOf member.new.hand.pass member.old.hand.pass }
-    ensures found { NoneDeleted member.new.hand.pass.view.layout member.old.hand.pass.view.past
-        member.new.hand.pass.view.past key → IfSome result (λ b. b ≡ true) }
+    ensures tree { member.new.tree ≡ member.old.tree }
+    ensures past { HasSeenAllOf member.new.worker.pass member.old.worker.pass }
+    ensures found { NoneDeleted member.new.worker.pass.view.layout member.old.worker.pass.view.past
+        member.new.worker.pass.view.past key → IfSome result (λ b. b ≡ true) }
 {
     match member.insert(key, habit) {
         Ok(true) => member.contains(key, habit).ok(),
@@ -27,10 +27,10 @@ pub fn add_then_find(member: &mut Member, key: Key, habit: &Habit) -> Option<boo
 /// the set. Else it is not there, unless an add, behind all that the member had seen before, has
 /// put it in again.
 pub fn remove_then_miss(member: &mut Member, key: Key, habit: &Habit) -> Option<bool>
-    ensures board { member.new.board ≡ member.old.board }
-    ensures past { HasSeenAllOf member.new.hand.pass member.old.hand.pass }
-    ensures missed { NoneInserted member.new.hand.pass.view.layout member.old.hand.pass.view.past
-        member.new.hand.pass.view.past key → IfSome result (λ b. b ≡ false) }
+    ensures tree { member.new.tree ≡ member.old.tree }
+    ensures past { HasSeenAllOf member.new.worker.pass member.old.worker.pass }
+    ensures missed { NoneInserted member.new.worker.pass.view.layout member.old.worker.pass.view.past
+        member.new.worker.pass.view.past key → IfSome result (λ b. b ≡ false) }
 {
     match member.remove(key, habit) {
         Ok(true) => member.contains(key, habit).ok(),
@@ -43,8 +43,8 @@ pub fn remove_then_miss(member: &mut Member, key: Key, habit: &Habit) -> Option<
 /// unless a remove has taken it away, and then not, unless an add has put it in again: the member's
 /// own add and remove do not count.
 pub fn put_and_take(member: &mut Member, key: Key, habit: &Habit) -> Option<(bool, bool)>
-    ensures board { member.new.board ≡ member.old.board }
-    ensures told { IfSome result (IsThereThenGone key member.old.hand member.new.hand) }
+    ensures tree { member.new.tree ≡ member.old.tree }
+    ensures told { IfSome result (IsThereThenGone key member.old.worker member.new.worker) }
 {
     let there = add_then_find(member, key, habit)?;
     let still = remove_then_miss(member, key, habit)?;
@@ -55,8 +55,8 @@ pub fn put_and_take(member: &mut Member, key: Key, habit: &Habit) -> Option<(boo
 /// true. Else the key is there, unless a remove, behind all that the member had seen as it added the
 /// key again, has taken it away: its own remove does not count.
 pub fn put_back(member: &mut Member, key: Key, habit: &Habit) -> Option<bool>
-    ensures board { member.new.board ≡ member.old.board }
-    ensures back { IsPutBack key member.old.hand member.new.hand result }
+    ensures tree { member.new.tree ≡ member.old.tree }
+    ensures back { IsPutBack key member.old.worker member.new.worker result }
 {
     match member.remove(key, habit) {
         Ok(true) => add_then_find(member, key, habit),
@@ -68,8 +68,8 @@ pub fn put_back(member: &mut Member, key: Key, habit: &Habit) -> Option<bool>
 /// answered, or not true. Else the key is there, unless a remove, behind all that the member had
 /// seen as it added the key again, has taken it away: its own remove does not count.
 pub fn put_again(member: &mut Member, key: Key, habit: &Habit) -> Option<bool>
-    ensures board { member.new.board ≡ member.old.board }
-    ensures again { IsPutAgain key member.old.hand member.new.hand result }
+    ensures tree { member.new.tree ≡ member.old.tree }
+    ensures again { IsPutAgain key member.old.worker member.new.worker result }
 {
     match member.insert(key, habit) {
         Ok(true) => put_back(member, key, habit),
@@ -81,9 +81,9 @@ pub fn put_again(member: &mut Member, key: Key, habit: &Habit) -> Option<bool>
 /// not answered, or the first one not true. Else the key is not taken again, unless an add, behind
 /// all that the first member had seen before, has put it in again.
 pub fn take_once(first: &mut Member, second: &mut Member, key: Key, habit: &Habit) -> Option<bool>
-    requires same { first.old.board ≡ second.old.board }
-    ensures once { NoneInserted second.new.hand.pass.view.layout first.old.hand.pass.view.past
-        second.new.hand.pass.view.past key → IfSome result (λ b. b ≡ false) }
+    requires same { first.old.tree ≡ second.old.tree }
+    ensures once { NoneInserted second.new.worker.pass.view.layout first.old.worker.pass.view.past
+        second.new.worker.pass.view.past key → IfSome result (λ b. b ≡ false) }
 {
     let Ok(true) = first.remove(key, habit) else {
         return None;

@@ -21,9 +21,9 @@ pub struct PutAndTaken {
 /// A member that has done nothing hears what another one has seen, and goes home. So it has made no
 /// turn in that.
 fn hear_and_go(member: &mut Member, other: Member)
-    requires new { (f : Fit) × (n : ℕ) × IsNewMember member.old.board f n other }
+    requires new { (f : Fit) × (n : ℕ) × IsNewMember member.old.tree f n other }
     ensures same { member.new ≡ member.old }
-    ensures rested { part_of other.hand.pass.view.number member.old.hand.pass.view.past ≡ [] }
+    ensures rested { part_of other.worker.pass.view.number member.old.worker.pass.view.past ≡ [] }
 {
     let mut other = other;
     let note = member.note();
@@ -33,10 +33,10 @@ fn hear_and_go(member: &mut Member, other: Member)
 
 /// So do all the others.
 fn send_home(member: &mut Member, others: Vec<Member>)
-    requires new { (f : Fit) × AreNewMembers member.old.board f 0 others.items }
+    requires new { (f : Fit) × AreNewMembers member.old.tree f 0 others.items }
     ensures same { member.new ≡ member.old }
     ensures rested { (i : ℕ) → i < length others.items
-        → part_of i member.old.hand.pass.view.past ≡ [] }
+        → part_of i member.old.worker.pass.view.past ≡ [] }
 {
     for other in others {
         hear_and_go(member, other);
@@ -52,11 +52,11 @@ pub fn put_and_take_alone(
     key: Key,
     habit: &Habit,
 ) -> Option<PutAndTaken>
-    requires new { IsNewMember member.old.board member.old.hand.fit (length others.items)
+    requires new { IsNewMember member.old.tree member.old.worker.fit (length others.items)
         member.old }
-    requires rest { (f : Fit) × AreNewMembers member.old.board f 0 others.items }
-    requires all { member.old.board.layout.workers ≡ length others.items + 1 }
-    ensures board { member.new.board ≡ member.old.board }
+    requires rest { (f : Fit) × AreNewMembers member.old.tree f 0 others.items }
+    requires all { member.old.tree.layout.workers ≡ length others.items + 1 }
+    ensures tree { member.new.tree ≡ member.old.tree }
     ensures told { IfSome result (λ t. (t.added ≡ true) × (t.there ≡ true) × (t.removed ≡ true)
         × (t.still ≡ false)) }
 {

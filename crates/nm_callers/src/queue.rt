@@ -13,12 +13,12 @@ use nm_set::{Habit, Member};
 /// had seen before, has put its task in again: each task is taken by one of them at most; and no
 /// task is passed over that stood all along: neither of the two is above it.
 pub fn take_two_tasks(one: &mut Member, two: &mut Member, habit: &Habit) -> Option<(Key, Key)>
-    requires same { one.old.board ≡ two.old.board }
-    ensures apart { IfSome result (λ keys. NoneInserted two.new.hand.pass.view.layout
-        one.old.hand.pass.view.past two.new.hand.pass.view.past keys.0 → keys.0 ≢ keys.1) }
+    requires same { one.old.tree ≡ two.old.tree }
+    ensures apart { IfSome result (λ keys. NoneInserted two.new.worker.pass.view.layout
+        one.old.worker.pass.view.past two.new.worker.pass.view.past keys.0 → keys.0 ≢ keys.1) }
     ensures passed { (k : ℕ) → IsKey k
-        → StandsThroughout two.new.hand.pass.view.layout one.old.hand.pass.view.past
-        two.new.hand.pass.view.past k → IfSome result (λ keys. (keys.0 ≤ k) × (keys.1 ≤ k)) }
+        → StandsThroughout two.new.worker.pass.view.layout one.old.worker.pass.view.past
+        two.new.worker.pass.view.past k → IfSome result (λ keys. (keys.0 ≤ k) × (keys.1 ≤ k)) }
 {
     let Ok(Some(first)) = one.pop_first(habit) else {
         return None;

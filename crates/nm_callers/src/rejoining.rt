@@ -18,10 +18,10 @@ pub struct Rejoined {
 /// a call was not answered, the key had been in the set, or no worker was at home. Else it is
 /// there, unless a remove, behind all that the first member had seen before, has taken it away.
 pub fn add_then_rejoin(set: &Set, member: Member, key: Key, habit: &Habit) -> Option<Rejoined>
-    requires own { member.board ≡ set.now.board }
-    ensures own { IfSome result (λ f. f.member.board ≡ set.now.board) }
-    ensures found { IfSome result (λ f. NoneDeleted f.member.hand.pass.view.layout
-        member.hand.pass.view.past f.member.hand.pass.view.past key → f.there ≡ true) }
+    requires own { member.tree ≡ set.now.tree }
+    ensures own { IfSome result (λ f. f.member.tree ≡ set.now.tree) }
+    ensures found { IfSome result (λ f. NoneDeleted f.member.worker.pass.view.layout
+        member.worker.pass.view.past f.member.worker.pass.view.past key → f.there ≡ true) }
 {
     let mut member = member;
     let Ok(true) = member.insert(key, habit) else {

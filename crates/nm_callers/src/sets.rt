@@ -27,8 +27,8 @@ pub fn insert_then_report(alloc: Global, nodes: u32, key: Key, tries: u32) -> Op
 /// Inserts a key by a member that has flagged nothing, and tells whether it was so and was answered
 /// true.
 fn add(member: &mut Member, key: Key, tries: u32) -> bool
-    ensures board { member.new.board ≡ member.old.board }
-    ensures added { result ≡ true → HasAdded key member.new.hand }
+    ensures tree { member.new.tree ≡ member.old.tree }
+    ensures added { result ≡ true → HasAdded key member.new.worker }
 {
     if member.ledger().flags != 0 {
         return false;
@@ -42,9 +42,9 @@ fn add(member: &mut Member, key: Key, tries: u32) -> bool
 /// Closes a set with its only worker, whose member has inserted a key.
 fn close_with(set: Set, member: Member, key: Key) -> Option<Report>
     requires new { set.kept ≡ [] }
-    requires one { set.board.layout.workers ≡ 1 }
-    requires own { member.board ≡ set.board }
-    requires added { HasAdded key member.hand }
+    requires one { set.tree.layout.workers ≡ 1 }
+    requires own { member.tree ≡ set.tree }
+    requires added { HasAdded key member.worker }
     ensures { IfSome result (λ r. Contains r.keys.items key) }
 {
     let mut set = set;
@@ -78,8 +78,8 @@ pub fn insert_then_end(alloc: Global, nodes: u32, key: Key, tries: u32) -> Optio
 
 /// Ends a set by its only worker, whose member has inserted a key.
 fn end_by(member: Member, key: Key) -> Option<Report>
-    requires one { member.board.layout.workers ≡ 1 }
-    requires added { HasAdded key member.hand }
+    requires one { member.tree.layout.workers ≡ 1 }
+    requires added { HasAdded key member.worker }
     ensures { IfSome result (λ r. Contains r.keys.items key) }
 {
     member.is_of_a_run();

@@ -3,7 +3,7 @@
 ghost use Rattle.std.specs.Prelude.{◌≡◌, ◌+◌, ◌∷◌, [], IfSome, length};
 ghost use Rattle.nm_edge.specs.declared.placement.Fit.{Fit};
 ghost use Rattle.nm_set.specs.Seats.{AreNewMembers, IsNewMember};
-ghost use Rattle.nm_steps.specs.Steps.{Board};
+ghost use Rattle.nm_steps.specs.Steps.{TreeView};
 ghost use Rattle.nm_callers.specs.Queues.{AddUp, HasWorked, IsAtRest, IsWorkerOf};
 
 use nm_edge::Key;
@@ -25,9 +25,9 @@ pub struct SharedTasks {
 /// Adds these tasks, in their order; how many of them were not there. `None`: a call was not
 /// answered.
 pub fn add_tasks(member: &mut Member, tasks: &[Key], habit: &Habit) -> Option<usize>
-    requires rest { IsAtRest member.old.hand }
-    ensures board { member.new.board ≡ member.old.board }
-    ensures did { IfSome result (λ n. HasWorked member.old.hand member.new.hand n 0) }
+    requires rest { IsAtRest member.old.worker }
+    ensures tree { member.new.tree ≡ member.old.tree }
+    ensures did { IfSome result (λ n. HasWorked member.old.worker member.new.worker n 0) }
 {
     let mut added = 0;
     for task in tasks {
@@ -49,10 +49,10 @@ pub fn take_tasks(
     most: usize,
     habit: &Habit,
 ) -> Option<Vec<Key>>
-    requires rest { IsAtRest member.old.hand }
-    ensures board { member.new.board ≡ member.old.board }
+    requires rest { IsAtRest member.old.worker }
+    ensures tree { member.new.tree ≡ member.old.tree }
     ensures did { IfSome result
-        (λ ks. HasWorked member.old.hand member.new.hand 0 (length ks.items)) }
+        (λ ks. HasWorked member.old.worker member.new.worker 0 (length ks.items)) }
 {
     let Ok(mut taken) = Vec::with_capacity(alloc, most) else {
         return None;
@@ -70,7 +70,7 @@ pub fn take_tasks(
 /// The three members of a new set of three workers.
 fn three_of(members: Vec<Member>) -> Option<(Member, Member, Member)>
     requires three { length members.items ≡ 3 }
-    ensures new { (b : Board) (f : Fit) → AreNewMembers b f 0 members.items → IfSome result
+    ensures new { (b : TreeView) (f : Fit) → AreNewMembers b f 0 members.items → IfSome result
         (λ ms. IsNewMember b f 0 ms.0 × IsNewMember b f 1 ms.1 × IsNewMember b f 2 ms.2) }
 {
     let mut members = members;
@@ -84,12 +84,12 @@ fn three_of(members: Vec<Member>) -> Option<(Member, Member, Member)>
 /// is what they have taken and what is left.
 fn close_with_all(set: Set, first: Member, second: Member, third: Member) -> Option<Report>
     requires new { set.kept ≡ [] }
-    requires three { set.board.layout.workers ≡ 3 }
-    requires first { IsWorkerOf set.board 0 first }
-    requires second { IsWorkerOf set.board 1 second }
-    requires third { IsWorkerOf set.board 2 third }
+    requires three { set.tree.layout.workers ≡ 3 }
+    requires first { IsWorkerOf set.tree 0 first }
+    requires second { IsWorkerOf set.tree 1 second }
+    requires third { IsWorkerOf set.tree 2 third }
     ensures { IfSome result
-        (λ r. AddUp (first.hand ∷ second.hand ∷ third.hand ∷ []) r.keys.items) }
+        (λ r. AddUp (first.worker ∷ second.worker ∷ third.worker ∷ []) r.keys.items) }
 {
     let mut set = set;
     first.is_of_a_run();

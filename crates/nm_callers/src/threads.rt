@@ -2,7 +2,7 @@
 //! the page alone.
 ghost use Rattle.std.specs.Prelude.{◌≡◌, true, None, IfSome};
 ghost use Rattle.nm_model.specs.declared.event.Op.TheVariants.{Insert};
-ghost use Rattle.nm_steps.specs.Steps.{Stand, IsOf};
+ghost use Rattle.nm_steps.specs.Steps.{PassView, IsOf};
 ghost use Rattle.nm_calls.specs.Moments.{AnswerHasMoment};
 ghost use Rattle.nm_callers.specs.Meanwhile.{NoneDeleted};
 
@@ -94,10 +94,10 @@ pub fn find_both(
     requires two { IsOf tree.now two.old.pass }
     requires reader { IsOf tree.now reader.old.pass }
     requires free { reader.old.held ≡ None }
-    ensures first { (start : Stand) → AnswerHasMoment start one.old.pass Insert left true
+    ensures first { (start : PassView) → AnswerHasMoment start one.old.pass Insert left true
         → NoneDeleted tree.now.layout start.view.past reader.new.pass.view.past left
         → IfSome result (λ b. b.0 ≡ true) }
-    ensures second { (start : Stand) → AnswerHasMoment start two.old.pass Insert right true
+    ensures second { (start : PassView) → AnswerHasMoment start two.old.pass Insert right true
         → NoneDeleted tree.now.layout start.view.past reader.new.pass.view.past right
         → IfSome result (λ b. b.1 ≡ true) }
 {

@@ -2,7 +2,7 @@
 //! the page alone.
 ghost use Rattle.std.specs.Prelude.{◌≡◌, ◌≢◌, true, false, None, IfOk, IfSome};
 ghost use Rattle.nm_model.specs.declared.event.Op.TheVariants.{Has, Insert, Delete};
-ghost use Rattle.nm_steps.specs.Steps.{Stand, IsOf, IsSamePass, HasHeard, HasSeenAllOf};
+ghost use Rattle.nm_steps.specs.Steps.{PassView, IsOf, IsSamePass, HasHeard, HasSeenAllOf};
 ghost use Rattle.nm_calls.specs.Moments.{AnswerHasMoment};
 ghost use Rattle.nm_walks.specs.WonCounts.{won_flags};
 ghost use Rattle.nm_callers.specs.Meanwhile.{NoneDeleted, NoneInserted};
@@ -45,10 +45,10 @@ pub fn look_told(
     ensures told { HasSeenAllOf two.new.pass one.old.pass }
     ensures held { two.new.held ≡ None }
     ensures moment { IfOk result (AnswerHasMoment one.old.pass two.new.pass Has key) }
-    ensures found { (start : Stand) → AnswerHasMoment start one.old.pass Insert key true
+    ensures found { (start : PassView) → AnswerHasMoment start one.old.pass Insert key true
         → NoneDeleted two.new.pass.view.layout start.view.past two.new.pass.view.past key
         → IfOk result (λ b. b ≡ true) }
-    ensures missed { (start : Stand) → AnswerHasMoment start one.old.pass Delete key true
+    ensures missed { (start : PassView) → AnswerHasMoment start one.old.pass Delete key true
         → NoneInserted two.new.pass.view.layout start.view.past two.new.pass.view.past key
         → IfOk result (λ b. b ≡ false) }
 {

@@ -13,7 +13,7 @@ use Rattle.nm_model.specs.Ordered.{ended_at, ended_beside, ended_elsewhere, has_
 use Rattle.nm_model.specs.Step.{refusal}
 use Rattle.nm_order.specs.Facts.Since.{ThePin, TheFlag}
 use Rattle.nm_order.proofs.ArrivalsOfLooks.{any_there}
-use Rattle.nm_steps.specs.Steps.{Stand, MayStep}
+use Rattle.nm_steps.specs.Steps.{PassView, MayStep}
 use Rattle.nm_epoch.specs.Resting.{epochs, search}
 use Rattle.nm_epoch.proofs.Allowed.{passes}
 use Rattle.nm_calls.specs.Leaving.{EndedWith, ShowsAnswer, IsItsAnswer}
@@ -24,7 +24,7 @@ right_true : (a b : Bool) → b ≡ true → (a || b) ≡ true
 right_true true b is = refl
 right_true false b is = is
 
-module _ (p : Stand) (k : ℕ) where
+module _ (p : PassView) (k : ℕ) where
   at_key : (leaf : ℕ) → EndedWith p ThePin k leaf k → list_any (ended_at k) (search p).walks ≡ true
   at_key leaf e = let a = e.2.0 in
       any_there (ended_at k) (search p).walks a.arrival a.among
@@ -51,7 +51,7 @@ module _ (p : Stand) (k : ℕ) where
   ]
   shown Delete false s = and_from (list_any (ended_beside k) (search p).walks) (is_none (search p).flagged) (beside_key s.0.0 s.0.1 s.0.2 s.0.3) (ap is_none s.1)
 
-pub may_answer_so : (p : Stand) (answer : Bool) → (epochs p).unlabelled ≡ false → IsItsAnswer p answer → MayStep p (LeaveWith answer)
+pub may_answer_so : (p : PassView) (answer : Bool) → (epochs p).unlabelled ≡ false → IsItsAnswer p answer → MayStep p (LeaveWith answer)
 unfolding refusal
 may_answer_so p answer labelled is = record {
   looked = tt;

@@ -15,7 +15,7 @@ use Rattle.nm_order.specs.Facts.Fact.{KnowsSlot, CallIs, EndedAt}
 use Rattle.nm_steps.specs.Rules.{knowledge}
 use Rattle.nm_model.specs.declared.event.Event.{Event}
 use Rattle.nm_model.specs.declared.reply.Reply.{Reply}
-use Rattle.nm_steps.specs.Steps.{Board, Stand, IsSamePass, TakesStep, Continues}
+use Rattle.nm_steps.specs.Steps.{TreeView, PassView, IsSamePass, TakesStep, Continues}
 use Rattle.nm_steps.proofs.Seeing.{continues_then, continues_by}
 use Rattle.nm_epoch.specs.Resting.{search}
 use Rattle.nm_walks.specs.declared.making.Fork.{Fork}
@@ -31,10 +31,10 @@ use Rattle.nm_walks.proofs.Forks.{place_kept}
 
 -- ---- the new nodes over steps
 
-ready_kept : (p q : Stand) (f : Fork) → IsSamePass p q → (knowledge q.view).drafts ≡ (knowledge p.view).drafts → HasBothNodes p f → HasBothNodes q f
+ready_kept : (p q : PassView) (f : Fork) → IsSamePass p q → (knowledge q.view).drafts ≡ (knowledge p.view).drafts → HasBothNodes p f → HasBothNodes q f
 ready_kept p q f same is r =
     let at = λ (s : ℕ). same_draft p q s (ap (λ m. get m s) is) in
-    let low : q.view.layout ≡ p.view.layout = ap (λ (x : Stand). x.view.layout) same in
+    let low : q.view.layout ≡ p.view.layout = ap (λ (x : PassView). x.view.layout) same in
     record {
       apart = r.apart;
       new_birth = ap (λ (d : Draft). d.birth) (at f.new.slot) ∙ r.new_birth;
@@ -44,7 +44,7 @@ ready_kept p q f same is r =
     }
 
 -- they stay where no private slot changes
-pub kept_fork : (o p q : Stand) (f : Option Fork) → IsSamePass p q → (knowledge q.view).drafts ≡ (knowledge p.view).drafts → HasFork o p f → HasFork o q f
+pub kept_fork : (o p q : PassView) (f : Option Fork) → IsSamePass p q → (knowledge q.view).drafts ≡ (knowledge p.view).drafts → HasFork o p f → HasFork o q f
 kept_fork o p q None same is h = λ s. ap (λ m. get m s) is ∙ h s
 kept_fork o p q (Some f) same is h = record {
   ready = ready_kept p q f same is h.ready;
@@ -54,7 +54,7 @@ kept_fork o p q (Some f) same is h = record {
 }
 
 -- a lost link leaves them
-pub lost_fork : (radix : Bool) (o p q : Stand) (key : ℕ) (e : WalkEnd) (f : Fork) (x : Edge) → HoldsFork o p f → HasNotGrown radix p q key e f x → HoldsFork o q f
+pub lost_fork : (radix : Bool) (o p q : PassView) (key : ℕ) (e : WalkEnd) (f : Fork) (x : Edge) → HoldsFork o p f → HasNotGrown radix p q key e f x → HoldsFork o q f
 lost_fork radix o p q key e f x h lost = record {
   ready = lost.ready;
   others = λ s a b. lost.others s a b ∙ h.others s a b;
@@ -63,7 +63,7 @@ lost_fork radix o p q key e f x h lost = record {
 }
 
 -- and a won one takes them
-pub linked_fork : (radix : Bool) (o p q : Stand) (key : ℕ) (e : WalkEnd) (f : Fork) → HoldsFork o p f → HasGrown radix p q key e f → HasFork o q None
+pub linked_fork : (radix : Bool) (o p q : PassView) (key : ℕ) (e : WalkEnd) (f : Fork) → HoldsFork o p f → HasGrown radix p q key e f → HasFork o q None
 linked_fork radix o p q key e f h won s = elim (ℕ_discrete s f.new.slot) [
   | yes at ↦ rw at (won.new_given ∙ sym h.new_was)
   | no ne ↦ elim (ℕ_discrete s f.fresh.slot) [
@@ -72,13 +72,13 @@ linked_fork radix o p q key e f h won s = elim (ℕ_discrete s f.new.slot) [
   ]
 ]
 
-pub held_fork : (o p : Stand) (f : Option Fork) (made : Fork) → f ≡ Some made → HasFork o p f → HoldsFork o p made
+pub held_fork : (o p : PassView) (f : Option Fork) (made : Fork) → f ≡ Some made → HasFork o p f → HoldsFork o p made
 held_fork o p f made is h = subst (λ (g : Option Fork). HasFork o p g) is h
 
 -- ---- a link may be tried where a walk has ended
 
 -- what the walk of an insert has told, by the call's pin
-placed : (b : Bool) (p r : Stand) (key : ℕ) (e : WalkEnd) → HasPlace b p r key e → Tells p (CallIs Insert key) → IsPlace b r key e.spot.edge.slot e.spot.parent e.spot.side e.key
+placed : (b : Bool) (p r : PassView) (key : ℕ) (e : WalkEnd) → HasPlace b p r key e → Tells p (CallIs Insert key) → IsPlace b r key e.spot.edge.slot e.spot.parent e.spot.side e.key
 placed false p r key e h call = (h.leaf, h.found ThePin (Insert, call))
 placed true p r key e h call = (h.over, h.read ThePin (Insert, call), within h.narrowed)
   where
@@ -86,7 +86,7 @@ placed true p r key e h call = (h.over, h.read ThePin (Insert, call), within h.n
     within (inl first) = inl first
     within (inr w) = inr (w.0, w.1, w.2, w.3, w.4, w.5 ThePin (Insert, call))
 
-pub may_grow : (b : Board) (p r q : Stand) (key : ℕ) (e : WalkEnd) (c : List ChainEdge) (made : Fork) → q.view.layout ≡ b.layout → Tells p (CallIs Insert key) → (search p).linked ≡ false → GoesOn p r → OnlyLooks p r
+pub may_grow : (b : TreeView) (p r q : PassView) (key : ℕ) (e : WalkEnd) (c : List ChainEdge) (made : Fork) → q.view.layout ≡ b.layout → Tells p (CallIs Insert key) → (search p).linked ≡ false → GoesOn p r → OnlyLooks p r
     → HasStopped b.layout key p r c e → HasPlace b.layout.radix p r key e → e.key ≢ key → GoesOn r q → OnlyMakes r q → HasBothNodes q made → MayGrow q key e made
 may_grow b p r q key e c made layout call unlinked on only stopped place other on' only' ready = record {
   call = on'.keeps (CallIs Insert key) (on.keeps (CallIs Insert key) call);
@@ -102,15 +102,15 @@ may_grow b p r q key e c made layout call unlinked on only stopped place other o
 
 -- ---- from try to try
 
-pub if_ready : (o p : Stand) (f : Option Fork) → HasFork o p f → IfReady p f
+pub if_ready : (o p : PassView) (f : Option Fork) → HasFork o p f → IfReady p f
 if_ready o p None h = tt
 if_ready o p (Some f) h = h.ready
 
 -- all is given back, and then private slots stay
-pub none_left : (o p q : Stand) → (knowledge q.view).drafts ≡ (knowledge p.view).drafts → HasFork o p None → HasFork o q None
+pub none_left : (o p q : PassView) → (knowledge q.view).drafts ≡ (knowledge p.view).drafts → HasFork o p None → HasFork o q None
 none_left o p q is h s = ap (λ m. get m s) is ∙ h s
 
-pub tries_then : (o p q : Stand) → IsSamePass o p → OnlyTries o p → OnlyTries p q → OnlyTries o q
+pub tries_then : (o p q : PassView) → IsSamePass o p → OnlyTries o p → OnlyTries p q → OnlyTries o q
 tries_then o p q same a b = record {
   announcement = b.announcement ∙ a.announcement;
   pin = b.pin ∙ a.pin;
@@ -121,10 +121,10 @@ tries_then o p q same a b = record {
 }
 
 -- the answer of an insert whose key was found
-pub found_answer : (p q : Stand) (k : ℕ) → GoesOn p q → (search q).linked ≡ (search p).linked → (search p).linked ≡ false → Tells p (CallIs Insert k) → ((leaf : ℕ) × EndedWith p ThePin k leaf k) → IsItsAnswer q false
+pub found_answer : (p q : PassView) (k : ℕ) → GoesOn p q → (search q).linked ≡ (search p).linked → (search p).linked ≡ false → Tells p (CallIs Insert k) → ((leaf : ℕ) × EndedWith p ThePin k leaf k) → IsItsAnswer q false
 found_answer p q k on linked unlinked call ended =
     (Insert, k, on.keeps (CallIs Insert k) call, ((ended.0, (ended.1.0, ended.1.1, on.keeps (EndedAt ThePin k ended.0 ended.1.0 ended.1.1 k) ended.1.2)), linked ∙ unlinked))
 
 -- the call's last step
-pub continued : (o p q : Stand) (e : Event) (r : Reply) → GoesOn o p → TakesStep p q e r → Continues o q
+pub continued : (o p q : PassView) (e : Event) (r : Reply) → GoesOn o p → TakesStep p q e r → Continues o q
 continued o p q e r on step = continues_then o p q (record { same = on.same; past = on.past; run = on.run }) (continues_by p q e r step)

@@ -10,7 +10,7 @@ use Rattle.nm_model.specs.Ledgers.{held, fresh_ledger}
 use Rattle.nm_model.specs.Maps.{get}
 use Rattle.nm_steps.specs.declared.view.View.{View}
 use Rattle.nm_steps.specs.Rules.{knowledge}
-use Rattle.nm_steps.specs.Steps.{Stand, fresh_view}
+use Rattle.nm_steps.specs.Steps.{PassView, fresh_view}
 use Rattle.nm_epoch.proofs.Allowed.{fresh_rests}
 use Rattle.nm_edge.specs.declared.node.NodeId.{NodeId}
 use Rattle.nm_limbo.specs.Queue.{BlockQueue, block_queue}
@@ -37,7 +37,7 @@ no_ledger (suc n) (suc i) = no_ledger n i
 other_ledger : (L : Layout) (w o : ℕ) → o ≢ w → held (newcomer L w).ledgers o ≡ None
 other_ledger L w o other = get_or-set_other (replicate L.workers no_one) w o (Some fresh_ledger) no_one other ∙ no_ledger L.workers o
 
-pub fresh_worker : (L : Layout) (w : ℕ) (p : Stand) → p.view ≡ fresh_view L w → w < L.workers → HasDoneNothing p
+pub fresh_worker : (L : Layout) (w : ℕ) (p : PassView) → p.view ≡ fresh_view L w → w < L.workers → HasDoneNothing p
 fresh_worker L w p fresh below = record {
   rests = fresh_rests L w p fresh;
   log = ap (λ (v : View). v.log) fresh;
@@ -48,7 +48,7 @@ fresh_worker L w p fresh below = record {
 }
 
 -- a queue of which nothing is told yet is its own one
-pub holds_nothing : (p : Stand) (h : HeldQueue) → HasDoneNothing p → h.origin ≡ p.view.number → h.queue ≡ block_queue [] 0 0 → h.counts ≡ blank → HoldsCuts p h
+pub holds_nothing : (p : PassView) (h : HeldQueue) → HasDoneNothing p → h.origin ≡ p.view.number → h.queue ≡ block_queue [] 0 0 → h.counts ≡ blank → HoldsCuts p h
 holds_nothing p h d own empty none' = record {
   own = own;
   queue = subst (λ (q : BlockQueue Entry). IsQueueOf (knowledge p.view) p.view.number q.items) (sym empty) d.queue;

@@ -15,7 +15,7 @@ use Rattle.nm_model.specs.declared.reply.Reply.TheVariants.{EdgeIs}
 use Rattle.nm_model.specs.Walks.{Entry}
 use Rattle.nm_order.specs.Facts.Fact.{KnowsSlot}
 use Rattle.nm_order.proofs.RadixLaws.{walks_are_short}
-use Rattle.nm_steps.specs.Steps.{Board, Stand, Stepped}
+use Rattle.nm_steps.specs.Steps.{TreeView, PassView, Stepped}
 use Rattle.nm_walks.specs.declared.looking.Onward.{Onward}
 use Rattle.nm_calls.specs.declared.many.Query.{Query}
 use Rattle.nm_walks.specs.Bounds.{reach}
@@ -30,7 +30,7 @@ use Rattle.nm_calls.proofs.PlainLooks.{come_still, ended_still, comes_first, com
 
 -- ---- they stay under way
 
-module _ {n : ℕ} (p q : Stand) (a : AddsLooks n p.view.log q.view.log) where
+module _ {n : ℕ} (p q : PassView) (a : AddsLooks n p.view.log q.view.log) where
   pub under_way_still : (m : ℕ) → GoesOn p q → (query : Query) → IsUnderWay m p query → IsUnderWay m q query
   under_way_still m on query u = record {
     is_key = u.is_key;
@@ -46,7 +46,7 @@ module _ {n : ℕ} (p q : Stand) (a : AddsLooks n p.view.log q.view.log) where
   within_still m to on queries all i d low high = under_way_still m on _ (all i d low high)
 
 -- the walk at an index is taken a node further
-module _ {m : ℕ} (p q : Stand) (a : AddsLooks m p.view.log q.view.log) (on : GoesOn p q) (queries : List Query) (i : ℕ) (below : i < length queries) (d y : Query) (turn : (n : ℕ) → IsUnderWay n p (get_or queries i d) → IsUnderWay (n + 1) q y) where
+module _ {m : ℕ} (p q : PassView) (a : AddsLooks m p.view.log q.view.log) (on : GoesOn p q) (queries : List Query) (i : ℕ) (below : i < length queries) (d y : Query) (turn : (n : ℕ) → IsUnderWay n p (get_or queries i d) → IsUnderWay (n + 1) q y) where
   taken : (n : ℕ) → All (IsUnderWay n p) queries → IsUnderWay (n + 1) q y
   taken n all = turn n (all i d below)
 
@@ -66,7 +66,7 @@ same_count xs ys same = sym (length-map xs key_of) ∙ (ap (λ (l : List ℕ). l
 
 -- ---- a walk begins
 
-pub begun_so : (p q : Stand) (e : Edge) → Stepped p q (Look 2 (EdgeOn Left)) (EdgeIs e) → EdgeTold p q 2 Left e → (queries : List Query) → All (HasBegun e.slot) queries → All (IsUnderWay 0 q) queries
+pub begun_so : (p q : PassView) (e : Edge) → Stepped p q (Look 2 (EdgeOn Left)) (EdgeIs e) → EdgeTold p q 2 Left e → (queries : List Query) → All (HasBegun e.slot) queries → All (IsUnderWay 0 q) queries
 begun_so p q e step told queries all i d below = by (slice_index_or queries i d) (all i d below)
   where
     by : (query : Query) → HasBegun e.slot query → IsUnderWay 0 q query
@@ -79,7 +79,7 @@ begun_so p q e step told queries all i d below = by (slice_index_or queries i d)
 
 -- ---- and goes on
 
-pub gone_on : (p q : Stand) (n : ℕ) (query : Query) (on : Onward) → Reads query.key query.node p.view.log q.view.log on → OnwardTold p q query.key query.node on.found on.side on.next → IsUnderWay n p query → query.node ≢ 0 → IsUnderWay (n + 1) q (query_read query on)
+pub gone_on : (p q : PassView) (n : ℕ) (query : Query) (on : Onward) → Reads query.key query.node p.view.log q.view.log on → OnwardTold p q query.key query.node on.found on.side on.next → IsUnderWay n p query → query.node ≢ 0 → IsUnderWay (n + 1) q (query_read query on)
 gone_on p q n query on r told u some = record {
   is_key = u.is_key;
   comes = λ more. comes_on p q n query.key query.node on r (u.comes some) more;
@@ -88,11 +88,11 @@ gone_on p q n query on r told u some = record {
 }
 
 -- one that has ended stays so
-pub ended_further : (p : Stand) (n : ℕ) (query : Query) → query.node ≡ 0 → IsUnderWay n p query → IsUnderWay (n + 1) p query
+pub ended_further : (p : PassView) (n : ℕ) (query : Query) → query.node ≡ 0 → IsUnderWay n p query → IsUnderWay (n + 1) p query
 ended_further p n query null u = record { is_key = u.is_key; comes = λ some. absurd (some null); known = u.known; ends = u.ends }
 
 -- a walk that has passed more nodes has passed any fewer
-pub passed_any : (p : Stand) (n : ℕ) (queries : List Query) → All (IsUnderWay n p) queries → All (IsUnderWay 0 p) queries
+pub passed_any : (p : PassView) (n : ℕ) (queries : List Query) → All (IsUnderWay n p) queries → All (IsUnderWay 0 p) queries
 passed_any p n queries all i d below = let u = all i d below in record {
   is_key = u.is_key;
   comes = λ some. let h = u.comes some in (h.0, h.1, h.2, (let many = h.3 in omega (arith, many)));
@@ -108,7 +108,7 @@ key_among (q ∷ qs) zero d below = (0, omega arith, refl)
 key_among (q ∷ qs) (suc i) d below = let rest = key_among qs i d (omega (arith, below)) in (suc rest.0, (let less = rest.1 in omega (arith, less)), rest.2)
 
 -- one of these has not ended, where it has looked at as many nodes as a walk may
-pub given_up : (b : Board) (old : List Entry) (q : Stand) → IsPinnedIn b q → (n : ℕ) (queries : List Query) (keys : List ℕ) → map key_of queries ≡ keys → All (IsUnderWay n q) queries → (i : ℕ) × (i < length queries) × HoldsAt (λ x. x.node ≢ 0) queries i
+pub given_up : (b : TreeView) (old : List Entry) (q : PassView) → IsPinnedIn b q → (n : ℕ) (queries : List Query) (keys : List ℕ) → map key_of queries ≡ keys → All (IsUnderWay n q) queries → (i : ℕ) × (i < length queries) × HoldsAt (λ x. x.node ≢ 0) queries i
     → suc n ≡ reach b.layout → AddsLooks (most_looks (reach b.layout) (length keys)) old q.view.log → GiveUp b.layout keys old q.view.log
 given_up b old q pinned n queries keys same all (i, below, left) far looks = of (slice_index_or queries i none) (all i none below) (left none) (key_among queries i none below)
   where
@@ -129,6 +129,6 @@ given_up b old q pinned n queries keys same all (i, below, left) far looks = of 
 
 -- ---- the answers
 
-pub all_were_so : (p : Stand) (Was : ℕ → Bool → Type 0) → ((k : ℕ) (answer : Bool) → IsKey k → HasEndedSo p k answer → Was k answer)
+pub all_were_so : (p : PassView) (Was : ℕ → Bool → Type 0) → ((k : ℕ) (answer : Bool) → IsKey k → HasEndedSo p k answer → Was k answer)
     → (queries : List Query) → All (IsUnderWay 0 p) queries → All (λ x. x.node ≡ 0) queries → All (λ x. Was x.key x.found) queries
 all_were_so p Was so queries all ended i d below = let u = all i d below in so (slice_index_or queries i d).key (slice_index_or queries i d).found u.is_key (u.ends (ended i d below))

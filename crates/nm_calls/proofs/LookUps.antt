@@ -18,7 +18,7 @@ use Rattle.nm_model.specs.Walks.{Entry}
 use Rattle.nm_order.specs.Facts.Since.{ThePin}
 use Rattle.nm_order.specs.Facts.Fact.{KnowsSlot, CallIs, EndedAt}
 use Rattle.nm_order.proofs.ArrivalsOfLooks.{any_there}
-use Rattle.nm_steps.specs.Steps.{Stand, MayStep}
+use Rattle.nm_steps.specs.Steps.{PassView, MayStep}
 use Rattle.nm_epoch.specs.Resting.{IsPinnedAt, epochs, search}
 use Rattle.nm_epoch.specs.Tries.{IsPinnedBy}
 use Rattle.nm_epoch.proofs.Allowed.{passes}
@@ -27,7 +27,7 @@ use Rattle.nm_walks.specs.Telling.{Tells, IsPinnedSomewhere}
 
 -- ---- what a pin for a call tells
 
-module _ (p : Stand) (epoch : ℕ) (op : Op) (key : ℕ) (at : IsPinnedAt epoch (Some (record { op = op; key = key })) p) where
+module _ (p : PassView) (epoch : ℕ) (op : Op) (key : ℕ) (at : IsPinnedAt epoch (Some (record { op = op; key = key })) p) where
   pub is_pinned : IsPinnedSomewhere p
   is_pinned = (epoch, at.pin)
 
@@ -39,7 +39,7 @@ module _ (p : Stand) (epoch : ℕ) (op : Op) (key : ℕ) (at : IsPinnedAt epoch 
 
 -- ---- answers
 
-pub may_answer : (p : Stand) (k v leaf parent : ℕ) (side : Side) (answer : Bool) → (epochs p).unlabelled ≡ false → (search p).call ≡ Some (record { op = Has; key = k }) → Tells p (EndedAt ThePin k leaf parent side v) → answer ≡ (v == k)
+pub may_answer : (p : PassView) (k v leaf parent : ℕ) (side : Side) (answer : Bool) → (epochs p).unlabelled ≡ false → (search p).call ≡ Some (record { op = Has; key = k }) → Tells p (EndedAt ThePin k leaf parent side v) → answer ≡ (v == k)
     → MayStep p (LeaveWith answer)
 unfolding refusal
 may_answer p k v leaf parent side answer labelled call ended is = record {

@@ -22,7 +22,7 @@ use Rattle.nm_theorem.proofs.Runs.{Parts, parts_of}
 use Rattle.nm_theorem.proofs.StandingAnswers.{answers_stand, call_by_log}
 use Rattle.nm_steps.specs.declared.view.View.{View}
 use Rattle.nm_steps.specs.Rules.{Extends}
-use Rattle.nm_steps.specs.Steps.{Stand, Stepped, HasTurn, HasSeen, IsSamePass, HasSeenAllOf}
+use Rattle.nm_steps.specs.Steps.{PassView, Stepped, HasTurn, HasSeen, IsSamePass, HasSeenAllOf}
 use Rattle.nm_epoch.specs.Resting.{search}
 use Rattle.nm_steps.proofs.Growing.{goes_on_through}
 use Rattle.nm_steps.proofs.Keeping.{part_grows}
@@ -31,7 +31,7 @@ use Rattle.nm_walks.specs.Telling.{Tells}
 use Rattle.nm_calls.specs.Moments.{AnswerHasMoment, HadNoCall}
 
 -- further on
-pub no_call_on : (o p q : Stand) → HadNoCall o p → IsSamePass p q → HasSeenAllOf q p → HadNoCall o q
+pub no_call_on : (o p q : PassView) → HadNoCall o p → IsSamePass p q → HasSeenAllOf q p → HadNoCall o q
 no_call_on o p q had same past = record { same = same_then o p q had.same same; past = seen_through o p q had.past past; call = had.call }
 
 -- the call that a log tells is the one that the turns have begun
@@ -42,7 +42,7 @@ call_seen v fits seen call is =
     (ap (λ (l : List Entry). (search_after idle l).call) (ap (part_of v.number) (sym seen.are) ∙ seen.is_part) ∙ is)
 
 -- and where it tells of none they have begun none
-pub none_begun : (o : Stand) → HasSeen o.view → IsLayout o.view.layout → (search o).call ≡ None → call_begun o.view.number o.view.past ≡ None
+pub none_begun : (o : PassView) → HasSeen o.view → IsLayout o.view.layout → (search o).call ≡ None → call_begun o.view.number o.view.past ≡ None
 none_begun o seen fits none' = call_seen o.view fits seen None none'
 
 -- turns that end with the answer of a call, of a worker that had none behind an earlier part of them
@@ -67,14 +67,14 @@ answered L fits w below answer was before now events grows last keys are log op 
         (sym (part_grows w before w (LeaveWith answer) Departed (ap (λ (b : Bool). b || is_leaver w (LeaveWith answer)) (eq-eqb w w refl))) ∙ (ap (part_of w) (sym last) ∙ is_log))).0
 
 -- a leave with the answer of the call
-pub moment_of : (o p q : Stand) (op : Op) (k : ℕ) (answer : Bool) → HadNoCall o p → IsLayout p.view.layout → Tells p (CallIs op k) → Stepped p q (LeaveWith answer) Departed → HasTurn p q (LeaveWith answer) Departed → HasSeen q.view → AnswerHasMoment o q op k answer
+pub moment_of : (o p q : PassView) (op : Op) (k : ℕ) (answer : Bool) → HadNoCall o p → IsLayout p.view.layout → Tells p (CallIs op k) → Stepped p q (LeaveWith answer) Departed → HasTurn p q (LeaveWith answer) Departed → HasSeen q.view → AnswerHasMoment o q op k answer
 moment_of o p q op k answer had fits call step turn after =
-    subst (λ (z : Stand). AnswerHasMoment o z op k answer) (sym step)
+    subst (λ (z : PassView). AnswerHasMoment o z op k answer) (sym step)
     (answered p.view.layout fits p.view.number now.worker answer o.view.past turn.before q.view.past now.events
     (goes_on_through turn.before p.view.past o.view.past turn.extends had.past.goes_on) turn.is now.keys now.are p.view.log op k now.is_part no_call call)
   where
     now : HasSeen (record p.view { log = p.view.log ++ (LeaveWith answer, Departed) ∷ []; past = q.view.past })
-    now = subst (λ (z : Stand). HasSeen z.view) step after
+    now = subst (λ (z : PassView). HasSeen z.view) step after
 
     no_call : call_begun p.view.number o.view.past ≡ None
-    no_call = ap (λ (z : Stand). call_begun z.view.number o.view.past) had.same ∙ had.call
+    no_call = ap (λ (z : PassView). call_begun z.view.number o.view.past) had.same ∙ had.call

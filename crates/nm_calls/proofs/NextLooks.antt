@@ -14,7 +14,7 @@ use Rattle.nm_model.specs.declared.reply.Reply.TheVariants.{EdgeIs}
 use Rattle.nm_model.specs.Memory.{infinity_0}
 use Rattle.nm_model.specs.Searches.{side_of}
 use Rattle.nm_model.specs.Walks.{Entry}
-use Rattle.nm_steps.specs.Steps.{Board, Stand, Stepped}
+use Rattle.nm_steps.specs.Steps.{TreeView, PassView, Stepped}
 use Rattle.nm_walks.specs.declared.looking.Onward.{Onward}
 use Rattle.nm_calls.specs.declared.next_key.NextWalk.{NextWalk}
 use Rattle.nm_walks.specs.declared.spot.ChainEdge.{ChainEdge}
@@ -46,12 +46,12 @@ same_side from j v le below = by (cases_lt from v)
 
 -- ---- a walk that serves them
 
-pub descent_begins : (L : Layout) (p q : Stand) (e : Edge) → Stepped p q (Look 2 (EdgeOn Left)) (EdgeIs e) → EdgeTold p q 2 Left e → (from : ℕ) → IsKey from
+pub descent_begins : (L : Layout) (p q : PassView) (e : Edge) → Stepped p q (Look 2 (EdgeOn Left)) (EdgeIs e) → EdgeTold p q 2 Left e → (from : ℕ) → IsKey from
     → IsDescent L 0 p q (record { from = from; bound = infinity_0; node = e.slot; found = 0 })
 descent_begins L p q e step told from key = record {
   wide = let le = key in omega (arith, le);
   low = omega arith;
-  walks = λ some. (begin e, [], refl, λ j le less. (refl, refl, some, ap (λ (s : Stand). s.view.log) step));
+  walks = λ some. (begin e, [], refl, λ j le less. (refl, refl, some, ap (λ (s : PassView). s.view.log) step));
   known = λ some. told.learned.leads some;
   ends = λ null. absurd (told.root refl refl null);
   router = λ other. absurd (other refl);
@@ -72,7 +72,7 @@ read_alike k j x old new on same r = (r.0, r.1, r.2, r.3 ∙ sym same, r.4)
 pub walk_ends : (L : Layout) (n j : ℕ) (old mid new : List Entry) (t : Spot) (c : List ChainEdge) (on : Onward) → n + 2 ≤ reach L → Walks j n old mid t c → Reads j t.edge.slot mid new on → on.next.slot ≡ 0 → EndsAtLeaf L j old new t c on.found
 walk_ends L n j old mid new t c on few w read null = (n, mid, on, few, w, null, read, refl)
 
-module _ (L : Layout) (n : ℕ) (o p q : Stand) (d : NextWalk) (bound : ℕ) (on : Onward) (r : Reads d.from d.node p.view.log q.view.log on) (leaf : IsLeafRead d.node p.view.log q.view.log on) (w : IsDescent L n o p d) (some : d.node ≢ 0) (low : bound ≤ d.bound) where
+module _ (L : Layout) (n : ℕ) (o p q : PassView) (d : NextWalk) (bound : ℕ) (on : Onward) (r : Reads d.from d.node p.view.log q.view.log on) (leaf : IsLeafRead d.node p.view.log q.view.log on) (w : IsDescent L n o p d) (some : d.node ≢ 0) (low : bound ≤ d.bound) where
   abbrev t : Spot
   t = (w.walks some).0
 
@@ -128,7 +128,7 @@ module _ (L : Layout) (n : ℕ) (o p q : Stand) (d : NextWalk) (bound : ℕ) (on
       by (inr (is, more)) other j le less = comes_there j n o.view.log p.view.log q.view.log t c on bound (walk j le less) (there j on (read_alike d.from j d.node p.view.log q.view.log on (turns more j le less) r)) more (sym is)
 
 -- or is broken off
-pub descent_too_long : (b : Board) (n : ℕ) (o p : Stand) (d : NextWalk) (from : ℕ) → IsDescent b.layout n o p d → d.from ≡ from → IsPinnedIn b p → IsKey from → suc n ≡ reach b.layout → d.node ≢ 0 → IsTooLong b.layout from o.view.log p.view.log
+pub descent_too_long : (b : TreeView) (n : ℕ) (o p : PassView) (d : NextWalk) (from : ℕ) → IsDescent b.layout n o p d → d.from ≡ from → IsPinnedIn b p → IsKey from → suc n ≡ reach b.layout → d.node ≢ 0 → IsTooLong b.layout from o.view.log p.view.log
 descent_too_long b n o p d from w begun pinned key all some =
     let at = w.walks some in
     too_long b from key n o.view.log at.0 at.1 p pinned (at.3 from (omega (arith, begun)) (let wide = w.wide in omega (arith, begun, wide))) all
@@ -136,7 +136,7 @@ descent_too_long b n o p d from w begun pinned key all some =
 -- ---- by the log since the pin
 
 -- a walk that ended at a leaf has told whether it has the key
-pub ended_so : (L : Layout) (j : ℕ) (old : List Entry) (q : Stand) (s : Spot) (c : List ChainEdge) (found : ℕ) → EndsAtLeaf L j old q.view.log s c found → HasEndedSo q j (found == j)
+pub ended_so : (L : Layout) (j : ℕ) (old : List Entry) (q : PassView) (s : Spot) (c : List ChainEdge) (found : ℕ) → EndsAtLeaf L j old q.view.log s c found → HasEndedSo q j (found == j)
 ended_so L j old q s c found (n, mid, on, few, w, null, read, is) =
     let come = walk_comes j n old mid s c w in
     let many = come.1 in
@@ -145,12 +145,12 @@ ended_so L j old q s c found (n, mid, on, few, w, null, read, is) =
 -- ---- what it tells at its end
 
 -- what walks have told stays so under further looks
-pub earlier_still : {n : ℕ} (p q : Stand) → AddsLooks n p.view.log q.view.log → (key from : ℕ) → ((j : ℕ) → key ≤ j → j < from → HasEndedSo p j false) → (j : ℕ) → key ≤ j → j < from → HasEndedSo q j false
+pub earlier_still : {n : ℕ} (p q : PassView) → AddsLooks n p.view.log q.view.log → (key from : ℕ) → ((j : ℕ) → key ≤ j → j < from → HasEndedSo p j false) → (j : ℕ) → key ≤ j → j < from → HasEndedSo q j false
 earlier_still p q a key from earlier j le before = ended_still p q a j false (earlier j le before)
 
 -- of the keys from `key` on below `from` the set had none, and of those from there on below the
 -- walk's bound none but the one that it found
-module _ (L : Layout) (n : ℕ) (o p : Stand) (key from : ℕ) (d : NextWalk) (w : IsDescent L n o p d) (begun : d.from ≡ from) (null : d.node ≡ 0) (above : key ≤ from) (earlier : (j : ℕ) → key ≤ j → j < from → HasEndedSo p j false) where
+module _ (L : Layout) (n : ℕ) (o p : PassView) (key from : ℕ) (d : NextWalk) (w : IsDescent L n o p d) (begun : d.from ≡ from) (null : d.node ≡ 0) (above : key ≤ from) (earlier : (j : ℕ) → key ≤ j → j < from → HasEndedSo p j false) where
   ended : (j : ℕ) → d.from ≤ j → j < d.bound → HasEndedSo p j (d.found == j)
   ended j le less = let end = w.ends null j le less in ended_so L j o.view.log p end.0 end.1 d.found end.2
 

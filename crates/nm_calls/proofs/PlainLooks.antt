@@ -32,7 +32,7 @@ use Rattle.nm_theorem.proofs.LooksBehind.{was_behind}
 use Rattle.nm_order.proofs.WalkAnswers.{walks_tell_of_their_pin}
 use Rattle.nm_steps.specs.declared.view.View.{View}
 use Rattle.nm_steps.specs.Rules.{Extends}
-use Rattle.nm_steps.specs.Steps.{Stand, Stepped, TakesStep, Continues, MayStep, HasSeen}
+use Rattle.nm_steps.specs.Steps.{PassView, Stepped, TakesStep, Continues, MayStep, HasSeen}
 use Rattle.nm_steps.proofs.Seeing.{same_by_step, same_then, seen_by_turn, seen_through}
 use Rattle.nm_epoch.specs.Resting.{IsPinnedAt, IsResting, KeepsHands, epochs}
 use Rattle.nm_epoch.proofs.KeptHands.{kept_on}
@@ -69,8 +69,8 @@ looks_then {n} {m} old mid new a b = record {
 }
 
 -- one look, and the three by which a node is read
-abbrev pub look_added : (p q : Stand) (x : ℕ) (side : Side) (e : Edge) → Stepped p q (Look x (EdgeOn side)) (EdgeIs e) → AddsLooks 1 p.view.log q.view.log
-look_added p q x side e step = record { looks = (Look x (EdgeOn side), EdgeIs e) ∷ []; grown = ap (λ (s : Stand). s.view.log) step; only = refl; few = omega arith }
+abbrev pub look_added : (p q : PassView) (x : ℕ) (side : Side) (e : Edge) → Stepped p q (Look x (EdgeOn side)) (EdgeIs e) → AddsLooks 1 p.view.log q.view.log
+look_added p q x side e step = record { looks = (Look x (EdgeOn side), EdgeIs e) ∷ []; grown = ap (λ (s : PassView). s.view.log) step; only = refl; few = omega arith }
 
 -- ---- looks win nothing
 
@@ -96,7 +96,7 @@ looks_add {n} old new a =
 
 -- ---- a walk stays in the log
 
-module _ {n : ℕ} (p q : Stand) (a : AddsLooks n p.view.log q.view.log) where
+module _ {n : ℕ} (p q : PassView) (a : AddsLooks n p.view.log q.view.log) where
   part_still : (looks : List Entry) → IsPart looks (since_pin [] p.view.log) → IsPart looks (since_pin [] q.view.log)
   part_still looks part = subst (IsPart looks) (sym (since_grows p.view.log q.view.log a)) (part_grows a.looks part)
 
@@ -108,21 +108,21 @@ module _ {n : ℕ} (p q : Stand) (a : AddsLooks n p.view.log q.view.log) where
 
 -- ---- a walk begins
 
-pub comes_first : (p q : Stand) (e : Edge) → Stepped p q (Look 2 (EdgeOn Left)) (EdgeIs e) → e.slot ≢ 0 → (k : ℕ) → HasPassed 0 q.view.log k e.slot
+pub comes_first : (p q : PassView) (e : Edge) → Stepped p q (Look 2 (EdgeOn Left)) (EdgeIs e) → e.slot ≢ 0 → (k : ℕ) → HasPassed 0 q.view.log k e.slot
 comes_first p q e step some k = (
   2,
   Left,
   record {
     looks = (Look 2 (EdgeOn Left), EdgeIs e) ∷ [];
     leads = begins e some;
-    is_part = subst (λ (log : List Entry). IsPart ((Look 2 (EdgeOn Left), EdgeIs e) ∷ []) (since_pin [] log)) (sym (ap (λ (s : Stand). s.view.log) step)) (first_look p.view.log e);
+    is_part = subst (λ (log : List Entry). IsPart ((Look 2 (EdgeOn Left), EdgeIs e) ∷ []) (since_pin [] log)) (sym (ap (λ (s : PassView). s.view.log) step)) (first_look p.view.log e);
   },
   omega arith,
 )
 
 -- ---- and goes on
 
-module _ (p q : Stand) (n k x : ℕ) (on : Onward) (r : Reads k x p.view.log q.view.log on) where
+module _ (p q : PassView) (n k x : ℕ) (on : Onward) (r : Reads k x p.view.log q.view.log on) where
   pub comes_on : HasPassed n p.view.log k x → on.next.slot ≢ 0 → HasPassed (n + 1) q.view.log k on.next.slot
   comes_on c some = (
     x,
@@ -171,30 +171,30 @@ was_so_longer L past turns later w k answer more was = record {
 }
 
 -- a walk has ended under the pin that a has taken behind o, and q is where the worker has left it
-pub was_so : (o a p q : Stand) → HasSeen o.view → IsLayout o.view.layout → (epochs o).pin ≡ None → Continues o a → GoesOn a p → HasSeen p.view → TakesStep p q Leave Departed
+pub was_so : (o a p q : PassView) → HasSeen o.view → IsLayout o.view.layout → (epochs o).pin ≡ None → Continues o a → GoesOn a p → HasSeen p.view → TakesStep p q Leave Departed
     → (k : ℕ) (answer : Bool) → IsKey k → HasEndedSo p k answer → WasSo o q k answer
 was_so o a p q first fits unpinned pinned walked mid leaves k answer key e =
     let same = same_then o a p pinned.same walked.same in
     let past = seen_through o a p pinned.past walked.past in
     let seen : AreEvents p.view = as_events p.view mid in
     let grown : events_of p.view.past ≡ events_of o.view.past ++ events_of past.goes_on.more = events_go_on p.view.past o.view.past past.goes_on in
-    subst (λ (s : Stand). WasSoBehind s.view.layout o.view.past q.view.past s.view.number k answer) (sym (same_by_step p q Leave Departed leaves.step))
+    subst (λ (s : PassView). WasSoBehind s.view.layout o.view.past q.view.past s.view.number k answer) (sym (same_by_step p q Leave Departed leaves.step))
     (was_so_longer p.view.layout o.view.past p.view.past q.view.past p.view.number k answer (seen_by_turn p q Leave Departed leaves.past).goes_on
-    (was_behind p.view.layout (subst IsLayout (sym (ap (λ (s : Stand). s.view.layout) same)) fits) (events_of o.view.past) (events_of p.view.past) o.view.past p.view.past (sym (length-map o.view.past turn_of)) seen.are p.view.number k answer
-    (subst (λ (s : Stand). WasSoSince s.view.layout (events_of o.view.past) (events_of p.view.past) s.view.number k answer) (sym same)
+    (was_behind p.view.layout (subst IsLayout (sym (ap (λ (s : PassView). s.view.layout) same)) fits) (events_of o.view.past) (events_of p.view.past) o.view.past p.view.past (sym (length-map o.view.past turn_of)) seen.are p.view.number k answer
+    (subst (λ (s : PassView). WasSoSince s.view.layout (events_of o.view.past) (events_of p.view.past) s.view.number k answer) (sym same)
     (subst (λ (b : Bool). WasSoSince o.view.layout (events_of o.view.past) (events_of p.view.past) o.view.number k b) (sym e.5)
     (subst (λ (turns : List (ℕ × Event)). WasSoSince o.view.layout (events_of o.view.past) turns o.view.number k (e.2 == k)) (sym grown)
     (walks_tell_of_their_pin o.view.layout (enough o.view.layout fits) o.view.number first.worker (events_of o.view.past) (events_of past.goes_on.more)
     (subst (λ (turns : List (ℕ × Event)). All (λ t. HasKey t.1) turns) grown seen.keys)
     (subst (λ (l : List Entry). (known_by o.view.layout o.view.number l).brief.pin ≡ None) (sym (as_events o.view first).is_part) unpinned)
     p.view.log
-    (ap (λ (turns : List (ℕ × Event)). part_of o.view.number (trace_in (ordered o.view.layout) turns)) (sym grown) ∙ subst (λ (s : Stand). part_of s.view.number (trace_in (ordered s.view.layout) (events_of p.view.past)) ≡ p.view.log) same seen.is_part)
+    (ap (λ (turns : List (ℕ × Event)). part_of o.view.number (trace_in (ordered o.view.layout) turns)) (sym grown) ∙ subst (λ (s : PassView). part_of s.view.number (trace_in (ordered s.view.layout) (events_of p.view.past)) ≡ p.view.log) same seen.is_part)
     k e.0 e.1 e.3 e.2 (let le = key in omega (arith, le)) e.4))))))
 
 -- ---- the whole call
 
 -- the worker may leave where its walks end
-pub may_end : (e : ℕ) (a p : Stand) → IsPinnedAt e None a → OnlyLooks a p → MayStep p Leave
+pub may_end : (e : ℕ) (a p : PassView) → IsPinnedAt e None a → OnlyLooks a p → MayStep p Leave
 may_end e a p at only = may_leave p (ap (λ (b : Brief). b.unlabelled) only.epochs ∙ at.labelled) (only.linked ∙ ap (λ (s : Search). s.linked) at.begun) (only.flagged ∙ ap (λ (s : Search). s.flagged) at.begun)
 
 -- a pin, looks and a leave: what they add
@@ -212,7 +212,7 @@ walks_missed gives_up zero old a z new epoch pin gives leaves = let few = pin.3 
 walks_missed gives_up (suc t) old a z new epoch pin gives leaves = inr (a, z, epoch, pin, gives, leaves)
 
 -- a call for the nearest key that has lost each try of its pin
-pub after_no_pin : (Was : Stand → Stand → Option ℕ → Type 0) (gives_up : List Entry → List Entry → Type 0) (L : Layout) (tries : ℕ) (o a : Stand) (e : Busy) → tries ≢ 0
+pub after_no_pin : (Was : PassView → PassView → Option ℕ → Type 0) (gives_up : List Entry → List Entry → Type 0) (L : Layout) (tries : ℕ) (o a : PassView) (e : Busy) → tries ≢ 0
     → Continues o a → IsMoved Sight tries o.view.log a.view.log → IsResting a → KeepsHands o a → AfterNear Was gives_up L tries o a (Err e)
 after_no_pin Was gives_up L tries o a e some pinning moved rests kept =
     let added = plain_moved_adds tries o.view.log a.view.log moved in
@@ -230,13 +230,13 @@ after_no_pin Was gives_up L tries o a e some pinning moved rests kept =
     }
 
 -- and one that pins at a, has walked at p, and has left at q
-pub after_walks : (Was : Stand → Stand → Option ℕ → Type 0) (gives_up : List Entry → List Entry → Type 0) (L : Layout) (tries epoch : ℕ) (o a p q : Stand) (r : Result (Option ℕ) Busy)
+pub after_walks : (Was : PassView → PassView → Option ℕ → Type 0) (gives_up : List Entry → List Entry → Type 0) (L : Layout) (tries epoch : ℕ) (o a p q : PassView) (r : Result (Option ℕ) Busy)
     → Continues o a → IsPinnedBy Sight tries o.view.log a.view.log epoch → KeepsHands o a
     → GoesOn a p → OnlyLooks a p → AddsLooks (tries * most_looks (reach L) 1) a.view.log p.view.log
     → TakesStep p q Leave Departed → IsResting q → KeepsHands p q
     → IfOk r (Was o q) → IfErr r (λ e. gives_up a.view.log p.view.log) → AfterNear Was gives_up L tries o q r
 after_walks Was gives_up L tries epoch o a p q r pinning pinned hands walked only looks leaves rests kept moment given_up =
-    let did : LooksUnderPin tries (tries * most_looks (reach L) 1) o.view.log q.view.log = record { pinned = a.view.log; epoch = epoch; pin = pinned; looked = p.view.log; looks = looks; leaves = ap (λ (s : Stand). s.view.log) leaves.step } in
+    let did : LooksUnderPin tries (tries * most_looks (reach L) 1) o.view.log q.view.log = record { pinned = a.view.log; epoch = epoch; pin = pinned; looked = p.view.log; looks = looks; leaves = ap (λ (s : PassView). s.view.log) leaves.step } in
     let added = call_adds tries (tries * most_looks (reach L) 1) o.view.log q.view.log did in
     record {
       same = same_then o p q (same_then o a p pinning.same walked.same) (same_by_step p q Leave Departed leaves.step);

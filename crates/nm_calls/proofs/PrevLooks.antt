@@ -11,7 +11,7 @@ use Rattle.nm_model.specs.declared.event.Field.TheVariants.{Edge as EdgeOn}
 use Rattle.nm_model.specs.declared.reply.Reply.TheVariants.{EdgeIs}
 use Rattle.nm_model.specs.Searches.{side_of}
 use Rattle.nm_model.specs.Walks.{Entry}
-use Rattle.nm_steps.specs.Steps.{Board, Stand, Stepped}
+use Rattle.nm_steps.specs.Steps.{TreeView, PassView, Stepped}
 use Rattle.nm_walks.specs.declared.looking.Onward.{Onward}
 use Rattle.nm_calls.specs.declared.prev_key.PrevWalk.{PrevWalk}
 use Rattle.nm_walks.specs.declared.spot.ChainEdge.{ChainEdge}
@@ -31,18 +31,18 @@ use Rattle.nm_walks.proofs.Standing.{onto-edge, walk_on}
 
 -- ---- a walk that serves them
 
-pub descent_begins : (L : Layout) (p q : Stand) (e : Edge) → Stepped p q (Look 2 (EdgeOn Left)) (EdgeIs e) → EdgeTold p q 2 Left e → (from : ℕ)
+pub descent_begins : (L : Layout) (p q : PassView) (e : Edge) → Stepped p q (Look 2 (EdgeOn Left)) (EdgeIs e) → EdgeTold p q 2 Left e → (from : ℕ)
     → IsDescent L 0 p q (record { from = from; bound = 0; node = e.slot; found = 0 })
 descent_begins L p q e step told from = record {
   wide = omega arith;
-  walks = λ some. (begin e, [], refl, λ j least le. (refl, refl, some, ap (λ (s : Stand). s.view.log) step));
+  walks = λ some. (begin e, [], refl, λ j least le. (refl, refl, some, ap (λ (s : PassView). s.view.log) step));
   known = λ some. told.learned.leads some;
   ends = λ null. absurd (told.root refl refl null);
   leaf = λ null. absurd (told.root refl refl null);
   router = λ some. absurd (some refl);
 }
 
-module _ (L : Layout) (n : ℕ) (o p q : Stand) (d : PrevWalk) (bound : ℕ) (on : Onward) (r : Reads d.from d.node p.view.log q.view.log on) (w : IsDescent L n o p d) (some : d.node ≢ 0) (high : d.bound ≤ bound)
+module _ (L : Layout) (n : ℕ) (o p q : PassView) (d : PrevWalk) (bound : ℕ) (on : Onward) (r : Reads d.from d.node p.view.log q.view.log on) (w : IsDescent L n o p d) (some : d.node ≢ 0) (high : d.bound ≤ bound)
     (turns : (j : ℕ) → bound ≤ j → j ≤ d.from → side_of j on.found ≡ side_of d.from on.found) where
   abbrev t : Spot
   t = (w.walks some).0
@@ -81,7 +81,7 @@ module _ (L : Layout) (n : ℕ) (o p q : Stand) (d : PrevWalk) (bound : ℕ) (on
       by (inr is) other = here is on.next.slot refl
 
 -- or is broken off
-pub descent_too_long : (b : Board) (n : ℕ) (o p : Stand) (d : PrevWalk) (from : ℕ) → IsDescent b.layout n o p d → d.from ≡ from → IsPinnedIn b p → IsKey from → suc n ≡ reach b.layout → d.node ≢ 0 → IsTooLong b.layout from o.view.log p.view.log
+pub descent_too_long : (b : TreeView) (n : ℕ) (o p : PassView) (d : PrevWalk) (from : ℕ) → IsDescent b.layout n o p d → d.from ≡ from → IsPinnedIn b p → IsKey from → suc n ≡ reach b.layout → d.node ≢ 0 → IsTooLong b.layout from o.view.log p.view.log
 descent_too_long b n o p d from w begun pinned key all some =
     let at = w.walks some in
     too_long b from key n o.view.log at.0 at.1 p pinned (at.3 from (let wide = w.wide in omega (arith, begun, wide)) (omega (arith, begun))) all
@@ -89,12 +89,12 @@ descent_too_long b n o p d from w begun pinned key all some =
 -- ---- what it tells at its end
 
 -- what walks have told stays so under further looks
-pub later_still : {n : ℕ} (p q : Stand) → AddsLooks n p.view.log q.view.log → (key from : ℕ) → ((j : ℕ) → from < j → j ≤ key → HasEndedSo p j false) → (j : ℕ) → from < j → j ≤ key → HasEndedSo q j false
+pub later_still : {n : ℕ} (p q : PassView) → AddsLooks n p.view.log q.view.log → (key from : ℕ) → ((j : ℕ) → from < j → j ≤ key → HasEndedSo p j false) → (j : ℕ) → from < j → j ≤ key → HasEndedSo q j false
 later_still p q a key from later j above le = ended_still p q a j false (later j above le)
 
 -- of the keys above `from` up to `key` the set had none, and of those from the walk's bound up to
 -- `from` none but the one that it found
-module _ (L : Layout) (n : ℕ) (o p : Stand) (key from : ℕ) (d : PrevWalk) (w : IsDescent L n o p d) (begun : d.from ≡ from) (null : d.node ≡ 0) (below : from ≤ key) (later : (j : ℕ) → from < j → j ≤ key → HasEndedSo p j false) where
+module _ (L : Layout) (n : ℕ) (o p : PassView) (key from : ℕ) (d : PrevWalk) (w : IsDescent L n o p d) (begun : d.from ≡ from) (null : d.node ≡ 0) (below : from ≤ key) (later : (j : ℕ) → from < j → j ≤ key → HasEndedSo p j false) where
   ended : (j : ℕ) → d.bound ≤ j → j ≤ d.from → HasEndedSo p j (d.found == j)
   ended j least le = let end = w.ends null j least le in ended_so L j o.view.log p end.0 end.1 d.found end.2
 

@@ -15,7 +15,7 @@ use Rattle.nm_model.specs.Searches.{is_flagged_in}
 use Rattle.nm_order.specs.Facts.Since.{ThePin, TheFlag}
 use Rattle.nm_order.specs.Facts.Fact.{KnowsSlot, KnowsLeaf, IsFlagged, IsBorn, CallIs, Came, EndedAt}
 use Rattle.nm_order.proofs.LaterFlagLaws.{later_walks_find}
-use Rattle.nm_steps.specs.Steps.{Stand, IsSamePass}
+use Rattle.nm_steps.specs.Steps.{PassView, IsSamePass}
 use Rattle.nm_epoch.specs.Resting.{epochs, search}
 use Rattle.nm_epoch.specs.Tries.{IsPinnedBy}
 use Rattle.nm_epoch.specs.declared.collecting.Entry.{Entry as Waiting}
@@ -40,24 +40,24 @@ use Rattle.nm_walks.proofs.Looks.{enough}
 use Rattle.nm_walks.proofs.WholeCleanups.{right_true}
 
 -- a walk behind the flag ended at another leaf
-pub elsewhere_shows : (p q : Stand) (k : ℕ) (n : NodeId) (leaf parent v : ℕ) (side : Side) → IsRemoving p k n → (search q).flagged ≡ (search p).flagged → HasFound p q k leaf parent side v → leaf ≢ n.slot → ShowsAnswer q Delete k true
+pub elsewhere_shows : (p q : PassView) (k : ℕ) (n : NodeId) (leaf parent v : ℕ) (side : Side) → IsRemoving p k n → (search q).flagged ≡ (search p).flagged → HasFound p q k leaf parent side v → leaf ≢ n.slot → ShowsAnswer q Delete k true
 elsewhere_shows p q k n leaf parent v side r flagged found other =
     (n, flagged ∙ r.flagged, inr (leaf, v, other, (parent, side, found TheFlag (Delete, r.call, ap is_some r.flagged))))
 
 -- a walk behind the flag that ends at the flagged leaf came there by a flagged edge
-pub found_flagged : (p q : Stand) (k : ℕ) (n : NodeId) (leaf parent v : ℕ) (side : Side) → IsRemoving p k n → IsInRun q → (search q).flagged ≡ (search p).flagged → HasFound p q k leaf parent side v → leaf ≡ n.slot → Tells q (IsFlagged parent side n.slot)
+pub found_flagged : (p q : PassView) (k : ℕ) (n : NodeId) (leaf parent v : ℕ) (side : Side) → IsRemoving p k n → IsInRun q → (search q).flagged ≡ (search p).flagged → HasFound p q k leaf parent side v → leaf ≡ n.slot → Tells q (IsFlagged parent side n.slot)
 found_flagged p q k n leaf parent v side r run flagged found is =
     let ended = found TheFlag (Delete, r.call, ap is_some r.flagged) in
     later_walks_find q.view.layout (enough q.view.layout run.fits) q.view.number q.view.log run.run.is_part n k parent side (flagged ∙ r.flagged) (subst (λ (x : ℕ). Tells q (Came TheFlag k x parent side)) is ended.0)
 
 -- a cleanup at the flagged edge cut the leaf off
-pub cleanup_shows : (p q : Stand) (s : Spot) (c : List ChainEdge) (es fs : List Waiting) (k : ℕ) (n : NodeId) → HasCleaned s c p q es fs → (search p).flagged ≡ Some n → (search q).flagged ≡ (search p).flagged → Tells p (IsFlagged s.parent s.side n.slot) → Tells p (IsBorn n.slot n.birth) → ShowsAnswer q Delete k true
+pub cleanup_shows : (p q : PassView) (s : Spot) (c : List ChainEdge) (es fs : List Waiting) (k : ℕ) (n : NodeId) → HasCleaned s c p q es fs → (search p).flagged ≡ Some n → (search q).flagged ≡ (search p).flagged → Tells p (IsFlagged s.parent s.side n.slot) → Tells p (IsBorn n.slot n.birth) → ShowsAnswer q Delete k true
 cleanup_shows p q s c es fs k n cleaned flagged same edge born =
     (n, same ∙ flagged, inl (cleaned.cut ∙ right_true (search p).cut (is_flagged_in (search p).flagged cleaned.nodes) (ap (λ (o : Option NodeId). is_flagged_in o cleaned.nodes) flagged ∙ cleaned.leaf n.slot n.birth edge born)))
 
 -- ---- from try to try
 
-pub cleans_then : (o p q : Stand) → IsSamePass o p → OnlyCleans o p → OnlyCleans p q → OnlyCleans o q
+pub cleans_then : (o p q : PassView) → IsSamePass o p → OnlyCleans o p → OnlyCleans p q → OnlyCleans o q
 cleans_then o p q same a b = record {
   announcement = b.announcement ∙ a.announcement;
   pin = b.pin ∙ a.pin;
@@ -69,7 +69,7 @@ cleans_then o p q same a b = record {
   ledgers = ledgers_then o p q same a.ledgers b.ledgers;
 }
 
-pub injects_then : (o p q : Stand) → IsSamePass o p → OnlyInjects o p → OnlyInjects p q → OnlyInjects o q
+pub injects_then : (o p q : PassView) → IsSamePass o p → OnlyInjects o p → OnlyInjects p q → OnlyInjects o q
 injects_then o p q same a b = record {
   announcement = b.announcement ∙ a.announcement;
   pin = b.pin ∙ a.pin;
@@ -80,7 +80,7 @@ injects_then o p q same a b = record {
   ledgers = ledgers_then o p q same a.ledgers b.ledgers;
 }
 
-pub removing_on : (p q : Stand) (k : ℕ) (n : NodeId) → IsRemoving p k n → GoesOn p q → OnlyCleans p q → IsRemoving q k n
+pub removing_on : (p q : PassView) (k : ℕ) (n : NodeId) → IsRemoving p k n → GoesOn p q → OnlyCleans p q → IsRemoving q k n
 removing_on p q k n r on only = record {
   run = on.run;
   pinned = pinned_still p q on r.pinned;
@@ -94,7 +94,7 @@ removing_on p q k n r on only = record {
 
 -- ---- a flag
 
-pub to_be_flagged : (p q : Stand) (k : ℕ) (r : WalkEnd) (b : ℕ) → MayFlag p k r → GoesOn p q → OnlyLooks p q → Tells q (IsBorn r.spot.edge.slot b) → IsToBeFlagged q r.spot.parent r.spot.side r.spot.edge.slot
+pub to_be_flagged : (p q : PassView) (k : ℕ) (r : WalkEnd) (b : ℕ) → MayFlag p k r → GoesOn p q → OnlyLooks p q → Tells q (IsBorn r.spot.edge.slot b) → IsToBeFlagged q r.spot.parent r.spot.side r.spot.edge.slot
 to_be_flagged p q k r b may on only born = record {
   knows_parent = on.keeps (KnowsSlot r.spot.parent) may.parent;
   knows_leaf = on.keeps (KnowsSlot r.spot.edge.slot) may.known;
@@ -107,15 +107,15 @@ to_be_flagged p q k r b may on only born = record {
   unflagged = only.flagged ∙ may.unflagged;
 }
 
-pub has_flagged : (o p q : Stand) (r : WalkEnd) (b : ℕ) → p.view.log ≡ o.view.log ++ (Look r.spot.edge.slot Birth, BirthIs b) ∷ [] → Tells p (IsBorn r.spot.edge.slot b) → GoesOn p q → FlagWon p q r.spot.parent r.spot.side (leaf_of r b) → HasWonItsFlag o q r b
+pub has_flagged : (o p q : PassView) (r : WalkEnd) (b : ℕ) → p.view.log ≡ o.view.log ++ (Look r.spot.edge.slot Birth, BirthIs b) ∷ [] → Tells p (IsBorn r.spot.edge.slot b) → GoesOn p q → FlagWon p q r.spot.parent r.spot.side (leaf_of r b) → HasWonItsFlag o q r b
 has_flagged o p q r b looked born on won = record {
-  part = ap (λ (x : Stand). x.view.log) won.step ∙ ap (λ (log : List Entry). log ++ (Flag r.spot.parent r.spot.side r.spot.edge.slot, Flagged (leaf_of r b)) ∷ []) looked;
+  part = ap (λ (x : PassView). x.view.log) won.step ∙ ap (λ (log : List Entry). log ++ (Flag r.spot.parent r.spot.side r.spot.edge.slot, Flagged (leaf_of r b)) ∷ []) looked;
   flagged = won.flagged;
   edge = won.known;
   born = on.keeps (IsBorn r.spot.edge.slot b) born;
 }
 
-pub may_flag_there : (p q : Stand) (k : ℕ) (L : Layout) (r : WalkEnd) (c : List ChainEdge) → Tells p (CallIs Delete k) → (search p).flagged ≡ None → k < infinity_0 → GoesOn p q → OnlyLooks p q → HasEnded (Tells q) L r.spot c
+pub may_flag_there : (p q : PassView) (k : ℕ) (L : Layout) (r : WalkEnd) (c : List ChainEdge) → Tells p (CallIs Delete k) → (search p).flagged ≡ None → k < infinity_0 → GoesOn p q → OnlyLooks p q → HasEnded (Tells q) L r.spot c
     → (r.key < infinity_0 → 6 ≤ r.spot.edge.slot) → HasFound p q k r.spot.edge.slot r.spot.parent r.spot.side r.key → r.key ≡ k → MayFlag q k r
 may_flag_there p q k L r c call unflagged low on only ended high found is = record {
   parent = ended.at.parent;
@@ -129,7 +129,7 @@ may_flag_there p q k L r c call unflagged low on only ended high found is = reco
 
 -- ---- a flag that was won
 
-pub removing_from : (p q : Stand) (k : ℕ) (n : NodeId) → IsPinnedSomewhere p → IsPinnedForCall Delete k p → (epochs p).unlabelled ≡ false → GoesOn p q → OnlyInjects p q
+pub removing_from : (p q : PassView) (k : ℕ) (n : NodeId) → IsPinnedSomewhere p → IsPinnedForCall Delete k p → (epochs p).unlabelled ≡ false → GoesOn p q → OnlyInjects p q
     → (search q).flagged ≡ Some n → Tells q (IsBorn n.slot n.birth) → IsRemoving q k n
 removing_from p q k n pin call labelled on only flagged born = record {
   run = on.run;

@@ -5,7 +5,7 @@ use Rattle.nm_model.specs.declared.event.Event.TheVariants.{SightFor, Leave, Lea
 use Rattle.nm_model.specs.declared.event.Op.TheVariants.{Has}
 use Rattle.nm_model.specs.declared.reply.Reply.TheVariants.{Departed}
 use Rattle.nm_model.specs.Walks.{Entry}
-use Rattle.nm_steps.specs.Steps.{Stand, IsSamePass, HasSeenAllOf}
+use Rattle.nm_steps.specs.Steps.{PassView, IsSamePass, HasSeenAllOf}
 use Rattle.nm_epoch.specs.Resting.{IsResting, KeepsHands}
 use Rattle.nm_epoch.specs.Tries.{IsPinnedBy, IsMoved}
 use Rattle.nm_calls.specs.declared.lookup.Busy.{Busy}
@@ -53,7 +53,7 @@ HasMissed L (suc t) k old new =
 -- what a look-up leaves of its pass, by its answer: the same pass, which has seen all that it had
 -- seen; what was done, or why not; an answer that was right at a moment of the call; no exchange
 -- that was won; the longest log; and it rests, with the hands that it had
-pub record AfterHas (L : Layout) (tries k : ℕ) (p q : Stand) (r : Result Bool Busy) : Type 0 where
+pub record AfterHas (L : Layout) (tries k : ℕ) (p q : PassView) (r : Result Bool Busy) : Type 0 where
   pub same : IsSamePass p q
   pub past : HasSeenAllOf q p
   pub did : IfOk r (HasDid L tries k p.view.log q.view.log)

@@ -12,7 +12,7 @@ use Rattle.nm_model.specs.Walks.{Entry}
 use Rattle.nm_order.specs.Facts.Since.{ThePin}
 use Rattle.nm_order.specs.Facts.Fact.{KnowsSlot, KnowsLeaf, IsFlagged, IsBorn, CallIs, EndedAt}
 use Rattle.nm_steps.specs.Rules.{knowledge}
-use Rattle.nm_steps.specs.Steps.{Stand, IsSamePass, HasSeenAllOf}
+use Rattle.nm_steps.specs.Steps.{PassView, IsSamePass, HasSeenAllOf}
 use Rattle.nm_epoch.specs.Resting.{IsResting, epochs, search}
 use Rattle.nm_epoch.specs.Tries.{IsPinnedBy, IsMoved}
 use Rattle.nm_calls.specs.declared.deleting.FlaggedLeaf.{FlaggedLeaf}
@@ -66,7 +66,7 @@ IsFlagTry L k c old new injected.Lost = IsBroken L k old new
 
 -- the call has flagged the leaf, and it may go on to remove it (Natarajan and Mittal, section 3.2,
 -- delete)
-pub record IsRemoving (p : Stand) (k : ℕ) (n : NodeId) : Type 0 where
+pub record IsRemoving (p : PassView) (k : ℕ) (n : NodeId) : Type 0 where
   pub run : IsInRun p
   pub pinned : IsPinnedSomewhere p
   pub root : Tells p (KnowsSlot 1)
@@ -113,7 +113,7 @@ IfRemoved _ P = Unit {0}
 -- ---- what flagging leaves
 
 -- the call may flag the leaf at which its walk ended
-pub record MayFlag (p : Stand) (k : ℕ) (r : WalkEnd) : Type 0 where
+pub record MayFlag (p : PassView) (k : ℕ) (r : WalkEnd) : Type 0 where
   pub parent : Tells p (KnowsSlot r.spot.parent)
   pub known : Tells p (KnowsSlot r.spot.edge.slot)
   pub leaf : Tells p (KnowsLeaf r.spot.edge.slot)
@@ -129,20 +129,20 @@ looks_and_flags r b reply old =
 
 -- the flag is won: the leaf is the one that the call flagged, and the edge to it is known as
 -- flagged
-pub record HasWonItsFlag (p q : Stand) (r : WalkEnd) (b : ℕ) : Type 0 where
+pub record HasWonItsFlag (p q : PassView) (r : WalkEnd) (b : ℕ) : Type 0 where
   pub part : q.view.log ≡ looks_and_flags r b (Flagged (leaf_of r b)) p.view.log
   pub flagged : (search q).flagged ≡ Some (leaf_of r b)
   pub edge : Tells q (IsFlagged r.spot.parent r.spot.side r.spot.edge.slot)
   pub born : Tells q (IsBorn r.spot.edge.slot b)
 
 -- the flag was lost: what the call flagged is as it was
-pub record HasNotFlagged (p q : Stand) (r : WalkEnd) (e : Edge) : Type 0 where
+pub record HasNotFlagged (p q : PassView) (r : WalkEnd) (e : Edge) : Type 0 where
   pub birth : ℕ
   pub part : q.view.log ≡ looks_and_flags r birth (Lost e) p.view.log
   pub flagged : (search q).flagged ≡ (search p).flagged
 
 -- the pin, private slots, the call with what it linked, and ledgers but for the nodes that were cut
-pub record OnlyInjects (p q : Stand) : Type 0 where
+pub record OnlyInjects (p q : PassView) : Type 0 where
   pub announcement : (epochs q).announcement ≡ (epochs p).announcement
   pub pin : (epochs q).pin ≡ (epochs p).pin
   pub labelled : (epochs p).unlabelled ≡ false → (epochs q).unlabelled ≡ false
@@ -153,7 +153,7 @@ pub record OnlyInjects (p q : Stand) : Type 0 where
 
 -- what the call shows after a try to flag; and where it has flagged, what a cleanup at that spot
 -- asks
-abbrev pub ShowsFlag : ℕ → List ChainEdge → Stand → Stand → Injected → Type 0
+abbrev pub ShowsFlag : ℕ → List ChainEdge → PassView → PassView → Injected → Type 0
 ShowsFlag k c p q injected.Absent = ShowsAnswer q Delete k false
 ShowsFlag k c p q (injected.Flagged r b) =
     ((search q).flagged ≡ Some (leaf_of r b))
@@ -184,7 +184,7 @@ IsInjection L k tries c old new injection.Refused =
 IsInjection L k tries c old new injection.Spent = LostFlags L k tries old new
 
 -- what the log shows behind the tries to flag, by what they came to
-abbrev pub ShowsInjection : ℕ → List ChainEdge → Stand → Injection → Type 0
+abbrev pub ShowsInjection : ℕ → List ChainEdge → PassView → Injection → Type 0
 ShowsInjection k c q injection.Absent = ShowsAnswer q Delete k false
 ShowsInjection k c q (injection.Flagged f) =
     ((search q).flagged ≡ Some (leaf_of f.end f.birth))
@@ -255,7 +255,7 @@ DeleteDid L tries k old new (Err missed.NoMemory) =
 DeleteDid L tries k old new r = PinsForDelete L tries k old new r
 
 -- the worker rests, or stays pinned for the leaf that it flagged
-abbrev pub RestsOrRemoves : ℕ → Stand → Result Bool Missed → Type 0
+abbrev pub RestsOrRemoves : ℕ → PassView → Result Bool Missed → Type 0
 RestsOrRemoves k q (Ok b) = IsResting q
 RestsOrRemoves k q (Err missed.Busy) = IsResting q
 RestsOrRemoves k q (Err missed.NoMemory) = IsResting q
@@ -290,7 +290,7 @@ FinishDid L k n tries old new false =
 
 -- what a delete leaves of its pass, by its answer: as of an insert, but that the flag that was won
 -- is told, and that it rests or stays pinned for the leaf
-pub record AfterDelete (L : Layout) (tries k : ℕ) (p q : Stand) (r : Result Bool Missed) : Type 0 where
+pub record AfterDelete (L : Layout) (tries k : ℕ) (p q : PassView) (r : Result Bool Missed) : Type 0 where
   pub same : IsSamePass p q
   pub past : HasSeenAllOf q p
   pub did : DeleteDid L tries k p.view.log q.view.log r
@@ -304,12 +304,12 @@ pub record AfterDelete (L : Layout) (tries k : ℕ) (p q : Stand) (r : Result Bo
 
 -- and what is left to do of one leaves: the answer true was right at a moment of its call, and then
 -- it rests; else it stays pinned for the leaf
-pub record AfterFinish (L : Layout) (k : ℕ) (n : NodeId) (tries : ℕ) (p q : Stand)
+pub record AfterFinish (L : Layout) (k : ℕ) (n : NodeId) (tries : ℕ) (p q : PassView)
     (r : Bool) : Type 0 where
   pub same : IsSamePass p q
   pub past : HasSeenAllOf q p
   pub did : FinishDid L k n tries p.view.log q.view.log r
-  pub moment : r ≡ true → (o : Stand) → HadNoCall o p → AnswerHasMoment o q Delete k true
+  pub moment : r ≡ true → (o : PassView) → HadNoCall o p → AnswerHasMoment o q Delete k true
   pub won : HasWon p.view.log q.view.log 0 0
   pub steps : IsWithinBound L tries p.view.log q.view.log
   pub run : IsInRun q

@@ -3,13 +3,13 @@ use Rattle.std.specs.Prelude.{◌≡◌, ◌≢◌, ℕ, [], Some, None}
 use Rattle.nm_model.specs.Ledgers.{held, fresh_ledger}
 use Rattle.nm_model.specs.Maps.{get}
 use Rattle.nm_steps.specs.Rules.{knowledge}
-use Rattle.nm_steps.specs.Steps.{Stand}
+use Rattle.nm_steps.specs.Steps.{PassView}
 use Rattle.nm_epoch.specs.Collecting.{IsQueueOf}
 use Rattle.nm_epoch.specs.Resting.{IsResting}
 
 -- its log is empty, so it rests; it holds its own ledger alone, of which nothing was cut, and no
 -- slot is private
-pub record HasDoneNothing (p : Stand) : Type 0 where
+pub record HasDoneNothing (p : PassView) : Type 0 where
   pub rests : IsResting p
   pub log : p.view.log ≡ []
   pub ledger : held (knowledge p.view).ledgers p.view.number ≡ Some fresh_ledger

@@ -4,7 +4,7 @@ use Rattle.nm_edge.specs.Keys.{IsKey}
 use Rattle.nm_edge.specs.Layouts.{Layout}
 use Rattle.nm_model.specs.Walks.{Entry}
 use Rattle.nm_order.specs.Facts.Fact.{KnowsSlot}
-use Rattle.nm_steps.specs.Steps.{Stand, IsSamePass, HasSeenAllOf}
+use Rattle.nm_steps.specs.Steps.{PassView, IsSamePass, HasSeenAllOf}
 use Rattle.nm_epoch.specs.Resting.{IsResting, KeepsHands}
 use Rattle.nm_calls.specs.declared.lookup.Busy.{Busy}
 use Rattle.nm_walks.specs.declared.looking.Onward.{Onward}
@@ -18,7 +18,7 @@ use Rattle.nm_calls.specs.Won.{HasWon}
 
 -- behind so many nodes at least its walk has come to a known node, which it reads next, or has ended
 -- with its answer, where it has none to read (Natarajan and Mittal, section 3.2)
-pub record IsUnderWay (n : ℕ) (p : Stand) (q : Query) : Type 0 where
+pub record IsUnderWay (n : ℕ) (p : PassView) (q : Query) : Type 0 where
   pub is_key : IsKey q.key
   pub comes : q.node ≢ 0 → HasPassed n p.view.log q.key q.node
   pub known : q.node ≢ 0 → Tells p (KnowsSlot q.node)
@@ -44,7 +44,7 @@ GiveUp L keys old new = AddsLooks (most_looks (reach L) (length keys)) old new �
 
 -- what a look-up of these queries, which are those then, leaves of its pass, by its answer: as of a
 -- look-up of one key, but that each answer was right at a moment of the call and the keys stay
-pub record AfterHasMany (L : Layout) (tries : ℕ) (old new : List Query) (p q : Stand)
+pub record AfterHasMany (L : Layout) (tries : ℕ) (old new : List Query) (p q : PassView)
     (r : Result (Unit {0}) Busy) : Type 0 where
   pub same : IsSamePass p q
   pub past : HasSeenAllOf q p

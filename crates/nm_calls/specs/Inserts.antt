@@ -10,7 +10,7 @@ use Rattle.nm_model.specs.declared.reply.Reply.TheVariants.{Departed, Linked, Lo
 use Rattle.nm_model.specs.Walks.{Entry}
 use Rattle.nm_order.specs.Facts.Since.{ThePin}
 use Rattle.nm_edge.specs.declared.placement.Fit.{Fit}
-use Rattle.nm_steps.specs.Steps.{Stand, IsSamePass, HasSeenAllOf, IsInRun}
+use Rattle.nm_steps.specs.Steps.{PassView, IsSamePass, HasSeenAllOf, IsInRun}
 use Rattle.nm_epoch.specs.Resting.{epochs, search, IsResting}
 use Rattle.nm_walks.specs.declared.making.Fork.{Fork}
 use Rattle.nm_epoch.specs.Tries.{IsPinnedBy, IsMoved}
@@ -81,7 +81,7 @@ IsTry fit L k f g old new attempt.Lost = ((c : List ChainEdge) × Stops L k old 
 
 -- what a try leaves: the pin, the call and what it flagged, and ledgers but for the nodes that it
 -- cut
-pub record OnlyTries (p q : Stand) : Type 0 where
+pub record OnlyTries (p q : PassView) : Type 0 where
   pub announcement : (epochs q).announcement ≡ (epochs p).announcement
   pub pin : (epochs q).pin ≡ (epochs p).pin
   pub labelled : (epochs p).unlabelled ≡ false → (epochs q).unlabelled ≡ false
@@ -90,7 +90,7 @@ pub record OnlyTries (p q : Stand) : Type 0 where
   pub ledgers : KeepsLedgers p q
 
 -- what the call shows after it
-abbrev pub ShowsTry : ℕ → Stand → Stand → Attempt → Type 0
+abbrev pub ShowsTry : ℕ → PassView → PassView → Attempt → Type 0
 ShowsTry k p q attempt.Found =
     ((leaf : ℕ) × EndedWith q ThePin k leaf k) × ((search q).linked ≡ (search p).linked)
 ShowsTry k p q attempt.Linked = (search q).linked ≡ true
@@ -153,7 +153,7 @@ InsertDid fit L tries k old new r = PinsThen fit L tries k old new r
 -- seen; what was done; an answer that was right at a moment of the call; the link that was won; the
 -- longest log; it is in a run where it made a step; and it rests, with the private slots that it
 -- had, and ledgers but for the nodes that it cut
-pub record AfterInsert (fit : Fit) (L : Layout) (tries k : ℕ) (p q : Stand)
+pub record AfterInsert (fit : Fit) (L : Layout) (tries k : ℕ) (p q : PassView)
     (r : Result Bool NotInserted) : Type 0 where
   pub same : IsSamePass p q
   pub past : HasSeenAllOf q p

@@ -5,7 +5,7 @@ use Rattle.nm_edge.specs.Layouts.{Layout}
 use Rattle.nm_model.specs.Memory.{infinity_0}
 use Rattle.nm_model.specs.Walks.{Entry}
 use Rattle.nm_order.specs.Facts.Fact.{KnowsSlot}
-use Rattle.nm_steps.specs.Steps.{Stand, IsSamePass, HasSeenAllOf}
+use Rattle.nm_steps.specs.Steps.{PassView, IsSamePass, HasSeenAllOf}
 use Rattle.nm_epoch.specs.Resting.{IsResting, KeepsHands}
 use Rattle.nm_calls.specs.declared.lookup.Busy.{Busy}
 use Rattle.nm_walks.specs.declared.looking.Onward.{Onward}
@@ -27,7 +27,7 @@ IsNextBy Was key (Some found) =
 IsNextBy Was key None = (j : ℕ) → key ≤ j → IsKey j → Was j false
 
 -- by the run that q has seen; each moment is later than all that p had seen
-abbrev pub WasNext : Stand → Stand → ℕ → Option ℕ → Type 0
+abbrev pub WasNext : PassView → PassView → ℕ → Option ℕ → Type 0
 WasNext p q = IsNextBy (WasSo p q)
 
 -- ---- what such walks leave in the log
@@ -66,7 +66,7 @@ GiveUp L tries key old new = (to : ℕ) × IsKey to
 -- behind so many nodes, a walk for each key from `from` on below the bound has come to a known node,
 -- which it reads next, or has ended at a leaf with the key that was found, where there is none to
 -- read
-pub record IsDescent (L : Layout) (n : ℕ) (o p : Stand) (d : NextWalk) : Type 0 where
+pub record IsDescent (L : Layout) (n : ℕ) (o p : PassView) (d : NextWalk) : Type 0 where
   pub wide : d.from < d.bound
   pub low : d.bound ≤ infinity_0
   pub walks : d.node ≢ 0 → (s : Spot) × (c : List ChainEdge) × (s.edge.slot ≡ d.node)
@@ -91,8 +91,8 @@ read_below d bound on = record {
 -- what a call for the key nearest to one leaves of its pass, by its answer: as of a look-up, but that
 -- what it tells of keys, as `Was` says, was so at moments of the call; `GivesUp` is how its walks end
 -- without an answer
-pub record AfterNear (Was : Stand → Stand → Option ℕ → Type 0)
-    (GivesUp : List Entry → List Entry → Type 0) (L : Layout) (tries : ℕ) (p q : Stand)
+pub record AfterNear (Was : PassView → PassView → Option ℕ → Type 0)
+    (GivesUp : List Entry → List Entry → Type 0) (L : Layout) (tries : ℕ) (p q : PassView)
     (r : Result (Option ℕ) Busy) : Type 0 where
   pub same : IsSamePass p q
   pub past : HasSeenAllOf q p
@@ -106,5 +106,5 @@ pub record AfterNear (Was : Stand → Stand → Option ℕ → Type 0)
   pub hands : KeepsHands p q
 
 -- and one for the next key
-abbrev pub AfterNext : Layout → ℕ → ℕ → Stand → Stand → Result (Option ℕ) Busy → Type 0
+abbrev pub AfterNext : Layout → ℕ → ℕ → PassView → PassView → Result (Option ℕ) Busy → Type 0
 AfterNext L tries k = AfterNear (λ p q. WasNext p q k) (GiveUp L tries k) L tries

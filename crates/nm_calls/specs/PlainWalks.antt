@@ -8,7 +8,7 @@ use Rattle.nm_model.specs.declared.trace.Turn.{Turn}
 use Rattle.nm_model.specs.Ordered.{turn_of}
 use Rattle.nm_model.specs.Walks.{Entry, since_pin, WalkComes, WalkEnds}
 use Rattle.nm_model.specs.Histories.{WasSoBehind}
-use Rattle.nm_steps.specs.Steps.{Stand}
+use Rattle.nm_steps.specs.Steps.{PassView}
 use Rattle.nm_epoch.specs.Tries.{IsPinnedBy, IsMoved}
 use Rattle.nm_walks.specs.AddedLooks.{AddsLooks}
 
@@ -50,7 +50,7 @@ HasPassed n log k slot = (parent : ℕ) × (side : Side)
 
 -- in the log since the pin a walk for k ended, at a leaf whose key is k just where the answer is
 -- true (Natarajan and Mittal, section 3.2)
-abbrev pub HasEndedSo : Stand → ℕ → Bool → Type 0
+abbrev pub HasEndedSo : PassView → ℕ → Bool → Type 0
 HasEndedSo p k answer = (leaf parent v : ℕ) × (side : Side)
     × WalkEnds k (since_pin [] p.view.log) leaf parent side v × (answer ≡ (v == k))
 
@@ -60,6 +60,6 @@ events_of turns = map turn_of turns
 
 -- by what q has seen, the set had the key just where the answer is true, at a moment later than all
 -- that p had seen, and at which the worker was pinned (Herlihy and Wing)
-abbrev pub WasSo : Stand → Stand → ℕ → Bool → Type 0
+abbrev pub WasSo : PassView → PassView → ℕ → Bool → Type 0
 WasSo p q k answer =
     WasSoBehind q.view.layout p.view.past q.view.past q.view.number k answer

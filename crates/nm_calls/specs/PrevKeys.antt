@@ -4,7 +4,7 @@ use Rattle.nm_edge.specs.Keys.{IsKey}
 use Rattle.nm_edge.specs.Layouts.{Layout}
 use Rattle.nm_model.specs.Walks.{Entry}
 use Rattle.nm_order.specs.Facts.Fact.{KnowsSlot}
-use Rattle.nm_steps.specs.Steps.{Stand}
+use Rattle.nm_steps.specs.Steps.{PassView}
 use Rattle.nm_calls.specs.declared.lookup.Busy.{Busy}
 use Rattle.nm_walks.specs.declared.looking.Onward.{Onward}
 use Rattle.nm_calls.specs.declared.prev_key.PrevWalk.{PrevWalk}
@@ -23,7 +23,7 @@ IsPrevBy Was key (Some found) =
 IsPrevBy Was key None = (j : ℕ) → j ≤ key → Was j false
 
 -- by the run that q has seen; each moment is later than all that p had seen
-abbrev pub WasPrev : Stand → Stand → ℕ → Option ℕ → Type 0
+abbrev pub WasPrev : PassView → PassView → ℕ → Option ℕ → Type 0
 WasPrev p q = IsPrevBy (WasSo p q)
 
 -- ---- what such walks leave in the log
@@ -49,7 +49,7 @@ GiveUp L tries key old new = (to : ℕ) × IsKey key
 -- behind so many nodes, a walk for each key from the bound up to `from` has come to a known node,
 -- which it reads next, or has ended at a leaf with the key that was found, where there is none to
 -- read; a leaf's key up to `from` is not above the bound
-pub record IsDescent (L : Layout) (n : ℕ) (o p : Stand) (d : PrevWalk) : Type 0 where
+pub record IsDescent (L : Layout) (n : ℕ) (o p : PassView) (d : PrevWalk) : Type 0 where
   pub wide : d.bound ≤ d.from
   pub walks : d.node ≢ 0 → (s : Spot) × (c : List ChainEdge) × (s.edge.slot ≡ d.node)
       × ((j : ℕ) → d.bound ≤ j → j ≤ d.from → Walks j n o.view.log p.view.log s c)
@@ -72,5 +72,5 @@ read_above d bound on = record {
 -- ---- the whole call
 
 -- what a call for the key before leaves of its pass, by its answer: as of one for the next key
-abbrev pub AfterPrev : Layout → ℕ → ℕ → Stand → Stand → Result (Option ℕ) Busy → Type 0
+abbrev pub AfterPrev : Layout → ℕ → ℕ → PassView → PassView → Result (Option ℕ) Busy → Type 0
 AfterPrev L tries k = AfterNear (λ p q. WasPrev p q k) (GiveUp L tries k) L tries

@@ -3,7 +3,7 @@ ghost use Rattle.std.specs.Prelude.{◌≡◌, ◌≢◌, ◌⊎◌, ◌<◌, �
 ghost use Rattle.nm_model.specs.declared.event.Op.TheVariants.{Delete};
 ghost use Rattle.nm_order.specs.Facts.Fact.{IsFlagged};
 ghost use Rattle.nm_steps.specs.Rules.{knowledge};
-ghost use Rattle.nm_steps.specs.Steps.{Stand, IsOf, Continues};
+ghost use Rattle.nm_steps.specs.Steps.{PassView, IsOf, Continues};
 ghost use Rattle.nm_epoch.specs.Resting.{IsResting, search};
 ghost use Rattle.nm_walks.specs.Bounds.{chain_bound, cut_bound};
 ghost use Rattle.nm_walks.specs.Rooms.{FillsUp, TakesRoom};
@@ -337,7 +337,7 @@ fn delete_pinned(
     ensures refused { IfErr result
         (LacksRoomOr (λ n. FlagsThen shared.now.layout tries key n pass.old.view.log
         pass.new.view.log Removal.Spent) held.new.queue.spare) }
-    ensures moment { (o : Stand) → HadNoCall o pass.old
+    ensures moment { (o : PassView) → HadNoCall o pass.old
         → IfOk result (AnswerHasMoment o pass.new Delete key) }
     ensures stands { RestsOrRemoves key pass.new result }
     ensures private { (knowledge pass.new.view).drafts ≡ (knowledge pass.old.view).drafts }

@@ -2,7 +2,7 @@
 ghost use Rattle.std.specs.Prelude.{◌≡◌, ◌<◌, ◌≤◌, ◌*◌, true, false, length, None, IfOk, IfSome, IsErrOf};
 ghost use Rattle.nm_edge.specs.Keys.{IsKey};
 ghost use Rattle.nm_model.specs.declared.event.Op.TheVariants.{Insert};
-ghost use Rattle.nm_steps.specs.Steps.{Stand, IsOf, Continues};
+ghost use Rattle.nm_steps.specs.Steps.{PassView, IsOf, Continues};
 ghost use Rattle.nm_epoch.specs.Resting.{IsResting, search};
 ghost use Rattle.nm_walks.specs.Bounds.{cut_bound};
 ghost use Rattle.nm_walks.specs.Rooms.{FillsUp, TakesRoom};
@@ -61,7 +61,7 @@ fn ready(
         pass.old.view.log pass.new.view.log }
     ensures on { GoesOn pass.old pass.new }
     ensures only { OnlyMakes pass.old pass.new }
-    ensures has { (o : Stand) → HasFork o pass.old fork.old → HasFork o pass.new fork.new }
+    ensures has { (o : PassView) → HasFork o pass.old fork.old → HasFork o pass.new fork.new }
     ensures fit { placement.new ≡ placement.old }
 {
     pass.is_of_a_run();
@@ -111,13 +111,13 @@ fn try_insert(
     requires unlinked { (search pass.old).linked ≡ false }
     requires room { cut_bound ≤ held.old.queue.spare }
     requires kept { HoldsCuts pass.old held.old }
-    requires fork { (o : Stand) × HasFork o pass.old fork.old }
+    requires fork { (o : PassView) × HasFork o pass.old fork.old }
     ensures part { IsTry workspace.old.placement shared.now.layout key fork.old fork.new
         pass.old.view.log pass.new.view.log result }
     ensures on { GoesOn pass.old pass.new }
     ensures only { OnlyTries pass.old pass.new }
     ensures shows { ShowsTry key pass.old pass.new result }
-    ensures has { (o : Stand) → HasFork o pass.old fork.old → HasFork o pass.new fork.new }
+    ensures has { (o : PassView) → HasFork o pass.old fork.old → HasFork o pass.new fork.new }
     ensures kept { HoldsCuts pass.new held.new }
     ensures fills { FillsUp held.old.queue held.new.queue }
     ensures fit { workspace.new.placement ≡ workspace.old.placement }
@@ -163,7 +163,7 @@ fn insert_pinned(
     ensures part { Finishes workspace.old.placement shared.now.layout tries key
         pass.old.view.log pass.new.view.log result }
     ensures refused { IsErrOf result NotInserted.NoMemory → held.new.queue.spare < cut_bound }
-    ensures moment { (o : Stand) → HadNoCall o pass.old
+    ensures moment { (o : PassView) → HadNoCall o pass.old
         → IfOk result (AnswerHasMoment o pass.new Insert key) }
     ensures rests { IsResting pass.new }
     ensures private { HasFork pass.old pass.new None }

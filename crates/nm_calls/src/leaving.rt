@@ -4,7 +4,7 @@ ghost use Rattle.nm_model.specs.declared.event.Event.TheVariants.{Leave, LeaveWi
 ghost use Rattle.nm_model.specs.declared.event.Op.{Op};
 ghost use Rattle.nm_model.specs.declared.reply.Reply.TheVariants.{Departed};
 ghost use Rattle.nm_order.specs.Facts.Fact.{CallIs};
-ghost use Rattle.nm_steps.specs.Steps.{Stand, IsOf, MayStep, TakesStep};
+ghost use Rattle.nm_steps.specs.Steps.{PassView, IsOf, MayStep, TakesStep};
 ghost use Rattle.nm_epoch.specs.Resting.{IsResting, KeepsHands, epochs};
 ghost use Rattle.nm_walks.specs.Telling.{Tells};
 ghost use Rattle.nm_calls.specs.Leaving.{IsItsAnswer, HasChangedNothing};
@@ -32,7 +32,7 @@ pub(crate) fn leave_with(shared: &Shared, pass: &mut Pass, answer: bool)
     requires own { IsOf shared.now pass.old }
     requires may { MayStep pass.old (LeaveWith answer) }
     ensures took { TakesStep pass.old pass.new (LeaveWith answer) Departed }
-    ensures moment { (o : Stand) (op : Op) (k : ℕ) → HadNoCall o pass.old
+    ensures moment { (o : PassView) (op : Op) (k : ℕ) → HadNoCall o pass.old
         → Tells pass.old (CallIs op k) → AnswerHasMoment o pass.new op k answer }
     ensures rests { IsResting pass.new }
     ensures hands { KeepsHands pass.old pass.new }
@@ -48,7 +48,7 @@ pub fn answer(shared: &Shared, pass: &mut Pass, answer: bool)
     requires labelled { (epochs pass.old).unlabelled ≡ false }
     requires shown { IsItsAnswer pass.old answer }
     ensures took { TakesStep pass.old pass.new (LeaveWith answer) Departed }
-    ensures moment { (o : Stand) (op : Op) (k : ℕ) → HadNoCall o pass.old
+    ensures moment { (o : PassView) (op : Op) (k : ℕ) → HadNoCall o pass.old
         → Tells pass.old (CallIs op k) → AnswerHasMoment o pass.new op k answer }
     ensures rests { IsResting pass.new }
     ensures hands { KeepsHands pass.old pass.new }

@@ -10,7 +10,7 @@ use Rattle.nm_model.specs.Learning.{learn}
 use Rattle.nm_model.specs.Searches.{searched}
 use Rattle.nm_model.specs.Walks.{Entry}
 use Rattle.nm_steps.specs.Rules.{knowledge}
-use Rattle.nm_steps.specs.Steps.{Stand, Stepped, Continues, TakesStep, IsAdvanceFrom, advance_reply, IsSamePass}
+use Rattle.nm_steps.specs.Steps.{PassView, Stepped, Continues, TakesStep, IsAdvanceFrom, advance_reply, IsSamePass}
 use Rattle.nm_steps.proofs.Noting.{noted}
 use Rattle.nm_steps.proofs.Seeing.{continues_then, continues_by}
 use Rattle.nm_epoch.specs.declared.answers.Advance.TheVariants.{Moved, Held, Lost}
@@ -37,14 +37,14 @@ advance_is_silent : (r : Result ℕ ℕ) → is_label (advance_reply r) ≡ fals
 advance_is_silent (Ok e) = refl
 advance_is_silent (Err e) = refl
 
-module _ (p q : Stand) (r : Result ℕ ℕ) (step : Stepped p q event.Advance (advance_reply r)) where
+module _ (p q : PassView) (r : Result ℕ ℕ) (step : Stepped p q event.Advance (advance_reply r)) where
   after : (e : ℕ) × (epochs q ≡ record (epochs p) { seen = Some e })
   after = let n = noted_advance (epochs p) r in (n.0, epochs_after p q event.Advance (advance_reply r) step ∙ n.1)
 
   pin_stays : (epochs q).pin ≡ (epochs p).pin
   pin_stays = ap (λ (b : Brief). b.pin) after.1
 
-  settles_advance : (o : Stand) → Settles o p → Settles o q
+  settles_advance : (o : PassView) → Settles o p → Settles o q
   unfolding searched
   settles_advance o s = record {
     labelled = ap (λ (b : Brief). b.unlabelled) after.1 ∙ s.labelled;
@@ -56,7 +56,7 @@ module _ (p q : Stand) (r : Result ℕ ℕ) (step : Stepped p q event.Advance (a
     };
   }
 
-  advance_keeps : (o : Stand) → KeepsHands o p → KeepsHands o q
+  advance_keeps : (o : PassView) → KeepsHands o p → KeepsHands o q
   advance_keeps o h = kept_on o p q h (hands_kept p q event.Advance (advance_reply r) step refl (λ _. advance_is_silent r))
 
   all_scanned : (me e m n : ℕ) (old : List Entry) → n ≡ m → IsLooking me e n old p → SightThenScans me (epochs q).pin e m old p.view.log
@@ -65,17 +65,17 @@ module _ (p q : Stand) (r : Result ℕ ℕ) (step : Stepped p q event.Advance (a
 same_epoch : (o : Option ℕ) (s e : ℕ) → o ≡ Some s → o ≡ Some e → s ≡ e
 same_epoch o s e is seen = same_Some s e (sym is ∙ seen)
 
-pub is_moved : (p q : Stand) (next me e m n : ℕ) (old : List Entry) → Stepped p q event.Advance (advance_reply (Ok next)) → IsAdvanceFrom (epochs p).seen (Ok next) → n ≡ m → IsLooking me e n old p → IsAdvance m me (epochs q).pin old q.view.log (Moved next)
+pub is_moved : (p q : PassView) (next me e m n : ℕ) (old : List Entry) → Stepped p q event.Advance (advance_reply (Ok next)) → IsAdvanceFrom (epochs p).seen (Ok next) → n ≡ m → IsLooking me e n old p → IsAdvance m me (epochs q).pin old q.view.log (Moved next)
 is_moved p q next me e m n old step from all h =
-    (e, p.view.log, all_scanned p q (Ok next) step me e m n old all h, from.2 ∙ ap (λ (s : ℕ). s + 1) (same_epoch (epochs p).seen from.0 e from.1 h.seen), ap (λ (x : Stand). x.view.log) step)
+    (e, p.view.log, all_scanned p q (Ok next) step me e m n old all h, from.2 ∙ ap (λ (s : ℕ). s + 1) (same_epoch (epochs p).seen from.0 e from.1 h.seen), ap (λ (x : PassView). x.view.log) step)
 
-pub is_lost : (p q : Stand) (found me e m n : ℕ) (old : List Entry) → Stepped p q event.Advance (advance_reply (Err found)) → IsAdvanceFrom (epochs p).seen (Err found) → n ≡ m → IsLooking me e n old p → IsAdvance m me (epochs q).pin old q.view.log (Lost found)
+pub is_lost : (p q : PassView) (found me e m n : ℕ) (old : List Entry) → Stepped p q event.Advance (advance_reply (Err found)) → IsAdvanceFrom (epochs p).seen (Err found) → n ≡ m → IsLooking me e n old p → IsAdvance m me (epochs q).pin old q.view.log (Lost found)
 is_lost p q found me e m n old step from all h =
-    (e, p.view.log, all_scanned p q (Err found) step me e m n old all h, (λ is. from.2 (is ∙ sym (same_epoch (epochs p).seen from.0 e from.1 h.seen))), ap (λ (x : Stand). x.view.log) step)
+    (e, p.view.log, all_scanned p q (Err found) step me e m n old all h, (λ is. from.2 (is ∙ sym (same_epoch (epochs p).seen from.0 e from.1 h.seen))), ap (λ (x : PassView). x.view.log) step)
 
 -- ---- held back
 
-pub is_held : (p q : Stand) (at me e m v : ℕ) (found : Option ℕ) (old : List Entry) → IsSamePass p q → LooksAt me (epochs p).pin v found p.view.log q.view.log → found ≡ Some at → lets_pass found e ≡ false → v < m → IsLooking me e v old p
+pub is_held : (p q : PassView) (at me e m v : ℕ) (found : Option ℕ) (old : List Entry) → IsSamePass p q → LooksAt me (epochs p).pin v found p.view.log q.view.log → found ≡ Some at → lets_pass found e ≡ false → v < m → IsLooking me e v old p
     → IsAdvance m me (epochs q).pin old q.view.log (Held v at)
 is_held p q at me e m v found old same look is other below h =
     let pin : (epochs p).pin ≡ (epochs q).pin = sym (ap (λ (b : Brief). b.pin) (look_epochs me v (epochs p).pin found p q same look)) in (
@@ -89,14 +89,14 @@ is_held p q at me e m v found old same look is other below h =
 
 -- ---- what a look and a move leave
 
-pub look_goes_on : (me v : ℕ) (found : Option ℕ) (o p q : Stand) → GoesOnSettled o p → Continues p q → LooksAt me (epochs p).pin v found p.view.log q.view.log → GoesOnSettled o q
+pub look_goes_on : (me v : ℕ) (found : Option ℕ) (o p q : PassView) → GoesOnSettled o p → Continues p q → LooksAt me (epochs p).pin v found p.view.log q.view.log → GoesOnSettled o q
 look_goes_on me v found o p q was on look = record {
   on = continues_then o p q was.on on;
   settles = settles_on me v (epochs p).pin found p q on.same look o was.settles;
   hands = kept_on o p q was.hands (look_keeps me v (epochs p).pin found p q on.same look);
 }
 
-pub advance_goes_on : (o p q : Stand) (r : Result ℕ ℕ) → GoesOnSettled o p → TakesStep p q event.Advance (advance_reply r) → GoesOnSettled o q
+pub advance_goes_on : (o p q : PassView) (r : Result ℕ ℕ) → GoesOnSettled o p → TakesStep p q event.Advance (advance_reply r) → GoesOnSettled o q
 advance_goes_on o p q r was took = record {
   on = continues_then o p q was.on (continues_by p q event.Advance (advance_reply r) took);
   settles = settles_advance p q r took.step o was.settles;

@@ -14,7 +14,7 @@ use Rattle.nm_model.specs.Step.{refusal, is_held_back, last_number, others_scann
 use Rattle.nm_laws.proofs.Steps.{passed}
 use Rattle.nm_steps.specs.declared.view.View.{View}
 use Rattle.nm_steps.specs.Rules.{knowledge}
-use Rattle.nm_steps.specs.Steps.{Stand, MayStep, fresh_view}
+use Rattle.nm_steps.specs.Steps.{PassView, MayStep, fresh_view}
 use Rattle.nm_steps.proofs.Extending.{neither}
 use Rattle.nm_epoch.specs.Resting.{IsResting, epochs, search}
 use Rattle.nm_epoch.proofs.Marks.{marks, IsLooking, one_for_each, all_others}
@@ -30,7 +30,7 @@ is_there : (o : Option ℕ) → IsSome o → is_none o ≡ false
 is_there None h = sym h
 is_there (Some e) h = refl
 
-pub may_announce : (p : Stand) → IsSome (epochs p).seen → (epochs p).pin ≡ None → MayStep p Announce
+pub may_announce : (p : PassView) → IsSome (epochs p).seen → (epochs p).pin ≡ None → MayStep p Announce
 unfolding refusal
 may_announce p seen pin = record {
   looked = tt;
@@ -40,7 +40,7 @@ may_announce p seen pin = record {
   key = tt;
 }
 
-pub may_sight_for : (p : Stand) (op : Op) (key : ℕ) → IsSome (epochs p).announcement → (epochs p).pin ≡ None → IsKey key → MayStep p (SightFor op key)
+pub may_sight_for : (p : PassView) (op : Op) (key : ℕ) → IsSome (epochs p).announcement → (epochs p).pin ≡ None → IsKey key → MayStep p (SightFor op key)
 unfolding refusal
 may_sight_for p op key announcement pin is = record {
   looked = tt;
@@ -50,7 +50,7 @@ may_sight_for p op key announcement pin is = record {
   key = is;
 }
 
-pub may_leave : (p : Stand) → (epochs p).unlabelled ≡ false → (search p).linked ≡ false → (search p).flagged ≡ None → MayStep p Leave
+pub may_leave : (p : PassView) → (epochs p).unlabelled ≡ false → (search p).linked ≡ false → (search p).flagged ≡ None → MayStep p Leave
 unfolding refusal
 may_leave p labelled linked flagged = record {
   looked = tt;
@@ -61,16 +61,16 @@ may_leave p labelled linked flagged = record {
 }
 
 -- what a worker that may leave has
-pub leave_labelled : (p : Stand) → MayStep p Leave → (epochs p).unlabelled ≡ false
+pub leave_labelled : (p : PassView) → MayStep p Leave → (epochs p).unlabelled ≡ false
 unfolding refusal
 leave_labelled p may = (passed _ _ _ (may.allowed (opening p.view.layout) tt)).0
 
-pub leave_with_labelled : (p : Stand) (answer : Bool) → MayStep p (LeaveWith answer) → (epochs p).unlabelled ≡ false
+pub leave_with_labelled : (p : PassView) (answer : Bool) → MayStep p (LeaveWith answer) → (epochs p).unlabelled ≡ false
 unfolding refusal
 leave_with_labelled p answer may = (passed _ _ _ (may.allowed (opening p.view.layout) tt)).0
 
 -- a worker that has done nothing yet rests
-pub fresh_rests : (L : Layout) (k : ℕ) (p : Stand) → p.view ≡ fresh_view L k → IsResting p
+pub fresh_rests : (L : Layout) (k : ℕ) (p : PassView) → p.view ≡ fresh_view L k → IsResting p
 fresh_rests L k p fresh = record {
   unpinned = ap (λ (v : View). (knowledge v).brief.pin) fresh;
   silent = ap (λ (v : View). (knowledge v).brief.announcement) fresh;
@@ -79,7 +79,7 @@ fresh_rests L k p fresh = record {
 }
 
 -- another worker may be scanned once the epoch was read
-pub may_scan : (p : Stand) (u : ℕ) → u < p.view.layout.workers → IsSome (epochs p).seen → MayStep p (Scan u)
+pub may_scan : (p : PassView) (u : ℕ) → u < p.view.layout.workers → IsSome (epochs p).seen → MayStep p (Scan u)
 unfolding refusal
 may_scan p u below seen = record {
   looked = tt;
@@ -95,7 +95,7 @@ frees None e h = refl
 frees (Some a) e h = ap not h
 
 -- once all workers let it pass, the epoch may be moved on
-pub may_advance : (me e n : ℕ) (old : List Entry) (p : Stand) → me ≡ p.view.number → me < n → n ≡ p.view.layout.workers → e < last_number → IsLooking me e n old p → MayStep p Advance
+pub may_advance : (me e n : ℕ) (old : List Entry) (p : PassView) → me ≡ p.view.number → me < n → n ≡ p.view.layout.workers → e < last_number → IsLooking me e n old p → MayStep p Advance
 unfolding refusal
 may_advance me e n old p own there all small h = record {
   looked = tt;

@@ -17,7 +17,7 @@ use Rattle.nm_model.specs.Step.{refusal, outside, first, free_checks, has_no_lab
 use Rattle.nm_laws.proofs.Held.{Front, front, entry_is_front}
 use Rattle.nm_laws.proofs.Learned.{learn_freed}
 use Rattle.nm_steps.specs.Rules.{knowledge}
-use Rattle.nm_steps.specs.Steps.{Stand, MayStep, Stepped, give_reply}
+use Rattle.nm_steps.specs.Steps.{PassView, MayStep, Stepped, give_reply}
 use Rattle.nm_steps.proofs.Presence.{known_push}
 use Rattle.nm_steps.proofs.Extending.{neither}
 use Rattle.nm_epoch.specs.declared.collecting.Entry.{Entry}
@@ -73,7 +73,7 @@ retired_freed (l ∷ ls) n j = retired_by (is_some (front_at (queue_of l) n.slot
 
 -- ---- the front of a held queue
 
-module _ (p : Stand) (o : ℕ) (x : Entry) (es : List Entry) (has : IsQueueOf (knowledge p.view) o (x ∷ es)) (apart : AreApart p.view.layout (knowledge p.view)) where
+module _ (p : PassView) (o : ℕ) (x : Entry) (es : List Entry) (has : IsQueueOf (knowledge p.view) o (x ∷ es)) (apart : AreApart p.view.layout (knowledge p.view)) where
   abbrev k : Knowledge
   k = knowledge p.view
 
@@ -122,9 +122,9 @@ module _ (p : Stand) (o : ℕ) (x : Entry) (es : List Entry) (has : IsQueueOf (k
 
   -- ---- after the step
 
-  module _ (q : Stand) (step : Stepped p q (Give s) (Freed x.node)) where
+  module _ (q : PassView) (step : Stepped p q (Give s) (Freed x.node)) where
     learned : knowledge q.view ≡ record k { ledgers = free k.ledgers x.node }
-    learned = ap (λ (y : Stand). knowledge y.view) step ∙ (known_push p.view.number p.view.layout p.view.log (Give s, Freed x.node) ∙ learn_freed p.view.number k s x.node)
+    learned = ap (λ (y : PassView). knowledge y.view) step ∙ (known_push p.view.number p.view.layout p.view.log (Give s, Freed x.node) ∙ learn_freed p.view.number k s x.node)
 
     ledgers_are : (knowledge q.view).ledgers ≡ free k.ledgers x.node
     ledgers_are = ap (λ (y : Knowledge). y.ledgers) learned

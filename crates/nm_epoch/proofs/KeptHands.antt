@@ -13,7 +13,7 @@ use Rattle.nm_model.specs.Learning.{learn, learn_sight, learn_scan}
 use Rattle.nm_model.specs.Step.{confirmed, reply_scan}
 use Rattle.nm_model.specs.Walks.{Entry}
 use Rattle.nm_steps.specs.Rules.{knowledge}
-use Rattle.nm_steps.specs.Steps.{Stand, Stepped, IsSamePass, IsSight, sight_of}
+use Rattle.nm_steps.specs.Steps.{PassView, Stepped, IsSamePass, IsSight, sight_of}
 use Rattle.nm_epoch.specs.Resting.{KeepsHands, epochs}
 use Rattle.nm_epoch.specs.Scans.{LooksAt}
 use Rattle.nm_steps.proofs.Presence.{known_after_step}
@@ -73,7 +73,7 @@ learn_keeps w k (LeaveWith answer) _ q = as_it_was k _
 learn_keeps w k Advance _ q = as_it_was k _
 learn_keeps w k _ _ q = absurd (true≢false (sym q))
 
-pub hands_kept : (p q : Stand) (e : Event) (r : Reply) → Stepped p q e r → is_quiet e ≡ true → ((epochs p).unlabelled ≡ false → is_label r ≡ false) → KeepsHands p q
+pub hands_kept : (p q : PassView) (e : Event) (r : Reply) → Stepped p q e r → is_quiet e ≡ true → ((epochs p).unlabelled ≡ false → is_label r ≡ false) → KeepsHands p q
 hands_kept p q e r step quiet silent =
     let after = known_after_step p q e r step in
     let l = learn_keeps p.view.number (knowledge p.view) e r quiet in
@@ -97,14 +97,14 @@ sight_is_silent b r s none' = ap is_label s.2 ∙ (ap is_label (is_confirmed s.0
 
 -- ---- several steps
 
-pub kept_on : (o p q : Stand) → KeepsHands o p → KeepsHands p q → KeepsHands o q
+pub kept_on : (o p q : PassView) → KeepsHands o p → KeepsHands p q → KeepsHands o q
 kept_on o p q a b = record {
   private = b.private ∙ a.private;
   labelled = λ none'. b.labelled (a.labelled none');
   ledgers = λ none'. b.ledgers (a.labelled none') ∙ a.ledgers none';
 }
 
-pub kept_still : (p : Stand) → KeepsHands p p
+pub kept_still : (p : PassView) → KeepsHands p p
 kept_still p = record { private = refl; labelled = λ none'. none'; ledgers = λ none'. refl }
 
 scan_is_silent : (found : Option ℕ) → is_label (reply_scan found) ≡ false
@@ -113,7 +113,7 @@ scan_is_silent (Some e) = refl
 
 -- ---- a look at a worker
 
-module _ (me v : ℕ) (pin found : Option ℕ) (p q : Stand) (same : IsSamePass p q) (look : LooksAt me pin v found p.view.log q.view.log) where
+module _ (me v : ℕ) (pin found : Option ℕ) (p q : PassView) (same : IsSamePass p q) (look : LooksAt me pin v found p.view.log q.view.log) where
   scanned : q.view.log ≡ p.view.log ++ (Scan v, reply_scan found) ∷ [] → Stepped p q (Scan v) (reply_scan found)
   scanned more = same ∙ ap (λ (log : List Entry). record p { view = record p.view { log = log; past = q.view.past } }) more
 
@@ -122,7 +122,7 @@ module _ (me v : ℕ) (pin found : Option ℕ) (p q : Stand) (same : IsSamePass 
 
   pub look_keeps : KeepsHands p q
   look_keeps = ⊎_elim
-      (λ (own : (v ≡ me) × (found ≡ pin) × (q.view.log ≡ p.view.log)). subst (λ (x : Stand). KeepsHands p x) (sym (unmoved own.2)) (record { private = refl; labelled = λ none'. none'; ledgers = λ none'. refl }))
+      (λ (own : (v ≡ me) × (found ≡ pin) × (q.view.log ≡ p.view.log)). subst (λ (x : PassView). KeepsHands p x) (sym (unmoved own.2)) (record { private = refl; labelled = λ none'. none'; ledgers = λ none'. refl }))
       (λ (other : (v ≢ me) × (q.view.log ≡ p.view.log ++ (Scan v, reply_scan found) ∷ [])). hands_kept p q (Scan v) (reply_scan found) (scanned other.1) refl (λ _. scan_is_silent found))
       look
 
@@ -136,6 +136,6 @@ module _ (me v : ℕ) (pin found : Option ℕ) (p q : Stand) (same : IsSamePass 
 
   pub look_known : (knowledge q.view).known ≡ (knowledge p.view).known
   look_known = ⊎_elim
-      (λ (own : (v ≡ me) × (found ≡ pin) × (q.view.log ≡ p.view.log)). ap (λ (x : Stand). (knowledge x.view).known) (unmoved own.2))
+      (λ (own : (v ≡ me) × (found ≡ pin) × (q.view.log ≡ p.view.log)). ap (λ (x : PassView). (knowledge x.view).known) (unmoved own.2))
       (λ (other : (v ≢ me) × (q.view.log ≡ p.view.log ++ (Scan v, reply_scan found) ∷ [])). ap (λ (k : Knowledge). k.known) (known_after_step p q (Scan v) (reply_scan found) (scanned other.1)) ∙ scan_known p.view.number (knowledge p.view))
       look

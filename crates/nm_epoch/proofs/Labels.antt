@@ -12,7 +12,7 @@ use Rattle.nm_model.specs.Ledgers.{held, labelled, unlabelled, with_label}
 use Rattle.nm_laws.proofs.Held.{held-label}
 use Rattle.nm_laws.proofs.Learned.{learn_labelled}
 use Rattle.nm_steps.specs.Rules.{knowledge}
-use Rattle.nm_steps.specs.Steps.{Stand, Stepped}
+use Rattle.nm_steps.specs.Steps.{PassView, Stepped}
 use Rattle.nm_epoch.specs.declared.collecting.Entry.{Entry}
 use Rattle.nm_epoch.specs.Collecting.{queued, labelled_so, TakesLabels}
 use Rattle.nm_steps.proofs.Presence.{known_after_step}
@@ -30,10 +30,10 @@ in_ledger : (e : ℕ) (h : Option Ledger) (es : List Entry) (ns : List NodeId) �
 in_ledger e None es ns is = absurd (none-some _ is)
 in_ledger e (Some l) es ns is = ap (λ (q : List Queued). Some (map (with_label e) q)) (same_Some l.queue (map queued es ++ map unlabelled ns) is) ∙ ap (λ (q : List Queued). Some q) (all_labelled e es ns)
 
-pub takes_labels : (p q : Stand) (e : ℕ) → Stepped p q Sight (Labelled e) → TakesLabels e (knowledge p.view) (knowledge q.view)
+pub takes_labels : (p q : PassView) (e : ℕ) → Stepped p q Sight (Labelled e) → TakesLabels e (knowledge p.view) (knowledge q.view)
 takes_labels p q e step o es ns is =
     ap (λ (k : Knowledge). option_map (λ (l : Ledger). l.queue) (held k.ledgers o)) (known_after_step p q Sight (Labelled e) step ∙ learn_labelled p.view.number (knowledge p.view) e)
     ∙ (ap (λ (h : Option Ledger). option_map (λ (l : Ledger). l.queue) h) (held-label e (knowledge p.view).ledgers o) ∙ in_ledger e (held (knowledge p.view).ledgers o) es ns is)
 
-pub drafts_stay : (p q : Stand) (e : ℕ) → Stepped p q Sight (Labelled e) → (knowledge q.view).drafts ≡ (knowledge p.view).drafts
+pub drafts_stay : (p q : PassView) (e : ℕ) → Stepped p q Sight (Labelled e) → (knowledge q.view).drafts ≡ (knowledge p.view).drafts
 drafts_stay p q e step = ap (λ (k : Knowledge). k.drafts) (known_after_step p q Sight (Labelled e) step ∙ learn_labelled p.view.number (knowledge p.view) e)

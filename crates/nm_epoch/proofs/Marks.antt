@@ -14,18 +14,18 @@ use Rattle.nm_laws.proofs.Learned.{learn_idle, learn_in}
 use Rattle.nm_laws.proofs.Shapes.{row_learn}
 use Rattle.nm_order.specs.Logs.{known_after}
 use Rattle.nm_steps.specs.Rules.{knowledge}
-use Rattle.nm_steps.specs.Steps.{Stand, Stepped}
+use Rattle.nm_steps.specs.Steps.{PassView, Stepped}
 use Rattle.nm_steps.proofs.Presence.{known_push}
 use Rattle.nm_epoch.specs.Resting.{epochs}
 use Rattle.nm_epoch.specs.Scans.{lets_pass, SightThenScans}
 
 -- by worker, whether it was scanned at the epoch last read
-abbrev pub marks : Stand → List Bool
+abbrev pub marks : PassView → List Bool
 marks p = (knowledge p.view).scanned
 
 -- how far an advance has come: those below n let it pass, and are marked as scanned, or are the own
 -- worker
-pub record IsLooking (me e n : ℕ) (old : List Entry) (p : Stand) : Type 0 where
+pub record IsLooking (me e n : ℕ) (old : List Entry) (p : PassView) : Type 0 where
   pub part : SightThenScans me (epochs p).pin e n old p.view.log
   pub seen : (epochs p).seen ≡ Some e
   pub own : me < n → lets_pass (epochs p).pin e ≡ true
@@ -37,7 +37,7 @@ pub row_after : (n w : ℕ) (k : Knowledge) (log : List Entry) → IsRow n k →
 row_after n w k [] h = h
 row_after n w k (x ∷ log) h = row_after n w (learn w k x.0 x.1) log (row_learn n w k x.0 x.1 h)
 
-pub one_for_each : (p : Stand) → length (marks p) ≡ p.view.layout.workers
+pub one_for_each : (p : PassView) → length (marks p) ≡ p.view.layout.workers
 one_for_each p = (row_after p.view.layout.workers p.view.number (newcomer p.view.layout p.view.number) p.view.log (record {
   scanned = length-replicate p.view.layout.workers false;
   ledgers = length-set _ _ _ ∙ length-replicate p.view.layout.workers None;
@@ -49,9 +49,9 @@ scan_marks : (w : ℕ) (k : Knowledge) (v e : ℕ) (found : Option ℕ) → k.br
 scan_marks w k v e None seen = ap (λ (x : Knowledge). x.scanned) (learn_idle w k v)
 scan_marks w k v e (Some a) seen = ap (λ (x : Knowledge). x.scanned) (learn_in w k v a) ∙ ap (λ (o : Option ℕ). slice_set k.scanned v (is_number o a)) seen
 
-pub marks_after : (p q : Stand) (v e : ℕ) (found : Option ℕ) → Stepped p q (Scan v) (reply_scan found) → (epochs p).seen ≡ Some e → marks q ≡ slice_set (marks p) v (lets_pass found e)
+pub marks_after : (p q : PassView) (v e : ℕ) (found : Option ℕ) → Stepped p q (Scan v) (reply_scan found) → (epochs p).seen ≡ Some e → marks q ≡ slice_set (marks p) v (lets_pass found e)
 marks_after p q v e found step seen =
-    ap (λ (x : Stand). marks x) step
+    ap (λ (x : PassView). marks x) step
     ∙ (ap (λ (k : Knowledge). k.scanned) (known_push p.view.number p.view.layout p.view.log (Scan v, reply_scan found)) ∙ scan_marks p.view.number (knowledge p.view) v e found seen)
 
 -- ---- all others

@@ -6,14 +6,14 @@ use Rattle.std.proofs.lemmas.Option.{same_Some}
 use Rattle.nm_model.specs.Walks.{Entry}
 use Rattle.nm_order.specs.Reads.{HasRead, ReadLast}
 use Rattle.nm_order.proofs.ReadEpochs.{epochs_are_read_in_order}
-use Rattle.nm_steps.specs.Steps.{Stand, IsInRun}
+use Rattle.nm_steps.specs.Steps.{PassView, IsInRun}
 use Rattle.nm_epoch.specs.Resting.{epochs}
 use Rattle.nm_epoch.specs.Scans.{IsSightOf}
 
 read_before : (old new : List Entry) (x : Entry) (e : ℕ) → new ≡ old ++ x ∷ [] → HasRead old e → HasRead new e
 read_before old new x e more read = record { entry = read.entry; among = subst (λ (log : List Entry). Contains log read.entry) (sym more) (Contains-append_left old (x ∷ []) read.entry read.among); tells = read.tells }
 
-pub is_newest : (p q : Stand) (epoch : ℕ) → IsSightOf epoch p.view.log q.view.log → (epochs q).seen ≡ Some epoch → IsInRun q → (e : ℕ) → HasRead p.view.log e → e ≤ epoch
+pub is_newest : (p q : PassView) (epoch : ℕ) → IsSightOf epoch p.view.log q.view.log → (epochs q).seen ≡ Some epoch → IsInRun q → (e : ℕ) → HasRead p.view.log e → e ≤ epoch
 is_newest p q epoch sight seen run e read = go (epochs_are_read_in_order q.view.layout (let least = run.fits.least in omega arith) q.view.number q.view.log run.run.is_part e (read_before p.view.log q.view.log _ e sight.2 read))
   where
     go : ReadLast q.view.log (epochs q).seen e → e ≤ epoch

@@ -13,7 +13,7 @@ use Rattle.nm_model.specs.declared.knowledge.Brief.{Brief}
 use Rattle.nm_model.specs.Ledgers.{held}
 use Rattle.nm_model.specs.Walks.{Entry as LogEntry}
 use Rattle.nm_steps.specs.Rules.{knowledge}
-use Rattle.nm_steps.specs.Steps.{Stand, MayStep, Stepped, give_reply, IsInRun}
+use Rattle.nm_steps.specs.Steps.{PassView, MayStep, Stepped, give_reply, IsInRun}
 use Rattle.nm_steps.proofs.AfterSteps.{apart_in_run}
 use Rattle.nm_epoch.specs.declared.collecting.Entry.{Entry}
 use Rattle.nm_epoch.specs.Resting.{Settles, epochs}
@@ -21,7 +21,7 @@ use Rattle.nm_order.specs.Hands.{AreApart}
 use Rattle.nm_epoch.specs.Collecting.{IsQueueOf, OnlyFrees, is_ripe, ripe_front, ripe_part, rest_of, freeing}
 use Rattle.nm_epoch.proofs.Fronts.{may_free, freed_reply, queue_after, others_after, retired_stays, epochs_stay, search_stays, nodes_stay, private_stay}
 
-pub frees_then : (p q r : Stand) → OnlyFrees p q → OnlyFrees q r → OnlyFrees p r
+pub frees_then : (p q r : PassView) → OnlyFrees p q → OnlyFrees q r → OnlyFrees p r
 frees_then p q r first rest = record {
   retired = λ o. rest.retired o ∙ first.retired o;
   epochs_are = rest.epochs_are ∙ first.epochs_are;
@@ -31,7 +31,7 @@ frees_then p q r first rest = record {
 }
 
 -- what was freed and what is ripe still is what was ripe at first
-pub record IsCollecting (epoch origin : ℕ) (start : Stand) (all : List Entry) (p : Stand) (now : List Entry) : Type 0 where
+pub record IsCollecting (epoch origin : ℕ) (start : PassView) (all : List Entry) (p : PassView) (now : List Entry) : Type 0 where
   pub queue : IsQueueOf (knowledge p.view) origin now
   pub others : (o : ℕ) → o ≢ origin → held (knowledge p.view).ledgers o ≡ held (knowledge start.view).ledgers o
   pub only : OnlyFrees start p
@@ -79,16 +79,16 @@ both_parts epoch (x ∷ es) = by (is_ripe epoch x) refl (both_parts epoch es)
 
 -- ---- one more
 
-pub may_collect : (epoch origin : ℕ) (start p : Stand) (all now : List Entry) (n : NodeId) → IsInRun p → IsCollecting epoch origin start all p now → (epochs start).seen ≡ Some epoch → ripe_front epoch now ≡ Some n → MayStep p (Give n.slot)
+pub may_collect : (epoch origin : ℕ) (start p : PassView) (all now : List Entry) (n : NodeId) → IsInRun p → IsCollecting epoch origin start all p now → (epochs start).seen ≡ Some epoch → ripe_front epoch now ≡ Some n → MayStep p (Give n.slot)
 may_collect epoch origin start p all [] n run c seen ripe = absurd (none-some n ripe)
 may_collect epoch origin start p all (x ∷ es) n run c seen ripe =
     let r = ripe_node (is_ripe epoch x) x.node n ripe in
     subst (λ (m : NodeId). MayStep p (Give m.slot)) r.1 (may_free p origin x es c.queue (apart_in_run p run) epoch (ap (λ (b : Brief). b.seen) c.only.epochs_are ∙ seen) (leb-true (x.label + 2) epoch r.0))
 
-collecting_more : (epoch origin : ℕ) (start p q : Stand) (all es : List Entry) (x : Entry) → IsInRun p → IsCollecting epoch origin start all p (x ∷ es) → is_ripe epoch x ≡ true → Stepped p q (Give x.node.slot) (Freed x.node) → IsCollecting epoch origin start all q es
+collecting_more : (epoch origin : ℕ) (start p q : PassView) (all es : List Entry) (x : Entry) → IsInRun p → IsCollecting epoch origin start all p (x ∷ es) → is_ripe epoch x ≡ true → Stepped p q (Give x.node.slot) (Freed x.node) → IsCollecting epoch origin start all q es
 collecting_more epoch origin start p q all es x run c ripe step =
     let apart : AreApart p.view.layout (knowledge p.view) = apart_in_run p run in
-    let log_is : q.view.log ≡ p.view.log ++ freeing x ∷ [] = ap (λ (y : Stand). y.view.log) step in
+    let log_is : q.view.log ≡ p.view.log ++ freeing x ∷ [] = ap (λ (y : PassView). y.view.log) step in
     let more : ripe_part epoch (x ∷ es) ≡ x ∷ ripe_part epoch es = ripe_more epoch x es ripe in
     let longer : length (ripe_part epoch (x ∷ es)) ≡ suc (length (ripe_part epoch es)) = ap (λ (r : List Entry). length r) more in
     let count : suc (length es) + length (ripe_part epoch all) ≡ length all + length (ripe_part epoch (x ∷ es)) = c.count in
@@ -109,7 +109,7 @@ collecting_more epoch origin start p q all es x run c ripe step =
       count = omega (arith, longer, count);
     }
 
-pub collecting_on : (epoch origin : ℕ) (start p q : Stand) (all now later : List Entry) (y : Entry) (n : NodeId) → IsInRun p → IsCollecting epoch origin start all p now → ripe_front epoch now ≡ Some n → Stepped p q (Give n.slot) (give_reply p.view n.slot)
+pub collecting_on : (epoch origin : ℕ) (start p q : PassView) (all now later : List Entry) (y : Entry) (n : NodeId) → IsInRun p → IsCollecting epoch origin start all p now → ripe_front epoch now ≡ Some n → Stepped p q (Give n.slot) (give_reply p.view n.slot)
     → now ≡ y ∷ later → IsCollecting epoch origin start all q later
 collecting_on epoch origin start p q all [] later y n run c ripe step is = absurd (none-some n ripe)
 collecting_on epoch origin start p q all (x ∷ es) later y n run c ripe step is =
@@ -124,7 +124,7 @@ dropped_front epoch [] later n is ripe = absurd (none-some n ripe)
 dropped_front epoch (x ∷ es) later n is ripe = (x, ap (λ (l : List Entry). x ∷ l) (sym is))
 
 -- what was settled stays so, where nodes were freed alone
-pub settled_on : (o p q : Stand) → Settles o p → OnlyFrees p q → Settles o q
+pub settled_on : (o p q : PassView) → Settles o p → OnlyFrees p q → Settles o q
 settled_on o p q s only = record {
   labelled = ap (λ (b : Brief). b.unlabelled) only.epochs_are ∙ s.labelled;
   stays = λ settled.

@@ -11,7 +11,7 @@ use Rattle.nm_model.specs.declared.reply.Reply.{Reply}
 use Rattle.nm_model.specs.Searches.{searched}
 use Rattle.nm_model.specs.Walks.{Entry}
 use Rattle.nm_model.specs.Step.{reply_scan}
-use Rattle.nm_steps.specs.Steps.{Stand, Stepped, IsSamePass}
+use Rattle.nm_steps.specs.Steps.{PassView, Stepped, IsSamePass}
 use Rattle.nm_epoch.specs.Resting.{Settles, epochs, search}
 use Rattle.nm_epoch.proofs.Marks.{marks, IsLooking, one_for_each, marks_after}
 use Rattle.nm_epoch.specs.Scans.{LooksAt, SightThenScans, lets_pass}
@@ -20,37 +20,37 @@ use Rattle.nm_epoch.proofs.KeptHands.{look_known}
 
 -- ---- one look
 
-abbrev with_log : Stand → Stand → List Entry → Stand
+abbrev with_log : PassView → PassView → List Entry → PassView
 with_log p q log = record p { view = record p.view { log = log; past = q.view.past } }
 
-stepped_by : (p q : Stand) (e : Event) (r : Reply) → IsSamePass p q → q.view.log ≡ p.view.log ++ (e, r) ∷ [] → Stepped p q e r
+stepped_by : (p q : PassView) (e : Event) (r : Reply) → IsSamePass p q → q.view.log ≡ p.view.log ++ (e, r) ∷ [] → Stepped p q e r
 stepped_by p q e r same more = same ∙ ap (λ (log : List Entry). with_log p q log) more
 
-stays_put : (p q : Stand) → IsSamePass p q → q.view.log ≡ p.view.log → q ≡ with_log p q p.view.log
+stays_put : (p q : PassView) → IsSamePass p q → q.view.log ≡ p.view.log → q ≡ with_log p q p.view.log
 stays_put p q same none = same ∙ ap (λ (log : List Entry). with_log p q log) none
 
-module _ (me v : ℕ) (pin found : Option ℕ) (p q : Stand) (same : IsSamePass p q) (look : LooksAt me pin v found p.view.log q.view.log) where
+module _ (me v : ℕ) (pin found : Option ℕ) (p q : PassView) (same : IsSamePass p q) (look : LooksAt me pin v found p.view.log q.view.log) where
   pub look_epochs : epochs q ≡ epochs p
   look_epochs = ⊎_elim
-      (λ (own : (v ≡ me) × (found ≡ pin) × (q.view.log ≡ p.view.log)). ap (λ (x : Stand). epochs x) (stays_put p q same own.2))
+      (λ (own : (v ≡ me) × (found ≡ pin) × (q.view.log ≡ p.view.log)). ap (λ (x : PassView). epochs x) (stays_put p q same own.2))
       (λ (other : (v ≢ me) × (q.view.log ≡ p.view.log ++ (Scan v, reply_scan found) ∷ [])). epochs_after p q (Scan v) (reply_scan found) (stepped_by p q (Scan v) (reply_scan found) same other.1))
       look
 
   pub look_search : search q ≡ search p
   unfolding searched
   look_search = ⊎_elim
-      (λ (own : (v ≡ me) × (found ≡ pin) × (q.view.log ≡ p.view.log)). ap (λ (x : Stand). search x) (stays_put p q same own.2))
+      (λ (own : (v ≡ me) × (found ≡ pin) × (q.view.log ≡ p.view.log)). ap (λ (x : PassView). search x) (stays_put p q same own.2))
       (λ (other : (v ≢ me) × (q.view.log ≡ p.view.log ++ (Scan v, reply_scan found) ∷ [])). search_is p q (Scan v) (reply_scan found) (stepped_by p q (Scan v) (reply_scan found) same other.1))
       look
 
   look_marks : (e : ℕ) → (epochs p).seen ≡ Some e → ((v ≡ me) × (marks q ≡ marks p)) ⊎ (marks q ≡ slice_set (marks p) v (lets_pass found e))
   look_marks e seen = ⊎_elim
-      (λ (own : (v ≡ me) × (found ≡ pin) × (q.view.log ≡ p.view.log)). inl (own.0, ap (λ (x : Stand). marks x) (stays_put p q same own.2)))
+      (λ (own : (v ≡ me) × (found ≡ pin) × (q.view.log ≡ p.view.log)). inl (own.0, ap (λ (x : PassView). marks x) (stays_put p q same own.2)))
       (λ (other : (v ≢ me) × (q.view.log ≡ p.view.log ++ (Scan v, reply_scan found) ∷ [])). inr (marks_after p q v e found (stepped_by p q (Scan v) (reply_scan found) same other.1) seen))
       look
 
   -- what a sight settled stays settled
-  pub settles_on : (o : Stand) → Settles o p → Settles o q
+  pub settles_on : (o : PassView) → Settles o p → Settles o q
   settles_on o s = record {
     labelled = ap (λ (b : Brief). b.unlabelled) look_epochs ∙ s.labelled;
     stays = λ settled. let t = s.stays settled in record {
@@ -75,7 +75,7 @@ module _ (me v : ℕ) (pin found : Option ℕ) (p q : Stand) (same : IsSamePass 
 
 -- ---- all looks
 
-pub looking_on : (me e v : ℕ) (found : Option ℕ) (old : List Entry) (p q : Stand) → IsSamePass p q → LooksAt me (epochs p).pin v found p.view.log q.view.log → lets_pass found e ≡ true → v < p.view.layout.workers
+pub looking_on : (me e v : ℕ) (found : Option ℕ) (old : List Entry) (p q : PassView) → IsSamePass p q → LooksAt me (epochs p).pin v found p.view.log q.view.log → lets_pass found e ≡ true → v < p.view.layout.workers
     → IsLooking me e v old p → IsLooking me e (v + 1) old q
 looking_on me e v found old p q same look lets below h =
     let still : epochs q ≡ epochs p = look_epochs me v (epochs p).pin found p q same look in

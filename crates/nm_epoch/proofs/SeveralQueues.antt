@@ -7,7 +7,7 @@ use Rattle.nm_model.specs.Knowledge.{Knowledge}
 use Rattle.nm_model.specs.Ledgers.{held}
 use Rattle.nm_model.specs.Walks.{Entry as LogEntry}
 use Rattle.nm_steps.specs.Rules.{knowledge}
-use Rattle.nm_steps.specs.Steps.{Stand}
+use Rattle.nm_steps.specs.Steps.{PassView}
 use Rattle.nm_steps.proofs.Seeing.{continues_then}
 use Rattle.nm_epoch.specs.declared.collecting.Entry.{Entry}
 use Rattle.nm_epoch.specs.declared.collecting.HeldQueue.{HeldQueue}
@@ -48,7 +48,7 @@ pub entries_on : (old mid new : List LogEntry) (es fs : List Entry) → mid ≡ 
 entries_on old mid new es fs first rest = rest ∙ (ap (λ (log : List LogEntry). log ++ map freeing fs) first ∙ (append_assoc old (map freeing es) (map freeing fs) ∙ ap (λ (log : List LogEntry). old ++ log) (sym (map-append freeing es fs))))
 
 -- the first one and then the others
-pub fronts_freed : (epoch : ℕ) (p q r : Stand) (h g : HeldQueue) (hs gs : List HeldQueue) (m n : ℕ) → AreHeld (knowledge p.view) (h ∷ hs) → FreesFront epoch p q h g m → FreesFronts epoch q r hs gs n → FreesFronts epoch p r (h ∷ hs) (g ∷ gs) (m + n)
+pub fronts_freed : (epoch : ℕ) (p q r : PassView) (h g : HeldQueue) (hs gs : List HeldQueue) (m n : ℕ) → AreHeld (knowledge p.view) (h ∷ hs) → FreesFront epoch p q h g m → FreesFronts epoch q r hs gs n → FreesFronts epoch p r (h ∷ hs) (g ∷ gs) (m + n)
 fronts_freed epoch p q r h g hs gs m n has first rest =
     let sum = length-append (ripe_part epoch h.queue.items) (ripe_of epoch hs) in
     let one = first.freed in

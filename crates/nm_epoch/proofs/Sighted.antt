@@ -17,7 +17,7 @@ use Rattle.nm_laws.proofs.Held.{held-label}
 use Rattle.nm_laws.proofs.Learned.{learn_saw, learn_labelled, learn_pinned, learn_missed}
 use Rattle.nm_model.specs.Walks.{Entry as LogEntry}
 use Rattle.nm_steps.specs.Rules.{knowledge}
-use Rattle.nm_steps.specs.Steps.{Stand, Stepped, IsSight, sight_of, IsSamePass}
+use Rattle.nm_steps.specs.Steps.{PassView, Stepped, IsSight, sight_of, IsSamePass}
 use Rattle.nm_steps.proofs.Presence.{known_push}
 use Rattle.nm_epoch.specs.declared.collecting.Entry.{Entry}
 use Rattle.nm_epoch.specs.declared.collecting.HeldQueue.{HeldQueue}
@@ -64,12 +64,12 @@ module _ (k l : Knowledge) (s : Sights k l) where
 
 -- ---- by the log
 
-module _ (p q : Stand) (e : ℕ) (same : IsSamePass p q) (sight : IsSightOf e p.view.log q.view.log) where
+module _ (p q : PassView) (e : ℕ) (same : IsSamePass p q) (sight : IsSightOf e p.view.log q.view.log) where
   step : Stepped p q Sight sight.0
   step = same ∙ ap (λ (log : List LogEntry). record p { view = record p.view { log = log; past = q.view.past } }) sight.2
 
   seen_so : Sights (knowledge p.view) (knowledge q.view)
-  seen_so = rw (ap (λ (y : Stand). knowledge y.view) step ∙ known_push p.view.number p.view.layout p.view.log (Sight, sight.0)) (sights p.view.number (knowledge p.view) sight.0 e sight.1)
+  seen_so = rw (ap (λ (y : PassView). knowledge y.view) step ∙ known_push p.view.number p.view.layout p.view.log (Sight, sight.0)) (sights p.view.number (knowledge p.view) sight.0 e sight.1)
 
   pub held_seen : (hs : List HeldQueue) → AreHeld (knowledge p.view) hs → AreHeld (knowledge q.view) hs
   held_seen hs has = held_stays (knowledge p.view) (knowledge q.view) seen_so hs has
@@ -79,7 +79,7 @@ label_retires : (e : ℕ) (h : Option Ledger) → option_map (λ (l : Ledger). l
 label_retires e None = refl
 label_retires e (Some l) = refl
 
-pub seen_retires : (p q : Stand) (e : ℕ) → (knowledge q.view).ledgers ≡ ledgers_seen e (knowledge p.view) → KeepsRetired (knowledge p.view) (knowledge q.view)
+pub seen_retires : (p q : PassView) (e : ℕ) → (knowledge q.view).ledgers ≡ ledgers_seen e (knowledge p.view) → KeepsRetired (knowledge p.view) (knowledge q.view)
 seen_retires p q e is o = ap (λ (ls : List (Option Ledger)). option_map (λ (l : Ledger). l.retired) (held ls o)) is ∙ by (knowledge p.view).brief.unlabelled
   where
     by : (u : Bool) → option_map (λ (l : Ledger). l.retired) (held (cond u (label e (knowledge p.view).ledgers) (knowledge p.view).ledgers) o) ≡ retired_of (knowledge p.view) o
@@ -104,7 +104,7 @@ after_sight w k e = ledgers_by k.brief.unlabelled k e
 epoch_found : (b : Brief) (e : ℕ) → sight_epoch (sight_of b e) ≡ Some e
 epoch_found b e = cond_both b.unlabelled (Labelled e) (confirmed b.pin b.announcement e) (λ r. sight_epoch r ≡ Some e) (λ _. refl) (λ _. confirmed_finds b.pin b.announcement e)
 
-pub ledgers_after : (p q : Stand) (r : Reply) (e : ℕ) → Stepped p q Sight r → IsSight (epochs p) r → sight_epoch r ≡ Some e → (knowledge q.view).ledgers ≡ ledgers_seen e (knowledge p.view)
+pub ledgers_after : (p q : PassView) (r : Reply) (e : ℕ) → Stepped p q Sight r → IsSight (epochs p) r → sight_epoch r ≡ Some e → (knowledge q.view).ledgers ≡ ledgers_seen e (knowledge p.view)
 ledgers_after p q r e step sight is =
     let same : sight.0 ≡ e = same_Some sight.0 e (sym (epoch_found (epochs p) sight.0) ∙ (sym (ap sight_epoch sight.2) ∙ is)) in
     ap (λ (k : Knowledge). k.ledgers) (known_after_step p q Sight r step)

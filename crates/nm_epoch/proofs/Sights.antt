@@ -12,7 +12,7 @@ use Rattle.nm_model.specs.Knowledge.{Knowledge}
 use Rattle.nm_model.specs.Learning.{learn}
 use Rattle.nm_model.specs.Searches.{Search, searched, begun}
 use Rattle.nm_steps.specs.Rules.{knowledge}
-use Rattle.nm_steps.specs.Steps.{Stand, Stepped, IsSight, noted_sight, sight_of}
+use Rattle.nm_steps.specs.Steps.{PassView, Stepped, IsSight, noted_sight, sight_of}
 use Rattle.nm_epoch.specs.Resting.{IsSettled, Settles, epochs, search}
 use Rattle.nm_epoch.proofs.Entries.{epochs_after, search_is}
 use Rattle.nm_order.specs.Reads.{sight_epoch}
@@ -27,7 +27,7 @@ seen_told b (Pinned x) e h = h
 seen_told b (Missed x) e h = h
 seen_told b _ e h = absurd (none-some e h)
 
-pub read_seen : (p q : Stand) (r : Reply) (e : ℕ) → Stepped p q Sight r → sight_epoch r ≡ Some e → (epochs q).seen ≡ Some e
+pub read_seen : (p q : PassView) (r : Reply) (e : ℕ) → Stepped p q Sight r → sight_epoch r ≡ Some e → (epochs q).seen ≡ Some e
 read_seen p q r e step is = ap (λ (b : Brief). b.seen) (epochs_after p q Sight r step) ∙ seen_told (epochs p) r e is
 
 -- ---- labels
@@ -48,7 +48,7 @@ never_confirmed None None e x h is = cc
 never_confirmed None (Some a) e x (inl h) is = cc
 never_confirmed None (Some a) e x (inr h) is = cc
 
-never_pinned : (p : Stand) (r : Reply) → IsSettled p → IsSight (epochs p) r → (x : ℕ) → r ≡ Pinned x → ⊥
+never_pinned : (p : PassView) (r : Reply) → IsSettled p → IsSight (epochs p) r → (x : ℕ) → r ≡ Pinned x → ⊥
 never_pinned p r settled s x is =
     cond_both (epochs p).unlabelled (Labelled s.0) (confirmed (epochs p).pin (epochs p).announcement s.0) (λ y. y ≡ Pinned x → ⊥)
     (λ _ h. cc) (λ _ h. never_confirmed (epochs p).pin (epochs p).announcement s.0 x settled h) (sym s.2 ∙ is)
@@ -79,7 +79,7 @@ known_kept w k (Labelled x) not' = refl
 known_kept w k (Missed x) not' = refl
 known_kept w k _ not' = refl
 
-pub settles : (p q : Stand) (r : Reply) → Stepped p q Sight r → IsSight (epochs p) r → Settles p q
+pub settles : (p q : PassView) (r : Reply) → Stepped p q Sight r → IsSight (epochs p) r → Settles p q
 unfolding searched
 settles p q r step s =
     let after = epochs_after p q Sight r step in

@@ -5,14 +5,14 @@ use Rattle.std.proofs.Math.Nat.{two-pow-succ, mod-eq_of_lt, one-mul}
 use Rattle.std.proofs.lemmas.Nat.{pow_below}
 use Rattle.nm_model.specs.declared.knowledge.Brief.{Brief}
 use Rattle.nm_model.specs.Walks.{Entry}
-use Rattle.nm_steps.specs.Steps.{Stand, IsSamePass}
+use Rattle.nm_steps.specs.Steps.{PassView, IsSamePass}
 use Rattle.nm_epoch.specs.Resting.{epochs}
 use Rattle.nm_epoch.specs.Scans.{LooksAt, lets_pass}
 use Rattle.nm_epoch.specs.Watches.{SightThenWatch, bit_of}
 use Rattle.nm_epoch.proofs.Scanning.{look_epochs}
 
 -- how far it has come: those below n were looked at
-pub record IsWatching (me e n mask : ℕ) (old : List Entry) (p : Stand) : Type 0 where
+pub record IsWatching (me e n mask : ℕ) (old : List Entry) (p : PassView) : Type 0 where
   pub part : SightThenWatch me (epochs p).pin e n mask old p.view.log
   pub seen : (epochs p).seen ≡ Some e
   pub small : mask < 2 ^ n
@@ -37,7 +37,7 @@ bit_small v e mask found small = go (lets_pass found e)
 pub shifted : (v : ℕ) → v < 64 → (1 * 2 ^ v) % 2 ^ 64 ≡ 2 ^ v
 shifted v below = ap (λ (n : ℕ). n % 2 ^ 64) (one-mul (2 ^ v)) ∙ mod-eq_of_lt (pow_below v 64 below)
 
-pub watching_on : (me e v mask more : ℕ) (found : Option ℕ) (old : List Entry) (p q : Stand) → IsSamePass p q → LooksAt me (epochs p).pin v found p.view.log q.view.log → more ≡ mask + bit_of v found e → IsWatching me e v mask old p
+pub watching_on : (me e v mask more : ℕ) (found : Option ℕ) (old : List Entry) (p q : PassView) → IsSamePass p q → LooksAt me (epochs p).pin v found p.view.log q.view.log → more ≡ mask + bit_of v found e → IsWatching me e v mask old p
     → IsWatching me e (v + 1) more old q
 watching_on me e v mask more found old p q same look sum h =
     let still : epochs q ≡ epochs p = look_epochs me v (epochs p).pin found p q same look in

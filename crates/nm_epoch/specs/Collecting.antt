@@ -12,7 +12,7 @@ use Rattle.nm_model.specs.Walks.{Entry as LogEntry}
 use Rattle.nm_limbo.specs.Queue.{BlockQueue}
 use Rattle.nm_order.specs.Reads.{HasRead}
 use Rattle.nm_steps.specs.Rules.{knowledge}
-use Rattle.nm_steps.specs.Steps.{Stand, Continues}
+use Rattle.nm_steps.specs.Steps.{PassView, Continues}
 use Rattle.nm_epoch.specs.Resting.{Settles, epochs, search}
 use Rattle.nm_epoch.specs.Scans.{IsSightOf}
 use Rattle.nm_epoch.specs.declared.collecting.Collected.{Collected}
@@ -163,7 +163,7 @@ IsCollection epoch hs old new =
 
 -- nodes were freed, and nothing else: nothing was retired, and epochs, the call, what is known of
 -- nodes and private slots are as they were
-pub record OnlyFrees (p q : Stand) : Type 0 where
+pub record OnlyFrees (p q : PassView) : Type 0 where
   pub retired : KeepsRetired (knowledge p.view) (knowledge q.view)
   pub epochs_are : epochs q ≡ epochs p
   pub search_is : search q ≡ search p
@@ -171,7 +171,7 @@ pub record OnlyFrees (p q : Stand) : Type 0 where
   pub private : (knowledge q.view).drafts ≡ (knowledge p.view).drafts
 
 -- n nodes at the front of one queue were freed, which are all that is ripe there
-pub record FreesFront (epoch : ℕ) (p q : Stand) (h g : HeldQueue) (n : ℕ) : Type 0 where
+pub record FreesFront (epoch : ℕ) (p q : PassView) (h g : HeldQueue) (n : ℕ) : Type 0 where
   pub on : Continues p q
   pub entries : q.view.log ≡ p.view.log ++ map freeing (ripe_part epoch h.queue.items)
   pub freed : n ≡ length (ripe_part epoch h.queue.items)
@@ -183,7 +183,7 @@ pub record FreesFront (epoch : ℕ) (p q : Stand) (h g : HeldQueue) (n : ℕ) : 
   pub only : OnlyFrees p q
 
 -- n nodes at the fronts of these queues were freed, which are all that is ripe there
-pub record FreesFronts (epoch : ℕ) (p q : Stand) (hs gs : List HeldQueue) (n : ℕ) : Type 0 where
+pub record FreesFronts (epoch : ℕ) (p q : PassView) (hs gs : List HeldQueue) (n : ℕ) : Type 0 where
   pub on : Continues p q
   pub entries : q.view.log ≡ p.view.log ++ map freeing (ripe_of epoch hs)
   pub freed : n ≡ length (ripe_of epoch hs)
@@ -196,7 +196,7 @@ pub record FreesFronts (epoch : ℕ) (p q : Stand) (hs gs : List HeldQueue) (n :
 
 -- the epoch was read, and what was ripe at the fronts of these queues freed, in a tree of so many
 -- nodes
-pub record Collects (nodes : ℕ) (p q : Stand) (hs gs : List HeldQueue) (r : Collected) : Type 0 where
+pub record Collects (nodes : ℕ) (p q : PassView) (hs gs : List HeldQueue) (r : Collected) : Type 0 where
   pub on : Continues p q
   pub part : IsCollection r.epoch hs p.view.log q.view.log
   pub freed : r.freed ≡ length (ripe_of r.epoch hs)

@@ -6,14 +6,14 @@ use Rattle.nm_model.specs.Learning.{rooted}
 use Rattle.nm_model.specs.Searches.{Search, idle}
 use Rattle.nm_model.specs.Walks.{search_after}
 use Rattle.nm_steps.specs.Rules.{knowledge}
-use Rattle.nm_steps.specs.Steps.{Stand, Continues}
+use Rattle.nm_steps.specs.Steps.{PassView, Continues}
 
 -- a worker's epochs
-abbrev pub epochs : Stand → Brief
+abbrev pub epochs : PassView → Brief
 epochs p = (knowledge p.view).brief
 
 -- what it has found and changed for its call
-abbrev pub search : Stand → Search
+abbrev pub search : PassView → Search
 search p = search_after idle p.view.log
 
 -- a call that has only begun
@@ -28,19 +28,19 @@ begun_for call = record {
 }
 
 -- it is not pinned and announces nothing
-pub record IsUnpinned (p : Stand) : Type 0 where
+pub record IsUnpinned (p : PassView) : Type 0 where
   pub unpinned : (epochs p).pin ≡ None
   pub silent : (epochs p).announcement ≡ None
 
 -- it is not pinned and announces nothing, no cut of its waits for a label, and it has no call
-pub record IsResting (p : Stand) : Type 0 where
+pub record IsResting (p : PassView) : Type 0 where
   pub unpinned : (epochs p).pin ≡ None
   pub silent : (epochs p).announcement ≡ None
   pub labelled : (epochs p).unlabelled ≡ false
   pub idle : search p ≡ idle
 
 -- it is pinned at e, the epoch that it announces and read last, for a call that has only begun
-pub record IsPinnedAt (e : ℕ) (call : Option Call) (p : Stand) : Type 0 where
+pub record IsPinnedAt (e : ℕ) (call : Option Call) (p : PassView) : Type 0 where
   pub seen : (epochs p).seen ≡ Some e
   pub announcement : (epochs p).announcement ≡ Some e
   pub pin : (epochs p).pin ≡ Some e
@@ -49,25 +49,25 @@ pub record IsPinnedAt (e : ℕ) (call : Option Call) (p : Stand) : Type 0 where
   pub known : (knowledge p.view).known ≡ rooted
 
 -- it may announce the epoch last read and try to pin it
-pub record IsTrying (p : Stand) : Type 0 where
+pub record IsTrying (p : PassView) : Type 0 where
   pub seen : IsSome (epochs p).seen
   pub unpinned : (epochs p).pin ≡ None
   pub labelled : (epochs p).unlabelled ≡ false
   pub idle : search p ≡ idle
 
 -- it announces a and is not pinned, no cut of its waits for a label, and it has no call
-pub record HasAnnounced (a : ℕ) (p : Stand) : Type 0 where
+pub record HasAnnounced (a : ℕ) (p : PassView) : Type 0 where
   pub announcement : (epochs p).announcement ≡ Some a
   pub unpinned : (epochs p).pin ≡ None
   pub labelled : (epochs p).unlabelled ≡ false
   pub idle : search p ≡ idle
 
 -- it is pinned, or announces nothing: not in the midst of a pin
-abbrev pub IsSettled : Stand → Type 0
+abbrev pub IsSettled : PassView → Type 0
 IsSettled p = IsSome (epochs p).pin ⊎ ((epochs p).announcement ≡ None)
 
 -- its announcement, its pin and its call stay, and what it knows of nodes
-pub record Stays (p q : Stand) : Type 0 where
+pub record Stays (p q : PassView) : Type 0 where
   pub announcement : (epochs q).announcement ≡ (epochs p).announcement
   pub pin : (epochs q).pin ≡ (epochs p).pin
   pub search : search q ≡ search p
@@ -75,20 +75,20 @@ pub record Stays (p q : Stand) : Type 0 where
 
 -- no cut waits for its label any more, and if it was settled, its announcement, its pin and its
 -- call stay, and what it knows of nodes
-pub record Settles (p q : Stand) : Type 0 where
+pub record Settles (p q : PassView) : Type 0 where
   pub labelled : (epochs q).unlabelled ≡ false
   pub stays : IsSettled p → Stays p q
 
 -- its private slots stay as they are, and, where no cut waited for its label, the ledgers that it
 -- holds
-pub record KeepsHands (p q : Stand) : Type 0 where
+pub record KeepsHands (p q : PassView) : Type 0 where
   pub private : (knowledge q.view).drafts ≡ (knowledge p.view).drafts
   pub labelled : (epochs p).unlabelled ≡ false → (epochs q).unlabelled ≡ false
   pub ledgers : (epochs p).unlabelled ≡ false
       → (knowledge q.view).ledgers ≡ (knowledge p.view).ledgers
 
 -- it goes on, settled and with what is in its hands, behind looks at the epoch and at the others
-pub record GoesOnSettled (p q : Stand) : Type 0 where
+pub record GoesOnSettled (p q : PassView) : Type 0 where
   pub on : Continues p q
   pub settles : Settles p q
   pub hands : KeepsHands p q

@@ -363,10 +363,10 @@ link_found s w p d leaf new n = by (is_to (edge s.memory p d) leaf)
         differ e = cc
 
 module _ (L : Layout) (enough : 5 ≤ L.nodes) (w : ℕ) where
-  abbrev Stand : Configuration → (ℕ → Option ℕ) → Type 0
-  Stand c births = (x b : ℕ) → births x ≡ Some b → Lasts c.state w x b
+  abbrev PassView : Configuration → (ℕ → Option ℕ) → Type 0
+  PassView c births = (x b : ℕ) → births x ≡ Some b → Lasts c.state w x b
 
-  module _ (c : Configuration) (t : ℕ × Event) (has : HasKey t.1) (o : IsOrdered L c) (why : refused_in c t.0 t.1 ≡ None) (births : ℕ → Option ℕ) (stand : Stand c births) where
+  module _ (c : Configuration) (t : ℕ × Event) (has : HasKey t.1) (o : IsOrdered L c) (why : refused_in c t.0 t.1 ≡ None) (births : ℕ → Option ℕ) (stand : PassView c births) where
     law' : Lawful c.state (law_of_state L enough c o).0
     law' = (law_of_state L enough c o).1
 
@@ -374,7 +374,7 @@ module _ (L : Layout) (enough : 5 ≤ L.nodes) (w : ℕ) where
     allowed' = allowed c.state t.0 t.1 (allowed_by_state c t.0 t.1 why)
 
     -- a turn in which the worker takes part
-    own_turn : takes_part w t.0 t.1 ≡ true → Stand (next_in c t) (stored_by (of c.state w) births (t.1, reply_of c.state t.0 t.1))
+    own_turn : takes_part w t.0 t.1 ≡ true → PassView (next_in c t) (stored_by (of c.state w) births (t.1, reply_of c.state t.0 t.1))
     own_turn takes = by (stored_or (of c.state w) births t.1 (reply_of c.state t.0 t.1))
       where
         knows_then : of (next_in c t).state w ≡ learn w (of c.state w) t.1 (reply_of c.state t.0 t.1)
@@ -383,13 +383,13 @@ module _ (L : Layout) (enough : 5 ≤ L.nodes) (w : ℕ) where
         same_pin : begins_anew (t.1, reply_of c.state t.0 t.1) ≡ false → (of (next_in c t).state w).brief.pin ≡ (of c.state w).brief.pin
         same_pin stands = ap (λ (k : Knowledge). k.brief.pin) knows_then ∙ (learned_stays c.state.memory (of c.state w) w t.1 (reply_of c.state t.0 t.1) (answers c.state (law_of_state L enough c o).0 law' t.0 t.1 allowed') stands).pin
 
-        anew : (b : Bool) → begins_anew (t.1, reply_of c.state t.0 t.1) ≡ b → Stand (next_in c t) (cond b no_births births)
+        anew : (b : Bool) → begins_anew (t.1, reply_of c.state t.0 t.1) ≡ b → PassView (next_in c t) (cond b no_births births)
         anew true is x b none = absurd (none-some b none)
         anew false stands x b at = lasts_on L enough w c t has o why x b (same_pin stands) (stand x b at)
 
-        by : StoredBy (of c.state w) births t.1 (reply_of c.state t.0 t.1) → Stand (next_in c t) (stored_by (of c.state w) births (t.1, reply_of c.state t.0 t.1))
-        by (Others is) = subst (Stand (next_in c t)) (sym is) (anew (begins_anew (t.1, reply_of c.state t.0 t.1)) refl)
-        by (Links p d leaf new n is answered stored) = subst (Stand (next_in c t)) (sym stored)
+        by : StoredBy (of c.state w) births t.1 (reply_of c.state t.0 t.1) → PassView (next_in c t) (stored_by (of c.state w) births (t.1, reply_of c.state t.0 t.1))
+        by (Others is) = subst (PassView (next_in c t)) (sym is) (anew (begins_anew (t.1, reply_of c.state t.0 t.1)) refl)
+        by (Links p d leaf new n is answered stored) = subst (PassView (next_in c t)) (sym stored)
             (stored_lasts L enough w c t has o why p d leaf new is (own (part_or w t.0 t.1 takes)) (link_found c.state t.0 p d leaf new n (ap (reply_of c.state t.0) (sym is) ∙ answered)) births stand (same_pin (ap (λ (e : Event). begins_anew (e, reply_of c.state t.0 t.1)) is)))
           where
             own : PartOf w t.0 t.1 → t.0 ≡ w
@@ -400,36 +400,36 @@ module _ (L : Layout) (enough : 5 ≤ L.nodes) (w : ℕ) where
                 differ e = cc
 
     -- one of another
-    other_turn : takes_part w t.0 t.1 ≡ false → Stand (next_in c t) births
+    other_turn : takes_part w t.0 t.1 ≡ false → PassView (next_in c t) births
     other_turn none x b at = lasts_on L enough w c t has o why x b (ap (λ (k : Knowledge). k.brief.pin) (ap (λ (z : State). of z w) (next_state w c t why) ∙ apart c.state law'.staffed t.0 w t.1 allowed' none)) (stand x b at)
 
-  stand_after : (ts : List (ℕ × Event)) → All (λ t. HasKey t.1) ts → (c : Configuration) → IsOrdered L c → (births : ℕ → Option ℕ) → Stand c births → Stand (after_in c ts) (stored_after w (of c.state w) births (part_of w (trace_in c ts)))
+  stand_after : (ts : List (ℕ × Event)) → All (λ t. HasKey t.1) ts → (c : Configuration) → IsOrdered L c → (births : ℕ → Option ℕ) → PassView c births → PassView (after_in c ts) (stored_after w (of c.state w) births (part_of w (trace_in c ts)))
   unfolding after_in trace_in
   stand_after [] keys c o births stand = stand
   stand_after (t ∷ ts) keys c o births stand = go (refused_in c t.0 t.1) refl (stand_after ts (λ i d below. keys (suc i) d (omega arith)) (next_in c t) (ordered_next L enough c t (keys 0 t (omega arith)) o))
     where
       Rest : Type 0
-      Rest = (births : ℕ → Option ℕ) → Stand (next_in c t) births → Stand (after_in (next_in c t) ts) (stored_after w (of (next_in c t).state w) births (part_of w (trace_in (next_in c t) ts)))
+      Rest = (births : ℕ → Option ℕ) → PassView (next_in c t) births → PassView (after_in (next_in c t) ts) (stored_after w (of (next_in c t).state w) births (part_of w (trace_in (next_in c t) ts)))
 
       Goal : Type 0
-      Goal = Stand (after_in (next_in c t) ts) (stored_after w (of c.state w) births (part_of w (trace_in c (t ∷ ts))))
+      Goal = PassView (after_in (next_in c t) ts) (stored_after w (of c.state w) births (part_of w (trace_in c (t ∷ ts))))
 
       go : (q : Option Refused) → refused_in c t.0 t.1 ≡ q → Rest → Goal
-      go (Some q) is rest = subst (λ (log : List Entry). Stand (after_in (next_in c t) ts) (stored_after w (of c.state w) births log)) (sym (refused_adds w c t ts q is))
-          (subst (λ (d : Configuration). Stand (after_in (next_in c t) ts) (stored_after w (of d.state w) births (part_of w (trace_in d ts)))) (refused_next c t q is)
-          (rest births (subst (λ (d : Configuration). Stand d births) (sym (refused_next c t q is)) stand)))
+      go (Some q) is rest = subst (λ (log : List Entry). PassView (after_in (next_in c t) ts) (stored_after w (of c.state w) births log)) (sym (refused_adds w c t ts q is))
+          (subst (λ (d : Configuration). PassView (after_in (next_in c t) ts) (stored_after w (of d.state w) births (part_of w (trace_in d ts)))) (refused_next c t q is)
+          (rest births (subst (λ (d : Configuration). PassView d births) (sym (refused_next c t q is)) stand)))
       go None why rest = by (takes_part w t.0 t.1) refl
         where
           has : HasKey t.1
           has = keys 0 t (omega arith)
 
           by : (b : Bool) → takes_part w t.0 t.1 ≡ b → Goal
-          by true takes = subst (λ (log : List Entry). Stand (after_in (next_in c t) ts) (stored_after w (of c.state w) births log)) (sym (own_adds w c t ts why takes))
-              (subst (λ (k : Knowledge). Stand (after_in (next_in c t) ts) (stored_after w k (stored_by (of c.state w) births (t.1, reply_of c.state t.0 t.1)) (part_of w (trace_in (next_in c t) ts))))
+          by true takes = subst (λ (log : List Entry). PassView (after_in (next_in c t) ts) (stored_after w (of c.state w) births log)) (sym (own_adds w c t ts why takes))
+              (subst (λ (k : Knowledge). PassView (after_in (next_in c t) ts) (stored_after w k (stored_by (of c.state w) births (t.1, reply_of c.state t.0 t.1)) (part_of w (trace_in (next_in c t) ts))))
               (ap (λ (z : State). of z w) (next_state w c t why) ∙ partaking c.state (law_of_state L enough c o).1.staffed t.0 w t.1 (allowed c.state t.0 t.1 (allowed_by_state c t.0 t.1 why)) takes)
               (rest (stored_by (of c.state w) births (t.1, reply_of c.state t.0 t.1)) (own_turn c t has o why births stand takes)))
-          by false none = subst (λ (log : List Entry). Stand (after_in (next_in c t) ts) (stored_after w (of c.state w) births log)) (sym (others_add w c t ts why none))
-              (subst (λ (k : Knowledge). Stand (after_in (next_in c t) ts) (stored_after w k births (part_of w (trace_in (next_in c t) ts))))
+          by false none = subst (λ (log : List Entry). PassView (after_in (next_in c t) ts) (stored_after w (of c.state w) births log)) (sym (others_add w c t ts why none))
+              (subst (λ (k : Knowledge). PassView (after_in (next_in c t) ts) (stored_after w k births (part_of w (trace_in (next_in c t) ts))))
               (ap (λ (z : State). of z w) (next_state w c t why) ∙ apart c.state (law_of_state L enough c o).1.staffed t.0 w t.1 (allowed c.state t.0 t.1 (allowed_by_state c t.0 t.1 why)) none)
               (rest births (other_turn c t has o why births stand none)))
 

@@ -4,7 +4,7 @@ use Rattle.nm_edge.specs.declared.node.NodeId.{NodeId}
 use Rattle.nm_model.specs.declared.event.Op.TheVariants.{Delete}
 use Rattle.nm_model.specs.declared.knowledge.Brief.{Brief}
 use Rattle.nm_order.specs.Facts.Fact.{KnowsSlot, IsBorn, CallIs}
-use Rattle.nm_steps.specs.Steps.{Board, Stand}
+use Rattle.nm_steps.specs.Steps.{TreeView, PassView}
 use Rattle.nm_epoch.specs.declared.collecting.HeldQueue.{HeldQueue}
 use Rattle.nm_walks.specs.Telling.{GoesOn, OnlyLooks}
 use Rattle.nm_calls.specs.Deletes.{IsRemoving}
@@ -13,7 +13,7 @@ use Rattle.nm_walks.proofs.Adding.{Adds}
 use Rattle.nm_walks.proofs.KeptLedgers.{holds_on}
 use Rattle.nm_walks.proofs.GoingOn.{pinned_still, own_still}
 
-pub removing_still : (p q : Stand) (k : ℕ) (n : NodeId) → IsRemoving p k n → GoesOn p q → OnlyLooks p q → IsRemoving q k n
+pub removing_still : (p q : PassView) (k : ℕ) (n : NodeId) → IsRemoving p k n → GoesOn p q → OnlyLooks p q → IsRemoving q k n
 removing_still p q k n r on only = record {
   run = on.run;
   pinned = pinned_still p q on r.pinned;
@@ -25,7 +25,7 @@ removing_still p q k n r on only = record {
   labelled = ap (λ (b : Brief). b.unlabelled) only.epochs ∙ r.labelled;
 }
 
-pub pending_still : {m : ℕ} (b : Board) (p q : Stand) (h : HeldQueue) (k : ℕ) (n : NodeId) → IsPendingFor b p h k n → GoesOn p q → OnlyLooks p q → Adds 0 0 0 m p.view.log q.view.log → IsPendingFor b q h k n
+pub pending_still : {m : ℕ} (b : TreeView) (p q : PassView) (h : HeldQueue) (k : ℕ) (n : NodeId) → IsPendingFor b p h k n → GoesOn p q → OnlyLooks p q → Adds 0 0 0 m p.view.log q.view.log → IsPendingFor b q h k n
 pending_still b p q h k n pending on only adds = record {
   own = own_still b p q pending.own on.same;
   kept = holds_on p q h on.same only.ledgers adds pending.kept;

@@ -1,20 +1,20 @@
 -- What tests keep of a worker over calls: its pass, with the queue of what it cut and its counts.
 use Rattle.std.specs.Prelude.{ℕ}
 use Rattle.nm_edge.specs.declared.node.NodeId.{NodeId}
-use Rattle.nm_steps.specs.Steps.{Board, Stand, IsOf}
+use Rattle.nm_steps.specs.Steps.{TreeView, PassView, IsOf}
 use Rattle.nm_epoch.specs.declared.collecting.HeldQueue.{HeldQueue}
 use Rattle.nm_epoch.specs.Resting.{IsResting}
 use Rattle.nm_walks.specs.Cleanups.{HoldsCuts}
 use Rattle.nm_calls.specs.Deletes.{IsRemoving}
 
 -- its queue and its counts are those of its log, and it rests
-pub record IsAtRest (b : Board) (p : Stand) (h : HeldQueue) : Type 0 where
+pub record IsAtRest (b : TreeView) (p : PassView) (h : HeldQueue) : Type 0 where
   pub own : IsOf b p
   pub kept : HoldsCuts p h
   pub rests : IsResting p
 
 -- or it has flagged that leaf to delete a key
-pub record IsPendingFor (b : Board) (p : Stand) (h : HeldQueue) (k : ℕ) (n : NodeId) : Type 0 where
+pub record IsPendingFor (b : TreeView) (p : PassView) (h : HeldQueue) (k : ℕ) (n : NodeId) : Type 0 where
   pub own : IsOf b p
   pub kept : HoldsCuts p h
   pub removing : IsRemoving p k n

@@ -3,10 +3,10 @@
 ghost use Rattle.nm_steps.specs.Steps.{IsOf, IsSamePass};
 ghost use Rattle.nm_epoch.specs.Resting.{IsResting};
 
-use super::hands::{
+use super::passes::{both, three};
+use super::workers::{
     cannot_finish, deletes, finds, finishes, flags, inserts, key, starting, tag_beside,
 };
-use super::passes::{both, three};
 use nm_calls::{Busy, NotInserted, has};
 use nm_edge::{Key, Layout};
 use nm_epoch::advance;

@@ -9,8 +9,6 @@ mod core_calls;
 #[cfg(test)]
 mod epochs;
 #[cfg(test)]
-mod hands;
-#[cfg(test)]
 mod near_claims;
 #[cfg(test)]
 mod passes;
@@ -20,3 +18,5 @@ mod pools;
 mod radix_cores;
 #[cfg(test)]
 mod reports;
+#[cfg(test)]
+mod workers;

@@ -4,8 +4,8 @@ ghost use Rattle.nm_steps.specs.Steps.{AreFresh, IsOf};
 ghost use Rattle.nm_calls.specs.Fresh.{HasDoneNothing};
 ghost use Rattle.nm_pass_tests.specs.Plays.{IsAtRest};
 
-use super::hands::{Hand, deletes, flags, inserts, key, starting};
 use super::passes::only;
+use super::workers::{Worker, deletes, flags, inserts, key, starting};
 use nm_edge::{INFINITY_0, Layout};
 use nm_report::{ReportRoom, read};
 use nm_steps::{Pass, Shared};
@@ -86,17 +86,17 @@ fn the_empty_tree_has_no_key(rt: HostRuntime) -> Result<(), Fail> {
 fn reads(
     rt: &(impl Abort + AllocGlobal),
     shared: Shared,
-    hand: Hand,
+    worker: Worker,
     layout: Layout,
     want: &[u64],
     free: u32,
     reached: u32,
 ) -> Result<(), Fail>
-    requires own { IsOf shared hand.pass }
+    requires own { IsOf shared worker.pass }
     requires layout { layout ≡ shared.layout }
 {
     let room = ReportRoom::new(rt.alloc(), layout)?;
-    let Hand { pass, .. } = hand;
+    let Worker { pass, .. } = worker;
     let words = shared.close(pass);
     let found = read(&words, room);
     let keys = &found.keys;
@@ -109,7 +109,7 @@ fn reads(
 }
 
 /// A worker that has inserted these keys into a table of its own.
-fn inserted(rt: &(impl Abort + AllocGlobal), shared: &Shared, pass: Pass, keys: &[u64]) -> Hand
+fn inserted(rt: &(impl Abort + AllocGlobal), shared: &Shared, pass: Pass, keys: &[u64]) -> Worker
     requires own { IsOf shared.now pass }
     requires new { HasDoneNothing pass }
     ensures { IsAtRest shared.now result.pass result.held }
@@ -127,7 +127,7 @@ fn inserted(rt: &(impl Abort + AllocGlobal), shared: &Shared, pass: Pass, keys: 
 fn the_words_of_an_insert(rt: HostRuntime) -> Result<(), Fail> {
     let (shared, passes) = Shared::new(rt.alloc(), Layout::new(7, 1)?)?;
     let pass = only(&shared, passes);
-    let Hand { pass, .. } = inserted(&rt, &shared, pass, &[5]);
+    let Worker { pass, .. } = inserted(&rt, &shared, pass, &[5]);
     let words = shared.close(pass);
     assert_eq!(rt; words.word(7), 24);
     assert_eq!(rt; words.word(22), INFINITY_0);

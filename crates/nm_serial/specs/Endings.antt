@@ -3,9 +3,9 @@ use Rattle.std.specs.Prelude.{◌≡◌, ℕ, List, [], ◌∷◌, ◌++◌}
 use Rattle.nm_serial.specs.ClosedLines.{closed_worker_line, closed_places_line}
 use Rattle.nm_epoch.specs.declared.collecting.HeldQueue.{HeldQueue}
 use Rattle.nm_print.specs.LastLines.{keys_line}
-use Rattle.nm_steps.specs.Steps.{Board}
+use Rattle.nm_steps.specs.Steps.{TreeView}
 use Rattle.nm_tree.specs.Closing.{IsClosed}
-use Rattle.nm_tree.specs.Workers.{Hand, counts_in, waiting_in}
+use Rattle.nm_tree.specs.Workers.{WorkerView, counts_in, waiting_in}
 
 -- a line of each queue's worker, by what is counted of it
 abbrev pub worker_lines : List HeldQueue → List ℕ
@@ -22,7 +22,7 @@ ending_lines queues keys free reached =
 -- The tree of these workers was closed, and the text tells its report: a line of each worker,
 -- resigned or not, with its queue and what that tells of its ledger (`told` of `IsClosed`); the
 -- keys; and how many slots are free, reached and queued
-pub record IsEnding (b : Board) (ws : List Hand) (text : List ℕ) : Type 0 where
+pub record IsEnding (b : TreeView) (ws : List WorkerView) (text : List ℕ) : Type 0 where
   pub queues : List HeldQueue
   pub keys : List ℕ
   pub free : ℕ

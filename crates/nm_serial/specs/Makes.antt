@@ -13,11 +13,11 @@ use Rattle.nm_model.specs.declared.event.Event.TheVariants.{Leave}
 use Rattle.nm_model.specs.declared.reply.Reply.TheVariants.{Departed}
 use Rattle.nm_files.specs.declared.entry.ScriptCall.{ScriptCall}
 use Rattle.nm_files.specs.declared.entry.ScriptCall.TheVariants.{Has, Insert, Delete, Finish, Pin, Unpin, Advance as Move, Collect, Resign}
-use Rattle.nm_steps.specs.Steps.{Board, Stepped}
+use Rattle.nm_steps.specs.Steps.{TreeView, Stepped}
 use Rattle.nm_tree.specs.declared.fault.CallFault.{CallFault}
 use Rattle.nm_tree.specs.declared.fault.PinFault.{PinFault}
 use Rattle.nm_tree.specs.Answers.{HasAnswered, HasInserted, HasDeleted, HasFinished, HasPinned, KeepsPlace}
-use Rattle.nm_tree.specs.Workers.{Hand}
+use Rattle.nm_tree.specs.Workers.{WorkerView}
 use Rattle.nm_serial.specs.declared.own_lines.Stop.{Stop}
 use Rattle.nm_serial.specs.declared.own_lines.Stop.TheVariants as stop
 
@@ -27,7 +27,7 @@ IsOwnCall (Resign heir) = ⊥
 IsOwnCall _ = Unit {0}
 
 -- no call was made, for this reason
-abbrev pub IsAnsweredUnchanged : Answer → Hand → Hand → Answer → Type 0
+abbrev pub IsAnsweredUnchanged : Answer → WorkerView → WorkerView → Answer → Type 0
 IsAnsweredUnchanged why w z a = (z ≡ w) × (a ≡ why)
 
 -- the call ended so, and that is what was answered
@@ -35,28 +35,28 @@ abbrev pub HasAnsweredCall : (Result Bool CallFault → Type 0) → Answer → T
 HasAnsweredCall did a = (r : Result Bool CallFault) × did r × (change_answer r ≡ Some a)
 
 -- a call that a held worker may not make
-abbrev pub HasSearched : (Result Bool CallFault → Type 0) → Hand → Hand → Answer → Type 0
+abbrev pub HasSearched : (Result Bool CallFault → Type 0) → WorkerView → WorkerView → Answer → Type 0
 HasSearched did w z a = (IsSome w.held × IsAnsweredUnchanged (answer.Refused refused.Held) w z a)
     ⊎ ((w.held ≡ None) × HasAnsweredCall did a)
 
 -- a pin of the caller
-abbrev pub HasHeld : ℕ → Hand → Hand → Answer → Type 0
+abbrev pub HasHeld : ℕ → WorkerView → WorkerView → Answer → Type 0
 HasHeld tries w z a = (IsSome w.held × IsAnsweredUnchanged (answer.Refused refused.Held) w z a)
     ⊎ ((w.held ≡ None) × ((r : Result ℕ PinFault) × HasPinned tries w z r × (a ≡ pin_answer r)))
 
 -- its end
-abbrev pub HasUnpinned : Hand → Hand → Answer → Type 0
+abbrev pub HasUnpinned : WorkerView → WorkerView → Answer → Type 0
 HasUnpinned w z a = ((w.held ≡ None) × IsAnsweredUnchanged (answer.Refused refused.Idle) w z a)
     ⊎ (IsSome w.held × (z.held ≡ None) × Stepped w.pass z.pass Leave Departed × (a ≡ answer.Left))
 
 -- an advance of the epoch, among so many workers
-abbrev pub HasMoved : ℕ → Hand → Hand → Answer → Type 0
+abbrev pub HasMoved : ℕ → WorkerView → WorkerView → Answer → Type 0
 HasMoved workers w z a = KeepsPlace w z
     × ((r : Advance) × IsAdvance workers w.pass.view.number (epochs w.pass).pin w.pass.view.log
     z.pass.view.log r × (a ≡ advance_answer r))
 
 -- a collection
-abbrev pub HasCollected : Hand → Hand → Answer → Type 0
+abbrev pub HasCollected : WorkerView → WorkerView → Answer → Type 0
 HasCollected w z a = KeepsPlace w z
     × ((c : Collected) × IsCollection c.epoch w.queues w.pass.view.log z.pass.view.log
     × HaveLost c.epoch w.queues z.queues
@@ -64,7 +64,7 @@ HasCollected w z a = KeepsPlace w z
 
 -- a call that is its worker's alone, with so many tries: as the call of the set does, by what it
 -- answers
-abbrev pub HasMade : Board → ℕ → ScriptCall → Hand → Hand → Answer → Type 0
+abbrev pub HasMade : TreeView → ℕ → ScriptCall → WorkerView → WorkerView → Answer → Type 0
 HasMade b tries (Has k) w z a = HasSearched (HasAnswered b.layout tries k w z) w z a
 HasMade b tries (Insert k) w z a = HasSearched (HasInserted b.layout tries k w z) w z a
 HasMade b tries (Delete k) w z a = HasSearched (HasDeleted b.layout tries k w z) w z a
@@ -78,7 +78,7 @@ HasMade b tries (Resign heir) w z a = ⊥
 -- ---- the lines of one worker
 
 -- a worker that its gate stops before a line has not made its call
-abbrev pub HasStopped : Type 0 → ℕ → Hand → Hand → Stop → Type 0
+abbrev pub HasStopped : Type 0 → ℕ → WorkerView → WorkerView → Stop → Type 0
 HasStopped stops line w z (stop.Gate l) = (l ≡ line) × stops × (z ≡ w)
 HasStopped stops line w z stop.NoMemory = Unit {0}
 
@@ -89,23 +89,23 @@ own_lines n line (e ∷ es) = if e.0 == n then (line, e.1) ∷ own_lines n (line
     else own_lines n (line + 1) es
 
 -- each of these lines, one after the other, was let and made its call, and was answered so
-abbrev pub PlaysEach : (ℕ → ℕ → Type 0) → Board → ℕ → ℕ → List (ℕ × ScriptCall) → List Answer → Hand
-    → Hand → Type 0
+abbrev pub PlaysEach : (ℕ → ℕ → Type 0) → TreeView → ℕ → ℕ → List (ℕ × ScriptCall) → List Answer → WorkerView
+    → WorkerView → Type 0
 PlaysEach lets b tries n [] [] w z = z ≡ w
 PlaysEach lets b tries n (l ∷ ls) (a ∷ more) w z =
-    lets n l.0 × ((mid : Hand) × HasMade b tries l.1 w mid a
+    lets n l.0 × ((mid : WorkerView) × HasMade b tries l.1 w mid a
     × PlaysEach lets b tries n ls more mid z)
 PlaysEach lets b tries n _ _ w z = ⊥
 
 -- a worker has played its lines, among those of a script from this number on
-abbrev pub PlaysOwn : (ℕ → ℕ → Type 0) → Board → ℕ → ℕ → ℕ → List (ℕ × ScriptCall) → List Answer → Hand
-    → Hand → Type 0
+abbrev pub PlaysOwn : (ℕ → ℕ → Type 0) → TreeView → ℕ → ℕ → ℕ → List (ℕ × ScriptCall) → List Answer → WorkerView
+    → WorkerView → Type 0
 PlaysOwn lets b tries n line es answers w z =
     PlaysEach lets b tries n (own_lines n line es) answers w z
 
 -- once it had played those of its lines that stand before it, the gate stopped it before this one
-pub record PlaysUpTo (lets stops : ℕ → ℕ → Type 0) (b : Board) (tries n : ℕ) (ls : List (ℕ × ScriptCall))
-    (line : ℕ) (w z : Hand) : Type 0 where
+pub record PlaysUpTo (lets stops : ℕ → ℕ → Type 0) (b : TreeView) (tries n : ℕ) (ls : List (ℕ × ScriptCall))
+    (line : ℕ) (w z : WorkerView) : Type 0 where
   pub before : List (ℕ × ScriptCall)
   pub call : ScriptCall
   pub after : List (ℕ × ScriptCall)
@@ -115,8 +115,8 @@ pub record PlaysUpTo (lets stops : ℕ → ℕ → Type 0) (b : Board) (tries n 
   pub stopped : stops n line
 
 -- why a worker has not played its lines, among those of a script from this number on
-abbrev pub StopsOwn : (ℕ → ℕ → Type 0) → (ℕ → ℕ → Type 0) → Board → ℕ → ℕ → ℕ → List (ℕ × ScriptCall)
-    → Hand → Hand → Stop → Type 0
+abbrev pub StopsOwn : (ℕ → ℕ → Type 0) → (ℕ → ℕ → Type 0) → TreeView → ℕ → ℕ → ℕ → List (ℕ × ScriptCall)
+    → WorkerView → WorkerView → Stop → Type 0
 StopsOwn lets stops b tries n line es w z (stop.Gate l) =
     PlaysUpTo lets stops b tries n (own_lines n line es) l w z
 StopsOwn lets stops b tries n line es w z stop.NoMemory = Unit {0}

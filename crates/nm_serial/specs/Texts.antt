@@ -8,9 +8,9 @@ use Rattle.nm_files.specs.declared.fault.RunFault.TheVariants as run
 use Rattle.nm_files.specs.Lines.{parts}
 use Rattle.nm_files.specs.declared.header.Command.{Command}
 use Rattle.nm_files.specs.Entries.{Script, script_of}
-use Rattle.nm_steps.specs.Steps.{Board}
+use Rattle.nm_steps.specs.Steps.{TreeView}
 use Rattle.nm_edge.specs.declared.placement.Fit.TheVariants.{Lowest}
-use Rattle.nm_tree.specs.Workers.{Hand, AreNew, HaveFit}
+use Rattle.nm_tree.specs.Workers.{WorkerView, AreNew, HaveFit}
 use Rattle.nm_serial.specs.Crews.{PlaysAll, present}
 use Rattle.nm_serial.specs.Endings.{IsEnding}
 use Rattle.nm_serial.specs.Stops.{IfStopped}
@@ -19,7 +19,7 @@ use Rattle.nm_serial.specs.declared.threads.Played.{Played}
 
 -- a tree of a script's sizes, with its workers, who have done nothing yet, and each of whose claims
 -- takes the lowest slot that it can
-pub record IsOpened (s : Script) (tree : Board) (workers : List Hand) : Type 0 where
+pub record IsOpened (s : Script) (tree : TreeView) (workers : List WorkerView) : Type 0 where
   pub sizes : tree.layout ≡ s.header.layout
   pub new : AreNew tree 0 workers
   pub all : length workers ≡ s.header.layout.workers
@@ -29,11 +29,11 @@ pub record IsOpened (s : Script) (tree : Board) (workers : List Hand) : Type 0 w
 -- call; each line stands with what it was answered; and then come the last lines, of that tree
 -- closed by those that have not resigned
 pub record IsSerialText (s : Script) (rows : List (List ℕ)) (text : List ℕ) : Type 0 where
-  pub tree : Board
-  pub workers : List Hand
+  pub tree : TreeView
+  pub workers : List WorkerView
   pub opened : IsOpened s tree workers
   pub answers : List Answer
-  pub crew : List (Option Hand)
+  pub crew : List (Option WorkerView)
   pub played : PlaysAll tree s.header.tries s.entries answers (map Some workers) crew
   pub ending : List ℕ
   pub ends : IsEnding tree (present crew) ending
@@ -44,8 +44,8 @@ pub record IsSerialText (s : Script) (rows : List (List ℕ)) (text : List ℕ) 
 -- come the last lines, of that tree closed by all workers
 pub record IsStressText (lets stops : ℕ → ℕ → Type 0) (s : Script) (rows : List (List ℕ))
     (text : List ℕ) : Type 0 where
-  pub tree : Board
-  pub workers : List Hand
+  pub tree : TreeView
+  pub workers : List WorkerView
   pub opened : IsOpened s tree workers
   pub ended : List Played
   pub played : HaveAllPlayed lets stops tree s.header.tries s.entries workers ended
@@ -57,8 +57,8 @@ pub record IsStressText (lets stops : ℕ → ℕ → Type 0) (s : Script) (rows
 -- Of `stress`, where the gate stopped workers: this one is the first of them, and it was stopped
 -- before this line; none was refused memory
 pub record IsGateStop (lets stops : ℕ → ℕ → Type 0) (s : Script) (worker line : ℕ) : Type 0 where
-  pub tree : Board
-  pub workers : List Hand
+  pub tree : TreeView
+  pub workers : List WorkerView
   pub opened : IsOpened s tree workers
   pub ended : List Played
   pub played : HaveAllPlayed lets stops tree s.header.tries s.entries workers ended

@@ -6,8 +6,8 @@ use Rattle.nm_serial.specs.AnswerLines.{lines}
 use Rattle.nm_files.specs.declared.fault.RunFault.{RunFault}
 use Rattle.nm_files.specs.declared.fault.RunFault.TheVariants as run
 use Rattle.nm_files.specs.declared.entry.ScriptCall.{ScriptCall}
-use Rattle.nm_steps.specs.Steps.{Board, IsOf}
-use Rattle.nm_tree.specs.Workers.{Hand}
+use Rattle.nm_steps.specs.Steps.{TreeView, IsOf}
+use Rattle.nm_tree.specs.Workers.{WorkerView}
 use Rattle.nm_serial.specs.declared.own_lines.Stop.{Stop}
 use Rattle.nm_serial.specs.declared.own_lines.Stop.TheVariants as stop
 use Rattle.nm_serial.specs.declared.threads.Played.{Played}
@@ -15,8 +15,8 @@ use Rattle.nm_serial.specs.Makes.{PlaysOwn, StopsOwn}
 
 -- a worker has played its lines of a script, one after the other; or its gate stopped it before one
 -- of them, or it was refused memory
-pub record HasPlayed (lets stops : ℕ → ℕ → Type 0) (b : Board) (tries : ℕ) (es : List (ℕ × ScriptCall))
-    (w z : Hand) (answers : Result (Vec Answer Global) Stop) : Type 0 where
+pub record HasPlayed (lets stops : ℕ → ℕ → Type 0) (b : TreeView) (tries : ℕ) (es : List (ℕ × ScriptCall))
+    (w z : WorkerView) (answers : Result (Vec Answer Global) Stop) : Type 0 where
   pub own : IsOf b z.pass
   pub number : z.pass.view.number ≡ w.pass.view.number
   pub queues : length z.queues ≡ length w.queues
@@ -24,10 +24,10 @@ pub record HasPlayed (lets stops : ℕ → ℕ → Type 0) (b : Board) (tries : 
   pub stopped : IfErr answers (StopsOwn lets stops b tries w.pass.view.number 2 es w z)
 
 -- each of the workers has, in their order
-pub record HaveAllPlayed (lets stops : ℕ → ℕ → Type 0) (b : Board) (tries : ℕ)
-    (es : List (ℕ × ScriptCall)) (ws : List Hand) (ps : List Played) : Type 0 where
+pub record HaveAllPlayed (lets stops : ℕ → ℕ → Type 0) (b : TreeView) (tries : ℕ)
+    (es : List (ℕ × ScriptCall)) (ws : List WorkerView) (ps : List Played) : Type 0 where
   pub all : length ps ≡ length ws
-  pub each : (k : ℕ) (w : Hand) (p : Played) → k < length ws
+  pub each : (k : ℕ) (w : WorkerView) (p : Played) → k < length ws
       → HasPlayed lets stops b tries es (slice_index_or ws k w) (slice_index_or ps k p).worker
       (slice_index_or ps k p).answers
 

@@ -5,7 +5,7 @@ use Rattle.std.proofs.Math.Nat.{suc-mul, zero-mul}
 use Rattle.nm_edge.specs.Layouts.{Layout}
 use Rattle.nm_model.specs.declared.event.Op.TheVariants.{Has, Insert, Delete}
 use Rattle.nm_model.specs.declared.trace.Turn.{Turn}
-use Rattle.nm_steps.specs.Steps.{Board, Stand, HasSeenAllOf}
+use Rattle.nm_steps.specs.Steps.{TreeView, PassView, HasSeenAllOf}
 use Rattle.nm_progress.specs.Moves.{number_of, moves_of_others}
 use Rattle.nm_progress.specs.Tries.{hinders, reshapes_of_others}
 use Rattle.nm_progress.proofs.SplitTurns.{number-append}
@@ -13,7 +13,7 @@ use Rattle.nm_busy.specs.Lookups.{WasBusy}
 use Rattle.nm_busy.specs.Lost.{ChangeWasBusy}
 use Rattle.nm_tree.specs.declared.fault.CallFault.{CallFault as Lost}
 use Rattle.nm_tree.specs.declared.fault.CallFault.TheVariants as call
-use Rattle.nm_tree.specs.Workers.{Hand, waiting_in}
+use Rattle.nm_tree.specs.Workers.{WorkerView, waiting_in}
 use Rattle.nm_tree.specs.Calls.{LeavesHas, LeavesInsert, LeavesDelete}
 use Rattle.nm_set.specs.declared.fault.Fault.{Fault}
 use Rattle.nm_set.specs.declared.fault.Fault.TheVariants as fault
@@ -37,12 +37,12 @@ module _ (disturbs : ℕ → Turn → Bool) where
       omega (arith, a, b)
 
   -- at least so many
-  pub record Meanwhile (p q : Stand) (times : ℕ) : Type 0 where
+  pub record Meanwhile (p q : PassView) (times : ℕ) : Type 0 where
     pub turns : List Turn
     pub is : q.view.past ≡ p.view.past ++ turns
     pub least : times ≤ count p.view.number turns
 
-  pub meanwhile_then : (m n : ℕ) (p q r : Stand) → q.view.number ≡ p.view.number → Meanwhile p q m → Meanwhile q r n → Meanwhile p r (m + n)
+  pub meanwhile_then : (m n : ℕ) (p q r : PassView) → q.view.number ≡ p.view.number → Meanwhile p q m → Meanwhile q r n → Meanwhile p r (m + n)
   meanwhile_then m n p q r number first second =
       let some = first.least in
       let more = subst (λ (v : ℕ). n ≤ count v second.turns) number second.least in
@@ -54,29 +54,29 @@ module _ (disturbs : ℕ → Turn → Bool) where
       }
 
   -- what was done before it takes nothing away
-  pub meanwhile_since : (m : ℕ) (p q r : Stand) → Follows p q → Meanwhile q r m → Meanwhile p r m
+  pub meanwhile_since : (m : ℕ) (p q r : PassView) → Follows p q → Meanwhile q r m → Meanwhile p r m
   meanwhile_since m p q r on second =
       subst (Meanwhile p r) (omega arith)
-      (meanwhile_then 0 m p q r (ap (λ (x : Stand). x.view.number) on.same) (record { turns = on.past.goes_on.more; is = on.past.goes_on.is; least = omega arith }) second)
+      (meanwhile_then 0 m p q r (ap (λ (x : PassView). x.view.number) on.same) (record { turns = on.past.goes_on.more; is = on.past.goes_on.is; least = omega arith }) second)
 
   -- a call that was lost so in each of its rounds, one more than its retries; each in a tree of
   -- this layout
-  module _ {R : Type 0} (leaves : Hand → Hand → R → Type 0) (lost : R) (tries : ℕ) (L : Layout)
-      (follows : (x y : Hand) → leaves x y lost → Follows x.pass y.pass)
-      (once : (x y : Hand) → x.pass.view.layout ≡ L → leaves x y lost → Meanwhile x.pass y.pass tries) where
-    number : (x y : Hand) → leaves x y lost → y.pass.view.number ≡ x.pass.view.number
-    number x y did = ap (λ (p : Stand). p.view.number) (follows x y did).same
+  module _ {R : Type 0} (leaves : WorkerView → WorkerView → R → Type 0) (lost : R) (tries : ℕ) (L : Layout)
+      (follows : (x y : WorkerView) → leaves x y lost → Follows x.pass y.pass)
+      (once : (x y : WorkerView) → x.pass.view.layout ≡ L → leaves x y lost → Meanwhile x.pass y.pass tries) where
+    number : (x y : WorkerView) → leaves x y lost → y.pass.view.number ≡ x.pass.view.number
+    number x y did = ap (λ (p : PassView). p.view.number) (follows x y did).same
 
-    layout : (x y : Hand) → x.pass.view.layout ≡ L → leaves x y lost → y.pass.view.layout ≡ L
-    layout x y is did = ap (λ (p : Stand). p.view.layout) (follows x y did).same ∙ is
+    layout : (x y : WorkerView) → x.pass.view.layout ≡ L → leaves x y lost → y.pass.view.layout ≡ L
+    layout x y is did = ap (λ (p : PassView). p.view.layout) (follows x y did).same ∙ is
 
     -- such calls in a row
-    record Row (n : ℕ) (w z : Hand) : Type 0 where
+    record Row (n : ℕ) (w z : WorkerView) : Type 0 where
       number : z.pass.view.number ≡ w.pass.view.number
       layout : z.pass.view.layout ≡ L
       meanwhile : Meanwhile w.pass z.pass (n * tries)
 
-    row : (n : ℕ) (w z : Hand) → w.pass.view.layout ≡ L → InARow (λ x y. leaves x y lost) n w z → Row n w z
+    row : (n : ℕ) (w z : WorkerView) → w.pass.view.layout ≡ L → InARow (λ x y. leaves x y lost) n w z → Row n w z
     row zero w z at is = subst (Row 0 w) (sym is) (record {
       number = refl;
       layout = at;
@@ -91,7 +91,7 @@ module _ (disturbs : ℕ → Turn → Bool) where
           meanwhile = let whole = suc-mul n tries in subst (Meanwhile w.pass z.pass) (omega (arith, whole)) (meanwhile_then (n * tries) tries w.pass m.pass z.pass r.number r.meanwhile (once m z r.layout made));
         }
 
-    pub each_round : (rounds : ℕ) (w z : Hand) → w.pass.view.layout ≡ L → IsRetried leaves lost rounds w z lost → Meanwhile w.pass z.pass ((rounds + 1) * tries)
+    pub each_round : (rounds : ℕ) (w z : WorkerView) → w.pass.view.layout ≡ L → IsRetried leaves lost rounds w z lost → Meanwhile w.pass z.pass ((rounds + 1) * tries)
     each_round rounds w z at a = by (row a.before w a.begun at a.each)
       where
         by : Row a.before w a.begun → Meanwhile w.pass z.pass ((rounds + 1) * tries)
@@ -103,13 +103,13 @@ module _ (disturbs : ℕ → Turn → Bool) where
 
 -- ---- look-ups
 
-look_once : (p q : Stand) (times : ℕ) → HasSeenAllOf q p → WasBusy p q times → Meanwhile reshapes_of_others p q times
+look_once : (p q : PassView) (times : ℕ) → HasSeenAllOf q p → WasBusy p q times → Meanwhile reshapes_of_others p q times
 look_once p q times past (inl none) = record { turns = past.goes_on.more; is = past.goes_on.is; least = omega (arith, none) }
 look_once p q times past (inr (inl moved)) = record { turns = moved.turns; is = moved.is; least = (let some = moved.moved in omega (arith, some)) }
 look_once p q times past (inr (inr reshaped)) = record { turns = reshaped.turns; is = reshaped.is; least = (let some = reshaped.reshaped in omega (arith, some)) }
 
 -- all of the look-ups, of which there is one more than rounds, behind what was done before
-pub looks_disturbed : (b : Board) (h : Habit) (k : ℕ) (w x z : Hand) → Follows w.pass x.pass → Retries Has b h k x z busy → WasDisturbed w.pass z.pass ((h.rounds + 1) * h.tries)
+pub looks_disturbed : (b : TreeView) (h : Habit) (k : ℕ) (w x z : WorkerView) → Follows w.pass x.pass → Retries Has b h k x z busy → WasDisturbed w.pass z.pass ((h.rounds + 1) * h.tries)
 looks_disturbed b h k w x z on looks =
     let m = meanwhile_since reshapes_of_others ((h.rounds + 1) * h.tries) w.pass x.pass z.pass on
     (each_round reshapes_of_others (Asked (LeavesHas b.layout h.tries k)) busy h.tries x.pass.view.layout
@@ -119,40 +119,40 @@ looks_disturbed b h k w x z on looks =
 
 -- ---- inserts and deletes
 
-change_once : (p q : Stand) (times : ℕ) → HasSeenAllOf q p → ChangeWasBusy p q times → Meanwhile hinders p q times
+change_once : (p q : PassView) (times : ℕ) → HasSeenAllOf q p → ChangeWasBusy p q times → Meanwhile hinders p q times
 change_once p q times past (inl none) = record { turns = past.goes_on.more; is = past.goes_on.is; least = omega (arith, none) }
 change_once p q times past (inr (inl moved)) = record { turns = moved.turns; is = moved.is; least = (let some = moved.moved in omega (arith, some)) }
 change_once p q times past (inr (inr lost)) = record { turns = lost.turns; is = lost.is; least = (let some = lost.hindered in omega (arith, some)) }
 
-held_up : (p q r : Stand) (times : ℕ) → Follows p q → Meanwhile hinders q r times → WasHeldUp p r times
+held_up : (p q r : PassView) (times : ℕ) → Follows p q → Meanwhile hinders q r times → WasHeldUp p r times
 held_up p q r times on second = let m = meanwhile_since hinders times p q r on second in record { turns = m.turns; is = m.is; held_up = m.least }
 
-module _ (b : Board) (h : Habit) (k : ℕ) where
+module _ (b : TreeView) (h : Habit) (k : ℕ) where
   abbrev Times : ℕ
   Times = (h.rounds + 1) * h.tries
 
-  inserts_lost : (w z : Hand) → Retries Insert b h k w z busy → Meanwhile hinders w.pass z.pass Times
+  inserts_lost : (w z : WorkerView) → Retries Insert b h k w z busy → Meanwhile hinders w.pass z.pass Times
   inserts_lost w z a = each_round hinders (Asked (LeavesInsert b.layout h.tries k)) busy h.tries w.pass.view.layout
       (λ x y did. record { same = did.1.says.same; past = did.1.says.past })
       (λ x y at did. change_once x.pass y.pass h.tries did.1.says.past (did.1.disturbed refl)) h.rounds w z refl a
 
-  deletes_lost : (w z : Hand) → Retries Delete b h k w z busy → Meanwhile hinders w.pass z.pass Times
+  deletes_lost : (w z : WorkerView) → Retries Delete b h k w z busy → Meanwhile hinders w.pass z.pass Times
   deletes_lost w z a = each_round hinders (Asked (LeavesDelete b.layout h.tries k)) busy h.tries w.pass.view.layout
       (λ x y did. record { same = did.1.says.same; past = did.1.says.past })
       (λ x y at did. change_once x.pass y.pass h.tries did.1.says.past (did.1.disturbed refl)) h.rounds w z refl a
 
   -- behind what is done first
-  since_tidy : (w y z : Hand) → IsMadeTidy b h w y → Meanwhile hinders y.pass z.pass Times → WasHeldUp w.pass z.pass Times
+  since_tidy : (w y z : WorkerView) → IsMadeTidy b h w y → Meanwhile hinders y.pass z.pass Times → WasHeldUp w.pass z.pass Times
   since_tidy w y z made lost = let at = ready b h w y made in held_up w.pass y.pass z.pass Times (record { same = at.on.same; past = at.on.past }) lost
 
-  pub inserts_held_up : (w z : Hand) (r : Result Bool InsertFault) → of_insert r ≡ busy → TendsInsert b h k w z r → WasHeldUp w.pass z.pass Times
+  pub inserts_held_up : (w z : WorkerView) (r : Result Bool InsertFault) → of_insert r ≡ busy → TendsInsert b h k w z r → WasHeldUp w.pass z.pass Times
   inserts_held_up w z r told (inl held) = absurd (let no = sym told ∙ held.1 in cc)
   inserts_held_up w z r told (inr (free, t)) = by t.did
     where
-      last : (q : Result Bool Fault) (x y : Hand) → of_insert r ≡ q → Retries Insert b h k x y q → Meanwhile hinders x.pass y.pass Times
+      last : (q : Result Bool Fault) (x y : WorkerView) → of_insert r ≡ q → Retries Insert b h k x y q → Meanwhile hinders x.pass y.pass Times
       last q x y is did = inserts_lost x y (subst (λ (p : Result Bool Fault). Retries Insert b h k x y p) (sym is ∙ told) did)
 
-      after : (x : Hand) → x.held ≡ None → RetriesInsert b h k x z r → Meanwhile hinders x.pass z.pass Times
+      after : (x : WorkerView) → x.held ≡ None → RetriesInsert b h k x z r → Meanwhile hinders x.pass z.pass Times
       after x held (inl (q, did, known, is)) = last q x z (ap of_insert is ∙ plain_told q) did
       after x held (inr (u, v, behind, q, full, found, retried, is)) =
           let first = calls_go Insert b h k x u (Err (fault.Call call.Full)) held full in
@@ -166,15 +166,15 @@ module _ (b : Board) (h : Habit) (k : ℕ) where
           let made : IsMadeTidy b h w y = record { free = free; answer = answer; between = x; finished = finished; tidied = tidied } in
           since_tidy w y z made (after y (ready b h w y made).on.held did)
 
-  pub deletes_held_up : (w z : Hand) → UnlessHeld (HasTended (RemovesTended b h k) b h Delete k w z busy) w z busy → WasHeldUp w.pass z.pass Times
+  pub deletes_held_up : (w z : WorkerView) → UnlessHeld (HasTended (RemovesTended b h k) b h Delete k w z busy) w z busy → WasHeldUp w.pass z.pass Times
   deletes_held_up w z (inl held) = absurd (let no = held.1 in cc)
   deletes_held_up w z (inr (free, t)) = by t.did
     where
-      no_busy : (x : Hand) (f : Result Bool Lost) → FinishesPending b h x z f → busy ≡ of_finish f → ⊥
+      no_busy : (x : WorkerView) (f : Result Bool Lost) → FinishesPending b h x z f → busy ≡ of_finish f → ⊥
       no_busy x (Ok answer) done is = cc
       no_busy x (Err lost) done is = absurd (let same = finishes_err b h x z lost done in let which = is in cc)
 
-      after : (x : Hand) → RetriesDelete b h k x z busy → Meanwhile hinders x.pass z.pass Times
+      after : (x : WorkerView) → RetriesDelete b h k x z busy → Meanwhile hinders x.pass z.pass Times
       after x (inl one) = deletes_lost x z one.0
       after x (inr (u, f, unfinished, finishes, told)) = absurd (no_busy u f finishes told)
 

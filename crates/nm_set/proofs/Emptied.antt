@@ -35,7 +35,7 @@ use Rattle.nm_progress.specs.Moves.{number_of, moves}
 use Rattle.nm_progress.proofs.Moves.{epochs_are_the_moves}
 use Rattle.nm_progress.proofs.SplitTurns.{SplitTurn, split_turn}
 use Rattle.nm_steps.specs.Rules.{Extends, knowledge}
-use Rattle.nm_steps.specs.Steps.{Board, Stand, HasSeen, HasSeenAllOf, IsSamePass}
+use Rattle.nm_steps.specs.Steps.{TreeView, PassView, HasSeen, HasSeenAllOf, IsSamePass}
 use Rattle.nm_epoch.specs.declared.answers.Advance.{Advance}
 use Rattle.nm_epoch.specs.declared.answers.Advance.TheVariants as advance
 use Rattle.nm_epoch.specs.declared.collecting.Collected.{Collected}
@@ -48,7 +48,7 @@ use Rattle.nm_epoch.proofs.Fronts.{shown_queue}
 use Rattle.nm_calls.specs.PlainWalks.{events_of}
 use Rattle.nm_calls.proofs.PlainLooks.{as_events, events_go_on}
 use Rattle.nm_busy.proofs.LostPins.{part-append, turns_between}
-use Rattle.nm_tree.specs.Workers.{Hand, IsAs, IsBetweenCalls, waiting_in}
+use Rattle.nm_tree.specs.Workers.{WorkerView, IsAs, IsBetweenCalls, waiting_in}
 use Rattle.nm_tree.specs.Calls.{LeavesAdvance, LeavesCollect}
 use Rattle.nm_set.specs.Tended.{IsRelieved, FindsBehind, HasReadSince, WasElsewhere, WasMovedOn, found_behind}
 use Rattle.nm_set.proofs.Tending.{Follows, follows_then}
@@ -110,34 +110,34 @@ all_of_them epoch n (h ∷ hs) late are =
 
 -- ---- the epoch that a pass has seen to stand
 
-abbrev state_seen : Stand → State
+abbrev state_seen : PassView → State
 state_seen p = (after_in (ordered p.view.layout) (events_of p.view.past)).state
 
-abbrev epoch_seen : Stand → ℕ
+abbrev epoch_seen : PassView → ℕ
 epoch_seen p = (state_seen p).memory.epoch
 
-knows : (p : Stand) → HasSeen p.view → of (state_seen p) p.view.number ≡ knowledge p.view
+knows : (p : PassView) → HasSeen p.view → of (state_seen p) p.view.number ≡ knowledge p.view
 knows p seen = logs_tell p.view.layout (events_of p.view.past) p.view.number seen.worker ∙ ap (known_by p.view.layout p.view.number) (as_events p.view seen).is_part
 
-no_label_above : (p : Stand) → 5 ≤ p.view.layout.nodes → HasSeen p.view → NoLabelIsAboveTheEpoch (state_seen p)
+no_label_above : (p : PassView) → 5 ≤ p.view.layout.nodes → HasSeen p.view → NoLabelIsAboveTheEpoch (state_seen p)
 no_label_above p enough seen =
     let o = each_ordered p.view.layout enough (events_of p.view.past) (as_events p.view seen).keys in
     subst NoLabelIsAboveTheEpoch (sym o.leads) (no_label_is_above p.view.layout enough o.events)
 
 -- what waits is labelled by an epoch that had been
-queue_labelled : (p : Stand) (o : ℕ) (es : List Entry) → 5 ≤ p.view.layout.nodes → HasSeen p.view → IsQueueOf (knowledge p.view) o es → AreLabelledBy (epoch_seen p) es
+queue_labelled : (p : PassView) (o : ℕ) (es : List Entry) → 5 ≤ p.view.layout.nodes → HasSeen p.view → IsQueueOf (knowledge p.view) o es → AreLabelledBy (epoch_seen p) es
 queue_labelled p o es enough seen has = labelled_by (epoch_seen p) es (λ i e at. no_label_above p enough seen p.view.number o i e.label (queued e)
     (ap (λ (k : Knowledge). slice_get (queue_of (held k.ledgers o)) i) (knows p seen)
     ∙ (ap (λ (q : List Queued). slice_get q i) (shown_queue (held (knowledge p.view).ledgers o) (map queued es) has)
     ∙ (slice_get-map queued es i ∙ ap (λ (x : Option Entry). option_map queued x) at))) refl)
 
-all_labelled : (p : Stand) (hs : List HeldQueue) → 5 ≤ p.view.layout.nodes → HasSeen p.view → AreHeld (knowledge p.view) hs → AllLabelled (epoch_seen p) hs
+all_labelled : (p : PassView) (hs : List HeldQueue) → 5 ≤ p.view.layout.nodes → HasSeen p.view → AreHeld (knowledge p.view) hs → AllLabelled (epoch_seen p) hs
 unfolding AllLabelled
 all_labelled p [] enough seen has = tt
 all_labelled p (h ∷ hs) enough seen has = (queue_labelled p h.origin h.queue.items enough seen has.0, all_labelled p hs enough seen has.2)
 
 -- the epoch that it read last is not above that one
-seen_before : (p : Stand) (e : ℕ) → 5 ≤ p.view.layout.nodes → HasSeen p.view → (knowledge p.view).brief.seen ≡ Some e → e ≤ epoch_seen p
+seen_before : (p : PassView) (e : ℕ) → 5 ≤ p.view.layout.nodes → HasSeen p.view → (knowledge p.view).brief.seen ≡ Some e → e ≤ epoch_seen p
 seen_before p e enough seen is =
     (law_of_state p.view.layout enough (after_in (ordered p.view.layout) (events_of p.view.past)) (each_ordered p.view.layout enough (events_of p.view.past) (as_events p.view seen).keys)).1.epochs.sights p.view.number e
     (ap (λ (k : Knowledge). k.brief.seen) (knows p seen) ∙ is)
@@ -166,30 +166,30 @@ first_epoch w e r c more rest tells is = by (split_turn w more c [] (event.Sight
 -- ---- from one moment of a pass to a later one
 
 -- what a call adds to the log is the worker's part of what it has seen since
-part_since : (p q : Stand) (adds : List LogEntry) → HasSeen p.view → HasSeen q.view → IsSamePass p q → (e : Extends q.view.past p.view.past) → q.view.log ≡ p.view.log ++ adds → part_of p.view.number e.more ≡ adds
+part_since : (p q : PassView) (adds : List LogEntry) → HasSeen p.view → HasSeen q.view → IsSamePass p q → (e : Extends q.view.past p.view.past) → q.view.log ≡ p.view.log ++ adds → part_of p.view.number e.more ≡ adds
 part_since p q adds seen_p seen_q same e is =
-    let number : q.view.number ≡ p.view.number = ap (λ (s : Stand). s.view.number) same in
+    let number : q.view.number ≡ p.view.number = ap (λ (s : PassView). s.view.number) same in
     append_cancel_left p.view.log _ adds
     (ap (λ (l : List LogEntry). l ++ part_of p.view.number e.more) (sym seen_p.is_part)
     ∙ (sym (part-append p.view.number p.view.past e.more)
     ∙ (ap (part_of p.view.number) (sym e.is)
     ∙ (ap (λ (w : ℕ). part_of w q.view.past) (sym number) ∙ (seen_q.is_part ∙ is)))))
 
-part_between : (p q : Stand) (adds : List LogEntry) → HasSeen p.view → HasSeen q.view → IsSamePass p q → (e : Extends q.view.past p.view.past) → q.view.log ≡ p.view.log ++ adds
+part_between : (p q : PassView) (adds : List LogEntry) → HasSeen p.view → HasSeen q.view → IsSamePass p q → (e : Extends q.view.past p.view.past) → q.view.log ≡ p.view.log ++ adds
     → part_of p.view.number (trace_in (after_in (ordered p.view.layout) (events_of p.view.past)) (events_of e.more)) ≡ adds
 part_between p q adds seen_p seen_q same e is = ap (part_of p.view.number) (turns_between p q seen_p seen_q same e) ∙ part_since p q adds seen_p seen_q same e is
 
 -- the epoch grows by its moves
-epoch_between : (p q : Stand) → HasSeen p.view → HasSeen q.view → IsSamePass p q → (e : Extends q.view.past p.view.past) → epoch_seen q ≡ epoch_seen p + number_of moves e.more
+epoch_between : (p q : PassView) → HasSeen p.view → HasSeen q.view → IsSamePass p q → (e : Extends q.view.past p.view.past) → epoch_seen q ≡ epoch_seen p + number_of moves e.more
 epoch_between p q seen_p seen_q same e =
-    ap (λ (L : Layout). (after_in (ordered L) (events_of q.view.past)).state.memory.epoch) (ap (λ (s : Stand). s.view.layout) same)
+    ap (λ (L : Layout). (after_in (ordered L) (events_of q.view.past)).state.memory.epoch) (ap (λ (s : PassView). s.view.layout) same)
     ∙ (ap (λ (es : List (ℕ × Event)). (after_in (ordered p.view.layout) es).state.memory.epoch) (events_go_on q.view.past p.view.past e)
     ∙ (ap (λ (c : Configuration). c.state.memory.epoch) (after_in-append (ordered p.view.layout) (events_of p.view.past) (events_of e.more))
     ∙ (epochs_are_the_moves (after_in (ordered p.view.layout) (events_of p.view.past)) (events_of e.more)
     ∙ ap (λ (ts : List Turn). epoch_seen p + number_of moves ts) (turns_between p q seen_p seen_q same e))))
 
 -- a call that begins with a sight reads no epoch below that which had been seen
-reads_no_less : (p q : Stand) (e : ℕ) (r : Reply) (rest : List LogEntry) → HasSeen p.view → HasSeen q.view → IsSamePass p q → HasSeenAllOf q p → sight_epoch r ≡ Some e → q.view.log ≡ p.view.log ++ (event.Sight, r) ∷ rest → epoch_seen p ≤ e
+reads_no_less : (p q : PassView) (e : ℕ) (r : Reply) (rest : List LogEntry) → HasSeen p.view → HasSeen q.view → IsSamePass p q → HasSeenAllOf q p → sight_epoch r ≡ Some e → q.view.log ≡ p.view.log ++ (event.Sight, r) ∷ rest → epoch_seen p ≤ e
 reads_no_less p q e r rest seen_p seen_q same past tells is =
     first_epoch p.view.number e r (after_in (ordered p.view.layout) (events_of p.view.past)) (events_of past.goes_on.more) rest tells
     (part_between p q ((event.Sight, r) ∷ rest) seen_p seen_q same past.goes_on is)
@@ -258,7 +258,7 @@ lost_so : (m me : ℕ) (pin : Option ℕ) (old new : List LogEntry) (found : ℕ
 lost_so m me pin old new found (e, mid, scans, is, ends) = ended_so m me e found pin old mid new (reply.Behind found) (learns_behind found) (inr is) scans ends
 
 -- behind it a later epoch has been seen
-moves_on : (p q : Stand) → 5 ≤ p.view.layout.nodes → HasSeen p.view → HasSeen q.view → IsSamePass p q → HasSeenAllOf q p → Moves p.view.log q.view.log → epoch_seen p + 1 ≤ epoch_seen q
+moves_on : (p q : PassView) → 5 ≤ p.view.layout.nodes → HasSeen p.view → HasSeen q.view → IsSamePass p q → HasSeenAllOf q p → Moves p.view.log q.view.log → epoch_seen p + 1 ≤ epoch_seen q
 moves_on p q enough seen_p seen_q same past m =
     let low = reads_no_less p q m.read m.sight m.mid seen_p seen_q same past m.tells m.begins in
     let high = seen_before q m.found many seen_q is_seen in
@@ -266,7 +266,7 @@ moves_on p q enough seen_p seen_q same past m =
     omega (arith, low, high, up)
   where
     layout : q.view.layout ≡ p.view.layout
-    layout = ap (λ (s : Stand). s.view.layout) same
+    layout = ap (λ (s : PassView). s.view.layout) same
 
     many : 5 ≤ q.view.layout.nodes
     many = subst (λ (L : Layout). 5 ≤ L.nodes) (sym layout) enough
@@ -300,7 +300,7 @@ HasMoved (advance.Moved e) = Unit {0}
 HasMoved (advance.Lost e) = Unit {0}
 HasMoved _ = ⊥
 
-advanced_so : (m : ℕ) (w z : Hand) (a : Advance) → HasMoved a → LeavesAdvance m w z a → Moves w.pass.view.log z.pass.view.log
+advanced_so : (m : ℕ) (w z : WorkerView) (a : Advance) → HasMoved a → LeavesAdvance m w z a → Moves w.pass.view.log z.pass.view.log
 advanced_so m w z (advance.Moved e) moved l = moved_so m w.pass.view.number (epochs w.pass).pin w.pass.view.log z.pass.view.log e l.did
 advanced_so m w z (advance.Lost e) moved l = lost_so m w.pass.view.number (epochs w.pass).pin w.pass.view.log z.pass.view.log e l.did
 advanced_so m w z (advance.Held worker at) moved l = absurd moved
@@ -309,7 +309,7 @@ advanced_so m w z advance.Spent moved l = absurd moved
 -- ---- the whole
 
 -- what was seen before each part of it and behind the last
-pub record AreSeen {b : Board} {w z : Hand} (r : IsRelieved b w z) : Type 0 where
+pub record AreSeen {b : TreeView} {w z : WorkerView} (r : IsRelieved b w z) : Type 0 where
   pub enough : 5 ≤ w.pass.view.layout.nodes
   pub first : HasSeen w.pass.view
   pub second : HasSeen r.once.pass.view
@@ -318,20 +318,20 @@ pub record AreSeen {b : Board} {w z : Hand} (r : IsRelieved b w z) : Type 0 wher
   pub between : IsBetweenCalls w
   pub between_again : IsBetweenCalls r.once
 
-collect_reads : (n : ℕ) (w z : Hand) (c : Collected) → HasSeen w.pass.view → HasSeen z.pass.view → LeavesCollect n w z c → epoch_seen w.pass ≤ c.epoch
+collect_reads : (n : ℕ) (w z : WorkerView) (c : Collected) → HasSeen w.pass.view → HasSeen z.pass.view → LeavesCollect n w z c → epoch_seen w.pass ≤ c.epoch
 collect_reads n w z c seen_w seen_z l =
     let sight = l.did.1 in
     reads_no_less w.pass z.pass c.epoch sight.0 (map freeing (ripe_of c.epoch w.queues)) seen_w seen_z l.same l.past sight.1
     (l.did.2 ∙ (ap (λ (old : List LogEntry). old ++ map freeing (ripe_of c.epoch w.queues)) sight.2 ∙ append_assoc w.pass.view.log ((event.Sight, sight.0) ∷ []) (map freeing (ripe_of c.epoch w.queues))))
 
 -- the pass goes on
-goes_on : (b : Board) (w z : Hand) (r : IsRelieved b w z) → Follows w.pass z.pass
+goes_on : (b : TreeView) (w z : WorkerView) (r : IsRelieved b w z) → Follows w.pass z.pass
 goes_on b w z r = follows_then w.pass r.twice.pass z.pass (follows_then w.pass r.once.pass r.twice.pass (record { same = r.moves.same; past = r.moves.past }) (record { same = r.moves_again.same; past = r.moves_again.past })) (record { same = r.collects.same; past = r.collects.past })
 
-all_freed : (b : Board) (w z : Hand) (r : IsRelieved b w z) → AreSeen r → HasMoved r.moved → HasMoved r.moved_again → WasMovedOn w.pass z.pass 2 × (r.collected.freed ≡ waiting_in w.queues) × (waiting_in z.queues ≡ 0)
+all_freed : (b : TreeView) (w z : WorkerView) (r : IsRelieved b w z) → AreSeen r → HasMoved r.moved → HasMoved r.moved_again → WasMovedOn w.pass z.pass 2 × (r.collected.freed ≡ waiting_in w.queues) × (waiting_in z.queues ≡ 0)
 all_freed b w z r s moved again =
     let m = b.layout.workers in
-    let layout : r.once.pass.view.layout ≡ w.pass.view.layout = ap (λ (p : Stand). p.view.layout) r.moves.same in
+    let layout : r.once.pass.view.layout ≡ w.pass.view.layout = ap (λ (p : PassView). p.view.layout) r.moves.same in
     let one = moves_on w.pass r.once.pass s.enough s.first s.second r.moves.same r.moves.past (advanced_so m w r.once r.moved moved r.moves) in
     let two = moves_on r.once.pass r.twice.pass (subst (λ (L : Layout). 5 ≤ L.nodes) (sym layout) s.enough) s.second s.third r.moves_again.same r.moves_again.past (advanced_so m r.once r.twice r.moved_again again r.moves_again) in
     let three = collect_reads b.layout.nodes r.twice z r.collected s.third s.last r.collects in
@@ -397,7 +397,7 @@ advance_adds m me pin old new (advance.Lost found) (e, mid, scans, is, ends) = a
 advance_adds m me pin old new (advance.Held worker at) (e, mid, scans, below, apart, look) = adds_then old mid new (scanned_adds worker me e pin old mid scans) (look_adds me worker pin (Some at) mid new look)
 advance_adds m me pin old new advance.Spent scans = scanned_adds m me last_number pin old new scans
 
-collect_adds : (n : ℕ) (w z : Hand) (c : Collected) → LeavesCollect n w z c → Adds w.pass.view.log z.pass.view.log
+collect_adds : (n : ℕ) (w z : WorkerView) (c : Collected) → LeavesCollect n w z c → Adds w.pass.view.log z.pass.view.log
 collect_adds n w z c l = adds_then w.pass.view.log l.did.0 z.pass.view.log ((event.Sight, l.did.1.0) ∷ [], l.did.1.2) (map freeing (ripe_of c.epoch w.queues), l.did.2)
 
 -- between two logs the epoch was read, and worker i was found announcing another one
@@ -450,7 +450,7 @@ last_read m me pin old new s =
       read = record { entry = (event.Sight, s.1.0); among = (zero, omega arith, refl); tells = s.1.1 };
     }
 
-last_since : (b : Board) (w z : Hand) (r : IsRelieved b w z) → AreSeen r → (r.moved ≡ advance.Spent) ⊎ (r.moved_again ≡ advance.Spent) → HasReadSince w.pass z.pass last_number
+last_since : (b : TreeView) (w z : WorkerView) (r : IsRelieved b w z) → AreSeen r → (r.moved ≡ advance.Spent) ⊎ (r.moved_again ≡ advance.Spent) → HasReadSince w.pass z.pass last_number
 last_since b w z r s spent = by (log spent)
   where
     m : ℕ
@@ -472,7 +472,7 @@ last_since b w z r s spent = by (log spent)
         let part = part_since w.pass z.pass l.adds s.first s.last on.same on.past.goes_on l.is in
         record { turns = on.past.goes_on.more; is = on.past.goes_on.is; read = subst (λ (es : List LogEntry). HasRead es last_number) (sym part) l.read }
 
-freed_or_last : (b : Board) (w z : Hand) (r : IsRelieved b w z) → AreSeen r → found_behind r.moved r.moved_again ≡ None → HasReadSince w.pass z.pass last_number ⊎ (WasMovedOn w.pass z.pass 2 × (r.collected.freed ≡ waiting_in w.queues) × (waiting_in z.queues ≡ 0))
+freed_or_last : (b : TreeView) (w z : WorkerView) (r : IsRelieved b w z) → AreSeen r → found_behind r.moved r.moved_again ≡ None → HasReadSince w.pass z.pass last_number ⊎ (WasMovedOn w.pass z.pass 2 × (r.collected.freed ≡ waiting_in w.queues) × (waiting_in z.queues ≡ 0))
 freed_or_last b w z r s none = by (moved_or r.moved (none_held r.moved r.moved_again none).0) (moved_or r.moved_again (none_held r.moved r.moved_again none).1)
   where
     by : (r.moved ≡ advance.Spent) ⊎ HasMoved r.moved → (r.moved_again ≡ advance.Spent) ⊎ HasMoved r.moved_again → HasReadSince w.pass z.pass last_number ⊎ (WasMovedOn w.pass z.pass 2 × (r.collected.freed ≡ waiting_in w.queues) × (waiting_in z.queues ≡ 0))
@@ -481,12 +481,12 @@ freed_or_last b w z r s none = by (moved_or r.moved (none_held r.moved r.moved_a
     by (inr first) (inr second) = inr (all_freed b w z r s first second)
 
 -- a worker that rests finds another one, elsewhere
-resting : (w : Hand) → IsBetweenCalls w → w.pending ≡ None → w.held ≡ None → (epochs w.pass).pin ≡ None
+resting : (w : WorkerView) → IsBetweenCalls w → w.pending ≡ None → w.held ≡ None → (epochs w.pass).pin ≡ None
 resting w between none free =
     let rests : IsAs w.pass None None = subst (λ (h : Option ℕ). IsAs w.pass None h) free (subst (λ p. IsAs w.pass p w.held) none between.stands) in
     rests.unpinned
 
-held_elsewhere : (m : ℕ) (w z : Hand) (worker at : ℕ) → (epochs w.pass).pin ≡ None → LeavesAdvance m w z (advance.Held worker at) → (worker ≢ w.pass.view.number) × FoundIn w.pass.view.log z.pass.view.log worker
+held_elsewhere : (m : ℕ) (w z : WorkerView) (worker at : ℕ) → (epochs w.pass).pin ≡ None → LeavesAdvance m w z (advance.Held worker at) → (worker ≢ w.pass.view.number) × FoundIn w.pass.view.log z.pass.view.log worker
 held_elsewhere m w z worker at unpinned l = by l.did
   where
     me : ℕ
@@ -511,11 +511,11 @@ held_elsewhere m w z worker at unpinned l = by l.did
       },
     )
 
-another : (b : Board) (w z : Hand) (r : IsRelieved b w z) → AreSeen r → w.pending ≡ None → w.held ≡ None → (i : ℕ) → found_behind r.moved r.moved_again ≡ Some i → (i ≢ w.pass.view.number) × FoundIn w.pass.view.log z.pass.view.log i
+another : (b : TreeView) (w z : WorkerView) (r : IsRelieved b w z) → AreSeen r → w.pending ≡ None → w.held ≡ None → (i : ℕ) → found_behind r.moved r.moved_again ≡ Some i → (i ≢ w.pass.view.number) × FoundIn w.pass.view.log z.pass.view.log i
 another b w z r s none free i is = by r.moved r.moved_again r.moves r.moves_again is
   where
     number : r.once.pass.view.number ≡ w.pass.view.number
-    number = ap (λ (p : Stand). p.view.number) r.moves.same
+    number = ap (λ (p : PassView). p.view.number) r.moves.same
 
     collects : Adds r.twice.pass.view.log z.pass.view.log
     collects = collect_adds b.layout.nodes r.twice z r.collected r.collects
@@ -549,7 +549,7 @@ another b w z r s none free i is = by r.moved r.moved_again r.moves r.moves_agai
     by advance.Spent advance.Spent l k is = absurd (none-some i is)
 
 -- and so by what it has seen
-elsewhere : (b : Board) (w z : Hand) (r : IsRelieved b w z) → AreSeen r → w.pending ≡ None → w.held ≡ None → (i : ℕ) → found_behind r.moved r.moved_again ≡ Some i → (i ≢ w.pass.view.number) × WasElsewhere w.pass z.pass i
+elsewhere : (b : TreeView) (w z : WorkerView) (r : IsRelieved b w z) → AreSeen r → w.pending ≡ None → w.held ≡ None → (i : ℕ) → found_behind r.moved r.moved_again ≡ Some i → (i ≢ w.pass.view.number) × WasElsewhere w.pass z.pass i
 elsewhere b w z r s none free i is = by (another b w z r s none free i is)
   where
     by : (i ≢ w.pass.view.number) × FoundIn w.pass.view.log z.pass.view.log i → (i ≢ w.pass.view.number) × WasElsewhere w.pass z.pass i
@@ -568,7 +568,7 @@ elsewhere b w z r s none free i is = by (another b w z r s none free i is)
           },
         )
 
-pub finds_behind : (b : Board) (w z : Hand) (r : IsRelieved b w z) → AreSeen r → FindsBehind b w z (found_behind r.moved r.moved_again)
+pub finds_behind : (b : TreeView) (w z : WorkerView) (r : IsRelieved b w z) → AreSeen r → FindsBehind b w z (found_behind r.moved r.moved_again)
 finds_behind b w z r s = record {
   relieved = r;
   found = refl;

@@ -18,14 +18,14 @@ use Rattle.nm_order.specs.Logs.{part_of, takes_part}
 use Rattle.nm_order.specs.WalksToArrivals.{is_won_flag}
 use Rattle.nm_order.proofs.AnswersSince.{part-append}
 use Rattle.nm_steps.specs.Rules.{Extends}
-use Rattle.nm_steps.specs.Steps.{Board, Notice, Stand, IsOf, HasSeen, HasHeard, HasSeenAllOf}
+use Rattle.nm_steps.specs.Steps.{TreeView, Notice, PassView, IsOf, HasSeen, HasHeard, HasSeenAllOf}
 use Rattle.nm_steps.proofs.Growing.{goes_on_itself, goes_on_through}
 use Rattle.nm_walks.specs.WonCounts.{won_links, won_flags, won_splices}
 use Rattle.nm_epoch.specs.Collecting.{capped}
 use Rattle.nm_walks.proofs.Adding.{Adds, adds_these}
 use Rattle.nm_busy.specs.Pending.{leaf_after, leaf_by}
 use Rattle.nm_tree.specs.declared.worker.Counts.{Counts}
-use Rattle.nm_tree.specs.Workers.{Hand, IsLedger, log_held_of}
+use Rattle.nm_tree.specs.Workers.{WorkerView, IsLedger, log_held_of}
 use Rattle.nm_tree.proofs.OwnQueue.{log_of_own}
 use Rattle.nm_tree.proofs.JoinsAlone.{told_in_part}
 use Rattle.nm_set.specs.declared.posting.Posted.{Posted}
@@ -96,11 +96,11 @@ pending_one i turns = go (is_some (leaf_after i None turns))
 -- ---- letters
 
 -- the part of a worker is the log that its ledger counts
-part_held : (p : Stand) → HasSeen p.view → log_held_of p.view p.view.number ≡ part_of p.view.number p.view.past
+part_held : (p : PassView) → HasSeen p.view → log_held_of p.view p.view.number ≡ part_of p.view.number p.view.past
 part_held p seen = log_of_own p ∙ sym seen.is_part
 
 -- what a worker has done, by its ledger, where so many deletes of it are pending
-pub tally : (w : Hand) (c : Counts) (n : ℕ) → HasSeen w.pass.view → IsLedger w.pass.view w.pass.view.number c → pending_by w.pass.view.number w.pass.view.past ≡ n → IsTallyOf w (record { inserted = c.links; removed = c.flags - n })
+pub tally : (w : WorkerView) (c : Counts) (n : ℕ) → HasSeen w.pass.view → IsLedger w.pass.view w.pass.view.number c → pending_by w.pass.view.number w.pass.view.past ≡ n → IsTallyOf w (record { inserted = c.links; removed = c.flags - n })
 tally w c n seen l pends =
     let part = part_held w.pass seen in
     record {
@@ -113,30 +113,30 @@ tally w c n seen l pends =
     }
 
 -- so what it has seen comes behind that
-pub behind_itself : (w : Hand) (t : Posted) → IsTallyOf w t → ComesBehind w.pass.view.number t w.pass.view.past
+pub behind_itself : (w : WorkerView) (t : Posted) → IsTallyOf w t → ComesBehind w.pass.view.number t w.pass.view.past
 behind_itself w t has = record { before = w.pass.view.past; goes_on = goes_on_itself w.pass.view.past; tally = has }
 
 -- and what goes on from what comes behind it does too
 pub behind_still : (i : ℕ) (t : Posted) (later seen : List Turn) → Extends later seen → ComesBehind i t seen → ComesBehind i t later
 behind_still i t later seen on c = record { before = c.before; goes_on = goes_on_through later seen c.before on c.goes_on; tally = c.tally }
 
--- the note of a worker on its own post, which is one of its tree
-pub own_letter : (b d : Board) (w : Hand) (i : ℕ) (t : Posted) (n : Notice) → d ≡ b → IsOf b w.pass → IsTallyOf w t → i ≡ w.pass.view.number
+-- the note of a worker in its own mailbox, which is one of its tree
+pub own_letter : (b d : TreeView) (w : WorkerView) (i : ℕ) (t : Posted) (n : Notice) → d ≡ b → IsOf b w.pass → IsTallyOf w t → i ≡ w.pass.view.number
     → n ≡ record { table = w.pass.table; past = w.pass.view.past } → IsLetter d i t n
 own_letter b d w i t n at of has number is =
     let told : ComesBehind i t w.pass.view.past = subst (λ (k : ℕ). ComesBehind k t w.pass.view.past) (sym number) (behind_itself w t has) in
     let letter : IsLetter b i t n = subst (λ (m : Notice). IsLetter b i t m) (sym is) (record { table = of.table; told = told }) in
-    subst (λ (x : Board). IsLetter x i t n) (sym at) letter
+    subst (λ (x : TreeView). IsLetter x i t n) (sym at) letter
 
 -- the note of a worker that has heard a letter
-pub same_letter : (b d : Board) (p : Stand) (i : ℕ) (t : Posted) (heard n : Notice) → d ≡ b → IsOf b p → IsLetter d i t heard → Extends p.view.past heard.past
+pub same_letter : (b d : TreeView) (p : PassView) (i : ℕ) (t : Posted) (heard n : Notice) → d ≡ b → IsOf b p → IsLetter d i t heard → Extends p.view.past heard.past
     → n ≡ record { table = p.table; past = p.view.past } → IsLetter d i t n
 same_letter b d p i t heard n at of letter on is =
-    let table : p.table ≡ d.table = of.table ∙ ap (λ (x : Board). x.table) (sym at) in
+    let table : p.table ≡ d.table = of.table ∙ ap (λ (x : TreeView). x.table) (sym at) in
     subst (λ (m : Notice). IsLetter d i t m) (sym is) (record { table = table; told = behind_still i t p.view.past heard.past on letter.told })
 
 -- what a worker has that has heard it
-pub heard_of : (b d : Board) (i : ℕ) (t : Posted) (w z : Hand) (heard : Notice) → d ≡ b → IsLetter d i t heard → HasHeard w.pass z.pass → HasSeenAllOf z.pass w.pass
+pub heard_of : (b d : TreeView) (i : ℕ) (t : Posted) (w z : WorkerView) (heard : Notice) → d ≡ b → IsLetter d i t heard → HasHeard w.pass z.pass → HasSeenAllOf z.pass w.pass
     → Extends z.pass.view.past heard.past → z ≡ record w { pass = z.pass } → HasHeardOf b i t w z
 heard_of b d i t w z heard at letter same past on rest = record {
   same = same;

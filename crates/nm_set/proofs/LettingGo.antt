@@ -5,13 +5,13 @@ use Rattle.nm_edge.specs.declared.node.NodeId.{NodeId}
 use Rattle.nm_model.specs.declared.event.Event.TheVariants.{Leave}
 use Rattle.nm_model.specs.declared.reply.Reply.TheVariants.{Departed}
 use Rattle.nm_order.specs.Logs.{part_of}
-use Rattle.nm_steps.specs.Steps.{Stand, HasSeen}
+use Rattle.nm_steps.specs.Steps.{PassView, HasSeen}
 use Rattle.nm_calls.specs.declared.deleting.Unfinished.{Unfinished}
 use Rattle.nm_walks.specs.WonCounts.{won_links, won_flags}
 use Rattle.nm_epoch.specs.Collecting.{capped}
 use Rattle.nm_walks.proofs.Adding.{adds_these}
 use Rattle.nm_tree.specs.Resigning.{IsReason}
-use Rattle.nm_tree.specs.Workers.{Hand, IsAs, IsBetweenCalls}
+use Rattle.nm_tree.specs.Workers.{WorkerView, IsAs, IsBetweenCalls}
 use Rattle.nm_tree.proofs.FlaggedSeen.{none_seen}
 use Rattle.nm_tree.specs.declared.resigning.ResignReason.{ResignReason as Reason}
 use Rattle.nm_tree.specs.declared.resigning.ResignReason.TheVariants as tree
@@ -20,20 +20,20 @@ use Rattle.nm_set.specs.Posts.{IsTallyOf, pending_by}
 use Rattle.nm_set.specs.Seats.{IsLetGo}
 
 -- a worker of which no delete is pending has done as much as it has won
-rests : (w : Hand) → HasSeen w.pass.view → IsBetweenCalls w → w.pending ≡ None → pending_by w.pass.view.number w.pass.view.past ≡ 0
+rests : (w : WorkerView) → HasSeen w.pass.view → IsBetweenCalls w → w.pending ≡ None → pending_by w.pass.view.number w.pass.view.past ≡ 0
 rests w seen between none = ap (λ (o : Option NodeId). cond (is_some o) 1 0) (none_seen w.pass w.pending w.held seen between.stands none)
 
 -- nothing is pending of a worker that its caller holds
-held_rests : (p : Stand) (u : Option Unfinished) (e : Option ℕ) → IsAs p u e → IsSome e → u ≡ None
+held_rests : (p : PassView) (u : Option Unfinished) (e : Option ℕ) → IsAs p u e → IsSome e → u ≡ None
 held_rests p None e is held = refl
 held_rests p (Some n) (Some epoch) is held = absurd is
 held_rests p (Some n) None is held = absurd (true≢false (sym held))
 
 -- an unpin wins nothing
-pub done_before : (p : Posted) (w z : Hand) → HasSeen w.pass.view → HasSeen z.pass.view → IsBetweenCalls w → IsBetweenCalls z → IsLetGo w z → IsTallyOf z p → IsTallyOf w p
-done_before p w z seen sees between stands (inl (free, is)) t = subst (λ (u : Hand). IsTallyOf u p) is t
+pub done_before : (p : Posted) (w z : WorkerView) → HasSeen w.pass.view → HasSeen z.pass.view → IsBetweenCalls w → IsBetweenCalls z → IsLetGo w z → IsTallyOf z p → IsTallyOf w p
+done_before p w z seen sees between stands (inl (free, is)) t = subst (λ (u : WorkerView). IsTallyOf u p) is t
 done_before p w z seen sees between stands (inr (held, left)) t =
-    let adds = adds_these ((Leave, Departed) ∷ []) w.pass.view.log z.pass.view.log (ap (λ (q : Stand). q.view.log) left.step) in
+    let adds = adds_these ((Leave, Departed) ∷ []) w.pass.view.log z.pass.view.log (ap (λ (q : PassView). q.view.log) left.step) in
     let l = adds.links in
     let f = adds.flags in
     let links : won_links (part_of z.pass.view.number z.pass.view.past) ≡ won_links (part_of w.pass.view.number w.pass.view.past)
@@ -47,6 +47,6 @@ done_before p w z seen sees between stands (inr (held, left)) t =
     }
 
 -- a worker that is not held does not resign for one reason alone
-pub has_pending : (w : Hand) (why : Reason) → w.held ≡ None → IsReason w why → IsSome w.pending
+pub has_pending : (w : WorkerView) (why : Reason) → w.held ≡ None → IsReason w why → IsSome w.pending
 has_pending w tree.Held free held = absurd (true≢false (sym (subst IsSome free held)))
 has_pending w tree.Pending free is = is.1

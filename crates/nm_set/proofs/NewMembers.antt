@@ -1,10 +1,10 @@
 -- Members of a new tree, in the order of their numbers.
 use Rattle.std.proofs.Common.{◌≡◌, ℕ, suc, ◌+◌, List, [], ◌∷◌, ◌++◌, length, subst, arith}
 use Rattle.nm_edge.specs.declared.placement.Fit.{Fit}
-use Rattle.nm_steps.specs.Steps.{Board}
-use Rattle.nm_set.specs.Seats.{AreNewMembers, IsNewMember, Seated}
+use Rattle.nm_steps.specs.Steps.{TreeView}
+use Rattle.nm_set.specs.Seats.{AreNewMembers, IsNewMember, MemberView}
 
 -- one member more
-pub one_member : (b : Board) (f : Fit) (i : ℕ) (ms : List Seated) (n : ℕ) (m : Seated) → n ≡ i + length ms → AreNewMembers b f i ms → IsNewMember b f n m → AreNewMembers b f i (ms ++ m ∷ [])
+pub one_member : (b : TreeView) (f : Fit) (i : ℕ) (ms : List MemberView) (n : ℕ) (m : MemberView) → n ≡ i + length ms → AreNewMembers b f i ms → IsNewMember b f n m → AreNewMembers b f i (ms ++ m ∷ [])
 one_member b f i [] n m e are new = let at : n ≡ i = omega (arith, e) in (subst (λ (k : ℕ). IsNewMember b f k m) at new, tt)
 one_member b f i (x ∷ ms) n m e are new = (are.0, one_member b f (suc i) ms n m (omega (arith, e)) are.1 new)

@@ -4,7 +4,7 @@ use Rattle.std.specs.Prelude.{Option, Some, None, Result, Ok, Err, IfOk}
 use Rattle.std.proofs.Math.Nat.{suc-mul, mul-add, mul-le-mul_right}
 use Rattle.nm_edge.specs.Layouts.{Layout}
 use Rattle.nm_model.specs.declared.event.Op.TheVariants.{Has, Delete}
-use Rattle.nm_steps.specs.Steps.{Board, Stand, HasSeenAllOf}
+use Rattle.nm_steps.specs.Steps.{TreeView, PassView, HasSeenAllOf}
 use Rattle.nm_steps.proofs.Seeing.{seen_itself, seen_through}
 use Rattle.nm_walks.specs.Bounds.{reach}
 use Rattle.nm_tree.specs.declared.fault.CallFault.{CallFault as Lost}
@@ -13,27 +13,27 @@ use Rattle.nm_tree.specs.declared.popping.End.{End}
 use Rattle.nm_tree.specs.declared.popping.End.TheVariants.{First, Last}
 use Rattle.nm_tree.specs.Calls.{LeavesNear}
 use Rattle.nm_tree.specs.Popping.{Finds, Takes, comes_before}
-use Rattle.nm_tree.specs.Workers.{Hand}
+use Rattle.nm_tree.specs.Workers.{WorkerView}
 use Rattle.nm_tree.proofs.Taking.{found_by, found_in, gives_up_at, key_found, moment_since, near_bound, none_found, scaled, told_at, was_so_since}
 use Rattle.nm_set.specs.declared.fault.Fault.{Fault}
 use Rattle.nm_set.specs.declared.fault.Fault.TheVariants as fault
 use Rattle.nm_set.specs.declared.tended.Habit.{Habit}
 use Rattle.nm_set.specs.Tended.{FinishesPending, GoesOnTended, IsRetried, Tends, TendsDelete, round_bound}
-use Rattle.nm_set.specs.Popping.{AskedForEnd, IsEndedBy, PopLeft, PopsOnce, SaysPopTended, TendsPop, TendsPopOf, flags_told_by_pop, pop_busy, pop_rounds_bound}
+use Rattle.nm_set.specs.Popping.{AskedForEnd, IsEndedBy, PopLeft, PopsOnce, TendsPop, flags_told_by_pop, pop_busy, pop_rounds_bound}
 use Rattle.nm_set.proofs.Tending.{IsOnward, follows_then, retried_goes, goes_more, goes_then, keeps_in_a_row, lose_same, none_there, onward_itself, pending_tends, settled, wins_after}
 
 -- ---- the two calls of a round
 
 -- a call that was asked for is the tree's
-asked_ok : (end : End) (L : Layout) (t : ℕ) (w z : Hand) (found : Option ℕ) → AskedForEnd end L t w z (Ok found) → Finds end L t w z (Ok found)
+asked_ok : (end : End) (L : Layout) (t : ℕ) (w z : WorkerView) (found : Option ℕ) → AskedForEnd end L t w z (Ok found) → Finds end L t w z (Ok found)
 asked_ok First L t w z found did = did.1
 asked_ok Last L t w z found did = did.1
 
-asked_err : (end : End) (L : Layout) (t : ℕ) (w z : Hand) (lost : Lost) → AskedForEnd end L t w z (Err (fault.Call lost)) → Finds end L t w z (Err lost)
+asked_err : (end : End) (L : Layout) (t : ℕ) (w z : WorkerView) (lost : Lost) → AskedForEnd end L t w z (Err (fault.Call lost)) → Finds end L t w z (Err lost)
 asked_err First L t w z lost did = did.1
 asked_err Last L t w z lost did = did.1
 
-asked_held : {A : Type 0} (end : End) (L : Layout) (t : ℕ) (w z : Hand) → w.held ≡ None → AskedForEnd end L t w z (Err fault.Held) → A
+asked_held : {A : Type 0} (end : End) (L : Layout) (t : ℕ) (w z : WorkerView) → w.held ≡ None → AskedForEnd end L t w z (Err fault.Held) → A
 asked_held First L t w z free did = none_there w.held free did.0
 asked_held Last L t w z free did = none_there w.held free did.0
 
@@ -43,7 +43,7 @@ near_fits L t a b few =
     let round = scaled t (reach L) 4 512 in
     omega (arith, few, near, round)
 
-goes_found : (end : End) (L : Layout) (t : ℕ) (w z : Hand) (l : Result (Option ℕ) Lost) → Finds end L t w z l → GoesOnTended (round_bound t L) w z
+goes_found : (end : End) (L : Layout) (t : ℕ) (w z : WorkerView) (l : Result (Option ℕ) Lost) → Finds end L t w z l → GoesOnTended (round_bound t L) w z
 goes_found end L t w z l found =
     let n = found_by end L t w z l found in
     record {
@@ -55,12 +55,12 @@ goes_found end L t w z l found =
       fit = n.fit;
     }
 
-goes_asked_for : (end : End) (L : Layout) (t : ℕ) (w z : Hand) (r : Result (Option ℕ) Fault) → w.held ≡ None → AskedForEnd end L t w z r → GoesOnTended (round_bound t L) w z
+goes_asked_for : (end : End) (L : Layout) (t : ℕ) (w z : WorkerView) (r : Result (Option ℕ) Fault) → w.held ≡ None → AskedForEnd end L t w z r → GoesOnTended (round_bound t L) w z
 goes_asked_for end L t w z (Ok found) free did = goes_found end L t w z (Ok found) (asked_ok end L t w z found did)
 goes_asked_for end L t w z (Err (fault.Call lost)) free did = goes_found end L t w z (Err lost) (asked_err end L t w z lost did)
 goes_asked_for end L t w z (Err fault.Held) free did = asked_held end L t w z free did
 
-tended : (b : Board) (h : Habit) (k : ℕ) (w z : Hand) (r : Result Bool Fault) → w.held ≡ None → TendsDelete b h k w z r → Tends b h Delete k w z r
+tended : (b : TreeView) (h : Habit) (k : ℕ) (w z : WorkerView) (r : Result Bool Fault) → w.held ≡ None → TendsDelete b h k w z r → Tends b h Delete k w z r
 tended b h k w z r free (inl did) = none_there w.held free did.0
 tended b h k w z r free (inr did) = did.1.tends
 
@@ -70,17 +70,17 @@ tended b h k w z r free (inr did) = did.1.tends
 abbrev round_most : Habit → Layout → ℕ
 round_most h L = (3 * h.rounds + 6) * round_bound h.tries L
 
-both : (h : Habit) (L : Layout) (w x z : Hand) → GoesOnTended (round_bound h.tries L) w x → GoesOnTended ((3 * h.rounds + 5) * round_bound h.tries L) x z → GoesOnTended (round_most h L) w z
+both : (h : Habit) (L : Layout) (w x z : WorkerView) → GoesOnTended (round_bound h.tries L) w x → GoesOnTended ((3 * h.rounds + 5) * round_bound h.tries L) x z → GoesOnTended (round_most h L) w z
 both h L w x z first second =
     let more = suc-mul (3 * h.rounds + 5) (round_bound h.tries L) in
     goes_more (round_bound h.tries L + (3 * h.rounds + 5) * round_bound h.tries L) (round_most h L) w z (omega (arith, more)) (goes_then w x z first second)
 
-alone : (h : Habit) (L : Layout) (w z : Hand) → GoesOnTended (round_bound h.tries L) w z → GoesOnTended (round_most h L) w z
+alone : (h : Habit) (L : Layout) (w z : WorkerView) → GoesOnTended (round_bound h.tries L) w z → GoesOnTended (round_most h L) w z
 alone h L w z a =
     let more = suc-mul (3 * h.rounds + 5) (round_bound h.tries L) in
     goes_more (round_bound h.tries L) (round_most h L) w z (omega (arith, more)) a
 
-once_goes : (end : End) (b : Board) (h : Habit) (w z : Hand) (r : Result (Option ℕ) Fault) → w.held ≡ None → PopsOnce end b h w z r → GoesOnTended (round_most h b.layout) w z
+once_goes : (end : End) (b : TreeView) (h : Habit) (w z : WorkerView) (r : Result (Option ℕ) Fault) → w.held ≡ None → PopsOnce end b h w z r → GoesOnTended (round_most h b.layout) w z
 once_goes end b h w z (Ok None) free did = alone h b.layout w z (goes_asked_for end b.layout h.tries w z (Ok None) free did)
 once_goes end b h w z (Ok (Some key)) free (x, found, did) =
     let first = goes_asked_for end b.layout h.tries w x (Ok (Some key)) free found in
@@ -90,7 +90,7 @@ once_goes end b h w z (Err f) free (inr (x, key, told, found, did, ends)) =
     let first = goes_asked_for end b.layout h.tries w x (Ok (Some key)) free found in
     both h b.layout w x z first (tended b h key x z told first.held did).on
 
-module _ (end : End) (b : Board) (h : Habit) (w z : Hand) (none : w.pending ≡ None) (free : w.held ≡ None) where
+module _ (end : End) (b : TreeView) (h : Habit) (w z : WorkerView) (none : w.pending ≡ None) (free : w.held ≡ None) where
   abbrev Says : Result (Option ℕ) Fault → Type 0
   Says r = TendsPop (comes_before end) (round_most h b.layout) w z r
 
@@ -102,7 +102,7 @@ module _ (end : End) (b : Board) (h : Habit) (w z : Hand) (none : w.pending ≡ 
   by_near call.NoMemory on l = absurd l.did
   by_near call.Unfinished on l = absurd l.did
 
-  module _ (x : Hand) (key : ℕ) (found : Finds end b.layout h.tries w x (Ok (Some key))) (on : GoesOnTended (round_most h b.layout) w z) where
+  module _ (x : WorkerView) (key : ℕ) (found : Finds end b.layout h.tries w x (Ok (Some key))) (on : GoesOnTended (round_most h b.layout) w z) where
     l : LeavesNear (told_at end) (gives_up_at end b.layout h.tries) b.layout h.tries w x (Ok (Some key))
     l = found_by end b.layout h.tries w x (Ok (Some key)) found
 
@@ -154,15 +154,15 @@ module _ (end : End) (b : Board) (h : Habit) (w z : Hand) (none : w.pending ≡ 
 -- ---- all rounds
 
 -- what was so in the last round was so in the whole call
-takes_since : (Before : ℕ → ℕ → Type 0) (o p q : Stand) (taken : Option ℕ) → HasSeenAllOf p o → Takes Before p q taken → Takes Before o q taken
+takes_since : (Before : ℕ → ℕ → Type 0) (o p q : PassView) (taken : Option ℕ) → HasSeenAllOf p o → Takes Before p q taken → Takes Before o q taken
 takes_since Before o p q (Some key) past t = (t.0, moment_since o p q Delete key true past t.1, λ j is before. was_so_since o p q j false past (t.2 j is before))
 takes_since Before o p q None past t = λ j is. was_so_since o p q j false past (t j is)
 
-took_since : (Before : ℕ → ℕ → Type 0) (o p q : Stand) (r : Result (Option ℕ) Fault) → HasSeenAllOf p o → IfOk r (Takes Before p q) → IfOk r (Takes Before o q)
+took_since : (Before : ℕ → ℕ → Type 0) (o p q : PassView) (r : Result (Option ℕ) Fault) → HasSeenAllOf p o → IfOk r (Takes Before p q) → IfOk r (Takes Before o q)
 took_since Before o p q (Ok taken) past t = takes_since Before o p q taken past t
 took_since Before o p q (Err f) past t = tt
 
-left_since : (Before : ℕ → ℕ → Type 0) (o w z : Hand) (r : Result (Option ℕ) Fault) → HasSeenAllOf w.pass o.pass → w.pending ≡ None → PopLeft Before w z r → PopLeft Before o z r
+left_since : (Before : ℕ → ℕ → Type 0) (o w z : WorkerView) (r : Result (Option ℕ) Fault) → HasSeenAllOf w.pass o.pass → w.pending ≡ None → PopLeft Before w z r → PopLeft Before o z r
 left_since Before o w z (Ok taken) past none left = left
 left_since Before o w z (Err fault.Held) past none left = left
 left_since Before o w z (Err (fault.Call call.Busy)) past none left = left
@@ -172,12 +172,12 @@ left_since Before o w z (Err (fault.Call call.Pending)) past none left = none_th
 left_since Before o w z (Err (fault.Call call.Unfinished)) past none (n, is, key, was, missing) =
     (n, is, key, was_so_since o.pass w.pass z.pass n.key true past was, λ j is_key before. was_so_since o.pass w.pass z.pass j false past (missing j is_key before))
 
-onward_pop : (end : End) (b : Board) (h : Habit) (w x y : Hand) → IsOnward w x → PopsOnce end b h x y pop_busy → IsOnward w y
+onward_pop : (end : End) (b : TreeView) (h : Habit) (w x y : WorkerView) → IsOnward w x → PopsOnce end b h x y pop_busy → IsOnward w y
 onward_pop end b h w x y on did =
     let t = once_tends end b h x y on.none on.free pop_busy did in
     record { none = t.left; free = t.on.held; follows = follows_then w.pass x.pass y.pass on.follows (record { same = t.on.same; past = t.on.past }); won = wins_after 0 0 w x y on.won t.won }
 
-pub pops_tend : (end : End) (b : Board) (h : Habit) (w x z : Hand) (answer : Bool) (r : Result (Option ℕ) Fault) → w.held ≡ None → FinishesPending b h w x (Ok answer) → IsRetried (PopsOnce end b h) pop_busy h.rounds x z r
+pub pops_tend : (end : End) (b : TreeView) (h : Habit) (w x z : WorkerView) (answer : Bool) (r : Result (Option ℕ) Fault) → w.held ≡ None → FinishesPending b h w x (Ok answer) → IsRetried (PopsOnce end b h) pop_busy h.rounds x z r
     → TendsPop (comes_before end) (pop_rounds_bound h b.layout) w z r
 pops_tend end b h w x z answer r free f a =
     let at = settled b h w x answer free f in
@@ -198,7 +198,7 @@ pops_tend end b h w x z answer r free f a =
     }
 
 -- where the delete of an earlier call is not finished, nothing else is done
-pub pending_pop : (end : End) (b : Board) (h : Habit) (w z : Hand) (lost : Lost) → w.held ≡ None → FinishesPending b h w z (Err lost)
+pub pending_pop : (end : End) (b : TreeView) (h : Habit) (w z : WorkerView) (lost : Lost) → w.held ≡ None → FinishesPending b h w z (Err lost)
     → FinishesPending b h w z (Err call.Unfinished) × TendsPop (comes_before end) (pop_rounds_bound h b.layout) w z (Err (fault.Call call.Pending))
 pending_pop end b h w z lost free f =
     let told = pending_tends b h Has 0 w z lost free f in
@@ -209,7 +209,3 @@ pending_pop end b h w z lost free f =
     (told.0, record { took = tt; left = told.1.left; won = told.1.won; on = goes_more ((3 * h.rounds + 5) * most) (pop_rounds_bound h b.layout) w z (omega (arith, few, last, all)) told.1.on })
 
 -- ---- what a caller has
-
-pub pop_says : (end : End) (b : Board) (h : Habit) (w z : Hand) (r : Result (Option ℕ) Fault) → TendsPopOf end b h w z r → SaysPopTended (comes_before end) b h w z r
-pop_says end b h w z r (inl held) = inl held
-pop_says end b h w z r (inr did) = inr (did.0, did.1.tends)

@@ -2,83 +2,83 @@
 use Rattle.std.proofs.Common.{◌≡◌, ◌∙◌, ◌+◌, ◌≤◌, ℕ, false, true, inr, List, [], ◌∷◌, ◌++◌, append-nil, length, length-append, refl, sym, ap, subst, arith}
 use Rattle.std.specs.Prelude.{Result, Ok, Err, IfOk, IfErr}
 use Rattle.nm_edge.specs.declared.placement.Fit.{Fit}
-use Rattle.nm_steps.specs.Steps.{Board}
+use Rattle.nm_steps.specs.Steps.{TreeView}
 use Rattle.nm_tree.specs.declared.closing.CloseReason.{CloseReason as Reason}
 use Rattle.nm_tree.specs.declared.closing.CloseReason.TheVariants as tree
 use Rattle.nm_tree.specs.declared.closing.Report.{Report}
 use Rattle.nm_tree.specs.Closing.{AreAllOf, IsClosed, IsCloseReason}
-use Rattle.nm_tree.specs.Workers.{Hand}
+use Rattle.nm_tree.specs.Workers.{WorkerView}
 use Rattle.nm_set.specs.declared.fault.CloseReason.{CloseReason}
 use Rattle.nm_set.specs.declared.fault.CloseReason.TheVariants as because
 use Rattle.nm_set.specs.declared.home.Site.{Site}
 use Rattle.nm_set.specs.declared.set.CloseError.{CloseError}
 use Rattle.nm_set.specs.declared.set.State.{State}
 use Rattle.nm_set.specs.declared.set.State.TheVariants.{Open, Closing}
-use Rattle.nm_set.specs.Seats.{AreOwn, BeginsWith, IsOwn, Seated, Standing}
+use Rattle.nm_set.specs.Seats.{AreOwn, BeginsWith, IsOwn, MemberView, SetView}
 use Rattle.nm_set.specs.Ends.{EndsSet, HasGathered, IsLeftOpen, IsTreesReason, SaysEnded, set_of}
 use Rattle.nm_set.specs.States.{MayGather, closing_set, open_set, room_for_one, site_of, standing_of}
 
 -- ---- workers of a tree
 
-pub own_all : (b : Board) (ws : List Hand) → AreOwn b ws → AreAllOf b ws
+pub own_all : (b : TreeView) (ws : List WorkerView) → AreOwn b ws → AreAllOf b ws
 own_all b [] are = tt
 own_all b (w ∷ ws) are = (are.0.own, own_all b ws are.1)
 
 -- and one more at the end
-pub own_and : (b : Board) (ws : List Hand) (w : Hand) → AreOwn b ws → IsOwn b w → AreOwn b (ws ++ w ∷ [])
+pub own_and : (b : TreeView) (ws : List WorkerView) (w : WorkerView) → AreOwn b ws → IsOwn b w → AreOwn b (ws ++ w ∷ [])
 own_and b [] w are own = (own, tt)
 own_and b (u ∷ ws) w are own = (are.0, own_and b ws w are.1 own)
 
 -- ---- a set
 
 -- the tree of a set
-pub tree_of : (s : State) (kept : List Hand) → (standing_of s kept).board ≡ (site_of s).tree
+pub tree_of : (s : State) (kept : List WorkerView) → (standing_of s kept).tree ≡ (site_of s).tree
 tree_of (Open home) kept = refl
 tree_of (Closing site) kept = refl
 
 -- with one that was kept there is room still
-pub room_behind : (state : State) (kept : List Hand) (w : Hand) (room : ℕ) → length kept + room_for_one state ≤ room → MayGather state (kept ++ w ∷ []) room
+pub room_behind : (state : State) (kept : List WorkerView) (w : WorkerView) (room : ℕ) → length kept + room_for_one state ≤ room → MayGather state (kept ++ w ∷ []) room
 room_behind (Open home) kept w room enough = inr (let size = length-append kept (w ∷ []) in omega (arith, size, enough))
 room_behind (Closing site) kept w room enough = tt
 
 -- how the workers that were gathered come from the set's
-pub record Gathers (s : Standing) (site : Site) (all : List Hand) : Type 0 where
-  pub board : s.board ≡ site.tree
+pub record Gathers (s : SetView) (site : Site) (all : List WorkerView) : Type 0 where
+  pub tree : s.tree ≡ site.tree
   pub fit : s.fit ≡ site.fit
-  pub home : List Hand
+  pub home : List WorkerView
   pub are : all ≡ s.kept ++ home
   pub none : s.closing ≡ true → home ≡ []
   pub own : AreOwn site.tree all
 
-pub ended : (s : Standing) (site : Site) (all : List Hand) → Gathers s site all → (r : Report) → IsClosed site.tree all r.queues.items r.keys.items r.free r.reached → EndsSet s r
+pub ended : (s : SetView) (site : Site) (all : List WorkerView) → Gathers s site all → (r : Report) → IsClosed site.tree all r.queues.items r.keys.items r.free r.reached → EndsSet s r
 ended s site all g r closed =
-    let O : List Hand → Type 0 = λ ws. AreOwn site.tree ws in
-    let B : Board → Type 0 = λ b. AreOwn b (s.kept ++ g.home) in
-    let C : List Hand → Type 0 = λ ws. IsClosed site.tree ws r.queues.items r.keys.items r.free r.reached in
-    let D : Board → Type 0 = λ b. IsClosed b (s.kept ++ g.home) r.queues.items r.keys.items r.free r.reached in
-    record { home = g.home; own = subst B (sym g.board) (subst O g.are g.own); none = g.none; closed = subst D (sym g.board) (subst C g.are closed) }
+    let O : List WorkerView → Type 0 = λ ws. AreOwn site.tree ws in
+    let B : TreeView → Type 0 = λ b. AreOwn b (s.kept ++ g.home) in
+    let C : List WorkerView → Type 0 = λ ws. IsClosed site.tree ws r.queues.items r.keys.items r.free r.reached in
+    let D : TreeView → Type 0 = λ b. IsClosed b (s.kept ++ g.home) r.queues.items r.keys.items r.free r.reached in
+    record { home = g.home; own = subst B (sym g.tree) (subst O g.are g.own); none = g.none; closed = subst D (sym g.tree) (subst C g.are closed) }
 
-pub says_ended : (s : Standing) (r : Report) → EndsSet s r → SaysEnded s r
+pub says_ended : (s : SetView) (r : Report) → EndsSet s r → SaysEnded s r
 says_ended s r e = record { home = e.home; none = e.none; says = e.closed.says }
 
 -- it keeps them, where its tree was not closed
-pub kept_all : (s : Standing) (site : Site) (all : List Hand) → Gathers s site all → (t : Standing) → t ≡ closing_set site all → (x : Reason) → IsCloseReason site.tree all x → HasGathered s x t
+pub kept_all : (s : SetView) (site : Site) (all : List WorkerView) → Gathers s site all → (t : SetView) → t ≡ closing_set site all → (x : Reason) → IsCloseReason site.tree all x → HasGathered s x t
 kept_all s site all g t is x so =
-    let board : t.board ≡ site.tree = ap (λ (u : Standing). u.board) is in
-    let kept : t.kept ≡ all = ap (λ (u : Standing). u.kept) is in
-    let P : Board → Type 0 = λ b. IsCloseReason b t.kept x in
-    let Q : List Hand → Type 0 = λ ws. IsCloseReason site.tree ws x in
+    let tree : t.tree ≡ site.tree = ap (λ (u : SetView). u.tree) is in
+    let kept : t.kept ≡ all = ap (λ (u : SetView). u.kept) is in
+    let P : TreeView → Type 0 = λ b. IsCloseReason b t.kept x in
+    let Q : List WorkerView → Type 0 = λ ws. IsCloseReason site.tree ws x in
     record {
-      board = board ∙ sym g.board;
-      fit = ap (λ (u : Standing). u.fit) is ∙ sym g.fit;
-      closing = ap (λ (u : Standing). u.closing) is;
+      tree = tree ∙ sym g.tree;
+      fit = ap (λ (u : SetView). u.fit) is ∙ sym g.fit;
+      closing = ap (λ (u : SetView). u.closing) is;
       home = g.home;
       kept = kept ∙ g.are;
       none = g.none;
-      reason = subst P (sym board) (subst Q (sym kept) so);
+      reason = subst P (sym tree) (subst Q (sym kept) so);
     }
 
-pub left : (s : Standing) (site : Site) (all : List Hand) → Gathers s site all → (t : Standing) → t ≡ closing_set site all → (why : CloseReason) → IsTreesReason site.tree all why → IsLeftOpen s why t
+pub left : (s : SetView) (site : Site) (all : List WorkerView) → Gathers s site all → (t : SetView) → t ≡ closing_set site all → (why : CloseReason) → IsTreesReason site.tree all why → IsLeftOpen s why t
 left s site all g t is why (of_tree, told, reason) = subst (λ (w : CloseReason). IsLeftOpen s w t) (sym told) (by of_tree reason)
   where
     by : (x : Reason) → IsCloseReason site.tree all x → IsLeftOpen s (Rattle.nm_set.specs.Ends.told_reason x) t
@@ -86,24 +86,24 @@ left s site all g t is why (of_tree, told, reason) = subst (λ (w : CloseReason)
     by tree.NoMemory so = kept_all s site all g t is tree.NoMemory so
 
 -- of a set whose workers had been gathered before
-pub had_gathered : (s : Standing) (site : Site) (kept : List Hand) → closing_set site kept ≡ s → AreOwn site.tree kept → Gathers s site kept
+pub had_gathered : (s : SetView) (site : Site) (kept : List WorkerView) → closing_set site kept ≡ s → AreOwn site.tree kept → Gathers s site kept
 had_gathered s site kept is own = record {
-  board = ap (λ (u : Standing). u.board) (sym is);
-  fit = ap (λ (u : Standing). u.fit) (sym is);
+  tree = ap (λ (u : SetView). u.tree) (sym is);
+  fit = ap (λ (u : SetView). u.fit) (sym is);
   home = [];
-  are = ap (λ (u : Standing). u.kept) is ∙ sym (append-nil s.kept);
+  are = ap (λ (u : SetView). u.kept) is ∙ sym (append-nil s.kept);
   none = λ so. refl;
   own = own;
 }
 
 -- of an open set
-pub gathered_now : (s : Standing) (site : Site) (kept all : List Hand) → open_set site kept ≡ s → BeginsWith kept all → AreOwn site.tree all → Gathers s site all
+pub gathered_now : (s : SetView) (site : Site) (kept all : List WorkerView) → open_set site kept ≡ s → BeginsWith kept all → AreOwn site.tree all → Gathers s site all
 gathered_now s site kept all is (home, are) own = record {
-  board = ap (λ (u : Standing). u.board) (sym is);
-  fit = ap (λ (u : Standing). u.fit) (sym is);
+  tree = ap (λ (u : SetView). u.tree) (sym is);
+  fit = ap (λ (u : SetView). u.fit) (sym is);
   home = home;
-  are = are ∙ ap (λ (u : Standing). u.kept ++ home) is;
-  none = λ so. absurd (differ (ap (λ (u : Standing). u.closing) is ∙ so));
+  are = are ∙ ap (λ (u : SetView). u.kept ++ home) is;
+  none = λ so. absurd (differ (ap (λ (u : SetView). u.closing) is ∙ so));
   own = own;
 }
   where
@@ -111,20 +111,20 @@ gathered_now s site kept all is (home, are) own = record {
     differ e = cc
 
 -- of one that keeps a member's worker alone
-pub gathered_with : (m : Seated) (site : Site) (w : Hand) (all : List Hand) (t : Standing) → site.tree ≡ m.board → m.hand.fit ≡ site.fit → w ≡ m.hand → BeginsWith (w ∷ []) all → t ≡ closing_set site all → AreOwn t.board t.kept
+pub gathered_with : (m : MemberView) (site : Site) (w : WorkerView) (all : List WorkerView) (t : SetView) → site.tree ≡ m.tree → m.worker.fit ≡ site.fit → w ≡ m.worker → BeginsWith (w ∷ []) all → t ≡ closing_set site all → AreOwn t.tree t.kept
     → Gathers (set_of m) site all
 gathered_with m site w all t tree fit mine begins is own =
-    gathered_now (set_of m) site (m.hand ∷ []) all (sites ∙ fits) (subst (λ (x : Hand). BeginsWith (x ∷ []) all) mine begins) (subst (λ (x : Standing). AreOwn x.board x.kept) is own)
+    gathered_now (set_of m) site (m.worker ∷ []) all (sites ∙ fits) (subst (λ (x : WorkerView). BeginsWith (x ∷ []) all) mine begins) (subst (λ (x : SetView). AreOwn x.tree x.kept) is own)
   where
-    sites : open_set site (m.hand ∷ []) ≡ record { board = m.board; fit = site.fit; closing = false; kept = m.hand ∷ [] }
-    sites = ap (λ (b : Board). record { board = b; fit = site.fit; closing = false; kept = m.hand ∷ [] }) tree
+    sites : open_set site (m.worker ∷ []) ≡ record { tree = m.tree; fit = site.fit; closing = false; kept = m.worker ∷ [] }
+    sites = ap (λ (b : TreeView). record { tree = b; fit = site.fit; closing = false; kept = m.worker ∷ [] }) tree
 
-    fits : ◌≡◌ {A = Standing} (record { board = m.board; fit = site.fit; closing = false; kept = m.hand ∷ [] }) (set_of m)
-    fits = ap (λ (f : Fit). record { board = m.board; fit = f; closing = false; kept = m.hand ∷ [] }) (sym fit)
+    fits : ◌≡◌ {A = SetView} (record { tree = m.tree; fit = site.fit; closing = false; kept = m.worker ∷ [] }) (set_of m)
+    fits = ap (λ (f : Fit). record { tree = m.tree; fit = f; closing = false; kept = m.worker ∷ [] }) (sym fit)
 
 -- and of one that is as it was
-pub as_before : (s t : Standing) (site : Site) (kept : List Hand) → open_set site kept ≡ s → t ≡ open_set site kept → (why : CloseReason) → why ≡ because.Away → IsLeftOpen s why t
-as_before s t site kept is same why e = subst (λ (w : CloseReason). IsLeftOpen s w t) (sym e) (ap (λ (u : Standing). u.closing) (sym is), same ∙ is)
+pub as_before : (s t : SetView) (site : Site) (kept : List WorkerView) → open_set site kept ≡ s → t ≡ open_set site kept → (why : CloseReason) → why ≡ because.Away → IsLeftOpen s why t
+as_before s t site kept is same why e = subst (λ (w : CloseReason). IsLeftOpen s w t) (sym e) (ap (λ (u : SetView). u.closing) (sym is), same ∙ is)
 
 -- ---- from one clause to another
 
@@ -137,7 +137,7 @@ if_err P Q R (Ok x) p q f = tt
 if_err P Q R (Err e) p q f = f e p q
 
 -- a close that has such workers
-module _ (s : Standing) (site : Site) (all : List Hand) (g : Gathers s site all) (told : Result Report CloseError) where
+module _ (s : SetView) (site : Site) (all : List WorkerView) (g : Gathers s site all) (told : Result Report CloseError) where
   pub closes : IfOk told (λ r. IsClosed site.tree all r.queues.items r.keys.items r.free r.reached) → IfOk told (EndsSet s)
   closes closed = if_ok (λ (r : Report). IsClosed site.tree all r.queues.items r.keys.items r.free r.reached) (EndsSet s) told closed (ended s site all g)
 

@@ -2,7 +2,7 @@
 -- the worker may be asked.
 use Rattle.std.specs.Prelude.{◌≡◌, ℕ, None, IsSome, Result, Ok, Err}
 use Rattle.nm_tree.specs.declared.fault.CallFault.{CallFault as Lost}
-use Rattle.nm_tree.specs.Workers.{Hand}
+use Rattle.nm_tree.specs.Workers.{WorkerView}
 use Rattle.nm_tree.specs.Calls.{LeavesPin, LeavesUnpin}
 use Rattle.nm_set.specs.declared.fault.Fault.{Fault}
 use Rattle.nm_set.specs.declared.fault.Fault.TheVariants as fault
@@ -12,18 +12,18 @@ use Rattle.nm_set.specs.declared.fault.NotHeld.{NotHeld}
 
 -- a worker that its caller holds is not asked, and nothing has changed; else the call leaves what
 -- the tree's does
-abbrev pub Asked : {A : Type 0} → (Hand → Hand → Result A Lost → Type 0) → Hand → Hand
+abbrev pub Asked : {A : Type 0} → (WorkerView → WorkerView → Result A Lost → Type 0) → WorkerView → WorkerView
     → Result A Fault → Type 0
 Asked leaves w z (Ok told) = (w.held ≡ None) × leaves w z (Ok told)
 Asked leaves w z (Err (fault.Call f)) = (w.held ≡ None) × leaves w z (Err f)
 Asked leaves w z (Err fault.Held) = IsSome w.held × (z ≡ w)
 
 -- `AskedToPin`, `AskedToUnpin`: the same of a pin and of an unpin; only a held worker is unpinned
-abbrev pub AskedToPin : ℕ → Hand → Hand → Result ℕ PinFault → Type 0
+abbrev pub AskedToPin : ℕ → WorkerView → WorkerView → Result ℕ PinFault → Type 0
 AskedToPin tries w z (Ok e) = (w.held ≡ None) × LeavesPin tries w z (Ok e)
 AskedToPin tries w z (Err (pinning.Call f)) = (w.held ≡ None) × LeavesPin tries w z (Err f)
 AskedToPin tries w z (Err pinning.Held) = IsSome w.held × (z ≡ w)
 
-abbrev pub AskedToUnpin : Hand → Hand → Result (Unit {0}) NotHeld → Type 0
+abbrev pub AskedToUnpin : WorkerView → WorkerView → Result (Unit {0}) NotHeld → Type 0
 AskedToUnpin w z (Ok _) = IsSome w.held × LeavesUnpin w z
 AskedToUnpin w z (Err _) = (w.held ≡ None) × (z ≡ w)

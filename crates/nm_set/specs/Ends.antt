@@ -1,31 +1,31 @@
 -- The end of a set.
 use Rattle.std.specs.Prelude.{◌≡◌, List, [], ◌∷◌, ◌++◌, true, false}
-use Rattle.nm_steps.specs.Steps.{Board}
+use Rattle.nm_steps.specs.Steps.{TreeView}
 use Rattle.nm_tree.specs.declared.closing.CloseReason.{CloseReason as Reason}
 use Rattle.nm_tree.specs.declared.closing.CloseReason.TheVariants as tree
 use Rattle.nm_tree.specs.declared.closing.Report.{Report}
 use Rattle.nm_tree.specs.Closing.{IsClosed, IsCloseReason, SaysClosed}
-use Rattle.nm_tree.specs.Workers.{Hand}
+use Rattle.nm_tree.specs.Workers.{WorkerView}
 use Rattle.nm_set.specs.declared.ending.EndError.{EndError}
 use Rattle.nm_set.specs.declared.ending.EndError.TheVariants.{Away, Gathered}
 use Rattle.nm_set.specs.declared.fault.CloseReason.{CloseReason}
 use Rattle.nm_set.specs.declared.fault.CloseReason.TheVariants as because
-use Rattle.nm_set.specs.Seats.{AreOwn, Seated, Standing}
+use Rattle.nm_set.specs.Seats.{AreOwn, MemberView, SetView}
 
 -- What a caller has of a set that was ended: its tree was closed with the workers that the set
 -- kept, each as it came, and then with those that were at home; which these had been is not said,
 -- but that there are none where a refused close had gathered all
-pub record SaysEnded (s : Standing) (r : Report) : Type 0 where
-  pub home : List Hand
+pub record SaysEnded (s : SetView) (r : Report) : Type 0 where
+  pub home : List WorkerView
   pub none : s.closing ≡ true → home ≡ []
-  pub says : SaysClosed s.board (s.kept ++ home) r.queues.items r.keys.items r.free r.reached
+  pub says : SaysClosed s.tree (s.kept ++ home) r.queues.items r.keys.items r.free r.reached
 
 -- the same, with the run that ends with the tree's words, for who changes something
-pub record EndsSet (s : Standing) (r : Report) : Type 0 where
-  pub home : List Hand
-  pub own : AreOwn s.board (s.kept ++ home)
+pub record EndsSet (s : SetView) (r : Report) : Type 0 where
+  pub home : List WorkerView
+  pub own : AreOwn s.tree (s.kept ++ home)
   pub none : s.closing ≡ true → home ≡ []
-  pub closed : IsClosed s.board (s.kept ++ home) r.queues.items r.keys.items r.free r.reached
+  pub closed : IsClosed s.tree (s.kept ++ home) r.queues.items r.keys.items r.free r.reached
 
 -- the reasons of the tree, by the names that the set has for them
 abbrev pub told_reason : Reason → CloseReason
@@ -33,27 +33,27 @@ told_reason (tree.NotAll given made) = because.NotAll given made
 told_reason tree.NoMemory = because.NoMemory
 
 -- a tree that has these workers was not closed for that reason, which is one of the tree's
-abbrev pub IsTreesReason : Board → List Hand → CloseReason → Type 0
+abbrev pub IsTreesReason : TreeView → List WorkerView → CloseReason → Type 0
 IsTreesReason b ws why = (of_tree : Reason) × (why ≡ told_reason of_tree)
     × IsCloseReason b ws of_tree
 
 -- a set whose workers were gathered keeps what it kept, and then those that were at home; and by
 -- them its tree was not closed for that reason
-pub record HasGathered (s : Standing) (why : Reason) (t : Standing) : Type 0 where
-  pub board : t.board ≡ s.board
+pub record HasGathered (s : SetView) (why : Reason) (t : SetView) : Type 0 where
+  pub tree : t.tree ≡ s.tree
   pub fit : t.fit ≡ s.fit
   pub closing : t.closing ≡ true
-  pub home : List Hand
+  pub home : List WorkerView
   pub kept : t.kept ≡ s.kept ++ home
   pub none : s.closing ≡ true → home ≡ []
-  pub reason : IsCloseReason t.board t.kept why
+  pub reason : IsCloseReason t.tree t.kept why
 
 -- an open set that is as it was
-abbrev pub IsAsBefore : Standing → Standing → Type 0
+abbrev pub IsAsBefore : SetView → SetView → Type 0
 IsAsBefore s t = (s.closing ≡ false) × (t ≡ s)
 
 -- why a set was not closed, and how it stands then
-abbrev pub IsLeftOpen : Standing → CloseReason → Standing → Type 0
+abbrev pub IsLeftOpen : SetView → CloseReason → SetView → Type 0
 IsLeftOpen s because.Away t = IsAsBefore s t
 IsLeftOpen s (because.NotAll given made) t = HasGathered s (tree.NotAll given made) t
 IsLeftOpen s because.NoMemory t = HasGathered s tree.NoMemory t
@@ -61,18 +61,18 @@ IsLeftOpen s because.NoMemory t = HasGathered s tree.NoMemory t
 -- ---- the end by the last member
 
 -- a set that keeps the worker of this member, as it is, and no other
-abbrev pub set_of : Seated → Standing
-set_of m = record { board = m.board; fit = m.hand.fit; closing = false; kept = m.hand ∷ [] }
+abbrev pub set_of : MemberView → SetView
+set_of m = record { tree = m.tree; fit = m.worker.fit; closing = false; kept = m.worker ∷ [] }
 
 -- the tree of the member was closed with the member's worker, as it is, and then with those that
 -- were at home
-abbrev pub EndsMember : Seated → Report → Type 0
+abbrev pub EndsMember : MemberView → Report → Type 0
 EndsMember m r = EndsSet (set_of m) r
 
 -- how a member stands that has not ended its set: it is as it was; or a set whose workers were
 -- gathered keeps the member's, and then those that were at home, and its tree was not closed for
 -- the reason that is told
-abbrev pub IsNotEnded : Seated → EndError → Type 0
+abbrev pub IsNotEnded : MemberView → EndError → Type 0
 IsNotEnded m (Away n) = n ≡ m
 IsNotEnded m (Gathered e) = (why : Reason) × (e.reason ≡ told_reason why)
     × HasGathered (set_of m) why e.set

@@ -2,13 +2,13 @@
 use Rattle.std.specs.Prelude.{◌≡◌, ℕ, List, None, IsSome, Result, Ok, Err}
 use Rattle.nm_edge.specs.Layouts.{Layout}
 use Rattle.nm_calls.specs.declared.many.Query.{Query}
-use Rattle.nm_tree.specs.Workers.{Hand}
+use Rattle.nm_tree.specs.Workers.{WorkerView}
 use Rattle.nm_tree.specs.Calls.{LeavesHasMany}
 use Rattle.nm_set.specs.declared.fault.Fault.{Fault}
 use Rattle.nm_set.specs.declared.fault.Fault.TheVariants as fault
 
 -- a worker that its caller holds is not asked, and nothing has changed; else that is left
-abbrev pub AskedMany : Layout → ℕ → List Query → List Query → Hand → Hand → Result (Unit {0}) Fault
+abbrev pub AskedMany : Layout → ℕ → List Query → List Query → WorkerView → WorkerView → Result (Unit {0}) Fault
     → Type 0
 AskedMany L tries old new w z (Ok u) =
     (w.held ≡ None) × LeavesHasMany L tries old new w z (Ok u)

@@ -1,15 +1,15 @@
 -- What a call for the next key, or for the one before, leaves of its member's worker.
 use Rattle.std.specs.Prelude.{ℕ, Option, Result}
 use Rattle.nm_edge.specs.Layouts.{Layout}
-use Rattle.nm_tree.specs.Workers.{Hand}
+use Rattle.nm_tree.specs.Workers.{WorkerView}
 use Rattle.nm_tree.specs.Calls.{LeavesNext, LeavesPrev}
 use Rattle.nm_set.specs.declared.fault.Fault.{Fault}
 use Rattle.nm_set.specs.Asked.{Asked}
 
 -- `AskedNext`, `AskedPrev`: of the least key that is not below this one, and of the greatest one that
 -- is not above it
-abbrev pub AskedNext : Layout → ℕ → ℕ → Hand → Hand → Result (Option ℕ) Fault → Type 0
+abbrev pub AskedNext : Layout → ℕ → ℕ → WorkerView → WorkerView → Result (Option ℕ) Fault → Type 0
 AskedNext L tries key = Asked (LeavesNext L tries key)
 
-abbrev pub AskedPrev : Layout → ℕ → ℕ → Hand → Hand → Result (Option ℕ) Fault → Type 0
+abbrev pub AskedPrev : Layout → ℕ → ℕ → WorkerView → WorkerView → Result (Option ℕ) Fault → Type 0
 AskedPrev L tries key = Asked (LeavesPrev L tries key)

@@ -2,7 +2,7 @@
 use Rattle.std.specs.Prelude.{◌≡◌, ◌⊎◌, ◌+◌, ◌*◌, ◌^◌, ◌-◌, ℕ, Bool, true, false, Option, Some, None, IsSome, Result, Ok, Err, IfOk}
 use Rattle.nm_edge.specs.Keys.{IsKey}
 use Rattle.nm_edge.specs.Layouts.{Layout}
-use Rattle.nm_steps.specs.Steps.{Board}
+use Rattle.nm_steps.specs.Steps.{TreeView}
 use Rattle.nm_calls.specs.PlainWalks.{WasSo}
 use Rattle.nm_calls.specs.Won.{HasWon}
 use Rattle.nm_calls.specs.declared.deleting.Unfinished.{Unfinished}
@@ -10,7 +10,7 @@ use Rattle.nm_tree.specs.declared.fault.CallFault.TheVariants as call
 use Rattle.nm_tree.specs.declared.popping.End.{End}
 use Rattle.nm_tree.specs.declared.popping.End.TheVariants.{First, Last}
 use Rattle.nm_tree.specs.Popping.{Takes, WereMissing, comes_before}
-use Rattle.nm_tree.specs.Workers.{Hand}
+use Rattle.nm_tree.specs.Workers.{WorkerView}
 use Rattle.nm_set.specs.declared.fault.Fault.{Fault}
 use Rattle.nm_set.specs.declared.fault.Fault.TheVariants as fault
 use Rattle.nm_set.specs.declared.tended.Habit.{Habit}
@@ -20,7 +20,7 @@ use Rattle.nm_set.specs.Tended.{FinishesThen, GoesOnTended, IsRetried, TendsDele
 -- ---- how it is done
 
 -- the call that finds the key which is to be taken
-abbrev pub AskedForEnd : End → Layout → ℕ → Hand → Hand → Result (Option ℕ) Fault → Type 0
+abbrev pub AskedForEnd : End → Layout → ℕ → WorkerView → WorkerView → Result (Option ℕ) Fault → Type 0
 AskedForEnd First L tries = AskedNext L tries 0
 AskedForEnd Last L tries = AskedPrev L tries (2 ^ 64 - 4)
 
@@ -37,19 +37,19 @@ IsEndedBy f (Err told) = f ≡ told
 
 -- one round: no key is found, or the one that is, is deleted; or one of both calls is not answered,
 -- or the delete came too late
-abbrev pub PopsOnce : End → Board → Habit → Hand → Hand → Result (Option ℕ) Fault → Type 0
+abbrev pub PopsOnce : End → TreeView → Habit → WorkerView → WorkerView → Result (Option ℕ) Fault → Type 0
 PopsOnce end b h w z (Ok None) = AskedForEnd end b.layout h.tries w z (Ok None)
 PopsOnce end b h w z (Ok (Some key)) =
-    (x : Hand) × AskedForEnd end b.layout h.tries w x (Ok (Some key))
+    (x : WorkerView) × AskedForEnd end b.layout h.tries w x (Ok (Some key))
     × TendsDelete b h key x z (Ok true)
 PopsOnce end b h w z (Err f) = AskedForEnd end b.layout h.tries w z (Err f)
-    ⊎ ((x : Hand) × (key : ℕ) × (told : Result Bool Fault)
+    ⊎ ((x : WorkerView) × (key : ℕ) × (told : Result Bool Fault)
     × AskedForEnd end b.layout h.tries w x (Ok (Some key)) × TendsDelete b h key x z told
     × IsEndedBy f told)
 
 -- first the delete of an earlier call is finished, and then there are rounds while each comes to
 -- nothing, `rounds` and one at most
-abbrev pub PopsTended : End → Board → Habit → Hand → Hand → Result (Option ℕ) Fault → Type 0
+abbrev pub PopsTended : End → TreeView → Habit → WorkerView → WorkerView → Result (Option ℕ) Fault → Type 0
 PopsTended end b h w z r =
     FinishesThen b h (λ x. IsRetried (PopsOnce end b h) pop_busy h.rounds x z r) w z r
 
@@ -57,7 +57,7 @@ PopsTended end b h w z r =
 
 -- nothing is pending, but where that is told: of a key that was in the set at a moment of the call,
 -- while each key before it was not, at a moment of its own; or as it was before
-abbrev pub PopLeft : (ℕ → ℕ → Type 0) → Hand → Hand → Result (Option ℕ) Fault → Type 0
+abbrev pub PopLeft : (ℕ → ℕ → Type 0) → WorkerView → WorkerView → Result (Option ℕ) Fault → Type 0
 PopLeft Before w z (Err (fault.Call call.Unfinished)) =
     (n : Unfinished) × (z.pending ≡ Some n) × IsKey n.key × WasSo w.pass z.pass n.key true
     × WereMissing Before w.pass z.pass n.key
@@ -76,7 +76,7 @@ pop_rounds_bound h L = (h.rounds + 1) * ((3 * h.rounds + 7) * round_bound h.trie
 
 -- a key was taken, or there was none; it has won what it tells and no more, and has gone on in so
 -- many steps at most
-pub record TendsPop (Before : ℕ → ℕ → Type 0) (most : ℕ) (w z : Hand)
+pub record TendsPop (Before : ℕ → ℕ → Type 0) (most : ℕ) (w z : WorkerView)
     (r : Result (Option ℕ) Fault) : Type 0 where
   pub took : IfOk r (Takes Before w.pass z.pass)
   pub left : PopLeft Before w z r
@@ -84,16 +84,16 @@ pub record TendsPop (Before : ℕ → ℕ → Type 0) (most : ℕ) (w z : Hand)
   pub on : GoesOnTended most w z
 
 -- a worker that its caller holds is not asked; else that, by the order in which keys are taken
-abbrev pub SaysPopTended : (ℕ → ℕ → Type 0) → Board → Habit → Hand → Hand
+abbrev pub SaysPopTended : (ℕ → ℕ → Type 0) → TreeView → Habit → WorkerView → WorkerView
     → Result (Option ℕ) Fault → Type 0
 SaysPopTended Before b h w z r =
     UnlessHeld (TendsPop Before (pop_rounds_bound h b.layout) w z r) w z r
 
 -- what the call did, and what a caller has of it
-pub record HasTendedPop (end : End) (b : Board) (h : Habit) (w z : Hand)
+pub record HasTendedPop (end : End) (b : TreeView) (h : Habit) (w z : WorkerView)
     (r : Result (Option ℕ) Fault) : Type 0 where
   pub did : PopsTended end b h w z r
   pub tends : TendsPop (comes_before end) (pop_rounds_bound h b.layout) w z r
 
-abbrev pub TendsPopOf : End → Board → Habit → Hand → Hand → Result (Option ℕ) Fault → Type 0
+abbrev pub TendsPopOf : End → TreeView → Habit → WorkerView → WorkerView → Result (Option ℕ) Fault → Type 0
 TendsPopOf end b h w z r = UnlessHeld (HasTendedPop end b h w z r) w z r

@@ -1,13 +1,13 @@
--- Notes that workers leave on their posts, for the others of their set.
+-- Notes that workers leave on their mailboxes, for the others of their set.
 use Rattle.std.specs.Prelude.{◌≡◌, ◌⊎◌, ◌<◌, ◌≤◌, ◌+◌, ℕ, List, ◌++◌, Option, Some, None, Result, Ok, Err, is_some, if◌then◌else◌}
 use Rattle.nm_model.specs.declared.trace.Turn.{Turn}
 use Rattle.nm_order.specs.Logs.{part_of}
 use Rattle.nm_steps.specs.Rules.{Extends}
-use Rattle.nm_steps.specs.Steps.{Board, Notice, HasHeard, HasSeenAllOf}
+use Rattle.nm_steps.specs.Steps.{TreeView, Notice, HasHeard, HasSeenAllOf}
 use Rattle.nm_busy.specs.Pending.{leaf_after}
 use Rattle.nm_walks.specs.WonCounts.{won_links, won_flags}
 use Rattle.nm_epoch.specs.Collecting.{capped}
-use Rattle.nm_tree.specs.Workers.{Hand}
+use Rattle.nm_tree.specs.Workers.{WorkerView}
 use Rattle.nm_set.specs.declared.fault.PostFault.{PostFault}
 use Rattle.nm_set.specs.declared.fault.PostFault.TheVariants as posting
 use Rattle.nm_set.specs.declared.posting.Posted.{Posted}
@@ -23,7 +23,7 @@ pub record HasTally (i : ℕ) (p : Posted) (turns : List Turn) : Type 0 where
   pub removed : p.removed + pending_by i turns ≡ capped (won_flags (part_of i turns))
 
 -- that is what this worker has done so far
-abbrev pub IsTallyOf : Hand → Posted → Type 0
+abbrev pub IsTallyOf : WorkerView → Posted → Type 0
 IsTallyOf w p = HasTally w.pass.view.number p w.pass.view.past
 
 -- what was seen goes on from what worker i had seen when it had inserted and removed just so many
@@ -33,28 +33,28 @@ pub record ComesBehind (i : ℕ) (p : Posted) (seen : List Turn) : Type 0 where
   pub tally : HasTally i p before
 
 -- a note of that tree which comes behind what worker i had won then
-pub record IsLetter (b : Board) (i : ℕ) (p : Posted) (note : Notice) : Type 0 where
+pub record IsLetter (b : TreeView) (i : ℕ) (p : Posted) (note : Notice) : Type 0 where
   pub table : note.table ≡ b.table
   pub told : ComesBehind i p note.past
 
 -- a worker has heard the note that worker i left: all that it had seen before, and what worker i
 -- had seen then, comes before all that it does from now on; and it has done nothing
-pub record HasHeardOf (b : Board) (i : ℕ) (p : Posted) (w z : Hand) : Type 0 where
+pub record HasHeardOf (b : TreeView) (i : ℕ) (p : Posted) (w z : WorkerView) : Type 0 where
   pub same : HasHeard w.pass z.pass
   pub past : HasSeenAllOf z.pass w.pass
   pub told : ComesBehind i p z.pass.view.past
   pub rest : z ≡ record w { pass = z.pass }
 
--- where there was a note, it was heard; else, and where another worker is at that post, nothing has
+-- where there was a note, it was heard; else, and where another worker is at that mailbox, nothing has
 -- changed
-abbrev pub Hears : Board → ℕ → Hand → Hand → Result (Option Posted) PostFault → Type 0
+abbrev pub Hears : TreeView → ℕ → WorkerView → WorkerView → Result (Option Posted) PostFault → Type 0
 Hears b i w z (Ok (Some p)) = HasHeardOf b i p w z
 Hears b i w z (Ok None) = z ≡ w
 Hears b i w z (Err posting.Busy) = z ≡ w
 Hears b i w z (Err posting.Number) = ⊥
 
 -- that no worker has the number is told exactly where none has, and nothing has changed
-abbrev pub ReadsNote : Board → ℕ → Hand → Hand → Result (Option Posted) PostFault → Type 0
+abbrev pub ReadsNote : TreeView → ℕ → WorkerView → WorkerView → Result (Option Posted) PostFault → Type 0
 ReadsNote b i w z r = ((i < b.layout.workers) × Hears b i w z r)
     ⊎ ((b.layout.workers ≤ i) × (r ≡ Err posting.Number) × (z ≡ w))
 

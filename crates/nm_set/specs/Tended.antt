@@ -13,7 +13,7 @@ use Rattle.nm_model.specs.declared.reply.Reply.TheVariants.{In}
 use Rattle.nm_model.specs.Step.{last_number}
 use Rattle.nm_order.specs.Logs.{part_of}
 use Rattle.nm_order.specs.Reads.{HasRead}
-use Rattle.nm_steps.specs.Steps.{Board, Stand, IsSamePass, HasSeenAllOf}
+use Rattle.nm_steps.specs.Steps.{TreeView, PassView, IsSamePass, HasSeenAllOf}
 use Rattle.nm_epoch.specs.declared.answers.Advance.{Advance}
 use Rattle.nm_epoch.specs.declared.answers.Advance.TheVariants as advance
 use Rattle.nm_epoch.specs.declared.collecting.Collected.{Collected}
@@ -23,7 +23,7 @@ use Rattle.nm_calls.specs.Moments.{AnswerHasMoment}
 use Rattle.nm_calls.specs.Won.{HasWon}
 use Rattle.nm_tree.specs.declared.fault.CallFault.{CallFault as Lost}
 use Rattle.nm_tree.specs.declared.fault.CallFault.TheVariants as call
-use Rattle.nm_tree.specs.Workers.{Hand, waiting_in}
+use Rattle.nm_tree.specs.Workers.{WorkerView, waiting_in}
 use Rattle.nm_set.specs.declared.fault.Fault.{Fault}
 use Rattle.nm_set.specs.declared.fault.Fault.TheVariants as fault
 use Rattle.nm_set.specs.declared.fault.Fullness.{Fullness}
@@ -47,7 +47,7 @@ OthersOnlyLose o (h ∷ hs) (g ∷ gs) =
 OthersOnlyLose o _ _ = ⊥
 
 -- the worker has gone on, in so many steps at most: the same pass, which has seen more, not held
-pub record GoesOnTended (most : ℕ) (w z : Hand) : Type 0 where
+pub record GoesOnTended (most : ℕ) (w z : WorkerView) : Type 0 where
   pub same : IsSamePass w.pass z.pass
   pub past : HasSeenAllOf z.pass w.pass
   pub queues : OthersOnlyLose w.pass.view.number w.queues z.queues
@@ -58,15 +58,15 @@ pub record GoesOnTended (most : ℕ) (w z : Hand) : Type 0 where
 -- ---- retries
 
 -- so many steps in a row
-abbrev pub InARow : (Hand → Hand → Type 0) → ℕ → Hand → Hand → Type 0
+abbrev pub InARow : (WorkerView → WorkerView → Type 0) → ℕ → WorkerView → WorkerView → Type 0
 InARow step zero w z = z ≡ w
-InARow step (suc n) w z = (m : Hand) × InARow step n w m × step m z
+InARow step (suc n) w z = (m : WorkerView) × InARow step n w m × step m z
 
 -- a call is retried while it tells `lost`, so many times at most; what the last one tells is told
-pub record IsRetried {R : Type 0} (leaves : Hand → Hand → R → Type 0) (lost : R) (rounds : ℕ)
-    (w z : Hand) (r : R) : Type 0 where
+pub record IsRetried {R : Type 0} (leaves : WorkerView → WorkerView → R → Type 0) (lost : R) (rounds : ℕ)
+    (w z : WorkerView) (r : R) : Type 0 where
   pub before : ℕ
-  pub begun : Hand
+  pub begun : WorkerView
   pub each : InARow (λ x y. leaves x y lost) before w begun
   pub last : leaves begun z r
   pub few : before ≤ rounds
@@ -77,29 +77,29 @@ abbrev pub busy : Result Bool Fault
 busy = Err (fault.Call call.Busy)
 
 -- what the tree's call of each operation leaves
-abbrev pub Leaves : Op → Layout → ℕ → ℕ → Hand → Hand → Result Bool Lost → Type 0
+abbrev pub Leaves : Op → Layout → ℕ → ℕ → WorkerView → WorkerView → Result Bool Lost → Type 0
 Leaves Has = LeavesHas
 Leaves Insert = LeavesInsert
 Leaves Delete = LeavesDelete
 
 -- a call of that operation, which is retried while it loses each of its tries
-abbrev pub Retries : Op → Board → Habit → ℕ → Hand → Hand → Result Bool Fault → Type 0
+abbrev pub Retries : Op → TreeView → Habit → ℕ → WorkerView → WorkerView → Result Bool Fault → Type 0
 Retries op b h k w z r = IsRetried (Asked (Leaves op b.layout h.tries k)) busy h.rounds w z r
 
 -- the delete that is pending, if one is, while it is not finished
-abbrev pub FinishesPending : Board → Habit → Hand → Hand → Result Bool Lost → Type 0
+abbrev pub FinishesPending : TreeView → Habit → WorkerView → WorkerView → Result Bool Lost → Type 0
 FinishesPending b h w z r =
     IsRetried (LeavesFinish b.layout h.tries) (Err call.Unfinished) h.rounds w z r
 
 -- ---- collecting
 
 -- the epoch was asked to move on twice, and then what is ripe was collected
-pub record IsRelieved (b : Board) (w z : Hand) : Type 0 where
+pub record IsRelieved (b : TreeView) (w z : WorkerView) : Type 0 where
   pub moved : Advance
-  pub once : Hand
+  pub once : WorkerView
   pub moves : LeavesAdvance b.layout.workers w once moved
   pub moved_again : Advance
-  pub twice : Hand
+  pub twice : WorkerView
   pub moves_again : LeavesAdvance b.layout.workers once twice moved_again
   pub collected : Collected
   pub collects : LeavesCollect b.layout.nodes twice z collected
@@ -112,13 +112,13 @@ found_behind (advance.Held worker at) second = Some worker
 found_behind first second = None
 
 -- between p and q the worker has read this epoch
-pub record HasReadSince (p q : Stand) (epoch : ℕ) : Type 0 where
+pub record HasReadSince (p q : PassView) (epoch : ℕ) : Type 0 where
   pub turns : List Turn
   pub is : q.view.past ≡ p.view.past ++ turns
   pub read : HasRead (part_of p.view.number turns) epoch
 
 -- between p and q the worker has read an epoch, and found worker i announcing another one
-pub record WasElsewhere (p q : Stand) (i : ℕ) : Type 0 where
+pub record WasElsewhere (p q : PassView) (i : ℕ) : Type 0 where
   pub turns : List Turn
   pub is : q.view.past ≡ p.view.past ++ turns
   pub epoch : ℕ
@@ -128,7 +128,7 @@ pub record WasElsewhere (p q : Stand) (i : ℕ) : Type 0 where
   pub apart : at ≢ epoch
 
 -- between p and q the epoch was moved on so often at least, by whomever
-pub record WasMovedOn (p q : Stand) (times : ℕ) : Type 0 where
+pub record WasMovedOn (p q : PassView) (times : ℕ) : Type 0 where
   pub turns : List Turn
   pub is : q.view.past ≡ p.view.past ++ turns
   pub moved : times ≤ number_of moves turns
@@ -136,7 +136,7 @@ pub record WasMovedOn (p q : Stand) (times : ℕ) : Type 0 where
 -- a worker was relieved so, and this is who was found to hold the epoch back: of a worker that rests
 -- another one, that was elsewhere; or nobody, and then the epoch was moved on twice, and the
 -- collection has freed all that waited, unless the epoch is the last one
-pub record FindsBehind (b : Board) (w z : Hand) (behind : Option ℕ) : Type 0 where
+pub record FindsBehind (b : TreeView) (w z : WorkerView) (behind : Option ℕ) : Type 0 where
   pub relieved : IsRelieved b w z
   pub found : behind ≡ found_behind relieved.moved relieved.moved_again
   pub other : w.pending ≡ None → w.held ≡ None → (i : ℕ) → behind ≡ Some i
@@ -146,28 +146,28 @@ pub record FindsBehind (b : Board) (w z : Hand) (behind : Option ℕ) : Type 0 w
       × (waiting_in z.queues ≡ 0))
 
 -- so it is where so many nodes wait; else nothing has changed
-abbrev pub IsTidied : Board → ℕ → Hand → Hand → Type 0
+abbrev pub IsTidied : TreeView → ℕ → WorkerView → WorkerView → Type 0
 IsTidied b many w z = ((many ≤ waiting_in w.queues) × IsRelieved b w z)
     ⊎ ((waiting_in w.queues < many) × (z ≡ w))
 
 -- its caller does not hold it, nothing is pending, and fewer nodes wait than those from which on it
 -- collects
-pub record IsTidy (h : Habit) (w : Hand) : Type 0 where
+pub record IsTidy (h : Habit) (w : WorkerView) : Type 0 where
   pub free : w.held ≡ None
   pub none : w.pending ≡ None
   pub few : waiting_in w.queues < h.collect_after
 
 -- its caller does not hold it, the delete of an earlier call is finished, where one was pending, and
 -- then it has collected where so many nodes waited
-pub record IsMadeTidy (b : Board) (h : Habit) (w z : Hand) : Type 0 where
+pub record IsMadeTidy (b : TreeView) (h : Habit) (w z : WorkerView) : Type 0 where
   pub free : w.held ≡ None
   pub answer : Bool
-  pub between : Hand
+  pub between : WorkerView
   pub finished : FinishesPending b h w between (Ok answer)
   pub tidied : IsTidied b h.collect_after between z
 
 -- so it is, or its caller holds it, or that delete is not finished
-abbrev pub MakesTidy : Board → Habit → Hand → Hand → Result (Unit {0}) Fault → Type 0
+abbrev pub MakesTidy : TreeView → Habit → WorkerView → WorkerView → Result (Unit {0}) Fault → Type 0
 MakesTidy b h w z (Ok _) = IsMadeTidy b h w z
 MakesTidy b h w z (Err f) = (IsSome w.held × (f ≡ fault.Held) × (z ≡ w))
     ⊎ ((w.held ≡ None) × FinishesPending b h w z (Err call.Unfinished)
@@ -177,14 +177,14 @@ MakesTidy b h w z (Err f) = (IsSome w.held × (f ≡ fault.Held) × (z ≡ w))
 
 -- between what p had seen and what q has seen, other workers have moved the epoch on, or linked or
 -- cut off nodes, at least so often together
-pub record WasDisturbed (p q : Stand) (times : ℕ) : Type 0 where
+pub record WasDisturbed (p q : PassView) (times : ℕ) : Type 0 where
   pub turns : List Turn
   pub is : q.view.past ≡ p.view.past ++ turns
   pub disturbed : times ≤ number_of (moves_of_others p.view.number) turns
       + number_of (reshapes_of_others p.view.number) turns
 
 -- and the same of others that moved the epoch on, and of turns that hindered the worker itself
-pub record WasHeldUp (p q : Stand) (times : ℕ) : Type 0 where
+pub record WasHeldUp (p q : PassView) (times : ℕ) : Type 0 where
   pub turns : List Turn
   pub is : q.view.past ≡ p.view.past ++ turns
   pub held_up : times ≤ number_of (moves_of_others p.view.number) turns
@@ -210,10 +210,10 @@ with_fullness behind waiting (Err (fault.Call call.Full)) =
 with_fullness behind waiting told = plain told
 
 -- that no slot is free is told only behind a collection, and by an insert that was made once more
-abbrev pub RetriesInsert : Board → Habit → ℕ → Hand → Hand → Result Bool InsertFault → Type 0
+abbrev pub RetriesInsert : TreeView → Habit → ℕ → WorkerView → WorkerView → Result Bool InsertFault → Type 0
 RetriesInsert b h k w z r = ((told : Result Bool Fault) × Retries Insert b h k w z told
     × (told ≢ Err (fault.Call call.Full)) × (r ≡ plain told))
-    ⊎ ((x y : Hand) × (behind : Option ℕ) × (told : Result Bool Fault)
+    ⊎ ((x y : WorkerView) × (behind : Option ℕ) × (told : Result Bool Fault)
     × Retries Insert b h k w x (Err (fault.Call call.Full)) × FindsBehind b x y behind
     × Retries Insert b h k y z told × (r ≡ with_fullness behind (waiting_in z.queues) told))
 
@@ -223,37 +223,37 @@ of_finish (Ok answer) = Ok answer
 of_finish (Err lost) = Err (fault.Call lost)
 
 -- a delete whose leaf is flagged goes on with that
-abbrev pub RetriesDelete : Board → Habit → ℕ → Hand → Hand → Result Bool Fault → Type 0
+abbrev pub RetriesDelete : TreeView → Habit → ℕ → WorkerView → WorkerView → Result Bool Fault → Type 0
 RetriesDelete b h k w z r = (Retries Delete b h k w z r × (r ≢ Err (fault.Call call.Unfinished)))
-    ⊎ ((x : Hand) × (f : Result Bool Lost)
+    ⊎ ((x : WorkerView) × (f : Result Bool Lost)
     × Retries Delete b h k w x (Err (fault.Call call.Unfinished))
     × FinishesPending b h x z f × (r ≡ of_finish f))
 
 -- first the delete of an earlier call is finished, where one is pending; what is told of where it
 -- is not, is that
-abbrev pub FinishesThen : {A : Type 0} → Board → Habit → (Hand → Type 0) → Hand → Hand
+abbrev pub FinishesThen : {A : Type 0} → TreeView → Habit → (WorkerView → Type 0) → WorkerView → WorkerView
     → Result A Fault → Type 0
 FinishesThen b h rest w z r = (FinishesPending b h w z (Err call.Unfinished)
     × (r ≡ Err (fault.Call call.Pending)))
-    ⊎ ((answer : Bool) × (x : Hand) × FinishesPending b h w x (Ok answer) × rest x)
+    ⊎ ((answer : Bool) × (x : WorkerView) × FinishesPending b h w x (Ok answer) × rest x)
 
 -- `Contains`, `InsertsTended`, `RemovesTended`: first the delete of an earlier call is finished, and
 -- then each of the three calls is made
-abbrev pub Contains : Board → Habit → ℕ → Hand → Hand → Result Bool Fault → Type 0
+abbrev pub Contains : TreeView → Habit → ℕ → WorkerView → WorkerView → Result Bool Fault → Type 0
 Contains b h k w z r = FinishesThen b h (λ x. Retries Has b h k x z r) w z r
 
-abbrev pub InsertsTended : Board → Habit → ℕ → Hand → Hand → Result Bool InsertFault → Type 0
+abbrev pub InsertsTended : TreeView → Habit → ℕ → WorkerView → WorkerView → Result Bool InsertFault → Type 0
 InsertsTended b h k w z r = FinishesThen b h
-    (λ x. (y : Hand) × IsTidied b h.collect_after x y × RetriesInsert b h k y z r) w z (of_insert r)
+    (λ x. (y : WorkerView) × IsTidied b h.collect_after x y × RetriesInsert b h k y z r) w z (of_insert r)
 
-abbrev pub RemovesTended : Board → Habit → ℕ → Hand → Hand → Result Bool Fault → Type 0
+abbrev pub RemovesTended : TreeView → Habit → ℕ → WorkerView → WorkerView → Result Bool Fault → Type 0
 RemovesTended b h k w z r = FinishesThen b h
-    (λ x. (y : Hand) × IsTidied b h.collect_after x y × RetriesDelete b h k y z r) w z r
+    (λ x. (y : WorkerView) × IsTidied b h.collect_after x y × RetriesDelete b h k y z r) w z r
 
 -- ---- what a caller has of each
 
 -- nothing is pending, but where that is told: of this call's key, or as it was before
-abbrev pub IsLeft : ℕ → Hand → Hand → Result Bool Fault → Type 0
+abbrev pub IsLeft : ℕ → WorkerView → WorkerView → Result Bool Fault → Type 0
 IsLeft k w z (Err (fault.Call call.Unfinished)) =
     (leaf : NodeId) × (z.pending ≡ Some (record { key = k; leaf = leaf }))
 IsLeft k w z (Err (fault.Call call.Pending)) = IsSome w.pending × (z.pending ≡ w.pending)
@@ -276,7 +276,7 @@ round_bound tries L = tries * (4 * reach L + 8 * chain_bound) + 7 * L.nodes + 2 
 
 -- where an insert was full, in the call another worker was found to hold the epoch back; or the
 -- epoch was moved on twice, unless it is the last one; and so many nodes wait as the call ends
-pub record WasFull (w z : Hand) (f : Fullness) : Type 0 where
+pub record WasFull (w z : WorkerView) (f : Fullness) : Type 0 where
   pub other : (i : ℕ) → f.behind ≡ Some i
       → (i ≢ w.pass.view.number) × WasElsewhere w.pass z.pass i
   pub moved : f.behind ≡ None
@@ -286,7 +286,7 @@ pub record WasFull (w z : Hand) (f : Fullness) : Type 0 where
 -- the answer has its moment behind all that the worker had seen before this call; where no slot was
 -- free, who holds memory back was found; it has won what it tells and no more, and has gone on in so
 -- many rounds at most
-pub record Tends (b : Board) (h : Habit) (op : Op) (k : ℕ) (w z : Hand)
+pub record Tends (b : TreeView) (h : Habit) (op : Op) (k : ℕ) (w z : WorkerView)
     (r : Result Bool Fault) : Type 0 where
   pub moment : IfOk r (AnswerHasMoment w.pass z.pass op k)
   pub full : r ≡ Err (fault.Call call.Full) → (f : Fullness) × WasFull w z f
@@ -295,27 +295,27 @@ pub record Tends (b : Board) (h : Habit) (op : Op) (k : ℕ) (w z : Hand)
   pub on : GoesOnTended ((3 * h.rounds + 5) * round_bound h.tries b.layout) w z
 
 -- what the call did, and what a caller has of it
-pub record HasTended (does : Hand → Hand → Result Bool Fault → Type 0) (b : Board) (h : Habit)
-    (op : Op) (k : ℕ) (w z : Hand) (r : Result Bool Fault) : Type 0 where
+pub record HasTended (does : WorkerView → WorkerView → Result Bool Fault → Type 0) (b : TreeView) (h : Habit)
+    (op : Op) (k : ℕ) (w z : WorkerView) (r : Result Bool Fault) : Type 0 where
   pub did : does w z r
   pub tends : Tends b h op k w z r
 
 -- a worker that its caller holds is not asked, and nothing has changed; else that
-abbrev pub UnlessHeld : {A : Type 0} → Type 0 → Hand → Hand → Result A Fault → Type 0
+abbrev pub UnlessHeld : {A : Type 0} → Type 0 → WorkerView → WorkerView → Result A Fault → Type 0
 UnlessHeld did w z r = (IsSome w.held × (r ≡ Err fault.Held) × (z ≡ w)) ⊎ ((w.held ≡ None) × did)
 
 -- what a caller has of each of the three calls
-abbrev pub SaysTended : Op → Board → Habit → ℕ → Hand → Hand → Result Bool Fault → Type 0
+abbrev pub SaysTended : Op → TreeView → Habit → ℕ → WorkerView → WorkerView → Result Bool Fault → Type 0
 SaysTended op b h k w z r = UnlessHeld (Tends b h op k w z r) w z r
 
 -- `TendsHas`, `TendsInsert`, `TendsDelete`: that, and what each of them did
-abbrev pub TendsHas : Board → Habit → ℕ → Hand → Hand → Result Bool Fault → Type 0
+abbrev pub TendsHas : TreeView → Habit → ℕ → WorkerView → WorkerView → Result Bool Fault → Type 0
 TendsHas b h k w z r = UnlessHeld (HasTended (Contains b h k) b h Has k w z r) w z r
 
-abbrev pub TendsInsert : Board → Habit → ℕ → Hand → Hand → Result Bool InsertFault → Type 0
+abbrev pub TendsInsert : TreeView → Habit → ℕ → WorkerView → WorkerView → Result Bool InsertFault → Type 0
 TendsInsert b h k w z r = UnlessHeld
     (HasTended (λ x y told. InsertsTended b h k x y r) b h Insert k w z (of_insert r)) w z
     (of_insert r)
 
-abbrev pub TendsDelete : Board → Habit → ℕ → Hand → Hand → Result Bool Fault → Type 0
+abbrev pub TendsDelete : TreeView → Habit → ℕ → WorkerView → WorkerView → Result Bool Fault → Type 0
 TendsDelete b h k w z r = UnlessHeld (HasTended (RemovesTended b h k) b h Delete k w z r) w z r

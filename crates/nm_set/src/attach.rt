@@ -3,17 +3,17 @@ ghost use Rattle.std.specs.Prelude.{IfSome};
 ghost use Rattle.nm_set.specs.Seats.{IsAnyResident};
 
 use crate::home::Home;
-use crate::seat::Guest;
+use crate::seat::SealedWorker;
 
 /// Looks at each seat once, in the order of the numbers, and takes the first worker that is at
 /// home.
-pub(crate) fn take_any(home: &Home) -> Option<Guest>
+pub(crate) fn take_any(home: &Home) -> Option<SealedWorker>
     ensures { IfSome result (λ g. IsAnyResident home.now.tree home.now.fit g.worker) }
 {
     let workers = u32::try_from(home.workers()).unwrap_or(u32::MAX);
     for number in 0..workers {
-        if let Ok(guest) = home.take(number) {
-            return Some(guest);
+        if let Ok(sealed) = home.take(number) {
+            return Some(sealed);
         }
     }
     None

@@ -33,10 +33,10 @@ impl Member {
         ensures ended { IfOk result (EndsMember self) }
         ensures refused { IfErr result (IsNotEnded self) }
     {
-        let (home, guest) = self.apart();
-        let gathered = match home.gather(guest) {
+        let (home, sealed) = self.apart();
+        let gathered = match home.gather(sealed) {
             Ok(gathered) => gathered,
-            Err((home, guest)) => return Err(EndError::Away(Member::back(home, guest))),
+            Err((home, sealed)) => return Err(EndError::Away(Member::back(home, sealed))),
         };
         match gathered.close() {
             Ok(report) => Ok(report),

@@ -90,8 +90,8 @@ pub enum PostFault {
     /// The tree has fewer workers than that.
     #[error("there is no worker of that number")]
     Number,
-    /// Another member is at that post at this moment.
-    #[error("another member is at the post")]
+    /// Another member is at that mailbox at this moment.
+    #[error("another member is at the mailbox")]
     Busy,
 }
 

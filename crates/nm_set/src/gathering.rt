@@ -18,10 +18,10 @@ pub(crate) struct Gathered {
 }
 
 impl Model for Gathered {
-    ghost use Rattle.nm_set.specs.Seats.{AreOwn, Standing};
+    ghost use Rattle.nm_set.specs.Seats.{AreOwn, SetView};
     ghost use Rattle.nm_set.specs.States.{closing_set};
 
-    ghost Value = { Standing };
+    ghost Value = { SetView };
 
     ghost view = { λ g. closing_set g.site g.workers.items };
 
@@ -38,11 +38,11 @@ impl Gathered {
 
     /// Closes the tree. Refused, a set that is closing keeps them.
     pub(crate) fn close(self) -> Result<Report, CloseError>
-        ensures own { AreOwn self.board self.kept }
+        ensures own { AreOwn self.tree self.kept }
         ensures closed { IfOk result
-            (λ r. IsClosed self.board self.kept r.queues.items r.keys.items r.free r.reached) }
+            (λ r. IsClosed self.tree self.kept r.queues.items r.keys.items r.free r.reached) }
         ensures refused { IfErr result (λ e. e.set ≡ self) }
-        ensures reason { IfErr result (λ e. IsTreesReason self.board self.kept e.reason) }
+        ensures reason { IfErr result (λ e. IsTreesReason self.tree self.kept e.reason) }
     {
         let Self { site, workers } = self;
         end(site, workers)

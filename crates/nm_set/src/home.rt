@@ -4,8 +4,8 @@ ghost use Rattle.nm_tree.specs.Workers.{AreNew, HaveFit};
 ghost use Rattle.nm_set.specs.Posts.{IsTallyOf};
 ghost use Rattle.nm_set.specs.Seats.{AreOwn, AreSeats, BeginsWith, HasRoom, IsOwn, IsResident};
 
-use crate::posting::Post;
-use crate::seat::{AtHome, Guest, Seat, leave, retire, stand_up};
+use crate::posting::Mailbox;
+use crate::seat::{AtHome, SealedWorker, Seat, leave, retire, stand_up};
 use nm_tree::{Fit, Tree, Worker};
 use std::alloc::{AllocError, Global};
 use std::marker::Model;
@@ -28,10 +28,10 @@ impl Site {
     {
         let mut workers = workers;
         for seat in seats {
-            let Some(guest) = leave(seat) else {
+            let Some(sealed) = leave(seat) else {
                 continue;
             };
-            guest.stay_with(&mut workers);
+            sealed.stay_with(&mut workers);
         }
         workers
     }
@@ -87,7 +87,7 @@ impl Home {
     }
 
     /// Takes a worker from its seat.
-    pub(crate) fn take(&self, number: u32) -> Result<Guest, Absence>
+    pub(crate) fn take(&self, number: u32) -> Result<SealedWorker, Absence>
         ensures taken { IfOk result
             (λ g. IsResident self.now.tree self.now.fit number g.worker
             × (number < self.now.tree.layout.workers)) }
@@ -97,7 +97,7 @@ impl Home {
             return Err(Absence::Number);
         };
         match stand_up(seat) {
-            Some(guest) => Ok(guest),
+            Some(sealed) => Ok(sealed),
             None => Err(Absence::Away),
         }
     }
@@ -108,21 +108,21 @@ impl Home {
         requires fit { HaveFit self.now.fit workers.items }
     {
         for worker in workers {
-            self.receive(Guest::of(worker));
+            self.receive(SealedWorker::of(worker));
         }
     }
 
     /// A worker of this tree, which its caller does not hold, sits down on its seat.
-    pub(crate) fn receive(&self, guest: Guest) -> AtHome
-        requires own { IsOwn self.now.tree guest.worker }
-        requires fit { guest.worker.fit ≡ self.now.fit }
-        requires free { guest.worker.held ≡ None }
-        ensures { IsTallyOf guest.worker result }
+    pub(crate) fn receive(&self, sealed: SealedWorker) -> AtHome
+        requires own { IsOwn self.now.tree sealed.worker }
+        requires fit { sealed.worker.fit ≡ self.now.fit }
+        requires free { sealed.worker.held ≡ None }
+        ensures { IsTallyOf sealed.worker result }
     {
-        let Some(seat) = self.seats.get(guest.worker.number() as usize) else {
+        let Some(seat) = self.seats.get(sealed.worker.number() as usize) else {
             unreachable!()
         };
-        guest.sit_down(seat)
+        sealed.sit_down(seat)
     }
 
     /// A worker that was taken from its seat does not come back to it.
@@ -140,13 +140,13 @@ impl Home {
         Some(self.seats.get(number as usize)?.is_away())
     }
 
-    /// The post of a worker. `None`: there is none of that number.
-    pub(crate) fn post_of(&self, number: u32) -> Option<&Post>
+    /// The mailbox of a worker. `None`: there is none of that number.
+    pub(crate) fn mailbox_of(&self, number: u32) -> Option<&Mailbox>
         ensures some { IfSome result
             (λ p. (p.now ≡ (self.now, number)) × (number < self.now.tree.layout.workers)) }
         ensures none { IfNone result (self.now.tree.layout.workers ≤ number) }
     {
-        Some(self.seats.get(number as usize)?.post())
+        Some(self.seats.get(number as usize)?.mailbox())
     }
 
     /// The tree, and the workers that were kept with those that are at home behind them.
@@ -164,15 +164,15 @@ impl Home {
     }
 
     /// The tree, and one worker that is away, with those that are at home behind it.
-    pub(crate) fn gather_behind(self, guest: Guest) -> (Site, Vec<Worker>)
-        requires own { IsOwn self.tree guest.worker }
+    pub(crate) fn gather_behind(self, sealed: SealedWorker) -> (Site, Vec<Worker>)
+        requires own { IsOwn self.tree sealed.worker }
         ensures site { result.0 ≡ self }
         ensures own { AreOwn self.tree result.1.items }
-        ensures first { BeginsWith (guest.worker ∷ []) result.1.items }
+        ensures first { BeginsWith (sealed.worker ∷ []) result.1.items }
     {
         let Home { site, seats, room } = self;
         let mut workers = room;
-        guest.stay_with(&mut workers);
+        sealed.stay_with(&mut workers);
         let workers = site.gather_from(seats, workers);
         (site, workers)
     }

@@ -4,18 +4,18 @@ ghost use Rattle.std.specs.Arc.{arc_value};
 ghost use Rattle.nm_set.specs.Posts.{IsTallyOf};
 ghost use Rattle.nm_set.specs.Seats.{BeginsWith, IsOwn, IsResident};
 ghost use Rattle.nm_set.specs.States.{closing_set};
-ghost use Rattle.nm_tree.specs.Workers.{Hand};
+ghost use Rattle.nm_tree.specs.Workers.{WorkerView};
 
 use crate::gathering::Gathered;
 use crate::home::{Absence, Home};
-use crate::posting::Post;
-use crate::seat::{AtHome, Guest};
+use crate::posting::Mailbox;
+use crate::seat::{AtHome, SealedWorker};
 use nm_tree::Tree;
 use std::alloc::Global;
 use std::marker::Model;
 use std::sync::Arc;
 
-/// A member's part in a home. To a call, which has it by reference, it gives the tree and the posts
+/// A member's part in a home. To a call, which has it by reference, it gives the tree and the mailboxes
 /// alone. A worker is taken from a seat, or all of them, only by whoever gives the lease out of its
 /// hands for that, or has the home itself; so no call of a member can reach another worker than the
 /// member's own.
@@ -48,27 +48,27 @@ impl Lease {
         self.home.tree()
     }
 
-    /// The post of a worker. `None`: there is none of that number.
-    pub(crate) fn post_of(&self, number: u32) -> Option<&Post>
+    /// The mailbox of a worker. `None`: there is none of that number.
+    pub(crate) fn mailbox_of(&self, number: u32) -> Option<&Mailbox>
         ensures some { IfSome result
             (λ p. (p.now ≡ (self.now, number)) × (number < self.now.tree.layout.workers)) }
         ensures none { IfNone result (self.now.tree.layout.workers ≤ number) }
     {
-        self.home.post_of(number)
+        self.home.mailbox_of(number)
     }
 
     /// A worker of this tree, which its caller does not hold, sits down on its seat.
-    pub(crate) fn receive(&self, guest: Guest) -> AtHome
-        requires own { IsOwn self.now.tree guest.worker }
-        requires fit { guest.worker.fit ≡ self.now.fit }
-        requires free { guest.worker.held ≡ None }
-        ensures { IsTallyOf guest.worker result }
+    pub(crate) fn receive(&self, sealed: SealedWorker) -> AtHome
+        requires own { IsOwn self.now.tree sealed.worker }
+        requires fit { sealed.worker.fit ≡ self.now.fit }
+        requires free { sealed.worker.held ≡ None }
+        ensures { IsTallyOf sealed.worker result }
     {
-        self.home.receive(guest)
+        self.home.receive(sealed)
     }
 
     /// Takes a worker from its seat.
-    pub(crate) fn take(self, number: u32) -> (Lease, Result<Guest, Absence>)
+    pub(crate) fn take(self, number: u32) -> (Lease, Result<SealedWorker, Absence>)
         ensures same { result.0 ≡ self }
         ensures taken { IfOk result.1
             (λ g. IsResident self.tree self.fit number g.worker
@@ -89,20 +89,20 @@ impl Lease {
 
     /// The tree, with this worker, as it is, and then all that are at home, where nobody else has
     /// the home.
-    pub(crate) fn gather(self, guest: Guest) -> Result<Gathered, (Lease, Guest)>
-        requires own { IsOwn self.tree guest.worker }
+    pub(crate) fn gather(self, sealed: SealedWorker) -> Result<Gathered, (Lease, SealedWorker)>
+        requires own { IsOwn self.tree sealed.worker }
         ensures gathered { IfOk result
-            (λ g. (ws : List Hand) × (g ≡ closing_set self ws)
-            × BeginsWith (guest.worker ∷ []) ws) }
-        ensures refused { IfErr result (λ back. (back.0 ≡ self) × (back.1.worker ≡ guest.worker)) }
+            (λ g. (ws : List WorkerView) × (g ≡ closing_set self ws)
+            × BeginsWith (sealed.worker ∷ []) ws) }
+        ensures refused { IfErr result (λ back. (back.0 ≡ self) × (back.1.worker ≡ sealed.worker)) }
     {
         let Self { home } = self;
         match Arc::try_unwrap(home) {
             Ok(home) => {
-                let (site, workers) = home.gather_behind(guest);
+                let (site, workers) = home.gather_behind(sealed);
                 Ok(Gathered::of(site, workers))
             }
-            Err(home) => Err((Lease { home }, guest)),
+            Err(home) => Err((Lease { home }, sealed)),
         }
     }
 }

@@ -6,7 +6,7 @@ ghost use Rattle.nm_steps.specs.Rules.{Extends};
 ghost use Rattle.nm_steps.specs.Steps.{HasHeard, HasSeen, HasSeenAllOf, IsNoteOf, IsOfRun};
 ghost use Rattle.nm_tree.specs.Resigning.{HasResigned};
 ghost use Rattle.nm_tree.specs.Running.{HasSeenTurns};
-ghost use Rattle.nm_tree.specs.Workers.{Hand, IsBetweenCalls, IsLedger, waiting_in, blocks_in, AreFewIn, IsIdle};
+ghost use Rattle.nm_tree.specs.Workers.{WorkerView, IsBetweenCalls, IsLedger, waiting_in, blocks_in, AreFewIn, IsIdle};
 ghost use Rattle.nm_calls.specs.declared.deleting.Unfinished.{Unfinished as Delete};
 ghost use Rattle.nm_tree.specs.Calls.{LeavesHas, SaysHas, LeavesInsert, SaysInsert, LeavesDelete, SaysDelete, LeavesFinish, SaysFinish, LeavesAdvance, LeavesBehind, LeavesCollect};
 ghost use Rattle.nm_set.specs.Asked.{Asked, AskedToPin, AskedToUnpin};
@@ -19,7 +19,7 @@ use crate::fault::{Fault, NotHeld, PinFault, PostFault, ResignReason};
 use crate::home::{Absence, Home};
 use crate::lease::Lease;
 use crate::posting::{Posted, leave_letter, read_letter};
-use crate::seat::{AtHome, Guest, Stay, unite};
+use crate::seat::{AtHome, SealedWorker, Stay, unite};
 use nm_edge::Key;
 use nm_steps::Note;
 use nm_tree::{Advance, Behind, Collected, Counts, Query, Worker};
@@ -32,19 +32,19 @@ use std::sync::Arc;
 /// tree, and no seat: they act by its own worker alone.
 pub struct Member {
     pub(crate) home: Lease,
-    pub(crate) guest: Guest,
+    pub(crate) sealed: SealedWorker,
 }
 
 impl Model for Member {
     ghost use Rattle.std.specs.Prelude.{◌≡◌};
-    ghost use Rattle.nm_set.specs.Seats.{IsOwn, Seated};
+    ghost use Rattle.nm_set.specs.Seats.{IsOwn, MemberView};
 
-    ghost Value = { Seated };
+    ghost Value = { MemberView };
 
-    ghost view = { λ m. record { board = m.home.tree; hand = m.guest.worker } };
+    ghost view = { λ m. record { tree = m.home.tree; worker = m.sealed.worker } };
 
-    ghost invariant = { λ m. IsOwn m.home.tree m.guest.worker
-        × (m.guest.worker.fit ≡ m.home.fit) };
+    ghost invariant = { λ m. IsOwn m.home.tree m.sealed.worker
+        × (m.sealed.worker.fit ≡ m.home.fit) };
 }
 
 /// A member has not taken over a worker. It is as it was.
@@ -55,30 +55,30 @@ pub struct ResignError {
 }
 
 impl Member {
-    pub(crate) fn of(home: Arc<Home, Global>, guest: Guest) -> Member
-        requires own { IsOwn (arc_value home).tree guest.worker }
-        requires fit { guest.worker.fit ≡ (arc_value home).fit }
-        ensures board { result.board ≡ (arc_value home).tree }
-        ensures hand { result.hand ≡ guest.worker }
+    pub(crate) fn of(home: Arc<Home, Global>, sealed: SealedWorker) -> Member
+        requires own { IsOwn (arc_value home).tree sealed.worker }
+        requires fit { sealed.worker.fit ≡ (arc_value home).fit }
+        ensures tree { result.tree ≡ (arc_value home).tree }
+        ensures worker { result.worker ≡ sealed.worker }
     {
-        Member::back(Lease::of(home), guest)
+        Member::back(Lease::of(home), sealed)
     }
 
     /// The member that was taken apart.
-    pub(crate) fn back(home: Lease, guest: Guest) -> Member
-        requires own { IsOwn home.tree guest.worker }
-        requires fit { guest.worker.fit ≡ home.fit }
-        ensures board { result.board ≡ home.tree }
-        ensures hand { result.hand ≡ guest.worker }
+    pub(crate) fn back(home: Lease, sealed: SealedWorker) -> Member
+        requires own { IsOwn home.tree sealed.worker }
+        requires fit { sealed.worker.fit ≡ home.fit }
+        ensures tree { result.tree ≡ home.tree }
+        ensures worker { result.worker ≡ sealed.worker }
     {
-        Member { home, guest }
+        Member { home, sealed }
     }
 
     /// The worker's number, below the number of workers.
     pub fn number(&self) -> u32
-        ensures { result ≡ self.now.hand.pass.view.number }
+        ensures { result ≡ self.now.worker.pass.view.number }
     {
-        self.guest.worker.number()
+        self.sealed.worker.number()
     }
 
     /// What the worker has seen is a run of an ordered core of the set's sizes, its log is its part
@@ -86,17 +86,17 @@ impl Member {
     /// history: `Worker::is_of_a_run` of `nm_tree`. And it is one of the set's, and leaves nothing
     /// open between two calls: `Worker::is_between_calls`. It does nothing.
     pub fn is_of_a_run(&self)
-        ensures own { IsOwn self.now.board self.now.hand }
-        ensures seen { HasSeen self.now.hand.pass.view }
-        ensures turns { HasSeenTurns self.now.hand.pass.view }
-        ensures idle { IsIdle self.now.hand }
-        ensures between { IsBetweenCalls self.now.hand }
-        ensures run { IsOfRun self.now.hand.pass.view.layout self.now.hand.pass.view.number
-            self.now.hand.pass.view.log }
-        ensures fits { IsLayout self.now.hand.pass.view.layout }
+        ensures own { IsOwn self.now.tree self.now.worker }
+        ensures seen { HasSeen self.now.worker.pass.view }
+        ensures turns { HasSeenTurns self.now.worker.pass.view }
+        ensures idle { IsIdle self.now.worker }
+        ensures between { IsBetweenCalls self.now.worker }
+        ensures run { IsOfRun self.now.worker.pass.view.layout self.now.worker.pass.view.number
+            self.now.worker.pass.view.log }
+        ensures fits { IsLayout self.now.worker.pass.view.layout }
     {
-        self.guest.worker.is_of_a_run();
-        self.guest.worker.is_between_calls();
+        self.sealed.worker.is_of_a_run();
+        self.sealed.worker.is_between_calls();
     }
 
     /// Whether the set has the key: `Tree::has` of `nm_tree`.
@@ -104,16 +104,16 @@ impl Member {
     /// `Held`: the caller holds the worker. Other faults are the tree's.
     #[inline(always)]
     pub fn try_contains(&mut self, key: Key, tries: u32) -> Result<bool, Fault>
-        ensures board { self.new.board ≡ self.old.board }
-        ensures says { Asked (SaysHas self.old.board.layout tries key) self.old.hand
-            self.new.hand result }
-        ensures did { Asked (LeavesHas self.old.board.layout tries key) self.old.hand
-            self.new.hand result }
+        ensures tree { self.new.tree ≡ self.old.tree }
+        ensures says { Asked (SaysHas self.old.tree.layout tries key) self.old.worker
+            self.new.worker result }
+        ensures did { Asked (LeavesHas self.old.tree.layout tries key) self.old.worker
+            self.new.worker result }
     {
-        if self.guest.worker.held().is_some() {
+        if self.sealed.worker.held().is_some() {
             return Err(Fault::Held);
         }
-        match self.home.tree().has(&mut self.guest.worker, key, tries) {
+        match self.home.tree().has(&mut self.sealed.worker, key, tries) {
             Ok(answer) => Ok(answer),
             Err(fault) => Err(Fault::Call(fault)),
         }
@@ -124,17 +124,17 @@ impl Member {
     ///
     /// `Held`: the caller holds the worker. Other faults are the tree's.
     pub fn contains_many(&mut self, queries: &mut [Query], tries: u32) -> Result<(), Fault>
-        ensures board { self.new.board ≡ self.old.board }
-        ensures did { AskedMany self.old.board.layout tries queries.old queries.new
-            self.old.hand self.new.hand result }
+        ensures tree { self.new.tree ≡ self.old.tree }
+        ensures did { AskedMany self.old.tree.layout tries queries.old queries.new
+            self.old.worker self.new.worker result }
     {
-        if self.guest.worker.held().is_some() {
+        if self.sealed.worker.held().is_some() {
             return Err(Fault::Held);
         }
         match self
             .home
             .tree()
-            .has_many(&mut self.guest.worker, queries, tries)
+            .has_many(&mut self.sealed.worker, queries, tries)
         {
             Ok(()) => Ok(()),
             Err(fault) => Err(Fault::Call(fault)),
@@ -146,14 +146,14 @@ impl Member {
     ///
     /// `Held`: the caller holds the worker. Other faults are the tree's.
     pub fn next(&mut self, key: Key, tries: u32) -> Result<Option<Key>, Fault>
-        ensures board { self.new.board ≡ self.old.board }
-        ensures did { AskedNext self.old.board.layout tries key self.old.hand self.new.hand
+        ensures tree { self.new.tree ≡ self.old.tree }
+        ensures did { AskedNext self.old.tree.layout tries key self.old.worker self.new.worker
             result }
     {
-        if self.guest.worker.held().is_some() {
+        if self.sealed.worker.held().is_some() {
             return Err(Fault::Held);
         }
-        match self.home.tree().next(&mut self.guest.worker, key, tries) {
+        match self.home.tree().next(&mut self.sealed.worker, key, tries) {
             Ok(found) => Ok(found),
             Err(fault) => Err(Fault::Call(fault)),
         }
@@ -164,14 +164,14 @@ impl Member {
     ///
     /// `Held`: the caller holds the worker. Other faults are the tree's.
     pub fn prev(&mut self, key: Key, tries: u32) -> Result<Option<Key>, Fault>
-        ensures board { self.new.board ≡ self.old.board }
-        ensures did { AskedPrev self.old.board.layout tries key self.old.hand self.new.hand
+        ensures tree { self.new.tree ≡ self.old.tree }
+        ensures did { AskedPrev self.old.tree.layout tries key self.old.worker self.new.worker
             result }
     {
-        if self.guest.worker.held().is_some() {
+        if self.sealed.worker.held().is_some() {
             return Err(Fault::Held);
         }
-        match self.home.tree().prev(&mut self.guest.worker, key, tries) {
+        match self.home.tree().prev(&mut self.sealed.worker, key, tries) {
             Ok(found) => Ok(found),
             Err(fault) => Err(Fault::Call(fault)),
         }
@@ -182,16 +182,16 @@ impl Member {
     /// `Held`: the caller holds the worker. Other faults are the tree's.
     #[inline(always)]
     pub fn try_insert(&mut self, key: Key, tries: u32) -> Result<bool, Fault>
-        ensures board { self.new.board ≡ self.old.board }
-        ensures says { Asked (SaysInsert self.old.board.layout tries key) self.old.hand
-            self.new.hand result }
-        ensures did { Asked (LeavesInsert self.old.board.layout tries key) self.old.hand
-            self.new.hand result }
+        ensures tree { self.new.tree ≡ self.old.tree }
+        ensures says { Asked (SaysInsert self.old.tree.layout tries key) self.old.worker
+            self.new.worker result }
+        ensures did { Asked (LeavesInsert self.old.tree.layout tries key) self.old.worker
+            self.new.worker result }
     {
-        if self.guest.worker.held().is_some() {
+        if self.sealed.worker.held().is_some() {
             return Err(Fault::Held);
         }
-        match self.home.tree().insert(&mut self.guest.worker, key, tries) {
+        match self.home.tree().insert(&mut self.sealed.worker, key, tries) {
             Ok(answer) => Ok(answer),
             Err(fault) => Err(Fault::Call(fault)),
         }
@@ -203,16 +203,16 @@ impl Member {
     /// key is pending, and `finish` goes on.
     #[inline(always)]
     pub fn try_remove(&mut self, key: Key, tries: u32) -> Result<bool, Fault>
-        ensures board { self.new.board ≡ self.old.board }
-        ensures says { Asked (SaysDelete self.old.board.layout tries key) self.old.hand
-            self.new.hand result }
-        ensures did { Asked (LeavesDelete self.old.board.layout tries key) self.old.hand
-            self.new.hand result }
+        ensures tree { self.new.tree ≡ self.old.tree }
+        ensures says { Asked (SaysDelete self.old.tree.layout tries key) self.old.worker
+            self.new.worker result }
+        ensures did { Asked (LeavesDelete self.old.tree.layout tries key) self.old.worker
+            self.new.worker result }
     {
-        if self.guest.worker.held().is_some() {
+        if self.sealed.worker.held().is_some() {
             return Err(Fault::Held);
         }
-        match self.home.tree().delete(&mut self.guest.worker, key, tries) {
+        match self.home.tree().delete(&mut self.sealed.worker, key, tries) {
             Ok(answer) => Ok(answer),
             Err(fault) => Err(Fault::Call(fault)),
         }
@@ -222,25 +222,25 @@ impl Member {
     /// with no step where none is pending.
     #[inline(always)]
     pub fn finish(&mut self, tries: u32) -> Result<bool, nm_tree::CallFault>
-        ensures board { self.new.board ≡ self.old.board }
-        ensures says { SaysFinish self.old.board.layout tries self.old.hand self.new.hand result }
-        ensures did { LeavesFinish self.old.board.layout tries self.old.hand self.new.hand
+        ensures tree { self.new.tree ≡ self.old.tree }
+        ensures says { SaysFinish self.old.tree.layout tries self.old.worker self.new.worker result }
+        ensures did { LeavesFinish self.old.tree.layout tries self.old.worker self.new.worker
             result }
     {
-        self.home.tree().finish(&mut self.guest.worker, tries)
+        self.home.tree().finish(&mut self.sealed.worker, tries)
     }
 
     /// Pins the epoch for the caller, until `unpin`: `Tree::pin` of `nm_tree`. The epoch.
     ///
     /// `Held`: the caller holds the worker already. Other faults are the tree's.
     pub fn pin(&mut self, tries: u32) -> Result<u64, PinFault>
-        ensures board { self.new.board ≡ self.old.board }
-        ensures did { AskedToPin tries self.old.hand self.new.hand result }
+        ensures tree { self.new.tree ≡ self.old.tree }
+        ensures did { AskedToPin tries self.old.worker self.new.worker result }
     {
-        if self.guest.worker.held().is_some() {
+        if self.sealed.worker.held().is_some() {
             return Err(PinFault::Held);
         }
-        match self.home.tree().pin(&mut self.guest.worker, tries) {
+        match self.home.tree().pin(&mut self.sealed.worker, tries) {
             Ok(epoch) => Ok(epoch),
             Err(fault) => Err(PinFault::Call(fault)),
         }
@@ -250,51 +250,51 @@ impl Member {
     ///
     /// `NotHeld`: the caller does not hold the worker. Nothing has changed, and there was no step.
     pub fn unpin(&mut self) -> Result<(), NotHeld>
-        ensures board { self.new.board ≡ self.old.board }
-        ensures did { AskedToUnpin self.old.hand self.new.hand result }
+        ensures tree { self.new.tree ≡ self.old.tree }
+        ensures did { AskedToUnpin self.old.worker self.new.worker result }
     {
-        if self.guest.worker.held().is_none() {
+        if self.sealed.worker.held().is_none() {
             return Err(NotHeld);
         }
-        self.home.tree().unpin(&mut self.guest.worker);
+        self.home.tree().unpin(&mut self.sealed.worker);
         Ok(())
     }
 
     /// Moves the epoch on by one, if no worker holds it back: `Tree::advance` of `nm_tree`.
     pub fn advance(&mut self) -> Advance
-        ensures board { self.new.board ≡ self.old.board }
-        ensures did { LeavesAdvance self.old.board.layout.workers self.old.hand self.new.hand
+        ensures tree { self.new.tree ≡ self.old.tree }
+        ensures did { LeavesAdvance self.old.tree.layout.workers self.old.worker self.new.worker
             result }
     {
-        self.home.tree().advance(&mut self.guest.worker)
+        self.home.tree().advance(&mut self.sealed.worker)
     }
 
     /// Which workers hold the epoch back, this one included: `Tree::behind` of `nm_tree`.
     pub fn behind(&mut self) -> Behind
-        ensures board { self.new.board ≡ self.old.board }
-        ensures did { LeavesBehind self.old.board.layout.workers self.old.hand self.new.hand
+        ensures tree { self.new.tree ≡ self.old.tree }
+        ensures did { LeavesBehind self.old.tree.layout.workers self.old.worker self.new.worker
             result }
     {
-        self.home.tree().behind(&mut self.guest.worker)
+        self.home.tree().behind(&mut self.sealed.worker)
     }
 
     /// Frees what is ripe at the front of each queue that the worker holds: `Tree::collect` of
     /// `nm_tree`.
     pub fn collect(&mut self) -> Collected
-        ensures board { self.new.board ≡ self.old.board }
-        ensures did { LeavesCollect self.old.board.layout.nodes self.old.hand self.new.hand result }
+        ensures tree { self.new.tree ≡ self.old.tree }
+        ensures did { LeavesCollect self.old.tree.layout.nodes self.old.worker self.new.worker result }
     {
-        self.home.tree().collect(&mut self.guest.worker)
+        self.home.tree().collect(&mut self.sealed.worker)
     }
 
     /// A note of all that the worker has seen, for another member of this set: `Tree::note` of
     /// `nm_tree`. No step, no lock and no memory.
     pub fn note(&mut self) -> Note
         ensures same { self.new ≡ self.old }
-        ensures note { IsNoteOf self.old.hand.pass result }
-        ensures table { result.table ≡ self.old.board.table }
+        ensures note { IsNoteOf self.old.worker.pass result }
+        ensures table { result.table ≡ self.old.tree.table }
     {
-        self.home.tree().note(&mut self.guest.worker)
+        self.home.tree().note(&mut self.sealed.worker)
     }
 
     /// The worker hears a note of another member of this set: all that it is asked from then on
@@ -304,31 +304,31 @@ impl Member {
     /// The note must be of this set, which nobody can test: so this call has a condition, and it is
     /// for a caller that proves what it has heard.
     pub fn hear(&mut self, note: Note)
-        requires table { note.table ≡ self.old.board.table }
-        ensures board { self.new.board ≡ self.old.board }
-        ensures same { HasHeard self.old.hand.pass self.new.hand.pass }
-        ensures past { HasSeenAllOf self.new.hand.pass self.old.hand.pass }
-        ensures heard { Extends self.new.hand.pass.view.past note.past }
-        ensures rest { self.new.hand ≡ record self.old.hand { pass = self.new.hand.pass } }
-        ensures between { IsBetweenCalls self.new.hand }
+        requires table { note.table ≡ self.old.tree.table }
+        ensures tree { self.new.tree ≡ self.old.tree }
+        ensures same { HasHeard self.old.worker.pass self.new.worker.pass }
+        ensures past { HasSeenAllOf self.new.worker.pass self.old.worker.pass }
+        ensures heard { Extends self.new.worker.pass.view.past note.past }
+        ensures rest { self.new.worker ≡ record self.old.worker { pass = self.new.worker.pass } }
+        ensures between { IsBetweenCalls self.new.worker }
     {
-        self.home.tree().hear(&mut self.guest.worker, note);
+        self.home.tree().hear(&mut self.sealed.worker, note);
     }
 
-    /// Leaves a note of all that the worker has seen on its post, in place of its earlier one, for
+    /// Leaves a note of all that the worker has seen in its mailbox, in place of its earlier one, for
     /// any other member of this set to `read`: what it has done so far. No step, no lock and no
     /// memory.
     ///
     /// `None`: a reader has the earlier note at this moment, and that stays.
     ///
     /// What is told is proved; that the note lies there then is shown by tests, since what lies on
-    /// a post is in no clause.
+    /// a mailbox is in no clause.
     pub fn post(&mut self) -> Option<Posted>
         ensures same { self.new ≡ self.old }
-        ensures tally { IfSome result (IsTallyOf self.old.hand) }
+        ensures tally { IfSome result (IsTallyOf self.old.worker) }
     {
-        let post = self.home.post_of(self.guest.worker.number())?;
-        leave_letter(self.home.tree(), post, &mut self.guest.worker)
+        let mailbox = self.home.mailbox_of(self.sealed.worker.number())?;
+        leave_letter(self.home.tree(), mailbox, &mut self.sealed.worker)
     }
 
     /// The worker hears the note that the worker of a number has left by `post`, and leaves it
@@ -337,105 +337,105 @@ impl Member {
     /// step, no lock and no memory. A reader that is told of as many keys as the other one had
     /// inserted and removed has heard of all of them: `letters_are_in_order`.
     ///
-    /// `Number`: the tree has no worker of that number. `Busy`: another member is at that post at
+    /// `Number`: the tree has no worker of that number. `Busy`: another member is at that mailbox at
     /// this moment. Nothing has changed.
     ///
     /// What is told is proved of what was heard; that this is the latest note, and that none was
-    /// left where none is told, is shown by tests, since what lies on a post is in no clause.
+    /// left where none is told, is shown by tests, since what lies in a mailbox is in no clause.
     pub fn read(&mut self, number: u32) -> Result<Option<Posted>, PostFault>
-        ensures board { self.new.board ≡ self.old.board }
-        ensures heard { ReadsNote self.old.board number self.old.hand self.new.hand result }
+        ensures tree { self.new.tree ≡ self.old.tree }
+        ensures heard { ReadsNote self.old.tree number self.old.worker self.new.worker result }
     {
-        let Some(post) = self.home.post_of(number) else {
+        let Some(mailbox) = self.home.mailbox_of(number) else {
             return Err(PostFault::Number);
         };
-        read_letter(self.home.tree(), post, &mut self.guest.worker)
+        read_letter(self.home.tree(), mailbox, &mut self.sealed.worker)
     }
 
     /// The key of a delete that has flagged its leaf and not answered yet; `finish` goes on with
     /// it.
     pub fn pending(&self) -> Option<Key>
-        ensures { result ≡ option_map (λ (n : Delete). n.key) self.now.hand.pending }
+        ensures { result ≡ option_map (λ (n : Delete). n.key) self.now.worker.pending }
     {
-        self.guest.worker.pending()
+        self.sealed.worker.pending()
     }
 
     /// The epoch at which the worker is held, from a `pin` until its `unpin`.
     pub fn held(&self) -> Option<u64>
-        ensures { result ≡ self.now.hand.held }
+        ensures { result ≡ self.now.worker.held }
     {
-        self.guest.worker.held()
+        self.sealed.worker.held()
     }
 
     /// What this worker has won, and what became of what it cut off.
     pub fn ledger(&self) -> Counts
-        ensures { IsLedger self.now.hand.pass.view self.now.hand.pass.view.number result }
+        ensures { IsLedger self.now.worker.pass.view self.now.worker.pass.view.number result }
     {
-        self.guest.worker.ledger()
+        self.sealed.worker.ledger()
     }
 
     /// How many nodes wait in the queues that the worker holds.
     pub fn queue_len(&self) -> u64
-        ensures { result ≡ waiting_in self.now.hand.queues }
+        ensures { result ≡ waiting_in self.now.worker.queues }
     {
-        self.guest.worker.queue_len()
+        self.sealed.worker.queue_len()
     }
 
     /// How many blocks of 32 places, of 776 bytes each, the queues that the worker holds have,
     /// behind any call: at most what waits and 318 places a queue ask for.
     pub fn queue_blocks(&self) -> u64
-        ensures blocks { result ≡ blocks_in self.now.hand.queues }
-        ensures few { AreFewIn result self.now.hand.queues }
+        ensures blocks { result ≡ blocks_in self.now.worker.queues }
+        ensures few { AreFewIn result self.now.worker.queues }
     {
-        self.guest.worker.queue_blocks()
+        self.sealed.worker.queue_blocks()
     }
 
     /// The worker goes home, with all that it holds or has pending, and can be taken again by
     /// `Set::member`. It goes unpinned: a pin of the caller ends as by `unpin`. Else nothing of its
     /// tree changes: what it has done as it sits down is what it had done before.
     pub fn close(self) -> AtHome
-        ensures { IsTallyOf self.hand result }
+        ensures { IsTallyOf self.worker result }
     {
         let mut member = self;
         member.is_of_a_run();
         member.let_go();
         member.is_of_a_run();
-        let (home, guest) = member.apart();
-        home.receive(guest)
+        let (home, sealed) = member.apart();
+        home.receive(sealed)
     }
 
     /// Ends the caller's pin, where it holds the worker.
     fn let_go(&mut self)
-        ensures board { self.new.board ≡ self.old.board }
-        ensures did { IsLetGo self.old.hand self.new.hand }
+        ensures tree { self.new.tree ≡ self.old.tree }
+        ensures did { IsLetGo self.old.worker self.new.worker }
     {
         if self.held().is_some() {
-            self.home.tree().unpin(&mut self.guest.worker);
+            self.home.tree().unpin(&mut self.sealed.worker);
         }
     }
 
     /// What the member has of its home, and its worker as it is.
-    pub(crate) fn apart(self) -> (Lease, Guest)
-        ensures worker { result.1.worker ≡ self.hand }
-        ensures tree { result.0.tree ≡ self.board }
-        ensures own { IsOwn self.board self.hand }
-        ensures fit { self.hand.fit ≡ result.0.fit }
+    pub(crate) fn apart(self) -> (Lease, SealedWorker)
+        ensures worker { result.1.worker ≡ self.worker }
+        ensures tree { result.0.tree ≡ self.tree }
+        ensures own { IsOwn self.tree self.worker }
+        ensures fit { self.worker.fit ≡ result.0.fit }
     {
-        let Self { home, guest } = self;
-        (home, guest)
+        let Self { home, sealed } = self;
+        (home, sealed)
     }
 
     /// The worker stays with these, as it is, and does not come back to its seat. There is room for
     /// it.
     pub(crate) fn stay_with(self, workers: &mut Vec<Worker>)
         requires { length workers.old.items < vec_capacity workers.old }
-        ensures items { workers.new.items ≡ workers.old.items ++ self.hand ∷ [] }
+        ensures items { workers.new.items ≡ workers.old.items ++ self.worker ∷ [] }
         ensures capacity { vec_capacity workers.new ≡ vec_capacity workers.old }
-        ensures own { IsOwn self.board self.hand }
+        ensures own { IsOwn self.tree self.worker }
     {
-        let (home, guest) = self.apart();
-        let _home = home.retire(guest.worker.number());
-        guest.stay_with(workers);
+        let (home, sealed) = self.apart();
+        let _home = home.retire(sealed.worker.number());
+        sealed.stay_with(workers);
     }
 
     /// A worker that is at home resigns to this one: `Tree::resign` of `nm_tree`. It never comes
@@ -446,23 +446,23 @@ impl Member {
     /// `Pending`: it went home with a pending key.
     pub fn resign(self, leaver: u32) -> Result<Member, ResignError>
         ensures done { IfOk result
-            (λ m. (m.board ≡ self.board) × (w : Hand) × IsResident self.board self.hand.fit leaver w
-            × HasResigned self.hand w m.hand) }
+            (λ m. (m.tree ≡ self.tree) × (w : WorkerView) × IsResident self.tree self.worker.fit leaver w
+            × HasResigned self.worker w m.worker) }
         ensures refused { IfErr result (λ e. e.member ≡ self) }
         ensures reason { IfErr result (λ e. IsStaying self leaver e.reason) }
     {
-        let Member { home, guest } = self;
+        let Member { home, sealed } = self;
         let (home, found) = home.take(leaver);
         let other = match found {
             Ok(other) => other,
             Err(absence) => {
                 return Err(ResignError {
                     reason: reason_of(absence),
-                    member: Member { home, guest },
+                    member: Member { home, sealed },
                 });
             }
         };
-        match unite(home.tree(), guest, other) {
+        match unite(home.tree(), sealed, other) {
             Ok(heir) => Ok(Member::back(home.retire(leaver), heir)),
             Err(stay) => {
                 let Stay { heir, leaver } = stay;

@@ -8,7 +8,7 @@ ghost use Rattle.nm_set.specs.States.{IsNewSet, open_set};
 
 use crate::home::{Home, Site};
 use crate::member::Member;
-use crate::seat::Guest;
+use crate::seat::SealedWorker;
 use crate::set::Set;
 use nm_edge::{Layout, LayoutError, MOST_SPACED_NODES};
 use nm_tree::{Fit, NewError, Tree, Worker};
@@ -30,7 +30,7 @@ impl Set {
         ensures open { IfOk result
             (λ r. IsNewSet (in_radix (spaced nodes workers)) Fit.Near r.0) }
         ensures count { IfOk result (λ r. length r.1.items ≡ workers) }
-        ensures new { IfOk result (λ r. AreNewMembers r.0.board r.0.fit 0 r.1.items) }
+        ensures new { IfOk result (λ r. AreNewMembers r.0.tree r.0.fit 0 r.1.items) }
         ensures nodes { IsErrOf result NewError.Nodes
             ↔ IsLayoutFault MOST_SPACED_NODES nodes workers LayoutError.Nodes }
         ensures workers { IsErrOf result NewError.Workers
@@ -90,7 +90,7 @@ fn members_of(alloc: Global, home: &Arc<Home, Global>, workers: Vec<Worker>) -> 
         let Ok(home) = Arc::try_clone(home) else {
             return None;
         };
-        members.push_reserved(Member::of(home, Guest::of(worker)));
+        members.push_reserved(Member::of(home, SealedWorker::of(worker)));
     }
     Some(members)
 }

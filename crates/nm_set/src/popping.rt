@@ -35,10 +35,10 @@ impl Member {
     /// tries. `Unfinished`: the least key, as above, goes by this call, and is pending; the next
     /// call that tends the set finishes it first. (The name of Rust's `BTreeSet`.)
     pub fn pop_first(&mut self, habit: &Habit) -> Result<Option<Key>, Fault>
-        ensures board { self.new.board ≡ self.old.board }
-        ensures says { SaysPopTended ◌<◌ self.old.board habit.now self.old.hand self.new.hand
+        ensures tree { self.new.tree ≡ self.old.tree }
+        ensures says { SaysPopTended ◌<◌ self.old.tree habit.now self.old.worker self.new.worker
             result }
-        ensures did { TendsPopOf ends.First self.old.board habit.now self.old.hand self.new.hand
+        ensures did { TendsPopOf ends.First self.old.tree habit.now self.old.worker self.new.worker
             result }
     {
         self.pop(End::First, habit)
@@ -47,10 +47,10 @@ impl Member {
     /// Takes the greatest key out of the set: the same as `pop_first`, and each greater key was not
     /// in the set at a moment of this call.
     pub fn pop_last(&mut self, habit: &Habit) -> Result<Option<Key>, Fault>
-        ensures board { self.new.board ≡ self.old.board }
-        ensures says { SaysPopTended (λ j key. key < j) self.old.board habit.now self.old.hand
-            self.new.hand result }
-        ensures did { TendsPopOf ends.Last self.old.board habit.now self.old.hand self.new.hand
+        ensures tree { self.new.tree ≡ self.old.tree }
+        ensures says { SaysPopTended (λ j key. key < j) self.old.tree habit.now self.old.worker
+            self.new.worker result }
+        ensures did { TendsPopOf ends.Last self.old.tree habit.now self.old.worker self.new.worker
             result }
     {
         self.pop(End::Last, habit)
@@ -58,8 +58,8 @@ impl Member {
 
     /// Takes the key at that end.
     fn pop(&mut self, end: End, habit: &Habit) -> Result<Option<Key>, Fault>
-        ensures board { self.new.board ≡ self.old.board }
-        ensures did { TendsPopOf end self.old.board habit.now self.old.hand self.new.hand result }
+        ensures tree { self.new.tree ≡ self.old.tree }
+        ensures did { TendsPopOf end self.old.tree habit.now self.old.worker self.new.worker result }
     {
         if self.held().is_some() {
             return Err(Fault::Held);
@@ -72,9 +72,9 @@ impl Member {
 
     /// Rounds, until one has not come to nothing: `rounds` and one at most.
     fn pop_with_retries(&mut self, end: End, habit: &Habit) -> Result<Option<Key>, Fault>
-        ensures board { self.new.board ≡ self.old.board }
-        ensures did { IsRetried (PopsOnce end self.old.board habit.now) pop_busy habit.now.rounds
-            self.old.hand self.new.hand result }
+        ensures tree { self.new.tree ≡ self.old.tree }
+        ensures did { IsRetried (PopsOnce end self.old.tree habit.now) pop_busy habit.now.rounds
+            self.old.worker self.new.worker result }
     {
         for _round in 0..habit.rounds {
             let told = self.pop_once(end, habit);
@@ -87,8 +87,8 @@ impl Member {
 
     /// Finds the key at that end, and removes it.
     fn pop_once(&mut self, end: End, habit: &Habit) -> Result<Option<Key>, Fault>
-        ensures board { self.new.board ≡ self.old.board }
-        ensures did { PopsOnce end self.old.board habit.now self.old.hand self.new.hand result }
+        ensures tree { self.new.tree ≡ self.old.tree }
+        ensures did { PopsOnce end self.old.tree habit.now self.old.worker self.new.worker result }
     {
         let Some(key) = self.key_at(end, habit.tries)? else {
             return Ok(None);
@@ -102,8 +102,8 @@ impl Member {
 
     /// The key at that end.
     fn key_at(&mut self, end: End, tries: u32) -> Result<Option<Key>, Fault>
-        ensures board { self.new.board ≡ self.old.board }
-        ensures did { AskedForEnd end self.old.board.layout tries self.old.hand self.new.hand
+        ensures tree { self.new.tree ≡ self.old.tree }
+        ensures did { AskedForEnd end self.old.tree.layout tries self.old.worker self.new.worker
             result }
     {
         match end {

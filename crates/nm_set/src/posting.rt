@@ -36,29 +36,29 @@ impl Fits for Letter {
 
 /// Where one worker of one tree leaves its letter. Its word is `FREE` until it has left one,
 /// `PRESENT` while a letter lies there, and `MARKED` while a reader has that in its hands.
-pub(crate) type Post = Counted<Option<Letter>>;
+pub(crate) type Mailbox = Counted<Option<Letter>>;
 
-/// A post where no letter was left yet.
-pub(crate) fn empty_post(place: &(Site, u32)) -> Post
+/// A mailbox where no letter was left yet.
+pub(crate) fn empty_mailbox(place: &(Site, u32)) -> Mailbox
     ensures { result ≡ place.now }
 {
     Counted::new(None, place)
 }
 
-/// A worker leaves a letter on its own post, in place of its earlier one, with a note of all that
+/// A worker leaves a letter in its own mailbox, in place of its earlier one, with a note of all that
 /// it has seen: what it has done so far. `None`: a reader has the earlier one at this moment, and
 /// that stays.
-pub(crate) fn leave_letter(tree: &Tree, post: &Post, worker: &mut Worker) -> Option<Posted>
+pub(crate) fn leave_letter(tree: &Tree, mailbox: &Mailbox, worker: &mut Worker) -> Option<Posted>
     requires own { IsOf tree.now worker.old.pass }
-    requires tree { post.now.0.tree ≡ tree.now }
-    requires number { post.now.1 ≡ worker.old.pass.view.number }
+    requires tree { mailbox.now.0.tree ≡ tree.now }
+    requires number { mailbox.now.1 ≡ worker.old.pass.view.number }
     ensures same { worker.new ≡ worker.old }
     ensures tally { IfSome result (IsTallyOf worker.old) }
 {
     worker.is_of_a_run();
     let posted = tally_of(worker);
     let note = tree.note(worker);
-    if lay_down(post, Letter { note, posted }) {
+    if lay_down(mailbox, Letter { note, posted }) {
         Some(posted)
     } else {
         None
@@ -89,18 +89,18 @@ pub fn letters_are_in_order()
     ensures { LettersAreInOrder }
 {}
 
-/// A worker hears the letter on a post and leaves it there, with a note of all that it has seen
+/// A worker hears the letter in a mailbox and leaves it there, with a note of all that it has seen
 /// then: what had been done. `None`: no letter was left.
 pub(crate) fn read_letter(
     tree: &Tree,
-    post: &Post,
+    mailbox: &Mailbox,
     worker: &mut Worker,
 ) -> Result<Option<Posted>, PostFault>
     requires own { IsOf tree.now worker.old.pass }
-    requires tree { post.now.0.tree ≡ tree.now }
-    ensures { Hears tree.now post.now.1 worker.old worker.new result }
+    requires tree { mailbox.now.0.tree ≡ tree.now }
+    ensures { Hears tree.now mailbox.now.1 worker.old worker.new result }
 {
-    let Some(found) = take_up(post) else {
+    let Some(found) = take_up(mailbox) else {
         return Err(PostFault::Busy);
     };
     let Some(letter) = found else {
@@ -109,28 +109,28 @@ pub(crate) fn read_letter(
     let Letter { note, posted } = letter;
     tree.hear(worker, note);
     let note = tree.note(worker);
-    put_back(post, Letter { note, posted });
+    put_back(mailbox, Letter { note, posted });
     Ok(Some(posted))
 }
 
 /// Lays a letter down where no reader has the one before. Else nothing has changed: false.
-fn lay_down(post: &Post, letter: Letter) -> bool
-    requires { IsLetter post.now.0.tree post.now.1 letter.posted letter.note }
+fn lay_down(mailbox: &Mailbox, letter: Letter) -> bool
+    requires { IsLetter mailbox.now.0.tree mailbox.now.1 letter.posted letter.note }
 {
-    let (found, claim) = post.turn(PRESENT, TAKEN);
+    let (found, claim) = mailbox.turn(PRESENT, TAKEN);
     if found == PRESENT {
         claim.put(Some(letter), PRESENT);
         return true;
     }
     claim.done();
-    lay_first(post, letter)
+    lay_first(mailbox, letter)
 }
 
 /// Lays a letter down where none was left yet. Else nothing has changed: false.
-fn lay_first(post: &Post, letter: Letter) -> bool
-    requires { IsLetter post.now.0.tree post.now.1 letter.posted letter.note }
+fn lay_first(mailbox: &Mailbox, letter: Letter) -> bool
+    requires { IsLetter mailbox.now.0.tree mailbox.now.1 letter.posted letter.note }
 {
-    let (found, claim) = post.turn(FREE, TAKEN);
+    let (found, claim) = mailbox.turn(FREE, TAKEN);
     if found == FREE {
         claim.put(Some(letter), PRESENT);
         return true;
@@ -139,13 +139,13 @@ fn lay_first(post: &Post, letter: Letter) -> bool
     false
 }
 
-/// Takes the letter on a post into its hands, until `put_back`; `None` in the inner place where
-/// none was left yet. `None` in the outer one: another worker is at the post.
-fn take_up(post: &Post) -> Option<Option<Letter>>
+/// Takes the letter in a mailbox into its hands, until `put_back`; `None` in the inner place where
+/// none was left yet. `None` in the outer one: another worker is at the mailbox.
+fn take_up(mailbox: &Mailbox) -> Option<Option<Letter>>
     ensures { IfSome result (λ found. IfSome found
-        (λ l. IsLetter post.now.0.tree post.now.1 l.posted l.note)) }
+        (λ l. IsLetter mailbox.now.0.tree mailbox.now.1 l.posted l.note)) }
 {
-    let (found, claim) = post.turn(PRESENT, TAKEN);
+    let (found, claim) = mailbox.turn(PRESENT, TAKEN);
     if found == PRESENT {
         return Some(claim.put(None, MARKED));
     }
@@ -153,12 +153,12 @@ fn take_up(post: &Post) -> Option<Option<Letter>>
     if found == FREE { Some(None) } else { None }
 }
 
-/// Puts a letter back on the post from which it was taken. Only who took it up puts it back: so the
-/// post is as it was left then.
-fn put_back(post: &Post, letter: Letter)
-    requires { IsLetter post.now.0.tree post.now.1 letter.posted letter.note }
+/// Puts a letter back in the mailbox from which it was taken. Only who took it up puts it back: so the
+/// mailbox is as it was left then.
+fn put_back(mailbox: &Mailbox, letter: Letter)
+    requires { IsLetter mailbox.now.0.tree mailbox.now.1 letter.posted letter.note }
 {
-    let (found, claim) = post.turn(MARKED, TAKEN);
+    let (found, claim) = mailbox.turn(MARKED, TAKEN);
     if found == MARKED {
         claim.put(Some(letter), PRESENT);
         return;

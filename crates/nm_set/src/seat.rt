@@ -1,4 +1,4 @@
-//! The seats of a tree's workers, each with the post of its worker, and workers that sit on none.
+//! The seats of a tree's workers, each with the mailbox of its worker, and workers that sit on none.
 ghost use Rattle.std.specs.Prelude.{◌≡◌, ◌<◌, ◌∷◌, [], ◌++◌, length, vec_capacity, option_map, None, IfOk, IfErr, IfSome, IsSome};
 ghost use Rattle.nm_steps.specs.Steps.{IsOf};
 ghost use Rattle.nm_tree.specs.Resigning.{HasResigned};
@@ -6,7 +6,7 @@ ghost use Rattle.nm_set.specs.Posts.{IsTallyOf};
 ghost use Rattle.nm_set.specs.Seats.{IsResident};
 
 use crate::home::Site;
-use crate::posting::{Post, Posted, empty_post, tally_of};
+use crate::posting::{Mailbox, Posted, empty_mailbox, tally_of};
 use counted_slot::{Counted, FREE, Fits, MARKED, PRESENT, TAKEN};
 use nm_tree::{Tree, Worker};
 use std::marker::Model;
@@ -23,13 +23,13 @@ impl Fits for Resident {
     ghost fits = { λ place r. IsResident place.0.tree place.0.fit place.1 r.worker };
 }
 
-/// The place of one worker of one tree. The word of its chair is `FREE` while the worker is at
+/// The place of one worker of one tree. The word of it is `FREE` while the worker is at
 /// home, `PRESENT` while it is away, and `MARKED` once it has resigned or is kept by the set, and
 /// so does not come back.
 #[derive(Drop)]
 pub(crate) struct Seat {
-    chair: Counted<Option<Resident>>,
-    post: Post,
+    worker: Counted<Option<Resident>>,
+    mailbox: Mailbox,
 }
 
 impl Model for Seat {
@@ -38,9 +38,9 @@ impl Model for Seat {
 
     ghost Value = { Site × ℕ };
 
-    ghost view = { λ s. s.chair };
+    ghost view = { λ s. s.worker };
 
-    ghost invariant = { λ s. s.post ≡ s.chair };
+    ghost invariant = { λ s. s.mailbox ≡ s.worker };
 }
 
 impl Seat {
@@ -49,26 +49,26 @@ impl Seat {
         ensures { result ≡ place.now }
     {
         let seat = Seat {
-            chair: Counted::new(None, place),
-            post: empty_post(place),
+            worker: Counted::new(None, place),
+            mailbox: empty_mailbox(place),
         };
         // Nobody sits there, so that its word alone changes.
-        if let Some(guest) = stand_up(&seat) {
-            guest.sit_down(&seat);
+        if let Some(sealed) = stand_up(&seat) {
+            sealed.sit_down(&seat);
         }
         seat
     }
 
     /// Where the worker of this seat leaves its letters.
-    pub(crate) fn post(&self) -> &Post
+    pub(crate) fn mailbox(&self) -> &Mailbox
         ensures { result.now ≡ self.now }
     {
-        &self.post
+        &self.mailbox
     }
 
     /// Whether the worker was found away, so that it may come back.
     pub(crate) fn is_away(&self) -> bool {
-        let word = self.chair.load();
+        let word = self.worker.load();
         word == PRESENT || word == TAKEN
     }
 }
@@ -76,13 +76,13 @@ impl Seat {
 /// A worker that sits on no seat: a member has it, or it is on its way to one or from one. It is
 /// not `Drop`, and nor is its seal, which this file alone can name: whoever has it hands it on, on
 /// each way out of each function, or takes it apart here. So no worker is lost by a way out that
-/// was not thought of, and none is taken out of its guest elsewhere.
-pub(crate) struct Guest {
+/// was not thought of, and none is taken out of its seal elsewhere.
+pub(crate) struct SealedWorker {
     pub(crate) worker: Worker,
     seal: Seal,
 }
 
-/// What keeps a guest whole. It says nothing else.
+/// What keeps a sealed worker whole. It says nothing else.
 struct Seal {}
 
 /// That a worker has gone home, and what it had done as it sat down. It is made there, and nowhere
@@ -112,16 +112,16 @@ impl AtHome {
 /// Two workers of which one does not resign to the other, since it has a pending key. Both are as
 /// they were.
 pub(crate) struct Stay {
-    pub(crate) heir: Guest,
-    pub(crate) leaver: Guest,
+    pub(crate) heir: SealedWorker,
+    pub(crate) leaver: SealedWorker,
 }
 
-impl Guest {
+impl SealedWorker {
     /// A worker that comes with its tree.
-    pub(crate) fn of(worker: Worker) -> Guest
+    pub(crate) fn of(worker: Worker) -> SealedWorker
         ensures { result.worker ≡ worker }
     {
-        Guest {
+        SealedWorker {
             worker,
             seal: Seal {},
         }
@@ -131,7 +131,7 @@ impl Guest {
     fn apart(self) -> Worker
         ensures { result ≡ self.worker }
     {
-        let Guest { worker, seal } = self;
+        let SealedWorker { worker, seal } = self;
         let Seal {} = seal;
         worker
     }
@@ -147,7 +147,7 @@ impl Guest {
             done: tally_of(&self.worker),
         };
         let resident = self.at_home();
-        let (found, claim) = seat.chair.turn(PRESENT, TAKEN);
+        let (found, claim) = seat.worker.turn(PRESENT, TAKEN);
         if found != PRESENT {
             claim.done();
             return at_home;
@@ -176,20 +176,20 @@ impl Guest {
 }
 
 /// Takes what is on a seat.
-pub(crate) fn stand_up(seat: &Seat) -> Option<Guest>
+pub(crate) fn stand_up(seat: &Seat) -> Option<SealedWorker>
     ensures { IfSome result (λ g. IsResident seat.now.0.tree seat.now.0.fit seat.now.1 g.worker) }
 {
-    let (found, claim) = seat.chair.turn(FREE, TAKEN);
+    let (found, claim) = seat.worker.turn(FREE, TAKEN);
     if found != FREE {
         claim.done();
         return None;
     }
-    guest_of(claim.put(None, PRESENT))
+    sealed_of(claim.put(None, PRESENT))
 }
 
 /// Whoever has left a seat does not come back.
 pub(crate) fn retire(seat: &Seat) {
-    let (found, claim) = seat.chair.turn(PRESENT, TAKEN);
+    let (found, claim) = seat.worker.turn(PRESENT, TAKEN);
     if found != PRESENT {
         claim.done();
         return;
@@ -198,24 +198,28 @@ pub(crate) fn retire(seat: &Seat) {
 }
 
 /// Takes what is on a seat that is no longer needed.
-pub(crate) fn leave(seat: Seat) -> Option<Guest>
+pub(crate) fn leave(seat: Seat) -> Option<SealedWorker>
     ensures { IfSome result (λ g. IsResident seat.0.tree seat.0.fit seat.1 g.worker) }
 {
-    let Seat { chair, post: _ } = seat;
-    guest_of(chair.into_inner())
+    let Seat { worker, mailbox: _ } = seat;
+    sealed_of(worker.into_inner())
 }
 
 /// What was on a seat.
-fn guest_of(found: Option<Resident>) -> Option<Guest>
-    ensures { option_map (λ (g : Guest). g.worker) result
+fn sealed_of(found: Option<Resident>) -> Option<SealedWorker>
+    ensures { option_map (λ (g : SealedWorker). g.worker) result
         ≡ option_map (λ (r : Resident). r.worker) found }
 {
     let Resident { worker } = found?;
-    Some(Guest::of(worker))
+    Some(SealedWorker::of(worker))
 }
 
 /// One worker resigns to another: `Tree::resign` of `nm_tree`. Refused, both are handed back.
-pub(crate) fn unite(tree: &Tree, heir: Guest, leaver: Guest) -> Result<Guest, Stay>
+pub(crate) fn unite(
+    tree: &Tree,
+    heir: SealedWorker,
+    leaver: SealedWorker,
+) -> Result<SealedWorker, Stay>
     requires heir { IsOf tree.now heir.worker.pass }
     requires leaver { IsOf tree.now leaver.worker.pass }
     requires free { leaver.worker.held ≡ None }
@@ -225,10 +229,10 @@ pub(crate) fn unite(tree: &Tree, heir: Guest, leaver: Guest) -> Result<Guest, St
         × (s.leaver.worker ≡ leaver.worker)) }
 {
     match tree.resign(heir.apart(), leaver.apart()) {
-        Ok(worker) => Ok(Guest::of(worker)),
+        Ok(worker) => Ok(SealedWorker::of(worker)),
         Err(fault) => Err(Stay {
-            heir: Guest::of(fault.heir),
-            leaver: Guest::of(fault.leaver),
+            heir: SealedWorker::of(fault.heir),
+            leaver: SealedWorker::of(fault.leaver),
         }),
     }
 }

@@ -51,10 +51,10 @@ pub struct Set {
 
 impl Model for Set {
     ghost use Rattle.std.specs.Prelude.{vec_capacity};
-    ghost use Rattle.nm_set.specs.Seats.{AreOwn, Standing};
+    ghost use Rattle.nm_set.specs.Seats.{AreOwn, SetView};
     ghost use Rattle.nm_set.specs.States.{MayGather, site_of, standing_of};
 
-    ghost Value = { Standing };
+    ghost Value = { SetView };
 
     ghost view = { λ s. standing_of s.state s.kept.items };
 
@@ -121,10 +121,10 @@ impl Set {
     /// `Number`: the tree has no worker of that number. `Away`: the worker is not at home.
     pub fn member(&self, number: u32) -> Result<Member, MemberFault>
         ensures member { IfOk result
-            (λ m. (m.board ≡ self.now.board)
-            × IsResident self.now.board self.now.fit number m.hand) }
+            (λ m. (m.tree ≡ self.now.tree)
+            × IsResident self.now.tree self.now.fit number m.worker) }
         ensures number { IsErrOf result MemberFault.Number
-            ↔ ((self.now.closing ≡ false) × (self.now.board.layout.workers ≤ number)) }
+            ↔ ((self.now.closing ≡ false) × (self.now.tree.layout.workers ≤ number)) }
         ensures closing { IsErrOf result MemberFault.Closing ↔ (self.now.closing ≡ true) }
     {
         let home = match &self.state {
@@ -138,7 +138,7 @@ impl Set {
             return Err(MemberFault::Uncounted);
         };
         match home.take(number) {
-            Ok(guest) => Ok(Member::of(home, guest)),
+            Ok(sealed) => Ok(Member::of(home, sealed)),
             Err(Absence::Number) => Err(MemberFault::Number),
             Err(Absence::Away) => Err(MemberFault::Away),
         }
@@ -153,7 +153,7 @@ impl Set {
     /// look at it.
     pub fn attach(&self) -> Result<Member, MemberFault>
         ensures member { IfOk result
-            (λ m. (m.board ≡ self.now.board) × IsAnyResident self.now.board self.now.fit m.hand) }
+            (λ m. (m.tree ≡ self.now.tree) × IsAnyResident self.now.tree self.now.fit m.worker) }
         ensures number { IsErrOf result MemberFault.Number → ⊥ }
         ensures closing { IsErrOf result MemberFault.Closing ↔ (self.now.closing ≡ true) }
     {
@@ -164,7 +164,7 @@ impl Set {
             return Err(MemberFault::Uncounted);
         };
         match take_any(&home) {
-            Some(guest) => Ok(Member::of(home, guest)),
+            Some(sealed) => Ok(Member::of(home, sealed)),
             None => Err(MemberFault::Away),
         }
     }
@@ -194,9 +194,9 @@ impl Set {
     /// is for a caller that proves something of the report. Others close their members. A growth
     /// may be refused, and then nothing has changed.
     pub fn keep(&mut self, member: Member) -> Result<(), KeepError>
-        requires own { member.board ≡ self.old.board }
+        requires own { member.tree ≡ self.old.tree }
         ensures kept { OnOk result
-            (self.new ≡ record self.old { kept = self.old.kept ++ member.hand ∷ [] }) }
+            (self.new ≡ record self.old { kept = self.old.kept ++ member.worker ∷ [] }) }
         ensures same { OnErr result (self.new ≡ self.old) }
         ensures refused { IfErr result (λ e. e.member ≡ member) }
     {

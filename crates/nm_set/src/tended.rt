@@ -3,7 +3,7 @@
 ghost use Rattle.std.specs.Prelude.{◌≡◌, ◌≢◌, ◌≤◌, ◌+◌, ◌-◌, ◌*◌, true, false, None, Err};
 ghost use Rattle.nm_model.specs.declared.event.Op.TheVariants.{Has, Insert, Delete};
 ghost use Rattle.nm_tree.specs.declared.fault.CallFault.TheVariants as lost;
-ghost use Rattle.nm_tree.specs.Workers.{Hand};
+ghost use Rattle.nm_tree.specs.Workers.{WorkerView};
 ghost use Rattle.nm_set.specs.Asked.{Asked};
 ghost use Rattle.nm_set.specs.declared.fault.Fullness.{Fullness};
 ghost use Rattle.nm_set.specs.Tended.{busy, IsTidy, MakesTidy, FindsBehind, FinishesPending, Leaves, Retries, RetriesDelete, RetriesInsert, SaysTended, WasDisturbed, WasFull, WasHeldUp, TendsHas, TendsInsert, TendsDelete, found_behind, of_insert, plain, with_fullness};
@@ -136,11 +136,11 @@ impl Member {
     /// epoch on, or linked or cut off nodes, at least so often meanwhile.
     #[inline(always)]
     pub fn contains(&mut self, key: Key, habit: &Habit) -> Result<bool, Fault>
-        ensures board { self.new.board ≡ self.old.board }
-        ensures says { SaysTended Has self.old.board habit.now key self.old.hand self.new.hand
+        ensures tree { self.new.tree ≡ self.old.tree }
+        ensures says { SaysTended Has self.old.tree habit.now key self.old.worker self.new.worker
             result }
-        ensures did { TendsHas self.old.board habit.now key self.old.hand self.new.hand result }
-        ensures disturbed { result ≡ busy → WasDisturbed self.old.hand.pass self.new.hand.pass
+        ensures did { TendsHas self.old.tree habit.now key self.old.worker self.new.worker result }
+        ensures disturbed { result ≡ busy → WasDisturbed self.old.worker.pass self.new.worker.pass
             ((habit.now.rounds + 1) * habit.now.tries) }
     {
         if self.held().is_some() {
@@ -168,13 +168,13 @@ impl Member {
     /// stands but help given to others.
     #[inline(always)]
     pub fn insert(&mut self, key: Key, habit: &Habit) -> Result<bool, InsertFault>
-        ensures board { self.new.board ≡ self.old.board }
-        ensures says { SaysTended Insert self.old.board habit.now key self.old.hand self.new.hand
+        ensures tree { self.new.tree ≡ self.old.tree }
+        ensures says { SaysTended Insert self.old.tree habit.now key self.old.worker self.new.worker
             (of_insert result) }
-        ensures did { TendsInsert self.old.board habit.now key self.old.hand self.new.hand result }
+        ensures did { TendsInsert self.old.tree habit.now key self.old.worker self.new.worker result }
         ensures full { (f : Fullness) → result ≡ Err (InsertFault.Full f)
-            → WasFull self.old.hand self.new.hand f }
-        ensures disturbed { of_insert result ≡ busy → WasHeldUp self.old.hand.pass self.new.hand.pass
+            → WasFull self.old.worker self.new.worker f }
+        ensures disturbed { of_insert result ≡ busy → WasHeldUp self.old.worker.pass self.new.worker.pass
             ((habit.now.rounds + 1) * habit.now.tries) }
     {
         if !self.is_tidy(habit) {
@@ -183,7 +183,7 @@ impl Member {
         match self
             .home
             .tree()
-            .insert(&mut self.guest.worker, key, habit.tries)
+            .insert(&mut self.sealed.worker, key, habit.tries)
         {
             Ok(answer) => Ok(answer),
             Err(lost) => self.retry_insert(key, habit, Fault::Call(lost)),
@@ -204,11 +204,11 @@ impl Member {
     /// pending, and the next call that tends the set finishes it first.
     #[inline(always)]
     pub fn remove(&mut self, key: Key, habit: &Habit) -> Result<bool, Fault>
-        ensures board { self.new.board ≡ self.old.board }
-        ensures says { SaysTended Delete self.old.board habit.now key self.old.hand self.new.hand
+        ensures tree { self.new.tree ≡ self.old.tree }
+        ensures says { SaysTended Delete self.old.tree habit.now key self.old.worker self.new.worker
             result }
-        ensures did { TendsDelete self.old.board habit.now key self.old.hand self.new.hand result }
-        ensures disturbed { result ≡ busy → WasHeldUp self.old.hand.pass self.new.hand.pass
+        ensures did { TendsDelete self.old.tree habit.now key self.old.worker self.new.worker result }
+        ensures disturbed { result ≡ busy → WasHeldUp self.old.worker.pass self.new.worker.pass
             ((habit.now.rounds + 1) * habit.now.tries) }
     {
         if !self.is_tidy(habit) {
@@ -218,7 +218,7 @@ impl Member {
         match self
             .home
             .tree()
-            .delete(&mut self.guest.worker, key, habit.tries)
+            .delete(&mut self.sealed.worker, key, habit.tries)
         {
             Ok(answer) => Ok(answer),
             Err(lost) => self.retry_remove(key, habit, Fault::Call(lost)),
@@ -228,7 +228,7 @@ impl Member {
     /// Whether the caller does not hold the worker, nothing is pending and few nodes wait, as nearly
     /// always: then there is nothing to do before an insert or a delete.
     fn is_tidy(&self, habit: &Habit) -> bool
-        ensures { result ≡ true → IsTidy habit.now self.now.hand }
+        ensures { result ≡ true → IsTidy habit.now self.now.worker }
     {
         self.held().is_none()
             && self.pending().is_none()
@@ -240,8 +240,8 @@ impl Member {
     #[cold]
     #[inline(never)]
     fn insert_untidy(&mut self, key: Key, habit: &Habit) -> Result<bool, InsertFault>
-        ensures board { self.new.board ≡ self.old.board }
-        ensures did { TendsInsert self.old.board habit.now key self.old.hand self.new.hand result }
+        ensures tree { self.new.tree ≡ self.old.tree }
+        ensures did { TendsInsert self.old.tree habit.now key self.old.worker self.new.worker result }
     {
         if let Err(fault) = self.make_tidy(habit) {
             return Err(InsertFault::Other(fault));
@@ -256,8 +256,8 @@ impl Member {
     #[cold]
     #[inline(never)]
     fn remove_untidy(&mut self, key: Key, habit: &Habit) -> Result<bool, Fault>
-        ensures board { self.new.board ≡ self.old.board }
-        ensures did { TendsDelete self.old.board habit.now key self.old.hand self.new.hand result }
+        ensures tree { self.new.tree ≡ self.old.tree }
+        ensures did { TendsDelete self.old.tree habit.now key self.old.worker self.new.worker result }
     {
         self.make_tidy(habit)?;
         self.is_of_a_run();
@@ -273,8 +273,8 @@ impl Member {
     /// `Held`: the caller holds the worker; nothing has changed. `Pending`: that delete is not
     /// finished, and nothing else is done.
     fn make_tidy(&mut self, habit: &Habit) -> Result<(), Fault>
-        ensures board { self.new.board ≡ self.old.board }
-        ensures did { MakesTidy self.old.board habit.now self.old.hand self.new.hand result }
+        ensures tree { self.new.tree ≡ self.old.tree }
+        ensures did { MakesTidy self.old.tree habit.now self.old.worker self.new.worker result }
     {
         if self.held().is_some() {
             return Err(Fault::Held);
@@ -293,10 +293,10 @@ impl Member {
     #[cold]
     #[inline(never)]
     fn retry_insert(&mut self, key: Key, habit: &Habit, fault: Fault) -> Result<bool, InsertFault>
-        ensures board { self.new.board ≡ self.old.board }
-        ensures did { (w : Hand)
-            → Asked (Leaves Insert self.old.board.layout habit.now.tries key) w self.old.hand
-            (Err fault) → RetriesInsert self.old.board habit.now key w self.new.hand result }
+        ensures tree { self.new.tree ≡ self.old.tree }
+        ensures did { (w : WorkerView)
+            → Asked (Leaves Insert self.old.tree.layout habit.now.tries key) w self.old.worker
+            (Err fault) → RetriesInsert self.old.tree habit.now key w self.new.worker result }
     {
         let told = self.retry(Op::Insert, key, habit, fault);
         if !is_full(&told) {
@@ -312,10 +312,10 @@ impl Member {
     #[cold]
     #[inline(never)]
     fn retry_remove(&mut self, key: Key, habit: &Habit, fault: Fault) -> Result<bool, Fault>
-        ensures board { self.new.board ≡ self.old.board }
-        ensures did { (w : Hand)
-            → Asked (Leaves Delete self.old.board.layout habit.now.tries key) w self.old.hand
-            (Err fault) → RetriesDelete self.old.board habit.now key w self.new.hand result }
+        ensures tree { self.new.tree ≡ self.old.tree }
+        ensures did { (w : WorkerView)
+            → Asked (Leaves Delete self.old.tree.layout habit.now.tries key) w self.old.worker
+            (Err fault) → RetriesDelete self.old.tree habit.now key w self.new.worker result }
     {
         let told = self.retry(Op::Delete, key, habit, fault);
         if !is_unfinished(&told) {
@@ -332,8 +332,8 @@ impl Member {
     #[cold]
     #[inline(never)]
     fn relieve(&mut self) -> Option<u32>
-        ensures board { self.new.board ≡ self.old.board }
-        ensures did { FindsBehind self.old.board self.old.hand self.new.hand result }
+        ensures tree { self.new.tree ≡ self.old.tree }
+        ensures did { FindsBehind self.old.tree self.old.worker self.new.worker result }
     {
         self.is_of_a_run();
         let first = self.advance();
@@ -348,8 +348,8 @@ impl Member {
     /// A look-up, with retries: nearly always the first one answers.
     #[inline(always)]
     fn contains_with_retries(&mut self, key: Key, habit: &Habit) -> Result<bool, Fault>
-        ensures board { self.new.board ≡ self.old.board }
-        ensures did { Retries Has self.old.board habit.now key self.old.hand self.new.hand result }
+        ensures tree { self.new.tree ≡ self.old.tree }
+        ensures did { Retries Has self.old.tree habit.now key self.old.worker self.new.worker result }
     {
         match self.try_contains(key, habit.tries) {
             Ok(answer) => Ok(answer),
@@ -361,10 +361,10 @@ impl Member {
     /// `ask_with_retries` is made here, out of the way of a call that answers.
     #[inline(always)]
     fn retry(&mut self, op: Op, key: Key, habit: &Habit, fault: Fault) -> Result<bool, Fault>
-        ensures board { self.new.board ≡ self.old.board }
-        ensures did { (w : Hand)
-            → Asked (Leaves op self.old.board.layout habit.now.tries key) w self.old.hand
-            (Err fault) → Retries op self.old.board habit.now key w self.new.hand result }
+        ensures tree { self.new.tree ≡ self.old.tree }
+        ensures did { (w : WorkerView)
+            → Asked (Leaves op self.old.tree.layout habit.now.tries key) w self.old.worker
+            (Err fault) → Retries op self.old.tree habit.now key w self.new.worker result }
     {
         let told = Err(fault);
         if !is_busy(&told) || habit.rounds == 0 {
@@ -378,8 +378,8 @@ impl Member {
     #[cold]
     #[inline(never)]
     fn ask_with_retries(&mut self, op: Op, key: Key, habit: &Habit) -> Result<bool, Fault>
-        ensures board { self.new.board ≡ self.old.board }
-        ensures did { Retries op self.old.board habit.now key self.old.hand self.new.hand result }
+        ensures tree { self.new.tree ≡ self.old.tree }
+        ensures did { Retries op self.old.tree habit.now key self.old.worker self.new.worker result }
     {
         for _round in 0..habit.rounds {
             let told = self.ask(op, key, habit.tries);
@@ -394,9 +394,9 @@ impl Member {
     #[cold]
     #[inline(never)]
     fn ask(&mut self, op: Op, key: Key, tries: u32) -> Result<bool, Fault>
-        ensures board { self.new.board ≡ self.old.board }
-        ensures did { Asked (Leaves op self.old.board.layout tries key) self.old.hand
-            self.new.hand result }
+        ensures tree { self.new.tree ≡ self.old.tree }
+        ensures did { Asked (Leaves op self.old.tree.layout tries key) self.old.worker
+            self.new.worker result }
     {
         match op {
             Op::Has => self.try_contains(key, tries),
@@ -408,8 +408,8 @@ impl Member {
     /// What is left to do of a delete, with retries: nearly always there is nothing.
     #[inline(always)]
     pub(crate) fn finish_with_retries(&mut self, habit: &Habit) -> Result<bool, CallFault>
-        ensures board { self.new.board ≡ self.old.board }
-        ensures did { FinishesPending self.old.board habit.now self.old.hand self.new.hand result }
+        ensures tree { self.new.tree ≡ self.old.tree }
+        ensures did { FinishesPending self.old.tree habit.now self.old.worker self.new.worker result }
     {
         let told = self.finish(habit.tries);
         if !is_lost(&told) || habit.rounds == 0 {
@@ -422,8 +422,8 @@ impl Member {
     #[cold]
     #[inline(never)]
     fn retry_finish(&mut self, habit: &Habit) -> Result<bool, CallFault>
-        ensures board { self.new.board ≡ self.old.board }
-        ensures did { FinishesPending self.old.board habit.now self.old.hand self.new.hand result }
+        ensures tree { self.new.tree ≡ self.old.tree }
+        ensures did { FinishesPending self.old.tree habit.now self.old.worker self.new.worker result }
     {
         for _round in 0..habit.rounds {
             if let Ok(answer) = self.finish(habit.tries) {

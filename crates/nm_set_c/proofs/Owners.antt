@@ -1,6 +1,6 @@
 -- What a call on a handle leaves, by what the handle owns.
 use Rattle.std.proofs.Common.{◌≡◌, refl, sym, subst, inl, inr}
-use Rattle.nm_set.specs.Seats.{Seated}
+use Rattle.nm_set.specs.Seats.{MemberView}
 use Rattle.nm_tree.specs.declared.closing.Report.{Report}
 use Rattle.nm_set_c.specs.Handles.{Hold, Open, IsRefused}
 use Rattle.nm_set_c.specs.Owners.{HasDone, OwnsWorker, OfWorker, OwnsReport, OfReport}
@@ -15,38 +15,38 @@ has_done does m n o d = d
 
 -- ---- of a worker's handle: it is refused, or has a worker, or something else
 
-pub refused_worker : (does : Seated → Seated → Outcome → Type 0) (same : Type 0) (old new : Hold) (o : Outcome) → IsRefused old new o → same → OfWorker does same old new o
+pub refused_worker : (does : MemberView → MemberView → Outcome → Type 0) (same : Type 0) (old new : Hold) (o : Outcome) → IsRefused old new o → same → OfWorker does same old new o
 unfolding OfWorker
 refused_worker does same old new o r s = inl (r, s)
 
-pub told_worker : (does : Seated → Seated → Outcome → Type 0) (same : Type 0) (old new : Hold) (m n : Seated) (o : Outcome)
+pub told_worker : (does : MemberView → MemberView → Outcome → Type 0) (same : Type 0) (old new : Hold) (m n : MemberView) (o : Outcome)
     → old ≡ Open (Worker m) → new ≡ Open (Worker n) → does m n o → OfWorker does same old new o
 unfolding OfWorker OwnsWorker
 told_worker does same old new m n o e f d = inr (Worker m, e, (n, f, d))
 
-pub asked_worker : (does : Seated → Seated → Outcome → Type 0) (same : Type 0) (old new : Hold) (m n : Seated) (o : Outcome)
+pub asked_worker : (does : MemberView → MemberView → Outcome → Type 0) (same : Type 0) (old new : Hold) (m n : MemberView) (o : Outcome)
     → HasDone does m n o → new ≡ Open (Worker n) → old ≡ Open (Worker m) → OfWorker does same old new o
 unfolding HasDone
 asked_worker does same old new m n o d f e = told_worker does same old new m n o e f d
 
-pub does_worker : (does : Seated → Seated → Outcome → Type 0) (same : Type 0) (x : Owner) (m n : Seated) (o : Outcome) → x ≡ Worker m → does m n o → OwnsWorker does same x (Open (Worker n)) o
+pub does_worker : (does : MemberView → MemberView → Outcome → Type 0) (same : Type 0) (x : Owner) (m n : MemberView) (o : Outcome) → x ≡ Worker m → does m n o → OwnsWorker does same x (Open (Worker n)) o
 unfolding OwnsWorker
 does_worker does same x m n o e d = subst (λ (y : Owner). OwnsWorker does same y (Open (Worker n)) o) (sym e) (n, refl, d)
 
-pub owned_worker : (does : Seated → Seated → Outcome → Type 0) (same : Type 0) (old new : Hold) (x y : Owner) (o : Outcome)
+pub owned_worker : (does : MemberView → MemberView → Outcome → Type 0) (same : Type 0) (old new : Hold) (x y : Owner) (o : Outcome)
     → old ≡ Open x → new ≡ Open y → OwnsWorker does same x (Open y) o → OfWorker does same old new o
 unfolding OfWorker
 owned_worker does same old new x y o e f d = inr (x, e, subst (λ (h : Hold). OwnsWorker does same x h o) (sym f) d)
 
-pub is_no_worker : (does : Seated → Seated → Outcome → Type 0) (same : Type 0) (x : Owner) → ((m : Seated) → x ≡ Worker m → ⊥) → same → OwnsWorker does same x (Open x) Kind
+pub is_no_worker : (does : MemberView → MemberView → Outcome → Type 0) (same : Type 0) (x : Owner) → ((m : MemberView) → x ≡ Worker m → ⊥) → same → OwnsWorker does same x (Open x) Kind
 unfolding OwnsWorker
 is_no_worker does same (Worker m) not s = absurd (not m refl)
 is_no_worker does same (Set b) not s = (refl, refl, s)
 is_no_worker does same (Ended r) not s = (refl, refl, s)
 is_no_worker does same Nothing not s = (refl, refl, s)
 
-pub other_worker : (does : Seated → Seated → Outcome → Type 0) (same : Type 0) (old new : Hold) (x : Owner)
-    → ((m : Seated) → x ≡ Worker m → ⊥) → old ≡ Open x → new ≡ Open x → same → OfWorker does same old new Kind
+pub other_worker : (does : MemberView → MemberView → Outcome → Type 0) (same : Type 0) (old new : Hold) (x : Owner)
+    → ((m : MemberView) → x ≡ Worker m → ⊥) → old ≡ Open x → new ≡ Open x → same → OfWorker does same old new Kind
 unfolding OfWorker
 other_worker does same old new x not e f s = inr (x, e, subst (λ (h : Hold). OwnsWorker does same x h Kind) (sym f) (is_no_worker does same x not s))
 

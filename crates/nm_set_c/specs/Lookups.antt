@@ -6,7 +6,7 @@ use Rattle.nm_calls.specs.declared.many.Query.{Query}
 use Rattle.nm_calls.specs.InTurns.{key_of}
 use Rattle.nm_set.specs.declared.fault.Fault.{Fault}
 use Rattle.nm_set.specs.InTurns.{AskedMany}
-use Rattle.nm_set.specs.Seats.{Seated}
+use Rattle.nm_set.specs.Seats.{MemberView}
 use Rattle.nm_set_c.specs.Outcomes.{of_fault}
 use Rattle.nm_set_c.specs.declared.many.Lookup.{Lookup}
 use Rattle.nm_set_c.specs.declared.outcome.Outcome.{Outcome}
@@ -39,18 +39,18 @@ of_many (Err f) = of_fault f
 
 -- the worker's call looks these keys up, and what it answers is told; its answers are written where
 -- it has answered, and else nothing is
-pub record LooksUp (tries : ℕ) (old new : List Lookup) (m n : Seated) (o : Outcome) : Type 0 where
+pub record LooksUp (tries : ℕ) (old new : List Lookup) (m n : MemberView) (o : Outcome) : Type 0 where
   pub asked : List Query
   pub answered : List Query
   pub keys : map key_of asked ≡ map key_looked_up old
   pub answer : Result (Unit {0}) Fault
   pub told : o ≡ of_many answer
-  pub board : n.board ≡ m.board
-  pub did : AskedMany m.board.layout tries asked answered m.hand n.hand answer
+  pub tree : n.tree ≡ m.tree
+  pub did : AskedMany m.tree.layout tries asked answered m.worker n.worker answer
   pub written : IfOk answer (λ u. new ≡ map lookup_of answered)
   pub kept : IfErr answer (λ f. new ≡ old)
 
 -- the one or the other
-abbrev pub DoesContainsMany : ℕ → List Lookup → List Lookup → Seated → Seated → Outcome → Type 0
+abbrev pub DoesContainsMany : ℕ → List Lookup → List Lookup → MemberView → MemberView → Outcome → Type 0
 DoesContainsMany tries old new m n o =
     (IsUnasked old o × (n ≡ m) × (new ≡ old)) ⊎ LooksUp tries old new m n o

@@ -2,14 +2,14 @@
 -- before the call, n the worker after it, and o the outcome that is told.
 use Rattle.std.specs.Prelude.{◌≡◌, ◌<◌, ◌⊎◌, ℕ, Option, Some, None, Result, Ok, Err}
 use Rattle.nm_edge.specs.Keys.{IsKey}
-use Rattle.nm_steps.specs.Steps.{Board}
-use Rattle.nm_tree.specs.Workers.{Hand}
+use Rattle.nm_steps.specs.Steps.{TreeView}
+use Rattle.nm_tree.specs.Workers.{WorkerView}
 use Rattle.nm_tree.specs.declared.popping.End.TheVariants.{First, Last}
 use Rattle.nm_set.specs.declared.fault.Fault.{Fault}
 use Rattle.nm_set.specs.declared.tended.Habit.{Habit}
 use Rattle.nm_set.specs.NextKeys.{AskedNext, AskedPrev}
 use Rattle.nm_set.specs.Popping.{SaysPopTended, TendsPopOf}
-use Rattle.nm_set.specs.Seats.{Seated}
+use Rattle.nm_set.specs.Seats.{MemberView}
 use Rattle.nm_set_c.specs.Outcomes.{of_fault}
 use Rattle.nm_set_c.specs.declared.outcome.Outcome.{Outcome}
 use Rattle.nm_set_c.specs.declared.outcome.Outcome.TheVariants as outcome
@@ -27,37 +27,37 @@ found_written (Ok None) old = old
 found_written (Err f) old = old
 
 -- the worker's call answers, and what it answers is told, and written where it is a key
-pub record TellsFound (asked : Board → Hand → Hand → Result (Option ℕ) Fault → Type 0)
-    (old found : ℕ) (m n : Seated) (o : Outcome) : Type 0 where
+pub record TellsFound (asked : TreeView → WorkerView → WorkerView → Result (Option ℕ) Fault → Type 0)
+    (old found : ℕ) (m n : MemberView) (o : Outcome) : Type 0 where
   pub answer : Result (Option ℕ) Fault
   pub told : o ≡ of_found answer
   pub written : found ≡ found_written answer old
-  pub board : n.board ≡ m.board
-  pub did : asked m.board m.hand n.hand answer
+  pub tree : n.tree ≡ m.tree
+  pub did : asked m.tree m.worker n.worker answer
 
 -- so where the number is a key; else that is told, and all is as it was
-abbrev pub TellsNear : ℕ → (Board → Hand → Hand → Result (Option ℕ) Fault → Type 0) → ℕ → ℕ
-    → Seated → Seated → Outcome → Type 0
+abbrev pub TellsNear : ℕ → (TreeView → WorkerView → WorkerView → Result (Option ℕ) Fault → Type 0) → ℕ → ℕ
+    → MemberView → MemberView → Outcome → Type 0
 TellsNear key asked old found m n o = (IsKey key × TellsFound asked old found m n o)
     ⊎ ((IsKey key → ⊥) × (o ≡ outcome.Key) × (n ≡ m) × (found ≡ old))
 
 -- `DoesNext`, `DoesPrev`: of a call for the next key, and for the one before
-abbrev pub DoesNext : ℕ → ℕ → ℕ → ℕ → Seated → Seated → Outcome → Type 0
+abbrev pub DoesNext : ℕ → ℕ → ℕ → ℕ → MemberView → MemberView → Outcome → Type 0
 DoesNext tries key = TellsNear key (λ b. AskedNext b.layout tries key)
 
-abbrev pub DoesPrev : ℕ → ℕ → ℕ → ℕ → Seated → Seated → Outcome → Type 0
+abbrev pub DoesPrev : ℕ → ℕ → ℕ → ℕ → MemberView → MemberView → Outcome → Type 0
 DoesPrev tries key = TellsNear key (λ b. AskedPrev b.layout tries key)
 
 -- `DoesPopFirst`, `DoesPopLast`: of a call that takes the least key, and the greatest
-abbrev pub DoesPopFirst : Habit → ℕ → ℕ → Seated → Seated → Outcome → Type 0
+abbrev pub DoesPopFirst : Habit → ℕ → ℕ → MemberView → MemberView → Outcome → Type 0
 DoesPopFirst h = TellsFound (λ b. TendsPopOf First b h)
 
-abbrev pub DoesPopLast : Habit → ℕ → ℕ → Seated → Seated → Outcome → Type 0
+abbrev pub DoesPopLast : Habit → ℕ → ℕ → MemberView → MemberView → Outcome → Type 0
 DoesPopLast h = TellsFound (λ b. TendsPopOf Last b h)
 
 -- `TellsPopFirst`, `TellsPopLast`: what a caller has of it
-abbrev pub TellsPopFirst : Habit → ℕ → ℕ → Seated → Seated → Outcome → Type 0
+abbrev pub TellsPopFirst : Habit → ℕ → ℕ → MemberView → MemberView → Outcome → Type 0
 TellsPopFirst h = TellsFound (λ b. SaysPopTended ◌<◌ b h)
 
-abbrev pub TellsPopLast : Habit → ℕ → ℕ → Seated → Seated → Outcome → Type 0
+abbrev pub TellsPopLast : Habit → ℕ → ℕ → MemberView → MemberView → Outcome → Type 0
 TellsPopLast h = TellsFound (λ b. SaysPopTended (λ j key. key < j) b h)

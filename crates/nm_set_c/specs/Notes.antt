@@ -2,7 +2,7 @@
 -- and o the outcome that is told.
 use Rattle.std.specs.Prelude.{◌≡◌, ℕ, Option, Some, None, Result, Ok, Err}
 use Rattle.nm_set.specs.Posts.{IsTallyOf, ReadsNote}
-use Rattle.nm_set.specs.Seats.{Seated}
+use Rattle.nm_set.specs.Seats.{MemberView}
 use Rattle.nm_set.specs.declared.fault.PostFault.{PostFault}
 use Rattle.nm_set.specs.declared.fault.PostFault.TheVariants as posting
 use Rattle.nm_set.specs.declared.posting.Posted.{Posted}
@@ -24,12 +24,12 @@ of_post (Some p) = outcome.Done
 of_post None = outcome.Busy
 
 -- what the worker has done so far, where the note was left
-abbrev pub IsTally : Option Posted → Seated → Type 0
-IsTally (Some p) m = IsTallyOf m.hand p
+abbrev pub IsTally : Option Posted → MemberView → Type 0
+IsTally (Some p) m = IsTallyOf m.worker p
 IsTally None m = Unit {0}
 
 -- `DoesPost`, `DoesRead`: a note is left, or heard, and its numbers are written
-pub record DoesPost (old_inserted inserted old_removed removed : ℕ) (m n : Seated)
+pub record DoesPost (old_inserted inserted old_removed removed : ℕ) (m n : MemberView)
     (o : Outcome) : Type 0 where
   pub left : Option Posted
   pub told : o ≡ of_post left
@@ -50,10 +50,10 @@ abbrev pub heard_by : Result (Option Posted) PostFault → Option Posted
 heard_by (Ok heard) = heard
 heard_by (Err why) = None
 
-pub record DoesRead (number old_inserted inserted old_removed removed : ℕ) (m n : Seated)
+pub record DoesRead (number old_inserted inserted old_removed removed : ℕ) (m n : MemberView)
     (o : Outcome) : Type 0 where
   pub answer : Result (Option Posted) PostFault
   pub told : o ≡ of_read answer
   pub written : AreWritten (heard_by answer) old_inserted inserted old_removed removed
-  pub board : n.board ≡ m.board
-  pub heard : ReadsNote m.board number m.hand n.hand answer
+  pub tree : n.tree ≡ m.tree
+  pub heard : ReadsNote m.tree number m.worker n.worker answer

@@ -1,6 +1,6 @@
 -- What a call on the handle of a worker or of a report leaves.
 use Rattle.std.specs.Prelude.{◌≡◌, ◌⊎◌}
-use Rattle.nm_set.specs.Seats.{Seated}
+use Rattle.nm_set.specs.Seats.{MemberView}
 use Rattle.nm_tree.specs.declared.closing.Report.{Report}
 use Rattle.nm_set_c.specs.Handles.{Hold, Open, IsRefused}
 use Rattle.nm_set_c.specs.declared.outcome.Outcome.{Outcome}
@@ -19,15 +19,15 @@ IsKind same x new o = (o ≡ outcome.Kind) × (new ≡ Open x) × same
 
 -- with a worker, what a call does with it, and it stays in its handle; with anything else, a
 -- refusal
-unfoldable pub OwnsWorker : (Seated → Seated → Outcome → Type 0) → Type 0 → Owner → Hold → Outcome
+unfoldable pub OwnsWorker : (MemberView → MemberView → Outcome → Type 0) → Type 0 → Owner → Hold → Outcome
     → Type 0
-OwnsWorker does same (Worker m) new o = (n : Seated) × (new ≡ Open (Worker n)) × does m n o
+OwnsWorker does same (Worker m) new o = (n : MemberView) × (new ≡ Open (Worker n)) × does m n o
 OwnsWorker does same (Set s) new o = IsKind same (Set s) new o
 OwnsWorker does same (Ended r) new o = IsKind same (Ended r) new o
 OwnsWorker does same Nothing new o = IsKind same Nothing new o
 
 -- a handle that is closed or in use is refused; an open one is as what it owns says
-unfoldable pub OfWorker : (Seated → Seated → Outcome → Type 0) → Type 0 → Hold → Hold → Outcome
+unfoldable pub OfWorker : (MemberView → MemberView → Outcome → Type 0) → Type 0 → Hold → Hold → Outcome
     → Type 0
 OfWorker does same old new o =
     (IsRefused old new o × same) ⊎ ((x : Owner) × (old ≡ Open x) × OwnsWorker does same x new o)

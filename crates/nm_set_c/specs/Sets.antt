@@ -6,8 +6,8 @@ use Rattle.nm_set.specs.declared.fault.CloseReason.{CloseReason}
 use Rattle.nm_set.specs.declared.fault.MemberFault.{MemberFault}
 use Rattle.nm_set.specs.declared.fault.MemberFault.TheVariants as taking
 use Rattle.nm_set.specs.Ends.{EndsMember, EndsSet, HasGathered, IsLeftOpen, set_of, told_reason}
-use Rattle.nm_set.specs.Seats.{Standing, Seated, IsResident, IsAnyResident, TellsAway}
-use Rattle.nm_tree.specs.Workers.{Hand}
+use Rattle.nm_set.specs.Seats.{SetView, MemberView, IsResident, IsAnyResident, TellsAway}
+use Rattle.nm_tree.specs.Workers.{WorkerView}
 use Rattle.nm_tree.specs.declared.closing.CloseReason.{CloseReason as Reason}
 use Rattle.nm_tree.specs.declared.closing.Report.{Report}
 use Rattle.nm_set_c.specs.Outcomes.{of_bool, of_taking, of_reason}
@@ -27,17 +27,17 @@ abbrev pub HasWorkers : ℕ → Type 0
 HasWorkers workers = (1 ≤ workers) × (workers ≤ 64)
 
 -- an open set in a tree of that layout, whose workers claim by that fit
-pub record IsNewSet (f : Fit) (L : Layout) (s : Standing) : Type 0 where
+pub record IsNewSet (f : Fit) (L : Layout) (s : SetView) : Type 0 where
   pub begins : s.closing ≡ false
   pub keeps : s.kept ≡ []
   pub fit : s.fit ≡ f
-  pub layout : s.board.layout ≡ L
+  pub layout : s.tree.layout ≡ L
 
 -- with sizes that fit, the handle has a new set, or memory was refused; else which size does not
 -- fit is told, the nodes first
 abbrev pub IsMade : Fit → Layout → ℕ → ℕ → Hold → Outcome → Type 0
 IsMade f L nodes workers new o =
-    ((o ≡ outcome.Done) × HasNodes nodes × HasWorkers workers × (s : Standing)
+    ((o ≡ outcome.Done) × HasNodes nodes × HasWorkers workers × (s : SetView)
     × (new ≡ Open (Set s)) × IsNewSet f L s)
     ⊎ (((o ≡ outcome.NoMemory) × HasNodes nodes × HasWorkers workers × (new ≡ Closed))
     ⊎ (((o ≡ outcome.Nodes) × (HasNodes nodes → ⊥) × (new ≡ Closed))
@@ -52,9 +52,9 @@ MakesSet f L nodes workers old new o =
 
 -- what a set gives: a worker of its tree with that fit, of which this holds, or why not; which
 -- faults there are is up to the call
-abbrev pub GivesWorker : (Standing → Hand → Type 0) → (Standing → MemberFault → Type 0) → Owner
-    → Result Seated Outcome → Type 0
-GivesWorker which faults (Set s) (Ok m) = (s.closing ≡ false) × (m.board ≡ s.board) × which s m.hand
+abbrev pub GivesWorker : (SetView → WorkerView → Type 0) → (SetView → MemberFault → Type 0) → Owner
+    → Result MemberView Outcome → Type 0
+GivesWorker which faults (Set s) (Ok m) = (s.closing ≡ false) × (m.tree ≡ s.tree) × which s m.worker
 GivesWorker which faults (Set s) (Err o) =
     (why : MemberFault) × (o ≡ of_taking why) × ((why ≡ taking.Closing) ↔ (s.closing ≡ true))
     × faults s why
@@ -64,29 +64,29 @@ GivesWorker which faults Nothing r = r ≡ Err outcome.Kind
 
 -- the handle has what was given, or memory was refused and it is closed; or nothing was given, why
 -- is told, and it is closed
-abbrev pub Keeps : Result Seated Outcome → Hold → Outcome → Type 0
+abbrev pub Keeps : Result MemberView Outcome → Hold → Outcome → Type 0
 Keeps (Ok m) new o = ((o ≡ outcome.Done) × (new ≡ Open (Worker m)))
     ⊎ ((o ≡ outcome.NoMemory) × (new ≡ Closed))
 Keeps (Err why) new o = (o ≡ why) × (new ≡ Closed)
 
 -- by the handle of the worker, which must be closed, and that of the set, which stays as it is
-abbrev pub TakesByHandles : (Owner → Result Seated Outcome → Type 0) → Hold → Hold → Hold
+abbrev pub TakesByHandles : (Owner → Result MemberView Outcome → Type 0) → Hold → Hold → Hold
     → Outcome → Type 0
 TakesByHandles gives set old new o =
     CannotOpen old new o
     ⊎ (((old ≡ Closed) × (new ≡ Closed) × IsRefused set set o)
-    ⊎ ((old ≡ Closed) × (x : Owner) × (set ≡ Open x) × (r : Result Seated Outcome) × gives x r
+    ⊎ ((old ≡ Closed) × (x : Owner) × (set ≡ Open x) × (r : Result MemberView Outcome) × gives x r
     × Keeps r new o))
 
 -- the worker of a number
-abbrev pub IsNumbered : ℕ → Standing → Hand → Type 0
-IsNumbered number s w = IsResident s.board s.fit number w
+abbrev pub IsNumbered : ℕ → SetView → WorkerView → Type 0
+IsNumbered number s w = IsResident s.tree s.fit number w
 
 -- `NumberFaults`, `AnyFaults`: that the number is none of the tree's is told exactly of an open set
 -- where it is none; and not told where any worker is asked for
-abbrev pub NumberFaults : ℕ → Standing → MemberFault → Type 0
+abbrev pub NumberFaults : ℕ → SetView → MemberFault → Type 0
 NumberFaults number s why = (why ≡ taking.Number)
-    ↔ ((s.closing ≡ false) × (s.board.layout.workers ≤ number))
+    ↔ ((s.closing ≡ false) × (s.tree.layout.workers ≤ number))
 
 -- a closed handle owns the worker of that number
 abbrev pub TakesWorker : ℕ → Hold → Hold → Hold → Outcome → Type 0
@@ -94,10 +94,10 @@ TakesWorker number set old new o =
     TakesByHandles (GivesWorker (IsNumbered number) (NumberFaults number)) set old new o
 
 -- any worker
-abbrev pub IsAny : Standing → Hand → Type 0
-IsAny s w = IsAnyResident s.board s.fit w
+abbrev pub IsAny : SetView → WorkerView → Type 0
+IsAny s w = IsAnyResident s.tree s.fit w
 
-abbrev pub AnyFaults : Standing → MemberFault → Type 0
+abbrev pub AnyFaults : SetView → MemberFault → Type 0
 AnyFaults s why = why ≡ taking.Number → ⊥
 
 -- a closed handle owns a worker, of any number
@@ -126,10 +126,10 @@ Misses number set o = IsRefused set set o ⊎ ((x : Owner) × (set ≡ Open x) �
 -- ---- the end of a set
 
 -- there is the report, or why not is told, and the set still, as that reason leaves it
-abbrev pub IsEnded : Standing → Owner → Outcome → Type 0
+abbrev pub IsEnded : SetView → Owner → Outcome → Type 0
 IsEnded s new o =
     ((o ≡ outcome.Done) × (r : Report) × (new ≡ Ended r) × EndsSet s r)
-    ⊎ ((why : CloseReason) × (o ≡ of_reason why) × (t : Standing) × (new ≡ Set t)
+    ⊎ ((why : CloseReason) × (o ≡ of_reason why) × (t : SetView) × (new ≡ Set t)
     × IsLeftOpen s why t)
 
 -- `EndsOwner`, `EndsHandle`: a set's handle owns its report, by what it owned and by the handle;
@@ -148,11 +148,11 @@ EndsHandle old new o = IsRefused old new o
 
 -- there is the report; or the worker still, as it was; or why its tree was not closed is told, and
 -- there is the set, with the worker and those at home
-abbrev pub IsEndedBy : Seated → Owner → Outcome → Type 0
+abbrev pub IsEndedBy : MemberView → Owner → Outcome → Type 0
 IsEndedBy m new o =
     ((o ≡ outcome.Done) × (r : Report) × (new ≡ Ended r) × EndsMember m r)
     ⊎ (((o ≡ outcome.Away) × (new ≡ Worker m))
-    ⊎ ((why : Reason) × (o ≡ of_reason (told_reason why)) × (t : Standing) × (new ≡ Set t)
+    ⊎ ((why : Reason) × (o ≡ of_reason (told_reason why)) × (t : SetView) × (new ≡ Set t)
     × HasGathered (set_of m) why t))
 
 -- `EndsByOwner`, `EndsByHandle`: the handle of a set's last worker owns what stands there then, by

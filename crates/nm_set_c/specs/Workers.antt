@@ -3,7 +3,7 @@
 use Rattle.std.specs.Prelude.{◌≡◌, ◌⊎◌, ℕ, Bool, option_map, Option, Some, None, Result, Ok, Err}
 use Rattle.nm_edge.specs.Keys.{IsKey}
 use Rattle.nm_model.specs.declared.event.Op.TheVariants.{Has, Insert, Delete}
-use Rattle.nm_steps.specs.Steps.{Board}
+use Rattle.nm_steps.specs.Steps.{TreeView}
 use Rattle.nm_epoch.specs.declared.answers.Advance.{Advance}
 use Rattle.nm_epoch.specs.declared.answers.Advance.TheVariants as advance
 use Rattle.nm_tree.specs.declared.fault.CallFault.{CallFault as Lost}
@@ -11,7 +11,7 @@ use Rattle.nm_tree.specs.declared.fault.PinFault.TheVariants as unpinned
 use Rattle.nm_tree.specs.declared.worker.Counts.{Counts}
 use Rattle.nm_calls.specs.declared.deleting.Unfinished.{Unfinished}
 use Rattle.nm_tree.specs.Resigning.{HasResigned}
-use Rattle.nm_tree.specs.Workers.{Hand, IsLedger}
+use Rattle.nm_tree.specs.Workers.{WorkerView, IsLedger}
 use Rattle.nm_tree.specs.Calls.{SaysHas, SaysInsert, SaysDelete, SaysFinish, LeavesHas, LeavesInsert, LeavesDelete, LeavesFinish, LeavesAdvance, LeavesBehind, LeavesCollect}
 use Rattle.nm_set.specs.Asked.{Asked, AskedToPin, AskedToUnpin}
 use Rattle.nm_set.specs.declared.fault.Fault.{Fault}
@@ -21,7 +21,7 @@ use Rattle.nm_set.specs.declared.fault.PinFault.{PinFault}
 use Rattle.nm_set.specs.declared.fault.PinFault.TheVariants as pinning
 use Rattle.nm_set.specs.declared.fault.ResignReason.{ResignReason}
 use Rattle.nm_set.specs.declared.tended.Habit.{Habit}
-use Rattle.nm_set.specs.Seats.{Seated, IsResident, IsStaying}
+use Rattle.nm_set.specs.Seats.{MemberView, IsResident, IsStaying}
 use Rattle.nm_set.specs.Tended.{SaysTended, TendsHas, TendsInsert, TendsDelete, of_insert}
 use Rattle.nm_set_c.specs.Outcomes.{of_answer, of_finished, of_staying}
 use Rattle.nm_set_c.specs.declared.outcome.Outcome.{Outcome}
@@ -31,80 +31,80 @@ use Rattle.nm_set_c.specs.declared.workers.Ledger.{Ledger}
 -- ---- keys
 
 -- the worker's call answers, and what it answers is told
-pub record Answers (does : Hand → Hand → Result Bool Fault → Type 0) (m n : Seated)
+pub record Answers (does : WorkerView → WorkerView → Result Bool Fault → Type 0) (m n : MemberView)
     (o : Outcome) : Type 0 where
   pub answer : Result Bool Fault
   pub told : o ≡ of_answer answer
-  pub board : n.board ≡ m.board
-  pub did : does m.hand n.hand answer
+  pub tree : n.tree ≡ m.tree
+  pub did : does m.worker n.worker answer
 
 -- the same of a call that goes on with a delete
-pub record Finishes (leaves : Hand → Hand → Result Bool Lost → Type 0) (m n : Seated)
+pub record Finishes (leaves : WorkerView → WorkerView → Result Bool Lost → Type 0) (m n : MemberView)
     (o : Outcome) : Type 0 where
   pub answer : Result Bool Lost
   pub told : o ≡ of_finished answer
-  pub board : n.board ≡ m.board
-  pub did : leaves m.hand n.hand answer
+  pub tree : n.tree ≡ m.tree
+  pub did : leaves m.worker n.worker answer
 
 -- a number that is no key is told as such, and the worker is as it was
-abbrev pub OfKey : ℕ → Type 0 → Seated → Seated → Outcome → Type 0
+abbrev pub OfKey : ℕ → Type 0 → MemberView → MemberView → Outcome → Type 0
 OfKey k did m n o = (IsKey k × did) ⊎ ((IsKey k → ⊥) × (o ≡ outcome.Key) × (n ≡ m))
 
 -- `DoesTryContains`, `DoesTryInsert`, `DoesTryRemove`, `DoesFinish`, `DoesPin`, `DoesUnpin`,
 -- `DoesAdvance`, `DoesBehind`, `DoesCollect`: a call of a worker: its outcome, what it writes, and
 -- all clauses of the member's call
-abbrev pub DoesTryContains : ℕ → ℕ → Seated → Seated → Outcome → Type 0
-DoesTryContains tries k m n o = OfKey k (Answers (Asked (LeavesHas m.board.layout tries k)) m n o) m n o
+abbrev pub DoesTryContains : ℕ → ℕ → MemberView → MemberView → Outcome → Type 0
+DoesTryContains tries k m n o = OfKey k (Answers (Asked (LeavesHas m.tree.layout tries k)) m n o) m n o
 
-abbrev pub DoesTryInsert : ℕ → ℕ → Seated → Seated → Outcome → Type 0
-DoesTryInsert tries k m n o = OfKey k (Answers (Asked (LeavesInsert m.board.layout tries k)) m n o) m n o
+abbrev pub DoesTryInsert : ℕ → ℕ → MemberView → MemberView → Outcome → Type 0
+DoesTryInsert tries k m n o = OfKey k (Answers (Asked (LeavesInsert m.tree.layout tries k)) m n o) m n o
 
-abbrev pub DoesTryRemove : ℕ → ℕ → Seated → Seated → Outcome → Type 0
-DoesTryRemove tries k m n o = OfKey k (Answers (Asked (LeavesDelete m.board.layout tries k)) m n o) m n o
+abbrev pub DoesTryRemove : ℕ → ℕ → MemberView → MemberView → Outcome → Type 0
+DoesTryRemove tries k m n o = OfKey k (Answers (Asked (LeavesDelete m.tree.layout tries k)) m n o) m n o
 
-abbrev pub DoesFinish : ℕ → Seated → Seated → Outcome → Type 0
-DoesFinish tries m n o = Finishes (LeavesFinish m.board.layout tries) m n o
+abbrev pub DoesFinish : ℕ → MemberView → MemberView → Outcome → Type 0
+DoesFinish tries m n o = Finishes (LeavesFinish m.tree.layout tries) m n o
 
 -- `TellsTryContains`, `TellsTryInsert`, `TellsTryRemove`, `TellsFinish`: what a caller has of such a
 -- call
-abbrev pub TellsTryContains : ℕ → ℕ → Seated → Seated → Outcome → Type 0
-TellsTryContains tries k m n o = OfKey k (Answers (Asked (SaysHas m.board.layout tries k)) m n o) m n o
+abbrev pub TellsTryContains : ℕ → ℕ → MemberView → MemberView → Outcome → Type 0
+TellsTryContains tries k m n o = OfKey k (Answers (Asked (SaysHas m.tree.layout tries k)) m n o) m n o
 
-abbrev pub TellsTryInsert : ℕ → ℕ → Seated → Seated → Outcome → Type 0
-TellsTryInsert tries k m n o = OfKey k (Answers (Asked (SaysInsert m.board.layout tries k)) m n o) m n o
+abbrev pub TellsTryInsert : ℕ → ℕ → MemberView → MemberView → Outcome → Type 0
+TellsTryInsert tries k m n o = OfKey k (Answers (Asked (SaysInsert m.tree.layout tries k)) m n o) m n o
 
-abbrev pub TellsTryRemove : ℕ → ℕ → Seated → Seated → Outcome → Type 0
-TellsTryRemove tries k m n o = OfKey k (Answers (Asked (SaysDelete m.board.layout tries k)) m n o) m n o
+abbrev pub TellsTryRemove : ℕ → ℕ → MemberView → MemberView → Outcome → Type 0
+TellsTryRemove tries k m n o = OfKey k (Answers (Asked (SaysDelete m.tree.layout tries k)) m n o) m n o
 
-abbrev pub TellsFinish : ℕ → Seated → Seated → Outcome → Type 0
-TellsFinish tries m n o = Finishes (SaysFinish m.board.layout tries) m n o
+abbrev pub TellsFinish : ℕ → MemberView → MemberView → Outcome → Type 0
+TellsFinish tries m n o = Finishes (SaysFinish m.tree.layout tries) m n o
 
 -- ---- keys, by calls that tend the set
 
 -- an insert that tends the set, by what it tells without who holds memory back
-abbrev pub InsertsTelling : Board → Habit → ℕ → Hand → Hand → Result Bool Fault → Type 0
+abbrev pub InsertsTelling : TreeView → Habit → ℕ → WorkerView → WorkerView → Result Bool Fault → Type 0
 InsertsTelling b h k w z r =
     (told : Result Bool InsertFault) × (r ≡ of_insert told) × TendsInsert b h k w z told
 
 -- `DoesContains`, `DoesInsert`, `DoesRemove`: the same of the member's calls that tend the set
-abbrev pub DoesContains : Habit → ℕ → Seated → Seated → Outcome → Type 0
-DoesContains h k m n o = OfKey k (Answers (TendsHas m.board h k) m n o) m n o
+abbrev pub DoesContains : Habit → ℕ → MemberView → MemberView → Outcome → Type 0
+DoesContains h k m n o = OfKey k (Answers (TendsHas m.tree h k) m n o) m n o
 
-abbrev pub DoesInsert : Habit → ℕ → Seated → Seated → Outcome → Type 0
-DoesInsert h k m n o = OfKey k (Answers (InsertsTelling m.board h k) m n o) m n o
+abbrev pub DoesInsert : Habit → ℕ → MemberView → MemberView → Outcome → Type 0
+DoesInsert h k m n o = OfKey k (Answers (InsertsTelling m.tree h k) m n o) m n o
 
-abbrev pub DoesRemove : Habit → ℕ → Seated → Seated → Outcome → Type 0
-DoesRemove h k m n o = OfKey k (Answers (TendsDelete m.board h k) m n o) m n o
+abbrev pub DoesRemove : Habit → ℕ → MemberView → MemberView → Outcome → Type 0
+DoesRemove h k m n o = OfKey k (Answers (TendsDelete m.tree h k) m n o) m n o
 
 -- `TellsContains`, `TellsInsert`, `TellsRemove`: what a caller has of it
-abbrev pub TellsContains : Habit → ℕ → Seated → Seated → Outcome → Type 0
-TellsContains h k m n o = OfKey k (Answers (SaysTended Has m.board h k) m n o) m n o
+abbrev pub TellsContains : Habit → ℕ → MemberView → MemberView → Outcome → Type 0
+TellsContains h k m n o = OfKey k (Answers (SaysTended Has m.tree h k) m n o) m n o
 
-abbrev pub TellsInsert : Habit → ℕ → Seated → Seated → Outcome → Type 0
-TellsInsert h k m n o = OfKey k (Answers (SaysTended Insert m.board h k) m n o) m n o
+abbrev pub TellsInsert : Habit → ℕ → MemberView → MemberView → Outcome → Type 0
+TellsInsert h k m n o = OfKey k (Answers (SaysTended Insert m.tree h k) m n o) m n o
 
-abbrev pub TellsRemove : Habit → ℕ → Seated → Seated → Outcome → Type 0
-TellsRemove h k m n o = OfKey k (Answers (SaysTended Delete m.board h k) m n o) m n o
+abbrev pub TellsRemove : Habit → ℕ → MemberView → MemberView → Outcome → Type 0
+TellsRemove h k m n o = OfKey k (Answers (SaysTended Delete m.tree h k) m n o) m n o
 
 -- ---- epochs
 
@@ -122,22 +122,22 @@ pin_epoch (Err (pinning.Call (unpinned.Moved e))) old = e
 pin_epoch (Err pinning.Held) old = old
 pin_epoch (Err (pinning.Call unpinned.Pending)) old = old
 
-pub record DoesPin (tries old epoch : ℕ) (m n : Seated) (o : Outcome) : Type 0 where
+pub record DoesPin (tries old epoch : ℕ) (m n : MemberView) (o : Outcome) : Type 0 where
   pub answer : Result ℕ PinFault
   pub told : o ≡ of_pin answer
   pub epoch_told : epoch ≡ pin_epoch answer old
-  pub board : n.board ≡ m.board
-  pub did : AskedToPin tries m.hand n.hand answer
+  pub tree : n.tree ≡ m.tree
+  pub did : AskedToPin tries m.worker n.worker answer
 
 abbrev pub of_unpin : Result (Unit {0}) NotHeld → Outcome
 of_unpin (Ok u) = outcome.Done
 of_unpin (Err f) = outcome.NotHeld
 
-pub record DoesUnpin (m n : Seated) (o : Outcome) : Type 0 where
+pub record DoesUnpin (m n : MemberView) (o : Outcome) : Type 0 where
   pub answer : Result (Unit {0}) NotHeld
   pub told : o ≡ of_unpin answer
-  pub board : n.board ≡ m.board
-  pub did : AskedToUnpin m.hand n.hand answer
+  pub tree : n.tree ≡ m.tree
+  pub did : AskedToUnpin m.worker n.worker answer
 
 abbrev pub of_advance : Advance → Outcome
 of_advance (advance.Moved e) = outcome.Done
@@ -159,31 +159,31 @@ advance_worker (advance.Held w e) old = w
 advance_worker (advance.Lost e) old = old
 advance_worker advance.Spent old = old
 
-pub record DoesAdvance (old_epoch epoch old_worker worker : ℕ) (m n : Seated)
+pub record DoesAdvance (old_epoch epoch old_worker worker : ℕ) (m n : MemberView)
     (o : Outcome) : Type 0 where
   pub answer : Advance
   pub told : o ≡ of_advance answer
   pub epoch_told : epoch ≡ advance_epoch answer old_epoch
   pub worker_told : worker ≡ advance_worker answer old_worker
-  pub board : n.board ≡ m.board
-  pub did : LeavesAdvance m.board.layout.workers m.hand n.hand answer
+  pub tree : n.tree ≡ m.tree
+  pub did : LeavesAdvance m.tree.layout.workers m.worker n.worker answer
 
-pub record DoesBehind (epoch mask : ℕ) (m n : Seated) (o : Outcome) : Type 0 where
+pub record DoesBehind (epoch mask : ℕ) (m n : MemberView) (o : Outcome) : Type 0 where
   pub told : o ≡ outcome.Done
-  pub board : n.board ≡ m.board
-  pub did : LeavesBehind m.board.layout.workers m.hand n.hand
+  pub tree : n.tree ≡ m.tree
+  pub did : LeavesBehind m.tree.layout.workers m.worker n.worker
       (record { epoch = epoch; mask = mask })
 
-pub record DoesCollect (epoch freed : ℕ) (m n : Seated) (o : Outcome) : Type 0 where
+pub record DoesCollect (epoch freed : ℕ) (m n : MemberView) (o : Outcome) : Type 0 where
   pub told : o ≡ outcome.Done
-  pub board : n.board ≡ m.board
-  pub did : LeavesCollect m.board.layout.nodes m.hand n.hand
+  pub tree : n.tree ≡ m.tree
+  pub did : LeavesCollect m.tree.layout.nodes m.worker n.worker
       (record { epoch = epoch; freed = freed })
 
 -- ---- what is read of a worker
 
 -- a number is written and done told
-pub record TellsNumber (value new : ℕ) (m n : Seated) (o : Outcome) : Type 0 where
+pub record TellsNumber (value new : ℕ) (m n : MemberView) (o : Outcome) : Type 0 where
   pub told : o ≡ outcome.Done
   pub value_told : new ≡ value
   pub same : n ≡ m
@@ -194,11 +194,11 @@ IsOptionTold None old new o = (o ≡ outcome.No) × (new ≡ old)
 IsOptionTold (Some k) old new o = (o ≡ outcome.Yes) × (new ≡ k)
 
 -- `TellsOption`, `TellsLedger`: what a worker tells of itself is written, and it is as it was
-pub record TellsOption (value : Option ℕ) (old new : ℕ) (m n : Seated) (o : Outcome) : Type 0 where
+pub record TellsOption (value : Option ℕ) (old new : ℕ) (m n : MemberView) (o : Outcome) : Type 0 where
   pub told : IsOptionTold value old new o
   pub same : n ≡ m
 
-abbrev pub pending_key : Hand → Option ℕ
+abbrev pub pending_key : WorkerView → Option ℕ
 pending_key w = option_map (λ (u : Unfinished). u.key) w.pending
 
 abbrev pub counts_of : Ledger → Counts
@@ -211,17 +211,17 @@ counts_of l = record {
   queued = l.queued;
 }
 
-pub record TellsLedger (ledger : Ledger) (m n : Seated) (o : Outcome) : Type 0 where
+pub record TellsLedger (ledger : Ledger) (m n : MemberView) (o : Outcome) : Type 0 where
   pub told : o ≡ outcome.Done
-  pub counts : IsLedger m.hand.pass.view m.hand.pass.view.number (counts_of ledger)
+  pub counts : IsLedger m.worker.pass.view m.worker.pass.view.number (counts_of ledger)
   pub same : n ≡ m
 
 -- ---- the end of another worker
 
 -- the worker of that number, which was at home, has resigned to this one; or it has not, for the
 -- reason that is told, and this one is as it was
-abbrev pub DoesResign : ℕ → Seated → Seated → Outcome → Type 0
+abbrev pub DoesResign : ℕ → MemberView → MemberView → Outcome → Type 0
 DoesResign leaver m n o =
-    ((o ≡ outcome.Done) × (n.board ≡ m.board) × (w : Hand) × IsResident m.board m.hand.fit leaver w
-    × HasResigned m.hand w n.hand)
+    ((o ≡ outcome.Done) × (n.tree ≡ m.tree) × (w : WorkerView) × IsResident m.tree m.worker.fit leaver w
+    × HasResigned m.worker w n.worker)
     ⊎ ((why : ResignReason) × (o ≡ of_staying why) × IsStaying m leaver why × (n ≡ m))

@@ -59,9 +59,9 @@ fn contains_many(alloc: Global, member: &mut Member, lookups: &mut [Lookup], tri
 
 /// Asks the worker for all of these.
 fn ask(member: &mut Member, queries: &mut Vec<Query>, tries: u32) -> Result<(), Fault>
-    ensures board { member.new.board ≡ member.old.board }
-    ensures did { AskedMany member.old.board.layout tries queries.old.items queries.new.items
-        member.old.hand member.new.hand result }
+    ensures tree { member.new.tree ≡ member.old.tree }
+    ensures did { AskedMany member.old.tree.layout tries queries.old.items queries.new.items
+        member.old.worker member.new.worker result }
 {
     member.contains_many(queries.as_mut_slice(), tries)
 }

@@ -37,7 +37,7 @@ pub struct Ledger {
 /// The worker's number: `Done`. `Closed`, `InUse`, `Kind`.
 #[unsafe(no_mangle)]
 pub extern "C" fn nm_worker_number(alloc: Global, worker: &mut Handle, number: &mut u32) -> i32
-    ensures { IsCodeOf (OfWorker (λ m. TellsNumber m.hand.pass.view.number number.new m)
+    ensures { IsCodeOf (OfWorker (λ m. TellsNumber m.worker.pass.view.number number.new m)
         (number.new ≡ number.old) (held_by worker.old) (held_by worker.new)) result }
 {
     by_handle!(alloc, worker, Worker(member) => {
@@ -49,7 +49,7 @@ pub extern "C" fn nm_worker_number(alloc: Global, worker: &mut Handle, number: &
 /// How many nodes wait in the queues that the worker holds: `Done`. `Closed`, `InUse`, `Kind`.
 #[unsafe(no_mangle)]
 pub extern "C" fn nm_worker_queue_len(alloc: Global, worker: &mut Handle, nodes: &mut u64) -> i32
-    ensures { IsCodeOf (OfWorker (λ m. TellsNumber (waiting_in m.hand.queues) nodes.new m)
+    ensures { IsCodeOf (OfWorker (λ m. TellsNumber (waiting_in m.worker.queues) nodes.new m)
         (nodes.new ≡ nodes.old) (held_by worker.old) (held_by worker.new)) result }
 {
     by_handle!(alloc, worker, Worker(member) => {
@@ -62,14 +62,14 @@ pub extern "C" fn nm_worker_queue_len(alloc: Global, worker: &mut Handle, nodes:
 /// `Closed`, `InUse`, `Kind`.
 #[unsafe(no_mangle)]
 pub extern "C" fn nm_worker_pending(alloc: Global, worker: &mut Handle, key: &mut u64) -> i32
-    ensures { IsCodeOf (OfWorker (λ m. TellsOption (pending_key m.hand) key.old key.new m)
+    ensures { IsCodeOf (OfWorker (λ m. TellsOption (pending_key m.worker) key.old key.new m)
         (key.new ≡ key.old) (held_by worker.old) (held_by worker.new)) result }
 {
     by_handle!(alloc, worker, Worker(member) => pending(member, key))
 }
 
 fn pending(member: &mut Member, key: &mut u64) -> Outcome
-    ensures { TellsOption (pending_key member.old.hand) key.old key.new member.old member.new
+    ensures { TellsOption (pending_key member.old.worker) key.old key.new member.old member.new
         result }
 {
     match member.pending() {
@@ -85,14 +85,14 @@ fn pending(member: &mut Member, key: &mut u64) -> Outcome
 /// `Closed`, `InUse`, `Kind`.
 #[unsafe(no_mangle)]
 pub extern "C" fn nm_worker_held(alloc: Global, worker: &mut Handle, epoch: &mut u64) -> i32
-    ensures { IsCodeOf (OfWorker (λ m. TellsOption m.hand.held epoch.old epoch.new m)
+    ensures { IsCodeOf (OfWorker (λ m. TellsOption m.worker.held epoch.old epoch.new m)
         (epoch.new ≡ epoch.old) (held_by worker.old) (held_by worker.new)) result }
 {
     by_handle!(alloc, worker, Worker(member) => held(member, epoch))
 }
 
 fn held(member: &mut Member, epoch: &mut u64) -> Outcome
-    ensures { TellsOption member.old.hand.held epoch.old epoch.new member.old member.new result }
+    ensures { TellsOption member.old.worker.held epoch.old epoch.new member.old member.new result }
 {
     match member.held() {
         Some(held) => {

@@ -8,7 +8,7 @@ use Rattle.nm_order.specs.Logs.{part_of}
 use Rattle.nm_order.proofs.HeldSlots.{hands_are_apart}
 use Rattle.nm_steps.specs.declared.view.View.{View}
 use Rattle.nm_steps.specs.Rules.{knowledge}
-use Rattle.nm_steps.specs.Steps.{Stand, IsInRun, IsOfRun, HasSeen}
+use Rattle.nm_steps.specs.Steps.{PassView, IsInRun, IsOfRun, HasSeen}
 
 -- a log whose run has been seen is of a run
 pub run_of_seen : (v : View) → HasSeen v → IsOfRun v.layout v.number v.log
@@ -19,12 +19,12 @@ is_join (Join v) = true
 is_join _ = false
 
 -- what every pass tells of its log
-abbrev pub TellsRun : Stand → Type 0
+abbrev pub TellsRun : PassView → Type 0
 TellsRun p = IsOfRun p.view.layout p.view.number p.view.log
 
-pub run_after : (p q : Stand) (e : Event) (r : Reply) → q.view.log ≡ p.view.log ++ (e, r) ∷ [] → is_join e ≡ false → TellsRun q → IsOfRun q.view.layout q.view.number q.view.log
+pub run_after : (p q : PassView) (e : Event) (r : Reply) → q.view.log ≡ p.view.log ++ (e, r) ∷ [] → is_join e ≡ false → TellsRun q → IsOfRun q.view.layout q.view.number q.view.log
 run_after p q e r step other run = run
 
 -- the hands of a pass in a run are apart
-pub apart_in_run : (p : Stand) → IsInRun p → AreApart p.view.layout (knowledge p.view)
+pub apart_in_run : (p : PassView) → IsInRun p → AreApart p.view.layout (knowledge p.view)
 apart_in_run p run = hands_are_apart p.view.layout (let least = run.fits.least in omega arith) p.view.number p.view.log run.run.is_part

@@ -27,7 +27,7 @@ use Rattle.nm_words.specs.Told.{told}
 use Rattle.nm_steps.specs.declared.view.View.{View}
 use Rattle.std.proofs.lemmas.List.{same_from_push}
 use Rattle.nm_steps.specs.Rules.{knowledge, known_births, answered_turn, logged, is_store, IsFound}
-use Rattle.nm_steps.specs.Steps.{Stand, May, IsReadyFor, IsDone, Stepped, HasTurn, IsOfRun, IsInRun, HasSeen, Tied, Laid, noted_sight, TakesStep}
+use Rattle.nm_steps.specs.Steps.{PassView, May, IsReadyFor, IsDone, Stepped, HasTurn, IsOfRun, IsInRun, HasSeen, Tied, Laid, noted_sight, TakesStep}
 use Rattle.nm_steps.proofs.Presence.{gone_kept, known_push}
 use Rattle.nm_steps.proofs.Asking.{within, seen_small, private_pooled}
 use Rattle.nm_steps.proofs.Extending.{IsPartOf, trace_after}
@@ -135,11 +135,11 @@ seen_after v e n f may =
 -- ---- a pass before and after a step
 
 -- a pass as clauses see it
-abbrev pub standing : Seat Unit View → Stand
+abbrev pub standing : Seat Unit View → PassView
 standing it = record { table = it.table_id; seat = it.id; view = it.me.0 }
 
 -- the event with some reply is in the log, and is the last turn that has been seen
-pub record HasTurned (p q : Stand) (e : Event) : Type 0 where
+pub record HasTurned (p q : PassView) (e : Event) : Type 0 where
   pub reply : Reply
   pub log : q.view.log ≡ p.view.log ++ (e, reply) ∷ []
   pub turn : HasTurn p q e reply
@@ -153,8 +153,8 @@ has_turned it after e n done = record {
 }
 
 -- with the reply that the log tells
-pub has_turn : (p q : Stand) (e : Event) (r : Reply) → Stepped p q e r → HasTurned p q e → HasTurn p q e r
-has_turn p q e r step t = subst (HasTurn p q e) (ap (λ (x : Entry). x.1) (same_from_push p.view.log p.view.log (e, t.reply) (e, r) (sym t.log ∙ ap (λ (z : Stand). z.view.log) step)).1) t.turn
+pub has_turn : (p q : PassView) (e : Event) (r : Reply) → Stepped p q e r → HasTurned p q e → HasTurn p q e r
+has_turn p q e r step t = subst (HasTurn p q e) (ap (λ (x : Entry). x.1) (same_from_push p.view.log p.view.log (e, t.reply) (e, r) (sym t.log ∙ ap (λ (z : PassView). z.view.log) step)).1) t.turn
 
 -- the epoch last read, if there is one, is no greater than the greatest
 small_seen : (o : Option ℕ) → ((s : ℕ) → o ≡ Some s → s ≤ last_number) → IfSome o (λ e. e ≤ last_number)
@@ -195,11 +195,11 @@ in_run_after it after number announcement brief e n tied may done =
     }
 
 -- what is done is a step of the pass, as clauses see it
-pub takes_step : (it after : Seat Unit View) (number announcement : ℕ) (brief : Brief) (e : Event) (n : ℕ) (p : Stand) (r : Reply) → Tied it number announcement brief → May it.me.0.layout it.me.0.number it.me.0.log e → IsDone it after e n
+pub takes_step : (it after : Seat Unit View) (number announcement : ℕ) (brief : Brief) (e : Event) (n : ℕ) (p : PassView) (r : Reply) → Tied it number announcement brief → May it.me.0.layout it.me.0.number it.me.0.log e → IsDone it after e n
     → Stepped p (standing after) e r → standing it ≡ p → TakesStep p (standing after) e r
 takes_step it after number announcement brief e n p r tied may done step is = record {
   step = step;
-  past = has_turn p (standing after) e r step (subst (λ (x : Stand). HasTurned x (standing after) e) is (has_turned it after e n done));
+  past = has_turn p (standing after) e r step (subst (λ (x : PassView). HasTurned x (standing after) e) is (has_turned it after e n done));
   run = in_run_after it after number announcement brief e n tied may done;
 }
 

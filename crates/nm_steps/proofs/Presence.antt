@@ -1,6 +1,6 @@
 -- A worker is there until it resigns, and what it knows after one entry more.
 use Rattle.std.proofs.Common.{◌≡◌, ℕ, ◌==◌, false, List, [], ◌∷◌, ◌++◌, refl, sym, ap, ◌∙◌}
-use Rattle.std.proofs.lemmas.Bool.{cond_both, cond-false, ne_eqb, eqb-false}
+use Rattle.std.proofs.lemmas.Bool.{cond-false, ne_eqb, eqb-false}
 use Rattle.nm_edge.specs.Layouts.{Layout}
 use Rattle.nm_model.specs.declared.event.Event.{Event}
 use Rattle.nm_model.specs.declared.event.Event.TheVariants.{Sight, SightFor, Announce, Leave, LeaveWith, Scan, Advance, Claim, Give, Look, Fill, Link, Flag, Tag, Splice, Join}
@@ -13,7 +13,7 @@ use Rattle.nm_laws.proofs.Learned.{sight_teaches, scan_teaches, look_teaches}
 use Rattle.nm_order.specs.Logs.{is_leaver, known_by}
 use Rattle.nm_order.proofs.LastEntries.{known_more}
 use Rattle.nm_steps.specs.Rules.{knowledge}
-use Rattle.nm_steps.specs.Steps.{Stand, Stepped}
+use Rattle.nm_steps.specs.Steps.{PassView, Stepped}
 
 -- no event but a join by which it resigns makes a worker gone
 pub gone_kept : (w : ℕ) (k : Knowledge) (e : Event) (r : Reply) → is_leaver w e ≡ false → (learn w k e r).gone ≡ k.gone
@@ -47,5 +47,5 @@ pub known_push : (w : ℕ) (L : Layout) (log : List Entry) (x : Entry) → known
 known_push w L log x = known_more w _ log x
 
 -- the same, of a pass and a step of its own
-pub known_after_step : (p q : Stand) (e : Event) (r : Reply) → Stepped p q e r → knowledge q.view ≡ learn p.view.number (knowledge p.view) e r
-known_after_step p q e r is = ap (λ (s : Stand). knowledge s.view) is ∙ known_push p.view.number p.view.layout p.view.log (e, r)
+pub known_after_step : (p q : PassView) (e : Event) (r : Reply) → Stepped p q e r → knowledge q.view ≡ learn p.view.number (knowledge p.view) e r
+known_after_step p q e r is = ap (λ (s : PassView). knowledge s.view) is ∙ known_push p.view.number p.view.layout p.view.log (e, r)

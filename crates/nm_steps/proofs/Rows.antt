@@ -32,7 +32,7 @@ use Rattle.nm_words.specs.Packing.{touched_field, left_word}
 use Rattle.nm_words.specs.Told.{told}
 use Rattle.nm_steps.specs.declared.view.View.{View}
 use Rattle.nm_steps.specs.Rules.{knowledge, known_births, Extends, Runs, Kept, answered_turn, logged}
-use Rattle.nm_steps.specs.Steps.{Stand, May, IsDone, HasSeen, Tied, Continues, Stepped, TakesStep}
+use Rattle.nm_steps.specs.Steps.{PassView, May, IsDone, HasSeen, Tied, Continues, Stepped, TakesStep}
 use Rattle.nm_steps.specs.Rows.{DoneInTurn, FoundTaken, shown_taken, DidClaims, CanPass, HasPassed}
 use Rattle.nm_steps.proofs.Growing.{goes_on_itself}
 use Rattle.nm_steps.proofs.Presence.{known_push}
@@ -259,7 +259,7 @@ module _ (it : Seat Unit View) (number announcement : ℕ) (brief : Brief) (from
       let r : Leaves it m number announcement brief from k = leaves k m table seat (omega (arith, high)) (λ j less. taken j (omega (arith, less))) did.1 in
       let e : Event = Claim (from + k) in
       let done : IsDone m after e n = record { table = refl; seat = refl; found = did.2.0; me = did.2.1; past = did.2.2 } in
-      let nodes : mid.layout.nodes ≡ it.me.0.layout.nodes = ap (λ (p : Stand). p.view.layout.nodes) r.on.same in
+      let nodes : mid.layout.nodes ≡ it.me.0.layout.nodes = ap (λ (p : PassView). p.view.layout.nodes) r.on.same in
       let may : May mid.layout mid.number mid.log e = allowed_claim mid.layout mid.number mid.log (from + k) (omega (arith, low)) (omega (arith, high, nodes)) in
       let is : told mid.layout (knowledge mid) (known_births mid) e n ≡ Taken = told_taken mid.layout (knowledge mid) (known_births mid) (from + k) n (taken k (omega arith)) in
       let me : after.me.0 ≡ logged mid e n (trace_in (ordered mid.layout) did.2.0.turns) = ap (λ (x : Me Unit View). x.0) did.2.1 in
@@ -273,7 +273,7 @@ module _ (it : Seat Unit View) (number announcement : ℕ) (brief : Brief) (from
         tied = tied_after m after number announcement brief brief e n r.tied may done refl;
         on = continues_then _ _ _ r.on (continues_by _ _ _ _ took);
         passed = (mid.log, r.passed, log);
-        learned = ap (λ (p : Stand). knowledge p.view) step ∙ (known_push mid.number mid.layout mid.log (e, Taken) ∙ (learn_taken mid.number (knowledge mid) (from + k) ∙ r.learned));
+        learned = ap (λ (p : PassView). knowledge p.view) step ∙ (known_push mid.number mid.layout mid.log (e, Taken) ∙ (learn_taken mid.number (knowledge mid) (from + k) ∙ r.learned));
       }
 
 -- the same of a look that was had

@@ -9,7 +9,7 @@ use Rattle.nm_model.specs.declared.reply.Reply.TheVariants.{Taken}
 use Rattle.nm_model.specs.Walks.{Entry}
 use Rattle.nm_steps.specs.declared.view.View.{View}
 use Rattle.nm_steps.specs.Rules.{Did}
-use Rattle.nm_steps.specs.Steps.{Board}
+use Rattle.nm_steps.specs.Steps.{TreeView}
 
 -- what was done at one slot, by the log before and after it
 abbrev pub Doing : Type 1
@@ -50,7 +50,7 @@ abbrev pub PassedOver : ℕ → ℕ → Step Unit → Me Unit View → ℕ → M
 PassedOver from most s me n after = DidClaims from (shown_taken n from most) me n after
 
 -- the pass of this seat can look at so many slots of one row, from a first one on, whose word is i
-pub record CanPass (b : Board) (it : Seat Unit View) (from most i : ℕ) : Type 0 where
+pub record CanPass (b : TreeView) (it : Seat Unit View) (from most i : ℕ) : Type 0 where
   pub table : it.table_id ≡ b.table
   pub words : b.table.words ≡ words b.layout
   pub empty : it.me.1 ≡ []

@@ -64,12 +64,12 @@ pub record HasEmptyHands (k : Knowledge) : Type 0 where
 -- ---- what clauses see of a table and of a pass
 
 -- what clauses see of a tree's words: which table they lie in, and the layout
-pub record Board : Type 0 where
+pub record TreeView : Type 0 where
   pub table : TableId
   pub layout : Layout
 
 -- what clauses see of a pass: its table, its seat there, and what that seat knows
-pub record Stand : Type 0 where
+pub record PassView : Type 0 where
   pub table : TableId
   pub seat : ℕ
   pub view : View
@@ -77,7 +77,7 @@ pub record Stand : Type 0 where
 -- ---- one operation on one word
 
 -- the pass of this seat can do this event, by the word i
-pub record IsReadyFor (b : Board) (it : Seat Unit View) (e : Event) (i : ℕ) : Type 0 where
+pub record IsReadyFor (b : TreeView) (it : Seat Unit View) (e : Event) (i : ℕ) : Type 0 where
   pub table : it.table_id ≡ b.table
   pub words : b.table.words ≡ words b.layout
   pub empty : it.me.1 ≡ []
@@ -109,7 +109,7 @@ pub record IsBlind (e : Event) (v : View) : Type 0 where
 -- ---- a pass and its steps
 
 -- the pass is one of this table's
-pub record IsOf (b : Board) (p : Stand) : Type 0 where
+pub record IsOf (b : TreeView) (p : PassView) : Type 0 where
   pub table : p.table ≡ b.table
   pub layout : p.view.layout ≡ b.layout
 
@@ -118,17 +118,17 @@ abbrev pub splice_of : FrozenChain → Event
 splice_of c = Splice c.ancestor c.side c.successor c.parent c.keep
 
 -- what a pass is allowed
-abbrev pub MayStep : Stand → Event → Type 0
+abbrev pub MayStep : PassView → Event → Type 0
 MayStep p e = May p.view.layout p.view.number p.view.log e
 
 -- this event with this reply is in the log, more has been seen, and nothing else changed
-abbrev pub Stepped : Stand → Stand → Event → Reply → Type 0
+abbrev pub Stepped : PassView → PassView → Event → Reply → Type 0
 Stepped p q e r = q ≡ record p
     { view = record p.view { log = p.view.log ++ (e, r) ∷ []; past = q.view.past } }
 
 -- and what has been seen: turns that go on from what had been, the last of them this event with
 -- this reply
-pub record HasTurn (p q : Stand) (e : Event) (r : Reply) : Type 0 where
+pub record HasTurn (p q : PassView) (e : Event) (r : Reply) : Type 0 where
   pub before : List Turn
   pub extends : Extends before p.view.past
   pub is : q.view.past ≡ before ++ answered_turn p.view.number e r ∷ []
@@ -142,13 +142,13 @@ pub record IsOfRun (L : Layout) (w : ℕ) (log : List Entry) : Type 0 where
 
 -- the pass's log is its worker's part of a run, in a layout that there is, and the worker has not
 -- resigned: what each step leaves
-pub record IsInRun (p : Stand) : Type 0 where
+pub record IsInRun (p : PassView) : Type 0 where
   pub fits : IsLayout p.view.layout
   pub run : IsOfRun p.view.layout p.view.number p.view.log
 
 -- what each step function leaves: the step, as the last turn of what has been seen, and a pass that
 -- is in a run
-pub record TakesStep (p q : Stand) (e : Event) (r : Reply) : Type 0 where
+pub record TakesStep (p q : PassView) (e : Event) (r : Reply) : Type 0 where
   pub step : Stepped p q e r
   pub past : HasTurn p q e r
   pub run : IsInRun q
@@ -191,17 +191,17 @@ abbrev pub fresh_view : Layout → ℕ → View
 fresh_view L k = viewing L (held_log k [] ∷ [])
 
 -- passes of workers k and on, which have done nothing yet
-abbrev pub AreFresh : Board → ℕ → List Stand → Type 0
+abbrev pub AreFresh : TreeView → ℕ → List PassView → Type 0
 AreFresh b k [] = Unit {0}
 AreFresh b k (p ∷ ps) = (p.table ≡ b.table) × (p.view ≡ fresh_view b.layout k)
     × AreFresh b (suc k) ps
 
 -- the first pass stands for both
-abbrev pub HasJoined : Stand → Stand → Stand → Type 0
+abbrev pub HasJoined : PassView → PassView → PassView → Type 0
 HasJoined p q all = all ≡ record p { view = record (joined p.view q.view) { past = all.view.past } }
 
 -- what a pass has seen goes on from what another one had seen
-pub record HasSeenAllOf (later earlier : Stand) : Type 0 where
+pub record HasSeenAllOf (later earlier : PassView) : Type 0 where
   pub goes_on : Extends later.view.past earlier.view.past
 
 -- what clauses see of a note
@@ -210,11 +210,11 @@ pub record Notice : Type 0 where
   pub past : List Turn
 
 -- a note tells what a pass had seen
-abbrev pub IsNoteOf : Stand → Notice → Type 0
+abbrev pub IsNoteOf : PassView → Notice → Type 0
 IsNoteOf p note = note ≡ record { table = p.table; past = p.view.past }
 
 -- a pass that hears a note has seen more, and has done nothing
-abbrev pub HasHeard : Stand → Stand → Type 0
+abbrev pub HasHeard : PassView → PassView → Type 0
 HasHeard p q = q ≡ record p { view = record p.view { past = q.view.past } }
 
 -- some ordered run ends with these words, and goes on from what the view has seen; the view's logs
@@ -229,11 +229,11 @@ pub record Ends (L : Layout) (words : List ℕ) (view : View) : Type 0 where
   pub past : Extends (trace_in (ordered L) turns) view.past
 
 -- nothing but the log and what has been seen changed
-abbrev pub IsSamePass : Stand → Stand → Type 0
+abbrev pub IsSamePass : PassView → PassView → Type 0
 IsSamePass p q = q ≡ record p { view = record p.view { log = q.view.log; past = q.view.past } }
 
 -- what some steps leave: it is the same pass, has seen all that it had seen, and is in a run
-pub record Continues (p q : Stand) : Type 0 where
+pub record Continues (p q : PassView) : Type 0 where
   pub same : IsSamePass p q
   pub past : HasSeenAllOf q p
   pub run : IsInRun q

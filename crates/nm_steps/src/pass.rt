@@ -32,9 +32,9 @@ pub struct Shared {
 }
 
 impl Model for Shared {
-    ghost use Rattle.nm_steps.specs.Steps.{Board, Laid};
+    ghost use Rattle.nm_steps.specs.Steps.{TreeView, Laid};
 
-    ghost Value = { Board };
+    ghost Value = { TreeView };
 
     ghost view = { λ s. record { table = s.table.shared.table_id; layout = s.layout } };
 
@@ -52,9 +52,9 @@ pub struct Pass {
 }
 
 impl Model for Pass {
-    ghost use Rattle.nm_steps.specs.Steps.{Stand, Tied};
+    ghost use Rattle.nm_steps.specs.Steps.{PassView, Tied};
 
-    ghost Value = { Stand };
+    ghost Value = { PassView };
 
     ghost view = { λ p. record { table = p.seat.table_id; seat = p.seat.id; view = p.seat.me.0 } };
 

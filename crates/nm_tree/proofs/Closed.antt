@@ -14,13 +14,13 @@ use Rattle.nm_report.specs.Ended.{IsEndOf, end_of}
 use Rattle.nm_report.proofs.Ends.{layout_is}
 use Rattle.nm_steps.specs.declared.view.View.{View}
 use Rattle.nm_steps.specs.Rules.{Extends, IsShown, LogsAre, joined, knowledge, stands, once_below}
-use Rattle.nm_steps.specs.Steps.{Board, Stand, IsOf, IsInRun, Ends, HasJoined, HasSeen, HasSeenAllOf}
+use Rattle.nm_steps.specs.Steps.{TreeView, PassView, IsOf, IsInRun, Ends, HasJoined, HasSeen, HasSeenAllOf}
 use Rattle.nm_steps.proofs.Growing.{goes_on_itself, goes_on_from_nothing, goes_on_through}
 use Rattle.nm_steps.proofs.Keeping.{live, once_is}
 use Rattle.nm_steps.proofs.Cutting.{times}
 use Rattle.nm_epoch.specs.declared.collecting.HeldQueue.{HeldQueue}
 use Rattle.nm_epoch.specs.Collecting.{AreHeld}
-use Rattle.nm_tree.specs.Workers.{Hand, IsWorker, TellLedgers, HasOrigin, AreAbove, Ascend}
+use Rattle.nm_tree.specs.Workers.{WorkerView, IsWorker, TellLedgers, HasOrigin, AreAbove, Ascend}
 use Rattle.nm_tree.specs.Closing.{AreAllOf, AreFrom, GoesOnFromAll, IsClosed, IsOfTurns, StandsForAll, all_joined, all_merged, given_in}
 use Rattle.nm_tree.proofs.EndCounts.{sum_is}
 use Rattle.nm_tree.proofs.EndLaws.{ascend_of, set_of, totals_of}
@@ -34,58 +34,58 @@ use Rattle.nm_tree.proofs.Merging.{length-merged}
 
 -- ---- the workers one by one
 
-pub all_before : (b : Board) (ws : List Hand) (w : Hand) → AreAllOf b (ws ++ w ∷ []) → AreAllOf b ws × IsOf b w.pass
+pub all_before : (b : TreeView) (ws : List WorkerView) (w : WorkerView) → AreAllOf b (ws ++ w ∷ []) → AreAllOf b ws × IsOf b w.pass
 all_before b [] w are = (tt, are.0)
 all_before b (u ∷ ws) w are = let rest = all_before b ws w are.1 in ((are.0, rest.0), rest.1)
 
 -- and one more at the end
-pub all_and : (b : Board) (ws : List Hand) (w : Hand) → AreAllOf b ws → IsOf b w.pass → AreAllOf b (ws ++ w ∷ [])
+pub all_and : (b : TreeView) (ws : List WorkerView) (w : WorkerView) → AreAllOf b ws → IsOf b w.pass → AreAllOf b (ws ++ w ∷ [])
 all_and b [] w are own = (own, tt)
 all_and b (u ∷ ws) w are own = (are.0, all_and b ws w are.1 own)
 
 -- the pass of both is of that tree
-pub still_of : (b : Board) (p o q : Stand) → HasJoined p o q → IsOf b p → IsOf b q
-still_of b p o q is own = record { table = ap (λ (x : Stand). x.table) is ∙ own.table; layout = ap (λ (x : Stand). x.view.layout) is ∙ own.layout }
+pub still_of : (b : TreeView) (p o q : PassView) → HasJoined p o q → IsOf b p → IsOf b q
+still_of b p o q is own = record { table = ap (λ (x : PassView). x.table) is ∙ own.table; layout = ap (λ (x : PassView). x.view.layout) is ∙ own.layout }
 
 -- ---- what the one that stands for all has seen
 
-pub alone : (w : Hand) → GoesOnFromAll w.pass.view.past (w ∷ [])
-alone w = All-cons (λ (u : Hand). Extends w.pass.view.past u.pass.view.past) w [] (goes_on_itself w.pass.view.past) (All-nil (λ (u : Hand). Extends w.pass.view.past u.pass.view.past))
+pub alone : (w : WorkerView) → GoesOnFromAll w.pass.view.past (w ∷ [])
+alone w = All-cons (λ (u : WorkerView). Extends w.pass.view.past u.pass.view.past) w [] (goes_on_itself w.pass.view.past) (All-nil (λ (u : WorkerView). Extends w.pass.view.past u.pass.view.past))
 
 -- and each has seen a run
-pub one_seen : (w : Hand) → HasSeen w.pass.view → All (λ (u : Hand). HasSeen u.pass.view) (w ∷ [])
-one_seen w seen = All-cons (λ (u : Hand). HasSeen u.pass.view) w [] seen (All-nil (λ (u : Hand). HasSeen u.pass.view))
+pub one_seen : (w : WorkerView) → HasSeen w.pass.view → All (λ (u : WorkerView). HasSeen u.pass.view) (w ∷ [])
+one_seen w seen = All-cons (λ (u : WorkerView). HasSeen u.pass.view) w [] seen (All-nil (λ (u : WorkerView). HasSeen u.pass.view))
 
-pub one_more_seen : (w : Hand) (us : List Hand) → HasSeen w.pass.view → All (λ (u : Hand). HasSeen u.pass.view) us → All (λ (u : Hand). HasSeen u.pass.view) (w ∷ us)
-one_more_seen w us seen all = All-cons (λ (u : Hand). HasSeen u.pass.view) w us seen all
+pub one_more_seen : (w : WorkerView) (us : List WorkerView) → HasSeen w.pass.view → All (λ (u : WorkerView). HasSeen u.pass.view) us → All (λ (u : WorkerView). HasSeen u.pass.view) (w ∷ us)
+one_more_seen w us seen all = All-cons (λ (u : WorkerView). HasSeen u.pass.view) w us seen all
 
-pub stands_for_one_more : (w u : Hand) (us : List Hand) (p q : Stand) → HasJoined p w.pass q → StandsForAll (u ∷ us) p.view → StandsForAll (w ∷ u ∷ us) q.view
-stands_for_one_more w u us p q joins stands = ap (λ (x : Stand). x.view) joins ∙ ap (λ (v : View). record (joined v w.pass.view) { past = q.view.past }) stands
+pub stands_for_one_more : (w u : WorkerView) (us : List WorkerView) (p q : PassView) → HasJoined p w.pass q → StandsForAll (u ∷ us) p.view → StandsForAll (w ∷ u ∷ us) q.view
+stands_for_one_more w u us p q joins stands = ap (λ (x : PassView). x.view) joins ∙ ap (λ (v : View). record (joined v w.pass.view) { past = q.view.past }) stands
 
 -- a run goes on from what one saw from which it goes on
-pub goes_on_from_earlier : (run earlier : List Turn) (ws : List Hand) → Extends run earlier → GoesOnFromAll earlier ws → GoesOnFromAll run ws
+pub goes_on_from_earlier : (run earlier : List Turn) (ws : List WorkerView) → Extends run earlier → GoesOnFromAll earlier ws → GoesOnFromAll run ws
 goes_on_from_earlier run earlier ws more all i w less = goes_on_through run earlier (slice_index_or ws i w).pass.view.past more (all i w less)
 
-pub goes_on_from_one_more : (w : Hand) (us : List Hand) (p q : Stand) → HasSeenAllOf q p → HasSeenAllOf q w.pass → GoesOnFromAll p.view.past us → GoesOnFromAll q.view.past (w ∷ us)
-goes_on_from_one_more w us p q seen told all = All-cons (λ (u : Hand). Extends q.view.past u.pass.view.past) w us told.goes_on (goes_on_from_earlier q.view.past p.view.past us seen.goes_on all)
+pub goes_on_from_one_more : (w : WorkerView) (us : List WorkerView) (p q : PassView) → HasSeenAllOf q p → HasSeenAllOf q w.pass → GoesOnFromAll p.view.past us → GoesOnFromAll q.view.past (w ∷ us)
+goes_on_from_one_more w us p q seen told all = All-cons (λ (u : WorkerView). Extends q.view.past u.pass.view.past) w us told.goes_on (goes_on_from_earlier q.view.past p.view.past us seen.goes_on all)
 
 -- so from what the last one saw, whose own log the joined view has
-goes_on_from_last : (run : List Turn) (ws : List Hand) → GoesOnFromAll run ws → Extends run (all_joined ws).past
+goes_on_from_last : (run : List Turn) (ws : List WorkerView) → GoesOnFromAll run ws → Extends run (all_joined ws).past
 goes_on_from_last run [] all = goes_on_from_nothing run
-goes_on_from_last run (w ∷ []) all = All-head (λ (u : Hand). Extends run u.pass.view.past) w [] all
-goes_on_from_last run (w ∷ u ∷ ws) all = goes_on_from_last run (u ∷ ws) (All-tail (λ (v : Hand). Extends run v.pass.view.past) w (u ∷ ws) all)
+goes_on_from_last run (w ∷ []) all = All-head (λ (u : WorkerView). Extends run u.pass.view.past) w [] all
+goes_on_from_last run (w ∷ u ∷ ws) all = goes_on_from_last run (u ∷ ws) (All-tail (λ (v : WorkerView). Extends run v.pass.view.past) w (u ∷ ws) all)
 
 -- as many queues as workers were given
-pub all_given : (ws : List Hand) → length (all_merged ws) ≡ given_in ws
+pub all_given : (ws : List WorkerView) → length (all_merged ws) ≡ given_in ws
 all_given [] = refl
-all_given (w ∷ []) = let one = sum_by-cons (λ (x : Hand). length x.queues) w [] in omega (arith, one)
+all_given (w ∷ []) = let one = sum_by-cons (λ (x : WorkerView). length x.queues) w [] in omega (arith, one)
 all_given (w ∷ u ∷ ws) =
     let rest = all_given (u ∷ ws) in
     let both = length-merged (all_merged (u ∷ ws)) w.queues in
-    let sum = sum_by-cons (λ (x : Hand). length x.queues) w (u ∷ ws) in
+    let sum = sum_by-cons (λ (x : WorkerView). length x.queues) w (u ∷ ws) in
     omega (arith, rest, both, sum)
 
-at_least_one : (ws : List Hand) → 1 ≤ given_in ws → 1 ≤ length ws
+at_least_one : (ws : List WorkerView) → 1 ≤ given_in ws → 1 ≤ length ws
 at_least_one [] some' = absurd (omega (arith, some'))
 at_least_one (w ∷ ws) some' = omega arith
 
@@ -117,8 +117,8 @@ all_in_order n (h ∷ hs) up below many =
 
 -- ---- the whole
 
-module _ (b : Board) (w : Hand) (home r : ℕ) (ws : List Hand) (kept : List ℕ) (free reached : ℕ) (words : List ℕ) (is : IsWorker w home r)
-    (view : StandsForAll ws w.pass.view) (seen : GoesOnFromAll w.pass.view.past ws) (queues : w.queues ≡ all_merged ws) (enough : b.layout.workers ≤ given_in ws) (of_runs : All (λ (u : Hand). HasSeen u.pass.view) ws) (end : Ends b.layout words w.pass.view) (run : IsInRun w.pass)
+module _ (b : TreeView) (w : WorkerView) (home r : ℕ) (ws : List WorkerView) (kept : List ℕ) (free reached : ℕ) (words : List ℕ) (is : IsWorker w home r)
+    (view : StandsForAll ws w.pass.view) (seen : GoesOnFromAll w.pass.view.past ws) (queues : w.queues ≡ all_merged ws) (enough : b.layout.workers ≤ given_in ws) (of_runs : All (λ (u : WorkerView). HasSeen u.pass.view) ws) (end : Ends b.layout words w.pass.view) (run : IsInRun w.pass)
     (keys_are : (e' : IsEndOf b.layout words) → kept ≡ keys (end_of b.layout words e')) (free_are : (e' : IsEndOf b.layout words) → free ≡ (counts (end_of b.layout words e')).pool)
     (reached_are : (e' : IsEndOf b.layout words) → reached ≡ (counts (end_of b.layout words e')).reached) where
   below : (o : ℕ) → HasOrigin o w.queues → o < b.layout.workers

@@ -4,7 +4,7 @@ use Rattle.std.specs.Prelude.{Err}
 use Rattle.nm_edge.specs.Layouts.{Layout, IsLayout}
 use Rattle.nm_edge.specs.declared.node.NodeId.{NodeId}
 use Rattle.nm_edge.specs.declared.placement.Fit.{Fit}
-use Rattle.nm_steps.specs.Steps.{Board, Stand, IsOf, IsSamePass, HasSeen, HasSeenAllOf}
+use Rattle.nm_steps.specs.Steps.{TreeView, PassView, IsOf, IsSamePass, HasSeen, HasSeenAllOf}
 use Rattle.nm_calls.specs.declared.inserting.NotInserted.TheVariants as lost
 use Rattle.nm_calls.specs.declared.deleting.Missed.TheVariants as missed
 use Rattle.nm_calls.specs.Calls.{HasMissed}
@@ -25,58 +25,58 @@ use Rattle.nm_busy.proofs.LostWalked.{busy_many_were_disturbed, busy_nexts_were_
 use Rattle.nm_busy.proofs.HinderedCalls.{busy_inserts_were_lost, busy_deletes_were_lost, unfinished_deletes_were_lost, unfinished_finishes_were_lost}
 
 -- of a tree and a worker whose insides are b and o, a call that ends at q
-module _ (b d : Board) (o p q : Stand) (k tries : ℕ) (board : b ≡ d) (at : o ≡ p) (seen : HasSeen o.view) (after : HasSeen q.view) (fits : IsLayout o.view.layout) (same : IsSamePass o q) (past : HasSeenAllOf q o) where
+module _ (b d : TreeView) (o p q : PassView) (k tries : ℕ) (tree : b ≡ d) (at : o ≡ p) (seen : HasSeen o.view) (after : HasSeen q.view) (fits : IsLayout o.view.layout) (same : IsSamePass o q) (past : HasSeenAllOf q o) where
   enough : 5 ≤ o.view.layout.nodes
   enough = let least = fits.least in omega (arith, least)
 
   layouts : IsOf d p → o.view.layout ≡ b.layout
-  layouts own = ap (λ (x : Stand). x.view.layout) at ∙ (own.layout ∙ ap (λ (x : Board). x.layout) (sym board))
+  layouts own = ap (λ (x : PassView). x.view.layout) at ∙ (own.layout ∙ ap (λ (x : TreeView). x.layout) (sym tree))
 
   -- nothing was pending by what o had seen
   rested : IsOf d p → NonePends d.layout p.view.past → NonePends o.view.layout o.view.past
   rested own none =
-      subst (λ (L : Layout). NonePends L o.view.past) (sym (layouts own ∙ ap (λ (x : Board). x.layout) board))
-      (subst (λ (x : Stand). NonePends d.layout x.view.past) (sym at) none)
+      subst (λ (L : Layout). NonePends L o.view.past) (sym (layouts own ∙ ap (λ (x : TreeView). x.layout) tree))
+      (subst (λ (x : PassView). NonePends d.layout x.view.past) (sym at) none)
 
   pub lookup_disturbed : IsOf d p → HasMissed b.layout tries k o.view.log q.view.log → WasBusy p q tries
   lookup_disturbed own did =
       let layout = layouts own in
-      subst (λ (x : Stand). WasBusy x q tries) at
+      subst (λ (x : PassView). WasBusy x q tries) at
       (busy_lookups_were_disturbed k tries o q seen after enough same past (subst (λ (L : Layout). HasMissed L tries k o.view.log q.view.log) (sym layout) did))
 
   pub insert_disturbed : IsOf d p → (f : Fit) → InsertDid f b.layout tries k o.view.log q.view.log (Err lost.Busy) → ChangeWasBusy p q tries
   insert_disturbed own f did =
-      subst (λ (x : Stand). ChangeWasBusy x q tries) at
+      subst (λ (x : PassView). ChangeWasBusy x q tries) at
       (busy_inserts_were_lost f k tries o q seen after enough fits.few same past (subst (λ (L : Layout). InsertDid f L tries k o.view.log q.view.log (Err lost.Busy)) (sym (layouts own)) did))
 
   pub delete_disturbed : IsOf d p → DeleteDid b.layout tries k o.view.log q.view.log (Err missed.Busy) → ChangeWasBusy p q tries
   delete_disturbed own did =
-      subst (λ (x : Stand). ChangeWasBusy x q tries) at
+      subst (λ (x : PassView). ChangeWasBusy x q tries) at
       (busy_deletes_were_lost k tries o q seen after enough fits.few same past (subst (λ (L : Layout). DeleteDid L tries k o.view.log q.view.log (Err missed.Busy)) (sym (layouts own)) did))
 
   pub delete_lost : IsOf d p → (n : NodeId) → IsRemoving q k n → LosesAfterFlag b.layout tries k o.view.log q.view.log n → WasHindered p q (tries - 2)
   delete_lost own n removing did =
-      subst (λ (x : Stand). WasHindered x q (tries - 2)) at
+      subst (λ (x : PassView). WasHindered x q (tries - 2)) at
       (unfinished_deletes_were_lost k tries n o q seen after enough fits.few same past removing (subst (λ (L : Layout). LosesAfterFlag L tries k o.view.log q.view.log n) (sym (layouts own)) did))
 
   pub finish_lost : IsOf d p → (n : NodeId) → IsRemoving q k n → LosesEachTry b.layout k n tries o.view.log q.view.log → WasHindered p q tries
   finish_lost own n removing did =
-      subst (λ (x : Stand). WasHindered x q tries) at
+      subst (λ (x : PassView). WasHindered x q tries) at
       (unfinished_finishes_were_lost k tries n o q seen after enough fits.few same past removing (subst (λ (L : Layout). LosesEachTry L k n tries o.view.log q.view.log) (sym (layouts own)) did))
 
   pub many_disturbed : IsOf d p → (keys : List ℕ) → PlainMissed (GiveUpInTurns b.layout keys) tries o.view.log q.view.log → ManyWereBusy p q tries
   many_disturbed own keys missed =
-      subst (λ (x : Stand). ManyWereBusy x q tries) at
+      subst (λ (x : PassView). ManyWereBusy x q tries) at
       (busy_many_were_disturbed keys tries o q seen after enough same past (subst (λ (L : Layout). PlainMissed (GiveUpInTurns L keys) tries o.view.log q.view.log) (sym (layouts own)) missed))
 
   pub next_disturbed : IsOf d p → PlainMissed (GiveUpNext b.layout tries k) tries o.view.log q.view.log → NearWasBusy p q tries
   next_disturbed own missed =
-      subst (λ (x : Stand). NearWasBusy x q tries) at
+      subst (λ (x : PassView). NearWasBusy x q tries) at
       (busy_nexts_were_disturbed k tries o q seen after enough same past (subst (λ (L : Layout). PlainMissed (GiveUpNext L tries k) tries o.view.log q.view.log) (sym (layouts own)) missed))
 
   pub prev_disturbed : IsOf d p → PlainMissed (GiveUpPrev b.layout tries k) tries o.view.log q.view.log → NearWasBusy p q tries
   prev_disturbed own missed =
-      subst (λ (x : Stand). NearWasBusy x q tries) at
+      subst (λ (x : PassView). NearWasBusy x q tries) at
       (busy_prevs_were_disturbed k tries o q seen after enough same past (subst (λ (L : Layout). PlainMissed (GiveUpPrev L tries k) tries o.view.log q.view.log) (sym (layouts own)) missed))
 
   -- ---- alone
@@ -85,7 +85,7 @@ module _ (b d : Board) (o p q : Stand) (k tries : ℕ) (board : b ≡ d) (at : o
   Alone = IsAlone p q
 
   mine : Alone → IsAlone o q
-  mine alone = subst (λ (x : Stand). IsAlone x q) (sym at) alone
+  mine alone = subst (λ (x : PassView). IsAlone x q) (sym at) alone
 
   pub lookup_alone : IsOf d p → Alone → HasMissed b.layout tries k o.view.log q.view.log → tries ≡ 0
   lookup_alone own alone did =

@@ -15,7 +15,7 @@ use Rattle.nm_report.specs.Ended.{IsEndOf, end_of}
 use Rattle.nm_steps.specs.declared.view.View.{View}
 use Rattle.nm_steps.specs.Rules.{knowledge, IsShown}
 use Rattle.nm_tree.specs.Closing.{AreFrom}
-use Rattle.nm_tree.specs.Workers.{Hand, IsWorker}
+use Rattle.nm_tree.specs.Workers.{WorkerView, IsWorker}
 use Rattle.nm_tree.proofs.EndWorkers.{here, inside, worker_at, there, own, no_drafts}
 
 undrafted : (k : Knowledge) (x : ℕ) → length k.drafts ≡ 0 → is_private k x ≡ true → ⊥
@@ -24,7 +24,7 @@ undrafted k x none' is = not_true (sym (ap (λ (ds : List (ℕ × Draft)). has d
     not_true : false ≡ true → ⊥
     not_true e = absurd (cc)
 
-module _ (L : Layout) (words : List ℕ) (e : IsEndOf L words) (w : Hand) (home r : ℕ) (is : IsWorker w home r) (is_shown : IsShown L (trace_in (ordered L) e.turns) w.pass.view)
+module _ (L : Layout) (words : List ℕ) (e : IsEndOf L words) (w : WorkerView) (home r : ℕ) (is : IsWorker w home r) (is_shown : IsShown L (trace_in (ordered L) e.turns) w.pass.view)
     (each : AreFrom 0 w.queues) (all : length w.queues ≡ L.workers) where
   abbrev s : State
   s = end_of L words e

@@ -29,7 +29,7 @@ use Rattle.nm_epoch.specs.declared.collecting.Entry.{Entry}
 use Rattle.nm_epoch.specs.declared.collecting.HeldQueue.{HeldQueue}
 use Rattle.nm_epoch.specs.Collecting.{AreHeld, IsQueueOf, queued}
 use Rattle.nm_tree.specs.Closing.{AreFrom, IsOfTurns}
-use Rattle.nm_tree.specs.Workers.{Hand, IsWorker}
+use Rattle.nm_tree.specs.Workers.{WorkerView, IsWorker}
 use Rattle.nm_tree.proofs.EndLaws.{set_of}
 use Rattle.nm_tree.proofs.WonAnswers.{turns_are_of_workers}
 use Rattle.nm_tree.proofs.EndPlaces.{known, none_private}
@@ -50,7 +50,7 @@ nodes_of : (es : List Entry) → map (λ (e : Entry). e.node) es ≡ map node_in
 nodes_of [] = refl
 nodes_of (e ∷ es) = ap (λ (ns : List NodeId). e.node ∷ ns) (nodes_of es)
 
-module _ (L : Layout) (words : List ℕ) (e : IsEndOf L words) (w : Hand) (home r : ℕ) (is : IsWorker w home r) (is_shown : IsShown L (trace_in (ordered L) e.turns) w.pass.view)
+module _ (L : Layout) (words : List ℕ) (e : IsEndOf L words) (w : WorkerView) (home r : ℕ) (is : IsWorker w home r) (is_shown : IsShown L (trace_in (ordered L) e.turns) w.pass.view)
     (each : AreFrom 0 w.queues) (all : length w.queues ≡ L.workers) where
   abbrev turns : List Turn
   turns = trace_in (ordered L) e.turns

@@ -20,7 +20,7 @@ use Rattle.nm_steps.specs.Rules.{knowledge, LogsAre, IsShown}
 use Rattle.nm_steps.proofs.Keeping.{live}
 use Rattle.nm_epoch.specs.declared.collecting.HeldQueue.{HeldQueue}
 use Rattle.nm_tree.specs.Closing.{AreFrom}
-use Rattle.nm_tree.specs.Workers.{Hand, IsWorker, HasNumber, HasOrigin, HoldNoSlot}
+use Rattle.nm_tree.specs.Workers.{WorkerView, IsWorker, HasNumber, HasOrigin, HoldNoSlot}
 use Rattle.nm_tree.proofs.Heirs.{logs}
 use Rattle.nm_tree.proofs.United.{empty_hands}
 
@@ -53,7 +53,7 @@ nothing_of l L t (h ∷ hs) are none' u (inr has) = nothing_of l L t hs are.2 no
 
 -- ---- the whole
 
-module _ (L : Layout) (words : List ℕ) (e : IsEndOf L words) (w : Hand) (home r : ℕ) (is : IsWorker w home r) (is_shown : IsShown L (trace_in (ordered L) e.turns) w.pass.view)
+module _ (L : Layout) (words : List ℕ) (e : IsEndOf L words) (w : WorkerView) (home r : ℕ) (is : IsWorker w home r) (is_shown : IsShown L (trace_in (ordered L) e.turns) w.pass.view)
     (each : AreFrom 0 w.queues) (all : length w.queues ≡ L.workers) where
   abbrev s : State
   s = end_of L words e

@@ -10,7 +10,7 @@ use Rattle.nm_order.specs.History.{pin_of}
 use Rattle.nm_order.specs.Logs.{part_of}
 use Rattle.nm_model.specs.Histories.{call_begun}
 use Rattle.nm_theorem.proofs.StandingAnswers.{call_by_log}
-use Rattle.nm_steps.specs.Steps.{HasSeen, Stand}
+use Rattle.nm_steps.specs.Steps.{HasSeen, PassView}
 use Rattle.nm_epoch.specs.Resting.{search}
 use Rattle.nm_calls.specs.declared.deleting.Unfinished.{Unfinished}
 use Rattle.nm_calls.specs.Deletes.{IsRemoving}
@@ -18,11 +18,11 @@ use Rattle.nm_busy.specs.Pending.{HasDeletePending, leaf_after}
 use Rattle.nm_busy.proofs.PendingTurns.{leaf_is_told}
 use Rattle.nm_tree.specs.Workers.{IsAs}
 
-leaf_seen : (p : Stand) → HasSeen p.view → leaf_after p.view.number None p.view.past ≡ (search p).flagged
+leaf_seen : (p : PassView) → HasSeen p.view → leaf_after p.view.number None p.view.past ≡ (search p).flagged
 leaf_seen p seen = leaf_is_told p.view.number idle p.view.past ∙ ap (λ (l : List Entry). (search_after idle l).flagged) seen.is_part
 
 -- a delete that may go on to remove its leaf
-pub pending_seen : (p : Stand) (k : ℕ) (leaf : NodeId) → HasSeen p.view → IsRemoving p k leaf → HasDeletePending p.view.past p.view.number k leaf
+pub pending_seen : (p : PassView) (k : ℕ) (leaf : NodeId) → HasSeen p.view → IsRemoving p k leaf → HasDeletePending p.view.past p.view.number k leaf
 pending_seen p k leaf seen r = record {
   pin = pin_of p.view.layout seen.events p.view.number;
   call = ap (call_begun p.view.number) seen.are
@@ -32,10 +32,10 @@ pending_seen p k leaf seen r = record {
 }
 
 -- and with none pending
-none_flagged : (p : Stand) (u : Option Unfinished) (e : Option ℕ) → IsAs p u e → u ≡ None → (search p).flagged ≡ None
+none_flagged : (p : PassView) (u : Option Unfinished) (e : Option ℕ) → IsAs p u e → u ≡ None → (search p).flagged ≡ None
 none_flagged p None None is none' = ap (λ (s : Search). s.flagged) is.idle
 none_flagged p None (Some e) is none' = ap (λ (s : Search). s.flagged) is.search
 none_flagged p (Some n) e is none' = absurd (none-some n (sym none'))
 
-pub none_seen : (p : Stand) (u : Option Unfinished) (e : Option ℕ) → HasSeen p.view → IsAs p u e → u ≡ None → leaf_after p.view.number None p.view.past ≡ None
+pub none_seen : (p : PassView) (u : Option Unfinished) (e : Option ℕ) → HasSeen p.view → IsAs p u e → u ≡ None → leaf_after p.view.number None p.view.past ≡ None
 none_seen p u e seen is none' = leaf_seen p seen ∙ none_flagged p u e is none'

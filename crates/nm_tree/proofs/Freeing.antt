@@ -5,7 +5,7 @@ use Rattle.nm_model.specs.declared.ledger.Ledger.{Ledger}
 use Rattle.nm_model.specs.Ledgers.{held, label}
 use Rattle.nm_model.specs.Maps.{get}
 use Rattle.nm_steps.specs.Rules.{knowledge}
-use Rattle.nm_steps.specs.Steps.{Stand, IsSamePass, IsInRun}
+use Rattle.nm_steps.specs.Steps.{PassView, IsSamePass, IsInRun}
 use Rattle.nm_epoch.specs.declared.collecting.Entry.{Entry}
 use Rattle.nm_epoch.specs.declared.collecting.HeldQueue.{HeldQueue}
 use Rattle.nm_epoch.specs.declared.collecting.Collected.{Collected}
@@ -15,7 +15,7 @@ use Rattle.nm_epoch.specs.Resting.{epochs}
 use Rattle.nm_walks.specs.WonCounts.{CountsWon}
 use Rattle.nm_edge.specs.declared.placement.Fit.{Fit}
 use Rattle.nm_epoch.proofs.OneQueue.{both_parts}
-use Rattle.nm_tree.specs.Workers.{Hand, IsWorker, IsCounted, AreCounted, HasOrigin, AreAbove, Ascend, QueueStandsAt, log_held_of, ledger_in}
+use Rattle.nm_tree.specs.Workers.{WorkerView, IsWorker, IsCounted, AreCounted, HasOrigin, AreAbove, Ascend, QueueStandsAt, log_held_of, ledger_in}
 use Rattle.nm_tree.proofs.HeldLedgers.{split_in_run, retired_alike}
 use Rattle.nm_tree.proofs.Numbers.{numbers_stay, resigned_stay, room_stays}
 use Rattle.nm_tree.proofs.OwnQueue.{quiet_of}
@@ -67,7 +67,7 @@ seen_quietly : (u : Bool) (epoch : ℕ) (ls : List (Option Ledger)) → u ≡ fa
 seen_quietly true epoch ls is = absurd (cc)
 seen_quietly false epoch ls is = refl
 
-all_still : (epoch : ℕ) (p q : Stand) (hs gs : List HeldQueue) → (epochs p).unlabelled ≡ false → HaveLost epoch hs gs → KeepsOtherLedgers epoch hs (knowledge p.view) (knowledge q.view)
+all_still : (epoch : ℕ) (p q : PassView) (hs gs : List HeldQueue) → (epochs p).unlabelled ≡ false → HaveLost epoch hs gs → KeepsOtherLedgers epoch hs (knowledge p.view) (knowledge q.view)
     → ((o : ℕ) → IsSome (held (knowledge p.view).ledgers o) → HasOrigin o hs) → (o : ℕ) → IsSome (held (knowledge q.view).ledgers o) → HasOrigin o gs
 all_still epoch p q hs gs labelled lost others all o some' =
     elim (has_or_none o hs) [
@@ -84,7 +84,7 @@ all_still epoch p q hs gs labelled lost others all o some' =
 freed_more_capped : (a f g r s h i n : ℕ) → a ≡ capped f → r ≡ f + h → s ≡ g + i → s ≡ r → n + i ≡ h → capped (a + n) ≡ capped g
 freed_more_capped a f g r s h i n was old new same parts = omega (arith, was, old, new, same, parts)
 
-freed_counted : (epoch : ℕ) (p q : Stand) (h g : HeldQueue) → IsSamePass p q → IsInRun p → IsInRun q → Quiet p.view.log q.view.log → KeepsRetired (knowledge p.view) (knowledge q.view)
+freed_counted : (epoch : ℕ) (p q : PassView) (h g : HeldQueue) → IsSamePass p q → IsInRun p → IsInRun q → Quiet p.view.log q.view.log → KeepsRetired (knowledge p.view) (knowledge q.view)
     → IsQueueOf (knowledge p.view) h.origin h.queue.items → IsQueueOf (knowledge q.view) g.origin g.queue.items → HasLost epoch h g → IsCounted p.view h → IsCounted q.view g
 freed_counted epoch p q h g same begun run quiet' retired was is lost old =
     let there : IsQueueOf (knowledge q.view) h.origin g.queue.items = let P : ℕ → Type 0 = λ o. IsQueueOf (knowledge q.view) o g.queue.items in subst P lost.origin is in
@@ -99,7 +99,7 @@ freed_counted epoch p q h g same begun run quiet' retired was is lost old =
     let there' : P g.origin g.counts = subst (λ (t : Tally). P g.origin t) (sym lost.counts) (subst (λ (o : ℕ). P o (freed_more (length (ripe_part epoch h.queue.items)) h.counts)) (sym lost.origin) here) in
     record { won = there'.0; freed = there'.1 }
 
-all_freed_counted : (epoch : ℕ) (p q : Stand) (hs gs : List HeldQueue) → IsSamePass p q → IsInRun p → IsInRun q → Quiet p.view.log q.view.log → KeepsRetired (knowledge p.view) (knowledge q.view)
+all_freed_counted : (epoch : ℕ) (p q : PassView) (hs gs : List HeldQueue) → IsSamePass p q → IsInRun p → IsInRun q → Quiet p.view.log q.view.log → KeepsRetired (knowledge p.view) (knowledge q.view)
     → AreHeld (knowledge p.view) hs → AreHeld (knowledge q.view) gs → HaveLost epoch hs gs → AreCounted p.view hs → AreCounted q.view gs
 all_freed_counted epoch p q [] [] same begun run quiet' retired was is lost are = tt
 all_freed_counted epoch p q [] (g ∷ gs) same begun run quiet' retired was is lost are = absurd lost
@@ -110,7 +110,7 @@ all_freed_counted epoch p q (h ∷ hs) (g ∷ gs) same begun run quiet' retired 
 -- ---- a whole worker
 
 -- a worker that was in a run, after a collection of all its queues
-pub collected : {r r' nodes : ℕ} {f : Fit} {c : Collected} (w : Hand) (home : ℕ) (q : Stand) (gs : List HeldQueue) → r' ≡ r → IsWorker w home r → IsInRun w.pass → Collects nodes w.pass q w.queues gs c
+pub collected : {r r' nodes : ℕ} {f : Fit} {c : Collected} (w : WorkerView) (home : ℕ) (q : PassView) (gs : List HeldQueue) → r' ≡ r → IsWorker w home r → IsInRun w.pass → Collects nodes w.pass q w.queues gs c
     → IsWorker (record { pass = q; queues = gs; pending = w.pending; held = w.held; fit = f }) home r'
 collected {r} {r'} {nodes} {f} {c} w home q gs same_room is begun does =
     let same = does.on.same in
@@ -130,9 +130,9 @@ collected {r} {r'} {nodes} {f} {c} w home q gs same_room is begun does =
       };
       counted = all_freed_counted c.epoch w.pass q w.queues gs same begun does.on.run quiet' does.retired is.between.queues does.queues lost is.counted;
       few = let F : ℕ → Type 0 = λ n. n ≤ 64 in subst F (as_many_queues c.epoch w.queues gs lost) is.few;
-      own = subst P (sym (ap (λ (x : Stand). x.view.number) same)) (stands_still_at c.epoch home w.pass.view.number w.queues gs lost is.own);
+      own = subst P (sym (ap (λ (x : PassView). x.view.number) same)) (stands_still_at c.epoch home w.pass.view.number w.queues gs lost is.own);
       numbers = numbers_stay w.pass q gs same (record { each = λ o has. is.numbers.each o (had_it c.epoch o w.queues gs lost has); all = λ o has. has_still c.epoch o w.queues gs lost (is.numbers.all o has) });
       resigned = resigned_stay w.pass q same is.resigned;
-      alive = ap (λ (x : Stand). x.view.spent) same ∙ is.alive;
+      alive = ap (λ (x : PassView). x.view.spent) same ∙ is.alive;
       room = let now = room_stays w.pass q r same is.room in omega (arith, now, same_room);
     }

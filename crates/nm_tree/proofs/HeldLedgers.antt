@@ -11,7 +11,7 @@ use Rattle.nm_model.specs.Laws.{node_in}
 use Rattle.nm_order.proofs.HeldLedgers.{held_ledgers_are_kept}
 use Rattle.nm_steps.specs.declared.view.View.{View}
 use Rattle.nm_steps.specs.Rules.{knowledge}
-use Rattle.nm_steps.specs.Steps.{Stand, IsInRun}
+use Rattle.nm_steps.specs.Steps.{PassView, IsInRun}
 use Rattle.nm_epoch.specs.declared.collecting.Entry.{Entry}
 use Rattle.nm_epoch.specs.Collecting.{IsQueueOf, queued, retired_of}
 use Rattle.nm_tree.specs.Workers.{ledger_in}
@@ -29,7 +29,7 @@ pub ledger_waits : (v : View) (o : ℕ) (es : List Entry) → IsQueueOf (knowled
 ledger_waits v o es is = ap (λ (q : List Queued). length q) (shown (held (knowledge v).ledgers o) (map queued es) is).1 ∙ length-map es queued
 
 -- what was retired is what was freed and what waits
-pub split_in_run : (p : Stand) (o : ℕ) (es : List Entry) → IsInRun p → IsQueueOf (knowledge p.view) o es → length (ledger_in p.view o).retired ≡ length (ledger_in p.view o).freed + length es
+pub split_in_run : (p : PassView) (o : ℕ) (es : List Entry) → IsInRun p → IsQueueOf (knowledge p.view) o es → length (ledger_in p.view o).retired ≡ length (ledger_in p.view o).freed + length es
 split_in_run p o es run is =
     let l = ledger_in p.view o in
     let kept = held_ledgers_are_kept p.view.layout (let least = run.fits.least in omega arith) p.view.number p.view.log run.run.is_part in

@@ -18,7 +18,7 @@ use Rattle.nm_steps.specs.declared.view.View.{View}
 use Rattle.nm_steps.specs.Rules.{LogsAre, held_log, joined, passing}
 use Rattle.nm_steps.specs.Steps.{HasSeen}
 use Rattle.nm_tree.specs.Closing.{HasJoinedAlone, all_joined}
-use Rattle.nm_tree.specs.Workers.{Hand}
+use Rattle.nm_tree.specs.Workers.{WorkerView}
 use Rattle.nm_tree.proofs.Heirs.{logs}
 
 -- ---- turns in a part
@@ -88,10 +88,10 @@ last_joined v w = record {
 own_first : (v : View) → Grown (logs v) v.number v.log
 own_first v = record { held = held_log v.number v.log; among = inl refl; number = refl; more = []; are = sym (append-nil v.log); joins = All-nil IsJoin }
 
-abbrev IsGrownIn : View → Hand → Type 0
+abbrev IsGrownIn : View → WorkerView → Type 0
 IsGrownIn v w = Grown (logs v) w.pass.view.number w.pass.view.log
 
-all_grown : (ws : List Hand) → All (IsGrownIn (all_joined ws)) ws
+all_grown : (ws : List WorkerView) → All (IsGrownIn (all_joined ws)) ws
 all_grown [] = All-nil (IsGrownIn (all_joined []))
 all_grown (w ∷ []) = All-cons (IsGrownIn w.pass.view) w [] (own_first w.pass.view) (All-nil (IsGrownIn w.pass.view))
 all_grown (w ∷ u ∷ ws) =
@@ -122,8 +122,8 @@ module _ (l L : Layout) (turns : List Turn) (hs : List Held) (shown : LogsAre l 
       same = append_cancel_left v.log (part_of v.number more) g.more whole
 
 -- of all
-pub all_joined_alone : (l L : Layout) (turns : List Turn) (ws : List Hand) → LogsAre l L turns (logs (all_joined ws)) → All (λ (w : Hand). HasSeen w.pass.view) ws
-    → All (λ (w : Hand). HasJoinedAlone turns w.pass.view.past w.pass.view.number) ws
+pub all_joined_alone : (l L : Layout) (turns : List Turn) (ws : List WorkerView) → LogsAre l L turns (logs (all_joined ws)) → All (λ (w : WorkerView). HasSeen w.pass.view) ws
+    → All (λ (w : WorkerView). HasJoinedAlone turns w.pass.view.past w.pass.view.number) ws
 all_joined_alone l L turns ws shown seen i d below =
     let w = slice_index_or ws i d in
     joined_alone l L turns (logs (all_joined ws)) shown w.pass.view (seen i d below) (all_grown ws i d below)

@@ -5,7 +5,7 @@ use Rattle.std.proofs.lemmas.Bool.{eqb-true, eqb-false}
 use Rattle.nm_model.specs.declared.trace.Turn.{Turn}
 use Rattle.nm_steps.specs.declared.view.View.{View}
 use Rattle.nm_steps.specs.Rules.{knowledge}
-use Rattle.nm_steps.specs.Steps.{Stand, IsInRun}
+use Rattle.nm_steps.specs.Steps.{PassView, IsInRun}
 use Rattle.nm_epoch.specs.declared.collecting.HeldQueue.{HeldQueue}
 use Rattle.nm_epoch.specs.Collecting.{IsQueueOf, AreHeld, NoneHas, capped}
 use Rattle.nm_tree.specs.declared.worker.Counts.{Counts}
@@ -15,7 +15,7 @@ use Rattle.nm_tree.proofs.HeldLedgers.{ledger_waits, split_in_run}
 capped_sum : (a f l r : ℕ) → a ≡ capped f → r ≡ f + l → capped (a + l) ≡ capped r
 capped_sum a f l r was sum = omega (arith, was, sum)
 
-module _ (p : Stand) (run : IsInRun p) where
+module _ (p : PassView) (run : IsInRun p) where
   told : (h : HeldQueue) → IsCounted p.view h → IsQueueOf (knowledge p.view) h.origin h.queue.items → IsLedger p.view h.origin (counts_in h)
   told h is queue = record {
     links = is.won.links;

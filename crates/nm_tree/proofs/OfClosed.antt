@@ -26,9 +26,9 @@ use Rattle.nm_report.specs.Ended.{IsEndOf, end_of}
 use Rattle.nm_report.proofs.Ends.{layout_is}
 use Rattle.nm_epoch.specs.declared.collecting.Entry.{Entry}
 use Rattle.nm_epoch.specs.declared.collecting.HeldQueue.{HeldQueue}
-use Rattle.nm_steps.specs.Steps.{Board}
+use Rattle.nm_steps.specs.Steps.{TreeView}
 use Rattle.nm_tree.specs.Running.{AreOfWorkers}
-use Rattle.nm_tree.specs.Workers.{Hand, waiting_in}
+use Rattle.nm_tree.specs.Workers.{WorkerView, waiting_in}
 use Rattle.nm_tree.specs.Closing.{AllWereGiven, EachReportIsACores, EachSlotEndsOnce, EndPlace, EndsAt, EndsOnce, IsClosed, OfEachClosed, OfEachClosedRun, QueuesAreTheRest, SaysClosed}
 use Rattle.nm_tree.specs.Closing.EndPlace.{Free, OnPath, Waiting}
 use Rattle.nm_tree.proofs.Closed.{all_given}
@@ -88,7 +88,7 @@ cuts_nothing L w past (t ∷ ts) staffed = ap (λ (ns : List NodeId). (if t.work
     own true same (Err x) is = refl
     own true same (Ok r) is = absurd (let less = staffed t r (zero, omega arith, refl) is in let at = eqb-true t.worker w same in omega (arith, past, less, at))
 
-module _ (b : Board) (ws : List Hand) (queues : List HeldQueue) (kept : List ℕ) (free reached : ℕ) (is : SaysClosed b ws queues kept free reached) where
+module _ (b : TreeView) (ws : List WorkerView) (queues : List HeldQueue) (kept : List ℕ) (free reached : ℕ) (is : SaysClosed b ws queues kept free reached) where
   no_waits : (w : ℕ) → length queues ≤ w → waits_of w is.turns ≡ []
   no_waits w past = ap (λ (ns : List NodeId). filter (λ n. not (is_among (freed_by is.turns) n)) ns) (cuts_nothing b.layout w (let all = is.all in omega (arith, all, past)) is.turns is.headline.workers)
 
@@ -147,7 +147,7 @@ each_closed_log b ws queues kept free reached is = totals_are_in_the_logs b.layo
 
 -- ---- what the report tells
 
-module _ (b : Board) (ws : List Hand) (queues : List HeldQueue) (kept : List ℕ) (free reached : ℕ) (is : IsClosed b ws queues kept free reached) where
+module _ (b : TreeView) (ws : List WorkerView) (queues : List HeldQueue) (kept : List ℕ) (free reached : ℕ) (is : IsClosed b ws queues kept free reached) where
   abbrev the_end : IsEndOf b.layout is.says.words
   the_end = record { fits = is.ends.fits; turns = is.ends.turns; keys = is.ends.keys; words_are = is.ends.words_are }
 

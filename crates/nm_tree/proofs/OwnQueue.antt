@@ -9,7 +9,7 @@ use Rattle.nm_model.specs.Ledgers.{held}
 use Rattle.nm_model.specs.Walks.{Entry as LogEntry}
 use Rattle.nm_steps.specs.declared.view.View.{View}
 use Rattle.nm_steps.specs.Rules.{knowledge}
-use Rattle.nm_steps.specs.Steps.{Stand, IsSamePass}
+use Rattle.nm_steps.specs.Steps.{PassView, IsSamePass}
 use Rattle.nm_epoch.specs.declared.collecting.HeldQueue.{HeldQueue}
 use Rattle.nm_epoch.specs.Collecting.{IsQueueOf, capped}
 use Rattle.nm_walks.specs.Cleanups.{HoldsCuts}
@@ -40,7 +40,7 @@ all_counted_still v u [] alike are = tt
 all_counted_still v u (h ∷ hs) alike are = (counted_still v u h (alike h.origin (inl refl)) are.0, all_counted_still v u hs (λ o has. alike o (inr has)) are.1)
 
 -- nothing was won by the own log, and so by none
-pub quiet_of : (p q : Stand) → IsSamePass p q → Quiet p.view.log q.view.log → (o : ℕ) → Quiet (log_held_of p.view o) (log_held_of q.view o)
+pub quiet_of : (p q : PassView) → IsSamePass p q → Quiet p.view.log q.view.log → (o : ℕ) → Quiet (log_held_of p.view o) (log_held_of q.view o)
 quiet_of p q same own o = record {
   links = each_as_before won_links p q same own.links o;
   flags = each_as_before won_flags p q same own.flags o;
@@ -53,11 +53,11 @@ own_log : (b : Bool) (x y : List LogEntry) → b ≡ true → (if b then x else 
 own_log b x y is = let P : Bool → Type 0 = λ c. (if c then x else y) ≡ x in subst P (sym is) refl
 
 -- the own log is that of the own number
-pub log_of_own : (p : Stand) → log_held_of p.view p.view.number ≡ p.view.log
+pub log_of_own : (p : PassView) → log_held_of p.view p.view.number ≡ p.view.log
 log_of_own p = own_log (p.view.number == p.view.number) p.view.log (log_among p.view.number p.view.others) (eq-eqb p.view.number p.view.number refl)
 
 -- what was freed of the own origin is what its ledger tells
-module _ (p : Stand) (h : HeldQueue) (own : h.origin ≡ p.view.number) (queue : IsQueueOf (knowledge p.view) p.view.number h.queue.items) where
+module _ (p : PassView) (h : HeldQueue) (own : h.origin ≡ p.view.number) (queue : IsQueueOf (knowledge p.view) p.view.number h.queue.items) where
   log_is : log_held_of p.view h.origin ≡ p.view.log
   log_is = ap (λ (o : ℕ). log_held_of p.view o) own ∙ log_of_own p
 
@@ -72,5 +72,5 @@ module _ (p : Stand) (h : HeldQueue) (own : h.origin ≡ p.view.number) (queue :
   own_so : HoldsCuts p h → IsCounted p.view h
   own_so is = record { won = subst (λ (l : List LogEntry). CountsWon l h.counts) (sym log_is) is.counted; freed = same_Some _ _ (sym is.freed ∙ freed_is) }
 
-pub own_counted : (p : Stand) (h : HeldQueue) → HoldsCuts p h → IsCounted p.view h
+pub own_counted : (p : PassView) (h : HeldQueue) → HoldsCuts p h → IsCounted p.view h
 own_counted p h is = own_so p h is.own is.queue is

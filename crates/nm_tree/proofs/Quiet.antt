@@ -7,7 +7,7 @@ use Rattle.nm_model.specs.declared.event.Op.TheVariants.{Has}
 use Rattle.nm_model.specs.declared.reply.Reply.{Reply}
 use Rattle.nm_model.specs.declared.reply.Reply.TheVariants as reply
 use Rattle.nm_model.specs.Walks.{Entry}
-use Rattle.nm_steps.specs.Steps.{Stand, IsSamePass}
+use Rattle.nm_steps.specs.Steps.{PassView, IsSamePass}
 use Rattle.nm_epoch.specs.declared.answers.Advance.{Advance}
 use Rattle.nm_epoch.specs.declared.answers.Advance.TheVariants as advance
 use Rattle.nm_epoch.specs.declared.collecting.Entry.{Entry as Waiting}
@@ -144,9 +144,9 @@ pick f b true x y u v is own others = let P : Bool → Type 0 = λ d. f (if d th
 pick f b false x y u v is own others = let P : Bool → Type 0 = λ d. f (if d then x else u) ≡ f v in subst P (sym is) (ap f others)
 
 -- what is counted of each of them is as it was, where it is so of the own one
-pub each_as_before : (f : List Entry → ℕ) (p q : Stand) → IsSamePass p q → f q.view.log ≡ f p.view.log → (o : ℕ) → f (log_held_of q.view o) ≡ f (log_held_of p.view o)
+pub each_as_before : (f : List Entry → ℕ) (p q : PassView) → IsSamePass p q → f q.view.log ≡ f p.view.log → (o : ℕ) → f (log_held_of q.view o) ≡ f (log_held_of p.view o)
 each_as_before f p q same own o =
     pick f (q.view.number == o) (p.view.number == o) q.view.log p.view.log (log_among o q.view.others) (log_among o p.view.others)
-    (ap (λ (x : Stand). x.view.number == o) same)
+    (ap (λ (x : PassView). x.view.number == o) same)
     own
-    (ap (λ (x : Stand). log_among o x.view.others) same)
+    (ap (λ (x : PassView). log_among o x.view.others) same)

@@ -16,12 +16,12 @@ use Rattle.nm_report.specs.Ended.{IsEndOf}
 use Rattle.nm_steps.specs.declared.view.Held.{Held}
 use Rattle.nm_steps.specs.declared.view.View.{View}
 use Rattle.nm_steps.specs.Rules.{IsShown, LogsAre, answered_turn, held_log, joined, passing}
-use Rattle.nm_steps.specs.Steps.{Stand}
+use Rattle.nm_steps.specs.Steps.{PassView}
 use Rattle.nm_busy.specs.Pending.{NonePends, leaf_after, leaf_by}
 use Rattle.nm_busy.proofs.PendingTurns.{leaf_is_told, leaf_own}
 use Rattle.nm_tree.specs.Closing.{AreFrom, StandsForAll, all_joined}
 use Rattle.nm_tree.specs.Settled.{TellNoFlag, HasNothingPending, HaveNothingPending, HeirsHaveNothingPending, RestingWorkersHaveNothingPending, turns_of}
-use Rattle.nm_tree.specs.Workers.{Hand, IsWorker, HasNumber}
+use Rattle.nm_tree.specs.Workers.{WorkerView, IsWorker, HasNumber}
 use Rattle.nm_tree.proofs.EndWorkers.{are, there}
 use Rattle.nm_tree.proofs.Heirs.{logs}
 
@@ -70,17 +70,17 @@ one_quiet l L t (h ∷ hs) shown none u (inr has) = one_quiet l L t hs shown.2 (
 
 -- ---- workers with nothing pending
 
-worker_quiet : (w : Hand) → HasNothingPending w → AreQuiet (logs w.pass.view)
+worker_quiet : (w : WorkerView) → HasNothingPending w → AreQuiet (logs w.pass.view)
 worker_quiet w rests = told_quiet (logs w.pass.view) rests
 
-all_quiet : (w : Hand) (ws : List Hand) → HaveNothingPending (w ∷ ws) → AreQuiet (logs (all_joined (w ∷ ws)))
+all_quiet : (w : WorkerView) (ws : List WorkerView) → HaveNothingPending (w ∷ ws) → AreQuiet (logs (all_joined (w ∷ ws)))
 all_quiet w [] rest = worker_quiet w (All-head HasNothingPending w [] rest)
 all_quiet w (u ∷ us) rest = joined_quiet (all_joined (u ∷ us)) w.pass.view (all_quiet u us (All-tail HasNothingPending w (u ∷ us) rest)) (worker_quiet w (All-head HasNothingPending w (u ∷ us) rest))
 
 -- nor has one that stands for two
 pub heirs_have_nothing_pending : HeirsHaveNothingPending
 heirs_have_nothing_pending heir leaver z resigned first second =
-    subst (λ (p : Stand). TellNoFlag (logs p.view)) (sym resigned.joined)
+    subst (λ (p : PassView). TellNoFlag (logs p.view)) (sym resigned.joined)
     (quiet_told (logs (joined heir.pass.view leaver.pass.view)) (joined_quiet heir.pass.view leaver.pass.view (worker_quiet heir first) (worker_quiet leaver second)))
 
 -- nor one whose call has flagged no leaf, by what it has seen
@@ -93,9 +93,9 @@ resting_workers_have_nothing_pending w seen none others =
 
 -- ---- the end of a tree
 
-module _ (L : Layout) (words : List ℕ) (e : IsEndOf L words) (w : Hand) (home r : ℕ) (is : IsWorker w home r) (is_shown : IsShown L (trace_in (ordered L) e.turns) w.pass.view)
-    (each : AreFrom 0 w.queues) (all : length w.queues ≡ L.workers) (ws : List Hand) (stands : StandsForAll ws w.pass.view) (some : 1 ≤ length ws) where
-  quiet : (us : List Hand) → 1 ≤ length us → HaveNothingPending us → AreQuiet (logs (all_joined us))
+module _ (L : Layout) (words : List ℕ) (e : IsEndOf L words) (w : WorkerView) (home r : ℕ) (is : IsWorker w home r) (is_shown : IsShown L (trace_in (ordered L) e.turns) w.pass.view)
+    (each : AreFrom 0 w.queues) (all : length w.queues ≡ L.workers) (ws : List WorkerView) (stands : StandsForAll ws w.pass.view) (some : 1 ≤ length ws) where
+  quiet : (us : List WorkerView) → 1 ≤ length us → HaveNothingPending us → AreQuiet (logs (all_joined us))
   quiet [] none rest = absurd (omega (arith, none))
   quiet (u ∷ us) more rest = all_quiet u us rest
 

@@ -9,7 +9,7 @@ use Rattle.nm_model.specs.Ledgers.{held, fresh_ledger}
 use Rattle.nm_model.specs.Maps.{get, has}
 use Rattle.nm_model.specs.Searches.{Search}
 use Rattle.nm_steps.specs.Rules.{knowledge}
-use Rattle.nm_steps.specs.Steps.{Stand, IsSamePass}
+use Rattle.nm_steps.specs.Steps.{PassView, IsSamePass}
 use Rattle.nm_epoch.specs.declared.collecting.HeldQueue.{HeldQueue}
 use Rattle.nm_epoch.specs.Collecting.{AreHeld}
 use Rattle.std.proofs.lemmas.Option.{none-some}
@@ -21,7 +21,7 @@ use Rattle.nm_edge.specs.declared.placement.Fit.{Fit}
 use Rattle.nm_tree.specs.declared.worker.Standing.{Standing}
 use Rattle.nm_tree.specs.declared.worker.Standing.TheVariants as standing
 use Rattle.nm_calls.specs.declared.deleting.Unfinished.{Unfinished}
-use Rattle.nm_tree.specs.Workers.{Hand, pending_in, held_in, IsAs, IsHolding, IsWorker, QueueStandsAt}
+use Rattle.nm_tree.specs.Workers.{WorkerView, pending_in, held_in, IsAs, IsHolding, IsWorker, QueueStandsAt}
 use Rattle.nm_tree.proofs.Numbers.{numbers_stay, resigned_stay, room_stays}
 use Rattle.nm_tree.proofs.OwnQueue.{all_counted_still, quiet_of}
 use Rattle.nm_tree.proofs.Quiet.{Quiet}
@@ -36,7 +36,7 @@ all_held k l (h ∷ hs) same are = (queue_stays k l h.origin h.queue.items (ap (
 -- ---- a whole worker
 
 -- nothing in its hands has changed, and nothing was won
-pub stays : {r : ℕ} {f : Fit} (w : Hand) (home : ℕ) (q : Stand) (n : Option Unfinished) (e : Option ℕ) → IsWorker w home r → IsSamePass w.pass q → Quiet w.pass.view.log q.view.log
+pub stays : {r : ℕ} {f : Fit} (w : WorkerView) (home : ℕ) (q : PassView) (n : Option Unfinished) (e : Option ℕ) → IsWorker w home r → IsSamePass w.pass q → Quiet w.pass.view.log q.view.log
     → (knowledge q.view).drafts ≡ (knowledge w.pass.view).drafts → (knowledge q.view).ledgers ≡ (knowledge w.pass.view).ledgers → IsAs q n e
     → IsWorker (record { pass = q; queues = w.queues; pending = n; held = e; fit = f }) home r
 stays {r} w home q n e is same none' drafts ledgers stands =
@@ -51,38 +51,38 @@ stays {r} w home q n e is same none' drafts ledgers stands =
         stands = stands;
       };
       counted = all_counted_still w.pass.view q.view w.queues (λ o has. record { log = quiet_of w.pass q same none' o; ledger = ap (λ (ls : List (Option Ledger)). unwrap_or (held ls o) fresh_ledger) ledgers }) is.counted;
-      own = subst P (sym (ap (λ (x : Stand). x.view.number) same)) is.own;
+      own = subst P (sym (ap (λ (x : PassView). x.view.number) same)) is.own;
       few = is.few;
       numbers = numbers_stay w.pass q w.queues same is.numbers;
       resigned = resigned_stay w.pass q same is.resigned;
-      alive = ap (λ (x : Stand). x.view.spent) same ∙ is.alive;
+      alive = ap (λ (x : PassView). x.view.spent) same ∙ is.alive;
       room = room_stays w.pass q r same is.room;
     }
 
 -- ---- where it stands
 
 -- no cut of its waits for a label
-pub labelled : (p : Stand) (n : Option Unfinished) (e : Option ℕ) → IsAs p n e → (epochs p).unlabelled ≡ false
+pub labelled : (p : PassView) (n : Option Unfinished) (e : Option ℕ) → IsAs p n e → (epochs p).unlabelled ≡ false
 labelled p None None is = is.labelled
 labelled p None (Some e) is = is.labelled
 labelled p (Some n) None is = is.labelled
 labelled p (Some n) (Some e) is = absurd is
 
-pub held_at : (p : Stand) (e : ℕ) → IsPinnedAt e None p → IsHolding p e
+pub held_at : (p : PassView) (e : ℕ) → IsPinnedAt e None p → IsHolding p e
 held_at p e is = record { announcement = is.announcement; pin = is.pin; labelled = is.labelled; search = is.begun }
 
 is_some_of : (o : Option ℕ) (e : ℕ) → o ≡ Some e → IsSome o
 is_some_of o e is = ap (λ (x : Option ℕ). is_some x) is
 
 -- it is in the midst of a pin at no time
-settled : (p : Stand) (n : Option Unfinished) (e : Option ℕ) → IsAs p n e → IsSettled p
+settled : (p : PassView) (n : Option Unfinished) (e : Option ℕ) → IsAs p n e → IsSettled p
 settled p None None is = inr is.silent
 settled p None (Some e) is = inl (is_some_of (epochs p).pin e is.pin)
 settled p (Some n) None is = inl (is_some_of (epochs p).pin is.pinned.0 is.pinned.1)
 settled p (Some n) (Some e) is = absurd is
 
 -- so it stands as it stood where its pin and its call stay
-pub stands_still : (p q : Stand) (n : Option Unfinished) (e : Option ℕ) → IsAs p n e → Settles p q → IsInRun q → IsAs q n e
+pub stands_still : (p q : PassView) (n : Option Unfinished) (e : Option ℕ) → IsAs p n e → Settles p q → IsInRun q → IsAs q n e
 stands_still p q None None is s run =
     let t = s.stays (settled p None None is) in
     record { unpinned = t.pin ∙ is.unpinned; silent = t.announcement ∙ is.silent; labelled = s.labelled; idle = t.search ∙ is.idle }
@@ -111,14 +111,14 @@ resting_in standing.Resting free none' = refl
 resting_in (standing.Held e) free none' = absurd (cc)
 resting_in (standing.Pending n) free none' = absurd (none' n refl)
 
-pub rests_in : (p : Stand) (s : Standing) → s ≡ standing.Resting → IsAs p (pending_in s) (held_in s) → IsResting p
+pub rests_in : (p : PassView) (s : Standing) → s ≡ standing.Resting → IsAs p (pending_in s) (held_in s) → IsResting p
 rests_in p s is as' = let P : Standing → Type 0 = λ x. IsAs p (pending_in x) (held_in x) in subst P is as'
 
-pub rests_as : (p : Stand) (s : Standing) → s ≡ standing.Resting → IsResting p → IsAs p (pending_in s) (held_in s)
+pub rests_as : (p : PassView) (s : Standing) → s ≡ standing.Resting → IsResting p → IsAs p (pending_in s) (held_in s)
 rests_as p s is rests = let P : Standing → Type 0 = λ x. IsAs p (pending_in x) (held_in x) in subst P (sym is) rests
 
 -- nor does it have or win anything behind a call with which it rests again
-pub stays_resting : {r : ℕ} {f g : Fit} (p q : Stand) (hs : List HeldQueue) (s : Standing) (home : ℕ) → s ≡ standing.Resting
+pub stays_resting : {r : ℕ} {f g : Fit} (p q : PassView) (hs : List HeldQueue) (s : Standing) (home : ℕ) → s ≡ standing.Resting
     → IsWorker (record { pass = p; queues = hs; pending = pending_in s; held = held_in s; fit = f }) home r → IsSamePass p q → Quiet p.view.log q.view.log → KeepsHands p q → IsResting q
     → IsWorker (record { pass = q; queues = hs; pending = pending_in s; held = held_in s; fit = g }) home r
 stays_resting {r} {f} {g} p q hs s home at is same quiet hands rests =
@@ -129,16 +129,16 @@ pub free_in : (s : Standing) → s ≡ standing.Resting → (pending_in s ≡ No
 free_in s is = (ap pending_in is, ap pending_in is)
 
 -- a delete is pending, and its leaf is being removed
-pub removing_in : (p : Stand) (s : Standing) (n : Unfinished) → s ≡ standing.Pending n → IsRemoving p n.key n.leaf → IsAs p (pending_in s) (held_in s)
+pub removing_in : (p : PassView) (s : Standing) (n : Unfinished) → s ≡ standing.Pending n → IsRemoving p n.key n.leaf → IsAs p (pending_in s) (held_in s)
 removing_in p s n is removing = let P : Standing → Type 0 = λ x. IsAs p (pending_in x) (held_in x) in subst P (sym is) removing
 
 -- ---- a worker that has seen more
 
 -- the same pass, with this as what it has seen
-abbrev pub seeing : List Turn → Stand → Stand
+abbrev pub seeing : List Turn → PassView → PassView
 seeing past p = record p { view = record p.view { past = past } }
 
-as_was : (past : List Turn) (p : Stand) (n : Option Unfinished) (e : Option ℕ) → IsAs p n e → IsAs (seeing past p) n e
+as_was : (past : List Turn) (p : PassView) (n : Option Unfinished) (e : Option ℕ) → IsAs p n e → IsAs (seeing past p) n e
 as_was past p None None is = record { unpinned = is.unpinned; silent = is.silent; labelled = is.labelled; idle = is.idle }
 as_was past p None (Some e) is = record { announcement = is.announcement; pin = is.pin; labelled = is.labelled; search = is.search }
 as_was past p (Some n) None is = record {
@@ -154,12 +154,12 @@ as_was past p (Some n) None is = record {
 as_was past p (Some n) (Some e) is = absurd is
 
 -- it has done nothing, and is a worker as it was
-pub sees_more : {r : ℕ} (past : List Turn) (w : Hand) (home : ℕ) → IsWorker w home r → IsWorker (record w { pass = seeing past w.pass }) home r
+pub sees_more : {r : ℕ} (past : List Turn) (w : WorkerView) (home : ℕ) → IsWorker w home r → IsWorker (record w { pass = seeing past w.pass }) home r
 sees_more past w home is =
     stays w home (seeing past w.pass) w.pending w.held is refl (record { links = refl; flags = refl; splices = refl }) refl refl (as_was past w.pass w.pending w.held is.between.stands)
 
 -- a worker with no delete pending has no call
-pub no_call_open : (p : Stand) (u : Option Unfinished) (e : Option ℕ) → IsAs p u e → u ≡ None → (search p).call ≡ None
+pub no_call_open : (p : PassView) (u : Option Unfinished) (e : Option ℕ) → IsAs p u e → u ≡ None → (search p).call ≡ None
 no_call_open p None None is none' = ap (λ (s : Search). s.call) is.idle
 no_call_open p None (Some e) is none' = ap (λ (s : Search). s.call) is.search
 no_call_open p (Some n) e is none' = absurd (none-some n (sym none'))

@@ -10,7 +10,7 @@ use Rattle.nm_model.specs.declared.event.Op.TheVariants.{Delete}
 use Rattle.nm_model.specs.declared.trace.Turn.{Turn}
 use Rattle.nm_model.specs.Walks.{Entry}
 use Rattle.nm_steps.specs.Rules.{Extends}
-use Rattle.nm_steps.specs.Steps.{Board, Stand, IsSamePass, HasSeenAllOf}
+use Rattle.nm_steps.specs.Steps.{TreeView, PassView, IsSamePass, HasSeenAllOf}
 use Rattle.nm_steps.proofs.Seeing.{same_then, seen_itself, seen_through}
 use Rattle.nm_epoch.specs.declared.collecting.HeldQueue.{HeldQueue}
 use Rattle.nm_model.specs.Histories.{call_begun, answer_turn, WasSoBehind}
@@ -30,7 +30,7 @@ use Rattle.nm_tree.specs.declared.popping.End.TheVariants.{First, Last}
 use Rattle.nm_tree.specs.Answers.{flags_won}
 use Rattle.nm_tree.specs.Calls.{MayCall, LeavesNear, LeavesDelete}
 use Rattle.nm_tree.specs.Popping.{comes_before, WereMissing, pop_bound, SaysPop, Finds, LosesRounds, EndsRound, HasPopped, LeavesPop}
-use Rattle.nm_tree.specs.Workers.{Hand, KeepsOtherQueues, TakeRoom}
+use Rattle.nm_tree.specs.Workers.{WorkerView, KeepsOtherQueues, TakeRoom}
 use Rattle.nm_tree.proofs.QueueLists.{others_stay, room_stays}
 
 -- ---- what was so in one call was so in a longer one
@@ -41,7 +41,7 @@ no_shorter run earlier e =
     omega (arith, whole)
 
 -- a moment behind all that was seen is one behind what was seen earlier
-pub moment_since : (o p q : Stand) (op : Op) (k : ℕ) (answer : Bool) → HasSeenAllOf p o → AnswerHasMoment p q op k answer → AnswerHasMoment o q op k answer
+pub moment_since : (o p q : PassView) (op : Op) (k : ℕ) (answer : Bool) → HasSeenAllOf p o → AnswerHasMoment p q op k answer → AnswerHasMoment o q op k answer
 moment_since o p q op k answer past m =
     let seen = no_shorter p.view.past o.view.past past.goes_on in
     let begins = m.begins in
@@ -56,7 +56,7 @@ moment_since o p q op k answer past m =
       each = m.each;
     }
 
-pub was_so_since : (o p q : Stand) (k : ℕ) (answer : Bool) → HasSeenAllOf p o → WasSo p q k answer → WasSo o q k answer
+pub was_so_since : (o p q : PassView) (k : ℕ) (answer : Bool) → HasSeenAllOf p o → WasSo p q k answer → WasSo o q k answer
 was_so_since o p q k answer past was =
     let seen = no_shorter p.view.past o.view.past past.goes_on in
     let later = was.later in
@@ -70,9 +70,9 @@ was_so_since o p q k answer past was =
     }
 
 -- it was so still, by what has been seen since
-pub was_so_on : (o q z : Stand) (k : ℕ) (answer : Bool) → IsSamePass q z → HasSeenAllOf z q → WasSo o q k answer → WasSo o z k answer
+pub was_so_on : (o q z : PassView) (k : ℕ) (answer : Bool) → IsSamePass q z → HasSeenAllOf z q → WasSo o q k answer → WasSo o z k answer
 was_so_on o q z k answer same on was =
-    subst (λ (s : Stand). WasSoBehind s.view.layout o.view.past z.view.past s.view.number k answer) (sym same) (record {
+    subst (λ (s : PassView). WasSoBehind s.view.layout o.view.past z.view.past s.view.number k answer) (sym same) (record {
       so_far = was.so_far;
       rest = was.rest ++ on.goes_on.more;
       are = on.goes_on.is ∙ (ap (λ (l : List Turn). l ++ on.goes_on.more) was.are ∙ append_assoc was.so_far was.rest on.goes_on.more);
@@ -107,7 +107,7 @@ room_through (h ∷ hs) (g ∷ gs) (f ∷ fs) a b = (takes_then h.queue g.queue 
 -- ---- going on
 
 -- the worker has gone on by calls, in so many steps at most, by which so many flags were won
-record GoesOn (most flags : ℕ) (w z : Hand) : Type 0 where
+record GoesOn (most flags : ℕ) (w z : WorkerView) : Type 0 where
   same : IsSamePass w.pass z.pass
   past : HasSeenAllOf z.pass w.pass
   won : HasWon w.pass.view.log z.pass.view.log 0 flags
@@ -117,7 +117,7 @@ record GoesOn (most flags : ℕ) (w z : Hand) : Type 0 where
   held : z.held ≡ None
   fit : z.fit ≡ w.fit
 
-goes_nowhere : (w : Hand) → w.held ≡ None → GoesOn 0 0 w w
+goes_nowhere : (w : WorkerView) → w.held ≡ None → GoesOn 0 0 w w
 goes_nowhere w free = record {
   same = refl;
   past = seen_itself w.pass;
@@ -129,9 +129,9 @@ goes_nowhere w free = record {
   fit = refl;
 }
 
-goes_then : (m n flags : ℕ) (w x z : Hand) → GoesOn m 0 w x → GoesOn n flags x z → GoesOn (m + n) flags w z
+goes_then : (m n flags : ℕ) (w x z : WorkerView) → GoesOn m 0 w x → GoesOn n flags x z → GoesOn (m + n) flags w z
 goes_then m n flags w x z a b =
-    let number = ap (λ (p : Stand). p.view.number) a.same in
+    let number = ap (λ (p : PassView). p.view.number) a.same in
     let links = a.won.links in
     let more_links = b.won.links in
     let flagged = a.won.flags in
@@ -149,13 +149,13 @@ goes_then m n flags w x z a b =
       fit = b.fit ∙ a.fit;
     }
 
-goes_more : (m n flags : ℕ) (w z : Hand) → m ≤ n → GoesOn m flags w z → GoesOn n flags w z
+goes_more : (m n flags : ℕ) (w z : WorkerView) → m ≤ n → GoesOn m flags w z → GoesOn n flags w z
 goes_more m n flags w z le a = let few = a.steps in record { same = a.same; past = a.past; won = a.won; steps = omega (arith, few, le); queues = a.queues; blocks = a.blocks; held = a.held; fit = a.fit }
 
 -- ---- the calls of a round
 
 -- what is told of the key at that end
-abbrev pub told_at : End → Stand → Stand → Option ℕ → Type 0
+abbrev pub told_at : End → PassView → PassView → Option ℕ → Type 0
 told_at First p q = WasNext p q 0
 told_at Last p q = WasPrev p q 18446744073709551612
 
@@ -164,26 +164,26 @@ abbrev pub gives_up_at : End → Layout → ℕ → List Entry → List Entry �
 gives_up_at First L tries = GiveUpNext L tries 0
 gives_up_at Last L tries = GiveUpPrev L tries 18446744073709551612
 
-pub found_by : (end : End) (L : Layout) (tries : ℕ) (w z : Hand) (r : Result (Option ℕ) CallFault) → Finds end L tries w z r → LeavesNear (told_at end) (gives_up_at end L tries) L tries w z r
+pub found_by : (end : End) (L : Layout) (tries : ℕ) (w z : WorkerView) (r : Result (Option ℕ) CallFault) → Finds end L tries w z r → LeavesNear (told_at end) (gives_up_at end L tries) L tries w z r
 found_by First L tries w z r l = l
 found_by Last L tries w z r l = l
 
 -- of a key that was found
-pub record WasFound (end : End) (p q : Stand) (key : ℕ) : Type 0 where
+pub record WasFound (end : End) (p q : PassView) (key : ℕ) : Type 0 where
   pub is_key : IsKey key
   pub was : WasSo p q key true
   pub missing : WereMissing (comes_before end) p q key
 
-pub key_found : (end : End) (p q : Stand) (key : ℕ) → told_at end p q (Some key) → WasFound end p q key
+pub key_found : (end : End) (p q : PassView) (key : ℕ) → told_at end p q (Some key) → WasFound end p q key
 key_found First p q key n = record { is_key = n.1; was = n.2; missing = λ j is less. n.3 j (omega arith) less }
 key_found Last p q key n = record { is_key = n.1; was = n.2; missing = λ j is above. n.3 j above is }
 
-pub none_found : (end : End) (p q : Stand) → told_at end p q None → (j : ℕ) → IsKey j → WasSo p q j false
+pub none_found : (end : End) (p q : PassView) → told_at end p q None → (j : ℕ) → IsKey j → WasSo p q j false
 none_found First p q n j is = n j (omega arith) is
 none_found Last p q n j is = n j is
 
 -- of a longer call
-pub found_in : (end : End) (o p q z : Stand) (key : ℕ) → HasSeenAllOf p o → IsSamePass q z → HasSeenAllOf z q → WasFound end p q key → WasFound end o z key
+pub found_in : (end : End) (o p q z : PassView) (key : ℕ) → HasSeenAllOf p o → IsSamePass q z → HasSeenAllOf z q → WasFound end p q key → WasFound end o z key
 found_in end o p q z key past same on f = record {
   is_key = f.is_key;
   was = was_so_on o q z key true same on (was_so_since o p q key true past f.was);
@@ -214,7 +214,7 @@ round_fits L t =
     let round : t * (7 * r + 512 + 4) ≡ 7 * (t * r) + 516 * t = ap (λ (n : ℕ). t * n) (omega arith) ∙ scaled t r 7 516 in
     omega (arith, near, delete, round)
 
-goes_near : (end : End) (L : Layout) (tries : ℕ) (w z : Hand) (r : Result (Option ℕ) CallFault) → Finds end L tries w z r → GoesOn (near_bound L tries) 0 w z
+goes_near : (end : End) (L : Layout) (tries : ℕ) (w z : WorkerView) (r : Result (Option ℕ) CallFault) → Finds end L tries w z r → GoesOn (near_bound L tries) 0 w z
 goes_near end L tries w z r found =
     let l = found_by end L tries w z r found in
     let few = l.steps in
@@ -230,13 +230,13 @@ goes_near end L tries w z r found =
     }
 
 -- the worker is still one of the tree's, and not held
-pub may_still : (b : Board) (w z : Hand) → MayCall b w → IsSamePass w.pass z.pass → z.held ≡ None → MayCall b z
-may_still b w z may same free = record { own = record { table = ap (λ (p : Stand). p.table) same ∙ may.own.table; layout = ap (λ (p : Stand). p.view.layout) same ∙ may.own.layout }; free = free }
+pub may_still : (b : TreeView) (w z : WorkerView) → MayCall b w → IsSamePass w.pass z.pass → z.held ≡ None → MayCall b z
+may_still b w z may same free = record { own = record { table = ap (λ (p : PassView). p.table) same ∙ may.own.table; layout = ap (λ (p : PassView). p.view.layout) same ∙ may.own.layout }; free = free }
 
-pub may_near : (end : End) (b : Board) (tries : ℕ) (w z : Hand) (r : Result (Option ℕ) CallFault) → MayCall b w → Finds end b.layout tries w z r → MayCall b z
+pub may_near : (end : End) (b : TreeView) (tries : ℕ) (w z : WorkerView) (r : Result (Option ℕ) CallFault) → MayCall b w → Finds end b.layout tries w z r → MayCall b z
 may_near end b tries w z r may found = let l = found_by end b.layout tries w z r found in may_still b w z may l.same l.held
 
-goes_delete : (L : Layout) (tries k : ℕ) (w z : Hand) (r : Result Bool CallFault) → LeavesDelete L tries k w z r → GoesOn (delete_bound L tries) (flags_won r) w z
+goes_delete : (L : Layout) (tries k : ℕ) (w z : WorkerView) (r : Result Bool CallFault) → LeavesDelete L tries k w z r → GoesOn (delete_bound L tries) (flags_won r) w z
 goes_delete L tries k w z r l =
     let few = l.says.steps in
     record {
@@ -251,21 +251,21 @@ goes_delete L tries k w z r l =
     }
 
 -- both of them
-goes_round : (end : End) (L : Layout) (tries k : ℕ) (w y z : Hand) (r : Result Bool CallFault) → Finds end L tries w y (Ok (Some k)) → LeavesDelete L tries k y z r → GoesOn (round_bound L tries) (flags_won r) w z
+goes_round : (end : End) (L : Layout) (tries k : ℕ) (w y z : WorkerView) (r : Result Bool CallFault) → Finds end L tries w y (Ok (Some k)) → LeavesDelete L tries k y z r → GoesOn (round_bound L tries) (flags_won r) w z
 goes_round end L tries k w y z r found did =
     goes_more (near_bound L tries + delete_bound L tries) (round_bound L tries) (flags_won r) w z (round_fits L tries)
     (goes_then (near_bound L tries) (delete_bound L tries) (flags_won r) w y z (goes_near end L tries w y (Ok (Some k)) found) (goes_delete L tries k y z r did))
 
 -- ---- rounds that came too late
 
-pub one_more : (end : End) (L : Layout) (tries n : ℕ) (w x y z : Hand) (key : ℕ) → LosesRounds end L tries n w x → Finds end L tries x y (Ok (Some key)) → LeavesDelete L tries key y z (Ok false) → LosesRounds end L tries (n + 1) w z
+pub one_more : (end : End) (L : Layout) (tries n : ℕ) (w x y z : WorkerView) (key : ℕ) → LosesRounds end L tries n w x → Finds end L tries x y (Ok (Some key)) → LeavesDelete L tries key y z (Ok false) → LosesRounds end L tries (n + 1) w z
 one_more end L tries n w x y z key before found did = let more : suc n ≡ n + 1 = omega arith in subst (λ (m : ℕ). LosesRounds end L tries m w z) more (x, y, key, before, found, did)
 
-record HaveGone (L : Layout) (tries n : ℕ) (w z : Hand) : Type 0 where
+record HaveGone (L : Layout) (tries n : ℕ) (w z : WorkerView) : Type 0 where
   on : GoesOn (n * round_bound L tries) 0 w z
   free : z.pending ≡ None
 
-have_gone : (end : End) (L : Layout) (tries n : ℕ) (w z : Hand) → w.pending ≡ None → w.held ≡ None → LosesRounds end L tries n w z → HaveGone L tries n w z
+have_gone : (end : End) (L : Layout) (tries n : ℕ) (w z : WorkerView) → w.pending ≡ None → w.held ≡ None → LosesRounds end L tries n w z → HaveGone L tries n w z
 have_gone end L tries zero w z none free is = subst (HaveGone L tries zero w) (sym is) (record { on = goes_more 0 (0 * round_bound L tries) 0 w w (omega arith) (goes_nowhere w free); free = none })
 have_gone end L tries (suc n) w z none free (x, y, key, before, found, did) =
     let gone = have_gone end L tries n w x none free before in
@@ -279,38 +279,38 @@ have_gone end L tries (suc n) w z none free (x, y, key, before, found, did) =
 -- ---- what is told at the end
 
 -- whether a key is pending, by the key that is told
-pub pends : (w : Hand) (told : Option ℕ) → told ≡ option_map (λ (n : Unfinished). n.key) w.pending → is_some told ≡ true → IsSome w.pending
+pub pends : (w : WorkerView) (told : Option ℕ) → told ≡ option_map (λ (n : Unfinished). n.key) w.pending → is_some told ≡ true → IsSome w.pending
 pends w told is some = by w.pending (sym some ∙ ap is_some is)
   where
     by : (o : Option Unfinished) → true ≡ is_some (option_map (λ (n : Unfinished). n.key) o) → IsSome o
     by None some = absurd (true≢false some)
     by (Some n) some = refl
 
-pub pends_not : (w : Hand) (told : Option ℕ) → told ≡ option_map (λ (n : Unfinished). n.key) w.pending → is_some told ≡ false → w.pending ≡ None
+pub pends_not : (w : WorkerView) (told : Option ℕ) → told ≡ option_map (λ (n : Unfinished). n.key) w.pending → is_some told ≡ false → w.pending ≡ None
 pends_not w told is none = by w.pending (sym none ∙ ap is_some is)
   where
     by : (o : Option Unfinished) → false ≡ is_some (option_map (λ (n : Unfinished). n.key) o) → o ≡ None
     by None none = refl
     by (Some n) none = absurd (true≢false (sym none))
 
-module _ (end : End) (L : Layout) (tries : ℕ) (w : Hand) (none : w.pending ≡ None) (free : w.held ≡ None) where
-  abbrev Says : Hand → Result (Option ℕ) CallFault → Type 0
+module _ (end : End) (L : Layout) (tries : ℕ) (w : WorkerView) (none : w.pending ≡ None) (free : w.held ≡ None) where
+  abbrev Says : WorkerView → Result (Option ℕ) CallFault → Type 0
   Says z r = SaysPop (comes_before end) L tries w z r
 
   -- a key is not pending
-  not_pending : {B : Type 0} (x : Hand) → x.pending ≡ None → IsSome x.pending → B
+  not_pending : {B : Type 0} (x : WorkerView) → x.pending ≡ None → IsSome x.pending → B
   not_pending x is some = absurd (true≢false (sym (subst IsSome is some)))
 
   -- by all rounds
-  so_far : (n flags : ℕ) (x z : Hand) → n < tries → HaveGone L tries n w x → GoesOn (round_bound L tries) flags x z → GoesOn (pop_bound L tries) flags w z
+  so_far : (n flags : ℕ) (x z : WorkerView) → n < tries → HaveGone L tries n w x → GoesOn (round_bound L tries) flags x z → GoesOn (pop_bound L tries) flags w z
   so_far n flags x z less gone on =
       goes_more (n * round_bound L tries + round_bound L tries) (pop_bound L tries) flags w z (mul_below n tries (round_bound L tries) less) (goes_then (n * round_bound L tries) (round_bound L tries) flags w x z gone.on on)
 
   -- one that ends with the call that finds no key
-  half_round : (x z : Hand) (r : Result (Option ℕ) CallFault) → Finds end L tries x z r → GoesOn (round_bound L tries) 0 x z
+  half_round : (x z : WorkerView) (r : Result (Option ℕ) CallFault) → Finds end L tries x z r → GoesOn (round_bound L tries) 0 x z
   half_round x z r found = let fits = round_fits L tries in goes_more (near_bound L tries) (round_bound L tries) 0 x z (omega (arith, fits)) (goes_near end L tries x z r found)
 
-  by_none : (n : ℕ) (x z : Hand) → n < tries → HaveGone L tries n w x → Finds end L tries x z (Ok None) → Says z (Ok None)
+  by_none : (n : ℕ) (x z : WorkerView) → n < tries → HaveGone L tries n w x → Finds end L tries x z (Ok None) → Says z (Ok None)
   by_none n x z less gone found =
       let on = so_far n 0 x z less gone (half_round x z (Ok None) found) in
       let l = found_by end L tries x z (Ok None) found in
@@ -328,10 +328,10 @@ module _ (end : End) (L : Layout) (tries : ℕ) (w : Hand) (none : w.pending ≡
       }
 
   -- the key that was found, in the whole call
-  found_so : (x y z : Hand) (key : ℕ) → HasSeenAllOf x.pass w.pass → Finds end L tries x y (Ok (Some key)) → (r : Result Bool CallFault) → LeavesDelete L tries key y z r → WasFound end w.pass z.pass key
+  found_so : (x y z : WorkerView) (key : ℕ) → HasSeenAllOf x.pass w.pass → Finds end L tries x y (Ok (Some key)) → (r : Result Bool CallFault) → LeavesDelete L tries key y z r → WasFound end w.pass z.pass key
   found_so x y z key past found r did = found_in end w.pass x.pass y.pass z.pass key past did.says.same did.says.past (key_found end x.pass y.pass key (found_by end L tries x y (Ok (Some key)) found).moment)
 
-  by_key : (n : ℕ) (x y z : Hand) (key : ℕ) → n < tries → HaveGone L tries n w x → Finds end L tries x y (Ok (Some key)) → LeavesDelete L tries key y z (Ok true) → Says z (Ok (Some key))
+  by_key : (n : ℕ) (x y z : WorkerView) (key : ℕ) → n < tries → HaveGone L tries n w x → Finds end L tries x y (Ok (Some key)) → LeavesDelete L tries key y z (Ok true) → Says z (Ok (Some key))
   by_key n x y z key less gone found did =
       let on = so_far n 1 x z less gone (goes_round end L tries key x y z (Ok true) found did) in
       let was = found_so x y z key gone.on.past found (Ok true) did in
@@ -350,7 +350,7 @@ module _ (end : End) (L : Layout) (tries : ℕ) (w : Hand) (none : w.pending ≡
       }
 
   -- the call that finds a key was not answered
-  by_near : (n : ℕ) (x z : Hand) (f : CallFault) → n < tries → HaveGone L tries n w x → Finds end L tries x z (Err f) → Says z (Err f)
+  by_near : (n : ℕ) (x z : WorkerView) (f : CallFault) → n < tries → HaveGone L tries n w x → Finds end L tries x z (Err f) → Says z (Err f)
   by_near n x z f less gone found = by f found (found_by end L tries x z (Err f) found)
     where
       by : (f : CallFault) → Finds end L tries x z (Err f) → LeavesNear (told_at end) (gives_up_at end L tries) L tries x z (Err f) → Says z (Err f)
@@ -363,7 +363,7 @@ module _ (end : End) (L : Layout) (tries : ℕ) (w : Hand) (none : w.pending ≡
       by fault.Unfinished found l = absurd l.did
 
   -- the delete was not
-  by_delete : (n : ℕ) (x y z : Hand) (key : ℕ) (f : CallFault) → n < tries → HaveGone L tries n w x → Finds end L tries x y (Ok (Some key)) → LeavesDelete L tries key y z (Err f) → Says z (Err f)
+  by_delete : (n : ℕ) (x y z : WorkerView) (key : ℕ) (f : CallFault) → n < tries → HaveGone L tries n w x → Finds end L tries x y (Ok (Some key)) → LeavesDelete L tries key y z (Err f) → Says z (Err f)
   by_delete n x y z key f less gone found did = by f did
     where
       l : LeavesNear (told_at end) (gives_up_at end L tries) L tries x y (Ok (Some key))
@@ -395,27 +395,27 @@ module _ (end : End) (L : Layout) (tries : ℕ) (w : Hand) (none : w.pending ≡
       by fault.Full did = absurd did.says.told
 
   -- all rounds came too late
-  by_all : (z : Hand) → HaveGone L tries tries w z → Says z (Err fault.Busy)
+  by_all : (z : WorkerView) → HaveGone L tries tries w z → Says z (Err fault.Busy)
   by_all z gone =
       let on = gone.on in
       record { same = on.same; past = on.past; told = (none, gone.free); took = tt; won = on.won; steps = on.steps; queues = on.queues; blocks = on.blocks; held = on.held; fit = on.fit }
 
-  by_round : (n : ℕ) (x z : Hand) (r : Result (Option ℕ) CallFault) → n < tries → HaveGone L tries n w x → EndsRound end L tries x z r → Says z r
+  by_round : (n : ℕ) (x z : WorkerView) (r : Result (Option ℕ) CallFault) → n < tries → HaveGone L tries n w x → EndsRound end L tries x z r → Says z r
   by_round n x z (Ok None) less gone e = by_none n x z less gone e
   by_round n x z (Ok (Some key)) less gone (y, found, did) = by_key n x y z key less gone found did
   by_round n x z (Err f) less gone (inl found) = by_near n x z f less gone found
   by_round n x z (Err f) less gone (inr (y, key, found, did)) = by_delete n x y z key f less gone found did
 
 -- the worker was not asked, since a key is pending
-by_pending : (end : End) (L : Layout) (tries : ℕ) (w : Hand) → w.held ≡ None → IsSome w.pending → SaysPop (comes_before end) L tries w w (Err fault.Pending)
+by_pending : (end : End) (L : Layout) (tries : ℕ) (w : WorkerView) → w.held ≡ None → IsSome w.pending → SaysPop (comes_before end) L tries w w (Err fault.Pending)
 by_pending end L tries w free some =
     let on = goes_more 0 (pop_bound L tries) 0 w w (omega arith) (goes_nowhere w free) in
     record { same = on.same; past = on.past; told = (some, refl); took = tt; won = on.won; steps = on.steps; queues = on.queues; blocks = on.blocks; held = on.held; fit = on.fit }
 
-pops_so : (end : End) (L : Layout) (tries : ℕ) (w z : Hand) (r : Result (Option ℕ) CallFault) → w.held ≡ None → HasPopped end L tries w z r → SaysPop (comes_before end) L tries w z r
-pops_so end L tries w z r free (inl (still, is)) = subst (SaysPop (comes_before end) L tries w z) (sym is) (subst (λ (x : Hand). SaysPop (comes_before end) L tries w x (Err fault.Pending)) (sym still.1) (by_pending end L tries w free still.0))
+pops_so : (end : End) (L : Layout) (tries : ℕ) (w z : WorkerView) (r : Result (Option ℕ) CallFault) → w.held ≡ None → HasPopped end L tries w z r → SaysPop (comes_before end) L tries w z r
+pops_so end L tries w z r free (inl (still, is)) = subst (SaysPop (comes_before end) L tries w z) (sym is) (subst (λ (x : WorkerView). SaysPop (comes_before end) L tries w x (Err fault.Pending)) (sym still.1) (by_pending end L tries w free still.0))
 pops_so end L tries w z r free (inr (none, inl (n, x, less, lost, ends))) = by_round end L tries w none free n x z r less (have_gone end L tries n w x none free lost) ends
 pops_so end L tries w z r free (inr (none, inr (lost, is))) = subst (SaysPop (comes_before end) L tries w z) (sym is) (by_all end L tries w none free z (have_gone end L tries tries w z none free lost))
 
-pub leaves_so : (end : End) (L : Layout) (tries : ℕ) (w z : Hand) (r : Result (Option ℕ) CallFault) → w.held ≡ None → HasPopped end L tries w z r → LeavesPop end L tries w z r
+pub leaves_so : (end : End) (L : Layout) (tries : ℕ) (w z : WorkerView) (r : Result (Option ℕ) CallFault) → w.held ≡ None → HasPopped end L tries w z r → LeavesPop end L tries w z r
 leaves_so end L tries w z r free did = record { says = pops_so end L tries w z r free did; did = did }

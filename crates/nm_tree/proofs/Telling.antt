@@ -1,26 +1,26 @@
 -- What a call leaves, by what it answered.
 use Rattle.std.proofs.Common.{◌≡◌, ℕ, sym, subst}
 use Rattle.std.specs.Prelude.{Bool, Result}
-use Rattle.nm_steps.specs.Steps.{Board}
+use Rattle.nm_steps.specs.Steps.{TreeView}
 use Rattle.nm_tree.specs.declared.fault.CallFault.{CallFault}
 use Rattle.nm_tree.specs.Answers.{HasInserted, HasDeleted, HasFinished}
-use Rattle.nm_tree.specs.Workers.{Hand}
+use Rattle.nm_tree.specs.Workers.{WorkerView}
 
-pub inserted_so : (b d : Board) (tries k : ℕ) (w v z : Hand) (r s : Result Bool CallFault) → b ≡ d → w ≡ v → s ≡ r → HasInserted b.layout tries k w z r → HasInserted d.layout tries k v z s
-inserted_so b d tries k w v z r s board hand answer did =
-    let P : Board → Type 0 = λ x. HasInserted x.layout tries k v z s in
-    let Q : Hand → Type 0 = λ x. HasInserted b.layout tries k x z s in
+pub inserted_so : (b d : TreeView) (tries k : ℕ) (w v z : WorkerView) (r s : Result Bool CallFault) → b ≡ d → w ≡ v → s ≡ r → HasInserted b.layout tries k w z r → HasInserted d.layout tries k v z s
+inserted_so b d tries k w v z r s tree worker answer did =
+    let P : TreeView → Type 0 = λ x. HasInserted x.layout tries k v z s in
+    let Q : WorkerView → Type 0 = λ x. HasInserted b.layout tries k x z s in
     let R : Result Bool CallFault → Type 0 = λ x. HasInserted b.layout tries k w z x in
-    subst P board (subst Q hand (subst R (sym answer) did))
+    subst P tree (subst Q worker (subst R (sym answer) did))
 
-pub deleted_so : (b d : Board) (tries k : ℕ) (w v z : Hand) (r : Result Bool CallFault) → b ≡ d → w ≡ v → HasDeleted b.layout tries k w z r → HasDeleted d.layout tries k v z r
-deleted_so b d tries k w v z r board hand did =
-    let P : Board → Type 0 = λ x. HasDeleted x.layout tries k v z r in
-    let Q : Hand → Type 0 = λ x. HasDeleted b.layout tries k x z r in
-    subst P board (subst Q hand did)
+pub deleted_so : (b d : TreeView) (tries k : ℕ) (w v z : WorkerView) (r : Result Bool CallFault) → b ≡ d → w ≡ v → HasDeleted b.layout tries k w z r → HasDeleted d.layout tries k v z r
+deleted_so b d tries k w v z r tree worker did =
+    let P : TreeView → Type 0 = λ x. HasDeleted x.layout tries k v z r in
+    let Q : WorkerView → Type 0 = λ x. HasDeleted b.layout tries k x z r in
+    subst P tree (subst Q worker did)
 
-pub finished_so : (b d : Board) (tries : ℕ) (w v z : Hand) (r : Result Bool CallFault) → b ≡ d → w ≡ v → HasFinished b.layout tries w z r → HasFinished d.layout tries v z r
-finished_so b d tries w v z r board hand did =
-    let P : Board → Type 0 = λ x. HasFinished x.layout tries v z r in
-    let Q : Hand → Type 0 = λ x. HasFinished b.layout tries x z r in
-    subst P board (subst Q hand did)
+pub finished_so : (b d : TreeView) (tries : ℕ) (w v z : WorkerView) (r : Result Bool CallFault) → b ≡ d → w ≡ v → HasFinished b.layout tries w z r → HasFinished d.layout tries v z r
+finished_so b d tries w v z r tree worker did =
+    let P : TreeView → Type 0 = λ x. HasFinished x.layout tries v z r in
+    let Q : WorkerView → Type 0 = λ x. HasFinished b.layout tries x z r in
+    subst P tree (subst Q worker did)

@@ -20,14 +20,14 @@ use Rattle.nm_order.proofs.LastEntries.{search_more}
 use Rattle.nm_steps.specs.declared.view.Held.{Held}
 use Rattle.nm_steps.specs.declared.view.View.{View}
 use Rattle.nm_steps.specs.Rules.{held_log, knowledge, passing, joined}
-use Rattle.nm_steps.specs.Steps.{Stand, HasEmptyHands, IsInRun}
+use Rattle.nm_steps.specs.Steps.{PassView, HasEmptyHands, IsInRun}
 use Rattle.nm_steps.specs.Ties.{StandsInRun}
 use Rattle.nm_steps.proofs.Presence.{known_push}
 use Rattle.nm_epoch.specs.declared.collecting.HeldQueue.{HeldQueue}
 use Rattle.nm_epoch.specs.Collecting.{AreHeld}
 use Rattle.nm_epoch.specs.Resting.{Settles, search}
 use Rattle.nm_epoch.proofs.FewQueues.{few}
-use Rattle.nm_tree.specs.Workers.{Hand, IsBetweenCalls, IsWorker, HasNumber, HasOrigin, HoldNoSlot}
+use Rattle.nm_tree.specs.Workers.{WorkerView, IsBetweenCalls, IsWorker, HasNumber, HasOrigin, HoldNoSlot}
 use Rattle.nm_tree.specs.Resigning.{place_in, merged}
 use Rattle.nm_tree.proofs.Heirs.{logs, knows, first_held, second_held, none_apart, first_alike, second_alike, held_by_one}
 use Rattle.nm_tree.proofs.Merging.{length-merged, has_merged, merged_has, ascend_merged, held_merged, counted_merged, stands_at_place}
@@ -44,7 +44,7 @@ no_drafts (d ∷ ds) none' = absurd (none-some d.1 (sym (none' d.0) ∙ first (a
     first : {b : Bool} → b ≡ true → cond b (Some d.1) (get ds d.0) ≡ Some d.1
     first {b} is = let P : Bool → Type 0 = λ c. cond c (Some d.1) (get ds d.0) ≡ Some d.1 in subst P (sym is) refl
 
-pub empty_hands : (u : Hand) → IsBetweenCalls u → HasEmptyHands (knowledge u.pass.view)
+pub empty_hands : (u : WorkerView) → IsBetweenCalls u → HasEmptyHands (knowledge u.pass.view)
 empty_hands u is = record { drafts = no_drafts (knowledge u.pass.view).drafts is.private; labelled = labelled u.pass u.pending u.held is.stands }
 
 -- ---- who has resigned
@@ -96,7 +96,7 @@ logs_have v w o (inr has) = elim (part v.others has) [
       | inr back ↦ inr back
     ]
 
-module _ {r r' : ℕ} (p u : Hand) (home home' : ℕ) (is : IsWorker p home r) (more : IsWorker u home' r') (same : p.pass.view.layout ≡ u.pass.view.layout)
+module _ {r r' : ℕ} (p u : WorkerView) (home home' : ℕ) (is : IsWorker p home r) (more : IsWorker u home' r') (same : p.pass.view.layout ≡ u.pass.view.layout)
     (run : StandsInRun (joined p.pass.view u.pass.view)) where
   abbrev v : View
   v = p.pass.view
@@ -107,7 +107,7 @@ module _ {r r' : ℕ} (p u : Hand) (home home' : ℕ) (is : IsWorker p home r) (
   abbrev j : View
   j = joined v w
 
-  abbrev q : Stand
+  abbrev q : PassView
   q = record p.pass { view = j }
 
   abbrev all : List HeldQueue

@@ -7,14 +7,14 @@ use Rattle.nm_model.specs.Walks.{Entry}
 use Rattle.nm_steps.proofs.Seeing.{seen_itself}
 use Rattle.nm_calls.specs.Won.{HasWon}
 use Rattle.nm_tree.specs.declared.fault.CallFault.TheVariants as fault
-use Rattle.nm_tree.specs.Workers.{Hand}
+use Rattle.nm_tree.specs.Workers.{WorkerView}
 use Rattle.nm_tree.specs.Calls.{LeavesHas, LeavesInsert, LeavesDelete, LeavesFinish}
 use Rattle.nm_tree.proofs.QueueLists.{others_stay, room_stays}
 
 nothing_won : (log : List Entry) → HasWon log log 0 0
 nothing_won log = record { links = omega arith; flags = omega arith }
 
-module _ (L : Layout) (tries k : ℕ) (w : Hand) (there : IsSome w.pending) (free : w.held ≡ None) where
+module _ (L : Layout) (tries k : ℕ) (w : WorkerView) (there : IsSome w.pending) (free : w.held ≡ None) where
   pub has_pending : LeavesHas L tries k w w (Err fault.Pending)
   has_pending = record {
     says = record {
@@ -70,7 +70,7 @@ module _ (L : Layout) (tries k : ℕ) (w : Hand) (there : IsSome w.pending) (fre
     lost = λ is. absurd (let no = is in cc);
   }
 
-pub finishes_none : (L : Layout) (tries : ℕ) (w : Hand) → w.pending ≡ None → LeavesFinish L tries w w (Ok false)
+pub finishes_none : (L : Layout) (tries : ℕ) (w : WorkerView) → w.pending ≡ None → LeavesFinish L tries w w (Ok false)
 finishes_none L tries w none' = record {
   says = record {
     same = refl;

@@ -18,32 +18,32 @@ use Rattle.nm_tree.specs.declared.fault.PinFault.TheVariants as pinning
 use Rattle.nm_tree.specs.declared.fault.CallFault.{CallFault}
 use Rattle.nm_tree.specs.declared.fault.CallFault.TheVariants as fault
 use Rattle.nm_calls.specs.declared.deleting.Unfinished.{Unfinished}
-use Rattle.nm_tree.specs.Workers.{Hand, HasLittleRoom}
+use Rattle.nm_tree.specs.Workers.{WorkerView, HasLittleRoom}
 use Rattle.nm_epoch.specs.Resting.{epochs}
-use Rattle.nm_steps.specs.Steps.{Stand}
+use Rattle.nm_steps.specs.Steps.{PassView}
 
 -- a key is pending, and nothing has changed
-abbrev pub IsPendingStill : Hand → Hand → Type 0
+abbrev pub IsPendingStill : WorkerView → WorkerView → Type 0
 IsPendingStill w z = IsSome w.pending × (z ≡ w)
 
 -- no key was pending, and none is
-abbrev pub IsFree : Hand → Hand → Type 0
+abbrev pub IsFree : WorkerView → WorkerView → Type 0
 IsFree w z = (w.pending ≡ None) × (z.pending ≡ None)
 
 -- the own queue has less room than a try asks
-abbrev pub LacksRoom : Hand → Type 0
+abbrev pub LacksRoom : WorkerView → Type 0
 LacksRoom z = HasLittleRoom z.pass.view.number z.queues
 
 -- what a look-up tells of its worker, by its answer: that a key was pending, and nothing changed, or
 -- that none was, and none is
-abbrev pub HasTold : Hand → Hand → Result Bool CallFault → Type 0
+abbrev pub HasTold : WorkerView → WorkerView → Result Bool CallFault → Type 0
 HasTold w z (Ok b) = IsFree w z
 HasTold w z (Err fault.Busy) = IsFree w z
 HasTold w z (Err fault.Pending) = IsPendingStill w z
 HasTold w z (Err _) = ⊥
 
 -- an insert too; and that its queue has little room
-abbrev pub InsertTold : Hand → Hand → Result Bool CallFault → Type 0
+abbrev pub InsertTold : WorkerView → WorkerView → Result Bool CallFault → Type 0
 InsertTold w z (Ok b) = IsFree w z
 InsertTold w z (Err fault.Busy) = IsFree w z
 InsertTold w z (Err fault.Full) = IsFree w z
@@ -53,7 +53,7 @@ InsertTold w z (Err fault.Unfinished) = ⊥
 
 -- a delete of a key too; where it is not finished, that its key is pending, of the leaf that it has
 -- flagged
-abbrev pub DeleteTold : ℕ → Hand → Hand → Result Bool CallFault → Type 0
+abbrev pub DeleteTold : ℕ → WorkerView → WorkerView → Result Bool CallFault → Type 0
 DeleteTold k w z (Ok b) = IsFree w z
 DeleteTold k w z (Err fault.Busy) = IsFree w z
 DeleteTold k w z (Err fault.NoMemory) = IsFree w z × LacksRoom z
@@ -64,14 +64,14 @@ DeleteTold k w z (Err fault.Full) = ⊥
 
 -- a call that goes on with a delete: nothing was pending, and nothing has changed; or a key was, and
 -- none is, or that one still
-abbrev pub FinishTold : Hand → Hand → Result Bool CallFault → Type 0
+abbrev pub FinishTold : WorkerView → WorkerView → Result Bool CallFault → Type 0
 FinishTold w z (Ok false) = (w.pending ≡ None) × (z ≡ w)
 FinishTold w z (Ok true) = IsSome w.pending × (z.pending ≡ None)
 FinishTold w z (Err fault.Unfinished) = IsSome w.pending × (z.pending ≡ w.pending)
 FinishTold w z (Err _) = ⊥
 
 -- what a look-up leaves of its worker, by its answer (Natarajan and Mittal, section 3.2)
-abbrev pub HasAnswered : Layout → ℕ → ℕ → Hand → Hand → Result Bool CallFault → Type 0
+abbrev pub HasAnswered : Layout → ℕ → ℕ → WorkerView → WorkerView → Result Bool CallFault → Type 0
 HasAnswered L tries k w z (Ok b) =
     IsFree w z × HasDid L tries k w.pass.view.log z.pass.view.log b
 HasAnswered L tries k w z (Err fault.Busy) =
@@ -80,7 +80,7 @@ HasAnswered L tries k w z (Err fault.Pending) = IsPendingStill w z
 HasAnswered L tries k w z (Err _) = ⊥
 
 -- an insert, in the same way (Natarajan and Mittal, section 3.2)
-abbrev pub HasInserted : Layout → ℕ → ℕ → Hand → Hand → Result Bool CallFault → Type 0
+abbrev pub HasInserted : Layout → ℕ → ℕ → WorkerView → WorkerView → Result Bool CallFault → Type 0
 HasInserted L tries k w z (Ok b) =
     IsFree w z × InsertDid w.fit L tries k w.pass.view.log z.pass.view.log (Ok b)
 HasInserted L tries k w z (Err fault.Busy) =
@@ -93,7 +93,7 @@ HasInserted L tries k w z (Err fault.Pending) = IsPendingStill w z
 HasInserted L tries k w z (Err fault.Unfinished) = ⊥
 
 -- a delete (Natarajan and Mittal, section 3.2)
-abbrev pub HasDeleted : Layout → ℕ → ℕ → Hand → Hand → Result Bool CallFault → Type 0
+abbrev pub HasDeleted : Layout → ℕ → ℕ → WorkerView → WorkerView → Result Bool CallFault → Type 0
 HasDeleted L tries k w z (Ok b) =
     IsFree w z × DeleteDid L tries k w.pass.view.log z.pass.view.log (Ok b)
 HasDeleted L tries k w z (Err fault.Busy) =
@@ -107,7 +107,7 @@ HasDeleted L tries k w z (Err fault.Pending) = IsPendingStill w z
 HasDeleted L tries k w z (Err fault.Full) = ⊥
 
 -- what is left to do of a delete (Natarajan and Mittal, section 3.2)
-abbrev pub HasFinished : Layout → ℕ → Hand → Hand → Result Bool CallFault → Type 0
+abbrev pub HasFinished : Layout → ℕ → WorkerView → WorkerView → Result Bool CallFault → Type 0
 HasFinished L tries w z (Ok false) = (w.pending ≡ None) × (z ≡ w)
 HasFinished L tries w z (Ok true) =
     (n : Unfinished) × (w.pending ≡ Some n) × (z.pending ≡ None)
@@ -133,7 +133,7 @@ flags_won (Err _) = 0
 -- ---- why a call gave up
 
 -- a delete for want of memory; and one whose leaf is flagged lacks room, or has lost each try behind the flag
-abbrev pub DeleteLacks : Layout → ℕ → ℕ → Hand → Hand → CallFault → Type 0
+abbrev pub DeleteLacks : Layout → ℕ → ℕ → WorkerView → WorkerView → CallFault → Type 0
 DeleteLacks L tries k w z fault.NoMemory = LacksRoom z
 DeleteLacks L tries k w z fault.Unfinished =
     LacksRoom z ⊎ ((leaf : NodeId)
@@ -141,30 +141,30 @@ DeleteLacks L tries k w z fault.Unfinished =
 DeleteLacks L tries k w z _ = Unit {0}
 
 -- what is left of a delete: it lacks room, or has lost each try
-abbrev pub FinishLacks : Layout → ℕ → Hand → Hand → CallFault → Type 0
+abbrev pub FinishLacks : Layout → ℕ → WorkerView → WorkerView → CallFault → Type 0
 FinishLacks L tries w z _ =
     LacksRoom z ⊎ ((n : Unfinished) × (w.pending ≡ Some n)
     × LosesEachTry L n.key n.leaf tries w.pass.view.log z.pass.view.log)
 
 -- so each try of a delete that is not finished was lost, but for the one that won the flag and
 -- the cleanup behind it, and each try of what is left of one; or room was lacking
-abbrev pub DeleteWasLost : ℕ → Hand → Hand → Type 0
+abbrev pub DeleteWasLost : ℕ → WorkerView → WorkerView → Type 0
 DeleteWasLost tries w z = LacksRoom z ⊎ WasHindered w.pass z.pass (tries - 2)
 
-abbrev pub FinishWasLost : ℕ → Hand → Hand → Type 0
+abbrev pub FinishWasLost : ℕ → WorkerView → WorkerView → Type 0
 FinishWasLost tries w z = LacksRoom z ⊎ WasHindered w.pass z.pass tries
 
 -- the delete that was pending is answered, and it is one behind all that the worker had seen
 -- whenever it had no call, as before the call that began the delete: its leaf was cut at a moment
 -- of it (Herlihy and Wing)
-abbrev pub FinishHasMoment : Hand → Hand → Result Bool CallFault → Type 0
+abbrev pub FinishHasMoment : WorkerView → WorkerView → Result Bool CallFault → Type 0
 FinishHasMoment w z (Ok true) =
     (n : Unfinished) × (w.pending ≡ Some n)
-    × ((o : Stand) → HadNoCall o w.pass → AnswerHasMoment o z.pass Delete n.key true)
+    × ((o : PassView) → HadNoCall o w.pass → AnswerHasMoment o z.pass Delete n.key true)
 FinishHasMoment w z _ = Unit {0}
 
 -- a pin for the caller (Fraser, section 5)
-abbrev pub HasPinned : ℕ → Hand → Hand → Result ℕ PinFault → Type 0
+abbrev pub HasPinned : ℕ → WorkerView → WorkerView → Result ℕ PinFault → Type 0
 HasPinned tries w z (Ok epoch) =
     IsFree w z × (z.held ≡ Some epoch) × PinsSo Sight tries w.pass.view.log z.pass.view.log epoch
 HasPinned tries w z (Err (pinning.Moved epoch)) =
@@ -173,5 +173,5 @@ HasPinned tries w z (Err (pinning.Moved epoch)) =
 HasPinned tries w z (Err pinning.Pending) = IsPendingStill w z
 
 -- what is pending or held is so still
-abbrev pub KeepsPlace : Hand → Hand → Type 0
+abbrev pub KeepsPlace : WorkerView → WorkerView → Type 0
 KeepsPlace w z = (z.pending ≡ w.pending) × (z.held ≡ w.held)

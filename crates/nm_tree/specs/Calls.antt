@@ -7,7 +7,7 @@ use Rattle.nm_model.specs.declared.event.Op.TheVariants.{Has, Insert, Delete}
 use Rattle.nm_model.specs.declared.reply.Reply.TheVariants.{Departed}
 use Rattle.nm_model.specs.Walks.{Entry as LogEntry}
 use Rattle.nm_order.specs.Reads.{HasRead}
-use Rattle.nm_steps.specs.Steps.{Board, Stand, IsOf, IsSamePass, HasSeenAllOf, Stepped}
+use Rattle.nm_steps.specs.Steps.{TreeView, PassView, IsOf, IsSamePass, HasSeenAllOf, Stepped}
 use Rattle.nm_epoch.specs.declared.answers.Advance.{Advance}
 use Rattle.nm_epoch.specs.declared.answers.Behind.{Behind}
 use Rattle.nm_epoch.specs.declared.collecting.Collected.{Collected}
@@ -36,10 +36,10 @@ use Rattle.nm_tree.specs.Answers.{HasAnswered, HasInserted, HasDeleted, HasFinis
 use Rattle.nm_tree.specs.InTurns.{HasAnsweredMany}
 use Rattle.nm_tree.specs.Looked.{HasLooked}
 use Rattle.nm_tree.specs.Running.{IsFreedInGrace}
-use Rattle.nm_tree.specs.Workers.{Hand, KeepsOtherQueues, TakeRoom}
+use Rattle.nm_tree.specs.Workers.{WorkerView, KeepsOtherQueues, TakeRoom}
 
 -- the worker is one of this tree's, and its caller does not hold it
-pub record MayCall (b : Board) (w : Hand) : Type 0 where
+pub record MayCall (b : TreeView) (w : WorkerView) : Type 0 where
   pub own : IsOf b w.pass
   pub free : w.held ≡ None
 
@@ -50,7 +50,7 @@ pub record MayCall (b : Board) (w : Hand) : Type 0 where
 -- queues and how much memory they have (`queues`, `blocks`); and that the worker is held as it was
 -- or not at all and claims as it did (`held`, `fit`). `LeavesHas` and its likes: that, how it was
 -- done (`did`), and why not (`lacks`, and for all that hindered it `disturbed`, `lost`)
-pub record SaysHas (L : Layout) (tries k : ℕ) (w z : Hand) (r : Result Bool CallFault) : Type 0 where
+pub record SaysHas (L : Layout) (tries k : ℕ) (w z : WorkerView) (r : Result Bool CallFault) : Type 0 where
   pub same : IsSamePass w.pass z.pass
   pub past : HasSeenAllOf z.pass w.pass
   pub told : HasTold w z r
@@ -62,11 +62,11 @@ pub record SaysHas (L : Layout) (tries k : ℕ) (w z : Hand) (r : Result Bool Ca
   pub held : z.held ≡ None
   pub fit : z.fit ≡ w.fit
 
-pub record LeavesHas (L : Layout) (tries k : ℕ) (w z : Hand) (r : Result Bool CallFault) : Type 0 where
+pub record LeavesHas (L : Layout) (tries k : ℕ) (w z : WorkerView) (r : Result Bool CallFault) : Type 0 where
   pub says : SaysHas L tries k w z r
   pub did : HasAnswered L tries k w z r
 
-pub record SaysInsert (L : Layout) (tries k : ℕ) (w z : Hand) (r : Result Bool CallFault) : Type 0 where
+pub record SaysInsert (L : Layout) (tries k : ℕ) (w z : WorkerView) (r : Result Bool CallFault) : Type 0 where
   pub same : IsSamePass w.pass z.pass
   pub past : HasSeenAllOf z.pass w.pass
   pub told : InsertTold w z r
@@ -78,12 +78,12 @@ pub record SaysInsert (L : Layout) (tries k : ℕ) (w z : Hand) (r : Result Bool
   pub held : z.held ≡ None
   pub fit : z.fit ≡ w.fit
 
-pub record LeavesInsert (L : Layout) (tries k : ℕ) (w z : Hand) (r : Result Bool CallFault) : Type 0 where
+pub record LeavesInsert (L : Layout) (tries k : ℕ) (w z : WorkerView) (r : Result Bool CallFault) : Type 0 where
   pub says : SaysInsert L tries k w z r
   pub did : HasInserted L tries k w z r
   pub disturbed : IsErrOf r fault.Busy → ChangeWasBusy w.pass z.pass tries
 
-pub record SaysDelete (L : Layout) (tries k : ℕ) (w z : Hand) (r : Result Bool CallFault) : Type 0 where
+pub record SaysDelete (L : Layout) (tries k : ℕ) (w z : WorkerView) (r : Result Bool CallFault) : Type 0 where
   pub same : IsSamePass w.pass z.pass
   pub past : HasSeenAllOf z.pass w.pass
   pub told : DeleteTold k w z r
@@ -95,14 +95,14 @@ pub record SaysDelete (L : Layout) (tries k : ℕ) (w z : Hand) (r : Result Bool
   pub held : z.held ≡ None
   pub fit : z.fit ≡ w.fit
 
-pub record LeavesDelete (L : Layout) (tries k : ℕ) (w z : Hand) (r : Result Bool CallFault) : Type 0 where
+pub record LeavesDelete (L : Layout) (tries k : ℕ) (w z : WorkerView) (r : Result Bool CallFault) : Type 0 where
   pub says : SaysDelete L tries k w z r
   pub did : HasDeleted L tries k w z r
   pub lacks : IfErr r (DeleteLacks L tries k w z)
   pub disturbed : IsErrOf r fault.Busy → ChangeWasBusy w.pass z.pass tries
   pub lost : IsErrOf r fault.Unfinished → DeleteWasLost tries w z
 
-pub record SaysFinish (L : Layout) (tries : ℕ) (w z : Hand) (r : Result Bool CallFault) : Type 0 where
+pub record SaysFinish (L : Layout) (tries : ℕ) (w z : WorkerView) (r : Result Bool CallFault) : Type 0 where
   pub same : IsSamePass w.pass z.pass
   pub past : HasSeenAllOf z.pass w.pass
   pub told : FinishTold w z r
@@ -114,7 +114,7 @@ pub record SaysFinish (L : Layout) (tries : ℕ) (w z : Hand) (r : Result Bool C
   pub held : z.held ≡ w.held
   pub fit : z.fit ≡ w.fit
 
-pub record LeavesFinish (L : Layout) (tries : ℕ) (w z : Hand) (r : Result Bool CallFault) : Type 0 where
+pub record LeavesFinish (L : Layout) (tries : ℕ) (w z : WorkerView) (r : Result Bool CallFault) : Type 0 where
   pub says : SaysFinish L tries w z r
   pub did : HasFinished L tries w z r
   pub lacks : IfErr r (FinishLacks L tries w z)
@@ -122,7 +122,7 @@ pub record LeavesFinish (L : Layout) (tries : ℕ) (w z : Hand) (r : Result Bool
 
 -- `LeavesHasMany`: the same of a look-up of these queries, which are those after it then; and that it
 -- is answered, where it may make a try and no other worker makes a turn (`alone`)
-pub record LeavesHasMany (L : Layout) (tries : ℕ) (old new : List Query) (w z : Hand)
+pub record LeavesHasMany (L : Layout) (tries : ℕ) (old new : List Query) (w z : WorkerView)
     (r : Result (Unit {0}) CallFault) : Type 0 where
   pub same : IsSamePass w.pass z.pass
   pub past : HasSeenAllOf z.pass w.pass
@@ -141,8 +141,8 @@ pub record LeavesHasMany (L : Layout) (tries : ℕ) (old new : List Query) (w z 
 -- `LeavesNear`: of a call for the key nearest to one, where `Was` is what is told of it, and `GivesUp`
 -- how its walks end without an answer (`alone`: so where it may make two tries); `LeavesNext`,
 -- `LeavesPrev`: the least key that is not below k, and the greatest one that is not above k
-pub record LeavesNear (Was : Stand → Stand → Option ℕ → Type 0)
-    (GivesUp : List LogEntry → List LogEntry → Type 0) (L : Layout) (tries : ℕ) (w z : Hand)
+pub record LeavesNear (Was : PassView → PassView → Option ℕ → Type 0)
+    (GivesUp : List LogEntry → List LogEntry → Type 0) (L : Layout) (tries : ℕ) (w z : WorkerView)
     (r : Result (Option ℕ) CallFault) : Type 0 where
   pub same : IsSamePass w.pass z.pass
   pub past : HasSeenAllOf z.pass w.pass
@@ -157,15 +157,15 @@ pub record LeavesNear (Was : Stand → Stand → Option ℕ → Type 0)
   pub held : z.held ≡ None
   pub fit : z.fit ≡ w.fit
 
-abbrev pub LeavesNext : Layout → ℕ → ℕ → Hand → Hand → Result (Option ℕ) CallFault → Type 0
+abbrev pub LeavesNext : Layout → ℕ → ℕ → WorkerView → WorkerView → Result (Option ℕ) CallFault → Type 0
 LeavesNext L tries k = LeavesNear (λ p q. WasNext p q k) (GiveUpNext L tries k) L tries
 
-abbrev pub LeavesPrev : Layout → ℕ → ℕ → Hand → Hand → Result (Option ℕ) CallFault → Type 0
+abbrev pub LeavesPrev : Layout → ℕ → ℕ → WorkerView → WorkerView → Result (Option ℕ) CallFault → Type 0
 LeavesPrev L tries k = LeavesNear (λ p q. WasPrev p q k) (GiveUpPrev L tries k) L tries
 
 -- `LeavesPin`, `LeavesUnpin`, `LeavesAdvance`, `LeavesBehind`, `LeavesCollect`: of a call that
 -- pins, or moves the epoch on
-pub record LeavesPin (tries : ℕ) (w z : Hand) (r : Result ℕ PinFault) : Type 0 where
+pub record LeavesPin (tries : ℕ) (w z : WorkerView) (r : Result ℕ PinFault) : Type 0 where
   pub same : IsSamePass w.pass z.pass
   pub past : HasSeenAllOf z.pass w.pass
   pub did : HasPinned tries w z r
@@ -173,7 +173,7 @@ pub record LeavesPin (tries : ℕ) (w z : Hand) (r : Result ℕ PinFault) : Type
   pub steps : length z.pass.view.log ≤ length w.pass.view.log + (3 * tries + 1)
   pub fit : z.fit ≡ w.fit
 
-pub record LeavesUnpin (w z : Hand) : Type 0 where
+pub record LeavesUnpin (w z : WorkerView) : Type 0 where
   pub step : Stepped w.pass z.pass Leave Departed
   pub past : HasSeenAllOf z.pass w.pass
   pub queues : z.queues ≡ w.queues
@@ -181,7 +181,7 @@ pub record LeavesUnpin (w z : Hand) : Type 0 where
   pub held : z.held ≡ None
   pub fit : z.fit ≡ w.fit
 
-pub record LeavesAdvance (workers : ℕ) (w z : Hand) (a : Advance) : Type 0 where
+pub record LeavesAdvance (workers : ℕ) (w z : WorkerView) (a : Advance) : Type 0 where
   pub same : IsSamePass w.pass z.pass
   pub past : HasSeenAllOf z.pass w.pass
   pub did : IsAdvance workers w.pass.view.number (epochs w.pass).pin w.pass.view.log z.pass.view.log
@@ -191,7 +191,7 @@ pub record LeavesAdvance (workers : ℕ) (w z : Hand) (a : Advance) : Type 0 whe
   pub steps : length z.pass.view.log ≤ length w.pass.view.log + workers + 1
   pub fit : z.fit ≡ w.fit
 
-pub record LeavesBehind (workers : ℕ) (w z : Hand) (b : Behind) : Type 0 where
+pub record LeavesBehind (workers : ℕ) (w z : WorkerView) (b : Behind) : Type 0 where
   pub same : IsSamePass w.pass z.pass
   pub past : HasSeenAllOf z.pass w.pass
   pub did : IsBehind workers w.pass.view.number (epochs w.pass).pin w.pass.view.log z.pass.view.log
@@ -201,7 +201,7 @@ pub record LeavesBehind (workers : ℕ) (w z : Hand) (b : Behind) : Type 0 where
   pub steps : length z.pass.view.log ≤ length w.pass.view.log + workers
   pub fit : z.fit ≡ w.fit
 
-pub record LeavesCollect (nodes : ℕ) (w z : Hand) (c : Collected) : Type 0 where
+pub record LeavesCollect (nodes : ℕ) (w z : WorkerView) (c : Collected) : Type 0 where
   pub same : IsSamePass w.pass z.pass
   pub past : HasSeenAllOf z.pass w.pass
   pub did : IsCollection c.epoch w.queues w.pass.view.log z.pass.view.log

@@ -20,7 +20,7 @@ use Rattle.nm_words.specs.Packing.{words_of}
 use Rattle.nm_model.specs.Headline.{Headline, words_after, cuts_of, freed_of, waits_of, has_after}
 use Rattle.nm_model.specs.Histories.{Called, HasHistory, call_begun}
 use Rattle.nm_steps.specs.Rules.{Extends, knowledge, joined, nobody}
-use Rattle.nm_steps.specs.Steps.{Board, IsOf, Ends}
+use Rattle.nm_steps.specs.Steps.{TreeView, IsOf, Ends}
 use Rattle.nm_epoch.specs.declared.collecting.Entry.{Entry}
 use Rattle.nm_epoch.specs.declared.collecting.HeldQueue.{HeldQueue}
 use Rattle.nm_epoch.specs.Collecting.{AreHeld}
@@ -30,34 +30,34 @@ use Rattle.nm_busy.specs.Pending.{NonePends}
 use Rattle.nm_tree.specs.Resigning.{merged}
 use Rattle.nm_tree.specs.Running.{AreOfWorkers, wins}
 use Rattle.nm_tree.specs.Settled.{HaveNothingPending}
-use Rattle.nm_tree.specs.Workers.{Hand, TellLedgers, waiting_in}
+use Rattle.nm_tree.specs.Workers.{WorkerView, TellLedgers, waiting_in}
 
 -- the workers are this tree's
-abbrev pub AreAllOf : Board → List Hand → Type 0
+abbrev pub AreAllOf : TreeView → List WorkerView → Type 0
 AreAllOf b [] = Unit {0}
 AreAllOf b (w ∷ ws) = IsOf b w.pass × AreAllOf b ws
 
 -- for how many workers these stand: their own numbers, and those of the workers that resigned to
 -- them
-abbrev pub given_in : List Hand → ℕ
-given_in ws = sum_by (λ (w : Hand). length w.queues) ws
+abbrev pub given_in : List WorkerView → ℕ
+given_in ws = sum_by (λ (w : WorkerView). length w.queues) ws
 
 -- the last one stands for all, and those before it join it, the last of them first
-abbrev pub all_joined : List Hand → View
+abbrev pub all_joined : List WorkerView → View
 all_joined [] = nobody
 all_joined (w ∷ []) = w.pass.view
 all_joined (w ∷ u ∷ ws) = joined (all_joined (u ∷ ws)) w.pass.view
 
 -- the view has their logs, and has seen something of its own
-abbrev pub StandsForAll : List Hand → View → Type 0
+abbrev pub StandsForAll : List WorkerView → View → Type 0
 StandsForAll ws v = v ≡ record (all_joined ws) { past = v.past }
 
 -- these turns go on from what each of them had seen
-abbrev pub GoesOnFromAll : List Turn → List Hand → Type 0
-GoesOnFromAll turns ws = All (λ (w : Hand). Extends turns w.pass.view.past) ws
+abbrev pub GoesOnFromAll : List Turn → List WorkerView → Type 0
+GoesOnFromAll turns ws = All (λ (w : WorkerView). Extends turns w.pass.view.past) ws
 
 -- all their queues, by ascending origin, each as it was
-abbrev pub all_merged : List Hand → List HeldQueue
+abbrev pub all_merged : List WorkerView → List HeldQueue
 all_merged [] = []
 all_merged (w ∷ []) = w.queues
 all_merged (w ∷ u ∷ ws) = merged (all_merged (u ∷ ws)) w.queues
@@ -130,13 +130,13 @@ KeysAreTheTotals L turns kept = NonePends L turns → (k : ℕ) → IsKey k
 -- keys, which ascend; and how many slots the words have in the pool, and reached from the root, the
 -- five fixed ones left out: these and those that wait are all. Where nothing was pending of the
 -- workers that were given, no delete is pending, and then the keys are as the links and flags tell
-pub record SaysClosed (b : Board) (ws : List Hand) (queues : List HeldQueue) (kept : List ℕ)
+pub record SaysClosed (b : TreeView) (ws : List WorkerView) (queues : List HeldQueue) (kept : List ℕ)
     (free reached : ℕ) : Type 0 where
   pub words : List ℕ
   pub turns : List Turn
   pub headline : IsOfTurns b.layout turns words queues kept
   pub goes_on : GoesOnFromAll turns ws
-  pub own : All (λ (w : Hand). HasJoinedAlone turns w.pass.view.past w.pass.view.number) ws
+  pub own : All (λ (w : WorkerView). HasJoinedAlone turns w.pass.view.past w.pass.view.number) ws
   pub merged : queues ≡ all_merged ws
   pub each : AreFrom 0 queues
   pub all : length queues ≡ b.layout.workers
@@ -151,12 +151,12 @@ pub record SaysClosed (b : Board) (ws : List Hand) (queues : List HeldQueue) (ke
 
 -- of the turns and the queues of every tree that was closed
 abbrev pub OfEachClosed : (Layout → List Turn → List HeldQueue → Type 0) → Type 0
-OfEachClosed P = (b : Board) (ws : List Hand) (queues : List HeldQueue) (kept : List ℕ)
+OfEachClosed P = (b : TreeView) (ws : List WorkerView) (queues : List HeldQueue) (kept : List ℕ)
     (free reached : ℕ) → (is : SaysClosed b ws queues kept free reached) → P b.layout is.turns queues
 
 -- just as many workers were given as the tree has
 abbrev pub AllWereGiven : Type 0
-AllWereGiven = (b : Board) (ws : List Hand) (queues : List HeldQueue) (kept : List ℕ)
+AllWereGiven = (b : TreeView) (ws : List WorkerView) (queues : List HeldQueue) (kept : List ℕ)
     (free reached : ℕ) → SaysClosed b ws queues kept free reached → given_in ws ≡ b.layout.workers
 
 -- what the splices of a worker cut off is what was freed of it and then its queue of the report
@@ -171,7 +171,7 @@ EachSlotEndsOnce L turns queues =
     (x : ℕ) → 6 ≤ x → x ≤ L.nodes → EndsOnce (words_after L turns) queues x
 
 -- why a tree was not closed
-abbrev pub IsCloseReason : Board → List Hand → CloseReason → Type 0
+abbrev pub IsCloseReason : TreeView → List WorkerView → CloseReason → Type 0
 IsCloseReason b ws (because.NotAll given made) =
     (given ≡ given_in ws) × (made ≡ b.layout.workers) × (given < made)
 IsCloseReason b ws because.NoMemory = b.layout.workers ≤ given_in ws
@@ -181,7 +181,7 @@ IsCloseReason b ws because.NoMemory = b.layout.workers ≤ given_in ws
 -- One worker stands for all that were given: the turns are those of a run that ends with the tree's
 -- words, of which the logs of all are the parts, and the queues have the labels, and tell the
 -- ledgers, by the logs
-pub record IsClosed (b : Board) (ws : List Hand) (queues : List HeldQueue) (kept : List ℕ)
+pub record IsClosed (b : TreeView) (ws : List WorkerView) (queues : List HeldQueue) (kept : List ℕ)
     (free reached : ℕ) : Type 0 where
   pub says : SaysClosed b ws queues kept free reached
   pub ends : Ends b.layout says.words (all_joined ws)
@@ -191,12 +191,12 @@ pub record IsClosed (b : Board) (ws : List Hand) (queues : List HeldQueue) (kept
 
 -- of the run that ends with its words
 abbrev pub OfEachClosedRun : (Layout → List (ℕ × Event) → Type 0) → Type 0
-OfEachClosedRun P = (b : Board) (ws : List Hand) (queues : List HeldQueue) (kept : List ℕ)
+OfEachClosedRun P = (b : TreeView) (ws : List WorkerView) (queues : List HeldQueue) (kept : List ℕ)
     (free reached : ℕ) → (is : IsClosed b ws queues kept free reached) → P b.layout is.ends.turns
 
 -- a core tells the same behind that run: the same keys, and the same counts, with no slot private
 abbrev pub EachReportIsACores : Type 0
-EachReportIsACores = (b : Board) (ws : List Hand) (queues : List HeldQueue) (kept : List ℕ)
+EachReportIsACores = (b : TreeView) (ws : List WorkerView) (queues : List HeldQueue) (kept : List ℕ)
     (free reached : ℕ) → (is : IsClosed b ws queues kept free reached)
     → (kept ≡ keys (after_in (ordered b.layout) is.ends.turns).state)
     × (counts (after_in (ordered b.layout) is.ends.turns).state

@@ -6,10 +6,10 @@ use Rattle.nm_walks.specs.Bounds.{reach}
 use Rattle.nm_calls.specs.InTurns.{GiveUp, key_of, most_looks}
 use Rattle.nm_tree.specs.declared.fault.CallFault.{CallFault}
 use Rattle.nm_tree.specs.Looked.{HasLooked}
-use Rattle.nm_tree.specs.Workers.{Hand}
+use Rattle.nm_tree.specs.Workers.{WorkerView}
 
 -- what a look-up of these queries leaves of its worker, by its answer (Natarajan and Mittal, section
 -- 3.2)
-abbrev pub HasAnsweredMany : Layout → ℕ → List Query → Hand → Hand → Result (Unit {0}) CallFault → Type 0
+abbrev pub HasAnsweredMany : Layout → ℕ → List Query → WorkerView → WorkerView → Result (Unit {0}) CallFault → Type 0
 HasAnsweredMany L tries queries =
     HasLooked (GiveUp L (map key_of queries)) tries (most_looks (reach L) (length queries))

@@ -5,12 +5,12 @@ use Rattle.nm_calls.specs.PlainWalks.{LooksUnderPin, PlainMissed}
 use Rattle.nm_tree.specs.declared.fault.CallFault.{CallFault}
 use Rattle.nm_tree.specs.declared.fault.CallFault.TheVariants as fault
 use Rattle.nm_tree.specs.Answers.{IsPendingStill, IsFree}
-use Rattle.nm_tree.specs.Workers.{Hand}
+use Rattle.nm_tree.specs.Workers.{WorkerView}
 
 -- what a call leaves of its worker that walks under a pin for no call, by its answer, with so many
 -- looks at most, where `GivesUp` says how its walks end without an answer (Natarajan and Mittal,
 -- section 3.2)
-abbrev pub HasLooked : {X : Type 0} → (List Entry → List Entry → Type 0) → ℕ → ℕ → Hand → Hand
+abbrev pub HasLooked : {X : Type 0} → (List Entry → List Entry → Type 0) → ℕ → ℕ → WorkerView → WorkerView
     → Result X CallFault → Type 0
 HasLooked GivesUp tries most w z (Ok _) =
     IsFree w z × LooksUnderPin tries most w.pass.view.log z.pass.view.log

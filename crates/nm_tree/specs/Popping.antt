@@ -3,7 +3,7 @@ use Rattle.std.specs.Prelude.{◌≡◌, ◌⊎◌, ◌+◌, ◌-◌, ◌*◌, �
 use Rattle.nm_edge.specs.Keys.{IsKey}
 use Rattle.nm_edge.specs.Layouts.{Layout}
 use Rattle.nm_model.specs.declared.event.Op.TheVariants.{Delete}
-use Rattle.nm_steps.specs.Steps.{Stand, IsSamePass, HasSeenAllOf}
+use Rattle.nm_steps.specs.Steps.{PassView, IsSamePass, HasSeenAllOf}
 use Rattle.nm_walks.specs.Bounds.{chain_bound, reach}
 use Rattle.nm_calls.specs.Moments.{AnswerHasMoment}
 use Rattle.nm_calls.specs.PlainWalks.{WasSo}
@@ -15,7 +15,7 @@ use Rattle.nm_tree.specs.declared.popping.End.{End}
 use Rattle.nm_tree.specs.declared.popping.End.TheVariants.{First, Last}
 use Rattle.nm_tree.specs.Answers.{IsPendingStill, IsFree, LacksRoom}
 use Rattle.nm_tree.specs.Calls.{LeavesNext, LeavesPrev, LeavesDelete}
-use Rattle.nm_tree.specs.Workers.{Hand, KeepsOtherQueues, TakeRoom}
+use Rattle.nm_tree.specs.Workers.{WorkerView, KeepsOtherQueues, TakeRoom}
 
 -- ---- what is told of keys
 
@@ -25,12 +25,12 @@ comes_before First j key = j < key
 comes_before Last j key = key < j
 
 -- each key before this one was not in the set at a moment of its own
-abbrev pub WereMissing : (ℕ → ℕ → Type 0) → Stand → Stand → ℕ → Type 0
+abbrev pub WereMissing : (ℕ → ℕ → Type 0) → PassView → PassView → ℕ → Type 0
 WereMissing Before p q key = (j : ℕ) → IsKey j → Before j key → WasSo p q j false
 
 -- a key was deleted at a moment of the call, and each key before it was not in the set at a moment
 -- of its own; or so of each key
-abbrev pub Takes : (ℕ → ℕ → Type 0) → Stand → Stand → Option ℕ → Type 0
+abbrev pub Takes : (ℕ → ℕ → Type 0) → PassView → PassView → Option ℕ → Type 0
 Takes Before p q (Some key) =
     IsKey key × AnswerHasMoment p q Delete key true × WereMissing Before p q key
 Takes Before p q None = (j : ℕ) → IsKey j → WasSo p q j false
@@ -39,7 +39,7 @@ Takes Before p q None = (j : ℕ) → IsKey j → WasSo p q j false
 
 -- what a delete tells; where that is not finished, of the key that is pending: it was in the set at
 -- a moment of the call, and each key before it was not
-abbrev pub PopTold : (ℕ → ℕ → Type 0) → Hand → Hand → Result (Option ℕ) CallFault → Type 0
+abbrev pub PopTold : (ℕ → ℕ → Type 0) → WorkerView → WorkerView → Result (Option ℕ) CallFault → Type 0
 PopTold Before w z (Ok taken) = IsFree w z
 PopTold Before w z (Err fault.Busy) = IsFree w z
 PopTold Before w z (Err fault.NoMemory) = IsFree w z × LacksRoom z
@@ -61,7 +61,7 @@ abbrev pub pop_bound : Layout → ℕ → ℕ
 pop_bound L tries = tries * (tries * (7 * reach L + 8 * chain_bound + 4) + 12)
 
 -- what a caller has of a call that takes a key, by its answer, as `SaysDelete` of a delete
-pub record SaysPop (Before : ℕ → ℕ → Type 0) (L : Layout) (tries : ℕ) (w z : Hand)
+pub record SaysPop (Before : ℕ → ℕ → Type 0) (L : Layout) (tries : ℕ) (w z : WorkerView)
     (r : Result (Option ℕ) CallFault) : Type 0 where
   pub same : IsSamePass w.pass z.pass
   pub past : HasSeenAllOf z.pass w.pass
@@ -77,49 +77,49 @@ pub record SaysPop (Before : ℕ → ℕ → Type 0) (L : Layout) (tries : ℕ) 
 -- ---- how it is done
 
 -- the call that finds the key which is to be taken
-abbrev pub Finds : End → Layout → ℕ → Hand → Hand → Result (Option ℕ) CallFault → Type 0
+abbrev pub Finds : End → Layout → ℕ → WorkerView → WorkerView → Result (Option ℕ) CallFault → Type 0
 Finds First L tries = LeavesNext L tries 0
 Finds Last L tries = LeavesPrev L tries (2 ^ 64 - 4)
 
 -- so many rounds in a row came too late: the key that was found was not there to be deleted
-abbrev pub LosesRounds : End → Layout → ℕ → ℕ → Hand → Hand → Type 0
+abbrev pub LosesRounds : End → Layout → ℕ → ℕ → WorkerView → WorkerView → Type 0
 LosesRounds end L tries zero w z = z ≡ w
 LosesRounds end L tries (suc n) w z =
-    (x y : Hand) × (key : ℕ) × LosesRounds end L tries n w x
+    (x y : WorkerView) × (key : ℕ) × LosesRounds end L tries n w x
     × Finds end L tries x y (Ok (Some key)) × LeavesDelete L tries key y z (Ok false)
 
 -- the last round: no key was found, or the one that was is deleted; or one of both calls was not
 -- answered
-abbrev pub EndsRound : End → Layout → ℕ → Hand → Hand → Result (Option ℕ) CallFault → Type 0
+abbrev pub EndsRound : End → Layout → ℕ → WorkerView → WorkerView → Result (Option ℕ) CallFault → Type 0
 EndsRound end L tries w z (Ok None) = Finds end L tries w z (Ok None)
 EndsRound end L tries w z (Ok (Some key)) =
-    (y : Hand) × Finds end L tries w y (Ok (Some key)) × LeavesDelete L tries key y z (Ok true)
+    (y : WorkerView) × Finds end L tries w y (Ok (Some key)) × LeavesDelete L tries key y z (Ok true)
 EndsRound end L tries w z (Err f) = Finds end L tries w z (Err f)
-    ⊎ ((y : Hand) × (key : ℕ) × Finds end L tries w y (Ok (Some key))
+    ⊎ ((y : WorkerView) × (key : ℕ) × Finds end L tries w y (Ok (Some key))
     × LeavesDelete L tries key y z (Err f))
 
 -- fewer rounds than there may be came too late, and then there was the last one; or all came too
 -- late
-abbrev pub GoesInRounds : End → Layout → ℕ → Hand → Hand → Result (Option ℕ) CallFault → Type 0
+abbrev pub GoesInRounds : End → Layout → ℕ → WorkerView → WorkerView → Result (Option ℕ) CallFault → Type 0
 GoesInRounds end L tries w z r =
-    ((n : ℕ) × (x : Hand) × (n < tries) × LosesRounds end L tries n w x
+    ((n : ℕ) × (x : WorkerView) × (n < tries) × LosesRounds end L tries n w x
     × EndsRound end L tries x z r)
     ⊎ (LosesRounds end L tries tries w z × (r ≡ Err fault.Busy))
 
 -- a key was pending, and nothing has changed; or none was, and there were such rounds
-abbrev pub HasPopped : End → Layout → ℕ → Hand → Hand → Result (Option ℕ) CallFault → Type 0
+abbrev pub HasPopped : End → Layout → ℕ → WorkerView → WorkerView → Result (Option ℕ) CallFault → Type 0
 HasPopped end L tries w z r = (IsPendingStill w z × (r ≡ Err fault.Pending))
     ⊎ ((w.pending ≡ None) × GoesInRounds end L tries w z r)
 
 -- `LeavesPop`: what a caller has, and how it was done; `LeavesPopFirst`, `LeavesPopLast`: of the
 -- least key, and of the greatest
-pub record LeavesPop (end : End) (L : Layout) (tries : ℕ) (w z : Hand)
+pub record LeavesPop (end : End) (L : Layout) (tries : ℕ) (w z : WorkerView)
     (r : Result (Option ℕ) CallFault) : Type 0 where
   pub says : SaysPop (comes_before end) L tries w z r
   pub did : HasPopped end L tries w z r
 
-abbrev pub LeavesPopFirst : Layout → ℕ → Hand → Hand → Result (Option ℕ) CallFault → Type 0
+abbrev pub LeavesPopFirst : Layout → ℕ → WorkerView → WorkerView → Result (Option ℕ) CallFault → Type 0
 LeavesPopFirst = LeavesPop First
 
-abbrev pub LeavesPopLast : Layout → ℕ → Hand → Hand → Result (Option ℕ) CallFault → Type 0
+abbrev pub LeavesPopLast : Layout → ℕ → WorkerView → WorkerView → Result (Option ℕ) CallFault → Type 0
 LeavesPopLast = LeavesPop Last

@@ -5,7 +5,7 @@ use Rattle.nm_steps.specs.Steps.{HasJoined, HasSeenAllOf}
 use Rattle.nm_tree.specs.declared.resigning.ResignReason.{ResignReason}
 use Rattle.nm_tree.specs.declared.resigning.ResignReason.TheVariants as because
 use Rattle.nm_tree.specs.Answers.{KeepsPlace}
-use Rattle.nm_tree.specs.Workers.{Hand, IsBetweenCalls}
+use Rattle.nm_tree.specs.Workers.{WorkerView, IsBetweenCalls}
 
 -- behind how many of these a queue of that origin has its place
 abbrev pub place_in : ℕ → List HeldQueue → ℕ
@@ -26,7 +26,7 @@ merged hs (g ∷ gs) = inserted g (merged hs gs)
 -- has seen all that both had seen; and the heir holds the queues of both, by ascending origin, each
 -- as it was. What was pending or held of the heir is so still (Fraser, section 5.2.3, lists of
 -- nodes that are passed on; by origin ours)
-pub record HasResigned (heir leaver z : Hand) : Type 0 where
+pub record HasResigned (heir leaver z : WorkerView) : Type 0 where
   pub free : (leaver.held ≡ None) × (leaver.pending ≡ None)
   pub joined : HasJoined heir.pass leaver.pass z.pass
   pub seen : HasSeenAllOf z.pass heir.pass
@@ -38,6 +38,6 @@ pub record HasResigned (heir leaver z : Hand) : Type 0 where
 
 -- why a worker may not resign (Fraser, section 5.2.3, lists of nodes that are passed on; by origin
 -- ours)
-abbrev pub IsReason : Hand → ResignReason → Type 0
+abbrev pub IsReason : WorkerView → ResignReason → Type 0
 IsReason leaver because.Held = IsSome leaver.held
 IsReason leaver because.Pending = (leaver.held ≡ None) × IsSome leaver.pending

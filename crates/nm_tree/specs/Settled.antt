@@ -6,7 +6,7 @@ use Rattle.nm_steps.specs.Rules.{answered_turn}
 use Rattle.nm_busy.specs.Pending.{leaf_after}
 use Rattle.nm_tree.specs.Resigning.{HasResigned}
 use Rattle.nm_tree.specs.Running.{HasSeenTurns}
-use Rattle.nm_tree.specs.Workers.{Hand}
+use Rattle.nm_tree.specs.Workers.{WorkerView}
 
 -- a log as the turns of its worker
 abbrev pub turns_of : Held → List Turn
@@ -17,22 +17,22 @@ abbrev pub TellNoFlag : List Held → Type 0
 TellNoFlag hs = All (λ (h : Held). leaf_after h.number None (turns_of h) ≡ None) hs
 
 -- no delete of this worker is pending, and none of those that resigned to it
-abbrev pub HasNothingPending : Hand → Type 0
+abbrev pub HasNothingPending : WorkerView → Type 0
 HasNothingPending w =
     TellNoFlag (record { number = w.pass.view.number; log = w.pass.view.log } ∷ w.pass.view.others)
 
 -- no delete is pending of any of these workers, nor of those that resigned to them
-abbrev pub HaveNothingPending : List Hand → Type 0
+abbrev pub HaveNothingPending : List WorkerView → Type 0
 HaveNothingPending ws = All HasNothingPending ws
 
 -- a worker with nothing pending that takes over from another such one has nothing pending
 abbrev pub HeirsHaveNothingPending : Type 0
-HeirsHaveNothingPending = (heir leaver z : Hand) → HasResigned heir leaver z
+HeirsHaveNothingPending = (heir leaver z : WorkerView) → HasResigned heir leaver z
     → HasNothingPending heir → HasNothingPending leaver → HasNothingPending z
 
 -- so has one whose call has flagged no leaf by what it has seen, where none that resigned to it has
 -- any
 abbrev pub RestingWorkersHaveNothingPending : Type 0
-RestingWorkersHaveNothingPending = (w : Hand) → HasSeenTurns w.pass.view
+RestingWorkersHaveNothingPending = (w : WorkerView) → HasSeenTurns w.pass.view
     → leaf_after w.pass.view.number None w.pass.view.past ≡ None → TellNoFlag w.pass.view.others
     → HasNothingPending w

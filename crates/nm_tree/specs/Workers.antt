@@ -9,7 +9,7 @@ use Rattle.nm_order.specs.Logs.{known_by}
 use Rattle.nm_steps.specs.declared.view.Held.{Held}
 use Rattle.nm_steps.specs.declared.view.View.{View}
 use Rattle.nm_steps.specs.Rules.{knowledge, held_log}
-use Rattle.nm_steps.specs.Steps.{Board, Stand, fresh_view}
+use Rattle.nm_steps.specs.Steps.{TreeView, PassView, fresh_view}
 use Rattle.nm_epoch.specs.declared.collecting.HeldQueue.{HeldQueue}
 use Rattle.nm_epoch.specs.Collecting.{AreHeld, HasFewBlocks, spare_kept, capped}
 use Rattle.nm_epoch.specs.Resting.{IsResting, begun_for, epochs, search}
@@ -27,8 +27,8 @@ use Rattle.nm_tree.specs.declared.worker.Standing.TheVariants as standing
 -- what clauses see of a worker: its pass; the queues that it holds; the delete that is pending,
 -- with its key and the leaf that it flagged; the epoch at which the caller holds it; and in which
 -- order it tries the slots of the pool
-pub record Hand : Type 0 where
-  pub pass : Stand
+pub record WorkerView : Type 0 where
+  pub pass : PassView
   pub queues : List HeldQueue
   pub pending : Option Unfinished
   pub held : Option ℕ
@@ -45,14 +45,14 @@ held_in (standing.Held epoch) = Some epoch
 held_in _ = None
 
 -- pinned at an epoch by the caller, for no call
-pub record IsHolding (p : Stand) (epoch : ℕ) : Type 0 where
+pub record IsHolding (p : PassView) (epoch : ℕ) : Type 0 where
   pub announcement : (epochs p).announcement ≡ Some epoch
   pub pin : (epochs p).pin ≡ Some epoch
   pub labelled : (epochs p).unlabelled ≡ false
   pub search : search p ≡ begun_for None
 
 -- it rests, is held by the caller, or stays pinned for a leaf that it has flagged
-abbrev pub IsAs : Stand → Option Unfinished → Option ℕ → Type 0
+abbrev pub IsAs : PassView → Option Unfinished → Option ℕ → Type 0
 IsAs p None None = IsResting p
 IsAs p None (Some epoch) = IsHolding p epoch
 IsAs p (Some n) None = IsRemoving p n.key n.leaf
@@ -178,7 +178,7 @@ TellLedgers v [] = Unit {0}
 TellLedgers v (h ∷ hs) = IsLedger v h.origin (counts_in h) × TellLedgers v hs
 
 -- the ledgers of other origins are as they were
-abbrev pub OnlyOwnLedger : Stand → Stand → Type 0
+abbrev pub OnlyOwnLedger : PassView → PassView → Type 0
 OnlyOwnLedger p q = (o : ℕ) → o ≢ p.view.number
     → held (knowledge q.view).ledgers o ≡ held (knowledge p.view).ledgers o
 
@@ -187,7 +187,7 @@ OnlyOwnLedger p q = (o : ℕ) → o ≢ p.view.number
 -- the queues are those of all ledgers that the worker holds, by ascending origin, each with all
 -- that waits in it, labelled, and with few blocks; no slot is private; and it is pinned only where
 -- it is held or a key is pending
-pub record IsBetweenCalls (w : Hand) : Type 0 where
+pub record IsBetweenCalls (w : WorkerView) : Type 0 where
   pub queues : AreHeld (knowledge w.pass.view) w.queues
   pub all : (o : ℕ) → IsSome (held (knowledge w.pass.view).ledgers o) → HasOrigin o w.queues
   pub ascend : Ascend w.queues
@@ -196,7 +196,7 @@ pub record IsBetweenCalls (w : Hand) : Type 0 where
   pub stands : IsAs w.pass w.pending w.held
 
 -- where no delete is pending, no call of the worker has begun that is not answered
-abbrev pub IsIdle : Hand → Type 0
+abbrev pub IsIdle : WorkerView → Type 0
 IsIdle w = w.pending ≡ None → call_begun w.pass.view.number w.pass.view.past ≡ None
 
 -- a worker of that number is among these
@@ -217,7 +217,7 @@ HoldNoSlot L (h ∷ hs) = (length (known_by L h.number h.log).drafts ≡ 0) × H
 -- its queues, 64 at most, count right, and the own one stands at that index; they are those of the
 -- workers for whom it stands, of which those that resigned hold no slot; and there is room for r
 -- queues, one of each worker
-pub record IsWorker (w : Hand) (home r : ℕ) : Type 0 where
+pub record IsWorker (w : WorkerView) (home r : ℕ) : Type 0 where
   pub between : IsBetweenCalls w
   pub counted : AreCounted w.pass.view w.queues
   pub few : length w.queues ≤ 64
@@ -228,38 +228,38 @@ pub record IsWorker (w : Hand) (home r : ℕ) : Type 0 where
   pub room : w.pass.view.layout.workers ≤ r
 
 -- workers k and on, in the order of their numbers, which have done nothing yet
-abbrev pub AreNew : Board → ℕ → List Hand → Type 0
+abbrev pub AreNew : TreeView → ℕ → List WorkerView → Type 0
 AreNew b k [] = Unit {0}
 AreNew b k (w ∷ ws) = (w.pass.table ≡ b.table) × (w.pass.view ≡ fresh_view b.layout k)
     × (w.pending ≡ None) × (w.held ≡ None)
     × (map (λ (h : HeldQueue). h.queue.items) w.queues ≡ [] ∷ []) × AreNew b (suc k) ws
 
 -- a pass that has done nothing yet
-abbrev pub IsFresh : Stand → Type 0
+abbrev pub IsFresh : PassView → Type 0
 IsFresh p = (k : ℕ) × (p.view ≡ fresh_view p.view.layout k)
 
 -- each of these passes has done nothing
-abbrev pub AreAllFresh : List Stand → Type 0
+abbrev pub AreAllFresh : List PassView → Type 0
 AreAllFresh [] = Unit {0}
 AreAllFresh (p ∷ ps) = IsFresh p × AreAllFresh ps
 
 -- each of these is of a tree of at most so many workers
-abbrev pub HaveWorkers : ℕ → List Stand → Type 0
+abbrev pub HaveWorkers : ℕ → List PassView → Type 0
 HaveWorkers n [] = Unit {0}
 HaveWorkers n (p ∷ ps) = (p.view.layout.workers ≤ n) × HaveWorkers n ps
 
 -- each of these claims by that fit
-abbrev pub HaveFit : Fit → List Hand → Type 0
+abbrev pub HaveFit : Fit → List WorkerView → Type 0
 HaveFit f [] = Unit {0}
 HaveFit f (w ∷ ws) = (w.fit ≡ f) × HaveFit f ws
 
 -- its worker, with an empty queue of its own
-abbrev pub IsNewWorker : Fit → Stand → Hand → Type 0
+abbrev pub IsNewWorker : Fit → PassView → WorkerView → Type 0
 IsNewWorker f p w = (w.pass ≡ p) × (w.pending ≡ None) × (w.held ≡ None)
     × (map (λ (h : HeldQueue). h.queue.items) w.queues ≡ [] ∷ []) × (w.fit ≡ f)
 
 -- the workers of these passes, in their order
-abbrev pub AreMade : Fit → List Stand → List Hand → Type 0
+abbrev pub AreMade : Fit → List PassView → List WorkerView → Type 0
 AreMade f [] [] = Unit {0}
 AreMade f (p ∷ ps) (w ∷ ws) = IsNewWorker f p w × AreMade f ps ws
 AreMade f _ _ = ⊥

@@ -6,7 +6,7 @@ ghost use Rattle.nm_order.specs.LoggedTotals.{TotalsAreInTheLogs};
 ghost use Rattle.nm_order.specs.Totals.{TotalsAgree};
 ghost use Rattle.nm_tree.specs.Closing.{AllWereGiven, AreAllOf, EachReportIsACores, EachSlotEndsOnce, GoesOnFromAll, IsClosed, IsCloseReason, SaysClosed};
 ghost use Rattle.nm_tree.specs.Closing.{OfEachClosed, OfEachClosedRun, QueuesAreTheRest, StandsForAll, all_merged, given_in};
-ghost use Rattle.nm_tree.specs.Workers.{Hand};
+ghost use Rattle.nm_tree.specs.Workers.{WorkerView};
 
 use crate::resigning::unite;
 use crate::tree::Tree;
@@ -149,7 +149,7 @@ fn unite_all(shared: &Shared, mut workers: Vec<Worker>) -> Worker
     ensures own { IsOf shared.now result.pass }
     ensures joined { StandsForAll workers.items result.pass.view }
     ensures seen { GoesOnFromAll result.pass.view.past workers.items }
-    ensures runs { All (λ (w : Hand). HasSeen w.pass.view) workers.items }
+    ensures runs { All (λ (w : WorkerView). HasSeen w.pass.view) workers.items }
     ensures queues { result.queues ≡ all_merged workers.items }
 {
     let Some(mut heir) = workers.pop() else {

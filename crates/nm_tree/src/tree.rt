@@ -20,9 +20,9 @@ pub struct Tree {
 }
 
 impl Model for Tree {
-    ghost use Rattle.nm_steps.specs.Steps.{Board};
+    ghost use Rattle.nm_steps.specs.Steps.{TreeView};
 
-    ghost Value = { Board };
+    ghost Value = { TreeView };
 
     ghost view = { λ t. t.shared };
 }

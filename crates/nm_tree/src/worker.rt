@@ -75,9 +75,9 @@ pub struct Worker {
 
 impl Model for Worker {
     ghost use Rattle.std.specs.Prelude.{vec_capacity};
-    ghost use Rattle.nm_tree.specs.Workers.{Hand, IsWorker, pending_in, held_in};
+    ghost use Rattle.nm_tree.specs.Workers.{WorkerView, IsWorker, pending_in, held_in};
 
-    ghost Value = { Hand };
+    ghost Value = { WorkerView };
 
     ghost view = { λ w. record {
       pass = w.pass;

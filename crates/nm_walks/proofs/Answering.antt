@@ -6,7 +6,7 @@ use Rattle.nm_model.specs.declared.reply.Reply.TheVariants.{Labelled}
 use Rattle.nm_model.specs.Knowledge.{Knowledge}
 use Rattle.nm_model.specs.Searches.{searched}
 use Rattle.nm_laws.proofs.Learned.{learn_labelled}
-use Rattle.nm_steps.specs.Steps.{Stand, Stepped}
+use Rattle.nm_steps.specs.Steps.{PassView, Stepped}
 use Rattle.nm_epoch.specs.Resting.{search}
 use Rattle.nm_epoch.proofs.Entries.{epochs_after, search_is}
 use Rattle.nm_epoch.proofs.Labels.{drafts_stay}
@@ -15,7 +15,7 @@ use Rattle.nm_steps.proofs.Presence.{known_after_step}
 
 -- ---- a label
 
-pub only_labels : (p q : Stand) (e : ℕ) → Stepped p q Sight (Labelled e) → OnlyLabels e p q
+pub only_labels : (p q : PassView) (e : ℕ) → Stepped p q Sight (Labelled e) → OnlyLabels e p q
 unfolding searched
 only_labels p q e step =
     let b = epochs_after p q Sight (Labelled e) step in

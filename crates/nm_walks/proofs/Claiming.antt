@@ -28,7 +28,7 @@ use Rattle.nm_edge.specs.declared.placement.Fit.TheVariants as fit
 use Rattle.nm_steps.proofs.Presence.{known_after_step}
 use Rattle.nm_pool.proofs.PrivateSlots.{put_another, put_there}
 use Rattle.nm_steps.specs.Rules.{knowledge}
-use Rattle.nm_steps.specs.Steps.{Stand, Stepped, IsSamePass}
+use Rattle.nm_steps.specs.Steps.{PassView, Stepped, IsSamePass}
 use Rattle.nm_steps.proofs.AfterSteps.{is_join}
 use Rattle.nm_walks.specs.Telling.{IsInRun}
 use Rattle.nm_walks.specs.Making.{KeepsOtherSlots, KeepsAllBut, OnlyMakes}
@@ -223,16 +223,16 @@ ends_at nodes [] old new done = inl done
 ends_at nodes (s ∷ slots) old new done = inr (ends_over s done.0 new done.2.2)
 
 -- the log of a pass that is in a run is a part of one, by what it was before
-pub part_after : (p q : Stand) → IsSamePass p q → IsInRun q → IsLogOf p.view.layout p.view.number q.view.log
-part_after p q same run = subst (λ (s : Stand). IsLogOf s.view.layout s.view.number q.view.log) same run.run.is_part
+pub part_after : (p q : PassView) → IsSamePass p q → IsInRun q → IsLogOf p.view.layout p.view.number q.view.log
+part_after p q same run = subst (λ (s : PassView). IsLogOf s.view.layout s.view.number q.view.log) same run.run.is_part
 
-module _ (p q : Stand) (f : Fit) (nodes : ℕ) (o : Option NodeId) (same : IsSamePass p q) (is : IsClaimBy f nodes p.view.log q.view.log o) (run : IsInRun p) where
+module _ (p q : PassView) (f : Fit) (nodes : ℕ) (o : Option NodeId) (same : IsSamePass p q) (is : IsClaimBy f nodes p.view.log q.view.log o) (run : IsInRun p) where
   module _ (part : IsLogOf p.view.layout p.view.number q.view.log) where
     abbrev low : 5 ≤ p.view.layout.nodes
     low = enough p.view.layout run.fits
 
     same_knowledge : knowledge q.view ≡ known_by p.view.layout p.view.number q.view.log
-    same_knowledge = ap (λ (s : Stand). known_by s.view.layout s.view.number q.view.log) same
+    same_knowledge = ap (λ (s : PassView). known_by s.view.layout s.view.number q.view.log) same
 
     but : Option NodeId → ℕ → Type 0
     but None x = ⊥
@@ -273,7 +273,7 @@ module _ (p q : Stand) (f : Fit) (nodes : ℕ) (o : Option NodeId) (same : IsSam
 
 -- ---- giving a slot back
 
-module _ (p q : Stand) (s : ℕ) (step : Stepped p q (Give s) (Returned s)) where
+module _ (p q : PassView) (s : ℕ) (step : Stepped p q (Give s) (Returned s)) where
   returned : knowledge q.view ≡ record (knowledge p.view) { drafts = without (knowledge p.view).drafts s }
   returned = known_after_step p q (Give s) (Returned s) step ∙ learn_returned p.view.number (knowledge p.view) s s
 

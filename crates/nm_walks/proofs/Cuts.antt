@@ -32,7 +32,7 @@ use Rattle.nm_order.proofs.FrozenChains.{frozen_chains_may_be_cut}
 use Rattle.nm_order.proofs.ToldCuts.{cuts_enter}
 use Rattle.nm_order.proofs.ToldNodes.{flag_known, tag_known, onward_is, cuts_are_as_known}
 use Rattle.nm_steps.specs.Rules.{knowledge}
-use Rattle.nm_steps.specs.Steps.{Stand, MayStep, Stepped, nodes_cut, splice_reply}
+use Rattle.nm_steps.specs.Steps.{PassView, MayStep, Stepped, nodes_cut, splice_reply}
 use Rattle.nm_steps.proofs.AfterSteps.{TellsRun}
 use Rattle.nm_steps.proofs.Extending.{neither}
 use Rattle.nm_walks.specs.Telling.{Tells, IsInRun, IsPinnedSomewhere}
@@ -123,7 +123,7 @@ module _ (k : Knowledge) (S : Search) where
 
 -- ---- a splice is allowed
 
-pub may_splice : (p : Stand) (a : ℕ) (side : Side) (s x : ℕ) (keep : Side) (kept : Edge) → IsInRun p → IsPinnedSomewhere p → IsToBeCut p a s x keep kept → MayStep p (Splice a side s x keep)
+pub may_splice : (p : PassView) (a : ℕ) (side : Side) (s x : ℕ) (keep : Side) (kept : Edge) → IsInRun p → IsPinnedSomewhere p → IsToBeCut p a s x keep kept → MayStep p (Splice a side s x keep)
 unfolding refusal
 may_splice p a side s x keep kept run pin f =
     let k : Knowledge = knowledge p.view in
@@ -153,17 +153,17 @@ may_splice p a side s x keep kept run pin f =
 
 -- ---- what a splice leaves
 
-module _ (p q : Stand) (a : ℕ) (side : Side) (s x : ℕ) (keep : Side) (fits : IsLayout q.view.layout) (tells : TellsRun q) where
+module _ (p q : PassView) (a : ℕ) (side : Side) (s x : ℕ) (keep : Side) (fits : IsLayout q.view.layout) (tells : TellsRun q) where
   splice_won : (ns : List NodeId) → Stepped p q (Splice a side s x keep) (Cut ns) → SpliceWon p q a side s x keep ns
   unfolding searched
   splice_won ns step =
       let L : Layout = p.view.layout in
       let w : ℕ = p.view.number in
-      let low = enough L (subst (λ (y : Stand). IsLayout y.view.layout) step fits) in
+      let low = enough L (subst (λ (y : PassView). IsLayout y.view.layout) step fits) in
       let grows = grown p q (Splice a side s x keep) (Cut ns) step refl fits tells in
       record {
         step = step;
-        queues = λ o. ap (λ (y : Stand). held (knowledge y.view).ledgers o) step ∙ cuts_enter L low w p.view.log (Splice a side s x keep, Cut ns) grows a s x side keep ns refl o;
+        queues = λ o. ap (λ (y : PassView). held (knowledge y.view).ledgers o) step ∙ cuts_enter L low w p.view.log (Splice a side s x keep, Cut ns) grows a s x side keep ns refl o;
         epochs = ap (λ (k : Knowledge). k.brief) (known_after_step p q (Splice a side s x keep) (Cut ns) step ∙ learn_cut w (knowledge p.view) a side s x keep ns);
         cut = ap (λ (S : Search). S.cut) (search_is p q (Splice a side s x keep) (Cut ns) step);
       }
@@ -172,7 +172,7 @@ module _ (p q : Stand) (a : ℕ) (side : Side) (s x : ℕ) (keep : Side) (fits :
   as_known : (ns known : List NodeId) → Stepped p q (Splice a side s x keep) (Cut ns) → FrozenTo (Tells p) x keep s known → ns ≡ known
   as_known ns known step frozen =
       let L : Layout = p.view.layout in
-      cuts_are_as_known L (enough L (subst (λ (y : Stand). IsLayout y.view.layout) step fits)) p.view.number p.view.log (Splice a side s x keep, Cut ns)
+      cuts_are_as_known L (enough L (subst (λ (y : PassView). IsLayout y.view.layout) step fits)) p.view.number p.view.log (Splice a side s x keep, Cut ns)
       (grown p q (Splice a side s x keep) (Cut ns) step refl fits tells) a s x side keep ns known refl frozen
 
   pub splices_won : (r : Result Unit Edge) → Stepped p q (Splice a side s x keep) (splice_reply p.view s x keep r) → IfOk r (λ u. (ns : List NodeId) → FrozenTo (Tells p) x keep s ns → SpliceWon p q a side s x keep ns)
@@ -188,7 +188,7 @@ module _ (p q : Stand) (a : ℕ) (side : Side) (s x : ℕ) (keep : Side) (fits :
     only = only_reads p q a side e (known_after_step p q (Splice a side s x keep) (Lost e) step ∙ learn_splice_lost p.view.number (knowledge p.view) a side s x keep e) (search_is p q (Splice a side s x keep) (Lost e) step);
   }
 
-pub only_cuts : (p q : Stand) (a : ℕ) (side : Side) (s x : ℕ) (keep : Side) (r : Result Unit Edge) → Stepped p q (Splice a side s x keep) (splice_reply p.view s x keep r) → OnlyCuts p q
+pub only_cuts : (p q : PassView) (a : ℕ) (side : Side) (s x : ℕ) (keep : Side) (r : Result Unit Edge) → Stepped p q (Splice a side s x keep) (splice_reply p.view s x keep r) → OnlyCuts p q
 unfolding searched
 only_cuts p q a side s x keep (Ok u) step =
     let ns : List NodeId = nodes_cut p.view s x keep in

@@ -11,7 +11,7 @@ use Rattle.nm_model.specs.Searches.{Search}
 use Rattle.nm_order.specs.Facts.Since.{ThePin}
 use Rattle.nm_order.specs.Facts.Fact.{KnowsLeaf, CallIs, ReadKey, EndedAt}
 use Rattle.nm_steps.specs.Rules.{knowledge}
-use Rattle.nm_steps.specs.Steps.{Stand}
+use Rattle.nm_steps.specs.Steps.{PassView}
 use Rattle.nm_walks.specs.declared.making.Contents.{Contents}
 use Rattle.nm_walks.specs.declared.making.Fork.{Fork}
 use Rattle.nm_walks.specs.declared.spot.WalkEnd.{WalkEnd}
@@ -21,7 +21,7 @@ use Rattle.nm_walks.specs.Growing.{inner_of, MayGrow}
 use Rattle.nm_walks.proofs.Makes.{is_filled, same_draft, is_filled_still}
 
 -- the internal node that a fork asks for
-as_fork : (q : Stand) (key other router leaf new fresh birth : ℕ) (i : Contents) → i ≡ inner_of key other router leaf fresh → other ≢ key → IsFilled q new birth i.key i.left i.right
+as_fork : (q : PassView) (key other router leaf new fresh birth : ℕ) (i : Contents) → i ≡ inner_of key other router leaf fresh → other ≢ key → IsFilled q new birth i.key i.left i.right
     → ((key < other) × IsFilled q new birth router fresh leaf) ⊎ ((other < key) × IsFilled q new birth router leaf fresh)
 as_fork q key other router leaf new fresh birth i is ne f = go (nat_lt key other) refl
   where
@@ -33,25 +33,25 @@ as_fork q key other router leaf new fresh birth i is ne f = go (nat_lt key other
     go false more = let at : i ≡ node false = is ∙ ap node more in let least = ltb-false key other more in inr (omega (arith, ne, least), subst (λ (j : Contents). IsFilled q new birth j.key j.left j.right) at f)
 
 -- where the call may put its key stays so
-over_kept : (p q : Stand) (k x key : ℕ) → GoesOn p q → IsOver p k x key → IsOver q k x key
+over_kept : (p q : PassView) (k x key : ℕ) → GoesOn p q → IsOver p k x key → IsOver q k x key
 over_kept p q k x key on (inl leaf) = inl (on.keeps (KnowsLeaf x) leaf)
 over_kept p q k x key on (inr out) = inr out
 
-within_kept : (p q : Stand) (k parent : ℕ) (side : Side) → GoesOn p q → IsWithin p k parent side → IsWithin q k parent side
+within_kept : (p q : PassView) (k parent : ℕ) (side : Side) → GoesOn p q → IsWithin p k parent side → IsWithin q k parent side
 within_kept p q k parent side on (inl first) = inl first
 within_kept p q k parent side on (inr w) = inr (w.0, w.1, w.2, w.3, w.4, on.keeps (ReadKey ThePin k parent w.1 w.2 w.0) w.5)
 
-pub place_kept : (b : Bool) (p q : Stand) (k x parent : ℕ) (side : Side) (key : ℕ) → GoesOn p q → IsPlace b p k x parent side key → IsPlace b q k x parent side key
+pub place_kept : (b : Bool) (p q : PassView) (k x parent : ℕ) (side : Side) (key : ℕ) → GoesOn p q → IsPlace b p k x parent side key → IsPlace b q k x parent side key
 place_kept false p q k x parent side key on h = (on.keeps (KnowsLeaf x) h.0, on.keeps (EndedAt ThePin k x parent side key) h.1)
 place_kept true p q k x parent side key on h = (over_kept p q k x key on h.0, on.keeps (ReadKey ThePin k x parent side key) h.1, within_kept p q k parent side on h.2)
 
-same_radix : (p q : Stand) → GoesOn p q → q.view.layout.radix ≡ p.view.layout.radix
-same_radix p q on = ap (λ (x : Stand). x.view.layout.radix) on.same
+same_radix : (p q : PassView) → GoesOn p q → q.view.layout.radix ≡ p.view.layout.radix
+same_radix p q on = ap (λ (x : PassView). x.view.layout.radix) on.same
 
-place_later : (p q : Stand) (k x parent : ℕ) (side : Side) (key : ℕ) → GoesOn p q → IsPlace p.view.layout.radix p k x parent side key → IsPlace q.view.layout.radix q k x parent side key
+place_later : (p q : PassView) (k x parent : ℕ) (side : Side) (key : ℕ) → GoesOn p q → IsPlace p.view.layout.radix p k x parent side key → IsPlace q.view.layout.radix q k x parent side key
 place_later p q k x parent side key on h = subst (λ (b : Bool). IsPlace b q k x parent side key) (sym (same_radix p q on)) (place_kept p.view.layout.radix p q k x parent side key on h)
 
-pub inserting : (p r q : Stand) (key : ℕ) (e : WalkEnd) (f : Fork) (i : Contents) → MayGrow p key e f → IsRouter p.view.layout.radix key e.key i.key → i ≡ inner_of key e.key i.key e.spot.edge.slot f.fresh.slot
+pub inserting : (p r q : PassView) (key : ℕ) (e : WalkEnd) (f : Fork) (i : Contents) → MayGrow p key e f → IsRouter p.view.layout.radix key e.key i.key → i ≡ inner_of key e.key i.key e.spot.edge.slot f.fresh.slot
     → GoesOn p r → OnlyMakes p r → get (knowledge r.view).drafts f.new.slot ≡ Some (with_node (draft p f.new.slot) i.key i.left i.right) → KeepsOtherSlots f.new.slot p r
     → GoesOn r q → OnlyMakes r q → get (knowledge q.view).drafts f.fresh.slot ≡ Some (with_node (draft r f.fresh.slot) key 0 0) → KeepsOtherSlots f.fresh.slot r q
     → IsInserting q e.spot.parent e.spot.side e.spot.edge.slot f.new.slot f.fresh.slot

@@ -13,7 +13,7 @@ use Rattle.nm_laws.proofs.Held.{held-label}
 use Rattle.nm_laws.proofs.Learned.{learn_labelled}
 use Rattle.nm_order.proofs.HeldLedgers.{held_ledgers_are_kept}
 use Rattle.nm_steps.specs.Rules.{knowledge}
-use Rattle.nm_steps.specs.Steps.{Stand, Stepped, IsSamePass}
+use Rattle.nm_steps.specs.Steps.{PassView, Stepped, IsSamePass}
 use Rattle.nm_epoch.specs.declared.collecting.HeldQueue.{HeldQueue}
 use Rattle.nm_epoch.specs.declared.collecting.Tally.{Tally}
 use Rattle.nm_walks.specs.declared.spot.ChainEdge.{ChainEdge}
@@ -29,9 +29,9 @@ use Rattle.nm_steps.proofs.Presence.{known_after_step}
 -- ---- ledgers that stay
 
 -- so does the own queue, with counts that are right
-pub holds_so : (p q : Stand) (h : HeldQueue) (t : Tally) → IsSamePass p q → (knowledge q.view).ledgers ≡ (knowledge p.view).ledgers → CountsWon q.view.log t → t.freed ≡ h.counts.freed → HoldsCuts p h → HoldsCuts q (record h { counts = t })
+pub holds_so : (p q : PassView) (h : HeldQueue) (t : Tally) → IsSamePass p q → (knowledge q.view).ledgers ≡ (knowledge p.view).ledgers → CountsWon q.view.log t → t.freed ≡ h.counts.freed → HoldsCuts p h → HoldsCuts q (record h { counts = t })
 holds_so p q h t same ledgers counted freed is =
-    let number : q.view.number ≡ p.view.number = ap (λ (x : Stand). x.view.number) same in
+    let number : q.view.number ≡ p.view.number = ap (λ (x : PassView). x.view.number) same in
     let own : held (knowledge q.view).ledgers q.view.number ≡ held (knowledge p.view).ledgers p.view.number = ap (λ (w : ℕ). held (knowledge q.view).ledgers w) number ∙ ap (λ (ls : List (Option Ledger)). held ls p.view.number) ledgers in
     record {
       own = is.own ∙ sym number;
@@ -41,7 +41,7 @@ holds_so p q h t same ledgers counted freed is =
     }
 
 -- and as it was, where nothing was won
-pub holds_on : {n : ℕ} (p q : Stand) (h : HeldQueue) → IsSamePass p q → (knowledge q.view).ledgers ≡ (knowledge p.view).ledgers → Adds 0 0 0 n p.view.log q.view.log → HoldsCuts p h → HoldsCuts q h
+pub holds_on : {n : ℕ} (p q : PassView) (h : HeldQueue) → IsSamePass p q → (knowledge q.view).ledgers ≡ (knowledge p.view).ledgers → Adds 0 0 0 n p.view.log q.view.log → HoldsCuts p h → HoldsCuts q h
 holds_on p q h same ledgers adds is = holds_so p q h h.counts same ledgers (counts_on h.counts p.view.log q.view.log adds is.counted) refl is
 
 -- ---- a cut, and its label
@@ -64,7 +64,7 @@ relabelled : (e : ℕ) (h : Option Ledger) → ((i : ℕ) (x : Queued) → slice
 relabelled e None some = refl
 relabelled e (Some l) some = ap (λ (q : List Queued). Some (record l { queue = q })) (label_again e l.queue some)
 
-after_label : (m q : Stand) (e : ℕ) → Stepped m q Sight (Labelled e) → (o : ℕ) → held (knowledge q.view).ledgers o ≡ option_map (labelled e) (held (knowledge m.view).ledgers o)
+after_label : (m q : PassView) (e : ℕ) → Stepped m q Sight (Labelled e) → (o : ℕ) → held (knowledge q.view).ledgers o ≡ option_map (labelled e) (held (knowledge m.view).ledgers o)
 after_label m q e step o =
     ap (λ (k : Knowledge). held k.ledgers o) (known_after_step m q Sight (Labelled e) step ∙ learn_labelled m.view.number (knowledge m.view) e)
     ∙ held-label e (knowledge m.view).ledgers o
@@ -73,7 +73,7 @@ same_freed : (e : ℕ) (ns : List NodeId) (h : Option Ledger) → option_map (λ
 same_freed e ns None = refl
 same_freed e ns (Some l) = refl
 
-pub cut_ledgers : (s : Spot) (c : List ChainEdge) (ns : List NodeId) (e : ℕ) (p m q : Stand) → IsInRun p → HasCut s c ns p m → Stepped m q Sight (Labelled e) → KeepsLedgers p q
+pub cut_ledgers : (s : Spot) (c : List ChainEdge) (ns : List NodeId) (e : ℕ) (p m q : PassView) → IsInRun p → HasCut s c ns p m → Stepped m q Sight (Labelled e) → KeepsLedgers p q
 cut_ledgers s c ns e p m q run cut step = record {
   others = λ o other.
       let law = held_ledgers_are_kept p.view.layout (enough p.view.layout run.fits) p.view.number p.view.log run.run.is_part in

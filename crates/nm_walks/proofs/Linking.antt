@@ -33,7 +33,7 @@ use Rattle.nm_order.specs.Hands.{IsPooled}
 use Rattle.nm_order.specs.Told.TellsEdge.{ByLink}
 use Rattle.nm_order.proofs.TaughtFacts.{edges_are_learned}
 use Rattle.nm_steps.specs.Rules.{knowledge}
-use Rattle.nm_steps.specs.Steps.{Stand, MayStep, Stepped, HasSeenAllOf, link_reply}
+use Rattle.nm_steps.specs.Steps.{PassView, MayStep, Stepped, HasSeenAllOf, link_reply}
 use Rattle.nm_steps.proofs.AfterSteps.{TellsRun}
 use Rattle.nm_walks.specs.Telling.{Tells, IsInRun, GoesOn, IsPinnedSomewhere}
 use Rattle.nm_walks.specs.Making.{draft, IsFork, IsInserting, IsPlace, IsRouter, IsWithin, HasLinked, HasLost}
@@ -107,20 +107,20 @@ module _ (d : Draft) (leaf fresh key other router : ℕ) (has_key : d.key ≡ So
       (cond-false (nat_lt key router) (nat_le router other && is_number d.right leaf) (nat_lt other router && is_number d.left leaf) (le-ltb key router between.1)
       ∙ and_from (nat_lt other router) (is_number d.left leaf) (lt-ltb other router between.0) (number_there d.left leaf left))
 
-fork_shown : (p : Stand) (key other leaf new fresh : ℕ) → IsFork p key other leaf new fresh → ForksOver (draft p new) leaf fresh
+fork_shown : (p : PassView) (key other leaf new fresh : ℕ) → IsFork p key other leaf new fresh → ForksOver (draft p new) leaf fresh
 fork_shown p key other leaf new fresh f = elim f.as_fork [
   | inl less ↦ lesser (draft p new) leaf fresh key other f.router less.1.has_key less.1.has_left less.1.has_right
   | inr more ↦ greater (draft p new) leaf fresh key other f.router more.1.has_key more.1.has_left more.1.has_right
 ]
 
-forks_shown : (p : Stand) (key other leaf new fresh : ℕ) (f : IsFork p key other leaf new fresh) (b : Bool) → IsRouter b key other f.router → ForksSo b (draft p new) leaf key other
+forks_shown : (p : PassView) (key other leaf new fresh : ℕ) (f : IsFork p key other leaf new fresh) (b : Bool) → IsRouter b key other f.router → ForksSo b (draft p new) leaf key other
 forks_shown p key other leaf new fresh f b is = elim f.as_fork [
   | inl less ↦ lesser_so (draft p new) leaf fresh key other f.router less.1.has_key b less.0 less.1.has_right is
   | inr more ↦ greater_so (draft p new) leaf fresh key other f.router more.1.has_key b more.0 more.1.has_left is
 ]
 
 -- its birth is stored
-fork_birth : (p : Stand) (key other leaf new fresh : ℕ) (f : IsFork p key other leaf new fresh) → (draft p new).birth ≡ Some f.new_birth
+fork_birth : (p : PassView) (key other leaf new fresh : ℕ) (f : IsFork p key other leaf new fresh) → (draft p new).birth ≡ Some f.new_birth
 fork_birth p key other leaf new fresh f = elim f.as_fork [ inl less ↦ less.1.has_birth | inr more ↦ more.1.has_birth ]
 
 -- ---- the link is allowed
@@ -129,7 +129,7 @@ same_side : (side : Side) → is_side side side ≡ true
 same_side Left = refl
 same_side Right = refl
 
-module _ (p : Stand) (parent : ℕ) (side : Side) (leaf new fresh : ℕ) (i : IsInserting p parent side leaf new fresh) where
+module _ (p : PassView) (parent : ℕ) (side : Side) (leaf new fresh : ℕ) (i : IsInserting p parent side leaf new fresh) where
   abbrev k : Knowledge
   k = knowledge p.view
 
@@ -237,7 +237,7 @@ module _ (p : Stand) (parent : ℕ) (side : Side) (leaf new fresh : ℕ) (i : Is
 
 -- ---- what a link leaves
 
-module _ (p q : Stand) (parent : ℕ) (side : Side) (leaf new fresh : ℕ) where
+module _ (p q : PassView) (parent : ℕ) (side : Side) (leaf new fresh : ℕ) where
   stands_anew : (r : Result Unit Edge) → begins_anew (Link parent side leaf new, link_reply p.view new r) ≡ false
   stands_anew (Ok u) = refl
   stands_anew (Err e) = refl
@@ -272,7 +272,7 @@ module _ (p q : Stand) (parent : ℕ) (side : Side) (leaf new fresh : ℕ) where
       let entry : Entry = (Link parent side leaf new, Lost e) in
       let at : knowledge q.view ≡ read_edge k parent side e = known_after_step p q (Link parent side leaf new) (Lost e) step ∙ learn_link_lost p.view.number k parent side leaf new e in
       let search_now : search_after idle q.view.log ≡ search_after idle p.view.log = search_then p q (Link parent side leaf new) (Lost e) step in
-      let low = enough L (subst (λ (s : Stand). IsLayout s.view.layout) step fits) in
+      let low = enough L (subst (λ (s : PassView). IsLayout s.view.layout) step fits) in
       let learned = edges_are_learned L low p.view.number p.view.log entry (grown p q (Link parent side leaf new) (Lost e) step refl fits tells) parent side e (ByLink parent leaf new side e) known in
       let after = told_after p q (Link parent side leaf new) (Lost e) step in
       record {

@@ -37,7 +37,7 @@ use Rattle.nm_order.proofs.TaughtFacts.{edges_are_learned, births_are_learned}
 use Rattle.nm_order.proofs.TaughtWalks.{walks_begin, walks_learn_keys, walks_go_on, walks_end}
 use Rattle.nm_order.proofs.ToldLaws.{twins_are_told, flags_are_told, flagged_lead_high, flagged_stand_high, edges_stay_inside, root_leads, leaves_lead_nowhere, low_keys_stand_high}
 use Rattle.nm_steps.specs.Rules.{knowledge}
-use Rattle.nm_steps.specs.Steps.{Stand, MayStep, Stepped, HasSeenAllOf}
+use Rattle.nm_steps.specs.Steps.{PassView, MayStep, Stepped, HasSeenAllOf}
 use Rattle.nm_steps.proofs.AfterSteps.{TellsRun, run_after, is_join}
 use Rattle.nm_walks.specs.Telling.{Tells, IsInRun, GoesOn, OnlyLooks, IsPinnedSomewhere, KeyTold, EdgeTold}
 use Rattle.nm_model.proofs.Checks.{not_outside}
@@ -66,7 +66,7 @@ pub right_false : (a b : Bool) → b ≡ false → (a && b) ≡ false
 right_false true b is = is
 right_false false b is = refl
 
-pub may_look : (p : Stand) (x : ℕ) (f : Field) → IsInRun p → IsPinnedSomewhere p → Tells p (KnowsSlot x) → MayStep p (Look x f)
+pub may_look : (p : PassView) (x : ℕ) (f : Field) → IsInRun p → IsPinnedSomewhere p → Tells p (KnowsSlot x) → MayStep p (Look x f)
 unfolding refusal
 may_look p x f run pin known =
     let k : Knowledge = knowledge p.view in
@@ -83,31 +83,31 @@ may_look p x f run pin known =
 -- ---- the log goes on
 
 -- the log after a step is a part of a run, with that entry at its end
-pub grown : (p q : Stand) (e : Event) (r : Reply) → Stepped p q e r → is_join e ≡ false → IsLayout q.view.layout → TellsRun q → IsLogOf p.view.layout p.view.number (p.view.log ++ (e, r) ∷ [])
+pub grown : (p q : PassView) (e : Event) (r : Reply) → Stepped p q e r → is_join e ≡ false → IsLayout q.view.layout → TellsRun q → IsLogOf p.view.layout p.view.number (p.view.log ++ (e, r) ∷ [])
 grown p q e r step other fits tells =
-    subst (λ (s : Stand). IsLogOf s.view.layout s.view.number s.view.log) step (run_after p q e r (ap (λ (s : Stand). s.view.log) step) other tells).is_part
+    subst (λ (s : PassView). IsLogOf s.view.layout s.view.number s.view.log) step (run_after p q e r (ap (λ (s : PassView). s.view.log) step) other tells).is_part
 
 -- a fact of the longer log is one of the pass after the step
-pub told_after : (p q : Stand) (e : Event) (r : Reply) → Stepped p q e r → (fact : Fact) → Holds p.view.layout p.view.number (p.view.log ++ (e, r) ∷ []) fact → Tells q fact
-told_after p q e r step fact holds = subst (λ (s : Stand). Tells s fact) (sym step) holds
+pub told_after : (p q : PassView) (e : Event) (r : Reply) → Stepped p q e r → (fact : Fact) → Holds p.view.layout p.view.number (p.view.log ++ (e, r) ∷ []) fact → Tells q fact
+told_after p q e r step fact holds = subst (λ (s : PassView). Tells s fact) (sym step) holds
 
-pub goes_on : (p q : Stand) (e : Event) (r : Reply) → Stepped p q e r → HasSeenAllOf q p → is_join e ≡ false → begins_anew (e, r) ≡ false → IsLayout q.view.layout → TellsRun q → GoesOn p q
+pub goes_on : (p q : PassView) (e : Event) (r : Reply) → Stepped p q e r → HasSeenAllOf q p → is_join e ≡ false → begins_anew (e, r) ≡ false → IsLayout q.view.layout → TellsRun q → GoesOn p q
 goes_on p q e r step past other stands fits tells =
-    let layout : IsLayout p.view.layout = subst (λ (s : Stand). IsLayout s.view.layout) step fits in
+    let layout : IsLayout p.view.layout = subst (λ (s : PassView). IsLayout s.view.layout) step fits in
     record {
-      same = step ∙ ap (λ (log : List Entry). record p { view = record p.view { log = log; past = q.view.past } }) (sym (ap (λ (s : Stand). s.view.log) step));
+      same = step ∙ ap (λ (log : List Entry). record p { view = record p.view { log = log; past = q.view.past } }) (sym (ap (λ (s : PassView). s.view.log) step));
       past = past;
-      run = record { fits = fits; run = run_after p q e r (ap (λ (s : Stand). s.view.log) step) other tells };
+      run = record { fits = fits; run = run_after p q e r (ap (λ (s : PassView). s.view.log) step) other tells };
       keeps = λ fact holds. told_after p q e r step fact (facts_stay p.view.layout (enough p.view.layout layout) p.view.number p.view.log (e, r) (grown p q e r step other fits tells) stands fact holds);
     }
 
 -- ---- what a look tells
 
-module _ (p q : Stand) (x : ℕ) (fits : IsLayout q.view.layout) (tells : TellsRun q) where
+module _ (p q : PassView) (x : ℕ) (fits : IsLayout q.view.layout) (tells : TellsRun q) where
   pub key_told : (key : ℕ) → Stepped p q (Look x KeyOf) (KeyIs key) → KeyTold p q x key
   key_told key step =
       let L : Layout = p.view.layout in
-      let low = enough L (subst (λ (s : Stand). IsLayout s.view.layout) step fits) in
+      let low = enough L (subst (λ (s : PassView). IsLayout s.view.layout) step fits) in
       let grows = grown p q (Look x KeyOf) (KeyIs key) step refl fits tells in
       record {
         high = low_keys_stand_high L low p.view.number p.view.log (Look x KeyOf, KeyIs key) grows x key refl;
@@ -118,7 +118,7 @@ module _ (p q : Stand) (x : ℕ) (fits : IsLayout q.view.layout) (tells : TellsR
   pub birth_told : (birth : ℕ) → Stepped p q (Look x Birth) (BirthIs birth) → Tells p (KnowsSlot x) → Tells q (IsBorn x birth)
   birth_told birth step known =
       let L : Layout = p.view.layout in
-      let low = enough L (subst (λ (s : Stand). IsLayout s.view.layout) step fits) in
+      let low = enough L (subst (λ (s : PassView). IsLayout s.view.layout) step fits) in
       told_after p q (Look x Birth) (BirthIs birth) step (IsBorn x birth)
       (births_are_learned L low p.view.number p.view.log (Look x Birth, BirthIs birth) (grown p q (Look x Birth) (BirthIs birth) step refl fits tells) x birth refl known)
 
@@ -128,7 +128,7 @@ module _ (p q : Stand) (x : ℕ) (fits : IsLayout q.view.layout) (tells : TellsR
       let w : ℕ = p.view.number in
       let log : List Entry = p.view.log in
       let entry : Entry = (Look x (EdgeOn side), EdgeIs e) in
-      let low = enough L (subst (λ (s : Stand). IsLayout s.view.layout) step fits) in
+      let low = enough L (subst (λ (s : PassView). IsLayout s.view.layout) step fits) in
       let grows = grown p q (Look x (EdgeOn side)) (EdgeIs e) step refl fits tells in
       let after = told_after p q (Look x (EdgeOn side)) (EdgeIs e) step in
       let learned = edges_are_learned L low w log entry grows x side e (ByLook x side e) known in
@@ -180,15 +180,15 @@ searching : (s : Search) (o : Option Call) (x : ℕ) (f : Field) (r : Reply) →
 searching s None x f r = record { call = refl; linked = refl; flagged = refl; cut = refl }
 searching s (Some c) x f r = record { call = refl; linked = refl; flagged = refl; cut = refl }
 
-pub only_looks : (p q : Stand) (x : ℕ) (f : Field) (r : Reply) → Stepped p q (Look x f) r → IsInRun p → Tells p (KnowsSlot x) → OnlyLooks p q
+pub only_looks : (p q : PassView) (x : ℕ) (f : Field) (r : Reply) → Stepped p q (Look x f) r → IsInRun p → Tells p (KnowsSlot x) → OnlyLooks p q
 unfolding searched
 only_looks p q x f r step run known =
     let facts = facts_are_true p.view.layout (enough p.view.layout run.fits) p.view.number p.view.log run.run.is_part (KnowsSlot x) known in
     let shared : is_private (knowledge p.view) x ≡ false = ap (λ (k : Knowledge). is_private k x) (sym (then_known p run)) ∙ facts.not_private p.view.number in
     let k = looked p.view.number (knowledge p.view) x f r shared in
     let s = searching (search_after idle p.view.log) (search_after idle p.view.log).call x f r in
-    let known_is : knowledge q.view ≡ learn p.view.number (knowledge p.view) (Look x f) r = ap (λ (y : Stand). knowledge y.view) step ∙ known_push p.view.number p.view.layout p.view.log (Look x f, r) in
-    let search_is : search_after idle q.view.log ≡ look_for (search_after idle p.view.log) (search_after idle p.view.log).call x f r = ap (λ (y : Stand). search_after idle y.view.log) step ∙ search_more idle p.view.log (Look x f, r) in
+    let known_is : knowledge q.view ≡ learn p.view.number (knowledge p.view) (Look x f) r = ap (λ (y : PassView). knowledge y.view) step ∙ known_push p.view.number p.view.layout p.view.log (Look x f, r) in
+    let search_is : search_after idle q.view.log ≡ look_for (search_after idle p.view.log) (search_after idle p.view.log).call x f r = ap (λ (y : PassView). search_after idle y.view.log) step ∙ search_more idle p.view.log (Look x f, r) in
     record {
       epochs = ap (λ (y : Knowledge). y.brief) known_is ∙ k.brief;
       private = ap (λ (y : Knowledge). y.drafts) known_is ∙ k.drafts;
@@ -199,5 +199,5 @@ only_looks p q x f r step run known =
       cut = ap (λ (y : Search). y.cut) search_is ∙ s.cut;
     }
   where
-    then_known : (p : Stand) (run : IsInRun p) → of (after_in (ordered p.view.layout) run.run.is_part.turns).state p.view.number ≡ knowledge p.view
+    then_known : (p : PassView) (run : IsInRun p) → of (after_in (ordered p.view.layout) run.run.is_part.turns).state p.view.number ≡ knowledge p.view
     then_known p run = let l = run.run.is_part in logs_tell p.view.layout l.turns p.view.number l.worker ∙ ap (known_by p.view.layout p.view.number) l.is_part

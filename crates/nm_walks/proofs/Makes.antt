@@ -29,7 +29,7 @@ use Rattle.nm_order.specs.Logs.{part_of, known_by, IsLogOf}
 use Rattle.nm_order.proofs.LastEntries.{ToldBy, told_by_part, search_more}
 use Rattle.nm_order.proofs.OrderedLaws.{law_of_state}
 use Rattle.nm_steps.specs.Rules.{knowledge}
-use Rattle.nm_steps.specs.Steps.{Stand, MayStep, Stepped, IsSamePass, HasSeenAllOf}
+use Rattle.nm_steps.specs.Steps.{PassView, MayStep, Stepped, IsSamePass, HasSeenAllOf}
 use Rattle.nm_steps.proofs.AfterSteps.{TellsRun, run_after, is_join}
 use Rattle.nm_walks.specs.Telling.{IsInRun, GoesOn}
 use Rattle.nm_walks.specs.Making.{draft, IsFilled, KeepsOtherSlots, OnlyMakes, with_node}
@@ -39,13 +39,13 @@ use Rattle.nm_pool.proofs.PrivateSlots.{put_another, put_there}
 
 -- ---- drafts
 
-pub get_draft : (p : Stand) (s : ℕ) (d : Draft) → get (knowledge p.view).drafts s ≡ Some d → draft p s ≡ d
+pub get_draft : (p : PassView) (s : ℕ) (d : Draft) → get (knowledge p.view).drafts s ≡ Some d → draft p s ≡ d
 get_draft p s d is = ap (λ o. unwrap_or o unfilled) is
 
-pub same_draft : (p q : Stand) (s : ℕ) → get (knowledge q.view).drafts s ≡ get (knowledge p.view).drafts s → draft q s ≡ draft p s
+pub same_draft : (p q : PassView) (s : ℕ) → get (knowledge q.view).drafts s ≡ get (knowledge p.view).drafts s → draft q s ≡ draft p s
 same_draft p q s is = ap (λ o. unwrap_or o unfilled) is
 
-pub private_from_birth : (p : Stand) (s : ℕ) → IsSome (draft p s).birth → is_private (knowledge p.view) s ≡ true
+pub private_from_birth : (p : PassView) (s : ℕ) → IsSome (draft p s).birth → is_private (knowledge p.view) s ≡ true
 private_from_birth p s born = go (get (knowledge p.view).drafts s) born
   where
     go : (o : Option Draft) → is_some (unwrap_or o unfilled).birth ≡ true → is_some o ≡ true
@@ -83,7 +83,7 @@ held_still k l s t brief known search (Came since key x p d) h = subst (λ (y : 
 held_still k l s t brief known search (ReadKey since key x p d v) h = subst (λ (y : Search). HoldsIn k y (ReadKey since key x p d v)) (sym search) h
 held_still k l s t brief known search (EndedAt since key x p d v) h = subst (λ (y : Search). HoldsIn k y (EndedAt since key x p d v)) (sym search) h
 
-pub makes_go_on : (p q : Stand) → OnlyMakes p q → IsSamePass p q → HasSeenAllOf q p → IsInRun q → GoesOn p q
+pub makes_go_on : (p q : PassView) → OnlyMakes p q → IsSamePass p q → HasSeenAllOf q p → IsInRun q → GoesOn p q
 makes_go_on p q only same past run = record {
   same = same;
   past = past;
@@ -92,17 +92,17 @@ makes_go_on p q only same past run = record {
 }
 
 -- the pass is in a run after a step, since its log does not end with a join
-pub in_run_after : (p q : Stand) (e : Event) (r : Reply) → Stepped p q e r → is_join e ≡ false → IsLayout q.view.layout → TellsRun q → IsInRun q
-in_run_after p q e r step other fits tells = record { fits = fits; run = run_after p q e r (ap (λ (s : Stand). s.view.log) step) other tells }
+pub in_run_after : (p q : PassView) (e : Event) (r : Reply) → Stepped p q e r → is_join e ≡ false → IsLayout q.view.layout → TellsRun q → IsInRun q
+in_run_after p q e r step other fits tells = record { fits = fits; run = run_after p q e r (ap (λ (s : PassView). s.view.log) step) other tells }
 
-pub both_make : (p q r : Stand) → OnlyMakes p q → OnlyMakes q r → OnlyMakes p r
+pub both_make : (p q r : PassView) → OnlyMakes p q → OnlyMakes q r → OnlyMakes p r
 both_make p q r a b = record { epochs = b.epochs ∙ a.epochs; known = b.known ∙ a.known; ledgers = b.ledgers ∙ a.ledgers; search = b.search ∙ a.search }
 
-pub search_then : (p q : Stand) (e : Event) (r : Reply) → Stepped p q e r → search_after idle q.view.log ≡ searched (search_after idle p.view.log) e r
-search_then p q e r step = ap (λ (s : Stand). search_after idle s.view.log) step ∙ search_more idle p.view.log (e, r)
+pub search_then : (p q : PassView) (e : Event) (r : Reply) → Stepped p q e r → search_after idle q.view.log ≡ searched (search_after idle p.view.log) e r
+search_then p q e r step = ap (λ (s : PassView). search_after idle s.view.log) step ∙ search_more idle p.view.log (e, r)
 
 -- a step that changes drafts alone
-pub makes : (p q : Stand) (m : List (ℕ × Draft)) → knowledge q.view ≡ record (knowledge p.view) { drafts = m } → search_after idle q.view.log ≡ search_after idle p.view.log → OnlyMakes p q
+pub makes : (p q : PassView) (m : List (ℕ × Draft)) → knowledge q.view ≡ record (knowledge p.view) { drafts = m } → search_after idle q.view.log ≡ search_after idle p.view.log → OnlyMakes p q
 makes p q m is search = record {
   epochs = ap (λ (x : Knowledge). x.brief) is;
   known = ap (λ (x : Knowledge). x.known) is;
@@ -113,19 +113,19 @@ makes p q m is search = record {
 -- ---- filling a slot
 
 -- a private slot whose birth is stored
-pub record Fillable (p : Stand) (s : ℕ) : Type 0 where
+pub record Fillable (p : PassView) (s : ℕ) : Type 0 where
   pub least : 6 ≤ s
   pub most : s ≤ p.view.layout.nodes
   pub born : IsSome (draft p s).birth
 
-pub fillable : (p : Stand) (s : ℕ) → IsSome (draft p s).birth → ((x : ℕ) → is_private (knowledge p.view) x ≡ true → IsPooled p.view.layout x) → Fillable p s
+pub fillable : (p : PassView) (s : ℕ) → IsSome (draft p s).birth → ((x : ℕ) → is_private (knowledge p.view) x ≡ true → IsPooled p.view.layout x) → Fillable p s
 fillable p s born pooled = let range = pooled s (private_from_birth p s born) in record { least = range.0; most = range.1; born = born }
 
 not_none : {X : Type 0} (o : Option X) → is_some o ≡ true → is_none o ≡ false
 not_none None h = sym h
 not_none (Some x) h = refl
 
-module _ (p : Stand) (s : ℕ) (f : Fillable p s) where
+module _ (p : PassView) (s : ℕ) (f : Fillable p s) where
   own : is_private (knowledge p.view) s ≡ true
   own = private_from_birth p s f.born
 
@@ -154,7 +154,7 @@ module _ (p : Stand) (s : ℕ) (f : Fillable p s) where
     key = tt;
   }
 
-module _ (p q : Stand) (s : ℕ) (f : Field) (v : ℕ) (step : Stepped p q (Fill s f v) Filled) where
+module _ (p q : PassView) (s : ℕ) (f : Field) (v : ℕ) (step : Stepped p q (Fill s f v) Filled) where
   filled_known : knowledge q.view ≡ record (knowledge p.view) { drafts = put (knowledge p.view).drafts s (filled_in (draft p s) f v) }
   filled_known = known_after_step p q (Fill s f v) Filled step ∙ learn_filled p.view.number (knowledge p.view) s f v
 
@@ -179,12 +179,12 @@ module _ (p q : Stand) (s : ℕ) (f : Field) (v : ℕ) (step : Stepped p q (Fill
   pub fillable_still : (filled_in (draft p s) f v).birth ≡ (draft p s).birth → Fillable p s → Fillable q s
   fillable_still same had = record {
     least = had.least;
-    most = subst (λ (x : Stand). s ≤ x.view.layout.nodes) (sym step) had.most;
+    most = subst (λ (x : PassView). s ≤ x.view.layout.nodes) (sym step) had.most;
     born = ap (λ (d : Draft). is_some d.birth) filled_draft ∙ (ap is_some same ∙ had.born);
   }
 
 -- the slot is filled, with the birth that it has
-pub is_filled : (p q : Stand) (s birth key left right : ℕ) → (draft p s).birth ≡ Some birth → get (knowledge q.view).drafts s ≡ Some (with_node (draft p s) key left right) → IsFilled q s birth key left right
+pub is_filled : (p q : PassView) (s birth key left right : ℕ) → (draft p s).birth ≡ Some birth → get (knowledge q.view).drafts s ≡ Some (with_node (draft p s) key left right) → IsFilled q s birth key left right
 is_filled p q s birth key left right born is =
     let d : draft q s ≡ with_node (draft p s) key left right = get_draft q s (with_node (draft p s) key left right) is in
     record {
@@ -195,7 +195,7 @@ is_filled p q s birth key left right born is =
     }
 
 -- and is so after a step that leaves it
-pub is_filled_still : (p q : Stand) (s birth key left right : ℕ) → get (knowledge q.view).drafts s ≡ get (knowledge p.view).drafts s → IsFilled p s birth key left right → IsFilled q s birth key left right
+pub is_filled_still : (p q : PassView) (s birth key left right : ℕ) → get (knowledge q.view).drafts s ≡ get (knowledge p.view).drafts s → IsFilled p s birth key left right → IsFilled q s birth key left right
 is_filled_still p q s birth key left right same f =
     let d : draft q s ≡ draft p s = same_draft p q s same in
     record {

@@ -30,7 +30,7 @@ use Rattle.nm_order.proofs.TaughtFacts.{edges_are_learned, flags_are_learned, ta
 use Rattle.nm_order.proofs.ToldLaws.{edges_stay_inside, flagged_lead_high, flagged_stand_high, tags_lead, twins_are_told}
 use Rattle.nm_words.specs.Told.{known_as}
 use Rattle.nm_steps.specs.Rules.{knowledge, known_births}
-use Rattle.nm_steps.specs.Steps.{Stand, MayStep, Stepped, flag_reply}
+use Rattle.nm_steps.specs.Steps.{PassView, MayStep, Stepped, flag_reply}
 use Rattle.nm_steps.proofs.AfterSteps.{TellsRun, is_join}
 use Rattle.nm_steps.proofs.Extending.{neither}
 use Rattle.nm_walks.specs.Telling.{Tells, IsInRun, OnlyLooks, IsPinnedSomewhere}
@@ -43,13 +43,13 @@ use Rattle.nm_steps.proofs.Presence.{known_after_step}
 -- ---- checks
 
 -- a known slot is in the layout
-pub slot_inside : (p : Stand) (x : ℕ) → IsInRun p → Tells p (KnowsSlot x) → outside 1 p.view.layout.nodes x ≡ false
+pub slot_inside : (p : PassView) (x : ℕ) → IsInRun p → Tells p (KnowsSlot x) → outside 1 p.view.layout.nodes x ≡ false
 slot_inside p x run known = let range = known_inside p.view.layout p.view.number p.view.log run.fits run.run.is_part x known in not_outside 1 p.view.layout.nodes x range.0 range.1
 
 -- ---- what a step leaves
 
 -- an edge was read, and nothing else
-pub only_reads : (p q : Stand) (x : ℕ) (side : Side) (e : Edge) → knowledge q.view ≡ read_edge (knowledge p.view) x side e → search_after idle q.view.log ≡ search_after idle p.view.log → OnlyLooks p q
+pub only_reads : (p q : PassView) (x : ℕ) (side : Side) (e : Edge) → knowledge q.view ≡ read_edge (knowledge p.view) x side e → search_after idle q.view.log ≡ search_after idle p.view.log → OnlyLooks p q
 only_reads p q x side e k s = record {
   epochs = ap (λ (y : Knowledge). y.brief) k;
   private = ap (λ (y : Knowledge). y.drafts) k;
@@ -61,12 +61,12 @@ only_reads p q x side e k s = record {
 }
 
 -- an edge was found by an exchange that was lost
-pub edge_found : (p q : Stand) (event : Event) (r : Reply) (x : ℕ) (side : Side) (e : Edge) → TellsEdge (event, r) x side e → Stepped p q event r → is_join event ≡ false → IsLayout q.view.layout → TellsRun q → Tells p (KnowsSlot x) → EdgeFound p q x side e
+pub edge_found : (p q : PassView) (event : Event) (r : Reply) (x : ℕ) (side : Side) (e : Edge) → TellsEdge (event, r) x side e → Stepped p q event r → is_join event ≡ false → IsLayout q.view.layout → TellsRun q → Tells p (KnowsSlot x) → EdgeFound p q x side e
 edge_found p q event r x side e told step other fits tells known =
     let L : Layout = p.view.layout in
     let w : ℕ = p.view.number in
     let log : List Entry = p.view.log in
-    let low = enough L (subst (λ (s : Stand). IsLayout s.view.layout) step fits) in
+    let low = enough L (subst (λ (s : PassView). IsLayout s.view.layout) step fits) in
     let grows = grown p q event r step other fits tells in
     let after = told_after p q event r step in
     let learned = edges_are_learned L low w log (event, r) grows x side e told known in
@@ -85,7 +85,7 @@ edge_found p q event r x side e told step other fits tells known =
 
 -- ---- a tag
 
-pub may_tag : (p : Stand) (x : ℕ) (side : Side) → IsInRun p → IsPinnedSomewhere p → Tells p (KnowsSlot x) → ((to : ℕ) × Tells p (IsFlagged x (other side) to)) → MayStep p (Tag x side)
+pub may_tag : (p : PassView) (x : ℕ) (side : Side) → IsInRun p → IsPinnedSomewhere p → Tells p (KnowsSlot x) → ((to : ℕ) × Tells p (IsFlagged x (other side) to)) → MayStep p (Tag x side)
 unfolding refusal
 may_tag p x side run pin known flag =
     let k : Knowledge = knowledge p.view in
@@ -100,14 +100,14 @@ may_tag p x side run pin known flag =
       key = tt;
     }
 
-module _ (p q : Stand) (x : ℕ) (side : Side) (e : Edge) (step : Stepped p q (Tag x side) (Was e)) where
+module _ (p q : PassView) (x : ℕ) (side : Side) (e : Edge) (step : Stepped p q (Tag x side) (Was e)) where
   pub tag_told : IsLayout q.view.layout → TellsRun q → Tells p (KnowsSlot x) → TagTold p q x side e
   tag_told fits tells known =
       let L : Layout = p.view.layout in
       let w : ℕ = p.view.number in
       let log : List Entry = p.view.log in
       let entry : Entry = (Tag x side, Was e) in
-      let low = enough L (subst (λ (s : Stand). IsLayout s.view.layout) step fits) in
+      let low = enough L (subst (λ (s : PassView). IsLayout s.view.layout) step fits) in
       let grows = grown p q (Tag x side) (Was e) step refl fits tells in
       let after = told_after p q (Tag x side) (Was e) step in
       let learned = edges_are_learned L low w log entry grows x side e (ByTag x side e) known in
@@ -136,7 +136,7 @@ ends_there key p leaf side a slot parent by ended is =
     (and_from a.ended (is_number a.key key) ended (ap (λ o. is_number o key) is ∙ eq-eqb key key refl))
 
 -- so the flag is in order
-in_order : (p : Stand) (x : ℕ) (side : Side) (leaf : ℕ) → IsToBeFlagged p x side leaf → flags_in_order (search_after idle p.view.log) (search_after idle p.view.log).call x side leaf ≡ true
+in_order : (p : PassView) (x : ℕ) (side : Side) (leaf : ℕ) → IsToBeFlagged p x side leaf → flags_in_order (search_after idle p.view.log) (search_after idle p.view.log).call x side leaf ≡ true
 in_order p x side leaf f =
     let s : Search = search_after idle p.view.log in
     let a = f.ended.0 in
@@ -144,7 +144,7 @@ in_order p x side leaf f =
     ∙ and_from (is_none s.flagged) (list_any (may_flag_at f.key x side leaf) s.walks) (ap is_none f.unflagged)
     (any_there (may_flag_at f.key x side leaf) s.walks a.arrival a.among (ends_there f.key x leaf side a.arrival a.is_slot a.is_parent a.is_side f.ended.2 f.ended.1))
 
-pub may_flag : (p : Stand) (x : ℕ) (side : Side) (leaf : ℕ) → IsInRun p → IsPinnedSomewhere p → IsToBeFlagged p x side leaf → MayStep p (Flag x side leaf)
+pub may_flag : (p : PassView) (x : ℕ) (side : Side) (leaf : ℕ) → IsInRun p → IsPinnedSomewhere p → IsToBeFlagged p x side leaf → MayStep p (Flag x side leaf)
 unfolding refusal
 may_flag p x side leaf run pin f =
     let k : Knowledge = knowledge p.view in
@@ -162,12 +162,12 @@ may_flag p x side leaf run pin f =
       key = tt;
     }
 
-module _ (p q : Stand) (x : ℕ) (side : Side) (leaf : ℕ) (fits : IsLayout q.view.layout) (tells : TellsRun q) where
+module _ (p q : PassView) (x : ℕ) (side : Side) (leaf : ℕ) (fits : IsLayout q.view.layout) (tells : TellsRun q) where
   flag_won : (n : NodeId) → n.slot ≡ leaf → Stepped p q (Flag x side leaf) (Flagged n) → FlagWon p q x side n
   unfolding searched
   flag_won n is step =
       let L : Layout = p.view.layout in
-      let low = enough L (subst (λ (s : Stand). IsLayout s.view.layout) step fits) in
+      let low = enough L (subst (λ (s : PassView). IsLayout s.view.layout) step fits) in
       let grows = grown p q (Flag x side leaf) (Flagged n) step refl fits tells in
       record {
         step = subst (λ (l : ℕ). Stepped p q (Flag x side l) (Flagged n)) (sym is) step;
@@ -190,7 +190,7 @@ module _ (p q : Stand) (x : ℕ) (side : Side) (leaf : ℕ) (fits : IsLayout q.v
     flagged = ap (λ (s : Search). s.flagged) (search_is p q (Flag x side leaf) (Lost e) step);
   }
 
-pub only_flags : (p q : Stand) (x : ℕ) (side : Side) (leaf : ℕ) (r : Result Unit Edge) → Stepped p q (Flag x side leaf) (flag_reply p.view leaf r) → OnlyFlags p q
+pub only_flags : (p q : PassView) (x : ℕ) (side : Side) (leaf : ℕ) (r : Result Unit Edge) → Stepped p q (Flag x side leaf) (flag_reply p.view leaf r) → OnlyFlags p q
 unfolding searched
 only_flags p q x side leaf (Ok u) step =
     let n : NodeId = known_as (known_births p.view) leaf in

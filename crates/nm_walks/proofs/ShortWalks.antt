@@ -15,7 +15,7 @@ use Rattle.nm_model.specs.Walks.Leads.{begins, leads_on}
 use Rattle.nm_order.proofs.FactLaws.{facts_are_true, tagged_slots_stand_high}
 use Rattle.nm_order.proofs.RadixLaws.{walks_are_short, walks_pass_routers}
 use Rattle.nm_order.specs.Facts.Fact.{IsTagged, CallIs}
-use Rattle.nm_steps.specs.Steps.{Board, Stand}
+use Rattle.nm_steps.specs.Steps.{TreeView, PassView}
 use Rattle.nm_walks.specs.declared.looking.Onward.{Onward}
 use Rattle.nm_walks.specs.declared.spot.ChainEdge.{ChainEdge}
 use Rattle.nm_walks.specs.declared.spot.Spot.{Spot}
@@ -52,12 +52,12 @@ walk_comes k (suc n) old new s c (mid, t, d, on, w, some, read, is, chain) =
     ))
 
 -- a call is for a key of the set
-pub key_of_call : (p : Stand) → IsInRun p → (op : Op) (k : ℕ) → Tells p (CallIs op k) → IsKey k
+pub key_of_call : (p : PassView) → IsInRun p → (op : Op) (k : ℕ) → Tells p (CallIs op k) → IsKey k
 key_of_call p run op k call = facts_are_true p.view.layout (enough p.view.layout run.fits) p.view.number p.view.log run.run.is_part (CallIs op k) call
 
 -- ---- in a run of a radix tree
 
-module _ (q : Stand) (run : IsInRun q) (radix : q.view.layout.radix ≡ true) (k : ℕ) (key : IsKey k) where
+module _ (q : PassView) (run : IsInRun q) (radix : q.view.layout.radix ≡ true) (k : ℕ) (key : IsKey k) where
   -- no walk passes more than 64 nodes
   pub few_passed : (n : ℕ) (old : List Entry) (s : Spot) (c : List ChainEdge) → Walks k n old q.view.log s c → n ≤ 64
   few_passed n old s c w =
@@ -108,7 +108,7 @@ chain_of k (suc n) old new s c (mid, t, d, on, w, some, read, is, chain) = by t.
     by true tag above = tagged above (chain ∙ ap (λ (b : Bool). cond b (d ++ chained t.parent t.side ∷ []) []) tag)
 
 -- where a walk goes on from its spot, the chain with the spot's node has at most 64 nodes
-pub not_deep : (p q : Stand) → IsInRun p → IsInRun q → q.view.layout.radix ≡ true → (k : ℕ) → IsKey k → (n : ℕ) (old : List Entry) (s : Spot) (c : List ChainEdge) (on : Onward) → Walks k n old p.view.log s c → IsAt (Tells p) s c
+pub not_deep : (p q : PassView) → IsInRun p → IsInRun q → q.view.layout.radix ≡ true → (k : ℕ) → IsKey k → (n : ℕ) (old : List Entry) (s : Spot) (c : List ChainEdge) (on : Onward) → Walks k n old p.view.log s c → IsAt (Tells p) s c
     → Reads k s.edge.slot p.view.log q.view.log on → on.next.slot ≢ 0 → length c + 1 < chain_bound
 not_deep p q earlier run radix k key n old s c on w at read some = by (chain_of k n old p.view.log s c w)
   where
@@ -132,9 +132,9 @@ not_deep p q earlier run radix k key n old s c on w at read some = by (chain_of 
 pub far_of : (L : Layout) (radix : Bool) → L.radix ≡ radix → reach L ≡ cond radix 66 L.nodes
 far_of L radix is = ap (λ (b : Bool). cond b 66 L.nodes) is
 
-module _ (b : Board) (k : ℕ) (key : IsKey k) (n : ℕ) (old : List Entry) (s : Spot) (c : List ChainEdge) where
+module _ (b : TreeView) (k : ℕ) (key : IsKey k) (n : ℕ) (old : List Entry) (s : Spot) (c : List ChainEdge) where
   -- a walk that has looked at as many nodes as it may
-  pub too_long : (q : Stand) → IsPinnedIn b q → Walks k n old q.view.log s c → suc n ≡ reach b.layout → IsTooLong b.layout k old q.view.log
+  pub too_long : (q : PassView) → IsPinnedIn b q → Walks k n old q.view.log s c → suc n ≡ reach b.layout → IsTooLong b.layout k old q.view.log
   too_long q pinned w all = by b.layout.radix refl
     where
       by : (radix : Bool) → b.layout.radix ≡ radix → IsTooLong b.layout k old q.view.log
@@ -145,7 +145,7 @@ module _ (b : Board) (k : ℕ) (key : IsKey k) (n : ℕ) (old : List Entry) (s :
           absurd (omega (arith, few, far))
 
   -- and one whose chain would be too long
-  pub too_deep : (p q : Stand) → IsPinnedIn b p → IsPinnedIn b q → (on : Onward) → Walks k n old p.view.log s c → IsAt (Tells p) s c → Reads k s.edge.slot p.view.log q.view.log on → on.next.slot ≢ 0 → s.edge.tag ≡ true → chain_bound ≤ length c + 1
+  pub too_deep : (p q : PassView) → IsPinnedIn b p → IsPinnedIn b q → (on : Onward) → Walks k n old p.view.log s c → IsAt (Tells p) s c → Reads k s.edge.slot p.view.log q.view.log on → on.next.slot ≢ 0 → s.edge.tag ≡ true → chain_bound ≤ length c + 1
       → n + 2 ≤ reach b.layout → IsTooDeep b.layout k old q.view.log
   too_deep p q earlier pinned on w at read some tag deep few = by b.layout.radix refl
     where

@@ -2,7 +2,7 @@
 use Rattle.std.proofs.Common.{◌≡◌, ◌≢◌, ◌≤◌, ◌<◌, ◌+◌, ℕ, Bool, false, List, [], ◌∷◌, ◌++◌, refl, ap, cond, length}
 use Rattle.std.specs.Prelude.{Some}
 use Rattle.nm_edge.specs.Layouts.{Layout}
-use Rattle.nm_steps.specs.Steps.{Stand}
+use Rattle.nm_steps.specs.Steps.{PassView}
 use Rattle.nm_walks.specs.declared.looking.Onward.{Onward}
 use Rattle.nm_walks.specs.declared.spot.ChainEdge.{ChainEdge}
 use Rattle.nm_walks.specs.declared.spot.WalkEnd.{WalkEnd}
@@ -15,7 +15,7 @@ use Rattle.nm_walks.proofs.Standing.{walk_on, at_kept, at_onto}
 
 -- ---- a walk that remembers nothing
 
-module _ (L : Layout) (k n : ℕ) (o p q : Stand) (t : Spot) (on : Onward) (w : IsFinding k n o p t) (read : Reads k t.edge.slot p.view.log q.view.log on) (told : OnwardTold p q k t.edge.slot on.found on.side on.next) where
+module _ (L : Layout) (k n : ℕ) (o p q : PassView) (t : Spot) (on : Onward) (w : IsFinding k n o p t) (read : Reads k t.edge.slot p.view.log q.view.log on) (told : OnwardTold p q k t.edge.slot on.found on.side on.next) where
   -- to the next node
   pub finds_on : on.next.slot ≢ 0 → (s : Spot) → s ≡ onto t on.side on.next → s.edge ≡ on.next → IsFinding k (n + 1) o q s
   finds_on some s is edge = record {
@@ -34,7 +34,7 @@ module _ (L : Layout) (k n : ℕ) (o p q : Stand) (t : Spot) (on : Onward) (w : 
 pub no_chain : (t : Spot) (c : List ChainEdge) → t.edge.tag ≡ false → chain_onto t c ≡ []
 no_chain t c plain = ap (λ (b : Bool). cond b (c ++ chained t.parent t.side ∷ []) []) plain
 
-module _ (L : Layout) (k n : ℕ) (o p q : Stand) (t : Spot) (c : List ChainEdge) (on : Onward) (w : IsWalking L k n o p t c) (read : Reads k t.edge.slot p.view.log q.view.log on) (goes : GoesOn p q) (only : OnlyLooks p q) (told : OnwardTold p q k t.edge.slot on.found on.side on.next) where
+module _ (L : Layout) (k n : ℕ) (o p q : PassView) (t : Spot) (c : List ChainEdge) (on : Onward) (w : IsWalking L k n o p t c) (read : Reads k t.edge.slot p.view.log q.view.log on) (goes : GoesOn p q) (only : OnlyLooks p q) (told : OnwardTold p q k t.edge.slot on.found on.side on.next) where
   -- to the next node
   pub walks_on : on.next.slot ≢ 0 → on.next.slot ≤ L.nodes → length (chain_onto t c) < chain_bound → (s : Spot) → s ≡ onto t on.side on.next → s.edge ≡ on.next → IsWalking L k (n + 1) o q s (chain_onto t c)
   walks_on some within short s is edge = record {

@@ -23,7 +23,7 @@ use Rattle.nm_order.specs.Told.{FrozenTo}
 use Rattle.nm_order.specs.Told.FrozenTo.{ends_there, goes_down}
 use Rattle.nm_order.proofs.ToldLaws.{twice_other}
 use Rattle.nm_steps.specs.Rules.{knowledge}
-use Rattle.nm_steps.specs.Steps.{Stand, Stepped}
+use Rattle.nm_steps.specs.Steps.{PassView, Stepped}
 use Rattle.nm_walks.specs.declared.cutting.Kept.{Kept}
 use Rattle.nm_walks.specs.declared.spot.ChainEdge.{ChainEdge}
 use Rattle.nm_walks.specs.declared.spot.Spot.{Spot}
@@ -38,7 +38,7 @@ use Rattle.nm_walks.proofs.Standing.{leads_kept}
 
 -- ---- the chain of a walk
 
-module _ (p q : Stand) (s : Spot) (c : List ChainEdge) (at : IsAt (Tells p) s c) where
+module _ (p q : PassView) (s : Spot) (c : List ChainEdge) (at : IsAt (Tells p) s c) where
   pub at_top : top c s.parent ≡ s.successor
   at_top = top_of (Tells p) s.successor c s.parent at.way
 
@@ -82,14 +82,14 @@ module _ (k : Knowledge) (S : Search) (y b : ℕ) (born : HoldsIn k S (IsBorn y 
 
 -- ---- a chain was cut off
 
-pub has_cut : (s : Spot) (c : List ChainEdge) (o p r t q : Stand) (k : Kept) (was : Edge) (ns : List NodeId) → GoesOn o t → OnlyLooks o t
+pub has_cut : (s : Spot) (c : List ChainEdge) (o p r t q : PassView) (k : Kept) (was : Edge) (ns : List NodeId) → GoesOn o t → OnlyLooks o t
     → Chooses s o.view.log p.view.log (Some k) → r.view.log ≡ p.view.log ++ (Tag s.parent k.side, Was was) ∷ [] → Freezes s.parent k.side c r.view.log t.view.log → length ns ≡ 2 * (length c + 1)
     → FrozenTo (Tells t) s.parent k.side s.successor ns → ((to : ℕ) → Tells o (IsFlagged s.parent s.side to) → k.side ≡ other s.side)
     → SpliceWon t q s.ancestor s.above s.successor s.parent k.side ns → HasCut s c ns o q
 has_cut s c o p r t q k was ns on only chosen tag looks size frozen again won = record {
-  part = (k, t.view.log, (p.view.log, was, chosen, subst (λ (log : List Entry). Freezes s.parent k.side c log t.view.log) tag looks), ap (λ (x : Stand). x.view.log) won.step);
+  part = (k, t.view.log, (p.view.log, was, chosen, subst (λ (log : List Entry). Freezes s.parent k.side c log t.view.log) tag looks), ap (λ (x : PassView). x.view.log) won.step);
   size = size;
-  queues = λ x. won.queues x ∙ (ap (λ (n : ℕ). left x n (knowledge t.view).ledgers) (ap (λ (y : Stand). y.view.number) on.same) ∙ ap (λ (ls : List (Option Ledger)). left x o.view.number ls) only.ledgers);
+  queues = λ x. won.queues x ∙ (ap (λ (n : ℕ). left x n (knowledge t.view).ledgers) (ap (λ (y : PassView). y.view.number) on.same) ∙ ap (λ (ls : List (Option Ledger)). left x o.view.number ls) only.ledgers);
   epochs = won.epochs ∙ ap (λ (b : Brief). record b { unlabelled = true }) only.epochs;
   leaf = λ to b flag born. leaf_among (knowledge t.view) (search_after idle t.view.log) to b (on.keeps (IsBorn to b) born) frozen
       (subst (λ (d : Side). Tells t (IsFlagged s.parent d to)) (sym (ap other (again to flag) ∙ twice_other s.side)) (on.keeps (IsFlagged s.parent s.side to) flag));
@@ -146,7 +146,7 @@ lost_steps s c old new (inr f) =
 
 -- ---- what a cleanup leaves
 
-pub only_cleans : (s : Spot) (c : List ChainEdge) (ns : List NodeId) (epoch : ℕ) (p m q : Stand) → IsInRun p → HasCut s c ns p m → OnlyCuts p m → OnlyLabels epoch m q → Stepped m q Sight (Labelled epoch) → OnlyCleans p q
+pub only_cleans : (s : Spot) (c : List ChainEdge) (ns : List NodeId) (epoch : ℕ) (p m q : PassView) → IsInRun p → HasCut s c ns p m → OnlyCuts p m → OnlyLabels epoch m q → Stepped m q Sight (Labelled epoch) → OnlyCleans p q
 only_cleans s c ns epoch p m q run cut cuts labels step = record {
   announcement = labels.announcement ∙ ap (λ (b : Brief). b.announcement) cut.epochs;
   pin = labels.pin ∙ ap (λ (b : Brief). b.pin) cut.epochs;

@@ -13,7 +13,7 @@ use Rattle.nm_model.specs.Searches.{idle, is_flagged_in}
 use Rattle.nm_model.specs.Walks.{Entry, search_after}
 use Rattle.nm_order.specs.Facts.Fact.{IsFlagged, IsBorn}
 use Rattle.nm_steps.specs.Rules.{knowledge}
-use Rattle.nm_steps.specs.Steps.{Stand}
+use Rattle.nm_steps.specs.Steps.{PassView}
 use Rattle.nm_epoch.specs.Collecting.{IsQueueOf, labelled_so, capped}
 use Rattle.nm_epoch.specs.declared.collecting.Entry.{Entry as Waiting}
 use Rattle.nm_epoch.specs.declared.collecting.HeldQueue.{HeldQueue}
@@ -40,7 +40,7 @@ Chooses s old new r = (e f : Edge) × (new ≡ after_both s old e f) × (r ≡ k
 
 -- the nodes of a slot and of the flagged leaf beside its edge on a side, as they were looked at
 -- (Natarajan and Mittal, section 3.2, cleanup; for whole chains ours)
-pub record FrozenAt (p q : Stand) (slot : ℕ) (side : Side) (node leaf : NodeId) : Type 0 where
+pub record FrozenAt (p q : PassView) (slot : ℕ) (side : Side) (node leaf : NodeId) : Type 0 where
   pub edge : Edge
   pub leads : edge.slot ≡ leaf.slot
   pub is_slot : node.slot ≡ slot
@@ -106,7 +106,7 @@ IsOneOfNodes n ns = is_flagged_in (Some n) ns ≡ true
 
 -- these nodes were cut off and wait for their label; and where the edge by which the walk ended is
 -- known flagged, its leaf is one of them
-pub record HasCut (s : Spot) (c : List ChainEdge) (ns : List NodeId) (p q : Stand) : Type 0 where
+pub record HasCut (s : Spot) (c : List ChainEdge) (ns : List NodeId) (p q : PassView) : Type 0 where
   pub part : CutsOff s c ns p.view.log q.view.log
   pub size : length ns ≡ 2 * (length c + 1)
   pub queues : (o : ℕ) → held (knowledge q.view).ledgers o
@@ -120,7 +120,7 @@ pub record HasCut (s : Spot) (c : List ChainEdge) (ns : List NodeId) (p q : Stan
       || is_flagged_in (search_after idle p.view.log).flagged ns)
 
 -- a cleanup that was lost has only looked and tagged
-pub record HasCutNothing (s : Spot) (c : List ChainEdge) (p q : Stand) : Type 0 where
+pub record HasCutNothing (s : Spot) (c : List ChainEdge) (p q : PassView) : Type 0 where
   pub part : CleanupLost s c p.view.log q.view.log
   pub only : OnlyLooks p q
 
@@ -131,7 +131,7 @@ freed_of_origin k o = option_map (λ (l : Ledger). l.freed) (held k.ledgers o)
 
 -- a worker's own queue: it is the one of what its splices cut off, and counts what the worker has
 -- won by its log, and what was freed
-pub record HoldsCuts (p : Stand) (h : HeldQueue) : Type 0 where
+pub record HoldsCuts (p : PassView) (h : HeldQueue) : Type 0 where
   pub own : h.origin ≡ p.view.number
   pub queue : IsQueueOf (knowledge p.view) p.view.number h.queue.items
   pub counted : CountsWon p.view.log h.counts
@@ -140,7 +140,7 @@ pub record HoldsCuts (p : Stand) (h : HeldQueue) : Type 0 where
 
 -- each ledger of another origin is as it was, and nothing was freed of the own one (Fraser, section
 -- 5.2.3; by origin ours)
-pub record KeepsLedgers (p q : Stand) : Type 0 where
+pub record KeepsLedgers (p q : PassView) : Type 0 where
   pub others : (o : ℕ) → o ≢ p.view.number
       → held (knowledge q.view).ledgers o ≡ held (knowledge p.view).ledgers o
   pub freed : freed_of_origin (knowledge q.view) p.view.number
@@ -148,7 +148,7 @@ pub record KeepsLedgers (p q : Stand) : Type 0 where
 
 -- these nodes were cut off and labelled, and are at the end of the queue, with the flagged leaf
 -- among them
-pub record HasCleaned (s : Spot) (c : List ChainEdge) (p q : Stand)
+pub record HasCleaned (s : Spot) (c : List ChainEdge) (p q : PassView)
     (es fs : List Waiting) : Type 0 where
   pub nodes : List NodeId
   pub epoch : ℕ
@@ -162,7 +162,7 @@ pub record HasCleaned (s : Spot) (c : List ChainEdge) (p q : Stand)
 
 -- what a cleanup leaves: the pin, private slots, the call with what it linked and flagged, and
 -- ledgers but for the nodes that it cut
-pub record OnlyCleans (p q : Stand) : Type 0 where
+pub record OnlyCleans (p q : PassView) : Type 0 where
   pub announcement : (knowledge q.view).brief.announcement ≡ (knowledge p.view).brief.announcement
   pub pin : (knowledge q.view).brief.pin ≡ (knowledge p.view).brief.pin
   pub labelled : (knowledge p.view).brief.unlabelled ≡ false

@@ -13,7 +13,7 @@ use Rattle.nm_order.specs.Taught.{EdgeLearned}
 use Rattle.nm_pool.specs.Claims.{IsClaimBy}
 use Rattle.nm_edge.specs.declared.placement.Fit.{Fit}
 use Rattle.nm_steps.specs.Rules.{knowledge}
-use Rattle.nm_steps.specs.Steps.{Stand}
+use Rattle.nm_steps.specs.Steps.{PassView}
 use Rattle.nm_epoch.specs.Resting.{epochs, search}
 use Rattle.nm_walks.specs.declared.making.Contents.{Contents}
 use Rattle.nm_walks.specs.declared.making.Fork.{Fork}
@@ -24,7 +24,7 @@ use Rattle.nm_walks.specs.Making.{draft, fills, IsPlace, IsRouter}
 -- ---- two private nodes
 
 -- both are private, with their births
-pub record HasBothNodes (p : Stand) (f : Fork) : Type 0 where
+pub record HasBothNodes (p : PassView) (f : Fork) : Type 0 where
   pub apart : f.new.slot ≢ f.fresh.slot
   pub new_birth : (draft p f.new.slot).birth ≡ Some f.new.birth
   pub fresh_birth : (draft p f.fresh.slot).birth ≡ Some f.fresh.birth
@@ -32,13 +32,13 @@ pub record HasBothNodes (p : Stand) (f : Fork) : Type 0 where
   pub fresh_within : f.fresh.slot ≤ p.view.layout.nodes
 
 -- each slot but these is private as it was
-abbrev pub KeepsBut : Fork → Stand → Stand → Type 0
+abbrev pub KeepsBut : Fork → PassView → PassView → Type 0
 KeepsBut f o p = (s : ℕ) → s ≢ f.new.slot → s ≢ f.fresh.slot
     → get (knowledge p.view).drafts s ≡ get (knowledge o.view).drafts s
 
 -- the private slots are those that there were, and with them two new nodes, if the call has made
 -- them
-pub record HoldsFork (o p : Stand) (f : Fork) : Type 0 where
+pub record HoldsFork (o p : PassView) (f : Fork) : Type 0 where
   pub ready : HasBothNodes p f
   pub others : KeepsBut f o p
   pub new_was : get (knowledge o.view).drafts f.new.slot ≡ None
@@ -46,12 +46,12 @@ pub record HoldsFork (o p : Stand) (f : Fork) : Type 0 where
 
 -- the two new nodes that an insert keeps over its tries, once it has made them (Natarajan and
 -- Mittal, section 3.2, insert)
-abbrev pub HasFork : Stand → Stand → Option Fork → Type 0
+abbrev pub HasFork : PassView → PassView → Option Fork → Type 0
 HasFork o p None = (s : ℕ) → get (knowledge p.view).drafts s ≡ get (knowledge o.view).drafts s
 HasFork o p (Some f) = HoldsFork o p f
 
 -- the new nodes, if there are some, are ready
-abbrev pub IfReady : Stand → Option Fork → Type 0
+abbrev pub IfReady : PassView → Option Fork → Type 0
 IfReady p None = Unit {0}
 IfReady p (Some f) = HasBothNodes p f
 
@@ -81,7 +81,7 @@ inner_of key other router leaf fresh =
     else record { key = router; left = leaf; right = fresh }
 
 -- the call may put its key beside the leaf at which its walk ended
-pub record MayGrow (p : Stand) (key : ℕ) (r : WalkEnd) (f : Fork) : Type 0 where
+pub record MayGrow (p : PassView) (key : ℕ) (r : WalkEnd) (f : Fork) : Type 0 where
   pub call : Tells p (CallIs Insert key)
   pub unlinked : (search p).linked ≡ false
   pub parent : Tells p (KnowsSlot r.spot.parent)
@@ -99,14 +99,14 @@ Grows radix key r f reply old new = (i : Contents) × IsRouter radix key r.key i
     ++ (Link r.spot.parent r.spot.side r.spot.edge.slot f.new.slot, reply) ∷ [])
 
 -- the worker's epochs and queues, and its call, are as they were
-pub record KeepsCall (p q : Stand) : Type 0 where
+pub record KeepsCall (p q : PassView) : Type 0 where
   pub epochs : epochs q ≡ epochs p
   pub ledgers : (knowledge q.view).ledgers ≡ (knowledge p.view).ledgers
   pub call : (search q).call ≡ (search p).call
   pub flagged : (search q).flagged ≡ (search p).flagged
 
 -- the link was won: the call has linked, and the new nodes are private no longer
-pub record HasGrown (radix : Bool) (p q : Stand) (key : ℕ) (r : WalkEnd) (f : Fork) : Type 0 where
+pub record HasGrown (radix : Bool) (p q : PassView) (key : ℕ) (r : WalkEnd) (f : Fork) : Type 0 where
   pub part : Grows radix key r f (Linked f.new) p.view.log q.view.log
   pub linked : (search q).linked ≡ true
   pub others : KeepsBut f p q
@@ -114,7 +114,7 @@ pub record HasGrown (radix : Bool) (p q : Stand) (key : ℕ) (r : WalkEnd) (f : 
   pub fresh_given : get (knowledge q.view).drafts f.fresh.slot ≡ None
 
 -- it was lost: the new nodes are ready still, and the edge that was found is told
-pub record HasNotGrown (radix : Bool) (p q : Stand) (key : ℕ) (r : WalkEnd) (f : Fork)
+pub record HasNotGrown (radix : Bool) (p q : PassView) (key : ℕ) (r : WalkEnd) (f : Fork)
     (e : Edge) : Type 0 where
   pub part : Grows radix key r f (Lost e) p.view.log q.view.log
   pub linked : (search q).linked ≡ (search p).linked

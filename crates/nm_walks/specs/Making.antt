@@ -18,18 +18,18 @@ use Rattle.nm_order.specs.Facts.Since.{ThePin}
 use Rattle.nm_order.specs.Facts.Fact.{CallIs, KnowsLeaf, ReadKey, EndedAt}
 use Rattle.nm_order.specs.Taught.{EdgeLearned}
 use Rattle.nm_steps.specs.Rules.{knowledge}
-use Rattle.nm_steps.specs.Steps.{Stand, Stepped}
+use Rattle.nm_steps.specs.Steps.{PassView, Stepped}
 use Rattle.nm_walks.specs.Places.{IsOver}
 use Rattle.nm_walks.specs.Telling.{Tells, OnlyLooks}
 
 -- ---- what private slots have
 
 -- what is stored in a private slot
-abbrev pub draft : Stand → ℕ → Draft
+abbrev pub draft : PassView → ℕ → Draft
 draft p slot = draft_of (knowledge p.view) slot
 
 -- a private slot has a birth, a key and two edges
-pub record IsFilled (p : Stand) (slot birth key left right : ℕ) : Type 0 where
+pub record IsFilled (p : PassView) (slot birth key left right : ℕ) : Type 0 where
   pub has_birth : (draft p slot).birth ≡ Some birth
   pub has_key : (draft p slot).key ≡ Some key
   pub has_left : (draft p slot).left ≡ Some left
@@ -38,17 +38,17 @@ pub record IsFilled (p : Stand) (slot birth key left right : ℕ) : Type 0 where
 -- ---- what a step leaves
 
 -- each other slot is private with what was stored there, or is not private, as it was
-abbrev pub KeepsOtherSlots : ℕ → Stand → Stand → Type 0
+abbrev pub KeepsOtherSlots : ℕ → PassView → PassView → Type 0
 KeepsOtherSlots slot p q = (s : ℕ) → s ≢ slot
     → get (knowledge q.view).drafts s ≡ get (knowledge p.view).drafts s
 
 -- so does each slot but the claimed one, if one was claimed
-abbrev pub KeepsAllBut : Option NodeId → Stand → Stand → Type 0
+abbrev pub KeepsAllBut : Option NodeId → PassView → PassView → Type 0
 KeepsAllBut claimed p q = (s : ℕ) → IfSome claimed (λ node. s ≢ node.slot)
     → get (knowledge q.view).drafts s ≡ get (knowledge p.view).drafts s
 
 -- nothing but private slots has changed
-pub record OnlyMakes (p q : Stand) : Type 0 where
+pub record OnlyMakes (p q : PassView) : Type 0 where
   pub epochs : (knowledge q.view).brief ≡ (knowledge p.view).brief
   pub known : (knowledge q.view).known ≡ (knowledge p.view).known
   pub ledgers : (knowledge q.view).ledgers ≡ (knowledge p.view).ledgers
@@ -66,7 +66,7 @@ fills slot key left right = (Fill slot KeyOf key, Filled) ∷ (Fill slot (EdgeOn
     ∷ (Fill slot (EdgeOn Right) right, Filled) ∷ []
 
 -- the key and both edges were stored by three steps, and nothing else changed
-abbrev pub HasFilled : Stand → Stand → ℕ → ℕ → ℕ → ℕ → Type 0
+abbrev pub HasFilled : PassView → PassView → ℕ → ℕ → ℕ → ℕ → Type 0
 HasFilled p q slot key left right =
     q ≡ record p {
       view = record p.view
@@ -84,7 +84,7 @@ IsRouter true key other router = IsParting key other router
 -- two private slots are filled to put a key beside a slot that has another: one as a leaf with the
 -- key, and one as the internal node over both; the slot with the lesser key is on the left
 -- (Natarajan and Mittal, section 3.2, insert)
-pub record IsFork (p : Stand) (key other leaf new fresh : ℕ) : Type 0 where
+pub record IsFork (p : PassView) (key other leaf new fresh : ℕ) : Type 0 where
   pub router : ℕ
   pub between : IsRouter p.view.layout.radix key other router
   pub new_birth : ℕ
@@ -96,7 +96,7 @@ pub record IsFork (p : Stand) (key other leaf new fresh : ℕ) : Type 0 where
 
 -- the edge is the first one that a walk reads, or its node has the call's key in its range, on that
 -- side, as a walk of the call has read
-abbrev pub IsWithin : Stand → ℕ → ℕ → Side → Type 0
+abbrev pub IsWithin : PassView → ℕ → ℕ → Side → Type 0
 IsWithin p k parent side = ((parent ≡ 2) × (side ≡ Left))
     ⊎ ((v above : ℕ) × (up : Side) × (covers v k ≡ true) × (side_of k v ≡ side)
     × Tells p (ReadKey ThePin k parent above up v))
@@ -104,7 +104,7 @@ IsWithin p k parent side = ((parent ≡ 2) × (side ≡ Left))
 -- a walk of the call came by that edge to a slot with another key, where the call may put its own:
 -- it ended there, at a leaf; or, in a radix tree, each node above has the key in its range, and the
 -- slot is a leaf, or has not
-abbrev pub IsPlace : Bool → Stand → ℕ → ℕ → ℕ → Side → ℕ → Type 0
+abbrev pub IsPlace : Bool → PassView → ℕ → ℕ → ℕ → Side → ℕ → Type 0
 IsPlace false p k x parent side key = Tells p (KnowsLeaf x)
     × Tells p (EndedAt ThePin k x parent side key)
 IsPlace true p k x parent side key = IsOver p k x key
@@ -112,7 +112,7 @@ IsPlace true p k x parent side key = IsOver p k x key
 
 -- the call is to insert a key and has not linked yet, a walk of it ended at the leaf, by that edge,
 -- and the new nodes put the key beside the leaf (Natarajan and Mittal, section 3.2, insert)
-pub record IsInserting (p : Stand) (parent : ℕ) (side : Side) (leaf new fresh : ℕ) : Type 0 where
+pub record IsInserting (p : PassView) (parent : ℕ) (side : Side) (leaf new fresh : ℕ) : Type 0 where
   pub key : ℕ
   pub other : ℕ
   pub call : Tells p (CallIs Insert key)
@@ -123,7 +123,7 @@ pub record IsInserting (p : Stand) (parent : ℕ) (side : Side) (leaf new fresh 
 
 -- the link is won: the call has linked, and both slots are private no longer (Natarajan and Mittal,
 -- section 3.2, insert)
-pub record HasLinked (p q : Stand) (parent : ℕ) (side : Side) (leaf new fresh : ℕ) : Type 0 where
+pub record HasLinked (p q : PassView) (parent : ℕ) (side : Side) (leaf new fresh : ℕ) : Type 0 where
   pub step : (birth : ℕ) → (draft p new).birth ≡ Some birth
       → Stepped p q (Link parent side leaf new) (Linked (record { slot = new; birth = birth }))
   pub new_given : is_private (knowledge q.view) new ≡ false
@@ -136,7 +136,7 @@ pub record HasLinked (p q : Stand) (parent : ℕ) (side : Side) (leaf new fresh 
       ≡ record (search_after idle p.view.log) { linked = true }
 
 -- the link is lost: the edge that was found is read (Natarajan and Mittal, section 3.2, insert)
-pub record HasLost (p q : Stand) (parent : ℕ) (side : Side) (leaf new : ℕ) (e : Edge) : Type 0 where
+pub record HasLost (p q : PassView) (parent : ℕ) (side : Side) (leaf new : ℕ) (e : Edge) : Type 0 where
   pub step : Stepped p q (Link parent side leaf new) (Lost e)
   pub learned : EdgeLearned (Tells q) parent side e
   pub only : OnlyLooks p q

@@ -14,7 +14,7 @@ use Rattle.nm_order.specs.Facts.Fact.{KnowsSlot, KnowsLeaf, IsTagged, IsFlagged,
 use Rattle.nm_order.specs.Taught.{EdgeLearned}
 use Rattle.nm_order.specs.Told.{FrozenTo}
 use Rattle.nm_steps.specs.Rules.{knowledge}
-use Rattle.nm_steps.specs.Steps.{Stand, Stepped}
+use Rattle.nm_steps.specs.Steps.{PassView, Stepped}
 use Rattle.nm_walks.specs.Telling.{Tells, OnlyLooks}
 
 -- ---- a tag
@@ -22,7 +22,7 @@ use Rattle.nm_walks.specs.Telling.{Tells, OnlyLooks}
 -- what an edge tells that was tagged, as it was before: it is tagged from now on, and just this
 -- edge; it is not null, and leads to a known slot of the layout; and where it had a flag, it is
 -- known as flagged (Natarajan and Mittal, section 3.2, cleanup)
-pub record TagTold (p q : Stand) (x : ℕ) (side : Side) (e : Edge) : Type 0 where
+pub record TagTold (p q : PassView) (x : ℕ) (side : Side) (e : Edge) : Type 0 where
   pub marked : Tells q (IsTagged x side e.slot)
   pub frozen : Tells q (IsFrozen x side (tagged e))
   pub not_null : e.slot ≢ 0
@@ -35,7 +35,7 @@ pub record TagTold (p q : Stand) (x : ℕ) (side : Side) (e : Edge) : Type 0 whe
 -- what an edge tells that an exchange found in place of the one that it asked for: it is read; it
 -- is flagged where its twin is known tagged; and it leads inside the layout, and is one of a slot
 -- above 5 to a slot above 5 where it is flagged
-pub record EdgeFound (p q : Stand) (x : ℕ) (side : Side) (e : Edge) : Type 0 where
+pub record EdgeFound (p q : PassView) (x : ℕ) (side : Side) (e : Edge) : Type 0 where
   pub learned : EdgeLearned (Tells q) x side e
   pub twin : (to : ℕ) → Tells p (IsTagged x (other side) to) → e.flag ≡ true
   pub within : e.slot ≤ p.view.layout.nodes
@@ -47,7 +47,7 @@ pub record EdgeFound (p q : Stand) (x : ℕ) (side : Side) (e : Edge) : Type 0 w
 -- what a call to delete a key has found: a walk of it ended by that edge at a leaf above slot 5,
 -- which has that key and whose birth is known; and it has won no flag yet (Natarajan and Mittal,
 -- section 3.2, delete, injection)
-pub record IsToBeFlagged (p : Stand) (parent : ℕ) (side : Side) (leaf : ℕ) : Type 0 where
+pub record IsToBeFlagged (p : PassView) (parent : ℕ) (side : Side) (leaf : ℕ) : Type 0 where
   pub knows_parent : Tells p (KnowsSlot parent)
   pub knows_leaf : Tells p (KnowsSlot leaf)
   pub is_leaf : Tells p (KnowsLeaf leaf)
@@ -60,7 +60,7 @@ pub record IsToBeFlagged (p : Stand) (parent : ℕ) (side : Side) (leaf : ℕ) :
 
 -- nothing but what is known of nodes, and of the leaf that the call flagged, has changed (Natarajan
 -- and Mittal, section 3.2, delete, injection)
-pub record OnlyFlags (p q : Stand) : Type 0 where
+pub record OnlyFlags (p q : PassView) : Type 0 where
   pub epochs : (knowledge q.view).brief ≡ (knowledge p.view).brief
   pub private : (knowledge q.view).drafts ≡ (knowledge p.view).drafts
   pub ledgers : (knowledge q.view).ledgers ≡ (knowledge p.view).ledgers
@@ -70,14 +70,14 @@ pub record OnlyFlags (p q : Stand) : Type 0 where
 
 -- the flag is won: the edge is known as flagged, and the node is the one that the call flagged
 -- (Natarajan and Mittal, section 3.2, delete, injection)
-pub record FlagWon (p q : Stand) (parent : ℕ) (side : Side) (n : NodeId) : Type 0 where
+pub record FlagWon (p q : PassView) (parent : ℕ) (side : Side) (n : NodeId) : Type 0 where
   pub step : Stepped p q (Flag parent side n.slot) (Flagged n)
   pub known : Tells q (IsFlagged parent side n.slot)
   pub flagged : (search_after idle q.view.log).flagged ≡ Some n
 
 -- it is lost: another edge was found, and the call has flagged what it had (Natarajan and Mittal,
 -- section 3.2, delete, injection)
-pub record FlagLost (p q : Stand) (parent : ℕ) (side : Side) (leaf : ℕ) (e : Edge) : Type 0 where
+pub record FlagLost (p q : PassView) (parent : ℕ) (side : Side) (leaf : ℕ) (e : Edge) : Type 0 where
   pub step : Stepped p q (Flag parent side leaf) (Lost e)
   pub found : EdgeFound p q parent side e
   pub flagged : (search_after idle q.view.log).flagged ≡ (search_after idle p.view.log).flagged
@@ -87,7 +87,7 @@ pub record FlagLost (p q : Stand) (parent : ℕ) (side : Side) (leaf : ℕ) (e :
 -- what a splice cuts: a chain from the successor down to the parent that the facts freeze, below a
 -- known ancestor; the parent is left by its edge on one side, which is frozen as this one
 -- (Natarajan and Mittal, section 3.2, cleanup; its ledger is ours)
-pub record IsToBeCut (p : Stand) (ancestor successor parent : ℕ) (keep : Side)
+pub record IsToBeCut (p : PassView) (ancestor successor parent : ℕ) (keep : Side)
     (kept : Edge) : Type 0 where
   pub knows_ancestor : Tells p (KnowsSlot ancestor)
   pub nodes : List NodeId
@@ -96,7 +96,7 @@ pub record IsToBeCut (p : Stand) (ancestor successor parent : ℕ) (keep : Side)
 
 -- private slots, the call, and what it linked and flagged, are as before (Natarajan and Mittal,
 -- section 3.2, cleanup; its ledger is ours)
-pub record OnlyCuts (p q : Stand) : Type 0 where
+pub record OnlyCuts (p q : PassView) : Type 0 where
   pub private : (knowledge q.view).drafts ≡ (knowledge p.view).drafts
   pub call : (search_after idle q.view.log).call ≡ (search_after idle p.view.log).call
   pub linked : (search_after idle q.view.log).linked ≡ (search_after idle p.view.log).linked
@@ -105,7 +105,7 @@ pub record OnlyCuts (p q : Stand) : Type 0 where
 -- the splice is won: these nodes enter the own queue at the end, without a label, and wait for one;
 -- and where the leaf that the call flagged is one of them, the call has cut it (Natarajan and
 -- Mittal, section 3.2, cleanup; its ledger is ours)
-pub record SpliceWon (p q : Stand) (ancestor : ℕ) (side : Side) (successor parent : ℕ) (keep : Side)
+pub record SpliceWon (p q : PassView) (ancestor : ℕ) (side : Side) (successor parent : ℕ) (keep : Side)
     (ns : List NodeId) : Type 0 where
   pub step : Stepped p q (Splice ancestor side successor parent keep) (Cut ns)
   pub queues : (o : ℕ) → held (knowledge q.view).ledgers o
@@ -118,7 +118,7 @@ pub record SpliceWon (p q : Stand) (ancestor : ℕ) (side : Side) (successor par
 
 -- it is lost: another edge of the ancestor was found (Natarajan and Mittal, section 3.2, cleanup;
 -- its ledger is ours)
-pub record SpliceLost (p q : Stand) (ancestor : ℕ) (side : Side) (successor parent : ℕ)
+pub record SpliceLost (p q : PassView) (ancestor : ℕ) (side : Side) (successor parent : ℕ)
     (keep : Side) (e : Edge) : Type 0 where
   pub step : Stepped p q (Splice ancestor side successor parent keep) (Lost e)
   pub found : EdgeFound p q ancestor side e

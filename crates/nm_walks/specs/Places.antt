@@ -9,7 +9,7 @@ use Rattle.nm_model.specs.Walks.{Entry}
 use Rattle.nm_order.specs.Facts.{Since}
 use Rattle.nm_order.specs.Facts.Fact.{KnowsLeaf, ReadKey}
 use Rattle.nm_order.specs.Taught.{WalksAreFor as HasWalks}
-use Rattle.nm_steps.specs.Steps.{Stand}
+use Rattle.nm_steps.specs.Steps.{PassView}
 use Rattle.nm_walks.specs.declared.looking.Onward.{Onward}
 use Rattle.nm_walks.specs.declared.spot.ChainEdge.{ChainEdge}
 use Rattle.nm_walks.specs.declared.spot.Descent.{Descent}
@@ -43,24 +43,24 @@ Stops L k old new c None = IsBroken L k old new
 -- ---- what is known where it stands
 
 -- each kind of walk that the call has read that key at the slot, to which it came so
-abbrev pub EachWalkHasRead : Stand → Stand → ℕ → ℕ → ℕ → Side → ℕ → Type 0
+abbrev pub EachWalkHasRead : PassView → PassView → ℕ → ℕ → ℕ → Side → ℕ → Type 0
 EachWalkHasRead p q k slot parent up v =
     (since : Since) → HasWalks p.view.layout p.view.number p.view.log since k
     → Tells q (ReadKey since k slot parent up v)
 
 -- the edge of s is the first one that a walk reads, or its node has k in its range, on that side
-abbrev pub IsNarrowed : Stand → Stand → ℕ → ℕ → Side → Type 0
+abbrev pub IsNarrowed : PassView → PassView → ℕ → ℕ → Side → Type 0
 IsNarrowed o p k parent side = ((parent ≡ 2) × (side ≡ Left))
     ⊎ ((v above : ℕ) × (up : Side) × (covers v k ≡ true) × (side_of k v ≡ side)
     × EachWalkHasRead o p k parent above up v)
 
 -- between k and the slot x with another key a new node may be put: x is known as a leaf, or has not
 -- k in its range
-abbrev pub IsOver : Stand → ℕ → ℕ → ℕ → Type 0
+abbrev pub IsOver : PassView → ℕ → ℕ → ℕ → Type 0
 IsOver p k x key = Tells p (KnowsLeaf x) ⊎ ((6 ≤ x) × (covers key k ≡ false))
 
 -- in a tree of this shape the walk of an insert has stopped so
-pub record HasStopped (L : Layout) (k : ℕ) (o p : Stand) (c : List ChainEdge) (r : WalkEnd) : Type 0 where
+pub record HasStopped (L : Layout) (k : ℕ) (o p : PassView) (c : List ChainEdge) (r : WalkEnd) : Type 0 where
   pub walk : StopsAt L k o.view.log p.view.log r.spot c r.key
   pub at : IsAt (Tells p) r.spot c
   pub within : r.spot.edge.slot ≤ L.nodes
@@ -68,21 +68,21 @@ pub record HasStopped (L : Layout) (k : ℕ) (o p : Stand) (c : List ChainEdge) 
   pub found : r.key ≡ k → HasFound o p k r.spot.edge.slot r.spot.parent r.spot.side r.key
 
 -- and there the key may be put, in the shape of Natarajan and Mittal, or in that of a radix tree
-pub record HasEndedPlain (o p : Stand) (k : ℕ) (r : WalkEnd) : Type 0 where
+pub record HasEndedPlain (o p : PassView) (k : ℕ) (r : WalkEnd) : Type 0 where
   pub leaf : Tells p (KnowsLeaf r.spot.edge.slot)
   pub found : HasFound o p k r.spot.edge.slot r.spot.parent r.spot.side r.key
 
-pub record HasNarrowed (o p : Stand) (k : ℕ) (r : WalkEnd) : Type 0 where
+pub record HasNarrowed (o p : PassView) (k : ℕ) (r : WalkEnd) : Type 0 where
   pub read : EachWalkHasRead o p k r.spot.edge.slot r.spot.parent r.spot.side r.key
   pub narrowed : IsNarrowed o p k r.spot.parent r.spot.side
   pub over : IsOver p k r.spot.edge.slot r.key
 
-abbrev pub HasPlace : Bool → Stand → Stand → ℕ → WalkEnd → Type 0
+abbrev pub HasPlace : Bool → PassView → PassView → ℕ → WalkEnd → Type 0
 HasPlace false o p k r = HasEndedPlain o p k r
 HasPlace true o p k r = HasNarrowed o p k r
 
 -- the part of the walk that goes by unmarked edges alone
-abbrev pub HasSunk : Layout → ℕ → Stand → Stand → Descent → Type 0
+abbrev pub HasSunk : Layout → ℕ → PassView → PassView → Descent → Type 0
 HasSunk L k o p (Ended r) = HasStopped L k o p [] r × HasNarrowed o p k r
 HasSunk L k o p (Stopped s n) = IsWalking L k n o p s []
     × IsNarrowed o p k s.parent s.side × (n + 1 ≤ reach L)

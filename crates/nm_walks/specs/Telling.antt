@@ -10,26 +10,26 @@ use Rattle.nm_order.specs.Facts.{Since, Fact, Holds}
 use Rattle.nm_order.specs.Facts.Fact.{IsPinned, KnowsLeaf, IsTagged, IsFlagged, Came, ReadKey, EndedAt}
 use Rattle.nm_order.specs.Taught.{WalksAreFor, EdgeLearned}
 use Rattle.nm_steps.specs.Rules.{knowledge}
-use Rattle.nm_steps.specs.Steps.{Board, Stand, IsOf, IsSamePass, HasSeenAllOf}
+use Rattle.nm_steps.specs.Steps.{TreeView, PassView, IsOf, IsSamePass, HasSeenAllOf}
 pub use Rattle.nm_steps.specs.Steps.{IsInRun}
 
 -- the pass's log tells the fact
-abbrev pub Tells : Stand → Fact → Type 0
+abbrev pub Tells : PassView → Fact → Type 0
 Tells p fact = Holds p.view.layout p.view.number p.view.log fact
 
 -- the log tells a pin
-abbrev pub IsPinnedSomewhere : Stand → Type 0
+abbrev pub IsPinnedSomewhere : PassView → Type 0
 IsPinnedSomewhere p = (epoch : ℕ) × Tells p (IsPinned epoch)
 
 -- the pass is one of this table's, in a run, and pinned: what a look asks
-pub record IsPinnedIn (b : Board) (p : Stand) : Type 0 where
+pub record IsPinnedIn (b : TreeView) (p : PassView) : Type 0 where
   pub own : IsOf b p
   pub run : IsInRun p
   pub pin : IsPinnedSomewhere p
 
 -- it is the same pass, has seen all that it had seen, is in a run still, and tells each fact that
 -- it told
-pub record GoesOn (p q : Stand) : Type 0 where
+pub record GoesOn (p q : PassView) : Type 0 where
   pub same : IsSamePass p q
   pub past : HasSeenAllOf q p
   pub run : IsInRun q
@@ -37,7 +37,7 @@ pub record GoesOn (p q : Stand) : Type 0 where
 
 -- nothing but what is known of nodes, and of the call's walks, has changed: epochs, private slots,
 -- ledgers, and what a call has changed are as they were
-pub record OnlyLooks (p q : Stand) : Type 0 where
+pub record OnlyLooks (p q : PassView) : Type 0 where
   pub epochs : (knowledge q.view).brief ≡ (knowledge p.view).brief
   pub private : (knowledge q.view).drafts ≡ (knowledge p.view).drafts
   pub ledgers : (knowledge q.view).ledgers ≡ (knowledge p.view).ledgers
@@ -48,7 +48,7 @@ pub record OnlyLooks (p q : Stand) : Type 0 where
 
 -- what the key of a slot tells: where it is below the sentinels, the slot is above 5; and each walk
 -- that has come there has read it (Natarajan and Mittal, section 3.2)
-pub record KeyTold (p q : Stand) (x key : ℕ) : Type 0 where
+pub record KeyTold (p q : PassView) (x key : ℕ) : Type 0 where
   pub high : key < infinity_0 → 6 ≤ x
   pub reads : (since : Since) (k parent : ℕ) (side : Side) → Tells p (Came since k x parent side)
       → Tells q (ReadKey since k x parent side key)
@@ -59,7 +59,7 @@ pub record KeyTold (p q : Stand) (x key : ℕ) : Type 0 where
 -- not null where it is the left edge of slot 2;
 -- and each walk that goes on by it has come to its slot, or has ended where it is null (Natarajan
 -- and Mittal, section 3.2)
-pub record EdgeTold (p q : Stand) (x : ℕ) (side : Side) (e : Edge) : Type 0 where
+pub record EdgeTold (p q : PassView) (x : ℕ) (side : Side) (e : Edge) : Type 0 where
   pub learned : EdgeLearned (Tells q) x side e
   pub twin : (to : ℕ) → Tells p (IsTagged x (other side) to) → e.flag ≡ true
   pub again : (to : ℕ) → Tells p (IsFlagged x side to) → (e.flag ≡ true) × (e.slot ≡ to)
@@ -79,7 +79,7 @@ pub record EdgeTold (p q : Stand) (x : ℕ) (side : Side) (e : Edge) : Type 0 wh
 -- that edge: a key below the sentinels stands above slot 5; the edge is read, and leads inside the
 -- layout; and each walk for k that had come there has come on to its slot, or has ended where it is
 -- null (Natarajan and Mittal, section 3.2)
-pub record OnwardTold (p q : Stand) (k x key : ℕ) (side : Side) (e : Edge) : Type 0 where
+pub record OnwardTold (p q : PassView) (k x key : ℕ) (side : Side) (e : Edge) : Type 0 where
   pub high : key < infinity_0 → 6 ≤ x
   pub learned : EdgeLearned (Tells q) x side e
   pub reads : (since : Since) (parent : ℕ) (up : Side) → Tells p (Came since k x parent up)

@@ -13,7 +13,7 @@ use Rattle.nm_model.specs.Walks.{Entry}
 use Rattle.nm_order.specs.Facts.{Since, Fact}
 use Rattle.nm_order.specs.Facts.Fact.{KnowsSlot, KnowsLeaf, IsTagged, Came, EndedAt}
 use Rattle.nm_order.specs.Taught.{WalksAreFor as HasWalks}
-use Rattle.nm_steps.specs.Steps.{Stand}
+use Rattle.nm_steps.specs.Steps.{PassView}
 use Rattle.nm_walks.specs.declared.looking.Onward.{Onward}
 use Rattle.nm_walks.specs.declared.spot.ChainEdge.{ChainEdge}
 use Rattle.nm_walks.specs.declared.spot.Descent.{Descent}
@@ -150,12 +150,12 @@ pub record HasEnded (H : Fact → Type 0) (L : Layout) (s : Spot) (c : List Chai
   pub within : s.edge.slot ≤ L.nodes
 
 -- each kind of walk that the call has came so to the slot
-abbrev pub EachWalkHasCome : Stand → Stand → ℕ → Spot → Type 0
+abbrev pub EachWalkHasCome : PassView → PassView → ℕ → Spot → Type 0
 EachWalkHasCome p q k s = (since : Since) → HasWalks p.view.layout p.view.number p.view.log since k
     → Tells q (Came since k s.edge.slot s.parent s.side)
 
 -- or ended so at the leaf, with its key
-abbrev pub HasFound : Stand → Stand → ℕ → ℕ → ℕ → Side → ℕ → Type 0
+abbrev pub HasFound : PassView → PassView → ℕ → ℕ → ℕ → Side → ℕ → Type 0
 HasFound p q k leaf parent side key =
     (since : Since) → HasWalks p.view.layout p.view.number p.view.log since k
     → Tells q (EndedAt since k leaf parent side key)
@@ -163,14 +163,14 @@ HasFound p q k leaf parent side key =
 -- ---- a walk that remembers nothing, with what is known where it stands
 
 -- it stands at s, n nodes below slot 2
-pub record IsFinding (k n : ℕ) (o p : Stand) (s : Spot) : Type 0 where
+pub record IsFinding (k n : ℕ) (o p : PassView) (s : Spot) : Type 0 where
   pub walk : (c : List ChainEdge) × Walks k n o.view.log p.view.log s c
   pub known : Tells p (KnowsSlot s.edge.slot)
   pub come : EachWalkHasCome o p k s
 
 -- the part of a walk that goes by unmarked edges alone: it has ended, or stands after so many
 -- nodes, which are not yet all
-abbrev pub HasDescended : Layout → ℕ → Stand → Stand → Descent → Type 0
+abbrev pub HasDescended : Layout → ℕ → PassView → PassView → Descent → Type 0
 HasDescended L k o p (Ended r) = Finds L k o.view.log p.view.log (Some r.key)
     × HasFound o p k r.spot.edge.slot r.spot.parent r.spot.side r.key
 HasDescended L k o p (Stopped s n) = IsFinding k n o p s × (n + 1 ≤ reach L)
@@ -178,7 +178,7 @@ HasDescended L k o p (Stopped s n) = IsFinding k n o p s × (n + 1 ≤ reach L)
 -- ---- a walk that remembers its chain, with what is known where it stands
 
 -- in a table of so many nodes it stands at s, n nodes below slot 2
-pub record IsWalking (L : Layout) (k n : ℕ) (o p : Stand) (s : Spot) (c : List ChainEdge) : Type 0 where
+pub record IsWalking (L : Layout) (k n : ℕ) (o p : PassView) (s : Spot) (c : List ChainEdge) : Type 0 where
   pub walk : Walks k n o.view.log p.view.log s c
   pub at : IsAt (Tells p) s c
   pub within : s.edge.slot ≤ L.nodes
@@ -188,7 +188,7 @@ pub record IsWalking (L : Layout) (k n : ℕ) (o p : Stand) (s : Spot) (c : List
   pub come : EachWalkHasCome o p k s
 
 -- or it has ended, at a leaf above slot 5 where its key is below the sentinels
-pub record HasWalked (L : Layout) (k : ℕ) (o p : Stand) (c : List ChainEdge) (r : WalkEnd) : Type 0 where
+pub record HasWalked (L : Layout) (k : ℕ) (o p : PassView) (c : List ChainEdge) (r : WalkEnd) : Type 0 where
   pub walk : EndsAtLeaf L k o.view.log p.view.log r.spot c r.key
   pub ended : HasEnded (Tells p) L r.spot c
   pub few : length c < chain_bound
@@ -197,6 +197,6 @@ pub record HasWalked (L : Layout) (k : ℕ) (o p : Stand) (c : List ChainEdge) (
 
 -- the part of it that goes by unmarked edges alone, so that its chain is empty: it has ended, or
 -- stands after so many nodes, which are not yet all
-abbrev pub HasRemembered : Layout → ℕ → Stand → Stand → Descent → Type 0
+abbrev pub HasRemembered : Layout → ℕ → PassView → PassView → Descent → Type 0
 HasRemembered L k o p (Ended r) = HasWalked L k o p [] r
 HasRemembered L k o p (Stopped s n) = IsWalking L k n o p s [] × (n + 1 ≤ reach L)

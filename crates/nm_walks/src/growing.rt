@@ -1,6 +1,6 @@
 //! The two new nodes of an insert: claimed, filled and linked, or given back.
 ghost use Rattle.std.specs.Prelude.{◌≡◌, ◌≢◌, None, IfOk, IfErr};
-ghost use Rattle.nm_steps.specs.Steps.{IsOf, Stand};
+ghost use Rattle.nm_steps.specs.Steps.{IsOf, PassView};
 ghost use Rattle.nm_walks.specs.Telling.{GoesOn, IsPinnedIn};
 ghost use Rattle.nm_walks.specs.Making.{IsRouter, OnlyMakes};
 ghost use Rattle.nm_walks.specs.Growing.{ClaimsFork, HasFork, IfReady, Returns, inner_of, MayGrow, KeepsCall, HasGrown, HasNotGrown};
@@ -91,7 +91,7 @@ pub fn give_back(shared: &Shared, pass: &mut Pass, placement: &mut Placement, fo
     requires own { IsOf shared.now pass.old }
     requires ready { IfReady pass.old fork.now }
     ensures part { Returns fork.now pass.old.view.log pass.new.view.log }
-    ensures given { (o : Stand) → HasFork o pass.old fork.now → HasFork o pass.new None }
+    ensures given { (o : PassView) → HasFork o pass.old fork.now → HasFork o pass.new None }
     ensures on { GoesOn pass.old pass.new }
     ensures only { OnlyMakes pass.old pass.new }
     ensures fit { placement.new ≡ placement.old }

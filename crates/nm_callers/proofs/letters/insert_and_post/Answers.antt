@@ -1,7 +1,7 @@
 use Rattle.std.proofs.Common.{Bool, sym, subst}
 use Rattle.std.specs.Prelude.{IfSome, Ok}
 use Rattle.nm_model.specs.declared.event.Op.TheVariants.{Insert}
-use Rattle.nm_set.specs.Seats.{Seated}
+use Rattle.nm_set.specs.Seats.{MemberView}
 use Rattle.nm_set.specs.Tended.{SaysTended}
 use Rattle.nm_callers.specs.Letters.{HasWritten}
 use Rattle.nm_callers.proofs.LettersRead.{has_written}
@@ -9,11 +9,11 @@ use Rattle.nm_callers.proofs.letters.insert_and_post.Goals as goal
 
 pub returns-in-Ok-true-clause-written : goal.returns-in-Ok-true-clause-written
 returns-in-Ok-true-clause-written c =
-    let b = c.args.member.board in
+    let b = c.args.member.tree in
     let h = c.args.habit.now in
     let k = c.args.key in
-    let w = c.args.member.hand in
-    let z = c.insert-told.new.self.hand in
+    let w = c.args.member.worker in
+    let z = c.insert-told.new.self.worker in
     let did = subst (λ (answer : Bool). SaysTended Insert b h k w z (Ok answer)) c.in-Ok-true.field-0-test c.in-Ok-true.ensures.says in
-    subst (λ (m : Seated). IfSome c.post-posted.result (HasWritten k w m.hand)) (sym c.post-posted.ensures.same)
+    subst (λ (m : MemberView). IfSome c.post-posted.result (HasWritten k w m.worker)) (sym c.post-posted.ensures.same)
     (has_written b h k w z c.post-posted.result did c.is_of_a_run.ensures.seen c.is_of_a_run.ensures.between c.post-posted.ensures.tally)

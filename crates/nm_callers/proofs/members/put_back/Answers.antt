@@ -7,10 +7,10 @@ use Rattle.nm_callers.proofs.members.put_back.Goals as goal
 
 pub returns-in-Ok-true-clause-back : goal.returns-in-Ok-true-clause-back
 returns-in-Ok-true-clause-back c =
-    let b = c.args.member.now.board in
+    let b = c.args.member.now.tree in
     let h = c.args.habit.now in
     let k = c.args.key in
-    let w = c.args.member.now.hand in
-    let x = c.remove.new.self.hand in
+    let w = c.args.member.now.worker in
+    let x = c.remove.new.self.worker in
     let removed = subst (λ (answer : Bool). SaysTended Delete b h k w x (Ok answer)) c.in-Ok-true.field-0-test c.in-Ok-true.ensures.says in
-    puts_back k w x c.add_then_find.new.member.hand c.add_then_find.result (moment_of Delete b h k w x (Ok true) removed) c.add_then_find.ensures.found
+    puts_back k w x c.add_then_find.new.member.worker c.add_then_find.result (moment_of Delete b h k w x (Ok true) removed) c.add_then_find.ensures.found

@@ -4,7 +4,7 @@ use Rattle.nm_callers.proofs.sharing.add_tasks.Given as goal
 
 abbrev pub invariant-loop-task : goal.invariant-loop-task
 invariant-loop-task l = record {
-  board : l.member.board ≡ l.fn.member.board;
-  did : HasWorked l.fn.member.hand l.member.hand l.added 0;
+  tree : l.member.tree ≡ l.fn.member.tree;
+  did : HasWorked l.fn.member.worker l.member.worker l.added 0;
   few : l.added ≤ l.task-index;
 }

@@ -3,7 +3,7 @@ use Rattle.nm_model.specs.declared.event.Event.TheVariants.{Leave, LeaveWith}
 use Rattle.nm_model.specs.declared.event.Op.TheVariants.{Delete}
 use Rattle.nm_model.specs.declared.reply.Reply.TheVariants.{Departed}
 use Rattle.nm_order.specs.Facts.Fact.{CallIs}
-use Rattle.nm_steps.specs.Steps.{Stand}
+use Rattle.nm_steps.specs.Steps.{PassView}
 use Rattle.nm_calls.specs.Deletes.{leaf_of}
 use Rattle.nm_calls.proofs.Forks.{continued}
 use Rattle.nm_walks.proofs.GoingOn.{goes_then}
@@ -19,10 +19,10 @@ remove_after-requires-clause-removing c =
     removing_from c.args.pass.now c.inject.new.pass c.args.key (leaf_of c.in-Flagged.flagged.end c.in-Flagged.flagged.birth) c.requires.pinned.pin c.requires.call c.requires.unchanged.labelled c.inject.ensures.on c.inject.ensures.only shows.0 shows.2
 
 pub returns-in-Refused-clause-part : goal.returns-in-Refused-clause-part
-returns-in-Refused-clause-part c = (c.inject.new.workspace.chain.items, c.inject.new.pass.view.log, c.in-Refused.ensures.part, ap (λ (x : Stand). x.view.log) c.leave.ensures.took.step)
+returns-in-Refused-clause-part c = (c.inject.new.workspace.chain.items, c.inject.new.pass.view.log, c.in-Refused.ensures.part, ap (λ (x : PassView). x.view.log) c.leave.ensures.took.step)
 
 pub returns-in-Spent-clause-part : goal.returns-in-Spent-clause-part
-returns-in-Spent-clause-part c = (c.inject.new.workspace.chain.items, c.inject.new.pass.view.log, c.in-Spent.ensures.part, ap (λ (x : Stand). x.view.log) c.leave-in-Spent.ensures.took.step)
+returns-in-Spent-clause-part c = (c.inject.new.workspace.chain.items, c.inject.new.pass.view.log, c.in-Spent.ensures.part, ap (λ (x : PassView). x.view.log) c.leave-in-Spent.ensures.took.step)
 
 pub returns-in-Refused-remove_after-clause-stands : goal.returns-in-Refused-remove_after-clause-stands
 returns-in-Refused-remove_after-clause-stands c =

@@ -1,7 +1,7 @@
 use Rattle.std.proofs.Common.{rules, true, false, inl, inr, ap}
 use Rattle.nm_model.specs.declared.event.Op.TheVariants.{Delete}
 use Rattle.nm_order.specs.Facts.Fact.{CallIs}
-use Rattle.nm_steps.specs.Steps.{Stand}
+use Rattle.nm_steps.specs.Steps.{PassView}
 use Rattle.nm_steps.proofs.Seeing.{seen_all}
 use Rattle.nm_calls.specs.Deletes.{FinishDid}
 use Rattle.nm_calls.proofs.Moments.{no_call_on}
@@ -19,7 +19,7 @@ returns-in-Removed-clause-after c =
     let did : FinishDid L c.args.pending.now.key c.args.pending.now.leaf c.args.tries old new true = (
       mid,
       c.in-Removed.ensures.part,
-      ap (λ (x : Stand). x.view.log) c.answer.ensures.took.step,
+      ap (λ (x : PassView). x.view.log) c.answer.ensures.took.step,
     ) in
     record {
       same = search rules;

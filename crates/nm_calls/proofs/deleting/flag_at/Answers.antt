@@ -3,7 +3,7 @@ use Rattle.nm_model.specs.declared.event.Event.TheVariants.{Look}
 use Rattle.nm_model.specs.declared.event.Field.TheVariants.{Birth}
 use Rattle.nm_model.specs.declared.reply.Reply.TheVariants.{BirthIs}
 use Rattle.nm_order.specs.Facts.Fact.{IsBorn}
-use Rattle.nm_steps.specs.Steps.{Stand}
+use Rattle.nm_steps.specs.Steps.{PassView}
 use Rattle.nm_walks.specs.Telling.{Tells}
 use Rattle.nm_walks.specs.Marking.{FlagWon}
 use Rattle.nm_calls.proofs.Removals.{to_be_flagged, has_flagged}
@@ -26,4 +26,4 @@ returns-in-Ok-clause-won c =
     let born : Tells p (IsBorn r.spot.edge.slot b) = subst (λ (n : ℕ). Tells p (IsBorn n b)) c.slot-leaf.ensures c.look_birth-birth.ensures.born in
     let won : FlagWon p q r.spot.parent r.spot.side (record { slot = r.spot.edge.slot; birth = b }) =
     subst (λ (n : ℕ). FlagWon p q r.spot.parent r.spot.side (record { slot = n; birth = b })) c.slot-leaf.ensures (c.in-Ok.ensures.won b c.look_birth-birth.ensures.born) in
-    has_flagged o p q r b (subst (λ (n : ℕ). p.view.log ≡ o.view.log ++ (Look n Birth, BirthIs b) ∷ []) c.slot-leaf.ensures (ap (λ (x : Stand). x.view.log) c.look_birth-birth.ensures.step)) born c.flag.ensures.on won
+    has_flagged o p q r b (subst (λ (n : ℕ). p.view.log ≡ o.view.log ++ (Look n Birth, BirthIs b) ∷ []) c.slot-leaf.ensures (ap (λ (x : PassView). x.view.log) c.look_birth-birth.ensures.step)) born c.flag.ensures.on won

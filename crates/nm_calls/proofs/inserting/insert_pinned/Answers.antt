@@ -11,7 +11,7 @@ use Rattle.nm_edge.specs.declared.placement.Fit.{Fit}
 use Rattle.nm_calls.specs.declared.inserting.Attempt.TheVariants as attempt
 use Rattle.nm_walks.specs.Growing.{HasFork}
 use Rattle.nm_calls.specs.Inserts.{IsTry}
-use Rattle.nm_steps.specs.Steps.{Stand}
+use Rattle.nm_steps.specs.Steps.{PassView}
 use Rattle.nm_calls.proofs.AddingInserts.{back_adds}
 use Rattle.nm_walks.proofs.GoingOn.{goes_then, call_still}
 use Rattle.nm_walks.proofs.KeptLedgers.{holds_on}
@@ -100,7 +100,7 @@ returns-then-not-make_room_for-clause-part c = (
   c.loop-round-test.true,
   c.loop-round.invariant.lost,
   c.give_back.ensures.part,
-  ap (λ (s : Stand). s.view.log) c.leave.ensures.took.step,
+  ap (λ (s : PassView). s.view.log) c.leave.ensures.took.step,
 )
 
 pub returns-then-not-make_room_for-clause-blocks : goal.returns-then-not-make_room_for-clause-blocks
@@ -120,7 +120,7 @@ returns-in-Full-clause-part c =
     let h : IsTry c.args.workspace.now.placement c.args.shared.now.layout c.args.key c.loop-round.fork c.try_insert.new.fork c.loop-round.pass.view.log c.try_insert.new.pass.view.log attempt.Full =
     subst (λ (f : Fit). IsTry f c.args.shared.now.layout c.args.key c.loop-round.fork c.try_insert.new.fork c.loop-round.pass.view.log c.try_insert.new.pass.view.log attempt.Full) c.loop-round.invariant.fit c.in-Full.ensures.part in
     let full : IsTry c.args.workspace.now.placement c.args.shared.now.layout c.args.key c.loop-round.fork None c.loop-round.pass.view.log c.try_insert.new.pass.view.log attempt.Full = (h.0, h.1, h.2, h.3, h.4, h.5, refl, h.7) in
-    (c.try_insert.new.pass.view.log, (c.loop-round.round, c.loop-round.fork, c.loop-round.pass.view.log, c.loop-round-test.true, c.loop-round.invariant.lost, full), ap (λ (s : Stand). s.view.log) c.leave-in-Full.ensures.took.step)
+    (c.try_insert.new.pass.view.log, (c.loop-round.round, c.loop-round.fork, c.loop-round.pass.view.log, c.loop-round-test.true, c.loop-round.invariant.lost, full), ap (λ (s : PassView). s.view.log) c.leave-in-Full.ensures.took.step)
 
 pub returns-in-Found-clause-on : goal.returns-in-Found-clause-on
 returns-in-Found-clause-on c =
@@ -143,14 +143,14 @@ pub returns-in-Found-clause-part : goal.returns-in-Found-clause-part
 returns-in-Found-clause-part c =
     let h : IsTry c.args.workspace.now.placement c.args.shared.now.layout c.args.key c.loop-round.fork c.try_insert.new.fork c.loop-round.pass.view.log c.try_insert.new.pass.view.log attempt.Found =
     subst (λ (f : Fit). IsTry f c.args.shared.now.layout c.args.key c.loop-round.fork c.try_insert.new.fork c.loop-round.pass.view.log c.try_insert.new.pass.view.log attempt.Found) c.loop-round.invariant.fit c.in-Found.ensures.part in
-    (c.try_insert.new.fork, c.try_insert.new.pass.view.log, c.give_back-in-Found.new.pass.view.log, (c.loop-round.round, c.loop-round.fork, c.loop-round.pass.view.log, c.loop-round-test.true, c.loop-round.invariant.lost, h), c.give_back-in-Found.ensures.part, ap (λ (s : Stand). s.view.log) c.answer.ensures.took.step)
+    (c.try_insert.new.fork, c.try_insert.new.pass.view.log, c.give_back-in-Found.new.pass.view.log, (c.loop-round.round, c.loop-round.fork, c.loop-round.pass.view.log, c.loop-round-test.true, c.loop-round.invariant.lost, h), c.give_back-in-Found.ensures.part, ap (λ (s : PassView). s.view.log) c.answer.ensures.took.step)
 
 pub returns-in-Linked-clause-part : goal.returns-in-Linked-clause-part
 returns-in-Linked-clause-part c =
     let h : IsTry c.args.workspace.now.placement c.args.shared.now.layout c.args.key c.loop-round.fork c.try_insert.new.fork c.loop-round.pass.view.log c.try_insert.new.pass.view.log attempt.Linked =
     subst (λ (f : Fit). IsTry f c.args.shared.now.layout c.args.key c.loop-round.fork c.try_insert.new.fork c.loop-round.pass.view.log c.try_insert.new.pass.view.log attempt.Linked) c.loop-round.invariant.fit c.in-Linked.ensures.part in
     let linked : IsTry c.args.workspace.now.placement c.args.shared.now.layout c.args.key c.loop-round.fork None c.loop-round.pass.view.log c.try_insert.new.pass.view.log attempt.Linked = (h.0, h.1, h.2, h.3, refl) in
-    (c.try_insert.new.pass.view.log, (c.loop-round.round, c.loop-round.fork, c.loop-round.pass.view.log, c.loop-round-test.true, c.loop-round.invariant.lost, linked), ap (λ (s : Stand). s.view.log) c.answer-in-Linked.ensures.took.step)
+    (c.try_insert.new.pass.view.log, (c.loop-round.round, c.loop-round.fork, c.loop-round.pass.view.log, c.loop-round-test.true, c.loop-round.invariant.lost, linked), ap (λ (s : PassView). s.view.log) c.answer-in-Linked.ensures.took.step)
 
 pub returns-then-not-make_room_for-clause-on : goal.returns-then-not-make_room_for-clause-on
 returns-then-not-make_room_for-clause-on c =

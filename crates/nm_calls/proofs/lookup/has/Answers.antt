@@ -6,7 +6,7 @@ use Rattle.nm_model.specs.declared.event.Op.TheVariants.{Has}
 use Rattle.nm_model.specs.Searches.{Search}
 use Rattle.nm_order.specs.Facts.Fact.{KnowsSlot, CallIs}
 use Rattle.nm_order.specs.Facts.Since.{ThePin}
-use Rattle.nm_steps.specs.Steps.{Stand}
+use Rattle.nm_steps.specs.Steps.{PassView}
 use Rattle.nm_epoch.proofs.Allowed.{may_leave}
 use Rattle.nm_steps.proofs.Seeing.{seen_all}
 use Rattle.nm_walks.proofs.GoingOn.{only_then, pinned_in_still}
@@ -51,7 +51,7 @@ returns c =
     let a = c.pin_for.new.pass.view.log in
     let p = c.loop-walk.pass.view.log in
     let new = c.unpin.new.pass.view.log in
-    let left = ap (λ (s : Stand). s.view.log) c.unpin.ensures.took.step in
+    let left = ap (λ (s : PassView). s.view.log) c.unpin.ensures.took.step in
     let pin = pin_adds Has c.args.key tries old a c.in-Ok._epoch c.in-Ok.ensures.pinned in
     let lost = lost_walks_add L c.args.key c.loop-walk._walk a p c.loop-walk.invariant.lost in
     let last = adds_these _ p new left in
@@ -106,7 +106,7 @@ returns-in-Some c =
     let q = c.find.new.pass.view.log in
     let new = c.leave_with.new.pass.view.log in
     let found = c.in-Some.found in
-    let left = ap (λ (s : Stand). s.view.log) c.leave_with.ensures.took.step in
+    let left = ap (λ (s : PassView). s.view.log) c.leave_with.ensures.took.step in
     let pin = pin_adds Has c.args.key tries old a c.in-Ok._epoch c.in-Ok.ensures.pinned in
     let lost = lost_walks_add L c.args.key c.loop-walk._walk a p c.loop-walk.invariant.lost in
     let last = adds_these _ q new left in

@@ -1,5 +1,5 @@
 use Rattle.std.proofs.Common.{rules, map, length, ap, arith}
-use Rattle.nm_steps.specs.Steps.{Stand}
+use Rattle.nm_steps.specs.Steps.{PassView}
 use Rattle.nm_steps.proofs.Seeing.{seen_all}
 use Rattle.nm_walks.specs.Bounds.{reach}
 use Rattle.nm_calls.specs.InTurns.{GiveUp, key_of, most_looks}
@@ -32,7 +32,7 @@ returns-then-ended c =
     let most = most_looks (reach c.args.shared.now.layout) (length c.args.queries.now) in
     let old = c.args.pass.now.view.log in
     let new = c.unpin.new.pass.view.log in
-    let did : LooksUnderPin c.args.tries most old new = record { pinned = c.pin.new.pass.view.log; epoch = c.in-Ok._epoch; pin = c.in-Ok.ensures.pinned; looked = c.walk_all-ended.new.pass.view.log; looks = c.walk_all-ended.ensures.looks; leaves = ap (λ (s : Stand). s.view.log) c.unpin.ensures.took.step } in
+    let did : LooksUnderPin c.args.tries most old new = record { pinned = c.pin.new.pass.view.log; epoch = c.in-Ok._epoch; pin = c.in-Ok.ensures.pinned; looked = c.walk_all-ended.new.pass.view.log; looks = c.walk_all-ended.ensures.looks; leaves = ap (λ (s : PassView). s.view.log) c.unpin.ensures.took.step } in
     let added = call_adds c.args.tries most old new did in
     record {
       same = search rules;
@@ -59,7 +59,7 @@ returns-else-ended c =
     let most = most_looks (reach c.args.shared.now.layout) (length c.args.queries.now) in
     let old = c.args.pass.now.view.log in
     let new = c.unpin.new.pass.view.log in
-    let did : LooksUnderPin c.args.tries most old new = record { pinned = c.pin.new.pass.view.log; epoch = c.in-Ok._epoch; pin = c.in-Ok.ensures.pinned; looked = c.walk_all-ended.new.pass.view.log; looks = c.walk_all-ended.ensures.looks; leaves = ap (λ (s : Stand). s.view.log) c.unpin.ensures.took.step } in
+    let did : LooksUnderPin c.args.tries most old new = record { pinned = c.pin.new.pass.view.log; epoch = c.in-Ok._epoch; pin = c.in-Ok.ensures.pinned; looked = c.walk_all-ended.new.pass.view.log; looks = c.walk_all-ended.ensures.looks; leaves = ap (λ (s : PassView). s.view.log) c.unpin.ensures.took.step } in
     let added = call_adds c.args.tries most old new did in
     record {
       same = search rules;

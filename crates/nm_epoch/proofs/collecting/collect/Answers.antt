@@ -5,7 +5,7 @@ use Rattle.nm_model.specs.declared.knowledge.Brief.{Brief}
 use Rattle.nm_model.specs.declared.ledger.Ledger.{Ledger}
 use Rattle.nm_model.specs.Ledgers.{held}
 use Rattle.nm_steps.specs.Rules.{knowledge}
-use Rattle.nm_steps.specs.Steps.{Stand}
+use Rattle.nm_steps.specs.Steps.{PassView}
 use Rattle.nm_steps.proofs.AfterSteps.{apart_in_run}
 use Rattle.nm_steps.proofs.Seeing.{continues_then}
 use Rattle.nm_epoch.specs.Collecting.{AreHeld}
@@ -36,7 +36,7 @@ returns-clause-after c =
       queues = frees.queues;
       others = λ origin none'. frees.others origin none' ∙ ap (λ (ls : List (Option Ledger)). held ls origin) read.ledgers;
       retired = λ origin. frees.only.retired origin ∙ seen_retires o p e read.ledgers origin;
-      steps = subst (λ (L : Layout). length c.collect_fronts-freed.new.pass.view.log ≤ length o.view.log + L.nodes) (ap (λ (s : Stand). s.view.layout) read.on.same ∙ c.requires.own.layout)
+      steps = subst (λ (L : Layout). length c.collect_fronts-freed.new.pass.view.log ≤ length o.view.log + L.nodes) (ap (λ (s : PassView). s.view.layout) read.on.same ∙ c.requires.own.layout)
           (collect_steps p.view.layout (knowledge p.view) e c.args.queues.now o.view.log c.collect_fronts-freed.new.pass.view.log (apart_in_run p read.on.run) has (omega (arith, least)) (p.view.log, read.step, frees.entries));
       newest = is_newest o p e read.step read.seen read.on.run;
       seen = ap (λ (b : Brief). b.seen) frees.only.epochs_are ∙ read.seen;

@@ -3,7 +3,7 @@ use Rattle.nm_epoch.proofs.Allowed.{may_leave}
 use Rattle.nm_epoch.proofs.Left.{rests_after_leave, seen_after_leave}
 use Rattle.nm_epoch.proofs.Trying.{sees, rests_on, tries_on, moved}
 use Rattle.nm_epoch.specs.Tries.{LostTries, confirming, after_sight}
-use Rattle.nm_steps.specs.Steps.{Stand}
+use Rattle.nm_steps.specs.Steps.{PassView}
 use Rattle.nm_epoch.proofs.Unpinned.{rests_now}
 use Rattle.nm_model.specs.declared.event.Event.TheVariants.{Sight}
 use Rattle.nm_model.specs.declared.reply.Reply.TheVariants.{Saw}
@@ -37,7 +37,7 @@ leave-requires-clause-may c =
 pub returns-clause-moved : goal.returns-clause-moved
 returns-clause-moved c =
     let lost : LostTries (confirming c.args.by.now) c.args.tries (after_sight c.args.pass.now.view.log c.sight_idle-first.result) c.loop-round.pass.view.log = search (rules, c.loop-round.invariant.tries) in
-    moved (confirming c.args.by.now) c.args.tries c.args.pass.now.view.log c.loop-round.pass.view.log c.leave.new.pass.view.log c.sight_idle-first.result c.if-tries-eq0.false lost (ap (λ (s : Stand). s.view.log) c.leave.ensures.step)
+    moved (confirming c.args.by.now) c.args.tries c.args.pass.now.view.log c.loop-round.pass.view.log c.leave.new.pass.view.log c.sight_idle-first.result c.if-tries-eq0.false lost (ap (λ (s : PassView). s.view.log) c.leave.ensures.step)
 
 pub returns-clause-last : goal.returns-clause-last
 returns-clause-last c = seen_after_leave c.loop-round.pass c.leave.new.pass c.loop-round.epoch c.leave.ensures.step c.loop-round.invariant.last

@@ -4,7 +4,7 @@ use Rattle.nm_epoch.specs.Watches.{bit_of}
 use Rattle.nm_epoch.proofs.Watched.{watching_on, bit_set, bit_clear, shifted}
 use Rattle.nm_epoch.proofs.watching.behind.Goals.{then-is_some, else-is_some}
 use Rattle.nm_epoch.proofs.Advances.{look_goes_on}
-use Rattle.nm_steps.specs.Steps.{Stand}
+use Rattle.nm_steps.specs.Steps.{PassView}
 use Rattle.nm_edge.specs.Layouts.{Layout}
 use Rattle.nm_epoch.proofs.Steps.{watch_steps}
 use Rattle.nm_epoch.proofs.watching.behind.Goals as goal
@@ -25,7 +25,7 @@ pub returns-clause-steps : goal.returns-clause-steps
 returns-clause-steps c =
     let m : c.workers-workers.result ≡ c.args.shared.now.layout.workers = c.workers-workers.ensures.workers ∙ ap (λ (l : Layout). l.workers) c.layout.ensures in
     let layout : c.args.pass.now.view.layout.workers ≡ c.args.shared.now.layout.workers = ap (λ (l : Layout). l.workers) c.requires.layout in
-    let size : c.read-epoch.new.pass.view.layout.workers ≡ c.args.pass.now.view.layout.workers = ap (λ (p : Stand). p.view.layout.workers) c.read-epoch.ensures.on.same in
+    let size : c.read-epoch.new.pass.view.layout.workers ≡ c.args.pass.now.view.layout.workers = ap (λ (p : PassView). p.view.layout.workers) c.read-epoch.ensures.on.same in
     let below = c.number-me.ensures.below in
     let past = c.loop-worker-test.false in
     let within = c.loop-worker.auto.worker-end in

@@ -1,7 +1,7 @@
 use Rattle.std.proofs.Common.{◌++◌, ◌∙◌, All, List, ap, subst, sym}
 use Rattle.nm_edge.specs.Layouts.{Layout}
 use Rattle.nm_steps.specs.Steps.{IsOf}
-use Rattle.nm_tree.specs.Workers.{Hand}
+use Rattle.nm_tree.specs.Workers.{WorkerView}
 use Rattle.nm_serial.specs.Endings.{IsEnding}
 use Rattle.nm_serial.proofs.CrewLemmas.{present_are_of, whole_at_end}
 use Rattle.nm_serial.proofs.WorkerLemmas.{new_are_of}
@@ -12,7 +12,7 @@ crew_of-requires c = record { own = λ k d lt. new_are_of c.in_ok-tree.tree 0 c.
 
 pub put_end-requires-clause-own : goal.put_end-requires-clause-own
 put_end-requires-clause-own c =
-    subst (λ (ws : List Hand). All (λ (w : Hand). IsOf c.in_ok-tree.tree w.pass) ws) (sym c.in-Ok-left_of.ensures) (present_are_of c.in_ok-tree.tree c.play.new.crew.items c.in_ok-answers.ensures.own)
+    subst (λ (ws : List WorkerView). All (λ (w : WorkerView). IsOf c.in_ok-tree.tree w.pass) ws) (sym c.in-Ok-left_of.ensures) (present_are_of c.in_ok-tree.tree c.play.new.crew.items c.in_ok-answers.ensures.own)
 
 pub put_end-requires-clause-whole : goal.put_end-requires-clause-whole
 put_end-requires-clause-whole c =
@@ -31,6 +31,6 @@ returns-clause-text c =
       crew = c.play.new.crew.items;
       played = rw (c.as_slice.ensures.value, c.in-Ok.ensures.places) at c.in_ok-answers.ensures.did;
       ending = told.0;
-      ends = subst (λ (ws : List Hand). IsEnding c.in_ok-tree.tree ws told.0) c.in-Ok-left_of.ensures told.1;
+      ends = subst (λ (ws : List WorkerView). IsEnding c.in_ok-tree.tree ws told.0) c.in-Ok-left_of.ensures told.1;
       text_is = told.2 ∙ ap (λ (l : List _). l ++ told.0) rows;
     }

@@ -2,10 +2,10 @@ use Rattle.std.proofs.Common.{◌≡◌, ap, sym, ◌∙◌, subst}
 use Rattle.nm_edge.specs.Layouts.{Layout}
 use Rattle.nm_model.specs.Reports.{counts, keys}
 use Rattle.nm_report.specs.Ended.{IsEndOf, end_of}
-use Rattle.nm_steps.specs.Steps.{Board, Ends}
+use Rattle.nm_steps.specs.Steps.{TreeView, Ends}
 use Rattle.nm_steps.specs.declared.view.View.{View}
 use Rattle.nm_tree.specs.Closing.{GoesOnFromAll, StandsForAll}
-use Rattle.nm_tree.specs.Workers.{Hand}
+use Rattle.nm_tree.specs.Workers.{WorkerView}
 use Rattle.nm_tree.proofs.Closed.{closed}
 use Rattle.nm_tree.proofs.closing.close_all.Goals as goal
 
@@ -15,11 +15,11 @@ returns-clause-closed c =
     let P : Layout → Type 0 = λ L. (e : IsEndOf L c.close-words.result) → c.read-keys.result.keys.items ≡ keys (end_of L c.close-words.result e) in
     let Q : Layout → Type 0 = λ L. (e : IsEndOf L c.close-words.result) → c.read-keys.result.free ≡ (counts (end_of L c.close-words.result e)).pool in
     let R : Layout → Type 0 = λ L. (e : IsEndOf L c.close-words.result) → c.read-keys.result.reached ≡ (counts (end_of L c.close-words.result e)).reached in
-    let S : Board → Type 0 = λ b. Ends b.layout c.close-words.result c.pass.inside.pass.view in
+    let S : TreeView → Type 0 = λ b. Ends b.layout c.close-words.result c.pass.inside.pass.view in
     closed c.args.tree _ c.pass.inside.home _ c.args.workers.items c.read-keys.result.keys.items c.read-keys.result.free c.read-keys.result.reached c.close-words.result c.pass.invariant
-    (subst (λ (v : View). StandsForAll c.args.workers.items v) (sym (ap (λ (h : Hand). h.pass.view) c.pass.view_is)) c.unite_all.ensures.joined)
-    (subst (λ (v : View). GoesOnFromAll v.past c.args.workers.items) (sym (ap (λ (h : Hand). h.pass.view) c.pass.view_is)) c.unite_all.ensures.seen)
-    (ap (λ (h : Hand). h.queues) c.pass.view_is ∙ c.unite_all.ensures.queues)
+    (subst (λ (v : View). StandsForAll c.args.workers.items v) (sym (ap (λ (h : WorkerView). h.pass.view) c.pass.view_is)) c.unite_all.ensures.joined)
+    (subst (λ (v : View). GoesOnFromAll v.past c.args.workers.items) (sym (ap (λ (h : WorkerView). h.pass.view) c.pass.view_is)) c.unite_all.ensures.seen)
+    (ap (λ (h : WorkerView). h.queues) c.pass.view_is ∙ c.unite_all.ensures.queues)
     c.requires.all
     c.unite_all.ensures.runs
     (subst S c.tree.view_is c.close-words.ensures.ends)

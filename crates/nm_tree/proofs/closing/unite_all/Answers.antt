@@ -1,6 +1,6 @@
 use Rattle.std.proofs.Common.{List, [], ◌∷◌, ◌++◌, append_assoc, refl, ap, ◌∙◌, subst}
 use Rattle.nm_epoch.specs.declared.collecting.HeldQueue.{HeldQueue}
-use Rattle.nm_tree.specs.Workers.{Hand}
+use Rattle.nm_tree.specs.Workers.{WorkerView}
 use Rattle.nm_tree.specs.Closing.{AreAllOf}
 use Rattle.nm_tree.specs.Resigning.{merged}
 use Rattle.nm_tree.proofs.Closed.{all_before, still_of, alone, stands_for_one_more, goes_on_from_one_more, one_seen, one_more_seen}
@@ -28,7 +28,7 @@ loop-leaver-preserved c =
       united = (
         leaver,
         t.0 ∷ t.1,
-        t.2 ∙ (ap (λ (l : List Hand). l ++ t.0 ∷ t.1) last ∙ append_assoc c.pop-in-loop-leaver.new.self.items (leaver ∷ []) (t.0 ∷ t.1)),
+        t.2 ∙ (ap (λ (l : List WorkerView). l ++ t.0 ∷ t.1) last ∙ append_assoc c.pop-in-loop-leaver.new.self.items (leaver ∷ []) (t.0 ∷ t.1)),
         stands_for_one_more leaver t.0 t.1 c.loop-leaver.heir.pass c.unite-heir.result.pass c.unite-heir.ensures.joined t.3,
         goes_on_from_one_more leaver (t.0 ∷ t.1) c.loop-leaver.heir.pass c.unite-heir.result.pass c.unite-heir.ensures.seen c.unite-heir.ensures.told t.4,
         one_more_seen leaver (t.0 ∷ t.1) c.is_of_a_run-in-Some-pop.ensures.seen t.5,

@@ -2,11 +2,11 @@ use Rattle.std.proofs.Common.{◌≡◌, ℕ, ◌+◌, ◌≤◌, List, length, 
 use Rattle.std.specs.Prelude.{vec_capacity}
 use Rattle.nm_steps.specs.declared.view.View.{View}
 use Rattle.nm_steps.specs.Rules.{joined}
-use Rattle.nm_steps.specs.Steps.{Board, Stand, IsOf, HasJoined}
+use Rattle.nm_steps.specs.Steps.{TreeView, PassView, IsOf, HasJoined}
 use Rattle.nm_steps.specs.Ties.{StandsInRun}
 use Rattle.nm_epoch.specs.declared.collecting.HeldQueue.{HeldQueue}
 use Rattle.nm_tree.specs.Resigning.{merged, place_in}
-use Rattle.nm_tree.specs.Workers.{Hand, IsWorker, pending_in, held_in}
+use Rattle.nm_tree.specs.Workers.{WorkerView, IsWorker, pending_in, held_in}
 use Rattle.nm_tree.proofs.Staying.{seeing, sees_more}
 use Rattle.nm_tree.proofs.United.{empty_hands, few_queues, united}
 use Rattle.nm_tree.proofs.resigning.unite.Goals as goal
@@ -15,15 +15,15 @@ pub join-pass-requires-clause-hands : goal.join-pass-requires-clause-hands
 join-pass-requires-clause-hands c = empty_hands _ c.leaver.invariant.between
 
 -- both are of one tree, and then of one layout
-layouts : (b : Board) (h g h' g' : Hand) → h ≡ h' → g ≡ g' → IsOf b h'.pass → IsOf b g'.pass → h.pass.view.layout ≡ g.pass.view.layout
-layouts b h g h' g' first second own other = ap (λ (x : Hand). x.pass.view.layout) first ∙ (own.layout ∙ (sym other.layout ∙ sym (ap (λ (x : Hand). x.pass.view.layout) second)))
+layouts : (b : TreeView) (h g h' g' : WorkerView) → h ≡ h' → g ≡ g' → IsOf b h'.pass → IsOf b g'.pass → h.pass.view.layout ≡ g.pass.view.layout
+layouts b h g h' g' first second own other = ap (λ (x : WorkerView). x.pass.view.layout) first ∙ (own.layout ∙ (sym other.layout ∙ sym (ap (λ (x : WorkerView). x.pass.view.layout) second)))
 
 -- the run of both, by the heir as one that had seen before what both have seen then
-in_run : (p o q : Stand) → HasJoined p o q → StandsInRun q.view → StandsInRun (joined (seeing q.view.past p).view o.view)
-in_run p o q is run = let P : View → Type 0 = λ v. StandsInRun v in subst P (ap (λ (x : Stand). x.view) is) run
+in_run : (p o q : PassView) → HasJoined p o q → StandsInRun q.view → StandsInRun (joined (seeing q.view.past p).view o.view)
+in_run p o q is run = let P : View → Type 0 = λ v. StandsInRun v in subst P (ap (λ (x : PassView). x.view) is) run
 
-module _ {r r' : ℕ} (h g : Hand) (home home' : ℕ) (is : IsWorker h home r) (more : IsWorker g home' r') (same : h.pass.view.layout ≡ g.pass.view.layout)
-    (q : Stand) (joins : HasJoined h.pass g.pass q) (run : StandsInRun q.view) where
+module _ {r r' : ℕ} (h g : WorkerView) (home home' : ℕ) (is : IsWorker h home r) (more : IsWorker g home' r') (same : h.pass.view.layout ≡ g.pass.view.layout)
+    (q : PassView) (joins : HasJoined h.pass g.pass q) (run : StandsInRun q.view) where
   seen : IsWorker (record h { pass = seeing q.view.past h.pass }) home r
   seen = sees_more q.view.past h home is
 
@@ -32,7 +32,7 @@ module _ {r r' : ℕ} (h g : Hand) (home home' : ℕ) (is : IsWorker h home r) (
 
   both : IsWorker (record h { pass = q; queues = merged h.queues g.queues }) (place_in h.pass.view.number (merged h.queues g.queues)) r
   both =
-      let P : Stand → Type 0 = λ x. IsWorker (record h { pass = x; queues = merged h.queues g.queues }) (place_in h.pass.view.number (merged h.queues g.queues)) r in
+      let P : PassView → Type 0 = λ x. IsWorker (record h { pass = x; queues = merged h.queues g.queues }) (place_in h.pass.view.number (merged h.queues g.queues)) r in
       subst P (sym joins) (united (record h { pass = seeing q.view.past h.pass }) g home home' seen more same (in_run h.pass g.pass q joins run))
 
 pub take_over-requires : goal.take_over-requires
@@ -49,7 +49,7 @@ invariant_of-result c =
     let home : c.place_of-home.result ≡ place_in v.number hs =
     c.place_of-home.ensures.place
     ∙ (ap (λ (l : List HeldQueue). place_in c.number.result l) (c.as_slice.ensures.value ∙ c.take_over.ensures.queues)
-    ∙ ap (λ (k : ℕ). place_in k hs) (c.number.ensures.number ∙ ap (λ (q : Stand). q.view.number) c.join-pass.ensures.joined)) in
+    ∙ ap (λ (k : ℕ). place_in k hs) (c.number.ensures.number ∙ ap (λ (q : PassView). q.view.number) c.join-pass.ensures.joined)) in
     let W : List HeldQueue → ℕ → ℕ → Type 0 = λ l k r. IsWorker (record { pass = c.join-pass.result; queues = l; pending = n; held = e; fit = f }) k r in
     subst (λ (r : ℕ). W c.take_over.new.queues.items c.place_of-home.result r) (sym c.take_over.ensures.capacity)
     (subst (λ (k : ℕ). W c.take_over.new.queues.items k (vec_capacity c.heir.inside.queues)) (sym home)

@@ -1,7 +1,7 @@
 use Rattle.std.proofs.Common.{List, ◌∷◌, ◌++◌, [], append_assoc, subst, sym, ap, ◌∙◌}
 use Rattle.std.specs.Prelude.{reverse}
-use Rattle.nm_steps.specs.Steps.{Stand}
-use Rattle.nm_tree.specs.Workers.{Hand, AreAllFresh, AreMade, HaveWorkers}
+use Rattle.nm_steps.specs.Steps.{PassView}
+use Rattle.nm_tree.specs.Workers.{WorkerView, AreAllFresh, AreMade, HaveWorkers}
 use Rattle.nm_tree.proofs.Opening.{fresh_before, have_before, one_made}
 use Rattle.nm_tree.proofs.tree.workers_of.Goals as goal
 
@@ -13,8 +13,8 @@ loop-pass-preserved c =
     let last = rw c.in-Some.is at c.pop.ensures.items in
     let made = c.loop-pass.invariant.made in
     let fresh = (fresh_before c.pop.new.self.items c.in-Some.pass (subst AreAllFresh last c.loop-pass.invariant.fresh)).0 in
-    let all = made.1 ∙ (ap (λ (ps : List Stand). ps ++ made.0) last ∙ append_assoc c.pop.new.self.items (c.in-Some.pass ∷ []) made.0) in
-    let P : List Hand → Type 0 = λ ws. AreMade c.args.fit (c.in-Some.pass ∷ made.0) (reverse ws) in
+    let all = made.1 ∙ (ap (λ (ps : List PassView). ps ++ made.0) last ∙ append_assoc c.pop.new.self.items (c.in-Some.pass ∷ []) made.0) in
+    let P : List WorkerView → Type 0 = λ ws. AreMade c.args.fit (c.in-Some.pass ∷ made.0) (reverse ws) in
     record {
       fresh = fresh;
       all = (have_before _ c.pop.new.self.items c.in-Some.pass (subst (HaveWorkers _) last c.loop-pass.invariant.all)).0;

@@ -2,7 +2,7 @@ use Rattle.std.proofs.Common.{rules, ℕ, List, length, arith, sym, ap, subst, �
 use Rattle.std.specs.Prelude.{Option, option_map}
 use Rattle.nm_edge.specs.declared.node.NodeId.{NodeId}
 use Rattle.nm_steps.specs.Rules.{knowledge}
-use Rattle.nm_steps.specs.Steps.{Stand}
+use Rattle.nm_steps.specs.Steps.{PassView}
 use Rattle.nm_walks.specs.declared.spot.ChainEdge.{ChainEdge}
 use Rattle.nm_walks.specs.Cleanups.{HasCutNothing, freed_of_origin}
 use Rattle.nm_walks.specs.Telling.{Tells}
@@ -31,7 +31,7 @@ returns-clause-only c = only_cleans c.args.spot.now c.as_slice.result.now c.cut_
 pub returns-clause-steps : goal.returns-clause-steps
 returns-clause-steps c =
     let one = won_steps c.args.spot.now c.as_slice.result.now c.cut_off.new.nodes.items c.args.pass.now.view.log c.cut_off.new.pass.view.log (c.cut_off.ensures.won c.if-not-cut_off.false).part in
-    let two = one_more _ c.cut_off.new.pass.view.log c.label-epoch.new.pass.view.log (ap (λ (x : Stand). x.view.log) c.label-epoch.ensures.step) in
+    let two = one_more _ c.cut_off.new.pass.view.log c.label-epoch.new.pass.view.log (ap (λ (x : PassView). x.view.log) c.label-epoch.ensures.step) in
     let long = ap (λ (chain : List ChainEdge). length chain) c.as_slice.ensures.value in
     omega (arith, one, two, long)
 
@@ -44,7 +44,7 @@ returns-clause-kept c = record {
   queue = search rules;
   freed = (
       let F : ℕ → Option ℕ = λ o. option_map (λ (ns : List NodeId). capped (length ns)) (freed_of_origin (knowledge c.label-epoch.new.pass.view) o) in
-      ap (λ (x : Stand). F x.view.number) c.label-epoch.ensures.on.same ∙ ap (λ (x : Stand). F x.view.number) c.cut_off.ensures.on.same
+      ap (λ (x : PassView). F x.view.number) c.label-epoch.ensures.on.same ∙ ap (λ (x : PassView). F x.view.number) c.cut_off.ensures.on.same
       ∙ ap (option_map (λ (ns : List NodeId). capped (length ns))) (returns-clause-only c).ledgers.freed ∙ c.requires.kept.freed
       );
   counted = (
@@ -52,7 +52,7 @@ returns-clause-kept c = record {
       let mid = c.cut_off.new.pass.view.log in
       let new = c.label-epoch.new.pass.view.log in
       splice_counts _ _ old new
-      (adds_then old mid new (cut_adds c.args.spot.now c.as_slice.result.now c.cut_off.new.nodes.items old mid (c.cut_off.ensures.won c.if-not-cut_off.false).part) (adds_these _ mid new (ap (λ (x : Stand). x.view.log) c.label-epoch.ensures.step)))
+      (adds_then old mid new (cut_adds c.args.spot.now c.as_slice.result.now c.cut_off.new.nodes.items old mid (c.cut_off.ensures.won c.if-not-cut_off.false).part) (adds_these _ mid new (ap (λ (x : PassView). x.view.log) c.label-epoch.ensures.step)))
       c.saturating_add-held.ensures c.requires.kept.counted
       );
 }

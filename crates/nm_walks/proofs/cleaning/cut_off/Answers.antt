@@ -5,7 +5,7 @@ use Rattle.nm_edge.specs.Edges.{Edge, tagged}
 use Rattle.nm_edge.specs.declared.node.NodeId.{NodeId}
 use Rattle.nm_order.specs.Facts.Fact.{IsFrozen}
 use Rattle.nm_order.specs.Told.{FrozenTo}
-use Rattle.nm_steps.specs.Steps.{Stand}
+use Rattle.nm_steps.specs.Steps.{PassView}
 use Rattle.nm_walks.specs.declared.cutting.Kept.{Kept}
 use Rattle.nm_walks.specs.Telling.{Tells}
 use Rattle.nm_walks.specs.Cleanups.{Chooses}
@@ -45,5 +45,5 @@ returns-clause-won c =
     subst (λ (ns : List NodeId). FrozenTo (Tells t) s.parent k.side s.successor ns) (sym all) (subst (λ n. FrozenTo (Tells t) s.parent k.side n frozen.0) (at_top o t s c.args.chain.now c.requires.at) frozen.2) in
     λ won. has_cut s c.args.chain.now o p r t c.splice.new.pass k c.tag-was.result c.freeze.new.nodes.items (goes_then o r t (goes_then o p r c.choose.ensures.on c.tag-was.ensures.on) c.freeze.ensures.on)
     (only_then o r t (only_then o p r c.choose.ensures.only c.tag-was.ensures.only) c.freeze.ensures.only) (subst (λ (x : Option Kept). Chooses s o.view.log p.view.log x) c.in-Some.is c.choose.ensures.looks)
-    (ap (λ (x : Stand). x.view.log) c.tag-was.ensures.step) c.freeze.ensures.looks (let size = c.freeze.ensures.size in let zero-long = ap (λ (ns : List NodeId). length ns) none' in omega (arith, size, zero-long)) low
+    (ap (λ (x : PassView). x.view.log) c.tag-was.ensures.step) c.freeze.ensures.looks (let size = c.freeze.ensures.size in let zero-long = ap (λ (ns : List NodeId). length ns) none' in omega (arith, size, zero-long)) low
     (λ to flag. ap (λ (x : Kept). x.side) (same_Some k _ (sym c.in-Some.is ∙ c.choose.ensures.again to flag))) (c.in-Ok.ensures.won c.freeze.new.nodes.items low)

@@ -7,7 +7,7 @@ use Rattle.nm_model.specs.declared.event.Field.TheVariants.{Edge as EdgeOn}
 use Rattle.nm_model.specs.declared.reply.Reply.TheVariants.{EdgeIs}
 use Rattle.nm_model.specs.Walks.{Entry}
 use Rattle.nm_order.specs.Facts.Fact.{KnowsSlot}
-use Rattle.nm_steps.specs.Steps.{Stand}
+use Rattle.nm_steps.specs.Steps.{PassView}
 use Rattle.nm_walks.specs.Walks.{edge_on}
 use Rattle.nm_walks.proofs.GoingOn.{goes_then, only_then, pinned_in_still, told_onward}
 use Rattle.nm_walks.proofs.looking.read_node.Goals as goal
@@ -55,8 +55,8 @@ returns-clause-leaf c is_left null =
     let key = c.look_key-found.result in
     let left = c.look_edge-left.result in
     let right = c.look_edge-right.result in
-    let first = ap (λ (s : Stand). s.view.log) c.look_key-found.ensures.step in
-    let second = ap (λ (s : Stand). s.view.log) c.look_edge-left.ensures.step ∙ ap (λ (l : List Entry). l ++ (Look x (EdgeOn Left), EdgeIs left) ∷ []) first in
-    let third = ap (λ (s : Stand). s.view.log) c.look_edge-right.ensures.step ∙ ap (λ (l : List Entry). l ++ (Look x (EdgeOn Right), EdgeIs right) ∷ []) second in
+    let first = ap (λ (s : PassView). s.view.log) c.look_key-found.ensures.step in
+    let second = ap (λ (s : PassView). s.view.log) c.look_edge-left.ensures.step ∙ ap (λ (l : List Entry). l ++ (Look x (EdgeOn Left), EdgeIs left) ∷ []) first in
+    let third = ap (λ (s : PassView). s.view.log) c.look_edge-right.ensures.step ∙ ap (λ (l : List Entry). l ++ (Look x (EdgeOn Right), EdgeIs right) ∷ []) second in
     let same : left.slot ≡ c.edge_at-next.result.slot = sym (ap (λ (e : Edge). e.slot) (c.edge_at-next.ensures ∙ ap (λ (d : Side). edge_on d left right) is_left)) in
     (left, right, third, same ∙ null, c.look_edge-right.ensures.told.null (c.look_edge-left.ensures.told.learned.leaf (same ∙ null)))

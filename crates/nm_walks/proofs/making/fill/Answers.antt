@@ -3,7 +3,7 @@ use Rattle.nm_edge.specs.declared.edge.Side.TheVariants.{Left, Right}
 use Rattle.nm_model.specs.declared.event.Field.TheVariants.{Key as KeyOf, Edge as EdgeOn}
 use Rattle.nm_model.specs.declared.knowledge.Draft.{Draft}
 use Rattle.nm_model.specs.Learning.{filled_in}
-use Rattle.nm_steps.specs.Steps.{Stand}
+use Rattle.nm_steps.specs.Steps.{PassView}
 use Rattle.nm_steps.proofs.Seeing.{seen_all}
 use Rattle.std.specs.Prelude.{Some}
 use Rattle.nm_walks.proofs.Makes.{fillable, fillable_still, may_fill_key, may_fill_edge, filled_there, filled_draft, filled_others, only_filled, both_make, makes_go_on}
@@ -18,7 +18,7 @@ fill_edge-requires-clause-may c =
     let q = c.fill_key.new.pass in
     let s = c.args.slot in
     may_fill_edge q s (fillable_still p q s KeyOf _ c.fill_key.ensures.step refl (fillable p s c.requires.born c.holds_pooled_slots.ensures))
-    Left c.args.node.now.left (subst (λ (x : Stand). c.args.node.now.left ≤ x.view.layout.nodes) (sym c.fill_key.ensures.step) c.requires.left)
+    Left c.args.node.now.left (subst (λ (x : PassView). c.args.node.now.left ≤ x.view.layout.nodes) (sym c.fill_key.ensures.step) c.requires.left)
 
 pub fill_edge-requires-2-clause-may : goal.fill_edge-requires-2-clause-may
 fill_edge-requires-2-clause-may c =
@@ -27,7 +27,7 @@ fill_edge-requires-2-clause-may c =
     let r = c.fill_edge.new.pass in
     let s = c.args.slot in
     may_fill_edge r s (fillable_still q r s (EdgeOn Left) c.args.node.now.left c.fill_edge.ensures.step refl (fillable_still p q s KeyOf _ c.fill_key.ensures.step refl (fillable p s c.requires.born c.holds_pooled_slots.ensures)))
-    Right c.args.node.now.right (subst (λ (x : Stand). c.args.node.now.right ≤ x.view.layout.nodes) (sym c.fill_edge.ensures.step) (subst (λ (x : Stand). c.args.node.now.right ≤ x.view.layout.nodes) (sym c.fill_key.ensures.step) c.requires.right))
+    Right c.args.node.now.right (subst (λ (x : PassView). c.args.node.now.right ≤ x.view.layout.nodes) (sym c.fill_edge.ensures.step) (subst (λ (x : PassView). c.args.node.now.right ≤ x.view.layout.nodes) (sym c.fill_key.ensures.step) c.requires.right))
 
 pub returns-clause-filled : goal.returns-clause-filled
 returns-clause-filled c =

@@ -2,7 +2,7 @@ use Rattle.std.proofs.Common.{◌≡◌, ◌≢◌, ◌+◌, ◌-◌, ℕ, false
 use Rattle.std.proofs.lemmas.Bool.{or_parts}
 use Rattle.nm_edge.specs.Layouts.{Layout}
 use Rattle.nm_order.specs.Facts.Fact.{KnowsSlot}
-use Rattle.nm_steps.specs.Steps.{Stand}
+use Rattle.nm_steps.specs.Steps.{PassView}
 use Rattle.nm_walks.specs.Bounds.{reach}
 use Rattle.nm_walks.specs.Telling.{Tells, OnwardTold}
 use Rattle.nm_walks.specs.Walks.{Reads, IsWalking, chain_onto}
@@ -29,7 +29,7 @@ loop-below-init c =
     let some = c.look_edge.ensures.told.root refl refl in
     record {
       walking = record {
-        walk = rw c.first-spot.ensures (refl, refl, some, ap (λ (s : Stand). s.view.log) c.look_edge.ensures.step);
+        walk = rw c.first-spot.ensures (refl, refl, some, ap (λ (s : PassView). s.view.log) c.look_edge.ensures.step);
         at = rw c.first-spot.ensures (at_begin (Tells p) e (c.look_edge.ensures.on.keeps (KnowsSlot 1) c.requires.root) (c.look_edge.ensures.on.keeps (KnowsSlot 2) c.requires.known) c.look_edge.ensures.told.learned some);
         within = rw c.first-spot.ensures (rw (← c.requires.pinned.own.layout) c.look_edge.ensures.told.within);
         short = omega arith;

@@ -8,7 +8,7 @@ pub sit_down-requires : goal.sit_down-requires
 sit_down-requires c =
     let found = c.in-Some.ensures.lookup in
     let P : List (Site × ℕ) → Type 0 = λ ss. c.number.result < length ss in
-    let R : Site × ℕ → Type 0 = λ s. IsResident s.0.tree s.0.fit s.1 c.args.guest.worker in
+    let R : Site × ℕ → Type 0 = λ s. IsResident s.0.tree s.0.fit s.1 c.args.sealed.worker in
     let here = seat_of c.self.inside.site c.self.inside.seats.items c.self.invariant.0 c.number.result c.in-Some.seat.now (subst P c.deref.ensures.value found.3.0) in
     let at = rw c.deref.ensures.value at found.1 in
     subst R (sym (at ∙ here ∙ ap (λ (b : Site). (b, c.number.result)) c.self.view_is)) (record { own = c.requires.own.own; alive = c.requires.own.alive; number = sym c.number.ensures.number; fit = c.requires.fit; free = c.requires.free })

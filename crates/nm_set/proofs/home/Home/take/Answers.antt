@@ -8,7 +8,7 @@ pub returns-in-Some-stand_up-clause-taken : goal.returns-in-Some-stand_up-clause
 returns-in-Some-stand_up-clause-taken c =
     let found = c.in-Some.ensures.lookup in
     let P : List (Site × ℕ) → Type 0 = λ ss. c.args.number < length ss in
-    let R : Site × ℕ → Type 0 = λ s. IsResident s.0.tree s.0.fit s.1 c.in-Some-stand_up.guest.worker in
+    let R : Site × ℕ → Type 0 = λ s. IsResident s.0.tree s.0.fit s.1 c.in-Some-stand_up.sealed.worker in
     let less = subst P c.deref.ensures.value found.3.0 in
     let here = seat_of c.self.inside.site c.self.inside.seats.items c.self.invariant.0 c.args.number c.in-Some.seat.now less in
     let at = rw c.deref.ensures.value at found.1 in

@@ -5,6 +5,6 @@ use Rattle.nm_set.proofs.member.Member.ask_with_retries.Given as goal
 
 abbrev pub invariant-loop-round : goal.invariant-loop-round
 invariant-loop-round l = record {
-  board : l.self.board ≡ l.fn.self.board;
-  each : InARow (λ x y. Asked (Leaves l.fn.op l.fn.self.board.layout l.habit.tries l.key) x y busy) l._round l.fn.self.hand l.self.hand;
+  tree : l.self.tree ≡ l.fn.self.tree;
+  each : InARow (λ x y. Asked (Leaves l.fn.op l.fn.self.tree.layout l.habit.tries l.key) x y busy) l._round l.fn.self.worker l.self.worker;
 }

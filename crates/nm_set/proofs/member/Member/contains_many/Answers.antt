@@ -8,10 +8,10 @@ use Rattle.nm_set.proofs.member.Member.contains_many.Goals.{in-Ok, in-Err}
 
 pub returns-clause-did : goal.returns-clause-did
 returns-clause-did c =
-    let L = c.args.self.now.board.layout in
+    let L = c.args.self.now.tree.layout in
     let old = c.args.queries.now in
     let new = c.has_many.new.queries in
-    let w = c.args.self.now.hand in
+    let w = c.args.self.now.worker in
     let z = c.has_many.new.worker in
     let did = of_member (λ b v. LeavesHasMany b.layout c.args.tries old new v z c.has_many.result) _ _ _ c.self.view_is c.tree.ensures c.has_many.ensures in
     let free : w.held ≡ None = search rules in

@@ -1,33 +1,33 @@
 use Rattle.std.proofs.Common.{◌∙◌, List, subst}
 use Rattle.nm_tree.specs.declared.closing.Report.{Report}
 use Rattle.nm_tree.specs.Closing.{IsClosed}
-use Rattle.nm_tree.specs.Workers.{Hand}
+use Rattle.nm_tree.specs.Workers.{WorkerView}
 use Rattle.nm_set.specs.declared.home.Site.{Site}
-use Rattle.nm_set.specs.Seats.{Seated, Standing}
+use Rattle.nm_set.specs.Seats.{MemberView, SetView}
 use Rattle.nm_set.specs.Ends.{IsTreesReason, set_of}
 use Rattle.nm_set.proofs.SetEnds.{Gathers, ended, gathered_with, kept_all, says_ended}
 use Rattle.nm_set.proofs.member.Member.end.Goals as goal
 
 pub returns-in-Ok-close-clause-ended : goal.returns-in-Ok-close-clause-ended
 returns-in-Ok-close-clause-ended c =
-    let m : Seated = c.args.self in
+    let m : MemberView = c.args.self in
     let site : Site = c.apart-home.result.0 in
     let told = c.in-Ok.ensures.gathered in
-    let all : List Hand = told.0 in
+    let all : List WorkerView = told.0 in
     let g : Gathers (set_of m) site all = gathered_with m site _ all _ c.apart-home.ensures.tree c.apart-home.ensures.fit c.apart-home.ensures.worker told.2 told.1 c.close.ensures.own in
     let r : Report = c.in-Ok-close.report in
-    ended (set_of m) site all g r (subst (λ (s : Standing). IsClosed s.board s.kept r.queues.items r.keys.items r.free r.reached) told.1 c.in-Ok-close.ensures.closed)
+    ended (set_of m) site all g r (subst (λ (s : SetView). IsClosed s.tree s.kept r.queues.items r.keys.items r.free r.reached) told.1 c.in-Ok-close.ensures.closed)
 
 pub returns-in-Ok-close-clause-says : goal.returns-in-Ok-close-clause-says
 returns-in-Ok-close-clause-says c = says_ended (set_of c.args.self) c.in-Ok-close.report (returns-in-Ok-close-clause-ended c)
 
 pub returns-in-Err-close-clause-refused : goal.returns-in-Err-close-clause-refused
 returns-in-Err-close-clause-refused c =
-    let m : Seated = c.args.self in
+    let m : MemberView = c.args.self in
     let site : Site = c.apart-home.result.0 in
     let told = c.in-Ok.ensures.gathered in
-    let all : List Hand = told.0 in
+    let all : List WorkerView = told.0 in
     let g : Gathers (set_of m) site all = gathered_with m site _ all _ c.apart-home.ensures.tree c.apart-home.ensures.fit c.apart-home.ensures.worker told.2 told.1 c.close.ensures.own in
-    let t : Standing = c.in-Err-close.error.set in
-    let why = subst (λ (s : Standing). IsTreesReason s.board s.kept c.in-Err-close.error.reason) told.1 c.in-Err-close.ensures.reason in
+    let t : SetView = c.in-Err-close.error.set in
+    let why = subst (λ (s : SetView). IsTreesReason s.tree s.kept c.in-Err-close.error.reason) told.1 c.in-Err-close.ensures.reason in
     (why.0, why.1, kept_all (set_of m) site all g t (c.in-Err-close.ensures.refused ∙ told.1) why.0 why.2)

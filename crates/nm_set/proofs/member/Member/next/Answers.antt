@@ -7,8 +7,8 @@ use Rattle.nm_set.proofs.member.Member.next.Goals.{in-Ok, in-Err}
 
 pub returns-clause-did : goal.returns-clause-did
 returns-clause-did c =
-    let leaves = LeavesNext c.args.self.now.board.layout c.args.tries c.args.key in
-    let w = c.args.self.now.hand in
+    let leaves = LeavesNext c.args.self.now.tree.layout c.args.tries c.args.key in
+    let w = c.args.self.now.worker in
     let z = c.next.new.worker in
     let did = of_member (λ b v. LeavesNext b.layout c.args.tries c.args.key v z c.next.result) _ _ _ c.self.view_is c.tree.ensures c.next.ensures in
     let free : w.held ≡ None = search rules in

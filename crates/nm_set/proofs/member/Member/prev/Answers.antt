@@ -7,8 +7,8 @@ use Rattle.nm_set.proofs.member.Member.prev.Goals.{in-Ok, in-Err}
 
 pub returns-clause-did : goal.returns-clause-did
 returns-clause-did c =
-    let leaves = LeavesPrev c.args.self.now.board.layout c.args.tries c.args.key in
-    let w = c.args.self.now.hand in
+    let leaves = LeavesPrev c.args.self.now.tree.layout c.args.tries c.args.key in
+    let w = c.args.self.now.worker in
     let z = c.prev.new.worker in
     let did = of_member (λ b v. LeavesPrev b.layout c.args.tries c.args.key v z c.prev.result) _ _ _ c.self.view_is c.tree.ensures c.prev.ensures in
     let free : w.held ≡ None = search rules in

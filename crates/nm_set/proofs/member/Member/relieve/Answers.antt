@@ -1,6 +1,6 @@
 use Rattle.std.proofs.Common.{◌∙◌, subst, sym, arith}
 use Rattle.std.specs.Prelude.{Option, ℕ}
-use Rattle.nm_steps.specs.Steps.{Board}
+use Rattle.nm_steps.specs.Steps.{TreeView}
 use Rattle.nm_tree.specs.Calls.{LeavesAdvance, LeavesCollect}
 use Rattle.nm_set.specs.Tended.{FindsBehind, IsRelieved}
 use Rattle.nm_set.proofs.Emptied.{AreSeen, finds_behind}
@@ -8,13 +8,13 @@ use Rattle.nm_set.proofs.member.Member.relieve.Goals as goal
 
 pub returns-clause-did : goal.returns-clause-did
 returns-clause-did c =
-    let b = c.args.self.now.board in
-    let w = c.args.self.now.hand in
-    let once = c.advance-first.new.self.hand in
-    let twice = c.advance-second.new.self.hand in
-    let z = c.collect.new.self.hand in
-    let again = subst (λ (d : Board). LeavesAdvance d.layout.workers once twice c.advance-second.result) c.advance-first.ensures.board c.advance-second.ensures.did in
-    let collects = subst (λ (d : Board). LeavesCollect d.layout.nodes twice z c.collect.result) (c.advance-second.ensures.board ∙ c.advance-first.ensures.board) c.collect.ensures.did in
+    let b = c.args.self.now.tree in
+    let w = c.args.self.now.worker in
+    let once = c.advance-first.new.self.worker in
+    let twice = c.advance-second.new.self.worker in
+    let z = c.collect.new.self.worker in
+    let again = subst (λ (d : TreeView). LeavesAdvance d.layout.workers once twice c.advance-second.result) c.advance-first.ensures.tree c.advance-second.ensures.did in
+    let collects = subst (λ (d : TreeView). LeavesCollect d.layout.nodes twice z c.collect.result) (c.advance-second.ensures.tree ∙ c.advance-first.ensures.tree) c.collect.ensures.did in
     let r : IsRelieved b w z = record {
       moved = c.advance-first.result;
       once = once;

@@ -7,11 +7,11 @@ use Rattle.nm_set.proofs.member.Member.retry.Goals as goal
 
 pub returns-clause-did : goal.returns-clause-did
 returns-clause-did c =
-    let b = c.args.self.now.board in
+    let b = c.args.self.now.tree in
     let h = c.args.habit.now in
     let k = c.args.key in
-    let m = c.args.self.now.hand in
-    let z = c.ask_with_retries.new.self.hand in
+    let m = c.args.self.now.worker in
+    let z = c.ask_with_retries.new.self.worker in
     let r = c.ask_with_retries.result in
     let some = c.if-habit-eq0.false in
     let leaves = Asked (Leaves c.args.op b.layout h.tries k) in

@@ -7,6 +7,6 @@ use Rattle.nm_set.proofs.member.Member.retry_finish.Given as goal
 
 abbrev pub invariant-loop-round : goal.invariant-loop-round
 invariant-loop-round l = record {
-  board : l.self.board ≡ l.fn.self.board;
-  each : InARow (λ x y. LeavesFinish l.fn.self.board.layout l.habit.tries x y (Err Unfinished)) l._round l.fn.self.hand l.self.hand;
+  tree : l.self.tree ≡ l.fn.self.tree;
+  each : InARow (λ x y. LeavesFinish l.fn.self.tree.layout l.habit.tries x y (Err Unfinished)) l._round l.fn.self.worker l.self.worker;
 }

@@ -1,23 +1,23 @@
 use Rattle.std.proofs.Common.{◌∙◌, inl, inr, refl, subst}
 use Rattle.std.specs.Prelude.{◌≡◌, ℕ}
 use Rattle.nm_model.specs.declared.event.Op.TheVariants.{Insert}
-use Rattle.nm_steps.specs.Steps.{Board}
+use Rattle.nm_steps.specs.Steps.{TreeView}
 use Rattle.nm_set.specs.Tended.{FindsBehind, Retries, with_fullness}
 use Rattle.nm_set.proofs.member.Member.retry_insert.Goals as goal
 
 pub returns-clause-did : goal.returns-clause-did
 returns-clause-did c =
-    let b = c.args.self.now.board in
+    let b = c.args.self.now.tree in
     let h = c.args.habit.now in
     let k = c.args.key in
-    let x = c.retry-told.new.self.hand in
-    let y = c.relieve-behind.new.self.hand in
-    let z = c.ask_with_retries-told.new.self.hand in
+    let x = c.retry-told.new.self.worker in
+    let y = c.relieve-behind.new.self.worker in
+    let z = c.ask_with_retries-told.new.self.worker in
     let behind = c.relieve-behind.result in
     let told = c.ask_with_retries-told.result in
-    let same : c.retry-told.new.self.board ≡ b = c.retry-told.ensures.board in
-    let found = subst (λ (d : Board). FindsBehind d x y behind) same c.relieve-behind.ensures.did in
-    let once_more = subst (λ (d : Board). Retries Insert d h k y z told) (c.relieve-behind.ensures.board ∙ same) c.ask_with_retries-told.ensures.did in
+    let same : c.retry-told.new.self.tree ≡ b = c.retry-told.ensures.tree in
+    let found = subst (λ (d : TreeView). FindsBehind d x y behind) same c.relieve-behind.ensures.did in
+    let once_more = subst (λ (d : TreeView). Retries Insert d h k y z told) (c.relieve-behind.ensures.tree ∙ same) c.ask_with_retries-told.ensures.did in
     let is = subst (λ (n : ℕ). c.with_fullness.result ≡ with_fullness behind n told) c.queue_len.ensures c.with_fullness.ensures in
     λ w first. inr (x, y, behind, told, subst (Retries Insert b h k w x) (c.if-not-is_full.ensures.yes refl) (c.retry-told.ensures.did w first), found, once_more, is)
 

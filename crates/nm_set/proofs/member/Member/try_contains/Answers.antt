@@ -8,8 +8,8 @@ use Rattle.nm_set.proofs.member.Member.try_contains.Goals.{in-Ok, in-Err}
 
 pub returns-clause-did : goal.returns-clause-did
 returns-clause-did c =
-    let leaves = LeavesHas c.args.self.now.board.layout c.args.tries c.args.key in
-    let w = c.args.self.now.hand in
+    let leaves = LeavesHas c.args.self.now.tree.layout c.args.tries c.args.key in
+    let w = c.args.self.now.worker in
     let z = c.has.new.worker in
     let did = of_member (λ b v. LeavesHas b.layout c.args.tries c.args.key v z c.has.result) _ _ _ c.self.view_is c.tree.ensures c.has.ensures.leaves in
     let free : w.held ≡ None = search rules in
@@ -20,5 +20,5 @@ returns-clause-did c =
 
 pub returns-clause-says : goal.returns-clause-says
 returns-clause-says c =
-    let L = c.args.self.now.board.layout in
-    asked_says (LeavesHas L c.args.tries c.args.key) (SaysHas L c.args.tries c.args.key) c.args.self.now.hand c.has.new.worker _ (λ r left. left.says) (returns-clause-did c)
+    let L = c.args.self.now.tree.layout in
+    asked_says (LeavesHas L c.args.tries c.args.key) (SaysHas L c.args.tries c.args.key) c.args.self.now.worker c.has.new.worker _ (λ r left. left.says) (returns-clause-did c)

@@ -8,8 +8,8 @@ use Rattle.nm_set.proofs.member.Member.try_insert.Goals.{in-Ok, in-Err}
 
 pub returns-clause-did : goal.returns-clause-did
 returns-clause-did c =
-    let leaves = LeavesInsert c.args.self.now.board.layout c.args.tries c.args.key in
-    let w = c.args.self.now.hand in
+    let leaves = LeavesInsert c.args.self.now.tree.layout c.args.tries c.args.key in
+    let w = c.args.self.now.worker in
     let z = c.insert.new.worker in
     let did = of_member (λ b v. LeavesInsert b.layout c.args.tries c.args.key v z c.insert.result) _ _ _ c.self.view_is c.tree.ensures c.insert.ensures.leaves in
     let free : w.held ≡ None = search rules in
@@ -20,5 +20,5 @@ returns-clause-did c =
 
 pub returns-clause-says : goal.returns-clause-says
 returns-clause-says c =
-    let L = c.args.self.now.board.layout in
-    asked_says (LeavesInsert L c.args.tries c.args.key) (SaysInsert L c.args.tries c.args.key) c.args.self.now.hand c.insert.new.worker _ (λ r left. left.says) (returns-clause-did c)
+    let L = c.args.self.now.tree.layout in
+    asked_says (LeavesInsert L c.args.tries c.args.key) (SaysInsert L c.args.tries c.args.key) c.args.self.now.worker c.insert.new.worker _ (λ r left. left.says) (returns-clause-did c)

@@ -1,6 +1,6 @@
 use Rattle.std.proofs.Common.{◌≡◌, ◌∙◌, List, sym, ap, subst}
 use Rattle.std.specs.Arc.{arc_value}
-use Rattle.nm_tree.specs.Workers.{Hand}
+use Rattle.nm_tree.specs.Workers.{WorkerView}
 use Rattle.nm_set.specs.declared.home.Site.{Site}
 use Rattle.nm_set.specs.declared.set.State.{State}
 use Rattle.nm_set.specs.Seats.{AreOwn}
@@ -12,7 +12,7 @@ use Rattle.nm_set.proofs.set.Set.close.Goals as goal
 had : (c : goal.After-end) → Gathers c.args.self c.in-Closing.site c.self.inside.kept.items
 had c =
     let s = c.args.self in
-    let ws : List Hand = c.self.inside.kept.items in
+    let ws : List WorkerView = c.self.inside.kept.items in
     had_gathered s c.in-Closing.site ws (subst (λ (x : State). standing_of x ws ≡ s) c.in-Closing.is c.self.view_is) (subst (λ (x : State). AreOwn (site_of x).tree ws) c.in-Closing.is c.self.invariant.0)
 
 pub returns-in-Closing-clause-closed : goal.returns-in-Closing-clause-closed
@@ -27,8 +27,8 @@ returns-in-Closing-clause-refused c = refuses c.args.self c.in-Closing.site c.se
 gathers : (c : goal.After-end-in-Ok) → Gathers c.args.self c.gather-site.result.0 c.gather-site.result.1.items
 gathers c =
     let s = c.args.self in
-    let kept : List Hand = c.self.inside.kept.items in
-    let ws : List Hand = c.gather-site.result.1.items in
+    let kept : List WorkerView = c.self.inside.kept.items in
+    let ws : List WorkerView = c.gather-site.result.1.items in
     let home = arc_value c.in-Open.home in
     let there = subst (λ (x : State). standing_of x kept ≡ s) c.in-Open.is c.self.view_is in
     let own = subst (λ (x : Site). AreOwn x.tree ws) c.in-Ok.ensures.ok c.gather-site.ensures.own in
@@ -47,5 +47,5 @@ pub returns-in-Err-clause-refused : goal.returns-in-Err-clause-refused
 returns-in-Err-clause-refused c =
     let s = c.args.self in
     let home = arc_value c.in-Open.home in
-    let kept : List Hand = c.self.inside.kept.items in
+    let kept : List WorkerView = c.self.inside.kept.items in
     as_before s c.left_open.result.set home kept (subst (λ (x : State). standing_of x kept ≡ s) c.in-Open.is c.self.view_is) (c.left_open.ensures.set ∙ ap (λ a. open_set (arc_value a) kept) c.in-Err.ensures.err) c.left_open.result.reason c.left_open.ensures.told

@@ -1,6 +1,6 @@
 use Rattle.std.proofs.Common.{rules, sym, ap, subst, arith, ◌∙◌}
 use Rattle.nm_steps.specs.Rules.{knowledge}
-use Rattle.nm_steps.specs.Steps.{Stand, HasEmptyHands}
+use Rattle.nm_steps.specs.Steps.{PassView, HasEmptyHands}
 use Rattle.nm_steps.proofs.Cutting.{joins}
 use Rattle.nm_steps.proofs.JoinedPasses.{joined_tied, joined_view, joined_past, joined_heard}
 use Rattle.nm_steps.proofs.Tying.{may_tie}
@@ -12,7 +12,7 @@ join_seat-requires c = (
   search rules,
   c.other.invariant.empty,
   omega (arith, c.self.invariant.words_are),
-  joins _ _ _ _ _ c.pass.invariant.alive c.other.invariant.alive (subst (λ (p : Stand). HasEmptyHands (knowledge p.view)) (sym c.other.view_is) c.requires.hands),
+  joins _ _ _ _ _ c.pass.invariant.alive c.other.invariant.alive (subst (λ (p : PassView). HasEmptyHands (knowledge p.view)) (sym c.other.view_is) c.requires.hands),
 )
 
 -- the joined view's layout is the table's, and it is alive

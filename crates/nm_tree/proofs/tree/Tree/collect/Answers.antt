@@ -1,11 +1,11 @@
 use Rattle.std.proofs.Common.{◌≡◌, List, refl, sym, subst, ◌∙◌}
 use Rattle.std.specs.Vec.{with_items}
 use Rattle.std.proofs.lemmas.List.{with_items_is}
-use Rattle.nm_steps.specs.Steps.{Board}
+use Rattle.nm_steps.specs.Steps.{TreeView}
 use Rattle.nm_epoch.specs.declared.collecting.HeldQueue.{HeldQueue}
 use Rattle.nm_epoch.specs.Collecting.{Collects}
 use Rattle.nm_tree.specs.Calls.{LeavesCollect}
-use Rattle.nm_tree.specs.Workers.{Hand, IsWorker, held_in, pending_in}
+use Rattle.nm_tree.specs.Workers.{WorkerView, IsWorker, held_in, pending_in}
 use Rattle.nm_tree.proofs.Freeing.{as_many_queues, collected}
 use Rattle.nm_tree.proofs.RunningTurns.{collected_in_grace}
 use Rattle.nm_tree.proofs.tree.Tree.collect.Goals as goal
@@ -22,10 +22,10 @@ left c =
     with_items_is c.worker.inside.queues c.collect-collected.new.queues (sym (c.worker.inside.queues.ok.0 ∙ as_many_queues c.collect-collected.result.epoch c.worker.inside.queues.items c.collect-collected.new.queues (does c).lost))
 
 -- the worker as it was, and with queues
-before : goal.After-is_of_a_run-2 → Hand
+before : goal.After-is_of_a_run-2 → WorkerView
 before c = record { pass = c.worker.inside.pass; queues = c.worker.inside.queues.items; pending = pending_in c.worker.inside.standing; held = held_in c.worker.inside.standing; fit = c.worker.inside.workspace.placement }
 
-after : goal.After-is_of_a_run-2 → List HeldQueue → Hand
+after : goal.After-is_of_a_run-2 → List HeldQueue → WorkerView
 after c hs = record { pass = c.collect-collected.new.pass; queues = hs; pending = pending_in c.worker.inside.standing; held = held_in c.worker.inside.standing; fit = c.collect-collected.new.placement }
 
 pub invariant_of-worker : goal.invariant_of-worker
@@ -51,6 +51,6 @@ returns c =
       steps = d.steps;
       fit = c.collect-collected.ensures.fit;
     } in
-    subst (λ (b : Board). LeavesCollect b.layout.nodes c.args.worker.now (after c (with_items c.worker.inside.queues c.collect-collected.new.queues).items) c.collect-collected.result) c.self.view_is
-    (subst (λ (w : Hand). LeavesCollect c.self.inside.shared.layout.nodes w (after c (with_items c.worker.inside.queues c.collect-collected.new.queues).items) c.collect-collected.result) c.worker.view_is
+    subst (λ (b : TreeView). LeavesCollect b.layout.nodes c.args.worker.now (after c (with_items c.worker.inside.queues c.collect-collected.new.queues).items) c.collect-collected.result) c.self.view_is
+    (subst (λ (w : WorkerView). LeavesCollect c.self.inside.shared.layout.nodes w (after c (with_items c.worker.inside.queues c.collect-collected.new.queues).items) c.collect-collected.result) c.worker.view_is
     (subst (λ (hs : List HeldQueue). LeavesCollect c.self.inside.shared.layout.nodes (before c) (after c hs) c.collect-collected.result) (sym (left c)) is))

@@ -2,7 +2,7 @@ use Rattle.std.proofs.Common.{rules, inl, inr, None, Some, ap, refl, subst, ◌�
 use Rattle.std.specs.Prelude.{Ok, Err, slice_set}
 use Rattle.nm_model.specs.Maps.{get}
 use Rattle.nm_steps.proofs.Seeing.{seen_all}
-use Rattle.nm_tree.specs.Workers.{Hand, held_in, pending_in}
+use Rattle.nm_tree.specs.Workers.{WorkerView, held_in, pending_in}
 use Rattle.nm_tree.proofs.QueueLists.{lacks_after, stands_within, room_after}
 use Rattle.nm_tree.proofs.Staying.{resting_in, rests_in, rests_as, free_in}
 use Rattle.nm_tree.proofs.Disturbed.{delete_disturbed, delete_lost, delete_alone}
@@ -24,7 +24,7 @@ pub index_mut-own-requires : goal.index_mut-own-requires
 index_mut-own-requires c = omega (arith, stands_within c.worker.inside.home _ c.worker.inside.queues.items c.worker.invariant.own, c.worker.inside.queues.ok.0)
 
 pub delete-requires-clause-rests : goal.delete-requires-clause-rests
-delete-requires-clause-rests c = rests_in c.worker.inside.pass c.worker.inside.standing (resting_in c.worker.inside.standing (ap (λ (w : Hand). w.held) c.worker.view_is ∙ c.requires.free) c.in_default.not-Pending) c.worker.invariant.between.stands
+delete-requires-clause-rests c = rests_in c.worker.inside.pass c.worker.inside.standing (resting_in c.worker.inside.standing (ap (λ (w : WorkerView). w.held) c.worker.view_is ∙ c.requires.free) c.in_default.not-Pending) c.worker.invariant.between.stands
 
 pub delete-requires-clause-kept : goal.delete-requires-clause-kept
 delete-requires-clause-kept c = kept_there _ c.worker.inside.home _ c.worker.invariant c.index_mut-own.ensures.value
@@ -32,14 +32,14 @@ delete-requires-clause-kept c = kept_there _ c.worker.inside.home _ c.worker.inv
 pub invariant_of-worker : goal.invariant_of-worker
 invariant_of-worker c =
     changed _ c.worker.inside.home c.delete.new.pass _ _ c.delete.new.held c.worker.invariant c.delete.ensures.after.same c.delete.ensures.kept
-    c.delete.ensures.after.ledgers.others (λ slot. ap (λ ds. get ds slot) c.delete.ensures.after.private) (rests_as c.delete.new.pass c.worker.inside.standing (resting_in c.worker.inside.standing (ap (λ (w : Hand). w.held) c.worker.view_is ∙ c.requires.free) c.in_default.not-Pending) c.in-Ok.ensures.after.stands)
+    c.delete.ensures.after.ledgers.others (λ slot. ap (λ ds. get ds slot) c.delete.ensures.after.private) (rests_as c.delete.new.pass c.worker.inside.standing (resting_in c.worker.inside.standing (ap (λ (w : WorkerView). w.held) c.worker.view_is ∙ c.requires.free) c.in_default.not-Pending) c.in-Ok.ensures.after.stands)
     (_, c.index_mut-own.ensures.value, c.delete.ensures.blocks)
 
 pub returns-in-Ok-clause-says : goal.returns-in-Ok-clause-says
 returns-in-Ok-clause-says c = record {
   same = search rules;
   past = search (rules, seen_all);
-  told = rw (← c.worker.view_is) (free_in c.worker.inside.standing (resting_in c.worker.inside.standing (ap (λ (w : Hand). w.held) c.worker.view_is ∙ c.requires.free) c.in_default.not-Pending));
+  told = rw (← c.worker.view_is) (free_in c.worker.inside.standing (resting_in c.worker.inside.standing (ap (λ (w : WorkerView). w.held) c.worker.view_is ∙ c.requires.free) c.in_default.not-Pending));
   moment = search rules;
   won = search rules;
   steps = search rules;
@@ -54,7 +54,7 @@ returns-in-Ok-clause-leaves c = record {
   says = returns-in-Ok-clause-says c;
   did = (
       deleted_so _ _ c.args.tries c.args.key _ _ (record { pass = c.delete.new.pass; queues = slice_set c.worker.inside.queues.items c.worker.inside.home c.delete.new.held; pending = pending_in c.worker.inside.standing; held = held_in c.worker.inside.standing; fit = c.delete.new.workspace.placement })
-      (Ok c.in-Ok.answer) c.self.view_is c.worker.view_is (free_in c.worker.inside.standing (resting_in c.worker.inside.standing (ap (λ (w : Hand). w.held) c.worker.view_is ∙ c.requires.free) c.in_default.not-Pending), c.in-Ok.ensures.after.did)
+      (Ok c.in-Ok.answer) c.self.view_is c.worker.view_is (free_in c.worker.inside.standing (resting_in c.worker.inside.standing (ap (λ (w : WorkerView). w.held) c.worker.view_is ∙ c.requires.free) c.in_default.not-Pending), c.in-Ok.ensures.after.did)
       );
   lacks = search rules;
   disturbed = λ is. absurd (let no = is in cc);
@@ -64,14 +64,14 @@ returns-in-Ok-clause-leaves c = record {
 pub invariant_of-worker-in-Err-Busy : goal.invariant_of-worker-in-Err-Busy
 invariant_of-worker-in-Err-Busy c =
     changed _ c.worker.inside.home c.delete.new.pass _ _ c.delete.new.held c.worker.invariant c.delete.ensures.after.same c.delete.ensures.kept
-    c.delete.ensures.after.ledgers.others (λ slot. ap (λ ds. get ds slot) c.delete.ensures.after.private) (rests_as c.delete.new.pass c.worker.inside.standing (resting_in c.worker.inside.standing (ap (λ (w : Hand). w.held) c.worker.view_is ∙ c.requires.free) c.in_default.not-Pending) (rw c.in-Err-Busy.field-0-is at c.in-Err-Busy.ensures.after.stands))
+    c.delete.ensures.after.ledgers.others (λ slot. ap (λ ds. get ds slot) c.delete.ensures.after.private) (rests_as c.delete.new.pass c.worker.inside.standing (resting_in c.worker.inside.standing (ap (λ (w : WorkerView). w.held) c.worker.view_is ∙ c.requires.free) c.in_default.not-Pending) (rw c.in-Err-Busy.field-0-is at c.in-Err-Busy.ensures.after.stands))
     (_, c.index_mut-own.ensures.value, c.delete.ensures.blocks)
 
 pub returns-in-Err-Busy-clause-says : goal.returns-in-Err-Busy-clause-says
 returns-in-Err-Busy-clause-says c = record {
   same = search rules;
   past = search (rules, seen_all);
-  told = rw (← c.worker.view_is) (free_in c.worker.inside.standing (resting_in c.worker.inside.standing (ap (λ (w : Hand). w.held) c.worker.view_is ∙ c.requires.free) c.in_default.not-Pending));
+  told = rw (← c.worker.view_is) (free_in c.worker.inside.standing (resting_in c.worker.inside.standing (ap (λ (w : WorkerView). w.held) c.worker.view_is ∙ c.requires.free) c.in_default.not-Pending));
   moment = search rules;
   won = search rules;
   steps = search rules;
@@ -86,12 +86,12 @@ returns-in-Err-Busy-clause-leaves c = record {
   says = returns-in-Err-Busy-clause-says c;
   did = (
       deleted_so _ _ c.args.tries c.args.key _ _ (record { pass = c.delete.new.pass; queues = slice_set c.worker.inside.queues.items c.worker.inside.home c.delete.new.held; pending = pending_in c.worker.inside.standing; held = held_in c.worker.inside.standing; fit = c.delete.new.workspace.placement })
-      (Err fault.Busy) c.self.view_is c.worker.view_is (free_in c.worker.inside.standing (resting_in c.worker.inside.standing (ap (λ (w : Hand). w.held) c.worker.view_is ∙ c.requires.free) c.in_default.not-Pending), (let P : Missed → Type 0 = λ m. DeleteDid c.self.inside.shared.layout c.args.tries c.args.key c.worker.inside.pass.view.log c.delete.new.pass.view.log (Err m) in subst P c.in-Err-Busy.field-0-is c.in-Err-Busy.ensures.after.did))
+      (Err fault.Busy) c.self.view_is c.worker.view_is (free_in c.worker.inside.standing (resting_in c.worker.inside.standing (ap (λ (w : WorkerView). w.held) c.worker.view_is ∙ c.requires.free) c.in_default.not-Pending), (let P : Missed → Type 0 = λ m. DeleteDid c.self.inside.shared.layout c.args.tries c.args.key c.worker.inside.pass.view.log c.delete.new.pass.view.log (Err m) in subst P c.in-Err-Busy.field-0-is c.in-Err-Busy.ensures.after.did))
       );
   lacks = search rules;
   disturbed = λ is. (
       let P : Missed → Type 0 = λ m. DeleteDid c.self.inside.shared.layout c.args.tries c.args.key c.worker.inside.pass.view.log c.delete.new.pass.view.log (Err m) in
-      delete_disturbed c.self.inside.shared c.args.self.now c.worker.inside.pass c.args.worker.now.pass c.delete.new.pass c.args.key c.args.tries c.self.view_is (ap (λ (x : Hand). x.pass) c.worker.view_is)
+      delete_disturbed c.self.inside.shared c.args.self.now c.worker.inside.pass c.args.worker.now.pass c.delete.new.pass c.args.key c.args.tries c.self.view_is (ap (λ (x : WorkerView). x.pass) c.worker.view_is)
       c.is_of_a_run.ensures.seen c.is_of_a_run-in-Err-Busy.ensures.seen c.is_of_a_run.ensures.fits c.delete.ensures.after.same c.delete.ensures.after.past c.requires.own (subst P c.in-Err-Busy.field-0-is c.in-Err-Busy.ensures.after.did)
       );
   lost = λ is. absurd (let no = is in cc);
@@ -100,14 +100,14 @@ returns-in-Err-Busy-clause-leaves c = record {
 pub returns-in-Err-Busy-clause-alone : goal.returns-in-Err-Busy-clause-alone
 returns-in-Err-Busy-clause-alone c alone none is =
     let P : Missed → Type 0 = λ m. DeleteDid c.self.inside.shared.layout c.args.tries c.args.key c.worker.inside.pass.view.log c.delete.new.pass.view.log (Err m) in
-    delete_alone c.self.inside.shared c.args.self.now c.worker.inside.pass c.args.worker.now.pass c.delete.new.pass c.args.key c.args.tries c.self.view_is (ap (λ (x : Hand). x.pass) c.worker.view_is)
+    delete_alone c.self.inside.shared c.args.self.now c.worker.inside.pass c.args.worker.now.pass c.delete.new.pass c.args.key c.args.tries c.self.view_is (ap (λ (x : WorkerView). x.pass) c.worker.view_is)
     c.is_of_a_run.ensures.seen c.is_of_a_run-in-Err-Busy.ensures.seen c.is_of_a_run.ensures.fits c.delete.ensures.after.same c.delete.ensures.after.past c.requires.own alone none
     (subst P c.in-Err-Busy.field-0-is c.in-Err-Busy.ensures.after.did)
 
 pub invariant_of-worker-in-Err-NoMemory : goal.invariant_of-worker-in-Err-NoMemory
 invariant_of-worker-in-Err-NoMemory c =
     changed _ c.worker.inside.home c.delete.new.pass _ _ c.delete.new.held c.worker.invariant c.delete.ensures.after.same c.delete.ensures.kept
-    c.delete.ensures.after.ledgers.others (λ slot. ap (λ ds. get ds slot) c.delete.ensures.after.private) (rests_as c.delete.new.pass c.worker.inside.standing (resting_in c.worker.inside.standing (ap (λ (w : Hand). w.held) c.worker.view_is ∙ c.requires.free) c.in_default.not-Pending) (rw c.in-Err-NoMemory.field-0-is at c.in-Err-NoMemory.ensures.after.stands))
+    c.delete.ensures.after.ledgers.others (λ slot. ap (λ ds. get ds slot) c.delete.ensures.after.private) (rests_as c.delete.new.pass c.worker.inside.standing (resting_in c.worker.inside.standing (ap (λ (w : WorkerView). w.held) c.worker.view_is ∙ c.requires.free) c.in_default.not-Pending) (rw c.in-Err-NoMemory.field-0-is at c.in-Err-NoMemory.ensures.after.stands))
     (_, c.index_mut-own.ensures.value, c.delete.ensures.blocks)
 
 pub returns-in-Err-NoMemory-clause-says : goal.returns-in-Err-NoMemory-clause-says
@@ -116,7 +116,7 @@ returns-in-Err-NoMemory-clause-says c = record {
   past = search (rules, seen_all);
   told = (
       let P : Missed → Type 0 = λ m. LacksRoomOr (LosesAfterFlag c.self.inside.shared.layout c.args.tries c.args.key c.worker.inside.pass.view.log c.delete.new.pass.view.log) c.delete.new.held.queue.spare m in
-      (rw (← c.worker.view_is) (free_in c.worker.inside.standing (resting_in c.worker.inside.standing (ap (λ (w : Hand). w.held) c.worker.view_is ∙ c.requires.free) c.in_default.not-Pending)), lacks_after c.worker.inside.home _ _ c.worker.inside.queues.items c.delete.new.held c.worker.invariant.own c.delete.ensures.kept.own (subst P c.in-Err-NoMemory.field-0-is c.in-Err-NoMemory.ensures.refused))
+      (rw (← c.worker.view_is) (free_in c.worker.inside.standing (resting_in c.worker.inside.standing (ap (λ (w : WorkerView). w.held) c.worker.view_is ∙ c.requires.free) c.in_default.not-Pending)), lacks_after c.worker.inside.home _ _ c.worker.inside.queues.items c.delete.new.held c.worker.invariant.own c.delete.ensures.kept.own (subst P c.in-Err-NoMemory.field-0-is c.in-Err-NoMemory.ensures.refused))
       );
   moment = search rules;
   won = search rules;
@@ -132,7 +132,7 @@ returns-in-Err-NoMemory-clause-leaves c = record {
   says = returns-in-Err-NoMemory-clause-says c;
   did = (
       deleted_so _ _ c.args.tries c.args.key _ _ (record { pass = c.delete.new.pass; queues = slice_set c.worker.inside.queues.items c.worker.inside.home c.delete.new.held; pending = pending_in c.worker.inside.standing; held = held_in c.worker.inside.standing; fit = c.delete.new.workspace.placement })
-      (Err fault.NoMemory) c.self.view_is c.worker.view_is (free_in c.worker.inside.standing (resting_in c.worker.inside.standing (ap (λ (w : Hand). w.held) c.worker.view_is ∙ c.requires.free) c.in_default.not-Pending), (let P : Missed → Type 0 = λ m. DeleteDid c.self.inside.shared.layout c.args.tries c.args.key c.worker.inside.pass.view.log c.delete.new.pass.view.log (Err m) in subst P c.in-Err-NoMemory.field-0-is c.in-Err-NoMemory.ensures.after.did))
+      (Err fault.NoMemory) c.self.view_is c.worker.view_is (free_in c.worker.inside.standing (resting_in c.worker.inside.standing (ap (λ (w : WorkerView). w.held) c.worker.view_is ∙ c.requires.free) c.in_default.not-Pending), (let P : Missed → Type 0 = λ m. DeleteDid c.self.inside.shared.layout c.args.tries c.args.key c.worker.inside.pass.view.log c.delete.new.pass.view.log (Err m) in subst P c.in-Err-NoMemory.field-0-is c.in-Err-NoMemory.ensures.after.did))
       );
   lacks = (
       let P : Missed → Type 0 = λ m. LacksRoomOr (LosesAfterFlag c.self.inside.shared.layout c.args.tries c.args.key c.worker.inside.pass.view.log c.delete.new.pass.view.log) c.delete.new.held.queue.spare m in
@@ -152,7 +152,7 @@ pub returns-in-Err-Unfinished-clause-says : goal.returns-in-Err-Unfinished-claus
 returns-in-Err-Unfinished-clause-says c = record {
   same = search rules;
   past = search (rules, seen_all);
-  told = rw (← c.worker.view_is) ((free_in c.worker.inside.standing (resting_in c.worker.inside.standing (ap (λ (w : Hand). w.held) c.worker.view_is ∙ c.requires.free) c.in_default.not-Pending)).0, c.in-Err-Unfinished.leaf, refl);
+  told = rw (← c.worker.view_is) ((free_in c.worker.inside.standing (resting_in c.worker.inside.standing (ap (λ (w : WorkerView). w.held) c.worker.view_is ∙ c.requires.free) c.in_default.not-Pending)).0, c.in-Err-Unfinished.leaf, refl);
   moment = search rules;
   won = search rules;
   steps = search rules;
@@ -167,7 +167,7 @@ returns-in-Err-Unfinished-clause-leaves c = record {
   says = returns-in-Err-Unfinished-clause-says c;
   did = (
       deleted_so _ _ c.args.tries c.args.key _ _ (record { pass = c.delete.new.pass; queues = slice_set c.worker.inside.queues.items c.worker.inside.home c.delete.new.held; pending = Some (record { key = c.args.key; leaf = c.in-Err-Unfinished.leaf }); held = None; fit = c.delete.new.workspace.placement })
-      (Err fault.Unfinished) c.self.view_is c.worker.view_is ((free_in c.worker.inside.standing (resting_in c.worker.inside.standing (ap (λ (w : Hand). w.held) c.worker.view_is ∙ c.requires.free) c.in_default.not-Pending)).0, c.in-Err-Unfinished.leaf, refl, (let P : Missed → Type 0 = λ m. DeleteDid c.self.inside.shared.layout c.args.tries c.args.key c.worker.inside.pass.view.log c.delete.new.pass.view.log (Err m) in subst P c.in-Err-Unfinished.field-0-is c.in-Err-Unfinished.ensures.after.did))
+      (Err fault.Unfinished) c.self.view_is c.worker.view_is ((free_in c.worker.inside.standing (resting_in c.worker.inside.standing (ap (λ (w : WorkerView). w.held) c.worker.view_is ∙ c.requires.free) c.in_default.not-Pending)).0, c.in-Err-Unfinished.leaf, refl, (let P : Missed → Type 0 = λ m. DeleteDid c.self.inside.shared.layout c.args.tries c.args.key c.worker.inside.pass.view.log c.delete.new.pass.view.log (Err m) in subst P c.in-Err-Unfinished.field-0-is c.in-Err-Unfinished.ensures.after.did))
       );
   lacks = (
       let P : Missed → Type 0 = λ m. LacksRoomOr (LosesAfterFlag c.self.inside.shared.layout c.args.tries c.args.key c.worker.inside.pass.view.log c.delete.new.pass.view.log) c.delete.new.held.queue.spare m in
@@ -183,7 +183,7 @@ returns-in-Err-Unfinished-clause-leaves c = record {
       (elim (subst P c.in-Err-Unfinished.field-0-is c.in-Err-Unfinished.ensures.refused) [
         | inl less ↦ inl (lacks_after c.worker.inside.home _ _ c.worker.inside.queues.items c.delete.new.held c.worker.invariant.own c.delete.ensures.kept.own less)
         | inr lost ↦ inr
-            (delete_lost c.self.inside.shared c.args.self.now c.worker.inside.pass c.args.worker.now.pass c.delete.new.pass c.args.key c.args.tries c.self.view_is (ap (λ (x : Hand). x.pass) c.worker.view_is)
+            (delete_lost c.self.inside.shared c.args.self.now c.worker.inside.pass c.args.worker.now.pass c.delete.new.pass c.args.key c.args.tries c.self.view_is (ap (λ (x : WorkerView). x.pass) c.worker.view_is)
             c.is_of_a_run.ensures.seen c.is_of_a_run-in-Err-Unfinished.ensures.seen c.is_of_a_run.ensures.fits c.delete.ensures.after.same c.delete.ensures.after.past c.requires.own c.in-Err-Unfinished.leaf
             (rw c.in-Err-Unfinished.field-0-is at c.in-Err-Unfinished.ensures.after.stands) lost)
       ])

@@ -2,10 +2,10 @@ use Rattle.std.proofs.Common.{rules, inl, inr, sym, None, ap, refl, subst, ◌�
 use Rattle.std.specs.Prelude.{Ok, IsSome, slice_set}
 use Rattle.nm_model.specs.Maps.{get}
 use Rattle.nm_model.specs.declared.event.Op.TheVariants.{Delete}
-use Rattle.nm_steps.specs.Steps.{Stand}
+use Rattle.nm_steps.specs.Steps.{PassView}
 use Rattle.nm_calls.specs.Moments.{AnswerHasMoment, HadNoCall}
 use Rattle.nm_steps.proofs.Seeing.{seen_all}
-use Rattle.nm_tree.specs.Workers.{Hand, pending_in}
+use Rattle.nm_tree.specs.Workers.{WorkerView, pending_in}
 use Rattle.nm_tree.proofs.QueueLists.{lacks_after, stands_within, room_after}
 use Rattle.nm_tree.proofs.Changing.{kept_there, changed, others_kept}
 use Rattle.nm_tree.proofs.Staying.{removing_in}
@@ -62,7 +62,7 @@ returns-then-not-finish-clause-leaves c = record {
       (elim (c.finish.ensures.refused c.if-not-finish.true) [
         | inl less ↦ inl (lacks_after c.worker.inside.home _ _ c.worker.inside.queues.items c.finish.new.held c.worker.invariant.own c.finish.ensures.kept.own less)
         | inr lost ↦ inr
-            (finish_lost c.self.inside.shared c.args.self.now c.worker.inside.pass c.args.worker.now.pass c.finish.new.pass c.in-Pending.pending.key c.args.tries c.self.view_is (ap (λ (x : Hand). x.pass) c.worker.view_is)
+            (finish_lost c.self.inside.shared c.args.self.now c.worker.inside.pass c.args.worker.now.pass c.finish.new.pass c.in-Pending.pending.key c.args.tries c.self.view_is (ap (λ (x : WorkerView). x.pass) c.worker.view_is)
             c.is_of_a_run.ensures.seen c.is_of_a_run-then-not-finish.ensures.seen c.is_of_a_run.ensures.fits c.finish.ensures.after.same c.finish.ensures.after.past c.requires.own c.in-Pending.pending.leaf (c.finish.ensures.after.removing c.if-not-finish.true) lost)
       ])
       );
@@ -81,8 +81,8 @@ returns-clause-says c = record {
   told = rw (← c.worker.view_is) (subst IsSome (sym (ap pending_in c.in-Pending.is)) refl, refl);
   moment = (
       let n = c.in-Pending.pending in
-      let P : Hand → Type 0 = λ w. (o : Stand) → HadNoCall o w.pass → AnswerHasMoment o c.finish.new.pass Delete n.key true in
-      (n, ap (λ (w : Hand). w.pending) (sym c.worker.view_is) ∙ ap pending_in c.in-Pending.is, subst P c.worker.view_is (c.finish.ensures.after.moment c.if-not-finish.false))
+      let P : WorkerView → Type 0 = λ w. (o : PassView) → HadNoCall o w.pass → AnswerHasMoment o c.finish.new.pass Delete n.key true in
+      (n, ap (λ (w : WorkerView). w.pending) (sym c.worker.view_is) ∙ ap pending_in c.in-Pending.is, subst P c.worker.view_is (c.finish.ensures.after.moment c.if-not-finish.false))
       );
   won = search rules;
   steps = search rules;

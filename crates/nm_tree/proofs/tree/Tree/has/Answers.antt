@@ -1,7 +1,7 @@
 use Rattle.std.proofs.Common.{rules, ◌≡◌, ap, sym, ◌∙◌}
 use Rattle.nm_steps.proofs.Seeing.{seen_all}
 use Rattle.nm_tree.specs.declared.worker.Standing.TheVariants as standing
-use Rattle.nm_tree.specs.Workers.{Hand}
+use Rattle.nm_tree.specs.Workers.{WorkerView}
 use Rattle.nm_tree.proofs.Disturbed.{lookup_disturbed, lookup_alone}
 use Rattle.nm_tree.proofs.Quiet.{has_quiet}
 use Rattle.nm_tree.proofs.Staying.{stays_resting, resting_in, free_in}
@@ -10,7 +10,7 @@ use Rattle.nm_tree.proofs.tree.Tree.has.Goals as goal
 use Rattle.nm_tree.proofs.tree.Tree.has.Goals.{in-Ok, in-Err}
 
 resting : (c : goal.Joined-has) → c.worker.inside.standing ≡ standing.Resting
-resting c = resting_in c.worker.inside.standing (ap (λ (w : Hand). w.held) c.worker.view_is ∙ c.requires.free) c.in_default.not-Pending
+resting c = resting_in c.worker.inside.standing (ap (λ (w : WorkerView). w.held) c.worker.view_is ∙ c.requires.free) c.in_default.not-Pending
 
 pub invariant_of-worker : goal.invariant_of-worker
 invariant_of-worker c = stays_resting c.worker.inside.pass c.has.new.pass _ c.worker.inside.standing c.worker.inside.home (resting c) c.worker.invariant c.has.ensures.same (has_quiet _ c.args.tries c.args.key _ _ c.has.result c.has.ensures.did c.has.ensures.missed) c.has.ensures.hands c.has.ensures.rests
@@ -34,7 +34,7 @@ returns-clause-says c = record {
   disturbed = λ is. (
       elim c.match-has.branch [
         | in-Ok w ↦ absurd (let both = sym w.result-is ∙ is in cc)
-        | in-Err w ↦ lookup_disturbed c.self.inside.shared c.args.self.now c.worker.inside.pass c.args.worker.now.pass c.has.new.pass c.args.key c.args.tries c.self.view_is (ap (λ (x : Hand). x.pass) c.worker.view_is)
+        | in-Err w ↦ lookup_disturbed c.self.inside.shared c.args.self.now c.worker.inside.pass c.args.worker.now.pass c.has.new.pass c.args.key c.args.tries c.self.view_is (ap (λ (x : WorkerView). x.pass) c.worker.view_is)
             c.is_of_a_run.ensures.seen w.is_of_a_run-in-Err.ensures.seen c.is_of_a_run.ensures.fits c.has.ensures.same c.has.ensures.past c.requires.own w.in-Err.ensures.missed
       ]
       );
@@ -61,6 +61,6 @@ pub returns-clause-alone : goal.returns-clause-alone
 returns-clause-alone c alone is =
     elim c.match-has.branch [
       | in-Ok w ↦ absurd (let both = sym w.result-is ∙ is in cc)
-      | in-Err w ↦ lookup_alone c.self.inside.shared c.args.self.now c.worker.inside.pass c.args.worker.now.pass c.has.new.pass c.args.key c.args.tries c.self.view_is (ap (λ (x : Hand). x.pass) c.worker.view_is)
+      | in-Err w ↦ lookup_alone c.self.inside.shared c.args.self.now c.worker.inside.pass c.args.worker.now.pass c.has.new.pass c.args.key c.args.tries c.self.view_is (ap (λ (x : WorkerView). x.pass) c.worker.view_is)
           c.is_of_a_run.ensures.seen w.is_of_a_run-in-Err.ensures.seen c.is_of_a_run.ensures.fits c.has.ensures.same c.has.ensures.past c.requires.own alone w.in-Err.ensures.missed
     ]

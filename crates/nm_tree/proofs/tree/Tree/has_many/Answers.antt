@@ -3,7 +3,7 @@ use Rattle.nm_steps.proofs.Seeing.{seen_all}
 use Rattle.nm_calls.specs.InTurns.{key_of}
 use Rattle.nm_tree.specs.declared.worker.Standing.TheVariants as standing
 use Rattle.nm_busy.proofs.AloneCalls.{many_alone}
-use Rattle.nm_tree.specs.Workers.{Hand}
+use Rattle.nm_tree.specs.Workers.{WorkerView}
 use Rattle.nm_tree.proofs.Disturbed.{many_disturbed}
 use Rattle.nm_tree.proofs.Quiet.{quiet_so}
 use Rattle.nm_tree.proofs.Staying.{stays_resting, resting_in, free_in}
@@ -11,7 +11,7 @@ use Rattle.nm_tree.proofs.tree.Tree.has_many.Goals as goal
 use Rattle.nm_tree.proofs.tree.Tree.has_many.Goals.{in-Ok, in-Err}
 
 resting : (c : goal.Joined-has_many) → c.worker.inside.standing ≡ standing.Resting
-resting c = resting_in c.worker.inside.standing (ap (λ (w : Hand). w.held) c.worker.view_is ∙ c.requires.free) c.in_default.not-Pending
+resting c = resting_in c.worker.inside.standing (ap (λ (w : WorkerView). w.held) c.worker.view_is ∙ c.requires.free) c.in_default.not-Pending
 
 pub invariant_of-worker : goal.invariant_of-worker
 invariant_of-worker c = stays_resting c.worker.inside.pass c.has_many.new.pass _ c.worker.inside.standing c.worker.inside.home (resting c) c.worker.invariant c.has_many.ensures.same (quiet_so _ _ c.has_many.ensures.won c.has_many.ensures.uncut) c.has_many.ensures.hands c.has_many.ensures.rests
@@ -30,14 +30,14 @@ returns c = record {
   disturbed = λ is. (
       elim c.match-has_many.branch [
         | in-Ok w ↦ absurd (let both = sym w.result-is ∙ is in cc)
-        | in-Err w ↦ many_disturbed c.self.inside.shared c.args.self.now c.worker.inside.pass c.args.worker.now.pass c.has_many.new.pass 0 c.args.tries c.self.view_is (ap (λ (x : Hand). x.pass) c.worker.view_is)
+        | in-Err w ↦ many_disturbed c.self.inside.shared c.args.self.now c.worker.inside.pass c.args.worker.now.pass c.has_many.new.pass 0 c.args.tries c.self.view_is (ap (λ (x : WorkerView). x.pass) c.worker.view_is)
             c.is_of_a_run.ensures.seen w.is_of_a_run-in-Err.ensures.seen c.is_of_a_run.ensures.fits c.has_many.ensures.same c.has_many.ensures.past c.requires.own (map key_of c.args.queries.now) w.in-Err.ensures.missed
       ]
       );
   alone = λ alone is. (
       elim c.match-has_many.branch [
         | in-Ok w ↦ absurd (let both = sym w.result-is ∙ is in cc)
-        | in-Err w ↦ many_alone c.args.worker.now.pass c.has_many.new.pass c.args.tries alone (many_disturbed c.self.inside.shared c.args.self.now c.worker.inside.pass c.args.worker.now.pass c.has_many.new.pass 0 c.args.tries c.self.view_is (ap (λ (x : Hand). x.pass) c.worker.view_is)
+        | in-Err w ↦ many_alone c.args.worker.now.pass c.has_many.new.pass c.args.tries alone (many_disturbed c.self.inside.shared c.args.self.now c.worker.inside.pass c.args.worker.now.pass c.has_many.new.pass 0 c.args.tries c.self.view_is (ap (λ (x : WorkerView). x.pass) c.worker.view_is)
             c.is_of_a_run.ensures.seen w.is_of_a_run-in-Err.ensures.seen c.is_of_a_run.ensures.fits c.has_many.ensures.same c.has_many.ensures.past c.requires.own (map key_of c.args.queries.now) w.in-Err.ensures.missed)
       ]
       );

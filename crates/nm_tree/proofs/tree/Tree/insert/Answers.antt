@@ -2,7 +2,7 @@ use Rattle.std.proofs.Common.{rules, ◌≡◌, ap, sym, subst, ◌∙◌, arith
 use Rattle.std.specs.Prelude.{Ok, Err}
 use Rattle.nm_steps.proofs.Seeing.{seen_all}
 use Rattle.nm_tree.specs.declared.worker.Standing.TheVariants as standing
-use Rattle.nm_tree.specs.Workers.{Hand}
+use Rattle.nm_tree.specs.Workers.{WorkerView}
 use Rattle.nm_tree.proofs.QueueLists.{lacks_after, stands_within, room_after}
 use Rattle.nm_tree.proofs.Staying.{resting_in, rests_in, rests_as, free_in}
 use Rattle.nm_tree.proofs.Disturbed.{insert_disturbed, insert_alone}
@@ -26,13 +26,13 @@ index_mut-own-requires c = omega (arith, stands_within c.worker.inside.home _ c.
 
 pub insert-requires-clause-rests : goal.insert-requires-clause-rests
 insert-requires-clause-rests c =
-    rests_in c.worker.inside.pass c.worker.inside.standing (resting_in c.worker.inside.standing (ap (λ (w : Hand). w.held) c.worker.view_is ∙ c.requires.free) c.in_default.not-Pending) c.worker.invariant.between.stands
+    rests_in c.worker.inside.pass c.worker.inside.standing (resting_in c.worker.inside.standing (ap (λ (w : WorkerView). w.held) c.worker.view_is ∙ c.requires.free) c.in_default.not-Pending) c.worker.invariant.between.stands
 
 pub insert-requires-clause-kept : goal.insert-requires-clause-kept
 insert-requires-clause-kept c = kept_there _ c.worker.inside.home _ c.worker.invariant c.index_mut-own.ensures.value
 
 resting : (c : goal.Joined-insert) → c.worker.inside.standing ≡ standing.Resting
-resting c = resting_in c.worker.inside.standing (ap (λ (w : Hand). w.held) c.worker.view_is ∙ c.requires.free) c.in_default.not-Pending
+resting c = resting_in c.worker.inside.standing (ap (λ (w : WorkerView). w.held) c.worker.view_is ∙ c.requires.free) c.in_default.not-Pending
 
 pub invariant_of-worker : goal.invariant_of-worker
 invariant_of-worker c =
@@ -86,7 +86,7 @@ returns-clause-leaves c = record {
         | in-Ok w ↦ absurd (let both = sym w.result-is ∙ is in cc)
         | in-Err-Busy w ↦
             let P : Lost → Type 0 = λ m. InsertDid c.worker.inside.workspace.placement c.self.inside.shared.layout c.args.tries c.args.key c.worker.inside.pass.view.log c.insert.new.pass.view.log (Err m) in
-            insert_disturbed c.self.inside.shared c.args.self.now c.worker.inside.pass c.args.worker.now.pass c.insert.new.pass c.args.key c.args.tries c.self.view_is (ap (λ (x : Hand). x.pass) c.worker.view_is)
+            insert_disturbed c.self.inside.shared c.args.self.now c.worker.inside.pass c.args.worker.now.pass c.insert.new.pass c.args.key c.args.tries c.self.view_is (ap (λ (x : WorkerView). x.pass) c.worker.view_is)
             c.is_of_a_run.ensures.seen w.is_of_a_run-in-Err-Busy.ensures.seen c.is_of_a_run.ensures.fits c.insert.ensures.after.same c.insert.ensures.after.past c.requires.own _
             (subst P w.in-Err-Busy.field-0-is w.in-Err-Busy.ensures.after.did)
         | in-Err-Full w ↦ absurd (let both = sym w.result-is ∙ is in cc)
@@ -101,7 +101,7 @@ returns-clause-alone c alone none is =
       | in-Ok w ↦ absurd (let both = sym w.result-is ∙ is in cc)
       | in-Err-Busy w ↦
           let P : Lost → Type 0 = λ m. InsertDid c.worker.inside.workspace.placement c.self.inside.shared.layout c.args.tries c.args.key c.worker.inside.pass.view.log c.insert.new.pass.view.log (Err m) in
-          insert_alone c.self.inside.shared c.args.self.now c.worker.inside.pass c.args.worker.now.pass c.insert.new.pass c.args.key c.args.tries c.self.view_is (ap (λ (x : Hand). x.pass) c.worker.view_is)
+          insert_alone c.self.inside.shared c.args.self.now c.worker.inside.pass c.args.worker.now.pass c.insert.new.pass c.args.key c.args.tries c.self.view_is (ap (λ (x : WorkerView). x.pass) c.worker.view_is)
           c.is_of_a_run.ensures.seen w.is_of_a_run-in-Err-Busy.ensures.seen c.is_of_a_run.ensures.fits c.insert.ensures.after.same c.insert.ensures.after.past c.requires.own _ alone none
           (subst P w.in-Err-Busy.field-0-is w.in-Err-Busy.ensures.after.did)
       | in-Err-Full w ↦ absurd (let both = sym w.result-is ∙ is in cc)

@@ -5,7 +5,7 @@ use Rattle.nm_tree.specs.declared.worker.Standing.TheVariants as standing
 use Rattle.nm_busy.specs.Walked.{NearWasBusy}
 use Rattle.nm_busy.proofs.AloneCalls.{near_alone}
 use Rattle.nm_tree.specs.declared.fault.CallFault.TheVariants as fault
-use Rattle.nm_tree.specs.Workers.{Hand}
+use Rattle.nm_tree.specs.Workers.{WorkerView}
 use Rattle.nm_tree.proofs.Disturbed.{prev_disturbed}
 use Rattle.nm_tree.proofs.Quiet.{quiet_so}
 use Rattle.nm_tree.proofs.Staying.{stays_resting, resting_in, free_in}
@@ -13,7 +13,7 @@ use Rattle.nm_tree.proofs.tree.Tree.prev.Goals as goal
 use Rattle.nm_tree.proofs.tree.Tree.prev.Goals.{in-Ok, in-Err}
 
 resting : (c : goal.Joined-prev) → c.worker.inside.standing ≡ standing.Resting
-resting c = resting_in c.worker.inside.standing (ap (λ (w : Hand). w.held) c.worker.view_is ∙ c.requires.free) c.in_default.not-Pending
+resting c = resting_in c.worker.inside.standing (ap (λ (w : WorkerView). w.held) c.worker.view_is ∙ c.requires.free) c.in_default.not-Pending
 
 pub invariant_of-worker : goal.invariant_of-worker
 invariant_of-worker c = stays_resting c.worker.inside.pass c.prev.new.pass _ c.worker.inside.standing c.worker.inside.home (resting c) c.worker.invariant c.prev.ensures.same (quiet_so _ _ c.prev.ensures.won c.prev.ensures.uncut) c.prev.ensures.hands c.prev.ensures.rests
@@ -22,7 +22,7 @@ why : (c : goal.Joined-prev) → IsErrOf c.match-prev.result fault.Busy → Near
 why c is =
     elim c.match-prev.branch [
       | in-Ok w ↦ absurd (let both = sym w.result-is ∙ is in cc)
-      | in-Err w ↦ prev_disturbed c.self.inside.shared c.args.self.now c.worker.inside.pass c.args.worker.now.pass c.prev.new.pass c.args.key c.args.tries c.self.view_is (ap (λ (x : Hand). x.pass) c.worker.view_is)
+      | in-Err w ↦ prev_disturbed c.self.inside.shared c.args.self.now c.worker.inside.pass c.args.worker.now.pass c.prev.new.pass c.args.key c.args.tries c.self.view_is (ap (λ (x : WorkerView). x.pass) c.worker.view_is)
           c.is_of_a_run.ensures.seen w.is_of_a_run-in-Err.ensures.seen c.is_of_a_run.ensures.fits c.prev.ensures.same c.prev.ensures.past c.requires.own w.in-Err.ensures.missed
     ]
 

@@ -1,5 +1,5 @@
 use Rattle.std.proofs.Common.{rules, ap}
-use Rattle.nm_steps.specs.Steps.{Stand}
+use Rattle.nm_steps.specs.Steps.{PassView}
 use Rattle.nm_steps.proofs.Seeing.{seen_by_turn}
 use Rattle.nm_tree.proofs.Quiet.{left}
 use Rattle.nm_tree.proofs.Staying.{stays, labelled}
@@ -7,7 +7,7 @@ use Rattle.nm_tree.proofs.tree.Tree.unpin.Goals as goal
 
 pub invariant_of-worker : goal.invariant_of-worker
 invariant_of-worker c =
-    stays _ c.worker.inside.home c.leave.new.pass _ _ c.worker.invariant (search rules) (left _ _ (ap (λ (x : Stand). x.view.log) c.leave.ensures.took.step)) c.leave.ensures.hands.private
+    stays _ c.worker.inside.home c.leave.new.pass _ _ c.worker.invariant (search rules) (left _ _ (ap (λ (x : PassView). x.view.log) c.leave.ensures.took.step)) c.leave.ensures.hands.private
     (c.leave.ensures.hands.ledgers (labelled c.worker.inside.pass _ _ c.worker.invariant.between.stands)) c.leave.ensures.rests
 
 pub returns : goal.returns

@@ -13,7 +13,7 @@ use std::process::Abort;
 
 /// One worker: its pass, what its calls work with, and the queue of what it cut with its counts.
 #[derive(Drop)]
-pub(super) struct Hand {
+pub(super) struct Worker {
     pub(super) pass: Pass,
     pub(super) workspace: Workspace,
     pub(super) held: HeldQueue,
@@ -21,13 +21,13 @@ pub(super) struct Hand {
 
 /// A worker that has done nothing.
 #[tactic(auto, using(nm_calls::proofs::FreshWorkers::holds_nothing))]
-pub(super) fn starting(alloc: Global, shared: &Shared, pass: Pass) -> Hand
+pub(super) fn starting(alloc: Global, shared: &Shared, pass: Pass) -> Worker
     requires own { IsOf shared.now pass }
     requires new { HasDoneNothing pass }
     ensures { IsAtRest shared.now result.pass result.held }
 {
     let held = HeldQueue::new(pass.number(), alloc);
-    Hand {
+    Worker {
         pass,
         workspace: Workspace::new(Placement::new(Fit::Lowest, 6)),
         held,
@@ -41,45 +41,45 @@ pub(super) fn key(rt: &impl Abort, number: u64) -> Key {
     key
 }
 
-pub(super) fn finds(rt: &impl Abort, shared: &Shared, hand: &mut Hand, key: Key, wanted: bool)
-    requires rests { IsAtRest shared.now hand.old.pass hand.old.held }
-    ensures rests { IsAtRest shared.now hand.new.pass hand.new.held }
+pub(super) fn finds(rt: &impl Abort, shared: &Shared, worker: &mut Worker, key: Key, wanted: bool)
+    requires rests { IsAtRest shared.now worker.old.pass worker.old.held }
+    ensures rests { IsAtRest shared.now worker.new.pass worker.new.held }
 {
-    let found = has(shared, &mut hand.pass, key, 1);
+    let found = has(shared, &mut worker.pass, key, 1);
     assert!(rt; found == Ok(wanted));
 }
 
 pub(super) fn inserts(
     rt: &impl Abort,
     shared: &Shared,
-    hand: &mut Hand,
+    worker: &mut Worker,
     key: Key,
     tries: u32,
     wanted: Result<bool, NotInserted>,
 )
-    requires rests { IsAtRest shared.now hand.old.pass hand.old.held }
-    ensures rests { IsAtRest shared.now hand.new.pass hand.new.held }
+    requires rests { IsAtRest shared.now worker.old.pass worker.old.held }
+    ensures rests { IsAtRest shared.now worker.new.pass worker.new.held }
 {
     let inserted = insert(
         shared,
-        &mut hand.pass,
-        &mut hand.workspace,
-        &mut hand.held,
+        &mut worker.pass,
+        &mut worker.workspace,
+        &mut worker.held,
         key,
         tries,
     );
     assert!(rt; inserted == wanted);
 }
 
-pub(super) fn deletes(rt: &impl Abort, shared: &Shared, hand: &mut Hand, key: Key, wanted: bool)
-    requires rests { IsAtRest shared.now hand.old.pass hand.old.held }
-    ensures rests { IsAtRest shared.now hand.new.pass hand.new.held }
+pub(super) fn deletes(rt: &impl Abort, shared: &Shared, worker: &mut Worker, key: Key, wanted: bool)
+    requires rests { IsAtRest shared.now worker.old.pass worker.old.held }
+    ensures rests { IsAtRest shared.now worker.new.pass worker.new.held }
 {
     let Ok(deleted) = delete(
         shared,
-        &mut hand.pass,
-        &mut hand.workspace,
-        &mut hand.held,
+        &mut worker.pass,
+        &mut worker.workspace,
+        &mut worker.held,
         key,
         2,
     ) else {
@@ -89,15 +89,15 @@ pub(super) fn deletes(rt: &impl Abort, shared: &Shared, hand: &mut Hand, key: Ke
 }
 
 /// Deletes by one try, which flags the leaf and no more.
-pub(super) fn flags(rt: &impl Abort, shared: &Shared, hand: &mut Hand, key: Key) -> NodeId
-    requires rests { IsAtRest shared.now hand.old.pass hand.old.held }
-    ensures pending { IsPendingFor shared.now hand.new.pass hand.new.held key result }
+pub(super) fn flags(rt: &impl Abort, shared: &Shared, worker: &mut Worker, key: Key) -> NodeId
+    requires rests { IsAtRest shared.now worker.old.pass worker.old.held }
+    ensures pending { IsPendingFor shared.now worker.new.pass worker.new.held key result }
 {
     let Err(Missed::Unfinished(leaf)) = delete(
         shared,
-        &mut hand.pass,
-        &mut hand.workspace,
-        &mut hand.held,
+        &mut worker.pass,
+        &mut worker.workspace,
+        &mut worker.held,
         key,
         1,
     ) else {
@@ -106,16 +106,22 @@ pub(super) fn flags(rt: &impl Abort, shared: &Shared, hand: &mut Hand, key: Key)
     leaf
 }
 
-pub(super) fn finishes(rt: &impl Abort, shared: &Shared, hand: &mut Hand, key: Key, leaf: NodeId)
-    requires pending { IsPendingFor shared.now hand.old.pass hand.old.held key leaf }
-    ensures rests { IsAtRest shared.now hand.new.pass hand.new.held }
+pub(super) fn finishes(
+    rt: &impl Abort,
+    shared: &Shared,
+    worker: &mut Worker,
+    key: Key,
+    leaf: NodeId,
+)
+    requires pending { IsPendingFor shared.now worker.old.pass worker.old.held key leaf }
+    ensures rests { IsAtRest shared.now worker.new.pass worker.new.held }
 {
     let pending = Unfinished { key, leaf };
     let finished = finish(
         shared,
-        &mut hand.pass,
-        &mut hand.workspace,
-        &mut hand.held,
+        &mut worker.pass,
+        &mut worker.workspace,
+        &mut worker.held,
         &pending,
         1,
     );
@@ -126,19 +132,19 @@ pub(super) fn finishes(rt: &impl Abort, shared: &Shared, hand: &mut Hand, key: K
 pub(super) fn cannot_finish(
     rt: &impl Abort,
     shared: &Shared,
-    hand: &mut Hand,
+    worker: &mut Worker,
     key: Key,
     leaf: NodeId,
 )
-    requires pending { IsPendingFor shared.now hand.old.pass hand.old.held key leaf }
-    ensures pending { IsPendingFor shared.now hand.new.pass hand.new.held key leaf }
+    requires pending { IsPendingFor shared.now worker.old.pass worker.old.held key leaf }
+    ensures pending { IsPendingFor shared.now worker.new.pass worker.new.held key leaf }
 {
     let pending = Unfinished { key, leaf };
     let finished = finish(
         shared,
-        &mut hand.pass,
-        &mut hand.workspace,
-        &mut hand.held,
+        &mut worker.pass,
+        &mut worker.workspace,
+        &mut worker.held,
         &pending,
         0,
     );
@@ -147,17 +153,17 @@ pub(super) fn cannot_finish(
 
 /// A cleanup that stops before its splice: the edge beside the flagged leaf is tagged. Whether the
 /// leaf was found.
-pub(super) fn tag_beside(shared: &Shared, hand: &mut Hand, key: Key, leaf: NodeId) -> bool
-    requires { IsPendingFor shared.now hand.old.pass hand.old.held key leaf }
-    ensures { IsPendingFor shared.now hand.new.pass hand.new.held key leaf }
+pub(super) fn tag_beside(shared: &Shared, worker: &mut Worker, key: Key, leaf: NodeId) -> bool
+    requires { IsPendingFor shared.now worker.old.pass worker.old.held key leaf }
+    ensures { IsPendingFor shared.now worker.new.pass worker.new.held key leaf }
 {
     let mut chain = ChainEdges::new();
-    let Some(end) = seek(shared, &mut hand.pass, key.get(), &mut chain) else {
+    let Some(end) = seek(shared, &mut worker.pass, key.get(), &mut chain) else {
         return false;
     };
-    let Some(kept) = choose(shared, &mut hand.pass, &end.spot) else {
+    let Some(kept) = choose(shared, &mut worker.pass, &end.spot) else {
         return false;
     };
-    let _ = tag(shared, &mut hand.pass, end.spot.parent, kept.side);
+    let _ = tag(shared, &mut worker.pass, end.spot.parent, kept.side);
     true
 }

@@ -1,7 +1,7 @@
 use Rattle.std.proofs.Common.{◌∙◌, ◌<◌, ℕ, List, length, ap, subst}
 use Rattle.nm_set.specs.declared.home.Site.{Site}
 use Rattle.nm_set.proofs.SeatLists.{seat_of}
-use Rattle.nm_set.proofs.home.Home.post_of.Goals as goal
+use Rattle.nm_set.proofs.home.Home.mailbox_of.Goals as goal
 
 pub returns-clause-some : goal.returns-clause-some
 returns-clause-some c =
@@ -10,4 +10,4 @@ returns-clause-some c =
     let less = subst P c.deref.ensures.value found.3.0 in
     let here = seat_of c.self.inside.site c.self.inside.seats.items c.self.invariant.0 c.args.number c.in_ok-get.field-0.now less in
     let at = rw c.deref.ensures.value at found.1 in
-    (c.post.ensures ∙ (at ∙ here ∙ ap (λ (b : Site). (b, c.args.number)) c.self.view_is), subst (λ (b : Site). c.args.number < b.tree.layout.workers) c.self.view_is (subst (λ (n : ℕ). c.args.number < n) c.self.invariant.1 less))
+    (c.mailbox.ensures ∙ (at ∙ here ∙ ap (λ (b : Site). (b, c.args.number)) c.self.view_is), subst (λ (b : Site). c.args.number < b.tree.layout.workers) c.self.view_is (subst (λ (n : ℕ). c.args.number < n) c.self.invariant.1 less))
