@@ -114,9 +114,10 @@ impl Handle {
 
 /// What an export does with a worker or a report, by its handle: it claims what the handle owns,
 /// makes this call of it, gives it back, and has the outcome's number. It returns from the export
-/// where the claim is refused, and where the handle owns something else: `Kind`.
+/// where the claim is refused, where the handle owns something else, `Kind`, and where the number
+/// that is named behind it is no key, `Key`.
 macro_rules! by_handle {
-    ($alloc:ident, $handle:ident, $kind:ident($owned:ident) => $call:expr) => {{
+    ($alloc:ident, $handle:ident, $kind:ident($owned:ident) $(, $key:ident)? => $call:expr) => {{
         let mut owner = match $handle.claim($alloc) {
             Ok(owner) => owner,
             Err(told) => return told.code(),
@@ -125,6 +126,12 @@ macro_rules! by_handle {
             $handle.put(owner);
             return $crate::outcome::Outcome::Kind.code();
         };
+        $(
+            let Some($key) = nm_edge::Key::new($key) else {
+                $handle.put(owner);
+                return $crate::outcome::Outcome::Key.code();
+            };
+        )?
         let outcome = $call;
         $handle.put(owner);
         outcome.code()

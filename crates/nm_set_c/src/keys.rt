@@ -9,7 +9,6 @@ ghost use Rattle.nm_set_c.specs.Workers.{DoesTryContains, DoesTryInsert, DoesTry
 
 use crate::handle::{Handle, by_handle};
 use crate::outcome::Outcome;
-use nm_edge::Key;
 use nm_set::Member;
 use std::alloc::Global;
 
@@ -27,18 +26,7 @@ pub extern "C" fn nm_worker_try_contains(
     ensures did { IsCodeOf (OfWorker (DoesTryContains tries key) ⊤ (held_by worker.old) (held_by worker.new))
         result }
 {
-    by_handle!(alloc, worker, Worker(member) => try_contains(member, key, tries))
-}
-
-#[inline(always)]
-fn try_contains(member: &mut Member, key: u64, tries: u32) -> Outcome
-    ensures tells { HasDone (TellsTryContains tries key) member.old member.new result }
-    ensures did { HasDone (DoesTryContains tries key) member.old member.new result }
-{
-    match Key::new(key) {
-        Some(key) => Outcome::of_answer(member.try_contains(key, tries)),
-        None => Outcome::Key,
-    }
+    by_handle!(alloc, worker, Worker(member), key => Outcome::of_answer(member.try_contains(key, tries)))
 }
 
 /// Inserts a key: `Yes` where it was not in the set, `No` where it was: `Member::try_insert` of
@@ -55,18 +43,7 @@ pub extern "C" fn nm_worker_try_insert(
     ensures did { IsCodeOf (OfWorker (DoesTryInsert tries key) ⊤ (held_by worker.old) (held_by worker.new))
         result }
 {
-    by_handle!(alloc, worker, Worker(member) => try_insert(member, key, tries))
-}
-
-#[inline(always)]
-fn try_insert(member: &mut Member, key: u64, tries: u32) -> Outcome
-    ensures tells { HasDone (TellsTryInsert tries key) member.old member.new result }
-    ensures did { HasDone (DoesTryInsert tries key) member.old member.new result }
-{
-    match Key::new(key) {
-        Some(key) => Outcome::of_answer(member.try_insert(key, tries)),
-        None => Outcome::Key,
-    }
+    by_handle!(alloc, worker, Worker(member), key => Outcome::of_answer(member.try_insert(key, tries)))
 }
 
 /// Deletes a key: `Yes` where it was in the set, `No` where it was not: `Member::try_remove` of
@@ -83,18 +60,7 @@ pub extern "C" fn nm_worker_try_remove(
     ensures did { IsCodeOf (OfWorker (DoesTryRemove tries key) ⊤ (held_by worker.old) (held_by worker.new))
         result }
 {
-    by_handle!(alloc, worker, Worker(member) => try_remove(member, key, tries))
-}
-
-#[inline(always)]
-fn try_remove(member: &mut Member, key: u64, tries: u32) -> Outcome
-    ensures tells { HasDone (TellsTryRemove tries key) member.old member.new result }
-    ensures did { HasDone (DoesTryRemove tries key) member.old member.new result }
-{
-    match Key::new(key) {
-        Some(key) => Outcome::of_answer(member.try_remove(key, tries)),
-        None => Outcome::Key,
-    }
+    by_handle!(alloc, worker, Worker(member), key => Outcome::of_answer(member.try_remove(key, tries)))
 }
 
 /// Goes on with the delete that is pending: `Yes` where it has answered now, `No` where none is

@@ -4,13 +4,12 @@
 ghost use Rattle.std.specs.Prelude.{⊤};
 ghost use Rattle.nm_set_c.specs.Handles.{held_by};
 ghost use Rattle.nm_set_c.specs.Outcomes.{IsCodeOf};
-ghost use Rattle.nm_set_c.specs.Owners.{HasDone, OfWorker};
+ghost use Rattle.nm_set_c.specs.Owners.{OfWorker};
 ghost use Rattle.nm_set_c.specs.Workers.{DoesContains, DoesInsert, DoesRemove, TellsContains, TellsInsert, TellsRemove};
 
 use crate::handle::{Handle, by_handle};
 use crate::outcome::Outcome;
-use nm_edge::Key;
-use nm_set::{Habit, Member};
+use nm_set::Habit;
 use std::alloc::Global;
 
 /// Whether the set has the key: `Member::contains` of `nm_set`. `Yes`, `No`, `Key`, `Busy`,
@@ -27,18 +26,7 @@ pub extern "C" fn nm_worker_contains(
     ensures did { IsCodeOf (OfWorker (DoesContains habit.now key) ⊤ (held_by worker.old)
         (held_by worker.new)) result }
 {
-    by_handle!(alloc, worker, Worker(member) => contains(member, key, habit))
-}
-
-#[inline(always)]
-fn contains(member: &mut Member, key: u64, habit: &Habit) -> Outcome
-    ensures tells { HasDone (TellsContains habit.now key) member.old member.new result }
-    ensures did { HasDone (DoesContains habit.now key) member.old member.new result }
-{
-    match Key::new(key) {
-        Some(key) => Outcome::of_answer(member.contains(key, habit)),
-        None => Outcome::Key,
-    }
+    by_handle!(alloc, worker, Worker(member), key => Outcome::of_answer(member.contains(key, habit)))
 }
 
 /// Inserts a key: `Yes` where it was not in the set, `No` where it was: `Member::insert` of
@@ -55,18 +43,7 @@ pub extern "C" fn nm_worker_insert(
     ensures did { IsCodeOf (OfWorker (DoesInsert habit.now key) ⊤ (held_by worker.old)
         (held_by worker.new)) result }
 {
-    by_handle!(alloc, worker, Worker(member) => insert(member, key, habit))
-}
-
-#[inline(always)]
-fn insert(member: &mut Member, key: u64, habit: &Habit) -> Outcome
-    ensures tells { HasDone (TellsInsert habit.now key) member.old member.new result }
-    ensures did { HasDone (DoesInsert habit.now key) member.old member.new result }
-{
-    match Key::new(key) {
-        Some(key) => Outcome::of_inserted(member.insert(key, habit)),
-        None => Outcome::Key,
-    }
+    by_handle!(alloc, worker, Worker(member), key => Outcome::of_inserted(member.insert(key, habit)))
 }
 
 /// Deletes a key: `Yes` where it was in the set, `No` where it was not: `Member::remove` of
@@ -83,16 +60,5 @@ pub extern "C" fn nm_worker_remove(
     ensures did { IsCodeOf (OfWorker (DoesRemove habit.now key) ⊤ (held_by worker.old)
         (held_by worker.new)) result }
 {
-    by_handle!(alloc, worker, Worker(member) => remove(member, key, habit))
-}
-
-#[inline(always)]
-fn remove(member: &mut Member, key: u64, habit: &Habit) -> Outcome
-    ensures tells { HasDone (TellsRemove habit.now key) member.old member.new result }
-    ensures did { HasDone (DoesRemove habit.now key) member.old member.new result }
-{
-    match Key::new(key) {
-        Some(key) => Outcome::of_answer(member.remove(key, habit)),
-        None => Outcome::Key,
-    }
+    by_handle!(alloc, worker, Worker(member), key => Outcome::of_answer(member.remove(key, habit)))
 }
