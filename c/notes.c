@@ -15,7 +15,7 @@ enum { THREADS = 4, APART = 8, WORKERS = THREADS * APART, KEYS = 5000, NODES = 6
 static nm_handle set = NM_CLOSED_HANDLE;
 static atomic_uint_fast64_t left[THREADS], started, busy;
 
-/* A thread that finds another one at the post calls again. */
+/* A thread that finds another one at the mailbox calls again. */
 static void post(nm_handle *worker, uint64_t wanted) {
     uint64_t inserted = 0, removed = 0;
     nm_outcome told;
@@ -74,7 +74,7 @@ int main(void) {
     CHECK(nm_set_worker(&set, &worker, 1) == NM_DONE);
     for (uint32_t i = 0; i < THREADS; i++) CHECK(read_inserted(&worker, i * APART) == KEYS);
     CHECK(nm_drop(&worker) == NM_DONE && nm_set_close(&set) == NM_DONE && nm_drop(&set) == NM_DONE);
-    printf("%d notes were left and read; %" PRIuFAST64 " calls found another thread at the post\n",
+    printf("%d notes were left and read; %" PRIuFAST64 " calls found another thread at the mailbox\n",
         THREADS * KEYS, (uint_fast64_t)busy);
     return 0;
 }

@@ -3,7 +3,7 @@ use Rattle.std.proofs.Common.{◌≡◌, ◌≤◌, ◌+◌, ◌*◌, ℕ, zero,
 use Rattle.std.specs.Prelude.{None, Result, Ok, Err}
 use Rattle.std.proofs.Math.Nat.{suc-mul, zero-mul}
 use Rattle.nm_edge.specs.Layouts.{Layout}
-use Rattle.nm_model.specs.declared.event.Op.TheVariants.{Has, Insert, Delete}
+use Rattle.nm_model.specs.declared.event.Op.TheVariants.{Insert, Delete}
 use Rattle.nm_model.specs.declared.trace.Turn.{Turn}
 use Rattle.nm_steps.specs.Steps.{TreeView, PassView, HasSeenAllOf}
 use Rattle.nm_progress.specs.Moves.{number_of, moves_of_others}
@@ -109,7 +109,7 @@ look_once p q times past (inr (inl moved)) = record { turns = moved.turns; is = 
 look_once p q times past (inr (inr reshaped)) = record { turns = reshaped.turns; is = reshaped.is; least = (let some = reshaped.reshaped in omega (arith, some)) }
 
 -- all of the look-ups, of which there is one more than rounds, behind what was done before
-pub looks_disturbed : (b : TreeView) (h : Habit) (k : ℕ) (w x z : WorkerView) → Follows w.pass x.pass → Retries Has b h k x z busy → WasDisturbed w.pass z.pass ((h.rounds + 1) * h.tries)
+pub looks_disturbed : (b : TreeView) (h : Habit) (k : ℕ) (w x z : WorkerView) → Follows w.pass x.pass → Retries LeavesHas b h k x z busy → WasDisturbed w.pass z.pass ((h.rounds + 1) * h.tries)
 looks_disturbed b h k w x z on looks =
     let m = meanwhile_since reshapes_of_others ((h.rounds + 1) * h.tries) w.pass x.pass z.pass on
     (each_round reshapes_of_others (Asked (LeavesHas b.layout h.tries k)) busy h.tries x.pass.view.layout
@@ -131,12 +131,12 @@ module _ (b : TreeView) (h : Habit) (k : ℕ) where
   abbrev Times : ℕ
   Times = (h.rounds + 1) * h.tries
 
-  inserts_lost : (w z : WorkerView) → Retries Insert b h k w z busy → Meanwhile hinders w.pass z.pass Times
+  inserts_lost : (w z : WorkerView) → Retries LeavesInsert b h k w z busy → Meanwhile hinders w.pass z.pass Times
   inserts_lost w z a = each_round hinders (Asked (LeavesInsert b.layout h.tries k)) busy h.tries w.pass.view.layout
       (λ x y did. record { same = did.1.says.same; past = did.1.says.past })
       (λ x y at did. change_once x.pass y.pass h.tries did.1.says.past (did.1.disturbed refl)) h.rounds w z refl a
 
-  deletes_lost : (w z : WorkerView) → Retries Delete b h k w z busy → Meanwhile hinders w.pass z.pass Times
+  deletes_lost : (w z : WorkerView) → Retries LeavesDelete b h k w z busy → Meanwhile hinders w.pass z.pass Times
   deletes_lost w z a = each_round hinders (Asked (LeavesDelete b.layout h.tries k)) busy h.tries w.pass.view.layout
       (λ x y did. record { same = did.1.says.same; past = did.1.says.past })
       (λ x y at did. change_once x.pass y.pass h.tries did.1.says.past (did.1.disturbed refl)) h.rounds w z refl a
@@ -149,8 +149,8 @@ module _ (b : TreeView) (h : Habit) (k : ℕ) where
   inserts_held_up w z r told (inl held) = absurd (let no = sym told ∙ held.1 in cc)
   inserts_held_up w z r told (inr (free, t)) = by t.did
     where
-      last : (q : Result Bool Fault) (x y : WorkerView) → of_insert r ≡ q → Retries Insert b h k x y q → Meanwhile hinders x.pass y.pass Times
-      last q x y is did = inserts_lost x y (subst (λ (p : Result Bool Fault). Retries Insert b h k x y p) (sym is ∙ told) did)
+      last : (q : Result Bool Fault) (x y : WorkerView) → of_insert r ≡ q → Retries LeavesInsert b h k x y q → Meanwhile hinders x.pass y.pass Times
+      last q x y is did = inserts_lost x y (subst (λ (p : Result Bool Fault). Retries LeavesInsert b h k x y p) (sym is ∙ told) did)
 
       after : (x : WorkerView) → x.held ≡ None → RetriesInsert b h k x z r → Meanwhile hinders x.pass z.pass Times
       after x held (inl (q, did, known, is)) = last q x z (ap of_insert is ∙ plain_told q) did

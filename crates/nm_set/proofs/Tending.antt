@@ -421,7 +421,7 @@ called Delete L t k w z l did = record {
   };
 }
 
-pub calls_go : (op : Op) (b : TreeView) (h : Habit) (k : ℕ) (w z : WorkerView) (r : Result Bool Fault) → w.held ≡ None → Retries op b h k w z r → GoesOnTended (suc h.rounds * round_bound h.tries b.layout) w z
+pub calls_go : (op : Op) (b : TreeView) (h : Habit) (k : ℕ) (w z : WorkerView) (r : Result Bool Fault) → w.held ≡ None → Retries (Leaves op) b h k w z r → GoesOnTended (suc h.rounds * round_bound h.tries b.layout) w z
 calls_go op b h k w z r free a = retried_goes (Asked (Leaves op b.layout h.tries k)) busy (round_bound h.tries b.layout) each h.rounds w z r free a
   where
     each : (x y : WorkerView) (q : Result Bool Fault) → x.held ≡ None → Asked (Leaves op b.layout h.tries k) x y q → GoesOnTended (round_bound h.tries b.layout) x y
@@ -450,7 +450,7 @@ onward op L t k w x y on did =
     record { none = c.left w on.none; free = c.on.held; follows = follows_then w.pass x.pass y.pass on.follows (record { same = c.on.same; past = c.on.past }); won = wins_after 0 0 w x y on.won (busy_wins op x y c.won) }
 
 -- so it is where the last of them begins
-begun : (op : Op) (b : TreeView) (h : Habit) (k : ℕ) (w z : WorkerView) (r : Result Bool Fault) → w.pending ≡ None → w.held ≡ None → (a : Retries op b h k w z r) → IsOnward w a.begun
+begun : (op : Op) (b : TreeView) (h : Habit) (k : ℕ) (w z : WorkerView) (r : Result Bool Fault) → w.pending ≡ None → w.held ≡ None → (a : Retries (Leaves op) b h k w z r) → IsOnward w a.begun
 begun op b h k w z r none free a = keeps_in_a_row (IsOnward w) (λ x y. Asked (Leaves op b.layout h.tries k) x y busy) (λ x y on did. onward op b.layout h.tries k w x y on did) a.before w a.begun (onward_itself w none free) a.each
 
 -- ---- what is told last
@@ -461,7 +461,7 @@ record IsTold (op : Op) (k : ℕ) (o z : WorkerView) (r : Result Bool Fault) : T
   left : IsLeft k o z r
   won : Wins o z (links_told_by op r) (flags_told_by op r)
 
-retries_told : (op : Op) (b : TreeView) (h : Habit) (k : ℕ) (o w z : WorkerView) (r : Result Bool Fault) → HasSeenAllOf w.pass o.pass → Wins o w 0 0 → w.pending ≡ None → w.held ≡ None → Retries op b h k w z r → IsTold op k o z r
+retries_told : (op : Op) (b : TreeView) (h : Habit) (k : ℕ) (o w z : WorkerView) (r : Result Bool Fault) → HasSeenAllOf w.pass o.pass → Wins o w 0 0 → w.pending ≡ None → w.held ≡ None → Retries (Leaves op) b h k w z r → IsTold op k o z r
 retries_told op b h k o w z r past won none free a =
     let x = a.begun in
     let on = begun op b h k w z r none free a in
@@ -538,7 +538,7 @@ pub record IsSettled (b : TreeView) (h : Habit) (w x : WorkerView) : Type 0 wher
 pub settled : (b : TreeView) (h : Habit) (w x : WorkerView) (answer : Bool) → w.held ≡ None → FinishesPending b h w x (Ok answer) → IsSettled b h w x
 settled b h w x answer free f = record { none = finished b.layout h.tries f.begun x answer f.last; won = finishes_wins b h w x (Ok answer) f; on = goes_finishes b h w x (Ok answer) free f }
 
-pub contains_tends : (b : TreeView) (h : Habit) (k : ℕ) (w x z : WorkerView) (answer : Bool) (r : Result Bool Fault) → w.held ≡ None → FinishesPending b h w x (Ok answer) → Retries Has b h k x z r → Tends b h Has k w z r
+pub contains_tends : (b : TreeView) (h : Habit) (k : ℕ) (w x z : WorkerView) (answer : Bool) (r : Result Bool Fault) → w.held ≡ None → FinishesPending b h w x (Ok answer) → Retries LeavesHas b h k x z r → Tends b h Has k w z r
 contains_tends b h k w x z answer r free f looks =
     let at = settled b h w x answer free f in
     let most = round_bound h.tries b.layout in
@@ -756,7 +756,7 @@ pub was_tidy : (b : TreeView) (h : Habit) (w : WorkerView) → IsTidy h w → Is
 was_tidy b h w tidy = record { free = tidy.free; answer = false; between = w; finished = finishes_nothing b h w tidy.none; tidied = inr (tidy.few, refl) }
 
 -- a call that has answered at once
-pub answered : (op : Op) (b : TreeView) (h : Habit) (k : ℕ) (w z : WorkerView) (answer : Bool) → Asked (Leaves op b.layout h.tries k) w z (Ok answer) → Retries op b h k w z (Ok answer)
+pub answered : (op : Op) (b : TreeView) (h : Habit) (k : ℕ) (w z : WorkerView) (answer : Bool) → Asked (Leaves op b.layout h.tries k) w z (Ok answer) → Retries (Leaves op) b h k w z (Ok answer)
 answered op b h k w z answer did = not_retried (Asked (Leaves op b.layout h.tries k)) busy h.rounds w z (Ok answer) did (λ e. is_no_fault _ _ e)
 
 pub insert_answered : (b : TreeView) (h : Habit) (k : ℕ) (w z : WorkerView) (answer : Bool) → Asked (LeavesInsert b.layout h.tries k) w z (Ok answer) → RetriesInsert b h k w z (Ok answer)

@@ -24,6 +24,7 @@ use Rattle.nm_calls.specs.Won.{HasWon}
 use Rattle.nm_tree.specs.declared.fault.CallFault.{CallFault as Lost}
 use Rattle.nm_tree.specs.declared.fault.CallFault.TheVariants as call
 use Rattle.nm_tree.specs.Workers.{WorkerView, waiting_in}
+use Rattle.nm_set.specs.Asked.{Asked}
 use Rattle.nm_set.specs.declared.fault.Fault.{Fault}
 use Rattle.nm_set.specs.declared.fault.Fault.TheVariants as fault
 use Rattle.nm_set.specs.declared.fault.Fullness.{Fullness}
@@ -31,7 +32,6 @@ use Rattle.nm_set.specs.declared.fault.InsertFault.{InsertFault}
 use Rattle.nm_set.specs.declared.fault.InsertFault.TheVariants as inserting
 use Rattle.nm_set.specs.declared.tended.Habit.{Habit}
 use Rattle.nm_tree.specs.Calls.{LeavesHas, LeavesInsert, LeavesDelete, LeavesFinish, LeavesAdvance, LeavesCollect}
-use Rattle.nm_set.specs.Asked.{Asked}
 
 -- ---- what a worker has come to
 
@@ -82,9 +82,11 @@ Leaves Has = LeavesHas
 Leaves Insert = LeavesInsert
 Leaves Delete = LeavesDelete
 
--- a call of that operation, which is retried while it loses each of its tries
-abbrev pub Retries : Op → TreeView → Habit → ℕ → WorkerView → WorkerView → Result Bool Fault → Type 0
-Retries op b h k w z r = IsRetried (Asked (Leaves op b.layout h.tries k)) busy h.rounds w z r
+-- a call of the tree that leaves this, which is retried while it loses each of its tries
+abbrev pub Retries : (Layout → ℕ → ℕ → WorkerView → WorkerView → Result Bool Lost → Type 0) → TreeView → Habit → ℕ
+    → WorkerView → WorkerView → Result Bool Fault → Type 0
+Retries leaves b h k w z r =
+    IsRetried (Asked (leaves b.layout h.tries k)) busy h.rounds w z r
 
 -- the delete that is pending, if one is, while it is not finished
 abbrev pub FinishesPending : TreeView → Habit → WorkerView → WorkerView → Result Bool Lost → Type 0
@@ -211,11 +213,11 @@ with_fullness behind waiting told = plain told
 
 -- that no slot is free is told only behind a collection, and by an insert that was made once more
 abbrev pub RetriesInsert : TreeView → Habit → ℕ → WorkerView → WorkerView → Result Bool InsertFault → Type 0
-RetriesInsert b h k w z r = ((told : Result Bool Fault) × Retries Insert b h k w z told
+RetriesInsert b h k w z r = ((told : Result Bool Fault) × Retries LeavesInsert b h k w z told
     × (told ≢ Err (fault.Call call.Full)) × (r ≡ plain told))
     ⊎ ((x y : WorkerView) × (behind : Option ℕ) × (told : Result Bool Fault)
-    × Retries Insert b h k w x (Err (fault.Call call.Full)) × FindsBehind b x y behind
-    × Retries Insert b h k y z told × (r ≡ with_fullness behind (waiting_in z.queues) told))
+    × Retries LeavesInsert b h k w x (Err (fault.Call call.Full)) × FindsBehind b x y behind
+    × Retries LeavesInsert b h k y z told × (r ≡ with_fullness behind (waiting_in z.queues) told))
 
 -- what a finish tells, as a delete tells it
 abbrev pub of_finish : Result Bool Lost → Result Bool Fault
@@ -224,9 +226,9 @@ of_finish (Err lost) = Err (fault.Call lost)
 
 -- a delete whose leaf is flagged goes on with that
 abbrev pub RetriesDelete : TreeView → Habit → ℕ → WorkerView → WorkerView → Result Bool Fault → Type 0
-RetriesDelete b h k w z r = (Retries Delete b h k w z r × (r ≢ Err (fault.Call call.Unfinished)))
+RetriesDelete b h k w z r = (Retries LeavesDelete b h k w z r × (r ≢ Err (fault.Call call.Unfinished)))
     ⊎ ((x : WorkerView) × (f : Result Bool Lost)
-    × Retries Delete b h k w x (Err (fault.Call call.Unfinished))
+    × Retries LeavesDelete b h k w x (Err (fault.Call call.Unfinished))
     × FinishesPending b h x z f × (r ≡ of_finish f))
 
 -- first the delete of an earlier call is finished, where one is pending; what is told of where it
@@ -240,7 +242,7 @@ FinishesThen b h rest w z r = (FinishesPending b h w z (Err call.Unfinished)
 -- `Contains`, `InsertsTended`, `RemovesTended`: first the delete of an earlier call is finished, and
 -- then each of the three calls is made
 abbrev pub Contains : TreeView → Habit → ℕ → WorkerView → WorkerView → Result Bool Fault → Type 0
-Contains b h k w z r = FinishesThen b h (λ x. Retries Has b h k x z r) w z r
+Contains b h k w z r = FinishesThen b h (λ x. Retries LeavesHas b h k x z r) w z r
 
 abbrev pub InsertsTended : TreeView → Habit → ℕ → WorkerView → WorkerView → Result Bool InsertFault → Type 0
 InsertsTended b h k w z r = FinishesThen b h

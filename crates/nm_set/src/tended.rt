@@ -3,6 +3,7 @@
 ghost use Rattle.std.specs.Prelude.{◌≡◌, ◌≢◌, ◌≤◌, ◌+◌, ◌-◌, ◌*◌, true, false, None, Err};
 ghost use Rattle.nm_model.specs.declared.event.Op.TheVariants.{Has, Insert, Delete};
 ghost use Rattle.nm_tree.specs.declared.fault.CallFault.TheVariants as lost;
+ghost use Rattle.nm_tree.specs.Calls.{LeavesHas};
 ghost use Rattle.nm_tree.specs.Workers.{WorkerView};
 ghost use Rattle.nm_set.specs.Asked.{Asked};
 ghost use Rattle.nm_set.specs.declared.fault.Fullness.{Fullness};
@@ -349,7 +350,7 @@ impl Member {
     #[inline(always)]
     fn contains_with_retries(&mut self, key: Key, habit: &Habit) -> Result<bool, Fault>
         ensures tree { self.new.tree ≡ self.old.tree }
-        ensures did { Retries Has self.old.tree habit.now key self.old.worker self.new.worker result }
+        ensures did { Retries LeavesHas self.old.tree habit.now key self.old.worker self.new.worker result }
     {
         match self.try_contains(key, habit.tries) {
             Ok(answer) => Ok(answer),
@@ -364,7 +365,7 @@ impl Member {
         ensures tree { self.new.tree ≡ self.old.tree }
         ensures did { (w : WorkerView)
             → Asked (Leaves op self.old.tree.layout habit.now.tries key) w self.old.worker
-            (Err fault) → Retries op self.old.tree habit.now key w self.new.worker result }
+            (Err fault) → Retries (Leaves op) self.old.tree habit.now key w self.new.worker result }
     {
         let told = Err(fault);
         if !is_busy(&told) || habit.rounds == 0 {
@@ -379,7 +380,7 @@ impl Member {
     #[inline(never)]
     fn ask_with_retries(&mut self, op: Op, key: Key, habit: &Habit) -> Result<bool, Fault>
         ensures tree { self.new.tree ≡ self.old.tree }
-        ensures did { Retries op self.old.tree habit.now key self.old.worker self.new.worker result }
+        ensures did { Retries (Leaves op) self.old.tree habit.now key self.old.worker self.new.worker result }
     {
         for _round in 0..habit.rounds {
             let told = self.ask(op, key, habit.tries);

@@ -1,4 +1,4 @@
-//! Notes of what a worker has seen, by its handle: left on its post, and read by another worker of
+//! Notes of what a worker has seen, by its handle: left in its mailbox, and read by another worker of
 //! its set.
 #![tactic(auto, using(crate::proofs::Owners::asked_of_worker))]
 

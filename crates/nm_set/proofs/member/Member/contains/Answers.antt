@@ -2,6 +2,7 @@ use Rattle.std.proofs.Common.{rules, ◌≡◌, inl, inr, refl, subst}
 use Rattle.std.specs.Prelude.{None, Ok}
 use Rattle.nm_model.specs.declared.event.Op.TheVariants.{Has}
 use Rattle.nm_steps.specs.Steps.{TreeView}
+use Rattle.nm_tree.specs.Calls.{LeavesHas}
 use Rattle.nm_set.specs.Tended.{Retries}
 use Rattle.nm_set.proofs.Disturbances.{looks_disturbed}
 use Rattle.nm_set.proofs.Tending.{pending_tends, contains_tends, goes_finishes, said}
@@ -23,7 +24,7 @@ returns-clause-did c =
     let free : w.held ≡ None = search rules in
     let settled = c.in-Ok.ensures.did in
     let z = c.contains_with_retries.new.self.worker in
-    let looks = subst (λ (d : TreeView). Retries Has d h k x z c.contains_with_retries.result) c.finish_with_retries.ensures.tree c.contains_with_retries.ensures.did in
+    let looks = subst (λ (d : TreeView). Retries LeavesHas d h k x z c.contains_with_retries.result) c.finish_with_retries.ensures.tree c.contains_with_retries.ensures.did in
     inr (free, record { did = inr (c.in-Ok._done, x, settled, looks); tends = contains_tends b h k w x z c.in-Ok._done c.contains_with_retries.result free settled looks })
 
 pub returns-in_default-clause-says : goal.returns-in_default-clause-says
@@ -45,5 +46,5 @@ returns-clause-disturbed c is =
     let z = c.contains_with_retries.new.self.worker in
     let free : w.held ≡ None = search rules in
     let on = goes_finishes b h w x (Ok c.in-Ok._done) free c.in-Ok.ensures.did in
-    let looks = subst (λ (d : TreeView). Retries Has d h k x z c.contains_with_retries.result) c.finish_with_retries.ensures.tree c.contains_with_retries.ensures.did in
-    looks_disturbed b h k w x z (record { same = on.same; past = on.past }) (subst (Retries Has b h k x z) is looks)
+    let looks = subst (λ (d : TreeView). Retries LeavesHas d h k x z c.contains_with_retries.result) c.finish_with_retries.ensures.tree c.contains_with_retries.ensures.did in
+    looks_disturbed b h k w x z (record { same = on.same; past = on.past }) (subst (Retries LeavesHas b h k x z) is looks)

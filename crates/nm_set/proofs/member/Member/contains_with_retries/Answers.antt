@@ -17,5 +17,5 @@ returns-in-Err-clause-did c =
     let k = c.args.key in
     let w = c.args.self.now.worker in
     let m = c.try_contains.new.self.worker in
-    let P : TreeView → Type 0 = λ b. Asked (LeavesHas b.layout h.tries k) w m (Err c.in-Err.fault) → Retries Has b h k w c.retry.new.self.worker c.retry.result in
+    let P : TreeView → Type 0 = λ b. Asked (LeavesHas b.layout h.tries k) w m (Err c.in-Err.fault) → Retries LeavesHas b h k w c.retry.new.self.worker c.retry.result in
     subst P c.try_contains.ensures.tree (c.retry.ensures.did w) c.in-Err.ensures.did

@@ -15,5 +15,5 @@ returns-clause-did c =
     let r = c.ask_with_retries.result in
     let some = c.if-habit-eq0.false in
     let leaves = Asked (Leaves c.args.op b.layout h.tries k) in
-    let rest : Retries c.args.op b (record h { rounds = h.rounds - 1 }) k m z r = subst (λ (g : Habit). Retries c.args.op b g k m z r) c.without_one.ensures c.ask_with_retries.ensures.did in
+    let rest : Retries (Leaves c.args.op) b (record h { rounds = h.rounds - 1 }) k m z r = subst (λ (g : Habit). Retries (Leaves c.args.op) b g k m z r) c.without_one.ensures c.ask_with_retries.ensures.did in
     λ w first. retried_more leaves busy h.rounds w m z r (omega (arith, some)) (subst (leaves w m) (c.if-not-is_busy.ensures.yes refl) first) rest
