@@ -1,5 +1,6 @@
 -- A file by its lines: a schedule, a header and events of workers in their order; a script, a
 -- header and calls.
+use Rattle.nm_files.specs.Chain.{◌>>=◌}
 use Rattle.std.specs.Prelude.{◌<◌, ℕ, List, ◌∷◌, length, ◌==◌, Result, Ok, Err, if◌then◌else◌}
 use Rattle.std.specs.List.{list_all}
 use Rattle.nm_model.specs.declared.event.Event.{Event}

@@ -1,5 +1,6 @@
 -- The first line of a file: its command and version, how many nodes and workers it is for, and how
 -- many tries each call has.
+use Rattle.nm_files.specs.Chain.{◌>>=◌}
 use Rattle.std.specs.Prelude.{◌≡◌, ℕ, List, [], ◌∷◌, codes, Bool, true, false, Result, Ok, Err, if◌then◌else◌}
 use Rattle.std.specs.Str.{bytes_eq}
 use Rattle.nm_edge.specs.Layouts.{Layout, dense, in_radix}

@@ -1,4 +1,5 @@
 -- What a field of a line must be, and its value.
+use Rattle.nm_files.specs.Chain.{◌>>=◌}
 use Rattle.std.specs.Prelude.{ℕ, ◌^◌, ◌-◌, List, [], ◌∷◌, codes, Bool, true, false, nat_le, nat_lt, Result, Ok, Err, if◌then◌else◌}
 use Rattle.std.specs.Str.{bytes_eq}
 use Rattle.nm_model.specs.declared.event.Field.{Field}
