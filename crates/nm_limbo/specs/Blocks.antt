@@ -1,5 +1,5 @@
 -- Where the blocks of a list lie, and which of their places are empty.
-use Rattle.std.specs.Prelude.{◌≡◌, ℕ, ◌-◌, ◌<◌, List, [], ◌∷◌, length, get_or, Option, None}
+use Rattle.std.specs.Prelude.{◌≡◌, ℕ, ◌-◌, ◌<◌, List, [], ◌∷◌, length, Option, None, slice_index_or}
 use denote.RawPtr.{Ptr, null_ptr}
 
 -- where the first of the blocks lies
@@ -13,8 +13,8 @@ IsFirst ps p = (0 < length ps) × (p ≡ first_block_of ps)
 
 -- the last of the blocks lies at p
 abbrev pub IsLast : List Ptr → Ptr → Type 0
-IsLast ps p = (0 < length ps) × (p ≡ get_or ps (length ps - 1) null_ptr)
+IsLast ps p = (0 < length ps) × (p ≡ slice_index_or ps (length ps - 1) null_ptr)
 
 -- the i-th place is there, and holds nothing
 abbrev pub IsEmptyAt : {X : Type 0} → List (Option X) → ℕ → Type 0
-IsEmptyAt cs i = (i < length cs) × (get_or cs i None ≡ None)
+IsEmptyAt cs i = (i < length cs) × (slice_index_or cs i None ≡ None)

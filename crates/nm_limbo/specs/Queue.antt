@@ -1,5 +1,5 @@
 -- What a contract sees of a `BlockQueue`, and what holds of its fields.
-use Rattle.std.specs.Prelude.{◌≡◌, ℕ, ◌+◌, ◌-◌, ◌*◌, ◌/◌, ◌^◌, ◌<◌, ◌≤◌, ◌==◌, cond, List, ◌∷◌, ◌++◌, map, length, replicate, Option, Some, None, refl}
+use Rattle.std.specs.Prelude.{◌≡◌, ℕ, ◌+◌, ◌-◌, ◌*◌, ◌/◌, ◌^◌, ◌<◌, ◌≤◌, ◌==◌, List, ◌∷◌, ◌++◌, map, length, replicate, Option, Some, None, refl, if◌then◌else◌}
 use Rattle.std.specs.Coded.{Coded, code_by, coded×, coded_list, coded_ℕ}
 use Rattle.circular_buffer.specs.Places.{somes}
 use Rattle.nm_limbo.specs.List.{BlockList}
@@ -40,7 +40,7 @@ module _ {X : Type 0} where
   -- places are spare again
   abbrev pub IsPopped : BlockQueue X → BlockQueue X → X → Type 0
   IsPopped q r x = (q.items ≡ x ∷ r.items) × (r.blocks ≡ q.blocks)
-      × (r.spare ≡ q.spare + cond (popped q == 31) 32 0)
+      × (r.spare ≡ q.spare + (if popped q == 31 then 32 else 0))
 
   -- how many blocks lie in the spare places but for n of them
   abbrev pub blocks_beyond : ℕ → BlockQueue X → ℕ

@@ -1,6 +1,6 @@
 //! A list of blocks with its two ends. A clause sees it as its places, the number of its blocks and
 //! its allocator.
-ghost use Rattle.std.specs.Prelude.{◌≡◌, ◌+◌, ◌-◌, ◌*◌, ◌^◌, ◌<◌, ◌≤◌, [], ◌++◌, Some, None, length, take, drop, replicate, get_or, slice_set};
+ghost use Rattle.std.specs.Prelude.{◌≡◌, ◌+◌, ◌-◌, ◌*◌, ◌^◌, ◌<◌, ◌≤◌, [], ◌++◌, Some, None, length, take, drop, replicate, slice_set, slice_index_or};
 ghost use Rattle.circular_buffer.specs.Places.{IsFilled};
 ghost use Rattle.nm_limbo.specs.Blocks.{IsEmptyAt};
 ghost use Rattle.nm_limbo.specs.List.{block_list, IsDeedTo};
@@ -106,7 +106,7 @@ impl<T, A: Allocator> BlockList<T, A> {
     /// Empties the place at `index` of the first block.
     pub(crate) fn read(&mut self, index: u32) -> T
         requires { (index < 32) × IsFilled self.old.slots index }
-        ensures item { get_or self.old.slots index None ≡ Some result }
+        ensures item { slice_index_or self.old.slots index None ≡ Some result }
         ensures list { self.new
             ≡ block_list (slice_set self.old.slots index None) self.old.blocks self.old.alloc }
     {
@@ -116,7 +116,7 @@ impl<T, A: Allocator> BlockList<T, A> {
     /// The item in the place at `index` of the first block.
     pub(crate) fn get(&self, index: u32) -> &T
         requires { (index < 32) × IsFilled self.now.slots index }
-        ensures { get_or self.now.slots index None ≡ Some result.now }
+        ensures { slice_index_or self.now.slots index None ≡ Some result.now }
     {
         self.chain.get(self.first, index as usize)
     }

@@ -1,6 +1,6 @@
 -- The rule: the logs of all workers are a run of the ordered core, and the words are those of its
 -- memory.
-use Rattle.std.specs.Prelude.{◌≡◌, ◌<◌, ℕ, Option, zero, suc, Bool, true, false, cond, eqb, ltb, List, [], ◌∷◌, ◌++◌, All, Ok}
+use Rattle.std.specs.Prelude.{◌≡◌, ◌<◌, ℕ, Option, zero, suc, Bool, true, false, List, [], ◌∷◌, ◌++◌, All, Ok, if◌then◌else◌, ◌==◌, nat_lt}
 use Rattle.std.specs.List.{sum_by, count_by}
 use mathlib.Core.Option.{some}
 use lib.ListN.{get_elem?}
@@ -27,7 +27,7 @@ held_log w log = record { number = w; log = log }
 
 -- the logs that a view has; a spent one has none
 abbrev pub holdings : View → List Held
-holdings v = cond v.spent [] (held_log v.number v.log ∷ v.others)
+holdings v = if v.spent then [] else held_log v.number v.log ∷ v.others
 
 -- what a view's own worker knows, by its log
 abbrev pub knowledge : View → Knowledge
@@ -39,10 +39,10 @@ known_births v = births_by v.layout v.number v.log
 
 -- how often the number stands in the view
 abbrev pub stands : ℕ → View → ℕ
-stands w v = count_by (λ h. eqb w h.number) (holdings v)
+stands w v = count_by (λ h. w == h.number) (holdings v)
 
 abbrev pub once_below : ℕ → ℕ → ℕ
-once_below w n = cond (ltb w n) 1 0
+once_below w n = if nat_lt w n then 1 else 0
 
 -- each of these logs is its worker's part of the trace
 abbrev pub LogsAre : Layout → Layout → List Turn → List Held → Type 0

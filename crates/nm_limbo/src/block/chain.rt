@@ -1,5 +1,5 @@
 //! The blocks of a list, linked from each to the next.
-ghost use Rattle.std.specs.Prelude.{◌≡◌, ◌+◌, ◌-◌, ◌*◌, ◌<◌, List, [], ◌∷◌, ◌++◌, Option, Some, None, length, take, drop, replicate, get_or, slice_set};
+ghost use Rattle.std.specs.Prelude.{◌≡◌, ◌+◌, ◌-◌, ◌*◌, ◌<◌, List, [], ◌∷◌, ◌++◌, Option, Some, None, length, take, drop, replicate, slice_set, slice_index_or};
 ghost use denote.RawPtr.{Ptr};
 ghost use Rattle.circular_buffer.specs.Places.{IsFilled};
 ghost use Rattle.nm_limbo.specs.Blocks.{first_block_of, IsFirst, IsLast, IsEmptyAt};
@@ -118,7 +118,7 @@ impl<T, A: Allocator> Chain<T, A> {
     pub(crate) fn read(&mut self, first: BlockPtr<T>, index: usize) -> T
         requires { IsFirst self.old.blocks first.ptr × (index < 32)
             × IsFilled self.old.slots index }
-        ensures item { get_or self.old.slots index None ≡ Some result }
+        ensures item { slice_index_or self.old.slots index None ≡ Some result }
         ensures chain { (self.new.blocks ≡ self.old.blocks)
             × (self.new.slots ≡ slice_set self.old.slots index None)
             × (self.new.alloc ≡ self.old.alloc) }
@@ -133,7 +133,7 @@ impl<T, A: Allocator> Chain<T, A> {
     pub(crate) fn get(&self, first: BlockPtr<T>, index: usize) -> &T
         requires { IsFirst self.now.blocks first.ptr × (index < 32)
             × IsFilled self.now.slots index }
-        ensures { get_or self.now.slots index None ≡ Some result.now }
+        ensures { slice_index_or self.now.slots index None ≡ Some result.now }
     {
         unsafe {
             let places = (&raw const (*first.ptr).places) as *const T;
