@@ -119,7 +119,7 @@ pub fn pin(shared: &Shared, pass: &mut Pass, tries: u32) -> Result<u64, Moved>
 
 /// Pins the epoch, as `pin` does, for an operation on a key, which begins with the sight that
 /// confirms the pin. At most 3 `tries` + 1 steps.
-#[inline]
+#[inline(always)]
 pub fn pin_for(shared: &Shared, pass: &mut Pass, tries: u32, op: Op, key: Key) -> Result<u64, Moved>
     requires own { IsOf shared.now pass.old }
     requires unpinned { IsUnpinned pass.old }

@@ -20,8 +20,8 @@ use Rattle.nm_set.specs.declared.fault.Fault.TheVariants as fault
 use Rattle.nm_set.specs.declared.fault.InsertFault.{InsertFault}
 use Rattle.nm_set.specs.declared.tended.Habit.{Habit}
 use Rattle.nm_set.specs.Asked.{Asked}
-use Rattle.nm_set.specs.Tended.{InARow, IsRetried, Retries, RetriesInsert, RetriesDelete, InsertsTended, RemovesTended, TendsInsert, HasTended, UnlessHeld, WasDisturbed, WasHeldUp, FinishesPending, IsMadeTidy, busy, of_finish, of_insert}
-use Rattle.nm_set.proofs.Tending.{Follows, follows_then, goes_relieved, calls_go, finishes_err, plain_told, fullness_told, ready}
+use Rattle.nm_set.specs.Tended.{Contains, InARow, IsRetried, Retries, RetriesInsert, RetriesDelete, InsertsTended, RemovesTended, TendsHas, TendsInsert, HasTended, UnlessHeld, WasDisturbed, WasHeldUp, FinishesPending, IsMadeTidy, busy, of_finish, of_insert}
+use Rattle.nm_set.proofs.Tending.{Follows, follows_then, goes_finishes, goes_relieved, calls_go, finishes_err, plain_told, fullness_told, ready}
 
 -- ---- turns that are counted, between two moments of a pass
 
@@ -109,13 +109,23 @@ look_once p q times past (inr (inl moved)) = record { turns = moved.turns; is = 
 look_once p q times past (inr (inr reshaped)) = record { turns = reshaped.turns; is = reshaped.is; least = (let some = reshaped.reshaped in omega (arith, some)) }
 
 -- all of the look-ups, of which there is one more than rounds, behind what was done before
-pub looks_disturbed : (b : TreeView) (h : Habit) (k : ℕ) (w x z : WorkerView) → Follows w.pass x.pass → Retries LeavesHas b h k x z busy → WasDisturbed w.pass z.pass ((h.rounds + 1) * h.tries)
+looks_disturbed : (b : TreeView) (h : Habit) (k : ℕ) (w x z : WorkerView) → Follows w.pass x.pass → Retries LeavesHas b h k x z busy → WasDisturbed w.pass z.pass ((h.rounds + 1) * h.tries)
 looks_disturbed b h k w x z on looks =
     let m = meanwhile_since reshapes_of_others ((h.rounds + 1) * h.tries) w.pass x.pass z.pass on
     (each_round reshapes_of_others (Asked (LeavesHas b.layout h.tries k)) busy h.tries x.pass.view.layout
     (λ y v did. record { same = did.1.says.same; past = did.1.says.past })
     (λ y v at did. look_once y.pass v.pass h.tries did.1.says.past (did.1.says.disturbed refl)) h.rounds x z refl looks) in
     record { turns = m.turns; is = m.is; disturbed = m.least }
+
+pub contains_disturbed : (b : TreeView) (h : Habit) (k : ℕ) (w z : WorkerView) → TendsHas b h k w z busy → WasDisturbed w.pass z.pass ((h.rounds + 1) * h.tries)
+contains_disturbed b h k w z (inl held) = absurd (let no = held.1 in cc)
+contains_disturbed b h k w z (inr (free, t)) = by t.did
+  where
+    by : Contains b h k w z busy → WasDisturbed w.pass z.pass ((h.rounds + 1) * h.tries)
+    by (inl pending) = absurd (let no = pending.1 in cc)
+    by (inr (answer, x, finished, looks)) =
+        let on = goes_finishes b h w x (Ok answer) free finished in
+        looks_disturbed b h k w x z (record { same = on.same; past = on.past }) looks
 
 -- ---- inserts and deletes
 

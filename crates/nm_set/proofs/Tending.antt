@@ -45,7 +45,7 @@ use Rattle.nm_set.specs.declared.fault.InsertFault.TheVariants as inserting
 use Rattle.nm_set.specs.declared.tended.Habit.{Habit}
 use Rattle.nm_tree.specs.Calls.{LeavesHas, LeavesInsert, LeavesDelete, LeavesFinish, LeavesAdvance, LeavesCollect}
 use Rattle.nm_set.specs.Asked.{Asked}
-use Rattle.nm_set.specs.Tended.{OnlyLoses, OthersOnlyLose, GoesOnTended, InARow, IsRetried, busy, Leaves, Retries, FinishesPending, IsRelieved, IsTidied, RetriesInsert, InsertsTended, of_insert, plain, with_fullness, HasReadSince, WasElsewhere, WasMovedOn, of_finish, RetriesDelete, IsLeft, links_told_by, flags_told_by, round_bound, WasFull, Tends, TendsInsert, TendsDelete, IsTidy, IsMadeTidy, MakesTidy, HasTended, UnlessHeld, SaysTended}
+use Rattle.nm_set.specs.Tended.{OnlyLoses, OthersOnlyLose, GoesOnTended, InARow, IsRetried, busy, Leaves, Retries, FinishesPending, IsRelieved, IsTidied, RetriesInsert, InsertsTended, of_insert, plain, with_fullness, HasReadSince, WasElsewhere, WasMovedOn, of_finish, RetriesDelete, IsLeft, links_told_by, flags_told_by, round_bound, WasFull, Tends, TendsHas, TendsInsert, TendsDelete, IsTidy, IsMadeTidy, MakesTidy, HasTended, UnlessHeld, SaysTended}
 use Rattle.std.specs.List.{prefix_len}
 
 -- nothing is not there
@@ -538,7 +538,7 @@ pub record IsSettled (b : TreeView) (h : Habit) (w x : WorkerView) : Type 0 wher
 pub settled : (b : TreeView) (h : Habit) (w x : WorkerView) (answer : Bool) → w.held ≡ None → FinishesPending b h w x (Ok answer) → IsSettled b h w x
 settled b h w x answer free f = record { none = finished b.layout h.tries f.begun x answer f.last; won = finishes_wins b h w x (Ok answer) f; on = goes_finishes b h w x (Ok answer) free f }
 
-pub contains_tends : (b : TreeView) (h : Habit) (k : ℕ) (w x z : WorkerView) (answer : Bool) (r : Result Bool Fault) → w.held ≡ None → FinishesPending b h w x (Ok answer) → Retries LeavesHas b h k x z r → Tends b h Has k w z r
+contains_tends : (b : TreeView) (h : Habit) (k : ℕ) (w x z : WorkerView) (answer : Bool) (r : Result Bool Fault) → w.held ≡ None → FinishesPending b h w x (Ok answer) → Retries LeavesHas b h k x z r → Tends b h Has k w z r
 contains_tends b h k w x z answer r free f looks =
     let at = settled b h w x answer free f in
     let most = round_bound h.tries b.layout in
@@ -745,7 +745,7 @@ removes_tend b h k w y z r made idle did =
 -- ---- where nothing is to be done first
 
 -- where nothing is pending, there is nothing to finish
-finishes_nothing : (b : TreeView) (h : Habit) (w : WorkerView) → w.pending ≡ None → FinishesPending b h w w (Ok false)
+pub finishes_nothing : (b : TreeView) (h : Habit) (w : WorkerView) → w.pending ≡ None → FinishesPending b h w w (Ok false)
 finishes_nothing b h w none = not_retried (LeavesFinish b.layout h.tries) (Err call.Unfinished) h.rounds w w (Ok false) (finishes_none b.layout h.tries w none) (λ e. absurd (differ e))
   where
     differ : ◌≡◌ {A = Result Bool Lost} (Ok false) (Err call.Unfinished) → ⊥
@@ -764,6 +764,11 @@ insert_answered b h k w z answer did = inl (Ok answer, answered Insert b h k w z
 
 pub delete_answered : (b : TreeView) (h : Habit) (k : ℕ) (w z : WorkerView) (answer : Bool) → Asked (LeavesDelete b.layout h.tries k) w z (Ok answer) → RetriesDelete b h k w z (Ok answer)
 delete_answered b h k w z answer did = inl (answered Delete b h k w z answer did, λ e. is_no_fault _ _ e)
+
+-- what was finished first, and then looked up
+pub looks_tend : (b : TreeView) (h : Habit) (k : ℕ) (w x z : WorkerView) (answer : Bool) (r : Result Bool Fault) → w.held ≡ None → FinishesPending b h w x (Ok answer) → Retries LeavesHas b h k x z r → TendsHas b h k w z r
+looks_tend b h k w x z answer r free finished looks =
+    inr (free, record { did = inr (answer, x, finished, looks); tends = contains_tends b h k w x z answer r free finished looks })
 
 -- what was made tidy, and then inserted or deleted
 pub inserts_tend : (b : TreeView) (h : Habit) (k : ℕ) (w y z : WorkerView) (r : Result Bool InsertFault) → IsMadeTidy b h w y → RetriesInsert b h k y z r → TendsInsert b h k w z r

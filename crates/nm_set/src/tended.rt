@@ -3,7 +3,6 @@
 ghost use Rattle.std.specs.Prelude.{◌≡◌, ◌≢◌, ◌≤◌, ◌+◌, ◌-◌, ◌*◌, true, false, None, Err};
 ghost use Rattle.nm_model.specs.declared.event.Op.TheVariants.{Has, Insert, Delete};
 ghost use Rattle.nm_tree.specs.declared.fault.CallFault.TheVariants as lost;
-ghost use Rattle.nm_tree.specs.Calls.{LeavesHas};
 ghost use Rattle.nm_tree.specs.Workers.{WorkerView};
 ghost use Rattle.nm_set.specs.Asked.{Asked};
 ghost use Rattle.nm_set.specs.declared.fault.Fullness.{Fullness};
@@ -144,13 +143,17 @@ impl Member {
         ensures disturbed { result ≡ busy → WasDisturbed self.old.worker.pass self.new.worker.pass
             ((habit.now.rounds + 1) * habit.now.tries) }
     {
-        if self.held().is_some() {
-            return Err(Fault::Held);
+        if !self.is_at_rest() {
+            return self.contains_untidy(key, habit);
         }
-        let Ok(_done) = self.finish_with_retries(habit) else {
-            return Err(Fault::Call(CallFault::Pending));
-        };
-        self.contains_with_retries(key, habit)
+        match self
+            .home
+            .tree()
+            .has(&mut self.sealed.worker, key, habit.tries)
+        {
+            Ok(answer) => Ok(answer),
+            Err(lost) => self.retry(Op::Has, key, habit, Fault::Call(lost)),
+        }
     }
 
     /// Inserts a key, and answers whether it was not in the set.
@@ -226,14 +229,37 @@ impl Member {
         }
     }
 
+    /// Whether the caller does not hold the worker and nothing is pending, as nearly always: then
+    /// there is nothing to do before a look-up.
+    fn is_at_rest(&self) -> bool
+        ensures { result ≡ true → (self.now.worker.held ≡ None) × (self.now.worker.pending ≡ None) }
+    {
+        self.held().is_none() && self.pending().is_none()
+    }
+
     /// Whether the caller does not hold the worker, nothing is pending and few nodes wait, as nearly
     /// always: then there is nothing to do before an insert or a delete.
     fn is_tidy(&self, habit: &Habit) -> bool
         ensures { result ≡ true → IsTidy habit.now self.now.worker }
     {
-        self.held().is_none()
-            && self.pending().is_none()
-            && self.queue_len() < u64::from(habit.collect_after)
+        self.is_at_rest() && self.queue_len() < u64::from(habit.collect_after)
+    }
+
+    /// `contains`, where something is to be done first, out of the way of the many calls where
+    /// nothing is.
+    #[cold]
+    #[inline(never)]
+    fn contains_untidy(&mut self, key: Key, habit: &Habit) -> Result<bool, Fault>
+        ensures tree { self.new.tree ≡ self.old.tree }
+        ensures did { TendsHas self.old.tree habit.now key self.old.worker self.new.worker result }
+    {
+        if self.held().is_some() {
+            return Err(Fault::Held);
+        }
+        let Ok(_done) = self.finish_with_retries(habit) else {
+            return Err(Fault::Call(CallFault::Pending));
+        };
+        self.ask_with_retries(Op::Has, key, habit)
     }
 
     /// `insert`, where something is to be done first, out of the way of the many calls where nothing
@@ -344,18 +370,6 @@ impl Member {
         self.collect();
         self.is_of_a_run();
         behind_of(&first, &second)
-    }
-
-    /// A look-up, with retries: nearly always the first one answers.
-    #[inline(always)]
-    fn contains_with_retries(&mut self, key: Key, habit: &Habit) -> Result<bool, Fault>
-        ensures tree { self.new.tree ≡ self.old.tree }
-        ensures did { Retries LeavesHas self.old.tree habit.now key self.old.worker self.new.worker result }
-    {
-        match self.try_contains(key, habit.tries) {
-            Ok(answer) => Ok(answer),
-            Err(fault) => self.retry(Op::Has, key, habit, fault),
-        }
     }
 
     /// Retries a call, behind a first one that has told this fault. What it keeps in memory for

@@ -1,50 +1,62 @@
-use Rattle.std.proofs.Common.{rules, ◌≡◌, inl, inr, refl, subst}
-use Rattle.std.specs.Prelude.{None, Ok}
+use Rattle.std.proofs.Common.{refl, subst}
+use Rattle.std.specs.Prelude.{Ok, Err, false}
 use Rattle.nm_model.specs.declared.event.Op.TheVariants.{Has}
-use Rattle.nm_steps.specs.Steps.{TreeView}
 use Rattle.nm_tree.specs.Calls.{LeavesHas}
-use Rattle.nm_set.specs.Tended.{Retries}
-use Rattle.nm_set.proofs.Disturbances.{looks_disturbed}
-use Rattle.nm_set.proofs.Tending.{pending_tends, contains_tends, goes_finishes, said}
+use Rattle.nm_tree.specs.Workers.{WorkerView}
+use Rattle.nm_set.specs.declared.fault.Fault.TheVariants as fault
+use Rattle.nm_set.specs.Asked.{Asked}
+use Rattle.nm_set.specs.Seats.{MemberView}
+use Rattle.nm_set.specs.Tended.{Retries, TendsHas}
+use Rattle.nm_set.proofs.Disturbances.{contains_disturbed}
+use Rattle.nm_set.proofs.Inside.{of_member}
+use Rattle.nm_set.proofs.Tending.{answered, finishes_nothing, looks_tend, said}
 use Rattle.nm_set.proofs.member.Member.contains.Goals as goal
 
-pub returns-in_default-clause-did : goal.returns-in_default-clause-did
-returns-in_default-clause-did c =
-    let free : c.args.self.now.worker.held ≡ None = search rules in
-    let told = pending_tends c.args.self.now.tree c.args.habit.now Has c.args.key c.args.self.now.worker c.finish_with_retries.new.self.worker c.in_default.field-0 free c.in_default.ensures.did in
-    inr (free, record { did = inl (told.0, refl); tends = told.1 })
-
-pub returns-clause-did : goal.returns-clause-did
-returns-clause-did c =
+pub returns-in-Ok-clause-did : goal.returns-in-Ok-clause-did
+returns-in-Ok-clause-did c =
     let b = c.args.self.now.tree in
     let h = c.args.habit.now in
     let k = c.args.key in
     let w = c.args.self.now.worker in
-    let x = c.finish_with_retries.new.self.worker in
-    let free : w.held ≡ None = search rules in
-    let settled = c.in-Ok.ensures.did in
-    let z = c.contains_with_retries.new.self.worker in
-    let looks = subst (λ (d : TreeView). Retries LeavesHas d h k x z c.contains_with_retries.result) c.finish_with_retries.ensures.tree c.contains_with_retries.ensures.did in
-    inr (free, record { did = inr (c.in-Ok._done, x, settled, looks); tends = contains_tends b h k w x z c.in-Ok._done c.contains_with_retries.result free settled looks })
+    let z = c.has.new.worker in
+    let rest = c.if-not-is_at_rest.ensures refl in
+    let did = of_member (λ d v. LeavesHas d.layout h.tries k v z (Ok c.in-Ok.answer)) _ _ _ c.self.view_is c.tree.ensures c.in-Ok.ensures.leaves in
+    looks_tend b h k w w z false (Ok c.in-Ok.answer) rest.0 (finishes_nothing b h w rest.1) (answered Has b h k w z c.in-Ok.answer (rest.0, did))
 
-pub returns-in_default-clause-says : goal.returns-in_default-clause-says
-returns-in_default-clause-says c = said c.args.self.now.tree c.args.habit.now Has c.args.key c.args.self.now.worker _ _ (returns-in_default-clause-did c)
-
-pub returns-clause-says : goal.returns-clause-says
-returns-clause-says c = said c.args.self.now.tree c.args.habit.now Has c.args.key c.args.self.now.worker _ _ (returns-clause-did c)
-
-pub returns-in_default-clause-disturbed : goal.returns-in_default-clause-disturbed
-returns-in_default-clause-disturbed c is = absurd (let no = is in cc)
-
-pub returns-clause-disturbed : goal.returns-clause-disturbed
-returns-clause-disturbed c is =
+pub returns-in-Err-clause-did : goal.returns-in-Err-clause-did
+returns-in-Err-clause-did c =
     let b = c.args.self.now.tree in
     let h = c.args.habit.now in
     let k = c.args.key in
     let w = c.args.self.now.worker in
-    let x = c.finish_with_retries.new.self.worker in
-    let z = c.contains_with_retries.new.self.worker in
-    let free : w.held ≡ None = search rules in
-    let on = goes_finishes b h w x (Ok c.in-Ok._done) free c.in-Ok.ensures.did in
-    let looks = subst (λ (d : TreeView). Retries LeavesHas d h k x z c.contains_with_retries.result) c.finish_with_retries.ensures.tree c.contains_with_retries.ensures.did in
-    looks_disturbed b h k w x z (record { same = on.same; past = on.past }) (subst (Retries LeavesHas b h k x z) is looks)
+    let m = c.has.new.worker in
+    let z = c.retry.new.self.worker in
+    let rest = c.if-not-is_at_rest.ensures refl in
+    let did = of_member (λ d v. LeavesHas d.layout h.tries k v m (Err c.in-Err.lost)) _ _ _ c.self.view_is c.tree.ensures c.in-Err.ensures.leaves in
+    let P : MemberView → Type 0 = λ s. (v : WorkerView) → Asked (LeavesHas s.tree.layout h.tries k) v m (Err (fault.Call c.in-Err.lost)) → Retries LeavesHas s.tree h k v z c.retry.result in
+    looks_tend b h k w w z false c.retry.result rest.0 (finishes_nothing b h w rest.1) (subst P c.self.view_is c.retry.ensures.did w (rest.0, did))
+
+pub returns-in-Ok-clause-says : goal.returns-in-Ok-clause-says
+returns-in-Ok-clause-says c = said c.args.self.now.tree c.args.habit.now Has c.args.key c.args.self.now.worker _ _ (returns-in-Ok-clause-did c)
+
+pub returns-in-Err-clause-says : goal.returns-in-Err-clause-says
+returns-in-Err-clause-says c = said c.args.self.now.tree c.args.habit.now Has c.args.key c.args.self.now.worker _ _ (returns-in-Err-clause-did c)
+
+pub returns-then-not-is_at_rest-clause-says : goal.returns-then-not-is_at_rest-clause-says
+returns-then-not-is_at_rest-clause-says c = said c.args.self.now.tree c.args.habit.now Has c.args.key c.args.self.now.worker _ _ c.contains_untidy.ensures.did
+
+pub returns-then-not-is_at_rest-clause-disturbed : goal.returns-then-not-is_at_rest-clause-disturbed
+returns-then-not-is_at_rest-clause-disturbed c is =
+    let b = c.args.self.now.tree in
+    let h = c.args.habit.now in
+    let w = c.args.self.now.worker in
+    let z = c.contains_untidy.new.self.worker in
+    contains_disturbed b h c.args.key w z (subst (TendsHas b h c.args.key w z) is c.contains_untidy.ensures.did)
+
+pub returns-in-Err-clause-disturbed : goal.returns-in-Err-clause-disturbed
+returns-in-Err-clause-disturbed c is =
+    let b = c.args.self.now.tree in
+    let h = c.args.habit.now in
+    let w = c.args.self.now.worker in
+    let z = c.retry.new.self.worker in
+    contains_disturbed b h c.args.key w z (subst (TendsHas b h c.args.key w z) is (returns-in-Err-clause-did c))
