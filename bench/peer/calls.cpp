@@ -8,6 +8,7 @@
 #include <chrono>
 #include <cstdio>
 #include <cstdlib>
+#include <malloc.h>
 #include <numeric>
 #include <random>
 #include <utility>
@@ -131,43 +132,48 @@ template <class Set> std::size_t mixed(Set &set, std::size_t keys, unsigned look
 
 template <class Set> class Side {
 public:
-    explicit Side(std::size_t keys) : keys_(keys), kinds_(keys), mixes_(keys) {
+    Side(std::size_t keys, Table &table) : keys_(keys), table_(table), kinds_(keys), mixes_(keys) {
         Random random(1);
         for (std::size_t count = 0; count < keys;) count += mixes_.add(random() % (2 * keys));
     }
 
     void round(Random random) {
         for (std::size_t times = std::max<std::size_t>(1, 16'384 / keys_); times--;)
-            time_kinds(kinds_, keys_, random, table);
+            time_kinds(kinds_, keys_, random, table_);
         unsigned looks[] = {90, 50, 0};
         for (std::size_t mix = 0; mix < 3; mix++)
-            time(table[5 + mix], 400'000, 0, false,
+            time(table_[5 + mix], 400'000, 0, false,
                  [&] { return mixed(mixes_, keys_, looks[mix], random); });
-        for (Row &row : table) row.end_round();
+        for (Row &row : table_) row.end_round();
     }
-
-    Table table = new_table();
 
 private:
     std::size_t keys_;
+    Table &table_;
     Set kinds_, mixes_;
 };
 
+// So many rounds. The sets are made anew for each few of them, in other pages of memory: where the
+// calls wait for memory, which pages these are makes a fifth of their time and more.
 void compare(std::size_t keys, unsigned long rounds) {
-    Side<ProvedSet<nm_set_new>> set(keys);
-    Side<PlainSet<plain::Worker>> plain(keys);
-    Side<PlainSet<plain::Handle>> handles(keys);
-    Side<ProvedSet<nm_set_near>> paper(keys);
-    for (unsigned long round = 0; round < rounds; round++) {
-        Random random(static_cast<unsigned>(round + 1));
-        set.round(random), plain.round(random), handles.round(random), paper.round(random);
+    constexpr unsigned long in_these_pages = 3;
+    Table sets = new_table(), plains = new_table(), handled = new_table(), others = new_table();
+    for (unsigned long round = 0; round < rounds;) {
+        Side<ProvedSet<nm_set_new>> set(keys, sets);
+        Side<PlainSet<plain::Worker>> plain(keys, plains);
+        Side<PlainSet<plain::Handle>> handles(keys, handled);
+        Side<ProvedSet<nm_set_near>> paper(keys, others);
+        for (unsigned long here = 0; here < in_these_pages && round < rounds; here++, round++) {
+            Random random(static_cast<unsigned>(round + 1));
+            set.round(random), plain.round(random), handles.round(random), paper.round(random);
+        }
     }
-    for (std::size_t row = 0; row < set.table.size(); row++) {
-        double least = set.table[row].least, object = plain.table[row].least,
-               handle = handles.table[row].least, other = paper.table[row].least;
+    for (std::size_t row = 0; row < sets.size(); row++) {
+        double least = sets[row].least, object = plains[row].least, handle = handled[row].least,
+               other = others[row].least;
         std::printf("| %zu | %s | %.0f | %.0f | %.2f | %.0f | %.2f | %.0f | %.2f |\n", keys,
-                    set.table[row].name, least, object, least / object, handle, least / handle,
-                    other, least / other);
+                    sets[row].name, least, object, least / object, handle, least / handle, other,
+                    least / other);
     }
     std::fflush(stdout);
 }
@@ -180,6 +186,8 @@ int main(int, char **words) {
         std::fputs("usage: bench/calls [ROUNDS]\n", stderr);
         return 2;
     }
+    // Large blocks stay blocks of their own, which are given back and mapped anew.
+    mallopt(M_MMAP_THRESHOLD, 1 << 20);
     std::puts("| Keys | Call | Set | Plain C++ | Ratio | C++, handles | Ratio"
               " | Paper's shape | Ratio |");
     std::puts("|---|---|---|---|---|---|---|---|---|");
