@@ -184,10 +184,12 @@ fn an_insert_waits_for_a_pin_to_end() {
         patience: u32::MAX,
         ..Options::default()
     };
-    let set = Set::with_options(7, options).unwrap();
+    let set = Set::with_options(9, options).unwrap();
     let mut reader = set.attach().unwrap();
     let guard = reader.pin().unwrap();
-    assert_eq!((set.insert(5), set.remove(5)), (Ok(true), Ok(true)));
+    for key in [4, 5] {
+        assert_eq!((set.insert(key), set.remove(key)), (Ok(true), Ok(true)));
+    }
     thread::scope(|scope| {
         let own = scope.spawn(|| set.attach().unwrap().insert(6));
         let any = scope.spawn(|| set.insert(6));
