@@ -42,6 +42,25 @@ abbrev pub other : Side → Side
 other Left = Right
 other Right = Left
 
+-- which edge of a tree: that of this node on this side
+pub record EdgePlace : Type 0 where
+  pub slot : ℕ
+  pub side : Side
+
+-- what a side adds to four times its node's slot, and the place in such a number
+abbrev pub turn : Side → ℕ
+turn Left = 0
+turn Right = 1
+
+abbrev pub place_in : ℕ → EdgePlace
+place_in n = record { slot = n / 4; side = if n % 2 == 1 then Right else Left }
+
+abbrev pub number_of : EdgePlace → ℕ
+number_of p = 4 * p.slot + turn p.side
+
+abbrev pub is_place : ℕ → Bool
+is_place n = nat_lt (n % 4) 2
+
 -- the edge in a word: its slot is the word / 4, its tag and flag are the bits of 2 and 1
 abbrev pub edge_in : ℕ → Edge
 edge_in w = record { slot = w / 4; flag = w % 2 == 1; tag = w / 2 % 2 == 1 }

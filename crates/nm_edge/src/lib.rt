@@ -3,6 +3,7 @@
 #![tactic(auto)]
 
 mod edge;
+mod edge_place;
 mod key;
 mod laws;
 mod layout;
@@ -11,6 +12,7 @@ mod placement;
 mod ranges;
 
 pub use edge::{Edge, Side};
+pub use edge_place::EdgePlace;
 pub use key::{INFINITY_0, INFINITY_1, INFINITY_2, Key, MOST_KEY};
 pub use laws::{
     covers_is_the_range, fields_are_apart, packing_gives_the_word, pool_places_are_apart,

@@ -61,6 +61,14 @@ fn layouts_have_their_limits(rt: HostRuntime) {
 }
 
 #[test]
+fn edges_have_places(rt: HostRuntime) {
+    let right = EdgePlace::new(9, Side::Right);
+    assert_eq!(rt; (right.slot(), right.side()), (9, Side::Right));
+    let left = EdgePlace::below(Edge::to(1_073_741_823), Side::Left);
+    assert_eq!(rt; (left.slot(), left.side()), (1_073_741_823, Side::Left));
+}
+
+#[test]
 fn keys_have_a_limit(rt: HostRuntime) {
     assert_eq!(rt;
         Key::new(18_446_744_073_709_551_612).map(Key::get),

@@ -1,6 +1,6 @@
 -- The walk for a key, as a relation between a log and a later one.
 use Rattle.std.specs.Prelude.{◌≡◌, ◌≢◌, ◌<◌, ◌≤◌, ◌+◌, ◌⊎◌, ℕ, zero, suc, true, false, if◌then◌else◌, List, [], ◌∷◌, ◌++◌, length, Option, Some, None}
-use Rattle.nm_edge.specs.Edges.{Edge}
+use Rattle.nm_edge.specs.Edges.{Edge, EdgePlace}
 use Rattle.nm_edge.specs.Layouts.{Layout}
 use Rattle.nm_edge.specs.declared.edge.Side.{Side}
 use Rattle.nm_edge.specs.declared.edge.Side.TheVariants.{Left, Right}
@@ -28,6 +28,17 @@ use Rattle.nm_walks.specs.Telling.{Tells, GoesOn, OnlyLooks}
 -- at first, at the left edge of slot 2 (Natarajan and Mittal, section 3.2, the seek record)
 abbrev pub begin : Edge → Spot
 begin e = record { ancestor = 1; above = Left; successor = 2; parent = 2; side = Left; edge = e }
+
+-- where the edge of one place leads to the node of another one, whose edge this is
+abbrev pub spot_at : EdgePlace → EdgePlace → Edge → Spot
+spot_at above at e = record {
+  ancestor = above.slot;
+  above = above.side;
+  successor = at.slot;
+  parent = at.slot;
+  side = at.side;
+  edge = e;
+}
 
 -- at the node that the edge led to, left on a side by an edge (Natarajan and Mittal, section 3.2,
 -- the seek record)

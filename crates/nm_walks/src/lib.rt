@@ -10,6 +10,7 @@ mod looking;
 mod making;
 mod marking;
 mod spot;
+mod trail;
 mod walking;
 mod workspace;
 

@@ -1,8 +1,8 @@
 //! Where a walk stands.
-ghost use Rattle.std.specs.Prelude.{◌≡◌, ◌≢◌, ◌<◌, ◌≤◌, ◌+◌, ◌^◌, ◌||◌, true, false, length};
+ghost use Rattle.std.specs.Prelude.{◌≡◌, ◌≢◌, ◌<◌, ◌≤◌, ◌+◌, ◌||◌, true, false, length};
 ghost use Rattle.nm_model.specs.Searches.{side_of};
 ghost use Rattle.nm_walks.specs.Bounds.{chain_bound};
-ghost use Rattle.nm_walks.specs.Walks.{begin, onto, chain_onto};
+ghost use Rattle.nm_walks.specs.Walks.{onto, chain_onto};
 
 use arrayvec::ArrayVec;
 use nm_edge::{Edge, Side};
@@ -85,35 +85,11 @@ pub fn is_marked(edge: Edge) -> bool
     edge.flag() || edge.tag()
 }
 
-/// The slot of an edge of a tree, which has fewer than 2^30. The lower half of the word is enough
-/// for that; and where the edge is known to have no mark, a compiler finds four times the slot, by
-/// which the node's words are numbered, in that half as it stands.
-pub(crate) fn slot_of(edge: Edge) -> u32
-    requires { edge.slot < 2 ^ 30 }
-    ensures { result ≡ edge.slot }
-{
-    edge.pack() as u32 / 4
-}
-
 pub(crate) fn end_at(spot: &Spot, key: u64) -> WalkEnd
     ensures spot { result.spot ≡ spot.now }
     ensures key { result.key ≡ key }
 {
     WalkEnd { spot: *spot, key }
-}
-
-/// The spot at the left edge of slot 2.
-pub(crate) fn first(edge: Edge) -> Spot
-    ensures { result ≡ begin edge }
-{
-    Spot {
-        ancestor: 1,
-        above: Side::Left,
-        successor: 2,
-        parent: 2,
-        side: Side::Left,
-        edge,
-    }
 }
 
 /// The spot after the node that the edge leads to, left on `side` by the edge `next`.

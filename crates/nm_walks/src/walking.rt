@@ -10,9 +10,8 @@ ghost use Rattle.nm_edge.specs.Ranges.{covers};
 ghost use Rattle.nm_walks.specs.Walks.{Finds, Seeks, HasDescended, HasFound, HasRemembered, HasWalked};
 
 use crate::looking::{Onward, look_edge, read_node};
-use crate::spot::{
-    ChainEdges, Descent, WalkEnd, end_at, extend, first, further, is_marked, is_null, slot_of,
-};
+use crate::spot::{ChainEdges, Descent, WalkEnd, end_at, extend, further, is_null};
+use crate::trail::Trail;
 use nm_edge::{Layout, Side, covers};
 use nm_steps::{Pass, Shared};
 
@@ -119,20 +118,20 @@ fn descend(shared: &Shared, pass: &mut Pass, key: u64) -> Descent
     ensures only { OnlyLooks pass.old pass.new }
 {
     let layout = shared.layout();
-    let mut spot = first(look_edge(shared, layout, pass, 2, Side::Left));
+    let mut trail = Trail::first(look_edge(shared, layout, pass, 2, Side::Left));
     let most = reach(layout) - 1;
     for below in 0..most {
-        if is_marked(spot.edge) {
-            return Descent::Stopped(spot, below);
+        if trail.is_marked() {
+            return Descent::Stopped(trail.spot(), below);
         }
-        let node = slot_of(spot.edge);
+        let node = trail.slot();
         let on = read_node(shared, layout, pass, node, key);
         if is_null(on.next) {
-            return Descent::Ended(end_at(&spot, on.found));
+            return Descent::Ended(end_at(&trail.spot(), on.found));
         }
-        spot = further(spot, on.side, on.next);
+        trail = trail.further(on.side, on.next);
     }
-    Descent::Stopped(spot, most)
+    Descent::Stopped(trail.spot(), most)
 }
 
 /// Where a walk for a key comes to in a radix tree that is to put the key there: the spot at whose
@@ -185,20 +184,20 @@ fn sink(shared: &Shared, pass: &mut Pass, key: u64) -> Descent
     ensures only { OnlyLooks pass.old pass.new }
 {
     let layout = shared.layout();
-    let mut spot = first(look_edge(shared, layout, pass, 2, Side::Left));
+    let mut trail = Trail::first(look_edge(shared, layout, pass, 2, Side::Left));
     let most = reach(layout) - 1;
     for below in 0..most {
-        if is_marked(spot.edge) {
-            return Descent::Stopped(spot, below);
+        if trail.is_marked() {
+            return Descent::Stopped(trail.spot(), below);
         }
-        let node = slot_of(spot.edge);
+        let node = trail.slot();
         let on = read_node(shared, layout, pass, node, key);
         if stops(&on, key) {
-            return Descent::Ended(end_at(&spot, on.found));
+            return Descent::Ended(end_at(&trail.spot(), on.found));
         }
-        spot = further(spot, on.side, on.next);
+        trail = trail.further(on.side, on.next);
     }
-    Descent::Stopped(spot, most)
+    Descent::Stopped(trail.spot(), most)
 }
 
 /// Whether the insert of a key stops at a node of a radix tree that was read so: at a leaf, or where

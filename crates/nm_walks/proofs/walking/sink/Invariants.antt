@@ -5,6 +5,6 @@ use Rattle.nm_walks.proofs.walking.sink.Given as goal
 
 abbrev pub invariant-loop-below : goal.invariant-loop-below
 invariant-loop-below l = record {
-  walking : IsWalking l.shared.layout l.key l.below l.fn.pass l.pass l.spot [];
-  narrowed : IsNarrowed l.fn.pass l.pass l.key l.spot.parent l.spot.side;
+  walking : IsWalking l.shared.layout l.key l.below l.fn.pass l.pass l.trail [];
+  narrowed : IsNarrowed l.fn.pass l.pass l.key l.trail.parent l.trail.side;
 }
