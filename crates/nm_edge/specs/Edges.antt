@@ -47,16 +47,17 @@ pub record EdgePlace : Type 0 where
   pub slot : ℕ
   pub side : Side
 
--- what a side adds to four times its node's slot, and the place in such a number
+-- what a side adds to four times its node's slot
 abbrev pub turn : Side → ℕ
 turn Left = 0
 turn Right = 1
 
-abbrev pub place_in : ℕ → EdgePlace
-place_in n = record { slot = n / 4; side = if n % 2 == 1 then Right else Left }
-
+-- the number of a place, the place in a number, and which are numbers of places
 abbrev pub number_of : EdgePlace → ℕ
 number_of p = 4 * p.slot + turn p.side
+
+abbrev pub place_in : ℕ → EdgePlace
+place_in n = record { slot = n / 4; side = if n % 2 == 1 then Right else Left }
 
 abbrev pub is_place : ℕ → Bool
 is_place n = nat_lt (n % 4) 2
