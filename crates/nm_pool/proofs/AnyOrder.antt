@@ -6,7 +6,7 @@ use Rattle.std.proofs.lemmas.Bool.{cases_lt, cond-false, ne_eqb}
 use Rattle.std.proofs.lemmas.List.{length-append}
 use Rattle.nm_edge.specs.declared.node.NodeId.{NodeId}
 use Rattle.nm_model.specs.Walks.{Entry}
-use Rattle.nm_pool.specs.Claims.{Doing, DoneInTurn, PassedOver, PassedWithin, DoneAt, IsOneOfSlots, IsClaim, IsClaimBetween, IsClaimOfFew, IsNearClaim, ClaimsPast, MadeNew, node_in}
+use Rattle.nm_pool.specs.Claims.{Doing, DoneInTurn, PassedOver, PassedWithin, DoneAt, IsOneOfSlots, IsClaim, IsClaimBetween, IsClaimOfFew, IsNearClaim, MadeNew, node_in}
 
 -- ---- a range as a list, from its end
 
