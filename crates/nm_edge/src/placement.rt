@@ -90,16 +90,27 @@ impl Placement {
         self.is_given = false;
     }
 
+    /// The slot in whose row a near claim looks first, of those from 6 to `nodes`.
+    #[inline(always)]
+    pub fn cursor(&self, nodes: u32) -> u32
+        requires { FIRST_SLOT ≤ nodes }
+        ensures low { 5 < result }
+        ensures high { result ≤ nodes }
+    {
+        if FIRST_SLOT <= self.cursor && self.cursor <= nodes {
+            self.cursor
+        } else {
+            FIRST_SLOT
+        }
+    }
+
     /// The slot from which to look on, of those from 6 to `nodes`: the first of the cursor's row.
     pub fn first(&self, nodes: u32) -> u32
         requires { FIRST_SLOT ≤ nodes }
         ensures low { 5 < result }
         ensures high { result ≤ nodes }
     {
-        if FIRST_SLOT <= self.cursor && self.cursor <= nodes {
-            (self.cursor - place_in_row(self.cursor)).max(FIRST_SLOT)
-        } else {
-            FIRST_SLOT
-        }
+        let cursor = self.cursor(nodes);
+        (cursor - place_in_row(cursor)).max(FIRST_SLOT)
     }
 }

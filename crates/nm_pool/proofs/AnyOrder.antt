@@ -1,18 +1,12 @@
 -- Claims of slots in any order: what was passed over, as a list of slots.
-use Rattle.std.proofs.Common.{◌≡◌, inl, inr, ℕ, zero, suc, ◌+◌, ◌-◌, ◌≤◌, ◌<◌, List, [], ◌∷◌, ◌++◌, length, refl, sym, subst, arith}
+use Rattle.std.proofs.Common.{◌≡◌, inl, inr, ℕ, zero, suc, ◌+◌, ◌-◌, ◌≤◌, ◌<◌, ◌==◌, List, [], ◌∷◌, ◌++◌, length, refl, sym, subst, arith}
 use Rattle.std.specs.Prelude.{Option, Some, None}
 use Rattle.std.proofs.Math.Nat.{eq-or-lt_of_le}
-use Rattle.std.proofs.lemmas.Bool.{cases_lt}
+use Rattle.std.proofs.lemmas.Bool.{cases_lt, cond-false, ne_eqb}
 use Rattle.std.proofs.lemmas.List.{length-append}
 use Rattle.nm_edge.specs.declared.node.NodeId.{NodeId}
 use Rattle.nm_model.specs.Walks.{Entry}
-use Rattle.nm_pool.specs.Claims.{Doing, DoneInTurn, PassedOver, PassedWithin, DoneAt, IsOneOfSlots, IsClaim, IsClaimBetween, IsNearClaim, ClaimsPast}
-
--- what a near claim leaves by its answer, of at most so many tries
-abbrev pub IsClaimOfFew : ℕ → ℕ → List Entry → List Entry → Option NodeId → Type 0
-IsClaimOfFew limit nodes old new (Some n) = ClaimsPast limit nodes old new n
-IsClaimOfFew limit nodes old new None =
-    (slots : List ℕ) × (length slots ≤ limit) × DoneAt (PassedWithin nodes) slots old new
+use Rattle.nm_pool.specs.Claims.{Doing, DoneInTurn, PassedOver, PassedWithin, DoneAt, IsOneOfSlots, IsClaim, IsClaimBetween, IsClaimOfFew, IsNearClaim, MadeNew, node_in}
 
 -- ---- a range as a list, from its end
 
@@ -101,6 +95,13 @@ few_between from to nodes old new (Some n) low order high c =
 pub is_lowest : (nodes : ℕ) (old new : List Entry) (o : Option NodeId) → IsClaimBetween 6 (nodes + 1) old new o → IsClaim nodes old new o
 is_lowest nodes old new None done = done
 is_lowest nodes old new (Some n) c = let below = c.below in record { least = c.least; most = omega (arith, below); before = c.before; passed = c.passed; made = c.made }
+
+-- a node that was made is that of an answer, since its birth was raised
+pub in_answer : (n : NodeId) (old new : List Entry) → MadeNew n old new → node_in n ≡ Some n
+in_answer n old new made = let raised = made.raised in cond-false (n.birth == 0) nothing (Some n) (ne_eqb n.birth 0 (λ none'. omega (arith, none', raised)))
+  where
+    nothing : Option NodeId
+    nothing = None
 
 -- ---- near claims
 

@@ -1,5 +1,5 @@
 -- What claiming new nodes leaves in the log, oldest entry first.
-use Rattle.std.specs.Prelude.{◌≡◌, ℕ, ◌+◌, ◌≤◌, ◌<◌, ◌⊎◌, true, length, List, [], ◌∷◌, ◌++◌, Option, Some, None, Result, Ok, Err}
+use Rattle.std.specs.Prelude.{◌≡◌, ℕ, ◌+◌, ◌≤◌, ◌<◌, ◌⊎◌, ◌==◌, if◌then◌else◌, true, length, List, [], ◌∷◌, ◌++◌, Option, Some, None, Result, Ok, Err}
 use Rattle.nm_edge.specs.declared.node.NodeId.{NodeId}
 use Rattle.nm_model.specs.declared.event.Event.TheVariants.{Claim, Give, Look, Fill}
 use Rattle.nm_model.specs.declared.event.Field.TheVariants.{Birth}
@@ -44,6 +44,10 @@ pub record Claims (nodes : ℕ) (old new : List Entry) (n : NodeId) : Type 0 whe
 abbrev pub IsClaim : ℕ → List Entry → List Entry → Option NodeId → Type 0
 IsClaim nodes old new (Some n) = Claims nodes old new n
 IsClaim nodes old new None = DoneBelow PassedOver 6 (nodes + 1) old new
+
+-- the node of an answer in which birth 0 says that there is none
+abbrev pub node_in : NodeId → Option NodeId
+node_in n = if n.birth == 0 then None else Some n
 
 -- its slot is private, its birth is stored there, and nothing else is
 abbrev pub IsNewNode : Knowledge → NodeId → Type 0
@@ -119,6 +123,13 @@ pub record PassesAll (nodes : ℕ) (old new : List Entry) : Type 0 where
 abbrev pub IsNearClaim : ℕ → List Entry → List Entry → Option NodeId → Type 0
 IsNearClaim nodes old new (Some n) = ClaimsPast nodes nodes old new n
 IsNearClaim nodes old new None = PassesAll nodes old new
+
+-- what a claim leaves by its answer, where at most so many slots above 5 were passed over: fewer
+-- before that of a node, and with no node any of them
+abbrev pub IsClaimOfFew : ℕ → ℕ → List Entry → List Entry → Option NodeId → Type 0
+IsClaimOfFew limit nodes old new (Some n) = ClaimsPast limit nodes old new n
+IsClaimOfFew limit nodes old new None =
+    (slots : List ℕ) × (length slots ≤ limit) × DoneAt (PassedWithin nodes) slots old new
 
 -- what a claim by a placement leaves: of the lowest fit as `IsClaim`, of the near one as
 -- `IsNearClaim` says (next fit: Knuth, The Art of Computer Programming, volume 1, section 2.5)

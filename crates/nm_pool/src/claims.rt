@@ -1,11 +1,12 @@
 //! Slots claimed in the order of a worker's placement.
-ghost use Rattle.std.specs.Prelude.{◌≡◌, ◌+◌, ◌*◌, ◌≤◌, length, IfSome};
+ghost use Rattle.std.specs.Prelude.{◌≡◌, ◌+◌, ◌*◌, ◌≤◌, List, None, length, IfSome};
+ghost use Rattle.nm_model.specs.Walks.{Entry};
 ghost use Rattle.nm_order.specs.Told.{IsNew};
 ghost use Rattle.nm_steps.specs.Rules.{knowledge};
 ghost use Rattle.nm_steps.specs.Steps.{Continues, IsOf};
-ghost use Rattle.nm_pool.specs.Claims.{IsClaimBy, IsNearClaim, IsNewNode, LearnsSlots};
+ghost use Rattle.nm_pool.specs.Claims.{IsClaimBy, IsClaimOfFew, IsNearClaim, IsNewNode, LearnsSlots, node_in};
 
-use crate::nodes::{claim, claim_between, claim_by_rows};
+use crate::nodes::{Tried, claim, claim_by_rows, try_slot};
 use nm_edge::{FIRST_SLOT, Fit, NodeId, Placement};
 use nm_steps::{Pass, Shared};
 
@@ -30,13 +31,13 @@ pub fn claim_by(shared: &Shared, pass: &mut Pass, placement: &mut Placement) -> 
     ensures fit { placement.new ≡ placement.old }
 {
     match placement.fit() {
-        Fit::Lowest => claim(shared, pass),
+        Fit::Lowest => some_node(claim(shared, pass)),
         Fit::Near => claim_near(shared, pass, placement),
     }
 }
 
-/// The first slot that is found from the cursor's row upwards, and round; the cursor stands there
-/// from then on.
+/// The slot that the cursor's row shows, if it is got, and else the first that is found from this
+/// row upwards, and round; the cursor stands there from then on.
 #[inline(always)]
 fn claim_near(shared: &Shared, pass: &mut Pass, placement: &mut Placement) -> Option<NodeId>
     requires { IsOf shared.now pass.old }
@@ -48,15 +49,76 @@ fn claim_near(shared: &Shared, pass: &mut Pass, placement: &mut Placement) -> Op
     ensures learned { LearnsSlots (knowledge pass.old.view) (knowledge pass.new.view) }
     ensures fit { placement.new ≡ placement.old }
 {
-    let nodes = shared.layout().nodes();
-    let first = placement.first(nodes);
-    if let Some(node) = claim_between(shared, pass, first, nodes + 1) {
-        placement.found(node.slot);
+    if let Some(node) = claim_shown(shared, pass, placement) {
         return Some(node);
     }
-    let Some(node) = claim_by_rows(shared, pass, FIRST_SLOT, first) else {
+    some_node(claim_in_turn(shared, pass, placement))
+}
+
+/// Tries the one slot that the cursor's row shows first, of those that a node of the tree can stand
+/// in; the cursor stands there where it was got.
+#[inline(always)]
+fn claim_shown(shared: &Shared, pass: &mut Pass, placement: &mut Placement) -> Option<NodeId>
+    requires { IsOf shared.now pass.old }
+    ensures on { Continues pass.old pass.new }
+    ensures part { IsClaimOfFew 1 shared.now.layout.nodes pass.old.view.log pass.new.view.log
+        result }
+    ensures made { IfSome result (IsNewNode (knowledge pass.new.view)) }
+    ensures new { IfSome result
+        (λ node. IsNew pass.old.view.layout pass.old.view.number pass.old.view.log node.slot) }
+    ensures learned { LearnsSlots (knowledge pass.old.view) (knowledge pass.new.view) }
+    ensures fit { placement.new ≡ placement.old }
+{
+    let nodes = shared.layout().nodes();
+    let slot = shared.glance(pass, placement.cursor(nodes))?;
+    if slot < FIRST_SLOT || nodes < slot {
+        return None;
+    }
+    let Tried::Got(birth) = try_slot(shared, pass, slot) else {
         return None;
     };
+    placement.found(slot);
+    Some(NodeId { slot, birth })
+}
+
+/// The first slot that is found from the first one of the cursor's row upwards, and round; the
+/// cursor stands there from then on. Slot 0 with birth 0: there was none.
+///
+/// With one slot passed over before, it is a near claim still.
+#[cold]
+#[inline(never)]
+fn claim_in_turn(shared: &Shared, pass: &mut Pass, placement: &mut Placement) -> NodeId
+    requires { IsOf shared.now pass.old }
+    ensures on { Continues pass.old pass.new }
+    ensures part { (old : List Entry)
+        → IsClaimOfFew 1 shared.now.layout.nodes old pass.old.view.log None
+        → IsNearClaim shared.now.layout.nodes old pass.new.view.log (node_in result) }
+    ensures made { IfSome (node_in result) (IsNewNode (knowledge pass.new.view)) }
+    ensures new { IfSome (node_in result)
+        (λ node. IsNew pass.old.view.layout pass.old.view.number pass.old.view.log node.slot) }
+    ensures learned { LearnsSlots (knowledge pass.old.view) (knowledge pass.new.view) }
+    ensures fit { placement.new ≡ placement.old }
+{
+    let nodes = shared.layout().nodes();
+    let first = placement.first(nodes);
+    if let Some(node) = claim_by_rows(shared, pass, first, nodes + 1) {
+        placement.found(node.slot);
+        return node;
+    }
+    let Some(node) = claim_by_rows(shared, pass, FIRST_SLOT, first) else {
+        return NodeId { slot: 0, birth: 0 };
+    };
     placement.found(node.slot);
+    node
+}
+
+/// The node that was claimed, if there is one: its birth is above 0.
+#[inline(always)]
+fn some_node(node: NodeId) -> Option<NodeId>
+    ensures { result ≡ node_in node }
+{
+    if node.birth == 0 {
+        return None;
+    }
     Some(node)
 }

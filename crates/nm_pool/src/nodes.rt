@@ -6,7 +6,7 @@ ghost use Rattle.nm_model.specs.Knowledge.{is_private, draft_of};
 ghost use Rattle.nm_order.specs.Told.{IsNew};
 ghost use Rattle.nm_steps.specs.Rules.{knowledge};
 ghost use Rattle.nm_steps.specs.Steps.{Continues, IsOf, TakesStep};
-ghost use Rattle.nm_pool.specs.Claims.{IsClaim, IsClaimBetween, IsTried, IsTriedRow, IfGot, IsNewNode, LearnsSlots};
+ghost use Rattle.nm_pool.specs.Claims.{IsClaim, IsClaimBetween, IsTried, IsTriedRow, IfGot, IsNewNode, LearnsSlots, node_in};
 
 use nm_edge::{FIRST_SLOT, LAST_NUMBER, NodeId, SLOTS_OF_A_ROW, place_in_row};
 use nm_steps::{Pass, Shared};
@@ -25,53 +25,39 @@ pub(crate) enum Tried {
 /// Takes a slot out of the pool to be a new node: the lowest that it finds there with a birth below
 /// 2^62, which it raises by one.
 ///
-/// `Some(node)`: the slot is private to the worker, which had it nowhere before; the birth that was
-/// found there and 1 more is stored in it, and each lesser slot above 5 was found taken or worn in
-/// this call; a worn one is back in the pool. `None`: each slot above 5 was. At most three steps a
-/// slot.
+/// A node: its slot is private to the worker, which had it nowhere before; the birth that was found
+/// there and 1 more is stored in it, and each lesser slot above 5 was found taken or worn in this
+/// call; a worn one is back in the pool. Slot 0 with birth 0: each slot above 5 was. At most three
+/// steps a slot.
 ///
 /// Slots come back to the pool by epoch-based reclamation (Fraser, Practical lock-freedom, 2004,
 /// chapter 5); the births tell apart the nodes that stood in one slot.
-pub(crate) fn claim(shared: &Shared, pass: &mut Pass) -> Option<NodeId>
+#[inline(never)]
+pub(crate) fn claim(shared: &Shared, pass: &mut Pass) -> NodeId
     requires { IsOf shared.now pass.old }
     ensures on { Continues pass.old pass.new }
-    ensures part { IsClaim shared.now.layout.nodes pass.old.view.log pass.new.view.log result }
-    ensures made { IfSome result (IsNewNode (knowledge pass.new.view)) }
-    ensures new { IfSome result
+    ensures part { IsClaim shared.now.layout.nodes pass.old.view.log pass.new.view.log
+        (node_in result) }
+    ensures made { IfSome (node_in result) (IsNewNode (knowledge pass.new.view)) }
+    ensures new { IfSome (node_in result)
         (λ node. IsNew pass.old.view.layout pass.old.view.number pass.old.view.log node.slot) }
     ensures learned { LearnsSlots (knowledge pass.old.view) (knowledge pass.new.view) }
     ensures steps { length pass.new.view.log
         ≤ length pass.old.view.log + 3 * shared.now.layout.nodes }
 {
     let nodes = shared.layout().nodes();
-    claim_between(shared, pass, FIRST_SLOT, nodes + 1)
+    let next = match try_row(shared, pass, FIRST_SLOT, nodes + 1) {
+        Ok(node) => return node,
+        Err(next) => next,
+    };
+    let Some(node) = claim_by_rows(shared, pass, next, nodes + 1) else {
+        return NodeId { slot: 0, birth: 0 };
+    };
+    node
 }
 
-/// The first slot from one on and below another that is found in the pool and is not worn.
-#[inline(always)]
-pub(crate) fn claim_between(shared: &Shared, pass: &mut Pass, from: u32, to: u32) -> Option<NodeId>
-    requires own { IsOf shared.now pass.old }
-    requires low { 5 < from }
-    requires order { from ≤ to }
-    requires high { to ≤ shared.now.layout.nodes + 1 }
-    ensures on { Continues pass.old pass.new }
-    ensures part { IsClaimBetween from to pass.old.view.log pass.new.view.log result }
-    ensures made { IfSome result (IsNewNode (knowledge pass.new.view)) }
-    ensures new { IfSome result
-        (λ node. IsNew pass.old.view.layout pass.old.view.number pass.old.view.log node.slot) }
-    ensures learned { LearnsSlots (knowledge pass.old.view) (knowledge pass.new.view) }
-{
-    pass.is_of_a_run();
-    if to <= from {
-        return None;
-    }
-    match try_row(shared, pass, from, to) {
-        Ok(node) => Some(node),
-        Err(next) => claim_by_rows(shared, pass, next, to),
-    }
-}
-
-/// The same, row by row.
+/// The first slot from one on and below another that is found in the pool and is not worn, row by
+/// row.
 #[cold]
 #[inline(never)]
 pub(crate) fn claim_by_rows(shared: &Shared, pass: &mut Pass, from: u32, to: u32) -> Option<NodeId>

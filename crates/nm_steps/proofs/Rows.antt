@@ -195,7 +195,7 @@ pub asked_to_pass : (L : Layout) (z : TableId) (slots : ℕ) (it : Seat Unit Vie
     → (it.table_id ≡ z) × (i < z.words) × Allows (Kept L) slots it.id it.me i (λ n. n) (λ n after. DidClaims first (shown_taken n first many) it.me n after)
 asked_to_pass L z slots it first many from most i pick pick_many can = (
   can.table,
-  subst (λ (k : ℕ). k < z.words) (sym can.word) (subst (λ (k : ℕ). (pool_place L from).word < k) (sym can.words) (fields_within L (at_row ((from - 1) / 64)) (places_are_rows L from (omega (arith, can.low), omega (arith, can.some, can.high))))),
+  subst (λ (k : ℕ). k < z.words) (sym can.word) (subst (λ (k : ℕ). (pool_place L from).word < k) (sym can.words) (fields_within L (at_row ((from - 1) / 64)) (places_are_rows L from (omega (arith, can.low), can.slot)))),
   subst (λ (x : ℕ). Allows (Kept L) slots it.id it.me i (λ n. n) (λ n after. DidClaims x (shown_taken n x many) it.me n after)) (sym pick)
       (subst (λ (x : ℕ). Allows (Kept L) slots it.id it.me i (λ n. n) (λ n after. DidClaims from (shown_taken n from x) it.me n after)) (sym pick_many)
       (subst (λ (c : List (ℕ × Unit)). Allows (Kept L) slots it.id (it.me.0, c) i (λ n. n) (λ n after. DidClaims from (shown_taken n from most) (it.me.0, c) n after)) (sym can.empty) passes)),

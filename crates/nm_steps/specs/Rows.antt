@@ -57,7 +57,7 @@ pub record CanPass (b : TreeView) (it : Seat Unit View) (from most i : ℕ) : Ty
   pub alive : it.me.0.spent ≡ false
   pub layout : it.me.0.layout ≡ b.layout
   pub low : 6 ≤ from
-  pub some : 1 ≤ most
+  pub slot : from ≤ b.layout.nodes
   pub high : from + most ≤ b.layout.nodes + 1
   pub row : (from - 1) % 64 + most ≤ 64
   pub word : i ≡ (pool_place b.layout from).word

@@ -7,6 +7,7 @@ ghost use Rattle.nm_steps.specs.Rows.{DoneBelow, FoundTaken, shown_taken};
 ghost use Rattle.nm_steps.specs.Steps.{Continues, IsOf, MayStep, TakesStep, claim_reply, give_reply};
 
 use crate::pass::{Pass, Shared};
+use nm_edge::place_in_row;
 use nm_model::Event;
 
 impl Shared {
@@ -44,6 +45,26 @@ impl Shared {
         let word = self.layout.pool(from).word as usize;
         let found = self.look_at_row(&mut pass.seat, word, from, most);
         from + taken_in_row(found, from, most)
+    }
+
+    /// Glances at the row of a slot, by one load: the first slot that its word shows to be in the
+    /// pool, if it shows one. No slot counts as found by that, and it may be one that no node of
+    /// the tree can stand in.
+    #[inline(always)]
+    pub fn glance(&self, pass: &mut Pass, slot: u32) -> Option<u32>
+        requires own { IsOf self.now pass.old }
+        requires low { 6 ≤ slot }
+        requires high { slot ≤ self.now.layout.nodes }
+        ensures on { Continues pass.old pass.new }
+        ensures log { pass.new.view.log ≡ pass.old.view.log }
+        ensures learned { knowledge pass.new.view ≡ knowledge pass.old.view }
+    {
+        let word = self.layout.pool(slot).word as usize;
+        let found = self.look_at_row(&mut pass.seat, word, slot, 0);
+        if found == 0 {
+            return None;
+        }
+        Some(slot - place_in_row(slot) + found.trailing_zeros())
     }
 
     /// Puts a slot back into the pool: a private one, or the front of a queue that the worker
