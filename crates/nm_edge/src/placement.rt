@@ -2,38 +2,37 @@
 ghost use Rattle.std.specs.Prelude.{◌≡◌, ◌≤◌, ◌<◌};
 
 use crate::layout::{FIRST_SLOT, place_in_row};
+use arrayvec::ArrayVec;
 use std::marker::Model;
 
-/// In which order a worker tries the slots of the pool.
+/// The order in which a worker tries the slots of the pool.
 #[derive(Clone, Copy, Debug, PartialEq, Eq)]
 pub enum Fit {
-    /// From slot 6 upwards at each claim: first fit.
+    /// First fit: each claim tries the slots from 6 upwards.
     Lowest,
-    /// From the first slot of a row of 64 upwards, and round: the row of the slot which the worker
-    /// found last or, where it gave some back since then, of the first of these from its home on,
-    /// and round: next fit.
+    /// Next fit, after the slots that the worker gave back: a claim tries the slot given back last,
+    /// and otherwise goes on from the row of 64 slots in which the last search ended, and round.
     Near,
 }
 
-/// Where one worker looks for a free slot; contracts see which fit it is. It may look beside any
-/// slot: a slot counts only as it is found.
+/// How many slots given back a placement remembers. Collections free some 64 nodes at a time.
+const MOST_GIVEN: usize = 128;
+
+/// Where one worker looks for a free slot; contracts see its fit alone. A placement is a hint: it may
+/// name any slot, because a claim counts only the slots that it finds in the pool.
 ///
 /// First fit and next fit are those of storage allocation (Knuth, The Art of Computer Programming,
 /// volume 1, section 2.5).
 #[derive(Drop)]
 pub struct Placement {
     fit: Fit,
-    // The slot in whose row a near worker looks first: the one that it found last or, where some
-    // were given back since then, the first of these from its home on, and round. So the others lie
-    // ahead; from another one on a claim would come to those before it only once it had gone round,
-    // and the nodes of a small set would wander over all slots, where the processor has them no
-    // longer at hand.
+    // The slot in whose row the next search begins: the last one that a search found. A search
+    // never returns to an earlier free slot, so that a claim passes each full row once a round, and
+    // not once a claim. Each worker begins at another slot.
     cursor: u32,
-    // The slot at which the worker began, which is another one for each worker, so that they do not
-    // all come to the lowest slots.
-    home: u32,
-    // Whether some were given back since the last claim.
-    is_given: bool,
+    // The slots given back, the last one on top. Their nodes are still in the processor's caches.
+    // With no room left, a slot is not remembered, and a later search finds it.
+    given: ArrayVec<u32, MOST_GIVEN>,
 }
 
 impl Model for Placement {
@@ -45,52 +44,52 @@ impl Model for Placement {
 }
 
 impl Placement {
-    /// The placement of a worker that has given nothing back. `cursor` is its home, the slot in whose
-    /// row a near one looks first; where the pool has no such slot, it looks from slot 6 on.
+    /// Makes the placement of a worker that has given nothing back. A near one begins in the row of
+    /// the slot `cursor`, or at slot 6 if the pool has no such slot.
     pub fn new(fit: Fit, cursor: u32) -> Placement
         ensures { result ≡ fit }
     {
         Placement {
             fit,
             cursor,
-            home: cursor,
-            is_given: false,
+            given: ArrayVec::new(),
         }
     }
 
-    /// Which fit it is.
+    /// Returns the fit.
     pub fn fit(&self) -> Fit
         ensures { result ≡ self.now }
     {
         self.fit
     }
 
-    /// Remembers a slot that was given back where it is the first one from the worker's home on, and
-    /// round, of those since the last claim: a near claim looks in its row first.
+    /// Remembers a slot that was given back, if there is room: a near claim tries it first.
+    #[inline(always)]
     pub fn keep(&mut self, slot: u32)
         ensures { self.new ≡ self.old }
     {
-        if !self.is_given || self.from_home(slot) < self.from_home(self.cursor) {
-            self.cursor = slot;
+        if !self.given.is_full() {
+            self.given.push(slot);
         }
-        self.is_given = true;
     }
 
-    /// How far a slot lies from the worker's home on; those below come behind all others.
-    fn from_home(&self, slot: u32) -> u32 {
-        slot.wrapping_sub(self.home)
+    /// Forgets the slot that was given back last, and returns it; 0 if none is remembered.
+    #[inline(always)]
+    pub fn take(&mut self) -> u32
+        ensures { self.new ≡ self.old }
+    {
+        self.given.pop().unwrap_or(0)
     }
 
-    /// Remembers a slot that was found: a near claim looks on from its row.
+    /// Remembers the slot that a search found: the next search begins in its row.
     #[inline(always)]
     pub fn found(&mut self, slot: u32)
         ensures { self.new ≡ self.old }
     {
         self.cursor = slot;
-        self.is_given = false;
     }
 
-    /// The slot in whose row a near claim looks first, of those from 6 to `nodes`.
+    /// Returns the slot in whose row a search begins, from 6 to `nodes`.
     #[inline(always)]
     pub fn cursor(&self, nodes: u32) -> u32
         requires { FIRST_SLOT ≤ nodes }
@@ -104,7 +103,8 @@ impl Placement {
         }
     }
 
-    /// The slot from which to look on, of those from 6 to `nodes`: the first of the cursor's row.
+    /// Returns the slot from which a search goes on, from 6 to `nodes`: the first one of the
+    /// cursor's row.
     pub fn first(&self, nodes: u32) -> u32
         requires { FIRST_SLOT ≤ nodes }
         ensures low { 5 < result }

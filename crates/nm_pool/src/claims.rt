@@ -55,8 +55,8 @@ fn claim_near(shared: &Shared, pass: &mut Pass, placement: &mut Placement) -> Op
     some_node(claim_in_turn(shared, pass, placement))
 }
 
-/// Tries the one slot that the cursor's row shows first, of those that a node of the tree can stand
-/// in; the cursor stands there where it was got.
+/// Tries one slot of those in which a node of the tree can be: the one that the worker gave back
+/// last, or else the first that the cursor's row shows to be free.
 #[inline(always)]
 fn claim_shown(shared: &Shared, pass: &mut Pass, placement: &mut Placement) -> Option<NodeId>
     requires { IsOf shared.now pass.old }
@@ -70,14 +70,21 @@ fn claim_shown(shared: &Shared, pass: &mut Pass, placement: &mut Placement) -> O
     ensures fit { placement.new ≡ placement.old }
 {
     let nodes = shared.layout().nodes();
-    let slot = shared.glance(pass, placement.cursor(nodes))?;
+    let given = placement.take();
+    let slot = if given == 0 {
+        shared.glance(pass, placement.cursor(nodes))?
+    } else {
+        given
+    };
     if slot < FIRST_SLOT || nodes < slot {
         return None;
     }
     let Tried::Got(birth) = try_slot(shared, pass, slot) else {
         return None;
     };
-    placement.found(slot);
+    if given == 0 {
+        placement.found(slot);
+    }
     Some(NodeId { slot, birth })
 }
 
