@@ -1,6 +1,6 @@
 -- What a call that finds a key in the order of keys, or takes one, tells and leaves: m is the worker
 -- before the call, n the worker after it, and o the outcome that is told.
-use Rattle.std.specs.Prelude.{◌≡◌, ◌<◌, ◌⊎◌, ℕ, Option, Some, None, Result, Ok, Err}
+use Rattle.std.specs.Prelude.{◌≡◌, ◌≢◌, ◌<◌, ◌⊎◌, ℕ, Option, Some, None, Result, Ok, Err}
 use Rattle.nm_edge.specs.Keys.{IsKey}
 use Rattle.nm_steps.specs.Steps.{TreeView}
 use Rattle.nm_tree.specs.Workers.{WorkerView}
@@ -10,7 +10,10 @@ use Rattle.nm_set.specs.declared.tended.Habit.{Habit}
 use Rattle.nm_set.specs.NextKeys.{AskedNext, AskedPrev}
 use Rattle.nm_set.specs.Popping.{SaysPopTended, TendsPopOf}
 use Rattle.nm_set.specs.Seats.{MemberView}
+use Rattle.nm_tree.specs.declared.fault.CallFault.TheVariants as call
+use Rattle.nm_set.specs.declared.fault.Fault.TheVariants as fault
 use Rattle.nm_set_c.specs.Outcomes.{of_fault}
+use Rattle.nm_set_c.specs.Workers.{pending_key}
 use Rattle.nm_set_c.specs.declared.outcome.Outcome.{Outcome}
 use Rattle.nm_set_c.specs.declared.outcome.Outcome.TheVariants as outcome
 
@@ -48,16 +51,33 @@ DoesNext tries key = TellsNear key (λ b. AskedNext b.layout tries key)
 abbrev pub DoesPrev : ℕ → ℕ → ℕ → ℕ → MemberView → MemberView → Outcome → Type 0
 DoesPrev tries key = TellsNear key (λ b. AskedPrev b.layout tries key)
 
+-- ---- a key that is taken
+
+-- the key was flagged and is not known to be cut off
+abbrev pub unfinished : Result (Option ℕ) Fault
+unfinished = Err (fault.Call call.Unfinished)
+
+-- the worker's call answers, and its outcome is returned; the key that it took is written, or the
+-- one that will be removed by this call, which is pending then
+pub record TellsTaken (asked : TreeView → WorkerView → WorkerView → Result (Option ℕ) Fault → Type 0)
+    (old taken : ℕ) (m n : MemberView) (o : Outcome) : Type 0 where
+  pub answer : Result (Option ℕ) Fault
+  pub told : o ≡ of_found answer
+  pub written : answer ≢ unfinished → taken ≡ found_written answer old
+  pub going : answer ≡ unfinished → pending_key n.worker ≡ Some taken
+  pub tree : n.tree ≡ m.tree
+  pub did : asked m.tree m.worker n.worker answer
+
 -- `DoesPopFirst`, `DoesPopLast`: of a call that takes the least key, and the greatest
 abbrev pub DoesPopFirst : Habit → ℕ → ℕ → MemberView → MemberView → Outcome → Type 0
-DoesPopFirst h = TellsFound (λ b. TendsPopOf First b h)
+DoesPopFirst h = TellsTaken (λ b. TendsPopOf First b h)
 
 abbrev pub DoesPopLast : Habit → ℕ → ℕ → MemberView → MemberView → Outcome → Type 0
-DoesPopLast h = TellsFound (λ b. TendsPopOf Last b h)
+DoesPopLast h = TellsTaken (λ b. TendsPopOf Last b h)
 
 -- `TellsPopFirst`, `TellsPopLast`: what a caller has of it
 abbrev pub TellsPopFirst : Habit → ℕ → ℕ → MemberView → MemberView → Outcome → Type 0
-TellsPopFirst h = TellsFound (λ b. SaysPopTended ◌<◌ b h)
+TellsPopFirst h = TellsTaken (λ b. SaysPopTended ◌<◌ b h)
 
 abbrev pub TellsPopLast : Habit → ℕ → ℕ → MemberView → MemberView → Outcome → Type 0
-TellsPopLast h = TellsFound (λ b. SaysPopTended (λ j key. key < j) b h)
+TellsPopLast h = TellsTaken (λ b. SaysPopTended (λ j key. key < j) b h)

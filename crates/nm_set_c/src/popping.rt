@@ -1,21 +1,23 @@
 //! The least and the greatest key are taken, by the handle of a worker.
 #![tactic(auto, using(crate::proofs::Owners::asked_of_worker))]
 
-ghost use Rattle.std.specs.Prelude.{◌≡◌};
+ghost use Rattle.std.specs.Prelude.{◌≡◌, ◌≢◌, true, false, IfSome};
 ghost use Rattle.nm_set_c.specs.Handles.{held_by};
-ghost use Rattle.nm_set_c.specs.NextKeys.{DoesPopFirst, DoesPopLast, TellsPopFirst, TellsPopLast};
+ghost use Rattle.nm_set_c.specs.NextKeys.{DoesPopFirst, DoesPopLast, TellsPopFirst, TellsPopLast, found_written, of_found, unfinished};
 ghost use Rattle.nm_set_c.specs.Outcomes.{IsCodeOf};
 ghost use Rattle.nm_set_c.specs.Owners.{HasDone, OfWorker};
 
 use crate::handle::{Handle, by_handle};
 use crate::next_key::tell_found;
 use crate::outcome::Outcome;
-use nm_set::{Habit, Member};
+use nm_edge::Key;
+use nm_set::{CallFault, Fault, Habit, Member};
 use std::alloc::Global;
 
-/// Takes the least key out of the set: `Member::pop_first` of `nm_set`. `Yes`, and it is written;
-/// `No`, where there is none; `Busy`, `Unfinished`, `Pending`, `Held`, `NoMemory`; `Closed`,
-/// `InUse`, `Kind`.
+/// Removes the least key from the set: `Member::pop_first` of `nm_set`. Returns `Yes` and writes the
+/// key, or `No` if the set is empty. With `Unfinished` it writes the key too, which will be removed
+/// by this call and is pending. Errors: `Busy`, `Pending`, `Held`, `NoMemory`, `Closed`, `InUse`,
+/// `Kind`.
 #[unsafe(no_mangle)]
 pub extern "C" fn nm_worker_pop_first(
     alloc: Global,
@@ -36,12 +38,12 @@ fn pop_first(member: &mut Member, habit: &Habit, taken: &mut u64) -> Outcome
     ensures did { HasDone (DoesPopFirst habit.now taken.old taken.new) member.old member.new result }
 {
     let answer = member.pop_first(habit);
-    tell_found(answer, taken)
+    let pending = member.pending();
+    tell_taken(answer, pending, taken)
 }
 
-/// Takes the greatest key out of the set: `Member::pop_last` of `nm_set`. `Yes`, and it is written;
-/// `No`, where there is none; `Busy`, `Unfinished`, `Pending`, `Held`, `NoMemory`; `Closed`,
-/// `InUse`, `Kind`.
+/// Removes the greatest key from the set, and returns and writes as `nm_worker_pop_first` does:
+/// `Member::pop_last` of `nm_set`.
 #[unsafe(no_mangle)]
 pub extern "C" fn nm_worker_pop_last(
     alloc: Global,
@@ -62,5 +64,34 @@ fn pop_last(member: &mut Member, habit: &Habit, taken: &mut u64) -> Outcome
     ensures did { HasDone (DoesPopLast habit.now taken.old taken.new) member.old member.new result }
 {
     let answer = member.pop_last(habit);
-    tell_found(answer, taken)
+    let pending = member.pending();
+    tell_taken(answer, pending, taken)
+}
+
+/// Writes the key that was taken, or the pending one if its remove is unfinished, and returns the
+/// outcome.
+fn tell_taken(
+    answer: Result<Option<Key>, Fault>,
+    pending: Option<Key>,
+    taken: &mut u64,
+) -> Outcome
+    ensures told { result ≡ of_found answer }
+    ensures going { answer ≡ unfinished → IfSome pending (λ key. taken.new ≡ key) }
+    ensures written { answer ≢ unfinished → taken.new ≡ found_written answer taken.old }
+{
+    if !is_unfinished(&answer) {
+        return tell_found(answer, taken);
+    }
+    if let Some(key) = pending {
+        *taken = key.get();
+    }
+    Outcome::Unfinished
+}
+
+/// Returns whether the key was flagged and is not known to be cut off.
+fn is_unfinished(answer: &Result<Option<Key>, Fault>) -> bool
+    ensures yes { result ≡ true → answer.now ≡ unfinished }
+    ensures no { result ≡ false → answer.now ≢ unfinished }
+{
+    matches!(answer, Err(Fault::Call(CallFault::Unfinished)))
 }
