@@ -10,7 +10,7 @@ use std::marker::Model;
 pub enum Fit {
     /// First fit: each claim tries the slots from 6 upwards.
     Lowest,
-    /// Next fit, after the slots that the worker gave back: a claim tries the slot given back last,
+    /// Next fit after the slots that the worker gave back: a claim tries the slot given back last,
     /// and otherwise goes on from the row of 64 slots in which the last search ended, and round.
     Near,
 }

@@ -39,37 +39,52 @@ fn a_near_claim_takes_the_lowest_of_its_row_and_goes_round(rt: HostRuntime) -> R
 }
 
 #[test]
-fn a_near_claim_looks_where_a_slot_was_given_back_last(rt: HostRuntime) -> Result<(), Fail> {
+fn a_near_claim_tries_the_slot_given_back_last(rt: HostRuntime) -> Result<(), Fail> {
     let (shared, passes) = Shared::new(rt.alloc(), Layout::new(TWO_ROWS, 1)?)?;
     let mut pass = only(&shared, passes);
-    let mut near = Placement::new(Fit::Near, 67);
-    let Some(node) = claim_by(&shared, &mut pass, &mut near) else {
-        panic!(rt; "slot 65 is in the pool")
-    };
-    near.keep(6);
-    assert_eq!(rt; claim_by(&shared, &mut pass, &mut near), first_of(6));
-    give(&shared, &mut pass, node);
+    let mut near = Placement::new(Fit::Near, 6);
     near.keep(67);
-    assert_eq!(rt; claim_by(&shared, &mut pass, &mut near), second_of(65));
+    near.keep(7);
+    near.keep(66);
+    assert_eq!(rt; claim_by(&shared, &mut pass, &mut near), first_of(66));
+    assert_eq!(rt; claim_by(&shared, &mut pass, &mut near), first_of(7));
+    assert_eq!(rt; claim_by(&shared, &mut pass, &mut near), first_of(67));
     Ok(())
 }
 
 #[test]
-fn a_near_claim_looks_where_the_first_slot_from_home_on_was_given_back(
-    rt: HostRuntime,
-) -> Result<(), Fail> {
+fn a_search_goes_on_where_the_last_one_ended(rt: HostRuntime) -> Result<(), Fail> {
     let (shared, passes) = Shared::new(rt.alloc(), Layout::new(TWO_ROWS, 1)?)?;
     let mut pass = only(&shared, passes);
-    let mut low = Placement::new(Fit::Near, 6);
-    low.keep(67);
-    low.keep(7);
-    low.keep(66);
-    assert_eq!(rt; claim_by(&shared, &mut pass, &mut low), first_of(6));
-    let mut high = Placement::new(Fit::Near, 66);
-    high.keep(7);
-    high.keep(67);
-    high.keep(8);
-    assert_eq!(rt; claim_by(&shared, &mut pass, &mut high), first_of(65));
+    let mut near = Placement::new(Fit::Near, 67);
+    assert_eq!(rt; claim_by(&shared, &mut pass, &mut near), first_of(65));
+    near.keep(8);
+    assert_eq!(rt; claim_by(&shared, &mut pass, &mut near), first_of(8));
+    assert_eq!(rt; claim_by(&shared, &mut pass, &mut near), first_of(66));
+    Ok(())
+}
+
+#[test]
+fn a_slot_that_another_claimed_first_is_passed_over(rt: HostRuntime) -> Result<(), Fail> {
+    let (shared, passes) = Shared::new(rt.alloc(), Layout::new(TWO_ROWS, 1)?)?;
+    let mut pass = only(&shared, passes);
+    let mut near = Placement::new(Fit::Near, 6);
+    near.keep(6);
+    assert_eq!(rt; claim_by(&shared, &mut pass, &mut Placement::new(Fit::Near, 6)), first_of(6));
+    assert_eq!(rt; claim_by(&shared, &mut pass, &mut near), first_of(7));
+    Ok(())
+}
+
+#[test]
+fn the_129th_slot_given_back_is_not_remembered(rt: HostRuntime) -> Result<(), Fail> {
+    let (shared, passes) = Shared::new(rt.alloc(), Layout::new(TWO_ROWS, 1)?)?;
+    let mut pass = only(&shared, passes);
+    let mut near = Placement::new(Fit::Near, 6);
+    for _slot in 0..128 {
+        near.keep(66);
+    }
+    near.keep(67);
+    assert_eq!(rt; claim_by(&shared, &mut pass, &mut near), first_of(66));
     Ok(())
 }
 
