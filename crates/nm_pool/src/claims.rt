@@ -70,22 +70,32 @@ fn claim_shown(shared: &Shared, pass: &mut Pass, placement: &mut Placement) -> O
     ensures fit { placement.new ≡ placement.old }
 {
     let nodes = shared.layout().nodes();
-    let given = placement.take();
-    let slot = if given == 0 {
-        shared.glance(pass, placement.cursor(nodes))?
-    } else {
-        given
-    };
+    let slot = slot_to_try(shared, pass, placement)?;
     if slot < FIRST_SLOT || nodes < slot {
         return None;
     }
     let Tried::Got(birth) = try_slot(shared, pass, slot) else {
         return None;
     };
-    if given == 0 {
-        placement.found(slot);
-    }
     Some(NodeId { slot, birth })
+}
+
+/// Returns the slot that the worker gave back last, or else the first that the cursor's row shows to
+/// be free. Nothing is known of that slot.
+#[inline(always)]
+fn slot_to_try(shared: &Shared, pass: &mut Pass, placement: &mut Placement) -> Option<u32>
+    requires { IsOf shared.now pass.old }
+    ensures on { Continues pass.old pass.new }
+    ensures log { pass.new.view.log ≡ pass.old.view.log }
+    ensures learned { knowledge pass.new.view ≡ knowledge pass.old.view }
+    ensures fit { placement.new ≡ placement.old }
+{
+    pass.is_of_a_run();
+    let given = placement.take();
+    if given != 0 {
+        return Some(given);
+    }
+    shared.glance(pass, placement.cursor(shared.layout().nodes()))
 }
 
 /// The first slot that is found from the first one of the cursor's row upwards, and round; the
