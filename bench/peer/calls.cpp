@@ -144,15 +144,17 @@ template <class Set> std::size_t mixed(Set &set, std::size_t keys, unsigned look
     return trues;
 }
 
-template <class Set> class Side {
+// A set that was just filled, and another one for the mixes.
+template <class Set> class Fresh {
 public:
-    Side(std::size_t keys, Table &table)
+    Fresh(std::size_t keys, Table &table)
         : keys_(keys), table_(table), kinds_(nodes_for(keys)), mixes_(nodes_for(keys)) {
         Random random(1);
         for (std::size_t count = 0; count < keys;) count += mixes_.add(random() % (2 * keys));
     }
 
-    void round(Random random) {
+    void round(unsigned seed) {
+        Random random(seed);
         for (std::size_t times = std::max<std::size_t>(1, 16'384 / keys_); times--;)
             time_kinds(kinds_, keys_, random, table_);
         for (std::size_t mix = 0; mix < mixes; mix++)
@@ -181,7 +183,8 @@ public:
         }
     }
 
-    void round() {
+    void round(unsigned seed) {
+        random_.seed(seed);
         std::vector<Key> in = some_in(calls_), out = some_out(calls_);
         auto contains = [&](Key key) { return set_.contains(key); };
         auto add = [&](Key key) { return set_.add(key); };
@@ -296,33 +299,23 @@ void print(std::size_t keys, const char *state, const std::array<Table, 4> &tabl
     std::fflush(stdout);
 }
 
-// So many rounds on fresh sets. The sets are made anew for each few of them, in other pages of memory:
-// if the calls wait for memory, these pages make a fifth of their time and more.
-void compare(std::size_t keys, unsigned long rounds) {
+// So many rounds. The sets are made anew for each few of them, in other pages of memory: if the calls
+// wait for memory, these pages make a fifth of their time and more.
+template <template <class> class Kind>
+void compare(std::size_t keys, const char *state, unsigned long rounds) {
     constexpr unsigned long in_these_pages = 3;
     std::array<Table, 4> tables{new_table(), new_table(), new_table(), new_table()};
     for (unsigned long round = 0; round < rounds;) {
-        Side<ProvedSet<nm_set_new>> set(keys, tables[0]);
-        Side<PlainSet<plain::Worker>> plain(keys, tables[1]);
-        Side<PlainSet<plain::Handle>> handles(keys, tables[2]);
-        Side<ProvedSet<nm_set_near>> paper(keys, tables[3]);
+        Kind<ProvedSet<nm_set_new>> set(keys, tables[0]);
+        Kind<PlainSet<plain::Worker>> plain(keys, tables[1]);
+        Kind<PlainSet<plain::Handle>> handles(keys, tables[2]);
+        Kind<ProvedSet<nm_set_near>> paper(keys, tables[3]);
         for (unsigned long here = 0; here < in_these_pages && round < rounds; here++, round++) {
-            Random random(static_cast<unsigned>(round + 1));
-            set.round(random), plain.round(random), handles.round(random), paper.round(random);
+            unsigned seed = static_cast<unsigned>(round + 1);
+            set.round(seed), plain.round(seed), handles.round(seed), paper.round(seed);
         }
     }
-    print(keys, "", tables);
-}
-
-void compare_churned(std::size_t keys, unsigned long rounds) {
-    std::array<Table, 4> tables{new_table(), new_table(), new_table(), new_table()};
-    Churned<ProvedSet<nm_set_new>> set(keys, tables[0]);
-    Churned<PlainSet<plain::Worker>> plain(keys, tables[1]);
-    Churned<PlainSet<plain::Handle>> handles(keys, tables[2]);
-    Churned<ProvedSet<nm_set_near>> paper(keys, tables[3]);
-    for (unsigned long round = 0; round < rounds; round++)
-        set.round(), plain.round(), handles.round(), paper.round();
-    print(keys, ", after churn", tables);
+    print(keys, state, tables);
 }
 
 }  // namespace
@@ -339,7 +332,7 @@ int main(int count, char **words) {
     for (int at = 2; at < count; at++) {
         std::size_t keys = std::strtoul(words[at], nullptr, 10);
         if (std::strcmp(words[at], "churned") == 0) is_churned = true;
-        else if (is_churned) compare_churned(keys, rounds);
-        else compare(keys, rounds);
+        else if (is_churned) compare<Churned>(keys, ", after churn", rounds);
+        else compare<Fresh>(keys, "", rounds);
     }
 }
