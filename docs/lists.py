@@ -2,7 +2,8 @@
 
 In the README.md of each crate: the crates that it depends on, and its files of src/ and specs/, each
 with the first sentence at its head. In docs/DESIGN.md: the kinds of crates with their lines, and all
-crates by kind, each with the first sentence of its lib.rt or main.rt. In docs/PROMISES.md,
+crates by kind, each with the first sentence of its lib.rt or main.rt. In docs/THEOREM.md: the record
+of the theorem. In docs/PROMISES.md,
 docs/LAWS.md and some other pages: the laws of a crate, its calls, or its callers. The laws are the
 public functions without parameters, the calls are those that ensure something by a name, and the
 callers are all public functions. Each has the words above it and these names.
@@ -19,7 +20,8 @@ PART = re.compile(r"(<!-- (?:(laws|calls|callers) of (\w+), )?written by docs/ma
 HEADS = {"src": ("//!", ".rt"), "specs": ("--", ".antt")}
 HEADLESS = {"Lib.antt", "tests.rt"}  # a list of modules, and tests of one crate
 OF_ERRORS = {"anyhow", "core", "thiserror"}
-DESIGN, OF_PROMISES = "docs/DESIGN.md", ["docs/PROMISES.md", "docs/LAWS.md"]
+DESIGN, THEOREM = "docs/DESIGN.md", "docs/THEOREM.md"
+OF_PROMISES = ["docs/PROMISES.md", "docs/LAWS.md"]
 WHERE = ("What is proved of it: [PROMISES](../../docs/PROMISES.md); what is open:\n"
          "[OPEN](../../docs/OPEN.md#what-is-open).")
 # Each crate is of one kind.
@@ -186,15 +188,24 @@ def has_page(crate):
     return os.path.isfile(os.path.join(TOP, page_of(crate)))
 
 
+def theorem_text():
+    """The record of the theorem, as its file has it."""
+    text = text_of("nm_model", "specs", "Headline.antt")
+    record = text[text.index("pub record Headline ") :].rstrip()
+    return "\n".join(f"    {it}" for it in record.splitlines())
+
+
 def pages():
     """The pages with such parts."""
-    return [*(page_of(it) for it in crates() if has_page(it)), DESIGN, *OF_PROMISES]
+    return [*(page_of(it) for it in crates() if has_page(it)), DESIGN, THEOREM, *OF_PROMISES]
 
 
 def part_text(path, kind, crate):
     if kind:
         return promises_text(kind, crate)
-    return design_text() if path == DESIGN else crate_text(os.path.basename(os.path.dirname(path)))
+    if path in (DESIGN, THEOREM):
+        return design_text() if path == DESIGN else theorem_text()
+    return crate_text(os.path.basename(os.path.dirname(path)))
 
 
 def written():
