@@ -3,10 +3,10 @@
 In the README.md of each crate: the crates that it depends on, and its files of src/ and specs/, each
 with the first sentence at its head. In docs/DESIGN.md: the kinds of crates with their lines, and all
 crates by kind, each with the first sentence of its lib.rt or main.rt. In docs/THEOREM.md: the record
-of the theorem. In docs/PROMISES.md,
-docs/LAWS.md and some other pages: the laws of a crate, its calls, or its callers. The laws are the
-public functions without parameters, the calls are those that ensure something by a name, and the
-callers are all public functions. Each has the words above it and these names.
+of the theorem. In docs/PROMISES.md, docs/LAWS.md and some other pages: the laws of a crate, its calls,
+or its callers. The laws are the public functions without parameters, the calls are those that ensure
+something by a name, and the callers are all public functions. Each has the words above it and these
+names.
 """
 import os
 import re
