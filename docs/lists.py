@@ -1,12 +1,12 @@
 """docs/lists.py: the parts of pages that docs/make writes, each in place between two marks.
 
-In the README.md of each crate: the crates that it depends on, and its files of src/ and specs/, each
-with the first sentence at its head. In docs/DESIGN.md: the kinds of crates with their lines, and all
-crates by kind, each with the first sentence of its lib.rt or main.rt. In docs/THEOREM.md: the record
-of the theorem. In docs/PROMISES.md, docs/LAWS.md and some other pages: the laws of a crate, its calls,
-or its callers. The laws are the public functions without parameters, the calls are those that ensure
-something by a name, and the callers are all public functions. Each has the words above it and these
-names.
+In the README.md of each crate: the crates that it depends on, and its files of src/ and specs/,
+each with the first sentence at its head. In docs/DESIGN.md: the kinds of crates with their lines,
+and all crates by kind, each with the first sentence of its lib.rt or main.rt. In docs/THEOREM.md:
+the record of the theorem. In docs/PROMISES.md, docs/LAWS.md and some other pages: the laws of a
+crate, its calls, or its callers. The laws are the public functions without parameters, the calls
+are those that ensure something by a name, and the callers are all public functions. Each has the
+words above it and these names.
 """
 import os
 import re
@@ -126,7 +126,8 @@ def kinds_text():
     rows = []
     for kind in KINDS:
         of_kind = [it for it in crates() if kind_of(it) == kind]
-        counts = [sum(lines_of(it, folder) for it in of_kind) for folder in ("src", "specs", "proofs")]
+        counts = [sum(lines_of(it, folder) for it in of_kind)
+                  for folder in ("src", "specs", "proofs")]
         counts.insert(1, sum(code_of(it) for it in of_kind))
         rows.append((kind, f"{len(of_kind)}", *(f"{round(it, -2):,}" for it in counts)))
     heads = ("Kind", "Crates", "Lines of `src`", "Code", "`specs`", "`proofs`")
@@ -139,7 +140,8 @@ def crates_text(kind):
         main = next(it for it in ("lib.rt", "main.rt") if it in files(crate, "src", ".rt"))
         link = f"[`{crate}`](../{page_of(crate)})" if has_page(crate) else f"`{crate}`"
         rows.append((link, head_of(crate, "src", main), quoted(depends_on(crate)) or "none"))
-    return f"**{kind[0].upper()}{kind[1:]}**\n\n" + table(("Crate", "What it is", "Depends on"), rows)
+    heads = ("Crate", "What it is", "Depends on")
+    return f"**{kind[0].upper()}{kind[1:]}**\n\n{table(heads, rows)}"
 
 
 def design_text():

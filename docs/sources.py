@@ -509,8 +509,8 @@ def gate_edits(crate):
 
 
 def wider_edits(crate):
-    """The edits of wider/NAME.edits: the name of each, in a line that begins with ##, and the lines up
-    to the next name or an empty line."""
+    """The edits of wider/NAME.edits: the name of each, in a line that begins with ##, and the lines
+    up to the next name."""
     path = os.path.join(TOP, "wider", f"{crate}.edits")
     text = read(path) if os.path.isfile(path) else ""
     for part in re.split(r"^## ", text, flags=re.M)[1:]:

@@ -1,5 +1,6 @@
-// For bench/calls: times one thread's calls on the set, on one in the paper's shape, and on the sets
-// of plain.hpp. Arguments: the rounds, sizes of fresh sets, the word churned, sizes of churned sets.
+// For bench/calls: times one thread's calls on the set, on one in the paper's shape, and on the
+// sets of plain.hpp. Arguments: the rounds, sizes of fresh sets, the word churned, sizes of churned
+// sets.
 #include "nm_set.h"
 #include "plain.hpp"
 
@@ -22,7 +23,7 @@ using Random = std::minstd_rand;
 
 std::size_t nodes_for(std::size_t keys) { return 8 * keys + 4096; }
 
-// The room of a set that keeps to so many keys: four nodes a key, twice what they take.
+// The room of a set that keeps its number of keys: four nodes a key, twice what a key takes.
 std::size_t nodes_for_churned(std::size_t keys) { return 4 * keys + 4096; }
 
 using Maker = nm_outcome(nm_handle *, std::uint32_t, std::uint32_t);
@@ -92,7 +93,7 @@ Table new_table() {
     return table;
 }
 
-// Times so many calls, of which `wanted` return true if that is known.
+// Times `calls` calls, of which `wanted` return true if that is known.
 template <class Calls>
 void time(Row &row, std::size_t calls, std::size_t wanted, bool is_known, Calls make) {
     auto begin = std::chrono::steady_clock::now();
@@ -131,7 +132,7 @@ template <class Set> void time_kinds(Set &set, std::size_t keys, Random &random,
     for (Key key : in) set.remove(key);
 }
 
-// Calls on random keys of a range of which half are in the set, so many look-ups of 100.
+// Calls on random keys of a range, half of which are in the set; `looks` of 100 are look-ups.
 template <class Set> std::size_t mixed(Set &set, std::size_t keys, unsigned looks, Random random) {
     std::size_t trues = 0;
     for (std::size_t call = 0; call < 400'000; call++) {
@@ -169,12 +170,13 @@ private:
     Set kinds_, mixes_;
 };
 
-// A set after churn. Its keys lie in a range that begins at the least one; new keys are random ones of
-// that range, which moves up with the least key, so the set looks alike after each round.
+// A set after churn. Its keys are in a range that begins at the least one. New keys are random keys
+// of that range, which moves up with the least key, so the set looks alike after each round.
 template <class Set> class Churned {
 public:
     Churned(std::size_t keys, Table &table)
-        : table_(table), set_(nodes_for_churned(keys)), calls_(std::min<std::size_t>((keys + 1) / 2, 100'000)) {
+        : table_(table), set_(nodes_for_churned(keys)),
+          calls_(std::min<std::size_t>((keys + 1) / 2, 100'000)) {
         for (std::size_t count = 0; count < keys; count++) add_new();
         for (std::size_t turn = 0; turn < keys; turn++) {
             if (turn % 2) set_.remove(taken());
@@ -210,19 +212,21 @@ private:
         enum { look, add, remove } what;
     };
 
-    // One call each on keys half of which are in the set, so many look-ups of 100. The calls are drawn
-    // beforehand, so each answer is known. As many calls add a key as remove one.
+    // One call each on keys half of which are in the set. The calls are drawn beforehand, so each
+    // answer is known. As many calls add a key as remove one.
     void time_mix(Row &row, std::size_t mix) {
         std::vector<Key> in = some_in(calls_), out = some_out(calls_), left;
         std::vector<Planned> calls;
         for (std::size_t at = 0; at < calls_; at++) {
             bool looks = random_() % 100 < looks_of_mix[mix], removes = random_() & 1;
-            calls.push_back({in[at], looks ? Planned::look : removes ? Planned::remove : Planned::add});
-            calls.push_back({out[at], looks ? Planned::look : removes ? Planned::add : Planned::remove});
+            auto of_in = looks ? Planned::look : removes ? Planned::remove : Planned::add;
+            auto of_out = looks ? Planned::look : removes ? Planned::add : Planned::remove;
+            calls.push_back({in[at], of_in});
+            calls.push_back({out[at], of_out});
             left.push_back(looks || !removes ? in[at] : out[at]);
         }
-        // Of each two calls: a look-up finds the one key; a key is removed and another one added; or
-        // neither is changed.
+        // Of each two calls: look-ups find one of the keys; or one key is removed and the other one
+        // added; or neither changes the set.
         std::size_t trues = 0;
         for (std::size_t at = 0; at < calls.size(); at += 2)
             trues += calls[at].what == Planned::look ? 1 : calls[at].what == Planned::remove ? 2 : 0;
@@ -238,7 +242,7 @@ private:
         keep(left);
     }
 
-    // Takes the least key off: whether there was one.
+    // Pops the least key; returns whether there was one.
     bool pop() {
         Key key = set_.pop_first();
         if (key == plain::infinity_0) return false;
@@ -246,7 +250,7 @@ private:
         return true;
     }
 
-    // A random key, which is not in the set but for one chance in a thousand million.
+    // A random key that is not in the set, except with a chance of one in a thousand million.
     Key some_key() { return least_ + 1 + random_() % range; }
 
     void add_new() {
@@ -254,7 +258,7 @@ private:
         if (set_.add(key)) keys_.push_back(key);
     }
 
-    // A random key of the set, which the list has no longer; the list may have popped keys.
+    // Takes a random key of the set out of the list, which may have popped keys.
     Key taken() {
         for (;;) {
             std::swap(keys_[random_() % keys_.size()], keys_.back());
@@ -293,14 +297,15 @@ void print(std::size_t keys, const char *state, const std::array<Table, 4> &tabl
         if (least == 1e300) continue;
         std::printf("| %zu%s | %s | %.0f", keys, state, tables[0][row].name, least);
         for (std::size_t other = 1; other < tables.size(); other++)
-            std::printf(" | %.0f | %.2f", tables[other][row].least, least / tables[other][row].least);
+            std::printf(" | %.0f | %.2f", tables[other][row].least,
+                        least / tables[other][row].least);
         std::puts(" |");
     }
     std::fflush(stdout);
 }
 
-// So many rounds. The sets are made anew for each few of them, in other pages of memory: if the calls
-// wait for memory, these pages make a fifth of their time and more.
+// Makes the rounds. The sets are made anew for every few of them, in other pages of memory: if the
+// calls wait for memory, these pages make a fifth of their time and more.
 template <template <class> class Kind>
 void compare(std::size_t keys, const char *state, unsigned long rounds) {
     constexpr unsigned long in_these_pages = 3;

@@ -1,6 +1,6 @@
 // For bench/orders: nanoseconds a call on sets whose keys come in some order. The first argument
-// names the set; then each line of standard input is a row: what is done, how many keys the set has, and
-// how many threads do it. bench/orders says what each row does.
+// names the set; then each line of standard input is a row: what is done, how many keys the set has,
+// and how many threads do it. bench/orders says what each row does.
 #include "nm_set.h"
 #include "plain.hpp"
 
@@ -307,15 +307,15 @@ template <class Set> double scheduled(std::size_t standing, std::size_t threads)
 
 // ---- rows after churn
 
-// Keys in a range that begins at the least key that was popped last; the range moves up with it, so a
-// set of such keys looks alike however long its calls go on.
+// Keys are in a range that begins at the least key, which was popped last. The range moves up with
+// it, so a set of such keys looks alike however long its calls go on.
 constexpr Key range = Key{1} << 56;
 
 Key some_key(Key least, std::mt19937_64 &random) { return least + 1 + random() % range; }
 
-// Fills a set, and removes a key and inserts a random one as many times as the set has keys, now the
-// least key, now a random one. Its keys are in `keys`, with some that it has no longer; returns the
-// last key that it popped.
+// Fills a set. Then it removes a key and inserts a random one as many times as the set has keys, by
+// turns the least key and a random one. `keys` has the set's keys, and some that the set has no
+// longer. Returns the key that was popped last.
 template <class Access>
 Key churn(Access &access, std::size_t count, std::vector<Key> &keys, std::mt19937_64 &random) {
     Key least = 0;
@@ -346,8 +346,8 @@ double churned(const std::string &what, std::size_t count, std::size_t threads) 
     std::mt19937_64 random(3);
     typename Set::Access access(set, 0);
     Key least = churn(access, count, keys, random);
-    keys.erase(std::remove_if(keys.begin(), keys.end(), [&](Key key) { return !access.contains(key); }),
-               keys.end());
+    auto is_gone = [&](Key key) { return !access.contains(key); };
+    keys.erase(std::remove_if(keys.begin(), keys.end(), is_gone), keys.end());
     std::shuffle(keys.begin(), keys.end(), random);
     if (what == "random-look-ups")
         return nanoseconds(turns, [&] {

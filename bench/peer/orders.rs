@@ -123,9 +123,9 @@ fn some_key(least: u64, seed: &mut u64) -> u64 {
     least + 1 + (next(seed) & ((1 << 56) - 1))
 }
 
-/// Fills a set, and removes a key and inserts a random one as many times as the set has keys, now the
-/// least key, now a random one. Returns the keys, with some that the set has no longer, and the last
-/// key that was popped.
+/// Fills a set. Then it removes a key and inserts a random one as many times as the set has keys, by
+/// turns the least key and a random one. Returns the keys, with some that the set has no longer, and
+/// the key that was popped last.
 fn churn(set: &Set, count: usize, seed: &mut u64) -> (Vec<u64>, u64) {
     let (mut keys, mut least) = (Vec::new(), 0);
     for turn in 0..2 * count {
