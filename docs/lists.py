@@ -1,16 +1,18 @@
 """docs/lists.py: the parts of pages that docs/make writes, each in place between two marks.
 
-Of each crate with a README.md: on what it stands, and its files of src/ and specs/, each with the
-first sentence at its head. Of docs/DESIGN.md: all crates, each with the first sentence of its
-lib.rt or main.rt. Of docs/PROMISES.md, docs/LAWS.md and some of the others: the laws of a crate,
-which are its public functions with no parameter, its calls, those that ensure something by a name,
-or its callers, which are all of them, each with the words above it and these names.
+In the README.md of each crate: the crates that it depends on, and its files of src/ and specs/,
+each with the first sentence at its head. In docs/DESIGN.md: the kinds of crates with their lines,
+and all crates by kind, each with the first sentence of its lib.rt or main.rt. In docs/THEOREM.md:
+the record of the theorem. In docs/PROMISES.md, docs/LAWS.md and some other pages: the laws of a
+crate, its calls, or its callers. The laws are the public functions without parameters, the calls
+are those that ensure something by a name, and the callers are all public functions. Each has the
+words above it and these names.
 """
 import os
 import re
 
 from sources import (
-    TOP, crates, files, first_sentence, read, record_of, source, text_of)
+    TOP, closing, crates, files, first_sentence, read, record_of, source, text_of)
 
 CITED = re.compile(r"(?: \((?:[^()]|\([^()]*\))*\.\))+$")  # sentences in brackets at the end
 PART = re.compile(r"(<!-- (?:(laws|calls|callers) of (\w+), )?written by docs/make --lists -->\n)"
@@ -18,9 +20,21 @@ PART = re.compile(r"(<!-- (?:(laws|calls|callers) of (\w+), )?written by docs/ma
 HEADS = {"src": ("//!", ".rt"), "specs": ("--", ".antt")}
 HEADLESS = {"Lib.antt", "tests.rt"}  # a list of modules, and tests of one crate
 OF_ERRORS = {"anyhow", "core", "thiserror"}
-DESIGN, OF_PROMISES = "docs/DESIGN.md", ["docs/PROMISES.md", "docs/LAWS.md"]
+DESIGN, THEOREM = "docs/DESIGN.md", "docs/THEOREM.md"
+OF_PROMISES = ["docs/PROMISES.md", "docs/LAWS.md"]
 WHERE = ("What is proved of it: [PROMISES](../../docs/PROMISES.md); what is open:\n"
          "[OPEN](../../docs/OPEN.md#what-is-open).")
+# Each crate is of one kind.
+KINDS = {
+    "runs in a program": "nm_edge nm_limbo nm_model nm_steps nm_report nm_pool nm_epoch nm_walks "
+                         "nm_calls nm_tree nm_set nm_set_c",
+    "proofs alone": "nm_laws nm_order nm_theorem nm_progress nm_words nm_busy",
+    "tools": "nm_machine nm_core nm_files nm_print nm_replay nm_serial nm_stress",
+    "tests, callers and benches": "nm_callers nm_pass_tests nm_tree_tests nm_tests in_a_program "
+                                  "limbo_bench refused_growths refused_runs set_bench",
+}
+NO_CODE = re.compile(r"\s*(?:(?:pub )?(?:ghost )?use |(?:pub )?mod |#!?\[|;?$)")
+CONTRACT = re.compile(r"\b(?:(?:requires|ensures|invariant)(?: \w+)?|decreases|ghost [^{;]*) ?\{")
 
 
 def by_hand(text):
@@ -34,8 +48,8 @@ def quoted(names):
 
 def table(heads, rows):
     lines = [" | ".join(it.replace("|", "\\|") for it in row) for row in [heads, *rows]]
-    told = [f"| {it} |" for it in lines]
-    return "\n".join([told[0], "|" + "---|" * len(heads), *told[1:]]) if rows else ""
+    found = [f"| {it} |" for it in lines]
+    return "\n".join([found[0], "|" + "---|" * len(heads), *found[1:]]) if rows else ""
 
 
 # ---- crates and their files
@@ -58,8 +72,8 @@ def named_in_crates_txt():
     return {head.split()[0]: names.split() for head, _, names in rows}
 
 
-def stands_on(crate):
-    """The crates on which one stands, without those below another one of them."""
+def depends_on(crate):
+    """The crates that one depends on, without those below another one of them."""
     named = named_in_crates_txt()
     below = {it for other in named[crate] for it in named.get(other, ())}
     return [it for it in named[crate] if it not in below | OF_ERRORS]
@@ -74,23 +88,64 @@ def listed(crate, kind):
 def files_text(crate, kind):
     rows = [(f"`{it.removesuffix('.antt')}`", head_of(crate, kind, it))
             for it in listed(crate, kind)]
-    return table((f"File of `{kind}`", ""), rows)
+    return table((f"File of `{kind}`", "What it has"), rows)
 
 
 def crate_text(crate):
-    on = stands_on(crate)
-    told = f"It stands on {quoted(on)}.\n{WHERE}" if on else WHERE
+    on = depends_on(crate)
+    told = f"Depends on {quoted(on)}.\n{WHERE}" if on else WHERE
     parts = [told, files_text(crate, "src"), files_text(crate, "specs")]
     return "\n\n".join(it for it in parts if it)
 
 
-def design_text():
+def kind_of(crate):
+    """The kind of a crate; nothing if none names it."""
+    return next((kind for kind, named in KINDS.items() if crate in named.split()), "")
+
+
+def lines_of(crate, kind):
+    """The lines of a folder of a crate."""
+    ending = ".rt" if kind == "src" else ".antt"
+    return sum(len(text_of(crate, kind, it).splitlines()) for it in files(crate, kind, ending))
+
+
+def code_of(crate):
+    """The lines of src/ without comments, contracts, imports and files of tests."""
+    found = 0
+    for path in files(crate, "src", ".rt"):
+        text = re.sub(r"//[^\n]*", "", text_of(crate, "src", path))
+        while it := CONTRACT.search(text):
+            text = text[: it.start()] + text[closing(text, it.end() - 1) + 1 :]
+        is_test = path.endswith("tests.rt") or "tests" in path.split(os.sep)
+        found += 0 if is_test else sum(not NO_CODE.match(it) for it in text.splitlines())
+    return found
+
+
+def kinds_text():
+    """The kinds of crates with their lines, to the nearest hundred, so that it seldom changes."""
     rows = []
-    for crate in crates():
+    for kind in KINDS:
+        of_kind = [it for it in crates() if kind_of(it) == kind]
+        counts = [sum(lines_of(it, folder) for it in of_kind)
+                  for folder in ("src", "specs", "proofs")]
+        counts.insert(1, sum(code_of(it) for it in of_kind))
+        rows.append((kind, f"{len(of_kind)}", *(f"{round(it, -2):,}" for it in counts)))
+    heads = ("Kind", "Crates", "Lines of `src`", "Code", "`specs`", "`proofs`")
+    return table(heads, rows)
+
+
+def crates_text(kind):
+    rows = []
+    for crate in (it for it in crates() if kind_of(it) == kind):
         main = next(it for it in ("lib.rt", "main.rt") if it in files(crate, "src", ".rt"))
         link = f"[`{crate}`](../{page_of(crate)})" if has_page(crate) else f"`{crate}`"
-        rows.append((link, head_of(crate, "src", main), quoted(stands_on(crate))))
-    return table(("Crate", "What it is", "Stands on"), rows)
+        rows.append((link, head_of(crate, "src", main), quoted(depends_on(crate)) or "none"))
+    heads = ("Crate", "What it is", "Depends on")
+    return f"**{kind[0].upper()}{kind[1:]}**\n\n{table(heads, rows)}"
+
+
+def design_text():
+    return "\n\n".join([kinds_text(), *map(crates_text, KINDS)])
 
 
 # ---- promises
@@ -135,15 +190,24 @@ def has_page(crate):
     return os.path.isfile(os.path.join(TOP, page_of(crate)))
 
 
+def theorem_text():
+    """The record of the theorem, as its file has it."""
+    text = text_of("nm_model", "specs", "Headline.antt")
+    record = text[text.index("pub record Headline ") :].rstrip()
+    return "\n".join(f"    {it}" for it in record.splitlines())
+
+
 def pages():
     """The pages with such parts."""
-    return [*(page_of(it) for it in crates() if has_page(it)), DESIGN, *OF_PROMISES]
+    return [*(page_of(it) for it in crates() if has_page(it)), DESIGN, THEOREM, *OF_PROMISES]
 
 
 def part_text(path, kind, crate):
     if kind:
         return promises_text(kind, crate)
-    return design_text() if path == DESIGN else crate_text(os.path.basename(os.path.dirname(path)))
+    if path in (DESIGN, THEOREM):
+        return design_text() if path == DESIGN else theorem_text()
+    return crate_text(os.path.basename(os.path.dirname(path)))
 
 
 def written():
@@ -169,6 +233,8 @@ def faults():
     for path, text, right in written():
         if text != right or not PART.search(text):
             yield f"{path}: not as the sources have it: docs/make --lists writes it anew"
+    for crate in (it for it in crates() if not kind_of(it)):
+        yield f"docs/lists.py: KINDS has no kind for {crate}"
     for crate in filter(has_page, crates()):
         for kind in HEADS:
             for path in listed(crate, kind):

@@ -460,9 +460,11 @@ class Edit(NamedTuple):
     missed: tuple  # the texts to be changed that do not stand once in their file
 
     @property
-    def path(self):
-        folder = f"crates/{self.crate}/must-fail" if self.in_gate else f"wider/{self.crate}"
-        return f"{folder}/{self.name}.edit"
+    def place(self):
+        """Its file, and its name if the file has several edits."""
+        if self.in_gate:
+            return f"crates/{self.crate}/must-fail/{self.name}.edit"
+        return f"wider/{self.crate}.edits, {self.name}"
 
 
 REFUSED = "refused by:"
@@ -480,9 +482,9 @@ def place_of(crate, path, old):
     return f"{within[-1]}::{before[-1][3]}" if within else before[-1][3]
 
 
-def edit_of(crate, path, in_gate):
+def edit_of(crate, name, edit, in_gate):
     words, places, missed, at, text, old = [], [], [], "", "", ""
-    for line in read(path).splitlines():
+    for line in edit.splitlines():
         kind, _, told = line.partition(" ")
         if kind == "#":
             words.append(told.strip())
@@ -496,14 +498,28 @@ def edit_of(crate, path, in_gate):
         elif kind == "new:":
             text = text.replace(old, told)
     body, _, refused = " ".join(words).partition(REFUSED)
-    name = os.path.basename(path)[: -len(".edit")]
     return Edit(crate, name, in_gate, body.strip(), refused.strip(),
                 tuple(dict.fromkeys(places)), tuple(missed))
+
+
+def gate_edits(crate):
+    """The edits of crates/NAME/must-fail: the name of each and its lines."""
+    for path in sorted(glob.glob(os.path.join(TOP, "crates", crate, "must-fail", "*.edit"))):
+        yield os.path.basename(path)[: -len(".edit")], read(path)
+
+
+def wider_edits(crate):
+    """The edits of wider/NAME.edits: the name of each, in a line that begins with ##, and the lines
+    up to the next name."""
+    path = os.path.join(TOP, "wider", f"{crate}.edits")
+    text = read(path) if os.path.isfile(path) else ""
+    for part in re.split(r"^## ", text, flags=re.M)[1:]:
+        name, _, edit = part.partition("\n")
+        yield name, edit.rstrip("\n") + "\n"
 
 
 @functools.cache
 def edits(crate):
     """A crate's wrong bodies: those of the gate, and those of the wider check."""
-    gate = glob.glob(os.path.join(TOP, "crates", crate, "must-fail", "*.edit"))
-    wider = glob.glob(os.path.join(TOP, "wider", crate, "*.edit"))
-    return [edit_of(crate, it, it in gate) for it in sorted(gate) + sorted(wider)]
+    return [edit_of(crate, name, edit, found is gate_edits)
+            for found in (gate_edits, wider_edits) for name, edit in found(crate)]

@@ -1,6 +1,6 @@
 // For bench/orders: nanoseconds a call on sets whose keys come in some order. The first argument
-// names the set; then each line of standard input is a row: what is done, how many keys stand, and
-// how many threads do it. What each row does is told in bench/orders.
+// names the set; then each line of standard input is a row: what is done, how many keys the set has,
+// and how many threads do it. bench/orders says what each row does.
 #include "nm_set.h"
 #include "plain.hpp"
 
@@ -305,13 +305,82 @@ template <class Set> double scheduled(std::size_t standing, std::size_t threads)
     });
 }
 
+// ---- rows after churn
+
+// Keys are in a range that begins at the least key, which was popped last. The range moves up with
+// it, so a set of such keys looks alike however long its calls go on.
+constexpr Key range = Key{1} << 56;
+
+Key some_key(Key least, std::mt19937_64 &random) { return least + 1 + random() % range; }
+
+// Fills a set. Then it removes a key and inserts a random one as many times as the set has keys, by
+// turns the least key and a random one. `keys` has the set's keys, and some that the set has no
+// longer. Returns the key that was popped last.
+template <class Access>
+Key churn(Access &access, std::size_t count, std::vector<Key> &keys, std::mt19937_64 &random) {
+    Key least = 0;
+    auto add = [&] {
+        keys.push_back(some_key(least, random));
+        must(access.add(keys.back()));
+    };
+    for (std::size_t made = 0; made < count; made++) add();
+    for (std::size_t turn = 0; turn < count; turn++) {
+        if (turn % 2) {
+            for (bool is_removed = false; !is_removed; keys.pop_back()) {
+                std::swap(keys[random() % keys.size()], keys.back());
+                is_removed = access.remove(keys.back());
+            }
+        } else {
+            least = access.pop_first().value();
+        }
+        add();
+    }
+    return least;
+}
+
+template <class Set>
+double churned(const std::string &what, std::size_t count, std::size_t threads) {
+    constexpr std::size_t turns = 200000;
+    Set set(count, threads);
+    std::vector<Key> keys;
+    std::mt19937_64 random(3);
+    typename Set::Access access(set, 0);
+    Key least = churn(access, count, keys, random);
+    auto is_gone = [&](Key key) { return !access.contains(key); };
+    keys.erase(std::remove_if(keys.begin(), keys.end(), is_gone), keys.end());
+    std::shuffle(keys.begin(), keys.end(), random);
+    if (what == "random-look-ups")
+        return nanoseconds(turns, [&] {
+            for (std::size_t turn = 0; turn < turns; turn++)
+                must(access.contains(keys[turn % keys.size()]));
+        });
+    if (what == "random-changes")
+        return nanoseconds(turns, [&] {
+            for (std::size_t turn = 0; turn < turns; turn++) {
+                Key &key = keys[turn % keys.size()];
+                must(access.remove(key));
+                key = some_key(least, random);
+                must(access.add(key));
+            }
+        });
+    if (what != "random-pops") must(false);
+    std::atomic<std::uint64_t> seeds{7};
+    return in_threads(set, threads, turns, [&](auto &access) {
+        static thread_local std::mt19937_64 own(seeds.fetch_add(1));
+        auto popped = access.pop_first();
+        must(popped.has_value());
+        must(access.add(some_key(*popped, own)));
+    });
+}
+
 template <class Set> void serve() {
     std::string what;
     std::size_t keys, threads;
     while (std::cin >> what >> keys >> threads) {
-        double taken = what == "window"      ? windowed<Set>(keys, threads)
-                       : what == "scheduler" ? scheduled<Set>(keys, threads)
-                                             : filled<Set>(what, keys);
+        double taken = what == "window"             ? windowed<Set>(keys, threads)
+                       : what == "scheduler"        ? scheduled<Set>(keys, threads)
+                       : what.rfind("random-", 0) == 0 ? churned<Set>(what, keys, threads)
+                                                       : filled<Set>(what, keys);
         std::printf("%.1f\n", taken);
         std::fflush(stdout);
     }

@@ -1,4 +1,5 @@
 //! Rust's `BTreeSet` behind a `Mutex` for bench/orders: as orders.cpp, rows and answers too.
+use std::cell::Cell;
 use std::collections::BTreeSet;
 use std::io::BufRead;
 use std::sync::atomic::{AtomicU64, Ordering};
@@ -117,6 +118,75 @@ fn scheduled(count: usize, threads: usize) -> f64 {
     })
 }
 
+/// A random key of a range that begins at the least key that was popped last.
+fn some_key(least: u64, seed: &mut u64) -> u64 {
+    least + 1 + (next(seed) & ((1 << 56) - 1))
+}
+
+/// Fills a set. Then it removes a key and inserts a random one as many times as the set has keys, by
+/// turns the least key and a random one. Returns the keys, with some that the set has no longer, and
+/// the key that was popped last.
+fn churn(set: &Set, count: usize, seed: &mut u64) -> (Vec<u64>, u64) {
+    let (mut keys, mut least) = (Vec::new(), 0);
+    for turn in 0..2 * count {
+        if turn < count {
+        } else if turn % 2 == 0 {
+            least = set.lock().unwrap().pop_first().unwrap();
+        } else {
+            loop {
+                let at = (next(seed) % keys.len() as u64) as usize;
+                let key: u64 = keys.swap_remove(at);
+                if set.lock().unwrap().remove(&key) {
+                    break;
+                }
+            }
+        }
+        let key = some_key(least, seed);
+        assert!(set.lock().unwrap().insert(key));
+        keys.push(key);
+    }
+    (keys, least)
+}
+
+fn churned(what: &str, count: usize, threads: usize) -> f64 {
+    const TURNS: usize = 200_000;
+    let set = Set::default();
+    let mut seed = 33_333_333;
+    let (mut keys, least) = churn(&set, count, &mut seed);
+    keys.retain(|key| set.lock().unwrap().contains(key));
+    shuffle(&mut keys);
+    let len = keys.len();
+    match what {
+        "random-look-ups" => nanoseconds(TURNS, || {
+            for turn in 0..TURNS {
+                assert!(set.lock().unwrap().contains(&keys[turn % len]));
+            }
+        }),
+        "random-changes" => nanoseconds(TURNS, || {
+            for turn in 0..TURNS {
+                let key = &mut keys[turn % len];
+                assert!(set.lock().unwrap().remove(key));
+                *key = some_key(least, &mut seed);
+                assert!(set.lock().unwrap().insert(*key));
+            }
+        }),
+        "random-pops" => {
+            let seeds = AtomicU64::new(77_777_777);
+            in_threads(threads, TURNS, || {
+                thread_local!(static OWN: Cell<u64> = const { Cell::new(0) });
+                let mut seed = OWN.get();
+                if seed == 0 {
+                    seed = seeds.fetch_add(11_111, Ordering::Relaxed);
+                }
+                let popped = set.lock().unwrap().pop_first().unwrap();
+                assert!(set.lock().unwrap().insert(some_key(popped, &mut seed)));
+                OWN.set(seed);
+            })
+        }
+        _ => panic!("no such row: {what}"),
+    }
+}
+
 fn main() {
     for line in std::io::stdin().lock().lines() {
         let line = line.unwrap();
@@ -125,6 +195,7 @@ fn main() {
         let taken = match words[0] {
             "window" => windowed(keys, threads),
             "scheduler" => scheduled(keys, threads),
+            what if what.starts_with("random-") => churned(what, keys, threads),
             order => filled(order, keys),
         };
         println!("{taken:.1}");

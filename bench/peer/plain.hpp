@@ -98,7 +98,14 @@ public:
         return found == key;
     }
 
-    // The least key; infinity_0 where there is none.
+    // Looks for the least key and removes it, until it has removed one; infinity_0 if there is none.
+    std::uint64_t pop_first() {
+        std::uint64_t found = least();
+        while (found != infinity_0 && !remove(found)) found = least();
+        return found;
+    }
+
+    // The least key; infinity_0 if there is none.
     std::uint64_t least() {
         pin();
         std::uint64_t slot = Edge::slot(set_.nodes_[2].left.load()), found;
@@ -287,14 +294,7 @@ public:
     bool add(std::uint64_t key) { return take() && give(worker_.add(key)); }
     bool remove(std::uint64_t key) { return take() && give(worker_.remove(key)); }
 
-    // As the set's pop_first: looks for the least key and removes it, until it has removed one;
-    // infinity_0 where there is none.
-    std::uint64_t pop_first() {
-        if (!take()) return infinity_0;
-        std::uint64_t found = worker_.least();
-        while (found != infinity_0 && !worker_.remove(found)) found = worker_.least();
-        return give(found);
-    }
+    std::uint64_t pop_first() { return take() ? give(worker_.pop_first()) : infinity_0; }
 
 private:
     bool take() { return in_use_.exchange(1) == 0; }

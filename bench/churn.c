@@ -1,0 +1,60 @@
+/* For bench/churn: inserts after churn, of which valgrind counts the instructions. Arguments: how many
+ * keys the set holds, and how many inserts are counted. It prints how many inserts were true. */
+#include "nm_set.h"
+
+#include <stdint.h>
+#include <stdio.h>
+#include <stdlib.h>
+
+static nm_handle set = NM_CLOSED_HANDLE;
+static _Alignas(64) nm_handle worker = NM_CLOSED_HANDLE;
+
+/* The next random number (xorshift), from which a key is made. */
+static uint64_t next_random(void) {
+    static uint64_t random = 88172645463325252u;
+    random ^= random << 13;
+    random ^= random >> 7;
+    random ^= random << 17;
+    return random;
+}
+
+static void must(int is_so, const char *what) {
+    if (is_so) return;
+    fprintf(stderr, "bench/churn: %s\n", what);
+    exit(1);
+}
+
+/* valgrind counts what happens in here alone. */
+__attribute__((noinline)) int counted_insert(uint64_t key) {
+    return nm_worker_insert(&worker, key, &nm_usual_habit) == NM_YES;
+}
+
+static void pop(void) {
+    uint64_t key;
+    must(nm_worker_pop_first(&worker, &nm_usual_habit, &key) == NM_YES, "a pop found no key");
+}
+
+/* A random key below 2^63: the three greatest numbers are no keys. */
+static uint64_t random_key(void) { return next_random() >> 1; }
+
+int main(int count, char **words) {
+    if (count != 3) return 2;
+    uint64_t keys = strtoull(words[1], NULL, 10), inserts = strtoull(words[2], NULL, 10), trues = 0;
+    must(keys > 0 && keys <= 60000000, "from 1 to 60,000,000 keys");
+    must(nm_set_new(&set, (uint32_t)(4 * keys + 4096), 1) == NM_DONE, "no memory for the set");
+    must(nm_set_worker(&set, &worker, 0) == NM_DONE, "no worker");
+    for (uint64_t made = 0; made < keys; made++)
+        must(nm_worker_insert(&worker, random_key(), &nm_usual_habit) == NM_YES, "a fill failed");
+    for (uint64_t turn = 0; turn < keys; turn++) {
+        pop();
+        must(nm_worker_insert(&worker, random_key(), &nm_usual_habit) == NM_YES, "a turn failed");
+    }
+    for (uint64_t made = 0; made < inserts; made++) {
+        pop();
+        trues += counted_insert(random_key());
+    }
+    printf("%llu\n", (unsigned long long)trues);
+    nm_drop(&worker);
+    nm_drop(&set);
+    return 0;
+}
