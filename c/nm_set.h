@@ -264,17 +264,17 @@ nm_outcome nm_worker_insert(nm_handle *worker, uint64_t key, const nm_habit *hab
  * first. NM_KEY, NM_BUSY, NM_PENDING, NM_HELD, NM_NO_MEMORY. */
 nm_outcome nm_worker_remove(nm_handle *worker, uint64_t key, const nm_habit *habit);
 
-/* Takes the least key out of the set: NM_YES, and it is written; NM_NO where there is none. This
- * call and no other removed the key, and of each lesser one, or with NM_NO of each, there was a
- * moment of this call at which the set did not have it; the moments of two keys may differ. So
- * workers that take keys so take none twice, and pass over none that was in the set all along.
- * NM_BUSY: each round has come to nothing, since others removed the key that was found.
- * NM_UNFINISHED: the least key goes by this call, and is pending (nm_worker_pending tells it); the
- * next call that tends the set finishes it first. NM_PENDING, NM_HELD, NM_NO_MEMORY: taken is not
- * written, also of NM_UNFINISHED. */
+/* Removes the least key of the set and writes it to taken: NM_YES; NM_NO if the set is empty. This
+ * call and no other removed the key. For each lesser key there was a moment of this call at which
+ * the set did not have it; after NM_NO there was one for each key. The moments of two keys may
+ * differ. So no two such calls take one key, and none passes over a key that was in the set during
+ * the whole call. NM_UNFINISHED: taken is written too. The key will be removed by this call and no
+ * other, and it is pending: the next call that tends the set finishes the remove first. NM_BUSY: in
+ * each round other workers removed the key that was found. NM_PENDING, NM_HELD, NM_NO_MEMORY. After
+ * any other outcome than NM_YES and NM_UNFINISHED, taken is not written. */
 nm_outcome nm_worker_pop_first(nm_handle *worker, const nm_habit *habit, uint64_t *taken);
 
-/* Takes the greatest key out of the set, in the same way. */
+/* Removes the greatest key of the set and writes it, in the same way. */
 nm_outcome nm_worker_pop_last(nm_handle *worker, const nm_habit *habit, uint64_t *taken);
 
 /* ---- a worker, for a key, by calls of the tree alone ----

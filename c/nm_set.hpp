@@ -651,11 +651,14 @@ public:
     // The greatest key, or none of an empty set.
     [[nodiscard]] std::optional<std::uint64_t> last() const { return prev(most_key, 0); }
 
-    // Removes the least key, and tells it; none of an empty set. No two calls tell one key, unless
-    // it was inserted again between, and none is passed over that was in the set all along.
+    // Removes the least key and returns it, or nothing if the set is empty. No two calls return one
+    // key, unless it was inserted again in between. No call passes over a key that was in the set
+    // during the whole call. If the bound of the call is reached before the key is cut off
+    // (NM_UNFINISHED in C), the key is returned: this call removes it and no other does, and the
+    // next call by the same worker finishes the remove. Until then other calls may find the key.
     std::optional<std::uint64_t> pop_first() { return pop(nm_worker_pop_first); }
 
-    // The same of the greatest key.
+    // Removes the greatest key and returns it, in the same way.
     std::optional<std::uint64_t> pop_last() { return pop(nm_worker_pop_last); }
 
     [[nodiscard]] bool empty() const { return !first(); }
@@ -745,15 +748,15 @@ private:
         return reverse_iterator(self(), below == 0 ? std::nullopt : prev(below - 1, from), from);
     }
 
-    // Takes a key by a call of the library. One that is told to be unfinished goes by this call and
-    // no other, and is pending.
+    // Takes a key by a call of the library. After NM_UNFINISHED the key is written too: this call
+    // and no other removes it, so it is returned.
     template <typename Call>
     std::optional<std::uint64_t> pop(Call call) {
         std::uint64_t taken = 0;
         nm_outcome told = self().ask([&](nm_handle *worker) {
-            nm_outcome answer = call(worker, &self().seats_->habit(), &taken);
-            return answer == NM_UNFINISHED ? nm_worker_pending(worker, &taken) : answer;
+            return call(worker, &self().seats_->habit(), &taken);
         });
+        if (told == NM_UNFINISHED) return taken;
         return detail::answered(told) ? std::optional<std::uint64_t>(taken) : std::nullopt;
     }
 
