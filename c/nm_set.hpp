@@ -143,11 +143,10 @@ struct Options {
     Shape shape = Shape::radix;
     std::uint32_t tries = 64;         // the attempts of each call of the tree
     std::uint32_t rounds = 64;        // how often a call is repeated that lost all its attempts
-    // From how many waiting nodes on a worker collects before it inserts or removes. If it is not
-    // set: the nodes by 8 times the workers, at least 8 and at most 64.
-    std::optional<std::uint32_t> collect_after{};
-    // The longest time that an insert waits for nodes that are to be freed, in milliseconds.
-    std::uint32_t timeout_ms = 1'000;
+    std::uint32_t collect_after = 64; // from how many waiting nodes on a worker collects before it
+                                      // inserts or removes
+    std::uint32_t timeout_ms = 1'000; // the longest time that an insert waits for nodes that are to
+                                      // be freed, in milliseconds
 };
 
 namespace detail {
@@ -164,20 +163,18 @@ inline constexpr std::uint32_t asks = 256;
 // millisecond at a time, twice as long each time.
 class Wait {
 public:
-    explicit Wait(std::chrono::nanoseconds most) : most_(most), begun_(Clock::now()) {}
-
-    [[nodiscard]] std::chrono::nanoseconds left() const { return most_ - (Clock::now() - begun_); }
-
-    [[nodiscard]] bool is_over() const { return left() <= std::chrono::nanoseconds::zero(); }
+    explicit Wait(std::chrono::nanoseconds most, std::uint32_t turns = 4)
+        : most_(most), begun_(Clock::now()), turns_(turns) {}
 
     // Pauses and returns true; returns false if the time is over.
     bool pause() {
-        if (is_over()) return false;
+        std::chrono::nanoseconds left = most_ - (Clock::now() - begun_);
+        if (left <= left.zero()) return false;
         if (turns_ > 0) {
             turns_--;
             std::this_thread::yield();
         } else {
-            std::this_thread::sleep_for(std::min(left(), nap_));
+            std::this_thread::sleep_for(std::min(left, nap_));
             nap_ = std::min(2 * nap_, longest_nap);
         }
         return true;
@@ -189,7 +186,7 @@ private:
     const std::chrono::nanoseconds most_;
     const Clock::time_point begun_;
     std::chrono::nanoseconds nap_ = std::chrono::microseconds(20);
-    std::uint32_t turns_ = 4;
+    std::uint32_t turns_;
 };
 
 // A wait that has no end.
@@ -382,7 +379,7 @@ class Seats {
 public:
     Seats(std::uint64_t nodes, const Options &options)
         : options_(options),
-          habit_{options.tries, options.rounds, collects_after(nodes, options)},
+          habit_{options.tries, options.rounds, options.collect_after},
           nodes_(nodes),
           seats_(options.workers < 1 || options.workers > 64 ? 0 : options.workers) {
         nm_outcome told = nodes > UINT32_MAX ? NM_NODES : make();
@@ -487,12 +484,13 @@ public:
 
     // ---- room for an insert ----
 
-    // What an insert does after NM_FULL: it frees nodes, and pauses if no node was freed. Throws
-    // NM_FULL if the keys take all nodes, or the wait is over. A worker passes its own handle.
-    void make_room(Wait &wait, nm_handle *own) {
-        std::uint64_t freed = collect(own);
-        if (freed == 0 && is_brimful()) fail_full(own);
-        if (wait.is_over() || (freed == 0 && !wait.pause())) fail_full(own);
+    // What an insert does after NM_FULL: it frees nodes. If there were none to free, or this is not
+    // its first time, it pauses before that. Throws NM_FULL if the keys take all nodes, or the wait
+    // is over. A worker passes its own handle.
+    void make_room(Wait &wait, bool is_first, nm_handle *own) {
+        if (is_first && collect(own) != 0) return;
+        if (is_brimful() || !wait.pause()) fail_full(own);
+        collect(own);
     }
 
     // Moves the epoch on as far as possible, and frees what has waited long enough in the queue of
@@ -582,15 +580,6 @@ public:
     }
 
 private:
-    // From how many waiting nodes on a worker collects: so that the queues of all workers seldom
-    // have more than an eighth of the nodes.
-    static std::uint32_t collects_after(std::uint64_t nodes, const Options &options) {
-        constexpr std::uint64_t least = 8, most = 64;
-        if (options.collect_after) return *options.collect_after;
-        std::uint64_t share = nodes / (std::uint64_t{8} * std::max(options.workers, 1u));
-        return static_cast<std::uint32_t>(std::clamp(share, least, most));
-    }
-
     // Makes a call by a worker of which the caller has no `Worker`. An earlier remove that is
     // pending is finished first, and so is that of this call, within the bounds of the options.
     template <typename Call>
@@ -879,8 +868,11 @@ public:
     bool insert(Key key) {
         nm_outcome told = insert_once(key);
         if (told == NM_FULL) {
-            detail::Wait wait(self().seats_->timeout());
-            for (; told == NM_FULL; told = insert_once(key)) self().make_room(wait);
+            detail::Wait wait(self().seats_->timeout(), 0);
+            for (bool is_first = true; told == NM_FULL; is_first = false) {
+                self().make_room(wait, is_first);
+                told = insert_once(key);
+            }
         }
         return detail::answered(told, key);
     }
@@ -1415,7 +1407,9 @@ private:
         return is_told ? std::optional<std::uint64_t>(told) : std::nullopt;
     }
 
-    void make_room(detail::Wait &wait) { seats_->make_room(wait, seats_->handle(number_)); }
+    void make_room(detail::Wait &wait, bool is_first) {
+        seats_->make_room(wait, is_first, seats_->handle(number_));
+    }
 
     std::shared_ptr<detail::Seats> seats_;
     std::uint32_t number_ = 0;
@@ -1648,7 +1642,9 @@ private:
         return is_open() ? NM_AWAY : NM_CLOSED;
     }
 
-    void make_room(detail::Wait &wait) { open_seats().make_room(wait, nullptr); }
+    void make_room(detail::Wait &wait, bool is_first) {
+        open_seats().make_room(wait, is_first, nullptr);
+    }
 
     std::shared_ptr<detail::Seats> seats_;
 };
