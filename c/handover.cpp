@@ -1,6 +1,6 @@
 // A key hands over a payload: what a thread wrote before it inserted a key is visible to the thread
-// that pops it, or finds it. ThreadSanitizer, under which the check runs this, must report no race of
-// these plain memory accesses.
+// that pops it, or finds it. ThreadSanitizer, under which the check runs this, must report no race
+// of these plain memory accesses.
 #include "thrown.hpp"
 
 #include <cstdio>

@@ -1,6 +1,6 @@
-// A thread is lost inside of a call, by a signal whose handler waits, while the set is full: calls of
-// other threads do not wait for it, or for as long as the options say and no longer, and what they
-// say is right.
+// A thread is lost inside of a call, by a signal whose handler waits, while the set is full: calls
+// of other threads do not wait for it, or for as long as the options say and no longer, and what
+// they say is right.
 #include "thrown.hpp"
 
 #include <pthread.h>
@@ -104,7 +104,8 @@ void a_thread_is_lost() {
     CHECK(set.close().size() == 2);
 }
 
-// A thread that is lost in a call of the set keeps one worker. A close names it, and the set goes on.
+// A thread that is lost in a call of the set keeps one worker. A close names it, and the set goes
+// on.
 void a_call_of_the_set_is_lost() {
     nm::Options options;
     options.workers = 2;
@@ -133,6 +134,34 @@ void a_call_of_the_set_is_lost() {
     CHECK(set.close().size() == 1);
 }
 
+// The same if the thread is lost while it collects with a worker that no call of the set has. The
+// seat is used again after the close that failed.
+void a_collection_is_lost() {
+    using nm::detail::Gain;
+    nm::detail::Seats seats(nodes, {1});
+    auto insert = [&](nm_handle *worker) { return nm_worker_insert(worker, 5, &seats.habit()); };
+    CHECK(seats.visit(Gain::inserts, insert) == NM_YES);
+    std::atomic<bool> is_over{false};
+    std::thread thread([&] {
+        while (!is_over) seats.collect(seats.handle(0));
+    });
+    std::uint32_t number = 0;
+    do {
+        if (number != 0) CHECK(sem_post(&resumed) == 0);
+        std::this_thread::sleep_for(std::chrono::microseconds(100 * ++number));
+        CHECK(pthread_kill(thread.native_handle(), SIGUSR1) == 0);
+        while (sem_wait(&stopped) != 0) {}
+    } while (seats.visit(Gain::inserts, insert) != NM_AWAY);
+    CHECK(thrown([&] { seats.end(); }) == NM_AWAY && !seats.is_closing());
+    CHECK(sem_post(&resumed) == 0);
+    is_over = true;
+    thread.join();
+    CHECK(seats.visit(Gain::inserts, insert) == NM_NO && seats.keys() == 1);
+    nm_handle report = seats.end();
+    std::uint64_t count = 0;
+    CHECK(nm_report_keys(&report, &count) == NM_DONE && count == 1 && nm_drop(&report) == NM_DONE);
+}
+
 }  // namespace
 
 int main() {
@@ -142,4 +171,5 @@ int main() {
           sigaction(SIGUSR1, &action, nullptr) == 0);
     a_thread_is_lost();
     a_call_of_the_set_is_lost();
+    a_collection_is_lost();
 }

@@ -5,10 +5,10 @@
 //     set.contains(5u);             // true
 //     set.remove(5u);               // true: the key was in the set
 //
-// A thread that makes many calls takes a worker of its own by `attach`. A worker has the same calls.
-// Calls without `try_` tend the set: they are repeated if other threads interfere, they collect
-// removed nodes, and an insert waits for nodes before it fails. They return an answer or throw an
-// `nm::Fault`. A call with `try_` throws nothing and returns the outcome.
+// A thread that makes many calls takes a worker of its own by `attach`. A worker has the same
+// calls. Calls without `try_` tend the set: they are repeated if other threads interfere, they
+// collect removed nodes, and an insert waits for nodes before it fails. They return an answer or
+// throw an `nm::Fault`. A call with `try_` throws nothing and returns the outcome.
 //
 // What a thread wrote before it inserted a key is visible to each thread that finds or removes that
 // key: so a key may hand over a payload. ThreadSanitizer is informed of it by this header.
@@ -249,7 +249,9 @@ inline std::string named(std::uint64_t mask) {
 }
 
 // The same as the subject of a sentence, with its verb.
-inline std::string those(std::uint64_t mask) { return named(mask) + (is_one(mask) ? " is" : " are"); }
+inline std::string those(std::uint64_t mask) {
+    return named(mask) + (is_one(mask) ? " is" : " are");
+}
 
 // An outcome in the words of a caller of this header.
 inline Literal words(nm_outcome told) {
@@ -672,10 +674,11 @@ private:
     // Gives up the worker of a seat. Returns false if a call has it and does not end.
     bool shut(std::uint32_t number, Wait &wait) noexcept {
         rest(number, wait);
-        nm_outcome told = soon(wait, [&] { return nm_drop(&seats_[number].handle); });
-        seats_[number].is_open = false;
-        seats_[number].use = Use::closed;
-        return told != NM_IN_USE;
+        Seat &seat = seats_[number];
+        bool is_shut = soon(wait, [&] { return nm_drop(&seat.handle); }) != NM_IN_USE;
+        if (is_shut) seat.is_open = false;
+        seat.use = Use::closed;
+        return is_shut;
     }
 
     // Shuts each seat, after the calls of other threads. If a call does not end, the set goes on,
@@ -838,17 +841,18 @@ private:
     std::uint64_t below_;
 };
 
-// The calls for keys of a set and of a worker. A call for one key has one moment at which its answer
-// was right. A call for several keys takes no snapshot: while others insert and remove, each key has
-// a moment of its own.
+// The calls for keys of a set and of a worker. A call for one key has one moment at which its
+// answer was right. A call for several keys takes no snapshot: while others insert and remove, each
+// key has a moment of its own.
 //
 // How long a call waits. A call of a set waits while each worker is in a call or pinned; that wait
 // ends with another thread's call, and has no other bound. A call of a worker waits for another
 // thread's call by the same worker, for 10 seconds at most: NM_IN_USE. Besides, an insert waits for
 // nodes, and no other call does.
 //
-// Each call throws NM_KEY if the key is above 2^64 - 4; NM_BUSY if the bound of the call was reached,
-// with the set unchanged; NM_NO_MEMORY, NM_CLOSED; and of a worker NM_HELD, if it is pinned.
+// Each call throws NM_KEY if the key is above 2^64 - 4; NM_BUSY if the bound of the call was
+// reached, with the set unchanged; NM_NO_MEMORY, NM_CLOSED; and of a worker NM_HELD, if it is
+// pinned.
 template <typename Of>
 class Keys {
 public:
@@ -862,9 +866,9 @@ public:
     // ---- one key ----
 
     // Inserts the key; returns whether it was absent. If no nodes are free, it frees nodes that
-    // wait, and waits until some can be freed, for `timeout_ms` of the options at most: NM_FULL, with
-    // the numbers in the text. If the keys take all nodes and no node waits, it throws NM_FULL at
-    // once.
+    // wait, and waits until some can be freed, for `timeout_ms` of the options at most: NM_FULL,
+    // with the numbers in the text. If the keys take all nodes and no node waits, it throws NM_FULL
+    // at once.
     bool insert(Key key) {
         nm_outcome told = insert_once(key);
         if (told == NM_FULL) {
@@ -933,8 +937,8 @@ public:
 
     // ---- several keys ----
 
-    // Writes for each lookup whether the set has its key, as it was at a moment of the call. 8 to 64
-    // keys at a time are looked up fastest.
+    // Writes for each lookup whether the set has its key, as it was at a moment of the call. 8 to
+    // 64 keys at a time are looked up fastest.
     void contains_many(std::vector<nm_lookup> &lookups) const {
         nm_lookup none{};
         nm_lookup *at = lookups.empty() ? &none : lookups.data();
@@ -1052,8 +1056,8 @@ private:
     }
 };
 
-// What a move of the epoch did: NM_DONE, NM_BEHIND, NM_LOST or NM_SPENT, with what nm_worker_advance
-// writes.
+// What a move of the epoch did: NM_DONE, NM_BEHIND, NM_LOST or NM_SPENT, with what
+// nm_worker_advance writes.
 struct Advance {
     nm_outcome outcome;
     std::uint64_t epoch;
@@ -1080,7 +1084,8 @@ struct Posted {
     std::uint64_t removed;
 };
 
-// The number of free slots, and of slots that are reached from the root, without the five fixed ones.
+// The number of free slots, and of slots that are reached from the root, without the five fixed
+// ones.
 struct Slots {
     std::uint32_t free;
     std::uint32_t reached;
@@ -1154,16 +1159,17 @@ private:
 
     explicit Report(nm_handle handle) noexcept : handle_(handle) {}
 
-    // The functions of C take what a handle owns out of it and put it back, even if nothing changes.
+    // The functions of C take what a handle owns out of it and put it back, even if nothing
+    // changes.
     mutable nm_handle handle_{};
 };
 
 class Worker;
 
 // Holds the epoch back until its end: no node that is in the set now is freed meanwhile. It is for
-// tests and proofs: no walk needs it, because each call pins the epoch for itself. Its worker answers
-// no call for keys (NM_HELD), and inserts of all threads may find the set full. The worker must
-// neither move nor end before it.
+// tests and proofs: no walk needs it, because each call pins the epoch for itself. Its worker
+// answers no call for keys (NM_HELD), and inserts of all threads may find the set full. The worker
+// must neither move nor end before it.
 class [[nodiscard]] Pin {
 public:
     Pin(Pin &&from) noexcept
@@ -1193,16 +1199,17 @@ private:
 };
 
 // One worker of a set, for one thread at a time. It can be moved and not copied; one that was moved
-// from is closed. Its end, or `close`, gives it back to the set, including when an exception unwinds:
-// its pin is ended, and its remove is finished if the bounds of the options allow. A set that ends
-// before its workers is left to them, and the last of them ends the tree.
+// from is closed. Its end, or `close`, gives it back to the set, including when an exception
+// unwinds: its pin is ended, and its remove is finished if the bounds of the options allow. A set
+// that ends before its workers is left to them, and the last of them ends the tree.
 //
-// Each call waits for another thread's call by this worker, for 10 seconds at most: NM_IN_USE. Such a
-// call is another thread's call by this object, or a `collect`, `waiting` or `free` of the set. It may
-// also be any call of the set, if threads have all workers: then the set borrows one that is in no
-// call. A borrowed worker finishes its remove before the call of the set ends, within the bounds of
-// the options. So `try_remove` here does not meet NM_PENDING for another thread's key. `ledger`,
-// `queue_len` and, during such a call, `pending` include what calls of the set did by this worker.
+// Each call waits for another thread's call by this worker, for 10 seconds at most: NM_IN_USE. Such
+// a call is another thread's call by this object, or a `collect`, `waiting` or `free` of the set.
+// It may also be any call of the set, if threads have all workers: then the set borrows one that is
+// in no call. A borrowed worker finishes its remove before the call of the set ends, within the
+// bounds of the options. So `try_remove` here does not meet NM_PENDING for another thread's key.
+// `ledger`, `queue_len` and, during such a call, `pending` include what calls of the set did by
+// this worker.
 class Worker : public Keys<Worker> {
 public:
     // A closed one.
@@ -1484,8 +1491,8 @@ public:
     // ---- workers for threads ----
 
     // Takes a worker for this thread, the least number first. It waits while each worker is with a
-    // thread or in a call, for `most` at most, and without end if no time is given: NM_AWAY. A thread
-    // that has all workers itself would wait without end.
+    // thread or in a call, for `most` at most, and without end if no time is given: NM_AWAY. A
+    // thread that has all workers itself would wait without end.
     [[nodiscard]] Worker attach(
         std::chrono::milliseconds most = std::chrono::milliseconds::max()) {
         Worker taken;
@@ -1503,8 +1510,8 @@ public:
         return taken;
     }
 
-    // Opens a closed worker, and waits for none: NM_DONE; NM_AWAY if each worker is with a thread or
-    // in a call; NM_OPEN, NM_CLOSED, NM_NO_MEMORY. If another thread is stopped while it takes a
+    // Opens a closed worker, and waits for none: NM_DONE; NM_AWAY if each worker is with a thread
+    // or in a call; NM_OPEN, NM_CLOSED, NM_NO_MEMORY. If another thread is stopped while it takes a
     // worker, this takes some tenths of a second (nm_set_worker), or as long as that thread is
     // stopped, if it has the lock of the set.
     [[nodiscard]] nm_outcome try_attach(Worker &into) noexcept {
@@ -1532,21 +1539,21 @@ public:
     }
 
     // The same into a closed one, and waits for no call: NM_DONE; NM_AWAY if the worker is with a
-    // thread; NM_IN_USE if it is in a call; NM_NUMBER, NM_OPEN, NM_CLOSED, NM_NO_MEMORY. It takes as
-    // long as `try_attach`.
+    // thread; NM_IN_USE if it is in a call; NM_NUMBER, NM_OPEN, NM_CLOSED, NM_NO_MEMORY. It takes
+    // as long as `try_attach`.
     [[nodiscard]] nm_outcome try_worker(Worker &into, std::uint32_t number) noexcept {
         return try_lend(into, [&](std::uint32_t &wanted) { return seats_->lend(wanted = number); });
     }
 
     // ---- how full it is ----
 
-    // Returns the number of keys: it adds up one count for each worker, and waits for nothing. It is
-    // exact if no call is in progress; else it may miss the calls in progress.
+    // Returns the number of keys: it adds up one count for each worker, and waits for nothing. It
+    // is exact if no call is in progress; else it may miss the calls in progress.
     [[nodiscard]] std::uint64_t size() const { return open_seats().keys(); }
 
     // Returns the number of removed nodes that wait to be freed. It asks each worker, and waits for
-    // none: a worker that is in a call counts as it was last asked, by `waiting` or `free`, or by an
-    // insert into the full set. So it is exact if no call is in progress.
+    // none: a worker that is in a call counts as it was last asked, by `waiting` or `free`, or by
+    // an insert into the full set. So it is exact if no call is in progress.
     [[nodiscard]] std::uint64_t waiting() const {
         detail::Queues now = open_seats().queues();
         (void)open_seats();  // a worker that was given back for a close has not answered
@@ -1581,9 +1588,9 @@ public:
 
     // Ends the set, and returns the report of what it had. It waits for the calls of other threads,
     // for 10 seconds at most, and for another thread's `close` as long as that takes. Each later
-    // call, and each that waits, gets NM_CLOSED. NM_AWAY: a `Worker` is open, or a call has not ended
-    // in 10 seconds; the text names the worker, and the set goes on. NM_NO_MEMORY: only another
-    // close goes on.
+    // call, and each that waits, gets NM_CLOSED. NM_AWAY: a `Worker` is open, or a call has not
+    // ended in 10 seconds; the text names the worker, and the set goes on. NM_NO_MEMORY: only
+    // another close goes on.
     Report close() {
         if (seats_ == nullptr) succeed(NM_CLOSED);
         return Report(seats_->end());

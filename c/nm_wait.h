@@ -83,8 +83,8 @@ static inline nm_outcome nm_wait_insert(nm_handle *worker, uint64_t key, const n
     return told;
 }
 
-/* nm_set_attach, repeated while each worker is with a thread (NM_AWAY), or another call has a handle
- * for longer than the library looks again (NM_IN_USE). */
+/* nm_set_attach, repeated while each worker is with a thread (NM_AWAY), or another call has a
+ * handle for longer than the library looks again (NM_IN_USE). */
 static inline nm_outcome nm_wait_attach(nm_handle *set, nm_handle *worker, uint32_t timeout_ms) {
     nm_wait wait = {0, 0};
     nm_outcome told = nm_set_attach(set, worker);

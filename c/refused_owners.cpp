@@ -9,7 +9,8 @@ namespace {
 constexpr std::uint32_t nodes = 512, workers = 2;
 constexpr std::uint64_t keys = 100, step = 37, modulus = 101;
 
-// Repeats a call each time that memory was refused, to the library or to its header: both are faults.
+// Repeats a call each time that memory was refused, to the library or to its header: both are
+// faults.
 template <typename Call>
 auto at_last(Call call) {
     for (;;) {

@@ -117,8 +117,8 @@ void sizes_are_counted() {
     CHECK(set.collect() == 20 && set.waiting() == 0 && set.free() == 1019 - 20);
 }
 
-// A remove that is unfinished counts as soon as it has begun, and never again: by a worker, and by a
-// call of the set, which finishes it before it gives the worker back.
+// A remove that is unfinished counts as soon as it has begun, and never again: by a worker, and by
+// a call of the set, which finishes it before it gives the worker back.
 void unfinished_removes_count_once() {
     nm::Set set(1024, {1});
     nm::Worker worker = set.attach();
@@ -151,8 +151,8 @@ void borrowed_workers_have_nothing_pending() {
 }
 
 // A thread whose worker is borrowed meets no pending key of the threads that borrow it, although
-// removes beside two more workers are often unfinished by one attempt. It may meet one of those that
-// the bounds of the options left unfinished, and seldom does.
+// removes beside two more workers are often unfinished by one attempt. It may meet one of those
+// that the bounds of the options left unfinished, and seldom does.
 void owners_meet_no_pending_key() {
     constexpr std::uint64_t removes = 200'000;
     nm::Set set(8192, {3, nm::Shape::radix, 1, 0});
