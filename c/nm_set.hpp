@@ -1463,7 +1463,8 @@ public:
 
     // ---- a key, with nothing thrown ----
     // These make the calls of nm_set.h that tend the set, with the bounds of the options. They wait
-    // for no worker and for no nodes. NM_AWAY: each worker is in a call or pinned.
+    // for no worker and for no nodes. NM_AWAY: each worker is in a call or pinned. If another thread
+    // is stopped while it takes a worker for the first time, they take some tenths of a second.
 
     // NM_YES if the key was absent, NM_NO; NM_FULL if no nodes are free: `collect`, and call again.
     // NM_KEY, NM_BUSY, NM_NO_MEMORY, NM_AWAY, NM_CLOSED.
