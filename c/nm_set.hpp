@@ -1549,7 +1549,8 @@ public:
     // ---- how full it is ----
 
     // Returns the number of keys: it adds up one count for each worker, and waits for nothing. It
-    // is exact if no call is in progress; else it may miss the calls in progress.
+    // is exact if no call is in progress; else it may miss the calls in progress. A remove that is
+    // unfinished counts as done.
     [[nodiscard]] std::uint64_t size() const { return open_seats().keys(); }
 
     // Returns the number of removed nodes that wait to be freed. It asks each worker, and waits for
