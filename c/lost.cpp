@@ -37,7 +37,7 @@ milliseconds time_of(Call call) {
     return std::chrono::duration_cast<milliseconds>(Clock::now() - begun);
 }
 
-// Stops the thread of worker 0 where it holds the epoch back, which it does inside of a call alone.
+// Stops the thread of worker 0 while it holds the epoch back: so it is inside of a call.
 void lose(std::thread &thread, nm::Worker &other) {
     for (;;) {
         CHECK(pthread_kill(thread.native_handle(), SIGUSR1) == 0);

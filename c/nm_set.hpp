@@ -611,8 +611,9 @@ private:
         return NM_AWAY;
     }
 
-    // Repeats the call of a thread by its worker while another call has the handle, and after
-    // NM_PENDING of a remove that a call of the set has begun by this worker and has not ended.
+    // Repeats the call of a thread by its worker while another call has the handle. It repeats the
+    // call after NM_PENDING too, if the pending remove is that of a call of the set which has
+    // borrowed this worker and has not ended.
     template <typename Call>
     nm_outcome by_at_last(Seat &seat, Call call) noexcept {
         Wait wait(longest);
@@ -809,7 +810,7 @@ private:
     template <typename>
     friend class Range;
 
-    // It begins with this key, and ends before the bound, or where it descends with that.
+    // It begins with this key, and ends before the bound; a descending one ends with the bound.
     Iterator(const Of &of, std::optional<std::uint64_t> key, std::uint64_t bound)
         : of_(&of), bound_(bound), key_(key) {}
 
@@ -1511,10 +1512,10 @@ public:
         return taken;
     }
 
-    // Opens a closed worker, and waits for none: NM_DONE; NM_AWAY if each worker is with a thread
-    // or in a call; NM_OPEN, NM_CLOSED, NM_NO_MEMORY. If another thread is stopped while it takes a
-    // worker, this takes some tenths of a second (nm_set_worker), or as long as that thread is
-    // stopped, if it has the lock of the set.
+    // Opens a closed worker, and waits for none: NM_DONE; NM_AWAY if each worker is with a thread or
+    // in a call; NM_OPEN, NM_CLOSED, NM_NO_MEMORY. If another thread is stopped while it takes a
+    // worker, this takes some tenths of a second (nm_set_worker). If that thread has the lock of the
+    // set, it takes as long as that thread is stopped.
     [[nodiscard]] nm_outcome try_attach(Worker &into) noexcept {
         return try_lend(into, [this](std::uint32_t &number) { return seats_->lend_any(number); });
     }
