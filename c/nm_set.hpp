@@ -1462,10 +1462,10 @@ public:
         if (seats_ != nullptr) seats_->leave();
     }
 
-    // ---- a key, with nothing thrown ----
-    // These make the calls of nm_set.h that tend the set, with the bounds of the options. They wait
-    // for no worker and for no nodes. NM_AWAY: each worker is in a call or pinned. If another thread
-    // is stopped while it takes a worker for the first time, they take some tenths of a second.
+    // ---- a key, with nothing thrown ---- These make the calls of nm_set.h that tend the set, with
+    // the bounds of the options. They wait for no worker and for no nodes. NM_AWAY: each worker is
+    // in a call or pinned. If another thread is stopped while it takes a worker for the first time,
+    // they take some tenths of a second.
 
     // NM_YES if the key was absent, NM_NO; NM_FULL if no nodes are free: `collect`, and call again.
     // NM_KEY, NM_BUSY, NM_NO_MEMORY, NM_AWAY, NM_CLOSED.
@@ -1512,10 +1512,10 @@ public:
         return taken;
     }
 
-    // Opens a closed worker, and waits for none: NM_DONE; NM_AWAY if each worker is with a thread or
-    // in a call; NM_OPEN, NM_CLOSED, NM_NO_MEMORY. If another thread is stopped while it takes a
-    // worker, this takes some tenths of a second (nm_set_worker). If that thread has the lock of the
-    // set, it takes as long as that thread is stopped.
+    // Opens a closed worker, and waits for none: NM_DONE; NM_AWAY if each worker is with a thread
+    // or in a call; NM_OPEN, NM_CLOSED, NM_NO_MEMORY. If another thread is stopped while it takes a
+    // worker, this takes some tenths of a second (nm_set_worker). If that thread has the lock of
+    // the set, it takes as long as that thread is stopped.
     [[nodiscard]] nm_outcome try_attach(Worker &into) noexcept {
         return try_lend(into, [this](std::uint32_t &number) { return seats_->lend_any(number); });
     }
