@@ -1,27 +1,33 @@
 // The set for C++17. Any thread may call an `nm::Set`:
 //
-//     nm::Set set(65536);          // room for 65,536 nodes: two a key, and those that wait
-//     set.insert(5);               // true: the key was not in the set
-//     set.contains(5);             // true
-//     set.remove(5);               // true: the key was in the set
+//     nm::Set set(65536);           // room for 65,536 nodes: two a key, and those that wait
+//     set.insert(5u);               // true: the key was not in the set
+//     set.contains(5u);             // true
+//     set.remove(5u);               // true: the key was in the set
 //
-// A thread that makes many calls takes a worker of its own by `attach`, which has the same calls.
-// These calls tend the set: one that lost its tries to other threads is made again, removed nodes
-// are collected, and an insert waits for some, before it is told that the set is full. They answer,
-// or throw an `nm::Fault`. Beside them a worker has the calls of nm_set.h as they are, with a bound
-// of tries: each begins with `try_`, throws nothing and answers the outcome.
+// A thread that makes many calls takes a worker of its own by `attach`. A worker has the same
+// calls. Calls without `try_` tend the set: they are repeated if other threads interfere, they
+// collect removed nodes, and an insert waits for nodes before it fails. They return an answer or
+// throw an `nm::Fault`. A call with `try_` throws nothing and returns the outcome.
 //
-// What the library does is proved. What this header adds is tested and not proved: that each call
-// finds a worker, that an insert waits, and what is made of several calls.
+// What a thread wrote before it inserted a key is visible to each thread that finds or removes that
+// key: so a key may hand over a payload. ThreadSanitizer is informed of it by this header.
+//
+// The library is proved. What this header adds is tested and not proved: how a call finds a worker,
+// how it waits, the size, and the calls that are made of several calls.
 #ifndef NM_SET_HPP
 #define NM_SET_HPP
 
 #if __cplusplus < 201703L
 #error "nm_set.hpp needs C++17 or later: compile with -std=c++17"
 #endif
+#ifndef __cpp_exceptions
+#error "nm_set.hpp needs exceptions: compile without -fno-exceptions, or use nm_set.h"
+#endif
 
 #include "nm_set.h"
 
+#include <algorithm>
 #include <atomic>
 #include <chrono>
 #include <cstddef>
@@ -30,10 +36,12 @@
 #include <iterator>
 #include <memory>
 #include <mutex>
+#include <new>
 #include <optional>
 #include <stdexcept>
 #include <string>
 #include <thread>
+#include <type_traits>
 #include <utility>
 #include <vector>
 
@@ -44,58 +52,147 @@
 #include <ranges>
 #endif
 
+#if defined __SANITIZE_THREAD__
+#define NM_SET_HAS_TSAN 1
+#elif defined __has_feature
+#if __has_feature(thread_sanitizer)
+#define NM_SET_HAS_TSAN 1
+#endif
+#endif
+#ifdef NM_SET_HAS_TSAN
+extern "C" void __tsan_acquire(void *);
+extern "C" void __tsan_release(void *);
+#endif
+
 namespace nm {
 
 // The greatest key.
 inline constexpr std::uint64_t most_key = UINT64_MAX - 3;
 
-// As many tries as a call needs where few workers meet.
+// The number of attempts that a call needs if few workers meet.
 inline constexpr std::uint32_t usual_tries = 64;
 
-// What a call tells that has not answered. Nothing has changed, where its outcome does not say more
-// (nm_set.h).
+namespace detail {
+
+// Whether a type is one of the unsigned integers of 8 to 64 bits. bool and characters are not.
+template <typename Number>
+inline constexpr bool is_of_keys =
+    std::is_same_v<Number, unsigned char> || std::is_same_v<Number, unsigned short> ||
+    std::is_same_v<Number, unsigned> || std::is_same_v<Number, unsigned long> ||
+    std::is_same_v<Number, unsigned long long>;
+
+// A text that is never freed.
+struct Literal {
+    const char *text;
+};
+
+}  // namespace detail
+
+// A key as a parameter: an unsigned integer of 8 to 64 bits. No other type compiles: a negative
+// number or a fraction would become another key.
+class Key {
+public:
+    template <typename Number, std::enable_if_t<detail::is_of_keys<Number>, int> = 0>
+    constexpr Key(Number key) noexcept : key_(key) {}
+
+    template <typename Number, std::enable_if_t<!detail::is_of_keys<Number>, int> = 0>
+    Key(Number) = delete;  // a key is an unsigned integer: write 5u, or std::uint64_t(number)
+
+    constexpr operator std::uint64_t() const noexcept { return key_; }
+
+private:
+    std::uint64_t key_;
+};
+
+// The mark before a list of keys, from which a set is made: `nm::Set set(64, nm::keys, {1u, 2u});`.
+struct keys_t {
+    explicit keys_t() = default;
+};
+inline constexpr keys_t keys{};
+
+// The outcome of a call that failed. The set is unchanged, unless the description of the outcome in
+// nm_set.h says more. If there is no memory for the text of a fault, its text is that of
+// nm_outcome_text; with the standard library of GCC no memory is needed for that one.
 class Fault : public std::runtime_error {
 public:
     Fault(nm_outcome outcome, const std::string &text)
         : std::runtime_error(text), outcome_(outcome) {}
 
+    Fault(nm_outcome outcome, detail::Literal literal)
+        : std::runtime_error(""), literal_(literal.text), outcome_(outcome) {}
+
     [[nodiscard]] nm_outcome outcome() const noexcept { return outcome_; }
 
+    [[nodiscard]] const char *what() const noexcept override {
+        return literal_ != nullptr ? literal_ : std::runtime_error::what();
+    }
+
 private:
+    const char *literal_ = nullptr;
     nm_outcome outcome_;
 };
 
-// `radix`: no call goes over more than 66 nodes, whatever keys come in whatever order. `near` and
-// `lowest`: the tree of Natarajan and Mittal, where keys that come in order make one long path;
-// with `lowest` each new node takes the lowest free slot.
+// `radix`: no call passes more than 66 nodes, in whatever order the keys come. `near` and `lowest`:
+// the tree of Natarajan and Mittal, in which keys in order make one long path; with `lowest` each
+// new node takes the lowest free slot.
 enum class Shape { radix, near, lowest };
 
-// How a set is made, and what a call that tends it may spend.
+// How a set is made, and the bounds of its calls.
 struct Options {
-    std::uint32_t workers = 64;        // 1 to 64; 4,096 bytes each
+    std::uint32_t workers = 64;       // 1 to 64; each takes 4,096 bytes
     Shape shape = Shape::radix;
-    std::uint32_t tries = 64;          // the tries of each call of the tree
-    std::uint32_t rounds = 64;         // how often a call that lost each of its tries is made again
-    std::uint32_t collect_after = 64;  // from how many waiting nodes on a change first collects
-    std::uint32_t patience = 64;       // how often an insert that found no free nodes, while some
-                                       // wait to be freed, sleeps a millisecond and goes on
+    std::uint32_t tries = 64;         // the attempts of each call of the tree
+    std::uint32_t rounds = 64;        // how often a call is repeated that lost all its attempts
+    std::uint32_t collect_after = 64; // from how many waiting nodes on a worker collects before it
+                                      // inserts or removes
+    std::uint32_t timeout_ms = 1'000; // the longest time that an insert waits for nodes that are to
+                                      // be freed, in milliseconds
 };
 
 namespace detail {
 
-// How a wait goes: it asks so often at once, gives other threads so many turns, and then sleeps a
-// millisecond a time. One that is to end of itself ends behind so many of these, some ten seconds.
-inline constexpr std::uint32_t asks = 256, turns = 16, naps = 10'000;
+using Clock = std::chrono::steady_clock;
 
-// Lets other threads go on: longer, where they had several turns already.
-inline void pause(std::uint32_t turn) {
-    if (turn < turns)
-        std::this_thread::yield();
-    else
-        std::this_thread::sleep_for(std::chrono::milliseconds(1));
-}
+// How long a call waits for the end of another thread's call, if its comment names no other time.
+inline constexpr std::chrono::seconds longest{10};
 
-// Makes a call again, some times at once, while another call has the handle.
+// How often a call asks at once for a handle that is in use.
+inline constexpr std::uint32_t asks = 256;
+
+// One wait: it gives other threads some turns, and then sleeps from 20 microseconds up to a
+// millisecond at a time, twice as long each time.
+class Wait {
+public:
+    explicit Wait(std::chrono::nanoseconds most, std::uint32_t turns = 4)
+        : most_(most), begun_(Clock::now()), turns_(turns) {}
+
+    // Pauses and returns true; returns false if the time is over.
+    bool pause() {
+        std::chrono::nanoseconds left = most_ - (Clock::now() - begun_);
+        if (left <= left.zero()) return false;
+        if (turns_ > 0) {
+            turns_--;
+            std::this_thread::yield();
+        } else {
+            std::this_thread::sleep_for(std::min(left, nap_));
+            nap_ = std::min(2 * nap_, longest_nap);
+        }
+        return true;
+    }
+
+private:
+    static constexpr std::chrono::nanoseconds longest_nap = std::chrono::milliseconds(1);
+
+    const std::chrono::nanoseconds most_;
+    const Clock::time_point begun_;
+    std::chrono::nanoseconds nap_ = std::chrono::microseconds(20);
+    std::uint32_t turns_;
+};
+
+// A wait that has no end.
+inline Wait endless() { return Wait(std::chrono::nanoseconds::max()); }
+
+// Repeats a call at once while another call has the handle.
 template <typename Call>
 nm_outcome ask_at_once(Call call) {
     nm_outcome told = call();
@@ -103,62 +200,112 @@ nm_outcome ask_at_once(Call call) {
     return told;
 }
 
-// The same for ten seconds at most: NM_IN_USE tells that the other call has not ended then.
+// Repeats a call while another call has the handle, until the wait is over: NM_IN_USE.
 template <typename Call>
-nm_outcome soon(Call call) {
+nm_outcome soon(Wait &wait, Call call) {
     nm_outcome told = ask_at_once(call);
-    for (std::uint32_t turn = 0; told == NM_IN_USE && turn < naps; turn++) {
-        pause(turn);
-        told = ask_at_once(call);
-    }
+    while (told == NM_IN_USE && wait.pause()) told = ask_at_once(call);
     return told;
 }
 
-// A number as one reads it: 65,536.
+// Informs ThreadSanitizer that what a thread did before a call is visible after a later call by
+// another thread. Without ThreadSanitizer it does nothing.
+class Ordered {
+public:
+#ifdef NM_SET_HAS_TSAN
+    explicit Ordered(void *at) noexcept : at_(at) { __tsan_release(at_); }
+    ~Ordered() { __tsan_acquire(at_); }
+
+private:
+    void *const at_;
+#else
+    explicit Ordered(void *) noexcept {}
+#endif
+};
+
+// A number as text: 65,536.
 inline std::string grouped(std::uint64_t number) {
     std::string text = std::to_string(number);
     for (std::size_t at = text.size(); at > 3; at -= 3) text.insert(at - 3, 1, ',');
     return text;
 }
 
-// Workers by their numbers, as they stand in a sentence, with its verb.
-inline std::string those(const std::vector<std::uint32_t> &numbers) {
-    std::string text = numbers.size() == 1 ? "worker " : "workers ";
-    for (std::size_t at = 0; at < numbers.size(); at++) {
-        if (at != 0) text += at + 1 == numbers.size() ? " and " : ", ";
-        text += std::to_string(numbers[at]);
+// The bit of a worker in a mask.
+inline std::uint64_t bit_of(std::uint32_t number) { return std::uint64_t{1} << number; }
+
+inline bool is_one(std::uint64_t mask) { return (mask & (mask - 1)) == 0; }
+
+// The workers of a mask: "workers 2 and 5".
+inline std::string named(std::uint64_t mask) {
+    std::string text = is_one(mask) ? "worker " : "workers ";
+    const char *between = "";
+    for (std::uint32_t number = 0; number < 64; number++) {
+        if ((mask & bit_of(number)) == 0) continue;
+        mask &= ~bit_of(number);
+        text += between + std::to_string(number);
+        between = mask == 0 || !is_one(mask) ? ", " : " and ";
     }
-    return text + (numbers.size() == 1 ? " is" : " are");
+    return text;
 }
 
-// An outcome in the words of who calls by this header.
-inline std::string words(nm_outcome told) {
+// The same as the subject of a sentence, with its verb.
+inline std::string those(std::uint64_t mask) {
+    return named(mask) + (is_one(mask) ? " is" : " are");
+}
+
+// An outcome in the words of a caller of this header.
+inline Literal words(nm_outcome told) {
     switch (told) {
-    case NM_CLOSED: return "the worker or the report is closed";
+    case NM_CLOSED: return {"the worker or the report is closed"};
     case NM_PENDING:
-    case NM_BUSY: return "other threads were in the way for longer than the call's bound";
-    case NM_HELD: return "the worker is pinned: end its pin first";
-    case NM_NOT_HELD: return "the worker is not pinned";
-    case NM_IN_USE: return "another thread is in a call by the worker, and stayed in it";
-    default: return nm_outcome_text(told);
+    case NM_BUSY:
+        return {"other threads interfered for longer than the bound of the call: call again, or "
+                "raise the rounds of the options"};
+    case NM_HELD: return {"the worker is pinned: end its pin first"};
+    case NM_NOT_HELD: return {"the worker is not pinned"};
+    case NM_IN_USE:
+        return {"another thread is in a call by the worker, and has stayed in it for 10 seconds"};
+    default: return {nm_outcome_text(told)};
     }
 }
 
-// Throws a fault; else whether the answer is not no.
+// Throws a fault with a text. If there is no memory for the text, that of the outcome is used.
+template <typename Text>
+[[noreturn]] void fail(nm_outcome told, Text text) {
+    try {
+        throw Fault(told, text());
+    } catch (const std::bad_alloc &) {
+        throw Fault(told, words(told));
+    }
+}
+
+// Runs a part that takes memory of the program: NM_NO_MEMORY if it is refused.
+template <typename Part>
+auto in_memory(Part part) {
+    try {
+        return part();
+    } catch (const std::bad_alloc &) {
+        throw Fault(NM_NO_MEMORY, words(NM_NO_MEMORY));
+    }
+}
+
+// Throws a fault, or returns whether the answer is not no.
 inline bool answered(nm_outcome told) {
     if (told < 0) throw Fault(told, words(told));
     return told != NM_NO;
 }
 
-// The same of a call for a key.
+// The same for a call with a key.
 inline bool answered(nm_outcome told, std::uint64_t key) {
     if (told == NM_KEY)
-        throw Fault(told, "the key " + std::to_string(key) + " is not 0 to " +
-                              std::to_string(most_key) + " (2^64 - 4)");
+        fail(told, [=] {
+            return "the key " + std::to_string(key) + " is not 0 to " + std::to_string(most_key) +
+                   " (2^64 - 4)";
+        });
     return answered(told);
 }
 
-// Moves the epoch on as far as can be, by a worker: what the last move has told.
+// Moves the epoch on as far as possible, by a worker. Returns the outcome of the last move.
 inline nm_outcome move_on(nm_handle *worker) {
     constexpr int moves = 3;
     std::uint64_t epoch = 0;
@@ -169,28 +316,46 @@ inline nm_outcome move_on(nm_handle *worker) {
     return told;
 }
 
-// Who has a seat: nobody, a call of the set, or a `Worker`; or its set was closed.
+// What the answer yes to a call does to the number of keys.
+enum class Gain { none, inserts, removes };
+
+// What has a seat: nothing, a call of the set, or a `Worker`; or its set was closed.
 enum class Use { free, call, lent, closed };
 
 // The place of one worker, with its handle, in a cache line of its own.
 struct alignas(64) Seat {
     std::atomic<Use> use{Use::free};
-    bool is_open = false;  // whether its handle has the worker: who has the seat asks
+    bool is_open = false;  // whether its handle has the worker; the user of the seat reads it
     nm_handle handle{};
+    // The inserted keys less the removed keys of the calls by this worker, modulo 2^64.
+    std::atomic<std::uint64_t> keys{0};
+    // The nodes that waited in its queue when it was last asked.
+    std::atomic<std::uint64_t> waiting{0};
+    // How many calls of the set have begun and have ended by this worker while a thread had it.
+    std::atomic<std::uint32_t> arrivals{0}, departures{0};
 
     bool take(Use by) noexcept {
         Use wanted = Use::free;
-        return use.compare_exchange_strong(wanted, by);
+        return use.compare_exchange_strong(wanted, by, std::memory_order_acquire,
+                                           std::memory_order_relaxed);
     }
 
-    // The same, behind the call of another thread, of which it waits for the end.
-    bool take_soon(Use by) {
+    // Takes the seat, after the end of a call of the set that has it.
+    bool take_soon(Use by, Wait &wait) {
         bool is_taken = take(by);
-        for (std::uint32_t turn = 0; !is_taken && use == Use::call && turn < naps; turn++) {
-            pause(turn);
-            is_taken = take(by);
-        }
+        while (!is_taken && use == Use::call && wait.pause()) is_taken = take(by);
         return is_taken;
+    }
+
+    void free() noexcept { use.store(Use::free, std::memory_order_release); }
+
+    // Counts the answer to a call by this worker. A remove that is unfinished counts at once,
+    // because its key will be removed by this call and no other: its later end counts nothing.
+    void count(Gain gain, nm_outcome told) noexcept {
+        if (gain == Gain::inserts && told == NM_YES)
+            keys.fetch_add(1, std::memory_order_relaxed);
+        if (gain == Gain::removes && (told == NM_YES || told == NM_UNFINISHED))
+            keys.fetch_sub(1, std::memory_order_relaxed);
     }
 };
 
@@ -201,15 +366,17 @@ inline std::uint32_t &place() noexcept {
     return place;
 }
 
-// How many keys the set has, and how many removed nodes wait to be freed.
-struct Tally {
-    std::uint64_t keys;
-    std::uint64_t waiting;
+// The nodes that wait to be freed.
+struct Queues {
+    std::uint64_t asked = 0;    // with the workers that answered
+    std::uint64_t seen = 0;     // with the workers in calls, when they were last asked
+    std::uint64_t in_call = 0;  // a bit for each of these
 };
 
-// What a set and its workers share: the handle of the set, and a seat for each worker. Only who has
-// a seat makes calls for keys by its handle; but `tally` and `collect` ask each of them, so that a
-// call which meets these is told NM_IN_USE, and is made again.
+// What a set and its workers share: the handle of the set, and a seat for each worker. Only the
+// user of a seat makes calls for keys by its handle, except that `borrow` makes one by a seat of a
+// thread that is in no call. `queues` and `collect` ask each handle: a call that meets them gets
+// NM_IN_USE and is repeated.
 class Seats {
 public:
     Seats(std::uint64_t nodes, const Options &options)
@@ -219,8 +386,10 @@ public:
           seats_(options.workers < 1 || options.workers > 64 ? 0 : options.workers) {
         nm_outcome told = nodes > UINT32_MAX ? NM_NODES : make();
         if (told == NM_NODES || told == NM_WORKERS)
-            throw Fault(told, std::string(nm_outcome_text(told)) + ": " +
-                                  grouped(told == NM_NODES ? nodes : options.workers));
+            fail(told, [&] {
+                return std::string(nm_outcome_text(told)) + ": " +
+                       grouped(told == NM_NODES ? nodes : options.workers);
+            });
         answered(told);
     }
 
@@ -237,33 +406,52 @@ public:
     [[nodiscard]] std::uint32_t count() const noexcept {
         return static_cast<std::uint32_t>(seats_.size());
     }
-    [[nodiscard]] nm_handle *handle(std::uint32_t number) noexcept {
-        return &seats_[number].handle;
-    }
     [[nodiscard]] bool is_closing() const noexcept { return is_closing_; }
 
-    // Makes a call by a seat that is free, else by one that is lent and in no call. NM_AWAY where
-    // there is none.
+    // How long an insert waits for nodes.
+    [[nodiscard]] std::chrono::milliseconds timeout() const noexcept {
+        return std::chrono::milliseconds(options_.timeout_ms);
+    }
+
+    // ---- calls ----
+
+    // Makes a call by a seat that is free, or by one that a thread has and that is in no call.
+    // NM_AWAY if there is none. NM_IN_USE: another thread is in the take of a worker.
     template <typename Call>
-    nm_outcome visit(Call call) {
+    nm_outcome visit(Gain gain, Call call) noexcept {
+        Ordered ordered(this);
         std::uint32_t number = place() % count();
-        for (std::uint32_t step = 0; step < count(); step++) {
-            if (seats_[number].take(Use::call)) {
-                nm_outcome told = open(number);
-                if (told == NM_DONE) told = call(&seats_[number].handle);
-                seats_[number].use = Use::free;
-                place() = told == NM_IN_USE ? number + 1 : number;
-                return told;
-            }
-            number = (number + 1) % count();
+        for (std::uint32_t step = 0; step < count(); step++, number = (number + 1) % count()) {
+            Seat &seat = seats_[number];
+            if (!seat.take(Use::call)) continue;
+            nm_outcome told = open(number);
+            bool is_opened = told == NM_DONE;
+            if (is_opened) told = call_by(seat, gain, call);
+            seat.free();
+            if (told == NM_AWAY || (is_opened && told == NM_IN_USE)) continue;
+            place() = number;
+            return told;
         }
-        return borrow(call);
+        return borrow(gain, call);
+    }
+
+    // Makes a call by the worker of a number, which the caller has. It waits for another thread's
+    // call by this worker, for 10 seconds at most: NM_IN_USE.
+    template <typename Call>
+    nm_outcome by(std::uint32_t number, Gain gain, Call call) noexcept {
+        Ordered ordered(this);
+        Seat &seat = seats_[number];
+        nm_outcome told = call(&seat.handle);
+        if (told == NM_IN_USE || told == NM_PENDING) told = by_at_last(seat, call);
+        seat.count(gain, told);
+        return told;
     }
 
     // ---- seats for workers ----
 
     // Lends a seat that is free, the least number first: NM_DONE; NM_AWAY, NM_CLOSED, NM_NO_MEMORY.
-    nm_outcome lend_any(std::uint32_t &number) {
+    nm_outcome lend_any(std::uint32_t &number) noexcept {
+        if (is_closing_) return NM_CLOSED;
         std::lock_guard<std::mutex> lock(door_);
         if (is_closing_) return NM_CLOSED;
         for (number = 0; number < count(); number++) {
@@ -273,80 +461,96 @@ public:
         return NM_AWAY;
     }
 
-    // Lends the seat of a number: also NM_NUMBER. NM_AWAY: a `Worker` has it.
-    nm_outcome lend(std::uint32_t number) {
+    // Lends the seat of a number: NM_DONE; NM_AWAY if a `Worker` has it; NM_IN_USE if a call has
+    // it; NM_NUMBER, NM_CLOSED, NM_NO_MEMORY.
+    nm_outcome lend(std::uint32_t number) noexcept {
         if (number >= count()) return NM_NUMBER;
+        if (is_closing_) return NM_CLOSED;
         std::lock_guard<std::mutex> lock(door_);
         if (is_closing_) return NM_CLOSED;
-        return soon([&] {
-            return seats_[number].take_soon(Use::lent) ? ready(number) : NM_AWAY;
-        });
+        if (seats_[number].take(Use::lent)) return ready(number);
+        return seats_[number].use == Use::lent ? NM_AWAY : NM_IN_USE;
     }
 
-    // Takes a seat back, of which a set that is gone has no use.
+    // Takes a seat back. If the set is gone, its worker is given up. It waits for another thread's
+    // call by this worker, for 10 seconds at most.
     void give_back(std::uint32_t number) noexcept {
-        rest(number);
+        Wait wait(longest);
+        rest(number, wait);
         std::lock_guard<std::mutex> lock(door_);
         if (is_closing_)
-            shut(number);
+            shut(number, wait);
         else
-            seats_[number].use = Use::free;
+            seats_[number].free();
     }
 
     // ---- room for an insert ----
 
-    // What an insert does that found no free nodes, so many times already: it collects, and sleeps
-    // where nothing was freed. The fault NM_FULL, where the keys take all nodes, or that has lasted
-    // too long. A worker passes its own handle.
-    void make_room(std::uint32_t turn, nm_handle *own) {
-        constexpr std::uint32_t at_once = 4;  // how often it goes on at once where nodes were freed
-        std::uint64_t freed = collect(own);
-        bool is_patient = turn < std::uint64_t{options_.patience} + at_once;
-        if (!is_patient || (freed == 0 && is_brimful()))
-            throw Fault(NM_FULL, full_text(own));
-        if (turn >= at_once || freed == 0) pause(options_.patience == 0 ? 0 : turns);
+    // What an insert does after NM_FULL: it frees nodes. If there were none to free, or this is not
+    // its first time, it pauses before that. Throws NM_FULL if the keys take all nodes, or the wait
+    // is over. A worker passes its own handle.
+    void make_room(Wait &wait, bool is_first, nm_handle *own) {
+        if (is_first && collect(own) != 0) return;
+        if (is_brimful() || !wait.pause()) fail_full(own);
+        collect(own);
     }
 
-    // Moves the epoch on as far as can be, and frees what has waited long enough in the queue of
-    // each worker that is in no call: how many nodes.
-    std::uint64_t collect(nm_handle *own) {
+    // Moves the epoch on as far as possible, and frees what has waited long enough in the queue of
+    // each worker that is in no call. Returns the number of freed nodes.
+    std::uint64_t collect(nm_handle *own) noexcept {
+        constexpr int asks_of_each = 4;
         std::uint64_t freed = 0;
         if (own == nullptr)
-            visit(move_on);
+            visit(Gain::none, move_on);
         else
             move_on(own);
         for (Seat &seat : seats_) {
             std::uint64_t epoch = 0, nodes = 0;
-            ask_at_once([&] { return nm_worker_collect(&seat.handle, &epoch, &nodes); });
+            nm_outcome told = NM_IN_USE;
+            for (int ask = 0; told == NM_IN_USE && ask < asks_of_each; ask++)
+                told = nm_worker_collect(&seat.handle, &epoch, &nodes);
             freed += nodes;
         }
         return freed;
     }
 
-    // By the ledger of each worker, as it was at a moment of the call.
-    [[nodiscard]] Tally tally() {
-        std::uint64_t links = 0, flags = 0, waiting = 0;
-        for (Seat &seat : seats_) {
-            nm_ledger told{};
-            if (soon([&] { return nm_worker_ledger(&seat.handle, &told); }) != NM_DONE) continue;
-            links += told.links;
-            flags += told.flags;
-            waiting += told.queued;
+    // The number of keys, by the answers of all calls that have ended.
+    [[nodiscard]] std::uint64_t keys() const noexcept {
+        std::uint64_t keys = 0;
+        for (const Seat &seat : seats_) keys += seat.keys.load(std::memory_order_relaxed);
+        return keys > UINT64_MAX / 2 ? 0 : keys;
+    }
+
+    // The nodes that wait to be freed. It asks each worker and waits for none.
+    [[nodiscard]] Queues queues() noexcept {
+        Queues all;
+        for (std::uint32_t number = 0; number < count(); number++) {
+            Seat &seat = seats_[number];
+            std::uint64_t nodes = 0;
+            if (ask_at_once([&] { return nm_worker_queue_len(&seat.handle, &nodes); }) ==
+                NM_IN_USE) {
+                all.seen += seat.waiting.load(std::memory_order_relaxed);
+                all.in_call |= bit_of(number);
+            } else {
+                seat.waiting.store(nodes, std::memory_order_relaxed);
+                all.asked += nodes;
+            }
         }
-        return {links > flags ? links - flags : 0, waiting};
+        return all;
     }
 
     // ---- the end ----
 
-    // Ends the set, and hands out the handle with its report. Each later call is told that the set
-    // is closed, also each that waits.
+    // Ends the set, and hands out the handle with its report. Each later call gets NM_CLOSED,
+    // including each that waits.
     nm_handle end() {
         std::lock_guard<std::mutex> lock(door_);
-        if (is_ended_) throw Fault(NM_CLOSED, "the set is closed");
+        if (is_ended_) throw Fault(NM_CLOSED, Literal{"the set is closed"});
         if (!is_closing_) fail_lent();
         is_closing_ = true;
-        shut_all();
-        answered(soon([this] { return nm_set_close(&set_); }));
+        Wait wait(longest);
+        shut_all(wait);
+        answered(soon(wait, [this] { return nm_set_close(&set_); }));
         is_ended_ = true;
         return std::exchange(set_, nm_handle{});
     }
@@ -355,33 +559,80 @@ public:
     void leave() noexcept {
         std::lock_guard<std::mutex> lock(door_);
         is_closing_ = true;
+        Wait wait(longest);
         for (std::uint32_t number = 0; number < count(); number++)
-            if (seats_[number].take_soon(Use::closed)) shut(number);
-        soon([this] { return nm_drop(&set_); });
+            if (seats_[number].take_soon(Use::closed, wait)) shut(number, wait);
+        soon(wait, [this] { return nm_drop(&set_); });
     }
 
-    // Ends the set by a worker, once the set was left and its other workers have gone home. NM_KIND
-    // where an end was refused that has gathered the workers: their set is what the handle owns.
+    // Ends the set by a worker, after the set was left and its other workers were given back.
+    // NM_KIND if an earlier end was refused that had gathered the workers: the handle owns their
+    // set.
     nm_outcome end_by(std::uint32_t number, nm_handle &report) noexcept {
         Seat &seat = seats_[number];
-        nm_outcome told = soon([&] { return nm_worker_end(&seat.handle); });
+        Wait wait(longest);
+        nm_outcome told = soon(wait, [&] { return nm_worker_end(&seat.handle); });
         if (told == NM_KIND) told = nm_set_close(&seat.handle);
         if (told == NM_DONE) report = std::exchange(seat.handle, nm_handle{});
         return told;
     }
 
+    [[nodiscard]] nm_handle *handle(std::uint32_t number) noexcept {
+        return &seats_[number].handle;
+    }
+
 private:
-    // Makes a call by a worker that a thread has, and is in no call of: the library lets one of two
-    // calls go first, and the thread's own is made again. So no call waits for a worker that its
-    // own thread has.
+    // Makes a call by a worker of which the caller has no `Worker`. An earlier remove that is
+    // pending is finished first, and so is that of this call, within the bounds of the options.
     template <typename Call>
-    nm_outcome borrow(Call call) {
+    nm_outcome call_by(Seat &seat, Gain gain, Call call) noexcept {
+        nm_outcome told = call(&seat.handle);
+        if (told == NM_PENDING && finish(&seat.handle) != NM_UNFINISHED) told = call(&seat.handle);
+        if (told == NM_UNFINISHED) {
+            nm_outcome end = finish(&seat.handle);
+            if (end == NM_YES || end == NM_NO) told = NM_YES;  // NM_NO: another call finished it
+        }
+        seat.count(gain, told);
+        return told;
+    }
+
+    // Makes a call by a worker that a thread has, and that is in no call. The library lets one of
+    // two calls go first, and the thread's own call is repeated. So no call waits for a worker that
+    // its own thread has.
+    template <typename Call>
+    nm_outcome borrow(Gain gain, Call call) noexcept {
         for (Seat &seat : seats_) {
             if (seat.use != Use::lent) continue;
-            nm_outcome told = call(&seat.handle);
+            seat.arrivals++;
+            nm_outcome told = call_by(seat, gain, call);
+            seat.departures++;
             if (told != NM_IN_USE && told != NM_HELD && told != NM_CLOSED) return told;
         }
         return NM_AWAY;
+    }
+
+    // Repeats the call of a thread by its worker while another call has the handle. It repeats the
+    // call after NM_PENDING too, if the pending remove is that of a call of the set which has
+    // borrowed this worker and has not ended.
+    template <typename Call>
+    nm_outcome by_at_last(Seat &seat, Call call) noexcept {
+        Wait wait(longest);
+        for (;;) {
+            std::uint32_t ended = seat.departures;
+            nm_outcome told = ask_at_once([&] { return call(&seat.handle); });
+            bool is_for_another =
+                told == NM_IN_USE || (told == NM_PENDING && seat.arrivals != ended);
+            if (!is_for_another || !wait.pause()) return told;
+        }
+    }
+
+    // Goes on with a pending remove, as often as the options say: NM_YES; NM_NO if none is pending;
+    // NM_UNFINISHED; NM_IN_USE if another call has the handle.
+    nm_outcome finish(nm_handle *worker) noexcept {
+        nm_outcome told = NM_UNFINISHED;
+        for (std::uint64_t round = 0; told == NM_UNFINISHED && round <= habit_.rounds; round++)
+            told = ask_at_once([&] { return nm_worker_finish(worker, habit_.tries); });
+        return told;
     }
 
     nm_outcome make() {
@@ -395,8 +646,8 @@ private:
     }
 
     // Sees that the handle of a seat, which the caller has, has its worker. NM_IN_USE: another call
-    // has that handle, or has that of the set for longer than the library looks again.
-    nm_outcome open(std::uint32_t number) {
+    // has that handle, or has the handle of the set for longer than the library looks again.
+    nm_outcome open(std::uint32_t number) noexcept {
         Seat &seat = seats_[number];
         if (seat.is_open) return NM_DONE;
         nm_outcome told = nm_set_worker(&set_, &seat.handle, number);
@@ -404,44 +655,44 @@ private:
         return told;
     }
 
-    // Opens a seat that was taken for a worker, or gives it up.
-    nm_outcome ready(std::uint32_t number) {
+    // Opens a seat that was taken for a worker, or gives it up. It waits for no call.
+    nm_outcome ready(std::uint32_t number) noexcept {
+        Wait none(std::chrono::nanoseconds::zero());
         nm_outcome told = open(number);
-        if (told == NM_DONE)
-            rest(number);
-        else
-            seats_[number].use = Use::free;
+        if (told == NM_DONE && rest(number, none) == NM_IN_USE) told = NM_IN_USE;
+        if (told != NM_DONE) seats_[number].free();
         return told;
     }
 
-    // Gets a worker ready to rest: it holds nothing back, and its remove is finished where the
-    // bound allows.
-    void rest(std::uint32_t number) noexcept {
+    // Unpins a worker, and finishes its remove if the bounds allow. NM_IN_USE: another call has its
+    // handle, and the wait is over.
+    nm_outcome rest(std::uint32_t number, Wait &wait) noexcept {
         nm_handle *worker = &seats_[number].handle;
-        nm_outcome told = soon([=] { return nm_worker_unpin(worker); });
-        if (told != NM_IN_USE) told = NM_UNFINISHED;
-        for (std::uint64_t round = 0; told == NM_UNFINISHED && round <= habit_.rounds; round++)
-            told = soon([&] { return nm_worker_finish(worker, habit_.tries); });
+        nm_outcome told = soon(wait, [=] { return nm_worker_unpin(worker); });
+        return told == NM_IN_USE ? told : finish(worker);
     }
 
-    // Sends the worker of a seat home for good, or tells that a call has it which does not end.
-    bool shut(std::uint32_t number) noexcept {
-        rest(number);
-        nm_outcome told = soon([&] { return nm_drop(&seats_[number].handle); });
-        seats_[number].is_open = false;
-        seats_[number].use = Use::closed;
-        return told != NM_IN_USE;
+    // Gives up the worker of a seat. Returns false if a call has it and does not end.
+    bool shut(std::uint32_t number, Wait &wait) noexcept {
+        rest(number, wait);
+        Seat &seat = seats_[number];
+        bool is_shut = soon(wait, [&] { return nm_drop(&seat.handle); }) != NM_IN_USE;
+        if (is_shut) seat.is_open = false;
+        seat.use = Use::closed;
+        return is_shut;
     }
 
-    // Shuts each seat, behind the calls that others make. Where a call does not end, the set goes
-    // on, and that is a fault.
-    void shut_all() {
+    // Shuts each seat, after the calls of other threads. If a call does not end, the set goes on,
+    // and that is a fault.
+    void shut_all(Wait &wait) {
         for (std::uint32_t number = 0; number < count(); number++) {
             if (seats_[number].use == Use::closed) continue;
-            if (seats_[number].take_soon(Use::closed) && shut(number)) continue;
+            if (seats_[number].take_soon(Use::closed, wait) && shut(number, wait)) continue;
             reopen();
-            throw Fault(NM_AWAY, those({number}) + " in a call that has not ended in " +
-                                     std::to_string(naps / 1'000) + " seconds");
+            fail(NM_AWAY, [=] {
+                return those(bit_of(number)) + " in a call that has not ended in " +
+                       std::to_string(longest.count()) + " seconds: close again";
+            });
         }
     }
 
@@ -451,44 +702,53 @@ private:
         is_closing_ = false;
     }
 
-    // Throws where a `Worker` is open.
+    // Throws if a `Worker` is open.
     void fail_lent() const {
-        std::vector<std::uint32_t> lent;
+        std::uint64_t lent = 0;
         for (std::uint32_t number = 0; number < count(); number++)
-            if (seats_[number].use == Use::lent) lent.push_back(number);
-        if (!lent.empty())
-            throw Fault(NM_AWAY, those(lent) + " with a thread: close what attach gave first");
+            if (seats_[number].use == Use::lent) lent |= bit_of(number);
+        if (lent != 0)
+            fail(NM_AWAY, [=] {
+                return those(lent) + " with a thread: close what attach gave first";
+            });
     }
 
-    // Whether no nodes are left for one more key, and none is to be freed.
-    bool is_brimful() {
-        Tally now = tally();
-        return now.waiting == 0 && 2 * now.keys + 7 > nodes_;
+    // Whether the keys leave no nodes for one more key, and no node waits.
+    bool is_brimful() noexcept {
+        if (2 * keys() + 7 <= nodes_) return false;
+        Queues waiting = queues();
+        return waiting.asked == 0 && waiting.in_call == 0;
     }
 
-    std::string full_text(nm_handle *own) {
-        if (is_closing_) return nm_outcome_text(NM_FULL);
-        Tally now = tally();
-        std::string text = "the set is full: its " + grouped(now.keys) + " keys take " +
-                           grouped(2 * now.keys + 5) + " of its " + grouped(nodes_) +
-                           " nodes, and " + grouped(now.waiting) + " wait to be freed";
-        std::vector<std::uint32_t> behind = behind_of(own);
-        if (!behind.empty()) text += "; " + those(behind) + " in their way, by a pin or in a call";
-        return text;
+    // Throws NM_FULL, with what is known at this moment. It waits for no call.
+    [[noreturn]] void fail_full(nm_handle *own) {
+        fail(NM_FULL, [this, own] {
+            if (is_closing_) return std::string(nm_outcome_text(NM_FULL));
+            std::uint64_t now = keys(), held = behind_of(own);
+            Queues waiting = queues();
+            std::string text = "the set is full: its " + grouped(now) + " keys take " +
+                               grouped(2 * now + 5) + " of its " + grouped(nodes_) +
+                               " nodes, and " + grouped(waiting.asked) + " wait to be freed";
+            if (waiting.in_call != 0) {
+                bool is_alone = is_one(waiting.in_call);
+                text += "; what " + named(waiting.in_call) +
+                        (is_alone ? " has waiting is not known: it is in a call"
+                                  : " have waiting is not known: they are in calls");
+            }
+            if (held != 0) text += "; " + those(held) + " in their way, by a pin or in a call";
+            return text;
+        });
     }
 
-    // The workers that hold the epoch back at this moment.
-    std::vector<std::uint32_t> behind_of(nm_handle *own) {
+    // The workers that hold the epoch back at this moment, as a mask.
+    std::uint64_t behind_of(nm_handle *own) noexcept {
         std::uint64_t epoch = 0, mask = 0;
         auto look = [&](nm_handle *worker) { return nm_worker_behind(worker, &epoch, &mask); };
         if (own == nullptr)
-            visit(look);
+            visit(Gain::none, look);
         else
-            soon([&] { return look(own); });
-        std::vector<std::uint32_t> numbers;
-        for (std::uint32_t number = 0; number < count(); number++)
-            if (mask >> number & 1) numbers.push_back(number);
-        return numbers;
+            ask_at_once([&] { return look(own); });
+        return mask;
     }
 
     const Options options_;
@@ -496,19 +756,20 @@ private:
     const std::uint64_t nodes_;
     nm_handle set_{};
     std::vector<Seat> seats_;
-    std::mutex door_;  // for who takes a seat for a worker, gives one back, or ends the set
+    std::mutex door_;  // held to lend a seat to a `Worker`, to take one back, and to end the set
     std::atomic<bool> is_closing_{false};
     bool is_ended_ = false;
 };
 
 }  // namespace detail
 
-// In which order keys are gone over.
+// The order in which an iterator passes keys.
 enum class Order { ascending, descending };
 
-// Goes over the keys of a set while it is in use: an iterator to read from, whose keys may change
-// between two passes. A step is one call; keys that come or go meanwhile may be told or not, and
-// one that was removed before the step is not. It ends before its set or its worker.
+// Passes the keys of a set that may be in use: an input iterator, whose keys may change between two
+// passes. A step is one call, and waits as long as a call. A key that is inserted or removed
+// meanwhile may be passed or not. A key that was removed before the step is not passed. An iterator
+// must end before its set or its worker.
 template <typename Of, Order order = Order::ascending>
 class Iterator {
 public:
@@ -549,7 +810,7 @@ private:
     template <typename>
     friend class Range;
 
-    // It begins with this key, and ends before the bound, or where it descends with that.
+    // It begins with this key, and ends before the bound; a descending one ends with the bound.
     Iterator(const Of &of, std::optional<std::uint64_t> key, std::uint64_t bound)
         : of_(&of), bound_(bound), key_(key) {}
 
@@ -558,7 +819,7 @@ private:
     std::optional<std::uint64_t> key_;
 };
 
-// The keys from one on and below another one.
+// The keys that are not below one and are below another.
 template <typename Of>
 class Range {
 public:
@@ -581,12 +842,18 @@ private:
     std::uint64_t below_;
 };
 
-// The calls for keys, which a set and each of its workers have. One for one key has a moment at
-// which its answer was right. One that goes over several keys takes no snapshot: while others
-// insert and remove, each key has a moment of its own.
+// The calls for keys of a set and of a worker. A call for one key has one moment at which its
+// answer was right. A call for several keys takes no snapshot: while others insert and remove, each
+// key has a moment of its own.
 //
-// NM_KEY: the key is above 2^64 - 4. NM_BUSY: the bound of the call was reached; nothing of it
-// stands but help given to others. NM_NO_MEMORY. NM_CLOSED. Of a worker NM_HELD: it is pinned.
+// How long a call waits. A call of a set waits while each worker is in a call or pinned; that wait
+// ends with another thread's call, and has no other bound. A call of a worker waits for another
+// thread's call by the same worker, for 10 seconds at most: NM_IN_USE. Besides, an insert waits for
+// nodes, and no other call does.
+//
+// Each call throws NM_KEY if the key is above 2^64 - 4; NM_BUSY if the bound of the call was
+// reached, with the set unchanged; NM_NO_MEMORY, NM_CLOSED; and of a worker NM_HELD, if it is
+// pinned.
 template <typename Of>
 class Keys {
 public:
@@ -599,71 +866,80 @@ public:
 
     // ---- one key ----
 
-    // Whether the key was not in the set. It is now. NM_FULL: no nodes were free, although it
-    // waited for those that are to be freed as long as the options say; its text has the numbers.
-    bool insert(std::uint64_t key) {
-        for (std::uint32_t turn = 0;; turn++) {
-            nm_outcome told = self().ask([&](nm_handle *worker) {
-                return nm_worker_insert(worker, key, &self().seats_->habit());
-            });
-            if (told != NM_FULL) return detail::answered(told, key);
-            self().make_room(turn);
+    // Inserts the key; returns whether it was absent. If no nodes are free, it frees nodes that
+    // wait, and waits until some can be freed, for `timeout_ms` of the options at most: NM_FULL,
+    // with the numbers in the text. If the keys take all nodes and no node waits, it throws NM_FULL
+    // at once.
+    bool insert(Key key) {
+        nm_outcome told = insert_once(key);
+        if (told == NM_FULL) {
+            detail::Wait wait(self().seats_->timeout(), 0);
+            for (bool is_first = true; told == NM_FULL; is_first = false) {
+                self().make_room(wait, is_first);
+                told = insert_once(key);
+            }
         }
+        return detail::answered(told, key);
     }
 
-    // Whether the key was in the set. It is not now. NM_UNFINISHED: the key will go by this call
-    // and no other, and the next call by this worker goes on with it.
-    bool remove(std::uint64_t key) {
-        return detail::answered(self().ask([&](nm_handle *worker) {
+    // Removes the key; returns whether it was in the set. NM_UNFINISHED: the key will be removed by
+    // this call and no other, and the next call by this worker goes on with it.
+    bool remove(Key key) {
+        return detail::answered(self().ask(detail::Gain::removes, [&](nm_handle *worker) {
             return nm_worker_remove(worker, key, &self().seats_->habit());
         }), key);
     }
 
-    // Whether the set has the key.
-    [[nodiscard]] bool contains(std::uint64_t key) const {
-        return detail::answered(self().ask([&](nm_handle *worker) {
+    // Returns whether the set has the key.
+    [[nodiscard]] bool contains(Key key) const {
+        return detail::answered(self().ask(detail::Gain::none, [&](nm_handle *worker) {
             return nm_worker_contains(worker, key, &self().seats_->habit());
         }), key);
     }
 
-    // Where the least key stands that is not below this one, or end().
-    [[nodiscard]] iterator lower_bound(std::uint64_t key) const {
-        return ascending(key, UINT64_MAX);
-    }
+    // Returns an iterator at the least key that is not below this one, or end().
+    [[nodiscard]] iterator lower_bound(Key key) const { return ascending(key, UINT64_MAX); }
+
+    // Returns the greatest key that is not above this one, or nothing if there is none.
+    [[nodiscard]] std::optional<std::uint64_t> at_most(Key key) const { return prev(key, 0); }
 
     // ---- in order ----
 
-    [[nodiscard]] iterator begin() const { return lower_bound(0); }
+    [[nodiscard]] iterator begin() const { return ascending(0, UINT64_MAX); }
     [[nodiscard]] iterator end() const noexcept { return {}; }
 
     // Descending.
     [[nodiscard]] reverse_iterator rbegin() const { return descending(0, UINT64_MAX); }
     [[nodiscard]] reverse_iterator rend() const noexcept { return {}; }
 
-    // The keys from one on and below another one; below UINT64_MAX stands each key.
-    [[nodiscard]] Range<Of> range(std::uint64_t from, std::uint64_t below = UINT64_MAX) const {
+    // Returns the range of the keys that are not below `from` and are below `below`. Each key is
+    // below UINT64_MAX.
+    [[nodiscard]] Range<Of> range(Key from, Key below = UINT64_MAX) const {
         return Range<Of>(self(), from, below);
     }
 
-    // The least key, or none of an empty set.
+    // Returns the least key, or nothing if the set is empty.
     [[nodiscard]] std::optional<std::uint64_t> first() const { return next(0, UINT64_MAX); }
 
-    // The greatest key, or none of an empty set.
+    // Returns the greatest key, or nothing if the set is empty.
     [[nodiscard]] std::optional<std::uint64_t> last() const { return prev(most_key, 0); }
 
-    // Removes the least key, and tells it; none of an empty set. No two calls tell one key, unless
-    // it was inserted again between, and none is passed over that was in the set all along.
+    // Removes the least key and returns it, or nothing if the set is empty. No two calls return one
+    // key, unless it was inserted again in between. No call passes over a key that was in the set
+    // during the whole call. If the bound of the call is reached before the key is cut off
+    // (NM_UNFINISHED in C), the key is returned: this call removes it and no other does, and the
+    // next call by the same worker finishes the remove. Until then other calls may find the key.
     std::optional<std::uint64_t> pop_first() { return pop(nm_worker_pop_first); }
 
-    // The same of the greatest key.
+    // Removes the greatest key and returns it, in the same way.
     std::optional<std::uint64_t> pop_last() { return pop(nm_worker_pop_last); }
 
     [[nodiscard]] bool empty() const { return !first(); }
 
     // ---- several keys ----
 
-    // Writes of each of these whether the set has its key, each as it was at a moment of the call:
-    // eight to sixty-four at a time are looked up fastest.
+    // Writes for each lookup whether the set has its key, as it was at a moment of the call. 8 to
+    // 64 keys at a time are looked up fastest.
     void contains_many(std::vector<nm_lookup> &lookups) const {
         nm_lookup none{};
         nm_lookup *at = lookups.empty() ? &none : lookups.data();
@@ -672,27 +948,27 @@ public:
         }));
     }
 
-    // Inserts these keys, one by one: how many were not in the set. Where a fault is thrown those
-    // before are in the set.
+    // Inserts these keys, one by one, and returns how many were absent. Each of them waits as
+    // `insert` does. If a fault is thrown, the keys before it are in the set.
     template <typename Input, typename = typename std::iterator_traits<Input>::iterator_category>
     std::uint64_t insert(Input first, Input last) {
         std::uint64_t inserted = 0;
-        for (; first != last; ++first) inserted += insert(static_cast<std::uint64_t>(*first));
+        for (; first != last; ++first) inserted += insert(Key(*first));
         return inserted;
     }
 
-    std::uint64_t insert(std::initializer_list<std::uint64_t> keys) {
-        return insert(keys.begin(), keys.end());
+    std::uint64_t insert(std::initializer_list<Key> list) {
+        return insert(list.begin(), list.end());
     }
 
     template <typename From>
-    std::uint64_t insert_range(From &&keys) {
+    std::uint64_t insert_range(From &&from) {
         std::uint64_t inserted = 0;
-        for (auto &&key : keys) inserted += insert(static_cast<std::uint64_t>(key));
+        for (auto &&key : from) inserted += insert(Key(key));
         return inserted;
     }
 
-    // Removes each key; one that is inserted meanwhile may stay.
+    // Removes each key. A key that is inserted meanwhile may remain.
     void clear() {
         for (std::uint64_t key : *this) remove(key);
     }
@@ -709,7 +985,13 @@ private:
     Of &self() noexcept { return static_cast<Of &>(*this); }
     const Of &self() const noexcept { return static_cast<const Of &>(*this); }
 
-    // The least key from one on and below another one.
+    nm_outcome insert_once(std::uint64_t key) {
+        return self().ask(detail::Gain::inserts, [&](nm_handle *worker) {
+            return nm_worker_insert(worker, key, &self().seats_->habit());
+        });
+    }
+
+    // The least key that is not below `from` and is below `below`.
     std::optional<std::uint64_t> next(std::uint64_t from, std::uint64_t below) const {
         std::uint64_t found = 0;
         if (from > most_key) return std::nullopt;
@@ -719,7 +1001,7 @@ private:
         return is_found && found < below ? std::optional<std::uint64_t>(found) : std::nullopt;
     }
 
-    // The greatest key up to one and from another one on.
+    // The greatest key that is not above `to` and not below `from`.
     std::optional<std::uint64_t> prev(std::uint64_t to, std::uint64_t from) const {
         std::uint64_t found = 0, key = to < most_key ? to : most_key;
         bool is_found = detail::answered(look([&](nm_handle *worker, std::uint32_t tries) {
@@ -728,7 +1010,7 @@ private:
         return is_found && found >= from ? std::optional<std::uint64_t>(found) : std::nullopt;
     }
 
-    // The key behind one, in an order.
+    // The next key in an order.
     template <Order order>
     std::optional<std::uint64_t> beyond(std::uint64_t key, std::uint64_t bound) const {
         if constexpr (order == Order::ascending)
@@ -745,26 +1027,26 @@ private:
         return reverse_iterator(self(), below == 0 ? std::nullopt : prev(below - 1, from), from);
     }
 
-    // Takes a key by a call of the library. One that is told to be unfinished goes by this call and
-    // no other, and is pending.
+    // Takes a key by a call of the library. After NM_UNFINISHED the key is written too: this call
+    // and no other removes it, so it is returned.
     template <typename Call>
     std::optional<std::uint64_t> pop(Call call) {
         std::uint64_t taken = 0;
-        nm_outcome told = self().ask([&](nm_handle *worker) {
-            nm_outcome answer = call(worker, &self().seats_->habit(), &taken);
-            return answer == NM_UNFINISHED ? nm_worker_pending(worker, &taken) : answer;
+        nm_outcome told = self().ask(detail::Gain::removes, [&](nm_handle *worker) {
+            return call(worker, &self().seats_->habit(), &taken);
         });
+        if (told == NM_UNFINISHED) return taken;
         return detail::answered(told) ? std::optional<std::uint64_t>(taken) : std::nullopt;
     }
 
-    // Makes a call that only looks, behind the remove that is pending, and again where it has lost
-    // each of its tries.
+    // Makes a call that only looks, after the remove that is pending. It is repeated if it has lost
+    // all its attempts, as often as the options say.
     template <typename Call>
     nm_outcome look(Call call) const {
         nm_outcome told = NM_BUSY;
         std::uint64_t rounds = self().is_open() ? self().seats_->habit().rounds : 0;
         for (std::uint64_t round = 0; told == NM_BUSY && round <= rounds; round++)
-            told = self().ask([&](nm_handle *worker) {
+            told = self().ask(detail::Gain::none, [&](nm_handle *worker) {
                 std::uint32_t tries = self().seats_->habit().tries;
                 nm_outcome answer = call(worker, tries);
                 if (answer != NM_PENDING) return answer;
@@ -775,7 +1057,7 @@ private:
     }
 };
 
-// What came of a move of the epoch: NM_DONE, NM_BEHIND, NM_LOST or NM_SPENT, with what
+// What a move of the epoch did: NM_DONE, NM_BEHIND, NM_LOST or NM_SPENT, with what
 // nm_worker_advance writes.
 struct Advance {
     nm_outcome outcome;
@@ -791,25 +1073,27 @@ struct Behind {
     std::uint64_t mask;
 };
 
-// The epoch, and how many nodes were freed.
+// The epoch, and the number of freed nodes.
 struct Collected {
     std::uint64_t epoch;
     std::uint64_t freed;
 };
 
-// How many keys a worker had inserted and removed when it left a note.
+// The number of keys that a worker had inserted and removed when it left a note.
 struct Posted {
     std::uint64_t inserted;
     std::uint64_t removed;
 };
 
-// How many slots are free, and how many are reached from the root, without the five fixed ones.
+// The number of free slots, and of slots that are reached from the root, without the five fixed
+// ones.
 struct Slots {
     std::uint32_t free;
     std::uint32_t reached;
 };
 
-// What a set was closed with. It can be moved and not copied; one that was moved from is closed.
+// What a set was closed with. It can be moved and not copied; one that was moved from is closed. No
+// call of it waits.
 class Report {
 public:
     // A closed one.
@@ -826,7 +1110,7 @@ public:
 
     ~Report() { close(); }
 
-    // Forgets the report.
+    // Gives up the report.
     void close() noexcept { nm_drop(&handle_); }
 
     [[nodiscard]] bool is_open() const noexcept {
@@ -840,29 +1124,30 @@ public:
         return told;
     }
 
-    // How many keys the set had.
+    // Returns the number of keys that the set had.
     [[nodiscard]] std::uint64_t size() const {
         std::uint64_t count = 0;
         detail::answered(nm_report_keys(&handle_, &count));
         return count;
     }
 
-    // The keys of the set, ascending.
+    // Returns the keys of the set, ascending. NM_NO_MEMORY.
     [[nodiscard]] std::vector<std::uint64_t> keys() const {
-        std::vector<std::uint64_t> keys(size());
-        for (std::uint64_t index = 0; index < keys.size(); index++)
+        std::uint64_t count = size();
+        auto keys = detail::in_memory([=] { return std::vector<std::uint64_t>(count); });
+        for (std::uint64_t index = 0; index < count; index++)
             detail::answered(nm_report_key(&handle_, index, &keys[index]));
         return keys;
     }
 
-    // How many nodes wait of those that a worker cut off.
+    // Returns the number of nodes that wait of those that a worker cut off.
     [[nodiscard]] std::uint64_t queue_len(std::uint32_t worker) const {
         std::uint64_t nodes = 0;
         detail::answered(nm_report_queue(&handle_, worker, &nodes));
         return nodes;
     }
 
-    // Takes the oldest of them out.
+    // Takes the oldest of these out.
     std::optional<nm_waiting> take_waiting(std::uint32_t worker) {
         nm_waiting told{};
         if (!detail::answered(nm_report_waiting(&handle_, worker, &told))) return std::nullopt;
@@ -875,16 +1160,17 @@ private:
 
     explicit Report(nm_handle handle) noexcept : handle_(handle) {}
 
-    // The functions of C take what a handle owns out of it and put it back, also where nothing
+    // The functions of C take what a handle owns out of it and put it back, even if nothing
     // changes.
     mutable nm_handle handle_{};
 };
 
 class Worker;
 
-// Holds the epoch back until its end: nothing that is in the set now is freed meanwhile, so that
-// inserts of all threads may find the set full. Its worker answers no other call, and neither moves
-// nor ends before it.
+// Holds the epoch back until its end: no node that is in the set now is freed meanwhile. It is for
+// tests and proofs: no walk needs it, because each call pins the epoch for itself. Its worker
+// answers no call for keys (NM_HELD), and inserts of all threads may find the set full. The worker
+// must neither move nor end before it.
 class [[nodiscard]] Pin {
 public:
     Pin(Pin &&from) noexcept
@@ -913,11 +1199,18 @@ private:
     std::uint64_t epoch_;
 };
 
-// One worker of a set, for one thread at a time: of two that call by it at once, one waits for the
-// other. It can be moved and not copied; one that was moved from is closed. It goes home at its
-// end, or by `close`, with its pin ended and its remove finished where the bound allows, also where
-// an exception unwinds. A set that ends before its workers is left to them, the last of which ends
-// the tree.
+// One worker of a set, for one thread at a time. It can be moved and not copied; one that was moved
+// from is closed. Its end, or `close`, gives it back to the set, including when an exception
+// unwinds: its pin is ended, and its remove is finished if the bounds of the options allow. A set
+// that ends before its workers is left to them, and the last of them ends the tree.
+//
+// Each call waits for another thread's call by this worker, for 10 seconds at most: NM_IN_USE. Such
+// a call is another thread's call by this object, or a `collect`, `waiting` or `free` of the set.
+// It may also be any call of the set, if threads have all workers: then the set borrows one that is
+// in no call. A borrowed worker finishes its remove before the call of the set ends, within the
+// bounds of the options. So `try_remove` here does not meet NM_PENDING for another thread's key.
+// `ledger`, `queue_len` and, during such a call, `pending` include what calls of the set did by
+// this worker.
 class Worker : public Keys<Worker> {
 public:
     // A closed one.
@@ -934,7 +1227,7 @@ public:
 
     ~Worker() { close(); }
 
-    // Goes home. Of a closed one nothing changes.
+    // Gives the worker back to the set. A closed one is unchanged.
     void close() noexcept {
         if (seats_ == nullptr) return;
         seats_->give_back(number_);
@@ -943,19 +1236,21 @@ public:
 
     [[nodiscard]] bool is_open() const noexcept { return seats_ != nullptr; }
 
-    // ---- a key, by the calls of nm_set.h as they are ----
+    // ---- a key, by the calls of nm_set.h that do not tend the set ----
 
-    [[nodiscard]] nm_outcome try_insert(std::uint64_t key,
-                                        std::uint32_t tries = usual_tries) noexcept {
-        return ask([=](nm_handle *worker) { return nm_worker_try_insert(worker, key, tries); });
+    [[nodiscard]] nm_outcome try_insert(Key key, std::uint32_t tries = usual_tries) noexcept {
+        return ask(detail::Gain::inserts, [=](nm_handle *worker) {
+            return nm_worker_try_insert(worker, key, tries);
+        });
     }
 
-    [[nodiscard]] nm_outcome try_remove(std::uint64_t key,
-                                        std::uint32_t tries = usual_tries) noexcept {
-        return ask([=](nm_handle *worker) { return nm_worker_try_remove(worker, key, tries); });
+    [[nodiscard]] nm_outcome try_remove(Key key, std::uint32_t tries = usual_tries) noexcept {
+        return ask(detail::Gain::removes, [=](nm_handle *worker) {
+            return nm_worker_try_remove(worker, key, tries);
+        });
     }
 
-    [[nodiscard]] nm_outcome try_contains(std::uint64_t key,
+    [[nodiscard]] nm_outcome try_contains(Key key,
                                           std::uint32_t tries = usual_tries) const noexcept {
         return ask([=](nm_handle *worker) { return nm_worker_try_contains(worker, key, tries); });
     }
@@ -969,28 +1264,27 @@ public:
         });
     }
 
-    // NM_YES, and the least key that is not below this one; NM_NO.
-    [[nodiscard]] nm_outcome try_lower_bound(std::uint64_t key, std::uint64_t &found,
+    // NM_YES, and the least key that is not below this one; NM_NO if there is none.
+    [[nodiscard]] nm_outcome try_lower_bound(Key key, std::uint64_t &found,
                                              std::uint32_t tries = usual_tries) const noexcept {
         return ask([&](nm_handle *worker) { return nm_worker_next(worker, key, tries, &found); });
     }
 
-    // NM_YES, and the greatest key that is not above this one; NM_NO.
-    [[nodiscard]] nm_outcome try_prev(std::uint64_t key, std::uint64_t &found,
+    // NM_YES, and the greatest key that is not above this one; NM_NO if there is none.
+    [[nodiscard]] nm_outcome try_prev(Key key, std::uint64_t &found,
                                       std::uint32_t tries = usual_tries) const noexcept {
         return ask([&](nm_handle *worker) { return nm_worker_prev(worker, key, tries, &found); });
     }
 
-    // Goes on with a remove that told NM_UNFINISHED. NM_NO: none is pending, also where a call of
-    // the set, which took this worker since each other one was in a call or with a thread, has
-    // finished it.
+    // Goes on with a remove that returned NM_UNFINISHED: NM_YES if it has ended now. NM_NO: no key
+    // is pending, for example because a call of the set that borrowed this worker has finished it.
     [[nodiscard]] nm_outcome try_finish(std::uint32_t tries = usual_tries) noexcept {
         return ask([=](nm_handle *worker) { return nm_worker_finish(worker, tries); });
     }
 
     // ---- the epoch ----
 
-    // Pins the epoch until the end of what it answers.
+    // Pins the epoch until the end of the result.
     Pin pin(std::uint32_t tries = usual_tries) & {
         std::uint64_t epoch = 0;
         detail::answered(try_pin(epoch, tries));
@@ -1006,7 +1300,7 @@ public:
 
     [[nodiscard]] nm_outcome try_unpin() noexcept { return ask(nm_worker_unpin); }
 
-    // Moves the epoch on, or tells why not.
+    // Moves the epoch on, or returns why not.
     Advance advance() {
         Advance told{NM_DONE, 0, 0};
         told.outcome = ask([&](nm_handle *worker) {
@@ -1041,7 +1335,7 @@ public:
         return number_;
     }
 
-    // How many nodes wait in its queue.
+    // Returns the number of nodes that wait in its queue.
     [[nodiscard]] std::uint64_t queue_len() const {
         std::uint64_t nodes = 0;
         detail::answered(ask([&](nm_handle *worker) {
@@ -1050,12 +1344,12 @@ public:
         return nodes;
     }
 
-    // The key of a remove that has not answered yet.
+    // Returns the key of a remove that is unfinished.
     [[nodiscard]] std::optional<std::uint64_t> pending() const {
         return told_by(nm_worker_pending);
     }
 
-    // The epoch at which it is pinned.
+    // Returns the epoch at which it is pinned.
     [[nodiscard]] std::optional<std::uint64_t> held() const { return told_by(nm_worker_held); }
 
     [[nodiscard]] nm_ledger ledger() const {
@@ -1068,16 +1362,16 @@ public:
 
     // ---- notes ----
 
-    // Leaves a note of all that it has seen: what it has done so far. NM_BUSY where a reader has
-    // its earlier note at this moment.
+    // Leaves a note of all that it has seen, and writes what it has done so far. NM_BUSY: a reader
+    // has its earlier note at this moment.
     [[nodiscard]] nm_outcome try_post(Posted &posted) noexcept {
         return ask([&](nm_handle *worker) {
             return nm_worker_post(worker, &posted.inserted, &posted.removed);
         });
     }
 
-    // Hears the note of the worker of a number: what that one had done then. NM_NO where it has
-    // left none; NM_BUSY, as of `try_post`.
+    // Reads the note of the worker of a number, and writes what that one had done then. NM_NO: it
+    // has left none. NM_BUSY: as for `try_post`.
     [[nodiscard]] nm_outcome try_read(std::uint32_t number, Posted &posted) noexcept {
         return ask([&](nm_handle *worker) {
             return nm_worker_read(worker, number, &posted.inserted, &posted.removed);
@@ -1086,9 +1380,9 @@ public:
 
     // ---- the end ----
 
-    // Ends the set, once that and its other workers have ended; this is closed then. NM_AWAY while
-    // one of them is open. NM_NO_MEMORY: this call can be made again, and is the only one that goes
-    // on. What is proved of the report stands at nm_worker_end.
+    // Ends the set, after the set and its other workers have ended; this worker is closed then.
+    // NM_AWAY while one of them is open. NM_NO_MEMORY: only another `close_set` goes on. What is
+    // proved of the report is described at nm_worker_end.
     Report close_set() {
         Report report;
         detail::answered(is_open() ? seats_->end_by(number_, report.handle_) : NM_CLOSED);
@@ -1103,15 +1397,17 @@ private:
     Worker(std::shared_ptr<detail::Seats> seats, std::uint32_t number) noexcept
         : seats_(std::move(seats)), number_(number) {}
 
-    // Makes a call by its handle, again while another thread's has it.
     template <typename Call>
-    nm_outcome ask(Call call) const noexcept {
-        if (seats_ == nullptr) return NM_CLOSED;
-        nm_handle *handle = seats_->handle(number_);
-        return detail::soon([&] { return call(handle); });
+    nm_outcome ask(detail::Gain gain, Call call) const noexcept {
+        return seats_ == nullptr ? NM_CLOSED : seats_->by(number_, gain, call);
     }
 
-    // What a function of C writes where it answers yes.
+    template <typename Call>
+    nm_outcome ask(Call call) const noexcept {
+        return ask(detail::Gain::none, call);
+    }
+
+    // What a function of C writes if it answers yes.
     template <typename Call>
     std::optional<std::uint64_t> told_by(Call call) const {
         std::uint64_t told = 0;
@@ -1119,7 +1415,9 @@ private:
         return is_told ? std::optional<std::uint64_t>(told) : std::nullopt;
     }
 
-    void make_room(std::uint32_t turn) { seats_->make_room(turn, seats_->handle(number_)); }
+    void make_room(detail::Wait &wait, bool is_first) {
+        seats_->make_room(wait, is_first, seats_->handle(number_));
+    }
 
     std::shared_ptr<detail::Seats> seats_;
     std::uint32_t number_ = 0;
@@ -1129,21 +1427,22 @@ inline void Pin::unpin() noexcept {
     if (worker_ != nullptr) (void)std::exchange(worker_, nullptr)->try_unpin();
 }
 
-// The set. Any thread may call it, and any number of them: a call is made by one of its workers
-// that is in no call, those that no thread has first, and waits where there is none. It is moved
-// and destroyed by one thread, while no other is in a call of it; `close` may come beside calls.
-// One that was moved from is closed.
+// The set. Any number of threads may call it. A call is made by a worker that is in no call: by one
+// that no thread has, or else by one that a thread has. It is moved and destroyed by one thread,
+// while no other is in a call of it; `close` may be called beside other calls. One that was moved
+// from is closed. Its destructor waits for calls that have not ended, for 10 seconds at most.
 class Set : public Keys<Set> {
 public:
-    // The empty set, with room for 7 to 268,435,456 nodes: two for each key, five, and those that
-    // were removed and wait to be freed. NM_NODES, NM_WORKERS, NM_NO_MEMORY.
+    // Makes the empty set, with room for 7 to 268,435,456 nodes: two for each key, five, and those
+    // that were removed and wait to be freed. NM_NODES, NM_WORKERS, NM_NO_MEMORY.
     explicit Set(std::uint64_t nodes, const Options &options = {})
-        : seats_(std::make_shared<detail::Seats>(nodes, options)) {}
+        : seats_(detail::in_memory([&] {
+              return std::make_shared<detail::Seats>(nodes, options);
+          })) {}
 
-    // The set of these keys.
-    Set(std::uint64_t nodes, std::initializer_list<std::uint64_t> keys,
-        const Options &options = {})
-        : Set(nodes, keys.begin(), keys.end(), options) {}
+    // Makes the set of these keys: `nm::Set(64, nm::keys, {1u, 2u})`. Also NM_KEY, NM_FULL.
+    Set(std::uint64_t nodes, keys_t, std::initializer_list<Key> list, const Options &options = {})
+        : Set(nodes, list.begin(), list.end(), options) {}
 
     template <typename Input, typename = typename std::iterator_traits<Input>::iterator_category>
     Set(std::uint64_t nodes, Input first, Input last, const Options &options = {})
@@ -1163,93 +1462,138 @@ public:
         if (seats_ != nullptr) seats_->leave();
     }
 
+    // ---- a key, with nothing thrown ---- These make the calls of nm_set.h that tend the set, with
+    // the bounds of the options. They wait for no worker and for no nodes. NM_AWAY: each worker is
+    // in a call or pinned. If another thread is stopped while it takes a worker for the first time,
+    // they take some tenths of a second.
+
+    // NM_YES if the key was absent, NM_NO; NM_FULL if no nodes are free: `collect`, and call again.
+    // NM_KEY, NM_BUSY, NM_NO_MEMORY, NM_AWAY, NM_CLOSED.
+    [[nodiscard]] nm_outcome try_insert(Key key) noexcept {
+        return once(detail::Gain::inserts, [&](nm_handle *worker) {
+            return nm_worker_insert(worker, key, &seats_->habit());
+        });
+    }
+
+    // NM_YES if the key was in the set, NM_NO. NM_UNFINISHED: the key will be removed by this call
+    // and no other. NM_KEY, NM_BUSY, NM_NO_MEMORY, NM_AWAY, NM_CLOSED.
+    [[nodiscard]] nm_outcome try_remove(Key key) noexcept {
+        return once(detail::Gain::removes, [&](nm_handle *worker) {
+            return nm_worker_remove(worker, key, &seats_->habit());
+        });
+    }
+
+    // NM_YES if the set has the key, NM_NO. NM_KEY, NM_BUSY, NM_AWAY, NM_CLOSED.
+    [[nodiscard]] nm_outcome try_contains(Key key) const noexcept {
+        return once(detail::Gain::none, [&](nm_handle *worker) {
+            return nm_worker_contains(worker, key, &seats_->habit());
+        });
+    }
+
     // ---- workers for threads ----
 
-    // Takes a worker for this thread, the least number first. It waits while each is with a thread
-    // or in a call, so long at most; a thread that has each itself waits for nothing. NM_AWAY
-    // behind that.
+    // Takes a worker for this thread, the least number first. It waits while each worker is with a
+    // thread or in a call, for `most` at most, and without end if no time is given: NM_AWAY. A
+    // thread that has all workers itself would wait without end.
     [[nodiscard]] Worker attach(
         std::chrono::milliseconds most = std::chrono::milliseconds::max()) {
-        using std::chrono::steady_clock;
-        const steady_clock::time_point begun = steady_clock::now();
         Worker taken;
         nm_outcome told = try_attach(taken);
-        for (std::uint32_t turn = 0; told == NM_AWAY; turn++) {
-            auto waited = steady_clock::now() - begun;
-            if (std::chrono::duration_cast<std::chrono::milliseconds>(waited) >= most) break;
-            detail::pause(turn);
-            told = try_attach(taken);
+        if (told == NM_AWAY) {
+            detail::Wait wait = waits(most);
+            while (told == NM_AWAY && wait.pause()) told = try_attach(taken);
         }
         if (told == NM_AWAY)
-            throw Fault(told, "threads have each of the " + std::to_string(workers()) +
-                                  " workers of the set (64 at most)");
+            detail::fail(told, [this] {
+                return "threads have each of the " + std::to_string(workers()) +
+                       " workers of the set (64 at most)";
+            });
         succeed(told);
         return taken;
     }
 
-    // Opens a closed worker, and waits for none: NM_DONE; NM_AWAY, where each of the workers, 64 at
-    // most, is with a thread or in a call; NM_OPEN, NM_CLOSED, NM_NO_MEMORY.
+    // Opens a closed worker, and waits for none: NM_DONE; NM_AWAY if each worker is with a thread
+    // or in a call; NM_OPEN, NM_CLOSED, NM_NO_MEMORY. If another thread is stopped while it takes a
+    // worker, this takes some tenths of a second (nm_set_worker). If that thread has the lock of
+    // the set, it takes as long as that thread is stopped.
     [[nodiscard]] nm_outcome try_attach(Worker &into) noexcept {
         return try_lend(into, [this](std::uint32_t &number) { return seats_->lend_any(number); });
     }
 
-    // Takes the worker of a number, for this thread. NM_AWAY, where it is with a thread.
+    // Takes the worker of a number, for this thread. It waits while a call of the set has that
+    // worker, for 10 seconds at most: NM_IN_USE. NM_AWAY if it is with a thread; NM_NUMBER.
     [[nodiscard]] Worker worker(std::uint32_t number) {
         Worker taken;
+        detail::Wait wait(detail::longest);
         nm_outcome told = try_worker(taken, number);
-        if (told == NM_AWAY) throw Fault(told, detail::those({number}) + " with a thread");
+        while (told == NM_IN_USE && wait.pause()) told = try_worker(taken, number);
+        if (told == NM_AWAY)
+            detail::fail(told, [=] {
+                return detail::those(detail::bit_of(number)) + " with a thread";
+            });
         if (told == NM_NUMBER)
-            throw Fault(told, "the set has workers 0 to " + std::to_string(workers() - 1) +
-                                  ", and none " + std::to_string(number));
+            detail::fail(told, [&] {
+                return "the set has workers 0 to " + std::to_string(workers() - 1) +
+                       ", and none " + std::to_string(number);
+            });
         succeed(told);
         return taken;
     }
 
-    // The same into a closed one: NM_DONE; NM_AWAY, NM_NUMBER, NM_OPEN, NM_CLOSED, NM_NO_MEMORY.
+    // The same into a closed one, and waits for no call: NM_DONE; NM_AWAY if the worker is with a
+    // thread; NM_IN_USE if it is in a call; NM_NUMBER, NM_OPEN, NM_CLOSED, NM_NO_MEMORY. It takes
+    // as long as `try_attach`.
     [[nodiscard]] nm_outcome try_worker(Worker &into, std::uint32_t number) noexcept {
         return try_lend(into, [&](std::uint32_t &wanted) { return seats_->lend(wanted = number); });
     }
 
     // ---- how full it is ----
 
-    // How many keys it has, by what each worker has won: exact where no thread changes it
-    // meanwhile, else so far off as is changed meanwhile. It takes some steps for each worker, for
-    // whose call in progress it waits, and none for a key.
-    [[nodiscard]] std::uint64_t size() const { return tally().keys; }
+    // Returns the number of keys: it adds up one count for each worker, and waits for nothing. It
+    // is exact if no call is in progress; else it may miss the calls in progress. A remove that is
+    // unfinished counts as done.
+    [[nodiscard]] std::uint64_t size() const { return open_seats().keys(); }
 
-    // How many removed nodes wait to be freed, as exact as `size`.
-    [[nodiscard]] std::uint64_t waiting() const { return tally().waiting; }
+    // Returns the number of removed nodes that wait to be freed. It asks each worker, and waits for
+    // none: a worker that is in a call counts as it was last asked, by `waiting` or `free`, or by
+    // an insert into the full set. So it is exact if no call is in progress.
+    [[nodiscard]] std::uint64_t waiting() const {
+        detail::Queues now = open_seats().queues();
+        (void)open_seats();  // a worker that was given back for a close has not answered
+        return now.asked + now.seen;
+    }
 
-    // How many nodes are free, as exact as `size`: an insert takes two.
+    // Returns the number of free nodes, by `size` and `waiting`. An insert takes two.
     [[nodiscard]] std::uint64_t free() const {
-        detail::Tally now = tally();
-        std::uint64_t taken = 5 + 2 * now.keys + now.waiting;
+        std::uint64_t taken = 5 + 2 * size() + waiting();
         return taken < nodes() ? nodes() - taken : 0;
     }
 
-    // For how many nodes it has room.
+    // Returns for how many nodes it has room.
     [[nodiscard]] std::uint64_t nodes() const { return open_seats().nodes(); }
 
-    // How many keys it can have, where no removed node waits.
+    // Returns how many keys it can have if no removed node waits.
     [[nodiscard]] std::uint64_t capacity() const { return (nodes() - 5) / 2; }
 
-    // How many workers it has.
+    // Returns how many workers it has.
     [[nodiscard]] std::uint32_t workers() const { return open_seats().count(); }
 
-    // Moves the epoch on as far as can be, and frees what has waited long enough: how many nodes.
+    // Moves the epoch on as far as possible, and frees what has waited long enough with each worker
+    // that is in no call. It waits for none. Returns the number of freed nodes.
     std::uint64_t collect() { return open_seats().collect(nullptr); }
 
     // ---- the end ----
 
-    // Whether it was not closed, and no thread is in its close.
+    // Returns whether it was not closed, and no thread is in its close.
     [[nodiscard]] bool is_open() const noexcept {
         return seats_ != nullptr && !seats_->is_closing();
     }
 
-    // Ends the set, and tells what stood in it. It waits for the calls that other threads make at
-    // this moment; each later one, and each that waits, is told NM_CLOSED. NM_AWAY: a `Worker` is
-    // open, or a call has not ended in ten seconds; its text names the worker, and the set goes on.
-    // NM_NO_MEMORY: it is closed for all but another close, which goes on.
+    // Ends the set, and returns the report of what it had. It waits for the calls of other threads,
+    // for 10 seconds at most, and for another thread's `close` as long as that takes. Each later
+    // call, and each that waits, gets NM_CLOSED. NM_AWAY: a `Worker` is open, or a call has not
+    // ended in 10 seconds; the text names the worker, and the set goes on. NM_NO_MEMORY: only
+    // another close goes on.
     Report close() {
         if (seats_ == nullptr) succeed(NM_CLOSED);
         return Report(seats_->end());
@@ -1265,8 +1609,14 @@ private:
     }
 
     static void succeed(nm_outcome told) {
-        if (told == NM_CLOSED) throw Fault(told, "the set is closed");
+        if (told == NM_CLOSED) throw Fault(told, detail::Literal{"the set is closed"});
         detail::answered(told);
+    }
+
+    // A wait for a time, which may be too long for a clock.
+    static detail::Wait waits(std::chrono::milliseconds most) {
+        constexpr std::chrono::milliseconds years = std::chrono::hours(24 * 365 * 100);
+        return most < years ? detail::Wait(most) : detail::endless();
     }
 
     template <typename Call>
@@ -1279,23 +1629,31 @@ private:
         return told;
     }
 
-    // Makes a call by a worker that is free, and waits where none is.
+    // Makes a call by a worker that is in no call, and waits without end until there is one.
     template <typename Call>
-    nm_outcome ask(Call call) const {
-        nm_outcome told = open_seats().visit(call);
-        for (std::uint32_t turn = 0; told == NM_AWAY || told == NM_IN_USE; turn++) {
-            detail::pause(turn);
-            told = open_seats().visit(call);
+    nm_outcome ask(detail::Gain gain, Call call) const {
+        nm_outcome told = open_seats().visit(gain, call);
+        if (told == NM_AWAY || told == NM_IN_USE) {
+            detail::Wait wait = detail::endless();
+            do {
+                wait.pause();
+                told = open_seats().visit(gain, call);
+            } while (told == NM_AWAY || told == NM_IN_USE);
         }
         return told;
     }
 
-    void make_room(std::uint32_t turn) { open_seats().make_room(turn, nullptr); }
+    // The same, but NM_AWAY if there is none.
+    template <typename Call>
+    nm_outcome once(detail::Gain gain, Call call) const noexcept {
+        if (!is_open()) return NM_CLOSED;
+        nm_outcome told = seats_->visit(gain, call);
+        if (told != NM_AWAY && told != NM_IN_USE) return told;
+        return is_open() ? NM_AWAY : NM_CLOSED;
+    }
 
-    detail::Tally tally() const {
-        detail::Tally now = open_seats().tally();
-        (void)open_seats();  // since what went home for a close was not counted
-        return now;
+    void make_room(detail::Wait &wait, bool is_first) {
+        open_seats().make_room(wait, is_first, nullptr);
     }
 
     std::shared_ptr<detail::Seats> seats_;
@@ -1317,9 +1675,11 @@ struct Version {
 }  // namespace nm
 
 #ifdef __cpp_lib_ranges
-// The size of a set in use is none that a container could take for the length of a pass.
+// The size of a set in use says nothing of the length of a pass, so no container may reserve by it.
 template <>
 inline constexpr bool std::ranges::disable_sized_range<nm::Set> = true;
 #endif
+
+#undef NM_SET_HAS_TSAN
 
 #endif

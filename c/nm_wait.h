@@ -1,10 +1,14 @@
-/* Calls of nm_set.h that wait, for C: where one is told to come again it sleeps a millisecond and
- * is made again, so often at most as its caller says. With 0 naps it is the call itself. The
- * library waits nowhere; all of this is code of this header, which is tested and not proved. C++
- * has it in nm_set.hpp.
+/* Functions of nm_set.h that wait, for C: each makes the call of its name and repeats it while the
+ * outcome says to call again, for `timeout_ms` milliseconds at most. In between it sleeps, from 20
+ * microseconds up to a millisecond, twice as long each time. With 0 milliseconds it makes one call.
+ * The library itself never sleeps; all of this is code of this header, which is tested and not
+ * proved. C++ has it in nm_set.hpp.
  *
  *     nm_wait_attach(&set, &worker, 1000);                a worker, within a second
- *     nm_wait_insert(&worker, 5, &nm_usual_habit, 64);       NM_YES: the key was not in the set
+ *     nm_wait_insert(&worker, 5, &nm_usual_habit, 1000);  NM_YES: the key was not in the set
+ *
+ * The time is that of CLOCK_MONOTONIC. In strict C11, which lacks it, it is the time of day: if
+ * that is set during a wait, the wait is as much longer or shorter.
  */
 #ifndef NM_WAIT_H
 #define NM_WAIT_H
@@ -21,11 +25,11 @@
 #error "nm_wait.h needs C11, or _POSIX_C_SOURCE of 199309L or more before the first #include"
 #endif
 
-/* Sleeps for a millisecond, or until a signal. */
-static inline void nm_nap(void) {
+/* Sleeps for less than a second, or until a signal. */
+static inline void nm_nap(uint32_t nanoseconds) {
     struct timespec time;
     time.tv_sec = 0;
-    time.tv_nsec = 1000000;
+    time.tv_nsec = (long)nanoseconds;
 #if defined __STDC_VERSION__ && __STDC_VERSION__ >= 201112L && !defined __STDC_NO_THREADS__
     (void)thrd_sleep(&time, NULL);
 #else
@@ -33,67 +37,94 @@ static inline void nm_nap(void) {
 #endif
 }
 
-/* nm_worker_insert, again while it is told NM_FULL, since nodes that wait to be freed are free
- * soon, where threads lose their processors. Each time it moves the epoch on and collects, if no
- * worker holds it back. 64 naps are usual. A set whose keys take each node is told so behind all of
- * them only. */
+/* The time in nanoseconds. */
+static inline uint64_t nm_now(void) {
+    struct timespec time = {0, 0};
+#ifdef CLOCK_MONOTONIC
+    (void)clock_gettime(CLOCK_MONOTONIC, &time);
+#else
+    (void)timespec_get(&time, TIME_UTC);
+#endif
+    return (uint64_t)time.tv_sec * 1000000000u + (uint64_t)time.tv_nsec;
+}
+
+/* One wait: when it ends, and the next nap, in nanoseconds. It is all zero before its first nap. */
+typedef struct nm_wait {
+    uint64_t end;
+    uint64_t nap;
+} nm_wait;
+
+/* Sleeps and returns 1; returns 0 if the time is over. */
+static inline int nm_wait_on(nm_wait *wait, uint32_t timeout_ms) {
+    uint64_t now, left;
+    if (timeout_ms == 0) return 0;
+    now = nm_now();
+    if (wait->nap == 0) {
+        wait->end = now + (uint64_t)timeout_ms * 1000000u;
+        wait->nap = 20000;
+    }
+    if (now >= wait->end) return 0;
+    left = wait->end - now;
+    nm_nap((uint32_t)(left < wait->nap ? left : wait->nap));
+    wait->nap = wait->nap < 500000 ? 2 * wait->nap : 1000000;
+    return 1;
+}
+
+/* nm_worker_insert, repeated after NM_FULL: nodes that wait are free soon, even if threads were
+ * preempted. Each call moves the epoch on and collects, if no worker holds the epoch back. 1,000
+ * milliseconds are usual. If the keys of the set take all nodes, it returns NM_FULL only after all
+ * of that time. */
 static inline nm_outcome nm_wait_insert(nm_handle *worker, uint64_t key, const nm_habit *habit,
-                                        uint32_t naps) {
+                                        uint32_t timeout_ms) {
+    nm_wait wait = {0, 0};
     nm_outcome told = nm_worker_insert(worker, key, habit);
-    for (; told == NM_FULL && naps > 0; naps--) {
-        nm_nap();
+    while (told == NM_FULL && nm_wait_on(&wait, timeout_ms))
         told = nm_worker_insert(worker, key, habit);
-    }
     return told;
 }
 
-/* nm_set_attach, again while each worker is with a thread (NM_AWAY), or another call has a handle
- * for longer than the library looks again (NM_IN_USE). */
-static inline nm_outcome nm_wait_attach(nm_handle *set, nm_handle *worker, uint32_t naps) {
+/* nm_set_attach, repeated while each worker is with a thread (NM_AWAY), or another call has a
+ * handle for longer than the library looks again (NM_IN_USE). */
+static inline nm_outcome nm_wait_attach(nm_handle *set, nm_handle *worker, uint32_t timeout_ms) {
+    nm_wait wait = {0, 0};
     nm_outcome told = nm_set_attach(set, worker);
-    for (; (told == NM_AWAY || told == NM_IN_USE) && naps > 0; naps--) {
-        nm_nap();
+    while ((told == NM_AWAY || told == NM_IN_USE) && nm_wait_on(&wait, timeout_ms))
         told = nm_set_attach(set, worker);
-    }
     return told;
 }
 
-/* nm_set_worker, again while the worker of that number is with a thread, or another call has a
+/* nm_set_worker, repeated while the worker of that number is with a thread, or another call has a
  * handle. */
 static inline nm_outcome nm_wait_worker(nm_handle *set, nm_handle *worker, uint32_t number,
-                                        uint32_t naps) {
+                                        uint32_t timeout_ms) {
+    nm_wait wait = {0, 0};
     nm_outcome told = nm_set_worker(set, worker, number);
-    for (; (told == NM_AWAY || told == NM_IN_USE) && naps > 0; naps--) {
-        nm_nap();
+    while ((told == NM_AWAY || told == NM_IN_USE) && nm_wait_on(&wait, timeout_ms))
         told = nm_set_worker(set, worker, number);
-    }
     return told;
 }
 
-/* nm_set_close, again while a worker is with a thread, or another call has the handle. */
-static inline nm_outcome nm_wait_close(nm_handle *set, uint32_t naps) {
+/* nm_set_close, repeated while a worker is with a thread, or another call has the handle. */
+static inline nm_outcome nm_wait_close(nm_handle *set, uint32_t timeout_ms) {
+    nm_wait wait = {0, 0};
     nm_outcome told = nm_set_close(set);
-    for (; (told == NM_AWAY || told == NM_IN_USE) && naps > 0; naps--) {
-        nm_nap();
+    while ((told == NM_AWAY || told == NM_IN_USE) && nm_wait_on(&wait, timeout_ms))
         told = nm_set_close(set);
-    }
     return told;
 }
 
-/* nm_set_away, again while another call has the handle. */
-static inline nm_outcome nm_wait_away(nm_handle *set, uint32_t number, uint32_t naps) {
+/* nm_set_away, repeated while another call has the handle. */
+static inline nm_outcome nm_wait_away(nm_handle *set, uint32_t number, uint32_t timeout_ms) {
+    nm_wait wait = {0, 0};
     nm_outcome told = nm_set_away(set, number);
-    for (; told == NM_IN_USE && naps > 0; naps--) {
-        nm_nap();
-        told = nm_set_away(set, number);
-    }
+    while (told == NM_IN_USE && nm_wait_on(&wait, timeout_ms)) told = nm_set_away(set, number);
     return told;
 }
 
-/* Writes behind NM_FULL what is known of it into a text of so many bytes, 1 or more, and answers
- * that: the number of nodes, which the caller knows; how many of them wait in the queue of this
- * worker (what waits with others, they tell); and which workers hold them back. 384 bytes have room
- * for all 64 workers; where there is less, the end is cut off. */
+/* Writes what is known after NM_FULL into a text of `size` bytes, 1 or more, and returns the text:
+ * the number of nodes, which the caller knows; how many of them wait in the queue of this worker,
+ * while other workers have queues of their own; and which workers hold them back. 384 bytes have
+ * room for all 64 workers; in a shorter text the end is cut off. It waits for nothing. */
 static inline const char *nm_full_text(nm_handle *worker, uint32_t nodes, char *text, size_t size) {
     uint32_t number = 0, other;
     uint64_t waiting = 0, epoch = 0, mask = 0;

@@ -74,10 +74,10 @@ void owners_are_moved() {
     CHECK(fault_of([&] { set.close(); }).text ==
           "worker 0 is with a thread: close what attach gave first");
     nm::Worker moved = std::move(first);
-    CHECK(moved.try_insert(5) == NM_YES && moved.try_contains(5) == NM_YES &&
-          moved.try_remove(5) == NM_YES && moved.try_remove(5) == NM_NO);
-    CHECK(first.try_contains(5) == NM_CLOSED && thrown([&] { first.advance(); }) == NM_CLOSED &&
-          thrown([&] { (void)first.contains(5); }) == NM_CLOSED &&
+    CHECK(moved.try_insert(5u) == NM_YES && moved.try_contains(5u) == NM_YES &&
+          moved.try_remove(5u) == NM_YES && moved.try_remove(5u) == NM_NO);
+    CHECK(first.try_contains(5u) == NM_CLOSED && thrown([&] { first.advance(); }) == NM_CLOSED &&
+          thrown([&] { (void)first.contains(5u); }) == NM_CLOSED &&
           thrown([&] { (void)first.first(); }) == NM_CLOSED);
     CHECK(moved.number() == 0 && moved.queue_len() == 2);
     CHECK(moved.advance().epoch == 1 && moved.advance().epoch == 2 && moved.behind().mask == 0 &&
@@ -85,21 +85,21 @@ void owners_are_moved() {
     moved = set.worker(1);
     CHECK(moved.number() == 1 && set.worker(0).number() == 0);
     nm::Set other = std::move(set);
-    CHECK(!set.is_open() && thrown([&] { set.insert(5); }) == NM_CLOSED &&
-          thrown([&] { (void)set.size(); }) == NM_CLOSED && other.insert(5) && moved.contains(5));
+    CHECK(!set.is_open() && thrown([&] { set.insert(5u); }) == NM_CLOSED &&
+          thrown([&] { (void)set.size(); }) == NM_CLOSED && other.insert(5u) && moved.contains(5u));
     other = near_set(64, 1);
-    CHECK(other.empty() && moved.contains(5) && moved.close_set().size() == 1);
+    CHECK(other.empty() && moved.contains(5u) && moved.close_set().size() == 1);
 }
 
 void a_worker_outlives_its_set() {
     std::vector<nm::Worker> left;
     {
         nm::Set set = near_set(7, 2);
-        CHECK(set.insert(6) && set.remove(6));
+        CHECK(set.insert(6u) && set.remove(6u));
         left.push_back(set.worker(0));
     }
-    CHECK(left.back().insert(7) && left.back().contains(7) &&
-          fault_of([&] { left.back().insert(8); }).text == nm_outcome_text(NM_FULL));
+    CHECK(left.back().insert(7u) && left.back().contains(7u) &&
+          fault_of([&] { left.back().insert(8u); }).text == nm_outcome_text(NM_FULL));
 }
 
 void faults_are_told() {
@@ -126,12 +126,12 @@ void owners_are_closed() {
           thrown([&] { (void)report.size(); }) == NM_CLOSED);
     nm::Set set = near_set(8192, 2);
     worker = set.worker(0);
-    CHECK(set.is_open() && worker.is_open() && worker.insert(5) &&
+    CHECK(set.is_open() && worker.is_open() && worker.insert(5u) &&
           set.try_worker(worker, 1) == NM_OPEN && set.try_attach(worker) == NM_OPEN);
-    CHECK(thrown([&] { set.close(); }) == NM_AWAY && set.is_open() && set.contains(5));
+    CHECK(thrown([&] { set.close(); }) == NM_AWAY && set.is_open() && set.contains(5u));
     worker.close();
     worker.close();
-    CHECK(!worker.is_open() && worker.try_insert(6) == NM_CLOSED);
+    CHECK(!worker.is_open() && worker.try_insert(6u) == NM_CLOSED);
     report = set.close();
     CHECK(!set.is_open() && report.is_open() && report.size() == 1 &&
           set.try_attach(worker) == NM_CLOSED && set.try_worker(worker, 0) == NM_CLOSED);
@@ -147,7 +147,7 @@ void a_worker_ends_its_set() {
     {
         nm::Set set = near_set(64, 3);
         last = set.worker(1), other = set.worker(0);
-        CHECK(set.insert(5) && last.insert(6) && last.remove(6));
+        CHECK(set.insert(5u) && last.insert(6u) && last.remove(6u));
         CHECK(thrown([&] { last.close_set(); }) == NM_AWAY && last.is_open());
     }
     CHECK(thrown([&] { last.close_set(); }) == NM_AWAY && last.is_open());
@@ -164,9 +164,9 @@ void notes_are_heard() {
     nm::Posted posted{77, 77};
     CHECK(reader.try_read(1, posted) == NM_NO && reader.try_read(2, posted) == NM_NUMBER &&
           posted.inserted == 77);
-    CHECK(writer.insert(5) && writer.try_post(posted) == NM_DONE && posted.inserted == 1 &&
+    CHECK(writer.insert(5u) && writer.try_post(posted) == NM_DONE && posted.inserted == 1 &&
           posted.removed == 0);
-    CHECK(writer.remove(5) && reader.try_read(1, posted) == NM_YES && posted.removed == 0);
+    CHECK(writer.remove(5u) && reader.try_read(1, posted) == NM_YES && posted.removed == 0);
     CHECK(writer.try_post(posted) == NM_DONE && posted.removed == 1);
     CHECK(reader.try_read(1, posted) == NM_YES && posted.removed == 1);
 }
@@ -177,30 +177,30 @@ void outcomes_are_answered() {
     nm::Worker worker = set.worker(0);
     std::uint64_t epoch = 77, found = 77;
     std::vector<nm_lookup> lookups{{5, 77}, {6, 77}}, none;
-    CHECK(worker.try_contains(5) == NM_NO && worker.try_insert(5) == NM_YES &&
-          worker.try_insert(5) == NM_NO && worker.try_contains(5) == NM_YES);
+    CHECK(worker.try_contains(5u) == NM_NO && worker.try_insert(5u) == NM_YES &&
+          worker.try_insert(5u) == NM_NO && worker.try_contains(5u) == NM_YES);
     CHECK(worker.try_contains_many(lookups) == NM_DONE && lookups[0].found == 1 &&
           lookups[1].found == 0 && worker.try_contains_many(none) == NM_DONE);
-    CHECK(worker.try_lower_bound(6, found) == NM_NO && found == 77 &&
-          worker.try_lower_bound(0, found) == NM_YES && found == 5);
-    CHECK(worker.try_insert(6) == NM_FULL && worker.try_insert(UINT64_MAX) == NM_KEY &&
-          worker.try_contains(5, 0) == NM_BUSY);
+    CHECK(worker.try_lower_bound(6u, found) == NM_NO && found == 77 &&
+          worker.try_lower_bound(0u, found) == NM_YES && found == 5);
+    CHECK(worker.try_insert(6u) == NM_FULL && worker.try_insert(UINT64_MAX) == NM_KEY &&
+          worker.try_contains(5u, 0) == NM_BUSY);
     CHECK(worker.try_unpin() == NM_NOT_HELD && worker.try_pin(epoch) == NM_DONE && epoch == 0 &&
-          worker.try_contains(5) == NM_HELD);
-    CHECK(worker.try_unpin() == NM_DONE && worker.try_remove(5, 1) == NM_UNFINISHED &&
-          worker.try_contains(5) == NM_PENDING && worker.pending());
+          worker.try_contains(5u) == NM_HELD);
+    CHECK(worker.try_unpin() == NM_DONE && worker.try_remove(5u, 1) == NM_UNFINISHED &&
+          worker.try_contains(5u) == NM_PENDING && worker.pending());
     CHECK(worker.try_finish(0) == NM_UNFINISHED && worker.try_finish() == NM_YES &&
-          worker.try_finish() == NM_NO && worker.try_remove(5) == NM_NO);
+          worker.try_finish() == NM_NO && worker.try_remove(5u) == NM_NO);
 }
 
 // What a worker and a report tell of themselves they tell of a const owner too.
 void const_owners_tell() {
     nm::Set set = near_set(64, 2);
     nm::Worker worker = set.worker(1);
-    CHECK(worker.insert(5) && worker.insert(6) && worker.remove(6));
+    CHECK(worker.insert(5u) && worker.insert(6u) && worker.remove(6u));
     const nm::Worker &seen = worker;
     CHECK(seen.number() == 1 && seen.queue_len() == 2 && !seen.pending() && !seen.held() &&
-          seen.ledger().links == 2 && seen.behind().mask == 0 && seen.contains(5));
+          seen.ledger().links == 2 && seen.behind().mask == 0 && seen.contains(5u));
     worker.close();
     const nm::Report report = set.close();
     CHECK(report.size() == 1 && report.keys() == std::vector<std::uint64_t>{5} &&
@@ -215,16 +215,16 @@ void pins_end() {
         nm::Pin pin = worker.pin();
         nm::Pin moved = std::move(pin);
         CHECK(moved.epoch() == 0 && worker.held() == std::optional<std::uint64_t>(0) &&
-              fault_of([&] { (void)worker.contains(5); }).text ==
+              fault_of([&] { (void)worker.contains(5u); }).text ==
                   "the worker is pinned: end its pin first");
         pin.unpin();
         CHECK(worker.held());
     }
-    CHECK(!worker.held() && worker.insert(5));
+    CHECK(!worker.held() && worker.insert(5u));
     CHECK(thrown([&] {
         nm::Pin pin = worker.pin();
         throw nm::Fault(NM_LOST, "as a program may throw");
-    }) == NM_LOST && worker.remove(5));
+    }) == NM_LOST && worker.remove(5u));
 }
 
 // A worker that goes home holds nothing back, and has finished its remove.
@@ -236,9 +236,9 @@ void workers_rest_at_home() {
     worker.close();
     CHECK(other.behind().mask == 0);
     worker = set.worker(0);
-    CHECK(worker.insert(5) && worker.try_remove(5, 1) == NM_UNFINISHED && other.contains(5));
+    CHECK(worker.insert(5u) && worker.try_remove(5u, 1) == NM_UNFINISHED && other.contains(5u));
     worker.close();
-    CHECK(!other.contains(5));
+    CHECK(!other.contains(5u));
 }
 
 // Threads that attach themselves to one set at the same time get each a worker of its own, from the
@@ -265,7 +265,7 @@ void threads_attach_themselves() {
     CHECK(set.try_attach(none) == NM_AWAY && all[7].number() == 7 && all.back().number() == 63);
     CHECK(fault_of([&] { (void)set.attach(std::chrono::milliseconds(5)); }).text ==
           "threads have each of the 64 workers of the set (64 at most)");
-    std::thread later([&] { CHECK(set.attach().number() == 5 && set.insert(5)); });
+    std::thread later([&] { CHECK(set.attach().number() == 5 && set.insert(5u)); });
     std::this_thread::sleep_for(std::chrono::milliseconds(20));
     all[5].close();
     later.join();

@@ -3,15 +3,14 @@
 #include "thrown.hpp"
 
 #include <cstdio>
-#include <new>
 
 namespace {
 
 constexpr std::uint32_t nodes = 512, workers = 2;
 constexpr std::uint64_t keys = 100, step = 37, modulus = 101;
 
-// What a call answers where it is made again each time that memory was refused, to the library or
-// to this program.
+// Repeats a call each time that memory was refused, to the library or to its header: both are
+// faults.
 template <typename Call>
 auto at_last(Call call) {
     for (;;) {
@@ -19,7 +18,6 @@ auto at_last(Call call) {
             return call();
         } catch (const nm::Fault &fault) {
             CHECK(fault.outcome() == NM_NO_MEMORY);
-        } catch (const std::bad_alloc &) {
         }
     }
 }
@@ -31,6 +29,17 @@ nm::Worker attached(nm::Set &set) {
     while ((told = set.try_attach(worker)) == NM_NO_MEMORY) CHECK(!worker.is_open());
     CHECK(told == NM_DONE);
     return worker;
+}
+
+// A fault has its outcome, even if memory for its text is refused.
+bool is_full() {
+    try {
+        nm::Set(7, nm::keys, {1u, 2u});
+    } catch (const nm::Fault &fault) {
+        return fault.outcome() == NM_NO_MEMORY ||
+               (fault.outcome() == NM_FULL && *fault.what() != '\0');
+    }
+    return false;
 }
 
 }  // namespace
@@ -45,8 +54,9 @@ int main() {
         CHECK(at_last([&] { return set.insert((number + 1) * step % modulus); }));
     }
     worker.close();
+    CHECK(is_full());
     const nm::Report report = at_last([&] { return set.close(); });
-    CHECK(!set.is_open());
+    CHECK(!set.is_open() && at_last([&] { return report.keys(); }).size() == keys);
     nm::Slots slots = report.slots();
     std::printf("keys %llu free %u reached %u\n",
                 static_cast<unsigned long long>(report.size()), slots.free, slots.reached);

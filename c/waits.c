@@ -6,15 +6,13 @@
 #include <pthread.h>
 #include <string.h>
 
-enum { TRIES = 64, NAPS = 5000, CALLERS = 16, WORKERS = 3, ROUNDS = 50 };
+enum { TRIES = 64, TIMEOUT = 10000, CALLERS = 16, WORKERS = 3, ROUNDS = 50 };
 
 static nm_handle set = NM_CLOSED_HANDLE, pinned = NM_CLOSED_HANDLE;
 
-static void nap_for_some(void) {
-    for (int nap = 0; nap < 20; nap++) nm_nap();
-}
+static void nap_for_some(void) { nm_nap(20000000); }
 
-/* Ends the pin behind a while. */
+/* Ends the pin after a while. */
 static void *unpin(void *unused) {
     nap_for_some();
     CHECK(nm_worker_unpin(&pinned) == NM_DONE);
@@ -34,16 +32,20 @@ static void an_add_waits(void) {
     nm_handle worker = NM_CLOSED_HANDLE;
     pthread_t later;
     char text[384], little[16];
+    uint64_t begun;
     CHECK(nm_set_new(&set, 13, 3) == NM_DONE && nm_wait_worker(&set, &pinned, 2, 0) == NM_DONE &&
           nm_wait_attach(&set, &worker, 0) == NM_DONE);
     fill(&worker);
-    CHECK(nm_wait_insert(&worker, 7, &nm_usual_habit, 3) == NM_FULL);
+    begun = nm_now();
+    CHECK(nm_wait_insert(&worker, 7, &nm_usual_habit, 0) == NM_FULL);
+    CHECK(nm_wait_insert(&worker, 7, &nm_usual_habit, 50) == NM_FULL);
+    CHECK(nm_now() - begun >= 50000000 && nm_now() - begun < 450000000);
     CHECK(strcmp(nm_full_text(&worker, 13, text, sizeof text),
                  "the set is full: no two of its 13 nodes are free, and 8 wait with worker 0;"
                  " held back by a pin or a call of worker 2") == 0);
     CHECK(strcmp(nm_full_text(&worker, 13, little, sizeof little), "the set is full") == 0);
     CHECK(pthread_create(&later, NULL, unpin, NULL) == 0);
-    CHECK(nm_wait_insert(&worker, 7, &nm_usual_habit, NAPS) == NM_YES);
+    CHECK(nm_wait_insert(&worker, 7, &nm_usual_habit, TIMEOUT) == NM_YES);
     CHECK(pthread_join(later, NULL) == 0 && nm_wait_away(&set, 2, 0) == NM_YES);
     CHECK(nm_wait_worker(&set, &worker, 2, 3) == NM_OPEN && nm_drop(&worker) == NM_DONE);
     CHECK(nm_wait_worker(&set, &worker, 2, 3) == NM_AWAY && nm_wait_close(&set, 3) == NM_AWAY);
@@ -56,8 +58,8 @@ static void *come_and_go(void *number) {
     uint64_t first = *(uint64_t *)number;
     for (uint64_t round = 0; round < ROUNDS; round++) {
         nm_handle worker = NM_CLOSED_HANDLE;
-        CHECK(nm_wait_attach(&set, &worker, NAPS) == NM_DONE);
-        CHECK(nm_wait_insert(&worker, first * ROUNDS + round, &nm_usual_habit, NAPS) == NM_YES);
+        CHECK(nm_wait_attach(&set, &worker, TIMEOUT) == NM_DONE);
+        CHECK(nm_wait_insert(&worker, first * ROUNDS + round, &nm_usual_habit, TIMEOUT) == NM_YES);
         CHECK(nm_drop(&worker) == NM_DONE);
     }
     return NULL;
@@ -75,11 +77,11 @@ static void threads_wait_for_workers(void) {
     }
     for (int i = 0; i < CALLERS; i++) CHECK(pthread_join(threads[i], NULL) == 0);
     CHECK(nm_wait_attach(&set, &last, 0) == NM_DONE && nm_drop(&last) == NM_DONE);
-    CHECK(nm_wait_close(&set, NAPS) == NM_DONE && nm_report_keys(&set, &keys) == NM_DONE);
+    CHECK(nm_wait_close(&set, TIMEOUT) == NM_DONE && nm_report_keys(&set, &keys) == NM_DONE);
     CHECK(keys == CALLERS * ROUNDS && nm_drop(&set) == NM_DONE);
 }
 
-/* Gives the worker back behind a while. */
+/* Gives the worker back after a while. */
 static void *give_back(void *worker) {
     nap_for_some();
     CHECK(nm_drop((nm_handle *)worker) == NM_DONE);
@@ -91,7 +93,7 @@ static void a_close_waits(void) {
     pthread_t later;
     CHECK(nm_set_new(&set, 64, 1) == NM_DONE && nm_wait_attach(&set, &worker, 0) == NM_DONE);
     CHECK(pthread_create(&later, NULL, give_back, &worker) == 0);
-    CHECK(nm_wait_close(&set, NAPS) == NM_DONE && pthread_join(later, NULL) == 0);
+    CHECK(nm_wait_close(&set, TIMEOUT) == NM_DONE && pthread_join(later, NULL) == 0);
     CHECK(nm_wait_away(&set, 0, 0) == NM_KIND && nm_drop(&set) == NM_DONE);
 }
 

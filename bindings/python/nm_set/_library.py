@@ -120,7 +120,7 @@ AWAY: Final = -18
 CLOSING: Final = -19
 IN_USE: Final = -22
 
-_FILE = "libnm_set.so.0"
+_FILE = "libnm_set.so.0.1"
 
 
 def _by_pkg_config() -> Iterator[str]:

@@ -48,24 +48,24 @@ class Library(unittest.TestCase):
         with tempfile.TemporaryDirectory() as folder:
             package = Path(folder) / "nm_set"
             shutil.copytree(Path(nm_set.__file__).parent, package)
-            shutil.copy(NAMED, package / "libnm_set.so.0")
+            shutil.copy(NAMED, package / "libnm_set.so.0.1")
             command = [sys.executable, "-c", SHOWN]
             words = {**os.environ, "PYTHONPATH": folder, "NM_SET_LIBRARY": ""}
             told = subprocess.run(
                 command, env=words, capture_output=True, text=True, check=True, cwd=folder
             )
-            self.assertEqual(told.stdout.strip(), str(package / "libnm_set.so.0"))
+            self.assertEqual(told.stdout.strip(), str(package / "libnm_set.so.0.1"))
 
     @unittest.skipUnless(shutil.which("pkg-config"), "there is no pkg-config")
     def test_pkg_config_is_asked(self) -> None:
         folder = Path(NAMED).resolve().parent
         if not (folder / "pkgconfig" / "nm_set.pc").is_file():
             self.skipTest("the library that NM_SET_LIBRARY names was not put there by c/install")
-        if (Path(nm_set.__file__).parent / "libnm_set.so.0").exists():
+        if (Path(nm_set.__file__).parent / "libnm_set.so.0.1").exists():
             self.skipTest("the library lies beside the module")
         told = imported(None, PKG_CONFIG_PATH=str(folder / "pkgconfig"))
         found = Path(told.stdout.strip())
-        self.assertEqual((found.name, found.resolve().parent), ("libnm_set.so.0", folder))
+        self.assertEqual((found.name, found.resolve().parent), ("libnm_set.so.0.1", folder))
 
     def test_versions_agree(self) -> None:
         self.assertEqual(_library._version_of(_library.exports), nm_set.__version__)

@@ -1,0 +1,112 @@
+/* How much stack the calls take. Each is made in a thread of its own on a painted stack. Fails if a
+ * call takes more than the header says: 64 kilobytes for a call that makes, takes, gives back or
+ * ends a set or a worker, and 16 kilobytes for any other; and if such a call faults in a thread
+ * with a stack of that size. What the thread itself takes is part of it. */
+#define _POSIX_C_SOURCE 200809L
+
+#include "holds.h"
+#include "nm_set.h"
+
+#include <pthread.h>
+#include <string.h>
+
+enum { KILO = 1024, STACK = 1024 * KILO, OF_SETS = 64 * KILO, OF_KEYS = 16 * KILO, PAINT = 0xA5 };
+
+static nm_handle set, worker, other;
+static uint64_t word;
+static uint32_t number;
+
+static void make(void) { CHECK(nm_set_new(&set, 1000, 3) == NM_DONE); }
+static void make_near(void) { CHECK(nm_set_near(&set, 1000, 3) == NM_DONE); }
+static void make_lowest(void) { CHECK(nm_set_lowest(&set, 1000, 3) == NM_DONE); }
+static void attach(void) { CHECK(nm_set_attach(&set, &worker) == NM_DONE); }
+static void take(void) { CHECK(nm_set_worker(&set, &other, 2) == NM_DONE); }
+static void away(void) { CHECK(nm_set_away(&set, 0) == NM_YES); }
+static void resign(void) { CHECK(nm_worker_resign(&worker, 1) == NM_DONE); }
+static void drop(void) { CHECK(nm_drop(&worker) == NM_DONE); }
+static void drop_other(void) { CHECK(nm_drop(&other) == NM_DONE); }
+static void drop_set(void) { CHECK(nm_drop(&set) == NM_DONE); }
+static void close_set(void) { CHECK(nm_set_close(&set) == NM_DONE); }
+static void end(void) { CHECK(nm_worker_end(&worker) == NM_DONE); }
+static void drop_report(void) { CHECK(nm_drop(&worker) == NM_DONE); }
+
+static void insert(void) {
+    for (uint64_t key = 0; key < 300; key++)
+        CHECK(nm_worker_insert(&worker, key, &nm_usual_habit) == NM_YES);
+}
+static void contains(void) { CHECK(nm_worker_contains(&worker, 7, &nm_usual_habit) == NM_YES); }
+static void next(void) { CHECK(nm_worker_next(&worker, 7, 64, &word) == NM_YES); }
+static void prev(void) { CHECK(nm_worker_prev(&worker, 7, 64, &word) == NM_YES); }
+static void many(void) {
+    nm_lookup lookups[64];
+    for (uint64_t key = 0; key < 64; key++) lookups[key].key = key;
+    CHECK(nm_worker_contains_many(&worker, lookups, 64, 64) == NM_DONE);
+}
+static void take_keys(void) {
+    for (uint64_t key = 0; key < 100; key++) {
+        CHECK(nm_worker_remove(&worker, 100 + key, &nm_usual_habit) == NM_YES);
+        CHECK(nm_worker_pop_first(&worker, &nm_usual_habit, &word) == NM_YES);
+    }
+    CHECK(nm_worker_pop_last(&worker, &nm_usual_habit, &word) == NM_YES);
+}
+static void move(void) {
+    CHECK(nm_worker_advance(&worker, &word, &number) == NM_DONE);
+    CHECK(nm_worker_collect(&worker, &word, &word) == NM_DONE);
+    CHECK(nm_worker_behind(&worker, &word, &word) == NM_DONE);
+    CHECK(nm_worker_pin(&worker, 64, &word) == NM_DONE && nm_worker_unpin(&worker) == NM_DONE);
+}
+
+typedef struct call {
+    const char *name;
+    void (*make)(void);
+    size_t most;
+} call;
+
+static const call calls[] = {
+    {"nm_set_near", make_near, OF_SETS},      {"nm_drop of a set", drop_set, OF_SETS},
+    {"nm_set_lowest", make_lowest, OF_SETS},  {"nm_set_close", close_set, OF_SETS},
+    {"nm_drop of a report", drop_set, OF_SETS}, {"nm_set_new", make, OF_SETS},
+    {"nm_set_attach", attach, OF_SETS},       {"nm_set_worker", take, OF_SETS},
+    {"nm_set_away", away, OF_SETS},           {"nm_worker_insert", insert, OF_KEYS},
+    {"nm_worker_contains", contains, OF_KEYS}, {"nm_worker_next", next, OF_KEYS},
+    {"nm_worker_prev", prev, OF_KEYS},        {"nm_worker_contains_many", many, OF_KEYS},
+    {"removes and pops", take_keys, OF_KEYS}, {"calls on the epoch", move, OF_KEYS},
+    {"nm_worker_resign", resign, OF_SETS},    {"nm_drop of a worker", drop, OF_SETS},
+    {"nm_set_attach again", attach, OF_SETS}, {"nm_drop of the other", drop_other, OF_SETS},
+    {"nm_drop of its set", drop_set, OF_SETS}, {"nm_worker_end", end, OF_SETS},
+    {"nm_drop of its report", drop_report, OF_SETS},
+};
+
+static void *made(void *which) {
+    ((const call *)which)->make();
+    return NULL;
+}
+
+/* Makes a call in a thread with this stack. */
+static void run_on(const call *which, void *stack, size_t size) {
+    pthread_attr_t attributes;
+    pthread_t thread;
+    call copy = *which;
+    CHECK(pthread_attr_init(&attributes) == 0 &&
+          pthread_attr_setstack(&attributes, stack, size) == 0 &&
+          pthread_create(&thread, &attributes, made, &copy) == 0);
+    CHECK(pthread_join(thread, NULL) == 0 && pthread_attr_destroy(&attributes) == 0);
+}
+
+int main(void) {
+    static _Alignas(4096) unsigned char stack[STACK];
+    for (size_t at = 0; at < sizeof calls / sizeof *calls; at++) {
+        size_t unused = 0;
+        memset(stack, PAINT, STACK);
+        run_on(&calls[at], stack, STACK);
+        while (unused < STACK && stack[unused] == PAINT) unused++;
+        printf("%-24s %6zu bytes of stack\n", calls[at].name, STACK - unused);
+        fflush(stdout);
+        CHECK(unused > 0 && STACK - unused <= calls[at].most);
+    }
+    make();
+    run_on(&(call){"nm_set_attach", attach, 0}, stack + STACK - OF_SETS, OF_SETS);
+    run_on(&(call){"nm_worker_insert", insert, 0}, stack + STACK - OF_KEYS, OF_KEYS);
+    CHECK(nm_drop(&worker) == NM_DONE && nm_drop(&set) == NM_DONE);
+    return 0;
+}
