@@ -88,17 +88,11 @@ class Calls:
         return self._nearest(c.quick.nm_worker_prev, key)
 
     def _taken(self, call: Callable[..., int]) -> Optional[int]:
-        """Takes a key by a call of the library. One that is told to be unfinished goes by this call
-        and no other, and is pending."""
+        """Takes a key by a call of the library. A key whose discard is unfinished is taken too:
+        this call will remove it, and no other call will."""
         taken = c_uint64()
-
-        def take(handle: c.Handle) -> int:
-            outcome = call(handle, self._habit, taken)
-            if outcome != c.UNFINISHED:
-                return outcome
-            return int(c.quick.nm_worker_pending(handle, taken))
-
-        return taken.value if told(self._asked(take)) else None
+        outcome = self._asked(call, self._habit, taken)
+        return taken.value if outcome == c.UNFINISHED or told(outcome) else None
 
     def pop_first(self) -> Optional[int]:
         return self._taken(c.quick.nm_worker_pop_first)

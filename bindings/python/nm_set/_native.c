@@ -25,7 +25,6 @@ typedef nm_outcome (*pop_call)(nm_handle *, const nm_habit *, uint64_t *);
 typedef nm_outcome (*near_call)(nm_handle *, uint64_t, uint32_t, uint64_t *);
 typedef nm_outcome (*many_call)(nm_handle *, nm_lookup *, size_t, uint32_t);
 typedef nm_outcome (*finish_call)(nm_handle *, uint32_t);
-typedef nm_outcome (*pending_call)(nm_handle *, uint64_t *);
 typedef nm_outcome (*ledger_call)(nm_handle *, nm_ledger *);
 
 static tended_call contains_of, insert_of, remove_of;
@@ -33,7 +32,6 @@ static pop_call pop_first_of, pop_last_of;
 static near_call next_of, prev_of;
 static many_call contains_many_of;
 static finish_call finish_of;
-static pending_call pending_of;
 static ledger_call ledger_of;
 
 /* What makes the exceptions, of _faults.py. */
@@ -193,13 +191,8 @@ static PyObject *calls_at_most(PyObject *self, PyObject *key) {
     return nearest((Calls *)self, key, prev_of);
 }
 
-/* Takes a key by a place. One that is told to be unfinished goes by this call and no other, and is
- * pending. */
-static nm_outcome taken_by(Calls *self, nm_handle *place, pop_call call, uint64_t *taken) {
-    nm_outcome outcome = call(place, &self->habit, taken);
-    return outcome == NM_UNFINISHED ? pending_of(place, taken) : outcome;
-}
-
+/* Takes a key. A key whose remove is unfinished is taken too: this call will remove it, and no other
+ * call will. */
 static PyObject *take(Calls *self, pop_call call) {
     uint64_t taken = 0;
     nm_outcome outcome = NM_CLOSED;
@@ -207,13 +200,13 @@ static PyObject *take(Calls *self, pop_call call) {
         return NULL;
     }
     for (int at = 0; at < self->reach; at++) {
-        outcome = is_free_place(self, at) ? taken_by(self, place_of(self, at), call, &taken)
+        outcome = is_free_place(self, at) ? call(place_of(self, at), &self->habit, &taken)
                                           : NM_IN_USE;
         if (!is_elsewhere(outcome)) {
             break;
         }
     }
-    return told_key(outcome, taken);
+    return told_key(outcome == NM_UNFINISHED ? NM_YES : outcome, taken);
 }
 
 static PyObject *calls_pop_first(PyObject *self, PyObject *unused) {
@@ -570,11 +563,11 @@ static PyObject *answers(PyObject *module, PyObject *object) {
 /* Where the functions of the library are, and what makes the exceptions. */
 static PyObject *bind(PyObject *module, PyObject *args) {
     unsigned long long contains, insert, remove, pop_first, pop_last, next, prev;
-    unsigned long long contains_many, finish, pending, ledger;
+    unsigned long long contains_many, finish, ledger;
     (void)module;
-    if (!PyArg_ParseTuple(args, "KKKKKKKKKKKOOO", &contains, &insert, &remove, &pop_first,
-                          &pop_last, &next, &prev, &contains_many, &finish, &pending, &ledger,
-                          &fault_of, &key_fault_of, &forked_of)) {
+    if (!PyArg_ParseTuple(args, "KKKKKKKKKKOOO", &contains, &insert, &remove, &pop_first,
+                          &pop_last, &next, &prev, &contains_many, &finish, &ledger, &fault_of,
+                          &key_fault_of, &forked_of)) {
         return NULL;
     }
     contains_of = (tended_call)(uintptr_t)contains;
@@ -586,7 +579,6 @@ static PyObject *bind(PyObject *module, PyObject *args) {
     prev_of = (near_call)(uintptr_t)prev;
     contains_many_of = (many_call)(uintptr_t)contains_many;
     finish_of = (finish_call)(uintptr_t)finish;
-    pending_of = (pending_call)(uintptr_t)pending;
     ledger_of = (ledger_call)(uintptr_t)ledger;
     Py_INCREF(fault_of);
     Py_INCREF(key_fault_of);

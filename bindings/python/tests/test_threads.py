@@ -233,6 +233,43 @@ class Threads(unittest.TestCase):
                     self.assertEqual(numbers.add_many([6]), 1)
                 timer.join()
 
+    def test_each_key_is_popped_by_one_call_where_tries_are_few(self) -> None:
+        """With one try and no further round many discards are left unfinished. Another thread asks
+        the workers how full the set is, and collects, meanwhile."""
+        count, tending = 3_000, Tending(tries=1, rounds=0)
+        numbers, popped = Set(65_536, workers=6, tending=tending), [[], [], []]
+        adding = {0, 1, 2}
+
+        def thread(number: int) -> None:
+            if number < 3:
+                for each in range(count):
+                    self.assertTrue(answered(numbers.add, each * 3 + number))
+                adding.discard(number)
+            elif number == 6:
+                while adding:
+                    numbers.waiting(), len(numbers), numbers.collect()
+            elif number == 3:
+                pop_all(numbers.pop_first, popped[0])
+            else:
+                with numbers.attach() as worker:
+                    pop_all(worker.pop_first if number == 4 else worker.pop_last, popped[number - 3])
+
+        def pop_all(pop: Callable[[], int], keys: list[int]) -> None:
+            while True:
+                was_last = not adding
+                try:
+                    keys.append(pop())
+                except KeyError:
+                    if was_last:
+                        return
+                    time.sleep(0)
+                except nm_set.Contention:
+                    pass
+
+        at_once(thread, 7)
+        self.assertEqual(sorted(sum(popped, [])), list(range(3 * count)))
+        self.assertEqual(len(numbers.close()), 0)
+
     def test_scarce_nodes_are_waited_for(self) -> None:
         with Set(600, workers=16) as numbers:
             faults = []

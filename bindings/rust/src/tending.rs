@@ -66,18 +66,18 @@ impl Handle {
         Ok(is_found.then_some(found))
     }
 
-    /// Takes a key by a call of the library. One that is told to be unfinished goes by this call
-    /// and no other, and is pending.
+    /// Takes a key by a call of the library. A key whose remove is unfinished is taken too: this
+    /// call will remove it, and no other call will.
     pub(crate) fn take_by(
         &self,
         call: impl FnOnce(&Handle, &mut u64) -> Outcome,
     ) -> Result<Option<u64>, Fault> {
         let mut taken = 0;
-        let outcome = match call(self, &mut taken) {
-            UNFINISHED => self.pending(&mut taken),
-            told => told,
+        let is_taken = match call(self, &mut taken) {
+            UNFINISHED => true,
+            told => tended(told)?,
         };
-        Ok(tended(outcome)?.then_some(taken))
+        Ok(is_taken.then_some(taken))
     }
 
     /// Pins the epoch, and tells it.

@@ -3,6 +3,7 @@
 use nm_set::{Fault, Options, Set, Worker};
 use std::collections::BTreeSet;
 use std::panic::{catch_unwind, AssertUnwindSafe};
+use std::sync::atomic::{AtomicUsize, Ordering};
 use std::sync::{Barrier, Mutex};
 use std::thread::{self, scope};
 use std::time::{Duration, Instant};
@@ -317,6 +318,61 @@ fn a_panic_through_a_pin_leaves_the_worker_and_the_set_usable() {
     assert_eq!((told.is_ok(), set.insert(5)), (true, Ok(true)));
     let told = catch_unwind(|| set.retain(|key| panic!("as it should, at {key}")));
     assert_eq!((told.is_err(), set.len()), (true, Ok(1)));
+}
+
+/// The keys that a thread popped until no key was left and no thread inserted any more.
+fn popped_by(
+    mut pop: impl FnMut() -> Result<Option<u64>, Fault>,
+    inserting: &AtomicUsize,
+) -> Vec<u64> {
+    let mut keys = Vec::new();
+    loop {
+        let was_last = inserting.load(Ordering::SeqCst) == 0;
+        match pop() {
+            Ok(Some(key)) => keys.push(key),
+            Ok(None) if was_last => return keys,
+            Ok(None) | Err(Fault::Contention) => thread::yield_now(),
+            Err(fault) => panic!("{fault}"),
+        }
+    }
+}
+
+/// With one try and no further round many removes are left unfinished. Other threads ask the
+/// workers how full the set is, and collect, meanwhile.
+#[test]
+fn each_key_is_popped_by_one_call_where_tries_are_few() {
+    const KEYS: u64 = 20_000;
+    let options = Options {
+        workers: 6,
+        tries: 1,
+        rounds: 0,
+        ..Options::default()
+    };
+    let set = Set::with_options(65_536, options).unwrap();
+    let inserting = AtomicUsize::new(3);
+    let mut popped = scope(|scope| {
+        for thread in 0..3 {
+            let (set, inserting) = (&set, &inserting);
+            scope.spawn(move || {
+                for key in 0..KEYS {
+                    assert!(answered(|| set.insert(key * 3 + thread)));
+                }
+                inserting.fetch_sub(1, Ordering::SeqCst);
+            });
+        }
+        let by_set = scope.spawn(|| popped_by(|| set.pop_first(), &inserting));
+        let (mut first, mut second) = (set.attach().unwrap(), set.attach().unwrap());
+        let by_first = scope.spawn(|| popped_by(move || first.pop_first(), &inserting));
+        let by_second = scope.spawn(|| popped_by(move || second.pop_last(), &inserting));
+        while inserting.load(Ordering::SeqCst) > 0 {
+            set.waiting().and(set.len()).and(set.collect()).unwrap();
+        }
+        [by_set, by_first, by_second].map(|popping| popping.join().unwrap())
+    })
+    .concat();
+    popped.sort_unstable();
+    assert_eq!(popped, (0..3 * KEYS).collect::<Vec<_>>());
+    assert!(set.close().unwrap().is_empty());
 }
 
 /// Calls until the set is closed: how many keys it has inserted, and the fault that ended it.
