@@ -46,9 +46,12 @@ pub struct Options {
     /// From how many waiting nodes of its worker on an insert or a remove first moves the epoch on
     /// and collects. 64 by default.
     pub collect_after: u32,
-    /// How often an insert that found no free nodes, while some wait to be freed, sleeps a
-    /// millisecond and goes on, before it tells [`Fault::Full`](crate::Fault::Full). 64 by default.
-    pub patience: u32,
+    /// The longest time in milliseconds that an insert which finds no free nodes, while removed ones
+    /// wait to be freed, sleeps and tries again before it returns
+    /// [`Fault::Full`](crate::Fault::Full). The sleeps begin with 20 microseconds and double up to a
+    /// millisecond. With 0 the insert never sleeps, as an asynchronous program needs it. 64 by
+    /// default.
+    pub timeout_ms: u32,
 }
 
 impl Options {
@@ -69,7 +72,7 @@ impl Default for Options {
             tries: 64,
             rounds: 64,
             collect_after: 64,
-            patience: 64,
+            timeout_ms: 64,
         }
     }
 }
