@@ -152,7 +152,7 @@ impl Pool {
         }
         Ok(Pool {
             identity: IDENTITIES.fetch_add(1, Ordering::Relaxed),
-            habit: options.habit(),
+            habit: options.habit(nodes),
             timeout_ms: options.timeout_ms,
             nodes,
             phase: AtomicU8::new(OPEN),

@@ -207,7 +207,7 @@ fn an_insert_waits_for_a_pin_to_end() {
 #[test]
 fn retired_nodes_are_collected_as_they_come_due() {
     let options = Options {
-        collect_after: 8,
+        collect_after: Some(8),
         ..Options::default()
     };
     let set = Set::with_options(4_096, options).unwrap();
