@@ -94,7 +94,7 @@ class Numbers(unittest.TestCase):
     def test_no_number_wraps(self) -> None:
         with Set(64, workers=2) as numbers, numbers.attach() as worker:
             for number in (-1, 2**32, 2**64 + 5):
-                for name in ("tries", "rounds", "collect_after", "patience"):
+                for name in ("tries", "rounds", "collect_after", "timeout_ms"):
                     with self.assertRaisesRegex(nm_set.OutOfRange, f"{name} is not .*: {number}"):
                         Tending(**{name: number})
                 for call in (worker.pin, worker.read, numbers.worker):
@@ -200,8 +200,6 @@ class Workers(unittest.TestCase):
                 numbers.worker(number)
         with self.assertRaises(nm_set.NoWorker):
             numbers.attach()
-        with self.assertRaises(nm_set.NoWorker):
-            numbers.add(5)
         second.close()
         second.close()
         self.assertTrue(numbers.add(5))
@@ -303,8 +301,8 @@ class Tended(unittest.TestCase):
                 self.assertTrue(worker.add(6))
 
     def test_a_worker_that_holds_the_epoch_back_lets_full_be_told(self) -> None:
-        for patience, least in ((0, 0), (32, 0.03)):
-            with Set(7, workers=2, tending=Tending(patience=patience)) as numbers:
+        for timeout_ms, least in ((0, 0), (32, 0.03)):
+            with Set(7, workers=2, tending=Tending(timeout_ms=timeout_ms)) as numbers:
                 with numbers.worker(1) as reader:
                     reader.pin()
                     self.assertTrue(numbers.add(5) and numbers.discard(5))
