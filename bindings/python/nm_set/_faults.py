@@ -11,6 +11,8 @@ MOST_KEY = 2**64 - 4
 
 MOST_NODES = 268_435_456
 MOST_WORKERS = 64
+SHOWN = 10
+"""How many keys `repr` shows."""
 
 
 class Fault(Exception):
@@ -165,6 +167,12 @@ def forked(process: int) -> Fault:
         f"the set was made by the process {process}, and this one was forked of it: what it would"
         " add nobody else would see; make a set in this process"
     )
+
+
+def shortened(keys: Sequence[int], count: int) -> str:
+    """Keys as `repr` shows them: the first ones, and how many there are, if these are not all."""
+    first = ", ".join(map(str, keys[:SHOWN]))
+    return f"[{first}]" if len(keys) <= SHOWN else f"[{first}, ...], {count} keys"
 
 
 def those(numbers: Sequence[int]) -> str:

@@ -14,11 +14,10 @@ from typing import Any, NoReturn, Optional, SupportsIndex, TypeVar, overload
 
 from . import _library as c
 from ._backend import Calls, answers, first_wrong
-from ._faults import MOST_KEY, Closed, Full, InUse, fault, key_fault
+from ._faults import MOST_KEY, SHOWN, Closed, Full, InUse, fault, key_fault, shortened
 
 _T = TypeVar("_T")
 _UNSIGNED, _SIGNED = frozenset("QLN"), frozenset("qln")  # the formats of words of 64 bits
-_TOLD = 10  # how many keys `repr` tells
 
 
 def _number(key: object) -> Optional[int]:
@@ -288,12 +287,8 @@ class Keys(MutableSet):  # type: ignore[type-arg]
         return self.at_least(0) is not None
 
     def __repr__(self) -> str:
-        told = [str(key) for key in islice(self, _TOLD + 1)]
-        if len(told) <= _TOLD:
-            keys = f"[{', '.join(told)}]"
-        else:
-            keys = f"[{', '.join(told[:_TOLD])}, ...], {len(self)} keys"
-        return f"{type(self).__name__}({keys})"
+        keys = list(islice(self, SHOWN + 1))
+        return f"{type(self).__name__}({shortened(keys, len(self))})"
 
     # ---- as a set ----
 

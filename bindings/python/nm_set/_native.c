@@ -703,10 +703,6 @@ static PyMethodDef functions[] = {
     {NULL, NULL, 0, NULL},
 };
 
-static struct PyModuleDef definition = {
-    PyModuleDef_HEAD_INIT, "nm_set._native", NULL, -1, functions, NULL, NULL, NULL, NULL,
-};
-
 /* Whether this is the first interpreter of the process; else an exception is set. What the module
  * keeps is of the process: a second interpreter would replace the exceptions of the first one. */
 static int is_first_interpreter(void) {
@@ -719,29 +715,31 @@ static int is_first_interpreter(void) {
     return 0;
 }
 
-PyMODINIT_FUNC PyInit__native(void) {
+/* Fills the module, for each interpreter that imports it. */
+static int fill(PyObject *module) {
     if (!is_first_interpreter()) {
-        return NULL;
+        return -1;
     }
-    PyObject *module = PyModule_Create(&definition);
-    PyObject *type = PyType_FromSpec(&calls_spec), *count = PyType_FromSpec(&count_spec);
-    if (!module || !type || !count) {
-        goto failed;
+    PyObject *calls = PyType_FromSpec(&calls_spec), *count = PyType_FromSpec(&count_spec);
+    int is_filled = calls && count && PyObject_SetAttrString(module, "Calls", calls) == 0 &&
+                    PyObject_SetAttrString(module, "Count", count) == 0;
+    Py_XDECREF(calls);
+    if (!is_filled) {
+        Py_XDECREF(count);
+        return -1;
     }
     count_type = (PyTypeObject *)count;
-    if (PyModule_AddObject(module, "Calls", type) < 0) {
-        goto failed;
-    }
-    type = NULL;
-    Py_INCREF(count); /* for `count_type`, for good */
-    if (PyModule_AddObject(module, "Count", count) < 0) {
-        goto failed;
-    }
     pthread_atfork(NULL, NULL, count_fork);
-    return module;
-failed:
-    Py_XDECREF(type);
-    Py_XDECREF(count);
-    Py_XDECREF(module);
-    return NULL;
+    return 0;
 }
+
+static PyModuleDef_Slot slots[] = {
+    {Py_mod_exec, fill},
+    {0, NULL},
+};
+
+static struct PyModuleDef definition = {
+    PyModuleDef_HEAD_INIT, "nm_set._native", NULL, 0, functions, slots, NULL, NULL, NULL,
+};
+
+PyMODINIT_FUNC PyInit__native(void) { return PyModuleDef_Init(&definition); }
