@@ -229,11 +229,13 @@ impl Pool {
         Ok(None)
     }
 
-    /// Asks for a worker, with short sleeps, until there is one, or until a moment.
+    /// Asks for a worker, with short sleeps, until there is one, or until a moment. A function says
+    /// whether the workers that this thread has itself are of no use for it.
     fn wait_for<T>(
         &self,
         until: Option<Instant>,
         ask: impl Fn() -> Result<Option<T>, Fault>,
+        is_own_useless: impl Fn() -> bool,
     ) -> Result<T, Fault> {
         let mut begin = None;
         let mut wait = Wait::for_worker();
@@ -244,17 +246,17 @@ impl Pool {
                     return Ok(found);
                 }
             }
-            self.fail_late(*begin.get_or_insert_with(Instant::now), until)?;
+            let begin = *begin.get_or_insert_with(Instant::now);
+            let is_late = until.is_some_and(|until| Instant::now() >= until);
+            if is_late || (begin.elapsed() >= ALONE && is_own_useless()) {
+                self.fail_late(is_late)?;
+            }
             wait.go_on();
         }
     }
 
-    /// Refuses to wait beyond a moment, and to wait for a worker if this thread has them all.
-    fn fail_late(&self, begin: Instant, until: Option<Instant>) -> Result<(), Fault> {
-        let is_late = until.is_some_and(|until| Instant::now() >= until);
-        if !is_late && begin.elapsed() < ALONE {
-            return Ok(());
-        }
+    /// Refuses to wait any longer, and to wait for a worker if this thread has them all.
+    fn fail_late(&self, is_late: bool) -> Result<(), Fault> {
         let (workers, own) = (self.workers(), self.held_by(this_thread()));
         if is_late || own == workers {
             return Err(Fault::NoWorker { workers, own });
@@ -302,30 +304,38 @@ impl Pool {
         if let Some(idle) = self.last_used() {
             return settled(|| call(self.seat(idle.entry)));
         }
-        self.wait_for(None, || match self.any_idle()? {
+        let pinned = Cell::new(0);
+        let ask = || match self.any_idle()? {
             Some(idle) => {
                 LAST.set((self.identity, idle.number));
                 Ok(Some(settled(|| call(self.seat(idle.entry)))))
             }
-            None => Ok(self.by_borrowed(&call)),
-        })?
+            None => Ok(self.by_borrowed(&call, &pinned)),
+        };
+        self.wait_for(None, ask, || pinned.get() == self.workers())?
     }
 
     /// Makes a call by a worker that is attached to a thread, and neither in a call nor pinned. None
-    /// if there is no such worker.
-    fn by_borrowed<T>(&self, call: impl Fn(Seat) -> Result<T, Fault>) -> Option<Result<T, Fault>> {
-        let lent = self.entries.iter().filter(|entry| entry.is_lent());
-        let told = lent.map(|entry| {
-            call(Seat {
+    /// if there is no such worker. Counts the pinned ones that it has met.
+    fn by_borrowed<T>(
+        &self,
+        call: impl Fn(Seat) -> Result<T, Fault>,
+        pinned: &Cell<u32>,
+    ) -> Option<Result<T, Fault>> {
+        pinned.set(0);
+        for entry in self.entries.iter().filter(|entry| entry.is_lent()) {
+            let seat = Seat {
                 is_borrowed: true,
                 ..self.seat(entry)
-            })
-        });
-        // Closed: its thread has dropped it, and the set was closed.
-        let is_passed_over =
-            |fault: &Fault| matches!(fault, Fault::Held | Fault::Other(IN_USE) | Fault::Closed);
-        told.into_iter()
-            .find(|told| !told.as_ref().is_err_and(is_passed_over))
+            };
+            match call(seat) {
+                Err(Fault::Held) => pinned.set(pinned.get() + 1),
+                // Closed: its thread has dropped it, and the set was closed.
+                Err(Fault::Other(IN_USE) | Fault::Closed) => {}
+                told => return Some(told),
+            }
+        }
+        None
     }
 
     // ---- a worker for a thread ----
@@ -340,7 +350,7 @@ impl Pool {
 
     /// Lends a worker that nobody uses: its number.
     pub fn lend(&self, until: Option<Instant>) -> Result<u32, Fault> {
-        let idle = self.wait_for(until, || self.any_idle())?;
+        let idle = self.wait_for(until, || self.any_idle(), || true)?;
         Ok(self.lent(idle))
     }
 
