@@ -413,7 +413,11 @@ class Set(Keys):
     def _fetch(self) -> None:
         """Takes each worker that is home and may have made a call, for the handles of the set. It
         asks once for each, so that it leaves one out while another thread takes a worker."""
-        for number in sorted(self._used):
+        away, has = {worker._number for worker in self._out()}, c_uint32()
+        for handle in self._handles[: self._calls.reach]:
+            if c.quick.nm_worker_number(handle, has) == c.DONE:
+                away.add(has.value)
+        for number in sorted(self._used - away):
             if c.exports.nm_set_away(self._handle, number) != c.NO:
                 continue
             for at, handle in enumerate(self._handles):
