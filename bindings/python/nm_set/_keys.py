@@ -5,7 +5,7 @@ from __future__ import annotations
 
 import operator
 from array import array
-from collections.abc import Iterable, Iterator, MutableSet
+from collections.abc import Iterable, Iterator, MutableSet, Sized
 from collections.abc import Set as AbstractSet
 from contextlib import suppress
 from itertools import islice
@@ -17,6 +17,7 @@ from ._backend import Calls, answers, first_wrong
 from ._faults import MOST_KEY, SHOWN, Closed, Full, InUse, fault, key_fault, shortened
 
 _T = TypeVar("_T")
+_Out = TypeVar("_Out", bound=Sized)  # a buffer, for which Python has a type from 3.12 on alone
 _UNSIGNED, _SIGNED = frozenset("QLN"), frozenset("qln")  # the formats of words of 64 bits
 
 
@@ -163,7 +164,7 @@ class Keys(MutableSet):  # type: ignore[type-arg]
     @overload
     def contains_many(self, keys: Iterable[SupportsIndex], out: None = None) -> list[bool]: ...
     @overload
-    def contains_many(self, keys: Iterable[SupportsIndex], out: _T) -> _T: ...
+    def contains_many(self, keys: Iterable[SupportsIndex], out: _Out) -> _Out: ...
     def contains_many(self, keys: Iterable[SupportsIndex], out: Any = None) -> Any:
         """Returns whether the set has each of these keys, in their order: a list, or `out`, a buffer
         of one byte for each key, such as a `bytearray` or a numpy array, in which 1 or 0 is written.

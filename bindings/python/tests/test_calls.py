@@ -4,6 +4,7 @@ import copy
 import ctypes
 import gc
 import pickle
+import sys
 import time
 import typing
 import unittest
@@ -426,6 +427,12 @@ class Tended(unittest.TestCase):
 
 
 class Types(unittest.TestCase):
+    @unittest.skipIf(sys.version_info < (3, 11), "this Python does not keep overloads")
+    def test_the_answers_of_several_look_ups_have_the_type_of_their_room(self) -> None:
+        hints = [typing.get_type_hints(each) for each in typing.get_overloads(Set.contains_many)]
+        self.assertEqual([each["out"] for each in hints], [type(None), hints[1]["return"]])
+        self.assertEqual(hints[0]["return"], list[bool])
+
     def test_each_public_call_has_its_types(self) -> None:
         for kind in (nm_set.Set, nm_set.Worker, nm_set.Report):
             for name, member in vars(kind).items():
