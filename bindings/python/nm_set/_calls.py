@@ -167,8 +167,8 @@ class Calls:
     def add_some(
         self, keys: memoryview, first: int, answers: Optional[memoryview]
     ) -> tuple[int, int, int]:
-        """Adds some of these keys, from an index on, and writes 1 for each that was new, if there is
-        room for answers. Returns how many keys it went over, how many of them were new, and the
+        """Adds some of these keys, from an index on, and writes 1 for each that was new, if there
+        is room for answers. Returns how many keys it went over, how many of them were new, and the
         outcome of the next one, if that is below 0."""
         return self._some(self._insert, keys, first, answers)
 
@@ -179,8 +179,8 @@ class Calls:
         return self._some(self._remove, keys, first, answers)
 
     def waiting(self) -> tuple[int, int]:
-        """How many nodes wait with the workers of the places, and how many places were in use, which
-        are left out."""
+        """How many nodes wait with the workers of the places, and how many places were in use,
+        which are left out."""
         waiting = missed = 0
         words = c.LedgerWords()
         for handle in self._handles[: self.reach]:

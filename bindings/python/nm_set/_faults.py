@@ -50,9 +50,9 @@ class Unfinished(Fault):
 
 
 class NoWorker(Fault):
-    """Each worker is with a thread, and `attach` was not to wait, or waited as long as it was to. Or
-    this thread itself has them all, so that an `attach` would never end; nor would a call of the set
-    if each of them is pinned."""
+    """Each worker is with a thread, and `attach` was not to wait, or waited as long as it was to.
+    Or this thread itself has them all, so that an `attach` would never end; nor would a call of the
+    set if each of them is pinned."""
 
 
 class Away(Fault):

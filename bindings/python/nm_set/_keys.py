@@ -116,9 +116,9 @@ class Keys(MutableSet):  # type: ignore[type-arg]
         return key in self
 
     def add(self, key: SupportsIndex) -> bool:  # type: ignore[override]
-        """Adds a key, 0 to 2^64 - 4, and returns whether it was not in the set. If the set is full it
-        waits for nodes for the `timeout_ms` of `Tending` at most, and for no other thread's call.
-        `OutOfRange` or `TypeError` for what is no key; `Full`."""
+        """Adds a key, 0 to 2^64 - 4, and returns whether it was not in the set. If the set is full
+        it waits for nodes for the `timeout_ms` of `Tending` at most, and for no other thread's
+        call. `OutOfRange` or `TypeError` for what is no key; `Full`."""
         try:
             return self._calls.add(key)
         except (Closed, InUse, Full):
@@ -166,10 +166,11 @@ class Keys(MutableSet):  # type: ignore[type-arg]
     @overload
     def contains_many(self, keys: Iterable[SupportsIndex], out: _Out) -> _Out: ...
     def contains_many(self, keys: Iterable[SupportsIndex], out: Any = None) -> Any:
-        """Returns whether the set has each of these keys, in their order: a list, or `out`, a buffer
-        of one byte for each key, such as a `bytearray` or a numpy array, in which 1 or 0 is written.
-        Each answer was right at a moment of the call. Keys in a buffer, such as array.array("Q") or
-        a numpy array, are read where they are, and other threads run meanwhile."""
+        """Returns whether the set has each of these keys, in their order: a list, or `out`, a
+        buffer of one byte for each key, such as a `bytearray` or a numpy array, in which 1 or 0 is
+        written. Each answer was right at a moment of the call. Keys in a buffer, such as
+        array.array("Q") or a numpy array, are read where they are, and other threads run
+        meanwhile."""
         words = words_of(keys)
         found = _answers_of(bytearray(len(words)) if out is None else out, len(words))
         at = 0
@@ -267,8 +268,9 @@ class Keys(MutableSet):  # type: ignore[type-arg]
         return int(key)
 
     def pop_first(self) -> int:
-        """Removes the least key and returns it. KeyError if the set is empty. No two calls return one
-        key, unless it was added again between, and none is passed over that was in the set all along.
+        """Removes the least key and returns it. KeyError if the set is empty. No two calls return
+        one key, unless it was added again between, and none is passed over that was in the set all
+        along.
         """
         return self._pop("pop_first")
 

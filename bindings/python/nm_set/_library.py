@@ -21,16 +21,16 @@ from . import __version__
 
 
 def _refuse_other_interpreters() -> None:
-    """Raises ImportError in each interpreter of the process but the first. What `_native` keeps is of
-    the process: a second interpreter would replace the exceptions of the first one."""
+    """Raises ImportError in each interpreter of the process but the first. What `_native` keeps is
+    of the process: a second interpreter would replace the exceptions of the first one."""
     python = ctypes.PyDLL(None)
     python.PyInterpreterState_Get.restype = c_void_p
     python.PyInterpreterState_GetID.argtypes = [c_void_p]
     python.PyInterpreterState_GetID.restype = c_int64
     if python.PyInterpreterState_GetID(python.PyInterpreterState_Get()) != 0:
         raise ImportError(
-            "nm_set can be imported by the first interpreter of a process alone, and this is another"
-            " one: use processes or threads in place of subinterpreters",
+            "nm_set can be imported by the first interpreter of a process alone, and this is"
+            " another one: use processes or threads in place of subinterpreters",
             name="nm_set",
         )
 

@@ -44,9 +44,9 @@ static unsigned long forks;
 
 static void count_fork(void) { forks++; }
 
-/* How many keys the calls of a set and of its workers have added, less those that they have removed:
- * a part in each of some lines of memory, so that threads which run at the same time seldom write
- * the same one. */
+/* How many keys the calls of a set and of its workers have added, less those that they have
+ * removed: a part in each of some lines of memory, so that threads which run at the same time
+ * seldom write the same one. */
 typedef struct {
     PyObject_HEAD
     struct {
@@ -241,8 +241,8 @@ static PyObject *calls_at_most(PyObject *self, PyObject *key) {
     return nearest((Calls *)self, key, prev_of);
 }
 
-/* Takes a key. A key whose remove is unfinished is taken too: this call will remove it, and no other
- * call will. */
+/* Takes a key. A key whose remove is unfinished is taken too: this call will remove it, and no
+ * other call will. */
 static PyObject *take(Calls *self, pop_call call) {
     uint64_t taken = 0;
     nm_outcome outcome = NM_CLOSED;
@@ -351,9 +351,10 @@ static void look_up_each(Calls *self, nm_handle *place, const Keys *keys, Work *
     } while (work->done < keys->count);
 }
 
-/* Adds or removes the keys of a group one by one, after a look at all of them: walks that go side by
- * side wait for memory together, and a key that is already in the set, or out of it, as it should be
- * needs no change. If that look fails, the changes find out why. Returns whether each was made. */
+/* Adds or removes the keys of a group one by one, after a look at all of them: walks that go side
+ * by side wait for memory together, and a key that is already in the set, or out of it, as it
+ * should be needs no change. If that look fails, the changes find out why. Returns whether each was
+ * made. */
 static int change_group(Calls *self, int place, Group *group, Work *work) {
     int is_told = look_up(self, place_of(self, place), group) >= 0;
     for (Py_ssize_t at = 0; at < group->count; at++, work->done++) {
@@ -710,8 +711,8 @@ static int is_first_interpreter(void) {
         return 1;
     }
     PyErr_SetString(PyExc_ImportError,
-                    "nm_set can be imported by the first interpreter of a process alone, and this is"
-                    " another one: use processes or threads in place of subinterpreters");
+                    "nm_set can be imported by the first interpreter of a process alone, and this"
+                    " is another one: use processes or threads in place of subinterpreters");
     return 0;
 }
 

@@ -74,12 +74,13 @@ class Tending:
     """How often a call that has lost each of its tries is made again, and how often a discard that
     has begun is gone on with."""
     collect_after: Optional[int] = None
-    """When this many removed nodes wait with its worker, an add or a discard first moves the epoch on
-    and collects. None: nodes / (8 * workers), at least 8 and at most 64."""
+    """When this many removed nodes wait with its worker, an add or a discard first moves the epoch
+    on and collects. None: nodes / (8 * workers), at least 8 and at most 64."""
     timeout_ms: int = 64
-    """The longest time in milliseconds that an add which finds no free nodes, while removed ones wait
-    to be freed, sleeps and tries again before it raises `Full`. The sleeps begin with 20 microseconds
-    and double up to a millisecond. With 0 the add never sleeps, as an event loop needs it."""
+    """The longest time in milliseconds that an add which finds no free nodes, while removed ones
+    wait to be freed, sleeps and tries again before it raises `Full`. The sleeps begin with 20
+    microseconds and double up to a millisecond. With 0 the add never sleeps, as an event loop needs
+    it."""
 
     def __post_init__(self) -> None:
         for each in fields(self):
@@ -175,19 +176,19 @@ def _is_open(handle: c.Handle) -> bool:
 class Set(Keys):
     """A set of the whole numbers from 0 to 2^64 - 4 that threads share without locks.
 
-    Any thread may call it. Each call is made by one of the set's workers that no thread uses at that
-    moment. If there is none, the call borrows the worker of a `Worker` that is in no call and not
-    pinned. If each worker is in a call or pinned, the call waits until one is not: it sleeps a
-    millisecond and looks again, with no bound. A thread that makes many calls may take a `Worker` of
-    its own by `attach`.
+    Any thread may call it. Each call is made by one of the set's workers that no thread uses at
+    that moment. If there is none, the call borrows the worker of a `Worker` that is in no call and
+    not pinned. If each worker is in a call or pinned, the call waits until one is not: it sleeps a
+    millisecond and looks again, with no bound. A thread that makes many calls may take a `Worker`
+    of its own by `attach`.
 
     The calls tend the set. A call that lost its tries to other threads is made again, and a discard
-    that has begun is finished. When `collect_after` removed nodes wait with the worker, the call first
-    moves the epoch on and collects. `Tending` bounds what a call may spend. If that is not enough
-    `Contention` is raised, or `Unfinished` for a discard that has begun. The library does all of this,
-    which is proved. This module finds a worker for each call, collects removed nodes that wait with
-    other workers too, and lets an add wait for them before `Full` is raised: this part is tested and
-    not proved.
+    that has begun is finished. When `collect_after` removed nodes wait with the worker, the call
+    first moves the epoch on and collects. `Tending` bounds what a call may spend. If that is not
+    enough `Contention` is raised, or `Unfinished` for a discard that has begun. The library does
+    all of this, which is proved. This module finds a worker for each call, collects removed nodes
+    that wait with other workers too, and lets an add wait for them before `Full` is raised: this
+    part is tested and not proved.
 
     A signal handler may make any call, `close` too, and may raise an exception in the middle of
     any: no call hangs, nothing is lost, and the call that was interrupted was made or was not made.
@@ -372,8 +373,8 @@ class Set(Keys):
         return sum(map(_free, handles))
 
     def _make_room(self, wait: _Wait) -> None:
-        """What an add does that found no free nodes: it collects, and sleeps if that freed nothing, or
-        has freed something often. `Full`: the keys take all nodes, or the timeout has passed."""
+        """What an add does that found no free nodes: it collects, and sleeps if that freed nothing,
+        or has freed something often. `Full`: the keys take all nodes, or the timeout has passed."""
         freed = self._relieve()
         self._need_open()
         if wait.is_at_once(freed):
@@ -383,8 +384,8 @@ class Set(Keys):
         wait.sleep()
 
     def _is_brimful(self) -> bool:
-        """Whether no nodes are left for one more key, and none is to be freed. False if a worker is in
-        a call, which may free some."""
+        """Whether no nodes are left for one more key, and none is to be freed. False if a worker is
+        in a call, which may free some."""
         waiting, missed = self._tally()
         return not missed and not waiting and 2 * len(self) + 7 > self._nodes
 
@@ -442,36 +443,36 @@ class Set(Keys):
         return outcome
 
     def _tally(self) -> tuple[int, int]:
-        """How many nodes wait with the workers that are in no call, and how many workers are in one.
-        Each is asked once."""
+        """How many nodes wait with the workers that are in no call, and how many workers are in
+        one. Each is asked once."""
         self._fetch()
         told = [self._calls.waiting(), *(worker._calls.waiting() for worker in self._out())]
         return sum(waiting for waiting, _ in told), sum(missed for _, missed in told)
 
     def __len__(self) -> int:
-        """Returns how many keys the set has: exact if no thread makes a call meanwhile, else off by as
-        many keys as calls add and remove meanwhile. It never waits, and takes no worker: each call
-        counts what it changes."""
+        """Returns how many keys the set has: exact if no thread makes a call meanwhile, else off by
+        as many keys as calls add and remove meanwhile. It never waits, and takes no worker: each
+        call counts what it changes."""
         self._need_open()
         return max(self._count.keys(), 0)
 
     def waiting(self) -> int:
-        """Returns how many removed nodes wait to be freed. It asks each worker once and waits for no
-        call. It leaves out the nodes of workers that are in a call at this moment, as those of
+        """Returns how many removed nodes wait to be freed. It asks each worker once and waits for
+        no call. It leaves out the nodes of workers that are in a call at this moment, as those of
         `add_many` and its like are while other threads run."""
         self._need_open()
         return self._tally()[0]
 
     def free(self) -> int:
-        """Returns how many nodes are free, as exact as `len` and `waiting`: an add takes two. It waits
-        for no call."""
+        """Returns how many nodes are free, as exact as `len` and `waiting`: an add takes two. It
+        waits for no call."""
         self._need_open()
         return max(self._nodes - 5 - 2 * len(self) - self._tally()[0], 0)
 
     def collect(self) -> int:
-        """Moves the epoch on as far as can be, and frees what has waited long enough, of all workers
-        by which no call is made at this moment. Returns how many nodes were freed. It waits for no
-        call."""
+        """Moves the epoch on as far as can be, and frees what has waited long enough, of all
+        workers by which no call is made at this moment. Returns how many nodes were freed. It waits
+        for no call."""
         self._need_open()
         return self._relieve()
 
@@ -480,8 +481,8 @@ class Set(Keys):
     def attach(self, blocking: bool = True, timeout: float = -1) -> Worker:
         """Takes a worker for this thread; the least number comes first. It goes back by its
         `close`. Like `threading.Lock.acquire` it waits while each worker is with a thread, with no
-        bound, or for a timeout in seconds. It raises `NoWorker` after the timeout, and at once if it
-        is not to block, or if this thread itself has each worker."""
+        bound, or for a timeout in seconds. It raises `NoWorker` after the timeout, and at once if
+        it is not to block, or if this thread itself has each worker."""
         if not blocking and timeout != -1:
             raise ValueError("can't specify a timeout for a non-blocking call")
         if timeout < 0 and timeout != -1:
@@ -527,9 +528,9 @@ class Set(Keys):
         return outcome
 
     def worker(self, number: SupportsIndex) -> Worker:
-        """Takes the worker of a number, for this thread. It waits for a call of the set that another
-        thread makes by it at this moment, for a second at most. `Away`: it is with a thread, or in
-        that call still."""
+        """Takes the worker of a number, for this thread. It waits for a call of the set that
+        another thread makes by it at this moment, for a second at most. `Away`: it is with a
+        thread, or in that call still."""
         index = self._worker_number(number)
         worker = Worker(self)
         for turn in range(_LOOKS):
@@ -551,11 +552,11 @@ class Set(Keys):
     # ---- the end ----
 
     def close(self) -> Report:
-        """Ends the set, and returns the keys that it had. If a `Worker` is out it raises `Away` and the
-        set goes on. A closed set returns the same report again. It waits for calls that other threads
-        make at this moment, as long as they take; each later call, and each that waits, raises
-        `Closed`. The next close, or the end of the object, goes on with a close that was interrupted,
-        and calls raise `Closed` meanwhile."""
+        """Ends the set, and returns the keys that it had. If a `Worker` is out it raises `Away` and
+        the set goes on. A closed set returns the same report again. It waits for calls that other
+        threads make at this moment, as long as they take; each later call, and each that waits,
+        raises `Closed`. The next close, or the end of the object, goes on with a close that was
+        interrupted, and calls raise `Closed` meanwhile."""
         if self._report is None:
             if os.getpid() != self._process:
                 raise forked(self._process)
@@ -616,8 +617,8 @@ class Set(Keys):
         return self._report
 
     def __repr__(self) -> str:
-        """Shows the first ten keys, and how many there are. It makes a look-up for each, which waits
-        for a worker as any call does."""
+        """Shows the first ten keys, and how many there are. It makes a look-up for each, which
+        waits for a worker as any call does."""
         return "Set(closed)" if self._is_closing else super().__repr__()
 
     def __enter__(self) -> Set:
@@ -649,13 +650,13 @@ class Worker(Keys):
 
     `close`, or the end of its `with`, sends it back to its set; so does the end of the object
     itself. If two threads call by it at once, one waits for the other, and raises `InUse` if that
-    lasts for a second. A signal handler may close it in the middle of a call, which then was made, or
-    raises `Closed`.
+    lasts for a second. A signal handler may close it in the middle of a call, which then was made,
+    or raises `Closed`.
 
     If all workers of the set are attached, calls of the set borrow one that is in no call and not
-    pinned. So `ledger`, `queue_len` and `post` include calls that other threads made by this worker.
-    Such a call finishes the discard that is pending before it gives the worker back. A call by the
-    worker waits for it, in the same way.
+    pinned. So `ledger`, `queue_len` and `post` include calls that other threads made by this
+    worker. Such a call finishes the discard that is pending before it gives the worker back. A call
+    by the worker waits for it, in the same way.
     """
 
     def __init__(self, owner: Set) -> None:
@@ -763,8 +764,8 @@ class Worker(Keys):
         return self.ledger().queued
 
     def ledger(self) -> Ledger:
-        """Returns what calls by it have won, including borrowed ones, and what became of the nodes that
-        they cut off."""
+        """Returns what calls by it have won, including borrowed ones, and what became of the nodes
+        that they cut off."""
         words = c.LedgerWords()
         self._told(c.quick.nm_worker_ledger, words)
         return Ledger(*(getattr(words, name) for name, _ in words._fields_))

@@ -40,8 +40,8 @@ class Sizes(unittest.TestCase):
 
     def test_a_number_with_thousands_of_digits_is_out_of_range(self) -> None:
         with Set(64, workers=2) as numbers, numbers.attach() as worker:
-            calls = (numbers.add, numbers.at_least, numbers.worker, worker.read, worker.pin, Tending)
-            for call in (*calls, Set, lambda key: numbers.add_many([1, key])):
+            calls = (numbers.add, numbers.at_least, numbers.worker, worker.read, worker.pin)
+            for call in (*calls, Tending, Set, lambda key: numbers.add_many([1, key])):
                 for number in (HUGE, -HUGE):
                     with self.assertRaisesRegex(nm_set.OutOfRange, "a number of 16,610 bits"):
                         call(number)

@@ -219,7 +219,8 @@ class Several(unittest.TestCase):
             keys = random.Random(7).sample(range(30), 30) * 200
             out = bytearray(len(keys))
             self.assertEqual(numbers.add_many(keys, out), 28)
-            self.assertEqual({key for key, is_new in zip(keys, out) if is_new}, {*range(30)} - {5, 7})
+            added = {key for key, is_new in zip(keys, out) if is_new}
+            self.assertEqual(added, {*range(30)} - {5, 7})
         with Set(11, tending=nm_set.Tending(timeout_ms=0)) as numbers:
             out = bytearray(b"\7" * 6)
             with self.assertRaises(nm_set.Full):

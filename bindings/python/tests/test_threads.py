@@ -280,7 +280,8 @@ class Threads(unittest.TestCase):
                 pop_all(numbers.pop_first, popped[0])
             else:
                 with numbers.attach() as worker:
-                    pop_all(worker.pop_first if number == 4 else worker.pop_last, popped[number - 3])
+                    pop = worker.pop_first if number == 4 else worker.pop_last
+                    pop_all(pop, popped[number - 3])
 
         def pop_all(pop: Callable[[], int], keys: list[int]) -> None:
             while True:

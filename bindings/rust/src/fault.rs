@@ -46,9 +46,9 @@ pub enum Fault {
     /// The worker is pinned, since the guard of its pin was forgotten
     /// ([`forget`](std::mem::forget)). Dropped, the worker goes back without its pin.
     Held,
-    /// Threads have each of the workers, and the call was not to wait for one, or not longer. Or this
-    /// thread itself has them all, so that an `attach` would never end; nor would a call of the set
-    /// if this thread has pinned each.
+    /// Threads have each of the workers, and the call was not to wait for one, or not longer. Or
+    /// this thread itself has them all, so that an `attach` would never end; nor would a call of
+    /// the set if this thread has pinned each.
     NoWorker {
         /// How many workers the set has.
         workers: u32,
@@ -74,8 +74,8 @@ pub struct Full {
     pub keys: u64,
     /// How many removed nodes waited to be freed.
     pub waiting: u64,
-    /// Which workers were in a call, so that the insert could not ask how many nodes wait with them:
-    /// `waiting` has what each one had when it was last asked.
+    /// Which workers were in a call, so that the insert could not ask how many nodes wait with
+    /// them: `waiting` has what each one had when it was last asked.
     pub unasked: Numbers,
     /// Which workers held the epoch back, by a pin or in a call, so that these were not freed.
     pub behind: Numbers,

@@ -14,9 +14,9 @@
 //!   handles of one call are two values.
 //! - *An open handle is not lost.* It drops what it owns.
 //!
-//! Of two calls that have one handle at the same time the library refuses the second one, which then
-//! touches nothing. Some calls are made again here until they are not refused; the others, which are
-//! listed as made at once, return that outcome to their caller.
+//! Of two calls that have one handle at the same time the library refuses the second one, which
+//! then touches nothing. Some calls are made again here until they are not refused; the others,
+//! which are listed as made at once, return that outcome to their caller.
 
 use crate::wait::{at_once, waited_out};
 use std::cell::UnsafeCell;

@@ -43,14 +43,15 @@ pub struct Options {
     /// gone on with, before it tells [`Fault::Unfinished`](crate::Fault::Unfinished). 64 by
     /// default.
     pub rounds: u32,
-    /// When this many removed nodes wait with its worker, an insert or a remove first moves the epoch
-    /// on and collects. None by default: nodes / (8 * workers), at least 8 and at most 64, so that
-    /// all workers together leave at most an eighth of the nodes uncollected, unless each has 8.
+    /// When this many removed nodes wait with its worker, an insert or a remove first moves the
+    /// epoch on and collects. None by default: nodes / (8 * workers), at least 8 and at most 64, so
+    /// that all workers together leave at most an eighth of the nodes uncollected, unless each has
+    /// 8.
     pub collect_after: Option<u32>,
-    /// The longest time in milliseconds that an insert which finds no free nodes, while removed ones
-    /// wait to be freed, sleeps and tries again before it returns
-    /// [`Fault::Full`](crate::Fault::Full). The sleeps begin with 20 microseconds and double up to a
-    /// millisecond. With 0 the insert never sleeps, as an asynchronous program needs it. 64 by
+    /// The longest time in milliseconds that an insert which finds no free nodes, while removed
+    /// ones wait to be freed, sleeps and tries again before it returns
+    /// [`Fault::Full`](crate::Fault::Full). The sleeps begin with 20 microseconds and double up to
+    /// a millisecond. With 0 the insert never sleeps, as an asynchronous program needs it. 64 by
     /// default.
     pub timeout_ms: u32,
 }

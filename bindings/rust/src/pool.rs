@@ -2,11 +2,11 @@
 //!
 //! A worker stays in its entry from its first use until the set is closed. A call of a thread that
 //! has no worker takes the lock of an entry that is idle, makes its call by the worker there, and
-//! unlocks the entry. A [`Worker`](crate::Worker) has its entry lent, and takes no lock. If no entry
-//! is idle, a call borrows a lent worker that is in no call and not pinned; it takes no lock either,
-//! because the library refuses the second of two calls that have one handle at the same time. In
-//! the same way any thread may ask a worker how many nodes wait in its queue. If a call finds no
-//! worker, it sleeps and looks again.
+//! unlocks the entry. A [`Worker`](crate::Worker) has its entry lent, and takes no lock. If no
+//! entry is idle, a call borrows a lent worker that is in no call and not pinned; it takes no lock
+//! either, because the library refuses the second of two calls that have one handle at the same
+//! time. In the same way any thread may ask a worker how many nodes wait in its queue. If a call
+//! finds no worker, it sleeps and looks again.
 
 use crate::fault::Fault;
 use crate::ffi::{Habit, Handle};
@@ -315,8 +315,8 @@ impl Pool {
         self.wait_for(None, ask, || pinned.get() == self.workers())?
     }
 
-    /// Makes a call by a worker that is attached to a thread, and neither in a call nor pinned. None
-    /// if there is no such worker. Counts the pinned ones that it has met.
+    /// Makes a call by a worker that is attached to a thread, and neither in a call nor pinned.
+    /// None if there is no such worker. Counts the pinned ones that it has met.
     fn by_borrowed<T>(
         &self,
         call: impl Fn(Seat) -> Result<T, Fault>,

@@ -104,8 +104,8 @@ impl Pool {
         })
     }
 
-    /// Whether the keys take all nodes, so that none is to be freed. False if a worker is in a call,
-    /// which may free some.
+    /// Whether the keys take all nodes, so that none is to be freed. False if a worker is in a
+    /// call, which may free some.
     fn is_brimful(&self) -> bool {
         let tally = self.tally();
         tally.unasked.is_empty() && tally.waiting == 0 && tally.free < 2

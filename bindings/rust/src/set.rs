@@ -20,20 +20,20 @@ const TOGETHER: usize = 64;
 /// A set of the whole numbers up to [`MOST_KEY`] that threads share, as a
 /// [`BTreeSet<u64>`](BTreeSet) by its calls. A clone is the same set.
 ///
-/// Any thread may call it. Each call is made by one of the set's workers that no thread uses at that
-/// moment, usually the one that the thread used before. If there is none, the call borrows a worker
-/// that is attached to a thread, if it is in no call and not pinned. If each worker is in a call or
-/// pinned, the call **waits** until one is not: it sleeps a millisecond and looks again, with no
-/// bound. It waits with no bound, too, while another thread closes the set. A thread that makes many
-/// calls may take a [`Worker`] of its own by [`attach`](Set::attach).
+/// Any thread may call it. Each call is made by one of the set's workers that no thread uses at
+/// that moment, usually the one that the thread used before. If there is none, the call borrows a
+/// worker that is attached to a thread, if it is in no call and not pinned. If each worker is in a
+/// call or pinned, the call **waits** until one is not: it sleeps a millisecond and looks again,
+/// with no bound. It waits with no bound, too, while another thread closes the set. A thread that
+/// makes many calls may take a [`Worker`] of its own by [`attach`](Set::attach).
 ///
 /// [`contains`](Set::contains), [`insert`](Set::insert) and [`remove`](Set::remove) **tend** the
 /// set. A call that lost its tries to other threads is made again, at most
 /// [`rounds`](Options::rounds) times, and a remove that has begun is finished. When
-/// [`collect_after`](Options::collect_after) removed nodes wait with the worker, the call first moves
-/// the epoch on and collects. If that is not enough the call returns [`Fault::Contention`], or
-/// [`Fault::Unfinished`] for a remove that has begun. The library does all of this within a bound of
-/// steps, which is **proved**.
+/// [`collect_after`](Options::collect_after) removed nodes wait with the worker, the call first
+/// moves the epoch on and collects. If that is not enough the call returns [`Fault::Contention`],
+/// or [`Fault::Unfinished`] for a remove that has begun. The library does all of this within a
+/// bound of steps, which is **proved**.
 ///
 /// This crate finds a worker for each call, and lets an insert wait for removed nodes to be freed,
 /// for [`timeout_ms`](Options::timeout_ms) at most, before it returns [`Fault::Full`]. This part is
@@ -45,8 +45,8 @@ const TOGETHER: usize = 64;
 ///
 /// Besides the faults that its line names each call returns `Closed` beside or after a
 /// [`close`](Set::close). A call that takes a worker returns `NoMemory` if memory is refused as it
-/// does so for the first time, and `NoWorker` if this thread has attached each worker itself and has
-/// pinned each. A tended call returns `Contention`.
+/// does so for the first time, and `NoWorker` if this thread has attached each worker itself and
+/// has pinned each. A tended call returns `Contention`.
 ///
 /// ```
 /// # fn main() -> Result<(), nm_set::Fault> {
@@ -277,9 +277,9 @@ impl Set {
         Ok(self.first()?.is_none())
     }
 
-    /// Returns how many removed nodes wait to be freed. It asks each worker once and never waits. For
-    /// a worker that is in a call it takes the number of an earlier time: what waited when the worker
-    /// was last asked, by `waiting`, `free` or an insert into a full set.
+    /// Returns how many removed nodes wait to be freed. It asks each worker once and never waits.
+    /// For a worker that is in a call it takes the number of an earlier time: what waited when the
+    /// worker was last asked, by `waiting`, `free` or an insert into a full set.
     pub fn waiting(&self) -> Result<u64, Fault> {
         self.0.need_open()?;
         Ok(self.0.tally().waiting)
@@ -321,8 +321,8 @@ impl Set {
     /// attached or in a call, with no bound. `NoWorker`: this thread has each worker itself, those
     /// that it has attached or used last, for a quarter of a second.
     ///
-    /// A worker stays shared: while all workers are attached, calls of the set borrow those that are
-    /// in no call. See [`Worker`].
+    /// A worker stays shared: while all workers are attached, calls of the set borrow those that
+    /// are in no call. See [`Worker`].
     pub fn attach(&self) -> Result<Worker, Fault> {
         self.attach_until(None)
     }
@@ -342,8 +342,8 @@ impl Set {
         Ok(Worker::of(Arc::clone(&self.0), number))
     }
 
-    /// Takes the worker of a number. It waits for the call of the set that another thread makes by it
-    /// at this moment, as long as that takes. `Number`; `Away`: the worker is attached.
+    /// Takes the worker of a number. It waits for the call of the set that another thread makes by
+    /// it at this moment, as long as that takes. `Number`; `Away`: the worker is attached.
     pub fn worker(&self, number: u32) -> Result<Worker, Fault> {
         let number = self.0.lend_number(number)?;
         Ok(Worker::of(Arc::clone(&self.0), number))
@@ -351,8 +351,8 @@ impl Set {
 
     // ---- the end ----
 
-    /// Ends the set, and returns the keys that it had. It waits for calls that other threads make of
-    /// the set at this moment, as long as they take; each call that waits, and each later one,
+    /// Ends the set, and returns the keys that it had. It waits for calls that other threads make
+    /// of the set at this moment, as long as they take; each call that waits, and each later one,
     /// returns `Closed`.
     ///
     /// `Away`: a [`Worker`] is not dropped yet, and the set goes on. `NoMemory`: only `close` goes

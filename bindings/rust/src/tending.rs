@@ -20,8 +20,8 @@ const SPENT: Outcome = -17;
 /// The outcome of an answer that is yes.
 const YES: Outcome = 1;
 
-/// How a remove that a call by a borrowed worker has begun is finished: by so many calls at most, of
-/// so many tries each. Each lost try means that another thread's call went on.
+/// How a remove that a call by a borrowed worker has begun is finished: by so many calls at most,
+/// of so many tries each. Each lost try means that another thread's call went on.
 const FINISHES: u32 = 1_024;
 const TRIES: u32 = 64;
 
@@ -100,8 +100,9 @@ impl Seat<'_> {
         Ok(is_taken.then_some(taken))
     }
 
-    /// Finishes the remove that this call has begun by a borrowed worker, so that the worker's owner
-    /// does not meet it. Returns whether it is finished; false of a worker that is not borrowed.
+    /// Finishes the remove that this call has begun by a borrowed worker, so that the worker's
+    /// owner does not meet it. Returns whether it is finished; false of a worker that is not
+    /// borrowed.
     fn is_given_back(&self) -> bool {
         let has_finished = |_| self.entry.handle.finish(TRIES) != UNFINISHED;
         self.is_borrowed && (0..FINISHES).any(has_finished)

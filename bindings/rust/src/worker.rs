@@ -26,14 +26,14 @@ use std::sync::Arc;
 /// the library below, each of which does what its contract there says and no more. Those that begin
 /// with `try_` make the given number of tries and leave the rest to their caller.
 ///
-/// If all workers of the set are attached, calls of the set **borrow** one that is in no call and not
-/// pinned. So [`ledger`](Worker::ledger), [`waiting`](Worker::waiting) and [`post`](Worker::post)
-/// include calls that other threads made by this worker. Such a call finishes the remove that is
-/// pending, whichever call began it, before it gives the worker back, so that
-/// [`try_finish`](Worker::try_finish) returns false then. A call by the worker waits, with no bound,
-/// for a call that another thread makes by it at this moment: a borrowed one, or one that collects
-/// its nodes or asks how many there are. Each of these is within a bound of steps, but takes longer
-/// if its thread loses its processor. A pin keeps a worker from being borrowed.
+/// If all workers of the set are attached, calls of the set **borrow** one that is in no call and
+/// not pinned. So [`ledger`](Worker::ledger), [`waiting`](Worker::waiting) and
+/// [`post`](Worker::post) include calls that other threads made by this worker. Such a call
+/// finishes the remove that is pending, whichever call began it, before it gives the worker back,
+/// so that [`try_finish`](Worker::try_finish) returns false then. A call by the worker waits, with
+/// no bound, for a call that another thread makes by it at this moment: a borrowed one, or one that
+/// collects its nodes or asks how many there are. Each of these is within a bound of steps, but
+/// takes longer if its thread loses its processor. A pin keeps a worker from being borrowed.
 ///
 /// ```
 /// # fn main() -> Result<(), nm_set::Fault> {
@@ -282,8 +282,8 @@ impl Worker {
         answer(entry.count_remove(entry.handle.try_remove(key, tries)))
     }
 
-    /// Goes on with the remove that is pending, with the given number of tries. Returns true if it is
-    /// finished now, and false if none is pending, as after a call of the set that borrowed the
+    /// Goes on with the remove that is pending, with the given number of tries. Returns true if it
+    /// is finished now, and false if none is pending, as after a call of the set that borrowed the
     /// worker. `Unfinished`.
     pub fn try_finish(&mut self, tries: u32) -> Result<bool, Fault> {
         answer(self.handle().finish(tries))
@@ -345,8 +345,8 @@ impl Worker {
         (self.handle().pending(&mut key) > 0).then_some(key)
     }
 
-    /// Returns what calls by it have won, including borrowed ones, and what became of the nodes that
-    /// they cut off.
+    /// Returns what calls by it have won, including borrowed ones, and what became of the nodes
+    /// that they cut off.
     pub fn ledger(&mut self) -> Ledger {
         let mut ledger = Ledger::default();
         self.handle().ledger(&mut ledger);
