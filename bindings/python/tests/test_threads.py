@@ -300,7 +300,7 @@ class Threads(unittest.TestCase):
         self.assertEqual(len(numbers.close()), 0)
 
     def test_scarce_nodes_are_waited_for(self) -> None:
-        with Set(600, workers=16) as numbers:
+        with Set(600, workers=16, tending=Tending(timeout_ms=10_000)) as numbers:
             faults = []
 
             def thread(number: int) -> None:

@@ -43,9 +43,12 @@ fn told_by(name: &str, usual: u64) -> u64 {
     told.map_or(usual, |number| number.parse().expect("a whole number"))
 }
 
+/// A set whose inserts wait for ten seconds: on a busy machine a thread may lose its processor, in
+/// the middle of a call, for longer than the usual timeout.
 fn with_workers(nodes: u32, workers: u32) -> Set {
     let options = Options {
         workers,
+        timeout_ms: 10_000,
         ..Options::default()
     };
     Set::with_options(nodes, options).unwrap()
@@ -138,7 +141,7 @@ fn scarce(tries: u32, workers: u32) -> Set {
 
 #[test]
 fn threads_with_workers_add_up() {
-    play(&Set::new(1_024).unwrap(), |set| set.attach().unwrap());
+    play(&with_workers(1_024, 64), |set| set.attach().unwrap());
 }
 
 #[test]
@@ -148,7 +151,7 @@ fn threads_with_workers_add_up_where_room_is_scarce_and_tries_are_few() {
 
 #[test]
 fn threads_without_workers_add_up() {
-    play(&Set::new(1_024).unwrap(), Set::clone);
+    play(&with_workers(1_024, 64), Set::clone);
 }
 
 #[test]
@@ -265,6 +268,7 @@ fn threads_that_have_all_workers_call_the_set() {
         workers: THREADS as u32,
         tries: 2,
         rounds: 1,
+        timeout_ms: 10_000,
         ..Options::default()
     };
     let set = Set::with_options(4_096, options).unwrap();
@@ -281,7 +285,6 @@ fn threads_that_have_all_workers_call_the_set() {
                     balance[key] += by_set;
                 }
                 balances.lock().unwrap().push(balance);
-                begin.wait();
             });
         }
     });
@@ -305,7 +308,8 @@ fn a_worker_goes_back_with_a_thread_that_panics() {
 
 #[test]
 fn how_full_a_set_is_can_be_asked_beside_callers() {
-    let set: Set = (0..100).collect();
+    let set = with_workers(65_536, 64);
+    assert_eq!(set.extend(0..100), Ok(100));
     let begin = Barrier::new(4);
     scope(|scope| {
         for key in 1_000..1_003 {
@@ -538,17 +542,12 @@ fn churn<C: Calls>(
 #[test]
 fn sixteen_and_sixty_four_threads_find_no_set_full_that_has_room() {
     let time = Duration::from_millis(told_by("NM_SET_CHURN_MILLISECONDS", 500));
-    // On a busy machine a thread may lose its processor for longer than the usual timeout.
-    let options = Options {
-        timeout_ms: 10_000,
-        ..Options::default()
-    };
     for threads in [16, 64] {
-        let set = Set::with_options(65_536, options).unwrap();
+        let set = with_workers(65_536, 64);
         let made = churn(&set, threads, time, |set| set.attach().unwrap());
         println!("{threads} threads with workers: {made} calls");
         assert!(set.close().unwrap().len() <= 1_000);
-        let set = Set::with_options(65_536, options).unwrap();
+        let set = with_workers(65_536, 64);
         let made = churn(&set, threads, time, Set::clone);
         println!("{threads} threads without: {made} calls");
         assert!(set.close().unwrap().len() <= 1_000);
