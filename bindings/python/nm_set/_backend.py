@@ -11,17 +11,17 @@ from ._faults import fault, forked, key_fault
 
 # The functions that those in C call, in the order in which `bind` takes them.
 _IN_C = ("contains", "insert", "remove", "pop_first", "pop_last", "next", "prev")
-_IN_C += ("contains_many", "finish", "pending", "ledger")
+_IN_C += ("contains_many", "finish", "ledger")
 
 if TYPE_CHECKING or os.environ.get("NM_SET_PURE"):
-    from ._calls import Calls, answers, first_wrong
+    from ._calls import Calls, Count, answers, first_wrong
 
     is_native = False
 else:
     try:
-        from ._native import Calls, answers, bind, first_wrong
+        from ._native import Calls, Count, answers, bind, first_wrong
     except ImportError:
-        from ._calls import Calls, answers, first_wrong
+        from ._calls import Calls, Count, answers, first_wrong
 
         is_native = False
     else:
@@ -29,4 +29,4 @@ else:
         bind(*addresses, fault, key_fault, forked)
         is_native = True
 
-__all__ = ["Calls", "answers", "first_wrong", "is_native"]
+__all__ = ["Calls", "Count", "answers", "first_wrong", "is_native"]

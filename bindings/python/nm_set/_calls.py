@@ -10,8 +10,10 @@ from __future__ import annotations
 import ctypes
 import operator
 import os
+from collections import Counter
 from collections.abc import Callable
 from ctypes import c_uint64
+from itertools import tee
 from typing import Any, Optional, SupportsIndex
 
 from . import _library as c
@@ -29,14 +31,45 @@ def _number(key: SupportsIndex) -> int:
     return number
 
 
+class Count:
+    """How often the calls that add a key have had each outcome, and those that remove one."""
+
+    def __init__(self) -> None:
+        self.added: Counter[int] = Counter()
+        self.removed: Counter[int] = Counter()
+
+    def keys(self) -> int:
+        """Returns how many keys calls have added, less those that they have removed. An unfinished
+        discard counts as it begins: no other call will remove the key."""
+        return self.added[c.YES] - self.removed[c.YES] - self.removed[c.UNFINISHED]
+
+
+def _counted(outcomes: Counter[int], call: Callable[..., int]) -> Callable[..., int]:
+    """A call that counts its outcome as it is made. All of that is one step of Python, so that no
+    exception comes between, whenever it comes."""
+
+    def made(*arguments: Any) -> int:
+        counted, outcome = tee(map(call, *((argument,) for argument in arguments)))
+        outcomes.update(counted)
+        return next(outcome)
+
+    return made
+
+
 class Calls:
     """The calls for keys by the first of some places whose handle is open and in no other call.
-    `Closed` or `InUse`, where there is none; nothing has changed then."""
+    `Closed` or `InUse`, if there is none; nothing has changed then."""
 
-    def __init__(self, places: ctypes.Array[c.Place], habit: c.HabitWords) -> None:
+    def __init__(
+        self, places: ctypes.Array[c.Place], habit: c.HabitWords, count: Count, line: int
+    ) -> None:
         self._handles = tuple(place.handle for place in places)
         self._habit = habit
         self._process = os.getpid()
+        self._insert = _counted(count.added, c.quick.nm_worker_insert)
+        self._remove = _counted(count.removed, c.quick.nm_worker_remove)
+        self._pop_first = _counted(count.removed, c.quick.nm_worker_pop_first)
+        self._pop_last = _counted(count.removed, c.quick.nm_worker_pop_last)
         self.reach = 0
         """How many of the places are looked at."""
 
@@ -71,10 +104,10 @@ class Calls:
         return told(self._asked(c.quick.nm_worker_contains, _number(key), self._habit))
 
     def add(self, key: SupportsIndex) -> bool:
-        return told(self._asked(c.quick.nm_worker_insert, _number(key), self._habit))
+        return told(self._asked(self._insert, _number(key), self._habit))
 
     def remove(self, key: SupportsIndex) -> bool:
-        return told(self._asked(c.quick.nm_worker_remove, _number(key), self._habit))
+        return told(self._asked(self._remove, _number(key), self._habit))
 
     def _nearest(self, call: Callable[..., int], key: SupportsIndex) -> Optional[int]:
         number, found, tries = _number(key), c_uint64(), self._habit.tries
@@ -88,23 +121,17 @@ class Calls:
         return self._nearest(c.quick.nm_worker_prev, key)
 
     def _taken(self, call: Callable[..., int]) -> Optional[int]:
-        """Takes a key by a call of the library. One that is told to be unfinished goes by this call
-        and no other, and is pending."""
+        """Takes a key by a call of the library. A key whose discard is unfinished is taken too:
+        this call will remove it, and no other call will."""
         taken = c_uint64()
-
-        def take(handle: c.Handle) -> int:
-            outcome = call(handle, self._habit, taken)
-            if outcome != c.UNFINISHED:
-                return outcome
-            return int(c.quick.nm_worker_pending(handle, taken))
-
-        return taken.value if told(self._asked(take)) else None
+        outcome = self._asked(call, self._habit, taken)
+        return taken.value if outcome == c.UNFINISHED or told(outcome) else None
 
     def pop_first(self) -> Optional[int]:
-        return self._taken(c.quick.nm_worker_pop_first)
+        return self._taken(self._pop_first)
 
     def pop_last(self) -> Optional[int]:
-        return self._taken(c.quick.nm_worker_pop_last)
+        return self._taken(self._pop_last)
 
     def contains_some(self, keys: memoryview, first: int, found: memoryview) -> int:
         """Looks up some of these keys, from an index on, and writes 1 or 0 of each: how many."""
@@ -118,7 +145,11 @@ class Calls:
         return len(wanted)
 
     def _some(
-        self, call: Callable[..., int], keys: memoryview, first: int
+        self,
+        call: Callable[..., int],
+        keys: memoryview,
+        first: int,
+        answers: Optional[memoryview],
     ) -> tuple[int, int, int]:
         changed, last = 0, min(first + SOME, len(keys))
         for at in range(first, last):
@@ -126,32 +157,38 @@ class Calls:
                 outcome = self._asked(call, keys[at], self._habit)
             except (Closed, InUse) as error:
                 outcome = error.outcome or c.CLOSED
+            if answers is not None:
+                answers[at] = outcome in (c.YES, c.UNFINISHED)
             if outcome < 0:
                 return at - first, changed, outcome
             changed += outcome
         return last - first, changed, c.DONE
 
-    def add_some(self, keys: memoryview, first: int) -> tuple[int, int, int]:
-        """Adds some of these keys, from an index on: how many it went over, how many of them were
-        new, and, below 0, the outcome of the next one."""
-        return self._some(c.quick.nm_worker_insert, keys, first)
+    def add_some(
+        self, keys: memoryview, first: int, answers: Optional[memoryview]
+    ) -> tuple[int, int, int]:
+        """Adds some of these keys, from an index on, and writes 1 for each that was new, if there
+        is room for answers. Returns how many keys it went over, how many of them were new, and the
+        outcome of the next one, if that is below 0."""
+        return self._some(self._insert, keys, first, answers)
 
-    def remove_some(self, keys: memoryview, first: int) -> tuple[int, int, int]:
-        """The same, but it removes them, and tells how many were in the set."""
-        return self._some(c.quick.nm_worker_remove, keys, first)
+    def remove_some(
+        self, keys: memoryview, first: int, answers: Optional[memoryview]
+    ) -> tuple[int, int, int]:
+        """The same, but it removes them, and returns how many were in the set."""
+        return self._some(self._remove, keys, first, answers)
 
-    def tally(self) -> tuple[int, int, int]:
-        """Over the places: how many keys were added less those that were removed, how many nodes
-        wait to be freed, and how many places were in use, which are left out."""
-        keys = waiting = missed = 0
+    def waiting(self) -> tuple[int, int]:
+        """How many nodes wait with the workers of the places, and how many places were in use,
+        which are left out."""
+        waiting = missed = 0
         words = c.LedgerWords()
         for handle in self._handles[: self.reach]:
             outcome = c.quick.nm_worker_ledger(handle, words)
             if outcome == c.DONE:
-                keys += words.links - words.flags
                 waiting += words.queued
             missed += outcome == c.IN_USE
-        return keys, waiting, missed
+        return waiting, missed
 
 
 def first_wrong(keys: memoryview, is_signed: bool) -> int:

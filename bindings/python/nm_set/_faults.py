@@ -11,6 +11,8 @@ MOST_KEY = 2**64 - 4
 
 MOST_NODES = 268_435_456
 MOST_WORKERS = 64
+SHOWN = 10
+"""How many keys `repr` shows."""
 
 
 class Fault(Exception):
@@ -21,8 +23,8 @@ class Fault(Exception):
 
 
 class Full(Fault):
-    """An add found no free nodes, although it waited for those that are to be freed as long as the
-    set's `Tending` says. Nothing has changed."""
+    """An add found no free nodes: the keys take all of them, or no others were freed within the
+    `timeout_ms` of the set's `Tending`. Nothing has changed."""
 
     outcome = c.FULL
 
@@ -48,8 +50,9 @@ class Unfinished(Fault):
 
 
 class NoWorker(Fault):
-    """Each worker is with a thread, and `attach` was not to wait, or waited as long as it was to;
-    or this thread itself has them all, so that a call which waits for one would never end."""
+    """Each worker is with a thread, and `attach` was not to wait, or waited as long as it was to.
+    Or this thread itself has them all, so that an `attach` would never end; nor would a call of the
+    set if each of them is pinned."""
 
 
 class Away(Fault):
@@ -141,9 +144,16 @@ def told(outcome: int) -> bool:
     return outcome != 0
 
 
-def key_fault(key: object) -> Fault:
+def shown(number: int) -> str:
+    """A number as it is shown in a text: its size in bits, if it has more than 256. Python refuses
+    to write numbers with thousands of digits."""
+    bits = number.bit_length()
+    return str(number) if bits <= 256 else f"{'-' * (number < 0)}(a number of {bits:,} bits)"
+
+
+def key_fault(key: int) -> Fault:
     """The exception of a whole number that is no key."""
-    return fault(c.KEY, f"the key {key} is not 0 to {MOST_KEY:,} (2^64 - 4)")
+    return fault(c.KEY, f"the key {shown(key)} is not 0 to {MOST_KEY:,} (2^64 - 4)")
 
 
 def closed() -> Fault:
@@ -157,6 +167,12 @@ def forked(process: int) -> Fault:
         f"the set was made by the process {process}, and this one was forked of it: what it would"
         " add nobody else would see; make a set in this process"
     )
+
+
+def shortened(keys: Sequence[int], count: int) -> str:
+    """Keys as `repr` shows them: the first ones, and how many there are, if these are not all."""
+    first = ", ".join(map(str, keys[:SHOWN]))
+    return f"[{first}]" if len(keys) <= SHOWN else f"[{first}, ...], {count} keys"
 
 
 def those(numbers: Sequence[int]) -> str:

@@ -5,20 +5,20 @@ from __future__ import annotations
 
 import operator
 from array import array
-from collections.abc import Callable, Iterable, Iterator, MutableSet
+from collections.abc import Iterable, Iterator, MutableSet, Sized
 from collections.abc import Set as AbstractSet
 from contextlib import suppress
 from itertools import islice
 from numbers import Number
-from typing import Any, NoReturn, Optional, SupportsIndex, TypeVar
+from typing import Any, NoReturn, Optional, SupportsIndex, TypeVar, overload
 
 from . import _library as c
 from ._backend import Calls, answers, first_wrong
-from ._faults import MOST_KEY, Closed, Full, InUse, fault, key_fault
+from ._faults import MOST_KEY, SHOWN, Closed, Full, InUse, fault, key_fault, shortened
 
 _T = TypeVar("_T")
+_Out = TypeVar("_Out", bound=Sized)  # a buffer, for which Python has a type from 3.12 on alone
 _UNSIGNED, _SIGNED = frozenset("QLN"), frozenset("qln")  # the formats of words of 64 bits
-_TOLD = 10  # how many keys `repr` tells
 
 
 def _number(key: object) -> Optional[int]:
@@ -61,6 +61,16 @@ def _cast(view: memoryview, kind: str) -> memoryview:
     return view.cast("B").cast(kind) if view.nbytes else view
 
 
+def _answers_of(out: Any, count: int) -> memoryview:
+    """A buffer with a byte for the answer of each of so many keys."""
+    room = _cast(memoryview(out), "B")
+    if room.readonly:
+        raise TypeError("the answers cannot be written: `out` is read-only")
+    if len(room) != count:
+        raise ValueError(f"there are {count} keys, and room for {len(room)} answers")
+    return room
+
+
 def _copied(keys: Iterable[SupportsIndex]) -> memoryview:
     def each() -> Iterator[int]:
         for key in keys:
@@ -87,8 +97,8 @@ class Keys(MutableSet):  # type: ignore[type-arg]
 
     _calls: Calls
 
-    def _again(self, call: Callable[..., _T], *arguments: object) -> _T:
-        """Makes a call again that found no worker free, or no nodes."""
+    def _again(self, name: str, *arguments: object) -> Any:
+        """Makes a call of `Calls` again that found no worker free, or no nodes."""
         raise NotImplementedError
 
     # ---- one key ----
@@ -99,20 +109,21 @@ class Keys(MutableSet):  # type: ignore[type-arg]
             return self._calls.contains(key)  # type: ignore[arg-type]
         except (TypeError, ValueError, InUse):
             number = _number(key)
-        return number is not None and self._again(self._calls.contains, number)
+        return number is not None and bool(self._again("contains", number))
 
     def contains(self, key: object) -> bool:
         """The same as `key in numbers`."""
         return key in self
 
     def add(self, key: SupportsIndex) -> bool:  # type: ignore[override]
-        """Adds a key, 0 to 2^64 - 4: True where it was not in the set. `OutOfRange` or `TypeError`
-        of what is no key; `Full`."""
+        """Adds a key, 0 to 2^64 - 4, and returns whether it was not in the set. If the set is full
+        it waits for nodes for the `timeout_ms` of `Tending` at most, and for no other thread's
+        call. `OutOfRange` or `TypeError` for what is no key; `Full`."""
         try:
             return self._calls.add(key)
         except (Closed, InUse, Full):
             pass
-        return self._again(self._calls.add, key)
+        return bool(self._again("add", key))
 
     def discard(self, key: object) -> bool:  # type: ignore[override]
         """Removes a key: True where it was in the set."""
@@ -120,7 +131,7 @@ class Keys(MutableSet):  # type: ignore[type-arg]
             return self._calls.remove(key)  # type: ignore[arg-type]
         except (TypeError, ValueError, InUse):
             number = _number(key)
-        return number is not None and self._again(self._calls.remove, number)
+        return number is not None and bool(self._again("remove", number))
 
     def remove(self, key: object) -> None:
         """Removes a key, or raises KeyError where it was not in the set."""
@@ -135,7 +146,8 @@ class Keys(MutableSet):  # type: ignore[type-arg]
             return self._calls.at_least(key)
         except (Closed, InUse):
             pass
-        return self._again(self._calls.at_least, key)
+        found: Optional[int] = self._again("at_least", key)
+        return found
 
     def at_most(self, key: SupportsIndex) -> Optional[int]:
         """The greatest key of the set that is not above this one, or None where there is none, as
@@ -144,51 +156,61 @@ class Keys(MutableSet):  # type: ignore[type-arg]
             return self._calls.at_most(key)
         except (Closed, InUse):
             pass
-        return self._again(self._calls.at_most, key)
+        found: Optional[int] = self._again("at_most", key)
+        return found
 
     # ---- several keys ----
 
+    @overload
+    def contains_many(self, keys: Iterable[SupportsIndex], out: None = None) -> list[bool]: ...
+    @overload
+    def contains_many(self, keys: Iterable[SupportsIndex], out: _Out) -> _Out: ...
     def contains_many(self, keys: Iterable[SupportsIndex], out: Any = None) -> Any:
-        """Whether the set has each of these keys, in their order: a list, or what `out` is, a
-        buffer of one byte for each key, as of `bytearray` or numpy, in which 1 or 0 is written.
-        Each answer was right at a moment of the call. Keys that lie in a buffer, as those of
-        array.array("Q") or of numpy, are read where they are, and other threads run meanwhile."""
+        """Returns whether the set has each of these keys, in their order: a list, or `out`, a
+        buffer of one byte for each key, such as a `bytearray` or a numpy array, in which 1 or 0 is
+        written. Each answer was right at a moment of the call. Keys in a buffer, such as
+        array.array("Q") or a numpy array, are read where they are, and other threads run
+        meanwhile."""
         words = words_of(keys)
-        found = _cast(memoryview(bytearray(len(words)) if out is None else out), "B")
-        if found.readonly:
-            raise TypeError("the answers cannot be written where they are to be")
-        if len(found) != len(words):
-            raise ValueError(f"there are {len(words)} keys, and room for {len(found)} answers")
+        found = _answers_of(bytearray(len(words)) if out is None else out, len(words))
         at = 0
         while at < len(words):
             try:
                 at += self._calls.contains_some(words, at, found)
             except (Closed, InUse):
-                at += self._again(self._calls.contains_some, words, at, found)
+                at += self._again("contains_some", words, at, found)
         return answers(found) if out is None else out
 
-    def _change_many(self, keys: Iterable[SupportsIndex], name: str) -> int:
+    def _change_many(self, keys: Iterable[SupportsIndex], name: str, out: Any = None) -> int:
         words, at, changed = words_of(keys), 0, 0
-        some, one = getattr(self._calls, f"{name}_some"), getattr(self._calls, name)
+        told = None if out is None else _answers_of(out, len(words))
+        if told is not None:
+            told[:] = bytes(len(told))
+        some = getattr(self._calls, f"{name}_some")
         while at < len(words):
-            done, count, outcome = some(words, at)
+            done, count, outcome = some(words, at, told)
             at, changed = at + done, changed + count
             if outcome in (c.CLOSED, c.IN_USE, c.FULL):
-                changed += self._again(one, words[at])
-                at += 1
+                is_changed = self._again(name, words[at])
+                if told is not None:
+                    told[at] = is_changed
+                at, changed = at + 1, changed + is_changed
             elif outcome < 0:
                 raise fault(outcome)
         return changed
 
-    def add_many(self, keys: Iterable[SupportsIndex]) -> int:
-        """Adds these keys: how many were not in the set. They are tested before one of them is
-        added; where `Full` is raised those before are in the set. Keys in a buffer are read where
-        they are, as by `contains_many`, and other threads run meanwhile."""
-        return self._change_many(keys, "add")
+    def add_many(self, keys: Iterable[SupportsIndex], out: Any = None) -> int:
+        """Adds these keys, and returns how many were not in the set. All keys are tested before the
+        first one is added. `out` is a buffer of one byte for each key, as for `contains_many`: 1 is
+        written for each key that this call added, else 0. If `Full` is raised, the keys before are
+        in the set, and the rest of `out` is 0. Keys in a buffer are read where they are, as by
+        `contains_many`, and other threads run meanwhile."""
+        return self._change_many(keys, "add", out)
 
-    def discard_many(self, keys: Iterable[SupportsIndex]) -> int:
-        """Removes these keys: how many were in the set. See `add_many`."""
-        return self._change_many(keys, "remove")
+    def discard_many(self, keys: Iterable[SupportsIndex], out: Any = None) -> int:
+        """Removes these keys, and returns how many were in the set. In `out`, 1 is written for each
+        key that this call removed, and no other call did. See `add_many`."""
+        return self._change_many(keys, "remove", out)
 
     # ---- in order ----
 
@@ -236,23 +258,25 @@ class Keys(MutableSet):  # type: ignore[type-arg]
         """The greatest key, or None of an empty set."""
         return self.at_most(MOST_KEY)
 
-    def _pop(self, call: Callable[[], Optional[int]]) -> int:
+    def _pop(self, name: str) -> int:
         try:
-            key = call()
+            key = getattr(self._calls, name)()
         except (Closed, InUse):
-            key = self._again(call)
+            key = self._again(name)
         if key is None:
             raise KeyError("pop from an empty set")
-        return key
+        return int(key)
 
     def pop_first(self) -> int:
-        """Removes the least key and tells it. KeyError of an empty set. No two calls tell one key,
-        unless it was added again between, and none is passed over that was in the set all along."""
-        return self._pop(self._calls.pop_first)
+        """Removes the least key and returns it. KeyError if the set is empty. No two calls return
+        one key, unless it was added again between, and none is passed over that was in the set all
+        along.
+        """
+        return self._pop("pop_first")
 
     def pop_last(self) -> int:
         """The same of the greatest key."""
-        return self._pop(self._calls.pop_last)
+        return self._pop("pop_last")
 
     def pop(self) -> int:
         """The same as `pop_first`, by the name that a set has for it."""
@@ -266,12 +290,8 @@ class Keys(MutableSet):  # type: ignore[type-arg]
         return self.at_least(0) is not None
 
     def __repr__(self) -> str:
-        told = [str(key) for key in islice(self, _TOLD + 1)]
-        if len(told) <= _TOLD:
-            keys = f"[{', '.join(told)}]"
-        else:
-            keys = f"[{', '.join(told[:_TOLD])}, ...], {len(self)} keys"
-        return f"{type(self).__name__}({keys})"
+        keys = list(islice(self, SHOWN + 1))
+        return f"{type(self).__name__}({shortened(keys, len(self))})"
 
     # ---- as a set ----
 

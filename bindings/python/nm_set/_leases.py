@@ -57,13 +57,13 @@ def drop_with(owner: Owner, handles: Iterable[c.Handle]) -> None:
     """Gives up what these handles will own as their owner ends, the last one first."""
     first = _first(owner)
     for handle in handles:
-        first.others.append(_lease(owner, c.exports.nm_drop, ctypes.pointer(handle)))
+        first.others.append(_lease(owner, c.exports.nm_drop, ctypes.byref(handle)))
 
 
 def send_home_with(owner: Owner, handle: c.Handle, tries: int) -> None:
     """Gives up the worker that a handle will own as its owner ends: its pin ends, and the discard
     that is pending is gone on with."""
-    first, at = _first(owner), ctypes.pointer(handle)
+    first, at = _first(owner), ctypes.byref(handle)
     finish = functools.partial(c.exports.nm_worker_finish, at)
     for call, parameter in [
         (c.exports.nm_drop, at),

@@ -13,11 +13,29 @@ import ctypes
 import os
 import shutil
 from collections.abc import Iterator
-from ctypes import POINTER, c_int, c_size_t, c_uint32, c_uint64, c_void_p
+from ctypes import POINTER, c_int, c_int64, c_size_t, c_uint32, c_uint64, c_void_p
 from pathlib import Path
 from typing import Any, Final, TypeVar
 
 from . import __version__
+
+
+def _refuse_other_interpreters() -> None:
+    """Raises ImportError in each interpreter of the process but the first. What `_native` keeps is
+    of the process: a second interpreter would replace the exceptions of the first one."""
+    python = ctypes.PyDLL(None)
+    python.PyInterpreterState_Get.restype = c_void_p
+    python.PyInterpreterState_GetID.argtypes = [c_void_p]
+    python.PyInterpreterState_GetID.restype = c_int64
+    if python.PyInterpreterState_GetID(python.PyInterpreterState_Get()) != 0:
+        raise ImportError(
+            "nm_set can be imported by the first interpreter of a process alone, and this is"
+            " another one: use processes or threads in place of subinterpreters",
+            name="nm_set",
+        )
+
+
+_refuse_other_interpreters()
 
 
 class Handle(ctypes.Structure):

@@ -8,6 +8,7 @@
 #define PY_SSIZE_T_CLEAN
 #include <Python.h>
 #include <pthread.h>
+#include <stdatomic.h>
 #include <stdint.h>
 #include <string.h>
 #include <unistd.h>
@@ -19,13 +20,13 @@
 #define SEVERAL 64   /* how many keys one call of the library looks up */
 #define SOME 4096    /* how many keys one call of a method named `.._some` goes over at most */
 #define MOST_PLACES 64
+#define LINES 64     /* the lines of a count */
 
 typedef nm_outcome (*tended_call)(nm_handle *, uint64_t, const nm_habit *);
 typedef nm_outcome (*pop_call)(nm_handle *, const nm_habit *, uint64_t *);
 typedef nm_outcome (*near_call)(nm_handle *, uint64_t, uint32_t, uint64_t *);
 typedef nm_outcome (*many_call)(nm_handle *, nm_lookup *, size_t, uint32_t);
 typedef nm_outcome (*finish_call)(nm_handle *, uint32_t);
-typedef nm_outcome (*pending_call)(nm_handle *, uint64_t *);
 typedef nm_outcome (*ledger_call)(nm_handle *, nm_ledger *);
 
 static tended_call contains_of, insert_of, remove_of;
@@ -33,7 +34,6 @@ static pop_call pop_first_of, pop_last_of;
 static near_call next_of, prev_of;
 static many_call contains_many_of;
 static finish_call finish_of;
-static pending_call pending_of;
 static ledger_call ledger_of;
 
 /* What makes the exceptions, of _faults.py. */
@@ -44,15 +44,48 @@ static unsigned long forks;
 
 static void count_fork(void) { forks++; }
 
+/* How many keys the calls of a set and of its workers have added, less those that they have
+ * removed: a part in each of some lines of memory, so that threads which run at the same time
+ * seldom write the same one. */
+typedef struct {
+    PyObject_HEAD
+    struct {
+        _Atomic int64_t keys;
+        char unused[STRIDE - sizeof(int64_t)];
+    } lines[LINES];
+} Count;
+
 typedef struct {
     PyObject_HEAD
     Py_buffer places;
     nm_habit habit;
+    Count *count;
+    int line;      /* place i counts in line (line + i) % LINES */
     uint64_t lent; /* bit i: a thread that let others go on is at work by place i */
     int reach;     /* how many of the places are looked at */
     unsigned long forks;
     long process;
 } Calls;
+
+static void count_keys(Calls *self, int at, int change) {
+    if (change != 0) {
+        atomic_fetch_add_explicit(&self->count->lines[(self->line + at) % LINES].keys, change,
+                                  memory_order_relaxed);
+    }
+}
+
+/* Counts the key that a call by a place has added. */
+static nm_outcome count_added(Calls *self, int at, nm_outcome outcome) {
+    count_keys(self, at, outcome == NM_YES);
+    return outcome;
+}
+
+/* Counts the key that a call by a place has removed. An unfinished remove counts now, and not when
+ * it is finished: no other call will remove the key. */
+static nm_outcome count_removed(Calls *self, int at, nm_outcome outcome) {
+    count_keys(self, at, -(outcome == NM_YES || outcome == NM_UNFINISHED));
+    return outcome;
+}
 
 static nm_handle *place_of(Calls *self, int at) {
     return (nm_handle *)((char *)self->places.buf + (size_t)at * STRIDE);
@@ -116,14 +149,29 @@ static PyObject *answer(nm_outcome outcome) {
     return outcome < 0 ? raise_fault(outcome) : PyBool_FromLong(outcome != NM_NO);
 }
 
-static PyObject *tended(Calls *self, PyObject *object, tended_call call) {
+/* A tended call by a place, which counts what it changes. */
+typedef nm_outcome (*place_call)(Calls *, int, uint64_t);
+
+static nm_outcome contains_by(Calls *self, int at, uint64_t key) {
+    return contains_of(place_of(self, at), key, &self->habit);
+}
+
+static nm_outcome add_by(Calls *self, int at, uint64_t key) {
+    return count_added(self, at, insert_of(place_of(self, at), key, &self->habit));
+}
+
+static nm_outcome remove_by(Calls *self, int at, uint64_t key) {
+    return count_removed(self, at, remove_of(place_of(self, at), key, &self->habit));
+}
+
+static PyObject *tended(Calls *self, PyObject *object, place_call call) {
     uint64_t key;
     nm_outcome outcome = NM_CLOSED;
     if (key_of(object, &key) < 0 || !is_at_home(self)) {
         return NULL;
     }
     for (int at = 0; at < self->reach; at++) {
-        outcome = is_free_place(self, at) ? call(place_of(self, at), key, &self->habit) : NM_IN_USE;
+        outcome = is_free_place(self, at) ? call(self, at, key) : NM_IN_USE;
         if (!is_elsewhere(outcome)) {
             break;
         }
@@ -132,15 +180,15 @@ static PyObject *tended(Calls *self, PyObject *object, tended_call call) {
 }
 
 static PyObject *calls_contains(PyObject *self, PyObject *key) {
-    return tended((Calls *)self, key, contains_of);
+    return tended((Calls *)self, key, contains_by);
 }
 
 static PyObject *calls_add(PyObject *self, PyObject *key) {
-    return tended((Calls *)self, key, insert_of);
+    return tended((Calls *)self, key, add_by);
 }
 
 static PyObject *calls_remove(PyObject *self, PyObject *key) {
-    return tended((Calls *)self, key, remove_of);
+    return tended((Calls *)self, key, remove_by);
 }
 
 /* The key that a call has told, or None. */
@@ -193,13 +241,8 @@ static PyObject *calls_at_most(PyObject *self, PyObject *key) {
     return nearest((Calls *)self, key, prev_of);
 }
 
-/* Takes a key by a place. One that is told to be unfinished goes by this call and no other, and is
- * pending. */
-static nm_outcome taken_by(Calls *self, nm_handle *place, pop_call call, uint64_t *taken) {
-    nm_outcome outcome = call(place, &self->habit, taken);
-    return outcome == NM_UNFINISHED ? pending_of(place, taken) : outcome;
-}
-
+/* Takes a key. A key whose remove is unfinished is taken too: this call will remove it, and no
+ * other call will. */
 static PyObject *take(Calls *self, pop_call call) {
     uint64_t taken = 0;
     nm_outcome outcome = NM_CLOSED;
@@ -207,13 +250,14 @@ static PyObject *take(Calls *self, pop_call call) {
         return NULL;
     }
     for (int at = 0; at < self->reach; at++) {
-        outcome = is_free_place(self, at) ? taken_by(self, place_of(self, at), call, &taken)
+        outcome = is_free_place(self, at) ? call(place_of(self, at), &self->habit, &taken)
                                           : NM_IN_USE;
         if (!is_elsewhere(outcome)) {
+            count_removed(self, at, outcome);
             break;
         }
     }
-    return told_key(outcome, taken);
+    return told_key(outcome == NM_UNFINISHED ? NM_YES : outcome, taken);
 }
 
 static PyObject *calls_pop_first(PyObject *self, PyObject *unused) {
@@ -251,12 +295,12 @@ static int keys_of(PyObject *object, Py_ssize_t first, Keys *keys) {
     return 0;
 }
 
-/* What a thread does by one place while the others go on: it looks keys up, or has each be in the
- * set or not, by a call. */
+/* What a thread does by one place while the others go on: it looks keys up, or adds or removes each
+ * by a call. Its answer for each key is written to `answers`, if there are any. */
 typedef struct {
-    tended_call call;
+    place_call call; /* NULL to look keys up */
     int is_to_stand;
-    unsigned char *found;
+    unsigned char *answers;
     Py_ssize_t done, changed;
     nm_outcome outcome;
 } Work;
@@ -301,22 +345,26 @@ static void look_up_each(Calls *self, nm_handle *place, const Keys *keys, Work *
             return;
         }
         for (Py_ssize_t at = 0; at < group.count; at++) {
-            work->found[work->done + at] = group.each[at].found != 0;
+            work->answers[work->done + at] = group.each[at].found != 0;
         }
         work->done += group.count;
     } while (work->done < keys->count);
 }
 
-/* Has the keys of a group be in the set or not, one by one, behind a look at all of them: walks that
- * go side by side wait for memory together, and a key that was as it is to be needs no change. Where
- * that look tells nothing, the changes tell why. Whether each was made. */
-static int change_group(Calls *self, nm_handle *place, Group *group, Work *work) {
-    int is_told = look_up(self, place, group) >= 0;
+/* Adds or removes the keys of a group one by one, after a look at all of them: walks that go side
+ * by side wait for memory together, and a key that is already in the set, or out of it, as it
+ * should be needs no change. If that look fails, the changes find out why. Returns whether each was
+ * made. */
+static int change_group(Calls *self, int place, Group *group, Work *work) {
+    int is_told = look_up(self, place_of(self, place), group) >= 0;
     for (Py_ssize_t at = 0; at < group->count; at++, work->done++) {
         if (is_told && (group->each[at].found != 0) == work->is_to_stand) {
             continue;
         }
-        nm_outcome outcome = work->call(place, group->each[at].key, &self->habit);
+        nm_outcome outcome = work->call(self, place, group->each[at].key);
+        if (work->answers) {
+            work->answers[work->done] = outcome == NM_YES || outcome == NM_UNFINISHED;
+        }
         if (outcome < 0) {
             work->outcome = outcome;
             return 0;
@@ -326,7 +374,7 @@ static int change_group(Calls *self, nm_handle *place, Group *group, Work *work)
     return 1;
 }
 
-static void change_each(Calls *self, nm_handle *place, const Keys *keys, Work *work) {
+static void change_each(Calls *self, int place, const Keys *keys, Work *work) {
     Group group;
     for (work->done = 0; work->done < keys->count;) {
         take_group(keys, work->done, &group);
@@ -348,10 +396,10 @@ static void work_by_one(Calls *self, const Keys *keys, Work *work) {
         }
         self->lent |= (uint64_t)1 << at;
         Py_BEGIN_ALLOW_THREADS
-        if (work->found) {
-            look_up_each(self, place_of(self, at), keys, work);
+        if (work->call) {
+            change_each(self, at, keys, work);
         } else {
-            change_each(self, place_of(self, at), keys, work);
+            look_up_each(self, place_of(self, at), keys, work);
         }
         Py_END_ALLOW_THREADS
         self->lent &= ~((uint64_t)1 << at);
@@ -361,74 +409,89 @@ static void work_by_one(Calls *self, const Keys *keys, Work *work) {
     }
 }
 
-static PyObject *change_some(Calls *self, PyObject *args, tended_call call, int is_to_stand) {
-    PyObject *object;
+/* Takes the buffer of answers from an index on, which is to have room for the answers of these
+ * keys. -1 after an exception. */
+static int answers_of(PyObject *object, const Keys *keys, Py_buffer *answers) {
+    if (PyObject_GetBuffer(object, answers, PyBUF_WRITABLE) < 0) {
+        return -1;
+    }
+    if (answers->len < keys->first + keys->count) {
+        PyBuffer_Release(answers);
+        PyErr_SetString(PyExc_IndexError, "there is no room for the answers");
+        return -1;
+    }
+    return 0;
+}
+
+static PyObject *change_some(Calls *self, PyObject *args, place_call call, int is_to_stand) {
+    PyObject *object, *out;
     Py_ssize_t first;
     Keys keys;
+    Py_buffer answers;
     Work work = {.call = call, .is_to_stand = is_to_stand, .outcome = NM_CLOSED};
-    if (!PyArg_ParseTuple(args, "On", &object, &first) || !is_at_home(self) ||
+    if (!PyArg_ParseTuple(args, "OnO", &object, &first, &out) || !is_at_home(self) ||
         keys_of(object, first, &keys) < 0) {
         return NULL;
     }
+    if (out != Py_None && answers_of(out, &keys, &answers) < 0) {
+        PyBuffer_Release(&keys.buffer);
+        return NULL;
+    }
+    work.answers = out != Py_None ? (unsigned char *)answers.buf + first : NULL;
     work_by_one(self, &keys, &work);
     PyBuffer_Release(&keys.buffer);
+    if (work.answers) {
+        PyBuffer_Release(&answers);
+    }
     return Py_BuildValue("nni", work.done, work.changed, (int)work.outcome);
 }
 
 static PyObject *calls_add_some(PyObject *self, PyObject *args) {
-    return change_some((Calls *)self, args, insert_of, 1);
+    return change_some((Calls *)self, args, add_by, 1);
 }
 
 static PyObject *calls_remove_some(PyObject *self, PyObject *args) {
-    return change_some((Calls *)self, args, remove_of, 0);
+    return change_some((Calls *)self, args, remove_by, 0);
 }
 
 static PyObject *calls_contains_some(PyObject *object, PyObject *args) {
     Calls *self = (Calls *)object;
-    PyObject *asked, *told;
+    PyObject *asked, *out;
     Py_ssize_t first;
     Keys keys;
-    Py_buffer found;
+    Py_buffer answers;
     Work work = {.outcome = NM_CLOSED};
-    if (!PyArg_ParseTuple(args, "OnO", &asked, &first, &told) || !is_at_home(self) ||
+    if (!PyArg_ParseTuple(args, "OnO", &asked, &first, &out) || !is_at_home(self) ||
         keys_of(asked, first, &keys) < 0) {
         return NULL;
     }
-    if (PyObject_GetBuffer(told, &found, PyBUF_WRITABLE) < 0) {
+    if (answers_of(out, &keys, &answers) < 0) {
         PyBuffer_Release(&keys.buffer);
         return NULL;
     }
-    if (found.len < first + keys.count) {
-        PyErr_SetString(PyExc_IndexError, "there is no room for so many answers");
-    } else {
-        work.found = (unsigned char *)found.buf + first;
-        work_by_one(self, &keys, &work);
-    }
+    work.answers = (unsigned char *)answers.buf + first;
+    work_by_one(self, &keys, &work);
     PyBuffer_Release(&keys.buffer);
-    PyBuffer_Release(&found);
-    if (PyErr_Occurred()) {
-        return NULL;
-    }
+    PyBuffer_Release(&answers);
     if (work.outcome < 0 && !work.done) {
         return raise_fault(work.outcome);
     }
     return PyLong_FromSsize_t(work.done);
 }
 
-static PyObject *calls_tally(PyObject *object, PyObject *unused) {
+static PyObject *calls_waiting(PyObject *object, PyObject *unused) {
     Calls *self = (Calls *)object;
-    long long count = 0, waiting = 0, missed = 0;
+    long long waiting = 0, missed = 0;
     nm_ledger ledger;
     (void)unused;
     for (int at = 0; at < self->reach; at++) {
         nm_outcome outcome = ledger_of(place_of(self, at), &ledger);
         if (outcome == NM_DONE) {
-            count += (long long)(ledger.links - ledger.flags);
             waiting += (long long)ledger.queued;
         }
         missed += outcome == NM_IN_USE;
     }
-    return Py_BuildValue("LLL", count, waiting, missed);
+    return Py_BuildValue("LL", waiting, missed);
 }
 
 /* ---- the type, and the module ---- */
@@ -448,11 +511,48 @@ static int habit_of(PyObject *object, nm_habit *habit) {
     return fits ? 0 : -1;
 }
 
+/* The type of counts. */
+static PyTypeObject *count_type;
+
+static PyObject *count_keys_of(PyObject *object, PyObject *unused) {
+    Count *self = (Count *)object;
+    int64_t keys = 0;
+    (void)unused;
+    for (int at = 0; at < LINES; at++) {
+        keys += atomic_load_explicit(&self->lines[at].keys, memory_order_relaxed);
+    }
+    return PyLong_FromLongLong(keys);
+}
+
+static PyMethodDef count_methods[] = {
+    {"keys", count_keys_of, METH_NOARGS, NULL},
+    {NULL, NULL, 0, NULL},
+};
+
+static void count_dealloc(PyObject *object) {
+    PyTypeObject *type = Py_TYPE(object);
+    freefunc give_back = (freefunc)PyType_GetSlot(type, Py_tp_free);
+    give_back(object);
+    Py_DECREF(type);
+}
+
+static PyType_Slot count_slots[] = {
+    {Py_tp_dealloc, count_dealloc},
+    {Py_tp_methods, count_methods},
+    {0, NULL},
+};
+
+static PyType_Spec count_spec = {
+    "nm_set._native.Count", sizeof(Count), 0, Py_TPFLAGS_DEFAULT, count_slots,
+};
+
 static PyObject *calls_new(PyTypeObject *type, PyObject *args, PyObject *named) {
-    PyObject *places, *habit;
+    PyObject *places, *habit, *count;
+    int line;
     nm_habit of;
     (void)named;
-    if (!PyArg_ParseTuple(args, "OO", &places, &habit) || habit_of(habit, &of) < 0) {
+    if (!PyArg_ParseTuple(args, "OOO!i", &places, &habit, count_type, &count, &line) ||
+        habit_of(habit, &of) < 0) {
         return NULL;
     }
     allocfunc alloc = (allocfunc)PyType_GetSlot(type, Py_tp_alloc);
@@ -461,6 +561,9 @@ static PyObject *calls_new(PyTypeObject *type, PyObject *args, PyObject *named) 
         return NULL;
     }
     self->habit = of;
+    Py_INCREF(count);
+    self->count = (Count *)count;
+    self->line = line & (LINES - 1);
     self->forks = forks;
     self->process = (long)getpid();
     if (PyObject_GetBuffer(places, &self->places, PyBUF_WRITABLE) < 0) {
@@ -478,6 +581,7 @@ static void calls_dealloc(PyObject *object) {
     if (self->places.buf) {
         PyBuffer_Release(&self->places);
     }
+    Py_XDECREF((PyObject *)self->count);
     give_back(object);
     Py_DECREF(type);
 }
@@ -513,7 +617,7 @@ static PyMethodDef calls_methods[] = {
     {"contains_some", calls_contains_some, METH_VARARGS, NULL},
     {"add_some", calls_add_some, METH_VARARGS, NULL},
     {"remove_some", calls_remove_some, METH_VARARGS, NULL},
-    {"tally", calls_tally, METH_NOARGS, NULL},
+    {"waiting", calls_waiting, METH_NOARGS, NULL},
     {NULL, NULL, 0, NULL},
 };
 
@@ -570,11 +674,11 @@ static PyObject *answers(PyObject *module, PyObject *object) {
 /* Where the functions of the library are, and what makes the exceptions. */
 static PyObject *bind(PyObject *module, PyObject *args) {
     unsigned long long contains, insert, remove, pop_first, pop_last, next, prev;
-    unsigned long long contains_many, finish, pending, ledger;
+    unsigned long long contains_many, finish, ledger;
     (void)module;
-    if (!PyArg_ParseTuple(args, "KKKKKKKKKKKOOO", &contains, &insert, &remove, &pop_first,
-                          &pop_last, &next, &prev, &contains_many, &finish, &pending, &ledger,
-                          &fault_of, &key_fault_of, &forked_of)) {
+    if (!PyArg_ParseTuple(args, "KKKKKKKKKKOOO", &contains, &insert, &remove, &pop_first,
+                          &pop_last, &next, &prev, &contains_many, &finish, &ledger, &fault_of,
+                          &key_fault_of, &forked_of)) {
         return NULL;
     }
     contains_of = (tended_call)(uintptr_t)contains;
@@ -586,7 +690,6 @@ static PyObject *bind(PyObject *module, PyObject *args) {
     prev_of = (near_call)(uintptr_t)prev;
     contains_many_of = (many_call)(uintptr_t)contains_many;
     finish_of = (finish_call)(uintptr_t)finish;
-    pending_of = (pending_call)(uintptr_t)pending;
     ledger_of = (ledger_call)(uintptr_t)ledger;
     Py_INCREF(fault_of);
     Py_INCREF(key_fault_of);
@@ -601,18 +704,43 @@ static PyMethodDef functions[] = {
     {NULL, NULL, 0, NULL},
 };
 
-static struct PyModuleDef definition = {
-    PyModuleDef_HEAD_INIT, "nm_set._native", NULL, -1, functions, NULL, NULL, NULL, NULL,
+/* Whether this is the first interpreter of the process; else an exception is set. What the module
+ * keeps is of the process: a second interpreter would replace the exceptions of the first one. */
+static int is_first_interpreter(void) {
+    if (PyInterpreterState_GetID(PyInterpreterState_Get()) == 0) {
+        return 1;
+    }
+    PyErr_SetString(PyExc_ImportError,
+                    "nm_set can be imported by the first interpreter of a process alone, and this"
+                    " is another one: use processes or threads in place of subinterpreters");
+    return 0;
+}
+
+/* Fills the module, for each interpreter that imports it. */
+static int fill(PyObject *module) {
+    if (!is_first_interpreter()) {
+        return -1;
+    }
+    PyObject *calls = PyType_FromSpec(&calls_spec), *count = PyType_FromSpec(&count_spec);
+    int is_filled = calls && count && PyObject_SetAttrString(module, "Calls", calls) == 0 &&
+                    PyObject_SetAttrString(module, "Count", count) == 0;
+    Py_XDECREF(calls);
+    if (!is_filled) {
+        Py_XDECREF(count);
+        return -1;
+    }
+    count_type = (PyTypeObject *)count;
+    pthread_atfork(NULL, NULL, count_fork);
+    return 0;
+}
+
+static PyModuleDef_Slot slots[] = {
+    {Py_mod_exec, fill},
+    {0, NULL},
 };
 
-PyMODINIT_FUNC PyInit__native(void) {
-    PyObject *module = PyModule_Create(&definition);
-    PyObject *type = PyType_FromSpec(&calls_spec);
-    if (!module || !type || PyModule_AddObject(module, "Calls", type) < 0) {
-        Py_XDECREF(type);
-        Py_XDECREF(module);
-        return NULL;
-    }
-    pthread_atfork(NULL, NULL, count_fork);
-    return module;
-}
+static struct PyModuleDef definition = {
+    PyModuleDef_HEAD_INIT, "nm_set._native", NULL, 0, functions, slots, NULL, NULL, NULL,
+};
+
+PyMODINIT_FUNC PyInit__native(void) { return PyModuleDef_Init(&definition); }

@@ -11,7 +11,7 @@ from dataclasses import dataclass
 from typing import SupportsIndex
 
 from . import _library as c
-from ._faults import told
+from ._faults import SHOWN, shortened, told
 
 
 @dataclass(frozen=True)
@@ -23,7 +23,7 @@ class Waiting:
     label: int
 
 
-@dataclass(frozen=True)
+@dataclass(frozen=True, repr=False)
 class Report:
     """What a set was closed with."""
 
@@ -36,6 +36,14 @@ class Report:
     waiting: tuple[tuple[Waiting, ...], ...]
     """The nodes that wait of those that each worker cut off, oldest first, in the order of the
     workers' numbers."""
+
+    def __repr__(self) -> str:
+        """Shows the first ten keys, and how many nodes waited in place of each."""
+        waiting = sum(map(len, self.waiting))
+        return (
+            f"Report({shortened(self.keys[: SHOWN + 1], len(self))}, free={self.free},"
+            f" reached={self.reached}, waiting={waiting})"
+        )
 
     def __len__(self) -> int:
         return len(self.keys)

@@ -4,10 +4,12 @@ No lock is held, and no step gives back what an earlier one took, so an exceptio
 moment, as a signal handler's does, leaves nothing behind:
 
 - The handles for the calls of the set itself stay open. A call is made by the first of them that is
-  in no other call, which the library tells; where there is none, one more takes a worker.
+  in no other call, which the library knows. If there is none, one more handle takes a worker. If no
+  worker is left, the call is made by the handle of a `Worker` that is in no call and not pinned.
 - A `Worker` has a handle of its own, which a weak reference gives up as the object ends
   (`_leases`); so have the set's.
-- What is written down of workers may be late; then the library tells otherwise, and is believed.
+- A call counts the keys that it adds or removes in one step with the call (`Count`).
+- What is written down of workers may be late; then the library says otherwise, and is believed.
 - `close` says first that the set is being closed, and then does what is left to do: another close
   goes on where one was interrupted.
 """
@@ -23,24 +25,26 @@ from collections.abc import Callable, Iterable, Iterator
 from contextlib import suppress
 from ctypes import c_uint32, c_uint64
 from dataclasses import dataclass, fields
+from itertools import count
 from types import TracebackType
-from typing import Literal, Optional, SupportsIndex, TypeVar, Union
+from typing import Any, Literal, Optional, SupportsIndex, Union
 
 from . import _library as c
-from ._backend import Calls
-from ._faults import MOST_NODES, MOST_WORKERS, Away, Closed, Full, InUse, NoWorker, OutOfRange
-from ._faults import closed, fault, forked, those, told
+from ._backend import Calls, Count
+from ._faults import MOST_NODES, MOST_WORKERS, Away, Closed, Full, Held, InUse, NoWorker, OutOfRange
+from ._faults import Unfinished, closed, fault, forked, shown, those, told
 from ._keys import Keys, words_of
 from ._leases import Owner, drop_with, send_home_with
 from ._report import Reader, Report
 
-_T = TypeVar("_T")
-_NODES = 65_536  # the nodes of a set where none are named
+_NODES = 65_536  # the nodes of a set for which no number is given
 _MOVES = 3  # how often a relief moves the epoch on at most
-_AT_ONCE = 4  # how often an add that found the set full goes on at once where nodes were freed
+_AT_ONCE = 4  # how often an add that found the set full goes on at once after nodes were freed
+_FIRST_NAP = 0.00002  # seconds that such an add sleeps first; each later sleep is twice as long
 _NAPS = 10  # how often a wait gives other threads their turn before it sleeps
 _NAP = 0.001  # seconds
 _LOOKS = 1_000  # how often a worker that is in another thread's call is looked at again
+_FINISHES, _TRIES = 1_024, 64  # how a call by a borrowed worker finishes the discard it has begun
 
 Shape = Literal["radix", "near", "lowest"]
 MAKERS = {"radix": "nm_set_new", "near": "nm_set_near", "lowest": "nm_set_lowest"}
@@ -50,12 +54,12 @@ def _narrow(number: SupportsIndex, what: str, least: int = 0, most: int = 2**32 
     """A number that C takes in 32 bits."""
     value = operator.index(number)
     if not least <= value <= most:
-        raise OutOfRange(f"the number of {what} is not {least} to {most:,}: {value}")
+        raise OutOfRange(f"the number of {what} is not {least} to {most:,}: {shown(value)}")
     return value
 
 
 def _nap(turn: int) -> None:
-    """Lets other threads go on: longer, where they had several turns already."""
+    """Lets other threads go on: longer, if they had several turns already."""
     time.sleep(0 if turn < _NAPS else _NAP)
 
 
@@ -69,16 +73,49 @@ class Tending:
     rounds: int = 64
     """How often a call that has lost each of its tries is made again, and how often a discard that
     has begun is gone on with."""
-    collect_after: int = 64
-    """From how many waiting nodes on an add or a discard first moves the epoch on and collects."""
-    patience: int = 64
-    """How often an add that found no free nodes, while some wait to be freed, sleeps a millisecond
-    and goes on, before it raises `Full`."""
+    collect_after: Optional[int] = None
+    """When this many removed nodes wait with its worker, an add or a discard first moves the epoch
+    on and collects. None: nodes / (8 * workers), at least 8 and at most 64."""
+    timeout_ms: int = 64
+    """The longest time in milliseconds that an add which finds no free nodes, while removed ones
+    wait to be freed, sleeps and tries again before it raises `Full`. The sleeps begin with 20
+    microseconds and double up to a millisecond. With 0 the add never sleeps, as an event loop needs
+    it."""
 
     def __post_init__(self) -> None:
         for each in fields(self):
-            number = _narrow(getattr(self, each.name), each.name)
-            object.__setattr__(self, each.name, number)
+            value = getattr(self, each.name)
+            if value is not None or each.name != "collect_after":
+                object.__setattr__(self, each.name, _narrow(value, each.name))
+
+    def _words(self, nodes: int, workers: int) -> c.HabitWords:
+        """The same as the library takes it, for a set of this many nodes and workers."""
+        after = self.collect_after
+        if after is None:
+            after = min(max(nodes // (8 * workers), 8), 64)
+        return c.HabitWords(self.tries, self.rounds, after)
+
+
+class _Wait:
+    """The wait of one add for free nodes."""
+
+    def __init__(self, tending: Tending) -> None:
+        self._until = time.monotonic() + tending.timeout_ms / 1_000
+        self._nap, self._at_once = _FIRST_NAP, _AT_ONCE
+
+    def is_at_once(self, freed: int) -> bool:
+        """Whether the add goes on at once, because nodes were freed, as they were seldom before."""
+        self._at_once -= freed > 0
+        return freed > 0 and self._at_once >= 0
+
+    def is_over(self) -> bool:
+        """Whether the set's timeout has passed."""
+        return time.monotonic() >= self._until
+
+    def sleep(self) -> None:
+        """Sleeps, and not beyond the timeout."""
+        time.sleep(min(self._nap, max(self._until - time.monotonic(), 0)))
+        self._nap = min(2 * self._nap, _NAP)
 
 
 @dataclass(frozen=True)
@@ -112,13 +149,21 @@ def _rest(handle: c.Handle, habit: c.HabitWords) -> None:
             return
 
 
-def _collect(handle: c.Handle) -> int:
-    """Moves the epoch on as far as can be, and frees what has waited long enough in the queue of a
-    worker that no other call has: how many nodes."""
-    epoch, freed, behind = c_uint64(), c_uint64(), c_uint32()
+def _has_moved_on(handle: c.Handle) -> bool:
+    """Moves the epoch on as often as removed nodes wait for, or until a worker holds it back, by a
+    worker. Returns whether the worker was in no other call."""
+    epoch, behind, outcome = c_uint64(), c_uint32(), c.DONE
     for _ in range(_MOVES):
-        if c.quick.nm_worker_advance(handle, epoch, behind) not in (c.DONE, c.LOST):
+        outcome = c.quick.nm_worker_advance(handle, epoch, behind)
+        if outcome not in (c.DONE, c.LOST):
             break
+    return outcome not in (c.IN_USE, c.CLOSED)
+
+
+def _free(handle: c.Handle) -> int:
+    """Frees what has waited long enough in the queue of a worker, unless it is in another call.
+    Returns how many nodes were freed."""
+    epoch, freed = c_uint64(), c_uint64()
     c.exports.nm_worker_collect(handle, epoch, freed)
     return freed.value
 
@@ -131,17 +176,19 @@ def _is_open(handle: c.Handle) -> bool:
 class Set(Keys):
     """A set of the whole numbers from 0 to 2^64 - 4 that threads share without locks.
 
-    Any thread may call it, by one of the set's workers that is free at that moment; where each is
-    in a call of another thread, or with a `Worker`, the call waits for one. A thread that makes
-    many calls may take a `Worker` of its own by `attach`.
+    Any thread may call it. Each call is made by one of the set's workers that no thread uses at
+    that moment. If there is none, the call borrows the worker of a `Worker` that is in no call and
+    not pinned. If each worker is in a call or pinned, the call waits until one is not: it sleeps a
+    millisecond and looks again, with no bound. A thread that makes many calls may take a `Worker`
+    of its own by `attach`.
 
-    The calls tend the set: one that lost its tries to other threads is made again, a discard that
-    has begun is finished, and from so many waiting nodes on the epoch is moved on and the worker's
-    removed nodes are collected. What a call may spend is bounded by `Tending`; where that is not
-    enough `Contention` is raised, or `Unfinished` of a discard that has begun. All of this is the
-    library's, and proved. That a worker is found for each call, that removed nodes which wait with
-    workers that nobody uses are collected too, and that an add waits for them before `Full` is
-    raised, is this module's, which is tested and not proved.
+    The calls tend the set. A call that lost its tries to other threads is made again, and a discard
+    that has begun is finished. When `collect_after` removed nodes wait with the worker, the call
+    first moves the epoch on and collects. `Tending` bounds what a call may spend. If that is not
+    enough `Contention` is raised, or `Unfinished` for a discard that has begun. The library does
+    all of this, which is proved. This module finds a worker for each call, collects removed nodes
+    that wait with other workers too, and lets an add wait for them before `Full` is raised: this
+    part is tested and not proved.
 
     A signal handler may make any call, `close` too, and may raise an exception in the middle of
     any: no call hangs, nothing is lost, and the call that was interrupted was made or was not made.
@@ -174,13 +221,14 @@ class Set(Keys):
             raise TypeError("the number of nodes is given twice")
         room = max(_NODES, 4 * len(keys)) if nodes is None else nodes
         self._nodes, self._tending = _narrow(room, "nodes", 7, MOST_NODES), tending
-        count = _narrow(workers, "workers", 1, MOST_WORKERS)
+        seats = _narrow(workers, "workers", 1, MOST_WORKERS)
         if shape not in MAKERS:
             raise ValueError(f'the shape is not "radix", "near" or "lowest": {shape!r}')
         self._process = os.getpid()
-        self._habit = c.HabitWords(tending.tries, tending.rounds, tending.collect_after)
-        self._places = (c.Place * count)()
-        self._calls = Calls(self._places, self._habit)
+        self._habit = tending._words(self._nodes, seats)
+        self._places = (c.Place * seats)()
+        self._count, self._lines = Count(), count()
+        self._calls = Calls(self._places, self._habit, self._count, next(self._lines))
         self._handles = [place.handle for place in self._places]
         self._handle = c.Handle()
         self._owner = Owner()
@@ -190,14 +238,19 @@ class Set(Keys):
         self._closer = threading.RLock()
         self._is_closing = False
         self._report: Optional[Report] = None
-        told(getattr(c.exports, MAKERS[shape])(self._handle, self._nodes, count))
-        self._reader = Reader(self._handle, count)
+        told(getattr(c.exports, MAKERS[shape])(self._handle, self._nodes, seats))
+        self._reader = Reader(self._handle, seats)
         self.add_many(keys)
 
     @property
     def nodes(self) -> int:
         """For how many nodes it has room."""
         return self._nodes
+
+    @property
+    def capacity(self) -> int:
+        """How many keys it can have if no removed node waits to be freed: (nodes - 5) / 2."""
+        return (self._nodes - 5) // 2
 
     @property
     def workers(self) -> int:
@@ -212,25 +265,40 @@ class Set(Keys):
         if self._is_closing:
             raise closed()
 
-    def _again(self, call: Callable[..., _T], *arguments: object) -> _T:
-        """Makes a call again that found each handle closed or in use, or no free nodes, until it
-        has one."""
-        waits = fulls = 0
+    def _again(self, name: str, *arguments: object) -> Any:
+        """Makes a call of `Calls` again that found each handle closed or in use, or no free nodes,
+        until it has one."""
+        waits, room = 0, None
         while True:
             try:
-                return call(*arguments)
-            except (Closed, InUse):
-                is_full = False
-            except Full:
-                is_full = True
-            self._need_open()
-            if is_full:
-                self._make_room(fulls)
-                fulls += 1
-            elif not self._hire():
-                self._fail_alone()
+                return self._by_any(name, arguments)
+            except InUse:
                 _nap(waits)
                 waits += 1
+            except Full:
+                room = room or _Wait(self._tending)
+                self._make_room(room)
+
+    def _by_any(self, name: str, arguments: tuple[object, ...]) -> Any:
+        """Makes a call by a handle of the set, else by one more that takes a worker, else by the
+        handle of a `Worker`. `InUse`: each worker is in a call or pinned."""
+        is_more = True
+        while is_more:
+            with suppress(Closed, InUse):
+                return getattr(self._calls, name)(*arguments)
+            self._need_open()
+            is_more = self._hire()
+        pinned = 0
+        for worker in self._out():
+            try:
+                return worker._borrowed(name, arguments)
+            except Held:
+                pinned += 1
+            except (Closed, InUse):
+                pass
+        if pinned == self.workers:
+            self._fail_alone()
+        raise fault(c.IN_USE)
 
     def _note(self, handle: c.Handle) -> Optional[int]:
         """Writes down the number of a worker that may have made a call."""
@@ -241,7 +309,7 @@ class Set(Keys):
         return number.value
 
     def _hire(self) -> bool:
-        """Takes a worker for one more handle of the set, and tells whether there is one more."""
+        """Takes a worker for one more handle of the set, and returns whether there is one more."""
         for at, handle in enumerate(self._handles):
             outcome = c.exports.nm_set_attach(self._handle, handle)
             if outcome in (c.OPEN, c.IN_USE) and at < self._calls.reach:
@@ -293,50 +361,65 @@ class Set(Keys):
 
     # ---- room for an add ----
 
-    def _relieve(self, own: Optional[c.Handle] = None) -> int:
-        """Frees what can be freed, with a worker and with all that nobody uses: how many nodes."""
-        freed = 0 if own is None else _collect(own)
-        self._fetch()
-        return freed + sum(map(_collect, self._handles[: self._calls.reach]))
+    def _reached(self) -> list[c.Handle]:
+        """Each handle that may have a worker."""
+        return [*self._handles[: self._calls.reach], *(worker._handle for worker in self._out())]
 
-    def _make_room(self, turn: int, own: Optional[c.Handle] = None) -> None:
-        """What an add does that found no free nodes, so many times already: it collects, and sleeps
-        where nothing was freed. `Full`, where the keys take all nodes, or that has lasted too
-        long."""
-        freed = self._relieve(own)
-        if turn >= self._tending.patience + _AT_ONCE or (not freed and self._is_brimful()):
+    def _relieve(self) -> int:
+        """Frees what can be freed, with each worker that is in no call: how many nodes."""
+        self._fetch()
+        handles = self._reached()
+        any(map(_has_moved_on, handles))
+        return sum(map(_free, handles))
+
+    def _make_room(self, wait: _Wait) -> None:
+        """What an add does that found no free nodes: it collects, and sleeps if that freed nothing,
+        or has freed something often. `Full`: the keys take all nodes, or the timeout has passed."""
+        freed = self._relieve()
+        self._need_open()
+        if wait.is_at_once(freed):
+            return
+        if wait.is_over() or (not freed and self._is_brimful()):
             raise self._full()
-        if turn >= _AT_ONCE or not freed:
-            time.sleep(_NAP if self._tending.patience else 0)
+        wait.sleep()
 
     def _is_brimful(self) -> bool:
-        """Whether no nodes are left for one more key, and none is to be freed."""
-        keys, waiting = self._tally()
-        return not waiting and 2 * keys + 7 > self._nodes
+        """Whether no nodes are left for one more key, and none is to be freed. False if a worker is
+        in a call, which may free some."""
+        waiting, missed = self._tally()
+        return not missed and not waiting and 2 * len(self) + 7 > self._nodes
 
     def _full(self) -> Full:
-        keys, waiting = self._tally()
-        told = (
+        (waiting, missed), keys = self._tally(), len(self)
+        text = (
             f"the set is full: its {keys:,} keys take {2 * keys + 5:,} of its {self._nodes:,}"
             f" nodes, and {waiting:,} wait to be freed"
         )
         behind = self._behind()
         if behind:
-            told += f"; {those(behind)} in their way, by a pin or in a call"
-        return Full(told)
+            text += f"; {those(behind)} in their way, by a pin or in a call"
+        if missed:
+            text += f"; {missed} in a call could not be asked, so what waits there is not counted"
+        return Full(text)
 
     def _behind(self) -> list[int]:
-        """The workers that hold the epoch back at this moment."""
+        """The workers that hold the epoch back at this moment, as the first one says that is in no
+        call."""
         epoch, mask = c_uint64(), c_uint64()
-        for handle in [*self._handles, *(worker._handle for worker in self._out())]:
+        for handle in self._reached():
             if c.quick.nm_worker_behind(handle, epoch, mask) == c.DONE:
                 break
         return [number for number in range(self.workers) if mask.value >> number & 1]
 
     def _fetch(self) -> None:
-        """Takes each worker that is home and may have made a call, for the handles of the set."""
-        for number in sorted(self._used):
-            if self._is_away(number):
+        """Takes each worker that is home and may have made a call, for the handles of the set. It
+        asks once for each, so that it leaves one out while another thread takes a worker."""
+        away, has = {worker._number for worker in self._out()}, c_uint32()
+        for handle in self._handles[: self._calls.reach]:
+            if c.quick.nm_worker_number(handle, has) == c.DONE:
+                away.add(has.value)
+        for number in sorted(self._used - away):
+            if c.exports.nm_set_away(self._handle, number) != c.NO:
                 continue
             for at, handle in enumerate(self._handles):
                 if c.exports.nm_set_worker(self._handle, handle, number) == c.DONE:
@@ -360,39 +443,36 @@ class Set(Keys):
         return outcome
 
     def _tally(self) -> tuple[int, int]:
-        """How many keys the set has, and how many nodes wait: as each worker tells it at a moment
-        of the call."""
-        self._need_open()
+        """How many nodes wait with the workers that are in no call, and how many workers are in
+        one. Each is asked once."""
         self._fetch()
-        keys = waiting = 0
-        for calls in [self._calls, *(worker._calls for worker in self._out())]:
-            for turn in range(_LOOKS):
-                count, nodes, missed = calls.tally()
-                if not missed:
-                    break
-                _nap(turn)
-            keys, waiting = keys + count, waiting + nodes
-        self._need_open()  # since what went home for a close was not counted
-        return max(keys, 0), waiting
+        told = [self._calls.waiting(), *(worker._calls.waiting() for worker in self._out())]
+        return sum(waiting for waiting, _ in told), sum(missed for _, missed in told)
 
     def __len__(self) -> int:
-        """How many keys the set has, by what each worker has added and removed: exact where no
-        thread makes a call meanwhile, else so far off as is changed meanwhile. It takes a step for
-        each worker that was used, and none for a key."""
-        return self._tally()[0]
+        """Returns how many keys the set has: exact if no thread makes a call meanwhile, else off by
+        as many keys as calls add and remove meanwhile. It never waits, and takes no worker: each
+        call counts what it changes."""
+        self._need_open()
+        return max(self._count.keys(), 0)
 
     def waiting(self) -> int:
-        """How many removed nodes wait to be freed, as exact as `len`."""
-        return self._tally()[1]
+        """Returns how many removed nodes wait to be freed. It asks each worker once and waits for
+        no call. It leaves out the nodes of workers that are in a call at this moment, as those of
+        `add_many` and its like are while other threads run."""
+        self._need_open()
+        return self._tally()[0]
 
     def free(self) -> int:
-        """How many nodes are free, as exact as `len`: an add takes two."""
-        keys, waiting = self._tally()
-        return max(self._nodes - 5 - 2 * keys - waiting, 0)
+        """Returns how many nodes are free, as exact as `len` and `waiting`: an add takes two. It
+        waits for no call."""
+        self._need_open()
+        return max(self._nodes - 5 - 2 * len(self) - self._tally()[0], 0)
 
     def collect(self) -> int:
         """Moves the epoch on as far as can be, and frees what has waited long enough, of all
-        workers that nobody uses: how many nodes."""
+        workers by which no call is made at this moment. Returns how many nodes were freed. It waits
+        for no call."""
         self._need_open()
         return self._relieve()
 
@@ -400,9 +480,9 @@ class Set(Keys):
 
     def attach(self, blocking: bool = True, timeout: float = -1) -> Worker:
         """Takes a worker for this thread; the least number comes first. It goes back by its
-        `close`. As `threading.Lock.acquire` does, it waits while each worker is with a thread, for
-        as long as that is, or for a timeout in seconds; it raises `NoWorker` behind that, and at
-        once where it is not to block, or where this thread itself has each worker."""
+        `close`. Like `threading.Lock.acquire` it waits while each worker is with a thread, with no
+        bound, or for a timeout in seconds. It raises `NoWorker` after the timeout, and at once if
+        it is not to block, or if this thread itself has each worker."""
         if not blocking and timeout != -1:
             raise ValueError("can't specify a timeout for a non-blocking call")
         if timeout < 0 and timeout != -1:
@@ -448,11 +528,10 @@ class Set(Keys):
         return outcome
 
     def worker(self, number: SupportsIndex) -> Worker:
-        """Takes the worker of a number, for this thread. It waits for a call that another thread
-        makes by it at this moment; `Away`, where it is with a thread."""
-        index = operator.index(number)
-        if not 0 <= index < self.workers:
-            raise OutOfRange(f"the set has workers 0 to {self.workers - 1}, and none {index}")
+        """Takes the worker of a number, for this thread. It waits for a call of the set that
+        another thread makes by it at this moment, for a second at most. `Away`: it is with a
+        thread, or in that call still."""
+        index = self._worker_number(number)
         worker = Worker(self)
         for turn in range(_LOOKS):
             if self._lend(worker, index):
@@ -462,14 +541,22 @@ class Set(Keys):
             _nap(turn)
         raise Away(f"{those([index])} with a thread")
 
+    def _worker_number(self, number: SupportsIndex) -> int:
+        """The number of a worker."""
+        index = operator.index(number)
+        if not 0 <= index < self.workers:
+            most = self.workers - 1
+            raise OutOfRange(f"the set has workers 0 to {most}, and none {shown(index)}")
+        return index
+
     # ---- the end ----
 
     def close(self) -> Report:
-        """Ends the set, and tells what stood in it, where no `Worker` is out, else it raises `Away`
-        and the set goes on; of a set that is closed it tells the same again. It waits for calls
-        that other threads make at this moment; each later call, and each that waits, raises
-        `Closed`. A close that was interrupted is gone on with by the next one, or by the end of the
-        object, and calls raise `Closed` meanwhile."""
+        """Ends the set, and returns the keys that it had. If a `Worker` is out it raises `Away` and
+        the set goes on. A closed set returns the same report again. It waits for calls that other
+        threads make at this moment, as long as they take; each later call, and each that waits,
+        raises `Closed`. The next close, or the end of the object, goes on with a close that was
+        interrupted, and calls raise `Closed` meanwhile."""
         if self._report is None:
             if os.getpid() != self._process:
                 raise forked(self._process)
@@ -530,6 +617,8 @@ class Set(Keys):
         return self._report
 
     def __repr__(self) -> str:
+        """Shows the first ten keys, and how many there are. It makes a look-up for each, which
+        waits for a worker as any call does."""
         return "Set(closed)" if self._is_closing else super().__repr__()
 
     def __enter__(self) -> Set:
@@ -560,9 +649,14 @@ class Worker(Keys):
     """One worker of a set, for one thread at a time, with the set's calls.
 
     `close`, or the end of its `with`, sends it back to its set; so does the end of the object
-    itself. Of two threads that call by it at once one waits for the other, and raises `InUse` where
-    that lasts for a second. A signal handler may close it in the middle of a call, which then was
-    made, or raises `Closed`.
+    itself. If two threads call by it at once, one waits for the other, and raises `InUse` if that
+    lasts for a second. A signal handler may close it in the middle of a call, which then was made,
+    or raises `Closed`.
+
+    If all workers of the set are attached, calls of the set borrow one that is in no call and not
+    pinned. So `ledger`, `queue_len` and `post` include calls that other threads made by this
+    worker. Such a call finishes the discard that is pending before it gives the worker back. A call
+    by the worker waits for it, in the same way.
     """
 
     def __init__(self, owner: Set) -> None:
@@ -574,32 +668,57 @@ class Worker(Keys):
         self._thread = threading.get_ident()
         self._owner = Owner()
         send_home_with(self._owner, self._handle, owner._habit.tries)
-        self._calls = Calls(self._places, owner._habit)
+        self._calls = Calls(self._places, owner._habit, owner._count, next(owner._lines) % 64)
         self._calls.reach = 1
 
-    def _again(self, call: Callable[..., _T], *arguments: object) -> _T:
-        waits = fulls = 0
+    def _again(self, name: str, *arguments: object) -> Any:
+        return self._made(getattr(self._calls, name), *arguments)
+
+    def _made(self, call: Callable[..., Any], *arguments: object) -> Any:
+        """Makes a call again that found the worker in use, or no free nodes, until it has one."""
+        waits, room = 0, None
         while True:
             try:
                 return call(*arguments)
             except InUse:
                 if waits >= _LOOKS:
                     raise
-                is_full = False
-            except Full:
-                is_full = True
-            if is_full:
-                self._set._make_room(fulls, self._handle)
-                fulls += 1
-            else:
                 _nap(waits)
                 waits += 1
+            except Full:
+                room = room or _Wait(self._set._tending)
+                self._set._make_room(room)
 
     def _told(self, call: Callable[..., int], *arguments: object) -> bool:
         """Makes a call of the library by the worker, again while another call has it."""
         if os.getpid() != self._set._process:
             raise forked(self._set._process)
-        return self._again(lambda: told(call(self._handle, *arguments)))
+        return bool(self._made(lambda: told(call(self._handle, *arguments))))
+
+    def _borrowed(self, name: str, arguments: tuple[object, ...]) -> Any:
+        """Makes a call of the set by this worker, and finishes the discard that it has begun."""
+        try:
+            return getattr(self._calls, name)(*arguments)
+        except Unfinished:
+            if self._is_finished():
+                return True
+            raise
+        finally:
+            if name in ("pop_first", "pop_last"):
+                self._is_finished(0)
+
+    def _is_finished(self, waits: int = _LOOKS) -> bool:
+        """Finishes the discard that is pending, and returns whether none is any more. If another
+        thread calls by the worker it waits so often, and then leaves the rest to that thread."""
+        turn = 0
+        for _ in range(_FINISHES):
+            outcome = c.quick.nm_worker_finish(self._handle, _TRIES)
+            if outcome == c.IN_USE and turn < waits:
+                _nap(turn)
+                turn += 1
+            elif outcome != c.UNFINISHED:
+                return bool(outcome != c.IN_USE)
+        return False
 
     @property
     def number(self) -> int:
@@ -632,7 +751,8 @@ class Worker(Keys):
         """Moves the epoch on as far as can be, and frees what has waited long enough in its own
         queue: how many nodes."""
         self._told(c.quick.nm_worker_number, c_uint32())
-        return _collect(self._handle)
+        _has_moved_on(self._handle)
+        return _free(self._handle)
 
     def pending(self) -> Optional[int]:
         """The key of a discard that has begun and not answered yet."""
@@ -640,11 +760,12 @@ class Worker(Keys):
         return key.value if self._told(c.quick.nm_worker_pending, key) else None
 
     def queue_len(self) -> int:
-        """How many nodes wait in its queue."""
+        """Returns how many nodes wait in its queue, including those that borrowed calls removed."""
         return self.ledger().queued
 
     def ledger(self) -> Ledger:
-        """What it has won, and what became of what it cut off."""
+        """Returns what calls by it have won, including borrowed ones, and what became of the nodes
+        that they cut off."""
         words = c.LedgerWords()
         self._told(c.quick.nm_worker_ledger, words)
         return Ledger(*(getattr(words, name) for name, _ in words._fields_))
@@ -663,9 +784,7 @@ class Worker(Keys):
         then, or None where it has left none: all that this worker is asked from now on comes behind
         all that that one had seen. It raises `Contention` where another worker is at that note at
         this moment."""
-        writer = operator.index(number)
-        if not 0 <= writer < self._set.workers:
-            raise OutOfRange(f"the set has workers 0 to {self._set.workers - 1}, and none {writer}")
+        writer = self._set._worker_number(number)
         added, discarded = c_uint64(), c_uint64()
         is_left = self._told(c.quick.nm_worker_read, writer, added, discarded)
         return Posted(added.value, discarded.value) if is_left else None

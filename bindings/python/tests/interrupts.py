@@ -186,6 +186,8 @@ def left_behind(numbers: Set, leases: int) -> list[str]:
         for worker in taken:
             worker.close()
         del taken, worker
+        if len(numbers) != len(list(numbers)):
+            faults.append(f"{len(numbers)} keys are counted, of {len(list(numbers))}")
         report = numbers.close()
         told = report.free + report.reached + sum(map(len, report.waiting))
         if told != numbers.nodes - 5 or report.reached != 2 * len(report):

@@ -1,8 +1,10 @@
 """Each call by one thread, and each fault that one thread can meet."""
 
 import copy
+import ctypes
 import gc
 import pickle
+import sys
 import time
 import typing
 import unittest
@@ -14,7 +16,38 @@ import nm_set
 from nm_set import MOST_KEY, Set, Tending
 
 
+HUGE = 10**5_000  # Python refuses to write all of its digits
+
+
+def unfinished(worker: nm_set.Worker, key: int) -> typing.Optional[int]:
+    """Leaves the discard of a key unfinished, and returns the key that is pending."""
+    from nm_set import _library
+
+    remove = ctypes.CDLL(_library.exports._name).nm_worker_try_remove
+    assert remove(ctypes.byref(worker._handle), ctypes.c_uint64(key), 1) == _library.UNFINISHED
+    return worker.pending()
+
+
 class Sizes(unittest.TestCase):
+    def test_a_set_has_its_capacity(self) -> None:
+        for nodes, capacity in ((7, 1), (8, 1), (9, 2), (65_536, 32_765)):
+            with Set(nodes) as numbers:
+                self.assertEqual(numbers.capacity, capacity)
+        with Set(25) as numbers:
+            self.assertEqual(numbers.add_many(range(numbers.capacity)), 10)
+            with self.assertRaises(nm_set.Full):
+                numbers.add(10)
+
+    def test_a_number_with_thousands_of_digits_is_out_of_range(self) -> None:
+        with Set(64, workers=2) as numbers, numbers.attach() as worker:
+            calls = (numbers.add, numbers.at_least, numbers.worker, worker.read, worker.pin)
+            for call in (*calls, Tending, Set, lambda key: numbers.add_many([1, key])):
+                for number in (HUGE, -HUGE):
+                    with self.assertRaisesRegex(nm_set.OutOfRange, "a number of 16,610 bits"):
+                        call(number)
+            self.assertFalse(HUGE in numbers or numbers.discard(HUGE))
+            self.assertEqual(list(numbers), [])
+
     def test_sizes_are_told(self) -> None:
         wrong_nodes = [(6, 1), (268_435_457, 1), (-1, 1), (2**64, 1)]
         for nodes, workers in [*wrong_nodes, (7, 0), (7, 65), (7, 2**32 + 1)]:
@@ -94,7 +127,7 @@ class Numbers(unittest.TestCase):
     def test_no_number_wraps(self) -> None:
         with Set(64, workers=2) as numbers, numbers.attach() as worker:
             for number in (-1, 2**32, 2**64 + 5):
-                for name in ("tries", "rounds", "collect_after", "patience"):
+                for name in ("tries", "rounds", "collect_after", "timeout_ms"):
                     with self.assertRaisesRegex(nm_set.OutOfRange, f"{name} is not .*: {number}"):
                         Tending(**{name: number})
                 for call in (worker.pin, worker.read, numbers.worker):
@@ -200,8 +233,6 @@ class Workers(unittest.TestCase):
                 numbers.worker(number)
         with self.assertRaises(nm_set.NoWorker):
             numbers.attach()
-        with self.assertRaises(nm_set.NoWorker):
-            numbers.add(5)
         second.close()
         second.close()
         self.assertTrue(numbers.add(5))
@@ -273,6 +304,16 @@ class Ends(unittest.TestCase):
             self.assertTrue(node.slot > 5 and node.birth == 1 and node.label == 0)
 
 
+    def test_the_text_of_a_report_is_bounded(self) -> None:
+        numbers = Set(range(12), nodes=64)
+        numbers.discard(0)
+        text = "[1, 2, 3, 4, 5, 6, 7, 8, 9, 10, ...], 11 keys, free=35, reached=22, waiting=2"
+        self.assertEqual(repr(numbers.close()), f"Report({text})")
+        self.assertEqual(
+            repr(Set([3, 5], nodes=64).close()), "Report([3, 5], free=55, reached=4, waiting=0)"
+        )
+
+
 class Tended(unittest.TestCase):
     def test_a_discard_that_has_begun_is_finished(self) -> None:
         with Set(64, tending=Tending(tries=1)) as numbers:
@@ -303,8 +344,8 @@ class Tended(unittest.TestCase):
                 self.assertTrue(worker.add(6))
 
     def test_a_worker_that_holds_the_epoch_back_lets_full_be_told(self) -> None:
-        for patience, least in ((0, 0), (32, 0.03)):
-            with Set(7, workers=2, tending=Tending(patience=patience)) as numbers:
+        for timeout_ms, least in ((0, 0), (32, 0.03)):
+            with Set(7, workers=2, tending=Tending(timeout_ms=timeout_ms)) as numbers:
                 with numbers.worker(1) as reader:
                     reader.pin()
                     self.assertTrue(numbers.add(5) and numbers.discard(5))
@@ -320,6 +361,62 @@ class Tended(unittest.TestCase):
                     self.assertEqual((numbers.collect(), numbers.waiting()), (0, 2))
                 self.assertTrue(numbers.add(6))
 
+    def test_nodes_are_collected_when_an_eighth_of_them_wait(self) -> None:
+        for nodes, workers, after, usual in (
+            (7, 1, None, 8),
+            (1_024, 64, None, 8),
+            (1_024, 4, None, 32),
+            (16_384, 64, None, 32),
+            (65_536, 64, None, 64),
+            (65_536, 1, 0, 0),
+        ):
+            tending = Tending(collect_after=after)
+            with Set(nodes, workers=workers, tending=tending) as numbers:
+                self.assertEqual(numbers._habit.collect_after, usual)
+
+    def test_a_full_set_is_told_in_time_beside_a_thread_that_has_stopped(self) -> None:
+        """A thread that stopped in the middle of a call has the handle of its worker in use."""
+        for timeout_ms in (0, 50):
+            with Set(9, workers=3, tending=Tending(timeout_ms=timeout_ms)) as numbers:
+                with numbers.attach() as stopped, numbers.attach() as other:
+                    self.assertEqual((stopped.add_many([4, 5]), stopped.discard(4)), (2, True))
+                    self.assertEqual((numbers.waiting(), numbers.free()), (2, 0))
+                    stopped._handle.in_use = 1
+                    begun = time.monotonic()
+                    told = len(numbers), numbers.waiting(), numbers.free(), repr(numbers)
+                    self.assertEqual(told, (1, 0, 2, "Set([5])"))
+                    self.assertLess(time.monotonic() - begun, 0.2)
+                    for own in (numbers, other):
+                        begun = time.monotonic()
+                        with self.assertRaises(nm_set.Full) as raised:
+                            own.add(6)
+                        took = time.monotonic() - begun
+                        self.assertGreaterEqual(took, timeout_ms / 1_000)
+                        self.assertLess(took, timeout_ms / 1_000 + 0.2)
+                        self.assertEqual(
+                            str(raised.exception),
+                            "the set is full: its 1 keys take 7 of its 9 nodes, and 0 wait to be"
+                            " freed; 1 in a call could not be asked, so what waits there is not"
+                            " counted",
+                        )
+                    stopped._handle.in_use = 0
+                    self.assertTrue(other.add(6))
+
+    def test_a_call_borrows_a_worker_that_is_attached_and_not_pinned(self) -> None:
+        with Set(64, workers=2) as numbers:
+            with numbers.attach() as first, numbers.attach() as second:
+                first.pin()
+                self.assertEqual((numbers.add(5), numbers.add_many([6, 7, 8])), (True, 3))
+                self.assertEqual((second.ledger().links, second.post().added), (4, 4))
+                self.assertEqual((numbers.discard(5), numbers.pop_first()), (True, 6))
+                self.assertEqual((second.pending(), second.queue_len()), (None, 4))
+                self.assertEqual((numbers.contains_many([5, 7]), len(numbers)), ([False, True], 2))
+                # A discard that the worker's own thread has left unfinished is finished first.
+                self.assertEqual(unfinished(second, 7), 7)
+                self.assertEqual((7 in numbers, second.pending()), (False, None))
+                first.unpin()
+                self.assertEqual((first.ledger().links, list(numbers)), (0, [8]))
+
     def test_retired_nodes_are_collected_as_they_come_due(self) -> None:
         with Set(4_096, tending=Tending(collect_after=8)) as numbers:
             with numbers.attach() as worker:
@@ -330,6 +427,12 @@ class Tended(unittest.TestCase):
 
 
 class Types(unittest.TestCase):
+    @unittest.skipIf(sys.version_info < (3, 11), "this Python does not keep overloads")
+    def test_the_answers_of_several_look_ups_have_the_type_of_their_room(self) -> None:
+        hints = [typing.get_type_hints(each) for each in typing.get_overloads(Set.contains_many)]
+        self.assertEqual([each["out"] for each in hints], [type(None), hints[1]["return"]])
+        self.assertEqual(hints[0]["return"], list[bool])
+
     def test_each_public_call_has_its_types(self) -> None:
         for kind in (nm_set.Set, nm_set.Worker, nm_set.Report):
             for name, member in vars(kind).items():

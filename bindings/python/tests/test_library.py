@@ -16,6 +16,47 @@ NAMED = os.environ.get("NM_SET_LIBRARY", "")
 SHOWN = "import nm_set; from nm_set import _library as c; print(c.exports._name)"
 
 
+# Imports the module in a second interpreter, as mod_wsgi makes one, and uses it in the first.
+SECOND = '''
+import gc
+import nm_set
+
+try:
+    import _interpreters as interpreters
+    kind = "legacy"
+except ImportError:
+    try:
+        import _xxsubinterpreters as interpreters
+        kind = None
+    except ImportError:
+        print("no subinterpreters")
+        raise SystemExit
+other = interpreters.create(kind) if kind else interpreters.create(isolated=False)
+numbers = nm_set.Set(1_000, workers=1)
+for name in ("nm_set", *(("nm_set._native",) if nm_set.is_native else ())):
+    interpreters.run_string(other, f"""
+import importlib, sys
+if "{name}" != "nm_set":
+    import types
+    package = types.ModuleType("nm_set")
+    package.__path__ = {nm_set.__path__!r}
+    sys.modules["nm_set"] = package
+try:
+    importlib.import_module("{name}")
+    print("imported")
+except ImportError as error:
+    print(error)
+""")
+try:
+    numbers.add(-1)
+except nm_set.OutOfRange:
+    numbers.attach().add(5)
+gc.collect()
+assert numbers.attach(blocking=False).add(6) and len(numbers.close()) == 2
+print("the first goes on")
+'''
+
+
 def imported(library: Optional[str], **more: str) -> subprocess.CompletedProcess:
     """Imports the module in a program of its own, where NM_SET_LIBRARY names a library."""
     words = {key: value for key, value in os.environ.items() if key != "NM_SET_LIBRARY"}
@@ -66,6 +107,22 @@ class Library(unittest.TestCase):
         told = imported(None, PKG_CONFIG_PATH=str(folder / "pkgconfig"))
         found = Path(told.stdout.strip())
         self.assertEqual((found.name, found.resolve().parent), ("libnm_set.so.0.1", folder))
+
+    def test_a_second_interpreter_is_refused_and_leaves_the_first_as_it_was(self) -> None:
+        told = subprocess.run(
+            [sys.executable, "-c", SECOND],
+            env={**os.environ, "PYTHONPATH": str(Path(nm_set.__file__).parents[1])},
+            capture_output=True,
+            text=True,
+            check=False,
+            cwd=tempfile.gettempdir(),
+        )
+        if told.stdout.strip() == "no subinterpreters":
+            self.skipTest("this Python has no subinterpreters")
+        self.assertEqual((told.returncode, told.stderr), (0, ""), told.stdout)
+        text = "nm_set can be imported by the first interpreter of a process alone"
+        self.assertEqual(told.stdout.count(text), 2 if nm_set.is_native else 1, told.stdout)
+        self.assertTrue(told.stdout.endswith("the first goes on\n"), told.stdout)
 
     def test_versions_agree(self) -> None:
         self.assertEqual(_library._version_of(_library.exports), nm_set.__version__)

@@ -198,6 +198,35 @@ class Several(unittest.TestCase):
                 self.assertEqual(own.discard_many(memoryview(words)[::2]), 5_000)
                 self.assertEqual(own.discard_many(each), 5_000)
 
+    def test_each_key_that_a_call_changed_has_its_answer(self) -> None:
+        with Set(128, workers=2) as numbers, numbers.attach() as worker:
+            for own in (numbers, worker):
+                numbers.add_many([5, 7])
+                for keys in ([5, 6, 7, 8, 8], array("Q", [5, 6, 7, 8, 8])):
+                    out = bytearray(b"\7" * 5)
+                    self.assertEqual(own.add_many(keys, out=out), 2)
+                    self.assertEqual(out, b"\0\1\0\1\0")
+                    out = bytearray(b"\7" * 5)
+                    self.assertEqual(own.discard_many([9, 8, 8, 6, 1], out=out), 2)
+                    self.assertEqual(out, b"\0\1\0\1\0")
+                for call in (own.add_many, own.discard_many):
+                    with self.assertRaisesRegex(ValueError, "there are 2 keys, and room for 3"):
+                        call([1, 2], out=bytearray(3))
+                    with self.assertRaisesRegex(TypeError, "`out` is read-only"):
+                        call([1, 2], out=b"12")
+                    self.assertEqual(call([], out=bytearray()), 0)
+                self.assertEqual(list(numbers), [5, 7])
+            keys = random.Random(7).sample(range(30), 30) * 200
+            out = bytearray(len(keys))
+            self.assertEqual(numbers.add_many(keys, out), 28)
+            added = {key for key, is_new in zip(keys, out) if is_new}
+            self.assertEqual(added, {*range(30)} - {5, 7})
+        with Set(11, tending=nm_set.Tending(timeout_ms=0)) as numbers:
+            out = bytearray(b"\7" * 6)
+            with self.assertRaises(nm_set.Full):
+                numbers.add_many([1, 1, 2, 3, 4, 5], out=out)
+            self.assertEqual((out, list(numbers)), (b"\1\0\1\1\0\0", [1, 2, 3]))
+
     def test_other_buffers_are_read_as_their_members(self) -> None:
         with Set(64) as numbers:
             for each in ((ctypes.c_uint64 * 3)(1, 2, 3), (ctypes.c_int16 * 3)(1, 2, 3)):

@@ -129,15 +129,16 @@ class Threads(unittest.TestCase):
             self.assertEqual(len(numbers), 200)
         self.assertEqual(numbers.report.keys, tuple(range(4, 1_000, 5)))
 
-    def test_a_call_waits_for_a_worker_that_is_with_a_thread(self) -> None:
+    def test_a_call_waits_for_a_worker_that_is_pinned(self) -> None:
         with Set(64, workers=1) as numbers:
             taken, may_end, told = threading.Event(), threading.Event(), []
 
             def hold() -> None:
                 with numbers.attach() as worker:
+                    worker.add(5)
+                    worker.pin()
                     taken.set()
                     may_end.wait()
-                    worker.add(5)
 
             holder = threading.Thread(target=hold)
             asker = threading.Thread(target=lambda: told.append(5 in numbers))
@@ -159,11 +160,38 @@ class Threads(unittest.TestCase):
 
     def test_a_thread_that_has_each_worker_itself_is_told(self) -> None:
         numbers = Set(64, workers=2)
-        with numbers.attach(), numbers.attach():
+        words = "this thread itself has each of"
+        with numbers.attach() as first, numbers.attach() as second:
+            with self.assertRaisesRegex(nm_set.NoWorker, words):
+                numbers.attach()
+            self.assertTrue(numbers.add(6))
+            first.pin(), second.pin()
             for call in (numbers.attach, lambda: numbers.add(5), lambda: list(numbers)):
-                with self.assertRaisesRegex(nm_set.NoWorker, "this thread itself has each of"):
+                with self.assertRaisesRegex(nm_set.NoWorker, words):
                     call()
         self.assertTrue(numbers.add(5))
+
+    def test_threads_that_have_all_workers_call_the_set(self) -> None:
+        with Set(4_096, workers=THREADS, tending=Tending(tries=2, rounds=1)) as numbers:
+            balances, all_have = [[], [], [], []], threading.Barrier(THREADS)
+            some = range(1_000, 2_000)
+
+            def thread(number: int) -> None:
+                with numbers.attach() as worker:
+                    all_have.wait()
+                    balances[number] = [
+                        sum(both) for both in zip(work(worker, number), work(numbers, number + 9))
+                    ]
+                    mine = some[number::THREADS]
+                    self.assertFalse(any(numbers.contains_many(mine)))
+                    self.assertEqual(numbers.add_many(mine), len(mine))
+                    self.assertTrue(all(numbers.contains_many(mine)))
+                    self.assertEqual(numbers.discard_many(mine), len(mine))
+                    all_have.wait()
+
+            at_once(thread)
+            keys = [key for key in range(KEYS) if sum(of[key] for of in balances)]
+            self.assertEqual((list(numbers), len(numbers)), (keys, len(keys)))
 
     def test_each_caller_beside_a_close_is_told_closed(self) -> None:
         for each in range(ROUNDS):
@@ -219,8 +247,8 @@ class Threads(unittest.TestCase):
             self.assertEqual(len(numbers.report), sum(added))
 
     def test_an_add_waits_for_a_pin_that_ends(self) -> None:
-        for patience, is_full in ((10_000, False), (0, True)):
-            with Set(7, workers=2, tending=Tending(patience=patience)) as numbers:
+        for timeout_ms, is_full in ((10_000, False), (0, True)):
+            with Set(7, workers=2, tending=Tending(timeout_ms=timeout_ms)) as numbers:
                 reader = numbers.attach()
                 reader.pin()
                 self.assertTrue(numbers.add(5) and numbers.discard(5))
@@ -233,8 +261,46 @@ class Threads(unittest.TestCase):
                     self.assertEqual(numbers.add_many([6]), 1)
                 timer.join()
 
+    def test_each_key_is_popped_by_one_call_where_tries_are_few(self) -> None:
+        """With one try and no further round many discards are left unfinished. Another thread asks
+        the workers how full the set is, and collects, meanwhile."""
+        count, tending = 3_000, Tending(tries=1, rounds=0)
+        numbers, popped = Set(65_536, workers=6, tending=tending), [[], [], []]
+        adding = {0, 1, 2}
+
+        def thread(number: int) -> None:
+            if number < 3:
+                for each in range(count):
+                    self.assertTrue(answered(numbers.add, each * 3 + number))
+                adding.discard(number)
+            elif number == 6:
+                while adding:
+                    numbers.waiting(), len(numbers), numbers.collect()
+            elif number == 3:
+                pop_all(numbers.pop_first, popped[0])
+            else:
+                with numbers.attach() as worker:
+                    pop = worker.pop_first if number == 4 else worker.pop_last
+                    pop_all(pop, popped[number - 3])
+
+        def pop_all(pop: Callable[[], int], keys: list[int]) -> None:
+            while True:
+                was_last = not adding
+                try:
+                    keys.append(pop())
+                except KeyError:
+                    if was_last:
+                        return
+                    time.sleep(0)
+                except nm_set.Contention:
+                    pass
+
+        at_once(thread, 7)
+        self.assertEqual(sorted(sum(popped, [])), list(range(3 * count)))
+        self.assertEqual(len(numbers.close()), 0)
+
     def test_scarce_nodes_are_waited_for(self) -> None:
-        with Set(600, workers=16) as numbers:
+        with Set(600, workers=16, tending=Tending(timeout_ms=10_000)) as numbers:
             faults = []
 
             def thread(number: int) -> None:

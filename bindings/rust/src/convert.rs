@@ -86,8 +86,8 @@ impl<'a> IntoIterator for &'a Set {
 }
 
 impl fmt::Debug for Set {
-    /// The first ten keys, and two dots where there are more. It waits for nothing: where no worker
-    /// is free, or the set is closed, it shows that.
+    /// Writes the first ten keys, and two dots if there are more. It never waits for a worker: if
+    /// each is attached, or the set is closed, it writes that.
     fn fmt(&self, f: &mut fmt::Formatter<'_>) -> fmt::Result {
         let shown = self
             .try_attach()

@@ -24,8 +24,8 @@ pub enum Fault {
     },
     /// Memory was refused.
     NoMemory,
-    /// An insert found no nodes for its key, although it waited for those that are to be freed as
-    /// long as the [`patience`](crate::Options::patience) of the set says, or since none are.
+    /// An insert found no nodes for its key: the keys take all of them, or no others were freed
+    /// within the [`timeout_ms`](crate::Options::timeout_ms) of the set.
     Full(Full),
     /// No nodes were free for the key of a [`try_insert`](crate::Worker::try_insert), which waits
     /// for none.
@@ -46,8 +46,9 @@ pub enum Fault {
     /// The worker is pinned, since the guard of its pin was forgotten
     /// ([`forget`](std::mem::forget)). Dropped, the worker goes back without its pin.
     Held,
-    /// Threads have each of the workers, and the call was not to wait for one, or not longer; or
-    /// this thread itself has them all, so that a call which waits for one would never end.
+    /// Threads have each of the workers, and the call was not to wait for one, or not longer. Or
+    /// this thread itself has them all, so that an `attach` would never end; nor would a call of
+    /// the set if this thread has pinned each.
     NoWorker {
         /// How many workers the set has.
         workers: u32,
@@ -63,8 +64,8 @@ pub enum Fault {
     Other(i32),
 }
 
-/// How a set stood when an insert found no nodes for its key: as [`len`](crate::Set::len) and
-/// [`waiting`](crate::Set::waiting) tell it.
+/// How full a set was when an insert found no nodes for its key: as [`len`](crate::Set::len) and
+/// [`waiting`](crate::Set::waiting) return it.
 #[derive(Clone, Copy, Debug, Default, PartialEq, Eq, Hash)]
 pub struct Full {
     /// For how many nodes the set has room.
@@ -73,6 +74,9 @@ pub struct Full {
     pub keys: u64,
     /// How many removed nodes waited to be freed.
     pub waiting: u64,
+    /// Which workers were in a call, so that the insert could not ask how many nodes wait with
+    /// them: `waiting` has what each one had when it was last asked.
+    pub unasked: Numbers,
     /// Which workers held the epoch back, by a pin or in a call, so that these were not freed.
     pub behind: Numbers,
 }
@@ -124,14 +128,18 @@ impl fmt::Display for Full {
             grouped(self.nodes.into()),
             grouped(self.waiting)
         )?;
-        if self.behind.is_empty() {
-            return Ok(());
+        if !self.behind.is_empty() {
+            let behind = self.behind.are();
+            write!(f, "; {behind} in their way, by a pin or in a call")?;
         }
-        write!(
-            f,
-            "; {} in their way, by a pin or in a call",
-            self.behind.are()
-        )
+        if !self.unasked.is_empty() {
+            let unasked = self.unasked.are();
+            write!(
+                f,
+                "; {unasked} in a call, so what waits there is counted as last seen"
+            )?;
+        }
+        Ok(())
     }
 }
 
@@ -203,7 +211,7 @@ mod tests {
             nodes: 65_536,
             keys: 1_200,
             waiting: 63_131,
-            behind: Numbers::default(),
+            ..Full::default()
         };
         let told =
             "the set is full: its 1,200 keys take 2,405 of its 65,536 nodes, and 63,131 wait \
@@ -212,5 +220,9 @@ mod tests {
         full.behind = Numbers::of(0b1010);
         let told = format!("{told}; workers 1 and 3 are in their way, by a pin or in a call");
         assert_eq!(Fault::Full(full).to_string(), told);
+        full.unasked = Numbers::of(0b1000);
+        let told =
+            format!("{told}; worker 3 is in a call, so what waits there is counted as last seen");
+        assert_eq!(full.to_string(), told);
     }
 }

@@ -14,21 +14,25 @@
 //!   handles of one call are two values.
 //! - *An open handle is not lost.* It drops what it owns.
 //!
-//! Of two calls that have one handle at the same time the library tells the second so, and that one
-//! is made again here, behind a nap, but for those whose name says that they are made at once.
+//! Of two calls that have one handle at the same time the library refuses the second one, which
+//! then touches nothing. Some calls are made again here until they are not refused; the others,
+//! which are listed as made at once, return that outcome to their caller.
 
 use crate::wait::{at_once, waited_out};
 use std::cell::UnsafeCell;
 use std::ffi::c_int;
 use std::panic::{RefUnwindSafe, UnwindSafe};
 use std::ptr::null_mut;
+use std::sync::atomic::AtomicU64;
+#[cfg(test)]
+use std::sync::atomic::Ordering;
 
 /// `nm_handle`: a word that is null, or owns a set, a worker or a report, and whether a call has
 /// it.
 #[repr(C)]
 struct Word {
     at: *mut u8,
-    in_use: u64,
+    in_use: AtomicU64,
 }
 
 /// What a worker has won, and what became of the nodes that it cut off: `nm_ledger`.
@@ -164,7 +168,7 @@ impl Handle {
     pub(crate) fn closed() -> Handle {
         Handle(UnsafeCell::new(Word {
             at: null_mut(),
-            in_use: 0,
+            in_use: AtomicU64::new(0),
         }))
     }
 
@@ -176,18 +180,12 @@ impl Handle {
         open_near = nm_set_near(nodes: u32, workers: u32);
         end = nm_set_close();
 
-        contains = nm_worker_contains(key: u64, habit: &Habit);
-        insert = nm_worker_insert(key: u64, habit: &Habit);
-        remove = nm_worker_remove(key: u64, habit: &Habit);
-        pop_first = nm_worker_pop_first(habit: &Habit, taken: &mut u64);
-        pop_last = nm_worker_pop_last(habit: &Habit, taken: &mut u64);
-        next = nm_worker_next(key: u64, tries: u32, found: &mut u64);
-        prev = nm_worker_prev(key: u64, tries: u32, found: &mut u64);
         try_contains = nm_worker_try_contains(key: u64, tries: u32);
         try_insert = nm_worker_try_insert(key: u64, tries: u32);
         try_remove = nm_worker_try_remove(key: u64, tries: u32);
+        try_next = nm_worker_next(key: u64, tries: u32, found: &mut u64);
+        try_prev = nm_worker_prev(key: u64, tries: u32, found: &mut u64);
         finish = nm_worker_finish(tries: u32);
-        pin = nm_worker_pin(tries: u32, epoch: &mut u64);
         unpin = nm_worker_unpin();
         advance = nm_worker_advance(epoch: &mut u64, behind: &mut u32);
         behind = nm_worker_behind(epoch: &mut u64, mask: &mut u64);
@@ -204,16 +202,36 @@ impl Handle {
     }
 
     calls! { at_once:
+        contains = nm_worker_contains(key: u64, habit: &Habit);
+        insert = nm_worker_insert(key: u64, habit: &Habit);
+        remove = nm_worker_remove(key: u64, habit: &Habit);
+        pop_first = nm_worker_pop_first(habit: &Habit, taken: &mut u64);
+        pop_last = nm_worker_pop_last(habit: &Habit, taken: &mut u64);
+        next = nm_worker_next(key: u64, tries: u32, found: &mut u64);
+        prev = nm_worker_prev(key: u64, tries: u32, found: &mut u64);
+        pin = nm_worker_pin(tries: u32, epoch: &mut u64);
+        finish_at_once = nm_worker_finish(tries: u32);
         advance_at_once = nm_worker_advance(epoch: &mut u64, behind: &mut u32);
+        behind_at_once = nm_worker_behind(epoch: &mut u64, mask: &mut u64);
         collect_at_once = nm_worker_collect(epoch: &mut u64, freed: &mut u64);
+        ledger_at_once = nm_worker_ledger(ledger: &mut Ledger);
     }
 
-    /// Looks several keys up.
+    /// Looks several keys up, at once.
     pub(crate) fn contains_many(&self, lookups: &mut [Lookup], tries: u32) -> Outcome {
         let (first, count) = (lookups.as_mut_ptr(), lookups.len());
         // SAFETY: as of the calls above; the slice is borrowed for this call alone, and its pointer
-        // is not null, also where it is empty.
-        waited_out(|| unsafe { nm_worker_contains_many(self.0.get(), first, count, tries) })
+        // is not null, even if it is empty.
+        at_once(|| unsafe { nm_worker_contains_many(self.0.get(), first, count, tries) })
+    }
+
+    /// Makes the handle look as if a thread stopped in the middle of a call by it, or as if that
+    /// call ended.
+    #[cfg(test)]
+    pub(crate) fn set_in_use(&self, is_in_use: bool) {
+        // SAFETY: the word lives as long as the handle, and all threads change it by atomic steps.
+        let in_use = unsafe { &(*self.0.get()).in_use };
+        in_use.store(is_in_use.into(), Ordering::SeqCst);
     }
 
     /// Takes the worker of a number out of the set, into a closed handle, which is another one.

@@ -43,20 +43,27 @@ pub struct Options {
     /// gone on with, before it tells [`Fault::Unfinished`](crate::Fault::Unfinished). 64 by
     /// default.
     pub rounds: u32,
-    /// From how many waiting nodes of its worker on an insert or a remove first moves the epoch on
-    /// and collects. 64 by default.
-    pub collect_after: u32,
-    /// How often an insert that found no free nodes, while some wait to be freed, sleeps a
-    /// millisecond and goes on, before it tells [`Fault::Full`](crate::Fault::Full). 64 by default.
-    pub patience: u32,
+    /// When this many removed nodes wait with its worker, an insert or a remove first moves the
+    /// epoch on and collects. None by default: nodes / (8 * workers), at least 8 and at most 64, so
+    /// that all workers together leave at most an eighth of the nodes uncollected, unless each has
+    /// 8.
+    pub collect_after: Option<u32>,
+    /// The longest time in milliseconds that an insert which finds no free nodes, while removed
+    /// ones wait to be freed, sleeps and tries again before it returns
+    /// [`Fault::Full`](crate::Fault::Full). The sleeps begin with 20 microseconds and double up to
+    /// a millisecond. With 0 the insert never sleeps, as an asynchronous program needs it. 64 by
+    /// default.
+    pub timeout_ms: u32,
 }
 
 impl Options {
-    pub(crate) fn habit(&self) -> Habit {
+    /// What a tended call may spend in a set of this many nodes. There is a worker at least.
+    pub(crate) fn habit(&self, nodes: u32) -> Habit {
+        let share = nodes / (8 * self.workers);
         Habit {
             tries: self.tries,
             rounds: self.rounds,
-            collect_after: self.collect_after,
+            collect_after: self.collect_after.unwrap_or(share.clamp(8, 64)),
         }
     }
 }
@@ -68,8 +75,29 @@ impl Default for Options {
             shape: Shape::Radix,
             tries: 64,
             rounds: 64,
-            collect_after: 64,
-            patience: 64,
+            collect_after: None,
+            timeout_ms: 64,
         }
+    }
+}
+
+#[cfg(test)]
+mod tests {
+    use super::Options;
+
+    #[test]
+    fn nodes_are_collected_when_an_eighth_of_them_wait() {
+        let after = |nodes, workers, collect_after| {
+            let options = Options {
+                workers,
+                collect_after,
+                ..Options::default()
+            };
+            options.habit(nodes).collect_after
+        };
+        assert_eq!((after(7, 1, None), after(1_024, 64, None)), (8, 8));
+        assert_eq!((after(1_024, 4, None), after(16_384, 64, None)), (32, 32));
+        assert_eq!((after(65_536, 64, None), after(4_096, 1, None)), (64, 64));
+        assert_eq!((after(7, 64, Some(64)), after(65_536, 1, Some(0))), (64, 0));
     }
 }

@@ -2,19 +2,21 @@
 //!
 //! A worker stays in its entry from its first use until the set is closed. A call of a thread that
 //! has no worker takes the lock of an entry that is idle, makes its call by the worker there, and
-//! leaves it; a [`Worker`](crate::Worker) has its entry lent, and takes no lock. A thread that
-//! finds each entry taken looks again, behind a nap. What a worker has won and what waits in its
-//! queue any thread may read by its handle, with no lock, since the library tells of two calls the
-//! second one so.
+//! unlocks the entry. A [`Worker`](crate::Worker) has its entry lent, and takes no lock. If no
+//! entry is idle, a call borrows a lent worker that is in no call and not pinned; it takes no lock
+//! either, because the library refuses the second of two calls that have one handle at the same
+//! time. In the same way any thread may ask a worker how many nodes wait in its queue. If a call
+//! finds no worker, it sleeps and looks again.
 
 use crate::fault::Fault;
 use crate::ffi::{Habit, Handle};
 use crate::numbers::Numbers;
 use crate::options::{Options, Shape};
 use crate::report::Report;
-use crate::wait::Wait;
+use crate::tending::Seat;
+use crate::wait::{settled, Wait, IN_USE};
 use std::cell::Cell;
-use std::sync::atomic::{AtomicU64, AtomicU8, Ordering};
+use std::sync::atomic::{AtomicI64, AtomicU64, AtomicU8, Ordering};
 use std::sync::{Mutex, MutexGuard, PoisonError, TryLockError};
 use std::time::{Duration, Instant};
 
@@ -36,13 +38,17 @@ pub(crate) struct Entry {
     pub handle: Handle,
     /// The thread that took it, or that has made its latest call.
     holder: AtomicU64,
+    /// How many keys the calls by the worker have inserted, less those that they have removed.
+    keys: AtomicI64,
+    /// How many nodes waited in the worker's queue when it was last asked.
+    pub waiting: AtomicU64,
 }
 
 /// A worker that its thread alone uses until this is dropped.
-pub(crate) struct Idle<'a> {
+struct Idle<'a> {
     place: MutexGuard<'a, Place>,
-    pub number: u32,
-    pub handle: &'a Handle,
+    number: u32,
+    entry: &'a Entry,
 }
 
 /// How far a set is on the way to its end.
@@ -52,15 +58,15 @@ const CLOSING: u8 = 1;
 /// No call is made any more.
 const CLOSED: u8 = 2;
 
-/// For how long a thread that has each worker itself waits before it is told so: another thread, to
-/// which it has sent one, may not have made a call by it yet.
+/// How long a thread that has each worker itself waits before `NoWorker` is returned: another
+/// thread, to which it has sent one, may not have made a call by it yet.
 const ALONE: Duration = Duration::from_millis(250);
 
 pub(crate) struct Pool {
     /// Tells the sets of a process apart.
     identity: u64,
     pub habit: Habit,
-    pub patience: u32,
+    pub timeout_ms: u32,
     pub nodes: u32,
     phase: AtomicU8,
     /// One close at a time.
@@ -106,7 +112,26 @@ impl Entry {
             place: Mutex::new(Place::Unused),
             handle: Handle::closed(),
             holder: AtomicU64::new(0),
+            keys: AtomicI64::new(0),
+            waiting: AtomicU64::new(0),
         }
+    }
+
+    /// Adds to the number of keys that the calls by the worker have inserted.
+    pub fn count(&self, change: i64) {
+        if change != 0 {
+            self.keys.fetch_add(change, Ordering::Relaxed);
+        }
+    }
+
+    /// How many keys the calls by the worker have inserted, less those that they have removed.
+    pub fn keys(&self) -> i64 {
+        self.keys.load(Ordering::Relaxed)
+    }
+
+    /// Whether a thread has the worker.
+    fn is_lent(&self) -> bool {
+        free(&self.place).is_some_and(|place| *place == Place::Lent)
     }
 }
 
@@ -127,8 +152,8 @@ impl Pool {
         }
         Ok(Pool {
             identity: IDENTITIES.fetch_add(1, Ordering::Relaxed),
-            habit: options.habit(),
-            patience: options.patience,
+            habit: options.habit(nodes),
+            timeout_ms: options.timeout_ms,
             nodes,
             phase: AtomicU8::new(OPEN),
             closer: Mutex::new(()),
@@ -153,12 +178,8 @@ impl Pool {
         Ok(())
     }
 
-    fn entry(&self, number: u32) -> &Entry {
+    pub fn entry(&self, number: u32) -> &Entry {
         &self.entries[number as usize]
-    }
-
-    pub fn handle(&self, number: u32) -> &Handle {
-        &self.entry(number).handle
     }
 
     /// A thread makes a call by the worker of a number, which was lent.
@@ -175,9 +196,9 @@ impl Pool {
         number: u32,
     ) -> Result<Option<Idle<'a>>, Fault> {
         self.need_open()?;
-        let handle = self.handle(number);
+        let entry = self.entry(number);
         if *place == Place::Unused {
-            let told = self.set.take(handle, number);
+            let told = self.set.take(&entry.handle, number);
             if told < 0 {
                 return Err(Fault::of(told));
             }
@@ -186,11 +207,11 @@ impl Pool {
         Ok((*place == Place::Idle).then_some(Idle {
             place,
             number,
-            handle,
+            entry,
         }))
     }
 
-    /// The worker of a number, where nobody uses it at this moment.
+    /// The worker of a number, if nobody uses it at this moment.
     fn idle(&self, number: u32) -> Result<Option<Idle<'_>>, Fault> {
         match free(&self.entry(number).place) {
             Some(place) => self.opened(place, number),
@@ -208,28 +229,34 @@ impl Pool {
         Ok(None)
     }
 
-    /// Waits for a worker that nobody uses, for as long as that takes, or until a moment.
-    fn wait_for_idle(&self, until: Option<Instant>) -> Result<Idle<'_>, Fault> {
+    /// Asks for a worker, with short sleeps, until there is one, or until a moment. A function says
+    /// whether the workers that this thread has itself are of no use for it.
+    fn wait_for<T>(
+        &self,
+        until: Option<Instant>,
+        ask: impl Fn() -> Result<Option<T>, Fault>,
+        is_own_useless: impl Fn() -> bool,
+    ) -> Result<T, Fault> {
         let mut begin = None;
         let mut wait = Wait::for_worker();
         loop {
             self.need_open()?;
             if self.phase.load(Ordering::SeqCst) == OPEN {
-                if let Some(idle) = self.any_idle()? {
-                    return Ok(idle);
+                if let Some(found) = ask()? {
+                    return Ok(found);
                 }
-                self.fail_late(*begin.get_or_insert_with(Instant::now), until)?;
+            }
+            let begin = *begin.get_or_insert_with(Instant::now);
+            let is_late = until.is_some_and(|until| Instant::now() >= until);
+            if is_late || (begin.elapsed() >= ALONE && is_own_useless()) {
+                self.fail_late(is_late)?;
             }
             wait.go_on();
         }
     }
 
-    /// Refuses to wait beyond a moment, and to wait for a worker where this thread has them all.
-    fn fail_late(&self, begin: Instant, until: Option<Instant>) -> Result<(), Fault> {
-        let is_late = until.is_some_and(|until| Instant::now() >= until);
-        if !is_late && begin.elapsed() < ALONE {
-            return Ok(());
-        }
+    /// Refuses to wait any longer, and to wait for a worker if this thread has them all.
+    fn fail_late(&self, is_late: bool) -> Result<(), Fault> {
         let (workers, own) = (self.workers(), self.held_by(this_thread()));
         if is_late || own == workers {
             return Err(Fault::NoWorker { workers, own });
@@ -239,57 +266,95 @@ impl Pool {
 
     /// How many workers a thread has.
     fn held_by(&self, thread: u64) -> u32 {
-        let is_held = |entry: &&Entry| {
-            entry.holder.load(Ordering::Relaxed) == thread
-                && free(&entry.place).is_some_and(|place| *place == Place::Lent)
-        };
+        let is_held =
+            |entry: &&Entry| entry.holder.load(Ordering::Relaxed) == thread && entry.is_lent();
         self.entries.iter().filter(is_held).count() as u32
     }
 
-    /// The worker that this thread used last for a call of the set, where it is idle.
+    /// The worker that this thread used last for a call of the set, if it is idle.
     fn last_used(&self) -> Option<Idle<'_>> {
         let (identity, number) = LAST.get();
         if identity != self.identity || self.phase.load(Ordering::SeqCst) != OPEN {
             return None;
         }
-        let place = free(&self.entry(number).place)?;
+        let entry = self.entry(number);
+        let place = free(&entry.place)?;
         if *place != Place::Idle || self.is_closed() {
             return None;
         }
-        let handle = self.handle(number);
         Some(Idle {
             place,
             number,
-            handle,
+            entry,
         })
     }
 
-    /// Makes a call by a worker that nobody uses at this moment.
-    pub fn with_any<T>(&self, call: impl FnOnce(&Handle) -> Result<T, Fault>) -> Result<T, Fault> {
-        if let Some(idle) = self.last_used() {
-            return call(idle.handle);
+    /// A worker for one call, which this thread has.
+    pub fn seat<'a>(&'a self, entry: &'a Entry) -> Seat<'a> {
+        Seat {
+            entry,
+            habit: &self.habit,
+            is_borrowed: false,
         }
-        let idle = self.wait_for_idle(None)?;
-        LAST.set((self.identity, idle.number));
-        call(idle.handle)
+    }
+
+    /// Makes a call by a worker that nobody uses at this moment, else by one that is attached to a
+    /// thread, in no call and not pinned. It waits while there is neither.
+    pub fn with_any<T>(&self, call: impl Fn(Seat) -> Result<T, Fault>) -> Result<T, Fault> {
+        if let Some(idle) = self.last_used() {
+            return settled(|| call(self.seat(idle.entry)));
+        }
+        let pinned = Cell::new(0);
+        let ask = || match self.any_idle()? {
+            Some(idle) => {
+                LAST.set((self.identity, idle.number));
+                Ok(Some(settled(|| call(self.seat(idle.entry)))))
+            }
+            None => Ok(self.by_borrowed(&call, &pinned)),
+        };
+        self.wait_for(None, ask, || pinned.get() == self.workers())?
+    }
+
+    /// Makes a call by a worker that is attached to a thread, and neither in a call nor pinned.
+    /// None if there is no such worker. Counts the pinned ones that it has met.
+    fn by_borrowed<T>(
+        &self,
+        call: impl Fn(Seat) -> Result<T, Fault>,
+        pinned: &Cell<u32>,
+    ) -> Option<Result<T, Fault>> {
+        pinned.set(0);
+        for entry in self.entries.iter().filter(|entry| entry.is_lent()) {
+            let seat = Seat {
+                is_borrowed: true,
+                ..self.seat(entry)
+            };
+            match call(seat) {
+                Err(Fault::Held) => pinned.set(pinned.get() + 1),
+                // Closed: its thread has dropped it, and the set was closed.
+                Err(Fault::Other(IN_USE) | Fault::Closed) => {}
+                told => return Some(told),
+            }
+        }
+        None
     }
 
     // ---- a worker for a thread ----
 
-    fn lent(mut idle: Idle<'_>, holder: &AtomicU64) -> u32 {
-        holder.store(this_thread(), Ordering::Relaxed);
+    /// Lends a worker that this thread alone uses: its number.
+    fn lent(&self, mut idle: Idle<'_>) -> u32 {
+        idle.entry.handle.rest(&self.habit);
+        idle.entry.holder.store(this_thread(), Ordering::Relaxed);
         *idle.place = Place::Lent;
         idle.number
     }
 
     /// Lends a worker that nobody uses: its number.
     pub fn lend(&self, until: Option<Instant>) -> Result<u32, Fault> {
-        let idle = self.wait_for_idle(until)?;
-        let holder = &self.entry(idle.number).holder;
-        Ok(Pool::lent(idle, holder))
+        let idle = self.wait_for(until, || self.any_idle(), || true)?;
+        Ok(self.lent(idle))
     }
 
-    /// Lends the worker of a number, behind the call that is made by it at this moment.
+    /// Lends the worker of a number, after the call that is made by it at this moment.
     pub fn lend_number(&self, number: u32) -> Result<u32, Fault> {
         let workers = self.workers();
         let entry = self
@@ -297,7 +362,7 @@ impl Pool {
             .get(number as usize)
             .ok_or(Fault::Number { number, workers })?;
         match self.opened(locked(&entry.place), number)? {
-            Some(idle) => Ok(Pool::lent(idle, &entry.holder)),
+            Some(idle) => Ok(self.lent(idle)),
             None => Err(Fault::Away([number].into_iter().collect())),
         }
     }

@@ -1,13 +1,12 @@
 //! The set that threads share.
 
 use crate::fault::Fault;
-use crate::ffi::Handle;
 use crate::key::checked;
 use crate::options::Options;
 use crate::order::{self, Range};
 use crate::pool::Pool;
 use crate::report::Report;
-use crate::tending::tended;
+use crate::tending::Seat;
 use crate::worker::Worker;
 use crate::MOST_KEY;
 use std::collections::BTreeSet;
@@ -21,31 +20,33 @@ const TOGETHER: usize = 64;
 /// A set of the whole numbers up to [`MOST_KEY`] that threads share, as a
 /// [`BTreeSet<u64>`](BTreeSet) by its calls. A clone is the same set.
 ///
-/// Its calls may be made by any thread: each is made by one of the set's workers that nobody uses
-/// at that moment, mostly the one that the thread had before. Where each is in a call of another
-/// thread, or attached to one, the call **waits** for one. A thread that makes many calls may take
-/// a [`Worker`] of its own by [`attach`](Set::attach).
+/// Any thread may call it. Each call is made by one of the set's workers that no thread uses at
+/// that moment, usually the one that the thread used before. If there is none, the call borrows a
+/// worker that is attached to a thread, if it is in no call and not pinned. If each worker is in a
+/// call or pinned, the call **waits** until one is not: it sleeps a millisecond and looks again,
+/// with no bound. It waits with no bound, too, while another thread closes the set. A thread that
+/// makes many calls may take a [`Worker`] of its own by [`attach`](Set::attach).
 ///
 /// [`contains`](Set::contains), [`insert`](Set::insert) and [`remove`](Set::remove) **tend** the
-/// set: a call that lost its tries to other threads is made again, at most so many
-/// [`rounds`](Options::rounds), a remove that has begun is finished, and from so many waiting nodes
-/// on the epoch is moved on and the worker's removed nodes are collected
-/// ([`collect_after`](Options::collect_after)). Where that is not enough they tell
-/// [`Fault::Contention`], or [`Fault::Unfinished`] of a remove that has begun. All of this is the
-/// library's, **proved** and within a bound of steps.
+/// set. A call that lost its tries to other threads is made again, at most
+/// [`rounds`](Options::rounds) times, and a remove that has begun is finished. When
+/// [`collect_after`](Options::collect_after) removed nodes wait with the worker, the call first
+/// moves the epoch on and collects. If that is not enough the call returns [`Fault::Contention`],
+/// or [`Fault::Unfinished`] for a remove that has begun. The library does all of this within a
+/// bound of steps, which is **proved**.
 ///
-/// That a worker is found for each call, and that an insert waits for removed nodes to be freed
-/// before it tells [`Fault::Full`], as long as its [`patience`](Options::patience) says, is this
-/// crate's, which is **tested and not proved**.
+/// This crate finds a worker for each call, and lets an insert wait for removed nodes to be freed,
+/// for [`timeout_ms`](Options::timeout_ms) at most, before it returns [`Fault::Full`]. This part is
+/// **tested and not proved**.
 ///
 /// A call that goes over several keys takes **no snapshot**: of each key its answer was right at a
 /// moment of the call, of two keys perhaps at different moments. That is so of iteration, `retain`,
 /// `clear`, `extend` and the comparisons with a `BTreeSet`.
 ///
-/// Besides the faults that its line names each call tells `Closed` beside or behind a
-/// [`close`](Set::close); one that takes a worker `NoMemory`, as it does so for the first time, and
-/// `NoWorker`, where this thread has attached each worker itself; and one that is tended
-/// `Contention`.
+/// Besides the faults that its line names each call returns `Closed` beside or after a
+/// [`close`](Set::close). A call that takes a worker returns `NoMemory` if memory is refused as it
+/// does so for the first time, and `NoWorker` if this thread has attached each worker itself and
+/// has pinned each. A tended call returns `Contention`.
 ///
 /// ```
 /// # fn main() -> Result<(), nm_set::Fault> {
@@ -86,7 +87,12 @@ impl Set {
         Set(pool)
     }
 
-    fn with_any<T>(&self, call: impl FnOnce(&Handle) -> Result<T, Fault>) -> Result<T, Fault> {
+    #[cfg(test)]
+    pub(crate) fn pool(&self) -> &Pool {
+        &self.0
+    }
+
+    fn with_any<T>(&self, call: impl Fn(Seat) -> Result<T, Fault>) -> Result<T, Fault> {
         self.0.with_any(call)
     }
 
@@ -95,7 +101,7 @@ impl Set {
     /// Whether the set has the key. `Key`.
     pub fn contains(&self, key: u64) -> Result<bool, Fault> {
         let key = checked(key)?;
-        self.with_any(|handle| tended(handle.contains(key, &self.0.habit)))
+        self.with_any(|seat| seat.contains(key))
     }
 
     /// Whether the set has each of these keys, in their order, by one call of the library: the
@@ -112,22 +118,22 @@ impl Set {
     /// ```
     pub fn contains_many(&self, keys: &[u64]) -> Result<Vec<bool>, Fault> {
         keys.iter().try_for_each(|&key| checked(key).map(drop))?;
-        self.with_any(|handle| handle.look_many(&self.0.habit, keys))
+        self.with_any(|seat| seat.contains_many(keys))
     }
 
-    /// Inserts a key, and tells whether it was not in the set; it is now. `Key`, `Full`,
-    /// `NoMemory`.
+    /// Inserts a key, and returns whether it was not in the set; it is now. If the set is full it
+    /// waits for nodes for [`timeout_ms`](Options::timeout_ms) at most, and for no thread's call.
+    /// `Key`, `Full`, `NoMemory`.
     pub fn insert(&self, key: u64) -> Result<bool, Fault> {
         let key = checked(key)?;
-        let insert = |handle: &Handle| tended(handle.insert(key, &self.0.habit));
-        self.0.insert(|| self.with_any(insert))
+        self.0.insert(|| self.with_any(|seat| seat.insert(key)))
     }
 
     /// Removes a key, and tells whether it was in the set; it is not now. `Key`, `NoMemory`;
     /// `Unfinished`: the key will go.
     pub fn remove(&self, key: u64) -> Result<bool, Fault> {
         let key = checked(key)?;
-        self.with_any(|handle| tended(handle.remove(key, &self.0.habit)))
+        self.with_any(|seat| seat.remove(key))
     }
 
     // ---- keys in order ----
@@ -137,14 +143,14 @@ impl Set {
     /// at which it had it not: two of these moments may differ. `Key`.
     pub fn at_least(&self, key: u64) -> Result<Option<u64>, Fault> {
         let key = checked(key)?;
-        self.with_any(|handle| handle.look_next(&self.0.habit, key))
+        self.with_any(|seat| seat.at_least(key))
     }
 
     /// The greatest key of the set that is not above this one, or None where there is none, as
     /// [`at_least`](Set::at_least) tells the least. `Key`.
     pub fn at_most(&self, key: u64) -> Result<Option<u64>, Fault> {
         let key = checked(key)?;
-        self.with_any(|handle| handle.look_prev(&self.0.habit, key))
+        self.with_any(|seat| seat.at_most(key))
     }
 
     /// The least key, or None of an empty set.
@@ -169,12 +175,12 @@ impl Set {
     /// # }
     /// ```
     pub fn pop_first(&self) -> Result<Option<u64>, Fault> {
-        self.with_any(|handle| handle.take_by(|own, taken| own.pop_first(&self.0.habit, taken)))
+        self.with_any(|seat| seat.pop_first())
     }
 
     /// The same of the greatest key.
     pub fn pop_last(&self) -> Result<Option<u64>, Fault> {
-        self.with_any(|handle| handle.take_by(|own, taken| own.pop_last(&self.0.habit, taken)))
+        self.with_any(|seat| seat.pop_last())
     }
 
     /// The keys of a range, ascending, while the set is in use, by a call of
@@ -258,13 +264,12 @@ impl Set {
 
     // ---- how full it is ----
 
-    /// How many keys the set has, by what each worker has inserted and removed: exact where no
-    /// thread makes a call meanwhile, else off by as many keys as come and go meanwhile. It takes a
-    /// step for each worker and none for a key, takes no worker, and waits for the call that
-    /// another thread makes by one at this moment, as that one does for this look.
+    /// Returns how many keys the set has: exact if no thread makes a call meanwhile, else off by as
+    /// many keys as calls insert and remove meanwhile. It never waits, and takes no worker: it adds
+    /// up a count of each worker.
     pub fn len(&self) -> Result<usize, Fault> {
-        let keys = self.0.tally()?.keys;
-        Ok(usize::try_from(keys).unwrap_or(usize::MAX))
+        self.0.need_open()?;
+        Ok(usize::try_from(self.0.keys()).unwrap_or(usize::MAX))
     }
 
     /// Whether the set has no key, by one look for the least.
@@ -272,21 +277,29 @@ impl Set {
         Ok(self.first()?.is_none())
     }
 
-    /// How many removed nodes wait to be freed, as exact as [`len`](Set::len).
+    /// Returns how many removed nodes wait to be freed. It asks each worker once and never waits.
+    /// For a worker that is in a call it takes the number of an earlier time: what waited when the
+    /// worker was last asked, by `waiting`, `free` or an insert into a full set.
     pub fn waiting(&self) -> Result<u64, Fault> {
-        Ok(self.0.tally()?.waiting)
+        self.0.need_open()?;
+        Ok(self.0.tally().waiting)
     }
 
-    /// How many nodes are free, as exact as [`len`](Set::len): a new key takes two.
+    /// Returns how many nodes are free, as exact as [`len`](Set::len) and
+    /// [`waiting`](Set::waiting): a new key takes two. It never waits.
     pub fn free(&self) -> Result<u64, Fault> {
-        let tally = self.0.tally()?;
-        let taken = tally.keys.saturating_mul(2).saturating_add(5);
-        Ok(u64::from(self.nodes()).saturating_sub(taken.saturating_add(tally.waiting)))
+        self.0.need_open()?;
+        Ok(self.0.tally().free)
     }
 
     /// For how many nodes the set has room.
     pub fn nodes(&self) -> u32 {
         self.0.nodes
+    }
+
+    /// How many keys the set can have if no removed node waits to be freed: (nodes - 5) / 2.
+    pub fn capacity(&self) -> usize {
+        (self.nodes() as usize - 5) / 2
     }
 
     /// How many workers the set has.
@@ -295,7 +308,8 @@ impl Set {
     }
 
     /// Moves the epoch on as far as can be, and frees what has waited long enough, of all workers
-    /// by which no call is made at this moment: how many nodes.
+    /// by which no call is made at this moment. Returns how many nodes were freed. It waits for no
+    /// other call, but a call by a worker waits while its nodes are collected.
     pub fn collect(&self) -> Result<u64, Fault> {
         self.0.need_open()?;
         Ok(self.0.relieve())
@@ -304,18 +318,21 @@ impl Set {
     // ---- workers for threads ----
 
     /// Takes a worker for this thread; the least number comes first. It **waits** while each is
-    /// attached or in a call, for as long as that is. `NoWorker`, where this thread has each worker
-    /// itself: those that it has attached, or used last, for a quarter of a second.
+    /// attached or in a call, with no bound. `NoWorker`: this thread has each worker itself, those
+    /// that it has attached or used last, for a quarter of a second.
+    ///
+    /// A worker stays shared: while all workers are attached, calls of the set borrow those that
+    /// are in no call. See [`Worker`].
     pub fn attach(&self) -> Result<Worker, Fault> {
         self.attach_until(None)
     }
 
-    /// The same, and does not wait: `NoWorker`, where none is free at this moment.
+    /// The same, and does not wait. `NoWorker`: none is free at this moment.
     pub fn try_attach(&self) -> Result<Worker, Fault> {
         self.attach_timeout(Duration::ZERO)
     }
 
-    /// The same, and waits for a time at most: `NoWorker` behind that.
+    /// The same, and waits for a time at most. `NoWorker`: none was free in that time.
     pub fn attach_timeout(&self, timeout: Duration) -> Result<Worker, Fault> {
         self.attach_until(Instant::now().checked_add(timeout))
     }
@@ -325,8 +342,8 @@ impl Set {
         Ok(Worker::of(Arc::clone(&self.0), number))
     }
 
-    /// Takes the worker of a number. It waits for a call that another thread makes by it at this
-    /// moment. `Number`; `Away`, where it is attached.
+    /// Takes the worker of a number. It waits for the call of the set that another thread makes by
+    /// it at this moment, as long as that takes. `Number`; `Away`: the worker is attached.
     pub fn worker(&self, number: u32) -> Result<Worker, Fault> {
         let number = self.0.lend_number(number)?;
         Ok(Worker::of(Arc::clone(&self.0), number))
@@ -334,8 +351,9 @@ impl Set {
 
     // ---- the end ----
 
-    /// Ends the set, and tells what stood in it. It waits for calls that other threads make of the
-    /// set at this moment; each call that waits, and each later one, tells `Closed`.
+    /// Ends the set, and returns the keys that it had. It waits for calls that other threads make
+    /// of the set at this moment, as long as they take; each call that waits, and each later one,
+    /// returns `Closed`.
     ///
     /// `Away`: a [`Worker`] is not dropped yet, and the set goes on. `NoMemory`: only `close` goes
     /// on. `Closed`: it was closed before.

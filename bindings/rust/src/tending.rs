@@ -1,7 +1,9 @@
-//! A worker's calls that tend the set.
+//! The calls by a worker that tend the set, and what they count.
 
 use crate::fault::{answer, Fault};
 use crate::ffi::{Habit, Handle, Lookup, Outcome};
+use crate::pool::Entry;
+use crate::wait::IN_USE;
 
 /// How often the epoch is moved on at most before a collection: a removed node is free after two
 /// moves, and one move may be of another worker's.
@@ -15,9 +17,17 @@ const BEHIND: Outcome = -15;
 const LOST: Outcome = -16;
 const SPENT: Outcome = -17;
 
-/// What a call that tends the set tells: contention, where its bound was reached before anything of
-/// it stood, also for a remove of before.
-pub(crate) fn tended(outcome: Outcome) -> Result<bool, Fault> {
+/// The outcome of an answer that is yes.
+const YES: Outcome = 1;
+
+/// How a remove that a call by a borrowed worker has begun is finished: by so many calls at most,
+/// of so many tries each. Each lost try means that another thread's call went on.
+const FINISHES: u32 = 1_024;
+const TRIES: u32 = 64;
+
+/// The answer of a tended call. `Contention`: the bound was reached before the call, or the remove
+/// of an earlier one, was done.
+fn tended(outcome: Outcome) -> Result<bool, Fault> {
     match answer(outcome) {
         Err(Fault::Busy | Fault::Pending) => Err(Fault::Contention),
         told => told,
@@ -34,59 +44,128 @@ pub(crate) fn found(lookups: &[Lookup]) -> Vec<bool> {
     lookups.iter().map(|lookup| lookup.found != 0).collect()
 }
 
-impl Handle {
-    /// Makes a call of the library that only looks, again where it has lost each of its tries, and
-    /// behind the remove that is pending.
-    fn look(&self, habit: &Habit, mut call: impl FnMut(u32) -> Outcome) -> Result<bool, Fault> {
-        for _ in 0..=habit.rounds {
-            match answer(call(habit.tries)) {
-                Err(Fault::Pending) => drop(self.finish(habit.tries)),
-                Err(Fault::Busy) => {}
+/// A worker for one call, which its thread has itself or has borrowed from another one. If another
+/// call has the worker's handle, each of these calls returns `Other(IN_USE)` and does nothing.
+#[derive(Clone, Copy)]
+pub(crate) struct Seat<'a> {
+    pub entry: &'a Entry,
+    pub habit: &'a Habit,
+    pub is_borrowed: bool,
+}
+
+impl Seat<'_> {
+    pub fn contains(&self, key: u64) -> Result<bool, Fault> {
+        tended(self.entry.handle.contains(key, self.habit))
+    }
+
+    pub fn insert(&self, key: u64) -> Result<bool, Fault> {
+        let told = self.entry.handle.insert(key, self.habit);
+        self.entry.count_insert(told);
+        tended(told)
+    }
+
+    pub fn remove(&self, key: u64) -> Result<bool, Fault> {
+        let told = self.entry.handle.remove(key, self.habit);
+        self.entry.count_remove(told);
+        if told == UNFINISHED && self.is_given_back() {
+            return Ok(true);
+        }
+        tended(told)
+    }
+
+    pub fn pop_first(&self) -> Result<Option<u64>, Fault> {
+        self.take_by(Handle::pop_first)
+    }
+
+    pub fn pop_last(&self) -> Result<Option<u64>, Fault> {
+        self.take_by(Handle::pop_last)
+    }
+
+    /// Takes a key by a call of the library. A key whose remove is unfinished is taken too: this
+    /// call will remove it, and no other call will.
+    fn take_by(
+        &self,
+        call: impl Fn(&Handle, &Habit, &mut u64) -> Outcome,
+    ) -> Result<Option<u64>, Fault> {
+        let mut taken = 0;
+        let told = call(&self.entry.handle, self.habit, &mut taken);
+        self.entry.count_remove(told);
+        let is_taken = match told {
+            UNFINISHED => {
+                self.is_given_back();
+                true
+            }
+            told => tended(told)?,
+        };
+        Ok(is_taken.then_some(taken))
+    }
+
+    /// Finishes the remove that this call has begun by a borrowed worker, so that the worker's
+    /// owner does not meet it. Returns whether it is finished; false of a worker that is not
+    /// borrowed.
+    fn is_given_back(&self) -> bool {
+        let has_finished = |_| self.entry.handle.finish(TRIES) != UNFINISHED;
+        self.is_borrowed && (0..FINISHES).any(has_finished)
+    }
+
+    pub fn contains_many(&self, keys: &[u64]) -> Result<Vec<bool>, Fault> {
+        let mut lookups = lookups_of(keys);
+        self.look(|handle, tries| handle.contains_many(&mut lookups, tries))?;
+        Ok(found(&lookups))
+    }
+
+    pub fn at_least(&self, key: u64) -> Result<Option<u64>, Fault> {
+        let mut found = 0;
+        let is_found = self.look(|handle, tries| handle.next(key, tries, &mut found))?;
+        Ok(is_found.then_some(found))
+    }
+
+    pub fn at_most(&self, key: u64) -> Result<Option<u64>, Fault> {
+        let mut found = 0;
+        let is_found = self.look(|handle, tries| handle.prev(key, tries, &mut found))?;
+        Ok(is_found.then_some(found))
+    }
+
+    /// Pins the epoch, and returns it.
+    pub fn pin(&self) -> Result<u64, Fault> {
+        let mut epoch = 0;
+        self.look(|handle, tries| handle.pin(tries, &mut epoch))?;
+        Ok(epoch)
+    }
+
+    /// Makes a call of the library that changes no key, again if it has lost each of its tries, and
+    /// after the remove that is pending.
+    fn look(&self, mut call: impl FnMut(&Handle, u32) -> Outcome) -> Result<bool, Fault> {
+        let (handle, tries) = (&self.entry.handle, self.habit.tries);
+        for _ in 0..=self.habit.rounds {
+            match answer(call(handle, tries)) {
+                Err(Fault::Pending) if handle.finish_at_once(tries) == IN_USE => {
+                    return answer(IN_USE)
+                }
+                Err(Fault::Busy | Fault::Pending) => {}
                 told => return told,
             }
         }
         Err(Fault::Contention)
     }
+}
 
-    pub(crate) fn look_many(&self, habit: &Habit, keys: &[u64]) -> Result<Vec<bool>, Fault> {
-        let mut lookups = lookups_of(keys);
-        self.look(habit, |tries| self.contains_many(&mut lookups, tries))?;
-        Ok(found(&lookups))
+impl Entry {
+    /// Counts the key that a call by the worker has inserted. Returns the call's outcome.
+    pub fn count_insert(&self, told: Outcome) -> Outcome {
+        self.count(i64::from(told == YES));
+        told
     }
 
-    pub(crate) fn look_next(&self, habit: &Habit, key: u64) -> Result<Option<u64>, Fault> {
-        let mut found = 0;
-        let is_found = self.look(habit, |tries| self.next(key, tries, &mut found))?;
-        Ok(is_found.then_some(found))
+    /// Counts the key that a call by the worker has removed. An unfinished remove counts now, and
+    /// not when it is finished: no other call will remove the key. Returns the call's outcome.
+    pub fn count_remove(&self, told: Outcome) -> Outcome {
+        self.count(-i64::from(told == YES || told == UNFINISHED));
+        told
     }
+}
 
-    pub(crate) fn look_prev(&self, habit: &Habit, key: u64) -> Result<Option<u64>, Fault> {
-        let mut found = 0;
-        let is_found = self.look(habit, |tries| self.prev(key, tries, &mut found))?;
-        Ok(is_found.then_some(found))
-    }
-
-    /// Takes a key by a call of the library. One that is told to be unfinished goes by this call
-    /// and no other, and is pending.
-    pub(crate) fn take_by(
-        &self,
-        call: impl FnOnce(&Handle, &mut u64) -> Outcome,
-    ) -> Result<Option<u64>, Fault> {
-        let mut taken = 0;
-        let outcome = match call(self, &mut taken) {
-            UNFINISHED => self.pending(&mut taken),
-            told => told,
-        };
-        Ok(tended(outcome)?.then_some(taken))
-    }
-
-    /// Pins the epoch, and tells it.
-    pub(crate) fn hold(&self, habit: &Habit) -> Result<u64, Fault> {
-        let mut epoch = 0;
-        self.look(habit, |tries| self.pin(tries, &mut epoch))?;
-        Ok(epoch)
-    }
-
+impl Handle {
     /// Moves the epoch on by one, if no worker holds it back.
     pub(crate) fn move_on(&self) -> Advance {
         let (mut epoch, mut worker) = (0, 0);

@@ -1,5 +1,6 @@
 //! How a thread waits for another one.
 
+use crate::fault::Fault;
 use crate::ffi::Outcome;
 use std::hint;
 use std::thread;
@@ -16,7 +17,7 @@ const LOOKS: u32 = 1_000;
 const TURNS: u32 = 10;
 
 /// The outcome of a handle that another call has.
-const IN_USE: Outcome = -22;
+pub(crate) const IN_USE: Outcome = -22;
 
 /// A wait, with how many turns are left of each kind.
 pub(crate) struct Wait {
@@ -67,14 +68,27 @@ pub(crate) fn waited_out(mut call: impl FnMut() -> Outcome) -> Outcome {
     }
 }
 
-/// Makes a call of the library once: where another call has the handle, it has done nothing.
+/// Makes a call again while another call has the handle of its worker. It waits as long as that
+/// call takes, which is within a bound of steps, but may be longer if its thread is not running.
+pub(crate) fn settled<T>(mut call: impl FnMut() -> Result<T, Fault>) -> Result<T, Fault> {
+    let mut wait = Wait::for_call();
+    loop {
+        match call() {
+            Err(Fault::Other(IN_USE)) => wait.go_on(),
+            told => return told,
+        }
+    }
+}
+
+/// Makes a call of the library once. If another call has the handle, it has done nothing.
 pub(crate) fn at_once(call: impl FnOnce() -> Outcome) -> Outcome {
     call()
 }
 
 #[cfg(test)]
 mod tests {
-    use super::{at_once, waited_out, IN_USE, LOOKS, TURNS};
+    use super::{at_once, settled, waited_out, IN_USE, LOOKS, TURNS};
+    use crate::fault::answer;
 
     #[test]
     fn a_handle_in_use_is_waited_for() {
@@ -89,5 +103,15 @@ mod tests {
         };
         assert_eq!(at_once(&mut call), IN_USE);
         assert_eq!(waited_out(&mut call), 1);
+    }
+
+    #[test]
+    fn a_call_is_made_again_while_its_handle_is_in_use() {
+        let mut left = LOOKS + TURNS + 3;
+        let told = settled(|| {
+            left -= 1;
+            answer(if left > 0 { IN_USE } else { 1 })
+        });
+        assert_eq!((told, left), (Ok(true), 0));
     }
 }

@@ -5,9 +5,10 @@ use crate::ffi::{Handle, Ledger};
 use crate::key::checked;
 use crate::numbers::Numbers;
 use crate::order::{self, Range};
-use crate::pool::{this_thread, Pool};
+use crate::pool::{this_thread, Entry, Pool};
 use crate::set::Set;
-use crate::tending::{found, lookups_of, tended, Advance};
+use crate::tending::{found, lookups_of, Advance, Seat};
+use crate::wait::settled;
 use crate::MOST_KEY;
 use std::fmt;
 use std::ops::RangeBounds;
@@ -16,14 +17,23 @@ use std::sync::Arc;
 /// One worker of a [`Set`], for one thread at a time: each call takes it by `&mut`, and it may be
 /// sent to another thread between two calls.
 ///
-/// Dropped, also by a panic, it goes back to its set without its pin and its pending remove, and
-/// can be taken again. A worker that is forgotten (`std::mem::forget`) never comes back, and its
-/// set cannot be closed.
+/// Dropped, by a panic too, it goes back to its set without its pin and its pending remove, and can
+/// be taken again. A worker that is forgotten (`std::mem::forget`) never comes back, and its set
+/// cannot be closed.
 ///
-/// Its calls up to [`clear`](Worker::clear) are those of [`Set`], with the same answers, and tell
-/// the same faults but for `NoWorker` and `Closed`, which they do not meet. The others are those of
-/// the library below, each of which makes what its contract there says and no more: those that
-/// begin with `try_` make so many tries and leave the rest to their caller.
+/// Its calls up to [`clear`](Worker::clear) are those of [`Set`], with the same answers, and return
+/// the same faults except `NoWorker` and `Closed`, which they do not meet. The others are those of
+/// the library below, each of which does what its contract there says and no more. Those that begin
+/// with `try_` make the given number of tries and leave the rest to their caller.
+///
+/// If all workers of the set are attached, calls of the set **borrow** one that is in no call and
+/// not pinned. So [`ledger`](Worker::ledger), [`waiting`](Worker::waiting) and
+/// [`post`](Worker::post) include calls that other threads made by this worker. Such a call
+/// finishes the remove that is pending, whichever call began it, before it gives the worker back,
+/// so that [`try_finish`](Worker::try_finish) returns false then. A call by the worker waits, with
+/// no bound, for a call that another thread makes by it at this moment: a borrowed one, or one that
+/// collects its nodes or asks how many there are. Each of these is within a bound of steps, but
+/// takes longer if its thread loses its processor. A pin keeps a worker from being borrowed.
 ///
 /// ```
 /// # fn main() -> Result<(), nm_set::Fault> {
@@ -106,18 +116,25 @@ impl Worker {
         }
     }
 
-    /// Its pool and its handle, for a call of this thread.
-    fn parts(&mut self) -> (&Pool, &Handle) {
+    /// Its entry, for a call of this thread.
+    fn entry(&mut self) -> &Entry {
         let thread = this_thread();
         if self.thread != thread {
             self.thread = thread;
             self.pool.note_holder(self.number, thread);
         }
-        (&self.pool, self.pool.handle(self.number))
+        self.pool.entry(self.number)
     }
 
     fn handle(&mut self) -> &Handle {
-        self.parts().1
+        &self.entry().handle
+    }
+
+    /// Makes a tended call, again while a call of the set has borrowed the worker.
+    fn tended<T>(&mut self, call: impl Fn(Seat) -> Result<T, Fault>) -> Result<T, Fault> {
+        self.entry();
+        let seat = self.pool.seat(self.pool.entry(self.number));
+        settled(|| call(seat))
     }
 
     /// Its number, below the number of workers.
@@ -135,43 +152,39 @@ impl Worker {
     /// Whether the set has the key: see [`Set::contains`].
     pub fn contains(&mut self, key: u64) -> Result<bool, Fault> {
         let key = checked(key)?;
-        let (pool, handle) = self.parts();
-        tended(handle.contains(key, &pool.habit))
+        self.tended(|seat| seat.contains(key))
     }
 
     /// Whether the set has each of these keys: see [`Set::contains_many`].
     pub fn contains_many(&mut self, keys: &[u64]) -> Result<Vec<bool>, Fault> {
         keys.iter().try_for_each(|&key| checked(key).map(drop))?;
-        let (pool, handle) = self.parts();
-        handle.look_many(&pool.habit, keys)
+        self.tended(|seat| seat.contains_many(keys))
     }
 
     /// Inserts a key, and tells whether it was not in the set: see [`Set::insert`].
     pub fn insert(&mut self, key: u64) -> Result<bool, Fault> {
         let key = checked(key)?;
-        let (pool, handle) = self.parts();
-        pool.insert(|| tended(handle.insert(key, &pool.habit)))
+        self.entry();
+        let seat = self.pool.seat(self.pool.entry(self.number));
+        self.pool.insert(|| settled(|| seat.insert(key)))
     }
 
     /// Removes a key, and tells whether it was in the set: see [`Set::remove`].
     pub fn remove(&mut self, key: u64) -> Result<bool, Fault> {
         let key = checked(key)?;
-        let (pool, handle) = self.parts();
-        tended(handle.remove(key, &pool.habit))
+        self.tended(|seat| seat.remove(key))
     }
 
     /// The least key that is not below this one: see [`Set::at_least`].
     pub fn at_least(&mut self, key: u64) -> Result<Option<u64>, Fault> {
         let key = checked(key)?;
-        let (pool, handle) = self.parts();
-        handle.look_next(&pool.habit, key)
+        self.tended(|seat| seat.at_least(key))
     }
 
     /// The greatest key that is not above this one: see [`Set::at_most`].
     pub fn at_most(&mut self, key: u64) -> Result<Option<u64>, Fault> {
         let key = checked(key)?;
-        let (pool, handle) = self.parts();
-        handle.look_prev(&pool.habit, key)
+        self.tended(|seat| seat.at_most(key))
     }
 
     /// The least key: see [`Set::first`].
@@ -186,14 +199,12 @@ impl Worker {
 
     /// Removes the least key, and tells it: see [`Set::pop_first`].
     pub fn pop_first(&mut self) -> Result<Option<u64>, Fault> {
-        let (pool, handle) = self.parts();
-        handle.take_by(|own, taken| own.pop_first(&pool.habit, taken))
+        self.tended(|seat| seat.pop_first())
     }
 
     /// Removes the greatest key, and tells it: see [`Set::pop_last`].
     pub fn pop_last(&mut self) -> Result<Option<u64>, Fault> {
-        let (pool, handle) = self.parts();
-        handle.take_by(|own, taken| own.pop_last(&pool.habit, taken))
+        self.tended(|seat| seat.pop_last())
     }
 
     /// The keys of a range, in both directions: see [`Set::range`].
@@ -237,7 +248,8 @@ impl Worker {
     pub fn try_contains_many(&mut self, keys: &[u64], tries: u32) -> Result<Vec<bool>, Fault> {
         keys.iter().try_for_each(|&key| checked(key).map(drop))?;
         let mut lookups = lookups_of(keys);
-        answer(self.handle().contains_many(&mut lookups, tries))?;
+        let handle = self.handle();
+        settled(|| answer(handle.contains_many(&mut lookups, tries)))?;
         Ok(found(&lookups))
     }
 
@@ -245,31 +257,34 @@ impl Worker {
     /// nobody else is there. `Key`, `Busy`, `Pending`.
     pub fn try_at_least(&mut self, key: u64, tries: u32) -> Result<Option<u64>, Fault> {
         let (key, mut found) = (checked(key)?, 0);
-        let is_found = answer(self.handle().next(key, tries, &mut found))?;
+        let is_found = answer(self.handle().try_next(key, tries, &mut found))?;
         Ok(is_found.then_some(found))
     }
 
     /// The greatest key that is not above this one, by so many tries. `Key`, `Busy`, `Pending`.
     pub fn try_at_most(&mut self, key: u64, tries: u32) -> Result<Option<u64>, Fault> {
         let (key, mut found) = (checked(key)?, 0);
-        let is_found = answer(self.handle().prev(key, tries, &mut found))?;
+        let is_found = answer(self.handle().try_prev(key, tries, &mut found))?;
         Ok(is_found.then_some(found))
     }
 
     /// Inserts a key by so many tries, and tells whether it was not in the set. `Key`, `Busy`,
     /// `NoNodes`, `Pending`, `NoMemory`.
     pub fn try_insert(&mut self, key: u64, tries: u32) -> Result<bool, Fault> {
-        answer(self.handle().try_insert(checked(key)?, tries))
+        let (key, entry) = (checked(key)?, self.entry());
+        answer(entry.count_insert(entry.handle.try_insert(key, tries)))
     }
 
     /// Removes a key by so many tries, and tells whether it was in the set; true takes two tries at
     /// least. `Key`, `Busy`, `Unfinished`, `Pending`, `NoMemory`.
     pub fn try_remove(&mut self, key: u64, tries: u32) -> Result<bool, Fault> {
-        answer(self.handle().try_remove(checked(key)?, tries))
+        let (key, entry) = (checked(key)?, self.entry());
+        answer(entry.count_remove(entry.handle.try_remove(key, tries)))
     }
 
-    /// Goes on with the remove that is pending, by so many tries: true where it has answered now,
-    /// false where none is. `Unfinished`.
+    /// Goes on with the remove that is pending, with the given number of tries. Returns true if it
+    /// is finished now, and false if none is pending, as after a call of the set that borrowed the
+    /// worker. `Unfinished`.
     pub fn try_finish(&mut self, tries: u32) -> Result<bool, Fault> {
         answer(self.handle().finish(tries))
     }
@@ -292,8 +307,7 @@ impl Worker {
     /// # }
     /// ```
     pub fn pin(&mut self) -> Result<PinGuard<'_>, Fault> {
-        let (pool, handle) = self.parts();
-        let epoch = handle.hold(&pool.habit)?;
+        let epoch = self.tended(|seat| seat.pin())?;
         Ok(PinGuard {
             worker: self,
             epoch,
@@ -320,18 +334,19 @@ impl Worker {
 
     // ---- of itself ----
 
-    /// How many nodes wait in its queue.
+    /// Returns how many nodes wait in its queue, including those that borrowed calls removed.
     pub fn waiting(&mut self) -> u64 {
         self.ledger().queued
     }
 
-    /// The key of a remove that has begun and not answered yet.
+    /// Returns the key of a remove that has begun and is not finished.
     pub fn pending(&mut self) -> Option<u64> {
         let mut key = 0;
         (self.handle().pending(&mut key) > 0).then_some(key)
     }
 
-    /// What it has won, and what became of what it cut off.
+    /// Returns what calls by it have won, including borrowed ones, and what became of the nodes
+    /// that they cut off.
     pub fn ledger(&mut self) -> Ledger {
         let mut ledger = Ledger::default();
         self.handle().ledger(&mut ledger);

@@ -271,12 +271,74 @@ fn workers_are_given_out_once() {
 #[test]
 fn a_thread_that_has_each_worker_itself_is_told_so() {
     let set = small(2);
-    let _both = (set.attach().unwrap(), set.attach().unwrap());
+    let (mut first, mut second) = (set.attach().unwrap(), set.attach().unwrap());
     let own = Fault::NoWorker { workers: 2, own: 2 };
-    assert_eq!(set.try_attach().err(), Some(own));
-    assert_eq!((set.attach().err(), set.contains(5)), (Some(own), Err(own)));
+    assert_eq!(
+        (set.try_attach().err(), set.attach().err()),
+        (Some(own), Some(own))
+    );
     let text = "no worker is free: the set has 2 (64 at most), and this thread has each itself";
     assert_eq!(own.to_string(), text);
+    let pins = (first.pin().unwrap(), second.pin().unwrap());
+    assert_eq!((set.contains(5), set.insert(5)), (Err(own), Err(own)));
+    drop(pins);
+    assert_eq!(set.insert(5), Ok(true));
+}
+
+#[test]
+fn a_call_borrows_a_worker_that_is_attached_and_not_pinned() {
+    let options = Options {
+        workers: 2,
+        tries: 1,
+        rounds: 0,
+        ..Options::default()
+    };
+    let set = Set::with_options(64, options).unwrap();
+    let (mut first, mut second) = (set.attach().unwrap(), set.attach().unwrap());
+    let pin = first.pin().unwrap();
+    assert_eq!((set.insert(5), set.insert(6)), (Ok(true), Ok(true)));
+    assert_eq!(set.contains_many(&[5, 7]), Ok(vec![true, false]));
+    assert_eq!(
+        (second.ledger().links, second.post().unwrap().inserted),
+        (2, 2)
+    );
+    assert_eq!((set.remove(5), second.pending()), (Ok(true), None));
+    assert_eq!(second.try_remove(6, 1), Err(Fault::Unfinished));
+    assert_eq!((set.pop_first(), second.pending()), (Ok(None), None));
+    assert_eq!((second.ledger().flags, second.waiting()), (2, 4));
+    drop(pin);
+    assert_eq!(first.ledger().links, 0);
+    assert_eq!((set.len(), set.is_empty()), (Ok(0), Ok(true)));
+}
+
+#[test]
+fn a_set_tells_how_many_keys_it_can_have() {
+    for (nodes, capacity) in [(7, 1), (8, 1), (9, 2), (65_536, 32_765)] {
+        assert_eq!(Set::new(nodes).unwrap().capacity(), capacity);
+    }
+    let set = Set::new(25).unwrap();
+    assert_eq!(set.extend(0..10), Ok(set.capacity()));
+    assert!(matches!(set.insert(10), Err(Fault::Full(_))));
+}
+
+#[test]
+fn keys_are_counted_by_each_kind_of_call() {
+    let set = Set::new(1_024).unwrap();
+    let mut worker = set.attach().unwrap();
+    assert_eq!((set.extend(0..10), set.len()), (Ok(10), Ok(10)));
+    assert_eq!((worker.extend(5..15), set.len()), (Ok(5), Ok(15)));
+    assert_eq!((worker.try_insert(20, 64), set.len()), (Ok(true), Ok(16)));
+    assert_eq!((worker.try_insert(20, 64), set.len()), (Ok(false), Ok(16)));
+    // An unfinished remove counts once: as it begins.
+    let unfinished = Err(Fault::Unfinished);
+    assert_eq!((worker.try_remove(20, 1), set.len()), (unfinished, Ok(15)));
+    assert_eq!((worker.try_finish(64), set.len()), (Ok(true), Ok(15)));
+    assert_eq!((worker.remove(0), set.len()), (Ok(true), Ok(14)));
+    assert_eq!((worker.pop_first(), set.len()), (Ok(Some(1)), Ok(13)));
+    assert_eq!((set.pop_last(), set.len()), (Ok(Some(14)), Ok(12)));
+    assert_eq!((worker.try_remove(99, 64), set.len()), (Ok(false), Ok(12)));
+    drop(worker);
+    assert_eq!((set.len(), set.close().unwrap().len()), (Ok(12), 12));
 }
 
 #[test]

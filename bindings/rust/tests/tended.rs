@@ -103,7 +103,7 @@ fn what_waits_with_an_attached_worker_that_makes_no_call_is_collected_too() {
 #[test]
 fn a_set_whose_keys_take_all_nodes_tells_so_at_once() {
     let options = Options {
-        patience: u32::MAX,
+        timeout_ms: u32::MAX,
         ..Options::default()
     };
     let set = Set::with_options(9, options).unwrap();
@@ -140,7 +140,7 @@ fn what_waits_with_workers_that_nobody_uses_is_collected_too() {
 }
 
 #[test]
-fn a_worker_that_holds_the_epoch_back_lets_full_be_told_behind_the_patience() {
+fn a_worker_that_holds_the_epoch_back_lets_full_be_told_after_the_timeout() {
     let set = small(2);
     let mut reader = set.attach().unwrap();
     let guard = reader.pin().unwrap();
@@ -166,9 +166,9 @@ fn a_worker_that_holds_the_epoch_back_lets_full_be_told_behind_the_patience() {
 }
 
 #[test]
-fn an_insert_without_patience_tells_full_at_once() {
+fn an_insert_with_a_timeout_of_0_tells_full_at_once() {
     let options = Options {
-        patience: 0,
+        timeout_ms: 0,
         ..Options::default()
     };
     let set = Set::with_options(7, options).unwrap();
@@ -181,7 +181,7 @@ fn an_insert_without_patience_tells_full_at_once() {
 #[test]
 fn an_insert_waits_for_a_pin_to_end() {
     let options = Options {
-        patience: u32::MAX,
+        timeout_ms: u32::MAX,
         ..Options::default()
     };
     let set = Set::with_options(9, options).unwrap();
@@ -207,7 +207,7 @@ fn an_insert_waits_for_a_pin_to_end() {
 #[test]
 fn retired_nodes_are_collected_as_they_come_due() {
     let options = Options {
-        collect_after: 8,
+        collect_after: Some(8),
         ..Options::default()
     };
     let set = Set::with_options(4_096, options).unwrap();

@@ -3,6 +3,7 @@
 use nm_set::{Fault, Options, Set, Worker};
 use std::collections::BTreeSet;
 use std::panic::{catch_unwind, AssertUnwindSafe};
+use std::sync::atomic::{AtomicBool, Ordering};
 use std::sync::{Barrier, Mutex};
 use std::thread::{self, scope};
 use std::time::{Duration, Instant};
@@ -42,9 +43,12 @@ fn told_by(name: &str, usual: u64) -> u64 {
     told.map_or(usual, |number| number.parse().expect("a whole number"))
 }
 
+/// A set whose inserts wait for ten seconds: on a busy machine a thread may lose its processor, in
+/// the middle of a call, for longer than the usual timeout.
 fn with_workers(nodes: u32, workers: u32) -> Set {
     let options = Options {
         workers,
+        timeout_ms: 10_000,
         ..Options::default()
     };
     Set::with_options(nodes, options).unwrap()
@@ -123,13 +127,13 @@ fn play<C: Calls>(set: &Set, calls: impl Fn(&Set) -> C + Sync) {
     adds_up(set, &balances.into_inner().unwrap());
 }
 
-/// A set in which room is scarce and tries are few, and that has patience instead.
+/// A set in which room is scarce and tries are few, and whose inserts wait long instead.
 fn scarce(tries: u32, workers: u32) -> Set {
     let options = Options {
         workers,
         tries,
         rounds: 4,
-        patience: 10_000,
+        timeout_ms: 10_000,
         ..Options::default()
     };
     Set::with_options(256, options).unwrap()
@@ -137,7 +141,7 @@ fn scarce(tries: u32, workers: u32) -> Set {
 
 #[test]
 fn threads_with_workers_add_up() {
-    play(&Set::new(1_024).unwrap(), |set| set.attach().unwrap());
+    play(&with_workers(1_024, 64), |set| set.attach().unwrap());
 }
 
 #[test]
@@ -147,7 +151,7 @@ fn threads_with_workers_add_up_where_room_is_scarce_and_tries_are_few() {
 
 #[test]
 fn threads_without_workers_add_up() {
-    play(&Set::new(1_024).unwrap(), Set::clone);
+    play(&with_workers(1_024, 64), Set::clone);
 }
 
 #[test]
@@ -227,14 +231,17 @@ fn an_attach_waits_for_another_thread_and_no_longer_than_it_is_told() {
         let text = "no worker is free: the set has 1 (64 at most), and threads have each";
         assert_eq!(none.to_string(), text);
         assert!(took >= Duration::from_millis(30), "{took:?}");
+        let guard = worker.pin().unwrap();
         let attached = scope.spawn(|| set.attach().unwrap().contains(5));
-        let called = scope.spawn(|| set.contains(5));
+        let called = scope.spawn(|| set.insert(6));
         thread::sleep(Duration::from_millis(400));
         assert!(!attached.is_finished() && !called.is_finished());
+        drop(guard);
+        assert_eq!(called.join().unwrap(), Ok(true));
+        assert!(!attached.is_finished());
         assert_eq!(worker.insert(5), Ok(true));
         drop(worker);
         assert_eq!(attached.join().unwrap(), Ok(true));
-        assert_eq!(called.join().unwrap(), Ok(true));
     });
 }
 
@@ -251,8 +258,37 @@ fn a_thread_that_has_sent_its_workers_away_waits_for_one() {
             thread::sleep(Duration::from_millis(400));
             drop(worker);
         });
-        assert_eq!(set.contains(5), Ok(true));
+        assert_eq!(set.attach().unwrap().contains(5), Ok(true));
     });
+}
+
+#[test]
+fn threads_that_have_all_workers_call_the_set() {
+    let options = Options {
+        workers: THREADS as u32,
+        tries: 2,
+        rounds: 1,
+        timeout_ms: 10_000,
+        ..Options::default()
+    };
+    let set = Set::with_options(4_096, options).unwrap();
+    let begin = Barrier::new(THREADS as usize);
+    let balances = Mutex::new(Vec::new());
+    scope(|scope| {
+        for thread in 0..THREADS {
+            let (set, begin, balances) = (&set, &begin, &balances);
+            scope.spawn(move || {
+                let mut worker = set.attach().unwrap();
+                begin.wait();
+                let mut balance = work(&mut worker, 5 + thread);
+                for (key, by_set) in work(&mut set.clone(), 7 + thread).iter().enumerate() {
+                    balance[key] += by_set;
+                }
+                balances.lock().unwrap().push(balance);
+            });
+        }
+    });
+    adds_up(&set, &balances.into_inner().unwrap());
 }
 
 #[test]
@@ -272,7 +308,8 @@ fn a_worker_goes_back_with_a_thread_that_panics() {
 
 #[test]
 fn how_full_a_set_is_can_be_asked_beside_callers() {
-    let set: Set = (0..100).collect();
+    let set = with_workers(65_536, 64);
+    assert_eq!(set.extend(0..100), Ok(100));
     let begin = Barrier::new(4);
     scope(|scope| {
         for key in 1_000..1_003 {
@@ -317,6 +354,59 @@ fn a_panic_through_a_pin_leaves_the_worker_and_the_set_usable() {
     assert_eq!((told.is_ok(), set.insert(5)), (true, Ok(true)));
     let told = catch_unwind(|| set.retain(|key| panic!("as it should, at {key}")));
     assert_eq!((told.is_err(), set.len()), (true, Ok(1)));
+}
+
+/// The keys that a thread popped until no key was left and no thread inserted any more.
+fn popped_by(
+    mut pop: impl FnMut() -> Result<Option<u64>, Fault>,
+    are_all_in: &AtomicBool,
+) -> Vec<u64> {
+    let mut keys = Vec::new();
+    loop {
+        let was_last = are_all_in.load(Ordering::SeqCst);
+        match pop() {
+            Ok(Some(key)) => keys.push(key),
+            Ok(None) if was_last => return keys,
+            Ok(None) | Err(Fault::Contention) => thread::yield_now(),
+            Err(fault) => panic!("{fault}"),
+        }
+    }
+}
+
+/// With one try and no further round many removes are left unfinished. Other threads ask the
+/// workers how full the set is, and collect, meanwhile.
+#[test]
+fn each_key_is_popped_by_one_call_where_tries_are_few() {
+    const KEYS: u64 = 20_000;
+    let options = Options {
+        workers: 6,
+        tries: 1,
+        rounds: 0,
+        ..Options::default()
+    };
+    let set = Set::with_options(262_144, options).unwrap();
+    let are_all_in = AtomicBool::new(false);
+    let mut popped = scope(|scope| {
+        let insert = |first: u64| {
+            for key in 0..KEYS {
+                assert!(answered(|| set.insert(key * 3 + first)));
+            }
+        };
+        let inserters = [0, 1, 2].map(|first| scope.spawn(move || insert(first)));
+        let by_set = scope.spawn(|| popped_by(|| set.pop_first(), &are_all_in));
+        let (mut first, mut second) = (set.attach().unwrap(), set.attach().unwrap());
+        let by_first = scope.spawn(|| popped_by(move || first.pop_first(), &are_all_in));
+        let by_second = scope.spawn(|| popped_by(move || second.pop_last(), &are_all_in));
+        while !inserters.iter().all(|inserter| inserter.is_finished()) {
+            set.waiting().and(set.len()).and(set.collect()).unwrap();
+        }
+        are_all_in.store(true, Ordering::SeqCst);
+        [by_set, by_first, by_second].map(|popping| popping.join().unwrap())
+    })
+    .concat();
+    popped.sort_unstable();
+    assert_eq!(popped, (0..3 * KEYS).collect::<Vec<_>>());
+    assert!(set.close().unwrap().is_empty());
 }
 
 /// Calls until the set is closed: how many keys it has inserted, and the fault that ended it.
@@ -453,11 +543,11 @@ fn churn<C: Calls>(
 fn sixteen_and_sixty_four_threads_find_no_set_full_that_has_room() {
     let time = Duration::from_millis(told_by("NM_SET_CHURN_MILLISECONDS", 500));
     for threads in [16, 64] {
-        let set = Set::new(65_536).unwrap();
+        let set = with_workers(65_536, 64);
         let made = churn(&set, threads, time, |set| set.attach().unwrap());
         println!("{threads} threads with workers: {made} calls");
         assert!(set.close().unwrap().len() <= 1_000);
-        let set = Set::new(65_536).unwrap();
+        let set = with_workers(65_536, 64);
         let made = churn(&set, threads, time, Set::clone);
         println!("{threads} threads without: {made} calls");
         assert!(set.close().unwrap().len() <= 1_000);
