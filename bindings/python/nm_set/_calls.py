@@ -48,8 +48,8 @@ def _counted(outcomes: Counter[int], call: Callable[..., int]) -> Callable[..., 
     """A call that counts its outcome as it is made. All of that is one step of Python, so that no
     exception comes between, whenever it comes."""
 
-    def made(*arguments: Any) -> int:
-        counted, outcome = tee(map(call, *((argument,) for argument in arguments)))
+    def made(handle: c.Handle, second: Any, third: Any) -> int:
+        counted, outcome = tee(map(call, (handle,), (second,), (third,)))
         outcomes.update(counted)
         return next(outcome)
 

@@ -98,6 +98,7 @@ impl Fault {
 }
 
 /// Whether the answer is not no, or the fault.
+#[inline]
 pub(crate) fn answer(outcome: Outcome) -> Result<bool, Fault> {
     match outcome {
         0.. => Ok(outcome != 0),

@@ -27,6 +27,7 @@ const TRIES: u32 = 64;
 
 /// The answer of a tended call. `Contention`: the bound was reached before the call, or the remove
 /// of an earlier one, was done.
+#[inline]
 fn tended(outcome: Outcome) -> Result<bool, Fault> {
     match answer(outcome) {
         Err(Fault::Busy | Fault::Pending) => Err(Fault::Contention),
@@ -54,19 +55,22 @@ pub(crate) struct Seat<'a> {
 }
 
 impl Seat<'_> {
+    #[inline]
     pub fn contains(&self, key: u64) -> Result<bool, Fault> {
         tended(self.entry.handle.contains(key, self.habit))
     }
 
+    #[inline]
     pub fn insert(&self, key: u64) -> Result<bool, Fault> {
         let told = self.entry.handle.insert(key, self.habit);
-        self.entry.count_insert(told);
+        self.count_insert(told);
         tended(told)
     }
 
+    #[inline]
     pub fn remove(&self, key: u64) -> Result<bool, Fault> {
         let told = self.entry.handle.remove(key, self.habit);
-        self.entry.count_remove(told);
+        self.count_remove(told);
         if told == UNFINISHED && self.is_given_back() {
             return Ok(true);
         }
@@ -89,7 +93,7 @@ impl Seat<'_> {
     ) -> Result<Option<u64>, Fault> {
         let mut taken = 0;
         let told = call(&self.entry.handle, self.habit, &mut taken);
-        self.entry.count_remove(told);
+        self.count_remove(told);
         let is_taken = match told {
             UNFINISHED => {
                 self.is_given_back();
@@ -114,12 +118,14 @@ impl Seat<'_> {
         Ok(found(&lookups))
     }
 
+    #[inline]
     pub fn at_least(&self, key: u64) -> Result<Option<u64>, Fault> {
         let mut found = 0;
         let is_found = self.look(|handle, tries| handle.next(key, tries, &mut found))?;
         Ok(is_found.then_some(found))
     }
 
+    #[inline]
     pub fn at_most(&self, key: u64) -> Result<Option<u64>, Fault> {
         let mut found = 0;
         let is_found = self.look(|handle, tries| handle.prev(key, tries, &mut found))?;
@@ -135,6 +141,7 @@ impl Seat<'_> {
 
     /// Makes a call of the library that changes no key, again if it has lost each of its tries, and
     /// after the remove that is pending.
+    #[inline]
     fn look(&self, mut call: impl FnMut(&Handle, u32) -> Outcome) -> Result<bool, Fault> {
         let (handle, tries) = (&self.entry.handle, self.habit.tries);
         for _ in 0..=self.habit.rounds {
@@ -150,17 +157,20 @@ impl Seat<'_> {
     }
 }
 
-impl Entry {
+impl Seat<'_> {
     /// Counts the key that a call by the worker has inserted. Returns the call's outcome.
+    #[inline]
     pub fn count_insert(&self, told: Outcome) -> Outcome {
-        self.count(i64::from(told == YES));
+        self.entry.count(i64::from(told == YES), self.is_borrowed);
         told
     }
 
     /// Counts the key that a call by the worker has removed. An unfinished remove counts now, and
     /// not when it is finished: no other call will remove the key. Returns the call's outcome.
+    #[inline]
     pub fn count_remove(&self, told: Outcome) -> Outcome {
-        self.count(-i64::from(told == YES || told == UNFINISHED));
+        let is_removed = told == YES || told == UNFINISHED;
+        self.entry.count(-i64::from(is_removed), self.is_borrowed);
         told
     }
 }

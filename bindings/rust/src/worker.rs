@@ -132,9 +132,14 @@ impl Worker {
 
     /// Makes a tended call, again while a call of the set has borrowed the worker.
     fn tended<T>(&mut self, call: impl Fn(Seat) -> Result<T, Fault>) -> Result<T, Fault> {
-        self.entry();
-        let seat = self.pool.seat(self.pool.entry(self.number));
+        let seat = self.seat();
         settled(|| call(seat))
+    }
+
+    /// The worker for a call of this thread.
+    fn seat(&mut self) -> Seat<'_> {
+        self.entry();
+        self.pool.seat(self.pool.entry(self.number))
     }
 
     /// Its number, below the number of workers.
@@ -271,15 +276,15 @@ impl Worker {
     /// Inserts a key by so many tries, and tells whether it was not in the set. `Key`, `Busy`,
     /// `NoNodes`, `Pending`, `NoMemory`.
     pub fn try_insert(&mut self, key: u64, tries: u32) -> Result<bool, Fault> {
-        let (key, entry) = (checked(key)?, self.entry());
-        answer(entry.count_insert(entry.handle.try_insert(key, tries)))
+        let (key, seat) = (checked(key)?, self.seat());
+        answer(seat.count_insert(seat.entry.handle.try_insert(key, tries)))
     }
 
     /// Removes a key by so many tries, and tells whether it was in the set; true takes two tries at
     /// least. `Key`, `Busy`, `Unfinished`, `Pending`, `NoMemory`.
     pub fn try_remove(&mut self, key: u64, tries: u32) -> Result<bool, Fault> {
-        let (key, entry) = (checked(key)?, self.entry());
-        answer(entry.count_remove(entry.handle.try_remove(key, tries)))
+        let (key, seat) = (checked(key)?, self.seat());
+        answer(seat.count_remove(seat.entry.handle.try_remove(key, tries)))
     }
 
     /// Goes on with the remove that is pending, with the given number of tries. Returns true if it
