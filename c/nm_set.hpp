@@ -143,8 +143,10 @@ struct Options {
     Shape shape = Shape::radix;
     std::uint32_t tries = 64;         // the attempts of each call of the tree
     std::uint32_t rounds = 64;        // how often a call is repeated that lost all its attempts
-    std::uint32_t collect_after = 64; // from how many waiting nodes on a worker collects before it
-                                      // inserts or removes
+    // The number of waiting nodes from which a worker advances the epoch and collects, before it
+    // inserts or removes. If it is not given: nodes / (8 * workers), at least 8 and at most 64. So
+    // the workers of a small set collect when an eighth of its nodes wait.
+    std::optional<std::uint32_t> collect_after{};
     std::uint32_t timeout_ms = 1'000; // the longest time that an insert waits for nodes that are to
                                       // be freed, in milliseconds
 };
@@ -373,6 +375,13 @@ struct Queues {
     std::uint64_t in_call = 0;  // a bit for each of these
 };
 
+// The number of waiting nodes from which a worker of a set collects.
+inline std::uint32_t collect_after(std::uint64_t nodes, const Options &options) {
+    std::uint64_t workers = std::max<std::uint64_t>(options.workers, 1);
+    std::uint64_t share = std::clamp<std::uint64_t>(nodes / (8 * workers), 8, 64);
+    return options.collect_after.value_or(static_cast<std::uint32_t>(share));
+}
+
 // What a set and its workers share: the handle of the set, and a seat for each worker. Only the
 // user of a seat makes calls for keys by its handle, except that `borrow` makes one by a seat of a
 // thread that is in no call. `queues` and `collect` ask each handle: a call that meets them gets
@@ -381,7 +390,7 @@ class Seats {
 public:
     Seats(std::uint64_t nodes, const Options &options)
         : options_(options),
-          habit_{options.tries, options.rounds, options.collect_after},
+          habit_{options.tries, options.rounds, collect_after(nodes, options)},
           nodes_(nodes),
           seats_(options.workers < 1 || options.workers > 64 ? 0 : options.workers) {
         nm_outcome told = nodes > UINT32_MAX ? NM_NODES : make();
