@@ -26,12 +26,12 @@ static void must(int is_so, const char *what) {
 
 /* valgrind counts what happens in here alone. */
 __attribute__((noinline)) int counted_insert(uint64_t key) {
-    return nm_worker_insert(&worker, key, &nm_usual_habit) == NM_YES;
+    return nm_worker_insert(&worker, key, &nm_default_options) == NM_YES;
 }
 
 static void pop(void) {
     uint64_t key;
-    must(nm_worker_pop_first(&worker, &nm_usual_habit, &key) == NM_YES, "a pop found no key");
+    must(nm_worker_pop_first(&worker, &nm_default_options, &key) == NM_YES, "a pop found no key");
 }
 
 /* A random key below 2^63: the three greatest numbers are no keys. */
@@ -44,10 +44,10 @@ int main(int count, char **words) {
     must(nm_set_new(&set, (uint32_t)(4 * keys + 4096), 1) == NM_DONE, "no memory for the set");
     must(nm_set_worker(&set, &worker, 0) == NM_DONE, "no worker");
     for (uint64_t made = 0; made < keys; made++)
-        must(nm_worker_insert(&worker, random_key(), &nm_usual_habit) == NM_YES, "a fill failed");
+        must(nm_worker_insert(&worker, random_key(), &nm_default_options) == NM_YES, "a fill failed");
     for (uint64_t turn = 0; turn < keys; turn++) {
         pop();
-        must(nm_worker_insert(&worker, random_key(), &nm_usual_habit) == NM_YES, "a turn failed");
+        must(nm_worker_insert(&worker, random_key(), &nm_default_options) == NM_YES, "a turn failed");
     }
     for (uint64_t made = 0; made < inserts; made++) {
         pop();

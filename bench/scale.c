@@ -34,7 +34,7 @@ static double now(void) {
 static void *fill(void *own) {
     part *mine = own;
     for (uint64_t i = 0; i < mine->keys; i++)
-        CHECK(nm_worker_insert(&mine->worker, key_of(mine->first + i * THREADS), &nm_usual_habit) ==
+        CHECK(nm_worker_insert(&mine->worker, key_of(mine->first + i * THREADS), &nm_default_options) ==
               NM_YES);
     return NULL;
 }
@@ -43,8 +43,8 @@ static void *look(void *own) {
     part *mine = own;
     for (uint64_t i = 0; i < mine->keys; i++) {
         uint64_t key = key_of(mine->first + i * THREADS);
-        CHECK(nm_worker_contains(&mine->worker, key, &nm_usual_habit) == NM_YES);
-        CHECK(nm_worker_contains(&mine->worker, key + 1, &nm_usual_habit) == NM_NO);
+        CHECK(nm_worker_contains(&mine->worker, key, &nm_default_options) == NM_YES);
+        CHECK(nm_worker_contains(&mine->worker, key + 1, &nm_default_options) == NM_NO);
     }
     return NULL;
 }

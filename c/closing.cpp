@@ -42,7 +42,7 @@ nm::Report closed(nm::Set &set) {
         try {
             return set.close();
         } catch (const nm::Fault &fault) {
-            CHECK(fault.outcome() == NM_AWAY && set.is_open());
+            CHECK(fault.outcome() == NM_ATTACHED && set.is_open());
             std::this_thread::yield();
         }
     }

@@ -93,7 +93,7 @@ void a_thread_is_lost() {
           }) <= margin);
     CHECK(time_of([&] {
               nm::Worker none;
-              CHECK(set.try_worker(none, 0) == NM_AWAY && set.try_attach(none) == NM_DONE);
+              CHECK(set.try_worker(none, 0) == NM_ATTACHED && set.try_attach(none) == NM_DONE);
           }) <= margin);
 
     CHECK(sem_post(&resumed) == 0);
@@ -117,14 +117,14 @@ void a_call_of_the_set_is_lost() {
     });
     lose(thread, other);
     nm::Worker none;
-    CHECK(set.try_worker(none, 0) == NM_IN_USE && set.try_attach(none) == NM_AWAY);
+    CHECK(set.try_worker(none, 0) == NM_IN_USE && set.try_attach(none) == NM_NO_WORKER);
     other.close();
     CHECK(set.insert(5u) && set.size() == 1 && set.contains(5u));
     Thrown told{NM_DONE, ""};
     milliseconds taken = time_of([&] { told = fault_of([&] { set.close(); }); });
     std::printf("a close beside a lost call took %lld ms: %s\n",
                 static_cast<long long>(taken.count()), told.text.c_str());
-    CHECK(told.outcome == NM_AWAY &&
+    CHECK(told.outcome == NM_ATTACHED &&
           told.text == "worker 0 is in a call that has not ended in 10 seconds: close again" &&
           taken <= milliseconds(10'000) + 2 * margin);
     CHECK(set.is_open() && set.contains(5u));
@@ -139,7 +139,7 @@ void a_call_of_the_set_is_lost() {
 void a_collection_is_lost() {
     using nm::detail::Gain;
     nm::detail::Seats seats(nodes, {1});
-    auto insert = [&](nm_handle *worker) { return nm_worker_insert(worker, 5, &seats.habit()); };
+    auto insert = [&](nm_handle *worker) { return nm_worker_insert(worker, 5, &seats.bounds()); };
     CHECK(seats.visit(Gain::inserts, insert) == NM_YES);
     std::atomic<bool> is_over{false};
     std::thread thread([&] {
@@ -151,8 +151,8 @@ void a_collection_is_lost() {
         std::this_thread::sleep_for(std::chrono::microseconds(100 * ++number));
         CHECK(pthread_kill(thread.native_handle(), SIGUSR1) == 0);
         while (sem_wait(&stopped) != 0) {}
-    } while (seats.visit(Gain::inserts, insert) != NM_AWAY);
-    CHECK(thrown([&] { seats.end(); }) == NM_AWAY && !seats.is_closing());
+    } while (seats.visit(Gain::inserts, insert) != NM_NO_WORKER);
+    CHECK(thrown([&] { seats.end(); }) == NM_ATTACHED && !seats.is_closing());
     CHECK(sem_post(&resumed) == 0);
     is_over = true;
     thread.join();

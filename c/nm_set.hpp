@@ -132,10 +132,9 @@ private:
     nm_outcome outcome_;
 };
 
-// `radix`: no call passes more than 66 nodes, in whatever order the keys come. `near` and `lowest`:
-// the tree of Natarajan and Mittal, in which keys in order make one long path; with `lowest` each
-// new node takes the lowest free slot.
-enum class Shape { radix, near, lowest };
+// The shape of a set's tree. `radix`: no call passes more than 66 nodes, in whatever order the keys
+// come. `unbalanced`: the tree of Natarajan and Mittal, in which keys in order make one long path.
+enum class Shape { radix, unbalanced };
 
 // How a set is made, and the bounds of its calls.
 struct Options {
@@ -263,8 +262,8 @@ inline Literal words(nm_outcome told) {
     case NM_BUSY:
         return {"other threads interfered for longer than the bound of the call: call again, or "
                 "raise the rounds of the options"};
-    case NM_HELD: return {"the worker is pinned: end its pin first"};
-    case NM_NOT_HELD: return {"the worker is not pinned"};
+    case NM_PINNED: return {"the worker is pinned: end its pin first"};
+    case NM_NOT_PINNED: return {"the worker is not pinned"};
     case NM_IN_USE:
         return {"another thread is in a call by the worker, and has stayed in it for 10 seconds"};
     default: return {nm_outcome_text(told)};
@@ -390,7 +389,7 @@ class Seats {
 public:
     Seats(std::uint64_t nodes, const Options &options)
         : options_(options),
-          habit_{options.tries, options.rounds, collect_after(nodes, options)},
+          bounds_{options.tries, options.rounds, collect_after(nodes, options)},
           nodes_(nodes),
           seats_(options.workers < 1 || options.workers > 64 ? 0 : options.workers) {
         nm_outcome told = nodes > UINT32_MAX ? NM_NODES : make();
@@ -410,7 +409,7 @@ public:
         nm_drop(&set_);
     }
 
-    [[nodiscard]] const nm_habit &habit() const noexcept { return habit_; }
+    [[nodiscard]] const nm_options &bounds() const noexcept { return bounds_; }
     [[nodiscard]] std::uint64_t nodes() const noexcept { return nodes_; }
     [[nodiscard]] std::uint32_t count() const noexcept {
         return static_cast<std::uint32_t>(seats_.size());
@@ -425,7 +424,7 @@ public:
     // ---- calls ----
 
     // Makes a call by a seat that is free, or by one that a thread has and that is in no call.
-    // NM_AWAY if there is none. NM_IN_USE: another thread is in the take of a worker.
+    // NM_NO_WORKER if there is none. NM_IN_USE: another thread is in the take of a worker.
     template <typename Call>
     nm_outcome visit(Gain gain, Call call) noexcept {
         Ordered ordered(this);
@@ -437,7 +436,7 @@ public:
             bool is_opened = told == NM_DONE;
             if (is_opened) told = call_by(seat, gain, call);
             seat.free();
-            if (told == NM_AWAY || (is_opened && told == NM_IN_USE)) continue;
+            if (told == NM_ATTACHED || (is_opened && told == NM_IN_USE)) continue;
             place() = number;
             return told;
         }
@@ -458,19 +457,19 @@ public:
 
     // ---- seats for workers ----
 
-    // Lends a seat that is free, the least number first: NM_DONE; NM_AWAY, NM_CLOSED, NM_NO_MEMORY.
+    // Lends a seat that is free, the least number first: NM_DONE; NM_NO_WORKER, NM_CLOSED, NM_NO_MEMORY.
     nm_outcome lend_any(std::uint32_t &number) noexcept {
         if (is_closing_) return NM_CLOSED;
         std::lock_guard<std::mutex> lock(door_);
         if (is_closing_) return NM_CLOSED;
         for (number = 0; number < count(); number++) {
-            nm_outcome told = seats_[number].take(Use::lent) ? ready(number) : NM_AWAY;
-            if (told != NM_AWAY && told != NM_IN_USE) return told;
+            nm_outcome told = seats_[number].take(Use::lent) ? ready(number) : NM_NO_WORKER;
+            if (told != NM_NO_WORKER && told != NM_ATTACHED && told != NM_IN_USE) return told;
         }
-        return NM_AWAY;
+        return NM_NO_WORKER;
     }
 
-    // Lends the seat of a number: NM_DONE; NM_AWAY if a `Worker` has it; NM_IN_USE if a call has
+    // Lends the seat of a number: NM_DONE; NM_ATTACHED if a `Worker` has it; NM_IN_USE if a call has
     // it; NM_NUMBER, NM_CLOSED, NM_NO_MEMORY.
     nm_outcome lend(std::uint32_t number) noexcept {
         if (number >= count()) return NM_NUMBER;
@@ -478,7 +477,7 @@ public:
         std::lock_guard<std::mutex> lock(door_);
         if (is_closing_) return NM_CLOSED;
         if (seats_[number].take(Use::lent)) return ready(number);
-        return seats_[number].use == Use::lent ? NM_AWAY : NM_IN_USE;
+        return seats_[number].use == Use::lent ? NM_ATTACHED : NM_IN_USE;
     }
 
     // Takes a seat back. If the set is gone, its worker is given up. It waits for another thread's
@@ -615,9 +614,9 @@ private:
             seat.arrivals++;
             nm_outcome told = call_by(seat, gain, call);
             seat.departures++;
-            if (told != NM_IN_USE && told != NM_HELD && told != NM_CLOSED) return told;
+            if (told != NM_IN_USE && told != NM_PINNED && told != NM_CLOSED) return told;
         }
-        return NM_AWAY;
+        return NM_NO_WORKER;
     }
 
     // Repeats the call of a thread by its worker while another call has the handle. It repeats the
@@ -639,16 +638,15 @@ private:
     // NM_UNFINISHED; NM_IN_USE if another call has the handle.
     nm_outcome finish(nm_handle *worker) noexcept {
         nm_outcome told = NM_UNFINISHED;
-        for (std::uint64_t round = 0; told == NM_UNFINISHED && round <= habit_.rounds; round++)
-            told = ask_at_once([&] { return nm_worker_finish(worker, habit_.tries); });
+        for (std::uint64_t round = 0; told == NM_UNFINISHED && round <= bounds_.rounds; round++)
+            told = ask_at_once([&] { return nm_worker_finish(worker, bounds_.tries); });
         return told;
     }
 
     nm_outcome make() {
         std::uint32_t nodes = static_cast<std::uint32_t>(nodes_);
         switch (options_.shape) {
-        case Shape::near: return nm_set_near(&set_, nodes, options_.workers);
-        case Shape::lowest: return nm_set_lowest(&set_, nodes, options_.workers);
+        case Shape::unbalanced: return nm_set_new_unbalanced(&set_, nodes, options_.workers);
         case Shape::radix: break;
         }
         return nm_set_new(&set_, nodes, options_.workers);
@@ -698,7 +696,7 @@ private:
             if (seats_[number].use == Use::closed) continue;
             if (seats_[number].take_soon(Use::closed, wait) && shut(number, wait)) continue;
             reopen();
-            fail(NM_AWAY, [=] {
+            fail(NM_ATTACHED, [=] {
                 return those(bit_of(number)) + " in a call that has not ended in " +
                        std::to_string(longest.count()) + " seconds: close again";
             });
@@ -717,7 +715,7 @@ private:
         for (std::uint32_t number = 0; number < count(); number++)
             if (seats_[number].use == Use::lent) lent |= bit_of(number);
         if (lent != 0)
-            fail(NM_AWAY, [=] {
+            fail(NM_ATTACHED, [=] {
                 return those(lent) + " with a thread: close what attach gave first";
             });
     }
@@ -761,7 +759,7 @@ private:
     }
 
     const Options options_;
-    const nm_habit habit_;
+    const nm_options bounds_;
     const std::uint64_t nodes_;
     nm_handle set_{};
     std::vector<Seat> seats_;
@@ -861,7 +859,7 @@ private:
 // nodes, and no other call does.
 //
 // Each call throws NM_KEY if the key is above 2^64 - 4; NM_BUSY if the bound of the call was
-// reached, with the set unchanged; NM_NO_MEMORY, NM_CLOSED; and of a worker NM_HELD, if it is
+// reached, with the set unchanged; NM_NO_MEMORY, NM_CLOSED; and of a worker NM_PINNED, if it is
 // pinned.
 template <typename Of>
 class Keys {
@@ -895,14 +893,14 @@ public:
     // this call and no other, and the next call by this worker goes on with it.
     bool remove(Key key) {
         return detail::answered(self().ask(detail::Gain::removes, [&](nm_handle *worker) {
-            return nm_worker_remove(worker, key, &self().seats_->habit());
+            return nm_worker_remove(worker, key, &self().seats_->bounds());
         }), key);
     }
 
     // Returns whether the set has the key.
     [[nodiscard]] bool contains(Key key) const {
         return detail::answered(self().ask(detail::Gain::none, [&](nm_handle *worker) {
-            return nm_worker_contains(worker, key, &self().seats_->habit());
+            return nm_worker_contains(worker, key, &self().seats_->bounds());
         }), key);
     }
 
@@ -996,7 +994,7 @@ private:
 
     nm_outcome insert_once(std::uint64_t key) {
         return self().ask(detail::Gain::inserts, [&](nm_handle *worker) {
-            return nm_worker_insert(worker, key, &self().seats_->habit());
+            return nm_worker_insert(worker, key, &self().seats_->bounds());
         });
     }
 
@@ -1042,7 +1040,7 @@ private:
     std::optional<std::uint64_t> pop(Call call) {
         std::uint64_t taken = 0;
         nm_outcome told = self().ask(detail::Gain::removes, [&](nm_handle *worker) {
-            return call(worker, &self().seats_->habit(), &taken);
+            return call(worker, &self().seats_->bounds(), &taken);
         });
         if (told == NM_UNFINISHED) return taken;
         return detail::answered(told) ? std::optional<std::uint64_t>(taken) : std::nullopt;
@@ -1053,10 +1051,10 @@ private:
     template <typename Call>
     nm_outcome look(Call call) const {
         nm_outcome told = NM_BUSY;
-        std::uint64_t rounds = self().is_open() ? self().seats_->habit().rounds : 0;
+        std::uint64_t rounds = self().is_open() ? self().seats_->bounds().rounds : 0;
         for (std::uint64_t round = 0; told == NM_BUSY && round <= rounds; round++)
             told = self().ask(detail::Gain::none, [&](nm_handle *worker) {
-                std::uint32_t tries = self().seats_->habit().tries;
+                std::uint32_t tries = self().seats_->bounds().tries;
                 nm_outcome answer = call(worker, tries);
                 if (answer != NM_PENDING) return answer;
                 nm_worker_finish(worker, tries);
@@ -1089,7 +1087,7 @@ struct Collected {
 };
 
 // The number of keys that a worker had inserted and removed when it left a note.
-struct Posted {
+struct Stamp {
     std::uint64_t inserted;
     std::uint64_t removed;
 };
@@ -1178,7 +1176,7 @@ class Worker;
 
 // Holds the epoch back until its end: no node that is in the set now is freed meanwhile. It is for
 // tests and proofs: no walk needs it, because each call pins the epoch for itself. Its worker
-// answers no call for keys (NM_HELD), and inserts of all threads may find the set full. The worker
+// answers no call for keys (NM_PINNED), and inserts of all threads may find the set full. The worker
 // must neither move nor end before it.
 class [[nodiscard]] Pin {
 public:
@@ -1359,12 +1357,12 @@ public:
     }
 
     // Returns the epoch at which it is pinned.
-    [[nodiscard]] std::optional<std::uint64_t> held() const { return told_by(nm_worker_held); }
+    [[nodiscard]] std::optional<std::uint64_t> pinned() const { return told_by(nm_worker_pinned); }
 
-    [[nodiscard]] nm_ledger ledger() const {
-        nm_ledger told{};
+    [[nodiscard]] nm_stats stats() const {
+        nm_stats told{};
         detail::answered(ask([&](nm_handle *worker) {
-            return nm_worker_ledger(worker, &told);
+            return nm_worker_stats(worker, &told);
         }));
         return told;
     }
@@ -1373,24 +1371,24 @@ public:
 
     // Leaves a note of all that it has seen, and writes what it has done so far. NM_BUSY: a reader
     // has its earlier note at this moment.
-    [[nodiscard]] nm_outcome try_post(Posted &posted) noexcept {
+    [[nodiscard]] nm_outcome try_publish(Stamp &stamp) noexcept {
         return ask([&](nm_handle *worker) {
-            return nm_worker_post(worker, &posted.inserted, &posted.removed);
+            return nm_worker_publish(worker, &stamp.inserted, &stamp.removed);
         });
     }
 
     // Reads the note of the worker of a number, and writes what that one had done then. NM_NO: it
-    // has left none. NM_BUSY: as for `try_post`.
-    [[nodiscard]] nm_outcome try_read(std::uint32_t number, Posted &posted) noexcept {
+    // has left none. NM_BUSY: as for `try_publish`.
+    [[nodiscard]] nm_outcome try_observe(std::uint32_t number, Stamp &stamp) noexcept {
         return ask([&](nm_handle *worker) {
-            return nm_worker_read(worker, number, &posted.inserted, &posted.removed);
+            return nm_worker_observe(worker, number, &stamp.inserted, &stamp.removed);
         });
     }
 
     // ---- the end ----
 
     // Ends the set, after the set and its other workers have ended; this worker is closed then.
-    // NM_AWAY while one of them is open. NM_NO_MEMORY: only another `close_set` goes on. What is
+    // NM_NO_WORKER while one of them is open. NM_NO_MEMORY: only another `close_set` goes on. What is
     // proved of the report is described at nm_worker_end.
     Report close_set() {
         Report report;
@@ -1472,47 +1470,47 @@ public:
     }
 
     // ---- a key, with nothing thrown ---- These make the calls of nm_set.h that tend the set, with
-    // the bounds of the options. They wait for no worker and for no nodes. NM_AWAY: each worker is
+    // the bounds of the options. They wait for no worker and for no nodes. NM_NO_WORKER: each worker is
     // in a call or pinned. If another thread is stopped while it takes a worker for the first time,
     // they take some tenths of a second.
 
     // NM_YES if the key was absent, NM_NO; NM_FULL if no nodes are free: `collect`, and call again.
-    // NM_KEY, NM_BUSY, NM_NO_MEMORY, NM_AWAY, NM_CLOSED.
+    // NM_KEY, NM_BUSY, NM_NO_MEMORY, NM_NO_WORKER, NM_CLOSED.
     [[nodiscard]] nm_outcome try_insert(Key key) noexcept {
         return once(detail::Gain::inserts, [&](nm_handle *worker) {
-            return nm_worker_insert(worker, key, &seats_->habit());
+            return nm_worker_insert(worker, key, &seats_->bounds());
         });
     }
 
     // NM_YES if the key was in the set, NM_NO. NM_UNFINISHED: the key will be removed by this call
-    // and no other. NM_KEY, NM_BUSY, NM_NO_MEMORY, NM_AWAY, NM_CLOSED.
+    // and no other. NM_KEY, NM_BUSY, NM_NO_MEMORY, NM_NO_WORKER, NM_CLOSED.
     [[nodiscard]] nm_outcome try_remove(Key key) noexcept {
         return once(detail::Gain::removes, [&](nm_handle *worker) {
-            return nm_worker_remove(worker, key, &seats_->habit());
+            return nm_worker_remove(worker, key, &seats_->bounds());
         });
     }
 
-    // NM_YES if the set has the key, NM_NO. NM_KEY, NM_BUSY, NM_AWAY, NM_CLOSED.
+    // NM_YES if the set has the key, NM_NO. NM_KEY, NM_BUSY, NM_NO_WORKER, NM_CLOSED.
     [[nodiscard]] nm_outcome try_contains(Key key) const noexcept {
         return once(detail::Gain::none, [&](nm_handle *worker) {
-            return nm_worker_contains(worker, key, &seats_->habit());
+            return nm_worker_contains(worker, key, &seats_->bounds());
         });
     }
 
     // ---- workers for threads ----
 
     // Takes a worker for this thread, the least number first. It waits while each worker is with a
-    // thread or in a call, for `most` at most, and without end if no time is given: NM_AWAY. A
+    // thread or in a call, for `most` at most, and without end if no time is given: NM_NO_WORKER. A
     // thread that has all workers itself would wait without end.
     [[nodiscard]] Worker attach(
         std::chrono::milliseconds most = std::chrono::milliseconds::max()) {
         Worker taken;
         nm_outcome told = try_attach(taken);
-        if (told == NM_AWAY) {
+        if (told == NM_NO_WORKER) {
             detail::Wait wait = waits(most);
-            while (told == NM_AWAY && wait.pause()) told = try_attach(taken);
+            while (told == NM_NO_WORKER && wait.pause()) told = try_attach(taken);
         }
-        if (told == NM_AWAY)
+        if (told == NM_NO_WORKER)
             detail::fail(told, [this] {
                 return "threads have each of the " + std::to_string(workers()) +
                        " workers of the set (64 at most)";
@@ -1521,7 +1519,7 @@ public:
         return taken;
     }
 
-    // Opens a closed worker, and waits for none: NM_DONE; NM_AWAY if each worker is with a thread
+    // Opens a closed worker, and waits for none: NM_DONE; NM_NO_WORKER if each worker is with a thread
     // or in a call; NM_OPEN, NM_CLOSED, NM_NO_MEMORY. If another thread is stopped while it takes a
     // worker, this takes some tenths of a second (nm_set_worker). If that thread has the lock of
     // the set, it takes as long as that thread is stopped.
@@ -1530,13 +1528,13 @@ public:
     }
 
     // Takes the worker of a number, for this thread. It waits while a call of the set has that
-    // worker, for 10 seconds at most: NM_IN_USE. NM_AWAY if it is with a thread; NM_NUMBER.
+    // worker, for 10 seconds at most: NM_IN_USE. NM_ATTACHED if it is with a thread; NM_NUMBER.
     [[nodiscard]] Worker worker(std::uint32_t number) {
         Worker taken;
         detail::Wait wait(detail::longest);
         nm_outcome told = try_worker(taken, number);
         while (told == NM_IN_USE && wait.pause()) told = try_worker(taken, number);
-        if (told == NM_AWAY)
+        if (told == NM_ATTACHED)
             detail::fail(told, [=] {
                 return detail::those(detail::bit_of(number)) + " with a thread";
             });
@@ -1549,7 +1547,7 @@ public:
         return taken;
     }
 
-    // The same into a closed one, and waits for no call: NM_DONE; NM_AWAY if the worker is with a
+    // The same into a closed one, and waits for no call: NM_DONE; NM_ATTACHED if the worker is with a
     // thread; NM_IN_USE if it is in a call; NM_NUMBER, NM_OPEN, NM_CLOSED, NM_NO_MEMORY. It takes
     // as long as `try_attach`.
     [[nodiscard]] nm_outcome try_worker(Worker &into, std::uint32_t number) noexcept {
@@ -1600,7 +1598,7 @@ public:
 
     // Ends the set, and returns the report of what it had. It waits for the calls of other threads,
     // for 10 seconds at most, and for another thread's `close` as long as that takes. Each later
-    // call, and each that waits, gets NM_CLOSED. NM_AWAY: a `Worker` is open, or a call has not
+    // call, and each that waits, gets NM_CLOSED. NM_ATTACHED: a `Worker` is open, or a call has not
     // ended in 10 seconds; the text names the worker, and the set goes on. NM_NO_MEMORY: only
     // another close goes on.
     Report close() {
@@ -1642,23 +1640,23 @@ private:
     template <typename Call>
     nm_outcome ask(detail::Gain gain, Call call) const {
         nm_outcome told = open_seats().visit(gain, call);
-        if (told == NM_AWAY || told == NM_IN_USE) {
+        if (told == NM_NO_WORKER || told == NM_IN_USE) {
             detail::Wait wait = detail::endless();
             do {
                 wait.pause();
                 told = open_seats().visit(gain, call);
-            } while (told == NM_AWAY || told == NM_IN_USE);
+            } while (told == NM_NO_WORKER || told == NM_IN_USE);
         }
         return told;
     }
 
-    // The same, but NM_AWAY if there is none.
+    // The same, but NM_NO_WORKER if there is none.
     template <typename Call>
     nm_outcome once(detail::Gain gain, Call call) const noexcept {
         if (!is_open()) return NM_CLOSED;
         nm_outcome told = seats_->visit(gain, call);
-        if (told != NM_AWAY && told != NM_IN_USE) return told;
-        return is_open() ? NM_AWAY : NM_CLOSED;
+        if (told != NM_NO_WORKER && told != NM_IN_USE) return told;
+        return is_open() ? NM_NO_WORKER : NM_CLOSED;
     }
 
     void make_room(detail::Wait &wait, bool is_first) {

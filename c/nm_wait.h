@@ -5,7 +5,7 @@
  * proved. C++ has it in nm_set.hpp.
  *
  *     nm_wait_attach(&set, &worker, 1000);                a worker, within a second
- *     nm_wait_insert(&worker, 5, &nm_usual_habit, 1000);  NM_YES: the key was not in the set
+ *     nm_wait_insert(&worker, 5, &nm_default_options, 1000);  NM_YES: the key was not in the set
  *
  * The time is that of CLOCK_MONOTONIC. In strict C11, which lacks it, it is the time of day: if
  * that is set during a wait, the wait is as much longer or shorter.
@@ -74,21 +74,21 @@ static inline int nm_wait_on(nm_wait *wait, uint32_t timeout_ms) {
  * preempted. Each call moves the epoch on and collects, if no worker holds the epoch back. 1,000
  * milliseconds are usual. If the keys of the set take all nodes, it returns NM_FULL only after all
  * of that time. */
-static inline nm_outcome nm_wait_insert(nm_handle *worker, uint64_t key, const nm_habit *habit,
+static inline nm_outcome nm_wait_insert(nm_handle *worker, uint64_t key, const nm_options *options,
                                         uint32_t timeout_ms) {
     nm_wait wait = {0, 0};
-    nm_outcome told = nm_worker_insert(worker, key, habit);
+    nm_outcome told = nm_worker_insert(worker, key, options);
     while (told == NM_FULL && nm_wait_on(&wait, timeout_ms))
-        told = nm_worker_insert(worker, key, habit);
+        told = nm_worker_insert(worker, key, options);
     return told;
 }
 
-/* nm_set_attach, repeated while each worker is with a thread (NM_AWAY), or another call has a
+/* nm_set_attach, repeated while each worker is with a thread (NM_NO_WORKER), or another call has a
  * handle for longer than the library looks again (NM_IN_USE). */
 static inline nm_outcome nm_wait_attach(nm_handle *set, nm_handle *worker, uint32_t timeout_ms) {
     nm_wait wait = {0, 0};
     nm_outcome told = nm_set_attach(set, worker);
-    while ((told == NM_AWAY || told == NM_IN_USE) && nm_wait_on(&wait, timeout_ms))
+    while ((told == NM_NO_WORKER || told == NM_IN_USE) && nm_wait_on(&wait, timeout_ms))
         told = nm_set_attach(set, worker);
     return told;
 }
@@ -99,7 +99,7 @@ static inline nm_outcome nm_wait_worker(nm_handle *set, nm_handle *worker, uint3
                                         uint32_t timeout_ms) {
     nm_wait wait = {0, 0};
     nm_outcome told = nm_set_worker(set, worker, number);
-    while ((told == NM_AWAY || told == NM_IN_USE) && nm_wait_on(&wait, timeout_ms))
+    while ((told == NM_ATTACHED || told == NM_IN_USE) && nm_wait_on(&wait, timeout_ms))
         told = nm_set_worker(set, worker, number);
     return told;
 }
@@ -108,16 +108,16 @@ static inline nm_outcome nm_wait_worker(nm_handle *set, nm_handle *worker, uint3
 static inline nm_outcome nm_wait_close(nm_handle *set, uint32_t timeout_ms) {
     nm_wait wait = {0, 0};
     nm_outcome told = nm_set_close(set);
-    while ((told == NM_AWAY || told == NM_IN_USE) && nm_wait_on(&wait, timeout_ms))
+    while ((told == NM_ATTACHED || told == NM_IN_USE) && nm_wait_on(&wait, timeout_ms))
         told = nm_set_close(set);
     return told;
 }
 
-/* nm_set_away, repeated while another call has the handle. */
+/* nm_set_attached, repeated while another call has the handle. */
 static inline nm_outcome nm_wait_away(nm_handle *set, uint32_t number, uint32_t timeout_ms) {
     nm_wait wait = {0, 0};
-    nm_outcome told = nm_set_away(set, number);
-    while (told == NM_IN_USE && nm_wait_on(&wait, timeout_ms)) told = nm_set_away(set, number);
+    nm_outcome told = nm_set_attached(set, number);
+    while (told == NM_IN_USE && nm_wait_on(&wait, timeout_ms)) told = nm_set_attached(set, number);
     return told;
 }
 

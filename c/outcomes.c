@@ -23,28 +23,28 @@ static void each_tells(nm_handle *worker, uint64_t key, nm_outcome wanted) {
 
 /* What any call for a key that tends the set tells. */
 static void each_tending_tells(nm_handle *worker, uint64_t key, nm_outcome wanted) {
-    CHECK(nm_worker_contains(worker, key, &nm_usual_habit) == wanted);
-    CHECK(nm_worker_insert(worker, key, &nm_usual_habit) == wanted);
-    CHECK(nm_worker_remove(worker, key, &nm_usual_habit) == wanted);
+    CHECK(nm_worker_contains(worker, key, &nm_default_options) == wanted);
+    CHECK(nm_worker_insert(worker, key, &nm_default_options) == wanted);
+    CHECK(nm_worker_remove(worker, key, &nm_default_options) == wanted);
 }
 
 /* What a call that takes a key tells, which is told none. */
-static void each_pop_tells(nm_handle *worker, const nm_habit *habit, nm_outcome wanted) {
+static void each_pop_tells(nm_handle *worker, const nm_options *options, nm_outcome wanted) {
     uint64_t taken = NOT_WRITTEN;
-    CHECK(nm_worker_pop_first(worker, habit, &taken) == wanted && taken == NOT_WRITTEN);
-    CHECK(nm_worker_pop_last(worker, habit, &taken) == wanted && taken == NOT_WRITTEN);
+    CHECK(nm_worker_pop_first(worker, options, &taken) == wanted && taken == NOT_WRITTEN);
+    CHECK(nm_worker_pop_last(worker, options, &taken) == wanted && taken == NOT_WRITTEN);
 }
 
 /* What is no open worker, or no report, tells that, and writes nothing. */
 static void is_refused(nm_handle *handle, nm_outcome worker, nm_outcome report) {
     uint64_t wide = NOT_WRITTEN, other = NOT_WRITTEN;
     uint32_t narrow = NOT_WRITTEN, second = NOT_WRITTEN;
-    nm_ledger ledger = {NOT_WRITTEN, 0, 0, 0, 0, 0};
+    nm_stats stats = {NOT_WRITTEN, 0, 0, 0, 0, 0};
     nm_waiting waiting = {NOT_WRITTEN, 0, 0};
     if (worker != NM_DONE) {
         each_tells(handle, 5, worker);
         each_tending_tells(handle, 5, worker);
-        each_pop_tells(handle, &nm_usual_habit, worker);
+        each_pop_tells(handle, &nm_default_options, worker);
         CHECK(nm_worker_finish(handle, TRIES) == worker);
         CHECK(nm_worker_pin(handle, TRIES, &wide) == worker && nm_worker_unpin(handle) == worker);
         CHECK(nm_worker_advance(handle, &wide, &narrow) == worker &&
@@ -54,10 +54,10 @@ static void is_refused(nm_handle *handle, nm_outcome worker, nm_outcome report) 
         CHECK(nm_worker_queue_len(handle, &wide) == worker &&
               nm_worker_pending(handle, &wide) == worker);
         CHECK(
-            nm_worker_held(handle, &wide) == worker && nm_worker_ledger(handle, &ledger) == worker);
+            nm_worker_pinned(handle, &wide) == worker && nm_worker_stats(handle, &stats) == worker);
         CHECK(nm_worker_resign(handle, 0) == worker && nm_worker_end(handle) == worker);
-        CHECK(nm_worker_post(handle, &wide, &other) == worker &&
-              nm_worker_read(handle, 0, &wide, &other) == worker);
+        CHECK(nm_worker_publish(handle, &wide, &other) == worker &&
+              nm_worker_observe(handle, 0, &wide, &other) == worker);
     }
     if (report != NM_DONE) {
         CHECK(nm_report_slots(handle, &narrow, &second) == report &&
@@ -68,24 +68,24 @@ static void is_refused(nm_handle *handle, nm_outcome worker, nm_outcome report) 
     }
     CHECK(wide == NOT_WRITTEN && other == NOT_WRITTEN && narrow == NOT_WRITTEN &&
           second == NOT_WRITTEN);
-    CHECK(ledger.links == NOT_WRITTEN && waiting.slot == NOT_WRITTEN);
+    CHECK(stats.links == NOT_WRITTEN && waiting.slot == NOT_WRITTEN);
 }
 
 static void sizes(void) {
     nm_handle set = NM_CLOSED_HANDLE;
-    CHECK(nm_set_lowest(&set, 6, 1) == NM_NODES && nm_set_near(&set, 268435457, 65) == NM_NODES);
+    CHECK(nm_set_new_first_fit(&set, 6, 1) == NM_NODES && nm_set_new_unbalanced(&set, 268435457, 65) == NM_NODES);
     CHECK(nm_set_new(&set, 6, 65) == NM_NODES && nm_set_new(&set, 268435456, 0) == NM_WORKERS);
-    CHECK(nm_set_lowest(&set, 7, 0) == NM_WORKERS && nm_set_near(&set, 7, 65) == NM_WORKERS);
-    CHECK(nm_set_near(&set, 1048577, 64) == NM_DONE && nm_set_lowest(&set, 7, 1) == NM_OPEN &&
-          nm_set_near(&set, 7, 1) == NM_OPEN && nm_set_new(&set, 7, 1) == NM_OPEN);
+    CHECK(nm_set_new_first_fit(&set, 7, 0) == NM_WORKERS && nm_set_new_unbalanced(&set, 7, 65) == NM_WORKERS);
+    CHECK(nm_set_new_unbalanced(&set, 1048577, 64) == NM_DONE && nm_set_new_first_fit(&set, 7, 1) == NM_OPEN &&
+          nm_set_new_unbalanced(&set, 7, 1) == NM_OPEN && nm_set_new(&set, 7, 1) == NM_OPEN);
     CHECK(nm_drop(&set) == NM_DONE && nm_drop(&set) == NM_CLOSED && set.at == NULL);
 }
 
 static void kinds(void) {
     nm_handle set = NM_CLOSED_HANDLE, worker = NM_CLOSED_HANDLE, none = NM_CLOSED_HANDLE;
-    CHECK(nm_set_lowest(&set, 16, 1) == NM_DONE && nm_set_worker(&set, &worker, 0) == NM_DONE);
+    CHECK(nm_set_new_first_fit(&set, 16, 1) == NM_DONE && nm_set_worker(&set, &worker, 0) == NM_DONE);
     CHECK(nm_set_worker(&set, &worker, 0) == NM_OPEN && nm_set_worker(&set, &none, 1) == NM_NUMBER);
-    CHECK(nm_set_worker(&set, &none, 0) == NM_AWAY && nm_set_close(&set) == NM_AWAY);
+    CHECK(nm_set_worker(&set, &none, 0) == NM_ATTACHED && nm_set_close(&set) == NM_ATTACHED);
     nm_handle other = NM_CLOSED_HANDLE;
     CHECK(nm_set_worker(&none, &other, 0) == NM_CLOSED &&
           nm_set_worker(&worker, &other, 0) == NM_KIND);
@@ -103,7 +103,7 @@ static void kinds(void) {
 
 static void answers(void) {
     nm_handle set = NM_CLOSED_HANDLE, worker = NM_CLOSED_HANDLE;
-    CHECK(nm_set_near(&set, 7, 2) == NM_DONE && nm_set_worker(&set, &worker, 1) == NM_DONE);
+    CHECK(nm_set_new_unbalanced(&set, 7, 2) == NM_DONE && nm_set_worker(&set, &worker, 1) == NM_DONE);
     CHECK(nm_worker_try_contains(&worker, 5, 0) == NM_BUSY &&
           nm_worker_try_contains(&worker, 5, TRIES) == NM_NO);
     CHECK(nm_worker_try_insert(&worker, 5, TRIES) == NM_YES &&
@@ -145,10 +145,10 @@ static void answers(void) {
 /* Calls that tend the set, where two slots are free: a delete that has begun is finished first, a
  * full set is collected, and nothing is made again that might have no try. */
 static void tended(void) {
-    const nm_habit *usual = &nm_usual_habit, none = {0, 0, 64};
+    const nm_options *usual = &nm_default_options, none = {0, 0, 64};
     nm_handle set = NM_CLOSED_HANDLE, worker = NM_CLOSED_HANDLE, reader = NM_CLOSED_HANDLE;
     uint64_t told = NOT_WRITTEN;
-    CHECK(nm_set_lowest(&set, 7, 2) == NM_DONE && nm_set_worker(&set, &worker, 0) == NM_DONE);
+    CHECK(nm_set_new_first_fit(&set, 7, 2) == NM_DONE && nm_set_worker(&set, &worker, 0) == NM_DONE);
     CHECK(nm_worker_contains(&worker, 5, usual) == NM_NO &&
           nm_worker_remove(&worker, 5, usual) == NM_NO);
     CHECK(nm_worker_insert(&worker, 5, usual) == NM_YES &&
@@ -188,11 +188,11 @@ static void tended(void) {
           nm_drop(&set) == NM_DONE);
 }
 
-/* Each remove first frees what waits, where that is the habit. */
+/* Each remove first frees what waits, where that is the options. */
 static void collected(void) {
-    const nm_habit often = {TRIES, TRIES, 8};
+    const nm_options often = {TRIES, TRIES, 8};
     nm_handle set = NM_CLOSED_HANDLE, worker = NM_CLOSED_HANDLE;
-    nm_ledger ledger;
+    nm_stats stats;
     CHECK(nm_set_new(&set, 4096, 3) == NM_DONE && nm_set_attach(&set, &worker) == NM_DONE);
     for (uint64_t key = 0; key < 500; key++) {
         uint64_t nodes = NOT_WRITTEN;
@@ -200,8 +200,8 @@ static void collected(void) {
               nm_worker_remove(&worker, key, &often) == NM_YES);
         CHECK(nm_worker_queue_len(&worker, &nodes) == NM_DONE && nodes <= 8);
     }
-    CHECK(nm_worker_ledger(&worker, &ledger) == NM_DONE && ledger.retired == 1000 &&
-          ledger.freed >= 990);
+    CHECK(nm_worker_stats(&worker, &stats) == NM_DONE && stats.retired == 1000 &&
+          stats.freed >= 990);
     CHECK(nm_drop(&worker) == NM_DONE && nm_drop(&set) == NM_DONE);
 }
 
@@ -210,16 +210,16 @@ static void epochs(void) {
     nm_handle set = NM_CLOSED_HANDLE, reader = NM_CLOSED_HANDLE, writer = NM_CLOSED_HANDLE;
     uint64_t epoch = NOT_WRITTEN, mask = NOT_WRITTEN, freed = NOT_WRITTEN;
     uint32_t behind = NOT_WRITTEN;
-    CHECK(nm_set_lowest(&set, 64, 4) == NM_DONE);
+    CHECK(nm_set_new_first_fit(&set, 64, 4) == NM_DONE);
     CHECK(nm_set_worker(&set, &reader, 2) == NM_DONE && nm_set_worker(&set, &writer, 0) == NM_DONE);
-    CHECK(nm_worker_unpin(&reader) == NM_NOT_HELD && nm_worker_held(&reader, &epoch) == NM_NO &&
+    CHECK(nm_worker_unpin(&reader) == NM_NOT_PINNED && nm_worker_pinned(&reader, &epoch) == NM_NO &&
           epoch == NOT_WRITTEN);
     CHECK(nm_worker_pin(&reader, 0, &epoch) == NM_BUSY && epoch == 0);
     CHECK(nm_worker_pin(&reader, TRIES, &epoch) == NM_DONE &&
-          nm_worker_pin(&reader, TRIES, &epoch) == NM_HELD);
-    each_tells(&reader, 5, NM_HELD);
-    each_tending_tells(&reader, 5, NM_HELD);
-    each_pop_tells(&reader, &nm_usual_habit, NM_HELD);
+          nm_worker_pin(&reader, TRIES, &epoch) == NM_PINNED);
+    each_tells(&reader, 5, NM_PINNED);
+    each_tending_tells(&reader, 5, NM_PINNED);
+    each_pop_tells(&reader, &nm_default_options, NM_PINNED);
     CHECK(nm_worker_try_insert(&writer, 5, TRIES) == NM_YES &&
           nm_worker_try_remove(&writer, 5, TRIES) == NM_YES);
     CHECK(nm_worker_advance(&writer, &epoch, &behind) == NM_DONE && epoch == 1 &&
@@ -227,7 +227,7 @@ static void epochs(void) {
     CHECK(nm_worker_advance(&writer, &epoch, &behind) == NM_BEHIND && epoch == 0 && behind == 2);
     CHECK(nm_worker_behind(&writer, &epoch, &mask) == NM_DONE && epoch == 1 && mask == 4);
     CHECK(nm_worker_collect(&writer, &epoch, &freed) == NM_DONE && epoch == 1 && freed == 0);
-    CHECK(nm_worker_held(&reader, &mask) == NM_YES && mask == 0 &&
+    CHECK(nm_worker_pinned(&reader, &mask) == NM_YES && mask == 0 &&
           nm_worker_unpin(&reader) == NM_DONE);
     CHECK(nm_worker_advance(&writer, &epoch, &behind) == NM_DONE && epoch == 2);
     CHECK(nm_worker_collect(&writer, &epoch, &freed) == NM_DONE && epoch == 2 && freed == 2);
@@ -239,22 +239,22 @@ static void ends(void) {
     nm_handle set = NM_CLOSED_HANDLE, heir = NM_CLOSED_HANDLE, leaver = NM_CLOSED_HANDLE;
     uint64_t nodes = NOT_WRITTEN, count = NOT_WRITTEN, key = NOT_WRITTEN;
     uint32_t number = NOT_WRITTEN, free_slots = NOT_WRITTEN, reached = NOT_WRITTEN;
-    nm_ledger ledger;
+    nm_stats stats;
     nm_waiting waiting;
-    CHECK(nm_set_lowest(&set, 64, 3) == NM_DONE);
+    CHECK(nm_set_new_first_fit(&set, 64, 3) == NM_DONE);
     CHECK(nm_set_worker(&set, &heir, 0) == NM_DONE && nm_set_worker(&set, &leaver, 1) == NM_DONE);
     for (uint64_t each = 1; each <= 3; each++)
         CHECK(nm_worker_try_insert(&leaver, 10 - each, TRIES) == NM_YES);
     CHECK(nm_worker_try_remove(&leaver, 8, TRIES) == NM_YES);
-    CHECK(nm_worker_ledger(&leaver, &ledger) == NM_DONE && ledger.links == 3 && ledger.flags == 1 &&
-          ledger.splices == 1);
-    CHECK(ledger.retired == 2 && ledger.freed == 0 && ledger.queued == 2);
+    CHECK(nm_worker_stats(&leaver, &stats) == NM_DONE && stats.links == 3 && stats.flags == 1 &&
+          stats.splices == 1);
+    CHECK(stats.retired == 2 && stats.freed == 0 && stats.queued == 2);
     CHECK(nm_worker_number(&leaver, &number) == NM_DONE && number == 1 &&
-          nm_worker_resign(&heir, 1) == NM_AWAY);
+          nm_worker_resign(&heir, 1) == NM_ATTACHED);
     CHECK(nm_drop(&leaver) == NM_DONE && nm_worker_resign(&heir, 3) == NM_NUMBER &&
           nm_worker_resign(&heir, 1) == NM_DONE);
     CHECK(nm_worker_queue_len(&heir, &nodes) == NM_DONE && nodes == 2 &&
-          nm_set_worker(&set, &leaver, 1) == NM_AWAY);
+          nm_set_worker(&set, &leaver, 1) == NM_ATTACHED);
     CHECK(nm_drop(&heir) == NM_DONE && nm_set_close(&set) == NM_DONE);
     CHECK(nm_report_keys(&set, &count) == NM_DONE && count == 2);
     CHECK(nm_report_key(&set, 0, &key) == NM_DONE && key == 7 &&
@@ -268,7 +268,7 @@ static void ends(void) {
           nm_report_waiting(&set, 3, &waiting) == NM_NUMBER);
     CHECK(nm_report_waiting(&set, 0, &waiting) == NM_NO);
     CHECK(
-        nm_report_waiting(&set, 1, &waiting) == NM_YES && waiting.birth == 1 && waiting.label == 0);
+        nm_report_waiting(&set, 1, &waiting) == NM_YES && waiting.generation == 1 && waiting.label == 0);
     uint32_t oldest = waiting.slot;
     CHECK(nm_report_waiting(&set, 1, &waiting) == NM_YES && waiting.slot != oldest &&
           nm_report_waiting(&set, 1, &waiting) == NM_NO);
@@ -282,12 +282,12 @@ static void ends(void) {
 static void away(void) {
     nm_handle set = NM_CLOSED_HANDLE, heir = NM_CLOSED_HANDLE, leaver = NM_CLOSED_HANDLE;
     uint64_t epoch = NOT_WRITTEN, key = NOT_WRITTEN, nodes = NOT_WRITTEN;
-    nm_ledger ledger;
-    CHECK(nm_set_near(&set, 64, 2) == NM_DONE);
+    nm_stats stats;
+    CHECK(nm_set_new_unbalanced(&set, 64, 2) == NM_DONE);
     CHECK(nm_set_worker(&set, &heir, 0) == NM_DONE && nm_set_worker(&set, &leaver, 1) == NM_DONE);
     CHECK(nm_worker_pin(&leaver, TRIES, &epoch) == NM_DONE && nm_drop(&leaver) == NM_DONE);
     CHECK(nm_set_worker(&set, &leaver, 1) == NM_DONE);
-    CHECK(nm_worker_held(&leaver, &key) == NM_NO && nm_worker_unpin(&leaver) == NM_NOT_HELD);
+    CHECK(nm_worker_pinned(&leaver, &key) == NM_NO && nm_worker_unpin(&leaver) == NM_NOT_PINNED);
     CHECK(nm_worker_try_insert(&leaver, 5, TRIES) == NM_YES);
     CHECK(nm_worker_try_remove(&leaver, 5, 1) == NM_UNFINISHED && nm_drop(&leaver) == NM_DONE);
     CHECK(nm_worker_resign(&heir, 1) == NM_PENDING && nm_set_worker(&set, &leaver, 1) == NM_DONE);
@@ -295,9 +295,9 @@ static void away(void) {
           nm_worker_finish(&leaver, TRIES) == NM_YES);
     CHECK(nm_drop(&leaver) == NM_DONE && nm_set_worker(&set, &leaver, 1) == NM_DONE);
     CHECK(nm_worker_queue_len(&leaver, &nodes) == NM_DONE && nodes == 2 &&
-          nm_worker_ledger(&leaver, &ledger) == NM_DONE);
-    CHECK(ledger.links == 1 && ledger.flags == 1 && ledger.splices == 1 && ledger.retired == 2 &&
-          ledger.freed == 0 && ledger.queued == 2);
+          nm_worker_stats(&leaver, &stats) == NM_DONE);
+    CHECK(stats.links == 1 && stats.flags == 1 && stats.splices == 1 && stats.retired == 2 &&
+          stats.freed == 0 && stats.queued == 2);
     CHECK(nm_drop(&leaver) == NM_DONE && nm_drop(&heir) == NM_DONE && nm_drop(&set) == NM_DONE);
 }
 
@@ -306,22 +306,22 @@ static void away(void) {
 static void notes(void) {
     nm_handle set = NM_CLOSED_HANDLE, writer = NM_CLOSED_HANDLE, reader = NM_CLOSED_HANDLE;
     uint64_t inserted = NOT_WRITTEN, removed = NOT_WRITTEN;
-    CHECK(nm_set_near(&set, 64, 2) == NM_DONE && nm_set_worker(&set, &writer, 1) == NM_DONE &&
+    CHECK(nm_set_new_unbalanced(&set, 64, 2) == NM_DONE && nm_set_worker(&set, &writer, 1) == NM_DONE &&
           nm_set_worker(&set, &reader, 0) == NM_DONE);
-    CHECK(nm_worker_read(&reader, 1, &inserted, &removed) == NM_NO &&
-          nm_worker_read(&reader, 2, &inserted, &removed) == NM_NUMBER);
+    CHECK(nm_worker_observe(&reader, 1, &inserted, &removed) == NM_NO &&
+          nm_worker_observe(&reader, 2, &inserted, &removed) == NM_NUMBER);
     CHECK(inserted == NOT_WRITTEN && removed == NOT_WRITTEN);
     CHECK(nm_worker_try_insert(&writer, 5, TRIES) == NM_YES &&
           nm_worker_try_insert(&writer, 6, TRIES) == NM_YES);
-    CHECK(nm_worker_post(&writer, &inserted, &removed) == NM_DONE && inserted == 2 && removed == 0);
+    CHECK(nm_worker_publish(&writer, &inserted, &removed) == NM_DONE && inserted == 2 && removed == 0);
     CHECK(nm_worker_try_remove(&writer, 5, TRIES) == NM_YES);
     for (int turn = 0; turn < 3; turn++)
-        CHECK(nm_worker_read(&reader, 1, &inserted, &removed) == NM_YES && inserted == 2 && removed == 0);
+        CHECK(nm_worker_observe(&reader, 1, &inserted, &removed) == NM_YES && inserted == 2 && removed == 0);
     CHECK(nm_worker_try_contains(&reader, 6, TRIES) == NM_YES &&
-          nm_worker_read(&writer, 1, &inserted, &removed) == NM_YES && inserted == 2);
-    CHECK(nm_worker_post(&writer, &inserted, &removed) == NM_DONE && inserted == 2 && removed == 1);
-    CHECK(nm_worker_read(&reader, 1, &inserted, &removed) == NM_YES && inserted == 2 && removed == 1);
-    CHECK(nm_drop(&writer) == NM_DONE && nm_worker_read(&reader, 1, &inserted, &removed) == NM_YES &&
+          nm_worker_observe(&writer, 1, &inserted, &removed) == NM_YES && inserted == 2);
+    CHECK(nm_worker_publish(&writer, &inserted, &removed) == NM_DONE && inserted == 2 && removed == 1);
+    CHECK(nm_worker_observe(&reader, 1, &inserted, &removed) == NM_YES && inserted == 2 && removed == 1);
+    CHECK(nm_drop(&writer) == NM_DONE && nm_worker_observe(&reader, 1, &inserted, &removed) == NM_YES &&
           inserted == 2 && removed == 1);
     CHECK(nm_drop(&reader) == NM_DONE && nm_set_close(&set) == NM_DONE && nm_drop(&set) == NM_DONE);
 }
@@ -331,24 +331,24 @@ static void notes(void) {
 static void missed(void) {
     nm_handle set = NM_CLOSED_HANDLE, lost = NM_CLOSED_HANDLE, other = NM_CLOSED_HANDLE;
     uint64_t key = NOT_WRITTEN;
-    CHECK(nm_set_away(&set, 0) == NM_CLOSED && nm_set_near(&set, 64, 3) == NM_DONE &&
-          nm_set_away(&set, 3) == NM_NUMBER);
-    CHECK(nm_set_away(&set, 0) == NM_NO && nm_set_worker(&set, &lost, 1) == NM_DONE &&
+    CHECK(nm_set_attached(&set, 0) == NM_CLOSED && nm_set_new_unbalanced(&set, 64, 3) == NM_DONE &&
+          nm_set_attached(&set, 3) == NM_NUMBER);
+    CHECK(nm_set_attached(&set, 0) == NM_NO && nm_set_worker(&set, &lost, 1) == NM_DONE &&
           nm_set_worker(&set, &other, 0) == NM_DONE);
-    CHECK(nm_set_away(&lost, 0) == NM_KIND && nm_worker_try_insert(&lost, 5, TRIES) == NM_YES);
-    CHECK(nm_worker_resign(&other, 2) == NM_DONE && nm_set_away(&set, 2) == NM_NO &&
-          nm_set_away(&set, 0) == NM_YES);
-    CHECK(nm_drop(&other) == NM_DONE && nm_set_away(&set, 0) == NM_NO &&
-          nm_set_away(&set, 1) == NM_YES);
-    CHECK(nm_set_close(&set) == NM_AWAY && nm_set_away(&set, 1) == NM_YES);
+    CHECK(nm_set_attached(&lost, 0) == NM_KIND && nm_worker_try_insert(&lost, 5, TRIES) == NM_YES);
+    CHECK(nm_worker_resign(&other, 2) == NM_DONE && nm_set_attached(&set, 2) == NM_NO &&
+          nm_set_attached(&set, 0) == NM_YES);
+    CHECK(nm_drop(&other) == NM_DONE && nm_set_attached(&set, 0) == NM_NO &&
+          nm_set_attached(&set, 1) == NM_YES);
+    CHECK(nm_set_close(&set) == NM_ATTACHED && nm_set_attached(&set, 1) == NM_YES);
     CHECK(nm_set_worker(&set, &other, 0) == NM_DONE &&
           nm_worker_try_insert(&other, 7, TRIES) == NM_YES);
     CHECK(nm_worker_next(&other, 0, TRIES, &key) == NM_YES && key == 5 &&
           nm_worker_next(&other, 6, TRIES, &key) == NM_YES && key == 7);
     CHECK(nm_worker_next(&other, 8, TRIES, &key) == NM_NO && nm_drop(&other) == NM_DONE);
-    CHECK(nm_drop(&lost) == NM_DONE && nm_set_away(&set, 1) == NM_NO &&
+    CHECK(nm_drop(&lost) == NM_DONE && nm_set_attached(&set, 1) == NM_NO &&
           nm_set_close(&set) == NM_DONE);
-    CHECK(nm_set_away(&set, 1) == NM_KIND && nm_drop(&set) == NM_DONE);
+    CHECK(nm_set_attached(&set, 1) == NM_KIND && nm_drop(&set) == NM_DONE);
 }
 
 /* The last worker ends its set, held as it may be, and not while the set's handle or that of
@@ -356,13 +356,13 @@ static void missed(void) {
 static void ended(void) {
     nm_handle set = NM_CLOSED_HANDLE, last = NM_CLOSED_HANDLE, other = NM_CLOSED_HANDLE;
     uint64_t told = NOT_WRITTEN;
-    CHECK(nm_set_near(&set, 64, 3) == NM_DONE && nm_set_worker(&set, &last, 1) == NM_DONE &&
+    CHECK(nm_set_new_unbalanced(&set, 64, 3) == NM_DONE && nm_set_worker(&set, &last, 1) == NM_DONE &&
           nm_set_worker(&set, &other, 0) == NM_DONE);
     CHECK(nm_worker_try_insert(&last, 5, TRIES) == NM_YES &&
           nm_worker_try_insert(&other, 6, TRIES) == NM_YES);
-    CHECK(nm_worker_end(&set) == NM_KIND && nm_worker_end(&last) == NM_AWAY &&
+    CHECK(nm_worker_end(&set) == NM_KIND && nm_worker_end(&last) == NM_ATTACHED &&
           nm_drop(&set) == NM_DONE && nm_worker_end(&set) == NM_CLOSED);
-    CHECK(nm_worker_end(&last) == NM_AWAY && nm_worker_end(&other) == NM_AWAY &&
+    CHECK(nm_worker_end(&last) == NM_ATTACHED && nm_worker_end(&other) == NM_ATTACHED &&
           nm_worker_try_remove(&last, 6, TRIES) == NM_YES);
     CHECK(nm_drop(&other) == NM_DONE && nm_worker_pin(&last, TRIES, &told) == NM_DONE &&
           nm_worker_end(&last) == NM_DONE);
@@ -397,13 +397,13 @@ static void attached(void) {
     nm_handle set = NM_CLOSED_HANDLE, workers[WORKERS] = {NM_CLOSED_HANDLE},
               none = NM_CLOSED_HANDLE;
     uint32_t number = NOT_WRITTEN;
-    CHECK(nm_set_attach(&set, &none) == NM_CLOSED && nm_set_near(&set, 64, WORKERS) == NM_DONE);
+    CHECK(nm_set_attach(&set, &none) == NM_CLOSED && nm_set_new_unbalanced(&set, 64, WORKERS) == NM_DONE);
     for (int i = 0; i < WORKERS; i++) {
         CHECK(nm_set_attach(&set, &workers[i]) == NM_DONE &&
               nm_set_attach(&set, &workers[i]) == NM_OPEN);
         CHECK(nm_worker_number(&workers[i], &number) == NM_DONE && number == (uint32_t)i);
     }
-    CHECK(nm_set_attach(&set, &none) == NM_AWAY && nm_set_attach(&workers[0], &none) == NM_KIND);
+    CHECK(nm_set_attach(&set, &none) == NM_NO_WORKER && nm_set_attach(&workers[0], &none) == NM_KIND);
     CHECK(nm_drop(&workers[4]) == NM_DONE && nm_set_attach(&set, &none) == NM_DONE);
     CHECK(nm_worker_number(&none, &number) == NM_DONE && number == 4 && nm_drop(&none) == NM_DONE);
     for (int i = 0; i < WORKERS; i++) CHECK(nm_drop(&workers[i]) == (i == 4 ? NM_CLOSED : NM_DONE));
@@ -415,20 +415,20 @@ static void attached(void) {
  * before when that call is done. */
 static void used(void) {
     nm_handle set = NM_CLOSED_HANDLE, worker = NM_CLOSED_HANDLE, other = NM_CLOSED_HANDLE;
-    CHECK(nm_set_near(&set, 64, 2) == NM_DONE && nm_set_worker(&set, &worker, 0) == NM_DONE);
+    CHECK(nm_set_new_unbalanced(&set, 64, 2) == NM_DONE && nm_set_worker(&set, &worker, 0) == NM_DONE);
     worker.in_use = 1;
     void *owned = worker.at;
     is_refused(&worker, NM_IN_USE, NM_IN_USE);
     CHECK(nm_drop(&worker) == NM_IN_USE && nm_set_worker(&set, &worker, 1) == NM_IN_USE &&
           nm_set_attach(&set, &worker) == NM_IN_USE);
-    CHECK(nm_set_near(&worker, 64, 2) == NM_IN_USE && nm_set_close(&worker) == NM_IN_USE &&
+    CHECK(nm_set_new_unbalanced(&worker, 64, 2) == NM_IN_USE && nm_set_close(&worker) == NM_IN_USE &&
           worker.at == owned);
     worker.in_use = 0;
     CHECK(nm_worker_try_insert(&worker, 5, TRIES) == NM_YES);
     set.in_use = 1;
     CHECK(nm_set_worker(&set, &other, 1) == NM_IN_USE && nm_set_attach(&set, &other) == NM_IN_USE &&
           nm_set_close(&set) == NM_IN_USE);
-    CHECK(nm_set_away(&set, 0) == NM_IN_USE);
+    CHECK(nm_set_attached(&set, 0) == NM_IN_USE);
     CHECK(other.at == NULL && other.in_use == 0);
     set.in_use = 0;
     CHECK(nm_set_worker(&set, &set, 1) == NM_OPEN &&

@@ -38,14 +38,14 @@ void fill(nm::Worker worker, std::uint64_t first) {
         CHECK(told == NM_YES && !worker.pending());
         if (number % 32 == 1 && worker.advance().moved()) worker.collect();
     }
-    nm_ledger ledger = worker.ledger();
-    CHECK(ledger.links == keys_of_each && ledger.flags == keys_of_each / 2 &&
-          ledger.queued <= ledger.retired);
+    nm_stats stats = worker.stats();
+    CHECK(stats.links == keys_of_each && stats.flags == keys_of_each / 2 &&
+          stats.queued <= stats.retired);
 }
 
 void threads_fill_a_set() {
     constexpr std::uint32_t nodes = 16384;
-    nm::Set set = near_set(nodes, threads_at_work * apart);
+    nm::Set set = unbalanced_set(nodes, threads_at_work * apart);
     std::vector<std::thread> threads;
     for (std::uint32_t number = 0; number < threads_at_work; number++)
         threads.emplace_back(fill, set.worker(number * apart), number);
@@ -67,7 +67,7 @@ void threads_fill_a_set() {
 }
 
 void owners_are_moved() {
-    nm::Set set = near_set(64, 2, nm::Shape::lowest);
+    nm::Set set = unbalanced_set(64, 2, nm::Shape::unbalanced);
     nm::Worker first = set.worker(0);
     CHECK(fault_of([&] { (void)set.worker(0); }).text == "worker 0 is with a thread" &&
           thrown([&] { (void)set.worker(2); }) == NM_NUMBER);
@@ -87,14 +87,14 @@ void owners_are_moved() {
     nm::Set other = std::move(set);
     CHECK(!set.is_open() && thrown([&] { set.insert(5u); }) == NM_CLOSED &&
           thrown([&] { (void)set.size(); }) == NM_CLOSED && other.insert(5u) && moved.contains(5u));
-    other = near_set(64, 1);
+    other = unbalanced_set(64, 1);
     CHECK(other.empty() && moved.contains(5u) && moved.close_set().size() == 1);
 }
 
 void a_worker_outlives_its_set() {
     std::vector<nm::Worker> left;
     {
-        nm::Set set = near_set(7, 2);
+        nm::Set set = unbalanced_set(7, 2);
         CHECK(set.insert(6u) && set.remove(6u));
         left.push_back(set.worker(0));
     }
@@ -107,8 +107,8 @@ void faults_are_told() {
           "the number of nodes is not 7 to 268,435,456: 6");
     CHECK(fault_of([] { nm::Set set(1ull << 32); }).text ==
           "the number of nodes is not 7 to 268,435,456: 4,294,967,296");
-    CHECK(fault_of([] { near_set(7, 65); }).text == "the number of workers is not 1 to 64: 65");
-    CHECK(thrown([] { near_set(7, 0); }) == NM_WORKERS);
+    CHECK(fault_of([] { unbalanced_set(7, 65); }).text == "the number of workers is not 1 to 64: 65");
+    CHECK(thrown([] { unbalanced_set(7, 0); }) == NM_WORKERS);
     nm::Set set(64);
     Thrown told = fault_of([&] { set.insert(UINT64_MAX); });
     CHECK(told.outcome == NM_KEY &&
@@ -124,11 +124,11 @@ void owners_are_closed() {
     nm::Report report;
     CHECK(!worker.is_open() && !report.is_open() &&
           thrown([&] { (void)report.size(); }) == NM_CLOSED);
-    nm::Set set = near_set(8192, 2);
+    nm::Set set = unbalanced_set(8192, 2);
     worker = set.worker(0);
     CHECK(set.is_open() && worker.is_open() && worker.insert(5u) &&
           set.try_worker(worker, 1) == NM_OPEN && set.try_attach(worker) == NM_OPEN);
-    CHECK(thrown([&] { set.close(); }) == NM_AWAY && set.is_open() && set.contains(5u));
+    CHECK(thrown([&] { set.close(); }) == NM_ATTACHED && set.is_open() && set.contains(5u));
     worker.close();
     worker.close();
     CHECK(!worker.is_open() && worker.try_insert(6u) == NM_CLOSED);
@@ -145,12 +145,12 @@ void a_worker_ends_its_set() {
     nm::Report report;
     nm::Worker last, other;
     {
-        nm::Set set = near_set(64, 3);
+        nm::Set set = unbalanced_set(64, 3);
         last = set.worker(1), other = set.worker(0);
         CHECK(set.insert(5u) && last.insert(6u) && last.remove(6u));
-        CHECK(thrown([&] { last.close_set(); }) == NM_AWAY && last.is_open());
+        CHECK(thrown([&] { last.close_set(); }) == NM_ATTACHED && last.is_open());
     }
-    CHECK(thrown([&] { last.close_set(); }) == NM_AWAY && last.is_open());
+    CHECK(thrown([&] { last.close_set(); }) == NM_ATTACHED && last.is_open());
     other.close();
     report = last.close_set();
     CHECK(!last.is_open() && thrown([&] { last.close_set(); }) == NM_CLOSED);
@@ -159,21 +159,21 @@ void a_worker_ends_its_set() {
 
 // A note of one worker is heard by another.
 void notes_are_heard() {
-    nm::Set set = near_set(64, 2);
+    nm::Set set = unbalanced_set(64, 2);
     nm::Worker writer = set.worker(1), reader = set.worker(0);
-    nm::Posted posted{77, 77};
-    CHECK(reader.try_read(1, posted) == NM_NO && reader.try_read(2, posted) == NM_NUMBER &&
-          posted.inserted == 77);
-    CHECK(writer.insert(5u) && writer.try_post(posted) == NM_DONE && posted.inserted == 1 &&
-          posted.removed == 0);
-    CHECK(writer.remove(5u) && reader.try_read(1, posted) == NM_YES && posted.removed == 0);
-    CHECK(writer.try_post(posted) == NM_DONE && posted.removed == 1);
-    CHECK(reader.try_read(1, posted) == NM_YES && posted.removed == 1);
+    nm::Stamp stamp{77, 77};
+    CHECK(reader.try_observe(1, stamp) == NM_NO && reader.try_observe(2, stamp) == NM_NUMBER &&
+          stamp.inserted == 77);
+    CHECK(writer.insert(5u) && writer.try_publish(stamp) == NM_DONE && stamp.inserted == 1 &&
+          stamp.removed == 0);
+    CHECK(writer.remove(5u) && reader.try_observe(1, stamp) == NM_YES && stamp.removed == 0);
+    CHECK(writer.try_publish(stamp) == NM_DONE && stamp.removed == 1);
+    CHECK(reader.try_observe(1, stamp) == NM_YES && stamp.removed == 1);
 }
 
 // The calls that answer an outcome, of a set for one key.
 void outcomes_are_answered() {
-    nm::Set set = near_set(7, 1, nm::Shape::lowest);
+    nm::Set set = unbalanced_set(7, 1, nm::Shape::unbalanced);
     nm::Worker worker = set.worker(0);
     std::uint64_t epoch = 77, found = 77;
     std::vector<nm_lookup> lookups{{5, 77}, {6, 77}}, none;
@@ -185,8 +185,8 @@ void outcomes_are_answered() {
           worker.try_lower_bound(0u, found) == NM_YES && found == 5);
     CHECK(worker.try_insert(6u) == NM_FULL && worker.try_insert(UINT64_MAX) == NM_KEY &&
           worker.try_contains(5u, 0) == NM_BUSY);
-    CHECK(worker.try_unpin() == NM_NOT_HELD && worker.try_pin(epoch) == NM_DONE && epoch == 0 &&
-          worker.try_contains(5u) == NM_HELD);
+    CHECK(worker.try_unpin() == NM_NOT_PINNED && worker.try_pin(epoch) == NM_DONE && epoch == 0 &&
+          worker.try_contains(5u) == NM_PINNED);
     CHECK(worker.try_unpin() == NM_DONE && worker.try_remove(5u, 1) == NM_UNFINISHED &&
           worker.try_contains(5u) == NM_PENDING && worker.pending());
     CHECK(worker.try_finish(0) == NM_UNFINISHED && worker.try_finish() == NM_YES &&
@@ -195,12 +195,12 @@ void outcomes_are_answered() {
 
 // What a worker and a report tell of themselves they tell of a const owner too.
 void const_owners_tell() {
-    nm::Set set = near_set(64, 2);
+    nm::Set set = unbalanced_set(64, 2);
     nm::Worker worker = set.worker(1);
     CHECK(worker.insert(5u) && worker.insert(6u) && worker.remove(6u));
     const nm::Worker &seen = worker;
-    CHECK(seen.number() == 1 && seen.queue_len() == 2 && !seen.pending() && !seen.held() &&
-          seen.ledger().links == 2 && seen.behind().mask == 0 && seen.contains(5u));
+    CHECK(seen.number() == 1 && seen.queue_len() == 2 && !seen.pending() && !seen.pinned() &&
+          seen.stats().links == 2 && seen.behind().mask == 0 && seen.contains(5u));
     worker.close();
     const nm::Report report = set.close();
     CHECK(report.size() == 1 && report.keys() == std::vector<std::uint64_t>{5} &&
@@ -209,18 +209,18 @@ void const_owners_tell() {
 
 // A pin ends with its guard, also where an exception unwinds.
 void pins_end() {
-    nm::Set set = near_set(64, 1);
+    nm::Set set = unbalanced_set(64, 1);
     nm::Worker worker = set.attach();
     {
         nm::Pin pin = worker.pin();
         nm::Pin moved = std::move(pin);
-        CHECK(moved.epoch() == 0 && worker.held() == std::optional<std::uint64_t>(0) &&
+        CHECK(moved.epoch() == 0 && worker.pinned() == std::optional<std::uint64_t>(0) &&
               fault_of([&] { (void)worker.contains(5u); }).text ==
                   "the worker is pinned: end its pin first");
         pin.unpin();
-        CHECK(worker.held());
+        CHECK(worker.pinned());
     }
-    CHECK(!worker.held() && worker.insert(5u));
+    CHECK(!worker.pinned() && worker.insert(5u));
     CHECK(thrown([&] {
         nm::Pin pin = worker.pin();
         throw nm::Fault(NM_LOST, "as a program may throw");
@@ -229,7 +229,7 @@ void pins_end() {
 
 // A worker that goes home holds nothing back, and has finished its remove.
 void workers_rest_at_home() {
-    nm::Set set = near_set(64, 2);
+    nm::Set set = unbalanced_set(64, 2);
     nm::Worker worker = set.worker(0), other = set.worker(1);
     std::uint64_t epoch = 0;
     CHECK(worker.try_pin(epoch) == NM_DONE && other.advance().moved() && other.behind().mask == 1);
@@ -262,7 +262,7 @@ void threads_attach_themselves() {
     std::vector<nm::Worker> all;
     for (std::uint32_t each = 0; each < set.workers(); each++) all.push_back(set.attach());
     nm::Worker none;
-    CHECK(set.try_attach(none) == NM_AWAY && all[7].number() == 7 && all.back().number() == 63);
+    CHECK(set.try_attach(none) == NM_NO_WORKER && all[7].number() == 7 && all.back().number() == 63);
     CHECK(fault_of([&] { (void)set.attach(std::chrono::milliseconds(5)); }).text ==
           "threads have each of the 64 workers of the set (64 at most)");
     std::thread later([&] { CHECK(set.attach().number() == 5 && set.insert(5u)); });

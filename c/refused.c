@@ -11,7 +11,7 @@ enum { NODES = 1024, KEYS = 150, TENDED = 100, TRIES = 64 };
 /* A refused set leaves its handle closed. */
 static void make(nm_handle *set) {
     nm_outcome told;
-    while ((told = nm_set_near(set, NODES, 3)) == NM_NO_MEMORY) CHECK(set->at == NULL);
+    while ((told = nm_set_new_unbalanced(set, NODES, 3)) == NM_NO_MEMORY) CHECK(set->at == NULL);
     CHECK(told == NM_DONE);
 }
 
@@ -43,17 +43,17 @@ static nm_outcome delete(nm_handle *worker, uint64_t key) {
  * pending. */
 static nm_outcome add(nm_handle *worker, uint64_t key) {
     nm_outcome told;
-    while ((told = nm_worker_insert(worker, key, &nm_usual_habit)) == NM_NO_MEMORY)
-        CHECK(nm_worker_contains(worker, key, &nm_usual_habit) == NM_NO);
+    while ((told = nm_worker_insert(worker, key, &nm_default_options)) == NM_NO_MEMORY)
+        CHECK(nm_worker_contains(worker, key, &nm_default_options) == NM_NO);
     return told;
 }
 
 static nm_outcome remove_key(nm_handle *worker, uint64_t key) {
     nm_outcome told;
     uint64_t pending;
-    while ((told = nm_worker_remove(worker, key, &nm_usual_habit)) == NM_NO_MEMORY)
+    while ((told = nm_worker_remove(worker, key, &nm_default_options)) == NM_NO_MEMORY)
         CHECK(nm_worker_pending(worker, &pending) == NM_NO &&
-              nm_worker_contains(worker, key, &nm_usual_habit) == NM_YES);
+              nm_worker_contains(worker, key, &nm_default_options) == NM_YES);
     return told;
 }
 

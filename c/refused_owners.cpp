@@ -45,7 +45,7 @@ bool is_full() {
 }  // namespace
 
 int main() {
-    nm::Set set = at_last([] { return near_set(nodes, workers); });
+    nm::Set set = at_last([] { return unbalanced_set(nodes, workers); });
     nm::Worker worker = attached(set);
     for (std::uint64_t number = 0; number < keys; number += 2) {
         nm_outcome told;

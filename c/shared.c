@@ -72,14 +72,14 @@ static void run(void *(*work)(void *), int threads) {
 
 int main(void) {
     uint64_t count_of_keys;
-    nm_ledger before, after;
-    CHECK(nm_set_near(&set, NODES, WORKERS) == NM_DONE);
+    nm_stats before, after;
+    CHECK(nm_set_new_unbalanced(&set, NODES, WORKERS) == NM_DONE);
     run(attach, THREADS);
-    CHECK(nm_set_attach(&set, &shared) == NM_DONE && nm_worker_ledger(&shared, &before) == NM_DONE);
+    CHECK(nm_set_attach(&set, &shared) == NM_DONE && nm_worker_stats(&shared, &before) == NM_DONE);
     run(misuse, 2);
-    CHECK(nm_worker_ledger(&shared, &after) == NM_DONE && after.links - before.links == inserted);
+    CHECK(nm_worker_stats(&shared, &after) == NM_DONE && after.links - before.links == inserted);
     CHECK(after.flags - before.flags == deleted);
-    CHECK(nm_set_close(&set) == NM_AWAY && nm_drop(&shared) == NM_DONE &&
+    CHECK(nm_set_close(&set) == NM_ATTACHED && nm_drop(&shared) == NM_DONE &&
           nm_set_close(&set) == NM_DONE);
     CHECK(nm_report_keys(&set, &count_of_keys) == NM_DONE &&
           count_of_keys == KEYS + inserted - deleted);

@@ -17,11 +17,11 @@ static uint64_t word;
 static uint32_t number;
 
 static void make(void) { CHECK(nm_set_new(&set, 1000, 3) == NM_DONE); }
-static void make_near(void) { CHECK(nm_set_near(&set, 1000, 3) == NM_DONE); }
-static void make_lowest(void) { CHECK(nm_set_lowest(&set, 1000, 3) == NM_DONE); }
+static void make_near(void) { CHECK(nm_set_new_unbalanced(&set, 1000, 3) == NM_DONE); }
+static void make_lowest(void) { CHECK(nm_set_new_first_fit(&set, 1000, 3) == NM_DONE); }
 static void attach(void) { CHECK(nm_set_attach(&set, &worker) == NM_DONE); }
 static void take(void) { CHECK(nm_set_worker(&set, &other, 2) == NM_DONE); }
-static void away(void) { CHECK(nm_set_away(&set, 0) == NM_YES); }
+static void away(void) { CHECK(nm_set_attached(&set, 0) == NM_YES); }
 static void resign(void) { CHECK(nm_worker_resign(&worker, 1) == NM_DONE); }
 static void drop(void) { CHECK(nm_drop(&worker) == NM_DONE); }
 static void drop_other(void) { CHECK(nm_drop(&other) == NM_DONE); }
@@ -32,9 +32,9 @@ static void drop_report(void) { CHECK(nm_drop(&worker) == NM_DONE); }
 
 static void insert(void) {
     for (uint64_t key = 0; key < 300; key++)
-        CHECK(nm_worker_insert(&worker, key, &nm_usual_habit) == NM_YES);
+        CHECK(nm_worker_insert(&worker, key, &nm_default_options) == NM_YES);
 }
-static void contains(void) { CHECK(nm_worker_contains(&worker, 7, &nm_usual_habit) == NM_YES); }
+static void contains(void) { CHECK(nm_worker_contains(&worker, 7, &nm_default_options) == NM_YES); }
 static void next(void) { CHECK(nm_worker_next(&worker, 7, 64, &word) == NM_YES); }
 static void prev(void) { CHECK(nm_worker_prev(&worker, 7, 64, &word) == NM_YES); }
 static void many(void) {
@@ -44,10 +44,10 @@ static void many(void) {
 }
 static void take_keys(void) {
     for (uint64_t key = 0; key < 100; key++) {
-        CHECK(nm_worker_remove(&worker, 100 + key, &nm_usual_habit) == NM_YES);
-        CHECK(nm_worker_pop_first(&worker, &nm_usual_habit, &word) == NM_YES);
+        CHECK(nm_worker_remove(&worker, 100 + key, &nm_default_options) == NM_YES);
+        CHECK(nm_worker_pop_first(&worker, &nm_default_options, &word) == NM_YES);
     }
-    CHECK(nm_worker_pop_last(&worker, &nm_usual_habit, &word) == NM_YES);
+    CHECK(nm_worker_pop_last(&worker, &nm_default_options, &word) == NM_YES);
 }
 static void move(void) {
     CHECK(nm_worker_advance(&worker, &word, &number) == NM_DONE);
@@ -63,11 +63,11 @@ typedef struct call {
 } call;
 
 static const call calls[] = {
-    {"nm_set_near", make_near, OF_SETS},      {"nm_drop of a set", drop_set, OF_SETS},
-    {"nm_set_lowest", make_lowest, OF_SETS},  {"nm_set_close", close_set, OF_SETS},
+    {"nm_set_new_unbalanced", make_near, OF_SETS},      {"nm_drop of a set", drop_set, OF_SETS},
+    {"nm_set_new_first_fit", make_lowest, OF_SETS},  {"nm_set_close", close_set, OF_SETS},
     {"nm_drop of a report", drop_set, OF_SETS}, {"nm_set_new", make, OF_SETS},
     {"nm_set_attach", attach, OF_SETS},       {"nm_set_worker", take, OF_SETS},
-    {"nm_set_away", away, OF_SETS},           {"nm_worker_insert", insert, OF_KEYS},
+    {"nm_set_attached", away, OF_SETS},           {"nm_worker_insert", insert, OF_KEYS},
     {"nm_worker_contains", contains, OF_KEYS}, {"nm_worker_next", next, OF_KEYS},
     {"nm_worker_prev", prev, OF_KEYS},        {"nm_worker_contains_many", many, OF_KEYS},
     {"removes and pops", take_keys, OF_KEYS}, {"calls on the epoch", move, OF_KEYS},

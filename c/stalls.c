@@ -65,7 +65,7 @@ static uint64_t stall(nm_handle *worker) {
 
 int main(void) {
     uint64_t before = taken(), made, most = 0;
-    CHECK(nm_set_near(&set, NODES, WORKERS) == NM_DONE);
+    CHECK(nm_set_new_unbalanced(&set, NODES, WORKERS) == NM_DONE);
     made = taken();
     CHECK(made - before > 32 * (uint64_t)NODES);
     CHECK(nm_set_worker(&set, &pinned, 0) == NM_DONE);

@@ -19,8 +19,8 @@ typedef struct part {
 static atomic_uint times[GREATEST + 1]; /* how often each key was taken */
 
 static nm_outcome pop(part *own, uint64_t *key) {
-    return own->number % 2 == 0 ? nm_worker_pop_first(&own->worker, &nm_usual_habit, key)
-                                : nm_worker_pop_last(&own->worker, &nm_usual_habit, key);
+    return own->number % 2 == 0 ? nm_worker_pop_first(&own->worker, &nm_default_options, key)
+                                : nm_worker_pop_last(&own->worker, &nm_default_options, key);
 }
 
 static void take(part *own) {
@@ -40,7 +40,7 @@ static void take(part *own) {
 
 static void put(part *own, uint64_t key) {
     nm_outcome told;
-    while ((told = nm_worker_insert(&own->worker, key, &nm_usual_habit)) < 0) {
+    while ((told = nm_worker_insert(&own->worker, key, &nm_default_options)) < 0) {
         CHECK(told == NM_BUSY || told == NM_FULL || told == NM_PENDING);
         take(own);
     }

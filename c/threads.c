@@ -45,17 +45,17 @@ static void tend(part *own) {
 }
 
 static nm_outcome try_insert(part *own, uint64_t key) {
-    return own->tends ? nm_worker_insert(&own->worker, key, &nm_usual_habit)
+    return own->tends ? nm_worker_insert(&own->worker, key, &nm_default_options)
                       : nm_worker_try_insert(&own->worker, key, TRIES);
 }
 
 static nm_outcome try_delete(part *own, uint64_t key) {
-    return own->tends ? nm_worker_remove(&own->worker, key, &nm_usual_habit)
+    return own->tends ? nm_worker_remove(&own->worker, key, &nm_default_options)
                       : nm_worker_try_remove(&own->worker, key, TRIES);
 }
 
 static nm_outcome try_has(part *own, uint64_t key) {
-    return own->tends ? nm_worker_contains(&own->worker, key, &nm_usual_habit)
+    return own->tends ? nm_worker_contains(&own->worker, key, &nm_default_options)
                       : nm_worker_try_contains(&own->worker, key, TRIES);
 }
 
@@ -105,11 +105,11 @@ static void *work(void *given) {
 /* What a worker won is what it was answered. It goes home. */
 static void send_home(part *own, uint32_t number) {
     uint32_t told;
-    nm_ledger ledger;
+    nm_stats stats;
     CHECK(nm_worker_number(&own->worker, &told) == NM_DONE && told == number);
-    CHECK(nm_worker_ledger(&own->worker, &ledger) == NM_DONE);
-    CHECK(ledger.links == own->inserted && ledger.flags == own->deleted);
-    CHECK(ledger.retired == ledger.freed + ledger.queued);
+    CHECK(nm_worker_stats(&own->worker, &stats) == NM_DONE);
+    CHECK(stats.links == own->inserted && stats.flags == own->deleted);
+    CHECK(stats.retired == stats.freed + stats.queued);
     CHECK(nm_drop(&own->worker) == NM_DONE);
 }
 
@@ -135,7 +135,7 @@ static uint64_t take_waiting(nm_handle *report) {
         for (uint64_t taken = 0; taken < nodes; taken++) {
             label = waiting.label;
             CHECK(nm_report_waiting(report, worker, &waiting) == NM_YES);
-            CHECK(waiting.slot > FIXED && waiting.slot <= NODES && waiting.birth > 0 &&
+            CHECK(waiting.slot > FIXED && waiting.slot <= NODES && waiting.generation > 0 &&
                   waiting.label >= label);
         }
         CHECK(nm_report_waiting(report, worker, &waiting) == NM_NO);
@@ -156,7 +156,7 @@ int main(void) {
         CHECK(pthread_create(&threads[i], NULL, work, &parts[i]) == 0);
     }
     for (int i = 0; i < THREADS; i++) CHECK(pthread_join(threads[i], NULL) == 0);
-    CHECK(nm_set_close(&set) == NM_AWAY);
+    CHECK(nm_set_close(&set) == NM_ATTACHED);
     for (uint32_t i = 0; i < THREADS; i++) send_home(&parts[i], i * APART);
     CHECK(nm_set_close(&set) == NM_DONE);
 

@@ -29,8 +29,8 @@ nm_outcome thrown(Call call) {
 }
 
 // A set in the tree of the paper, for so many workers.
-inline nm::Set near_set(std::uint64_t nodes, std::uint32_t workers,
-                        nm::Shape shape = nm::Shape::near) {
+inline nm::Set unbalanced_set(std::uint64_t nodes, std::uint32_t workers,
+                        nm::Shape shape = nm::Shape::unbalanced) {
     nm::Options options;
     options.workers = workers;
     options.shape = shape;

@@ -24,8 +24,8 @@ static void fill(nm_handle *worker) {
     uint64_t epoch;
     CHECK(nm_worker_pin(&pinned, TRIES, &epoch) == NM_DONE);
     for (uint64_t key = 0; key < 4; key++)
-        CHECK(nm_worker_insert(worker, key, &nm_usual_habit) == NM_YES &&
-              nm_worker_remove(worker, key, &nm_usual_habit) == NM_YES);
+        CHECK(nm_worker_insert(worker, key, &nm_default_options) == NM_YES &&
+              nm_worker_remove(worker, key, &nm_default_options) == NM_YES);
 }
 
 static void an_add_waits(void) {
@@ -37,18 +37,18 @@ static void an_add_waits(void) {
           nm_wait_attach(&set, &worker, 0) == NM_DONE);
     fill(&worker);
     begun = nm_now();
-    CHECK(nm_wait_insert(&worker, 7, &nm_usual_habit, 0) == NM_FULL);
-    CHECK(nm_wait_insert(&worker, 7, &nm_usual_habit, 50) == NM_FULL);
+    CHECK(nm_wait_insert(&worker, 7, &nm_default_options, 0) == NM_FULL);
+    CHECK(nm_wait_insert(&worker, 7, &nm_default_options, 50) == NM_FULL);
     CHECK(nm_now() - begun >= 50000000 && nm_now() - begun < 450000000);
     CHECK(strcmp(nm_full_text(&worker, 13, text, sizeof text),
                  "the set is full: no two of its 13 nodes are free, and 8 wait with worker 0;"
                  " held back by a pin or a call of worker 2") == 0);
     CHECK(strcmp(nm_full_text(&worker, 13, little, sizeof little), "the set is full") == 0);
     CHECK(pthread_create(&later, NULL, unpin, NULL) == 0);
-    CHECK(nm_wait_insert(&worker, 7, &nm_usual_habit, TIMEOUT) == NM_YES);
+    CHECK(nm_wait_insert(&worker, 7, &nm_default_options, TIMEOUT) == NM_YES);
     CHECK(pthread_join(later, NULL) == 0 && nm_wait_away(&set, 2, 0) == NM_YES);
     CHECK(nm_wait_worker(&set, &worker, 2, 3) == NM_OPEN && nm_drop(&worker) == NM_DONE);
-    CHECK(nm_wait_worker(&set, &worker, 2, 3) == NM_AWAY && nm_wait_close(&set, 3) == NM_AWAY);
+    CHECK(nm_wait_worker(&set, &worker, 2, 3) == NM_ATTACHED && nm_wait_close(&set, 3) == NM_ATTACHED);
     CHECK(nm_drop(&pinned) == NM_DONE && nm_wait_away(&set, 2, 0) == NM_NO);
     CHECK(nm_wait_close(&set, 0) == NM_DONE && nm_drop(&set) == NM_DONE);
 }
@@ -59,7 +59,7 @@ static void *come_and_go(void *number) {
     for (uint64_t round = 0; round < ROUNDS; round++) {
         nm_handle worker = NM_CLOSED_HANDLE;
         CHECK(nm_wait_attach(&set, &worker, TIMEOUT) == NM_DONE);
-        CHECK(nm_wait_insert(&worker, first * ROUNDS + round, &nm_usual_habit, TIMEOUT) == NM_YES);
+        CHECK(nm_wait_insert(&worker, first * ROUNDS + round, &nm_default_options, TIMEOUT) == NM_YES);
         CHECK(nm_drop(&worker) == NM_DONE);
     }
     return NULL;

@@ -36,13 +36,13 @@ public:
             std::abort();
     }
     ~ProvedSet() { nm_drop(&worker_), nm_drop(&set_); }
-    bool contains(Key key) { return nm_worker_contains(&worker_, key, &nm_usual_habit) == NM_YES; }
-    bool add(Key key) { return nm_worker_insert(&worker_, key, &nm_usual_habit) == NM_YES; }
-    bool remove(Key key) { return nm_worker_remove(&worker_, key, &nm_usual_habit) == NM_YES; }
+    bool contains(Key key) { return nm_worker_contains(&worker_, key, &nm_default_options) == NM_YES; }
+    bool add(Key key) { return nm_worker_insert(&worker_, key, &nm_default_options) == NM_YES; }
+    bool remove(Key key) { return nm_worker_remove(&worker_, key, &nm_default_options) == NM_YES; }
     // The least key, which it removes; infinity_0 if there is none.
     Key pop_first() {
         Key key;
-        bool is_popped = nm_worker_pop_first(&worker_, &nm_usual_habit, &key) == NM_YES;
+        bool is_popped = nm_worker_pop_first(&worker_, &nm_default_options, &key) == NM_YES;
         return is_popped ? key : plain::infinity_0;
     }
 
@@ -314,7 +314,7 @@ void compare(std::size_t keys, const char *state, unsigned long rounds) {
         Kind<ProvedSet<nm_set_new>> set(keys, tables[0]);
         Kind<PlainSet<plain::Worker>> plain(keys, tables[1]);
         Kind<PlainSet<plain::Handle>> handles(keys, tables[2]);
-        Kind<ProvedSet<nm_set_near>> paper(keys, tables[3]);
+        Kind<ProvedSet<nm_set_new_unbalanced>> paper(keys, tables[3]);
         for (unsigned long here = 0; here < in_these_pages && round < rounds; here++, round++) {
             unsigned seed = static_cast<unsigned>(round + 1);
             set.round(seed), plain.round(seed), handles.round(seed), paper.round(seed);

@@ -53,18 +53,18 @@ public:
     class Access {
     public:
         Access(Proved &set, std::size_t number) : worker_(&set.workers_[number].handle) {}
-        bool contains(Key key) { return is_yes(nm_worker_contains(worker_, key, &nm_usual_habit)); }
+        bool contains(Key key) { return is_yes(nm_worker_contains(worker_, key, &nm_default_options)); }
         bool add(Key key) {
             for (;;) {
-                auto told = nm_worker_insert(worker_, key, &nm_usual_habit);
+                auto told = nm_worker_insert(worker_, key, &nm_default_options);
                 if (told == NM_YES || told == NM_NO) return told == NM_YES;
                 std::this_thread::sleep_for(std::chrono::milliseconds(1));
             }
         }
-        bool remove(Key key) { return is_yes(nm_worker_remove(worker_, key, &nm_usual_habit)); }
+        bool remove(Key key) { return is_yes(nm_worker_remove(worker_, key, &nm_default_options)); }
         std::optional<Key> pop_first() {
             Key taken;
-            if (is_yes(nm_worker_pop_first(worker_, &nm_usual_habit, &taken))) return taken;
+            if (is_yes(nm_worker_pop_first(worker_, &nm_default_options, &taken))) return taken;
             return std::nullopt;
         }
 

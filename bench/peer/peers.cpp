@@ -48,10 +48,10 @@ struct ProvedSet {
         }
         ~Worker() { nm_drop(&handle); }
         bool contains(Key key) {
-            return nm_worker_contains(&handle, key, &nm_usual_habit) == NM_YES;
+            return nm_worker_contains(&handle, key, &nm_default_options) == NM_YES;
         }
-        bool add(Key key) { return nm_worker_insert(&handle, key, &nm_usual_habit) == NM_YES; }
-        bool remove(Key key) { return nm_worker_remove(&handle, key, &nm_usual_habit) == NM_YES; }
+        bool add(Key key) { return nm_worker_insert(&handle, key, &nm_default_options) == NM_YES; }
+        bool remove(Key key) { return nm_worker_remove(&handle, key, &nm_default_options) == NM_YES; }
         nm_handle handle = NM_CLOSED_HANDLE;
     };
 };

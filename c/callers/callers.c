@@ -29,7 +29,7 @@ void *__wrap_malloc(size_t size) {
 }
 
 IN_CALLERS static void make(nm_handle *set, nm_handle *worker) {
-    CHECK(nm_set_near(set, 1024, 2) == NM_DONE);
+    CHECK(nm_set_new_unbalanced(set, 1024, 2) == NM_DONE);
     CHECK(nm_set_worker(set, worker, 0) == NM_DONE);
 }
 

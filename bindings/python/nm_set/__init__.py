@@ -14,13 +14,13 @@ __version__ = "0.1.0"
 from ._backend import is_native
 from ._faults import (
     MOST_KEY,
-    Away,
+    Attached,
     Closed,
     Contention,
     Fault,
     Forked,
     Full,
-    Held,
+    Pinned,
     InUse,
     NoMemory,
     NoWorker,
@@ -28,26 +28,26 @@ from ._faults import (
     Unfinished,
 )
 from ._report import Report, Waiting
-from ._set import Ledger, Posted, Set, Tending, Worker
+from ._set import Stats, Stamp, Set, Options, Worker
 
 __all__ = [
     "MOST_KEY",
-    "Away",
+    "Attached",
     "Closed",
     "Contention",
     "Fault",
     "Forked",
     "Full",
-    "Held",
+    "Pinned",
     "InUse",
-    "Ledger",
+    "Stats",
     "NoMemory",
     "NoWorker",
     "OutOfRange",
-    "Posted",
+    "Stamp",
     "Report",
     "Set",
-    "Tending",
+    "Options",
     "Unfinished",
     "Waiting",
     "Worker",

@@ -61,10 +61,10 @@ class Calls:
     `Closed` or `InUse`, if there is none; nothing has changed then."""
 
     def __init__(
-        self, places: ctypes.Array[c.Place], habit: c.HabitWords, count: Count, line: int
+        self, places: ctypes.Array[c.Place], options: c.HabitWords, count: Count, line: int
     ) -> None:
         self._handles = tuple(place.handle for place in places)
-        self._habit = habit
+        self._call_options = options
         self._process = os.getpid()
         self._insert = _counted(count.added, c.quick.nm_worker_insert)
         self._remove = _counted(count.removed, c.quick.nm_worker_remove)
@@ -91,26 +91,26 @@ class Calls:
             outcome = call(handle)
             if outcome != c.PENDING:
                 return outcome
-            c.quick.nm_worker_finish(handle, self._habit.tries)
+            c.quick.nm_worker_finish(handle, self._call_options.tries)
             return call(handle)
 
-        for _ in range(self._habit.rounds):
+        for _ in range(self._call_options.rounds):
             outcome = self._asked(behind)
             if outcome != c.BUSY:
                 return told(outcome)
         return told(self._asked(behind))
 
     def contains(self, key: SupportsIndex) -> bool:
-        return told(self._asked(c.quick.nm_worker_contains, _number(key), self._habit))
+        return told(self._asked(c.quick.nm_worker_contains, _number(key), self._call_options))
 
     def add(self, key: SupportsIndex) -> bool:
-        return told(self._asked(self._insert, _number(key), self._habit))
+        return told(self._asked(self._insert, _number(key), self._call_options))
 
     def remove(self, key: SupportsIndex) -> bool:
-        return told(self._asked(self._remove, _number(key), self._habit))
+        return told(self._asked(self._remove, _number(key), self._call_options))
 
     def _nearest(self, call: Callable[..., int], key: SupportsIndex) -> Optional[int]:
-        number, found, tries = _number(key), c_uint64(), self._habit.tries
+        number, found, tries = _number(key), c_uint64(), self._call_options.tries
         is_found = self._looked(lambda to: int(call(to, number, tries, found)))
         return found.value if is_found else None
 
@@ -124,7 +124,7 @@ class Calls:
         """Takes a key by a call of the library. A key whose discard is unfinished is taken too:
         this call will remove it, and no other call will."""
         taken = c_uint64()
-        outcome = self._asked(call, self._habit, taken)
+        outcome = self._asked(call, self._call_options, taken)
         return taken.value if outcome == c.UNFINISHED or told(outcome) else None
 
     def pop_first(self) -> Optional[int]:
@@ -138,7 +138,7 @@ class Calls:
         wanted = keys[first : first + _SEVERAL]
         asked: Any = ((key, 0) for key in wanted)
         lookups = (c.LookupWords * max(len(wanted), 1))(*asked)
-        many, tries = c.exports.nm_worker_contains_many, self._habit.tries
+        many, tries = c.exports.nm_worker_contains_many, self._call_options.tries
         self._looked(lambda to: int(many(to, lookups, len(wanted), tries)))
         for at in range(len(wanted)):
             found[first + at] = lookups[at].found
@@ -154,7 +154,7 @@ class Calls:
         changed, last = 0, min(first + SOME, len(keys))
         for at in range(first, last):
             try:
-                outcome = self._asked(call, keys[at], self._habit)
+                outcome = self._asked(call, keys[at], self._call_options)
             except (Closed, InUse) as error:
                 outcome = error.outcome or c.CLOSED
             if answers is not None:
@@ -184,7 +184,7 @@ class Calls:
         waiting = missed = 0
         words = c.LedgerWords()
         for handle in self._handles[: self.reach]:
-            outcome = c.quick.nm_worker_ledger(handle, words)
+            outcome = c.quick.nm_worker_stats(handle, words)
             if outcome == c.DONE:
                 waiting += words.queued
             missed += outcome == c.IN_USE

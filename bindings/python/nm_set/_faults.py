@@ -24,7 +24,7 @@ class Fault(Exception):
 
 class Full(Fault):
     """An add found no free nodes: the keys take all of them, or no others were freed within the
-    `timeout_ms` of the set's `Tending`. Nothing has changed."""
+    `timeout_ms` of the set's `Options`. Nothing has changed."""
 
     outcome = c.FULL
 
@@ -55,7 +55,7 @@ class NoWorker(Fault):
     set if each of them is pinned."""
 
 
-class Away(Fault):
+class Attached(Fault):
     """A worker is with a thread: it cannot be taken, or its set cannot be closed; or the set is
     open, and so has no report yet."""
 
@@ -68,8 +68,8 @@ class Closed(Fault, ValueError):
     outcome = c.CLOSED
 
 
-class Held(Fault):
-    """The worker is held, from a pin until its unpin; or it is not, and an unpin was asked."""
+class Pinned(Fault):
+    """The worker is pinned, from a pin until its unpin; or it is not, and an unpin was asked."""
 
     outcome = c.HELD
 
@@ -87,7 +87,7 @@ class Forked(Fault, RuntimeError):
 
 class OutOfRange(Fault, ValueError):
     """A key that is not 0 to 2^64 - 4, a number of nodes that is not 7 to 268,435,456, one of
-    workers that is not 1 to 64, the number of no worker, or one of `Tending` that is not 0 to
+    workers that is not 1 to 64, the number of no worker, or one of `Options` that is not 0 to
     2^32 - 1."""
 
 
@@ -118,9 +118,9 @@ _KINDS: dict[int, type[Fault]] = {
     c.PENDING: Contention,
     c.FULL: Full,
     c.UNFINISHED: Unfinished,
-    c.HELD: Held,
-    c.NOT_HELD: Held,
-    c.AWAY: Away,
+    c.HELD: Pinned,
+    c.NOT_HELD: Pinned,
+    c.AWAY: Attached,
     c.CLOSED: Closed,
     c.CLOSING: Closed,
     c.IN_USE: InUse,

@@ -117,7 +117,7 @@ class Keys(MutableSet):  # type: ignore[type-arg]
 
     def add(self, key: SupportsIndex) -> bool:  # type: ignore[override]
         """Adds a key, 0 to 2^64 - 4, and returns whether it was not in the set. If the set is full
-        it waits for nodes for the `timeout_ms` of `Tending` at most, and for no other thread's
+        it waits for nodes for the `timeout_ms` of `Options` at most, and for no other thread's
         call. `OutOfRange` or `TypeError` for what is no key; `Full`."""
         try:
             return self._calls.add(key)

@@ -51,7 +51,7 @@ class Place(ctypes.Structure):
 
 
 class LedgerWords(ctypes.Structure):
-    """nm_ledger."""
+    """nm_stats."""
 
     _fields_ = [
         (name, c_uint64) for name in ("links", "flags", "splices", "retired", "freed", "queued")
@@ -59,7 +59,7 @@ class LedgerWords(ctypes.Structure):
 
 
 class HabitWords(ctypes.Structure):
-    """nm_habit."""
+    """nm_options."""
 
     _fields_ = [(name, c_uint32) for name in ("tries", "rounds", "collect_after")]
 
@@ -73,7 +73,7 @@ class LookupWords(ctypes.Structure):
 class WaitingWords(ctypes.Structure):
     """nm_waiting."""
 
-    _fields_ = [(name, c_uint64) for name in ("slot", "birth", "label")]
+    _fields_ = [(name, c_uint64) for name in ("slot", "generation", "label")]
 
 
 _H, _U32, _U64 = POINTER(Handle), POINTER(c_uint32), POINTER(c_uint64)
@@ -81,13 +81,12 @@ _H, _U32, _U64 = POINTER(Handle), POINTER(c_uint32), POINTER(c_uint64)
 # Each function that this module calls, with its parameters.
 FUNCTIONS: dict[str, list[Any]] = {
     "nm_set_version": [_U32, _U32, _U32],
-    "nm_set_lowest": [_H, c_uint32, c_uint32],
-    "nm_set_near": [_H, c_uint32, c_uint32],
+    "nm_set_new_unbalanced": [_H, c_uint32, c_uint32],
     "nm_set_new": [_H, c_uint32, c_uint32],
     "nm_set_worker": [_H, _H, c_uint32],
     "nm_set_attach": [_H, _H],
     "nm_set_close": [_H],
-    "nm_set_away": [_H, c_uint32],
+    "nm_set_attached": [_H, c_uint32],
     "nm_drop": [_H],
     "nm_worker_contains": [_H, c_uint64, POINTER(HabitWords)],
     "nm_worker_contains_many": [_H, POINTER(LookupWords), c_size_t, c_uint32],
@@ -105,9 +104,9 @@ FUNCTIONS: dict[str, list[Any]] = {
     "nm_worker_collect": [_H, _U64, _U64],
     "nm_worker_number": [_H, _U32],
     "nm_worker_pending": [_H, _U64],
-    "nm_worker_ledger": [_H, POINTER(LedgerWords)],
-    "nm_worker_post": [_H, _U64, _U64],
-    "nm_worker_read": [_H, c_uint32, _U64, _U64],
+    "nm_worker_stats": [_H, POINTER(LedgerWords)],
+    "nm_worker_publish": [_H, _U64, _U64],
+    "nm_worker_observe": [_H, c_uint32, _U64, _U64],
     "nm_report_slots": [_H, _U32, _U32],
     "nm_report_keys": [_H, _U64],
     "nm_report_key": [_H, c_uint64, _U64],

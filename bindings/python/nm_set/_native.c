@@ -22,12 +22,12 @@
 #define MOST_PLACES 64
 #define LINES 64     /* the lines of a count */
 
-typedef nm_outcome (*tended_call)(nm_handle *, uint64_t, const nm_habit *);
-typedef nm_outcome (*pop_call)(nm_handle *, const nm_habit *, uint64_t *);
+typedef nm_outcome (*tended_call)(nm_handle *, uint64_t, const nm_options *);
+typedef nm_outcome (*pop_call)(nm_handle *, const nm_options *, uint64_t *);
 typedef nm_outcome (*near_call)(nm_handle *, uint64_t, uint32_t, uint64_t *);
 typedef nm_outcome (*many_call)(nm_handle *, nm_lookup *, size_t, uint32_t);
 typedef nm_outcome (*finish_call)(nm_handle *, uint32_t);
-typedef nm_outcome (*ledger_call)(nm_handle *, nm_ledger *);
+typedef nm_outcome (*ledger_call)(nm_handle *, nm_stats *);
 
 static tended_call contains_of, insert_of, remove_of;
 static pop_call pop_first_of, pop_last_of;
@@ -58,7 +58,7 @@ typedef struct {
 typedef struct {
     PyObject_HEAD
     Py_buffer places;
-    nm_habit habit;
+    nm_options options;
     Count *count;
     int line;      /* place i counts in line (line + i) % LINES */
     uint64_t lent; /* bit i: a thread that let others go on is at work by place i */
@@ -153,15 +153,15 @@ static PyObject *answer(nm_outcome outcome) {
 typedef nm_outcome (*place_call)(Calls *, int, uint64_t);
 
 static nm_outcome contains_by(Calls *self, int at, uint64_t key) {
-    return contains_of(place_of(self, at), key, &self->habit);
+    return contains_of(place_of(self, at), key, &self->options);
 }
 
 static nm_outcome add_by(Calls *self, int at, uint64_t key) {
-    return count_added(self, at, insert_of(place_of(self, at), key, &self->habit));
+    return count_added(self, at, insert_of(place_of(self, at), key, &self->options));
 }
 
 static nm_outcome remove_by(Calls *self, int at, uint64_t key) {
-    return count_removed(self, at, remove_of(place_of(self, at), key, &self->habit));
+    return count_removed(self, at, remove_of(place_of(self, at), key, &self->options));
 }
 
 static PyObject *tended(Calls *self, PyObject *object, place_call call) {
@@ -205,14 +205,14 @@ static PyObject *told_key(nm_outcome outcome, uint64_t key) {
 /* The key nearest to one, by a place, behind the discard that is pending there. */
 static nm_outcome near_by(Calls *self, nm_handle *place, near_call call, uint64_t key,
                           uint64_t *found) {
-    nm_outcome outcome = call(place, key, self->habit.tries, found);
-    for (uint32_t round = 0; round < self->habit.rounds; round++) {
+    nm_outcome outcome = call(place, key, self->options.tries, found);
+    for (uint32_t round = 0; round < self->options.rounds; round++) {
         if (outcome == NM_PENDING) {
-            finish_of(place, self->habit.tries);
+            finish_of(place, self->options.tries);
         } else if (outcome != NM_BUSY) {
             break;
         }
-        outcome = call(place, key, self->habit.tries, found);
+        outcome = call(place, key, self->options.tries, found);
     }
     return outcome;
 }
@@ -250,7 +250,7 @@ static PyObject *take(Calls *self, pop_call call) {
         return NULL;
     }
     for (int at = 0; at < self->reach; at++) {
-        outcome = is_free_place(self, at) ? call(place_of(self, at), &self->habit, &taken)
+        outcome = is_free_place(self, at) ? call(place_of(self, at), &self->options, &taken)
                                           : NM_IN_USE;
         if (!is_elsewhere(outcome)) {
             count_removed(self, at, outcome);
@@ -323,14 +323,14 @@ static void take_group(const Keys *keys, Py_ssize_t first, Group *group) {
 /* Looks up a group, behind the discard that is pending. */
 static nm_outcome look_up(Calls *self, nm_handle *place, Group *group) {
     size_t count = (size_t)group->count;
-    nm_outcome outcome = contains_many_of(place, group->each, count, self->habit.tries);
-    for (uint32_t round = 0; round < self->habit.rounds; round++) {
+    nm_outcome outcome = contains_many_of(place, group->each, count, self->options.tries);
+    for (uint32_t round = 0; round < self->options.rounds; round++) {
         if (outcome == NM_PENDING) {
-            finish_of(place, self->habit.tries);
+            finish_of(place, self->options.tries);
         } else if (outcome != NM_BUSY) {
             break;
         }
-        outcome = contains_many_of(place, group->each, count, self->habit.tries);
+        outcome = contains_many_of(place, group->each, count, self->options.tries);
     }
     return outcome;
 }
@@ -482,12 +482,12 @@ static PyObject *calls_contains_some(PyObject *object, PyObject *args) {
 static PyObject *calls_waiting(PyObject *object, PyObject *unused) {
     Calls *self = (Calls *)object;
     long long waiting = 0, missed = 0;
-    nm_ledger ledger;
+    nm_stats stats;
     (void)unused;
     for (int at = 0; at < self->reach; at++) {
-        nm_outcome outcome = ledger_of(place_of(self, at), &ledger);
+        nm_outcome outcome = ledger_of(place_of(self, at), &stats);
         if (outcome == NM_DONE) {
-            waiting += (long long)ledger.queued;
+            waiting += (long long)stats.queued;
         }
         missed += outcome == NM_IN_USE;
     }
@@ -496,16 +496,16 @@ static PyObject *calls_waiting(PyObject *object, PyObject *unused) {
 
 /* ---- the type, and the module ---- */
 
-static int habit_of(PyObject *object, nm_habit *habit) {
+static int habit_of(PyObject *object, nm_options *options) {
     Py_buffer words;
     if (PyObject_GetBuffer(object, &words, PyBUF_SIMPLE) < 0) {
         return -1;
     }
-    int fits = words.len == (Py_ssize_t)sizeof *habit;
+    int fits = words.len == (Py_ssize_t)sizeof *options;
     if (fits) {
-        memcpy(habit, words.buf, sizeof *habit);
+        memcpy(options, words.buf, sizeof *options);
     } else {
-        PyErr_SetString(PyExc_TypeError, "the habit is not of the library");
+        PyErr_SetString(PyExc_TypeError, "the options is not of the library");
     }
     PyBuffer_Release(&words);
     return fits ? 0 : -1;
@@ -547,12 +547,12 @@ static PyType_Spec count_spec = {
 };
 
 static PyObject *calls_new(PyTypeObject *type, PyObject *args, PyObject *named) {
-    PyObject *places, *habit, *count;
+    PyObject *places, *options, *count;
     int line;
-    nm_habit of;
+    nm_options of;
     (void)named;
-    if (!PyArg_ParseTuple(args, "OOO!i", &places, &habit, count_type, &count, &line) ||
-        habit_of(habit, &of) < 0) {
+    if (!PyArg_ParseTuple(args, "OOO!i", &places, &options, count_type, &count, &line) ||
+        habit_of(options, &of) < 0) {
         return NULL;
     }
     allocfunc alloc = (allocfunc)PyType_GetSlot(type, Py_tp_alloc);
@@ -560,7 +560,7 @@ static PyObject *calls_new(PyTypeObject *type, PyObject *args, PyObject *named) 
     if (!self) {
         return NULL;
     }
-    self->habit = of;
+    self->options = of;
     Py_INCREF(count);
     self->count = (Count *)count;
     self->line = line & (LINES - 1);
@@ -674,10 +674,10 @@ static PyObject *answers(PyObject *module, PyObject *object) {
 /* Where the functions of the library are, and what makes the exceptions. */
 static PyObject *bind(PyObject *module, PyObject *args) {
     unsigned long long contains, insert, remove, pop_first, pop_last, next, prev;
-    unsigned long long contains_many, finish, ledger;
+    unsigned long long contains_many, finish, stats;
     (void)module;
     if (!PyArg_ParseTuple(args, "KKKKKKKKKKOOO", &contains, &insert, &remove, &pop_first,
-                          &pop_last, &next, &prev, &contains_many, &finish, &ledger, &fault_of,
+                          &pop_last, &next, &prev, &contains_many, &finish, &stats, &fault_of,
                           &key_fault_of, &forked_of)) {
         return NULL;
     }
@@ -690,7 +690,7 @@ static PyObject *bind(PyObject *module, PyObject *args) {
     prev_of = (near_call)(uintptr_t)prev;
     contains_many_of = (many_call)(uintptr_t)contains_many;
     finish_of = (finish_call)(uintptr_t)finish;
-    ledger_of = (ledger_call)(uintptr_t)ledger;
+    ledger_of = (ledger_call)(uintptr_t)stats;
     Py_INCREF(fault_of);
     Py_INCREF(key_fault_of);
     Py_INCREF(forked_of);

@@ -19,7 +19,7 @@ class Waiting:
     """A node that waited to be freed when the set was closed."""
 
     slot: int
-    birth: int
+    generation: int
     label: int
 
 
@@ -89,7 +89,7 @@ class Reader:
             _told(c.exports.nm_report_waiting, self._handle, worker, nodes[at])  # type: ignore
             _told(c.exports.nm_report_queue, self._handle, worker, left)
         words = nodes[:count]  # type: ignore[index]
-        return tuple(Waiting(node.slot, node.birth, node.label) for node in words)
+        return tuple(Waiting(node.slot, node.generation, node.label) for node in words)
 
     def _keys(self) -> tuple[int, ...]:
         count, key = c_uint64(), c_uint64()

@@ -1,6 +1,6 @@
 """The set and its workers.
 
-No lock is held, and no step gives back what an earlier one took, so an exception that comes at any
+No lock is pinned, and no step gives back what an earlier one took, so an exception that comes at any
 moment, as a signal handler's does, leaves nothing behind:
 
 - The handles for the calls of the set itself stay open. A call is made by the first of them that is
@@ -31,7 +31,7 @@ from typing import Any, Literal, Optional, SupportsIndex, Union
 
 from . import _library as c
 from ._backend import Calls, Count
-from ._faults import MOST_NODES, MOST_WORKERS, Away, Closed, Full, Held, InUse, NoWorker, OutOfRange
+from ._faults import MOST_NODES, MOST_WORKERS, Attached, Closed, Full, Pinned, InUse, NoWorker, OutOfRange
 from ._faults import Unfinished, closed, fault, forked, shown, those, told
 from ._keys import Keys, words_of
 from ._leases import Owner, drop_with, send_home_with
@@ -46,8 +46,8 @@ _NAP = 0.001  # seconds
 _LOOKS = 1_000  # how often a worker that is in another thread's call is looked at again
 _FINISHES, _TRIES = 1_024, 64  # how a call by a borrowed worker finishes the discard it has begun
 
-Shape = Literal["radix", "near", "lowest"]
-MAKERS = {"radix": "nm_set_new", "near": "nm_set_near", "lowest": "nm_set_lowest"}
+Shape = Literal["radix", "unbalanced"]
+MAKERS = {"radix": "nm_set_new", "unbalanced": "nm_set_new_unbalanced"}
 
 
 def _narrow(number: SupportsIndex, what: str, least: int = 0, most: int = 2**32 - 1) -> int:
@@ -64,7 +64,7 @@ def _nap(turn: int) -> None:
 
 
 @dataclass(frozen=True)
-class Tending:
+class Options:
     """What a call that tends the set may spend. Each number is 0 to 2^32 - 1."""
 
     tries: int = 64
@@ -99,8 +99,8 @@ class Tending:
 class _Wait:
     """The wait of one add for free nodes."""
 
-    def __init__(self, tending: Tending) -> None:
-        self._until = time.monotonic() + tending.timeout_ms / 1_000
+    def __init__(self, options: Options) -> None:
+        self._until = time.monotonic() + options.timeout_ms / 1_000
         self._nap, self._at_once = _FIRST_NAP, _AT_ONCE
 
     def is_at_once(self, freed: int) -> bool:
@@ -119,7 +119,7 @@ class _Wait:
 
 
 @dataclass(frozen=True)
-class Ledger:
+class Stats:
     """What a worker has won, and what became of the nodes that it cut off."""
 
     links: int
@@ -131,7 +131,7 @@ class Ledger:
 
 
 @dataclass(frozen=True)
-class Posted:
+class Stamp:
     """What a worker had done when it left a note."""
 
     added: int
@@ -140,12 +140,12 @@ class Posted:
     """How many keys it had discarded, without a pending one."""
 
 
-def _rest(handle: c.Handle, habit: c.HabitWords) -> None:
+def _rest(handle: c.Handle, options: c.HabitWords) -> None:
     """Gets a worker ready to rest: it holds nothing back, and its discard is finished where the
     bound allows."""
     c.quick.nm_worker_unpin(handle)
-    for _ in range(habit.rounds + 1):
-        if c.quick.nm_worker_finish(handle, habit.tries) != c.UNFINISHED:
+    for _ in range(options.rounds + 1):
+        if c.quick.nm_worker_finish(handle, options.tries) != c.UNFINISHED:
             return
 
 
@@ -184,7 +184,7 @@ class Set(Keys):
 
     The calls tend the set. A call that lost its tries to other threads is made again, and a discard
     that has begun is finished. When `collect_after` removed nodes wait with the worker, the call
-    first moves the epoch on and collects. `Tending` bounds what a call may spend. If that is not
+    first moves the epoch on and collects. `Options` bounds what a call may spend. If that is not
     enough `Contention` is raised, or `Unfinished` for a discard that has begun. The library does
     all of this, which is proved. This module finds a worker for each call, collects removed nodes
     that wait with other workers too, and lets an add wait for them before `Full` is raised: this
@@ -202,17 +202,16 @@ class Set(Keys):
         nodes: Optional[SupportsIndex] = None,
         workers: SupportsIndex = 64,
         shape: Shape = "radix",
-        tending: Tending = Tending(),
+        options: Options = Options(),
     ) -> None:
         """The set of these keys, or the empty one, with room for 7 to 268,435,456 nodes, for 1 to
         64 workers. `Set(65_536)` has so many nodes, as `Set(nodes=65_536)` has: where none are
         named, four for each key that is given, and 65,536 at least. n keys take 2 n + 5 nodes, and
         the removed nodes that wait to be freed take theirs.
 
-        In a set of the shape "radix" no call goes over more than 66 nodes, whatever keys come in
-        whatever order. "near" and "lowest" are the tree that the order of keys shapes, in which
-        ascending keys cost a step for each key that stands; with "lowest" each new node is the one
-        with the lowest number, which takes long where there are many."""
+        In a set of the shape "radix" no call passes more than 66 nodes, whatever keys come in
+        whatever order. "unbalanced" is the tree of Natarajan and Mittal, in which ascending keys
+        make one long path: then each call takes a step for each key of the set."""
         if isinstance(iterable, Iterable):
             keys = words_of(iterable)
         elif nodes is None:
@@ -220,15 +219,15 @@ class Set(Keys):
         else:
             raise TypeError("the number of nodes is given twice")
         room = max(_NODES, 4 * len(keys)) if nodes is None else nodes
-        self._nodes, self._tending = _narrow(room, "nodes", 7, MOST_NODES), tending
+        self._nodes, self._options = _narrow(room, "nodes", 7, MOST_NODES), options
         seats = _narrow(workers, "workers", 1, MOST_WORKERS)
         if shape not in MAKERS:
-            raise ValueError(f'the shape is not "radix", "near" or "lowest": {shape!r}')
+            raise ValueError(f'the shape is not "radix" or "unbalanced": {shape!r}')
         self._process = os.getpid()
-        self._habit = tending._words(self._nodes, seats)
+        self._call_options = options._words(self._nodes, seats)
         self._places = (c.Place * seats)()
         self._count, self._lines = Count(), count()
-        self._calls = Calls(self._places, self._habit, self._count, next(self._lines))
+        self._calls = Calls(self._places, self._call_options, self._count, next(self._lines))
         self._handles = [place.handle for place in self._places]
         self._handle = c.Handle()
         self._owner = Owner()
@@ -276,7 +275,7 @@ class Set(Keys):
                 _nap(waits)
                 waits += 1
             except Full:
-                room = room or _Wait(self._tending)
+                room = room or _Wait(self._options)
                 self._make_room(room)
 
     def _by_any(self, name: str, arguments: tuple[object, ...]) -> Any:
@@ -292,7 +291,7 @@ class Set(Keys):
         for worker in self._out():
             try:
                 return worker._borrowed(name, arguments)
-            except Held:
+            except Pinned:
                 pinned += 1
             except (Closed, InUse):
                 pass
@@ -317,7 +316,7 @@ class Set(Keys):
             if outcome in (c.AWAY, c.IN_USE):
                 return False
             self._succeed(outcome)
-            _rest(handle, self._habit)
+            _rest(handle, self._call_options)
             self._note(handle)
             self._calls.reach = max(self._calls.reach, at + 1)
             return True
@@ -337,7 +336,7 @@ class Set(Keys):
             has = self._note(handle)
             if has is None or number not in (None, has):
                 continue
-            _rest(handle, self._habit)
+            _rest(handle, self._call_options)
             if c.exports.nm_drop(handle) == c.DONE:
                 return True
         return False
@@ -419,17 +418,17 @@ class Set(Keys):
             if c.quick.nm_worker_number(handle, has) == c.DONE:
                 away.add(has.value)
         for number in sorted(self._used - away):
-            if c.exports.nm_set_away(self._handle, number) != c.NO:
+            if c.exports.nm_set_attached(self._handle, number) != c.NO:
                 continue
             for at, handle in enumerate(self._handles):
                 if c.exports.nm_set_worker(self._handle, handle, number) == c.DONE:
-                    _rest(handle, self._habit)
+                    _rest(handle, self._call_options)
                     self._calls.reach = max(self._calls.reach, at + 1)
                     break
 
     def _is_away(self, number: int) -> bool:
         """Whether some handle has the worker of a number."""
-        return self._soon(c.exports.nm_set_away, number) == c.YES
+        return self._soon(c.exports.nm_set_attached, number) == c.YES
 
     def _soon(self, call: Callable[..., int], *arguments: object) -> int:
         """Makes a call by the handle of the set, again while others have it longer than the
@@ -508,7 +507,7 @@ class Set(Keys):
             return False
         self._succeed(outcome)
         try:
-            _rest(worker._handle, self._habit)
+            _rest(worker._handle, self._call_options)
             taken = self._note(worker._handle)
             if taken is not None:
                 worker._number = taken
@@ -529,7 +528,7 @@ class Set(Keys):
 
     def worker(self, number: SupportsIndex) -> Worker:
         """Takes the worker of a number, for this thread. It waits for a call of the set that
-        another thread makes by it at this moment, for a second at most. `Away`: it is with a
+        another thread makes by it at this moment, for a second at most. `Attached`: it is with a
         thread, or in that call still."""
         index = self._worker_number(number)
         worker = Worker(self)
@@ -539,7 +538,7 @@ class Set(Keys):
             if any(other._number == index for other in self._out()):
                 break
             _nap(turn)
-        raise Away(f"{those([index])} with a thread")
+        raise Attached(f"{those([index])} with a thread")
 
     def _worker_number(self, number: SupportsIndex) -> int:
         """The number of a worker."""
@@ -552,7 +551,7 @@ class Set(Keys):
     # ---- the end ----
 
     def close(self) -> Report:
-        """Ends the set, and returns the keys that it had. If a `Worker` is out it raises `Away` and
+        """Ends the set, and returns the keys that it had. If a `Worker` is out it raises `Attached` and
         the set goes on. A closed set returns the same report again. It waits for calls that other
         threads make at this moment, as long as they take; each later call, and each that waits,
         raises `Closed`. The next close, or the end of the object, goes on with a close that was
@@ -586,7 +585,7 @@ class Set(Keys):
         c.exports.nm_drop(self._handle)
 
     def _look_for_missed(self) -> None:
-        """Raises `Away`, and the set goes on, where a close has missed workers that were attached
+        """Raises `Attached`, and the set goes on, where a close has missed workers that were attached
         as it began. One that a call of the set has taken meanwhile goes home before the next
         look."""
         missed = [number for number in range(self.workers) if self._is_away(number)]
@@ -596,14 +595,14 @@ class Set(Keys):
 
     def _fail_away(self, numbers: list[int]) -> None:
         if numbers:
-            raise Away(f"{those(numbers)} with a thread: close what attach gave before the set")
+            raise Attached(f"{those(numbers)} with a thread: close what attach gave before the set")
 
     def _give_back(self) -> None:
         """Lets each worker of the set's own handles go home, behind the calls that others make."""
         for handle in self._handles:
             turn, outcome = 0, c.IN_USE
             while outcome == c.IN_USE:
-                _rest(handle, self._habit)
+                _rest(handle, self._call_options)
                 outcome = c.exports.nm_drop(handle)
                 if outcome == c.IN_USE:
                     _nap(turn)
@@ -611,9 +610,9 @@ class Set(Keys):
 
     @property
     def report(self) -> Report:
-        """What the set was closed with. It raises `Away` while the set is open."""
+        """What the set was closed with. It raises `Attached` while the set is open."""
         if self._report is None:
-            raise Away("the set is open: its close tells what stands in it")
+            raise Attached("the set is open: its close tells what stands in it")
         return self._report
 
     def __repr__(self) -> str:
@@ -638,7 +637,7 @@ class Set(Keys):
         if error is None:
             self.close()
             return
-        with suppress(Away, InUse):
+        with suppress(Attached, InUse):
             for worker in self._out():
                 if worker._thread == threading.get_ident():
                     worker.close()
@@ -654,7 +653,7 @@ class Worker(Keys):
     or raises `Closed`.
 
     If all workers of the set are attached, calls of the set borrow one that is in no call and not
-    pinned. So `ledger`, `queue_len` and `post` include calls that other threads made by this
+    pinned. So `stats`, `queue_len` and `publish` include calls that other threads made by this
     worker. Such a call finishes the discard that is pending before it gives the worker back. A call
     by the worker waits for it, in the same way.
     """
@@ -667,8 +666,8 @@ class Worker(Keys):
         self._number = -1
         self._thread = threading.get_ident()
         self._owner = Owner()
-        send_home_with(self._owner, self._handle, owner._habit.tries)
-        self._calls = Calls(self._places, owner._habit, owner._count, next(owner._lines) % 64)
+        send_home_with(self._owner, self._handle, owner._call_options.tries)
+        self._calls = Calls(self._places, owner._call_options, owner._count, next(owner._lines) % 64)
         self._calls.reach = 1
 
     def _again(self, name: str, *arguments: object) -> Any:
@@ -686,7 +685,7 @@ class Worker(Keys):
                 _nap(waits)
                 waits += 1
             except Full:
-                room = room or _Wait(self._set._tending)
+                room = room or _Wait(self._set._options)
                 self._set._make_room(room)
 
     def _told(self, call: Callable[..., int], *arguments: object) -> bool:
@@ -761,33 +760,33 @@ class Worker(Keys):
 
     def queue_len(self) -> int:
         """Returns how many nodes wait in its queue, including those that borrowed calls removed."""
-        return self.ledger().queued
+        return self.stats().queued
 
-    def ledger(self) -> Ledger:
+    def stats(self) -> Stats:
         """Returns what calls by it have won, including borrowed ones, and what became of the nodes
         that they cut off."""
         words = c.LedgerWords()
-        self._told(c.quick.nm_worker_ledger, words)
-        return Ledger(*(getattr(words, name) for name, _ in words._fields_))
+        self._told(c.quick.nm_worker_stats, words)
+        return Stats(*(getattr(words, name) for name, _ in words._fields_))
 
-    def post(self) -> Posted:
+    def publish(self) -> Stamp:
         """Leaves a note of all that the worker has seen, in place of its earlier one, and tells
         what it has done so far. No answer of the set depends on notes: they are for who proves
         something of the order of two workers' calls. It raises `Contention` where a reader has the
         earlier note at this moment."""
         added, discarded = c_uint64(), c_uint64()
-        self._told(c.quick.nm_worker_post, added, discarded)
-        return Posted(added.value, discarded.value)
+        self._told(c.quick.nm_worker_publish, added, discarded)
+        return Stamp(added.value, discarded.value)
 
-    def read(self, number: SupportsIndex) -> Optional[Posted]:
+    def observe(self, number: SupportsIndex) -> Optional[Stamp]:
         """Hears the note that the worker of a number has left, and tells what that one had done
         then, or None where it has left none: all that this worker is asked from now on comes behind
         all that that one had seen. It raises `Contention` where another worker is at that note at
         this moment."""
         writer = self._set._worker_number(number)
         added, discarded = c_uint64(), c_uint64()
-        is_left = self._told(c.quick.nm_worker_read, writer, added, discarded)
-        return Posted(added.value, discarded.value) if is_left else None
+        is_left = self._told(c.quick.nm_worker_observe, writer, added, discarded)
+        return Stamp(added.value, discarded.value) if is_left else None
 
     def close(self) -> None:
         """The worker goes back to its set; its discard is finished where the bound allows, and its
@@ -796,7 +795,7 @@ class Worker(Keys):
         if os.getpid() != self._set._process:
             return
         for turn in range(_LOOKS):
-            _rest(self._handle, self._set._habit)
+            _rest(self._handle, self._set._call_options)
             if c.exports.nm_drop(self._handle) != c.IN_USE:
                 return
             _nap(turn)

@@ -13,7 +13,7 @@ from fractions import Fraction
 from unittest import mock
 
 import nm_set
-from nm_set import MOST_KEY, Set, Tending
+from nm_set import MOST_KEY, Set, Options
 
 
 HUGE = 10**5_000  # Python refuses to write all of its digits
@@ -40,8 +40,8 @@ class Sizes(unittest.TestCase):
 
     def test_a_number_with_thousands_of_digits_is_out_of_range(self) -> None:
         with Set(64, workers=2) as numbers, numbers.attach() as worker:
-            calls = (numbers.add, numbers.at_least, numbers.worker, worker.read, worker.pin)
-            for call in (*calls, Tending, Set, lambda key: numbers.add_many([1, key])):
+            calls = (numbers.add, numbers.at_least, numbers.worker, worker.observe, worker.pin)
+            for call in (*calls, Options, Set, lambda key: numbers.add_many([1, key])):
                 for number in (HUGE, -HUGE):
                     with self.assertRaisesRegex(nm_set.OutOfRange, "a number of 16,610 bits"):
                         call(number)
@@ -61,7 +61,7 @@ class Sizes(unittest.TestCase):
 
 class Keys(unittest.TestCase):
     def test_keys_come_and_go(self) -> None:
-        for shape in ("radix", "near", "lowest"):
+        for shape in ("radix", "unbalanced"):
             with Set(64, shape=shape) as numbers:
                 self.assertNotIn(5, numbers)
                 self.assertEqual((numbers.add(5), numbers.add(5)), (True, False))
@@ -129,15 +129,15 @@ class Numbers(unittest.TestCase):
             for number in (-1, 2**32, 2**64 + 5):
                 for name in ("tries", "rounds", "collect_after", "timeout_ms"):
                     with self.assertRaisesRegex(nm_set.OutOfRange, f"{name} is not .*: {number}"):
-                        Tending(**{name: number})
-                for call in (worker.pin, worker.read, numbers.worker):
+                        Options(**{name: number})
+                for call in (worker.pin, worker.observe, numbers.worker):
                     with self.assertRaises(nm_set.OutOfRange):
                         call(number)
             for other in (1.5, "5", None):
-                for call in (Tending, worker.pin, worker.read, numbers.worker):
+                for call in (Options, worker.pin, worker.observe, numbers.worker):
                     with self.assertRaises(TypeError):
                         call(other)
-        self.assertEqual(Tending(2**32 - 1, True).rounds, 1)
+        self.assertEqual(Options(2**32 - 1, True).rounds, 1)
 
     def test_nothing_is_copied(self) -> None:
         with Set(64) as numbers, numbers.attach() as worker:
@@ -160,7 +160,7 @@ class SeveralKeys(unittest.TestCase):
             with numbers.attach() as worker:
                 self.assertEqual(worker.contains_many(range(4, 7)), [False, True, False])
                 worker.pin()
-                with self.assertRaises(nm_set.Held):
+                with self.assertRaises(nm_set.Pinned):
                     worker.contains_many([5])
 
 
@@ -189,16 +189,16 @@ class Notes(unittest.TestCase):
     def test_a_worker_reads_the_note_of_another_one(self) -> None:
         with Set(64, workers=2) as numbers:
             with numbers.worker(0) as writer, numbers.worker(1) as reader:
-                self.assertIsNone(reader.read(0))
+                self.assertIsNone(reader.observe(0))
                 for number in (2, 2**32, -1):
                     with self.assertRaises(nm_set.OutOfRange):
-                        reader.read(number)
+                        reader.observe(number)
                 writer.add(5)
-                self.assertEqual(writer.post(), nm_set.Posted(added=1, discarded=0))
-                self.assertEqual(reader.read(0), nm_set.Posted(added=1, discarded=0))
+                self.assertEqual(writer.publish(), nm_set.Stamp(added=1, discarded=0))
+                self.assertEqual(reader.observe(0), nm_set.Stamp(added=1, discarded=0))
                 writer.discard(5)
-                self.assertEqual(reader.read(0), nm_set.Posted(added=1, discarded=0))
-                self.assertEqual((writer.post(), reader.read(0)), (nm_set.Posted(1, 1),) * 2)
+                self.assertEqual(reader.observe(0), nm_set.Stamp(added=1, discarded=0))
+                self.assertEqual((writer.publish(), reader.observe(0)), (nm_set.Stamp(1, 1),) * 2)
 
 
 class Workers(unittest.TestCase):
@@ -208,15 +208,15 @@ class Workers(unittest.TestCase):
                 self.assertEqual(worker.number, 1)
                 self.assertTrue(worker.add(5) and 5 in worker)
                 self.assertTrue(worker.discard(5) and 5 not in worker)
-                self.assertEqual((worker.queue_len(), worker.ledger().retired), (2, 2))
+                self.assertEqual((worker.queue_len(), worker.stats().retired), (2, 2))
                 self.assertIsNone(worker.pending())
                 self.assertEqual((worker.collect(), worker.queue_len()), (2, 0))
-                self.assertEqual(worker.ledger(), nm_set.Ledger(1, 1, 1, 2, 2, 0))
+                self.assertEqual(worker.stats(), nm_set.Stats(1, 1, 1, 2, 2, 0))
                 self.assertEqual(worker.pin(), 3)
-                with self.assertRaises(nm_set.Held):
+                with self.assertRaises(nm_set.Pinned):
                     worker.add(6)
                 worker.unpin()
-                with self.assertRaises(nm_set.Held):
+                with self.assertRaises(nm_set.Pinned):
                     worker.unpin()
             with self.assertRaises(nm_set.Closed):
                 worker.add(6)
@@ -226,7 +226,7 @@ class Workers(unittest.TestCase):
         first, second = numbers.attach(), numbers.attach()
         self.assertEqual((first.number, second.number), (0, 1))
         for number in (0, 1):
-            with self.assertRaises(nm_set.Away):
+            with self.assertRaises(nm_set.Attached):
                 numbers.worker(number)
         for number in (-1, 2, 2**40):
             with self.assertRaises(nm_set.OutOfRange):
@@ -274,9 +274,9 @@ class Ends(unittest.TestCase):
         numbers = Set(64)
         worker = numbers.attach()
         worker.add(5)
-        with self.assertRaises(nm_set.Away):
+        with self.assertRaises(nm_set.Attached):
             numbers.close()
-        with self.assertRaises(nm_set.Away):
+        with self.assertRaises(nm_set.Attached):
             numbers.report
         self.assertTrue(5 in worker and 5 in numbers)
         worker.close()
@@ -301,7 +301,7 @@ class Ends(unittest.TestCase):
         waiting = numbers.close().waiting
         self.assertEqual([len(nodes) for nodes in waiting], [0, 2, 0])
         for node in waiting[1]:
-            self.assertTrue(node.slot > 5 and node.birth == 1 and node.label == 0)
+            self.assertTrue(node.slot > 5 and node.generation == 1 and node.label == 0)
 
 
     def test_the_text_of_a_report_is_bounded(self) -> None:
@@ -316,14 +316,14 @@ class Ends(unittest.TestCase):
 
 class Tended(unittest.TestCase):
     def test_a_discard_that_has_begun_is_finished(self) -> None:
-        with Set(64, tending=Tending(tries=1)) as numbers:
+        with Set(64, options=Options(tries=1)) as numbers:
             with numbers.attach() as worker:
                 for key in range(10):
                     self.assertTrue(worker.add(key) and worker.discard(key) and key not in worker)
                     self.assertIsNone(worker.pending())
 
     def test_contention_is_told_at_the_bound(self) -> None:
-        with Set(64, tending=Tending(tries=0)) as numbers:
+        with Set(64, options=Options(tries=0)) as numbers:
             for call in (numbers.add, numbers.discard, numbers.__contains__):
                 with self.assertRaises(nm_set.Contention):
                     call(5)
@@ -345,7 +345,7 @@ class Tended(unittest.TestCase):
 
     def test_a_worker_that_holds_the_epoch_back_lets_full_be_told(self) -> None:
         for timeout_ms, least in ((0, 0), (32, 0.03)):
-            with Set(7, workers=2, tending=Tending(timeout_ms=timeout_ms)) as numbers:
+            with Set(7, workers=2, options=Options(timeout_ms=timeout_ms)) as numbers:
                 with numbers.worker(1) as reader:
                     reader.pin()
                     self.assertTrue(numbers.add(5) and numbers.discard(5))
@@ -370,14 +370,14 @@ class Tended(unittest.TestCase):
             (65_536, 64, None, 64),
             (65_536, 1, 0, 0),
         ):
-            tending = Tending(collect_after=after)
-            with Set(nodes, workers=workers, tending=tending) as numbers:
-                self.assertEqual(numbers._habit.collect_after, usual)
+            options = Options(collect_after=after)
+            with Set(nodes, workers=workers, options=options) as numbers:
+                self.assertEqual(numbers._call_options.collect_after, usual)
 
     def test_a_full_set_is_told_in_time_beside_a_thread_that_has_stopped(self) -> None:
         """A thread that stopped in the middle of a call has the handle of its worker in use."""
         for timeout_ms in (0, 50):
-            with Set(9, workers=3, tending=Tending(timeout_ms=timeout_ms)) as numbers:
+            with Set(9, workers=3, options=Options(timeout_ms=timeout_ms)) as numbers:
                 with numbers.attach() as stopped, numbers.attach() as other:
                     self.assertEqual((stopped.add_many([4, 5]), stopped.discard(4)), (2, True))
                     self.assertEqual((numbers.waiting(), numbers.free()), (2, 0))
@@ -407,7 +407,7 @@ class Tended(unittest.TestCase):
             with numbers.attach() as first, numbers.attach() as second:
                 first.pin()
                 self.assertEqual((numbers.add(5), numbers.add_many([6, 7, 8])), (True, 3))
-                self.assertEqual((second.ledger().links, second.post().added), (4, 4))
+                self.assertEqual((second.stats().links, second.publish().added), (4, 4))
                 self.assertEqual((numbers.discard(5), numbers.pop_first()), (True, 6))
                 self.assertEqual((second.pending(), second.queue_len()), (None, 4))
                 self.assertEqual((numbers.contains_many([5, 7]), len(numbers)), ([False, True], 2))
@@ -415,15 +415,15 @@ class Tended(unittest.TestCase):
                 self.assertEqual(unfinished(second, 7), 7)
                 self.assertEqual((7 in numbers, second.pending()), (False, None))
                 first.unpin()
-                self.assertEqual((first.ledger().links, list(numbers)), (0, [8]))
+                self.assertEqual((first.stats().links, list(numbers)), (0, [8]))
 
     def test_retired_nodes_are_collected_as_they_come_due(self) -> None:
-        with Set(4_096, tending=Tending(collect_after=8)) as numbers:
+        with Set(4_096, options=Options(collect_after=8)) as numbers:
             with numbers.attach() as worker:
                 for key in range(500):
                     self.assertTrue(worker.add(key) and worker.discard(key))
                     self.assertLessEqual(worker.queue_len(), 32)
-                self.assertGreaterEqual(worker.ledger().freed, 900)
+                self.assertGreaterEqual(worker.stats().freed, 900)
 
 
 class Types(unittest.TestCase):

@@ -221,7 +221,7 @@ class Several(unittest.TestCase):
             self.assertEqual(numbers.add_many(keys, out), 28)
             added = {key for key, is_new in zip(keys, out) if is_new}
             self.assertEqual(added, {*range(30)} - {5, 7})
-        with Set(11, tending=nm_set.Tending(timeout_ms=0)) as numbers:
+        with Set(11, options=nm_set.Options(timeout_ms=0)) as numbers:
             out = bytearray(b"\7" * 6)
             with self.assertRaises(nm_set.Full):
                 numbers.add_many([1, 1, 2, 3, 4, 5], out=out)

@@ -85,7 +85,7 @@ class Handlers(unittest.TestCase):
         with numbers.attach() as worker:
 
             def calls(begin: Play) -> None:
-                with self.assertRaisesRegex(nm_set.Away, "worker 0 is with a thread"):
+                with self.assertRaisesRegex(nm_set.Attached, "worker 0 is with a thread"):
                     begin()
                     while True:
                         worker.add(5)
@@ -152,7 +152,7 @@ class Forks(unittest.TestCase):
         calls += [numbers.attach, lambda: numbers.worker(1), numbers.close, numbers.collect]
         calls += [lambda: len(numbers), lambda: numbers.add_many([1]), lambda: list(numbers)]
         calls += [lambda: worker.add(6), lambda: worker.contains_many([1]), worker.pin]
-        calls += [worker.ledger, worker.collect, lambda: repr(numbers)]
+        calls += [worker.stats, worker.collect, lambda: repr(numbers)]
 
         def program() -> int:
             told = 0

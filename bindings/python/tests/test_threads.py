@@ -10,7 +10,7 @@ from typing import Callable, Union
 from unittest import mock
 
 import nm_set
-from nm_set import Set, Tending, Worker
+from nm_set import Set, Options, Worker
 
 THREADS, KEYS, CALLS = 4, 64, 2_000
 ROUNDS = int(os.environ.get("NM_SET_ROUNDS", "25"))  # of a close beside others
@@ -99,9 +99,9 @@ class Threads(unittest.TestCase):
         self.play(1_024, Set(1_024), False)
 
     def test_threads_add_up_where_room_is_scarce_and_tries_are_few(self) -> None:
-        tending = Tending(tries=1, rounds=4, collect_after=16)
-        self.play(256, Set(256, workers=5, tending=tending), True)
-        self.play(256, Set(256, workers=5, tending=tending), False)
+        options = Options(tries=1, rounds=4, collect_after=16)
+        self.play(256, Set(256, workers=5, options=options), True)
+        self.play(256, Set(256, workers=5, options=options), False)
 
     def test_threads_attach_themselves_at_once(self) -> None:
         with Set(1_024) as numbers:
@@ -172,7 +172,7 @@ class Threads(unittest.TestCase):
         self.assertTrue(numbers.add(5))
 
     def test_threads_that_have_all_workers_call_the_set(self) -> None:
-        with Set(4_096, workers=THREADS, tending=Tending(tries=2, rounds=1)) as numbers:
+        with Set(4_096, workers=THREADS, options=Options(tries=2, rounds=1)) as numbers:
             balances, all_have = [[], [], [], []], threading.Barrier(THREADS)
             some = range(1_000, 2_000)
 
@@ -248,7 +248,7 @@ class Threads(unittest.TestCase):
 
     def test_an_add_waits_for_a_pin_that_ends(self) -> None:
         for timeout_ms, is_full in ((10_000, False), (0, True)):
-            with Set(7, workers=2, tending=Tending(timeout_ms=timeout_ms)) as numbers:
+            with Set(7, workers=2, options=Options(timeout_ms=timeout_ms)) as numbers:
                 reader = numbers.attach()
                 reader.pin()
                 self.assertTrue(numbers.add(5) and numbers.discard(5))
@@ -264,8 +264,8 @@ class Threads(unittest.TestCase):
     def test_each_key_is_popped_by_one_call_where_tries_are_few(self) -> None:
         """With one try and no further round many discards are left unfinished. Another thread asks
         the workers how full the set is, and collects, meanwhile."""
-        count, tending = 3_000, Tending(tries=1, rounds=0)
-        numbers, popped = Set(65_536, workers=6, tending=tending), [[], [], []]
+        count, options = 3_000, Options(tries=1, rounds=0)
+        numbers, popped = Set(65_536, workers=6, options=options), [[], [], []]
         adding = {0, 1, 2}
 
         def thread(number: int) -> None:
@@ -300,7 +300,7 @@ class Threads(unittest.TestCase):
         self.assertEqual(len(numbers.close()), 0)
 
     def test_scarce_nodes_are_waited_for(self) -> None:
-        with Set(600, workers=16, tending=Tending(timeout_ms=10_000)) as numbers:
+        with Set(600, workers=16, options=Options(timeout_ms=10_000)) as numbers:
             faults = []
 
             def thread(number: int) -> None:
@@ -322,7 +322,7 @@ def close(numbers: Set) -> None:
         try:
             numbers.close()
             return
-        except nm_set.Away:
+        except nm_set.Attached:
             time.sleep(0)
 
 

@@ -45,7 +45,7 @@ pub enum Fault {
     Pending,
     /// The worker is pinned, since the guard of its pin was forgotten
     /// ([`forget`](std::mem::forget)). Dropped, the worker goes back without its pin.
-    Held,
+    Pinned,
     /// Threads have each of the workers, and the call was not to wait for one, or not longer. Or
     /// this thread itself has them all, so that an `attach` would never end; nor would a call of
     /// the set if this thread has pinned each.
@@ -57,7 +57,7 @@ pub enum Fault {
     },
     /// These workers are attached to threads: the one that was asked for, or those without which
     /// the set cannot be closed.
-    Away(Numbers),
+    Attached(Numbers),
     /// The set is closed.
     Closed,
     /// An outcome of the library that this crate does not know, by its number in `nm_set.h`.
@@ -91,7 +91,7 @@ impl Fault {
             -10 => Fault::NoNodes,
             -11 => Fault::Unfinished,
             -12 => Fault::Pending,
-            -13 => Fault::Held,
+            -13 => Fault::Pinned,
             other => Fault::Other(other),
         }
     }
@@ -174,7 +174,7 @@ impl fmt::Display for Fault {
                     "no worker is free: the set has {workers} (64 at most), and {who}"
                 );
             }
-            Fault::Away(numbers) => return write!(f, "{} attached to a thread", numbers.are()),
+            Fault::Attached(numbers) => return write!(f, "{} attached to a thread", numbers.are()),
             Fault::Other(number) => return write!(f, "the library told outcome {number}"),
             Fault::NoMemory => "memory was refused",
             Fault::NoNodes => "no nodes are free for the new key",
@@ -182,7 +182,7 @@ impl fmt::Display for Fault {
             Fault::Contention => "other threads were in the way for longer than the call's bound",
             Fault::Unfinished => "the remove has begun and is not finished: the key will go",
             Fault::Pending => "an earlier remove has begun and is not finished: finish it first",
-            Fault::Held => "the worker is pinned, and the guard of its pin was forgotten",
+            Fault::Pinned => "the worker is pinned, and the guard of its pin was forgotten",
             Fault::Closed => "the set is closed",
         })
     }
@@ -196,8 +196,8 @@ mod tests {
 
     #[test]
     fn an_outcome_that_is_not_known_keeps_its_number() {
-        assert_eq!(Fault::of(-23), Fault::Other(-23));
-        assert_eq!(Fault::of(-23).to_string(), "the library told outcome -23");
+        assert_eq!(Fault::of(-99), Fault::Other(-99));
+        assert_eq!(Fault::of(-99).to_string(), "the library told outcome -99");
     }
 
     #[test]

@@ -35,10 +35,10 @@ struct Word {
     in_use: AtomicU64,
 }
 
-/// What a worker has won, and what became of the nodes that it cut off: `nm_ledger`.
+/// What a worker has won, and what became of the nodes that it cut off: `nm_stats`.
 #[repr(C)]
 #[derive(Clone, Copy, Debug, Default, PartialEq, Eq)]
-pub struct Ledger {
+pub struct Stats {
     /// The links that it has won: one for each key that it inserted.
     pub links: u64,
     /// The flags that it has won: one for each key that it deleted, a pending one too.
@@ -53,10 +53,10 @@ pub struct Ledger {
     pub queued: u64,
 }
 
-/// What a call that tends the set may spend, and when it collects: `nm_habit`.
+/// What a call that tends the set may spend, and when it collects: `nm_options`.
 #[repr(C)]
 #[derive(Clone, Copy)]
-pub(crate) struct Habit {
+pub(crate) struct CallOptions {
     /// The tries of each call of the tree.
     pub tries: u32,
     /// How often a call that has lost each of its tries is made again, and how often a delete that
@@ -82,15 +82,14 @@ pub struct Waiting {
     /// The slot where it stands.
     pub slot: u64,
     /// How often the slot had been put to use when the node was made.
-    pub birth: u64,
+    pub generation: u64,
     /// The epoch that its remover read after the cut.
     pub label: u64,
 }
 
 extern "C" {
     fn nm_set_new(set: *mut Word, nodes: u32, workers: u32) -> c_int;
-    fn nm_set_lowest(set: *mut Word, nodes: u32, workers: u32) -> c_int;
-    fn nm_set_near(set: *mut Word, nodes: u32, workers: u32) -> c_int;
+    fn nm_set_new_unbalanced(set: *mut Word, nodes: u32, workers: u32) -> c_int;
     fn nm_set_worker(set: *mut Word, worker: *mut Word, number: u32) -> c_int;
     fn nm_set_close(set: *mut Word) -> c_int;
     fn nm_drop(handle: *mut Word) -> c_int;
@@ -106,20 +105,25 @@ extern "C" {
     fn nm_worker_try_insert(worker: *mut Word, key: u64, tries: u32) -> c_int;
     fn nm_worker_try_remove(worker: *mut Word, key: u64, tries: u32) -> c_int;
     fn nm_worker_finish(worker: *mut Word, tries: u32) -> c_int;
-    fn nm_worker_contains(worker: *mut Word, key: u64, habit: *const Habit) -> c_int;
-    fn nm_worker_insert(worker: *mut Word, key: u64, habit: *const Habit) -> c_int;
-    fn nm_worker_remove(worker: *mut Word, key: u64, habit: *const Habit) -> c_int;
-    fn nm_worker_pop_first(worker: *mut Word, habit: *const Habit, taken: *mut u64) -> c_int;
-    fn nm_worker_pop_last(worker: *mut Word, habit: *const Habit, taken: *mut u64) -> c_int;
+    fn nm_worker_contains(worker: *mut Word, key: u64, options: *const CallOptions) -> c_int;
+    fn nm_worker_insert(worker: *mut Word, key: u64, options: *const CallOptions) -> c_int;
+    fn nm_worker_remove(worker: *mut Word, key: u64, options: *const CallOptions) -> c_int;
+    fn nm_worker_pop_first(
+        worker: *mut Word,
+        options: *const CallOptions,
+        taken: *mut u64,
+    ) -> c_int;
+    fn nm_worker_pop_last(worker: *mut Word, options: *const CallOptions, taken: *mut u64)
+        -> c_int;
     fn nm_worker_pin(worker: *mut Word, tries: u32, epoch: *mut u64) -> c_int;
     fn nm_worker_unpin(worker: *mut Word) -> c_int;
     fn nm_worker_advance(worker: *mut Word, epoch: *mut u64, behind: *mut u32) -> c_int;
     fn nm_worker_behind(worker: *mut Word, epoch: *mut u64, mask: *mut u64) -> c_int;
     fn nm_worker_collect(worker: *mut Word, epoch: *mut u64, freed: *mut u64) -> c_int;
     fn nm_worker_pending(worker: *mut Word, key: *mut u64) -> c_int;
-    fn nm_worker_ledger(worker: *mut Word, ledger: *mut Ledger) -> c_int;
-    fn nm_worker_post(worker: *mut Word, inserted: *mut u64, removed: *mut u64) -> c_int;
-    fn nm_worker_read(
+    fn nm_worker_stats(worker: *mut Word, stats: *mut Stats) -> c_int;
+    fn nm_worker_publish(worker: *mut Word, inserted: *mut u64, removed: *mut u64) -> c_int;
+    fn nm_worker_observe(
         worker: *mut Word,
         number: u32,
         inserted: *mut u64,
@@ -176,8 +180,7 @@ impl Handle {
         close = nm_drop();
 
         open = nm_set_new(nodes: u32, workers: u32);
-        open_lowest = nm_set_lowest(nodes: u32, workers: u32);
-        open_near = nm_set_near(nodes: u32, workers: u32);
+        open_unbalanced = nm_set_new_unbalanced(nodes: u32, workers: u32);
         end = nm_set_close();
 
         try_contains = nm_worker_try_contains(key: u64, tries: u32);
@@ -191,9 +194,9 @@ impl Handle {
         behind = nm_worker_behind(epoch: &mut u64, mask: &mut u64);
         collect = nm_worker_collect(epoch: &mut u64, freed: &mut u64);
         pending = nm_worker_pending(key: &mut u64);
-        ledger = nm_worker_ledger(ledger: &mut Ledger);
-        post = nm_worker_post(inserted: &mut u64, removed: &mut u64);
-        read = nm_worker_read(number: u32, inserted: &mut u64, removed: &mut u64);
+        stats = nm_worker_stats(stats: &mut Stats);
+        publish = nm_worker_publish(inserted: &mut u64, removed: &mut u64);
+        observe = nm_worker_observe(number: u32, inserted: &mut u64, removed: &mut u64);
 
         slots = nm_report_slots(free: &mut u32, reached: &mut u32);
         keys = nm_report_keys(count: &mut u64);
@@ -202,11 +205,11 @@ impl Handle {
     }
 
     calls! { at_once:
-        contains = nm_worker_contains(key: u64, habit: &Habit);
-        insert = nm_worker_insert(key: u64, habit: &Habit);
-        remove = nm_worker_remove(key: u64, habit: &Habit);
-        pop_first = nm_worker_pop_first(habit: &Habit, taken: &mut u64);
-        pop_last = nm_worker_pop_last(habit: &Habit, taken: &mut u64);
+        contains = nm_worker_contains(key: u64, options: &CallOptions);
+        insert = nm_worker_insert(key: u64, options: &CallOptions);
+        remove = nm_worker_remove(key: u64, options: &CallOptions);
+        pop_first = nm_worker_pop_first(options: &CallOptions, taken: &mut u64);
+        pop_last = nm_worker_pop_last(options: &CallOptions, taken: &mut u64);
         next = nm_worker_next(key: u64, tries: u32, found: &mut u64);
         prev = nm_worker_prev(key: u64, tries: u32, found: &mut u64);
         pin = nm_worker_pin(tries: u32, epoch: &mut u64);
@@ -214,7 +217,7 @@ impl Handle {
         advance_at_once = nm_worker_advance(epoch: &mut u64, behind: &mut u32);
         behind_at_once = nm_worker_behind(epoch: &mut u64, mask: &mut u64);
         collect_at_once = nm_worker_collect(epoch: &mut u64, freed: &mut u64);
-        ledger_at_once = nm_worker_ledger(ledger: &mut Ledger);
+        stats_at_once = nm_worker_stats(stats: &mut Stats);
     }
 
     /// Looks several keys up, at once.

@@ -1,5 +1,6 @@
 #![doc = include_str!("../README.md")]
 
+mod calls;
 mod convert;
 mod fault;
 #[allow(unsafe_code)]
@@ -12,19 +13,18 @@ mod pool;
 mod report;
 mod room;
 mod set;
-mod tending;
 mod wait;
 mod worker;
 
+pub use calls::Advance;
 pub use fault::{Fault, Full};
-pub use ffi::{Ledger, Waiting};
+pub use ffi::{Stats, Waiting};
 pub use numbers::Numbers;
 pub use options::{Options, Shape};
 pub use order::Range;
 pub use report::Report;
 pub use set::Set;
-pub use tending::Advance;
-pub use worker::{Behind, PinGuard, Posted, Worker};
+pub use worker::{Behind, PinGuard, Stamp, Worker};
 
 /// The greatest key, 2^64 - 4.
 pub const MOST_KEY: u64 = u64::MAX - 3;

@@ -1,20 +1,16 @@
 //! How a set is made.
 
-use crate::ffi::Habit;
+use crate::ffi::CallOptions;
 
-/// The shape of the tree, and which free node a new key takes.
+/// The shape of the tree.
 #[derive(Clone, Copy, Debug, Default, PartialEq, Eq)]
 pub enum Shape {
-    /// A radix tree, in which no call goes over more than 66 nodes, whatever keys come in whatever
-    /// order; a new node is one near that which the worker found last or gave back since then.
+    /// A radix tree: no call passes more than 66 nodes, whatever keys come in whatever order.
     #[default]
     Radix,
-    /// The tree of Natarajan and Mittal, in which keys that come in order make one long path, so
-    /// that each call costs a step for each key that stands; a node near by.
-    Near,
-    /// The same tree, and the free node with the lowest number, which takes long where there are
-    /// many: for who compares the two.
-    Lowest,
+    /// The tree of Natarajan and Mittal, in which keys that come in order make one long path: then
+    /// each call takes a step for each key of the set.
+    Unbalanced,
 }
 
 /// How a set is made, and what its tended calls may spend.
@@ -58,9 +54,9 @@ pub struct Options {
 
 impl Options {
     /// What a tended call may spend in a set of this many nodes. There is a worker at least.
-    pub(crate) fn habit(&self, nodes: u32) -> Habit {
+    pub(crate) fn for_calls(&self, nodes: u32) -> CallOptions {
         let share = nodes / (8 * self.workers);
-        Habit {
+        CallOptions {
             tries: self.tries,
             rounds: self.rounds,
             collect_after: self.collect_after.unwrap_or(share.clamp(8, 64)),
@@ -93,7 +89,7 @@ mod tests {
                 collect_after,
                 ..Options::default()
             };
-            options.habit(nodes).collect_after
+            options.for_calls(nodes).collect_after
         };
         assert_eq!((after(7, 1, None), after(1_024, 64, None)), (8, 8));
         assert_eq!((after(1_024, 4, None), after(16_384, 64, None)), (32, 32));

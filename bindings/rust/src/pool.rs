@@ -8,12 +8,12 @@
 //! time. In the same way any thread may ask a worker how many nodes wait in its queue. If a call
 //! finds no worker, it sleeps and looks again.
 
+use crate::calls::Seat;
 use crate::fault::Fault;
-use crate::ffi::{Habit, Handle};
+use crate::ffi::{CallOptions, Handle};
 use crate::numbers::Numbers;
 use crate::options::{Options, Shape};
 use crate::report::Report;
-use crate::tending::Seat;
 use crate::wait::{settled, Wait, IN_USE};
 use std::cell::Cell;
 use std::sync::atomic::{AtomicI64, AtomicU64, AtomicU8, Ordering};
@@ -67,7 +67,7 @@ const ALONE: Duration = Duration::from_millis(250);
 pub(crate) struct Pool {
     /// Tells the sets of a process apart.
     identity: u64,
-    pub habit: Habit,
+    pub options: CallOptions,
     pub timeout_ms: u32,
     pub nodes: u32,
     phase: AtomicU8,
@@ -149,8 +149,7 @@ impl Pool {
         let (set, workers) = (Handle::closed(), options.workers);
         let told = match options.shape {
             Shape::Radix => set.open(nodes, workers),
-            Shape::Near => set.open_near(nodes, workers),
-            Shape::Lowest => set.open_lowest(nodes, workers),
+            Shape::Unbalanced => set.open_unbalanced(nodes, workers),
         };
         match told {
             -6 => return Err(Fault::Nodes(nodes)),
@@ -160,7 +159,7 @@ impl Pool {
         }
         Ok(Pool {
             identity: IDENTITIES.fetch_add(1, Ordering::Relaxed),
-            habit: options.habit(nodes),
+            options: options.for_calls(nodes),
             timeout_ms: options.timeout_ms,
             nodes,
             phase: AtomicU8::new(OPEN),
@@ -303,7 +302,7 @@ impl Pool {
     pub fn seat<'a>(&'a self, entry: &'a Entry) -> Seat<'a> {
         Seat {
             entry,
-            habit: &self.habit,
+            options: &self.options,
             is_borrowed: false,
         }
     }
@@ -339,7 +338,7 @@ impl Pool {
                 ..self.seat(entry)
             };
             match call(seat) {
-                Err(Fault::Held) => pinned.set(pinned.get() + 1),
+                Err(Fault::Pinned) => pinned.set(pinned.get() + 1),
                 // Closed: its thread has dropped it, and the set was closed.
                 Err(Fault::Other(IN_USE) | Fault::Closed) => {}
                 told => return Some(told),
@@ -352,7 +351,7 @@ impl Pool {
 
     /// Lends a worker that this thread alone uses: its number.
     fn lent(&self, mut idle: Idle<'_>) -> u32 {
-        idle.entry.handle.rest(&self.habit);
+        idle.entry.handle.rest(&self.options);
         idle.entry.holder.store(this_thread(), Ordering::Relaxed);
         *idle.place = Place::Lent;
         idle.number
@@ -373,14 +372,14 @@ impl Pool {
             .ok_or(Fault::Number { number, workers })?;
         match self.opened(locked(&entry.place), number)? {
             Some(idle) => Ok(self.lent(idle)),
-            None => Err(Fault::Away([number].into_iter().collect())),
+            None => Err(Fault::Attached([number].into_iter().collect())),
         }
     }
 
     /// A worker that was lent comes back, and holds nothing back.
     pub fn receive(&self, number: u32) {
         let entry = self.entry(number);
-        entry.handle.rest(&self.habit);
+        entry.handle.rest(&self.options);
         *locked(&entry.place) = Place::Idle;
     }
 
@@ -417,11 +416,11 @@ impl Pool {
         let lent: Numbers = (0..self.workers()).filter(is_lent).collect();
         if !lent.is_empty() {
             self.phase.store(OPEN, Ordering::SeqCst);
-            return Err(Fault::Away(lent));
+            return Err(Fault::Attached(lent));
         }
         self.phase.store(CLOSED, Ordering::SeqCst);
         for entry in self.entries.iter() {
-            entry.handle.rest(&self.habit);
+            entry.handle.rest(&self.options);
             entry.handle.close();
         }
         Ok(())

@@ -1,7 +1,7 @@
 //! How full a set is, and what an insert does that finds no free nodes.
 
 use crate::fault::{Fault, Full};
-use crate::ffi::Ledger;
+use crate::ffi::Stats;
 use crate::numbers::Numbers;
 use crate::pool::{Entry, Pool};
 use crate::wait::{IN_USE, NAP};
@@ -31,12 +31,12 @@ pub(crate) struct Tally {
 impl Entry {
     /// How many nodes wait in the worker's queue, or None if the worker is in a call.
     fn asked(&self) -> Option<u64> {
-        let mut ledger = Ledger::default();
-        if self.handle.ledger_at_once(&mut ledger) == IN_USE {
+        let mut stats = Stats::default();
+        if self.handle.stats_at_once(&mut stats) == IN_USE {
             return None;
         }
-        self.waiting.store(ledger.queued, Ordering::Relaxed);
-        Some(ledger.queued)
+        self.waiting.store(stats.queued, Ordering::Relaxed);
+        Some(stats.queued)
     }
 }
 

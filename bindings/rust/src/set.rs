@@ -1,12 +1,12 @@
 //! The set that threads share.
 
+use crate::calls::Seat;
 use crate::fault::Fault;
 use crate::key::checked;
 use crate::options::Options;
 use crate::order::{self, Range};
 use crate::pool::Pool;
 use crate::report::Report;
-use crate::tending::Seat;
 use crate::worker::Worker;
 use crate::MOST_KEY;
 use std::collections::BTreeSet;
@@ -343,7 +343,7 @@ impl Set {
     }
 
     /// Takes the worker of a number. It waits for the call of the set that another thread makes by
-    /// it at this moment, as long as that takes. `Number`; `Away`: the worker is attached.
+    /// it at this moment, as long as that takes. `Number`; `Attached`: the worker is attached.
     pub fn worker(&self, number: u32) -> Result<Worker, Fault> {
         let number = self.0.lend_number(number)?;
         Ok(Worker::of(Arc::clone(&self.0), number))
@@ -355,7 +355,7 @@ impl Set {
     /// of the set at this moment, as long as they take; each call that waits, and each later one,
     /// returns `Closed`.
     ///
-    /// `Away`: a [`Worker`] is not dropped yet, and the set goes on. `NoMemory`: only `close` goes
+    /// `Attached`: a [`Worker`] is not dropped yet, and the set goes on. `NoMemory`: only `close` goes
     /// on. `Closed`: it was closed before.
     pub fn close(&self) -> Result<Report, Fault> {
         self.0.end()

@@ -1,13 +1,13 @@
 //! A worker: the right of one thread at a time to make calls.
 
+use crate::calls::{found, lookups_of, Advance, Seat};
 use crate::fault::{answer, Fault};
-use crate::ffi::{Handle, Ledger};
+use crate::ffi::{Handle, Stats};
 use crate::key::checked;
 use crate::numbers::Numbers;
 use crate::order::{self, Range};
 use crate::pool::{this_thread, Entry, Pool};
 use crate::set::Set;
-use crate::tending::{found, lookups_of, Advance, Seat};
 use crate::wait::settled;
 use crate::MOST_KEY;
 use std::fmt;
@@ -27,8 +27,8 @@ use std::sync::Arc;
 /// with `try_` make the given number of tries and leave the rest to their caller.
 ///
 /// If all workers of the set are attached, calls of the set **borrow** one that is in no call and
-/// not pinned. So [`ledger`](Worker::ledger), [`waiting`](Worker::waiting) and
-/// [`post`](Worker::post) include calls that other threads made by this worker. Such a call
+/// not pinned. So [`stats`](Worker::stats), [`waiting`](Worker::waiting) and
+/// [`publish`](Worker::publish) include calls that other threads made by this worker. Such a call
 /// finishes the remove that is pending, whichever call began it, before it gives the worker back,
 /// so that [`try_finish`](Worker::try_finish) returns false then. A call by the worker waits, with
 /// no bound, for a call that another thread makes by it at this moment: a borrowed one, or one that
@@ -78,7 +78,7 @@ pub struct Behind {
 
 /// What a worker had done when it left a note.
 #[derive(Clone, Copy, Debug, Default, PartialEq, Eq)]
-pub struct Posted {
+pub struct Stamp {
     /// How many keys it had inserted.
     pub inserted: u64,
     /// How many keys it had removed, without a pending one.
@@ -157,13 +157,13 @@ impl Worker {
     /// Whether the set has the key: see [`Set::contains`].
     pub fn contains(&mut self, key: u64) -> Result<bool, Fault> {
         let key = checked(key)?;
-        self.tended(|seat| seat.contains(key))
+        self.managed(|seat| seat.contains(key))
     }
 
     /// Whether the set has each of these keys: see [`Set::contains_many`].
     pub fn contains_many(&mut self, keys: &[u64]) -> Result<Vec<bool>, Fault> {
         keys.iter().try_for_each(|&key| checked(key).map(drop))?;
-        self.tended(|seat| seat.contains_many(keys))
+        self.managed(|seat| seat.contains_many(keys))
     }
 
     /// Inserts a key, and tells whether it was not in the set: see [`Set::insert`].
@@ -177,19 +177,19 @@ impl Worker {
     /// Removes a key, and tells whether it was in the set: see [`Set::remove`].
     pub fn remove(&mut self, key: u64) -> Result<bool, Fault> {
         let key = checked(key)?;
-        self.tended(|seat| seat.remove(key))
+        self.managed(|seat| seat.remove(key))
     }
 
     /// The least key that is not below this one: see [`Set::at_least`].
     pub fn at_least(&mut self, key: u64) -> Result<Option<u64>, Fault> {
         let key = checked(key)?;
-        self.tended(|seat| seat.at_least(key))
+        self.managed(|seat| seat.at_least(key))
     }
 
     /// The greatest key that is not above this one: see [`Set::at_most`].
     pub fn at_most(&mut self, key: u64) -> Result<Option<u64>, Fault> {
         let key = checked(key)?;
-        self.tended(|seat| seat.at_most(key))
+        self.managed(|seat| seat.at_most(key))
     }
 
     /// The least key: see [`Set::first`].
@@ -204,12 +204,12 @@ impl Worker {
 
     /// Removes the least key, and tells it: see [`Set::pop_first`].
     pub fn pop_first(&mut self) -> Result<Option<u64>, Fault> {
-        self.tended(|seat| seat.pop_first())
+        self.managed(|seat| seat.pop_first())
     }
 
     /// Removes the greatest key, and tells it: see [`Set::pop_last`].
     pub fn pop_last(&mut self) -> Result<Option<u64>, Fault> {
-        self.tended(|seat| seat.pop_last())
+        self.managed(|seat| seat.pop_last())
     }
 
     /// The keys of a range, in both directions: see [`Set::range`].
@@ -312,7 +312,7 @@ impl Worker {
     /// # }
     /// ```
     pub fn pin(&mut self) -> Result<PinGuard<'_>, Fault> {
-        let epoch = self.tended(|seat| seat.pin())?;
+        let epoch = self.managed(|seat| seat.pin())?;
         Ok(PinGuard {
             worker: self,
             epoch,
@@ -341,7 +341,7 @@ impl Worker {
 
     /// Returns how many nodes wait in its queue, including those that borrowed calls removed.
     pub fn waiting(&mut self) -> u64 {
-        self.ledger().queued
+        self.stats().queued
     }
 
     /// Returns the key of a remove that has begun and is not finished.
@@ -352,10 +352,10 @@ impl Worker {
 
     /// Returns what calls by it have won, including borrowed ones, and what became of the nodes
     /// that they cut off.
-    pub fn ledger(&mut self) -> Ledger {
-        let mut ledger = Ledger::default();
-        self.handle().ledger(&mut ledger);
-        ledger
+    pub fn stats(&mut self) -> Stats {
+        let mut stats = Stats::default();
+        self.handle().stats(&mut stats);
+        stats
     }
 
     // ---- notes between workers ----
@@ -363,23 +363,23 @@ impl Worker {
     /// Leaves a note of all that the worker has seen, in place of its earlier one, and tells what
     /// it has done so far. No answer of the set depends on notes: they are for who proves something
     /// of the order of two workers' calls. `Busy`: a reader has the earlier note at this moment.
-    pub fn post(&mut self) -> Result<Posted, Fault> {
+    pub fn publish(&mut self) -> Result<Stamp, Fault> {
         let (mut inserted, mut removed) = (0, 0);
-        answer(self.handle().post(&mut inserted, &mut removed))?;
-        Ok(Posted { inserted, removed })
+        answer(self.handle().publish(&mut inserted, &mut removed))?;
+        Ok(Stamp { inserted, removed })
     }
 
     /// Hears the note that the worker of a number has left, and tells what that one had done then:
     /// all that this worker is asked from now on comes behind all that that one had seen. None
     /// where it has left no note. `Number`; `Busy`: another worker is at that note at this moment.
-    pub fn read(&mut self, number: u32) -> Result<Option<Posted>, Fault> {
+    pub fn observe(&mut self, number: u32) -> Result<Option<Stamp>, Fault> {
         let workers = self.pool.workers();
         if number >= workers {
             return Err(Fault::Number { number, workers });
         }
         let (mut inserted, mut removed) = (0, 0);
-        let is_left = answer(self.handle().read(number, &mut inserted, &mut removed))?;
-        Ok(is_left.then_some(Posted { inserted, removed }))
+        let is_left = answer(self.handle().observe(number, &mut inserted, &mut removed))?;
+        Ok(is_left.then_some(Stamp { inserted, removed }))
     }
 }
 

@@ -1,11 +1,11 @@
 //! Each call by one thread, and each fault that one thread can meet.
 
-use nm_set::{Advance, Fault, Options, Posted, Set, Shape, Worker, MOST_KEY};
+use nm_set::{Advance, Fault, Options, Set, Shape, Stamp, Worker, MOST_KEY};
 use std::error::Error;
 
-/// A set with room for one key, in which the lowest free node is taken.
+/// A set with room for one key.
 fn small(workers: u32) -> Set {
-    of_shape(7, workers, Shape::Lowest)
+    of_shape(7, workers, Shape::Unbalanced)
 }
 
 fn of_shape(nodes: u32, workers: u32, shape: Shape) -> Set {
@@ -59,7 +59,7 @@ fn sizes_are_told() {
 
 #[test]
 fn keys_come_and_go() {
-    for shape in [Shape::Radix, Shape::Near, Shape::Lowest] {
+    for shape in [Shape::Radix, Shape::Unbalanced] {
         let set = of_shape(64, 64, shape);
         assert_eq!(set.contains(5), Ok(false));
         assert_eq!(
@@ -171,9 +171,9 @@ fn a_worker_has_the_calls_of_the_library() {
         (worker.waiting(), worker.collect(), worker.waiting()),
         (2, 2, 0)
     );
-    let ledger = worker.ledger();
-    assert_eq!((ledger.links, ledger.flags, ledger.splices), (1, 1, 1));
-    assert_eq!((ledger.retired, ledger.freed, ledger.queued), (2, 2, 0));
+    let stats = worker.stats();
+    assert_eq!((stats.links, stats.flags, stats.splices), (1, 1, 1));
+    assert_eq!((stats.retired, stats.freed, stats.queued), (2, 2, 0));
 }
 
 #[test]
@@ -202,13 +202,13 @@ fn a_worker_whose_guard_was_forgotten_is_told_so_and_goes_back_without_its_pin()
     let set = small(1);
     let mut worker = set.attach().unwrap();
     std::mem::forget(worker.pin().unwrap());
-    let held = Err(Fault::Held);
+    let held = Err(Fault::Pinned);
     assert_eq!(
         (worker.insert(5), worker.contains(5), worker.remove(5)),
         (held, held, held)
     );
     assert_eq!(worker.try_insert(5, 64), held);
-    assert_eq!(worker.pin().err(), Some(Fault::Held));
+    assert_eq!(worker.pin().err(), Some(Fault::Pinned));
     drop(worker);
     assert_eq!(set.insert(5), Ok(true));
 }
@@ -218,7 +218,7 @@ fn a_worker_reads_the_note_of_another_one() {
     let set = small(2);
     let (mut writer, mut reader) = (set.worker(0).unwrap(), set.worker(1).unwrap());
     assert_eq!(
-        (reader.read(0), reader.read(2)),
+        (reader.observe(0), reader.observe(2)),
         (
             Ok(None),
             Err(Fault::Number {
@@ -228,18 +228,18 @@ fn a_worker_reads_the_note_of_another_one() {
         )
     );
     assert_eq!(writer.insert(5), Ok(true));
-    let done = |inserted, removed| Posted { inserted, removed };
+    let done = |inserted, removed| Stamp { inserted, removed };
     assert_eq!(
-        (writer.post(), reader.read(0)),
+        (writer.publish(), reader.observe(0)),
         (Ok(done(1, 0)), Ok(Some(done(1, 0))))
     );
     assert_eq!((reader.contains(5), writer.remove(5)), (Ok(true), Ok(true)));
     assert_eq!(
-        (reader.read(0), writer.post()),
+        (reader.observe(0), writer.publish()),
         (Ok(Some(done(1, 0))), Ok(done(1, 1)))
     );
     assert_eq!(
-        (reader.read(0), reader.contains(5)),
+        (reader.observe(0), reader.contains(5)),
         (Ok(Some(done(1, 1))), Ok(false))
     );
 }
@@ -299,15 +299,15 @@ fn a_call_borrows_a_worker_that_is_attached_and_not_pinned() {
     assert_eq!((set.insert(5), set.insert(6)), (Ok(true), Ok(true)));
     assert_eq!(set.contains_many(&[5, 7]), Ok(vec![true, false]));
     assert_eq!(
-        (second.ledger().links, second.post().unwrap().inserted),
+        (second.stats().links, second.publish().unwrap().inserted),
         (2, 2)
     );
     assert_eq!((set.remove(5), second.pending()), (Ok(true), None));
     assert_eq!(second.try_remove(6, 1), Err(Fault::Unfinished));
     assert_eq!((set.pop_first(), second.pending()), (Ok(None), None));
-    assert_eq!((second.ledger().flags, second.waiting()), (2, 4));
+    assert_eq!((second.stats().flags, second.waiting()), (2, 4));
     drop(pin);
-    assert_eq!(first.ledger().links, 0);
+    assert_eq!(first.stats().links, 0);
     assert_eq!((set.len(), set.is_empty()), (Ok(0), Ok(true)));
 }
 
@@ -411,5 +411,5 @@ fn a_report_tells_what_waits() {
     );
     assert!(report.waiting()[1]
         .iter()
-        .all(|node| node.slot > 5 && node.birth == 1 && node.label == 0));
+        .all(|node| node.slot > 5 && node.generation == 1 && node.label == 0));
 }

@@ -194,7 +194,7 @@ fn a_set_is_compared_with_one_of_the_standard_library() {
 fn a_set_shows_its_first_keys_and_never_waits_to_do_so() {
     let options = Options {
         workers: 1,
-        shape: Shape::Near,
+        shape: Shape::Unbalanced,
         ..Options::default()
     };
     let set = Set::with_options(1_024, options).unwrap();

@@ -502,7 +502,7 @@ fn a_set_closed_beside_threads_that_attach_tells_each_so_or_names_its_worker() {
             }
             begin.wait();
             while let Err(fault) = set.close() {
-                assert!(matches!(fault, Fault::Away(_)), "{fault}");
+                assert!(matches!(fault, Fault::Attached(_)), "{fault}");
             }
         });
     }

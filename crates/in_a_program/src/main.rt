@@ -9,7 +9,7 @@ use nm_tree::{CallFault, Tree, Worker};
 
 const TRIES: u32 = 64;
 
-/// Whether the key was inserted, found and deleted.
+/// Returns whether the key was inserted, found and deleted.
 fn visit(tree: &Tree, worker: &mut Worker, key: Key) -> Result<(bool, bool, bool), CallFault>
     requires { MayCall tree.now worker.old }
     ensures { MayCall tree.now worker.new }
@@ -20,8 +20,8 @@ fn visit(tree: &Tree, worker: &mut Worker, key: Key) -> Result<(bool, bool, bool
     Ok((inserted, found, deleted))
 }
 
-/// Moves the epoch on twice, unless others hold it back, and frees what has waited for that: how
-/// many nodes may be used again.
+/// Advances the epoch twice, unless others hold it back, and frees the nodes that have waited long
+/// enough; returns how many.
 fn tidy(tree: &Tree, worker: &mut Worker) -> u64
     requires { MayCall tree.now worker.old }
     ensures { MayCall tree.now worker.new }

@@ -1,8 +1,8 @@
-//! Times pushes and pops of a `BlockQueue` beside those of a `VecDeque`, each with 900 items in it
+//! Measures pushes and pops of a `BlockQueue` and of a `VecDeque`, each with 900 items in it
 //! throughout.
 //!
 //! The argument is the number of items that pass through each. Standard output has the sums of the
-//! popped items, and standard error the times.
+//! popped items, and standard error has the times.
 #![tactic(auto)]
 
 ghost use Rattle.std.specs.Prelude.{◌<◌};
@@ -48,7 +48,7 @@ fn through_deque(alloc: Global, items: u64) -> Result<u64, AllocError> {
     Ok(sum)
 }
 
-/// At least 1.
+/// Returns the time in milliseconds, at least 1.
 fn millis(time: Duration) -> u128
     ensures { 0 < result }
 {

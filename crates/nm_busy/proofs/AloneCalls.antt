@@ -40,10 +40,10 @@ use Rattle.nm_steps.specs.Steps.{PassView, IsSamePass, HasSeen}
 use Rattle.nm_calls.specs.PlainWalks.{events_of}
 use Rattle.nm_calls.proofs.PlainLooks.{as_events}
 use Rattle.nm_epoch.specs.Tries.{LostTries, IsPinnedBy}
-use Rattle.nm_walks.specs.declared.making.Fork.{Fork}
-use Rattle.nm_walks.specs.declared.spot.ChainEdge.{ChainEdge}
-use Rattle.nm_walks.specs.declared.spot.Spot.{Spot}
-use Rattle.nm_walks.specs.declared.spot.WalkEnd.{WalkEnd}
+use Rattle.nm_walks.specs.declared.making.NewNodes.{NewNodes}
+use Rattle.nm_walks.specs.declared.seek_record.ChainEdge.{ChainEdge}
+use Rattle.nm_walks.specs.declared.seek_record.SeekRecord.{SeekRecord}
+use Rattle.nm_walks.specs.declared.seek_record.WalkEnd.{WalkEnd}
 use Rattle.nm_calls.specs.declared.inserting.NotInserted.TheVariants as fault
 use Rattle.nm_calls.specs.declared.deleting.Missed.TheVariants as missed
 use Rattle.nm_walks.specs.Walks.{Walks, IsBroken}
@@ -53,7 +53,7 @@ use Rattle.nm_progress.specs.Changes.{is_bare, Expects}
 use Rattle.nm_progress.specs.Changes.Expects.{ToLink, ToFlag}
 use Rattle.nm_progress.specs.Moves.{number_of, moves, moves_of_others}
 use Rattle.nm_progress.specs.Paid.{links_on, flags_on, cuts_on, tags_on}
-use Rattle.nm_progress.specs.Tries.{changes_edge, hinders, losing, reshapes_of_others}
+use Rattle.nm_progress.specs.Tries.{changes_edge, interferes, losing, reshapes_of_others}
 use Rattle.nm_progress.proofs.LostTries.{later_keys}
 use Rattle.nm_progress.proofs.MoreTries.{is_loud, Plain, plain_these, plain_then, log_prefix, AddsNone, adds_these, adds_then, none_within}
 use Rattle.nm_progress.proofs.Reshapes.{is_reshape, calm_turns}
@@ -70,11 +70,11 @@ use Rattle.nm_busy.specs.Lookups.{WasBusy, WasReshaped}
 use Rattle.nm_busy.specs.Pins.{WasMovedPast}
 use Rattle.nm_busy.specs.Walked.{ManyWereBusy, NearWasBusy}
 use Rattle.nm_busy.proofs.LostPins.{keys_seen, part_on, part_added}
-use Rattle.nm_busy.proofs.LostLookups.{busy_lookups_were_disturbed}
-use Rattle.nm_busy.proofs.LostWalked.{busy_many_were_disturbed, busy_nexts_were_disturbed, busy_prevs_were_disturbed}
-use Rattle.nm_busy.proofs.Hindered.{Hinders, Ran, ran_on}
-use Rattle.nm_busy.proofs.HinderedTries.{IsLostInsert, IsLostFlag, insert_longer, flag_longer, link_plain, flag_plain, bare_at}
-use Rattle.nm_busy.proofs.HinderedCalls.{moved}
+use Rattle.nm_busy.proofs.LostLookups.{busy_lookups_met_interference}
+use Rattle.nm_busy.proofs.LostWalked.{busy_many_met_interference, busy_nexts_met_interference, busy_prevs_met_interference}
+use Rattle.nm_busy.proofs.Interfered.{Interferes, Ran, ran_on}
+use Rattle.nm_busy.proofs.InterferedTries.{IsLostInsert, IsLostFlag, insert_longer, flag_longer, link_plain, flag_plain, bare_at}
+use Rattle.nm_busy.proofs.InterferedCalls.{moved}
 use Rattle.nm_busy.proofs.Parts.{Longer, longer_these, longer_then, longer_none, plain_longer, reads_longer, help_longer, returns_longer}
 use Rattle.nm_busy.proofs.WalkReads.{WalkRead, walk_read, onto_parent}
 use Rattle.nm_busy.proofs.Astray.{SplitPart, split_part, walk_plain, OnPath, walk_path, not_too_long}
@@ -117,7 +117,7 @@ none_reshaped p q n alone m =
     omega (arith, none, few)
 
 pub lookups_alone_are_answered : LookupsAloneAreAnswered
-lookups_alone_are_answered k tries p q seen_p seen_q enough same on alone missed = by (busy_lookups_were_disturbed k tries p q seen_p seen_q enough same on missed)
+lookups_alone_are_answered k tries p q seen_p seen_q enough same on alone missed = by (busy_lookups_met_interference k tries p q seen_p seen_q enough same on missed)
   where
     by : WasBusy p q tries → tries ≡ 0
     by (inl none) = none
@@ -136,13 +136,13 @@ near_alone p q tries alone (inl so) = let none = many_alone p q tries alone so i
 near_alone p q tries alone (inr (times, half, m)) = let none = none_reshaped p q times alone m in omega (arith, half, none)
 
 pub many_alone_are_answered : ManyAloneAreAnswered
-many_alone_are_answered ks tries p q seen_p seen_q enough same on missed alone = many_alone p q tries alone (busy_many_were_disturbed ks tries p q seen_p seen_q enough same on missed)
+many_alone_are_answered ks tries p q seen_p seen_q enough same on missed alone = many_alone p q tries alone (busy_many_met_interference ks tries p q seen_p seen_q enough same on missed)
 
 pub nexts_alone_are_answered : NextsAloneAreAnswered
-nexts_alone_are_answered k tries p q seen_p seen_q enough same on missed alone = near_alone p q tries alone (busy_nexts_were_disturbed k tries p q seen_p seen_q enough same on missed)
+nexts_alone_are_answered k tries p q seen_p seen_q enough same on missed alone = near_alone p q tries alone (busy_nexts_met_interference k tries p q seen_p seen_q enough same on missed)
 
 pub prevs_alone_are_answered : PrevsAloneAreAnswered
-prevs_alone_are_answered k tries p q seen_p seen_q enough same on missed alone = near_alone p q tries alone (busy_prevs_were_disturbed k tries p q seen_p seen_q enough same on missed)
+prevs_alone_are_answered k tries p q seen_p seen_q enough same on missed alone = near_alone p q tries alone (busy_prevs_met_interference k tries p q seen_p seen_q enough same on missed)
 
 -- ---- entries that change no edge
 
@@ -207,21 +207,21 @@ mute_turns w c (t ∷ ts) own mute = go (outcome_in c t) mute (mute_turns w (nex
         skip true is = is
         skip false is = is
 
--- fewer turns hinder a worker than change an edge
-hinders_too : (w : ℕ) (turns : List Turn) → number_of (hinders w) turns ≤ number_of changes_turn turns
-hinders_too w [] = omega arith
-hinders_too w (t ∷ ts) = by (t.worker == w) (links_on t.event t.outcome) (flags_on t.event t.outcome) (cuts_on t.event t.outcome) (tags_on t.event t.outcome) (hinders_too w ts)
+-- fewer turns interfere a worker than change an edge
+interferes_too : (w : ℕ) (turns : List Turn) → number_of (interferes w) turns ≤ number_of changes_turn turns
+interferes_too w [] = omega arith
+interferes_too w (t ∷ ts) = by (t.worker == w) (links_on t.event t.outcome) (flags_on t.event t.outcome) (cuts_on t.event t.outcome) (tags_on t.event t.outcome) (interferes_too w ts)
   where
-    by : (o a b c d : Bool) → number_of (hinders w) ts ≤ number_of changes_turn ts → cond (cond o (c || d) (a || (b || (c || d)))) 1 0 + number_of (hinders w) ts ≤ cond (a || (b || (c || d))) 1 0 + number_of changes_turn ts
+    by : (o a b c d : Bool) → number_of (interferes w) ts ≤ number_of changes_turn ts → cond (cond o (c || d) (a || (b || (c || d)))) 1 0 + number_of (interferes w) ts ≤ cond (a || (b || (c || d))) 1 0 + number_of changes_turn ts
     by false a b c d rest = omega (arith, rest)
     by true true b c d rest = few (c || d)
       where
-        few : (x : Bool) → cond x 1 0 + number_of (hinders w) ts ≤ 1 + number_of changes_turn ts
+        few : (x : Bool) → cond x 1 0 + number_of (interferes w) ts ≤ 1 + number_of changes_turn ts
         few true = omega (arith, rest)
         few false = omega (arith, rest)
     by true false true c d rest = few (c || d)
       where
-        few : (x : Bool) → cond x 1 0 + number_of (hinders w) ts ≤ 1 + number_of changes_turn ts
+        few : (x : Bool) → cond x 1 0 + number_of (interferes w) ts ≤ 1 + number_of changes_turn ts
         few true = omega (arith, rest)
         few false = omega (arith, rest)
     by true false false c d rest = omega (arith, rest)
@@ -291,8 +291,8 @@ module _ (L : Layout) (enough : 5 ≤ L.nodes) where
     reshapes_none : number_of is_reshape (trace_in c ts) ≡ 0
     reshapes_none = let few = calm_too (trace_in c ts) in omega (arith, few, calm)
 
-    parent_reached : (k n : ℕ) (old new : List Entry) (s : Spot) (chain : List ChainEdge) → Walks k n old new s chain → old ++ part_of w (trace_in c ts) ≡ new → Reached c.state.memory s.parent
-    parent_reached k zero old new s chain h whole = record { path = Left ∷ []; ends = (law_of_state L enough c o).1.tree.root_left ∙ sym (ap (λ (s : Spot). s.parent) h.0); is_slot = λ z. absurd (let two = ap (λ (s : Spot). s.parent) h.0 in omega (arith, z, two)) }
+    parent_reached : (k n : ℕ) (old new : List Entry) (s : SeekRecord) (chain : List ChainEdge) → Walks k n old new s chain → old ++ part_of w (trace_in c ts) ≡ new → Reached c.state.memory s.parent
+    parent_reached k zero old new s chain h whole = record { path = Left ∷ []; ends = (law_of_state L enough c o).1.tree.root_left ∙ sym (ap (λ (s : SeekRecord). s.parent) h.0); is_slot = λ z. absurd (let two = ap (λ (s : SeekRecord). s.parent) h.0 in omega (arith, z, two)) }
     parent_reached k (suc n) old new s chain (mid, t, d, on, walk, some, reads, is, more) whole = by (walk_path L enough w c o ts keys reshapes_none k n old mid t d walk _ (whole ∙ (reads.2 ∙ three mid _ _ _)))
       where
         three : (l : List Entry) (a b e : Entry) → ((l ++ a ∷ []) ++ b ∷ []) ++ e ∷ [] ≡ l ++ a ∷ b ∷ e ∷ []
@@ -303,9 +303,9 @@ module _ (L : Layout) (enough : 5 ≤ L.nodes) where
         by p = record { path = p.sides; ends = p.ends ∙ sym at; is_slot = λ z. p.is_slot (sym at ∙ z) }
           where
             at : s.parent ≡ t.edge.slot
-            at = ap (λ (s : Spot). s.parent) is ∙ onto_parent t on.side on.next
+            at = ap (λ (s : SeekRecord). s.parent) is ∙ onto_parent t on.side on.next
 
-    read_bare : (k n : ℕ) (old new : List Entry) (s : Spot) (chain : List ChainEdge) → Walks k n old new s chain → IsLogOf L w new → old ++ part_of w (trace_in c ts) ≡ new → is_bare s.edge ≡ true
+    read_bare : (k n : ℕ) (old new : List Entry) (s : SeekRecord) (chain : List ChainEdge) → Walks k n old new s chain → IsLogOf L w new → old ++ part_of w (trace_in c ts) ≡ new → is_bare s.edge ≡ true
     read_bare k n old new s chain walk l whole = by (walk_read L enough w k n old new s chain walk l)
       where
         by : WalkRead L enough w old new s → is_bare s.edge ≡ true
@@ -406,7 +406,7 @@ module _ (p q : PassView) (seen_p : HasSeen p.view) (seen_q : HasSeen q.view) (e
   log_to log rest = log_prefix p.view.layout p.view.number log rest.entries (subst (IsLogOf p.view.layout p.view.number) rest.are log_q)
 
   -- no walk of the first try reads an edge with a mark, nor is one too long
-  bare_walk : (k n : ℕ) (begun walked : List Entry) (s : Spot) (chain : List ChainEdge) → Mute p.view.log begun → Walks k n begun walked s chain → Longer walked q.view.log → is_bare s.edge ≡ true
+  bare_walk : (k n : ℕ) (begun walked : List Entry) (s : SeekRecord) (chain : List ChainEdge) → Mute p.view.log begun → Walks k n begun walked s chain → Longer walked q.view.log → is_bare s.edge ≡ true
   bare_walk k n begun walked s chain pin walk rest =
       let a = alone_walk begun walked pin (walk_plain k n begun walked s chain walk) rest in
       read_bare p.view.layout enough p.view.number a.from a.is_ordered a.is_clean a.turns a.has_keys a.calm k n begun walked s chain walk (log_to walked rest) a.is_walk
@@ -426,12 +426,12 @@ module _ (p q : PassView) (seen_p : HasSeen p.view) (seen_q : HasSeen q.view) (e
   none_broken k begun new pin (inr deep) rest = not_tagged deep.3.edge (bare_walk k deep.1 begun deep.2 deep.3 deep.4 pin deep.7 (longer_then deep.2 new q.view.log (reads_longer k deep.3.edge.slot deep.2 new deep.5 deep.8) rest)) deep.10
 
   -- nor is its exchange lost
-  none_lost : (k : ℕ) (r : WalkEnd) (c : List ChainEdge) (e : Edge) (n : ℕ) (begun walked before : List Entry) (exchange : Event) → Mute p.view.log begun → Walks k n begun walked r.spot c → Plain walked before → is_loud (losing exchange e) ≡ false
-      → Expects r.spot.parent r.spot.side r.spot.edge.slot exchange → Longer (before ++ losing exchange e ∷ []) q.view.log → ⊥
+  none_lost : (k : ℕ) (r : WalkEnd) (c : List ChainEdge) (e : Edge) (n : ℕ) (begun walked before : List Entry) (exchange : Event) → Mute p.view.log begun → Walks k n begun walked r.seek_record c → Plain walked before → is_loud (losing exchange e) ≡ false
+      → Expects r.seek_record.parent r.seek_record.side r.seek_record.edge.slot exchange → Longer (before ++ losing exchange e ∷ []) q.view.log → ⊥
   none_lost k r c e n begun walked before exchange pin walk plain quiet expects rest = refuse (alone_walk begun _ pin whole_try rest)
     where
       to_before : Plain begun before
-      to_before = plain_then begun walked before (walk_plain k n begun walked r.spot c walk) plain
+      to_before = plain_then begun walked before (walk_plain k n begun walked r.seek_record c walk) plain
 
       whole_try : Plain begun (before ++ losing exchange e ∷ [])
       whole_try = plain_then begun before _ to_before (plain_these (losing exchange e ∷ []) before _ (ap (λ (b : Bool). b || false) quiet) refl)
@@ -439,24 +439,24 @@ module _ (p q : PassView) (seen_p : HasSeen p.view) (seen_q : HasSeen q.view) (e
       walked_rest : Longer walked q.view.log
       walked_rest = longer_then walked before q.view.log (plain_longer walked before plain) (longer_then before _ q.view.log (longer_these (losing exchange e ∷ []) before _ refl) rest)
 
-      hindered : Hinders p.view.layout enough p.view.number begun (before ++ losing exchange e ∷ []) 1
-      hindered = bare_at p.view.layout enough p.view.number k r c e n begun walked before _ exchange walk plain expects (bare_walk k n begun walked r.spot c pin walk walked_rest) (longer_none _ _ refl) (log_to before (longer_then before _ q.view.log (longer_these (losing exchange e ∷ []) before _ refl) rest))
+      interfered : Interferes p.view.layout enough p.view.number begun (before ++ losing exchange e ∷ []) 1
+      interfered = bare_at p.view.layout enough p.view.number k r c e n begun walked before _ exchange walk plain expects (bare_walk k n begun walked r.seek_record c pin walk walked_rest) (longer_none _ _ refl) (log_to before (longer_then before _ q.view.log (longer_these (losing exchange e ∷ []) before _ refl) rest))
 
       refuse : AloneWalk p.view.layout enough p.view.number begun (before ++ losing exchange e ∷ []) → ⊥
       refuse a =
-          let some = hindered.counted a.from a.is_ordered a.knows a.ran a.turns a.has_keys (append_cancel_left begun _ _ (a.is_walk ∙ hindered.are)) in
-          let few = hinders_too p.view.number (trace_in a.from a.turns) in
+          let some = interfered.counted a.from a.is_ordered a.knows a.ran a.turns a.has_keys (append_cancel_left begun _ _ (a.is_walk ∙ interfered.are)) in
+          let few = interferes_too p.view.number (trace_in a.from a.turns) in
           let calm = a.calm in
           absurd (omega (arith, some, few, calm))
 
   -- so an insert loses no try, nor does a delete
-  none_inserted : (fit : Fit) (k n : ℕ) (f : Option Fork) (begun new : List Entry) → Mute p.view.log begun → LostInserts fit p.view.layout k n f begun new → Longer new q.view.log → n ≡ 0
+  none_inserted : (fit : Fit) (k n : ℕ) (f : Option NewNodes) (begun new : List Entry) → Mute p.view.log begun → LostInserts fit p.view.layout k n f begun new → Longer new q.view.log → n ≡ 0
   none_inserted fit k zero f begun new pin tried rest = refl
   none_inserted fit k (suc zero) g begun new pin (f, mid, before, try) rest = absurd (one (subst (λ (l : List Entry). IsLostInsert fit p.view.layout k f g l new) before.1 try))
     where
       one : IsLostInsert fit p.view.layout k f g begun new → ⊥
       one (inl (c, broken, same)) = none_broken k begun new pin broken rest
-      one (inr (made, r, c, e, mid, link, forked, helps)) = none_lost k r c e link.walk.0.0 begun link.walk.0.1 _ (Link r.spot.parent r.spot.side r.spot.edge.slot made.new.slot) pin link.walk.0.4 (link_plain p.view.layout k fit f made r c e begun mid link) refl (ToLink made.new.slot)
+      one (inr (made, r, c, e, mid, link, forked, helps)) = none_lost k r c e link.walk.0.0 begun link.walk.0.1 _ (Link r.seek_record.parent r.seek_record.side r.seek_record.edge.slot made.internal.slot) pin link.walk.0.4 (link_plain p.view.layout k fit f made r c e begun mid link) refl (ToLink made.internal.slot)
           (longer_then _ mid q.view.log (longer_none _ mid link.grows.3) (longer_then mid new q.view.log (help_longer r c e mid new helps) rest))
   none_inserted fit k (suc (suc n)) g begun new pin (f, mid, before, try) rest = absurd (let none = none_inserted fit k (suc n) f begun mid pin before (longer_then mid new q.view.log (insert_longer fit p.view.layout k f g mid new try) rest) in omega (arith, none))
 
@@ -466,7 +466,7 @@ module _ (p q : PassView) (seen_p : HasSeen p.view) (seen_q : HasSeen q.view) (e
     where
       one : IsLostFlag p.view.layout k c begun new → ⊥
       one (inl broken) = none_broken k begun new pin broken rest
-      one (inr (r, b, e, mid, flag, helps)) = none_lost k r c e flag.walk.0.0 begun flag.walk.0.1 _ (Flag r.spot.parent r.spot.side r.spot.edge.slot) pin flag.walk.0.4 (flag_plain p.view.layout k r c b e begun mid flag) refl ToFlag
+      one (inr (r, b, e, mid, flag, helps)) = none_lost k r c e flag.walk.0.0 begun flag.walk.0.1 _ (Flag r.seek_record.parent r.seek_record.side r.seek_record.edge.slot) pin flag.walk.0.4 (flag_plain p.view.layout k r c b e begun mid flag) refl ToFlag
           (longer_then _ mid q.view.log (longer_none _ mid flag.entries) (longer_then mid new q.view.log (help_longer r c e mid new helps) rest))
   none_flagged k (suc (suc n)) begun new pin (c, mid, before, try) rest = absurd (let none = none_flagged k (suc n) begun mid pin before (longer_then mid new q.view.log (flag_longer p.view.layout k c mid new try) rest) in omega (arith, none))
 

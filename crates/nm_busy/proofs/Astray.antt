@@ -29,8 +29,8 @@ use Rattle.nm_order.proofs.Searching.{goes-append}
 use Rattle.nm_order.proofs.WalksOfRuns.{trace_in-append}
 use Rattle.nm_order.proofs.CutTurns.{layout_is}
 use Rattle.nm_walks.specs.declared.looking.Onward.{Onward}
-use Rattle.nm_walks.specs.declared.spot.ChainEdge.{ChainEdge}
-use Rattle.nm_walks.specs.declared.spot.Spot.{Spot}
+use Rattle.nm_walks.specs.declared.seek_record.ChainEdge.{ChainEdge}
+use Rattle.nm_walks.specs.declared.seek_record.SeekRecord.{SeekRecord}
 use Rattle.nm_walks.specs.Walks.{edge_on, Reads, Walks, IsTooLong}
 use Rattle.nm_calls.specs.Calls.{LostWalks}
 use Rattle.nm_progress.specs.Moves.{number_of}
@@ -73,7 +73,7 @@ split_part w (x ∷ xs) c ts ys is =
 
 -- ---- walks
 
-pub walk_plain : (k n : ℕ) (old new : List Entry) (s : Spot) (c : List ChainEdge) → Walks k n old new s c → Plain old new
+pub walk_plain : (k n : ℕ) (old new : List Entry) (s : SeekRecord) (c : List ChainEdge) → Walks k n old new s c → Plain old new
 walk_plain k zero old new s c w = plain_these _ old new refl w.3
 walk_plain k (suc n) old new s c w = plain_then old w.0 new (walk_plain k n old w.0 w.1 w.2 w.4) (reads_plain k w.1.edge.slot w.0 new w.3 w.6)
 
@@ -132,14 +132,14 @@ module _ (L : Layout) (enough : 5 ≤ L.nodes) (w : ℕ) (c : Configuration) (o 
         on_side Right = look_there L enough w ts keys c o calm ((longer.entries ++ (Look x KeyOf, KeyIs on.found) ∷ []) ++ (Look x (EdgeOn Left), EdgeIs reads.0) ∷ []) x Right reads.1 rest (part ∙ (two longer.entries _ _ ∙ two (longer.entries ++ (Look x KeyOf, KeyIs on.found) ∷ []) _ _)) reached
 
   -- where a walk stands, as a path in the tree that stays
-  pub record OnPath (k n : ℕ) (s : Spot) : Type 0 where
+  pub record OnPath (k n : ℕ) (s : SeekRecord) : Type 0 where
     pub sides : List Side
     pub size : length sides ≡ n + 2
     pub ends : follow (child c.state.memory) 1 sides ≡ s.edge.slot
     pub is_slot : s.edge.slot ≢ 0
     pub goes : k < infinity_1 → GoesBy (child c.state.memory) (key c.state.memory) k 1 sides
 
-  pub walk_path : (k n : ℕ) (old new : List Entry) (s : Spot) (chain : List ChainEdge) → Walks k n old new s chain → (rest : List Entry) → old ++ part_of w (trace_in c ts) ≡ new ++ rest → OnPath k n s
+  pub walk_path : (k n : ℕ) (old new : List Entry) (s : SeekRecord) (chain : List ChainEdge) → Walks k n old new s chain → (rest : List Entry) → old ++ part_of w (trace_in c ts) ≡ new ++ rest → OnPath k n s
   walk_path k zero old new s chain h rest whole = record {
     sides = Left ∷ Left ∷ [];
     size = refl;
@@ -169,7 +169,7 @@ module _ (L : Layout) (enough : 5 ≤ L.nodes) (w : ℕ) (c : Configuration) (o 
       }
         where
           edge_is : s.edge ≡ on.next
-          edge_is = ap (λ (s : Spot). s.edge) is ∙ onto_edge t on.side on.next
+          edge_is = ap (λ (s : SeekRecord). s.edge) is ∙ onto_edge t on.side on.next
 
           told : IsRead t.edge.slot on
           told = read_there k t.edge.slot old mid new on reads rest whole (walk_longer k n old mid t d walk) (record { path = p.sides; ends = p.ends; is_slot = p.is_slot })

@@ -44,8 +44,8 @@ use Rattle.nm_order.proofs.WalksOfRuns.{trace_in-append}
 use Rattle.nm_order.proofs.FrozenChains.{Within, Apart, Distinct, few}
 use Rattle.nm_order.proofs.NothingPends.{flagger}
 use Rattle.nm_walks.specs.declared.looking.Onward.{Onward}
-use Rattle.nm_walks.specs.declared.spot.ChainEdge.{ChainEdge}
-use Rattle.nm_walks.specs.declared.spot.Spot.{Spot}
+use Rattle.nm_walks.specs.declared.seek_record.ChainEdge.{ChainEdge}
+use Rattle.nm_walks.specs.declared.seek_record.SeekRecord.{SeekRecord}
 use Rattle.nm_walks.specs.Bounds.{chain_bound}
 use Rattle.nm_walks.specs.Walks.{onto, chained, Walks, IsTooDeep}
 use Rattle.nm_progress.specs.Moves.{number_of}
@@ -69,7 +69,7 @@ tagged_then d x [] e all tag = (tag, tt)
 tagged_then d x (f ∷ p) e all tag = (all.0, tagged_then d (child d.state.memory x f) p e all.1 tag)
 
 -- where a walk stands in a tree: behind tagged edges, as many as its chain has, and one more edge
-pub record OnChain (d : Configuration) (k : ℕ) (s : Spot) (chain : List ChainEdge) : Type 0 where
+pub record OnChain (d : Configuration) (k : ℕ) (s : SeekRecord) (chain : List ChainEdge) : Type 0 where
   pub base : List Side
   pub links : List Side
   pub last : Side
@@ -88,7 +88,7 @@ module _ (L : Layout) (enough : 5 ≤ L.nodes) (w : ℕ) (c : Configuration) (o 
   stays x r = calm_turns L enough ts keys c o calm x r
 
   -- one node further
-  further : (k : ℕ) (t s : Spot) (chain more : List ChainEdge) (on : Onward) → s ≡ onto t on.side on.next → on.next.slot ≢ 0 → side_of k (key (after_in c ts).state.memory t.edge.slot) ≡ on.side → child (after_in c ts).state.memory t.edge.slot on.side ≡ on.next.slot
+  further : (k : ℕ) (t s : SeekRecord) (chain more : List ChainEdge) (on : Onward) → s ≡ onto t on.side on.next → on.next.slot ≢ 0 → side_of k (key (after_in c ts).state.memory t.edge.slot) ≡ on.side → child (after_in c ts).state.memory t.edge.slot on.side ≡ on.next.slot
       → (on.next.tag ≡ true → (edge (after_in c ts).state.memory t.edge.slot on.side).tag ≡ true)
       → (base links : List Side) → length links ≡ length more → AllTagged (after_in c ts) (follow (child (after_in c ts).state.memory) 1 base) links → follow (child (after_in c ts).state.memory) 1 (base ++ links) ≡ t.edge.slot
       → (k < infinity_1 → GoesBy (child (after_in c ts).state.memory) (key (after_in c ts).state.memory) k 1 (base ++ links)) → OnChain (after_in c ts) k s more
@@ -105,9 +105,9 @@ module _ (L : Layout) (enough : 5 ≤ L.nodes) (w : ℕ) (c : Configuration) (o 
   }
     where
       edge_is : s.edge ≡ on.next
-      edge_is = ap (λ (s : Spot). s.edge) is ∙ onto_edge t on.side on.next
+      edge_is = ap (λ (s : SeekRecord). s.edge) is ∙ onto_edge t on.side on.next
 
-  pub walk_chain : (k n : ℕ) (old new : List Entry) (s : Spot) (chain : List ChainEdge) → Walks k n old new s chain → (rest : List Entry) → old ++ part_of w (trace_in c ts) ≡ new ++ rest → OnChain (after_in c ts) k s chain
+  pub walk_chain : (k n : ℕ) (old new : List Entry) (s : SeekRecord) (chain : List ChainEdge) → Walks k n old new s chain → (rest : List Entry) → old ++ part_of w (trace_in c ts) ≡ new ++ rest → OnChain (after_in c ts) k s chain
   walk_chain k zero old new s chain h rest whole = record {
     base = Left ∷ [];
     links = [];

@@ -9,10 +9,10 @@ pub mod TurnsAstray
 pub mod Between
 pub mod NearAstray
 pub mod LostWalked
-pub mod Hindered
+pub mod Interfered
 pub mod MarkedReads
-pub mod HinderedTries
-pub mod HinderedRemovals
-pub mod HinderedCalls
+pub mod InterferedTries
+pub mod InterferedRemovals
+pub mod InterferedCalls
 pub mod PendingTurns
 pub mod AloneCalls

@@ -19,7 +19,7 @@ use Rattle.nm_progress.specs.Moves.{number_of}
 use Rattle.nm_progress.specs.Tries.{reshapes_of_others}
 use Rattle.nm_progress.proofs.LostTries.{later_keys}
 use Rattle.nm_progress.proofs.SplitTurns.{ordered_after, number-append}
-use Rattle.nm_busy.specs.Lookups.{WasReshaped, BusyLookupsWereDisturbed}
+use Rattle.nm_busy.specs.Lookups.{WasReshaped, BusyLookupsMetInterference}
 use Rattle.nm_busy.proofs.LostPins.{turns_between, lost_pins_were_moved_past, keys_seen, part_added}
 use Rattle.nm_busy.proofs.Parts.{Longer, pin_longer}
 use Rattle.nm_busy.proofs.Astray.{SplitPart, split_part, Strays, strays_longer, all_astray, lost_strays}
@@ -63,8 +63,8 @@ was_reshaped t p q seen_p seen_q enough same on pinned walked begun strays leave
             let parts' = ap (number_of (reshapes_of_others p.view.number)) (trace_in-append (after_in (after_in (ordered p.view.layout) (events_of p.view.past)) s.before) r.before r.since) ∙ number-append (reshapes_of_others p.view.number) (trace_in (after_in (after_in (ordered p.view.layout) (events_of p.view.past)) s.before) r.before) (trace_in (after_in (after_in (after_in (ordered p.view.layout) (events_of p.view.past)) s.before) r.before) r.since) in
             omega (arith, all, run, parts, run', parts')
 
-pub busy_lookups_were_disturbed : BusyLookupsWereDisturbed
-busy_lookups_were_disturbed k zero p q seen_p seen_q enough same on missed = inl refl
-busy_lookups_were_disturbed k (suc t) p q seen_p seen_q enough same on (inl moved) = inr (inl (lost_pins_were_moved_past p q seen_p seen_q enough same on (SightFor Has k) refl t moved))
-busy_lookups_were_disturbed k (suc t) p q seen_p seen_q enough same on (inr (pinned, walked, epoch, pin, walks, leaves)) =
+pub busy_lookups_met_interference : BusyLookupsMetInterference
+busy_lookups_met_interference k zero p q seen_p seen_q enough same on missed = inl refl
+busy_lookups_met_interference k (suc t) p q seen_p seen_q enough same on (inl moved) = inr (inl (lost_pins_were_moved_past p q seen_p seen_q enough same on (SightFor Has k) refl t moved))
+busy_lookups_met_interference k (suc t) p q seen_p seen_q enough same on (inr (pinned, walked, epoch, pin, walks, leaves)) =
     inr (inr (was_reshaped (suc t) p q seen_p seen_q enough same on pinned walked (pin_longer (SightFor Has k) (suc t) p.view.log pinned epoch pin) (lost_strays p.view.layout enough p.view.number k (suc t) pinned walked walks) leaves))

@@ -1,5 +1,5 @@
 -- A walk that came by an edge with a mark: the mark stays, the edge of its ancestor was read without
--- one, and the cleanup that follows hinders its worker.
+-- one, and the cleanup that follows interferes its worker.
 use Rattle.std.proofs.Common.{◌≡◌, ◌≢◌, ℕ, zero, suc, ◌≤◌, inl, inr, ◌⊎◌, Bool, true, false, cond, not, ◌&&◌, ◌||◌, List, [], ◌∷◌, ◌++◌, append_assoc, refl, sym, ap, subst, ◌∙◌, arith, true≢false}
 use Rattle.std.specs.Prelude.{Option, Some, None, Ok}
 use Rattle.std.specs.List.{list_any}
@@ -35,8 +35,8 @@ use Rattle.nm_order.proofs.TaughtFacts.{is_read, edges_are_learned}
 use Rattle.nm_order.proofs.ToldLaws.{lawful_before, is_answered, holds_then, twice_other, twins_are_told, flags_are_told}
 use Rattle.nm_walks.specs.declared.cutting.Kept.{Kept}
 use Rattle.nm_walks.specs.declared.looking.Onward.{Onward}
-use Rattle.nm_walks.specs.declared.spot.ChainEdge.{ChainEdge}
-use Rattle.nm_walks.specs.declared.spot.Spot.{Spot}
+use Rattle.nm_walks.specs.declared.seek_record.ChainEdge.{ChainEdge}
+use Rattle.nm_walks.specs.declared.seek_record.SeekRecord.{SeekRecord}
 use Rattle.nm_walks.specs.Walks.{onto, after_looks, edge_on, Reads, Walks}
 use Rattle.nm_walks.specs.Cleanups.{Chooses, FreezesOne, Freezes, CleanupLost, CleanupWon}
 use Rattle.nm_progress.specs.Changes.{is_bare, Expects}
@@ -45,27 +45,27 @@ use Rattle.nm_progress.specs.Tries.{helps_on, reading, losing}
 use Rattle.nm_progress.specs.Tries.LosesTries.{NoTry, OneTry}
 use Rattle.nm_progress.proofs.MoreTries.{is_loud, Plain, plain_these, plain_then, quiet_pins, quiet_edges, log_prefix}
 use Rattle.nm_progress.proofs.TagsPaid.{bare_parts}
-use Rattle.nm_busy.proofs.Hindered.{Hinders, of_tries, of_help}
+use Rattle.nm_busy.proofs.Interfered.{Interferes, of_tries, of_help}
 use Rattle.nm_busy.proofs.Parts.{Longer, longer_these, longer_then, longer_none, plain_longer, reads_plain, walk_longer, choice_longer, chain_longer, prepared_longer, cleanup_longer}
 use Rattle.nm_busy.proofs.WalkReads.{WalkRead, walk_read}
 
 -- ---- where a walk goes on
 
-onto_beside : (t : Spot) (d : Side) (e : Edge) → t.edge.tag ≡ false → ((onto t d e).ancestor ≡ t.parent) × ((onto t d e).above ≡ t.side) × ((onto t d e).successor ≡ t.edge.slot)
+onto_beside : (t : SeekRecord) (d : Side) (e : Edge) → t.edge.tag ≡ false → ((onto t d e).ancestor ≡ t.parent) × ((onto t d e).above ≡ t.side) × ((onto t d e).successor ≡ t.edge.slot)
 onto_beside t d e = by t.edge.tag
   where
-    Next : Bool → Spot
-    Next b = cond {A = Spot} b (record { ancestor = t.ancestor; above = t.above; successor = t.successor; parent = t.edge.slot; side = d; edge = e }) (record { ancestor = t.parent; above = t.side; successor = t.edge.slot; parent = t.edge.slot; side = d; edge = e })
+    Next : Bool → SeekRecord
+    Next b = cond {A = SeekRecord} b (record { ancestor = t.ancestor; above = t.above; successor = t.successor; parent = t.edge.slot; side = d; edge = e }) (record { ancestor = t.parent; above = t.side; successor = t.edge.slot; parent = t.edge.slot; side = d; edge = e })
 
     by : (b : Bool) → b ≡ false → ((Next b).ancestor ≡ t.parent) × ((Next b).above ≡ t.side) × ((Next b).successor ≡ t.edge.slot)
     by true is = absurd (true≢false is)
     by false is = (refl, refl, refl)
 
-onto_along : (t : Spot) (d : Side) (e : Edge) → t.edge.tag ≡ true → ((onto t d e).ancestor ≡ t.ancestor) × ((onto t d e).above ≡ t.above) × ((onto t d e).successor ≡ t.successor)
+onto_along : (t : SeekRecord) (d : Side) (e : Edge) → t.edge.tag ≡ true → ((onto t d e).ancestor ≡ t.ancestor) × ((onto t d e).above ≡ t.above) × ((onto t d e).successor ≡ t.successor)
 onto_along t d e = by t.edge.tag
   where
-    Next : Bool → Spot
-    Next b = cond {A = Spot} b (record { ancestor = t.ancestor; above = t.above; successor = t.successor; parent = t.edge.slot; side = d; edge = e }) (record { ancestor = t.parent; above = t.side; successor = t.edge.slot; parent = t.edge.slot; side = d; edge = e })
+    Next : Bool → SeekRecord
+    Next b = cond {A = SeekRecord} b (record { ancestor = t.ancestor; above = t.above; successor = t.successor; parent = t.edge.slot; side = d; edge = e }) (record { ancestor = t.parent; above = t.side; successor = t.edge.slot; parent = t.edge.slot; side = d; edge = e })
 
     by : (b : Bool) → b ≡ true → ((Next b).ancestor ≡ t.ancestor) × ((Next b).above ≡ t.above) × ((Next b).successor ≡ t.successor)
     by true is = (refl, refl, refl)
@@ -146,7 +146,7 @@ module _ (L : Layout) (enough : 5 ≤ L.nodes) (w : ℕ) where
     pub known : Holds L w (old ++ first) (KnowsSlot x)
 
   -- an exchange that is lost behind it
-  pub lost_behind : (x : ℕ) (d : Side) (s : ℕ) (old walked mid new : List Entry) (exchange : Event) (e : Edge) → EdgeRead x d s old walked → Plain walked mid → Expects x d s exchange → Longer (mid ++ losing exchange e ∷ []) new → Hinders L enough w old new 1
+  pub lost_behind : (x : ℕ) (d : Side) (s : ℕ) (old walked mid new : List Entry) (exchange : Event) (e : Edge) → EdgeRead x d s old walked → Plain walked mid → Expects x d s exchange → Longer (mid ++ losing exchange e ∷ []) new → Interferes L enough w old new 1
   lost_behind x d s old walked mid new exchange e r p expects rest =
       of_tries L enough w old new (r.first ++ reading x d s ∷ ((r.tail ++ p.entries) ++ losing exchange e ∷ rest.entries)) 1
       (rest.are ∙ (ap (λ (l : List Entry). (l ++ losing exchange e ∷ []) ++ rest.entries) (p.are ∙ ap (λ (l : List Entry). l ++ p.entries) r.are) ∙ in_parts old r.first (reading x d s) r.tail p.entries (losing exchange e) rest.entries))
@@ -160,11 +160,11 @@ module _ (L : Layout) (enough : 5 ≤ L.nodes) (w : ℕ) where
           ∙ (append_assoc old (first ++ e ∷ tail) (more ++ f ∷ rest) ∙ ap (λ (l : List Entry). old ++ l) (append_assoc first (e ∷ tail) (more ++ f ∷ rest) ∙ ap (λ (l : List Entry). first ++ e ∷ l) (sym (append_assoc tail more (f ∷ rest))))))
 
   -- that of a walk's ancestor
-  abbrev pub AncestorRead : List Entry → List Entry → Spot → Type 0
+  abbrev pub AncestorRead : List Entry → List Entry → SeekRecord → Type 0
   AncestorRead old new s = EdgeRead s.ancestor s.above s.successor old new
 
   -- behind further entries
-  read_further : (old mid new : List Entry) (t s : Spot) → (s.ancestor ≡ t.ancestor) × (s.above ≡ t.above) × (s.successor ≡ t.successor) → AncestorRead old mid t → Plain mid new → AncestorRead old new s
+  read_further : (old mid new : List Entry) (t s : SeekRecord) → (s.ancestor ≡ t.ancestor) × (s.above ≡ t.above) × (s.successor ≡ t.successor) → AncestorRead old mid t → Plain mid new → AncestorRead old new s
   read_further old mid new t s same r p = record {
     first = r.first;
     tail = r.tail ++ p.entries;
@@ -175,7 +175,7 @@ module _ (L : Layout) (enough : 5 ≤ L.nodes) (w : ℕ) where
   }
 
   -- the edge by which a walk came, as its log tells it
-  module _ (old new : List Entry) (s : Spot) (l : IsLogOf L w new) (r : WalkRead L enough w old new s) where
+  module _ (old new : List Entry) (s : SeekRecord) (l : IsLogOf L w new) (r : WalkRead L enough w old new s) where
     split : (xs ys : List Entry) (e : Entry) (zs : List Entry) → xs ++ (ys ++ e ∷ zs) ≡ ((xs ++ ys) ++ e ∷ []) ++ zs
     split [] [] e zs = refl
     split [] (y ∷ ys) e zs = ap (λ (l : List Entry). y ∷ l) (split [] ys e zs)
@@ -193,23 +193,23 @@ module _ (L : Layout) (enough : 5 ≤ L.nodes) (w : ℕ) where
     further : (fact : Fact) → Holds L w ((old ++ r.first) ++ (Look s.parent (EdgeOn s.side), EdgeIs s.edge) ∷ []) fact → Holds L w new fact
     further fact holds = subst (λ (l : List Entry). Holds L w l fact) (sym whole) (facts_last _ r.tail log (quiet_pins r.tail r.quiet) fact holds)
 
-    pub spot_flagged : s.edge.flag ≡ true → Holds L w new (IsFlagged s.parent s.side s.edge.slot)
-    spot_flagged flag = further (IsFlagged s.parent s.side s.edge.slot) (learned.flagged flag)
+    pub seek_flagged : s.edge.flag ≡ true → Holds L w new (IsFlagged s.parent s.side s.edge.slot)
+    seek_flagged flag = further (IsFlagged s.parent s.side s.edge.slot) (learned.flagged flag)
 
-    pub spot_tagged : s.edge.tag ≡ true → Holds L w new (IsTagged s.parent s.side s.edge.slot)
-    spot_tagged tag = further (IsTagged s.parent s.side s.edge.slot) (learned.tagged tag)
+    pub seek_tagged : s.edge.tag ≡ true → Holds L w new (IsTagged s.parent s.side s.edge.slot)
+    seek_tagged tag = further (IsTagged s.parent s.side s.edge.slot) (learned.tagged tag)
 
-    pub spot_marked : is_bare s.edge ≡ false → IsMarked new s.parent s.side s.edge.slot
-    spot_marked marked = by s.edge.flag refl s.edge.tag refl marked
+    pub seek_marked : is_bare s.edge ≡ false → IsMarked new s.parent s.side s.edge.slot
+    seek_marked marked = by s.edge.flag refl s.edge.tag refl marked
       where
         by : (f : Bool) → s.edge.flag ≡ f → (t : Bool) → s.edge.tag ≡ t → (not f && not t) ≡ false → IsMarked new s.parent s.side s.edge.slot
-        by true flag t tag some = inl (spot_flagged flag)
-        by false flag true tag some = inr (spot_tagged tag)
+        by true flag t tag some = inl (seek_flagged flag)
+        by false flag true tag some = inr (seek_tagged tag)
         by false flag false tag some = absurd (true≢false some)
 
   -- the look by which a walk came, where it found no mark
-  pub spot_read : (old new : List Entry) (s : Spot) → WalkRead L enough w old new s → is_bare s.edge ≡ true → EdgeRead s.parent s.side s.edge.slot old new
-  spot_read old new s r bare = record {
+  pub seek_read : (old new : List Entry) (s : SeekRecord) → WalkRead L enough w old new s → is_bare s.edge ≡ true → EdgeRead s.parent s.side s.edge.slot old new
+  seek_read old new s r bare = record {
     first = r.first;
     tail = r.tail;
     are = r.are ∙ ap (λ (e : Edge). old ++ (r.first ++ (Look s.parent (EdgeOn s.side), EdgeIs e) ∷ r.tail)) (bare_parts s.edge bare);
@@ -218,7 +218,7 @@ module _ (L : Layout) (enough : 5 ≤ L.nodes) (w : ℕ) where
   }
 
   -- an edge from which a walk went on is not flagged
-  not_flagged : (k : ℕ) (mid new : List Entry) (t : Spot) (on : Onward) → on.next.slot ≢ 0 → Reads k t.edge.slot mid new on → IsLogOf L w new → Holds L w mid (IsFlagged t.parent t.side t.edge.slot) → ⊥
+  not_flagged : (k : ℕ) (mid new : List Entry) (t : SeekRecord) (on : Onward) → on.next.slot ≢ 0 → Reads k t.edge.slot mid new on → IsLogOf L w new → Holds L w mid (IsFlagged t.parent t.side t.edge.slot) → ⊥
   not_flagged k mid new t on some (left, right, are, side, next) l flagged = on_side on.side refl
     where
       log3 : IsLogOf L w (after_looks mid t.edge.slot on.found left right)
@@ -241,45 +241,45 @@ module _ (L : Layout) (enough : 5 ≤ L.nodes) (w : ℕ) where
       on_side Right at = some (ap (λ (e : Edge). e.slot) (next ∙ ap (λ (d : Side). edge_on d left right) at) ∙ leaf_below _ t.edge.slot Right right log3 t.parent t.side two)
 
   -- by an edge without a tag a walk comes to a new ancestor
-  ancestor_beside : (k : ℕ) (old mid new : List Entry) (t s : Spot) (on : Onward) → s ≡ onto t on.side on.next → t.edge.tag ≡ false → WalkRead L enough w old mid t → on.next.slot ≢ 0 → Reads k t.edge.slot mid new on → IsLogOf L w mid → IsLogOf L w new → AncestorRead old new s
+  ancestor_beside : (k : ℕ) (old mid new : List Entry) (t s : SeekRecord) (on : Onward) → s ≡ onto t on.side on.next → t.edge.tag ≡ false → WalkRead L enough w old mid t → on.next.slot ≢ 0 → Reads k t.edge.slot mid new on → IsLogOf L w mid → IsLogOf L w new → AncestorRead old new s
   ancestor_beside k old mid new t s on is untagged r some reads before l =
-      read_further old mid new at_parent s (ap (λ (s : Spot). s.ancestor) is ∙ beside.0, ap (λ (s : Spot). s.above) is ∙ beside.1, ap (λ (s : Spot). s.successor) is ∙ beside.2) (spot_read old mid t r bare) (reads_plain k t.edge.slot mid new on reads)
+      read_further old mid new at_parent s (ap (λ (s : SeekRecord). s.ancestor) is ∙ beside.0, ap (λ (s : SeekRecord). s.above) is ∙ beside.1, ap (λ (s : SeekRecord). s.successor) is ∙ beside.2) (seek_read old mid t r bare) (reads_plain k t.edge.slot mid new on reads)
     where
       beside : ((onto t on.side on.next).ancestor ≡ t.parent) × ((onto t on.side on.next).above ≡ t.side) × ((onto t on.side on.next).successor ≡ t.edge.slot)
       beside = onto_beside t on.side on.next untagged
 
-      at_parent : Spot
+      at_parent : SeekRecord
       at_parent = record { ancestor = t.parent; above = t.side; successor = t.edge.slot; parent = t.parent; side = t.side; edge = t.edge }
 
       bare : is_bare t.edge ≡ true
       bare = by t.edge.flag refl
         where
           by : (f : Bool) → t.edge.flag ≡ f → (not t.edge.flag && not t.edge.tag) ≡ true
-          by true flag = absurd (not_flagged k mid new t on some reads l (spot_flagged old mid t before r flag))
+          by true flag = absurd (not_flagged k mid new t on some reads l (seek_flagged old mid t before r flag))
           by false flag = (λ i. not (flag i) && not (untagged i))
 
   -- so a walk has read the edge of its ancestor, but where it stands at slot 2
-  pub walk_ancestor : (k n : ℕ) (old new : List Entry) (s : Spot) (c : List ChainEdge) → Walks k n old new s c → IsLogOf L w new → AncestorRead old new s ⊎ (s.parent ≡ 2)
-  walk_ancestor k zero old new s c h l = inr (ap (λ (s : Spot). s.parent) h.0)
+  pub walk_ancestor : (k n : ℕ) (old new : List Entry) (s : SeekRecord) (c : List ChainEdge) → Walks k n old new s c → IsLogOf L w new → AncestorRead old new s ⊎ (s.parent ≡ 2)
+  walk_ancestor k zero old new s c h l = inr (ap (λ (s : SeekRecord). s.parent) h.0)
   walk_ancestor k (suc n) old new s c (mid, t, d, on, walk, some, reads, is, more) l = by t.edge.tag refl (walk_ancestor k n old mid t d walk before)
     where
       before : IsLogOf L w mid
       before = let p = reads_plain k t.edge.slot mid new on reads in log_prefix L w mid p.entries (subst (IsLogOf L w) p.are l)
 
       along : t.edge.tag ≡ true → (s.ancestor ≡ t.ancestor) × (s.above ≡ t.above) × (s.successor ≡ t.successor)
-      along tag = let same = onto_along t on.side on.next tag in (ap (λ (s : Spot). s.ancestor) is ∙ same.0, ap (λ (s : Spot). s.above) is ∙ same.1, ap (λ (s : Spot). s.successor) is ∙ same.2)
+      along tag = let same = onto_along t on.side on.next tag in (ap (λ (s : SeekRecord). s.ancestor) is ∙ same.0, ap (λ (s : SeekRecord). s.above) is ∙ same.1, ap (λ (s : SeekRecord). s.successor) is ∙ same.2)
 
       by : (b : Bool) → t.edge.tag ≡ b → AncestorRead old mid t ⊎ (t.parent ≡ 2) → AncestorRead old new s ⊎ (s.parent ≡ 2)
       by false tag _ = inl (ancestor_beside k old mid new t s on is tag (walk_read L enough w k n old mid t d walk before) some reads before l)
       by true tag (inl r) = inl (read_further old mid new t s (along tag) r (reads_plain k t.edge.slot mid new on reads))
       by true tag (inr root) =
-          let high = tagged_slots_stand_high L enough w mid before t.parent t.edge.slot t.side (spot_tagged old mid t before (walk_read L enough w k n old mid t d walk before) tag) in
+          let high = tagged_slots_stand_high L enough w mid before t.parent t.edge.slot t.side (seek_tagged old mid t before (walk_read L enough w k n old mid t d walk before) tag) in
           absurd (omega (arith, high, root))
 
   -- ---- a cleanup behind such a walk
 
   -- where the edge by which it came has a mark, there is an edge to keep
-  some_kept : (s : Spot) (start new : List Entry) → IsLogOf L w new → IsMarked start s.parent s.side s.edge.slot → Chooses s start new None → ⊥
+  some_kept : (s : SeekRecord) (start new : List Entry) → IsLogOf L w new → IsMarked start s.parent s.side s.edge.slot → Chooses s start new None → ⊥
   some_kept s start new l marked (e, f, are, none) = by marked
     where
       one : List Entry
@@ -306,7 +306,7 @@ module _ (L : Layout) (enough : 5 ≤ L.nodes) (w : ℕ) where
           (subst (λ (d : Side). Holds L w (start ++ (Look s.parent (EdgeOn s.side), EdgeIs e) ∷ []) (IsTagged s.parent d s.edge.slot)) (sym (twice_other s.side)) (facts_stay L enough w start (Look s.parent (EdgeOn s.side), EdgeIs e) log1 refl (IsTagged s.parent s.side s.edge.slot) tagged))) _ _ none
 
   -- what it looks at changes nothing
-  pub chooses_plain : (s : Spot) (r : Option Kept) (old new : List Entry) → Chooses s old new r → Plain old new
+  pub chooses_plain : (s : SeekRecord) (r : Option Kept) (old new : List Entry) → Chooses s old new r → Plain old new
   chooses_plain s r old new h = plain_then old _ new (plain_these _ old _ refl refl) (plain_these _ _ new refl h.2)
 
   freezes_one : (slot : ℕ) (side : Side) (old new : List Entry) → FreezesOne slot side old new → Plain old new
@@ -317,14 +317,14 @@ module _ (L : Layout) (enough : 5 ≤ L.nodes) (w : ℕ) where
   freezes_plain parent keep (l ∷ c) old new h = plain_then old h.0 new (freezes_one l.slot l.side old h.0 h.1) (freezes_plain parent keep c h.0 new h.2)
 
   -- an own entry that helps, in the midst of others
-  help_between : (old mid new : List Entry) (e : Event) (r : Reply) → Longer old mid → Longer (mid ++ (e, r) ∷ []) new → ((v : ℕ) → e ≡ Join v → ⊥) → helps_on e (Ok r) ≡ true → Hinders L enough w old new 1
+  help_between : (old mid new : List Entry) (e : Event) (r : Reply) → Longer old mid → Longer (mid ++ (e, r) ∷ []) new → ((v : ℕ) → e ≡ Join v → ⊥) → helps_on e (Ok r) ≡ true → Interferes L enough w old new 1
   help_between old mid new e r a b alone helps = of_help L enough w old new a.entries b.entries e r
       (b.are ∙ (ap (λ (l : List Entry). (l ++ (e, r) ∷ []) ++ b.entries) a.are ∙ (append_assoc (old ++ a.entries) ((e, r) ∷ []) b.entries ∙ append_assoc old a.entries ((e, r) ∷ b.entries)))) alone helps
 
-  -- so a cleanup hinders its worker, whether it wins its splice or loses it
-  pub cleanup_hinders : (k n : ℕ) (old walked start new : List Entry) (s : Spot) (c : List ChainEdge) → Walks k n old walked s c → Plain walked start → IsMarked start s.parent s.side s.edge.slot
-      → ((ns : List NodeId) × (epoch : ℕ) × CleanupWon s c ns epoch start new) ⊎ CleanupLost s c start new → IsLogOf L w new → Hinders L enough w old new 1
-  cleanup_hinders k n old walked start new s c walk plain marked cleanup l = by cleanup
+  -- so a cleanup interferes its worker, whether it wins its splice or loses it
+  pub cleanup_interferes : (k n : ℕ) (old walked start new : List Entry) (s : SeekRecord) (c : List ChainEdge) → Walks k n old walked s c → Plain walked start → IsMarked start s.parent s.side s.edge.slot
+      → ((ns : List NodeId) × (epoch : ℕ) × CleanupWon s c ns epoch start new) ⊎ CleanupLost s c start new → IsLogOf L w new → Interferes L enough w old new 1
+  cleanup_interferes k n old walked start new s c walk plain marked cleanup l = by cleanup
     where
       further : Longer start new
       further = cleanup_longer s c start new cleanup
@@ -338,13 +338,13 @@ module _ (L : Layout) (enough : 5 ≤ L.nodes) (w : ℕ) where
       to_start : Longer old start
       to_start = longer_then old walked start (walk_longer k n old walked s c walk) (plain_longer walked start plain)
 
-      by : ((ns : List NodeId) × (epoch : ℕ) × CleanupWon s c ns epoch start new) ⊎ CleanupLost s c start new → Hinders L enough w old new 1
+      by : ((ns : List NodeId) × (epoch : ℕ) × CleanupWon s c ns epoch start new) ⊎ CleanupLost s c start new → Interferes L enough w old new 1
       by (inl (ns, epoch, won)) = help_between old won.1.1 new (Splice s.ancestor s.above s.successor s.parent won.1.0.side) (Cut ns)
           (longer_then old start won.1.1 to_start (prepared_longer s c won.1.0 start won.1.1 won.1.2)) (longer_these ((Sight, Labelled epoch) ∷ []) _ new (won.2 ∙ ap (λ (l : List Entry). l ++ (Sight, Labelled epoch) ∷ []) won.1.3)) (λ v e. cc) refl
       by (inr (inl none)) = absurd (some_kept s start new l marked none)
       by (inr (inr (kept, mid, e, (chosen, was, chooses, freezes), is))) = tagging (is_bare was) refl
         where
-          tagging : (b : Bool) → is_bare was ≡ b → Hinders L enough w old new 1
+          tagging : (b : Bool) → is_bare was ≡ b → Interferes L enough w old new 1
           tagging true bare = help_between old chosen new (Tag s.parent kept.side) (Was was) (longer_then old start chosen to_start (choice_longer s (Some kept) start chosen chooses))
               (longer_then _ mid new (chain_longer s.parent kept.side c _ mid freezes) (longer_these _ mid new is)) (λ v e. cc) bare
           tagging false had = read_it (walk_ancestor k n old walked s c walk walked_log)
@@ -353,6 +353,6 @@ module _ (L : Layout) (enough : 5 ≤ L.nodes) (w : ℕ) where
               looks = plain_then walked start mid plain (plain_then start chosen mid (chooses_plain s (Some kept) start chosen chooses)
                   (plain_then chosen _ mid (plain_these ((Tag s.parent kept.side, Was was) ∷ []) chosen _ (ap (λ (b : Bool). b || false) had) refl) (freezes_plain s.parent kept.side c _ mid freezes)))
 
-              read_it : AncestorRead old walked s ⊎ (s.parent ≡ 2) → Hinders L enough w old new 1
+              read_it : AncestorRead old walked s ⊎ (s.parent ≡ 2) → Interferes L enough w old new 1
               read_it (inl r) = lost_behind s.ancestor s.above s.successor old walked mid new (Splice s.ancestor s.above s.successor s.parent kept.side) e r looks (ToCut s.parent kept.side) (longer_none _ new is)
               read_it (inr root) = let high = marked_high start s.parent s.side s.edge.slot start_log marked in absurd (omega (arith, high, root))

@@ -14,8 +14,8 @@ use Rattle.nm_order.proofs.OrderedLaws.{IsOrdered}
 use Rattle.nm_order.proofs.RunExchanges.{first_keys}
 use Rattle.nm_order.proofs.WalksOfRuns.{trace_in-append}
 use Rattle.nm_walks.specs.declared.looking.Onward.{Onward}
-use Rattle.nm_walks.specs.declared.spot.ChainEdge.{ChainEdge}
-use Rattle.nm_walks.specs.declared.spot.Spot.{Spot}
+use Rattle.nm_walks.specs.declared.seek_record.ChainEdge.{ChainEdge}
+use Rattle.nm_walks.specs.declared.seek_record.SeekRecord.{SeekRecord}
 use Rattle.nm_calls.specs.NextKeys.{ComesBy, HasNone, HaveNone}
 use Rattle.nm_calls.specs.PrevKeys.{HaveNone as HaveNoneBack}
 use Rattle.nm_walks.specs.Walks.{Reads, Walks, EndsAtLeaf}
@@ -32,7 +32,7 @@ use Rattle.nm_busy.proofs.Parts.{Longer, longer_none, longer_then, plain_longer,
 
 module _ (L : Layout) (enough : 5 ≤ L.nodes) (w : ℕ) (c : Configuration) (o : IsOrdered L c) (ts : List (ℕ × Event)) (keys : All (λ t. HasKey t.1) ts) (calm : number_of is_reshape (trace_in c ts) ≡ 0) where
   -- the node that a walk reads
-  module _ (k n : ℕ) (low : k < infinity_1) (old mid new : List Entry) (s : Spot) (chain : List ChainEdge) (on : Onward) (walk : Walks k n old mid s chain) (reads : Reads k s.edge.slot mid new on) (rest : List Entry) (whole : old ++ part_of w (trace_in c ts) ≡ new ++ rest) where
+  module _ (k n : ℕ) (low : k < infinity_1) (old mid new : List Entry) (s : SeekRecord) (chain : List ChainEdge) (on : Onward) (walk : Walks k n old mid s chain) (reads : Reads k s.edge.slot mid new on) (rest : List Entry) (whole : old ++ part_of w (trace_in c ts) ≡ new ++ rest) where
     path : OnPath L enough w c o ts keys calm k n s
     path = walk_path L enough w c o ts keys calm k n old mid s chain walk _ (behind_read L enough w c o ts keys calm k s.edge.slot old mid new on reads rest whole)
 
@@ -49,7 +49,7 @@ module _ (L : Layout) (enough : 5 ≤ L.nodes) (w : ℕ) (c : Configuration) (o 
     at_router some = passes L enough c o k s.edge.slot comes on.side (λ none. some (read.leads ∙ none))
 
   -- a walk that has ended
-  pub search_ends : (k : ℕ) → k < infinity_1 → (old new : List Entry) (s : Spot) (chain : List ChainEdge) (found : ℕ) → EndsAtLeaf L k old new s chain found → (rest : List Entry) → old ++ part_of w (trace_in c ts) ≡ new ++ rest
+  pub search_ends : (k : ℕ) → k < infinity_1 → (old new : List Entry) (s : SeekRecord) (chain : List ChainEdge) (found : ℕ) → EndsAtLeaf L k old new s chain found → (rest : List Entry) → old ++ part_of w (trace_in c ts) ≡ new ++ rest
       → (y : ℕ) × Ends L enough c o k y × (found ≡ key c.state.memory y)
   search_ends k low old new s chain found (n, mid, on, few, walk, null, reads, is) rest whole = (s.edge.slot, at_leaf k n low old mid new s chain on walk reads rest whole null, sym is ∙ (read k n low old mid new s chain on walk reads rest whole).key_is)
 
@@ -73,7 +73,7 @@ module _ (L : Layout) (enough : 5 ≤ L.nodes) (w : ℕ) (c : Configuration) (o 
 walk_is_plain : (L : Layout) (from to router : ℕ) (old new : List Entry) → HasNone L from to router old new → Plain old new
 walk_is_plain L from to router old new has = by (has.1 from (omega arith) has.0)
   where
-    by : (s : Spot) × (c : List ChainEdge) × (found : ℕ) × EndsAtLeaf L from old new s c found × (found ≢ from) → Plain old new
+    by : (s : SeekRecord) × (c : List ChainEdge) × (found : ℕ) × EndsAtLeaf L from old new s c found × (found ≢ from) → Plain old new
     by (s, c, found, (n, mid, on, few, walk, null, reads, is), other) = plain_then old mid new (walk_plain from n old mid s c walk) (reads_plain from s.edge.slot mid new on reads)
 
 module _ (L : Layout) (enough : 5 ≤ L.nodes) (w : ℕ) where

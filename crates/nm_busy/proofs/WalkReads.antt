@@ -26,8 +26,8 @@ use Rattle.nm_order.proofs.OrderedLaws.{law_of_state}
 use Rattle.nm_order.proofs.FactStays.{facts_stay}
 use Rattle.nm_order.proofs.TaughtFacts.{edges_are_learned}
 use Rattle.nm_walks.specs.declared.looking.Onward.{Onward}
-use Rattle.nm_walks.specs.declared.spot.ChainEdge.{ChainEdge}
-use Rattle.nm_walks.specs.declared.spot.Spot.{Spot}
+use Rattle.nm_walks.specs.declared.seek_record.ChainEdge.{ChainEdge}
+use Rattle.nm_walks.specs.declared.seek_record.SeekRecord.{SeekRecord}
 use Rattle.nm_walks.specs.Walks.{begin, onto, after_looks, edge_on, Reads, Walks}
 use Rattle.nm_progress.proofs.MoreTries.{is_loud}
 
@@ -50,24 +50,24 @@ two_right (x ∷ old) f k a = ap (λ (l : List Entry). x ∷ l) (two_right old f
 
 -- ---- where a walk stands
 
-pub onto_parent : (t : Spot) (d : Side) (e : Edge) → (onto t d e).parent ≡ t.edge.slot
+pub onto_parent : (t : SeekRecord) (d : Side) (e : Edge) → (onto t d e).parent ≡ t.edge.slot
 onto_parent t d e = by t.edge.tag
   where
-    by : (b : Bool) → (cond {A = Spot} b (record { ancestor = t.ancestor; above = t.above; successor = t.successor; parent = t.edge.slot; side = d; edge = e }) (record { ancestor = t.parent; above = t.side; successor = t.edge.slot; parent = t.edge.slot; side = d; edge = e })).parent ≡ t.edge.slot
+    by : (b : Bool) → (cond {A = SeekRecord} b (record { ancestor = t.ancestor; above = t.above; successor = t.successor; parent = t.edge.slot; side = d; edge = e }) (record { ancestor = t.parent; above = t.side; successor = t.edge.slot; parent = t.edge.slot; side = d; edge = e })).parent ≡ t.edge.slot
     by true = refl
     by false = refl
 
-pub onto_side : (t : Spot) (d : Side) (e : Edge) → (onto t d e).side ≡ d
+pub onto_side : (t : SeekRecord) (d : Side) (e : Edge) → (onto t d e).side ≡ d
 onto_side t d e = by t.edge.tag
   where
-    by : (b : Bool) → (cond {A = Spot} b (record { ancestor = t.ancestor; above = t.above; successor = t.successor; parent = t.edge.slot; side = d; edge = e }) (record { ancestor = t.parent; above = t.side; successor = t.edge.slot; parent = t.edge.slot; side = d; edge = e })).side ≡ d
+    by : (b : Bool) → (cond {A = SeekRecord} b (record { ancestor = t.ancestor; above = t.above; successor = t.successor; parent = t.edge.slot; side = d; edge = e }) (record { ancestor = t.parent; above = t.side; successor = t.edge.slot; parent = t.edge.slot; side = d; edge = e })).side ≡ d
     by true = refl
     by false = refl
 
-pub onto_edge : (t : Spot) (d : Side) (e : Edge) → (onto t d e).edge ≡ e
+pub onto_edge : (t : SeekRecord) (d : Side) (e : Edge) → (onto t d e).edge ≡ e
 onto_edge t d e = by t.edge.tag
   where
-    by : (b : Bool) → (cond {A = Spot} b (record { ancestor = t.ancestor; above = t.above; successor = t.successor; parent = t.edge.slot; side = d; edge = e }) (record { ancestor = t.parent; above = t.side; successor = t.edge.slot; parent = t.edge.slot; side = d; edge = e })).edge ≡ e
+    by : (b : Bool) → (cond {A = SeekRecord} b (record { ancestor = t.ancestor; above = t.above; successor = t.successor; parent = t.edge.slot; side = d; edge = e }) (record { ancestor = t.parent; above = t.side; successor = t.edge.slot; parent = t.edge.slot; side = d; edge = e })).edge ≡ e
     by true = refl
     by false = refl
 
@@ -104,7 +104,7 @@ module _ (L : Layout) (enough : 5 ≤ L.nodes) (w : ℕ) where
 
   -- ---- walks
 
-  pub record WalkRead (old new : List Entry) (s : Spot) : Type 0 where
+  pub record WalkRead (old new : List Entry) (s : SeekRecord) : Type 0 where
     pub first : List Entry
     pub tail : List Entry
     pub are : new ≡ old ++ (first ++ (Look s.parent (EdgeOn s.side), EdgeIs s.edge) ∷ tail)
@@ -148,7 +148,7 @@ module _ (L : Layout) (enough : 5 ≤ L.nodes) (w : ℕ) where
   mid_of : (k x : ℕ) (mid new : List Entry) (on : Onward) → Reads k x mid new on → IsLogOf L w new → IsLogOf L w mid
   mid_of k x mid new on r l = log_before L w mid _ (log_before L w _ _ (log_before L w _ _ (subst (IsLogOf L w) r.2 l)))
 
-  walk_began : (old new : List Entry) (s : Spot) → s ≡ begin s.edge → s.edge.slot ≢ 0 → new ≡ old ++ (Look 2 (EdgeOn Left), EdgeIs s.edge) ∷ [] → IsLogOf L w new → WalkRead old new s
+  walk_began : (old new : List Entry) (s : SeekRecord) → s ≡ begin s.edge → s.edge.slot ≢ 0 → new ≡ old ++ (Look 2 (EdgeOn Left), EdgeIs s.edge) ∷ [] → IsLogOf L w new → WalkRead old new s
   walk_began old new s is some are l = record {
     first = [];
     tail = [];
@@ -159,10 +159,10 @@ module _ (L : Layout) (enough : 5 ≤ L.nodes) (w : ℕ) where
   }
     where
       parent : 2 ≡ s.parent
-      parent = sym (ap (λ (s : Spot). s.parent) is)
+      parent = sym (ap (λ (s : SeekRecord). s.parent) is)
 
       side : Left ≡ s.side
-      side = sym (ap (λ (s : Spot). s.side) is)
+      side = sym (ap (λ (s : SeekRecord). s.side) is)
 
       log : IsLogOf L w (old ++ (Look 2 (EdgeOn Left), EdgeIs s.edge) ∷ [])
       log = subst (IsLogOf L w) are l
@@ -170,7 +170,7 @@ module _ (L : Layout) (enough : 5 ≤ L.nodes) (w : ℕ) where
       known : Holds L w old (KnowsSlot 2)
       known = second_known old Left s.edge log
 
-  walk_went : (k : ℕ) (old mid new : List Entry) (t s : Spot) (on : Onward) → WalkRead old mid t → on.next.slot ≢ 0 → Reads k t.edge.slot mid new on → s ≡ onto t on.side on.next → IsLogOf L w new → WalkRead old new s
+  walk_went : (k : ℕ) (old mid new : List Entry) (t s : SeekRecord) (on : Onward) → WalkRead old mid t → on.next.slot ≢ 0 → Reads k t.edge.slot mid new on → s ≡ onto t on.side on.next → IsLogOf L w new → WalkRead old new s
   walk_went k old mid new t s on before some r is l = by on.side refl
     where
       x : ℕ
@@ -180,13 +180,13 @@ module _ (L : Layout) (enough : 5 ≤ L.nodes) (w : ℕ) where
       f = before.first ++ (Look t.parent (EdgeOn t.side), EdgeIs t.edge) ∷ before.tail
 
       parent : t.edge.slot ≡ s.parent
-      parent = sym (onto_parent t on.side on.next) ∙ sym (ap (λ (s : Spot). s.parent) is)
+      parent = sym (onto_parent t on.side on.next) ∙ sym (ap (λ (s : SeekRecord). s.parent) is)
 
       side : on.side ≡ s.side
-      side = sym (onto_side t on.side on.next) ∙ sym (ap (λ (s : Spot). s.side) is)
+      side = sym (onto_side t on.side on.next) ∙ sym (ap (λ (s : SeekRecord). s.side) is)
 
       next : on.next ≡ s.edge
-      next = sym (onto_edge t on.side on.next) ∙ sym (ap (λ (s : Spot). s.edge) is)
+      next = sym (onto_edge t on.side on.next) ∙ sym (ap (λ (s : SeekRecord). s.edge) is)
 
       looks : Looked mid t.edge.slot on.found r.0 r.1
       looks = looked mid t.edge.slot on.found r.0 r.1 (subst (IsLogOf L w) r.2 l) before.leads
@@ -222,6 +222,6 @@ module _ (L : Layout) (enough : 5 ≤ L.nodes) (w : ℕ) where
           read : r.1 ≡ s.edge
           read = sym (r.4 ∙ ap (λ (d : Side). edge_on d r.0 r.1) at) ∙ next
 
-  pub walk_read : (k n : ℕ) (old new : List Entry) (s : Spot) (c : List ChainEdge) → Walks k n old new s c → IsLogOf L w new → WalkRead old new s
+  pub walk_read : (k n : ℕ) (old new : List Entry) (s : SeekRecord) (c : List ChainEdge) → Walks k n old new s c → IsLogOf L w new → WalkRead old new s
   walk_read k zero old new s c h l = walk_began old new s h.0 h.2 h.3 l
   walk_read k (suc n) old new s c h l = walk_went k old h.0 new h.1 s h.3 (walk_read k n old h.0 h.1 h.2 h.4 (mid_of k h.1.edge.slot h.0 new h.3 h.6 l)) h.5 h.6 h.7 l

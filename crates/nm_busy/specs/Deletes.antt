@@ -5,7 +5,7 @@ use Rattle.nm_steps.specs.Steps.{PassView, IsSamePass, HasSeenAllOf, HasSeen}
 use Rattle.nm_walks.specs.Bounds.{chain_bound}
 use Rattle.nm_calls.specs.declared.deleting.Missed.TheVariants as missed
 use Rattle.nm_calls.specs.Deletes.{DeleteDid, IsRemoving, LosesAfterFlag, LosesEachTry}
-use Rattle.nm_busy.specs.Lost.{WasHindered, ChangeWasBusy}
+use Rattle.nm_busy.specs.Lost.{Interference, ChangeWasBusy}
 
 -- by its contract each delete that is busy was lost so
 abbrev pub BusyDeletesWereLost : Type 0
@@ -21,7 +21,7 @@ UnfinishedDeletesWereLost = (k tries : ℕ) (n : NodeId) (p q : PassView) → Ha
     → HasSeen q.view → 5 ≤ p.view.layout.nodes → p.view.layout.workers ≤ chain_bound
     → IsSamePass p q → HasSeenAllOf q p
     → IsRemoving q k n → LosesAfterFlag p.view.layout tries k p.view.log q.view.log n
-    → WasHindered p q (tries - 2)
+    → Interference p q (tries - 2)
 
 -- and where such a delete is gone on with, each try that is lost
 abbrev pub UnfinishedFinishesWereLost : Type 0
@@ -29,4 +29,4 @@ UnfinishedFinishesWereLost = (k tries : ℕ) (n : NodeId) (p q : PassView) → H
     → HasSeen q.view → 5 ≤ p.view.layout.nodes → p.view.layout.workers ≤ chain_bound
     → IsSamePass p q → HasSeenAllOf q p
     → IsRemoving q k n → LosesEachTry p.view.layout k n tries p.view.log q.view.log
-    → WasHindered p q tries
+    → Interference p q tries

@@ -20,8 +20,8 @@ abbrev pub WasBusy : PassView → PassView → ℕ → Type 0
 WasBusy p q tries = (tries ≡ 0) ⊎ WasMovedPast p q tries ⊎ WasReshaped p q tries
 
 -- so of each look-up, by its contract
-abbrev pub BusyLookupsWereDisturbed : Type 0
-BusyLookupsWereDisturbed = (k tries : ℕ) (p q : PassView) → HasSeen p.view → HasSeen q.view
+abbrev pub BusyLookupsMetInterference : Type 0
+BusyLookupsMetInterference = (k tries : ℕ) (p q : PassView) → HasSeen p.view → HasSeen q.view
     → 5 ≤ p.view.layout.nodes → IsSamePass p q → HasSeenAllOf q p
     → HasMissed p.view.layout tries k p.view.log q.view.log
     → WasBusy p q tries

@@ -28,14 +28,14 @@ OfEachWalked GivesUp WasBusy = (tries : ℕ) (p q : PassView) → HasSeen p.view
     → 5 ≤ p.view.layout.nodes → IsSamePass p q → HasSeenAllOf q p
     → PlainMissed (GivesUp p tries) tries p.view.log q.view.log → WasBusy p q tries
 
-abbrev pub BusyManyWereDisturbed : Type 0
-BusyManyWereDisturbed =
+abbrev pub BusyManyMetInterference : Type 0
+BusyManyMetInterference =
     (keys : List ℕ) → OfEachWalked (λ p tries. GiveUpInTurns p.view.layout keys) ManyWereBusy
 
-abbrev pub BusyNextsWereDisturbed : Type 0
-BusyNextsWereDisturbed =
+abbrev pub BusyNextsMetInterference : Type 0
+BusyNextsMetInterference =
     (k : ℕ) → OfEachWalked (λ p tries. GiveUpNext p.view.layout tries k) NearWasBusy
 
-abbrev pub BusyPrevsWereDisturbed : Type 0
-BusyPrevsWereDisturbed =
+abbrev pub BusyPrevsMetInterference : Type 0
+BusyPrevsMetInterference =
     (k : ℕ) → OfEachWalked (λ p tries. GiveUpPrev p.view.layout tries k) NearWasBusy

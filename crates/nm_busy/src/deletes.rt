@@ -2,7 +2,7 @@
 ghost use Rattle.nm_busy.specs.Deletes.{BusyDeletesWereLost, UnfinishedDeletesWereLost, UnfinishedFinishesWereLost};
 
 /// A delete is busy only where it might make no try; or where others have moved the epoch on at
-/// least as often as it might try; or where each try to flag was lost: its worker was hindered, by
+/// least as often as it might try; or where each try to flag was lost: its worker was interfered, by
 /// a change of another or by a help of its own, which links and flags pay.
 pub fn busy_deletes_were_lost()
     ensures { BusyDeletesWereLost }

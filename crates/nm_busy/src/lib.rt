@@ -15,6 +15,6 @@ pub use alone::{
 };
 pub use deletes::{busy_deletes_were_lost, unfinished_deletes_were_lost};
 pub use inserts::busy_inserts_were_lost;
-pub use lookups::busy_lookups_were_disturbed;
+pub use lookups::busy_lookups_met_interference;
 pub use pins::lost_pins_were_moved_past;
-pub use walked::{busy_many_were_disturbed, busy_near_were_disturbed};
+pub use walked::{busy_many_met_interference, busy_near_met_interference};

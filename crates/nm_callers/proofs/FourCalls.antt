@@ -14,20 +14,20 @@ use Rattle.nm_walks.specs.WonCounts.{won_links, won_flags}
 use Rattle.nm_calls.specs.Won.{HasWon}
 use Rattle.nm_tree.specs.Workers.{WorkerView}
 use Rattle.nm_set.specs.declared.fault.Fault.TheVariants as fault
-use Rattle.nm_set.specs.declared.tended.Habit.{Habit}
+use Rattle.nm_set.specs.declared.tended.Options.{Options}
 use Rattle.nm_set.specs.Tended.{SaysTended, Tends, links_told_by, flags_told_by}
 use Rattle.nm_set.proofs.Tending.{is_no_fault}
 use Rattle.nm_callers.proofs.AtRest.{OthersRest, rested_before, inserts_first, finds_own, deletes_own, misses_own}
 
 -- a call that was answered was made
-tends : (op : Op) (b : TreeView) (h : Habit) (k : ℕ) (w z : WorkerView) (answer : Bool) → SaysTended op b h k w z (Ok answer) → Tends b h op k w z (Ok answer)
-tends op b h k w z answer (inl (held, is, same)) = is_no_fault answer fault.Held is
+tends : (op : Op) (b : TreeView) (h : Options) (k : ℕ) (w z : WorkerView) (answer : Bool) → SaysTended op b h k w z (Ok answer) → Tends b h op k w z (Ok answer)
+tends op b h k w z answer (inl (held, is, same)) = is_no_fault answer fault.Pinned is
 tends op b h k w z answer (inr (free, t)) = t
 
-pub same_number : (op : Op) (b : TreeView) (h : Habit) (k : ℕ) (w z : WorkerView) (answer : Bool) → SaysTended op b h k w z (Ok answer) → z.pass.view.number ≡ w.pass.view.number
+pub same_number : (op : Op) (b : TreeView) (h : Options) (k : ℕ) (w z : WorkerView) (answer : Bool) → SaysTended op b h k w z (Ok answer) → z.pass.view.number ≡ w.pass.view.number
 same_number op b h k w z answer said = ap (λ (s : PassView). s.view.number) (tends op b h k w z answer said).on.same
 
-module _ (h : Habit) (k : ℕ) (key : IsKey k) (b1 b2 b3 b4 : TreeView) (y0 y1 y2 y3 y4 : WorkerView) (a1 a2 a3 a4 : Bool)
+module _ (h : Options) (k : ℕ) (key : IsKey k) (b1 b2 b3 b4 : TreeView) (y0 y1 y2 y3 y4 : WorkerView) (a1 a2 a3 a4 : Bool)
     (said1 : SaysTended Insert b1 h k y0 y1 (Ok a1)) (said2 : SaysTended Has b2 h k y1 y2 (Ok a2)) (said3 : SaysTended Delete b3 h k y2 y3 (Ok a3)) (said4 : SaysTended Has b4 h k y3 y4 (Ok a4))
     (links : won_links y0.pass.view.log ≡ 0) (flags : won_flags y0.pass.view.log ≡ 0)
     (seen1 : HasSeen y1.pass.view) (seen2 : HasSeen y2.pass.view) (seen3 : HasSeen y3.pass.view) (seen4 : HasSeen y4.pass.view) (fits4 : IsLayout y4.pass.view.layout) (rest4 : OthersRest y4.pass) where

@@ -15,8 +15,8 @@ use Rattle.nm_tree.specs.Running.{HasSeenTurns}
 use Rattle.nm_tree.specs.Workers.{WorkerView, IsBetweenCalls}
 use Rattle.nm_tree.proofs.FlaggedSeen.{none_seen}
 use Rattle.nm_set.specs.declared.fault.Fault.TheVariants as fault
-use Rattle.nm_set.specs.declared.posting.Posted.{Posted}
-use Rattle.nm_set.specs.declared.tended.Habit.{Habit}
+use Rattle.nm_set.specs.declared.posting.Stamp.{Stamp}
+use Rattle.nm_set.specs.declared.tended.Options.{Options}
 use Rattle.nm_set.specs.Posts.{HasHeardAll, HasTally, IsTallyOf, LettersAreInOrder}
 use Rattle.nm_set.specs.Tended.{SaysTended}
 use Rattle.nm_set.proofs.Tending.{is_no_fault}
@@ -27,9 +27,9 @@ use Rattle.nm_callers.proofs.TwoAnswers.{inserted_before_found}
 
 -- ---- the writer
 
-pub has_written : (b : TreeView) (h : Habit) (k : ℕ) (w z : WorkerView) (r : Option Posted) → SaysTended Insert b h k w z (Ok true) → HasSeen z.pass.view → IsBetweenCalls z → IfSome r (IsTallyOf z) → IfSome r (HasWritten k w z)
+pub has_written : (b : TreeView) (h : Options) (k : ℕ) (w z : WorkerView) (r : Option Stamp) → SaysTended Insert b h k w z (Ok true) → HasSeen z.pass.view → IsBetweenCalls z → IfSome r (IsTallyOf z) → IfSome r (HasWritten k w z)
 has_written b h k w z None did seen between tally = tt
-has_written b h k w z (Some p) (inl (held, is, same)) seen between tally = is_no_fault true fault.Held is
+has_written b h k w z (Some p) (inl (held, is, same)) seen between tally = is_no_fault true fault.Pinned is
 has_written b h k w z (Some p) (inr (free, t)) seen between tally = record {
   same = t.on.same;
   moment = t.moment;
@@ -42,7 +42,7 @@ has_written b h k w z (Some p) (inr (free, t)) seen between tally = record {
 
 -- ---- both, in what one has seen that has heard of both
 
-module _ (law : LettersAreInOrder) (k : ℕ) (w z x v : WorkerView) (p : Posted) (answer : Bool) (wrote : HasWritten k w z p) (unlinked : won_links w.pass.view.log ≡ 0) (unflagged : won_flags w.pass.view.log ≡ 0)
+module _ (law : LettersAreInOrder) (k : ℕ) (w z x v : WorkerView) (p : Stamp) (answer : Bool) (wrote : HasWritten k w z p) (unlinked : won_links w.pass.view.log ≡ 0) (unflagged : won_flags w.pass.view.log ≡ 0)
     (look : HasLookedBehind w.pass.view.number k x answer) (saw : HasSeen z.pass.view) (seen : HasSeen v.pass.view) (turns : HasSeenTurns v.pass.view) (fits : IsLayout v.pass.view.layout) (on : Extends v.pass.view.past z.pass.view.past) (further : Extends v.pass.view.past x.pass.view.past)
     (layout : z.pass.view.layout ≡ v.pass.view.layout) (layout' : x.pass.view.layout ≡ v.pass.view.layout) where
   abbrev i : ℕ
@@ -88,7 +88,7 @@ module _ (law : LettersAreInOrder) (k : ℕ) (w z x v : WorkerView) (p : Posted)
       omega (arith, at, far)) none'
 
 -- so where the note was left, and the key was asked for
-pub finds : LettersAreInOrder → (k : ℕ) (w z x v : WorkerView) (p : Posted) (o : Option Bool) → HasWritten k w z p → won_links w.pass.view.log ≡ 0 → won_flags w.pass.view.log ≡ 0 → IfSome o (HasLookedBehind w.pass.view.number k x)
+pub finds : LettersAreInOrder → (k : ℕ) (w z x v : WorkerView) (p : Stamp) (o : Option Bool) → HasWritten k w z p → won_links w.pass.view.log ≡ 0 → won_flags w.pass.view.log ≡ 0 → IfSome o (HasLookedBehind w.pass.view.number k x)
     → HasSeen z.pass.view → HasSeen v.pass.view → HasSeenTurns v.pass.view → IsLayout v.pass.view.layout → Extends v.pass.view.past z.pass.view.past → Extends v.pass.view.past x.pass.view.past → z.pass.view.layout ≡ v.pass.view.layout → x.pass.view.layout ≡ v.pass.view.layout
     → NoneDeleted v.pass.view.layout w.pass.view.past v.pass.view.past k → IfSome o (λ b. b ≡ true)
 finds law k w z x v p None wrote unlinked unflagged looks saw seen turns fits on further layout layout' none' = tt

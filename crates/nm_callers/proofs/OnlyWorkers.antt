@@ -22,7 +22,7 @@ use Rattle.nm_tree.specs.Workers.{WorkerView}
 use Rattle.nm_tree.proofs.TurnTotals.{wins_links}
 use Rattle.nm_set.specs.Seats.{IsNewMember, IsOwn, MemberView}
 use Rattle.nm_set.specs.declared.fault.Fault.{Fault}
-use Rattle.nm_set.specs.declared.tended.Habit.{Habit}
+use Rattle.nm_set.specs.declared.tended.Options.{Options}
 use Rattle.nm_set.specs.Tended.{SaysTended}
 use Rattle.nm_callers.specs.Meanwhile.{NoneInserted}
 use Rattle.nm_callers.proofs.Answered.{each_ok}
@@ -55,7 +55,7 @@ finds_nothing p z k seen one links answer look =
     never_inserted_then_missed v.layout p.view.past v.past v.past v.number k answer look (goes_on_itself v.past) look.history missing
 
 -- the only member of a set, which had done nothing, has looked a key up
-pub only_finds_nothing : (b d : TreeView) (h : Habit) (k : ℕ) (m : MemberView) (z : WorkerView) (r : Result Bool Fault) → (n : ℕ) × IsNewMember m.tree m.worker.fit n m → m.tree.layout.workers ≡ 1 → d ≡ m.tree → IsOwn d z → HasSeenTurns z.pass.view
+pub only_finds_nothing : (b d : TreeView) (h : Options) (k : ℕ) (m : MemberView) (z : WorkerView) (r : Result Bool Fault) → (n : ℕ) × IsNewMember m.tree m.worker.fit n m → m.tree.layout.workers ≡ 1 → d ≡ m.tree → IsOwn d z → HasSeenTurns z.pass.view
     → SaysTended Has b h k m.worker z r → IfOk r (λ answer. answer ≡ false)
 only_finds_nothing b d h k m z r new one same own seen (inl (held, is, still)) = subst (λ (q : Result Bool Fault). IfOk q (λ answer. answer ≡ false)) (sym is) tt
 only_finds_nothing b d h k m z r new one same own seen (inr (free, t)) =

@@ -10,7 +10,7 @@ use Rattle.nm_calls.specs.Won.{HasWon}
 use Rattle.nm_tree.specs.Workers.{WorkerView}
 use Rattle.nm_set.specs.declared.fault.Fault.{Fault}
 use Rattle.nm_set.specs.declared.fault.Fault.TheVariants as fault
-use Rattle.nm_set.specs.declared.tended.Habit.{Habit}
+use Rattle.nm_set.specs.declared.tended.Options.{Options}
 use Rattle.nm_set.specs.Seats.{IsNewMember, MemberView}
 use Rattle.nm_set.specs.Popping.{SaysPopTended}
 use Rattle.nm_set.specs.Tended.{GoesOnTended, SaysTended}
@@ -32,25 +32,25 @@ works_on w x z n t m d most done on won settled =
       rest = record { free = on.held; settled = settled };
     }
 
-pub adds_one : (b : TreeView) (h : Habit) (k : ℕ) (w x z : WorkerView) (n : ℕ) → HasWorked w x n 0 → SaysTended Insert b h k x z (Ok true) → HasWorked w z (n + 1) 0
-adds_one b h k w x z n done (inl held) = is_no_fault true fault.Held held.1
+pub adds_one : (b : TreeView) (h : Options) (k : ℕ) (w x z : WorkerView) (n : ℕ) → HasWorked w x n 0 → SaysTended Insert b h k x z (Ok true) → HasWorked w z (n + 1) 0
+adds_one b h k w x z n done (inl held) = is_no_fault true fault.Pinned held.1
 adds_one b h k w x z n done (inr did) = works_on w x z n 0 1 0 _ done did.1.on did.1.won did.1.left
 
-pub adds_none : (b : TreeView) (h : Habit) (k : ℕ) (w x z : WorkerView) (n : ℕ) → HasWorked w x n 0 → SaysTended Insert b h k x z (Ok false) → HasWorked w z n 0
-adds_none b h k w x z n done (inl held) = is_no_fault false fault.Held held.1
+pub adds_none : (b : TreeView) (h : Options) (k : ℕ) (w x z : WorkerView) (n : ℕ) → HasWorked w x n 0 → SaysTended Insert b h k x z (Ok false) → HasWorked w z n 0
+adds_none b h k w x z n done (inl held) = is_no_fault false fault.Pinned held.1
 adds_none b h k w x z n done (inr did) =
     let more = works_on w x z n 0 0 0 _ done did.1.on did.1.won did.1.left in
     let links = more.won.links in
     record { same = more.same; past = more.past; won = record { links = omega (arith, links); flags = more.won.flags }; rest = more.rest }
 
-told_held : {B : Type 0} (found : Option ℕ) → ◌≡◌ {A = Result (Option ℕ) Fault} (Ok found) (Err fault.Held) → B
+told_held : {B : Type 0} (found : Option ℕ) → ◌≡◌ {A = Result (Option ℕ) Fault} (Ok found) (Err fault.Pinned) → B
 told_held found is = absurd (true≢false (ap (λ (r : Result (Option ℕ) Fault). is_ok r) is))
 
-pub takes_one : (b : TreeView) (h : Habit) (k : ℕ) (w x z : WorkerView) (n : ℕ) → HasWorked w x 0 n → SaysPopTended ◌<◌ b h x z (Ok (Some k)) → HasWorked w z 0 (n + 1)
+pub takes_one : (b : TreeView) (h : Options) (k : ℕ) (w x z : WorkerView) (n : ℕ) → HasWorked w x 0 n → SaysPopTended ◌<◌ b h x z (Ok (Some k)) → HasWorked w z 0 (n + 1)
 takes_one b h k w x z n done (inl held) = told_held (Some k) held.1
 takes_one b h k w x z n done (inr did) = works_on w x z 0 n 0 1 _ done did.1.on did.1.won did.1.left
 
-pub takes_none : (b : TreeView) (h : Habit) (w x z : WorkerView) (n : ℕ) → HasWorked w x 0 n → SaysPopTended ◌<◌ b h x z (Ok None) → HasWorked w z 0 n
+pub takes_none : (b : TreeView) (h : Options) (w x z : WorkerView) (n : ℕ) → HasWorked w x 0 n → SaysPopTended ◌<◌ b h x z (Ok None) → HasWorked w z 0 n
 takes_none b h w x z n done (inl held) = told_held None held.1
 takes_none b h w x z n done (inr did) =
     let more = works_on w x z 0 n 0 0 _ done did.1.on did.1.won did.1.left in

@@ -7,7 +7,8 @@ use Rattle.nm_walks.specs.WonCounts.{won_flags}
 use Rattle.nm_steps.specs.Steps.{PassView}
 use Rattle.nm_tree.specs.Workers.{WorkerView}
 
--- its last call was an insert of that key, which was answered true; and it has flagged nothing
+-- an insert of that key, which returned true, is the worker's last answer; and the worker has
+-- flagged nothing
 pub record HasAdded (k : ℕ) (w : WorkerView) : Type 0 where
   pub key : IsKey k
   pub start : PassView

@@ -7,9 +7,9 @@ use Rattle.nm_model.specs.declared.trace.Turn.{Turn}
 use Rattle.nm_theorem.specs.EachRun.{ReadsTheNodeThatItWasTold}
 use Rattle.nm_steps.specs.declared.view.View.{View}
 
--- each node that the worker touched, but for nodes 1 and 2, with which each walk begins, and for
--- those in its own hands: it was told of it under the pin that stood then, and from the telling on
--- that was the node that it was
+-- about each node that the worker touched, except nodes 1 and 2, with which each walk begins, and
+-- those that it held privately: the worker had learned of it under the pin that it had then, and
+-- from that moment on the slot held the same node
 abbrev pub ReadsWhatItWasTold : View → Type 0
 ReadsWhatItWasTold v = (before rest : List Turn) (t : Turn) (r : Reply) (x : ℕ)
     → v.past ≡ before ++ t ∷ rest → t.worker ≡ v.number → t.outcome ≡ Ok r

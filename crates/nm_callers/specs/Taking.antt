@@ -1,11 +1,11 @@
--- What a scheduler may rest on that takes the least key of a set which others change.
+-- What a scheduler may rely on that pops the least key of a set which others change.
 use Rattle.std.specs.Prelude.{ℕ, List, ◌++◌, length, ◌≡◌, ◌<◌}
 use Rattle.nm_edge.specs.Layouts.{Layout}
 use Rattle.nm_model.specs.Headline.{words_after}
 use Rattle.nm_model.specs.declared.trace.Turn.{Turn}
 use Rattle.nm_model.specs.Acts.{InSet}
 
--- the set had the key after each part of these turns that goes on behind `was`
+-- the set had the key after each beginning of the turns `now` that is longer than `was`
 abbrev pub StandsThroughout : Layout → List Turn → List Turn → ℕ → Type 0
 StandsThroughout L was now k = (so_far rest : List Turn) → now ≡ so_far ++ rest
     → length was < length so_far → InSet (words_after L so_far) k

@@ -1,4 +1,5 @@
-//! Calls of a worker beside which no other one makes a turn, by the clauses of `nm_tree` alone.
+//! Calls of a worker during which no other worker makes a transition, proved from the clauses of
+//! `nm_tree` alone.
 ghost use Rattle.std.specs.Prelude.{◌≤◌, IsErrOf};
 ghost use Rattle.nm_busy.specs.Alone.{IsAlone};
 ghost use Rattle.nm_busy.specs.Pending.{NonePends};
@@ -7,8 +8,8 @@ ghost use Rattle.nm_tree.specs.Calls.{MayCall};
 use nm_edge::Key;
 use nm_tree::{CallFault, Query, Tree, Worker};
 
-/// A look-up that may make a try. Where no other worker makes a turn meanwhile, it is answered, or a
-/// key is pending.
+/// Looks up a key with at least one try. Proved: it is not busy if no other worker makes a
+/// transition (turn) during the call.
 pub fn look_alone(tree: &Tree, worker: &mut Worker, key: Key, tries: u32) -> Result<bool, CallFault>
     requires may { MayCall tree.now worker.old }
     requires some { 1 ≤ tries }
@@ -17,7 +18,8 @@ pub fn look_alone(tree: &Tree, worker: &mut Worker, key: Key, tries: u32) -> Res
     tree.has(worker, key, tries)
 }
 
-/// The same of look-ups of several keys.
+/// Looks up several keys with at least one try. Proved: it is not busy if no other worker makes a
+/// transition during the call.
 pub fn look_many_alone(
     tree: &Tree,
     worker: &mut Worker,
@@ -31,7 +33,8 @@ pub fn look_many_alone(
     tree.has_many(worker, queries, tries)
 }
 
-/// The same of a call for the next key that may make two tries.
+/// Finds the next key with at least two tries. Proved: it is not busy if no other worker makes a
+/// transition during the call.
 pub fn next_alone(
     tree: &Tree,
     worker: &mut Worker,
@@ -45,7 +48,8 @@ pub fn next_alone(
     tree.next(worker, key, tries)
 }
 
-/// The same of an insert, where no delete was pending before.
+/// Inserts a key with at least one try. Proved: it is not busy if no delete was pending before, and
+/// no other worker makes a transition during the call.
 pub fn insert_alone(
     tree: &Tree,
     worker: &mut Worker,

@@ -1,13 +1,14 @@
-//! Calls of a tree beside others: where one is busy, others got on meanwhile.
+//! Calls of a tree under contention: if one is busy, others made progress meanwhile.
 ghost use Rattle.std.specs.Prelude.{◌≡◌, true, IsErrOf};
 ghost use Rattle.nm_tree.specs.Calls.{MayCall};
-ghost use Rattle.nm_set.specs.Tended.{WasDisturbed};
-ghost use Rattle.nm_callers.specs.Beside.{GotOn, WasDisturbedByHalf};
+ghost use Rattle.nm_set.specs.Tended.{LookupInterference};
+ghost use Rattle.nm_callers.specs.Beside.{GotOn, LookupInterferenceByHalf};
 
 use nm_edge::Key;
 use nm_tree::{CallFault, Query, Tree, Worker};
 
-/// An insert that is busy only where others got on as often as it might try.
+/// Inserts a key. Proved: it is busy only if others made progress (`GotOn`) at least as often as
+/// the call had tries.
 pub fn insert_beside(
     tree: &Tree,
     worker: &mut Worker,
@@ -20,7 +21,8 @@ pub fn insert_beside(
     tree.insert(worker, key, tries)
 }
 
-/// The same of a delete.
+/// Deletes a key. Proved: it is busy only if others made progress (`GotOn`) at least as often as
+/// the call had tries.
 pub fn delete_beside(
     tree: &Tree,
     worker: &mut Worker,
@@ -33,8 +35,8 @@ pub fn delete_beside(
     tree.delete(worker, key, tries)
 }
 
-/// A look-up of several keys, in a radix tree, that is busy only where others moved the epoch on as often as it might
-/// try.
+/// Looks up several keys in a radix tree. Proved: it is busy only if others interfered
+/// (`LookupInterference`) at least as often as the call had tries.
 pub fn look_many_beside(
     tree: &Tree,
     worker: &mut Worker,
@@ -43,13 +45,13 @@ pub fn look_many_beside(
 ) -> Result<(), CallFault>
     requires may { MayCall tree.now worker.old }
     requires radix { tree.now.layout.radix ≡ true }
-    ensures { IsErrOf result CallFault.Busy → WasDisturbed worker.old.pass worker.new.pass tries }
+    ensures { IsErrOf result CallFault.Busy → LookupInterference worker.old.pass worker.new.pass tries }
 {
     tree.has_many(worker, queries, tries)
 }
 
-/// A call for the next key, in a radix tree, that is busy only where others moved the epoch on, or linked or cut off
-/// nodes, half as often as it might try.
+/// Finds the next key in a radix tree. Proved: it is busy only if others interfered
+/// (`LookupInterference`) at least half as often as the call had tries.
 pub fn next_beside(
     tree: &Tree,
     worker: &mut Worker,
@@ -59,12 +61,13 @@ pub fn next_beside(
     requires may { MayCall tree.now worker.old }
     requires radix { tree.now.layout.radix ≡ true }
     ensures { IsErrOf result CallFault.Busy
-        → WasDisturbedByHalf worker.old.pass worker.new.pass tries }
+        → LookupInterferenceByHalf worker.old.pass worker.new.pass tries }
 {
     tree.next(worker, key, tries)
 }
 
-/// The same of one for the key before.
+/// Finds the previous key in a radix tree. Proved: it is busy only if others interfered
+/// (`LookupInterference`) at least half as often as the call had tries.
 pub fn prev_beside(
     tree: &Tree,
     worker: &mut Worker,
@@ -74,7 +77,7 @@ pub fn prev_beside(
     requires may { MayCall tree.now worker.old }
     requires radix { tree.now.layout.radix ≡ true }
     ensures { IsErrOf result CallFault.Busy
-        → WasDisturbedByHalf worker.old.pass worker.new.pass tries }
+        → LookupInterferenceByHalf worker.old.pass worker.new.pass tries }
 {
     tree.prev(worker, key, tries)
 }

@@ -1,5 +1,5 @@
-//! The least key is taken, as a scheduler takes what is due first, by the clauses of `nm_tree` and
-//! the page alone.
+//! Workers that pop the least key, as a scheduler takes the task that is due first, proved from the
+//! clauses of `nm_tree` and the page alone.
 ghost use Rattle.std.specs.Prelude.{ℕ, ◌≢◌, ◌≤◌, ◌<◌, None, IfSome};
 ghost use Rattle.nm_edge.specs.Keys.{IsKey};
 ghost use Rattle.nm_steps.specs.Steps.{PassView, IsOf, IsSamePass, HasSeenAllOf};
@@ -13,10 +13,10 @@ use nm_edge::Key;
 use nm_tree::{Tree, Worker};
 use std::thread::{Threads, join};
 
-/// One worker takes the least key, and then another one that was told of it does. `None`: one of
-/// them took no key. Else these are two keys, unless an insert, behind all that the first worker had
-/// seen before, has put its key in again; and no key is passed over that stood all along: neither of
-/// the two is above it.
+/// Pops the least key by one worker, and then by another one that has heard of it. `None`: one of
+/// them popped no key. Proved: otherwise these are two different keys, unless an insert of the
+/// first one took effect after all that the first worker had seen before. Proved: no key that was
+/// in the set all the time is passed over; neither of the two is above such a key.
 pub fn take_both(tree: &Tree, one: &mut Worker, two: &mut Worker, tries: u32) -> Option<(Key, Key)>
     requires one { MayCall tree.now one.old }
     requires two { MayCall tree.now two.old }
@@ -36,14 +36,14 @@ pub fn take_both(tree: &Tree, one: &mut Worker, two: &mut Worker, tries: u32) ->
     Some((first, second))
 }
 
-/// A worker that has been asked to take the least key, and the one that it took.
+/// A worker that was asked to pop the least key, and the key that it popped.
 #[derive(Drop)]
 pub struct Taken {
     pub worker: Worker,
     pub key: Option<Key>,
 }
 
-/// A worker takes the least key.
+/// Pops the least key by this worker.
 fn take_one(tree: &Tree, mut worker: Worker, tries: u32) -> Taken
     requires may { MayCall tree.now worker }
     ensures same { IsSamePass worker.pass result.worker.pass }
@@ -57,7 +57,7 @@ fn take_one(tree: &Tree, mut worker: Worker, tries: u32) -> Taken
     }
 }
 
-/// Two workers take the least key at the same time, each in a thread of its own.
+/// Pops the least key by two workers at the same time, each in a thread of its own.
 pub fn take_at_once<R: Threads + Sync>(
     rt: &R,
     tree: &Tree,
@@ -91,10 +91,11 @@ pub fn take_at_once<R: Threads + Sync>(
     )
 }
 
-/// Two schedulers: two workers take the least key, each in a thread of its own, and a reader is told
-/// of both. `None`: one of them took no key. Else these are two keys, whichever was taken first,
-/// unless an insert, behind what both had seen before, has put the key in again; and no key is
-/// passed over that stood all along: neither of the two is above it.
+/// Pops the least key by two workers, each in a thread of its own, and lets a reader hear of both.
+/// `None`: one of them popped no key. Proved: otherwise these are two different keys, whichever was
+/// popped first, unless an insert of the first one took effect after what both had seen before.
+/// Proved: no key that was in the set all the time is passed over; neither of the two is above such
+/// a key.
 pub fn take_in_threads<R: Threads + Sync>(
     rt: &R,
     tree: &Tree,
@@ -126,6 +127,6 @@ pub fn take_in_threads<R: Threads + Sync>(
     } = second;
     tell_worker(tree, &mut one, reader);
     tell_worker(tree, &mut two, reader);
-    reader.is_of_a_run();
+    reader.know_run();
     Some((first?, second?))
 }

@@ -1,5 +1,6 @@
-//! Callers that prove something over the clauses of the calls and the page alone: what one worker
-//! inserted another one finds, once it was told; and what the report of a set tells.
+//! Example callers, with what each can prove from the clauses of the calls and the page alone. One
+//! worker finds what another one inserted, after it has heard of it; and the report of a set has
+//! what was inserted.
 #![tactic(auto)]
 
 mod alone;

@@ -1,15 +1,16 @@
-//! Calls of one member of a new set, while the others make none, by the clauses of `nm_set` and the
-//! laws of runs.
+//! Calls of one member of a new set while the others make none, proved from the clauses of `nm_set`
+//! and the laws of runs.
 ghost use Rattle.std.specs.Prelude.{◌≡◌, ◌<◌, ◌+◌, ℕ, [], true, false, length, IfSome};
 ghost use Rattle.nm_order.specs.Logs.{part_of};
 ghost use Rattle.nm_edge.specs.declared.placement.Fit.{Fit};
 ghost use Rattle.nm_set.specs.Seats.{AreNewMembers, IsNewMember};
 
 use nm_edge::Key;
-use nm_set::{Habit, Member, Set};
+use nm_set::{Member, Options, Set};
 use std::alloc::Global;
 
-/// What a member was answered that added a key, asked for it, removed it, and asked again.
+/// The answers to a member that inserted a key, looked it up, removed it, and looked it up once
+/// more.
 #[derive(Clone, Copy, Debug, PartialEq, Eq)]
 pub struct PutAndTaken {
     pub added: bool,
@@ -18,8 +19,8 @@ pub struct PutAndTaken {
     pub still: bool,
 }
 
-/// A member that has done nothing hears what another one has seen, and goes home. So it has made no
-/// turn in that.
+/// Lets a member that has done nothing hear what another one has seen, and closes it. So it has
+/// made no transition in what the other one has seen.
 fn hear_and_go(member: &mut Member, other: Member)
     requires new { (f : Fit) × (n : ℕ) × IsNewMember member.old.tree f n other }
     ensures same { member.new ≡ member.old }
@@ -28,10 +29,10 @@ fn hear_and_go(member: &mut Member, other: Member)
     let mut other = other;
     let note = member.note();
     other.hear(note);
-    other.is_of_a_run();
+    other.know_run();
 }
 
-/// So do all the others.
+/// Lets each of these members hear what the first one has seen, and closes it.
 fn send_home(member: &mut Member, others: Vec<Member>)
     requires new { (f : Fit) × AreNewMembers member.old.tree f 0 others.items }
     ensures same { member.new ≡ member.old }
@@ -43,14 +44,14 @@ fn send_home(member: &mut Member, others: Vec<Member>)
     }
 }
 
-/// The last member of a new set adds a key, asks for it, removes it and asks again, while the
-/// others do nothing, and then go home. `None`: a call was not answered. Else it was told true,
-/// true, true and false.
+/// Inserts a key by the last member of a new set, looks it up, removes it and looks it up once
+/// more. Meanwhile the others do nothing; then they are closed. `None`: a call returned an error.
+/// Proved: otherwise the answers are true, true, true and false.
 pub fn put_and_take_alone(
     member: &mut Member,
     others: Vec<Member>,
     key: Key,
-    habit: &Habit,
+    options: &Options,
 ) -> Option<PutAndTaken>
     requires new { IsNewMember member.old.tree member.old.worker.fit (length others.items)
         member.old }
@@ -60,22 +61,22 @@ pub fn put_and_take_alone(
     ensures told { IfSome result (λ t. (t.added ≡ true) × (t.there ≡ true) × (t.removed ≡ true)
         × (t.still ≡ false)) }
 {
-    let Ok(added) = member.insert(key, habit) else {
+    let Ok(added) = member.insert(key, options) else {
         return None;
     };
-    member.is_of_a_run();
-    let Ok(there) = member.contains(key, habit) else {
+    member.know_run();
+    let Ok(there) = member.contains(key, options) else {
         return None;
     };
-    member.is_of_a_run();
-    let Ok(removed) = member.remove(key, habit) else {
+    member.know_run();
+    let Ok(removed) = member.remove(key, options) else {
         return None;
     };
-    member.is_of_a_run();
-    let Ok(still) = member.contains(key, habit) else {
+    member.know_run();
+    let Ok(still) = member.contains(key, options) else {
         return None;
     };
-    member.is_of_a_run();
+    member.know_run();
     send_home(member, others);
     Some(PutAndTaken {
         added,
@@ -85,14 +86,15 @@ pub fn put_and_take_alone(
     })
 }
 
-/// A set begins, and its last member adds a key, asks for it, removes it and asks again. `None`:
-/// the set was refused, or a call was not answered. Else it was told true, true, true and false.
+/// Makes a set, whose last member inserts a key, looks it up, removes it and looks it up once more.
+/// `None`: the set was refused, or a call returned an error. Proved: otherwise the answers are
+/// true, true, true and false.
 pub fn put_and_take_in_new(
     alloc: Global,
     nodes: u32,
     workers: u32,
     key: Key,
-    habit: &Habit,
+    options: &Options,
 ) -> Option<PutAndTaken>
     ensures told { IfSome result (λ t. (t.added ≡ true) × (t.there ≡ true) × (t.removed ≡ true)
         × (t.still ≡ false)) }
@@ -101,5 +103,5 @@ pub fn put_and_take_in_new(
         return None;
     };
     let mut member = others.pop()?;
-    put_and_take_alone(&mut member, others, key, habit)
+    put_and_take_alone(&mut member, others, key, options)
 }

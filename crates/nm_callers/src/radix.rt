@@ -1,4 +1,4 @@
-//! What the bounds of a radix tree give its callers, by the clauses of `nm_tree` alone.
+//! The bounds of a call on a radix tree, proved from the clauses of `nm_tree` alone.
 ghost use Rattle.std.specs.Prelude.{◌≡◌, ◌⊎◌, ◌≤◌, ◌+◌, ◌*◌, true, length, IsErrOf};
 ghost use Rattle.nm_model.specs.declared.event.Event.TheVariants.{SightFor};
 ghost use Rattle.nm_model.specs.declared.event.Op.TheVariants.{Has};
@@ -8,9 +8,9 @@ ghost use Rattle.nm_tree.specs.Calls.{MayCall};
 use nm_edge::Key;
 use nm_tree::{CallFault, Tree, Worker};
 
-/// A look-up in a radix tree. It is busy only where the epoch was moved on in each of its tries to
-/// pin, since no walk is given up, whatever other workers do meanwhile; and its steps are bounded by
-/// its tries alone, whatever the tree holds.
+/// Looks up a key in a radix tree. Proved: it is busy only if it has no try, or the epoch moved on
+/// in each of its tries to pin; no walk is given up, whatever other workers do meanwhile. Proved:
+/// only its tries bound its steps, whatever the tree holds.
 pub fn look_in_radix(
     tree: &Tree,
     worker: &mut Worker,

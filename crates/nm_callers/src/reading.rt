@@ -1,4 +1,4 @@
-//! What a look-up has read, by the clauses of `nm_tree` and the page alone.
+//! What a look-up has read, proved from the clauses of `nm_tree` and the page alone.
 ghost use Rattle.std.specs.Prelude.{IfOk};
 ghost use Rattle.nm_model.specs.declared.event.Op.TheVariants.{Has};
 ghost use Rattle.nm_calls.specs.Moments.{AnswerHasMoment};
@@ -9,11 +9,11 @@ use nm_edge::Key;
 use nm_theorem::nobody_reads_another_node;
 use nm_tree::{CallFault, Tree, Worker};
 
-/// A look-up, and what its worker has read by then, for this answer and for all before. Each node
-/// that it has read, but for the two with which each walk begins and those in its own hands, an edge
-/// told it under the pin that stood then; and from the telling until it was read that was the node
-/// that it had been, in no pool and in nobody's hands, whatever others have cut off, freed and used
-/// again meanwhile. (Fraser, section 5.2.3.)
+/// Looks up a key. Proved, about each node that its worker has touched so far, except the two with
+/// which each walk begins and those that it held privately: the worker had learned of the node from
+/// an edge, under the pin that it had then. From that read until the worker touched it, the slot
+/// held the same node, in no pool and private to no worker, whatever others have cut off, freed and
+/// used again meanwhile. (Fraser, section 5.2.3.)
 pub fn look_where_told(
     tree: &Tree,
     worker: &mut Worker,
@@ -26,7 +26,7 @@ pub fn look_where_told(
     ensures reads { ReadsWhatItWasTold worker.new.pass.view }
 {
     let found = tree.has(worker, key, tries);
-    worker.is_of_a_run();
+    worker.know_run();
     nobody_reads_another_node();
     found
 }

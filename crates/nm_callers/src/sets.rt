@@ -1,5 +1,5 @@
-//! What the report of a set tells a caller that lets it keep its member, or ends it by its last
-//! one, by the clauses of `nm_set` and the page alone.
+//! What the report of a set has, if the set keeps its member or is closed by its last one, proved
+//! from the clauses of `nm_set` and the page alone.
 ghost use Rattle.std.specs.Prelude.{◌≡◌, [], true, IfSome, Contains};
 ghost use Rattle.nm_callers.specs.Adding.{HasAdded};
 
@@ -7,12 +7,13 @@ use nm_edge::Key;
 use nm_set::{Fit, Member, Report, Set};
 use std::alloc::Global;
 
-/// A set of one worker, whose member inserts a key and is kept. `None`: the insert was not answered
-/// true, or memory was refused. Else the report of the closed set has the key.
+/// Makes a set of one worker, whose member inserts a key and is kept, and closes the set. `None`:
+/// the insert did not return true, or memory was refused. Proved: otherwise the report of the
+/// closed set has the key.
 pub fn insert_then_report(alloc: Global, nodes: u32, key: Key, tries: u32) -> Option<Report>
     ensures { IfSome result (λ r. Contains r.keys.items key) }
 {
-    let Ok(set) = Set::unbalanced(alloc, nodes, 1, Fit::Lowest) else {
+    let Ok(set) = Set::unbalanced(alloc, nodes, 1, Fit::FirstFit) else {
         return None;
     };
     let Ok(mut member) = set.member(0) else {
@@ -24,13 +25,13 @@ pub fn insert_then_report(alloc: Global, nodes: u32, key: Key, tries: u32) -> Op
     close_with(set, member, key)
 }
 
-/// Inserts a key by a member that has flagged nothing, and tells whether it was so and was answered
-/// true.
+/// Inserts a key by a member that has flagged nothing; returns whether it had flagged nothing and
+/// the insert returned true.
 fn add(member: &mut Member, key: Key, tries: u32) -> bool
     ensures tree { member.new.tree ≡ member.old.tree }
     ensures added { result ≡ true → HasAdded key member.new.worker }
 {
-    if member.ledger().flags != 0 {
+    if member.stats().flags != 0 {
         return false;
     }
     match member.try_insert(key, tries) {
@@ -48,7 +49,7 @@ fn close_with(set: Set, member: Member, key: Key) -> Option<Report>
     ensures { IfSome result (λ r. Contains r.keys.items key) }
 {
     let mut set = set;
-    member.is_of_a_run();
+    member.know_run();
     let Ok(()) = set.keep(member) else {
         return None;
     };
@@ -58,12 +59,12 @@ fn close_with(set: Set, member: Member, key: Key) -> Option<Report>
     }
 }
 
-/// A set of one worker, whose member inserts a key and then ends it. `None`: the insert was not
-/// answered true, or memory was refused. Else the report has the key.
+/// Makes a set of one worker, whose member inserts a key and then closes the set. `None`: the
+/// insert did not return true, or memory was refused. Proved: otherwise the report has the key.
 pub fn insert_then_end(alloc: Global, nodes: u32, key: Key, tries: u32) -> Option<Report>
     ensures { IfSome result (λ r. Contains r.keys.items key) }
 {
-    let Ok(set) = Set::unbalanced(alloc, nodes, 1, Fit::Lowest) else {
+    let Ok(set) = Set::unbalanced(alloc, nodes, 1, Fit::FirstFit) else {
         return None;
     };
     let Ok(mut member) = set.member(0) else {
@@ -76,13 +77,13 @@ pub fn insert_then_end(alloc: Global, nodes: u32, key: Key, tries: u32) -> Optio
     end_by(member, key)
 }
 
-/// Ends a set by its only worker, whose member has inserted a key.
+/// Closes a set by its only worker, whose member has inserted a key.
 fn end_by(member: Member, key: Key) -> Option<Report>
     requires one { member.tree.layout.workers ≡ 1 }
     requires added { HasAdded key member.worker }
     ensures { IfSome result (λ r. Contains r.keys.items key) }
 {
-    member.is_of_a_run();
+    member.know_run();
     match member.end() {
         Ok(report) => Some(report),
         Err(_) => None,

@@ -1,5 +1,5 @@
-//! A queue of tasks: two members add tasks, a third takes the least ones, and the report of the set
-//! tells what is left. By the clauses of `nm_set` and the laws of runs.
+//! A queue of tasks: two members insert tasks, a third pops the least ones, and the report of the
+//! set has the rest, proved from the clauses of `nm_set` and the laws of runs.
 ghost use Rattle.std.specs.Prelude.{◌≡◌, ◌+◌, ◌∷◌, [], IfSome, length};
 ghost use Rattle.nm_edge.specs.declared.placement.Fit.{Fit};
 ghost use Rattle.nm_set.specs.Seats.{AreNewMembers, IsNewMember};
@@ -7,31 +7,31 @@ ghost use Rattle.nm_steps.specs.Steps.{TreeView};
 ghost use Rattle.nm_callers.specs.Queues.{AddUp, HasWorked, IsAtRest, IsWorkerOf};
 
 use nm_edge::Key;
-use nm_set::{Habit, Member, Report, Set};
+use nm_set::{Member, Options, Report, Set};
 use std::alloc::Global;
 
-/// What became of the tasks of a queue.
+/// The tasks of a queue that were inserted, popped and left.
 #[derive(Drop)]
 pub struct SharedTasks {
-    /// How many tasks the first member has added, and the second one.
+    /// The numbers of tasks that the first member has inserted, and the second one.
     pub first: usize,
     pub second: usize,
-    /// The tasks that the third one has taken.
+    /// The tasks that the third member has popped.
     pub taken: Vec<Key>,
     /// The report of the set, with the tasks that are left.
     pub report: Report,
 }
 
-/// Adds these tasks, in their order; how many of them were not there. `None`: a call was not
-/// answered.
-pub fn add_tasks(member: &mut Member, tasks: &[Key], habit: &Habit) -> Option<usize>
+/// Inserts these tasks, in their order; returns how many of them were absent. `None`: a call
+/// returned an error.
+pub fn add_tasks(member: &mut Member, tasks: &[Key], options: &Options) -> Option<usize>
     requires rest { IsAtRest member.old.worker }
     ensures tree { member.new.tree ≡ member.old.tree }
     ensures did { IfSome result (λ n. HasWorked member.old.worker member.new.worker n 0) }
 {
     let mut added = 0;
     for task in tasks {
-        let Ok(new) = member.insert(*task, habit) else {
+        let Ok(new) = member.insert(*task, options) else {
             return None;
         };
         if new {
@@ -41,13 +41,13 @@ pub fn add_tasks(member: &mut Member, tasks: &[Key], habit: &Habit) -> Option<us
     Some(added)
 }
 
-/// Takes the least task, and so on, until there is none or so many were taken; these. `None`: a
-/// call was not answered, or memory was refused.
+/// Pops the least task until there is none, or `most` tasks were popped; returns these tasks.
+/// `None`: a call returned an error, or memory was refused.
 pub fn take_tasks(
     alloc: Global,
     member: &mut Member,
     most: usize,
-    habit: &Habit,
+    options: &Options,
 ) -> Option<Vec<Key>>
     requires rest { IsAtRest member.old.worker }
     ensures tree { member.new.tree ≡ member.old.tree }
@@ -58,7 +58,7 @@ pub fn take_tasks(
         return None;
     };
     for _turn in 0..most {
-        match member.pop_first(habit) {
+        match member.pop_first(options) {
             Ok(Some(task)) => taken.push_reserved(task),
             Ok(None) => return Some(taken),
             Err(_) => return None,
@@ -67,7 +67,7 @@ pub fn take_tasks(
     Some(taken)
 }
 
-/// The three members of a new set of three workers.
+/// Returns the three members of a new set of three workers.
 fn three_of(members: Vec<Member>) -> Option<(Member, Member, Member)>
     requires three { length members.items ≡ 3 }
     ensures new { (b : TreeView) (f : Fit) → AreNewMembers b f 0 members.items → IfSome result
@@ -80,8 +80,9 @@ fn three_of(members: Vec<Member>) -> Option<(Member, Member, Member)>
     Some((first, second, third))
 }
 
-/// Closes a set that keeps all its members. `None`: memory was refused. Else what they have added
-/// is what they have taken and what is left.
+/// Closes a set that keeps all its members. `None`: memory was refused. Proved: otherwise the
+/// number of tasks that they have inserted is the number that they have popped, plus the number
+/// that is left.
 fn close_with_all(set: Set, first: Member, second: Member, third: Member) -> Option<Report>
     requires new { set.kept ≡ [] }
     requires three { set.tree.layout.workers ≡ 3 }
@@ -92,9 +93,9 @@ fn close_with_all(set: Set, first: Member, second: Member, third: Member) -> Opt
         (λ r. AddUp (first.worker ∷ second.worker ∷ third.worker ∷ []) r.keys.items) }
 {
     let mut set = set;
-    first.is_of_a_run();
-    second.is_of_a_run();
-    third.is_of_a_run();
+    first.know_run();
+    second.know_run();
+    third.know_run();
     let Ok(()) = set.keep(first) else {
         return None;
     };
@@ -110,16 +111,16 @@ fn close_with_all(set: Set, first: Member, second: Member, third: Member) -> Opt
     }
 }
 
-/// A set begins, two of its three members add tasks, each its own ones in their order, the third
-/// takes the least ones, and the set is closed. `None`: a call was not answered, or memory was
-/// refused. Else each task that was added is one that was taken, or is left: the report tells the
-/// sum.
+/// Makes a set of three members. Two of them insert tasks, each its own ones in their order, and
+/// the third pops the least ones. Then it closes the set. `None`: a call returned an error, or
+/// memory was refused. Proved: otherwise the number of inserted tasks is the number of popped tasks
+/// plus the number of those in the report.
 pub fn share_tasks(
     alloc: Global,
     nodes: u32,
     tasks: (&[Key], &[Key]),
     most: usize,
-    habit: &Habit,
+    options: &Options,
 ) -> Option<SharedTasks>
     ensures { IfSome result (λ s. s.first + s.second
         ≡ length s.taken.items + length s.report.keys.items) }
@@ -128,9 +129,9 @@ pub fn share_tasks(
         return None;
     };
     let (mut one, mut two, mut three) = three_of(members)?;
-    let first = add_tasks(&mut one, tasks.0, habit)?;
-    let second = add_tasks(&mut two, tasks.1, habit)?;
-    let taken = take_tasks(alloc, &mut three, most, habit)?;
+    let first = add_tasks(&mut one, tasks.0, options)?;
+    let second = add_tasks(&mut two, tasks.1, options)?;
+    let taken = take_tasks(alloc, &mut three, most, options)?;
     let report = close_with_all(set, one, two, three)?;
     Some(SharedTasks {
         first,

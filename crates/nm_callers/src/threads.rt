@@ -1,5 +1,5 @@
-//! Two threads that insert, and a third worker that was told of both, by the clauses of `nm_tree` and
-//! the page alone.
+//! Two threads that insert, and a third worker that has heard of both, proved from the clauses of
+//! `nm_tree` and the page alone.
 ghost use Rattle.std.specs.Prelude.{◌≡◌, true, None, IfSome};
 ghost use Rattle.nm_model.specs.declared.event.Op.TheVariants.{Insert};
 ghost use Rattle.nm_steps.specs.Steps.{PassView, IsOf};
@@ -11,14 +11,14 @@ use nm_edge::Key;
 use nm_tree::{Tree, Worker};
 use std::thread::{Threads, join};
 
-/// A worker that has made an insert, and whether that was answered true.
+/// A worker that has made an insert, and whether the insert returned true.
 #[derive(Drop)]
 pub struct Inserted {
     pub worker: Worker,
     pub is_new: bool,
 }
 
-/// A worker inserts a key.
+/// Inserts a key by this worker.
 fn insert_one(tree: &Tree, mut worker: Worker, key: Key, tries: u32) -> Inserted
     requires own { IsOf tree.now worker.pass }
     requires free { worker.held ≡ None }
@@ -38,7 +38,7 @@ fn insert_one(tree: &Tree, mut worker: Worker, key: Key, tries: u32) -> Inserted
     }
 }
 
-/// Two workers insert a key each, at the same time, each in a thread of its own.
+/// Inserts two keys by two workers at the same time, each in a thread of its own.
 pub fn insert_both<R: Threads + Sync>(
     rt: &R,
     tree: &Tree,
@@ -78,9 +78,9 @@ pub fn insert_both<R: Threads + Sync>(
     )
 }
 
-/// A third worker is told what both have seen, and looks up what each of them has inserted. `None`:
-/// a look-up was not answered. Else each key is found, unless a delete, behind all that its inserter
-/// had seen before, has taken it away.
+/// Lets a third worker hear what both have seen, and look up what each of them has inserted.
+/// `None`: a look-up returned an error. Proved: otherwise each key is found, unless a delete of it
+/// took effect after all that its inserter had seen before.
 pub fn find_both(
     tree: &Tree,
     one: &mut Worker,
@@ -103,13 +103,13 @@ pub fn find_both(
 {
     let first = look_told(tree, one, reader, left, tries).ok()?;
     let second = look_told(tree, two, reader, right, tries).ok()?;
-    reader.is_of_a_run();
+    reader.know_run();
     Some((first, second))
 }
 
-/// Two threads insert a key each, and then a third worker, which is told of both, looks both keys
-/// up. `None`: a call was not answered, or a key had been in the set. Else both are found, unless a
-/// delete, behind all that the inserter had seen before, has taken one of them away.
+/// Inserts two keys in two threads, and then looks up both keys by a third worker that has heard of
+/// both. `None`: a call returned an error, or a key was in the set before. Proved: otherwise each
+/// key is found, unless a delete of it took effect after all that its inserter had seen before.
 pub fn insert_both_then_find<R: Threads + Sync>(
     rt: &R,
     tree: &Tree,

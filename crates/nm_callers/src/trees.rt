@@ -1,5 +1,5 @@
-//! What a worker of a tree that was told of another one's call finds, by the clauses of `nm_tree` and
-//! the page alone.
+//! What a worker of a tree finds that has heard of another one's call, proved from the clauses of
+//! `nm_tree` and the page alone.
 ghost use Rattle.std.specs.Prelude.{◌≡◌, ◌≢◌, true, false, None, IfOk, IfSome};
 ghost use Rattle.nm_model.specs.declared.event.Op.TheVariants.{Has, Insert, Delete};
 ghost use Rattle.nm_steps.specs.Steps.{PassView, IsOf, IsSamePass, HasHeard, HasSeenAllOf};
@@ -10,7 +10,7 @@ ghost use Rattle.nm_callers.specs.Meanwhile.{NoneDeleted, NoneInserted};
 use nm_edge::Key;
 use nm_tree::{CallFault, Tree, Worker};
 
-/// One worker tells another what it has seen.
+/// Lets one worker hear what another one has seen.
 pub fn tell_worker(tree: &Tree, from: &mut Worker, to: &mut Worker)
     requires from { IsOf tree.now from.old.pass }
     requires to { IsOf tree.now to.old.pass }
@@ -25,10 +25,11 @@ pub fn tell_worker(tree: &Tree, from: &mut Worker, to: &mut Worker)
     tree.hear(to, note);
 }
 
-/// A look-up by a worker that was told what another one has seen. A key whose insert by that one
-/// was answered true is found, unless in a history of the turns that the worker has then seen a true
-/// delete of it has its moment behind all that the inserter had seen before its call; and one whose
-/// delete was answered true is not found, unless a true insert of it has so.
+/// Looks up a key by a worker that hears what another one has seen. Proved: if an insert of the key
+/// by that other worker returned true, the key is found. The exception is that, in a history of the
+/// turns that the reader has then seen, a true delete of it has its moment (linearization point)
+/// after all that the inserter had seen before its call. Proved: if a delete of the key returned
+/// true, it is not found, with the same exception for a true insert.
 pub fn look_told(
     tree: &Tree,
     one: &mut Worker,
@@ -56,9 +57,9 @@ pub fn look_told(
     tree.has(two, key, tries)
 }
 
-/// One worker inserts a key, and then another one that was told of it looks it up. `None`: a call
-/// was not answered, or the key had been in the set. Else it is found, unless a delete, behind all
-/// that the inserter had seen before, has taken it away.
+/// Inserts a key by one worker, and then looks it up by another one that has heard of it. `None`: a
+/// call returned an error, or the key was in the set before. Proved: otherwise the key is found,
+/// unless a delete of it took effect after all that the inserter had seen before.
 pub fn insert_then_find(
     tree: &Tree,
     one: &mut Worker,
@@ -79,9 +80,9 @@ pub fn insert_then_find(
     }
 }
 
-/// One worker deletes a key, and then another one that was told of it looks it up. `None`: a call
-/// was not answered, or the key was not in the set. Else it is not found, unless an insert, behind
-/// all that the deleter had seen before, has put it back.
+/// Deletes a key by one worker, and then looks it up by another one that has heard of it. `None`: a
+/// call returned an error, or the key was not in the set. Proved: otherwise the key is absent,
+/// unless an insert of it took effect after all that the deleter had seen before.
 pub fn delete_then_miss(
     tree: &Tree,
     deleter: &mut Worker,
@@ -102,9 +103,9 @@ pub fn delete_then_miss(
     }
 }
 
-/// The same by both workers of a tree that has two, neither of which has flagged a leaf: one inserts
-/// a key, tells the other one, and that one looks it up. `None`: a call was not answered, or the key
-/// had been in the set. Else it is found: nobody could have taken it away.
+/// Inserts a key by one worker of a tree that has two, and looks it up by the other one, which has
+/// heard of it. Neither has flagged a leaf before. `None`: a call returned an error, or the key was
+/// in the set before. Proved: otherwise the key is found, because no worker can have deleted it.
 pub fn insert_then_find_alone(
     tree: &Tree,
     inserter: &mut Worker,
@@ -125,11 +126,11 @@ pub fn insert_then_find_alone(
     let Ok(true) = tree.insert(inserter, key, tries) else {
         return None;
     };
-    inserter.is_of_a_run();
+    inserter.know_run();
     tell_worker(tree, inserter, reader);
     let found = tree.has(reader, key, tries);
     tell_worker(tree, reader, inserter);
-    inserter.is_of_a_run();
-    reader.is_of_a_run();
+    inserter.know_run();
+    reader.know_run();
     found.ok()
 }

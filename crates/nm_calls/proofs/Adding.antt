@@ -13,9 +13,9 @@ use Rattle.nm_epoch.specs.Tries.{LostTry, WonTry, LostTries, IsPinnedBy, IsMoved
 use Rattle.nm_pool.specs.Claims.{DoneInTurn, DoneAt, PassedOver, PassedWithin, IsClaim, IsClaimBy}
 use Rattle.nm_edge.specs.declared.placement.Fit.{Fit}
 use Rattle.nm_edge.specs.declared.placement.Fit.TheVariants as fit
-use Rattle.nm_walks.specs.declared.spot.ChainEdge.{ChainEdge}
-use Rattle.nm_walks.specs.declared.spot.WalkEnd.{WalkEnd}
-use Rattle.nm_walks.specs.declared.spot.Spot.{Spot}
+use Rattle.nm_walks.specs.declared.seek_record.ChainEdge.{ChainEdge}
+use Rattle.nm_walks.specs.declared.seek_record.WalkEnd.{WalkEnd}
+use Rattle.nm_walks.specs.declared.seek_record.SeekRecord.{SeekRecord}
 use Rattle.nm_walks.specs.Bounds.{chain_bound, reach}
 use Rattle.nm_walks.specs.Places.{Stops, StopsAt}
 use Rattle.nm_walks.specs.Walks.{IsTooLong, IsBroken, Seeks, Finds}
@@ -111,16 +111,16 @@ finds_adds L k old new (Some key) h = end_adds L k old new h.0 h.1 key h.2
 
 pub seeks_adds : (L : Layout) (k : ℕ) (old new : List Entry) (c : List ChainEdge) (r : Option WalkEnd) → Seeks L k old new c r → Adds 0 0 0 (3 * reach L) old new
 seeks_adds L k old new c None h = broken_adds L k old new h
-seeks_adds L k old new c (Some r) h = end_adds L k old new r.spot c r.key h.0
+seeks_adds L k old new c (Some r) h = end_adds L k old new r.seek_record c r.key h.0
 
-stop_adds : (L : Layout) (k : ℕ) (old new : List Entry) (s : Spot) (c : List ChainEdge) (key : ℕ) → StopsAt L k old new s c key → Adds 0 0 0 (3 * reach L) old new
+stop_adds : (L : Layout) (k : ℕ) (old new : List Entry) (s : SeekRecord) (c : List ChainEdge) (key : ℕ) → StopsAt L k old new s c key → Adds 0 0 0 (3 * reach L) old new
 stop_adds L k old new s c key e =
     let few = e.3 in
     adds_in (3 * reach L) old new (omega (arith, few)) (adds_then old e.1 new (walk_adds k e.0 old e.1 s c e.4) (reads_add k s.edge.slot e.1 new e.2 e.6))
 
 pub stops_adds : (L : Layout) (k : ℕ) (old new : List Entry) (c : List ChainEdge) (r : Option WalkEnd) → Stops L k old new c r → Adds 0 0 0 (3 * reach L) old new
 stops_adds L k old new c None h = broken_adds L k old new h
-stops_adds L k old new c (Some r) h = stop_adds L k old new r.spot c r.key h.0
+stops_adds L k old new c (Some r) h = stop_adds L k old new r.seek_record c r.key h.0
 
 pub lost_walks_add : (L : Layout) (k t : ℕ) (old new : List Entry) → LostWalks L k t old new → Adds 0 0 0 (t * most (reach L)) old new
 lost_walks_add L k zero old new h = adds_in _ old new (omega arith) (adds_none old new h)
@@ -179,7 +179,7 @@ plain_moved_adds tries old new h = moved_adds_by Plainly tries old new h
 
 passed_adds : (s : ℕ) (old new : List Entry) → PassedOver s old new → Adds 0 0 0 3 old new
 passed_adds s old new (inl taken) = adds_in 3 old new (omega arith) (adds_these _ old new taken)
-passed_adds s old new (inr worn) = adds_these _ old new worn
+passed_adds s old new (inr exhausted) = adds_these _ old new exhausted
 
 passed_all : (from n : ℕ) (old new : List Entry) → DoneInTurn PassedOver from n old new → Adds 0 0 0 (3 * n) old new
 passed_all from zero old new h = adds_none old new h
@@ -197,13 +197,13 @@ passed_at nodes [] old new h = adds_none old new h
 passed_at nodes (s ∷ slots) old new h = adds_in (3 * suc (length slots)) old new (omega arith) (adds_then old h.0 new (passed_at nodes slots old h.0 h.1) (passed_adds s h.0 new h.2.2))
 
 pub claim_by_adds : (f : Fit) (nodes : ℕ) (old new : List Entry) (r : Option NodeId) → IsClaimBy f nodes old new r → Adds 0 0 0 (3 * nodes) old new
-claim_by_adds fit.Lowest nodes old new r h = claim_adds nodes old new r h
-claim_by_adds fit.Near nodes old new (Some n) h =
+claim_by_adds fit.FirstFit nodes old new r h = claim_adds nodes old new r h
+claim_by_adds fit.NextFit nodes old new (Some n) h =
     let few = h.few in
     adds_in (3 * nodes) old new (omega (arith, few)) (adds_then old h.before new (passed_at nodes h.slots old h.before h.passed) (adds_these _ h.before new h.made.entries))
-claim_by_adds fit.Near nodes old new None h = let few = h.few in adds_in (3 * nodes) old new (omega (arith, few)) (passed_at nodes h.slots old new h.passed)
+claim_by_adds fit.NextFit nodes old new None h = let few = h.few in adds_in (3 * nodes) old new (omega (arith, few)) (passed_at nodes h.slots old new h.passed)
 
 -- ---- cleanups
 
-pub cleaned_adds : (s : Spot) (c : List ChainEdge) (ns : List NodeId) (epoch : ℕ) (old new : List Entry) → CleanupWon s c ns epoch old new → Adds 0 0 1 (3 * length c + 8) old new
+pub cleaned_adds : (s : SeekRecord) (c : List ChainEdge) (ns : List NodeId) (epoch : ℕ) (old new : List Entry) → CleanupWon s c ns epoch old new → Adds 0 0 1 (3 * length c + 8) old new
 cleaned_adds s c ns epoch old new h = adds_in (3 * length c + 8) old new (omega arith) (adds_then old h.0 new (cut_adds s c ns old h.0 h.1) (adds_these _ h.0 new h.2))

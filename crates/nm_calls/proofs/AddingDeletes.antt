@@ -18,8 +18,8 @@ use Rattle.nm_calls.specs.declared.deleting.Missed.{Missed}
 use Rattle.nm_calls.specs.declared.deleting.Missed.TheVariants as missed
 use Rattle.nm_calls.specs.declared.deleting.Removal.{Removal}
 use Rattle.nm_calls.specs.declared.deleting.Removal.TheVariants as removal
-use Rattle.nm_walks.specs.declared.spot.ChainEdge.{ChainEdge}
-use Rattle.nm_walks.specs.declared.spot.WalkEnd.{WalkEnd}
+use Rattle.nm_walks.specs.declared.seek_record.ChainEdge.{ChainEdge}
+use Rattle.nm_walks.specs.declared.seek_record.WalkEnd.{WalkEnd}
 use Rattle.nm_walks.specs.Cleanups.{CleanupLost}
 use Rattle.nm_walks.specs.Bounds.{chain_bound, reach}
 use Rattle.nm_calls.specs.Deletes.{IsFlagTry, leaf_of, looks_and_flags, Removes, RemovesNothing, LostRemovals, IsRemoval, LostFlags, IsInjection, RemovalAfter, FlagsThen, DeleteFinishes, FinishDid}
@@ -70,12 +70,12 @@ removes_nothing_adds : (L : Layout) (k : ℕ) (n : NodeId) (old new : List Entry
 removes_nothing_adds L k n old new (inl broken) = adds_in (most (reach L)) old new (omega arith) (broken_adds L k old new broken)
 removes_nothing_adds L k n old new (inr h) =
     let few = h.3.1 in
-    adds_in (most (reach L)) old new (omega (arith, few)) (adds_then old h.2 new (seeks_adds L k old h.2 h.1 (Some h.0) h.3) (not_cleaned_adds h.0.spot h.1 h.2 new h.5))
+    adds_in (most (reach L)) old new (omega (arith, few)) (adds_then old h.2 new (seeks_adds L k old h.2 h.1 (Some h.0) h.3) (not_cleaned_adds h.0.seek_record h.1 h.2 new h.5))
 
 removes_adds : (L : Layout) (k : ℕ) (n : NodeId) (old new : List Entry) → Removes L k n old new → AddsFlags 0 (most (reach L)) old new
 removes_adds L k n old new h = elim h.2 [
   | inl other ↦ (0, adds_in (most (reach L)) old new (omega arith) (seeks_adds L k old new h.1 (Some h.0) other.0))
-  | inr cut ↦ (1, let few = cut.3.1 in adds_in (most (reach L)) old new (omega (arith, few)) (adds_then old cut.0 new (seeks_adds L k old cut.0 h.1 (Some h.0) cut.3) (cleaned_adds h.0.spot h.1 cut.1 cut.2 cut.0 new cut.5)))
+  | inr cut ↦ (1, let few = cut.3.1 in adds_in (most (reach L)) old new (omega (arith, few)) (adds_then old cut.0 new (seeks_adds L k old cut.0 h.1 (Some h.0) cut.3) (cleaned_adds h.0.seek_record h.1 cut.1 cut.2 cut.0 new cut.5)))
 ]
 
 lost_removals_add : (L : Layout) (k : ℕ) (n : NodeId) (t : ℕ) (old new : List Entry) → LostRemovals L k n t old new → Adds 0 0 0 (t * most (reach L)) old new
@@ -95,17 +95,17 @@ removal_adds L k n tries old new removal.Refused h =
 removal_adds L k n tries old new removal.Spent h = (0, lost_removals_add L k n tries old new h)
 
 module _ (L : Layout) (k : ℕ) (f : FlaggedLeaf) (c : List ChainEdge) (few : length c < chain_bound) (old new : List Entry) where
-  then_removal : (m : Removal) (t : ℕ) (mid : List Entry) → f.left ≡ t + 1 → CleanupLost f.end.spot c old mid → IsRemoval L k (leaf_of f.end f.birth) t mid new m → AddsFlags 0 (f.left * most (reach L)) old new
+  then_removal : (m : Removal) (t : ℕ) (mid : List Entry) → f.left ≡ t + 1 → CleanupLost f.end.seek_record c old mid → IsRemoval L k (leaf_of f.end f.birth) t mid new m → AddsFlags 0 (f.left * most (reach L)) old new
   then_removal m t mid is lost h =
       let rest = removal_adds L k (leaf_of f.end f.birth) t mid new m h in
       let all : t * most (reach L) + most (reach L) ≡ f.left * most (reach L) = sym (suc-mul t (most (reach L))) ∙ ap (λ (n : ℕ). n * most (reach L)) (let same : suc t ≡ f.left = omega (arith, is) in same) in
-      (0 + rest.0, adds_in _ old new (omega (arith, all, few)) (adds_then old mid new (not_cleaned_adds f.end.spot c old mid lost) rest.1))
+      (0 + rest.0, adds_in _ old new (omega (arith, all, few)) (adds_then old mid new (not_cleaned_adds f.end.seek_record c old mid lost) rest.1))
 
   after_adds : (m : Removal) → RemovalAfter L k f c old new m → AddsFlags 0 (f.left * most (reach L)) old new
   after_adds removal.Removed (inl h) =
       let some = h.0 in
       let all = mul_below 0 f.left (most (reach L)) (omega (arith, some)) in
-      (1, adds_in _ old new (omega (arith, all, few)) (cleaned_adds f.end.spot c h.1 h.2 old new h.3))
+      (1, adds_in _ old new (omega (arith, all, few)) (cleaned_adds f.end.seek_record c h.1 h.2 old new h.3))
   after_adds removal.Removed (inr h) = then_removal removal.Removed h.0 h.1 h.2 h.3 h.4
   after_adds removal.Refused (inl h) = (0, adds_in _ old new (omega arith) (adds_none old new h.1))
   after_adds removal.Refused (inr h) = then_removal removal.Refused h.0 h.1 h.2 h.3 h.4

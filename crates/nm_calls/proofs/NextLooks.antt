@@ -17,8 +17,8 @@ use Rattle.nm_model.specs.Walks.{Entry}
 use Rattle.nm_steps.specs.Steps.{TreeView, PassView, Stepped}
 use Rattle.nm_walks.specs.declared.looking.Onward.{Onward}
 use Rattle.nm_calls.specs.declared.next_key.NextWalk.{NextWalk}
-use Rattle.nm_walks.specs.declared.spot.ChainEdge.{ChainEdge}
-use Rattle.nm_walks.specs.declared.spot.Spot.{Spot}
+use Rattle.nm_walks.specs.declared.seek_record.ChainEdge.{ChainEdge}
+use Rattle.nm_walks.specs.declared.seek_record.SeekRecord.{SeekRecord}
 use Rattle.nm_walks.specs.Bounds.{reach}
 use Rattle.nm_calls.specs.NextKeys.{ComesBy, HasNone, HaveNone, IsDescent, IsNextBy, read_below}
 use Rattle.nm_walks.specs.AddedLooks.{AddsLooks}
@@ -58,7 +58,7 @@ descent_begins L p q e step told from key = record {
 }
 
 -- a walk came by an internal node that it read there, and so by a later log
-pub comes_there : (k n : ℕ) (old mid new : List Entry) (s : Spot) (c : List ChainEdge) (on : Onward) (router : ℕ) → Walks k n old mid s c → Reads k s.edge.slot mid new on → on.next.slot ≢ 0 → on.found ≡ router → ComesBy k router old new
+pub comes_there : (k n : ℕ) (old mid new : List Entry) (s : SeekRecord) (c : List ChainEdge) (on : Onward) (router : ℕ) → Walks k n old mid s c → Reads k s.edge.slot mid new on → on.next.slot ≢ 0 → on.found ≡ router → ComesBy k router old new
 comes_there k n old mid new s c on router w read some is = (n, mid, new, [], s, c, on, w, read, some, is, sym (append-nil new))
 
 pub comes_later : (k router : ℕ) (old mid new more : List Entry) → new ≡ mid ++ more → ComesBy k router old mid → ComesBy k router old new
@@ -69,11 +69,11 @@ pub read_alike : (k j x : ℕ) (old new : List Entry) (on : Onward) → side_of 
 read_alike k j x old new on same r = (r.0, r.1, r.2, r.3 ∙ sym same, r.4)
 
 -- a walk that has read its leaf has ended there
-pub walk_ends : (L : Layout) (n j : ℕ) (old mid new : List Entry) (t : Spot) (c : List ChainEdge) (on : Onward) → n + 2 ≤ reach L → Walks j n old mid t c → Reads j t.edge.slot mid new on → on.next.slot ≡ 0 → EndsAtLeaf L j old new t c on.found
+pub walk_ends : (L : Layout) (n j : ℕ) (old mid new : List Entry) (t : SeekRecord) (c : List ChainEdge) (on : Onward) → n + 2 ≤ reach L → Walks j n old mid t c → Reads j t.edge.slot mid new on → on.next.slot ≡ 0 → EndsAtLeaf L j old new t c on.found
 walk_ends L n j old mid new t c on few w read null = (n, mid, on, few, w, null, read, refl)
 
 module _ (L : Layout) (n : ℕ) (o p q : PassView) (d : NextWalk) (bound : ℕ) (on : Onward) (r : Reads d.from d.node p.view.log q.view.log on) (leaf : IsLeafRead d.node p.view.log q.view.log on) (w : IsDescent L n o p d) (some : d.node ≢ 0) (low : bound ≤ d.bound) where
-  abbrev t : Spot
+  abbrev t : SeekRecord
   t = (w.walks some).0
 
   abbrev c : List ChainEdge
@@ -90,14 +90,14 @@ module _ (L : Layout) (n : ℕ) (o p q : PassView) (d : NextWalk) (bound : ℕ) 
 
   -- at its end a key below the leaf's goes as the walk, and where the walk's own key is below it, each
   -- of both edges is null
-  at_end : n + 2 ≤ reach L → on.next.slot ≡ 0 → (j : ℕ) → d.from ≤ j → j < bound → (s : Spot) × (e : List ChainEdge) × EndsAtLeaf L j o.view.log q.view.log s e on.found
+  at_end : n + 2 ≤ reach L → on.next.slot ≡ 0 → (j : ℕ) → d.from ≤ j → j < bound → (s : SeekRecord) × (e : List ChainEdge) × EndsAtLeaf L j o.view.log q.view.log s e on.found
   at_end few null j le less = by (cases_lt d.from on.found)
     where
       on_side : (d : Side) (left right : Edge) → left.slot ≡ 0 → right.slot ≡ 0 → (edge_on d left right).slot ≡ 0
       on_side Left left right none null = none
       on_side Right left right none null = null
 
-      by : (d.from < on.found) ⊎ (on.found ≤ d.from) → (s : Spot) × (e : List ChainEdge) × EndsAtLeaf L j o.view.log q.view.log s e on.found
+      by : (d.from < on.found) ⊎ (on.found ≤ d.from) → (s : SeekRecord) × (e : List ChainEdge) × EndsAtLeaf L j o.view.log q.view.log s e on.found
       by (inl below) =
           let left : on.side ≡ Left = r.3 ∙ ap (λ (b : Bool). cond b Left Right) (lt-ltb d.from on.found below) in
           let both = leaf left null in
@@ -136,7 +136,7 @@ descent_too_long b n o p d from w begun pinned key all some =
 -- ---- by the log since the pin
 
 -- a walk that ended at a leaf has told whether it has the key
-pub ended_so : (L : Layout) (j : ℕ) (old : List Entry) (q : PassView) (s : Spot) (c : List ChainEdge) (found : ℕ) → EndsAtLeaf L j old q.view.log s c found → HasEndedSo q j (found == j)
+pub ended_so : (L : Layout) (j : ℕ) (old : List Entry) (q : PassView) (s : SeekRecord) (c : List ChainEdge) (found : ℕ) → EndsAtLeaf L j old q.view.log s c found → HasEndedSo q j (found == j)
 ended_so L j old q s c found (n, mid, on, few, w, null, read, is) =
     let come = walk_comes j n old mid s c w in
     let many = come.1 in
@@ -188,7 +188,7 @@ module _ (L : Layout) (n : ℕ) (o p : PassView) (key from : ℕ) (d : NextWalk)
         apart (inl o) j le less same = let past = o.1 in omega (arith, past, less, same)
         apart (inr o) j le less same = omega (arith, o, le, same)
 
-        serves : (j : ℕ) → from ≤ j → j < d.bound → (s : Spot) × (c : List ChainEdge) × EndsAtLeaf L j o.view.log p.view.log s c d.found → (s : Spot) × (c : List ChainEdge) × (found : ℕ) × EndsAtLeaf L j o.view.log p.view.log s c found × (found ≢ j)
+        serves : (j : ℕ) → from ≤ j → j < d.bound → (s : SeekRecord) × (c : List ChainEdge) × EndsAtLeaf L j o.view.log p.view.log s c d.found → (s : SeekRecord) × (c : List ChainEdge) × (found : ℕ) × EndsAtLeaf L j o.view.log p.view.log s c found × (found ≢ j)
         serves j le less (s, c, end) = (s, c, d.found, end, apart out j le less)
 
     -- one walk more

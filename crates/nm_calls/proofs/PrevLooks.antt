@@ -14,8 +14,8 @@ use Rattle.nm_model.specs.Walks.{Entry}
 use Rattle.nm_steps.specs.Steps.{TreeView, PassView, Stepped}
 use Rattle.nm_walks.specs.declared.looking.Onward.{Onward}
 use Rattle.nm_calls.specs.declared.prev_key.PrevWalk.{PrevWalk}
-use Rattle.nm_walks.specs.declared.spot.ChainEdge.{ChainEdge}
-use Rattle.nm_walks.specs.declared.spot.Spot.{Spot}
+use Rattle.nm_walks.specs.declared.seek_record.ChainEdge.{ChainEdge}
+use Rattle.nm_walks.specs.declared.seek_record.SeekRecord.{SeekRecord}
 use Rattle.nm_walks.specs.Bounds.{reach}
 use Rattle.nm_calls.specs.NextKeys.{ComesBy, HasNone}
 use Rattle.nm_calls.specs.PrevKeys.{HaveNone, IsDescent, IsPrevBy, read_above}
@@ -44,7 +44,7 @@ descent_begins L p q e step told from = record {
 
 module _ (L : Layout) (n : ℕ) (o p q : PassView) (d : PrevWalk) (bound : ℕ) (on : Onward) (r : Reads d.from d.node p.view.log q.view.log on) (w : IsDescent L n o p d) (some : d.node ≢ 0) (high : d.bound ≤ bound)
     (turns : (j : ℕ) → bound ≤ j → j ≤ d.from → side_of j on.found ≡ side_of d.from on.found) where
-  abbrev t : Spot
+  abbrev t : SeekRecord
   t = (w.walks some).0
 
   abbrev c : List ChainEdge
@@ -134,7 +134,7 @@ module _ (L : Layout) (n : ℕ) (o p : PassView) (key from : ℕ) (d : PrevWalk)
         came (inl at) = absurd (other at.1)
         came (inr all) = all
 
-        serves : (j : ℕ) → d.bound ≤ j → j < from + 1 → (s : Spot) × (c : List ChainEdge) × EndsAtLeaf L j o.view.log p.view.log s c d.found → (s : Spot) × (c : List ChainEdge) × (found : ℕ) × EndsAtLeaf L j o.view.log p.view.log s c found × (found ≢ j)
+        serves : (j : ℕ) → d.bound ≤ j → j < from + 1 → (s : SeekRecord) × (c : List ChainEdge) × EndsAtLeaf L j o.view.log p.view.log s c d.found → (s : SeekRecord) × (c : List ChainEdge) × (found : ℕ) × EndsAtLeaf L j o.view.log p.view.log s c found × (found ≢ j)
         serves j least less (s, c, end) = (s, c, d.found, end, apart j least (omega (arith, less)))
 
     -- one walk more

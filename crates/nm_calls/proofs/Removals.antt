@@ -24,9 +24,9 @@ use Rattle.nm_calls.specs.declared.deleting.Missed.{Missed}
 use Rattle.nm_calls.specs.declared.deleting.Missed.TheVariants as missed
 use Rattle.nm_calls.specs.declared.deleting.Removal.{Removal}
 use Rattle.nm_calls.specs.declared.deleting.Removal.TheVariants as removal
-use Rattle.nm_walks.specs.declared.spot.ChainEdge.{ChainEdge}
-use Rattle.nm_walks.specs.declared.spot.WalkEnd.{WalkEnd}
-use Rattle.nm_walks.specs.declared.spot.Spot.{Spot}
+use Rattle.nm_walks.specs.declared.seek_record.ChainEdge.{ChainEdge}
+use Rattle.nm_walks.specs.declared.seek_record.WalkEnd.{WalkEnd}
+use Rattle.nm_walks.specs.declared.seek_record.SeekRecord.{SeekRecord}
 use Rattle.nm_walks.specs.Telling.{Tells, IsInRun, GoesOn, OnlyLooks, IsPinnedSomewhere}
 use Rattle.nm_walks.specs.Walks.{HasEnded, HasFound}
 use Rattle.nm_walks.specs.Marking.{IsToBeFlagged, FlagWon}
@@ -51,7 +51,7 @@ found_flagged p q k n leaf parent v side r run flagged found is =
     later_walks_find q.view.layout (enough q.view.layout run.fits) q.view.number q.view.log run.run.is_part n k parent side (flagged ∙ r.flagged) (subst (λ (x : ℕ). Tells q (Came TheFlag k x parent side)) is ended.0)
 
 -- a cleanup at the flagged edge cut the leaf off
-pub cleanup_shows : (p q : PassView) (s : Spot) (c : List ChainEdge) (es fs : List Waiting) (k : ℕ) (n : NodeId) → HasCleaned s c p q es fs → (search p).flagged ≡ Some n → (search q).flagged ≡ (search p).flagged → Tells p (IsFlagged s.parent s.side n.slot) → Tells p (IsBorn n.slot n.birth) → ShowsAnswer q Delete k true
+pub cleanup_shows : (p q : PassView) (s : SeekRecord) (c : List ChainEdge) (es fs : List Waiting) (k : ℕ) (n : NodeId) → HasCleaned s c p q es fs → (search p).flagged ≡ Some n → (search q).flagged ≡ (search p).flagged → Tells p (IsFlagged s.parent s.side n.slot) → Tells p (IsBorn n.slot n.birth) → ShowsAnswer q Delete k true
 cleanup_shows p q s c es fs k n cleaned flagged same edge born =
     (n, same ∙ flagged, inl (cleaned.cut ∙ right_true (search p).cut (is_flagged_in (search p).flagged cleaned.nodes) (ap (λ (o : Option NodeId). is_flagged_in o cleaned.nodes) flagged ∙ cleaned.leaf n.slot n.birth edge born)))
 
@@ -94,36 +94,36 @@ removing_on p q k n r on only = record {
 
 -- ---- a flag
 
-pub to_be_flagged : (p q : PassView) (k : ℕ) (r : WalkEnd) (b : ℕ) → MayFlag p k r → GoesOn p q → OnlyLooks p q → Tells q (IsBorn r.spot.edge.slot b) → IsToBeFlagged q r.spot.parent r.spot.side r.spot.edge.slot
+pub to_be_flagged : (p q : PassView) (k : ℕ) (r : WalkEnd) (b : ℕ) → MayFlag p k r → GoesOn p q → OnlyLooks p q → Tells q (IsBorn r.seek_record.edge.slot b) → IsToBeFlagged q r.seek_record.parent r.seek_record.side r.seek_record.edge.slot
 to_be_flagged p q k r b may on only born = record {
-  knows_parent = on.keeps (KnowsSlot r.spot.parent) may.parent;
-  knows_leaf = on.keeps (KnowsSlot r.spot.edge.slot) may.known;
-  is_leaf = on.keeps (KnowsLeaf r.spot.edge.slot) may.leaf;
+  knows_parent = on.keeps (KnowsSlot r.seek_record.parent) may.parent;
+  knows_leaf = on.keeps (KnowsSlot r.seek_record.edge.slot) may.known;
+  is_leaf = on.keeps (KnowsLeaf r.seek_record.edge.slot) may.leaf;
   high = may.high;
   born = (b, born);
   key = k;
   call = on.keeps (CallIs Delete k) may.call;
-  ended = on.keeps (EndedAt ThePin k r.spot.edge.slot r.spot.parent r.spot.side k) may.ended;
+  ended = on.keeps (EndedAt ThePin k r.seek_record.edge.slot r.seek_record.parent r.seek_record.side k) may.ended;
   unflagged = only.flagged ∙ may.unflagged;
 }
 
-pub has_flagged : (o p q : PassView) (r : WalkEnd) (b : ℕ) → p.view.log ≡ o.view.log ++ (Look r.spot.edge.slot Birth, BirthIs b) ∷ [] → Tells p (IsBorn r.spot.edge.slot b) → GoesOn p q → FlagWon p q r.spot.parent r.spot.side (leaf_of r b) → HasWonItsFlag o q r b
+pub has_flagged : (o p q : PassView) (r : WalkEnd) (b : ℕ) → p.view.log ≡ o.view.log ++ (Look r.seek_record.edge.slot Birth, BirthIs b) ∷ [] → Tells p (IsBorn r.seek_record.edge.slot b) → GoesOn p q → FlagWon p q r.seek_record.parent r.seek_record.side (leaf_of r b) → HasWonItsFlag o q r b
 has_flagged o p q r b looked born on won = record {
-  part = ap (λ (x : PassView). x.view.log) won.step ∙ ap (λ (log : List Entry). log ++ (Flag r.spot.parent r.spot.side r.spot.edge.slot, Flagged (leaf_of r b)) ∷ []) looked;
+  part = ap (λ (x : PassView). x.view.log) won.step ∙ ap (λ (log : List Entry). log ++ (Flag r.seek_record.parent r.seek_record.side r.seek_record.edge.slot, Flagged (leaf_of r b)) ∷ []) looked;
   flagged = won.flagged;
   edge = won.known;
-  born = on.keeps (IsBorn r.spot.edge.slot b) born;
+  born = on.keeps (IsBorn r.seek_record.edge.slot b) born;
 }
 
-pub may_flag_there : (p q : PassView) (k : ℕ) (L : Layout) (r : WalkEnd) (c : List ChainEdge) → Tells p (CallIs Delete k) → (search p).flagged ≡ None → k < infinity_0 → GoesOn p q → OnlyLooks p q → HasEnded (Tells q) L r.spot c
-    → (r.key < infinity_0 → 6 ≤ r.spot.edge.slot) → HasFound p q k r.spot.edge.slot r.spot.parent r.spot.side r.key → r.key ≡ k → MayFlag q k r
+pub may_flag_there : (p q : PassView) (k : ℕ) (L : Layout) (r : WalkEnd) (c : List ChainEdge) → Tells p (CallIs Delete k) → (search p).flagged ≡ None → k < infinity_0 → GoesOn p q → OnlyLooks p q → HasEnded (Tells q) L r.seek_record c
+    → (r.key < infinity_0 → 6 ≤ r.seek_record.edge.slot) → HasFound p q k r.seek_record.edge.slot r.seek_record.parent r.seek_record.side r.key → r.key ≡ k → MayFlag q k r
 may_flag_there p q k L r c call unflagged low on only ended high found is = record {
   parent = ended.at.parent;
   known = ended.at.node;
   leaf = ended.leaf;
   high = high (subst (λ (n : ℕ). n < infinity_0) (sym is) low);
   call = on.keeps (CallIs Delete k) call;
-  ended = subst (λ (n : ℕ). Tells q (EndedAt ThePin k r.spot.edge.slot r.spot.parent r.spot.side n)) is (found ThePin (Delete, call));
+  ended = subst (λ (n : ℕ). Tells q (EndedAt ThePin k r.seek_record.edge.slot r.seek_record.parent r.seek_record.side n)) is (found ThePin (Delete, call));
   unflagged = only.flagged ∙ unflagged;
 }
 
@@ -142,7 +142,7 @@ removing_from p q k n pin call labelled on only flagged born = record {
   labelled = only.labelled labelled;
 }
 
-pub removal_after : (L : Layout) (k : ℕ) (f : FlaggedLeaf) (c : List ChainEdge) (t : ℕ) (old mid new : List Entry) (m : Removal) → f.left ≡ t + 1 → CleanupLost f.end.spot c old mid → IsRemoval L k (leaf_of f.end f.birth) t mid new m → RemovalAfter L k f c old new m
+pub removal_after : (L : Layout) (k : ℕ) (f : FlaggedLeaf) (c : List ChainEdge) (t : ℕ) (old mid new : List Entry) (m : Removal) → f.left ≡ t + 1 → CleanupLost f.end.seek_record c old mid → IsRemoval L k (leaf_of f.end f.birth) t mid new m → RemovalAfter L k f c old new m
 removal_after L k f c t old mid new removal.Removed is lost h = inr (t, mid, is, lost, h)
 removal_after L k f c t old mid new removal.Refused is lost h = inr (t, mid, is, lost, h)
 removal_after L k f c t old mid new removal.Spent is lost h = inr (t, mid, is, lost, h)

@@ -9,22 +9,22 @@ use Rattle.nm_steps.specs.Steps.{PassView, IsSamePass, HasSeenAllOf}
 use Rattle.nm_epoch.specs.Resting.{IsResting, KeepsHands}
 use Rattle.nm_epoch.specs.Tries.{IsPinnedBy, IsMoved}
 use Rattle.nm_calls.specs.declared.lookup.Busy.{Busy}
-use Rattle.nm_walks.specs.declared.spot.ChainEdge.{ChainEdge}
-use Rattle.nm_walks.specs.declared.spot.Spot.{Spot}
+use Rattle.nm_walks.specs.declared.seek_record.ChainEdge.{ChainEdge}
+use Rattle.nm_walks.specs.declared.seek_record.SeekRecord.{SeekRecord}
 use Rattle.nm_calls.specs.Bounds.{IsWithinBound}
 use Rattle.nm_calls.specs.Moments.{AnswerHasMoment}
 use Rattle.nm_walks.specs.Walks.{EndsAtLeaf, IsTooLong}
 use Rattle.nm_walks.specs.WonCounts.{won_splices}
 use Rattle.nm_calls.specs.Won.{HasWon}
 
--- so many walks in a row were broken off
+-- this many walks in a row were broken off
 abbrev pub LostWalks : Layout → ℕ → ℕ → List Entry → List Entry → Type 0
 LostWalks L k zero old new = new ≡ old
 LostWalks L k (suc t) old new =
     (mid : List Entry) × LostWalks L k t old mid × IsTooLong L k mid new
 
--- a pin for the look-up, fewer broken walks than there may be tries, a walk whose leaf has key k
--- exactly where the answer is true, and a leave with the answer
+-- the log has a pin for the look-up, fewer than `tries` broken walks, a walk whose leaf has key k
+-- exactly if the answer is true, and a leave with the answer
 pub record HasDid (L : Layout) (tries k : ℕ) (old new : List Entry) (answer : Bool) : Type 0 where
   pub pinned : List Entry
   pub epoch : ℕ
@@ -34,15 +34,15 @@ pub record HasDid (L : Layout) (tries k : ℕ) (old new : List Entry) (answer : 
   pub begun : List Entry
   pub lost : LostWalks L k broken pinned begun
   pub ended : List Entry
-  pub spot : Spot
+  pub seek_record : SeekRecord
   pub chain : List ChainEdge
   pub key : ℕ
-  pub walk : EndsAtLeaf L k begun ended spot chain key
+  pub walk : EndsAtLeaf L k begun ended seek_record chain key
   pub answers : answer ≡ (key == k)
   pub leaves : new ≡ ended ++ (LeaveWith answer, Departed) ∷ []
 
--- no step, where there may be no try; or each try of the pin was lost; or a pin, as many broken
--- walks, and a leave
+-- the call had no try, and there was no step; or each try of the pin was lost; or the log has a
+-- pin, `tries` broken walks, and a leave
 abbrev pub HasMissed : Layout → ℕ → ℕ → List Entry → List Entry → Type 0
 HasMissed L zero k old new = new ≡ old
 HasMissed L (suc t) k old new =
@@ -50,9 +50,10 @@ HasMissed L (suc t) k old new =
     ⊎ ((a z : List Entry) × (epoch : ℕ) × IsPinnedBy (SightFor Has k) (suc t) old a epoch
     × LostWalks L k (suc t) a z × (new ≡ z ++ (Leave, Departed) ∷ []))
 
--- what a look-up leaves of its pass, by its answer: the same pass, which has seen all that it had
--- seen; what was done, or why not; an answer that was right at a moment of the call; no exchange
--- that was won; the longest log; and it rests, with the hands that it had
+-- what a look-up leaves of its pass, by its answer. It is the same pass, which has seen all that it
+-- had seen. The record says what was done, or why not. An answer was right at a moment
+-- (linearization point) of the call. No exchange was won, and the log has a bound. The worker
+-- rests, and holds what it held
 pub record AfterHas (L : Layout) (tries k : ℕ) (p q : PassView) (r : Result Bool Busy) : Type 0 where
   pub same : IsSamePass p q
   pub past : HasSeenAllOf q p

@@ -1,4 +1,4 @@
--- Deletes: what each part of them leaves.
+-- Deletes: what each part of them leaves in the log, and of the pass.
 use Rattle.std.specs.Prelude.{◌≡◌, ◌≢◌, ◌⊎◌, ℕ, zero, suc, ◌+◌, ◌<◌, List, [], ◌∷◌, ◌++◌, ◌≤◌, length, false, true, Bool, Some, None, Result, Ok, Err, IfOk}
 use Rattle.nm_edge.specs.Layouts.{Layout}
 use Rattle.nm_edge.specs.Edges.{Edge}
@@ -24,8 +24,8 @@ use Rattle.nm_calls.specs.declared.deleting.Missed.{Missed}
 use Rattle.nm_calls.specs.declared.deleting.Missed.TheVariants as missed
 use Rattle.nm_calls.specs.declared.deleting.Removal.{Removal}
 use Rattle.nm_calls.specs.declared.deleting.Removal.TheVariants as removal
-use Rattle.nm_walks.specs.declared.spot.ChainEdge.{ChainEdge}
-use Rattle.nm_walks.specs.declared.spot.WalkEnd.{WalkEnd}
+use Rattle.nm_walks.specs.declared.seek_record.ChainEdge.{ChainEdge}
+use Rattle.nm_walks.specs.declared.seek_record.WalkEnd.{WalkEnd}
 use Rattle.nm_walks.specs.Bounds.{chain_bound, cut_bound}
 use Rattle.nm_calls.specs.Bounds.{IsWithinBound}
 use Rattle.nm_walks.specs.Telling.{Tells, IsInRun, IsPinnedSomewhere}
@@ -38,21 +38,21 @@ use Rattle.nm_calls.specs.Won.{HasWon, flags_of_delete}
 
 -- ---- a try to flag
 
--- a walk that ended at a leaf with key k, a look at the leaf's birth, and a flag of the edge that
--- led there, which was answered so
+-- a walk that ended at a leaf with key k, a look at the leaf's generation (birth), and a flag of
+-- the edge that led there, which got this reply
 pub record TriesFlag (L : Layout) (k : ℕ) (r : WalkEnd) (c : List ChainEdge) (birth : ℕ) (reply : Reply)
     (old new : List Entry) : Type 0 where
   pub ended : List Entry
   pub walk : Seeks L k old ended c (Some r)
   pub same : r.key ≡ k
-  pub entries : new ≡ (ended ++ (Look r.spot.edge.slot Birth, BirthIs birth) ∷ [])
-      ++ (Flag r.spot.parent r.spot.side r.spot.edge.slot, reply) ∷ []
+  pub entries : new ≡ (ended ++ (Look r.seek_record.edge.slot Birth, BirthIs birth) ∷ [])
+      ++ (Flag r.seek_record.parent r.seek_record.side r.seek_record.edge.slot, reply) ∷ []
 
 abbrev pub leaf_of : WalkEnd → ℕ → NodeId
-leaf_of r b = record { slot = r.spot.edge.slot; birth = b }
+leaf_of r b = record { slot = r.seek_record.edge.slot; birth = b }
 
--- one try to flag, by what it came to, with the chain of the walk (Natarajan and Mittal, section
--- 3.2, delete)
+-- one try to flag, by its result, with the chain of the walk (Natarajan and Mittal, section 3.2,
+-- delete)
 abbrev pub IsFlagTry : Layout → ℕ → List ChainEdge → List Entry → List Entry → Injected → Type 0
 IsFlagTry L k c old new injected.Absent =
     (r : WalkEnd) × Seeks L k old new c (Some r) × (r.key ≢ k)
@@ -64,7 +64,7 @@ IsFlagTry L k c old new injected.Lost = IsBroken L k old new
 
 -- ---- cleanup mode
 
--- the call has flagged the leaf, and it may go on to remove it (Natarajan and Mittal, section 3.2,
+-- the call has flagged the leaf, and may go on to remove it (Natarajan and Mittal, section 3.2,
 -- delete)
 pub record IsRemoving (p : PassView) (k : ℕ) (n : NodeId) : Type 0 where
   pub run : IsInRun p
@@ -77,26 +77,26 @@ pub record IsRemoving (p : PassView) (k : ℕ) (n : NodeId) : Type 0 where
   pub labelled : (epochs p).unlabelled ≡ false
 
 -- a walk to another leaf, or a won cleanup by a walk that ended at the flagged leaf, whose splice
--- cut that leaf (Natarajan and Mittal, section 3.2, delete)
+-- cut off that leaf (Natarajan and Mittal, section 3.2, delete)
 abbrev pub Removes : Layout → ℕ → NodeId → List Entry → List Entry → Type 0
 Removes L k n old new = (r : WalkEnd) × (c : List ChainEdge)
-    × ((Seeks L k old new c (Some r) × (r.spot.edge.slot ≢ n.slot))
+    × ((Seeks L k old new c (Some r) × (r.seek_record.edge.slot ≢ n.slot))
     ⊎ ((mid : List Entry) × (ns : List NodeId) × (epoch : ℕ) × Seeks L k old mid c (Some r)
-    × (r.spot.edge.slot ≡ n.slot) × CleanupWon r.spot c ns epoch mid new × IsOneOfNodes n ns))
+    × (r.seek_record.edge.slot ≡ n.slot) × CleanupWon r.seek_record c ns epoch mid new × IsOneOfNodes n ns))
 
 -- a walk that was broken off, or a lost cleanup by a walk that ended at the flagged leaf
 abbrev pub RemovesNothing : Layout → ℕ → NodeId → List Entry → List Entry → Type 0
 RemovesNothing L k n old new = IsBroken L k old new
     ⊎ ((r : WalkEnd) × (c : List ChainEdge) × (mid : List Entry) × Seeks L k old mid c (Some r)
-    × (r.spot.edge.slot ≡ n.slot) × CleanupLost r.spot c mid new)
+    × (r.seek_record.edge.slot ≡ n.slot) × CleanupLost r.seek_record c mid new)
 
--- so many such tries were lost, one behind the other
+-- this many such tries were lost, one after the other
 abbrev pub LostRemovals : Layout → ℕ → NodeId → ℕ → List Entry → List Entry → Type 0
 LostRemovals L k n zero old new = new ≡ old
 LostRemovals L k n (suc t) old new =
     (mid : List Entry) × LostRemovals L k n t old mid × RemovesNothing L k n mid new
 
--- up to so many tries, by what they came to
+-- at most `tries` tries to remove, by their result
 abbrev pub IsRemoval : Layout → ℕ → NodeId → ℕ → List Entry → List Entry → Removal → Type 0
 IsRemoval L k n tries old new removal.Removed =
     (t : ℕ) × (mid : List Entry) × (t < tries) × LostRemovals L k n t old mid
@@ -105,43 +105,44 @@ IsRemoval L k n tries old new removal.Refused =
     (t : ℕ) × (t < tries) × LostRemovals L k n t old new
 IsRemoval L k n tries old new removal.Spent = LostRemovals L k n tries old new
 
--- the leaf is known to be cut off once it is removed
+-- the property holds if the leaf was removed
 abbrev pub IfRemoved : Removal → Type 0 → Type 0
 IfRemoved removal.Removed P = P
 IfRemoved _ P = Unit {0}
 
--- ---- what flagging leaves
+-- ---- what a flag leaves
 
 -- the call may flag the leaf at which its walk ended
 pub record MayFlag (p : PassView) (k : ℕ) (r : WalkEnd) : Type 0 where
-  pub parent : Tells p (KnowsSlot r.spot.parent)
-  pub known : Tells p (KnowsSlot r.spot.edge.slot)
-  pub leaf : Tells p (KnowsLeaf r.spot.edge.slot)
-  pub high : 6 ≤ r.spot.edge.slot
+  pub parent : Tells p (KnowsSlot r.seek_record.parent)
+  pub known : Tells p (KnowsSlot r.seek_record.edge.slot)
+  pub leaf : Tells p (KnowsLeaf r.seek_record.edge.slot)
+  pub high : 6 ≤ r.seek_record.edge.slot
   pub call : Tells p (CallIs Delete k)
-  pub ended : Tells p (EndedAt ThePin k r.spot.edge.slot r.spot.parent r.spot.side k)
+  pub ended : Tells p (EndedAt ThePin k r.seek_record.edge.slot r.seek_record.parent r.seek_record.side k)
   pub unflagged : (search p).flagged ≡ None
 
 abbrev pub looks_and_flags : WalkEnd → ℕ → Reply → List Entry → List Entry
 looks_and_flags r b reply old =
-    (old ++ (Look r.spot.edge.slot Birth, BirthIs b) ∷ [])
-    ++ (Flag r.spot.parent r.spot.side r.spot.edge.slot, reply) ∷ []
+    (old ++ (Look r.seek_record.edge.slot Birth, BirthIs b) ∷ [])
+    ++ (Flag r.seek_record.parent r.seek_record.side r.seek_record.edge.slot, reply) ∷ []
 
--- the flag is won: the leaf is the one that the call flagged, and the edge to it is known as
+-- the flag is won: the leaf is the one that the call has flagged, and the edge to it is known to be
 -- flagged
 pub record HasWonItsFlag (p q : PassView) (r : WalkEnd) (b : ℕ) : Type 0 where
   pub part : q.view.log ≡ looks_and_flags r b (Flagged (leaf_of r b)) p.view.log
   pub flagged : (search q).flagged ≡ Some (leaf_of r b)
-  pub edge : Tells q (IsFlagged r.spot.parent r.spot.side r.spot.edge.slot)
-  pub born : Tells q (IsBorn r.spot.edge.slot b)
+  pub edge : Tells q (IsFlagged r.seek_record.parent r.seek_record.side r.seek_record.edge.slot)
+  pub born : Tells q (IsBorn r.seek_record.edge.slot b)
 
--- the flag was lost: what the call flagged is as it was
+-- the flag was lost: what the call has flagged is unchanged
 pub record HasNotFlagged (p q : PassView) (r : WalkEnd) (e : Edge) : Type 0 where
   pub birth : ℕ
   pub part : q.view.log ≡ looks_and_flags r birth (Lost e) p.view.log
   pub flagged : (search q).flagged ≡ (search p).flagged
 
--- the pin, private slots, the call with what it linked, and ledgers but for the nodes that were cut
+-- unchanged are the pin, the private slots, the call with what it linked, and the ledgers except
+-- for the nodes that were cut off
 pub record OnlyInjects (p q : PassView) : Type 0 where
   pub announcement : (epochs q).announcement ≡ (epochs p).announcement
   pub pin : (epochs q).pin ≡ (epochs p).pin
@@ -151,27 +152,27 @@ pub record OnlyInjects (p q : PassView) : Type 0 where
   pub linked : (search q).linked ≡ (search p).linked
   pub ledgers : KeepsLedgers p q
 
--- what the call shows after a try to flag; and where it has flagged, what a cleanup at that spot
--- asks
+-- what the log shows after a try to flag; if it has flagged, also what a cleanup with that seek
+-- record needs
 abbrev pub ShowsFlag : ℕ → List ChainEdge → PassView → PassView → Injected → Type 0
 ShowsFlag k c p q injected.Absent = ShowsAnswer q Delete k false
 ShowsFlag k c p q (injected.Flagged r b) =
     ((search q).flagged ≡ Some (leaf_of r b))
-    × Tells q (IsFlagged r.spot.parent r.spot.side r.spot.edge.slot)
-    × Tells q (IsBorn r.spot.edge.slot b) × IsAt (Tells q) r.spot c × (length c < chain_bound)
+    × Tells q (IsFlagged r.seek_record.parent r.seek_record.side r.seek_record.edge.slot)
+    × Tells q (IsBorn r.seek_record.edge.slot b) × IsAt (Tells q) r.seek_record c × (length c < chain_bound)
 ShowsFlag k c p q injected.Lost = (search q).flagged ≡ (search p).flagged
 
 -- ---- the tries to flag
 
--- so many tries to flag were lost
+-- this many tries to flag were lost
 abbrev pub LostFlags : Layout → ℕ → ℕ → List Entry → List Entry → Type 0
 LostFlags L k zero old new = new ≡ old
 LostFlags L k (suc t) old new =
     (c : List ChainEdge) × (mid : List Entry) × LostFlags L k t old mid
     × IsFlagTry L k c mid new injected.Lost
 
--- up to so many tries, by what they came to: with a flag that was won, how many are left; refused,
--- the room of a later try than the first
+-- at most `tries` tries to flag, by their result: after a won flag, `left` tries are left;
+-- `Refused` is about the room of a try after the first
 abbrev pub IsInjection : Layout → ℕ → ℕ → List ChainEdge → List Entry → List Entry → Injection → Type 0
 IsInjection L k tries c old new injection.Absent =
     (t : ℕ) × (mid : List Entry) × (t < tries) × LostFlags L k t old mid
@@ -183,45 +184,45 @@ IsInjection L k tries c old new injection.Refused =
     (t : ℕ) × (0 < t) × (t < tries) × LostFlags L k t old new
 IsInjection L k tries c old new injection.Spent = LostFlags L k tries old new
 
--- what the log shows behind the tries to flag, by what they came to
+-- what the log shows after the tries to flag, by their result
 abbrev pub ShowsInjection : ℕ → List ChainEdge → PassView → Injection → Type 0
 ShowsInjection k c q injection.Absent = ShowsAnswer q Delete k false
 ShowsInjection k c q (injection.Flagged f) =
     ((search q).flagged ≡ Some (leaf_of f.end f.birth))
-    × Tells q (IsFlagged f.end.spot.parent f.end.spot.side f.end.spot.edge.slot)
-    × Tells q (IsBorn f.end.spot.edge.slot f.birth) × IsAt (Tells q) f.end.spot c
+    × Tells q (IsFlagged f.end.seek_record.parent f.end.seek_record.side f.end.seek_record.edge.slot)
+    × Tells q (IsBorn f.end.seek_record.edge.slot f.birth) × IsAt (Tells q) f.end.seek_record c
     × (length c < chain_bound)
 ShowsInjection k c q _ = (search q).flagged ≡ None
 
--- ---- the tries to remove, the first of which is a cleanup by the walk of the flag
+-- ---- the tries to remove; the first is a cleanup with the walk of the flag
 
--- the tries to remove the leaf, from a cleanup by that walk on, by what they came to (Natarajan and
--- Mittal, section 3.2, delete)
+-- the tries to remove the leaf, beginning with a cleanup with that walk, by their result (Natarajan
+-- and Mittal, section 3.2, delete)
 abbrev pub RemovalAfter : Layout → ℕ → FlaggedLeaf → List ChainEdge → List Entry → List Entry → Removal
     → Type 0
 RemovalAfter L k f c old new removal.Removed =
-    ((f.left ≢ 0) × (ns : List NodeId) × (epoch : ℕ) × CleanupWon f.end.spot c ns epoch old new
+    ((f.left ≢ 0) × (ns : List NodeId) × (epoch : ℕ) × CleanupWon f.end.seek_record c ns epoch old new
     × IsOneOfNodes (leaf_of f.end f.birth) ns)
-    ⊎ ((t : ℕ) × (mid : List Entry) × (f.left ≡ t + 1) × CleanupLost f.end.spot c old mid
+    ⊎ ((t : ℕ) × (mid : List Entry) × (f.left ≡ t + 1) × CleanupLost f.end.seek_record c old mid
     × IsRemoval L k (leaf_of f.end f.birth) t mid new removal.Removed)
 RemovalAfter L k f c old new removal.Refused =
     ((f.left ≢ 0) × (new ≡ old))
-    ⊎ ((t : ℕ) × (mid : List Entry) × (f.left ≡ t + 1) × CleanupLost f.end.spot c old mid
+    ⊎ ((t : ℕ) × (mid : List Entry) × (f.left ≡ t + 1) × CleanupLost f.end.seek_record c old mid
     × IsRemoval L k (leaf_of f.end f.birth) t mid new removal.Refused)
 RemovalAfter L k f c old new removal.Spent =
     ((f.left ≡ 0) × (new ≡ old))
-    ⊎ ((t : ℕ) × (mid : List Entry) × (f.left ≡ t + 1) × CleanupLost f.end.spot c old mid
+    ⊎ ((t : ℕ) × (mid : List Entry) × (f.left ≡ t + 1) × CleanupLost f.end.seek_record c old mid
     × IsRemoval L k (leaf_of f.end f.birth) t mid new removal.Spent)
 
 -- ---- the whole call
 
--- what a flag that was won leads to
+-- a won flag, and what followed it
 abbrev pub FlagsThen : Layout → ℕ → ℕ → NodeId → List Entry → List Entry → Removal → Type 0
 FlagsThen L tries k n old new m =
     (f : FlaggedLeaf) × (c : List ChainEdge) × (mid : List Entry) × (n ≡ leaf_of f.end f.birth)
     × IsInjection L k tries c old mid (injection.Flagged f) × RemovalAfter L k f c mid new m
 
--- from the pin on, by the answer
+-- a delete from its pin on, by its answer
 abbrev pub DeleteFinishes : Layout → ℕ → ℕ → List Entry → List Entry → Result Bool Missed → Type 0
 DeleteFinishes L tries k old new (Ok true) =
     (n : NodeId) × (mid : List Entry) × FlagsThen L tries k n old mid removal.Removed
@@ -239,7 +240,7 @@ DeleteFinishes L tries k old new (Err (missed.Unfinished n)) =
     FlagsThen L tries k n old new removal.Refused
     ⊎ FlagsThen L tries k n old new removal.Spent
 
--- a pin for the delete, and then what finishes it
+-- a pin for the delete, and then the rest of it
 abbrev pub PinsForDelete : Layout → ℕ → ℕ → List Entry → List Entry → Result Bool Missed → Type 0
 PinsForDelete L tries k old new r =
     (pinned : List Entry) × (epoch : ℕ) × IsPinnedBy (SightFor Delete k) tries old pinned epoch
@@ -254,7 +255,7 @@ DeleteDid L tries k old new (Err missed.NoMemory) =
     ((tries ≢ 0) × (new ≡ old)) ⊎ PinsForDelete L tries k old new (Err missed.NoMemory)
 DeleteDid L tries k old new r = PinsForDelete L tries k old new r
 
--- the worker rests, or stays pinned for the leaf that it flagged
+-- the worker rests; after `Unfinished` it stays pinned for the leaf that it has flagged
 abbrev pub RestsOrRemoves : ℕ → PassView → Result Bool Missed → Type 0
 RestsOrRemoves k q (Ok b) = IsResting q
 RestsOrRemoves k q (Err missed.Busy) = IsResting q
@@ -265,20 +266,20 @@ RestsOrRemoves k q (Err (missed.Unfinished n)) = IsRemoving q k n
 abbrev pub LosesEachTry : Layout → ℕ → NodeId → ℕ → List Entry → List Entry → Type 0
 LosesEachTry L k n tries old new = IsRemoval L k n tries old new removal.Spent
 
--- a pin and a flag that was won, and behind it each try was lost
+-- the log has a pin and a won flag, and each try after the flag was lost
 abbrev pub LosesAfterFlag : Layout → ℕ → ℕ → List Entry → List Entry → NodeId → Type 0
 LosesAfterFlag L tries k old new n =
     (pinned : List Entry) × (epoch : ℕ) × IsPinnedBy (SightFor Delete k) tries old pinned epoch
     × FlagsThen L tries k n pinned new removal.Spent
 
--- why a delete gave up: what is left has less room than a try asks; or, once the leaf is flagged,
--- each try behind the flag was lost
+-- why a delete gave up: after `NoMemory` the queue has less room than a try needs; after
+-- `Unfinished` so it is, or each try after the flag was lost
 abbrev pub LacksRoomOr : (NodeId → Type 0) → ℕ → Missed → Type 0
 LacksRoomOr lost spare missed.Busy = Unit {0}
 LacksRoomOr lost spare missed.NoMemory = spare < cut_bound
 LacksRoomOr lost spare (missed.Unfinished n) = (spare < cut_bound) ⊎ lost n
 
--- tries to remove, and a leave with the answer true; or each was lost, or the room of one was
+-- tries to remove, and a leave with the answer true; or each try was lost, or the room of one was
 -- refused (Natarajan and Mittal, section 3.2, delete)
 abbrev pub FinishDid : Layout → ℕ → NodeId → ℕ → List Entry → List Entry → Bool → Type 0
 FinishDid L k n tries old new true =
@@ -288,8 +289,8 @@ FinishDid L k n tries old new false =
     IsRemoval L k n tries old new removal.Refused
     ⊎ IsRemoval L k n tries old new removal.Spent
 
--- what a delete leaves of its pass, by its answer: as of an insert, but that the flag that was won
--- is told, and that it rests or stays pinned for the leaf
+-- what a delete leaves of its pass, by its answer. It is as for an insert, except that it counts
+-- the flag that was won, and that the worker rests or stays pinned for the leaf
 pub record AfterDelete (L : Layout) (tries k : ℕ) (p q : PassView) (r : Result Bool Missed) : Type 0 where
   pub same : IsSamePass p q
   pub past : HasSeenAllOf q p
@@ -302,8 +303,9 @@ pub record AfterDelete (L : Layout) (tries k : ℕ) (p q : PassView) (r : Result
   pub private : (knowledge q.view).drafts ≡ (knowledge p.view).drafts
   pub ledgers : KeepsLedgers p q
 
--- and what is left to do of one leaves: the answer true was right at a moment of its call, and then
--- it rests; else it stays pinned for the leaf
+-- what a call that goes on with a delete leaves of its pass: the answer true was right at a moment
+-- (linearization point) of its call, and then the worker rests; otherwise it stays pinned for the
+-- leaf
 pub record AfterFinish (L : Layout) (k : ℕ) (n : NodeId) (tries : ℕ) (p q : PassView)
     (r : Bool) : Type 0 where
   pub same : IsSamePass p q

@@ -7,8 +7,8 @@ use Rattle.nm_steps.specs.Steps.{PassView}
 use Rattle.nm_epoch.specs.Collecting.{IsQueueOf}
 use Rattle.nm_epoch.specs.Resting.{IsResting}
 
--- its log is empty, so it rests; it holds its own ledger alone, of which nothing was cut, and no
--- slot is private
+-- its log is empty, so it rests; it holds only its own ledger, from which nothing was cut off, and
+-- no private slot
 pub record HasDoneNothing (p : PassView) : Type 0 where
   pub rests : IsResting p
   pub log : p.view.log ≡ []

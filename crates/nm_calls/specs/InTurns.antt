@@ -1,4 +1,4 @@
--- Look-ups of several keys under one pin, whose walks go on in turns.
+-- Look-ups of several keys under one pin, whose walks take turns.
 use Rattle.std.specs.Prelude.{◌≡◌, ◌≢◌, ◌==◌, ◌+◌, ◌*◌, ◌≤◌, ℕ, suc, false, List, length, map, All, Contains, Result, IfOk, IfErr}
 use Rattle.nm_edge.specs.Keys.{IsKey}
 use Rattle.nm_edge.specs.Layouts.{Layout}
@@ -16,34 +16,35 @@ pub use Rattle.nm_calls.specs.PlainWalks.{LooksUnderPin, PlainMissed, HasPassed,
 use Rattle.nm_walks.specs.WonCounts.{won_splices}
 use Rattle.nm_calls.specs.Won.{HasWon}
 
--- behind so many nodes at least its walk has come to a known node, which it reads next, or has ended
--- with its answer, where it has none to read (Natarajan and Mittal, section 3.2)
+-- after at least n nodes the walk of the query has reached a known node, which it reads next; or it
+-- has no node to read, and has ended with its answer (Natarajan and Mittal, section 3.2)
 pub record IsUnderWay (n : ℕ) (p : PassView) (q : Query) : Type 0 where
   pub is_key : IsKey q.key
   pub comes : q.node ≢ 0 → HasPassed n p.view.log q.key q.node
   pub known : q.node ≢ 0 → Tells p (KnowsSlot q.node)
   pub ends : q.node ≡ 0 → HasEndedSo p q.key q.found
 
--- it is at the beginning of its walk, which reads this node first (Natarajan and Mittal, section
--- 3.2)
+-- the query is at the beginning of its walk, which reads this node first (Natarajan and Mittal,
+-- section 3.2)
 abbrev pub HasBegun : ℕ → Query → Type 0
 HasBegun first q = IsKey q.key × (q.node ≡ first)
 
--- where its walk has read its node so (Natarajan and Mittal, section 3.2)
+-- the query after its walk has read its node (Natarajan and Mittal, section 3.2)
 abbrev pub query_read : Query → Onward → Query
 query_read q on = record { key = q.key; found = on.found == q.key; node = on.next.slot }
 
 abbrev pub key_of : Query → ℕ
 key_of q = q.key
 
--- looks, by which a walk for one of these keys was broken off where it had looked at as many nodes as
--- there are, as none of a radix tree is
+-- looks by which a walk for one of these keys was broken off, because it had looked at as many
+-- nodes as there are; the tree is not a radix tree
 abbrev pub GiveUp : Layout → List ℕ → List Entry → List Entry → Type 0
 GiveUp L keys old new = AddsLooks (most_looks (reach L) (length keys)) old new × (L.radix ≡ false)
     × (k slot n : ℕ) × Contains keys k × HasPassed n new k slot × (suc n ≡ L.nodes)
 
--- what a look-up of these queries, which are those then, leaves of its pass, by its answer: as of a
--- look-up of one key, but that each answer was right at a moment of the call and the keys stay
+-- what a look-up of the old queries, which are the new ones afterwards, leaves of its pass, by its
+-- answer. It is as for a look-up of one key, but each answer was right at a moment (linearization
+-- point) of the call, and the keys are unchanged
 pub record AfterHasMany (L : Layout) (tries : ℕ) (old new : List Query) (p q : PassView)
     (r : Result (Unit {0}) Busy) : Type 0 where
   pub same : IsSamePass p q

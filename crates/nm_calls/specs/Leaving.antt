@@ -1,4 +1,4 @@
--- What a call knows from its pin on, which answers a log shows, and what a label leaves.
+-- What a call knows after its pin, and which answers its log shows.
 use Rattle.std.specs.Prelude.{◌≡◌, ◌≢◌, ◌⊎◌, ℕ, Bool, true, false, Some, None}
 use Rattle.nm_edge.specs.declared.edge.Side.{Side}
 use Rattle.nm_edge.specs.declared.node.NodeId.{NodeId}
@@ -11,7 +11,7 @@ use Rattle.nm_steps.specs.Steps.{PassView}
 use Rattle.nm_epoch.specs.Resting.{epochs, search}
 use Rattle.nm_walks.specs.Telling.{Tells}
 
--- under the pin nothing was linked and nothing flagged, and no cut waits for its label
+-- under the pin the worker has linked nothing and flagged nothing, and no cut waits for its label
 pub record HasChangedNothing (p : PassView) : Type 0 where
   pub labelled : (epochs p).unlabelled ≡ false
   pub unlinked : (search p).linked ≡ false
@@ -22,7 +22,7 @@ abbrev pub EndedWith : PassView → Since → ℕ → ℕ → ℕ → Type 0
 EndedWith p since k leaf v = (parent : ℕ) × (side : Side)
     × Tells p (EndedAt since k leaf parent side v)
 
--- what the log of a call of that operation on k shows of an answer
+-- what the log of a call of that operation on k must show for an answer
 abbrev pub ShowsAnswer : PassView → Op → ℕ → Bool → Type 0
 ShowsAnswer p Has k true = (leaf : ℕ) × EndedWith p ThePin k leaf k
 ShowsAnswer p Has k false = (leaf v : ℕ) × (v ≢ k) × EndedWith p ThePin k leaf v

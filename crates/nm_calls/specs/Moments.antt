@@ -1,12 +1,12 @@
--- The moment of an answer, in what its pass has seen: it is one of the call that is answered, and
--- of no earlier one.
+-- The moment (linearization point) of an answer, in what its pass has seen: it is in the call that
+-- returns the answer, and in no earlier one.
 use Rattle.std.specs.Prelude.{◌≡◌, ℕ, Bool, None}
 use Rattle.nm_model.specs.declared.event.Op.{Op}
 use Rattle.nm_steps.specs.Steps.{PassView, IsSamePass, HasSeenAllOf}
 use Rattle.nm_model.specs.Histories.{AnswerStands, call_begun}
 
--- by what q has seen, which ends with this answer, it is one of a call whose pin was confirmed behind
--- all that p had seen (Herlihy and Wing)
+-- what q has seen ends with this answer, and the answer is that of a call whose pin was confirmed
+-- after all that p had seen (Herlihy and Wing)
 abbrev pub AnswerHasMoment : PassView → PassView → Op → ℕ → Bool → Type 0
 AnswerHasMoment p q op k answer =
     AnswerStands q.view.layout p.view.past q.view.past q.view.number op k answer

@@ -1,4 +1,4 @@
--- Walks under a pin for no call: what they add to a log, and what they tell of keys.
+-- Walks under a pin that is for no operation: what they add to a log, and what they show of keys.
 use Rattle.std.specs.Prelude.{◌≡◌, ◌⊎◌, ◌≤◌, ◌==◌, ◌+◌, ◌*◌, ℕ, zero, suc, Bool, List, [], ◌∷◌, ◌++◌, length, map}
 use Rattle.nm_edge.specs.declared.edge.Side.{Side}
 use Rattle.nm_model.specs.declared.event.Event.{Event}
@@ -14,7 +14,7 @@ use Rattle.nm_walks.specs.AddedLooks.{AddsLooks}
 
 -- ---- what is added to the log
 
--- a pin for no call, such looks, and a leave
+-- the log has a pin for no operation, at most `most` looks, and a leave
 pub record LooksUnderPin (tries most : ℕ) (old new : List Entry) : Type 0 where
   pub pinned : List Entry
   pub epoch : ℕ
@@ -23,33 +23,33 @@ pub record LooksUnderPin (tries most : ℕ) (old new : List Entry) : Type 0 wher
   pub looks : AddsLooks most pinned looked
   pub leaves : new ≡ looked ++ (Leave, Departed) ∷ []
 
--- such a pin, walks that end without an answer, as `GivesUp` says, and a leave
+-- the log has such a pin, walks that end without an answer (`GivesUp`), and a leave
 abbrev pub GivesUpUnderPin : (List Entry → List Entry → Type 0) → ℕ → List Entry → List Entry → Type 0
 GivesUpUnderPin GivesUp tries old new = (a z : List Entry) × (epoch : ℕ)
     × IsPinnedBy Sight tries old a epoch × GivesUp a z × (new ≡ z ++ (Leave, Departed) ∷ [])
 
--- why there was no answer: no step, where there may be no try; or each try of the pin was lost; or
--- such walks gave up
+-- why there was no answer: the call had no try, and there was no step; or each try of the pin was
+-- lost; or such walks gave up
 abbrev pub PlainMissed : (List Entry → List Entry → Type 0) → ℕ → List Entry → List Entry → Type 0
 PlainMissed GivesUp zero old new = new ≡ old
 PlainMissed GivesUp (suc t) old new =
     IsMoved Sight (suc t) old new ⊎ GivesUpUnderPin GivesUp (suc t) old new
 
--- how many looks the walks for n keys take at most: one, and a key, a left and a right edge for
--- each key in as many turns as there are nodes
+-- the most looks that the walks for n keys take: one, and three for each key in each turn (its
+-- node's key, a left edge and a right edge); there are at most as many turns as nodes
 abbrev pub most_looks : ℕ → ℕ → ℕ
 most_looks nodes n = 1 + nodes * (3 * n)
 
--- ---- what a walk tells
+-- ---- what a walk shows
 
--- in the log since the pin a walk for k came to the slot, behind so many nodes at least below slot 2
--- (Natarajan and Mittal, section 3.2)
+-- in the log from the pin on, a walk for k has reached the slot, after at least n nodes below slot
+-- 2 (Natarajan and Mittal, section 3.2)
 abbrev pub HasPassed : ℕ → List Entry → ℕ → ℕ → Type 0
 HasPassed n log k slot = (parent : ℕ) × (side : Side)
     × (w : WalkComes k (since_pin [] log) slot parent side) × (1 + 2 * n ≤ length w.looks)
 
--- in the log since the pin a walk for k ended, at a leaf whose key is k just where the answer is
--- true (Natarajan and Mittal, section 3.2)
+-- in the log from the pin on, a walk for k has ended, at a leaf whose key is k exactly if the
+-- answer is true (Natarajan and Mittal, section 3.2)
 abbrev pub HasEndedSo : PassView → ℕ → Bool → Type 0
 HasEndedSo p k answer = (leaf parent v : ℕ) × (side : Side)
     × WalkEnds k (since_pin [] p.view.log) leaf parent side v × (answer ≡ (v == k))
@@ -58,8 +58,9 @@ HasEndedSo p k answer = (leaf parent v : ℕ) × (side : Side)
 abbrev pub events_of : List Turn → List (ℕ × Event)
 events_of turns = map turn_of turns
 
--- by what q has seen, the set had the key just where the answer is true, at a moment later than all
--- that p had seen, and at which the worker was pinned (Herlihy and Wing)
+-- by what q has seen, the set had the key exactly if the answer is true, at a moment (linearization
+-- point) that is later than all that p had seen, and at which the worker was pinned (Herlihy and
+-- Wing)
 abbrev pub WasSo : PassView → PassView → ℕ → Bool → Type 0
 WasSo p q k answer =
     WasSoBehind q.view.layout p.view.past q.view.past q.view.number k answer

@@ -1,4 +1,4 @@
-//! Deletes.
+//! Deletes: tries to flag a leaf, and tries to remove it.
 ghost use Rattle.std.specs.Prelude.{◌≡◌, ◌≢◌, ◌⊎◌, ◌<◌, ◌≤◌, length, true, false, None, IfOk, IfErr};
 ghost use Rattle.nm_model.specs.declared.event.Op.TheVariants.{Delete};
 ghost use Rattle.nm_order.specs.Facts.Fact.{IsFlagged};
@@ -24,12 +24,12 @@ use nm_model::Op;
 use nm_steps::{Pass, Shared};
 use nm_walks::{WalkEnd, Workspace, cleanup, flag, look_birth, seek};
 
-/// What a try to flag a leaf came to.
+/// The result of a try to flag a leaf.
 #[derive(Clone, Copy)]
 pub(crate) enum Injected {
     /// The leaf has another key.
     Absent,
-    /// The leaf at this end is flagged, with this birth.
+    /// The leaf at this end is flagged; it has this generation (birth).
     Flagged(WalkEnd, u64),
     /// The walk was broken off, or the flag was lost.
     Lost,
@@ -38,14 +38,14 @@ pub(crate) enum Injected {
 /// A leaf that the call has flagged.
 #[derive(Clone, Copy)]
 pub(crate) struct FlaggedLeaf {
-    /// Where the walk ended that found it.
+    /// The end of the walk that found it.
     pub(crate) end: WalkEnd,
     pub(crate) birth: u64,
-    /// How many tries are left to remove it.
+    /// The number of tries that are left to remove it.
     pub(crate) left: u32,
 }
 
-/// What the tries to flag a leaf came to.
+/// The result of all tries to flag a leaf.
 #[derive(Clone, Copy)]
 pub(crate) enum Injection {
     /// The leaf has another key.
@@ -58,25 +58,25 @@ pub(crate) enum Injection {
     Spent,
 }
 
-/// A delete that has flagged its leaf and not answered yet.
+/// A delete that has flagged its leaf and has no answer yet.
 #[derive(Clone, Copy)]
 pub struct Unfinished {
     pub key: Key,
     pub leaf: NodeId,
 }
 
-/// Why a delete has not answered.
+/// Why a delete has no answer.
 #[derive(Clone, Copy, Debug, PartialEq, Eq)]
 pub enum Missed {
-    /// Each try was lost, those of the pin or those of the call, or there might be none.
+    /// Each try was lost, by the pin or by the call itself, or the call had no try.
     Busy,
-    /// There was no memory for the room of a try: the queue has less than a try asks.
+    /// There was no memory for the room of a try: the queue has less room than a try needs.
     NoMemory,
-    /// The worker has flagged this leaf, which is not known to be cut off, and stays pinned.
+    /// The worker has flagged this leaf and stays pinned; the leaf is not known to be cut off.
     Unfinished(NodeId),
 }
 
-/// What tries to remove a flagged leaf came to.
+/// The result of tries to remove a flagged leaf.
 #[derive(Clone, Copy)]
 pub(crate) enum Removal {
     /// The leaf is cut off.
@@ -87,16 +87,16 @@ pub(crate) enum Removal {
     Spent,
 }
 
-/// Whether the walk ended at that slot.
+/// Returns whether the walk ended at that slot.
 fn leads_to(end: &WalkEnd, slot: u32) -> bool
-    ensures yes { result ≡ true → end.now.spot.edge.slot ≡ slot }
-    ensures no { result ≡ false → end.now.spot.edge.slot ≢ slot }
+    ensures yes { result ≡ true → end.now.seek_record.edge.slot ≡ slot }
+    ensures no { result ≡ false → end.now.seek_record.edge.slot ≢ slot }
 {
-    end.spot.edge.slot() == slot
+    end.seek_record.edge.slot() == slot
 }
 
-/// One try to remove the leaf that the call has flagged: a walk, and a cleanup where it ends at
-/// that leaf still.
+/// Tries once to remove the leaf that the call has flagged: a walk, and a cleanup if it still ends
+/// at that leaf.
 fn try_remove(
     shared: &Shared,
     pass: &mut Pass,
@@ -128,10 +128,10 @@ fn try_remove(
     if !leads_to(&end, pending.leaf.slot) {
         return true;
     }
-    cleanup(shared, pass, workspace, held, &end.spot)
+    cleanup(shared, pass, workspace, held, &end.seek_record)
 }
 
-/// Up to so many tries to remove the leaf that the call has flagged.
+/// Tries at most `tries` times to remove the leaf that the call has flagged.
 fn remove(
     shared: &Shared,
     pass: &mut Pass,
@@ -164,8 +164,9 @@ fn remove(
     Removal::Spent
 }
 
-/// Looks at the birth of the leaf at which the walk ended, which won answers, and flags the edge to
-/// it. Lost: the edge that was found.
+/// Looks at the generation (birth) of the leaf at which the walk ended, flags the edge to it, and
+/// returns the generation if the flag is won. Error: the flag was lost; it is the edge that was
+/// found.
 fn flag_at(shared: &Shared, pass: &mut Pass, key: u64, end: &WalkEnd) -> Result<u64, Edge>
     requires pinned { IsPinnedIn shared.now pass.old }
     requires may { MayFlag pass.old key end.now }
@@ -174,17 +175,17 @@ fn flag_at(shared: &Shared, pass: &mut Pass, key: u64, end: &WalkEnd) -> Result<
     ensures on { GoesOn pass.old pass.new }
     ensures only { OnlyFlags pass.old pass.new }
 {
-    let spot = end.spot;
-    let leaf = spot.edge.slot();
+    let seek_record = end.seek_record;
+    let leaf = seek_record.edge.slot();
     let birth = look_birth(shared, pass, leaf);
-    match flag(shared, pass, spot.parent, spot.side, leaf) {
+    match flag(shared, pass, seek_record.parent, seek_record.side, leaf) {
         Ok(()) => Ok(birth),
         Err(found) => Err(found),
     }
 }
 
-/// One try to flag the leaf with the key: a walk, and a flag where the leaf has the key, with at
-/// most one cleanup of help where it is lost.
+/// Tries once to flag the leaf with the key: a walk, and a flag if the leaf has the key. If the
+/// flag is lost, the try helps with at most one cleanup.
 fn try_flag(
     shared: &Shared,
     pass: &mut Pass,
@@ -225,7 +226,7 @@ fn try_flag(
     }
 }
 
-/// Up to so many tries to flag the leaf with the key. There is room for the first one.
+/// Tries at most `tries` times to flag the leaf with the key. There must be room for the first try.
 fn inject(
     shared: &Shared,
     pass: &mut Pass,
@@ -265,7 +266,8 @@ fn inject(
     Injection::Spent
 }
 
-/// Tries to remove the leaf that was flagged at the end of a walk: first by a cleanup by that walk.
+/// Tries to remove the leaf that was flagged at the end of a walk; the first try is a cleanup with
+/// that walk.
 #[inline(always)]
 fn remove_after(
     shared: &Shared,
@@ -277,9 +279,9 @@ fn remove_after(
 ) -> Removal
     requires own { IsOf shared.now pass.old }
     requires removing { IsRemoving pass.old key (leaf_of flagged.now.end flagged.now.birth) }
-    requires edge { Tells pass.old (IsFlagged flagged.now.end.spot.parent
-        flagged.now.end.spot.side flagged.now.end.spot.edge.slot) }
-    requires at { IsAt (Tells pass.old) flagged.now.end.spot workspace.old.chain.items }
+    requires edge { Tells pass.old (IsFlagged flagged.now.end.seek_record.parent
+        flagged.now.end.seek_record.side flagged.now.end.seek_record.edge.slot) }
+    requires at { IsAt (Tells pass.old) flagged.now.end.seek_record workspace.old.chain.items }
     requires few { length workspace.old.chain.items < chain_bound }
     requires kept { HoldsCuts pass.old held.old }
     ensures part { RemovalAfter shared.now.layout key flagged.now
@@ -298,7 +300,7 @@ fn remove_after(
     if !make_room(&mut held.queue) {
         return Removal::Refused;
     }
-    if cleanup(shared, pass, workspace, held, &flagged.end.spot) {
+    if cleanup(shared, pass, workspace, held, &flagged.end.seek_record) {
         return Removal::Removed;
     }
     let leaf = leaf_at(flagged);
@@ -306,18 +308,18 @@ fn remove_after(
     remove(shared, pass, workspace, held, &pending, flagged.left - 1)
 }
 
-/// The flagged leaf, a slot with its birth.
+/// Returns the flagged leaf: its slot with its generation (birth).
 fn leaf_at(flagged: &FlaggedLeaf) -> NodeId
     ensures { result ≡ leaf_of flagged.now.end flagged.now.birth }
 {
     NodeId {
-        slot: flagged.end.spot.edge.slot(),
+        slot: flagged.end.seek_record.edge.slot(),
         birth: flagged.birth,
     }
 }
 
-/// The tries of a delete, from its pin to its answer. The room of the first one was made before the
-/// pin.
+/// Makes the tries of a delete, from its pin to its answer. The room of the first one must have
+/// been made before the pin.
 fn delete_pinned(
     shared: &Shared,
     pass: &mut Pass,
@@ -373,15 +375,17 @@ fn delete_pinned(
     }
 }
 
-/// Deletes a key, and answers whether it was in the set. The worker rests before; it rests after,
-/// but where the leaf with the key is flagged and not known to be cut off: then it stays pinned for
-/// that leaf. Its queue is the one of its log before and after. Room for a cleanup is made before
-/// each try, that of the first one before the pin, in the fewest blocks, and no other memory is
-/// taken.
+/// Deletes `key`; returns true if it was present. The worker must rest, and it rests afterwards,
+/// except after `Unfinished`. Its queue is that of its log before and after. Before each try the
+/// call makes room for a cleanup, with as few new blocks as possible; for the first try it does so
+/// before the pin. It takes no other memory.
 ///
-/// At most `tries` * (4 `reach` + 512) + 10 steps, where a walk's reach is 66 nodes in a radix tree,
-/// and else as many as there are. `Ok(true)` and `Unfinished`: just
-/// one flag was won, and no link; else neither. (The delete of Natarajan and Mittal, section 3.2.)
+/// Errors: `Busy`, `NoMemory`: see `Missed`. `Unfinished`: the leaf with the key is flagged and not
+/// known to be cut off. The worker stays pinned for that leaf.
+///
+/// Cost: at most `tries` * (4 `reach` + 512) + 10 steps. A walk's reach is 66 nodes in a radix
+/// tree, and the number of nodes otherwise. The call wins one flag if the result is `Ok(true)` or
+/// `Unfinished`, and else none; it wins no link. (The delete of Natarajan and Mittal, section 3.2.)
 pub fn delete(
     shared: &Shared,
     pass: &mut Pass,
@@ -402,7 +406,7 @@ pub fn delete(
     ensures few { length held.new.queue.items ≤ shared.now.layout.nodes }
     ensures fit { workspace.new.placement ≡ workspace.old.placement }
 {
-    pass.is_of_a_run();
+    pass.know_run();
     if tries == 0 {
         return Err(Missed::Busy);
     }
@@ -415,10 +419,12 @@ pub fn delete(
     delete_pinned(shared, pass, workspace, held, key, tries)
 }
 
-/// Goes on to remove the leaf that the worker has flagged: whether it is cut off, and the worker
-/// rests. Else it stays pinned. Room for a cleanup is made before each try, in the fewest blocks,
-/// and no other memory is taken. At most `tries` * (4 `reach` + 512) + 10 steps, as of `delete`; no
-/// link and no flag is won.
+/// Goes on to remove the leaf that the worker has flagged; returns true if it is cut off, and then
+/// the worker rests. Otherwise the worker stays pinned. Before each try the call makes room for a
+/// cleanup, with as few new blocks as possible. It takes no other memory.
+///
+/// Cost: at most `tries` * (4 `reach` + 512) + 10 steps, as for `delete`. The call wins no link and
+/// no flag.
 pub fn finish(
     shared: &Shared,
     pass: &mut Pass,

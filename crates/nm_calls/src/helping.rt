@@ -1,4 +1,4 @@
-//! Help given to others' deletes, and the room that each try asks for.
+//! Help for other deletes, and the room that each try needs.
 ghost use Rattle.std.specs.Prelude.{◌≡◌, ◌<◌, ◌≤◌, true, false, length};
 ghost use Rattle.nm_walks.specs.Bounds.{chain_bound, cut_bound};
 ghost use Rattle.nm_walks.specs.Rooms.{FillsUp, TakesRoom};
@@ -13,14 +13,15 @@ use nm_limbo::BlockQueue;
 use nm_steps::{Pass, Shared};
 use nm_walks::{CUT_BOUND, WalkEnd, Workspace, cleanup, is_marked};
 
-/// Whether the edge that was found leads to the leaf at which the walk ended and is marked.
+/// Returns whether the edge that was found leads to the leaf at which the walk ended, and is
+/// marked.
 fn asks_help(end: &WalkEnd, found: Edge) -> bool
     ensures { result ≡ asks_help end.now found }
 {
-    found.slot() == end.spot.edge.slot() && is_marked(found)
+    found.slot() == end.seek_record.edge.slot() && is_marked(found)
 }
 
-/// Cleans up by the walk, where the edge that a lost exchange found leads to the same leaf and is
+/// Cleans up with this walk, if the edge that a lost exchange found leads to the same leaf and is
 /// marked.
 #[inline(always)]
 pub(crate) fn help(
@@ -32,7 +33,7 @@ pub(crate) fn help(
     found: Edge,
 )
     requires pinned { IsPinnedIn shared.now pass.old }
-    requires at { IsAt (Tells pass.old) end.now.spot workspace.old.chain.items }
+    requires at { IsAt (Tells pass.old) end.now.seek_record workspace.old.chain.items }
     requires few { length workspace.old.chain.items < chain_bound }
     requires room { cut_bound ≤ held.old.queue.spare }
     requires kept { HoldsCuts pass.old held.old }
@@ -46,12 +47,12 @@ pub(crate) fn help(
     ensures fit { workspace.new.placement ≡ workspace.old.placement }
 {
     if asks_help(end, found) {
-        let _ = cleanup(shared, pass, workspace, held, &end.spot);
+        let _ = cleanup(shared, pass, workspace, held, &end.seek_record);
     }
 }
 
-/// Makes room for what a cleanup cuts off, in the fewest blocks. False: there was no memory, and
-/// there is not as much room.
+/// Makes room for what a cleanup cuts off, with as few new blocks as possible. Returns false if the
+/// allocation failed; there is then less room than a cleanup needs.
 pub(crate) fn make_room(queue: &mut BlockQueue<Entry>) -> bool
     requires few { length queue.old.items ≤ 536870912 }
     ensures items { queue.new.items ≡ queue.old.items }
@@ -63,7 +64,8 @@ pub(crate) fn make_room(queue: &mut BlockQueue<Entry>) -> bool
     queue.reserve(CUT_BOUND as u32).is_ok()
 }
 
-/// Makes such room for the try of a round; that of the first one was made before the pin.
+/// Makes such room for the try of a round, except the first one, for which it was made before the
+/// pin.
 pub(crate) fn make_room_for(queue: &mut BlockQueue<Entry>, round: u32) -> bool
     requires few { length queue.old.items ≤ 536870912 }
     requires first { round ≡ 0 → cut_bound ≤ queue.old.spare }

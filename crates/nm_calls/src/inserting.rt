@@ -1,4 +1,4 @@
-//! Inserts.
+//! Inserts: tries to link two new nodes.
 ghost use Rattle.std.specs.Prelude.{◌≡◌, ◌<◌, ◌≤◌, ◌*◌, true, false, length, None, IfOk, IfSome, IsErrOf};
 ghost use Rattle.nm_edge.specs.Keys.{IsKey};
 ghost use Rattle.nm_model.specs.declared.event.Op.TheVariants.{Insert};
@@ -12,7 +12,7 @@ ghost use Rattle.nm_walks.specs.Places.{HasPlace, HasStopped, Stops};
 ghost use Rattle.nm_walks.specs.Making.{OnlyMakes};
 ghost use Rattle.nm_calls.specs.Moments.{AnswerHasMoment, HadNoCall};
 ghost use Rattle.nm_walks.specs.Cleanups.{KeepsLedgers, HoldsCuts};
-ghost use Rattle.nm_walks.specs.Growing.{HasFork};
+ghost use Rattle.nm_walks.specs.Growing.{HasNewNodes};
 ghost use Rattle.nm_calls.specs.Inserts.{IsReadied, IsTry, OnlyTries, ShowsTry, Finishes, AfterInsert};
 ghost use Rattle.nm_walks.specs.Labelling.{IsPinnedForCall};
 ghost use Rattle.nm_calls.specs.Leaving.{HasChangedNothing};
@@ -23,57 +23,59 @@ use nm_edge::{Key, Placement};
 use nm_epoch::{HeldQueue, pin_for};
 use nm_model::Op;
 use nm_steps::{Pass, Shared};
-use nm_walks::{ChainEdges, Fork, WalkEnd, Workspace, claim_fork, give_back, grow, place, seek};
+use nm_walks::{
+    ChainEdges, NewNodes, WalkEnd, Workspace, claim_new_nodes, give_back, grow, place, seek,
+};
 
-/// Why a call has not answered.
+/// Why an insert has no answer.
 #[derive(Clone, Copy, Debug, PartialEq, Eq)]
 pub enum NotInserted {
-    /// Each try was lost, those of the pin or those of the call, or there might be none.
+    /// Each try was lost, by the pin or by the call itself, or the call had no try.
     Busy,
-    /// No two slots were free for new nodes.
+    /// The call found no two free slots for new nodes.
     Full,
     /// There was no memory for the room of a try.
     NoMemory,
 }
 
-/// What a try of an insert came to.
+/// The result of a try of an insert.
 #[derive(Clone, Copy)]
 pub(crate) enum Attempt {
     /// The leaf has the key.
     Found,
     /// A new leaf with the key is linked.
     Linked,
-    /// No two slots were claimed.
+    /// Fewer than two slots were claimed.
     Full,
     /// The walk was broken off, or the link was lost.
     Lost,
 }
 
-/// The two new nodes, which are claimed where there are none.
+/// Returns the two new nodes, and claims them if there are none yet.
 fn ready(
     shared: &Shared,
     pass: &mut Pass,
     placement: &mut Placement,
-    fork: &mut Option<Fork>,
-) -> Option<Fork>
+    new_nodes: &mut Option<NewNodes>,
+) -> Option<NewNodes>
     requires own { IsOf shared.now pass.old }
-    ensures part { IsReadied placement.old shared.now.layout.nodes fork.old fork.new result
+    ensures part { IsReadied placement.old shared.now.layout.nodes new_nodes.old new_nodes.new result
         pass.old.view.log pass.new.view.log }
     ensures on { GoesOn pass.old pass.new }
     ensures only { OnlyMakes pass.old pass.new }
-    ensures has { (o : PassView) → HasFork o pass.old fork.old → HasFork o pass.new fork.new }
+    ensures has { (o : PassView) → HasNewNodes o pass.old new_nodes.old → HasNewNodes o pass.new new_nodes.new }
     ensures fit { placement.new ≡ placement.old }
 {
-    pass.is_of_a_run();
-    if let Some(made) = *fork {
+    pass.know_run();
+    if let Some(made) = *new_nodes {
         return Some(made);
     }
-    let made = claim_fork(shared, pass, placement);
-    *fork = made;
+    let made = claim_new_nodes(shared, pass, placement);
+    *new_nodes = made;
     made
 }
 
-/// The walk of an insert, by the shape of the tree.
+/// Walks as an insert does, which depends on the shape of the tree.
 #[inline(always)]
 fn stop(shared: &Shared, pass: &mut Pass, key: u64, chain: &mut ChainEdges) -> Option<WalkEnd>
     requires pinned { IsPinnedIn shared.now pass.old }
@@ -96,28 +98,28 @@ fn stop(shared: &Shared, pass: &mut Pass, key: u64, chain: &mut ChainEdges) -> O
     }
 }
 
-/// One try of an insert: a walk, and a link where the leaf has another key, with at most one
-/// cleanup of help where the link is lost.
+/// Tries once to insert: a walk, and a link if the leaf has another key. If the link is lost, the
+/// try helps with at most one cleanup.
 fn try_insert(
     shared: &Shared,
     pass: &mut Pass,
     workspace: &mut Workspace,
     held: &mut HeldQueue,
     key: u64,
-    fork: &mut Option<Fork>,
+    new_nodes: &mut Option<NewNodes>,
 ) -> Attempt
     requires pinned { IsPinnedIn shared.now pass.old }
     requires call { IsPinnedForCall Insert key pass.old }
     requires unlinked { (search pass.old).linked ≡ false }
     requires room { cut_bound ≤ held.old.queue.spare }
     requires kept { HoldsCuts pass.old held.old }
-    requires fork { (o : PassView) × HasFork o pass.old fork.old }
-    ensures part { IsTry workspace.old.placement shared.now.layout key fork.old fork.new
+    requires new_nodes { (o : PassView) × HasNewNodes o pass.old new_nodes.old }
+    ensures part { IsTry workspace.old.placement shared.now.layout key new_nodes.old new_nodes.new
         pass.old.view.log pass.new.view.log result }
     ensures on { GoesOn pass.old pass.new }
     ensures only { OnlyTries pass.old pass.new }
     ensures shows { ShowsTry key pass.old pass.new result }
-    ensures has { (o : PassView) → HasFork o pass.old fork.old → HasFork o pass.new fork.new }
+    ensures has { (o : PassView) → HasNewNodes o pass.old new_nodes.old → HasNewNodes o pass.new new_nodes.new }
     ensures kept { HoldsCuts pass.new held.new }
     ensures fills { FillsUp held.old.queue held.new.queue }
     ensures fit { workspace.new.placement ≡ workspace.old.placement }
@@ -128,12 +130,12 @@ fn try_insert(
     if end.key == key {
         return Attempt::Found;
     }
-    let Some(made) = ready(shared, pass, &mut workspace.placement, fork) else {
+    let Some(made) = ready(shared, pass, &mut workspace.placement, new_nodes) else {
         return Attempt::Full;
     };
     match grow(shared, pass, key, &end, &made) {
         Ok(()) => {
-            *fork = None;
+            *new_nodes = None;
             held.counts.links = held.counts.links.saturating_add(1);
             Attempt::Linked
         }
@@ -144,8 +146,8 @@ fn try_insert(
     }
 }
 
-/// The tries of an insert, from its pin to its answer. The room of the first one was made before
-/// the pin.
+/// Makes the tries of an insert, from its pin to its answer. The room of the first one must have
+/// been made before the pin.
 fn insert_pinned(
     shared: &Shared,
     pass: &mut Pass,
@@ -166,22 +168,22 @@ fn insert_pinned(
     ensures moment { (o : PassView) → HadNoCall o pass.old
         → IfOk result (AnswerHasMoment o pass.new Insert key) }
     ensures rests { IsResting pass.new }
-    ensures private { HasFork pass.old pass.new None }
+    ensures private { HasNewNodes pass.old pass.new None }
     ensures kept { HoldsCuts pass.new held.new }
     ensures blocks { TakesRoom held.old.queue held.new.queue }
     ensures ledgers { KeepsLedgers pass.old pass.new }
     ensures fit { workspace.new.placement ≡ workspace.old.placement }
 {
-    let mut fork: Option<Fork> = None;
+    let mut new_nodes: Option<NewNodes> = None;
     for round in 0..tries {
         if !make_room_for(&mut held.queue, round) {
-            give_back(shared, pass, &mut workspace.placement, &fork);
+            give_back(shared, pass, &mut workspace.placement, &new_nodes);
             leave(shared, pass);
             return Err(NotInserted::NoMemory);
         }
-        match try_insert(shared, pass, workspace, held, key, &mut fork) {
+        match try_insert(shared, pass, workspace, held, key, &mut new_nodes) {
             Attempt::Found => {
-                give_back(shared, pass, &mut workspace.placement, &fork);
+                give_back(shared, pass, &mut workspace.placement, &new_nodes);
                 answer(shared, pass, false);
                 return Ok(false);
             }
@@ -196,22 +198,26 @@ fn insert_pinned(
             Attempt::Lost => {}
         }
     }
-    give_back(shared, pass, &mut workspace.placement, &fork);
+    give_back(shared, pass, &mut workspace.placement, &new_nodes);
     leave(shared, pass);
     Err(NotInserted::Busy)
 }
 
-/// Inserts a key, and answers whether it was not in the set. The worker rests before and after,
-/// with the same private slots; its queue is the one of its log before and after, with no more
-/// entries than there are nodes. `Err`: nothing of this call stands but help given to others.
+/// Inserts `key`; returns true if it was absent. The worker must rest, and it rests afterwards,
+/// with the same private slots. Its queue is that of its log before and after, with no more entries
+/// than there are nodes.
 ///
-/// A try is a walk with its answer, or a link with at most one cleanup of help. Room for a cleanup
-/// is made before each try, that of the first one before the pin, in the fewest blocks, and no
-/// other memory is taken. At most `tries` * (4 `reach` + 512) + 6 `nodes` + 10 steps, where a
-/// walk's reach is 66 nodes in a radix tree, and else as many as there are. `Ok(true)`:
-/// just one link was won, and no flag; else neither. New nodes are claimed in the order of the
-/// workspace's placement, which stays of its fit. (The insert of Natarajan and Mittal, section
-/// 3.2.)
+/// Each try is a walk that ends with the answer, or a link. If the link is lost, the try helps with
+/// at most one cleanup. Before each try the call makes room for a cleanup, with as few new blocks
+/// as possible; for the first try it does so before the pin. It takes no other memory. It claims
+/// new nodes in the order of the workspace's placement, which keeps its fit.
+///
+/// Errors: `Busy`, `Full`, `NoMemory`: see `NotInserted`. The call has changed nothing in the set,
+/// but it may have helped other deletes.
+///
+/// Cost: at most `tries` * (4 `reach` + 512) + 6 `nodes` + 10 steps. A walk's reach is 66 nodes in
+/// a radix tree, and the number of nodes otherwise. The call wins one link if the result is
+/// `Ok(true)`, and else none; it wins no flag. (The insert of Natarajan and Mittal, section 3.2.)
 pub fn insert(
     shared: &Shared,
     pass: &mut Pass,
@@ -231,7 +237,7 @@ pub fn insert(
     ensures blocks { TakesRoom held.old.queue held.new.queue }
     ensures fit { workspace.new.placement ≡ workspace.old.placement }
 {
-    pass.is_of_a_run();
+    pass.know_run();
     if tries == 0 {
         return Err(NotInserted::Busy);
     }

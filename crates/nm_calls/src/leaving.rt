@@ -1,4 +1,4 @@
-//! Answers of a call, and the label of a cut, asked for by what the log tells.
+//! Unpins at the end of a call, with or without an answer.
 ghost use Rattle.std.specs.Prelude.{◌≡◌, ℕ, false};
 ghost use Rattle.nm_model.specs.declared.event.Event.TheVariants.{Leave, LeaveWith};
 ghost use Rattle.nm_model.specs.declared.event.Op.{Op};
@@ -13,8 +13,7 @@ ghost use Rattle.nm_calls.specs.Moments.{AnswerHasMoment, HadNoCall};
 use nm_epoch::{unpin, unpin_with};
 use nm_steps::{Pass, Shared};
 
-/// Leaves the pin without an answer: of a call that has linked nothing and flagged nothing. One
-/// step.
+/// Unpins without an answer, in one step. The call must have linked nothing and flagged nothing.
 pub fn leave(shared: &Shared, pass: &mut Pass)
     requires own { IsOf shared.now pass.old }
     requires unchanged { HasChangedNothing pass.old }
@@ -25,9 +24,9 @@ pub fn leave(shared: &Shared, pass: &mut Pass)
     unpin(shared, pass);
 }
 
-/// Leaves the pin with an answer that the log allows. One step. Its moment lies within the call
-/// that is answered: behind all that the worker had seen at any time before, at which it had no
-/// call.
+/// Unpins with an answer that the log allows, in one step. The answer's moment (linearization
+/// point) is in the call: it is later than all that the worker had seen at any earlier time when it
+/// had no call.
 pub(crate) fn leave_with(shared: &Shared, pass: &mut Pass, answer: bool)
     requires own { IsOf shared.now pass.old }
     requires may { MayStep pass.old (LeaveWith answer) }
@@ -37,12 +36,12 @@ pub(crate) fn leave_with(shared: &Shared, pass: &mut Pass, answer: bool)
     ensures rests { IsResting pass.new }
     ensures hands { KeepsHands pass.old pass.new }
 {
-    pass.is_of_a_run();
+    pass.know_run();
     unpin_with(shared, pass, answer);
-    pass.is_of_a_run();
+    pass.know_run();
 }
 
-/// Leaves the pin with the answer of its call, which the log shows. One step.
+/// Unpins with the answer of the call, in one step. The log must show that answer.
 pub fn answer(shared: &Shared, pass: &mut Pass, answer: bool)
     requires own { IsOf shared.now pass.old }
     requires labelled { (epochs pass.old).unlabelled ≡ false }

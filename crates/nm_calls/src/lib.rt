@@ -1,5 +1,5 @@
-//! The calls of the set over a pass and a queue: look-ups, inserts and deletes, by the steps and walks
-//! of `nm_walks`.
+//! The calls of the set over a pass and a queue: look-ups, inserts and deletes. They use the steps
+//! and walks of `nm_walks`.
 #![tactic(auto, using(nm_steps::proofs::Seeing::seen_all))]
 
 mod deleting;

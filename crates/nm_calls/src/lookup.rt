@@ -1,4 +1,4 @@
-//! A look-up.
+//! Look-ups of one key.
 ghost use Rattle.nm_model.specs.declared.event.Op.TheVariants.{Has};
 ghost use Rattle.nm_steps.specs.Steps.{IsOf};
 ghost use Rattle.nm_epoch.specs.Resting.{IsResting};
@@ -12,18 +12,23 @@ use nm_steps::{Pass, Shared};
 use nm_walks::find;
 use thiserror::Error;
 
-/// Each try was lost, those of the pin or those of the walk.
+/// Each try was lost, by the pin or by the walks, or the call had no try.
 #[derive(Clone, Copy, Debug, PartialEq, Eq, Error)]
 #[error("each try was lost")]
 pub struct Busy;
 
-/// Whether the set has the key, by the key of the leaf at which the walk for it ends, flagged or
-/// not. The worker rests before and after. `Err`: `tries` is 0, and there was no step; or the pin
-/// was lost in each of `tries` tries; or each of `tries` walks had looked at as many nodes as there
-/// are, and none had ended, as it never is in a radix tree: so there a look-up whose pin stands is
-/// answered, whatever others do. At most `tries` * (4 `reach` + 512) + 10 steps, where a walk's reach
-/// is 66 nodes in a radix tree, and else as many as there are. (The search of Natarajan and Mittal,
-/// section 3.2.)
+/// Returns whether the set has the key: whether the leaf at which the walk for it ends has this
+/// key, flagged or not. The worker must rest, and it rests afterwards.
+///
+/// Errors: `Busy`, for one of these reasons:
+/// - `tries` is 0; then there was no step.
+/// - The pin was lost in each of `tries` tries.
+/// - Each of `tries` walks had looked at as many nodes as there are, and had not ended. In a radix
+///   tree this never happens: there a look-up that has its pin returns an answer, whatever others
+///   do.
+///
+/// Cost: at most `tries` * (4 `reach` + 512) + 10 steps. A walk's reach is 66 nodes in a radix
+/// tree, and the number of nodes otherwise. (The search of Natarajan and Mittal, section 3.2.)
 #[inline(always)]
 pub fn has(shared: &Shared, pass: &mut Pass, key: Key, tries: u32) -> Result<bool, Busy>
     requires own { IsOf shared.now pass.old }
@@ -33,7 +38,7 @@ pub fn has(shared: &Shared, pass: &mut Pass, key: Key, tries: u32) -> Result<boo
     if tries == 0 {
         return Err(Busy);
     }
-    pass.is_of_a_run();
+    pass.know_run();
     let Ok(_epoch) = pin_for(shared, pass, tries, Op::Has, key) else {
         return Err(Busy);
     };

@@ -1,4 +1,4 @@
-//! Look-ups of several keys under one pin, whose walks go on in turns.
+//! Look-ups of several keys under one pin, whose walks take turns.
 ghost use Rattle.std.specs.Prelude.{◌≡◌, ◌≢◌, ◌<◌, ◌+◌, ◌*◌, ℕ, length, map, true, false, All};
 ghost use Rattle.std.specs.List.{HoldsAt};
 ghost use Rattle.nm_edge.specs.Keys.{IsKey};
@@ -15,19 +15,19 @@ use nm_epoch::{pin, unpin};
 use nm_steps::{Pass, Shared};
 use nm_walks::{Onward, look_edge, reach, read_node};
 
-/// A key that is looked up beside others, and the answer, which is one once `has_many` has
-/// answered.
+/// A key that is looked up together with others, and its answer, which is valid after `has_many`
+/// has succeeded.
 #[derive(Clone, Copy, Debug)]
 pub struct Query {
     pub key: Key,
     /// Whether the set had the key.
     pub found: bool,
-    // The node that its walk reads next; 0 where there is none.
+    // The node that its walk reads next; 0 if there is none.
     node: u32,
 }
 
 impl Query {
-    /// A query of the key, which has no answer yet: `found` is false.
+    /// Makes a query of the key, which has no answer yet: `found` is false.
     pub fn new(key: Key) -> Query
         ensures { result.key ≡ key }
     {
@@ -39,15 +39,20 @@ impl Query {
     }
 }
 
-/// Whether the set has each of these keys, as `has` tells it, by walks that go on in turns, so that
-/// the loads of one go on while the others wait for theirs. Each answer is right at a moment of
-/// this call; two answers may be of different moments.
+/// Looks up each of these keys like `has`, and writes the answers into their `found`. The walks
+/// take turns, so that the loads of one go on while the others wait for theirs. Each answer is
+/// right at a moment (linearization point) of this call. Two answers may have different moments.
+/// The keys are unchanged. The worker must rest, and it rests afterwards.
 ///
-/// The worker rests before and after. `Err`: `tries` is 0, and there was no step; or the pin was
-/// lost in each of `tries` tries; or one of the walks had looked at as many nodes as there are, and
-/// had not ended, as it never is in a radix tree. Then no `found` means anything. The keys stay. At
-/// most 3 `tries` + 3 steps, and 3 `reach` for each key, where a walk's reach is 66 nodes in a radix
-/// tree, and else as many as there are. (The search of Natarajan and Mittal, section 3.2.)
+/// Errors: no `found` means anything then. `Busy`, for one of these reasons:
+/// - `tries` is 0; then there was no step.
+/// - The pin was lost in each of `tries` tries.
+/// - One of the walks had looked at as many nodes as there are, and had not ended. In a radix tree
+///   this never happens.
+///
+/// Cost: at most 3 `tries` + 3 steps, and 3 `reach` for each key. A walk's reach is 66 nodes in a
+/// radix tree, and the number of nodes otherwise. (The search of Natarajan and Mittal, section
+/// 3.2.)
 pub fn has_many(
     shared: &Shared,
     pass: &mut Pass,
@@ -62,18 +67,18 @@ pub fn has_many(
     if tries == 0 {
         return Err(Busy);
     }
-    pass.is_of_a_run();
+    pass.know_run();
     let Ok(_epoch) = pin(shared, pass, tries) else {
         return Err(Busy);
     };
     let ended = walk_all(shared, pass, queries);
-    pass.is_of_a_run();
+    pass.know_run();
     unpin(shared, pass);
     if ended { Ok(()) } else { Err(Busy) }
 }
 
-/// Walks for each of these keys, in turns, until all walks have ended. False where one of them has
-/// looked at as many nodes as there are, as none of a radix tree does.
+/// Walks for each of these keys, in turns, until all walks have ended. Returns false if one of them
+/// has looked at as many nodes as there are, which never happens in a radix tree.
 fn walk_all(shared: &Shared, pass: &mut Pass, queries: &mut [Query]) -> bool
     requires pinned { IsPinnedIn shared.now pass.old }
     requires known { Tells pass.old (KnowsSlot 2) }
@@ -87,7 +92,7 @@ fn walk_all(shared: &Shared, pass: &mut Pass, queries: &mut [Query]) -> bool
     ensures on { GoesOn pass.old pass.new }
     ensures only { OnlyLooks pass.old pass.new }
 {
-    // One look at the left edge of slot 2 serves all of them.
+    // One look at the left edge of slot 2 serves all walks.
     let layout = shared.layout();
     let first = look_edge(shared, layout, pass, 2, Side::Left).slot();
     begin_each(queries, first);
@@ -100,7 +105,7 @@ fn walk_all(shared: &Shared, pass: &mut Pass, queries: &mut [Query]) -> bool
     have_ended(queries)
 }
 
-/// Begins a walk for each of these keys, which reads this node first.
+/// Begins a walk for each of these keys; the walk reads this node first.
 fn begin_each(queries: &mut [Query], first: u32)
     ensures begun { All (HasBegun first) queries.new }
     ensures keys { map key_of queries.new ≡ map key_of queries.old }
@@ -111,7 +116,7 @@ fn begin_each(queries: &mut [Query], first: u32)
     }
 }
 
-/// Takes each walk that has not ended a node further.
+/// Takes each walk one node further, if it has not ended.
 fn take_turns(shared: &Shared, layout: Layout, pass: &mut Pass, queries: &mut [Query])
     requires layout { layout ≡ shared.now.layout }
     requires pinned { IsPinnedIn shared.now pass.old }
@@ -128,7 +133,7 @@ fn take_turns(shared: &Shared, layout: Layout, pass: &mut Pass, queries: &mut [Q
     }
 }
 
-/// Takes a walk a node further, if it has not ended. At most three looks.
+/// Takes a walk one node further, if it has not ended. Cost: at most three looks.
 fn take_turn(shared: &Shared, layout: Layout, pass: &mut Pass, query: &mut Query)
     requires layout { layout ≡ shared.now.layout }
     requires pinned { IsPinnedIn shared.now pass.old }
@@ -147,8 +152,8 @@ fn take_turn(shared: &Shared, layout: Layout, pass: &mut Pass, query: &mut Query
     read_so(query, &on);
 }
 
-/// The query's walk has read its node so. Two words are written, and not the query: each turn of
-/// each walk comes here.
+/// Records in the query what its walk has read. It writes two words, and not the whole query,
+/// because each turn of each walk calls it.
 fn read_so(query: &mut Query, on: &Onward)
     ensures query { query.new ≡ query_read query.old on.now }
     ensures key { IsKey query.old.key }
@@ -157,7 +162,7 @@ fn read_so(query: &mut Query, on: &Onward)
     query.node = on.next.slot();
 }
 
-/// The query at the beginning of its walk, which reads this node first.
+/// Returns the query at the beginning of its walk, which reads this node first.
 fn begun_at(query: &Query, first: u32) -> Query
     ensures begun { HasBegun first result }
     ensures key { result.key ≡ query.now.key }
@@ -170,7 +175,7 @@ fn begun_at(query: &Query, first: u32) -> Query
     }
 }
 
-/// Whether no walk has a node to read.
+/// Returns whether no walk has a node to read.
 fn have_ended(queries: &[Query]) -> bool
     ensures ended { result ≡ true → All (λ q. q.node ≡ 0) queries.now }
     ensures goes_on { result ≡ false

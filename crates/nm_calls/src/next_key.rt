@@ -1,4 +1,4 @@
-//! The next key of a set that is in use.
+//! The next key, in a set that others change.
 ghost use Rattle.std.specs.Prelude.{◌≡◌, ◌<◌, ◌≤◌, ◌*◌, ◌≢◌, ◌⊎◌, ℕ, IfOk, IfErr};
 ghost use Rattle.nm_edge.specs.Keys.{IsKey};
 ghost use Rattle.nm_model.specs.Searches.{side_of};
@@ -18,33 +18,37 @@ use nm_epoch::{pin, unpin};
 use nm_steps::{Pass, Shared};
 use nm_walks::{Onward, is_null, look_edge, reach, read_node};
 
-/// A walk for each key from `from` on that is below `bound`, the least key of those internal nodes at
-/// which it went left: such keys turn to the same side at each of these nodes.
+/// A walk for each key from `from` on that is below `bound`. The bound is the least key of those
+/// internal nodes at which it went left. Such keys turn to the same side at each of these nodes.
 #[derive(Clone, Copy, Debug)]
 struct NextWalk {
     from: u64,
     bound: u64,
-    // The node that it reads next; 0 where there is none.
+    // The node that it reads next; 0 if there is none.
     node: u32,
     // The key of the node that it read last.
     found: u64,
 }
 
-/// The least key of the set that is not below `key`, or `None` where there is none, as walks find
-/// it. With `Some(found)` the set had `found` at a moment of this call, and of each key from `key`
-/// on below `found` there was a moment of this call at which the set did not have it; with `None`
-/// so of each key from `key` on. The moments of two keys may differ: the answer is weakly
-/// consistent, as the iterators of Java's `ConcurrentSkipListSet`.
+/// Returns the least key of the set that is not below `key`, or `None` if its walks find none.
+/// `Some(found)`: the set had `found` at a moment (linearization point) of this call. For each key
+/// from `key` on and below `found` there was a moment of this call at which the set did not have
+/// it. `None`: so it was for each key from `key` on. Two keys may have different moments: the
+/// answer is weakly consistent, like the iterators of Java's `ConcurrentSkipListSet`.
 ///
-/// A walk for `key` tells whether the set has a key from there on below the least key of those
-/// internal nodes at which it went left; where it has none, the next walk is for that bound.
+/// A walk for `key` finds whether the set has a key from there on that is below the least key of
+/// those internal nodes at which it went left. If the set has none, the next walk is for that
+/// bound. The worker must rest, and it rests afterwards.
 ///
-/// The worker rests before and after. `Err`: `tries` is 0, and there was no step; or the pin was
-/// lost in each of `tries` tries; or each of `tries` walks has ended with no key, the next one
-/// beginning where its keys end; or a walk had looked at as many nodes as there are, and had not
-/// ended, as it never is in a radix tree. At most `tries` * (3 `reach` + 4) + 2 steps, where a walk's
-/// reach is 66 nodes in a radix tree, and else as many as there are. (The search of Natarajan and
-/// Mittal, section 3.2.)
+/// Errors: `Busy`, for one of these reasons:
+/// - `tries` is 0; then there was no step.
+/// - The pin was lost in each of `tries` tries.
+/// - Each of `tries` walks has ended with no key, and the next one began where its keys end.
+/// - A walk had looked at as many nodes as there are, and had not ended. In a radix tree this never
+///   happens.
+///
+/// Cost: at most `tries` * (3 `reach` + 4) + 2 steps. A walk's reach is 66 nodes in a radix tree,
+/// and the number of nodes otherwise. (The search of Natarajan and Mittal, section 3.2.)
 pub fn next(shared: &Shared, pass: &mut Pass, key: Key, tries: u32) -> Result<Option<Key>, Busy>
     requires own { IsOf shared.now pass.old }
     requires rests { IsResting pass.old }
@@ -53,18 +57,18 @@ pub fn next(shared: &Shared, pass: &mut Pass, key: Key, tries: u32) -> Result<Op
     if tries == 0 {
         return Err(Busy);
     }
-    pass.is_of_a_run();
+    pass.know_run();
     let Ok(_epoch) = pin(shared, pass, tries) else {
         return Err(Busy);
     };
     let found = walk_up(shared, pass, key.get(), tries);
-    pass.is_of_a_run();
+    pass.know_run();
     unpin(shared, pass);
     found
 }
 
-/// The next key from `key` on, by walks each of which begins where the keys of the last one ended,
-/// `tries` of them at most.
+/// Returns the next key from `key` on. It makes at most `tries` walks, and each begins where the
+/// keys of the previous one end.
 fn walk_up(shared: &Shared, pass: &mut Pass, key: u64, tries: u32) -> Result<Option<Key>, Busy>
     requires pinned { IsPinnedIn shared.now pass.old }
     requires known { Tells pass.old (KnowsSlot 2) }
@@ -94,8 +98,8 @@ fn walk_up(shared: &Shared, pass: &mut Pass, key: u64, tries: u32) -> Result<Opt
     Err(Busy)
 }
 
-/// The walk for a key and those above it that go the same way, to its end, or until it has looked at
-/// as many nodes as there are, as none of a radix tree does.
+/// Walks for a key and those above it that go the same way, to the end of the walk. It stops if the
+/// walk has looked at as many nodes as there are, which never happens in a radix tree.
 fn walk_down(shared: &Shared, pass: &mut Pass, from: u64) -> NextWalk
     requires pinned { IsPinnedIn shared.now pass.old }
     requires known { Tells pass.old (KnowsSlot 2) }
@@ -127,7 +131,7 @@ fn walk_down(shared: &Shared, pass: &mut Pass, from: u64) -> NextWalk
     walk
 }
 
-/// The walk that has read its node so.
+/// Returns the walk after it has read its node.
 fn read_so(walk: &NextWalk, on: &Onward) -> NextWalk
     ensures walk { result ≡ read_below walk.now result.bound on.now }
     ensures low { result.bound ≤ walk.now.bound }
@@ -150,7 +154,7 @@ fn read_so(walk: &NextWalk, on: &Onward) -> NextWalk
     }
 }
 
-/// The bound of a walk behind an internal node with this key.
+/// Returns the bound of a walk after an internal node with this key.
 fn bound_at(walk: &NextWalk, router: u64) -> u64
     ensures low { result ≤ walk.now.bound }
     ensures wide { walk.now.from < walk.now.bound → walk.now.from < result }

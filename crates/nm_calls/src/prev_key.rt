@@ -1,4 +1,4 @@
-//! The key before, of a set that is in use.
+//! The previous key, in a set that others change.
 ghost use Rattle.std.specs.Prelude.{◌≡◌, ◌≢◌, ◌≤◌, ◌*◌, ◌⊎◌, ℕ, IfOk, IfErr};
 ghost use Rattle.nm_edge.specs.Keys.{IsKey};
 ghost use Rattle.nm_model.specs.Searches.{side_of};
@@ -18,34 +18,37 @@ use nm_epoch::{pin, unpin};
 use nm_steps::{Pass, Shared};
 use nm_walks::{Onward, look_edge, reach, read_node};
 
-/// A walk for each key up to `from` that is not below `bound`, the greatest key of those nodes at
-/// which it went right: such keys turn to the same side at each node that it read.
+/// A walk for each key up to `from` that is not below `bound`. The bound is the greatest key of
+/// those nodes at which it went right. Such keys turn to the same side at each node that it read.
 #[derive(Clone, Copy, Debug)]
 struct PrevWalk {
     from: u64,
     bound: u64,
-    // The node that it reads next; 0 where there is none.
+    // The node that it reads next; 0 if there is none.
     node: u32,
     // The key of the node that it read last.
     found: u64,
 }
 
-/// The greatest key of the set that is not above `key`, or `None` where there is none, as walks
-/// find it. With `Some(found)` the set had `found` at a moment of this call, and of each key above
-/// `found` up to `key` there was a moment of this call at which the set did not have it; with
-/// `None` so of each key up to `key`. The moments of two keys may differ: the answer is weakly
-/// consistent, as the iterators of Java's `ConcurrentSkipListSet`.
+/// Returns the greatest key of the set that is not above `key`, or `None` if its walks find none.
+/// `Some(found)`: the set had `found` at a moment (linearization point) of this call. For each key
+/// above `found` up to `key` there was a moment of this call at which the set did not have it.
+/// `None`: so it was for each key up to `key`. Two keys may have different moments: the answer is
+/// weakly consistent, like the iterators of Java's `ConcurrentSkipListSet`.
 ///
-/// A walk for `key` tells whether the set has a key up to there that is not below the greatest key
-/// of those nodes at which it went right; where it has none, the next walk is for the key below
-/// that one.
+/// A walk for `key` finds whether the set has a key up to there that is not below the greatest key
+/// of those nodes at which it went right. If the set has none, the next walk is for the key below
+/// that one. The worker must rest, and it rests afterwards.
 ///
-/// The worker rests before and after. `Err`: `tries` is 0, and there was no step; or the pin was
-/// lost in each of `tries` tries; or each of `tries` walks has ended with no key, the next one
-/// beginning below its keys; or a walk had looked at as many nodes as there are, and had not
-/// ended, as it never is in a radix tree. At most `tries` * (3 `reach` + 4) + 2 steps, where a walk's
-/// reach is 66 nodes in a radix tree, and else as many as there are. (The search of Natarajan and
-/// Mittal, section 3.2.)
+/// Errors: `Busy`, for one of these reasons:
+/// - `tries` is 0; then there was no step.
+/// - The pin was lost in each of `tries` tries.
+/// - Each of `tries` walks has ended with no key, and the next one began below its keys.
+/// - A walk had looked at as many nodes as there are, and had not ended. In a radix tree this never
+///   happens.
+///
+/// Cost: at most `tries` * (3 `reach` + 4) + 2 steps. A walk's reach is 66 nodes in a radix tree,
+/// and the number of nodes otherwise. (The search of Natarajan and Mittal, section 3.2.)
 pub fn prev(shared: &Shared, pass: &mut Pass, key: Key, tries: u32) -> Result<Option<Key>, Busy>
     requires own { IsOf shared.now pass.old }
     requires rests { IsResting pass.old }
@@ -54,18 +57,18 @@ pub fn prev(shared: &Shared, pass: &mut Pass, key: Key, tries: u32) -> Result<Op
     if tries == 0 {
         return Err(Busy);
     }
-    pass.is_of_a_run();
+    pass.know_run();
     let Ok(_epoch) = pin(shared, pass, tries) else {
         return Err(Busy);
     };
     let found = walk_back(shared, pass, key.get(), tries);
-    pass.is_of_a_run();
+    pass.know_run();
     unpin(shared, pass);
     found
 }
 
-/// The greatest key up to `key`, by walks each of which begins where the keys of the last one
-/// ended, `tries` of them at most.
+/// Returns the greatest key up to `key`. It makes at most `tries` walks, and each begins where the
+/// keys of the previous one end.
 fn walk_back(shared: &Shared, pass: &mut Pass, key: u64, tries: u32) -> Result<Option<Key>, Busy>
     requires pinned { IsPinnedIn shared.now pass.old }
     requires known { Tells pass.old (KnowsSlot 2) }
@@ -95,8 +98,8 @@ fn walk_back(shared: &Shared, pass: &mut Pass, key: u64, tries: u32) -> Result<O
     Err(Busy)
 }
 
-/// The walk for a key and those below it that go the same way, to its end, or until it has looked at
-/// as many nodes as there are, as none of a radix tree does.
+/// Walks for a key and those below it that go the same way, to the end of the walk. It stops if the
+/// walk has looked at as many nodes as there are, which never happens in a radix tree.
 fn walk_down(shared: &Shared, pass: &mut Pass, from: u64) -> PrevWalk
     requires pinned { IsPinnedIn shared.now pass.old }
     requires known { Tells pass.old (KnowsSlot 2) }
@@ -128,7 +131,7 @@ fn walk_down(shared: &Shared, pass: &mut Pass, from: u64) -> PrevWalk
     walk
 }
 
-/// The walk that has read its node so.
+/// Returns the walk after it has read its node.
 fn read_so(walk: &PrevWalk, on: &Onward) -> PrevWalk
     ensures walk { result ≡ read_above walk.now result.bound on.now }
     ensures high { walk.now.bound ≤ result.bound }

@@ -106,10 +106,10 @@ impl Core {
         })
     }
 
-    /// The core came from its opening by some events, whose calls are for keys of the set: so each
-    /// law of all runs is one of this core, and of an ordered core each law of ordered runs. It
-    /// does nothing.
-    pub fn is_of_a_run(&self)
+    /// Proof only: establishes that the core came from its opening by some events, whose calls are for
+    /// keys of the set. So each law of all runs holds of this core, and each law of ordered runs holds
+    /// of an ordered core. No run-time effect.
+    pub fn know_run(&self)
         ensures { IsReached self.now }
     {
         let _machine = &self.machine;
@@ -259,7 +259,7 @@ impl Core {
         ensures why { IfErr result
             (λ e. (e.done ≡ 0) ⊎ WouldBeAllowed self.old events.items e.done) }
     {
-        self.is_of_a_run();
+        self.know_run();
         self.play(&events)
     }
 }

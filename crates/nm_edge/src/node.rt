@@ -1,6 +1,6 @@
 //! Nodes by name.
 
-/// The greatest birth, and the greatest epoch, 2^62. A slot with this birth is worn, and is never
+/// The greatest birth, and the greatest epoch, 2^62. A slot with this birth is exhausted, and is never
 /// put to use again.
 pub const LAST_NUMBER: u64 = 1 << 62;
 

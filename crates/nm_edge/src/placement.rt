@@ -9,10 +9,10 @@ use std::marker::Model;
 #[derive(Clone, Copy, Debug, PartialEq, Eq)]
 pub enum Fit {
     /// First fit: each claim tries the slots from 6 upwards.
-    Lowest,
+    FirstFit,
     /// Next fit after the slots that the worker gave back: a claim tries the slot given back last,
     /// and otherwise goes on from the row of 64 slots in which the last search ended, and round.
-    Near,
+    NextFit,
 }
 
 /// How many slots given back a placement remembers. Collections free some 64 nodes at a time.

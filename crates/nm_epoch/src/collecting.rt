@@ -121,7 +121,7 @@ fn collect_front(
     ensures after { FreesFront epoch pass.old pass.new held.old held.new result }
     ensures fit { placement.new ≡ placement.old }
 {
-    pass.is_of_a_run();
+    pass.know_run();
     let waiting = held.queue.len();
     while let Some(node) = next_ripe(&held.queue, epoch) {
         free(shared, pass, node.slot);
@@ -148,7 +148,7 @@ fn collect_fronts(
     ensures after { FreesFronts epoch pass.old pass.new queues.old queues.new result }
     ensures fit { placement.new ≡ placement.old }
 {
-    pass.is_of_a_run();
+    pass.know_run();
     let Some((first, rest)) = queues.split_first_mut() else {
         return 0;
     };

@@ -38,7 +38,7 @@ pub(crate) fn look(shared: &Shared, pass: &mut Pass, me: u32, worker: u32) -> Op
     ensures found { LooksAt me (epochs pass.old).pin worker result pass.old.view.log
         pass.new.view.log }
 {
-    pass.is_of_a_run();
+    pass.know_run();
     if worker == me {
         pass.pinned()
     } else {

@@ -73,7 +73,7 @@ fn pin_by(shared: &Shared, pass: &mut Pass, tries: u32, by: &Confirming) -> Resu
     ensures rests { IfErr result (λ m. IsResting pass.new) }
     ensures hands { KeepsHands pass.old pass.new }
 {
-    pass.is_of_a_run();
+    pass.know_run();
     let first = shared.sight_idle(pass);
     let mut epoch = first;
     if tries == 0 {

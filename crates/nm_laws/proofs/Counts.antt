@@ -20,8 +20,8 @@ use Rattle.nm_model.specs.Laws.{OfEachState}
 use Rattle.nm_model.specs.Lawful.{CountsAddUp}
 use Rattle.nm_model.proofs.Tables.{at_eqb, Above, Ascends}
 use Rattle.nm_model.proofs.Counting.{one_if, weight, sum_is_weight, weight_same, weight_none, weight_one, total, total_same, total_add, total_ones, total_weight, total_marks, total_times, times, times_here, times_apart, below_from}
-use Rattle.nm_laws.proofs.Pictures.{Spot, Stands, Once}
-use Rattle.nm_laws.proofs.Pictures.Spot.{InPool, PrivateTo, OnPath, InQueue}
+use Rattle.nm_laws.proofs.Pictures.{SeekRecord, Stands, Once}
+use Rattle.nm_laws.proofs.Pictures.SeekRecord.{InPool, PrivateTo, OnPath, InQueue}
 use Rattle.nm_laws.proofs.Views.{picture, held_queue, queued_at}
 use Rattle.nm_laws.proofs.TreeSteps.{Lawful}
 use Rattle.nm_laws.proofs.Lawful.{lawful}
@@ -67,25 +67,25 @@ keys_had (e ∷ es) (suc i) x at = has_head e es x ∙ cond_both (eqb x e.0) tru
 
 -- ---- the places of one slot
 
-abbrev pub is_pool : Spot → Bool
+abbrev pub is_pool : SeekRecord → Bool
 is_pool InPool = true
 is_pool (PrivateTo w) = false
 is_pool (OnPath path) = false
 is_pool (InQueue o i) = false
 
-abbrev pub is_hand : Spot → Bool
+abbrev pub is_hand : SeekRecord → Bool
 is_hand InPool = false
 is_hand (PrivateTo w) = true
 is_hand (OnPath path) = false
 is_hand (InQueue o i) = false
 
-abbrev pub is_path : Spot → Bool
+abbrev pub is_path : SeekRecord → Bool
 is_path InPool = false
 is_path (PrivateTo w) = false
 is_path (OnPath path) = true
 is_path (InQueue o i) = false
 
-abbrev pub is_entry : Spot → Bool
+abbrev pub is_entry : SeekRecord → Bool
 is_entry InPool = false
 is_entry (PrivateTo w) = false
 is_entry (OnPath path) = false
@@ -180,7 +180,7 @@ module _ (s : State) (h : ℕ → ℕ) (law : Lawful s h) where
           (λ p l at ne. slots_none (queue_of l) x (λ j is. ne (alone p j (at_queue (h o) p j x (ap (λ y. option_map slot_of (slice_get (queue_of y) j)) (ledger_is (of s (h o)) p l at) ∙ is)).1).0))
 
   -- how often a slot is counted in each place
-  pub record Counted (x : ℕ) (p : Spot) : Type 0 where
+  pub record Counted (x : ℕ) (p : SeekRecord) : Type 0 where
     pub pool : pooled x ≡ one_if (is_pool p)
     pub private : private x ≡ one_if (is_hand p)
     pub reached : reached x ≡ one_if (is_path p)
@@ -190,19 +190,19 @@ module _ (s : State) (h : ℕ → ℕ) (law : Lawful s h) where
   pub counted_there : (x : ℕ) → x ≢ 0 → (once : Once (picture s h) x) → Counted x once.place
   counted_there x some once = go once.place once.here once.only
     where
-      not_private : (p : Spot) → ((q : Spot) → Stands (picture s h) x q → q ≡ p) → ((w : ℕ) → PrivateTo w ≡ p → ⊥) → private x ≡ 0
+      not_private : (p : SeekRecord) → ((q : SeekRecord) → Stands (picture s h) x q → q ≡ p) → ((w : ℕ) → PrivateTo w ≡ p → ⊥) → private x ≡ 0
       not_private p only apart = private_none x (λ w. false_from_ne_true _ (λ i. apart w (only (PrivateTo w) i)))
 
-      not_queued : (p : Spot) → ((q : Spot) → Stands (picture s h) x q → q ≡ p) → ((o i : ℕ) → InQueue o i ≡ p → ⊥) → queued x ≡ 0
+      not_queued : (p : SeekRecord) → ((q : SeekRecord) → Stands (picture s h) x q → q ≡ p) → ((o i : ℕ) → InQueue o i ≡ p → ⊥) → queued x ≡ 0
       not_queued p only apart = queued_none x (λ o i is. apart o i (only (InQueue o i) is))
 
-      not_reached : (p : Spot) → ((q : Spot) → Stands (picture s h) x q → q ≡ p) → ((path : List Side) → OnPath path ≡ p → ⊥) → reached x ≡ 0
+      not_reached : (p : SeekRecord) → ((q : SeekRecord) → Stands (picture s h) x q → q ≡ p) → ((path : List Side) → OnPath path ≡ p → ⊥) → reached x ≡ 0
       not_reached p only apart = unreached s h law.tree x (λ on. apart on.path (only (OnPath on.path) on.ends)) some
 
-      not_pooled : (p : Spot) → ((q : Spot) → Stands (picture s h) x q → q ≡ p) → (InPool ≡ p → ⊥) → pooled x ≡ 0
+      not_pooled : (p : SeekRecord) → ((q : SeekRecord) → Stands (picture s h) x q → q ≡ p) → (InPool ≡ p → ⊥) → pooled x ≡ 0
       not_pooled p only apart = ap one_if (false_from_ne_true _ (λ i. apart (only InPool i)))
 
-      go : (p : Spot) → Stands (picture s h) x p → ((q : Spot) → Stands (picture s h) x q → q ≡ p) → Counted x p
+      go : (p : SeekRecord) → Stands (picture s h) x p → ((q : SeekRecord) → Stands (picture s h) x q → q ≡ p) → Counted x p
       go InPool is only = record {
         pool = ap one_if is;
         private = not_private InPool only (λ w e. cc);
@@ -238,7 +238,7 @@ module _ (s : State) (h : ℕ → ℕ) (law : Lawful s h) where
   pub counted_once : (x : ℕ) → x ≢ 0 → Once (picture s h) x → pooled x + (private x + (reached x + queued x)) ≡ 1
   counted_once x some once = go once.place (counted_there x some once)
     where
-      go : (p : Spot) → Counted x p → pooled x + (private x + (reached x + queued x)) ≡ 1
+      go : (p : SeekRecord) → Counted x p → pooled x + (private x + (reached x + queued x)) ≡ 1
       go InPool c = omega arith
       go (PrivateTo w) c = omega arith
       go (OnPath path) c = omega arith
@@ -296,7 +296,7 @@ module _ (s : State) (h : ℕ → ℕ) (law : Lawful s h) where
       once : Once (picture s h) x
       once = law.tree.places x some (let room = law.tree.room in omega arith)
 
-      go : (p : Spot) → Stands (picture s h) x p → reached x ≡ 1
+      go : (p : SeekRecord) → Stands (picture s h) x p → reached x ≡ 1
       go InPool is = let r = law.tree.pools x is in absurd (omega arith)
       go (PrivateTo w) is = let r = law.tree.privates w x is in absurd (omega arith)
       go (OnPath path) is = reached_once s h law.tree x (record { path = path; ends = is; is_slot = some })

@@ -18,7 +18,7 @@ use Rattle.nm_model.specs.declared.knowledge.Draft.{Draft}
 use Rattle.nm_model.specs.Knowledge.{knows, draft_of, read, is_null}
 use Rattle.nm_model.specs.Lawful.{EachReadStands, KnownLeavesAreLeaves, filled_on, IsQueued, IsWaiting, CanReach, QueuedNodesAreFrozen, TaggedEdgesHaveFlaggedTwins, FlaggedEdgesLeadToLeaves, OnlyThePinnedKnow, ReachIsShared, ReachIsGuarded, EpochsAgree}
 use Rattle.nm_laws.proofs.Pictures.{InReach, IsLive, nowhere_else, reached_live}
-use Rattle.nm_laws.proofs.Pictures.Spot.{InPool, PrivateTo, InQueue}
+use Rattle.nm_laws.proofs.Pictures.SeekRecord.{InPool, PrivateTo, InQueue}
 use Rattle.nm_laws.proofs.Views.{drafted_on, picture, is_late, label_below, held_queue}
 use Rattle.nm_laws.proofs.Lawful.{IsLawful, lawful}
 

@@ -4,8 +4,8 @@ use Rattle.std.specs.Prelude.{Some}
 use native.Mathlib.Decide.{ℕ_discrete}
 use Rattle.std.proofs.lemmas.Bool.{cond-true, cond-false, eqb-true, eq-eqb, ne_eqb}
 use Rattle.std.proofs.lemmas.Option.{same_Some}
-use Rattle.nm_laws.proofs.Pictures.{Spot}
-use Rattle.nm_laws.proofs.Pictures.Spot.{InPool, PrivateTo, OnPath, InQueue}
+use Rattle.nm_laws.proofs.Pictures.{SeekRecord}
+use Rattle.nm_laws.proofs.Pictures.SeekRecord.{InPool, PrivateTo, OnPath, InQueue}
 use Rattle.nm_laws.proofs.Pictures.{Picture, Stands, Once, IsLive, InReach, TreeLaw, new_place, nowhere_else}
 use Rattle.nm_laws.proofs.Slots.{at_one, at_one-same, at_one-other}
 
@@ -89,7 +89,7 @@ free_keeps N P w s law front unseen = record {
     index_of : (i j : ℕ) → suc i ≡ suc j → i ≡ j
     index_of i j h = omega arith
 
-    each : (q : Spot) → Stands (freed P w s) s q → (q ≡ InPool) ⊎ (Stands P s q × (q ≢ InQueue w 0))
+    each : (q : SeekRecord) → Stands (freed P w s) s q → (q ≡ InPool) ⊎ (Stands P s q × (q ≢ InQueue w 0))
     each InPool h = inl refl
     each (PrivateTo u) h = inr (h, λ e. cc)
     each (OnPath p) h = inr (h, λ e. cc)
@@ -108,19 +108,19 @@ free_keeps N P w s law front unseen = record {
     place_other : (x : ℕ) → x ≢ 0 → x ≤ N → x ≢ s → Once (freed P w s) x
     place_other x some inside ne = go (law.places x some inside).place (law.places x some inside).here (law.places x some inside).only
       where
-        stay : (place : Spot) → Stands (freed P w s) x place → ((q : Spot) → Stands P x q → (q ≡ place)) → ((u i : ℕ) → place ≡ InQueue u i → ⊥) → Once (freed P w s) x
+        stay : (place : SeekRecord) → Stands (freed P w s) x place → ((q : SeekRecord) → Stands P x q → (q ≡ place)) → ((u i : ℕ) → place ≡ InQueue u i → ⊥) → Once (freed P w s) x
         stay place here only apart = record { place = place; here = here; only = only' }
           where
-            only' : (q : Spot) → Stands (freed P w s) x q → q ≡ place
+            only' : (q : SeekRecord) → Stands (freed P w s) x q → q ≡ place
             only' InPool h = only InPool (sym (at_one-other P.pool s x true ne) ∙ h)
             only' (PrivateTo u) h = only (PrivateTo u) h
             only' (OnPath p) h = only (OnPath p) h
             only' (InQueue u i) h = let b = entry u i x h in absurd (apart u b.0 (sym (only (InQueue u b.0) b.1)))
 
-        queue_place : (v j i : ℕ) → (freed P w s).queue v i ≡ Some x → ((q : Spot) → Stands P x q → q ≡ InQueue v j) → Once (freed P w s) x
+        queue_place : (v j i : ℕ) → (freed P w s).queue v i ≡ Some x → ((q : SeekRecord) → Stands P x q → q ≡ InQueue v j) → Once (freed P w s) x
         queue_place v j i here only = record { place = InQueue v i; here = here; only = only' }
           where
-            only' : (q : Spot) → Stands (freed P w s) x q → q ≡ InQueue v i
+            only' : (q : SeekRecord) → Stands (freed P w s) x q → q ≡ InQueue v i
             only' InPool h = let e = only InPool (sym (at_one-other P.pool s x true ne) ∙ h) in cc
             only' (PrivateTo u) h = let e = only (PrivateTo u) h in cc
             only' (OnPath p) h = let e = only (OnPath p) h in cc
@@ -134,7 +134,7 @@ free_keeps N P w s law front unseen = record {
                   | no far ↦ let m : b.0 ≡ k = b.2.1 far in let n : c.0 ≡ i = c.2.1 (λ z. far (e.0 ∙ z)) in let index : k ≡ i = omega (arith, e.1, f.1) in ap (λ (y : ℕ). InQueue y k) e.0 ∙ ap (InQueue v) index
                 ]
 
-        go : (place : Spot) → Stands P x place → ((q : Spot) → Stands P x q → q ≡ place) → Once (freed P w s) x
+        go : (place : SeekRecord) → Stands P x place → ((q : SeekRecord) → Stands P x q → q ≡ place) → Once (freed P w s) x
         go InPool h only = stay InPool (at_one-other P.pool s x true ne ∙ h) only (λ u i e. cc)
         go (PrivateTo u) h only = stay (PrivateTo u) h only (λ u i e. cc)
         go (OnPath p) h only = stay (OnPath p) h only (λ u i e. cc)
@@ -143,7 +143,7 @@ free_keeps N P w s law front unseen = record {
           | no far ↦ queue_place u i i (others_entry u i far ∙ h) only
         ]
           where
-            from : (i : ℕ) → P.queue w i ≡ Some x → ((q : Spot) → Stands P x q → q ≡ InQueue w i) → Once (freed P w s) x
+            from : (i : ℕ) → P.queue w i ≡ Some x → ((q : SeekRecord) → Stands P x q → q ≡ InQueue w i) → Once (freed P w s) x
             from zero h only = absurd (ne (same_Some x s (sym h ∙ front)))
             from (suc i) h only = queue_place w (suc i) i (cond-true (eqb w w) (P.queue w (suc i)) (P.queue w i) (eq-eqb w w refl) ∙ h) only
 

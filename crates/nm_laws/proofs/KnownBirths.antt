@@ -33,7 +33,7 @@ use Rattle.nm_laws.proofs.Epochs.{other_worker}
 use Rattle.nm_laws.proofs.Pins.{all_new}
 use Rattle.nm_laws.proofs.Learned.{learn_sight_for, learn_leave_with, learn_saw, learn_labelled, learn_pinned, learn_missed, learn_announced, learn_departed, learn_idle, learn_in, learn_moved, learn_behind, learn_claimed, learn_taken, learn_returned, learn_freed, learn_look, learn_filled, learn_linked, learn_link_lost, learn_flagged, learn_flag_lost, learn_was, learn_cut, learn_splice_lost}
 use Rattle.nm_laws.proofs.Pictures.{nowhere_else}
-use Rattle.nm_laws.proofs.Pictures.Spot.{PrivateTo}
+use Rattle.nm_laws.proofs.Pictures.SeekRecord.{PrivateTo}
 use Rattle.nm_laws.proofs.Views.{picture, seen_met}
 use Rattle.nm_laws.proofs.Holders.{joins, by_worker}
 use Rattle.nm_laws.proofs.TreeSteps.{Lawful, slot_inside, fill_checked}

@@ -10,8 +10,8 @@ use Rattle.nm_edge.specs.declared.edge.Side.TheVariants.{Left}
 use Rattle.nm_edge.specs.Edges.{to, other}
 use Rattle.nm_laws.proofs.Trees.{same_side, no_longer}
 use Rattle.nm_model.specs.Paths.{follow}
-use Rattle.nm_laws.proofs.Pictures.{Spot}
-use Rattle.nm_laws.proofs.Pictures.Spot.{InPool, PrivateTo, OnPath, InQueue}
+use Rattle.nm_laws.proofs.Pictures.{SeekRecord}
+use Rattle.nm_laws.proofs.Pictures.SeekRecord.{InPool, PrivateTo, OnPath, InQueue}
 use Rattle.nm_laws.proofs.Trees.{follow-append, follow_leaf, same_side-false, rest_after, Exchanged, not_taken, taken, is_taken, unvisited, same_side-true}
 use Rattle.nm_laws.proofs.Pictures.{Picture, below, Stands, Once, IsLive, InReach, TreeLaw, new_place, nowhere_else, alone, null_below, IsOnPath, in_reach}
 use Rattle.nm_laws.proofs.Trees.{append_cancel}
@@ -239,7 +239,7 @@ module _ (r : Bool) (N : ℕ) (P : Picture) (w p : ℕ) (d : Side) (leaf new far
       s : (x ≢ 0) × (x ≤ N)
       s = private_slot x own
 
-      each : (q : Spot) → Stands Q x q → (q ≡ OnPath r) ⊎ (Stands P x q × (q ≢ PrivateTo w))
+      each : (q : SeekRecord) → Stands Q x q → (q ≡ OnPath r) ⊎ (Stands P x q × (q ≢ PrivateTo w))
       each InPool k = inr (k, λ e. cc)
       each (PrivateTo u) k = elim (ℕ_discrete u w) [
         | yes e ↦ absurd (true≢false (sym k ∙ (ap (λ (y : ℕ). Q.private y x) e ∙ gone)))

@@ -9,20 +9,20 @@ use Rattle.nm_model.specs.Laws.{OfEachState}
 use Rattle.nm_model.specs.Places.SlotPlace.{InPool, PrivateTo, OnPath, InQueue}
 use Rattle.nm_model.specs.Runs.{State, of, start, after}
 use Rattle.nm_laws.proofs.Holders.{Holders}
-use Rattle.nm_laws.proofs.Pictures.{Spot, Stands, Once}
-use Rattle.nm_laws.proofs.Pictures.Spot.{InPool as SpotInPool, PrivateTo as SpotPrivateTo, OnPath as SpotOnPath, InQueue as SpotInQueue}
+use Rattle.nm_laws.proofs.Pictures.{SeekRecord, Stands, Once}
+use Rattle.nm_laws.proofs.Pictures.SeekRecord.{InPool as SpotInPool, PrivateTo as SpotPrivateTo, OnPath as SpotOnPath, InQueue as SpotInQueue}
 use Rattle.nm_laws.proofs.Views.{picture}
 use Rattle.nm_laws.proofs.Lawful.{IsLawful, lawful}
 
 module _ (s : State) (h : ℕ → ℕ) (holders : Holders s h) (x : ℕ) where
-  -- a spot, as the place where a state has it
-  abbrev place_of : Spot → SlotPlace
+  -- a seek_record, as the place where a state has it
+  abbrev place_of : SeekRecord → SlotPlace
   place_of SpotInPool = InPool
   place_of (SpotPrivateTo w) = PrivateTo w
   place_of (SpotOnPath path) = OnPath path
   place_of (SpotInQueue o i) = InQueue (h o) o i
 
-  there : (p : Spot) → Stands (picture s h) x p → SlotStandsAt s x (place_of p)
+  there : (p : SeekRecord) → Stands (picture s h) x p → SlotStandsAt s x (place_of p)
   there SpotInPool is = is
   there (SpotPrivateTo w) is = is
   there (SpotOnPath path) is = is

@@ -20,8 +20,8 @@ use Rattle.nm_model.specs.Runs.{start}
 use Rattle.nm_model.proofs.Numbers.{repeated}
 use Rattle.nm_laws.proofs.Holders.{none_held}
 use Rattle.nm_laws.proofs.Trees.{follow_none, each_side, each_slot}
-use Rattle.nm_laws.proofs.Pictures.{Picture, below, TreeLaw, Spot, Stands, Once}
-use Rattle.nm_laws.proofs.Pictures.Spot.{InPool, PrivateTo, OnPath, InQueue}
+use Rattle.nm_laws.proofs.Pictures.{Picture, below, TreeLaw, SeekRecord, Stands, Once}
+use Rattle.nm_laws.proofs.Pictures.SeekRecord.{InPool, PrivateTo, OnPath, InQueue}
 use Rattle.nm_laws.proofs.Views.{picture, view, held_queue, queued_at, drafted_on}
 use Rattle.nm_laws.proofs.Pins.{all_new}
 
@@ -102,7 +102,7 @@ module _ (L : Layout) (enough : 5 ≤ L.nodes) where
   fixed : (x : ℕ) → x ≢ 0 → P.pool x ≡ false → follow (below P) 1 (the_path x) ≡ x → Once P x
   fixed x some out ends = record { place = OnPath (the_path x); here = ends; only = each }
     where
-      each : (q : Spot) → Stands P x q → q ≡ OnPath (the_path x)
+      each : (q : SeekRecord) → Stands P x q → q ≡ OnPath (the_path x)
       each InPool h = absurd (true≢false (sym h ∙ out))
       each (PrivateTo u) h = absurd (true≢false (sym h))
       each (OnPath q) h = ap OnPath (path_is q (rw h some) ∙ ap the_path h)
@@ -111,7 +111,7 @@ module _ (L : Layout) (enough : 5 ≤ L.nodes) where
   pooled : (x : ℕ) → suc (suc (suc (suc (suc (suc x))))) ≤ L.nodes → Once P (suc (suc (suc (suc (suc (suc x))))))
   pooled x inside = record { place = InPool; here = get_or-replicate (L.nodes - 5) x true false (omega arith); only = each }
     where
-      each : (q : Spot) → Stands P (suc (suc (suc (suc (suc (suc x)))))) q → q ≡ InPool
+      each : (q : SeekRecord) → Stands P (suc (suc (suc (suc (suc (suc x)))))) q → q ≡ InPool
       each InPool h = refl
       each (PrivateTo u) h = absurd (true≢false (sym h))
       each (OnPath q) h = let l = low_path q in absurd (omega arith)

@@ -26,25 +26,25 @@ pub record Picture : Type 0 where
 
 -- where a slot may stand: in the pool, in a worker's hands, on a path from the root, or at an index
 -- of an origin's queue
-pub data Spot : Type 0 where
-  InPool : Spot
-  PrivateTo : ℕ → Spot
-  OnPath : List Side → Spot
-  InQueue : ℕ → ℕ → Spot
+pub data SeekRecord : Type 0 where
+  InPool : SeekRecord
+  PrivateTo : ℕ → SeekRecord
+  OnPath : List Side → SeekRecord
+  InQueue : ℕ → ℕ → SeekRecord
 
 abbrev pub below : Picture → Children
 below P x d = (P.edges x d).slot
 
-abbrev pub Stands : Picture → ℕ → Spot → Type 0
+abbrev pub Stands : Picture → ℕ → SeekRecord → Type 0
 Stands P x InPool = P.pool x ≡ true
 Stands P x (PrivateTo w) = P.private w x ≡ true
 Stands P x (OnPath path) = follow (below P) 1 path ≡ x
 Stands P x (InQueue w i) = P.queue w i ≡ Some x
 
 pub record Once (P : Picture) (x : ℕ) : Type 0 where
-  pub place : Spot
+  pub place : SeekRecord
   pub here : Stands P x place
-  pub only : (q : Spot) → Stands P x q → q ≡ place
+  pub only : (q : SeekRecord) → Stands P x q → q ≡ place
 
 -- neither in the pool nor private
 pub record IsLive (P : Picture) (x : ℕ) : Type 0 where
@@ -103,35 +103,35 @@ pub record TreeLaw (N : ℕ) (P : Picture) : Type 0 where
 
 -- ---- places
 
-pub same_place : (P Q : Picture) (x : ℕ) → ((q : Spot) → Stands P x q → Stands Q x q) → ((q : Spot) → Stands Q x q → Stands P x q) → Once P x → Once Q x
+pub same_place : (P Q : Picture) (x : ℕ) → ((q : SeekRecord) → Stands P x q → Stands Q x q) → ((q : SeekRecord) → Stands Q x q → Stands P x q) → Once P x → Once Q x
 same_place P Q x there back once = record { place = once.place; here = there once.place once.here; only = λ q h. once.only q (back q h) }
 
 -- pool, hands and queues have the slot as before, and each path leads where it led
 pub same_ways : (P Q : Picture) (x : ℕ) → Q.pool x ≡ P.pool x → ((u : ℕ) → Q.private u x ≡ P.private u x) → ((u i : ℕ) → Q.queue u i ≡ P.queue u i) → ((q : List Side) → follow (below Q) 1 q ≡ follow (below P) 1 q) → Once P x → Once Q x
 same_ways P Q x pool private queue path = same_place P Q x there back
   where
-    there : (q : Spot) → Stands P x q → Stands Q x q
+    there : (q : SeekRecord) → Stands P x q → Stands Q x q
     there InPool h = pool ∙ h
     there (PrivateTo u) h = private u ∙ h
     there (OnPath q) h = path q ∙ h
     there (InQueue u i) h = queue u i ∙ h
 
-    back : (q : Spot) → Stands Q x q → Stands P x q
+    back : (q : SeekRecord) → Stands Q x q → Stands P x q
     back InPool h = sym pool ∙ h
     back (PrivateTo u) h = sym (private u) ∙ h
     back (OnPath q) h = sym (path q) ∙ h
     back (InQueue u i) h = sym (queue u i) ∙ h
 
 -- it goes from old to new, and stood nowhere else
-pub new_place : (P Q : Picture) (x : ℕ) (old new : Spot) → Stands P x old → Stands Q x new → ((q : Spot) → Stands Q x q → (q ≡ new) ⊎ (Stands P x q × (q ≢ old))) → Once P x → Once Q x
+pub new_place : (P Q : Picture) (x : ℕ) (old new : SeekRecord) → Stands P x old → Stands Q x new → ((q : SeekRecord) → Stands Q x q → (q ≡ new) ⊎ (Stands P x q × (q ≢ old))) → Once P x → Once Q x
 new_place P Q x old new was is each once = record { place = new; here = is; only = λ q h. go q (each q h) }
   where
-    go : (q : Spot) → (q ≡ new) ⊎ (Stands P x q × (q ≢ old)) → q ≡ new
+    go : (q : SeekRecord) → (q ≡ new) ⊎ (Stands P x q × (q ≢ old)) → q ≡ new
     go q (inl e) = e
     go q (inr t) = absurd (t.1 (once.only q t.0 ∙ sym (once.only old was)))
 
 -- a slot that stands in one place stands in no other
-pub nowhere_else : (P : Picture) (x : ℕ) (p q : Spot) → Once P x → Stands P x p → Stands P x q → p ≡ q
+pub nowhere_else : (P : Picture) (x : ℕ) (p q : SeekRecord) → Once P x → Stands P x p → Stands P x q → p ≡ q
 nowhere_else P x p q once a b = once.only p a ∙ sym (once.only q b)
 
 module _ (N : ℕ) (P : Picture) (law : TreeLaw N P) where
@@ -149,7 +149,7 @@ module _ (N : ℕ) (P : Picture) (law : TreeLaw N P) where
     shared = λ u. false_from_ne_true _ (λ h. clash (PrivateTo u) h (λ e. cc));
   }
     where
-      clash : (p : Spot) → Stands P (follow (below P) 1 q) p → (p ≡ OnPath q → ⊥) → ⊥
+      clash : (p : SeekRecord) → Stands P (follow (below P) 1 q) p → (p ≡ OnPath q → ⊥) → ⊥
       clash p h apart = apart (nowhere_else P _ p (OnPath q) (law.places _ there (reached_within q)) h refl)
 
   -- each slot ends one path at most

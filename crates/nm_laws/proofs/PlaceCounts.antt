@@ -14,8 +14,8 @@ use Rattle.nm_laws.specs.Cardinality.{HoldsOfSlots, IsInSomeHands, CountsAreNumb
 use Rattle.nm_laws.proofs.Cardinalities.{cardinality}
 use Rattle.nm_laws.proofs.Counts.{is_hand, is_path, is_entry, pooled, private, reached, queued, Counted, counted_there, counted_once, at_queue, null_uncounted', low_reached, total_pooled, total_private, total_queued}
 use Rattle.nm_laws.proofs.Lawful.{lawful}
-use Rattle.nm_laws.proofs.Pictures.{Spot, Stands, Once}
-use Rattle.nm_laws.proofs.Pictures.Spot.{InPool, PrivateTo, OnPath, InQueue}
+use Rattle.nm_laws.proofs.Pictures.{SeekRecord, Stands, Once}
+use Rattle.nm_laws.proofs.Pictures.SeekRecord.{InPool, PrivateTo, OnPath, InQueue}
 use Rattle.nm_laws.proofs.TreeCount.{total_reached}
 use Rattle.nm_laws.proofs.TreeSteps.{Lawful}
 use Rattle.nm_laws.proofs.Views.{picture, held_queue}
@@ -68,7 +68,7 @@ module _ (s : State) (h : ℕ → ℕ) (law : Lawful s h) where
   in_hands : (x : ℕ) → 6 ≤ x → x ≤ s.layout.nodes → private s h law x ≢ 0 → IsInSomeHands s x
   in_hands x low high some = go (once x low high).place (once x low high).here (counted x low high).private
     where
-      go : (p : Spot) → Stands (picture s h) x p → private s h law x ≡ one_if (is_hand p) → IsInSomeHands s x
+      go : (p : SeekRecord) → Stands (picture s h) x p → private s h law x ≡ one_if (is_hand p) → IsInSomeHands s x
       go InPool is none = absurd (some none)
       go (PrivateTo w) is one = (w, is)
       go (OnPath path) is none = absurd (some none)
@@ -81,7 +81,7 @@ module _ (s : State) (h : ℕ → ℕ) (law : Lawful s h) where
   is_reached : (x : ℕ) → 6 ≤ x → x ≤ s.layout.nodes → reached s h law x ≢ 0 → Reached s.memory x
   is_reached x low high some = go (once x low high).place (once x low high).here (counted x low high).reached
     where
-      go : (p : Spot) → Stands (picture s h) x p → reached s h law x ≡ one_if (is_path p) → Reached s.memory x
+      go : (p : SeekRecord) → Stands (picture s h) x p → reached s h law x ≡ one_if (is_path p) → Reached s.memory x
       go InPool is none = absurd (some none)
       go (PrivateTo w) is none = absurd (some none)
       go (OnPath path) is one = record { path = path; ends = is; is_slot = λ z. absurd (omega arith) }
@@ -94,7 +94,7 @@ module _ (s : State) (h : ℕ → ℕ) (law : Lawful s h) where
   is_waiting : (x : ℕ) → 6 ≤ x → x ≤ s.layout.nodes → queued s h law x ≢ 0 → IsWaiting s x
   is_waiting x low high some = go (once x low high).place (once x low high).here (counted x low high).queued
     where
-      go : (p : Spot) → Stands (picture s h) x p → queued s h law x ≡ one_if (is_entry p) → IsWaiting s x
+      go : (p : SeekRecord) → Stands (picture s h) x p → queued s h law x ≡ one_if (is_entry p) → IsWaiting s x
       go InPool is none = absurd (some none)
       go (PrivateTo w) is none = absurd (some none)
       go (OnPath path) is none = absurd (some none)

@@ -11,8 +11,8 @@ use Rattle.nm_edge.specs.declared.edge.Side.TheVariants.{Left}
 use Rattle.nm_edge.specs.Edges.{to, other}
 use Rattle.nm_laws.proofs.Trees.{same_side}
 use Rattle.nm_model.specs.Paths.{follow}
-use Rattle.nm_laws.proofs.Pictures.{Spot}
-use Rattle.nm_laws.proofs.Pictures.Spot.{InPool, PrivateTo, OnPath, InQueue}
+use Rattle.nm_laws.proofs.Pictures.{SeekRecord}
+use Rattle.nm_laws.proofs.Pictures.SeekRecord.{InPool, PrivateTo, OnPath, InQueue}
 use Rattle.nm_laws.proofs.Trees.{Exchanged, unvisited, same_side-refl}
 use Rattle.nm_laws.proofs.Pictures.{Picture, below, Stands, Once, IsLive, InReach, TreeLaw, same_ways, new_place, nowhere_else, reached_live, IsOnPath, on_path, in_reach}
 
@@ -103,7 +103,7 @@ claim_keeps N P w s law free = handed_keeps N P w s false true P.drafted law (λ
     pool_back : (x : ℕ) → (claimed P w s).pool x ≡ true → P.pool x ≡ true
     pool_back x h = grind (arith, nat_tests)
 
-    each : (q : Spot) → Stands (claimed P w s) s q → (q ≡ PrivateTo w) ⊎ (Stands P s q × (q ≢ InPool))
+    each : (q : SeekRecord) → Stands (claimed P w s) s q → (q ≡ PrivateTo w) ⊎ (Stands P s q × (q ≢ InPool))
     each InPool h = absurd (true≢false (sym h ∙ at_one-same P.pool s false))
     each (PrivateTo u) h = elim (ℕ_discrete u w) [ yes e ↦ inl (ap PrivateTo e) | no ne ↦ inr (sym (hand-others P.private w s true u s ne) ∙ h, λ e. cc) ]
     each (OnPath p) h = inr (h, λ e. cc)
@@ -127,7 +127,7 @@ return_keeps N P w s law own = handed_keeps N P w s true false _ law (λ l. true
         go true h = absurd (none-some v h)
         go false h = law.drafts u x d v h
 
-    each : (q : Spot) → Stands (returned P w s) s q → (q ≡ InPool) ⊎ (Stands P s q × (q ≢ PrivateTo w))
+    each : (q : SeekRecord) → Stands (returned P w s) s q → (q ≡ InPool) ⊎ (Stands P s q × (q ≢ PrivateTo w))
     each InPool h = inl refl
     each (PrivateTo u) h = elim (ℕ_discrete u w) [
       | yes e ↦ absurd (true≢false (sym h ∙ (ap (λ (y : ℕ). (returned P w s).private y s) e ∙ hand-same P.private w s false)))

@@ -10,8 +10,8 @@ use Rattle.nm_edge.specs.declared.edge.Side.TheVariants.{Left, Right}
 use Rattle.nm_edge.specs.Edges.{to, other}
 use Rattle.nm_laws.proofs.Trees.{same_side}
 use Rattle.nm_model.specs.Paths.{follow}
-use Rattle.nm_laws.proofs.Pictures.{Spot}
-use Rattle.nm_laws.proofs.Pictures.Spot.{InPool, PrivateTo, OnPath, InQueue}
+use Rattle.nm_laws.proofs.Pictures.{SeekRecord}
+use Rattle.nm_laws.proofs.Pictures.SeekRecord.{InPool, PrivateTo, OnPath, InQueue}
 use Rattle.nm_laws.proofs.Trees.{Children, follow-append, not_taken}
 use Rattle.nm_laws.proofs.Pictures.{Picture, below, Stands, Once, IsLive, InReach, TreeLaw, new_place, within_path, reached_within, reached_live, alone, null_below, IsOnPath}
 use Rattle.std.specs.Prelude.{slice_get, ltb, ◌-◌}
@@ -107,16 +107,16 @@ pub repathed : (P Q : Picture) (x : ℕ)
     → Once P x → Once Q x
 repathed P Q x pool pool' private private' queue queue' forth came alone once = go once.place once.here once.only
   where
-    stay : (place : Spot) → Stands Q x place → ((p : List Side) → OnPath p ≡ place → ⊥) → ((q : Spot) → Stands P x q → q ≡ place) → Once Q x
+    stay : (place : SeekRecord) → Stands Q x place → ((p : List Side) → OnPath p ≡ place → ⊥) → ((q : SeekRecord) → Stands P x q → q ≡ place) → Once Q x
     stay place here apart only = record { place = place; here = here; only = each }
       where
-        each : (q : Spot) → Stands Q x q → q ≡ place
+        each : (q : SeekRecord) → Stands Q x q → q ≡ place
         each InPool h = only InPool (pool' h)
         each (PrivateTo u) h = only (PrivateTo u) (private' u h)
         each (OnPath r) h = let was = came r h in absurd (apart was.0 (only (OnPath was.0) was.1))
         each (InQueue u i) h = only (InQueue u i) (queue' u i h)
 
-    go : (place : Spot) → Stands P x place → ((q : Spot) → Stands P x q → q ≡ place) → Once Q x
+    go : (place : SeekRecord) → Stands P x place → ((q : SeekRecord) → Stands P x q → q ≡ place) → Once Q x
     go InPool h only = stay InPool (pool h) (λ p e. cc) only
     go (PrivateTo u) h only = stay (PrivateTo u) (private u h) (λ p e. cc) only
     go (InQueue u i) h only = stay (InQueue u i) (queue u i h) (λ p e. cc) only
@@ -125,7 +125,7 @@ repathed P Q x pool pool' private private' queue queue' forth came alone once = 
         now : (r : List Side) × (follow (below Q) 1 r ≡ x)
         now = forth p h
 
-        each : (q : Spot) → Stands Q x q → q ≡ OnPath now.0
+        each : (q : SeekRecord) → Stands Q x q → q ≡ OnPath now.0
         each InPool h = let e = only InPool (pool' h) in cc
         each (PrivateTo u) h = let e = only (PrivateTo u) (private' u h) in cc
         each (OnPath r) h = ap OnPath (alone r now.0 h now.1)
@@ -187,7 +187,7 @@ at_among (y ∷ xs) x (suc j) h = or_right (eqb x y) (among xs x) (at_among xs x
 pub live_on_path : (N : ℕ) (P : Picture) (x : ℕ) → TreeLaw N P → IsLive P x → x ≢ 0 → x ≤ N → ((u i : ℕ) → P.queue u i ≡ Some x → ⊥) → IsOnPath P x
 live_on_path N P x law live some inside unqueued = go (law.places x some inside).place (law.places x some inside).here
   where
-    go : (p : Spot) → Stands P x p → IsOnPath P x
+    go : (p : SeekRecord) → Stands P x p → IsOnPath P x
     go InPool h = absurd (true≢false (sym h ∙ live.pooled))
     go (PrivateTo u) h = absurd (true≢false (sym h ∙ live.shared u))
     go (OnPath p) h = record { path = p; ends = h; is_slot = some }
@@ -425,7 +425,7 @@ module _ (N : ℕ) (P : Picture) (w n a : ℕ) (d : Side) (way : List Side) (e :
           let same = alone N P law (splicing.front ++ d ∷ cut_path way j) path (rw other_path some) (other_path ∙ sym ends) in
           cut_apart (below P) way (below P a d) j at.0 x x h at.1 (tails (append_cancel splicing.front _ _ same))
 
-      each : (q : Spot) → Stands Q x q → (q ≡ InQueue w (n + at.0)) ⊎ (Stands P x q × (q ≢ OnPath path))
+      each : (q : SeekRecord) → Stands Q x q → (q ≡ InQueue w (n + at.0)) ⊎ (Stands P x q × (q ≢ OnPath path))
       each InPool h = inr (h, λ e. cc)
       each (PrivateTo u) h = inr (h, λ e. cc)
       each (OnPath p) h = absurd ((cut_law x cut).1 (record { path = p; ends = h; is_slot = some }))

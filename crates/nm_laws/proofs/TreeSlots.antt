@@ -25,7 +25,7 @@ use Rattle.nm_laws.proofs.Held.{Front}
 use Rattle.nm_laws.proofs.Learned.{learn_claimed, learn_taken, learn_look, learn_filled, learn_flagged, learn_flag_lost, learn_was}
 use Rattle.nm_laws.proofs.Trees.{same_side, each_side}
 use Rattle.nm_laws.proofs.Pictures.{InReach, IsLive, TreeLaw, nowhere_else}
-use Rattle.nm_laws.proofs.Pictures.Spot.{InPool, PrivateTo}
+use Rattle.nm_laws.proofs.Pictures.SeekRecord.{InPool, PrivateTo}
 use Rattle.nm_laws.proofs.Slots.{at_one, at_one-same, at_one-other, hand, hand-others, claimed, claim_keeps, returned, return_keeps, with_edges, with_edge-same, filled, fill_keeps}
 use Rattle.nm_laws.proofs.Readings.{IsMarking, mark_keeps}
 use Rattle.nm_laws.proofs.Splices.{onward_slot}

@@ -12,8 +12,8 @@ use Rattle.nm_model.specs.Knowledge.{Knowledge, is_private}
 use Rattle.nm_model.specs.Runs.{State, of}
 use Rattle.nm_model.specs.Ordered.{Configuration, ordered, after_in, trace_in}
 use Rattle.nm_laws.proofs.TreeSteps.{Lawful}
-use Rattle.nm_laws.proofs.Pictures.{Spot, Stands, nowhere_else}
-use Rattle.nm_laws.proofs.Pictures.Spot.{PrivateTo, InQueue}
+use Rattle.nm_laws.proofs.Pictures.{SeekRecord, Stands, nowhere_else}
+use Rattle.nm_laws.proofs.Pictures.SeekRecord.{PrivateTo, InQueue}
 use Rattle.nm_laws.proofs.Views.{picture}
 use Rattle.nm_laws.proofs.Retired.{layout_after}
 use Rattle.nm_order.specs.Logs.{part_of, known_by}
@@ -30,7 +30,7 @@ module _ (s : State) (h : ℕ → ℕ) (law : Lawful s h) (w : ℕ) where
   waits o i e at = law.tree.queues o i e.node.slot (in_queue o i e at)
 
   -- a slot that waits stands nowhere but there
-  alone : (o i : ℕ) (e : Queued) → WaitsAt (of s w) o i e → (q : Spot) → Stands (picture s h) e.node.slot q → InQueue o i ≡ q
+  alone : (o i : ℕ) (e : Queued) → WaitsAt (of s w) o i e → (q : SeekRecord) → Stands (picture s h) e.node.slot q → InQueue o i ≡ q
   alone o i e at q there =
       let range = waits o i e at in
       let low = range.0 in

@@ -33,7 +33,7 @@ use Rattle.nm_model.specs.Ordered.{Configuration, ordered, refused_in, next_in, 
 use Rattle.nm_model.proofs.Lists.{get_right, get_stays}
 use Rattle.nm_laws.proofs.Steps.{Allowed, allowed}
 use Rattle.nm_laws.proofs.Pictures.{IsOnPath, on_path, nowhere_else}
-use Rattle.nm_laws.proofs.Pictures.Spot.{PrivateTo, InQueue}
+use Rattle.nm_laws.proofs.Pictures.SeekRecord.{PrivateTo, InQueue}
 use Rattle.nm_laws.proofs.Pins.{all_new}
 use Rattle.nm_laws.proofs.Splices.{live_on_path, unmarked_not_queued}
 use Rattle.nm_laws.proofs.Views.{picture, queued_at, held_queue, edge_put}

@@ -21,8 +21,8 @@ use Rattle.nm_model.specs.Ordered.{Configuration}
 use Rattle.nm_laws.proofs.Steps.{Allowed, passed, by_steps}
 use Rattle.nm_laws.proofs.TreeSteps.{Lawful, high_from}
 use Rattle.nm_laws.proofs.Trees.{follow_none, each_slot}
-use Rattle.nm_laws.proofs.Pictures.{Spot, Stands, Once, IsLive}
-use Rattle.nm_laws.proofs.Pictures.Spot.{InPool, PrivateTo, OnPath, InQueue}
+use Rattle.nm_laws.proofs.Pictures.{SeekRecord, Stands, Once, IsLive}
+use Rattle.nm_laws.proofs.Pictures.SeekRecord.{InPool, PrivateTo, OnPath, InQueue}
 use Rattle.nm_laws.proofs.Views.{picture}
 use Rattle.nm_laws.proofs.KnownBirths.{written_same}
 use Rattle.nm_order.specs.Intervals.{GoesBy, key}
@@ -80,7 +80,7 @@ module _ (L : Layout) (enough : 5 ≤ L.nodes) (c : Configuration) (o : IsOrdere
       once : Once (picture c.state holder) x
       once = law.tree.places x (λ z. omega arith) (let room = law.tree.room in omega arith)
 
-      go : (p : Spot) → Stands (picture c.state holder) x p → (path : List Side) × (follow (child c.state.memory) 1 path ≡ x)
+      go : (p : SeekRecord) → Stands (picture c.state holder) x p → (path : List Side) × (follow (child c.state.memory) 1 path ≡ x)
       go InPool is = let r = law.tree.pools x is in absurd (omega arith)
       go (PrivateTo w) is = let r = law.tree.privates w x is in absurd (omega arith)
       go (OnPath path) is = (path, is)

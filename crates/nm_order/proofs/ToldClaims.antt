@@ -19,8 +19,8 @@ use Rattle.nm_model.specs.Runs.{State, of, reply_of}
 use Rattle.nm_model.specs.Walks.{Entry}
 use Rattle.nm_laws.proofs.Steps.{Allowed, passed}
 use Rattle.nm_laws.proofs.TreeSteps.{Lawful, high_from}
-use Rattle.nm_laws.proofs.Pictures.{Spot, Stands, nowhere_else}
-use Rattle.nm_laws.proofs.Pictures.Spot.{InPool, PrivateTo, InQueue}
+use Rattle.nm_laws.proofs.Pictures.{SeekRecord, Stands, nowhere_else}
+use Rattle.nm_laws.proofs.Pictures.SeekRecord.{InPool, PrivateTo, InQueue}
 use Rattle.nm_laws.proofs.Views.{picture, held_queue}
 use Rattle.nm_laws.proofs.Retired.{layout_after}
 use Rattle.nm_order.specs.Told.{IsNew, OfEachEntry, ClaimsAreNew}
@@ -65,7 +65,7 @@ module _ (s : State) (h : ℕ → ℕ) (law : Lawful s h) (w x : ℕ) where
     not_queued = λ origin i e at slot. let e : InPool ≡ InQueue origin i = alone (InQueue origin i) (queued_so origin i e at slot) in cc;
   }
     where
-      alone : (q : Spot) → Stands (picture s h) x q → InPool ≡ q
+      alone : (q : SeekRecord) → Stands (picture s h) x q → InPool ≡ q
       alone q there = let r = law.tree.pools x pooled in nowhere_else (picture s h) x InPool q (law.tree.places x (λ z. omega arith) r.1) pooled there
 
 pub claims_are_new : OfEachEntry ClaimsAreNew

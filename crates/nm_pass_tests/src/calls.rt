@@ -37,7 +37,7 @@ fn the_empty_tree_has_no_key(rt: HostRuntime) -> Result<(), Fail> {
     Ok(())
 }
 
-/// Looks a key up and moves the epoch on: whether it was found.
+/// Looks up a key and advances the epoch; returns whether the key was found.
 fn round(shared: &Shared, pass: &mut Pass, key: Key) -> bool
     requires own { IsOf shared.now pass.old }
     requires rests { IsResting pass.old }
@@ -49,7 +49,7 @@ fn round(shared: &Shared, pass: &mut Pass, key: Key) -> bool
     found == Ok(true)
 }
 
-/// So many rounds: how often the key was found.
+/// Plays `ROUNDS` rounds; returns how often the key was found.
 fn rounds(shared: &Shared, mut pass: Pass, key: Key) -> (Pass, u64)
     requires own { IsOf shared.now pass }
     requires rests { IsResting pass }
@@ -137,8 +137,8 @@ fn one_worker_inserts_and_deletes(rt: HostRuntime) -> Result<(), Fail> {
     Ok(())
 }
 
-/// An insert beside a leaf that another worker has flagged cuts it off: its one try is lost, and
-/// the next is won.
+/// An insert beside a leaf that another worker has flagged cuts that leaf off: its one try is lost,
+/// and the next is won.
 #[test]
 fn an_insert_helps_a_delete(rt: HostRuntime) -> Result<(), Fail> {
     let (shared, passes) = Shared::new(rt.alloc(), Layout::new(11, 2)?)?;
@@ -162,8 +162,8 @@ fn an_insert_helps_a_delete(rt: HostRuntime) -> Result<(), Fail> {
     Ok(())
 }
 
-/// Two workers flag a leaf each and tag the edge beside it, so that a third cuts a chain of three
-/// internal nodes off by one splice, with the flagged leaf beside each.
+/// Two workers each flag a leaf and tag the edge beside it. So a third worker cuts off a chain of
+/// three internal nodes by one splice, with the flagged leaf beside each.
 #[test]
 fn one_splice_cuts_a_chain_of_three(rt: HostRuntime) -> Result<(), Fail> {
     let (shared, passes) = Shared::new(rt.alloc(), Layout::new(13, 3)?)?;

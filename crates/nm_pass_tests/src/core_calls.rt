@@ -1,10 +1,10 @@
-//! The core by single steps: what no schedule of the formats can ask of it.
+//! Single steps of the core that no schedule of the file formats can make.
 use nm_core::{Core, Event, Field, NewError, Refused, Reply};
 use nm_edge::{NodeId, Side};
 use nm_model::Nodes;
 use std::test::Fail;
 
-/// Worker 1 resigns once it has given its slot back, and its ledger is then held by worker 0.
+/// Worker 1 resigns after it has given its slot back, and worker 0 then holds its ledger.
 #[test]
 fn a_worker_resigns(rt: HostRuntime) -> Result<(), Fail> {
     let mut core = Core::new(rt.alloc(), 7, 2)?;

@@ -1,4 +1,4 @@
-//! Pins, and moves of the epoch.
+//! Pins, and advances of the epoch.
 ghost use Rattle.nm_steps.specs.Steps.{IsOf, IsSamePass};
 ghost use Rattle.nm_epoch.specs.Resting.{IsResting};
 
@@ -15,7 +15,7 @@ const WORKERS: u32 = 2;
 
 const ROUNDS: u32 = 1000;
 
-/// Pins, moves the epoch on and leaves: whether it was pinned.
+/// Pins, advances the epoch and unpins; returns whether it was pinned.
 fn round(shared: &Shared, pass: &mut Pass) -> bool
     requires own { IsOf shared.now pass.old }
     requires rests { IsResting pass.old }

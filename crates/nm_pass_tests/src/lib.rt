@@ -1,5 +1,5 @@
-//! Tests of several calls below the tree: over passes, the words of a table, and the core. Each of
-//! them is a function that is proved before it runs; no other crate stands on this one.
+//! Tests of several calls below the tree: over passes, the words of a table, and the core. Each
+//! test is a function that is proved before it runs. No other crate depends on this one.
 #![tactic(auto)]
 
 #[cfg(test)]

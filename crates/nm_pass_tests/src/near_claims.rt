@@ -1,4 +1,4 @@
-//! Claims by a placement.
+//! Claims by a placement: first fit and next fit.
 use super::passes::only;
 use nm_edge::{Fit, Layout, NodeId, Placement};
 use nm_pool::{claim_by, give};
@@ -11,12 +11,12 @@ const NODES: u32 = 8;
 /// 67 nodes: slots 6 to 67 are in the pool, the last three of them in a second row.
 const TWO_ROWS: u32 = 67;
 
-/// The node that stands first in a slot.
+/// Returns the first node in a slot.
 fn first_of(slot: u32) -> Option<NodeId> {
     Some(NodeId { slot, birth: 1 })
 }
 
-/// The node that stands second in a slot.
+/// Returns the second node in a slot.
 fn second_of(slot: u32) -> Option<NodeId> {
     Some(NodeId { slot, birth: 2 })
 }
@@ -25,10 +25,10 @@ fn second_of(slot: u32) -> Option<NodeId> {
 fn a_near_claim_takes_the_lowest_of_its_row_and_goes_round(rt: HostRuntime) -> Result<(), Fail> {
     let (shared, passes) = Shared::new(rt.alloc(), Layout::new(TWO_ROWS, 1)?)?;
     let mut pass = only(&shared, passes);
-    let mut near = Placement::new(Fit::Near, 67);
-    assert!(rt; near.fit() == Fit::Near);
+    let mut near = Placement::new(Fit::NextFit, 67);
+    assert!(rt; near.fit() == Fit::NextFit);
     assert_eq!(rt; claim_by(&shared, &mut pass, &mut near), first_of(65));
-    let Some(node) = claim_by(&shared, &mut pass, &mut Placement::new(Fit::Near, 66)) else {
+    let Some(node) = claim_by(&shared, &mut pass, &mut Placement::new(Fit::NextFit, 66)) else {
         panic!(rt; "slot 66 is in the pool")
     };
     assert_eq!(rt; claim_by(&shared, &mut pass, &mut near), first_of(67));
@@ -42,7 +42,7 @@ fn a_near_claim_takes_the_lowest_of_its_row_and_goes_round(rt: HostRuntime) -> R
 fn a_near_claim_tries_the_slot_given_back_last(rt: HostRuntime) -> Result<(), Fail> {
     let (shared, passes) = Shared::new(rt.alloc(), Layout::new(TWO_ROWS, 1)?)?;
     let mut pass = only(&shared, passes);
-    let mut near = Placement::new(Fit::Near, 6);
+    let mut near = Placement::new(Fit::NextFit, 6);
     near.keep(67);
     near.keep(7);
     near.keep(66);
@@ -56,7 +56,7 @@ fn a_near_claim_tries_the_slot_given_back_last(rt: HostRuntime) -> Result<(), Fa
 fn a_search_goes_on_where_the_last_one_ended(rt: HostRuntime) -> Result<(), Fail> {
     let (shared, passes) = Shared::new(rt.alloc(), Layout::new(TWO_ROWS, 1)?)?;
     let mut pass = only(&shared, passes);
-    let mut near = Placement::new(Fit::Near, 67);
+    let mut near = Placement::new(Fit::NextFit, 67);
     assert_eq!(rt; claim_by(&shared, &mut pass, &mut near), first_of(65));
     near.keep(8);
     assert_eq!(rt; claim_by(&shared, &mut pass, &mut near), first_of(8));
@@ -68,9 +68,12 @@ fn a_search_goes_on_where_the_last_one_ended(rt: HostRuntime) -> Result<(), Fail
 fn a_slot_that_another_claimed_first_is_passed_over(rt: HostRuntime) -> Result<(), Fail> {
     let (shared, passes) = Shared::new(rt.alloc(), Layout::new(TWO_ROWS, 1)?)?;
     let mut pass = only(&shared, passes);
-    let mut near = Placement::new(Fit::Near, 6);
+    let mut near = Placement::new(Fit::NextFit, 6);
     near.keep(6);
-    assert_eq!(rt; claim_by(&shared, &mut pass, &mut Placement::new(Fit::Near, 6)), first_of(6));
+    assert_eq!(rt;
+        claim_by(&shared, &mut pass, &mut Placement::new(Fit::NextFit, 6)),
+        first_of(6)
+    );
     assert_eq!(rt; claim_by(&shared, &mut pass, &mut near), first_of(7));
     Ok(())
 }
@@ -79,7 +82,7 @@ fn a_slot_that_another_claimed_first_is_passed_over(rt: HostRuntime) -> Result<(
 fn the_129th_slot_given_back_is_not_remembered(rt: HostRuntime) -> Result<(), Fail> {
     let (shared, passes) = Shared::new(rt.alloc(), Layout::new(TWO_ROWS, 1)?)?;
     let mut pass = only(&shared, passes);
-    let mut near = Placement::new(Fit::Near, 6);
+    let mut near = Placement::new(Fit::NextFit, 6);
     for _slot in 0..128 {
         near.keep(66);
     }
@@ -92,7 +95,7 @@ fn the_129th_slot_given_back_is_not_remembered(rt: HostRuntime) -> Result<(), Fa
 fn a_near_claim_begins_at_slot_6_where_it_knows_no_other(rt: HostRuntime) -> Result<(), Fail> {
     let (shared, passes) = Shared::new(rt.alloc(), Layout::new(NODES, 1)?)?;
     let mut pass = only(&shared, passes);
-    let mut near = Placement::new(Fit::Near, 9);
+    let mut near = Placement::new(Fit::NextFit, 9);
     assert_eq!(rt; claim_by(&shared, &mut pass, &mut near), first_of(6));
     near.keep(5);
     assert_eq!(rt; claim_by(&shared, &mut pass, &mut near), first_of(7));
@@ -103,7 +106,7 @@ fn a_near_claim_begins_at_slot_6_where_it_knows_no_other(rt: HostRuntime) -> Res
 fn nothing_is_found_only_where_all_are_taken(rt: HostRuntime) -> Result<(), Fail> {
     let (shared, passes) = Shared::new(rt.alloc(), Layout::new(NODES, 1)?)?;
     let mut pass = only(&shared, passes);
-    let mut near = Placement::new(Fit::Near, 0);
+    let mut near = Placement::new(Fit::NextFit, 0);
     let Some(node) = claim_by(&shared, &mut pass, &mut near) else {
         panic!(rt; "slot 6 is in the pool")
     };
@@ -120,9 +123,9 @@ fn nothing_is_found_only_where_all_are_taken(rt: HostRuntime) -> Result<(), Fail
 fn the_lowest_placement_claims_the_lowest(rt: HostRuntime) -> Result<(), Fail> {
     let (shared, passes) = Shared::new(rt.alloc(), Layout::new(NODES, 1)?)?;
     let mut pass = only(&shared, passes);
-    let mut lowest = Placement::new(Fit::Lowest, 8);
+    let mut lowest = Placement::new(Fit::FirstFit, 8);
     lowest.keep(7);
-    assert!(rt; lowest.fit() == Fit::Lowest);
+    assert!(rt; lowest.fit() == Fit::FirstFit);
     assert_eq!(rt; claim_by(&shared, &mut pass, &mut lowest), first_of(6));
     assert_eq!(rt; claim_by(&shared, &mut pass, &mut lowest), first_of(7));
     Ok(())

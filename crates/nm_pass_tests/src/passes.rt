@@ -9,7 +9,7 @@ use nm_edge::{Fit, NodeId, Placement};
 use nm_pool::claim_by;
 use nm_steps::{Pass, Shared};
 
-/// The pass of a table of one worker.
+/// Returns the pass of a table of one worker.
 #[tactic(auto, using(nm_calls::proofs::FreshWorkers::fresh_worker))]
 pub(super) fn only(shared: &Shared, mut passes: Vec<Pass>) -> Pass
     requires workers { shared.now.layout.workers ≡ 1 }
@@ -24,7 +24,7 @@ pub(super) fn only(shared: &Shared, mut passes: Vec<Pass>) -> Pass
     pass
 }
 
-/// The two passes of a table of two workers.
+/// Returns the two passes of a table of two workers.
 #[tactic(auto, using(nm_calls::proofs::FreshWorkers::fresh_worker))]
 pub(super) fn both(shared: &Shared, mut passes: Vec<Pass>) -> (Pass, Pass)
     requires workers { shared.now.layout.workers ≡ 2 }
@@ -44,7 +44,7 @@ pub(super) fn both(shared: &Shared, mut passes: Vec<Pass>) -> (Pass, Pass)
     (first, second)
 }
 
-/// The three passes of a table of three workers.
+/// Returns the three passes of a table of three workers.
 #[tactic(auto, using(nm_calls::proofs::FreshWorkers::fresh_worker))]
 pub(super) fn three(shared: &Shared, mut passes: Vec<Pass>) -> (Pass, Pass, Pass)
     requires workers { shared.now.layout.workers ≡ 3 }
@@ -69,11 +69,11 @@ pub(super) fn three(shared: &Shared, mut passes: Vec<Pass>) -> (Pass, Pass, Pass
     (first, second, third)
 }
 
-/// Claims a node in the lowest slot that is free.
+/// Claims a node in the lowest free slot.
 pub(super) fn claim(shared: &Shared, pass: &mut Pass) -> Option<NodeId>
     requires { IsOf shared.now pass.old }
     ensures on { Continues pass.old pass.new }
     ensures made { IfSome result (IsNewNode (knowledge pass.new.view)) }
 {
-    claim_by(shared, pass, &mut Placement::new(Fit::Lowest, 6))
+    claim_by(shared, pass, &mut Placement::new(Fit::FirstFit, 6))
 }

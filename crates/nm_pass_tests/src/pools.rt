@@ -13,8 +13,8 @@ use std::thread::{Threads, join};
 /// Eight nodes: slots 6, 7 and 8 are in the pool.
 const NODES: u32 = 8;
 
-/// The words of eight nodes and two workers: the epoch, two announcements, four a node, and one row
-/// of the pool.
+/// The number of words for eight nodes and two workers: the epoch, two announcements, four for each
+/// node, and one row of the pool.
 const WORDS: usize = 36;
 
 const ROUNDS: u32 = 1000;
@@ -73,7 +73,7 @@ fn two_workers_claim_from_one_pool(rt: HostRuntime) -> Result<(), Fail> {
     Ok(())
 }
 
-/// Claims a node and gives it back, so many times, and says how often there was one.
+/// Claims a node and gives it back, `rounds` times; returns how often there was one.
 fn work(shared: &Shared, mut pass: Pass, rounds: u32) -> (Pass, u64)
     requires { IsOf shared.now pass }
     ensures own { IsOf shared.now result.0 }
@@ -117,7 +117,7 @@ fn by_two<R: Threads + Sync>(
     )
 }
 
-/// How often the three slots were put to use.
+/// Returns how often the three slots were put to use.
 fn births(words: &Words) -> u64
     requires { length words.now ≡ WORDS }
 {
@@ -140,10 +140,10 @@ fn two_threads_claim_and_give(rt: HostRuntime) -> Result<(), Fail> {
     Ok(())
 }
 
-/// What a worker claimed, in order.
+/// The nodes that a worker claimed, in order.
 type Claimed = Result<Vec<NodeId>, AllocError>;
 
-/// Claims until no slot is left.
+/// Claims nodes until no slot is left.
 fn claim_all(alloc: Global, shared: &Shared, mut pass: Pass) -> Claimed
     requires { IsOf shared.now pass }
 {
@@ -157,7 +157,7 @@ fn claim_all(alloc: Global, shared: &Shared, mut pass: Pass) -> Claimed
     Ok(nodes)
 }
 
-/// Two workers claim until no slot is left, each in a thread of its own.
+/// Lets two workers claim nodes until no slot is left, each in a thread of its own.
 fn claim_by_two<R: Threads + Sync>(
     rt: &R,
     alloc: Global,
@@ -179,7 +179,7 @@ fn claim_by_two<R: Threads + Sync>(
     )
 }
 
-/// What two workers claimed, together.
+/// Returns the nodes that two workers claimed, together.
 fn together(one: Claimed, two: Claimed) -> Claimed {
     let mut nodes = one?;
     for node in two? {
@@ -188,8 +188,8 @@ fn together(one: Claimed, two: Claimed) -> Claimed {
     Ok(nodes)
 }
 
-/// Four workers claim until no slot is left, each in a thread of its own: what they claimed,
-/// together.
+/// Lets four workers claim nodes until no slot is left, each in a thread of its own; returns the
+/// nodes, together.
 fn claim_by_four<R: Threads + Sync>(
     rt: &R,
     alloc: Global,
@@ -218,7 +218,7 @@ fn claim_by_four<R: Threads + Sync>(
     together(together(by_low.0, by_low.1), together(by_high.0, by_high.1))
 }
 
-/// The four passes of a table of four workers.
+/// Returns the four passes of a table of four workers.
 fn all_four(shared: &Shared, mut passes: Vec<Pass>) -> ((Pass, Pass), (Pass, Pass))
     requires four { length passes.items ≡ 4 }
     requires fresh { AreFresh shared.now 0 passes.items }
@@ -242,8 +242,8 @@ fn all_four(shared: &Shared, mut passes: Vec<Pass>) -> ((Pass, Pass), (Pass, Pas
     ((one, two), (three, four))
 }
 
-/// Whether these nodes, sorted by slot, stand one each in the slots from 6 on and below an end,
-/// each the first of its slot.
+/// Returns whether these nodes, sorted by slot, are one each in the slots from 6 on and below an
+/// end, and each is the first node of its slot.
 fn stand_in_turn(nodes: &[NodeId], end: u32) -> bool {
     nodes
         .iter()

@@ -1,11 +1,12 @@
-//! Cores of radix trees by single steps. A plain one, which no schedule can ask for, does not ask
-//! where a key belongs; an ordered one does.
+//! Cores of radix trees by single steps. A plain core, which no schedule can ask for, does not
+//! check where a key belongs; an ordered one does.
 use nm_core::{Core, Event, Field, Op, Refused, Reply};
 use nm_edge::{Key, Layout, NodeId, Side};
 use std::alloc::Global;
 use std::test::Fail;
 
-/// Two nodes: an internal one with this router over two slots, of which one is a leaf with this key.
+/// Two nodes: an internal one with this router above two slots, one of which is a leaf with this
+/// key.
 #[derive(Clone, Copy)]
 struct Fork {
     key: u64,
@@ -14,7 +15,7 @@ struct Fork {
     right: u32,
 }
 
-/// 5 beside the fixed slot 3: the range of 2^63 has all numbers in it.
+/// 5 beside the fixed slot 3: the range of router 2^63 has all numbers in it.
 const FIRST: Fork = Fork {
     key: 5,
     router: 1 << 63,
@@ -30,8 +31,8 @@ const SECOND: Fork = Fork {
     right: 9,
 };
 
-/// 12 beside slot 8, which has router 6 and so the keys from 4 to 7 below it: slot 10 has the range
-/// from 0 to 15, with slot 8 in its lower half and slot 11 in its upper one.
+/// 12 beside slot 8, which has router 6, and so the keys from 4 to 7 below it. Slot 10 has the
+/// range from 0 to 15, with slot 8 in its lower half and slot 11 in its upper half.
 const RIGHT: Fork = Fork {
     key: 12,
     router: 8,
@@ -47,7 +48,7 @@ const ABOVE_ITS_RANGE: Fork = Fork {
     right: 11,
 };
 
-/// The range of 12 is from 8 to 15, and has not 6 in it.
+/// The range of router 12 is from 8 to 15, and does not have 6 in it.
 const TOO_SMALL: Fork = Fork {
     key: 12,
     router: 12,
@@ -55,7 +56,7 @@ const TOO_SMALL: Fork = Fork {
     right: 11,
 };
 
-/// The range of 16 is from 0 to 31, with 6 and 12 in its lower half.
+/// The range of router 16 is from 0 to 31, with 6 and 12 in its lower half.
 const TOO_GREAT: Fork = Fork {
     key: 12,
     router: 16,
@@ -63,7 +64,7 @@ const TOO_GREAT: Fork = Fork {
     right: 11,
 };
 
-/// The two sides changed.
+/// The two sides are exchanged.
 const CHANGED: Fork = Fork {
     key: 12,
     router: 8,
@@ -71,7 +72,7 @@ const CHANGED: Fork = Fork {
     right: 8,
 };
 
-/// Worker 0 takes these steps.
+/// Lets worker 0 make these steps.
 fn take(core: &mut Core, steps: &[Event]) -> Result<(), Refused> {
     for step in steps {
         core.apply(0, *step)?;
@@ -79,17 +80,17 @@ fn take(core: &mut Core, steps: &[Event]) -> Result<(), Refused> {
     Ok(())
 }
 
-/// A look at the key of a slot.
+/// Returns a look at the key of a slot.
 fn key(slot: u32) -> Event {
     Event::Look(slot, Field::Key)
 }
 
-/// A look at the edge of a slot on a side.
+/// Returns a look at the edge of a slot on a side.
 fn edge(slot: u32, side: Side) -> Event {
     Event::Look(slot, Field::Edge(side))
 }
 
-/// Takes up the insert of a key, and looks at the first edge.
+/// Begins the insert of a key, and looks at the first edge.
 fn begin(core: &mut Core, number: u64) -> Result<(), Fail> {
     let Some(number) = Key::new(number) else {
         return Ok(());
@@ -99,7 +100,7 @@ fn begin(core: &mut Core, number: u64) -> Result<(), Fail> {
     Ok(())
 }
 
-/// Fills two slots of the pool as these nodes.
+/// Fills two slots of the pool with these nodes.
 fn fill(core: &mut Core, new: u32, leaf: u32, fork: Fork) -> Result<(), Refused> {
     take(
         core,
@@ -118,7 +119,7 @@ fn fill(core: &mut Core, new: u32, leaf: u32, fork: Fork) -> Result<(), Refused>
     )
 }
 
-/// Puts 5 into an empty core, by slots 6 and 7.
+/// Inserts 5 into an empty core, with slots 6 and 7.
 fn insert_5(core: &mut Core) -> Result<(), Fail> {
     core.apply(0, Event::Sight)?;
     begin(core, FIRST.key)?;
@@ -129,7 +130,7 @@ fn insert_5(core: &mut Core) -> Result<(), Fail> {
     Ok(())
 }
 
-/// Puts 6 beside it, by slots 8 and 9.
+/// Inserts 6 beside it, with slots 8 and 9.
 fn insert_6(core: &mut Core) -> Result<(), Fail> {
     begin(core, SECOND.key)?;
     let left = edge(6, Side::Left);
@@ -140,7 +141,8 @@ fn insert_6(core: &mut Core) -> Result<(), Fail> {
     Ok(())
 }
 
-/// What a core with 5 and 6 answers to a link of these nodes over slot 8, an internal node.
+/// Returns the answer of a core with 5 and 6 to a link of these nodes above slot 8, an internal
+/// node.
 fn linked(
     alloc: Global,
     layout: Layout,
@@ -156,7 +158,7 @@ fn linked(
     Ok(core.apply(0, Event::Link(6, Side::Left, 8, 10)))
 }
 
-/// Whether an answer is that slot 10 is linked.
+/// Returns whether an answer is that slot 10 is linked.
 fn is_won(answer: &Result<Reply, Refused>) -> bool {
     matches!(answer, Ok(Reply::Linked(NodeId { slot: 10, birth: 1 })))
 }
@@ -181,7 +183,8 @@ fn a_plain_core_does_not(rt: HostRuntime) -> Result<(), Fail> {
     Ok(())
 }
 
-/// In the other shape a link is over a leaf, and in a radix tree too where the slot is a fixed one.
+/// In the other shape a link must be above a slot that the worker knows as a leaf. In a radix tree
+/// the same holds for a fixed slot.
 #[test]
 fn what_is_not_known_as_a_leaf_stays_in_place(rt: HostRuntime) -> Result<(), Fail> {
     let layout = Layout::new(16, 1)?;

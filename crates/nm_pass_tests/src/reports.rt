@@ -1,4 +1,4 @@
-//! The words of a closed table, and what is read from them.
+//! The words of a closed table, and the keys and numbers that are read from them.
 ghost use Rattle.std.specs.Prelude.{◌≡◌, length};
 ghost use Rattle.nm_steps.specs.Steps.{AreFresh, IsOf};
 ghost use Rattle.nm_calls.specs.Fresh.{HasDoneNothing};
@@ -21,7 +21,7 @@ const WORKERS: u32 = 2;
 /// The first row of the pool.
 const POOL: usize = 543;
 
-/// The two passes of a table of two workers become one.
+/// Joins the two passes of a table of two workers.
 fn join_both(shared: &Shared, mut passes: Vec<Pass>) -> Pass
     requires two { length passes.items ≡ 2 }
     requires fresh { AreFresh shared.now 0 passes.items }
@@ -43,8 +43,8 @@ fn a_pass_for_each_worker(rt: HostRuntime) -> Result<(), Fail> {
     assert_eq!(rt; passes.len(), 2);
     assert_eq!(rt; passes[0].number(), 0);
     assert_eq!(rt; passes[1].number(), 1);
-    passes[0].is_of_a_run();
-    passes[0].holds_pooled_slots();
+    passes[0].know_run();
+    passes[0].know_pooled_slots();
     Ok(())
 }
 
@@ -82,7 +82,7 @@ fn the_empty_tree_has_no_key(rt: HostRuntime) -> Result<(), Fail> {
     Ok(())
 }
 
-/// Closes the table: the keys that are read, and how many slots are free and how many reached.
+/// Closes the table, and compares the keys that are read, and how many slots are free and reached.
 fn reads(
     rt: &(impl Abort + AllocGlobal),
     shared: Shared,
@@ -108,7 +108,7 @@ fn reads(
     Ok(())
 }
 
-/// A worker that has inserted these keys into a table of its own.
+/// Returns a worker that has inserted these keys into a table of its own.
 fn inserted(rt: &(impl Abort + AllocGlobal), shared: &Shared, pass: Pass, keys: &[u64]) -> Worker
     requires own { IsOf shared.now pass }
     requires new { HasDoneNothing pass }
@@ -121,8 +121,8 @@ fn inserted(rt: &(impl Abort + AllocGlobal), shared: &Shared, pass: Pass, keys: 
     one
 }
 
-/// The left edge of slot 2 leads to slot 6, which has the key infinity and leads to slots 7 and 3;
-/// slot 7 has the key 5; and both have the birth 1.
+/// The left edge of slot 2 leads to slot 6, which has the key infinity and leads to slots 7 and 3.
+/// Slot 7 has the key 5. Both have the generation (birth) 1.
 #[test]
 fn the_words_of_an_insert(rt: HostRuntime) -> Result<(), Fail> {
     let (shared, passes) = Shared::new(rt.alloc(), Layout::new(7, 1)?)?;
@@ -148,7 +148,7 @@ fn keys_are_read_in_order(rt: HostRuntime) -> Result<(), Fail> {
     reads(&rt, shared, one, layout, &[10, 20, 30], 2, 6)
 }
 
-/// A leaf that is flagged and not yet cut has its key still.
+/// A leaf that is flagged and not yet cut off still has its key.
 #[test]
 fn a_flagged_leaf_has_its_key(rt: HostRuntime) -> Result<(), Fail> {
     let layout = Layout::new(13, 1)?;
@@ -159,7 +159,7 @@ fn a_flagged_leaf_has_its_key(rt: HostRuntime) -> Result<(), Fail> {
     reads(&rt, shared, one, layout, &[10, 20], 4, 4)
 }
 
-/// What was cut is neither reached nor free.
+/// Nodes that were cut off are neither reached nor free.
 #[test]
 fn a_cut_leaf_has_none(rt: HostRuntime) -> Result<(), Fail> {
     let layout = Layout::new(13, 1)?;

@@ -1,4 +1,4 @@
-//! A worker that makes calls over a pass, and keeps between two of them what a caller keeps.
+//! A worker that makes calls over a pass, and keeps between two calls what a caller keeps.
 ghost use Rattle.nm_steps.specs.Steps.{IsOf};
 ghost use Rattle.nm_calls.specs.Fresh.{HasDoneNothing};
 ghost use Rattle.nm_pass_tests.specs.Plays.{IsAtRest, IsPendingFor};
@@ -11,7 +11,8 @@ use nm_walks::{ChainEdges, Workspace, choose, seek, tag};
 use std::alloc::Global;
 use std::process::Abort;
 
-/// One worker: its pass, what its calls work with, and the queue of what it cut with its counts.
+/// One worker: its pass, its workspace, and the queue of the nodes that it cut off, with its
+/// counts.
 #[derive(Drop)]
 pub(super) struct Worker {
     pub(super) pass: Pass,
@@ -19,7 +20,7 @@ pub(super) struct Worker {
     pub(super) held: HeldQueue,
 }
 
-/// A worker that has done nothing.
+/// Returns a worker that has done nothing.
 #[tactic(auto, using(nm_calls::proofs::FreshWorkers::holds_nothing))]
 pub(super) fn starting(alloc: Global, shared: &Shared, pass: Pass) -> Worker
     requires own { IsOf shared.now pass }
@@ -29,7 +30,7 @@ pub(super) fn starting(alloc: Global, shared: &Shared, pass: Pass) -> Worker
     let held = HeldQueue::new(pass.number(), alloc);
     Worker {
         pass,
-        workspace: Workspace::new(Placement::new(Fit::Lowest, 6)),
+        workspace: Workspace::new(Placement::new(Fit::FirstFit, 6)),
         held,
     }
 }
@@ -88,7 +89,7 @@ pub(super) fn deletes(rt: &impl Abort, shared: &Shared, worker: &mut Worker, key
     assert!(rt; deleted == wanted);
 }
 
-/// Deletes by one try, which flags the leaf and no more.
+/// Deletes a key with one try, which only flags the leaf.
 pub(super) fn flags(rt: &impl Abort, shared: &Shared, worker: &mut Worker, key: Key) -> NodeId
     requires rests { IsAtRest shared.now worker.old.pass worker.old.held }
     ensures pending { IsPendingFor shared.now worker.new.pass worker.new.held key result }
@@ -128,7 +129,7 @@ pub(super) fn finishes(
     assert!(rt; finished);
 }
 
-/// Without a try the leaf stays pending.
+/// Checks that the leaf stays pending if `finish` has no try.
 pub(super) fn cannot_finish(
     rt: &impl Abort,
     shared: &Shared,
@@ -151,8 +152,8 @@ pub(super) fn cannot_finish(
     assert!(rt; !finished);
 }
 
-/// A cleanup that stops before its splice: the edge beside the flagged leaf is tagged. Whether the
-/// leaf was found.
+/// Makes a cleanup that stops before its splice: it tags the edge beside the flagged leaf. Returns
+/// whether it found the leaf.
 pub(super) fn tag_beside(shared: &Shared, worker: &mut Worker, key: Key, leaf: NodeId) -> bool
     requires { IsPendingFor shared.now worker.old.pass worker.old.held key leaf }
     ensures { IsPendingFor shared.now worker.new.pass worker.new.held key leaf }
@@ -161,9 +162,9 @@ pub(super) fn tag_beside(shared: &Shared, worker: &mut Worker, key: Key, leaf: N
     let Some(end) = seek(shared, &mut worker.pass, key.get(), &mut chain) else {
         return false;
     };
-    let Some(kept) = choose(shared, &mut worker.pass, &end.spot) else {
+    let Some(kept) = choose(shared, &mut worker.pass, &end.seek_record) else {
         return false;
     };
-    let _ = tag(shared, &mut worker.pass, end.spot.parent, kept.side);
+    let _ = tag(shared, &mut worker.pass, end.seek_record.parent, kept.side);
     true
 }

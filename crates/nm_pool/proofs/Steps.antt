@@ -22,7 +22,7 @@ few_in_turn most Done few from (suc n) old new done =
 
 three_at_most : TakesFew 3 PassedOver
 three_at_most s old new (inl taken) = let l = longer_by old new _ taken in omega (arith, l)
-three_at_most s old new (inr worn) = let l = longer_by old new _ worn in omega (arith, l)
+three_at_most s old new (inr exhausted) = let l = longer_by old new _ exhausted in omega (arith, l)
 
 few_at : (nodes : ℕ) (slots : List ℕ) (old new : List Entry) → DoneAt (PassedWithin nodes) slots old new → length new ≤ length old + 3 * length slots
 few_at nodes [] old new done = let same : length new ≡ length old = ap (λ (log : List Entry). length log) done in omega (arith, same)
@@ -32,18 +32,18 @@ few_at nodes (s ∷ slots) old new done =
     omega (arith, before, last)
 
 pub claim_steps : (f : Fit) (nodes : ℕ) (old new : List Entry) (o : Option NodeId) → IsClaimBy f nodes old new o → length new ≤ length old + 3 * nodes
-claim_steps fit.Lowest nodes old new None is = let few = few_in_turn 3 PassedOver three_at_most 6 (nodes + 1 - 6) old new is in omega (arith, few)
-claim_steps fit.Lowest nodes old new (Some n) c =
+claim_steps fit.FirstFit nodes old new None is = let few = few_in_turn 3 PassedOver three_at_most 6 (nodes + 1 - 6) old new is in omega (arith, few)
+claim_steps fit.FirstFit nodes old new (Some n) c =
     let few = few_in_turn 3 PassedOver three_at_most 6 (n.slot - 6) old c.before c.passed in
     let l = longer_by c.before new _ c.made.entries in
     let least = c.least in
     let most = c.most in
     omega (arith, few, l, least, most)
-claim_steps fit.Near nodes old new None p =
+claim_steps fit.NextFit nodes old new None p =
     let steps = few_at nodes p.slots old new p.passed in
     let few = p.few in
     omega (arith, steps, few)
-claim_steps fit.Near nodes old new (Some n) c =
+claim_steps fit.NextFit nodes old new (Some n) c =
     let steps = few_at nodes c.slots old c.before c.passed in
     let l = longer_by c.before new _ c.made.entries in
     let few = c.few in

@@ -14,9 +14,9 @@ use Rattle.nm_edge.specs.declared.placement.Fit.{Fit}
 use Rattle.nm_edge.specs.declared.placement.Fit.TheVariants as fit
 pub use Rattle.nm_steps.specs.Rows.{Doing, DoneInTurn, DoneBelow, FoundTaken}
 
--- the slot was claimed, found worn, with the greatest birth, and given back
-abbrev pub FoundWorn : Doing
-FoundWorn s old new = new ≡ old ++ (Claim s, Claimed s) ∷ (Look s Birth, BirthIs last_number)
+-- the slot was claimed, found exhausted, with the greatest birth, and given back
+abbrev pub FoundExhausted : Doing
+FoundExhausted s old new = new ≡ old ++ (Claim s, Claimed s) ∷ (Look s Birth, BirthIs last_number)
     ∷ (Give s, Returned s) ∷ []
 
 -- the slot was claimed, and the birth that was found there was raised by one, to that of the node
@@ -27,9 +27,9 @@ pub record MadeNew (n : NodeId) (old new : List Entry) : Type 0 where
   pub entries : new ≡ old ++ (Claim n.slot, Claimed n.slot) ∷ (Look n.slot Birth, BirthIs birth)
       ∷ (Fill n.slot Birth (birth + 1), Filled) ∷ []
 
--- the slot was found taken, or worn and given back
+-- the slot was found taken, or exhausted and given back
 abbrev pub PassedOver : Doing
-PassedOver s old new = FoundTaken s old new ⊎ FoundWorn s old new
+PassedOver s old new = FoundTaken s old new ⊎ FoundExhausted s old new
 
 -- that node was made in the end, and each lesser slot above 5 was passed over
 pub record Claims (nodes : ℕ) (old new : List Entry) (n : NodeId) : Type 0 where
@@ -40,7 +40,7 @@ pub record Claims (nodes : ℕ) (old new : List Entry) (n : NodeId) : Type 0 whe
   pub made : MadeNew n before new
 
 -- what a claim leaves in the log, by its answer: at each lesser slot that it was found taken, or
--- worn and given back, and then the claim of the slot that is answered, with its birth raised
+-- exhausted and given back, and then the claim of the slot that is answered, with its birth raised
 abbrev pub IsClaim : ℕ → List Entry → List Entry → Option NodeId → Type 0
 IsClaim nodes old new (Some n) = Claims nodes old new n
 IsClaim nodes old new None = DoneBelow PassedOver 6 (nodes + 1) old new
@@ -134,15 +134,15 @@ IsClaimOfFew limit nodes old new None =
 -- what a claim by a placement leaves: of the lowest fit as `IsClaim`, of the near one as
 -- `IsNearClaim` says (next fit: Knuth, The Art of Computer Programming, volume 1, section 2.5)
 abbrev pub IsClaimBy : Fit → ℕ → List Entry → List Entry → Option NodeId → Type 0
-IsClaimBy fit.Lowest nodes old new r = IsClaim nodes old new r
-IsClaimBy fit.Near nodes old new r = IsNearClaim nodes old new r
+IsClaimBy fit.FirstFit nodes old new r = IsClaim nodes old new r
+IsClaimBy fit.NextFit nodes old new r = IsNearClaim nodes old new r
 
 -- ---- a try of one slot
 
 -- one slot was tried, by what it came to
 abbrev pub IsTried : ℕ → List Entry → List Entry → Tried → Type 0
 IsTried s old new tried.Taken = FoundTaken s old new
-IsTried s old new tried.Worn = FoundWorn s old new
+IsTried s old new tried.Exhausted = FoundExhausted s old new
 IsTried s old new (tried.Got b) = MadeNew (record { slot = s; birth = b }) old new
 
 -- of the node, where the slot was got, which then has that birth

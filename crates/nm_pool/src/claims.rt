@@ -13,8 +13,8 @@ use nm_steps::{Pass, Shared};
 /// Takes a slot out of the pool to be a new node, as `claim` does, with the slots tried in the
 /// order of a placement.
 ///
-/// `Fit::Lowest`: the very same. `Fit::Near`: `Some(node)`: fewer than `nodes` slots were found
-/// taken or worn in this call, and then this one in the pool. `None`: at most `nodes` were, and
+/// `Fit::FirstFit`: the very same. `Fit::NextFit`: `Some(node)`: fewer than `nodes` slots were found
+/// taken or exhausted in this call, and then this one in the pool. `None`: at most `nodes` were, and
 /// each slot above 5 is among them. At most three steps a slot, and 3 `nodes` in all.
 #[inline(always)]
 pub fn claim_by(shared: &Shared, pass: &mut Pass, placement: &mut Placement) -> Option<NodeId>
@@ -31,8 +31,8 @@ pub fn claim_by(shared: &Shared, pass: &mut Pass, placement: &mut Placement) -> 
     ensures fit { placement.new ≡ placement.old }
 {
     match placement.fit() {
-        Fit::Lowest => some_node(claim(shared, pass)),
-        Fit::Near => claim_near(shared, pass, placement),
+        Fit::FirstFit => some_node(claim(shared, pass)),
+        Fit::NextFit => claim_near(shared, pass, placement),
     }
 }
 
@@ -90,7 +90,7 @@ fn slot_to_try(shared: &Shared, pass: &mut Pass, placement: &mut Placement) -> O
     ensures learned { knowledge pass.new.view ≡ knowledge pass.old.view }
     ensures fit { placement.new ≡ placement.old }
 {
-    pass.is_of_a_run();
+    pass.know_run();
     let given = placement.take();
     if given != 0 {
         return Some(given);

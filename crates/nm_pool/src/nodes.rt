@@ -17,7 +17,7 @@ pub(crate) enum Tried {
     /// It is not in the pool.
     Taken,
     /// It has the greatest birth, and is in the pool again.
-    Worn,
+    Exhausted,
     /// It is private to the worker now, with this birth, raised by one.
     Got(u64),
 }
@@ -26,8 +26,8 @@ pub(crate) enum Tried {
 /// 2^62, which it raises by one.
 ///
 /// A node: its slot is private to the worker, which had it nowhere before; the birth that was found
-/// there and 1 more is stored in it, and each lesser slot above 5 was found taken or worn in this
-/// call; a worn one is back in the pool. Slot 0 with birth 0: each slot above 5 was. At most three
+/// there and 1 more is stored in it, and each lesser slot above 5 was found taken or exhausted in this
+/// call; a exhausted one is back in the pool. Slot 0 with birth 0: each slot above 5 was. At most three
 /// steps a slot.
 ///
 /// Slots come back to the pool by epoch-based reclamation (Fraser, Practical lock-freedom, 2004,
@@ -56,7 +56,7 @@ pub(crate) fn claim(shared: &Shared, pass: &mut Pass) -> NodeId
     node
 }
 
-/// The first slot from one on and below another that is found in the pool and is not worn, row by
+/// The first slot from one on and below another that is found in the pool and is not exhausted, row by
 /// row.
 #[cold]
 #[inline(never)]
@@ -72,7 +72,7 @@ pub(crate) fn claim_by_rows(shared: &Shared, pass: &mut Pass, from: u32, to: u32
         (λ node. IsNew pass.old.view.layout pass.old.view.number pass.old.view.log node.slot) }
     ensures learned { LearnsSlots (knowledge pass.old.view) (knowledge pass.new.view) }
 {
-    pass.is_of_a_run();
+    pass.know_run();
     let mut slot = from;
     while slot < to {
         match try_row(shared, pass, slot, to) {
@@ -136,11 +136,11 @@ fn put(shared: &Shared, pass: &mut Pass, slot: u32)
     requires private { is_private (knowledge pass.old.view) slot ≡ true }
     ensures { TakesStep pass.old pass.new (Give slot) (Returned slot) }
 {
-    pass.holds_pooled_slots();
+    pass.know_pooled_slots();
     shared.give(pass, slot);
 }
 
-/// Takes one slot out of the pool, if it is there, and raises its birth by one, if it is not worn.
+/// Takes one slot out of the pool, if it is there, and raises its birth by one, if it is not exhausted.
 #[inline(always)]
 pub(crate) fn try_slot(shared: &Shared, pass: &mut Pass, slot: u32) -> Tried
     requires own { IsOf shared.now pass.old }
@@ -159,7 +159,7 @@ pub(crate) fn try_slot(shared: &Shared, pass: &mut Pass, slot: u32) -> Tried
     let birth = shared.look_birth(pass, slot);
     if birth == LAST_NUMBER {
         put(shared, pass, slot);
-        return Tried::Worn;
+        return Tried::Exhausted;
     }
     shared.fill_birth(pass, slot, birth + 1);
     Tried::Got(birth + 1)

@@ -31,7 +31,7 @@ use Rattle.nm_progress.specs.Changes.{is_bare, is_at, changes, is_change, IsChan
 use Rattle.nm_progress.specs.Changes.Expects.{ToLink, ToFlag, ToCut}
 use Rattle.nm_progress.specs.Moves.{number_of}
 use Rattle.nm_progress.specs.Paid.{links_on, flags_on, cuts_on, tags_on, links_in, flags_in, cuts_in, tags_in}
-use Rattle.nm_progress.specs.Tries.{changes_edge, changes_of_others, hinders, HindrancesArePaid, reading, losing, LosesTries, OfEachPart, TriesAreLostToChanges, TriesArePaid, TriesArePaidEver}
+use Rattle.nm_progress.specs.Tries.{changes_edge, changes_of_others, interferes, HindrancesArePaid, reading, losing, LosesTries, OfEachPart, TriesAreLostToChanges, TriesArePaid, TriesArePaidEver}
 use Rattle.nm_progress.specs.Tries.LosesTries.{NoTry, OneTry}
 use Rattle.nm_progress.proofs.LostTries.{later_keys, never_lost, look_leaves, stays_or_changed}
 use Rattle.nm_progress.proofs.SplicesPaid.{splices_are_paid, splices_are_paid_since}
@@ -181,13 +181,13 @@ tries_are_lost_to_changes L enough w worker past turns keys n loses =
 
 -- ---- what pays for them
 
--- what hinders a worker is a link, a flag, a splice or a tag
-few_hinder : (w : ℕ) (turns : List Turn) → number_of (hinders w) turns ≤ links_in turns + (flags_in turns + (cuts_in turns + tags_in turns))
-few_hinder w [] = omega arith
-few_hinder w (t ∷ ts) = by (t.worker == w) (links_on t.event t.outcome) (flags_on t.event t.outcome) (cuts_on t.event t.outcome) (tags_on t.event t.outcome) (few_hinder w ts)
+-- what interferes a worker is a link, a flag, a splice or a tag
+few_interfere : (w : ℕ) (turns : List Turn) → number_of (interferes w) turns ≤ links_in turns + (flags_in turns + (cuts_in turns + tags_in turns))
+few_interfere w [] = omega arith
+few_interfere w (t ∷ ts) = by (t.worker == w) (links_on t.event t.outcome) (flags_on t.event t.outcome) (cuts_on t.event t.outcome) (tags_on t.event t.outcome) (few_interfere w ts)
   where
-    by : (o a b c d : Bool) → number_of (hinders w) ts ≤ links_in ts + (flags_in ts + (cuts_in ts + tags_in ts))
-        → cond (cond o (c || d) (a || (b || (c || d)))) 1 0 + number_of (hinders w) ts ≤ (cond a 1 0 + links_in ts) + ((cond b 1 0 + flags_in ts) + ((cond c 1 0 + cuts_in ts) + (cond d 1 0 + tags_in ts)))
+    by : (o a b c d : Bool) → number_of (interferes w) ts ≤ links_in ts + (flags_in ts + (cuts_in ts + tags_in ts))
+        → cond (cond o (c || d) (a || (b || (c || d)))) 1 0 + number_of (interferes w) ts ≤ (cond a 1 0 + links_in ts) + ((cond b 1 0 + flags_in ts) + ((cond c 1 0 + cuts_in ts) + (cond d 1 0 + tags_in ts)))
     by true a b true d rest = omega (arith, rest)
     by true a b false true rest = omega (arith, rest)
     by true a b false false rest = omega (arith, rest)
@@ -197,13 +197,13 @@ few_hinder w (t ∷ ts) = by (t.worker == w) (links_on t.event t.outcome) (flags
     by false false false false true rest = omega (arith, rest)
     by false false false false false rest = omega (arith, rest)
 
--- a change of another hinders
-pub others_hinder : (w : ℕ) (ts : List Turn) → number_of (changes_of_others w) ts ≤ number_of (hinders w) ts
-others_hinder w [] = omega arith
-others_hinder w (t ∷ ts) = by (t.worker == w) (links_on t.event t.outcome) (flags_on t.event t.outcome) (cuts_on t.event t.outcome) (tags_on t.event t.outcome) (others_hinder w ts)
+-- a change of another interferes
+pub others_interfere : (w : ℕ) (ts : List Turn) → number_of (changes_of_others w) ts ≤ number_of (interferes w) ts
+others_interfere w [] = omega arith
+others_interfere w (t ∷ ts) = by (t.worker == w) (links_on t.event t.outcome) (flags_on t.event t.outcome) (cuts_on t.event t.outcome) (tags_on t.event t.outcome) (others_interfere w ts)
   where
-    by : (o a b c d : Bool) → number_of (changes_of_others w) ts ≤ number_of (hinders w) ts
-        → cond (not o && (a || (b || (c || d)))) 1 0 + number_of (changes_of_others w) ts ≤ cond (cond o (c || d) (a || (b || (c || d)))) 1 0 + number_of (hinders w) ts
+    by : (o a b c d : Bool) → number_of (changes_of_others w) ts ≤ number_of (interferes w) ts
+        → cond (not o && (a || (b || (c || d)))) 1 0 + number_of (changes_of_others w) ts ≤ cond (cond o (c || d) (a || (b || (c || d)))) 1 0 + number_of (interferes w) ts
     by true a b true d rest = omega (arith, rest)
     by true a b false true rest = omega (arith, rest)
     by true a b false false rest = omega (arith, rest)
@@ -214,7 +214,7 @@ others_hinder w (t ∷ ts) = by (t.worker == w) (links_on t.event t.outcome) (fl
     by false false false false false rest = omega (arith, rest)
 
 four : (w : ℕ) (turns : List Turn) → number_of (changes_of_others w) turns ≤ links_in turns + (flags_in turns + (cuts_in turns + tags_in turns))
-four w turns = let some = others_hinder w turns in let few = few_hinder w turns in omega (arith, some, few)
+four w turns = let some = others_interfere w turns in let few = few_interfere w turns in omega (arith, some, few)
 
 pub tries_are_paid : OfEachPart TriesArePaid
 tries_are_paid L enough w worker past turns keys n loses =
@@ -235,7 +235,7 @@ tries_are_paid_ever L enough w worker turns keys n loses =
 
 pub hindrances_are_paid : HindrancesArePaid
 hindrances_are_paid L enough w past turns keys =
-    let kinds = few_hinder w (trace_in (after_in (ordered L) past) turns) in
+    let kinds = few_interfere w (trace_in (after_in (ordered L) past) turns) in
     let splices = splices_are_paid_since L enough past turns keys in
     let tags = tags_are_paid_since L enough past turns keys in
     omega (arith, kinds, splices, tags)

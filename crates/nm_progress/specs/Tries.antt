@@ -43,9 +43,9 @@ reshapes_of_others w t = not (t.worker == w) && reshapes t.event t.outcome
 abbrev pub helps_on : Event → Result Reply Refused → Bool
 helps_on e o = cuts_on e o || tags_on e o
 
--- a turn that hinders a call of worker w: another changes an edge, or w itself helps a delete on
-abbrev pub hinders : ℕ → Turn → Bool
-hinders w t = if t.worker == w then helps_on t.event t.outcome else changes_edge t.event t.outcome
+-- a turn that interferes a call of worker w: another changes an edge, or w itself helps a delete on
+abbrev pub interferes : ℕ → Turn → Bool
+interferes w t = if t.worker == w then helps_on t.event t.outcome else changes_edge t.event t.outcome
 
 -- ---- lost tries in a log
 
@@ -99,11 +99,11 @@ TriesArePaidEver = (L : Layout) → 5 ≤ L.nodes → (w : ℕ) → w < L.worker
     → LosesTries L w [] (part_of w (trace_in (ordered L) turns)) n
     → n ≤ links_in (trace_in (ordered L) turns) + 3 * flags_in (trace_in (ordered L) turns)
 
--- from one moment of an ordered run to a later one there are no more turns that hinder a worker than
+-- from one moment of an ordered run to a later one there are no more turns that interfere a worker than
 -- links that are won, three times the flags, and twice the workers
 abbrev pub HindrancesArePaid : Type 0
 HindrancesArePaid = (L : Layout) → 5 ≤ L.nodes → (w : ℕ) (past turns : List (ℕ × Event))
     → All (λ t. HasKey t.1) (past ++ turns)
-    → number_of (hinders w) (trace_in (after_in (ordered L) past) turns)
+    → number_of (interferes w) (trace_in (after_in (ordered L) past) turns)
     ≤ links_in (trace_in (after_in (ordered L) past) turns)
     + 3 * flags_in (trace_in (after_in (ordered L) past) turns) + 2 * L.workers

@@ -15,7 +15,7 @@ pub fn tries_are_paid()
     ensures ever { TriesArePaidEver }
 {}
 
-/// From one moment of a run to another as many turns hinder a worker, by a change of another or by a
+/// From one moment of a run to another as many turns interfere a worker, by a change of another or by a
 /// help of its own, as links are won, three times the flags, and twice the workers.
 pub fn hindrances_are_paid()
     ensures { HindrancesArePaid }

@@ -1,4 +1,4 @@
--- What a line of a script is answered, by what its call answered.
+-- The answers to the lines of a script, by the results of their calls.
 use Rattle.std.specs.Prelude.{ℕ, Bool, Option, Some, None, Result, Ok, Err}
 use Rattle.nm_epoch.specs.declared.answers.Advance.{Advance}
 use Rattle.nm_epoch.specs.declared.answers.Advance.TheVariants as advance
@@ -10,7 +10,7 @@ use Rattle.nm_tree.specs.declared.fault.PinFault.TheVariants as pinning
 use Rattle.nm_serial.specs.declared.answer.Answer.{Answer}
 use Rattle.nm_serial.specs.declared.answer.Answer.TheVariants as answer
 
--- of has, insert, delete and finish; nothing where memory was refused
+-- the answer to a look-up, an insert, a delete or a finish; none if memory was refused
 abbrev pub change_answer : Result Bool CallFault → Option Answer
 change_answer (Ok b) = Some (answer.Said b)
 change_answer (Err fault.Busy) = Some answer.Busy
@@ -19,8 +19,8 @@ change_answer (Err fault.NoMemory) = None
 change_answer (Err fault.Unfinished) = Some answer.Unfinished
 change_answer (Err fault.Pending) = Some answer.Pending
 
--- `pin_answer`, `advance_answer`, `collection_answer`: of a pin, of a move of the epoch, and of a
--- collection
+-- `pin_answer`, `advance_answer`, `collection_answer`: the answer to a pin, to an advance of the
+-- epoch, and to a collection
 abbrev pub pin_answer : Result ℕ PinFault → Answer
 pin_answer (Ok epoch) = answer.Pinned epoch
 pin_answer (Err (pinning.Moved epoch)) = answer.Moved epoch

@@ -1,4 +1,5 @@
--- The last lines of a script: a line of each worker, the keys, and how many slots stand where.
+-- The last lines of the output: a line for each worker, the keys, and the numbers of slots in each
+-- place.
 use Rattle.std.specs.Prelude.{ℕ, List, ◌++◌, codes, decimal, map}
 use Rattle.nm_epoch.specs.declared.collecting.Entry.{Entry}
 use Rattle.nm_epoch.specs.Collecting.{queued}
@@ -8,7 +9,7 @@ use Rattle.nm_print.specs.LastLines.{spaced_entries, queue_text}
 abbrev pub spaced_waiting : List Entry → List ℕ
 spaced_waiting es = spaced_entries (map queued es)
 
--- each entry after a space, or a dash where there is none
+-- each entry after a space, or a dash if there is none
 abbrev pub waiting_text : List Entry → List ℕ
 waiting_text es = queue_text (map queued es)
 

@@ -10,7 +10,7 @@ use Rattle.nm_tree.specs.Resigning.{HasResigned}
 use Rattle.nm_tree.specs.Workers.{WorkerView}
 use Rattle.nm_serial.specs.Makes.{HasMade}
 
--- the workers of a script that one thread plays, at their places, are of that tree
+-- the workers at their places are of that tree
 abbrev pub AreCrewOf : TreeView → List (Option WorkerView) → Type 0
 AreCrewOf b crew = All (λ o. IfSome o (λ w. IsOf b w.pass)) crew
 
@@ -18,24 +18,25 @@ AreCrewOf b crew = All (λ o. IfSome o (λ w. IsOf b w.pass)) crew
 abbrev pub worker_at : List (Option WorkerView) → ℕ → Option WorkerView
 worker_at crew n = slice_index_or crew n None
 
--- those that have not resigned
+-- the workers that have not resigned
 abbrev pub present : List (Option WorkerView) → List WorkerView
 present [] = []
 present (None ∷ crew) = present crew
 present (Some w ∷ crew) = w ∷ present crew
 
--- for how many workers the one at a place stands: for itself, and for those that resigned to it
+-- how many workers the one at a place covers: itself, and those that resigned to it
 abbrev pub stands_for : Option WorkerView → ℕ
 stands_for None = 0
 stands_for (Some w) = length w.queues
 
--- a call that is its worker's alone: a worker that has resigned makes none
+-- a call that involves no other worker; a worker that has resigned makes none
 abbrev pub HasDoneAt : TreeView → ℕ → ScriptCall → Option WorkerView → Option WorkerView → Answer → Type 0
 HasDoneAt b tries c None z a = (z ≡ None) × (a ≡ answer.Refused refused.Gone)
 HasDoneAt b tries c (Some w) None a = ⊥
 HasDoneAt b tries c (Some w) (Some z) a = HasMade b tries c w z a
 
--- a worker has resigned to its heir; or it is held, or has a pending key, and nothing has changed
+-- a worker has resigned to its heir; or it is pinned by its caller, or has a pending key, and
+-- nothing has changed
 abbrev pub HasResignedOrStayed : WorkerView → WorkerView → WorkerView → Option WorkerView → Answer → Type 0
 HasResignedOrStayed heir leaver z None a = HasResigned heir leaver z × (a ≡ answer.Resigned)
 HasResignedOrStayed heir leaver z (Some w) a = (z ≡ heir) × (w ≡ leaver)
@@ -44,14 +45,14 @@ HasResignedOrStayed heir leaver z (Some w) a = (z ≡ heir) × (w ≡ leaver)
 
 -- ---- one line
 
--- where either has resigned, or they are one, nothing is done
+-- if either has resigned, or they are the same, nothing is done
 pub record IsGone (leaver heir : ℕ) (crew : List (Option WorkerView)) (a : Answer)
     (after : List (Option WorkerView)) : Type 0 where
   pub why : (leaver ≡ heir) ⊎ ((worker_at crew leaver ≡ None) ⊎ (worker_at crew heir ≡ None))
   pub same : after ≡ crew
   pub told : a ≡ answer.Refused refused.Gone
 
--- else the leaver resigns to its heir, or may not, by the contract of resigning
+-- otherwise the leaver resigns to its heir, or may not, by the contract of `resign`
 pub record HasAsked (leaver heir : ℕ) (crew : List (Option WorkerView)) (a : Answer)
     (after : List (Option WorkerView)) : Type 0 where
   pub two : leaver ≢ heir

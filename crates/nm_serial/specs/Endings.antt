@@ -1,4 +1,4 @@
--- The last lines of a script, and what of the closed tree they tell.
+-- The last lines of the output, and what they say of the closed tree.
 use Rattle.std.specs.Prelude.{◌≡◌, ℕ, List, [], ◌∷◌, ◌++◌}
 use Rattle.nm_serial.specs.ClosedLines.{closed_worker_line, closed_places_line}
 use Rattle.nm_epoch.specs.declared.collecting.HeldQueue.{HeldQueue}
@@ -7,7 +7,7 @@ use Rattle.nm_steps.specs.Steps.{TreeView}
 use Rattle.nm_tree.specs.Closing.{IsClosed}
 use Rattle.nm_tree.specs.Workers.{WorkerView, counts_in, waiting_in}
 
--- a line of each queue's worker, by what is counted of it
+-- a line for the worker of each queue, with its counts
 abbrev pub worker_lines : List HeldQueue → List ℕ
 worker_lines [] = []
 worker_lines (h ∷ hs) =
@@ -19,9 +19,9 @@ abbrev pub ending_lines : List HeldQueue → List ℕ → ℕ → ℕ → List �
 ending_lines queues keys free reached =
     worker_lines queues ++ (keys_line keys ++ closed_places_line free reached (waiting_in queues))
 
--- The tree of these workers was closed, and the text tells its report: a line of each worker,
--- resigned or not, with its queue and what that tells of its ledger (`told` of `IsClosed`); the
--- keys; and how many slots are free, reached and queued
+-- The tree of these workers was closed, and the text has its report. It has a line for each worker,
+-- resigned or not, with its queue and the counts that this queue gives of its ledger (`told` of
+-- `IsClosed`). It has the keys, and the numbers of free, reached and queued slots
 pub record IsEnding (b : TreeView) (ws : List WorkerView) (text : List ℕ) : Type 0 where
   pub queues : List HeldQueue
   pub keys : List ℕ

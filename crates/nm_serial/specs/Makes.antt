@@ -21,7 +21,7 @@ use Rattle.nm_tree.specs.Workers.{WorkerView}
 use Rattle.nm_serial.specs.declared.own_lines.Stop.{Stop}
 use Rattle.nm_serial.specs.declared.own_lines.Stop.TheVariants as stop
 
--- a call that is its worker's alone
+-- a call that involves no other worker
 abbrev pub IsOwnCall : ScriptCall → Type 0
 IsOwnCall (Resign heir) = ⊥
 IsOwnCall _ = Unit {0}
@@ -30,26 +30,26 @@ IsOwnCall _ = Unit {0}
 abbrev pub IsAnsweredUnchanged : Answer → WorkerView → WorkerView → Answer → Type 0
 IsAnsweredUnchanged why w z a = (z ≡ w) × (a ≡ why)
 
--- the call ended so, and that is what was answered
+-- the call had this result, and the answer is that of the result
 abbrev pub HasAnsweredCall : (Result Bool CallFault → Type 0) → Answer → Type 0
 HasAnsweredCall did a = (r : Result Bool CallFault) × did r × (change_answer r ≡ Some a)
 
--- a call that a held worker may not make
+-- a call that a worker may not make while its caller has pinned it
 abbrev pub HasSearched : (Result Bool CallFault → Type 0) → WorkerView → WorkerView → Answer → Type 0
 HasSearched did w z a = (IsSome w.held × IsAnsweredUnchanged (answer.Refused refused.Held) w z a)
     ⊎ ((w.held ≡ None) × HasAnsweredCall did a)
 
--- a pin of the caller
+-- a pin for the caller
 abbrev pub HasHeld : ℕ → WorkerView → WorkerView → Answer → Type 0
 HasHeld tries w z a = (IsSome w.held × IsAnsweredUnchanged (answer.Refused refused.Held) w z a)
     ⊎ ((w.held ≡ None) × ((r : Result ℕ PinFault) × HasPinned tries w z r × (a ≡ pin_answer r)))
 
--- its end
+-- the end of the caller's pin
 abbrev pub HasUnpinned : WorkerView → WorkerView → Answer → Type 0
 HasUnpinned w z a = ((w.held ≡ None) × IsAnsweredUnchanged (answer.Refused refused.Idle) w z a)
     ⊎ (IsSome w.held × (z.held ≡ None) × Stepped w.pass z.pass Leave Departed × (a ≡ answer.Left))
 
--- an advance of the epoch, among so many workers
+-- an advance of the epoch, in a tree with this many workers
 abbrev pub HasMoved : ℕ → WorkerView → WorkerView → Answer → Type 0
 HasMoved workers w z a = KeepsPlace w z
     × ((r : Advance) × IsAdvance workers w.pass.view.number (epochs w.pass).pin w.pass.view.log
@@ -62,8 +62,8 @@ HasCollected w z a = KeepsPlace w z
     × HaveLost c.epoch w.queues z.queues
     × (c.freed ≡ length (ripe_of c.epoch w.queues)) × (a ≡ collection_answer c))
 
--- a call that is its worker's alone, with so many tries: as the call of the set does, by what it
--- answers
+-- a call that involves no other worker, with this many tries: it does what the call of the set
+-- does, by its answer
 abbrev pub HasMade : TreeView → ℕ → ScriptCall → WorkerView → WorkerView → Answer → Type 0
 HasMade b tries (Has k) w z a = HasSearched (HasAnswered b.layout tries k w z) w z a
 HasMade b tries (Insert k) w z a = HasSearched (HasInserted b.layout tries k w z) w z a
@@ -77,18 +77,19 @@ HasMade b tries (Resign heir) w z a = ⊥
 
 -- ---- the lines of one worker
 
--- a worker that its gate stops before a line has not made its call
+-- a worker that the gate stops before a line has not made the call of that line
 abbrev pub HasStopped : Type 0 → ℕ → WorkerView → WorkerView → Stop → Type 0
 HasStopped stops line w z (stop.Gate l) = (l ≡ line) × stops × (z ≡ w)
 HasStopped stops line w z stop.NoMemory = Unit {0}
 
--- its calls with the numbers of their lines, from this number on
+-- the calls of worker n with the numbers of their lines, from this number on
 abbrev pub own_lines : ℕ → ℕ → List (ℕ × ScriptCall) → List (ℕ × ScriptCall)
 own_lines n line [] = []
 own_lines n line (e ∷ es) = if e.0 == n then (line, e.1) ∷ own_lines n (line + 1) es
     else own_lines n (line + 1) es
 
--- each of these lines, one after the other, was let and made its call, and was answered so
+-- the worker was let play each of these lines, one after the other, and made its call, with this
+-- answer
 abbrev pub PlaysEach : (ℕ → ℕ → Type 0) → TreeView → ℕ → ℕ → List (ℕ × ScriptCall) → List Answer → WorkerView
     → WorkerView → Type 0
 PlaysEach lets b tries n [] [] w z = z ≡ w
@@ -103,7 +104,7 @@ abbrev pub PlaysOwn : (ℕ → ℕ → Type 0) → TreeView → ℕ → ℕ → 
 PlaysOwn lets b tries n line es answers w z =
     PlaysEach lets b tries n (own_lines n line es) answers w z
 
--- once it had played those of its lines that stand before it, the gate stopped it before this one
+-- the worker had played its lines before this one, and then the gate stopped it before this one
 pub record PlaysUpTo (lets stops : ℕ → ℕ → Type 0) (b : TreeView) (tries n : ℕ) (ls : List (ℕ × ScriptCall))
     (line : ℕ) (w z : WorkerView) : Type 0 where
   pub before : List (ℕ × ScriptCall)

@@ -9,14 +9,14 @@ IsRefusal run.NoMemory = Unit {0}
 IsRefusal run.Thread = Unit {0}
 IsRefusal _ = ⊥
 
--- memory or a thread was refused, or a gate stopped one of them
+-- memory or a thread was refused, or a gate stopped a worker
 abbrev pub IsStop : RunFault → Type 0
 IsStop run.NoMemory = Unit {0}
 IsStop run.Thread = Unit {0}
 IsStop (run.Gate worker line) = Unit {0}
 IsStop _ = ⊥
 
--- of a worker that its gate stopped, and of the line before which it did
+-- if a gate stopped a worker before a line, the property holds for them
 abbrev pub IfStopped : (ℕ → ℕ → Type 0) → RunFault → Type 0
 IfStopped P (run.Gate worker line) = P worker line
 IfStopped P (run.Line line reason) = Unit {0}

@@ -9,7 +9,7 @@ use Rattle.nm_files.specs.Lines.{parts}
 use Rattle.nm_files.specs.declared.header.Command.{Command}
 use Rattle.nm_files.specs.Entries.{Script, script_of}
 use Rattle.nm_steps.specs.Steps.{TreeView}
-use Rattle.nm_edge.specs.declared.placement.Fit.TheVariants.{Lowest}
+use Rattle.nm_edge.specs.declared.placement.Fit.TheVariants.{FirstFit}
 use Rattle.nm_tree.specs.Workers.{WorkerView, AreNew, HaveFit}
 use Rattle.nm_serial.specs.Crews.{PlaysAll, present}
 use Rattle.nm_serial.specs.Endings.{IsEnding}
@@ -17,17 +17,17 @@ use Rattle.nm_serial.specs.Stops.{IfStopped}
 use Rattle.nm_serial.specs.Threads.{HaveAllPlayed, all_rows, fault_in}
 use Rattle.nm_serial.specs.declared.threads.Played.{Played}
 
--- a tree of a script's sizes, with its workers, who have done nothing yet, and each of whose claims
--- takes the lowest slot that it can
+-- a tree of a script's sizes, with its workers, which have done nothing yet, and which claim the
+-- lowest slot that they can
 pub record IsOpened (s : Script) (tree : TreeView) (workers : List WorkerView) : Type 0 where
   pub sizes : tree.layout ≡ s.header.layout
   pub new : AreNew tree 0 workers
   pub all : length workers ≡ s.header.layout.workers
-  pub fit : HaveFit Lowest workers
+  pub fit : HaveFit FirstFit workers
 
--- Of `serial`: the lines are played one after the other on a new tree, each by the contract of its
--- call; each line stands with what it was answered; and then come the last lines, of that tree
--- closed by those that have not resigned
+-- The output of `serial`. The lines are played one after the other on a new tree, each by the
+-- contract of its call. The output has each line with its answer, and then the last lines. These
+-- are about that tree after the workers that have not resigned have closed it
 pub record IsSerialText (s : Script) (rows : List (List ℕ)) (text : List ℕ) : Type 0 where
   pub tree : TreeView
   pub workers : List WorkerView
@@ -39,9 +39,9 @@ pub record IsSerialText (s : Script) (rows : List (List ℕ)) (text : List ℕ) 
   pub ends : IsEnding tree (present crew) ending
   pub text_is : text ≡ lines rows answers ++ ending
 
--- Of `stress`: each worker has played its lines on one new tree, one after the other, and none was
--- stopped; the lines of each worker stand with what they were answered, worker by worker; and then
--- come the last lines, of that tree closed by all workers
+-- The output of `stress`. Each worker has played its lines on one new tree, one after the other,
+-- and none was stopped. The output has the lines of each worker with their answers, worker by
+-- worker, and then the last lines. These are about that tree after all workers have closed it
 pub record IsStressText (lets stops : ℕ → ℕ → Type 0) (s : Script) (rows : List (List ℕ))
     (text : List ℕ) : Type 0 where
   pub tree : TreeView
@@ -54,8 +54,8 @@ pub record IsStressText (lets stops : ℕ → ℕ → Type 0) (s : Script) (rows
   pub ends : IsEnding tree (map (λ p. p.worker) ended) ending
   pub text_is : text ≡ all_rows rows s.entries ended ++ ending
 
--- Of `stress`, where the gate stopped workers: this one is the first of them, and it was stopped
--- before this line; none was refused memory
+-- A stop of `stress`: the gate stopped workers, and none was refused memory. This worker is the
+-- first that was stopped, and it was stopped before this line
 pub record IsGateStop (lets stops : ℕ → ℕ → Type 0) (s : Script) (worker line : ℕ) : Type 0 where
   pub tree : TreeView
   pub workers : List WorkerView
@@ -64,19 +64,19 @@ pub record IsGateStop (lets stops : ℕ → ℕ → Type 0) (s : Script) (worker
   pub played : HaveAllPlayed lets stops tree s.header.tries s.entries workers ended
   pub first : fault_in ended ≡ Some (run.Gate worker line)
 
--- the text is one for the script that the bytes of a file say, with its lines from the second on
+-- the text is one for the script in the bytes of a file, with its lines from the second on
 abbrev pub IsWritten : (Script → List (List ℕ) → List ℕ → Type 0) → Command → List ℕ → List ℕ
     → Type 0
 IsWritten IsText command bytes text =
     (s : Script) × (script_of command bytes ≡ Ok s) × IsText s (drop 1 (parts bytes)) text
 
--- a writer gained such a text
+-- the writer has got such a text
 abbrev pub WritesText : (Script → List (List ℕ) → List ℕ → Type 0) → Command → List ℕ
     → Option (List ℕ) → Option (List ℕ) → Type 0
 WritesText IsText command bytes old new =
     (text : List ℕ) × IsWritten IsText command bytes text × Appends old new text
 
--- of a gate's stop: the script that the bytes of a file say was stopped so
+-- if a gate stopped the run, it stopped the script in the bytes of the file in this way
 abbrev pub IfGate : (Script → ℕ → ℕ → Type 0) → Command → List ℕ → RunFault → Type 0
 IfGate IsStopped command bytes e =
     IfStopped (λ worker line. (s : Script) × (script_of command bytes ≡ Ok s)

@@ -13,8 +13,8 @@ use Rattle.nm_serial.specs.declared.own_lines.Stop.TheVariants as stop
 use Rattle.nm_serial.specs.declared.threads.Played.{Played}
 use Rattle.nm_serial.specs.Makes.{PlaysOwn, StopsOwn}
 
--- a worker has played its lines of a script, one after the other; or its gate stopped it before one
--- of them, or it was refused memory
+-- a worker has played its lines of a script, one after the other; or the gate stopped it before one
+-- of them; or it was refused memory
 pub record HasPlayed (lets stops : ℕ → ℕ → Type 0) (b : TreeView) (tries : ℕ) (es : List (ℕ × ScriptCall))
     (w z : WorkerView) (answers : Result (Vec Answer Global) Stop) : Type 0 where
   pub own : IsOf b z.pass
@@ -23,7 +23,7 @@ pub record HasPlayed (lets stops : ℕ → ℕ → Type 0) (b : TreeView) (tries
   pub did : IfOk answers (λ v. PlaysOwn lets b tries w.pass.view.number 2 es v.items w z)
   pub stopped : IfErr answers (StopsOwn lets stops b tries w.pass.view.number 2 es w z)
 
--- each of the workers has, in their order
+-- each of the workers has done so, in their order
 pub record HaveAllPlayed (lets stops : ℕ → ℕ → Type 0) (b : TreeView) (tries : ℕ)
     (es : List (ℕ × ScriptCall)) (ws : List WorkerView) (ps : List Played) : Type 0 where
   pub all : length ps ≡ length ws
@@ -31,15 +31,15 @@ pub record HaveAllPlayed (lets stops : ℕ → ℕ → Type 0) (b : TreeView) (t
       → HasPlayed lets stops b tries es (slice_index_or ws k w) (slice_index_or ps k p).worker
       (slice_index_or ps k p).answers
 
--- why a worker stopped, with what the later ones did: want of memory of any of them, and else the
--- gate's stop of the first
+-- the fault of a worker and of the later ones: `NoMemory` if any was refused memory, and otherwise
+-- the gate's stop of the first one that was stopped
 abbrev pub fault_before : ℕ → Result (Vec Answer Global) Stop → Option RunFault → Option RunFault
 fault_before n (Ok v) later = later
 fault_before n (Err stop.NoMemory) later = Some run.NoMemory
 fault_before n (Err (stop.Gate line)) (Some run.NoMemory) = Some run.NoMemory
 fault_before n (Err (stop.Gate line)) later = Some (run.Gate n line)
 
--- why they have not all played their lines; none where all have
+-- why the workers have not all played their lines; none if they all have
 abbrev pub fault_in : List Played → Option RunFault
 fault_in [] = None
 fault_in (p ∷ ps) = fault_before p.worker.pass.view.number p.answers (fault_in ps)
@@ -56,7 +56,7 @@ abbrev pub answers_of : Result (Vec Answer Global) Stop → List Answer
 answers_of (Ok v) = v.items
 answers_of (Err s) = []
 
--- the lines of each worker with what they were answered, worker by worker
+-- the lines of each worker with their answers, worker by worker
 abbrev pub all_rows : List (List ℕ) → List (ℕ × ScriptCall) → List Played → List ℕ
 all_rows rows es [] = []
 all_rows rows es (p ∷ ps) = lines (own_rows p.worker.pass.view.number rows es)

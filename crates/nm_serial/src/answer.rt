@@ -1,4 +1,4 @@
-//! What a line of a script is answered.
+//! The answers to the lines of a script.
 ghost use Rattle.std.specs.Prelude.{◌≡◌};
 ghost use Rattle.nm_serial.specs.Answers as spec;
 
@@ -9,38 +9,38 @@ use nm_tree::{Advance, CallFault, Collected, PinFault};
 pub enum Refusal {
     /// Its worker or its heir has resigned, or its worker is its own heir.
     Gone,
-    /// The worker is held, and may neither search nor resign, nor be pinned again.
+    /// The worker is pinned by its caller, so it may not search, resign, or be pinned again.
     Held,
-    /// The worker is not held, so there is nothing to unpin.
+    /// The worker is not pinned by its caller, so there is nothing to unpin.
     Idle,
 }
 
-/// What a line was answered.
+/// The answer to a line.
 #[derive(Clone, Copy, Debug, PartialEq, Eq)]
 pub enum Answer {
-    /// By a call that answers yes or no.
+    /// The boolean that the call returned.
     Said(bool),
     /// Each try was lost.
     Busy,
     /// No slots were free for the new nodes of an insert.
     Full,
-    /// The leaf is flagged, and not known to be cut off.
+    /// The leaf is flagged, but it is not known to be cut off.
     Unfinished,
     /// A key is pending, and nothing was done.
     Pending,
-    /// The worker is held at this epoch.
+    /// The worker is pinned at this epoch.
     Pinned(u64),
     /// The epoch moved on to this one: by this call to advance it, or in each try of a pin.
     Moved(u64),
-    /// The worker is held no longer.
+    /// The worker is unpinned.
     Left,
-    /// That worker, found at that epoch, holds the epoch back.
+    /// That worker, which was found announcing that epoch, holds the epoch back.
     Held { worker: u32, epoch: u64 },
-    /// Another moved the epoch on to this one first.
+    /// Another worker advanced the epoch to this one first.
     Lost(u64),
     /// The epoch is the last one.
     Spent,
-    /// By this epoch so many nodes were freed.
+    /// At this epoch a collection freed this number of nodes.
     Collected { epoch: u64, freed: u64 },
     /// The worker has resigned to its heir.
     Resigned,
@@ -48,8 +48,7 @@ pub enum Answer {
     Refused(Refusal),
 }
 
-/// What a look-up, an insert, a delete or a finish has answered; `None` where it was refused
-/// memory.
+/// Returns the answer to a look-up, an insert, a delete or a finish; `None` if memory was refused.
 pub fn of_change(changed: Result<bool, CallFault>) -> Option<Answer>
     ensures { result ≡ spec.change_answer changed }
 {
@@ -63,7 +62,7 @@ pub fn of_change(changed: Result<bool, CallFault>) -> Option<Answer>
     }
 }
 
-/// What a pin has answered.
+/// Returns the answer to a pin.
 pub fn of_pin(pinned: Result<u64, PinFault>) -> Answer
     ensures { result ≡ spec.pin_answer pinned }
 {
@@ -74,7 +73,7 @@ pub fn of_pin(pinned: Result<u64, PinFault>) -> Answer
     }
 }
 
-/// What an advance of the epoch has answered.
+/// Returns the answer to an advance of the epoch.
 pub fn of_advance(advance: Advance) -> Answer
     ensures { result ≡ spec.advance_answer advance }
 {
@@ -86,7 +85,7 @@ pub fn of_advance(advance: Advance) -> Answer
     }
 }
 
-/// What a collection has answered.
+/// Returns the answer to a collection.
 pub fn of_collection(collected: Collected) -> Answer
     ensures { result ≡ spec.collection_answer collected }
 {

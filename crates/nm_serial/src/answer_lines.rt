@@ -1,4 +1,4 @@
-//! How what a line was answered is written.
+//! The text of the answers to the lines of a script.
 ghost use Rattle.std.specs.Prelude.{◌≡◌, ◌++◌, OnOk};
 ghost use Rattle.nm_files.specs.Lines.{parts};
 ghost use Rattle.nm_serial.specs.AnswerLines as spec;
@@ -8,7 +8,7 @@ use nm_files::pieces::cut;
 use nm_print::reply::put_number;
 use std::alloc::AllocError;
 
-/// Appends a word and two numbers with a word between them.
+/// Appends a word and a number, and a second word and number.
 fn put_numbers(
     out: &mut Vec<u8>,
     word: &[u8],
@@ -23,7 +23,7 @@ fn put_numbers(
     put_number(out, between, second)
 }
 
-/// The words of a line that made no call.
+/// Returns the words of a line that made no call.
 fn refusal_word(refusal: Refusal) -> &'static [u8]
     ensures { result.now ≡ spec.refusal_words refusal }
 {
@@ -34,7 +34,7 @@ fn refusal_word(refusal: Refusal) -> &'static [u8]
     }
 }
 
-/// Appends what a line was answered.
+/// Appends an answer.
 pub fn put_answer(out: &mut Vec<u8>, answer: Answer) -> Result<(), AllocError>
     ensures { OnOk result (out.new.items ≡ out.old.items ++ spec.answer answer) }
 {
@@ -63,7 +63,7 @@ pub fn put_answer(out: &mut Vec<u8>, answer: Answer) -> Result<(), AllocError>
     }
 }
 
-/// Appends a line of the file with what it was answered.
+/// Appends a line of the file with its answer.
 pub fn put_line(out: &mut Vec<u8>, line: &[u8], answer: Answer) -> Result<(), AllocError>
     ensures { OnOk result (out.new.items ≡ out.old.items ++ spec.line line.now answer) }
 {
@@ -73,7 +73,7 @@ pub fn put_line(out: &mut Vec<u8>, line: &[u8], answer: Answer) -> Result<(), Al
     out.extend_from_slice(b"\n")
 }
 
-/// Appends each line of a text with what it was answered, up to the last answer.
+/// Appends each line of a text with its answer, up to the last answer.
 pub fn put_lines(out: &mut Vec<u8>, body: &[u8], answers: &[Answer]) -> Result<(), AllocError>
     ensures { OnOk result (out.new.items
         ≡ out.old.items ++ spec.lines (parts body.now) answers.now) }

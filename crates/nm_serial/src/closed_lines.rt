@@ -1,5 +1,5 @@
-//! The last lines: what became of the nodes that each worker cut off, the keys of the set, and how
-//! many slots stand where.
+//! The last lines of the output: the nodes that each worker cut off, the keys of the set, and the
+//! numbers of slots in each place.
 ghost use Rattle.std.specs.Prelude.{◌≡◌, ◌++◌, OnOk};
 ghost use Rattle.nm_serial.specs.ClosedLines as spec;
 
@@ -24,7 +24,7 @@ fn put_spaced_entries(out: &mut Vec<u8>, queue: &mut BlockQueue<Entry>) -> Resul
     Ok(())
 }
 
-/// Appends each entry of a queue after a space, or a dash where there is none.
+/// Appends each entry of a queue after a space, or a dash if there is none.
 fn put_queue(out: &mut Vec<u8>, queue: &mut BlockQueue<Entry>) -> Result<(), AllocError>
     ensures { OnOk result (out.new.items ≡ out.old.items ++ spec.waiting_text queue.old.items) }
 {
@@ -35,7 +35,7 @@ fn put_queue(out: &mut Vec<u8>, queue: &mut BlockQueue<Entry>) -> Result<(), All
 }
 
 /// Appends the line of a worker: how many nodes its splices cut off, how many of them were freed,
-/// and those that wait, which are taken out of the queue.
+/// and those that wait. It takes the waiting nodes out of the queue.
 #[tactic(auto, unfolding(crate::specs::ClosedLines::closed_worker_line))]
 pub fn put_worker(
     out: &mut Vec<u8>,
@@ -55,7 +55,7 @@ pub fn put_worker(
     out.extend_from_slice(b"\n")
 }
 
-/// Appends the line of how many slots above 5 are in the pool, reached from the root, and in
+/// Appends the line with how many slots above 5 are in the pool, reached from the root, and in
 /// queues.
 #[tactic(auto, unfolding(crate::specs::ClosedLines::closed_places_line))]
 pub fn put_closed_places(

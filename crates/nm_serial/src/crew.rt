@@ -9,7 +9,7 @@ use crate::making::make;
 use nm_files::entry::ScriptCall;
 use nm_tree::{ResignReason, Tree, Worker};
 
-/// A call that is its worker's alone, by the worker at its place, if it has not resigned.
+/// Makes a call that involves no other worker, by the worker at its place, if it has not resigned.
 pub(crate) fn make_at(
     tree: &Tree,
     place: &mut Option<Worker>,
@@ -28,7 +28,8 @@ pub(crate) fn make_at(
     }
 }
 
-/// A worker resigns to its heir, and the heir is handed back, or both, with the answer.
+/// Lets a worker resign to its heir. Returns the heir, and also the leaver if it has not resigned,
+/// with the answer.
 #[tactic(auto, using(crate::proofs::CrewLemmas::merged_many))]
 pub(crate) fn leave(tree: &Tree, heir: Worker, leaver: Worker) -> (Worker, Option<Worker>, Answer)
     requires heir { IsOf tree.now heir.pass }

@@ -1,4 +1,4 @@
-//! Scripts played on the real tree: a file of calls in, what each call answered out.
+//! Scripts played on the real tree: it reads a file of calls, and writes the answer to each.
 #![tactic(auto)]
 
 pub mod answer;

@@ -9,7 +9,7 @@ use nm_edge::Key;
 use nm_files::entry::ScriptCall;
 use nm_tree::{Tree, Worker};
 
-/// A look-up, unless the worker is held.
+/// Makes a look-up, unless the worker is pinned by its caller.
 fn has(tree: &Tree, worker: &mut Worker, key: Key, tries: u32) -> Option<Answer>
     requires own { IsOf tree.now worker.old.pass }
     ensures own { IsOf tree.now worker.new.pass }
@@ -25,7 +25,7 @@ fn has(tree: &Tree, worker: &mut Worker, key: Key, tries: u32) -> Option<Answer>
     of_change(tree.has(worker, key, tries))
 }
 
-/// An insert, unless the worker is held.
+/// Makes an insert, unless the worker is pinned by its caller.
 #[tactic(auto, using(crate::proofs::CrewLemmas::keeps_many))]
 fn insert(tree: &Tree, worker: &mut Worker, key: Key, tries: u32) -> Option<Answer>
     requires own { IsOf tree.now worker.old.pass }
@@ -42,7 +42,7 @@ fn insert(tree: &Tree, worker: &mut Worker, key: Key, tries: u32) -> Option<Answ
     of_change(tree.insert(worker, key, tries))
 }
 
-/// A delete, unless the worker is held.
+/// Makes a delete, unless the worker is pinned by its caller.
 #[tactic(auto, using(crate::proofs::CrewLemmas::keeps_many))]
 fn delete(tree: &Tree, worker: &mut Worker, key: Key, tries: u32) -> Option<Answer>
     requires own { IsOf tree.now worker.old.pass }
@@ -59,7 +59,7 @@ fn delete(tree: &Tree, worker: &mut Worker, key: Key, tries: u32) -> Option<Answ
     of_change(tree.delete(worker, key, tries))
 }
 
-/// A pin of the caller, unless the worker is held.
+/// Pins the worker for its caller, unless it is pinned already.
 fn pin(tree: &Tree, worker: &mut Worker, tries: u32) -> Answer
     requires own { IsOf tree.now worker.old.pass }
     ensures own { IsOf tree.now worker.new.pass }
@@ -73,7 +73,7 @@ fn pin(tree: &Tree, worker: &mut Worker, tries: u32) -> Answer
     of_pin(tree.pin(worker, tries))
 }
 
-/// The end of a pin of the caller, if the worker is held.
+/// Ends the caller's pin, if there is one.
 fn unpin(tree: &Tree, worker: &mut Worker) -> Answer
     requires own { IsOf tree.now worker.old.pass }
     ensures own { IsOf tree.now worker.new.pass }
@@ -88,8 +88,8 @@ fn unpin(tree: &Tree, worker: &mut Worker) -> Answer
     Answer::Left
 }
 
-/// A call that is its worker's alone, unless the worker may not make it; `None` where memory was
-/// refused.
+/// Makes a call that involves no other worker, unless the worker may not make it. Returns `None` if
+/// memory was refused.
 #[tactic(auto, using(crate::proofs::CrewLemmas::keeps_many, crate::proofs::CrewLemmas::lost_many))]
 pub(crate) fn make(tree: &Tree, worker: &mut Worker, call: ScriptCall, tries: u32) -> Option<Answer>
     requires own { IsOf tree.now worker.old.pass }

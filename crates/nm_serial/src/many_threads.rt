@@ -1,4 +1,4 @@
-//! `stress`: the calls of each worker of a script in a thread of its own.
+//! `stress`: the lines of each worker of a script in a thread of its own.
 ghost use Rattle.std.specs.Prelude.{◌≡◌, ◌≢◌, ◌≤◌, ◌++◌, drop, length, map, All, Some, IfSome, IfOk, OnOk, IfErr, IsOk};
 ghost use Rattle.nm_serial.specs.AnswerLines.{lines};
 ghost use Rattle.nm_files.specs.Files.{HasJudged, IfLine};
@@ -30,7 +30,7 @@ use std::io::{Read, Write};
 use std::sync::Wait;
 use std::thread::Threads;
 
-/// Why a worker stopped, with what the later ones did.
+/// Returns the fault of this worker and the later ones, given the fault of the later ones.
 fn fault_before(part: &Played, later: Option<RunFault>) -> Option<RunFault>
     requires { IfSome later IsStop }
     ensures fault { result ≡ spec.fault_before part.now.worker.pass.view.number part.now.answers
@@ -50,8 +50,8 @@ fn fault_before(part: &Played, later: Option<RunFault>) -> Option<RunFault>
     }
 }
 
-/// Why they have not all played their lines: want of memory first, and else the gate's stop of the
-/// first one.
+/// Returns why the workers have not all played their lines: `NoMemory` comes first, and otherwise
+/// it is the gate's stop of the first worker that was stopped.
 fn fault_of(played: &[Played]) -> Option<RunFault>
     ensures fault { result ≡ fault_in played.now }
     ensures stop { IfSome result IsStop }
@@ -61,7 +61,7 @@ fn fault_of(played: &[Played]) -> Option<RunFault>
     fault_before(first, later)
 }
 
-/// Appends the lines of one worker with what they were answered.
+/// Appends the lines of one worker with their answers.
 fn put_own_lines(
     out: &mut Vec<u8>,
     body: &[u8],
@@ -91,7 +91,7 @@ fn put_own_lines(
     Ok(())
 }
 
-/// What the lines of a worker were answered; nothing where it has not played all of them.
+/// Returns the answers to the lines of a worker; none if it has not played all of them.
 fn answers_of(part: &Played) -> &[Answer]
     ensures { result.now ≡ spec.answers_of part.now.answers }
 {
@@ -101,7 +101,7 @@ fn answers_of(part: &Played) -> &[Answer]
     }
 }
 
-/// Appends the lines of each worker in turn.
+/// Appends the lines of all workers, worker by worker.
 fn put_all_lines(
     out: &mut Vec<u8>,
     body: &[u8],
@@ -117,7 +117,7 @@ fn put_all_lines(
     Ok(())
 }
 
-/// The workers at the end of their lines.
+/// Returns the workers after their lines.
 fn workers_of(alloc: Global, played: Vec<Played>) -> Result<Vec<Worker>, AllocError>
     ensures { IfOk result (λ ws. ws.items ≡ map (λ p. p.worker) played.items) }
 {
@@ -129,7 +129,7 @@ fn workers_of(alloc: Global, played: Vec<Played>) -> Result<Vec<Worker>, AllocEr
     Ok(workers)
 }
 
-/// What is written for a script, each of whose lines is its worker's alone.
+/// Returns the output for a script in which each line involves only its worker.
 fn text_of<R: Threads + Wait + Sync, G: Gate>(
     rt: &R,
     alloc: Global,
@@ -170,7 +170,7 @@ fn text_of<R: Threads + Wait + Sync, G: Gate>(
     Ok(out)
 }
 
-/// What is written for the bytes of a file.
+/// Returns the output for the bytes of a file.
 fn output<R: Threads + Wait + Sync, G: Gate>(
     rt: &R,
     alloc: Global,
@@ -188,14 +188,16 @@ fn output<R: Threads + Wait + Sync, G: Gate>(
     text_of(rt, alloc, &script, gate)
 }
 
-/// Makes the calls of the script that the reader gives on a tree, those of each worker in their
-/// order in a thread of its own, and writes the lines of each worker with what the calls were
-/// answered, and then what is left of the closed tree.
+/// Plays the script that it reads on a tree: the lines of each worker in their order, in a thread
+/// of its own. It writes the lines of each worker with their answers, and then the last lines,
+/// which are about the closed tree.
 ///
-/// Everything is read before a line is checked, and nothing is written before all threads have
-/// ended and the tree is closed. The gate is asked before each line. The threads start together,
-/// once the last of them is made. `Thread` comes before `NoMemory` of a call, and that before
-/// `Gate`, which names the least worker that was stopped.
+/// It reads everything before it checks a line, and writes nothing before all threads have ended
+/// and the tree is closed. Each worker asks the gate before each line. The threads start together,
+/// after the last of them is made.
+///
+/// Errors: `Thread` comes before `NoMemory` of a call, and that before `Gate`, which names the
+/// worker with the least number that was stopped.
 pub fn stress<R: Threads + Wait + Sync, I: Read, W: Write, G: Gate>(
     rt: &R,
     alloc: Global,
@@ -203,33 +205,33 @@ pub fn stress<R: Threads + Wait + Sync, I: Read, W: Write, G: Gate>(
     writer: &mut W,
     gate: &G,
 ) -> Result<(), RunFault>
-    // The lines of each worker, played one after the other on a new tree that all share, are
-    // written with what they were answered, and then what the closed tree tells, and nothing else.
+    // The output is the lines of each worker with their answers, and then the last lines, and
+    // nothing else. The lines were played one after the other on a new tree that all workers share.
     ensures ok { OnOk result (IfSome (I.remaining reader.old)
         (λ input. WritesText (IsStressText (G.lets gate.now) (G.stops gate.now)) Stress input
         (W.contents writer.old) (W.contents writer.new))) }
-    // The gate is told where it stopped workers, and none was refused memory: of the least of them,
-    // with the line before which it was stopped.
+    // `Gate`: the gate has stopped workers, and no worker was refused memory. It names the stopped
+    // worker with the least number, and the line before which it was stopped.
     ensures gate { IfErr result
         (λ e. IfSome (I.remaining reader.old)
         (λ input. IfGate (IsGateStop (G.lets gate.now) (G.stops gate.now)) Stress input e)) }
-    // It ends well only where no line is faulty.
+    // A run succeeds only if no line is faulty.
     ensures right { OnOk result
         (IfSome (I.remaining reader.old) (λ input. IsOk (script_of Stress input))) }
-    // The first faulty line is answered, with the least reason.
+    // `Line`: it is the first faulty line, with the least reason.
     ensures line { IfErr result
         (λ e. IfSome (I.remaining reader.old)
         (λ input. IfLine e (λ line reason. script_of Stress input
         ≡ Err (record { line = line; reason = reason })))) }
-    // A writer is first asked where no line is faulty.
+    // The run uses the writer only if no line is faulty.
     ensures write { IfErr result
         (λ e. e ≡ RunFault.Write
         → IfSome (I.remaining reader.old) (λ input. IsOk (script_of Stress input))) }
-    // However it was judged, the input was read to its end, or to the limit.
+    // After any end but `NoMemory` and `Read`, the input was read to its end, or to the limit.
     ensures read { HasJudged result
         → IfSome (I.remaining reader.old)
         (λ input. I.remaining reader.new ≡ Some (drop LIMIT input)) }
-    // Nothing is written unless all was right.
+    // The run writes nothing if it returns an error other than `Write`.
     ensures unwritten { IfErr result (λ e. e ≢ RunFault.Write → writer.new ≡ writer.old) }
 {
     let bytes = input_of(alloc, reader)?;

@@ -1,4 +1,4 @@
-//! `serial`: all calls of a script by one thread, in their order.
+//! `serial`: all lines of a script in one thread, in their order.
 ghost use Rattle.std.specs.Prelude.{◌≡◌, ◌≢◌, ◌<◌, ◌⊎◌, ◌∷◌, [], ◌++◌, All, drop, length, map, sum_by, Some, IfOk, OnOk, IfErr, IfSome, IsOk};
 ghost use Rattle.nm_files.specs.Files.{IfLine, HasJudged};
 ghost use Rattle.nm_files.specs.Lines.{parts};
@@ -22,7 +22,7 @@ use nm_tree::{Tree, Worker};
 use std::alloc::{AllocError, Global};
 use std::io::{Read, Write};
 
-/// The workers at their places.
+/// Puts the workers at their places.
 fn crew_of(
     alloc: Global,
     tree: &Tree,
@@ -39,7 +39,7 @@ fn crew_of(
     Ok(crew)
 }
 
-/// Puts the worker of a place behind the others, if it has not resigned.
+/// Appends the worker of a place to the others, if it has not resigned.
 fn put_left(workers: &mut Vec<Worker>, place: Option<Worker>) -> Result<(), AllocError>
     ensures { OnOk result (workers.new.items ≡ workers.old.items ++ present (place ∷ [])) }
 {
@@ -50,7 +50,7 @@ fn put_left(workers: &mut Vec<Worker>, place: Option<Worker>) -> Result<(), Allo
     Ok(())
 }
 
-/// Those that have not resigned.
+/// Returns the workers that have not resigned.
 fn left_of(alloc: Global, crew: Vec<Option<Worker>>) -> Result<Vec<Worker>, AllocError>
     ensures { IfOk result (λ workers. workers.items ≡ present crew.items) }
 {
@@ -61,8 +61,8 @@ fn left_of(alloc: Global, crew: Vec<Option<Worker>>) -> Result<Vec<Worker>, Allo
     Ok(workers)
 }
 
-/// The worker at a place resigns to the one at another. Where either has resigned, or they are one,
-/// nothing is done.
+/// Lets the worker at a place resign to the one at another place. It does nothing if either has
+/// resigned, or if they are the same.
 fn resign(tree: &Tree, crew: &mut Vec<Option<Worker>>, leaver: usize, heir: usize) -> Answer
     requires own { AreCrewOf tree.now crew.old.items }
     requires leaver { leaver < length crew.old.items }
@@ -88,7 +88,7 @@ fn resign(tree: &Tree, crew: &mut Vec<Option<Worker>>, leaver: usize, heir: usiz
     answer
 }
 
-/// One line of a script.
+/// Plays one line of a script.
 fn play_line(
     tree: &Tree,
     crew: &mut Vec<Option<Worker>>,
@@ -111,7 +111,7 @@ fn play_line(
     }
 }
 
-/// All lines of a script, in their order.
+/// Plays all lines of a script, in their order.
 fn play(
     alloc: Global,
     tree: &Tree,
@@ -138,7 +138,7 @@ fn play(
     Ok(answers)
 }
 
-/// What is written for a script.
+/// Returns the output for a script.
 fn text_of(alloc: Global, script: &Script<'_>) -> Result<Vec<u8>, RunFault>
     requires { All (IsEntryOf script.now.header) script.now.entries.items }
     ensures text { IfOk result
@@ -168,7 +168,7 @@ fn text_of(alloc: Global, script: &Script<'_>) -> Result<Vec<u8>, RunFault>
     Ok(out)
 }
 
-/// What is written for the bytes of a file.
+/// Returns the output for the bytes of a file.
 fn output(alloc: Global, bytes: &[u8]) -> Result<Vec<u8>, RunFault>
     ensures ends { EndsSo Command.Serial bytes.now result }
     ensures text { IfOk result (λ v. IsWritten IsSerialText Command.Serial bytes.now v.items) }
@@ -178,42 +178,41 @@ fn output(alloc: Global, bytes: &[u8]) -> Result<Vec<u8>, RunFault>
     text_of(alloc, &script)
 }
 
-/// Makes the calls of the script that the reader gives on a tree, in one thread and in their order,
-/// and writes each of its lines with what the call was answered, and then what is left of the
-/// closed tree.
+/// Plays the script that it reads on a tree, in one thread, line by line. It writes each line with
+/// its answer, and then the last lines, which are about the closed tree.
 ///
-/// Everything is read before a line is checked, and nothing is written before all calls are made
-/// and the tree is closed.
+/// It reads everything before it checks a line, and writes nothing before all calls are made and
+/// the tree is closed.
 pub fn serial<R: Read, W: Write>(
     alloc: Global,
     reader: &mut R,
     writer: &mut W,
 ) -> Result<(), RunFault>
-    // What the script's lines, played one after the other on a new tree, were answered is written,
-    // and what the closed tree tells, and nothing else.
+    // The output is the script's lines with their answers, and then the last lines, and nothing
+    // else. The lines were played one after the other on a new tree.
     ensures ok { OnOk result (IfSome (R.remaining reader.old)
         (λ input. WritesText IsSerialText Command.Serial input (W.contents writer.old)
         (W.contents writer.new))) }
-    // A script is played only where it is right.
+    // A run succeeds only if the script is right.
     ensures right { OnOk result
         (IfSome (R.remaining reader.old) (λ input. IsOk (scripts.script_of Command.Serial input))) }
-    // The first faulty line is answered, with the least reason.
+    // `Line`: it is the first faulty line, with the least reason.
     ensures line { IfErr result
         (λ e. IfSome (R.remaining reader.old)
         (λ input. IfLine e (λ line reason. scripts.script_of Command.Serial input
         ≡ Err (record { line = line; reason = reason })))) }
-    // A writer is first asked where no line is faulty.
+    // The run uses the writer only if no line is faulty.
     ensures write { IfErr result
         (λ e. e ≡ RunFault.Write
         → IfSome (R.remaining reader.old)
         (λ input. IsOk (scripts.script_of Command.Serial input))) }
-    // However it was judged, the input was read to its end, or to the limit.
+    // After any end but `NoMemory` and `Read`, the input was read to its end, or to the limit.
     ensures read { HasJudged result
         → IfSome (R.remaining reader.old)
         (λ input. R.remaining reader.new ≡ Some (drop LIMIT input)) }
-    // Neither a gate nor a thread ends it.
+    // Neither a gate nor a thread ends the run.
     ensures alone { IfErr result IsOfOneThread }
-    // Nothing is written unless all was right.
+    // The run writes nothing if it returns an error other than `Write`.
     ensures unwritten { IfErr result (λ e. e ≢ RunFault.Write → writer.new ≡ writer.old) }
 {
     let bytes = input_of(alloc, reader)?;

@@ -1,7 +1,7 @@
-//! The end of a script: the tree is closed, and the last lines tell what is left.
+//! The end of a script: it closes the tree and writes the last lines.
 ghost use Rattle.std.specs.Prelude.{◌≡◌, ◌<◌, ◌^◌, ◌++◌, All, IfOk, OnOk, IfErr};
 ghost use Rattle.nm_steps.specs.Steps.{IsOf};
-ghost use Rattle.nm_edge.specs.declared.placement.Fit.TheVariants.{Lowest};
+ghost use Rattle.nm_edge.specs.declared.placement.Fit.TheVariants.{FirstFit};
 ghost use Rattle.nm_tree.specs.Closing.{given_in};
 ghost use Rattle.nm_tree.specs.Trees.{IsNewTree};
 ghost use Rattle.nm_tree.specs.Workers.{waiting_in};
@@ -15,19 +15,19 @@ use nm_print::last_lines::put_keys_line;
 use nm_tree::{CloseError, CloseReason, Counts, Fit, Report, Tree, Worker};
 use std::alloc::{AllocError, Global};
 
-/// The tree of a header with its workers, which claim the lowest slot that they can, so that a
-/// script tells which slots it uses.
+/// Makes the tree of a header with its workers. They claim the lowest slot that they can, so that a
+/// script determines which slots it uses.
 pub(crate) fn open(alloc: Global, header: &Header) -> Result<(Tree, Vec<Worker>), RunFault>
-    ensures new { IfOk result (λ r. IsNewTree header.now.layout Lowest r.0 r.1.items) }
+    ensures new { IfOk result (λ r. IsNewTree header.now.layout FirstFit r.0 r.1.items) }
     ensures err { IfErr result (λ e. e ≡ RunFault.NoMemory) }
 {
-    match Tree::of(alloc, header.layout, Fit::Lowest) {
+    match Tree::of(alloc, header.layout, Fit::FirstFit) {
         Ok(opened) => Ok(opened),
         Err(_) => Err(RunFault::NoMemory),
     }
 }
 
-/// How many nodes wait in these queues.
+/// Returns how many nodes wait in these queues.
 fn queued_in(queues: &[HeldQueue]) -> u64
     requires { waiting_in queues.now < 2 ^ 64 }
     ensures { result ≡ waiting_in queues.now }
@@ -39,7 +39,7 @@ fn queued_in(queues: &[HeldQueue]) -> u64
     queued
 }
 
-/// Appends a line of each queue's worker, by what is counted of it, and takes all out of the
+/// Appends a line for the worker of each queue, with its counts, and takes all nodes out of the
 /// queues.
 fn put_workers(out: &mut Vec<u8>, queues: &mut [HeldQueue]) -> Result<(), AllocError>
     ensures { OnOk result (out.new.items ≡ out.old.items ++ worker_lines queues.old) }
@@ -58,7 +58,8 @@ fn put_workers(out: &mut Vec<u8>, queues: &mut [HeldQueue]) -> Result<(), AllocE
     put_workers(out, rest)
 }
 
-/// Appends the last lines: a line of each worker, the keys, and how many slots stand where.
+/// Appends the last lines: a line for each worker, the keys, and the numbers of slots in each
+/// place.
 fn put_report(out: &mut Vec<u8>, report: &mut Report) -> Result<(), AllocError>
     requires few { waiting_in report.old.queues.items < 2 ^ 64 }
     ensures { OnOk result (out.new.items
@@ -71,7 +72,7 @@ fn put_report(out: &mut Vec<u8>, report: &mut Report) -> Result<(), AllocError>
     put_closed_places(out, report.free, report.reached, queued)
 }
 
-/// Closes the tree of these workers, which stand for all that it has, and appends the last lines.
+/// Closes the tree and appends the last lines. The workers must cover all workers of the tree.
 pub(crate) fn put_end(out: &mut Vec<u8>, tree: Tree, workers: Vec<Worker>) -> Result<(), RunFault>
     requires own { All (λ w. IsOf tree w.pass) workers.items }
     requires whole { given_in workers.items ≡ tree.layout.workers }

@@ -19,8 +19,8 @@ pub(crate) enum Stop {
     NoMemory,
 }
 
-/// What lines are played by: the gate that lets each go on, the tree, how many tries a call has,
-/// and each call with its worker, of which a worker plays its own.
+/// What a worker needs to play its lines: the gate, the tree, the number of tries of a call, and
+/// all calls with their workers, of which it plays its own.
 #[derive(Drop)]
 pub(crate) struct Lines<'a, G: Gate> {
     pub(crate) gate: &'a G,
@@ -29,7 +29,7 @@ pub(crate) struct Lines<'a, G: Gate> {
     pub(crate) calls: &'a [(u32, ScriptCall)],
 }
 
-/// One line, once the gate lets the worker go on with it.
+/// Plays one line, if the gate lets the worker play it.
 fn play_line<G: Gate>(
     lines: &Lines<'_, G>,
     worker: &mut Worker,
@@ -56,7 +56,8 @@ fn play_line<G: Gate>(
     }
 }
 
-/// All lines of a worker, among those of a script. The second line of the file is the first one.
+/// Plays all lines of a worker, among those of a script. The first of these is the second line of
+/// the file.
 pub(crate) fn play_own<G: Gate>(
     alloc: Global,
     lines: &Lines<'_, G>,

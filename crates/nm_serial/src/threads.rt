@@ -1,4 +1,4 @@
-//! Each worker's lines in a thread of its own.
+//! Threads that each play the lines of one worker.
 ghost use Rattle.std.specs.Prelude.{◌≡◌, ◌≤◌, All, length, IfOk, IfErr};
 ghost use Rattle.nm_steps.specs.Steps.{IsOf};
 ghost use Rattle.nm_serial.specs.Makes.{IsOwnCall};
@@ -17,14 +17,14 @@ use std::sync::{RwLock, Wait};
 use std::thread;
 use std::thread::{Promise, PromisedHandle, Scope, Threads};
 
-/// A worker at the end of its lines, and what they were answered.
+/// A worker after its lines, with their answers.
 #[derive(Drop)]
 pub(crate) struct Played {
     pub(crate) worker: Worker,
     pub(crate) answers: Result<Vec<Answer>, Stop>,
 }
 
-/// What a thread promises of its worker, which was this one.
+/// What a thread promises about its worker, which was this one.
 #[derive(Drop)]
 struct PlaysAll<'a, G: Gate> {
     gate: &'a G,
@@ -41,7 +41,7 @@ impl<'a, G: Gate> Promise<Played> for PlaysAll<'a, G> {
         p.calls.now p.was.value r.worker r.answers };
 }
 
-/// All lines of a worker, which is handed back.
+/// Plays all lines of a worker, and returns the worker.
 fn play_all<G: Gate>(alloc: Global, lines: &Lines<'_, G>, mut worker: Worker) -> Played
     requires own { IsOf lines.now.tree.now worker.pass }
     requires plain { All (λ e. IsOwnCall e.1) lines.now.calls.now }
@@ -53,12 +53,12 @@ fn play_all<G: Gate>(alloc: Global, lines: &Lines<'_, G>, mut worker: Worker) ->
     Played { worker, answers }
 }
 
-/// Waits until the start is no longer held back.
+/// Waits until the threads may start.
 fn wait_for<R: Wait>(rt: &R, start: &RwLock<()>) {
     drop(start.read(rt));
 }
 
-/// Makes the thread of a worker, which plays its lines once the start is no longer held back.
+/// Makes the thread of a worker, which plays its lines when the threads may start.
 fn start_one<'s, R: Wait + Sync, E, G: Gate>(
     rt: &'s R,
     scope: &Scope<'s, E>,
@@ -111,9 +111,9 @@ fn start_one<'s, R: Wait + Sync, E, G: Gate>(
     }
 }
 
-/// Makes a thread for each worker, which all start together once the last is made, and waits for
-/// all of them, in the scope that they run in. Where one cannot be made, the others start as this
-/// returns.
+/// Makes a thread for each worker, and waits for all of them, in the scope in which they run. They
+/// all start together after the last one is made. If one cannot be made, the others start when this
+/// function returns.
 fn play_each<'s, R: Threads + Wait + Sync, E, G: Gate>(
     rt: &'s R,
     scope: &Scope<'s, E>,
@@ -143,8 +143,8 @@ fn play_each<'s, R: Threads + Wait + Sync, E, G: Gate>(
     }
 }
 
-/// Plays each worker's lines in a thread of its own. All threads have ended when it returns, also
-/// where one was refused.
+/// Plays the lines of each worker in a thread of its own. All threads have ended when it returns,
+/// even if one was refused.
 pub(crate) fn play_apart<R: Threads + Wait + Sync, G: Gate>(
     rt: &R,
     alloc: Global,

@@ -28,7 +28,7 @@ use Rattle.nm_tree.specs.declared.worker.Counts.{Counts}
 use Rattle.nm_tree.specs.Workers.{WorkerView, IsLedger, log_held_of}
 use Rattle.nm_tree.proofs.OwnQueue.{log_of_own}
 use Rattle.nm_tree.proofs.JoinsAlone.{told_in_part}
-use Rattle.nm_set.specs.declared.posting.Posted.{Posted}
+use Rattle.nm_set.specs.declared.posting.Stamp.{Stamp}
 use Rattle.nm_set.specs.Posts.{ComesBehind, HasHeardAll, HasHeardOf, HasTally, HasWonNothing, IsLetter, IsTallyOf, LettersAreInOrder, pending_by}
 
 -- ---- counts of a log
@@ -113,15 +113,15 @@ tally w c n seen l pends =
     }
 
 -- so what it has seen comes behind that
-pub behind_itself : (w : WorkerView) (t : Posted) → IsTallyOf w t → ComesBehind w.pass.view.number t w.pass.view.past
+pub behind_itself : (w : WorkerView) (t : Stamp) → IsTallyOf w t → ComesBehind w.pass.view.number t w.pass.view.past
 behind_itself w t has = record { before = w.pass.view.past; goes_on = goes_on_itself w.pass.view.past; tally = has }
 
 -- and what goes on from what comes behind it does too
-pub behind_still : (i : ℕ) (t : Posted) (later seen : List Turn) → Extends later seen → ComesBehind i t seen → ComesBehind i t later
+pub behind_still : (i : ℕ) (t : Stamp) (later seen : List Turn) → Extends later seen → ComesBehind i t seen → ComesBehind i t later
 behind_still i t later seen on c = record { before = c.before; goes_on = goes_on_through later seen c.before on c.goes_on; tally = c.tally }
 
 -- the note of a worker in its own mailbox, which is one of its tree
-pub own_letter : (b d : TreeView) (w : WorkerView) (i : ℕ) (t : Posted) (n : Notice) → d ≡ b → IsOf b w.pass → IsTallyOf w t → i ≡ w.pass.view.number
+pub own_letter : (b d : TreeView) (w : WorkerView) (i : ℕ) (t : Stamp) (n : Notice) → d ≡ b → IsOf b w.pass → IsTallyOf w t → i ≡ w.pass.view.number
     → n ≡ record { table = w.pass.table; past = w.pass.view.past } → IsLetter d i t n
 own_letter b d w i t n at of has number is =
     let told : ComesBehind i t w.pass.view.past = subst (λ (k : ℕ). ComesBehind k t w.pass.view.past) (sym number) (behind_itself w t has) in
@@ -129,14 +129,14 @@ own_letter b d w i t n at of has number is =
     subst (λ (x : TreeView). IsLetter x i t n) (sym at) letter
 
 -- the note of a worker that has heard a letter
-pub same_letter : (b d : TreeView) (p : PassView) (i : ℕ) (t : Posted) (heard n : Notice) → d ≡ b → IsOf b p → IsLetter d i t heard → Extends p.view.past heard.past
+pub same_letter : (b d : TreeView) (p : PassView) (i : ℕ) (t : Stamp) (heard n : Notice) → d ≡ b → IsOf b p → IsLetter d i t heard → Extends p.view.past heard.past
     → n ≡ record { table = p.table; past = p.view.past } → IsLetter d i t n
 same_letter b d p i t heard n at of letter on is =
     let table : p.table ≡ d.table = of.table ∙ ap (λ (x : TreeView). x.table) (sym at) in
     subst (λ (m : Notice). IsLetter d i t m) (sym is) (record { table = table; told = behind_still i t p.view.past heard.past on letter.told })
 
 -- what a worker has that has heard it
-pub heard_of : (b d : TreeView) (i : ℕ) (t : Posted) (w z : WorkerView) (heard : Notice) → d ≡ b → IsLetter d i t heard → HasHeard w.pass z.pass → HasSeenAllOf z.pass w.pass
+pub heard_of : (b d : TreeView) (i : ℕ) (t : Stamp) (w z : WorkerView) (heard : Notice) → d ≡ b → IsLetter d i t heard → HasHeard w.pass z.pass → HasSeenAllOf z.pass w.pass
     → Extends z.pass.view.past heard.past → z ≡ record w { pass = z.pass } → HasHeardOf b i t w z
 heard_of b d i t w z heard at letter same past on rest = record {
   same = same;
@@ -159,7 +159,7 @@ begins {X = X} (x ∷ xs) (y ∷ ys) us vs e less =
 
 -- who has counted no more by some turns than by a beginning of them has won nothing between, and
 -- nothing was pending then
-no_more : (i : ℕ) (p q : Posted) (told before more : List Turn) → told ≡ before ++ more → HasTally i p told → leaf_after i None told ≡ None → HasTally i q before → p.inserted ≤ q.inserted → p.removed ≤ q.removed
+no_more : (i : ℕ) (p q : Stamp) (told before more : List Turn) → told ≡ before ++ more → HasTally i p told → leaf_after i None told ≡ None → HasTally i q before → p.inserted ≤ q.inserted → p.removed ≤ q.removed
     → p.inserted < 18446744073709551615 → p.removed < 18446744073709551615 → HasWonNothing i more × (leaf_after i None before ≡ None)
 no_more i p q told before more are has rests had links flags few_links few_flags = (
   record {

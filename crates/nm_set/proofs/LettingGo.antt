@@ -15,7 +15,7 @@ use Rattle.nm_tree.specs.Workers.{WorkerView, IsAs, IsBetweenCalls}
 use Rattle.nm_tree.proofs.FlaggedSeen.{none_seen}
 use Rattle.nm_tree.specs.declared.resigning.ResignReason.{ResignReason as Reason}
 use Rattle.nm_tree.specs.declared.resigning.ResignReason.TheVariants as tree
-use Rattle.nm_set.specs.declared.posting.Posted.{Posted}
+use Rattle.nm_set.specs.declared.posting.Stamp.{Stamp}
 use Rattle.nm_set.specs.Posts.{IsTallyOf, pending_by}
 use Rattle.nm_set.specs.Seats.{IsLetGo}
 
@@ -30,7 +30,7 @@ held_rests p (Some n) (Some epoch) is held = absurd is
 held_rests p (Some n) None is held = absurd (true≢false (sym held))
 
 -- an unpin wins nothing
-pub done_before : (p : Posted) (w z : WorkerView) → HasSeen w.pass.view → HasSeen z.pass.view → IsBetweenCalls w → IsBetweenCalls z → IsLetGo w z → IsTallyOf z p → IsTallyOf w p
+pub done_before : (p : Stamp) (w z : WorkerView) → HasSeen w.pass.view → HasSeen z.pass.view → IsBetweenCalls w → IsBetweenCalls z → IsLetGo w z → IsTallyOf z p → IsTallyOf w p
 done_before p w z seen sees between stands (inl (free, is)) t = subst (λ (u : WorkerView). IsTallyOf u p) is t
 done_before p w z seen sees between stands (inr (held, left)) t =
     let adds = adds_these ((Leave, Departed) ∷ []) w.pass.view.log z.pass.view.log (ap (λ (q : PassView). q.view.log) left.step) in

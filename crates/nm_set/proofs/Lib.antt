@@ -8,5 +8,5 @@ pub mod Sending
 pub mod Inside
 pub mod Tending
 pub mod Emptied
-pub mod Disturbances
+pub mod Interferences
 pub mod PopRounds

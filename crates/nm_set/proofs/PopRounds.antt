@@ -17,7 +17,7 @@ use Rattle.nm_tree.specs.Workers.{WorkerView}
 use Rattle.nm_tree.proofs.Taking.{found_by, found_in, gives_up_at, key_found, moment_since, near_bound, none_found, scaled, told_at, was_so_since}
 use Rattle.nm_set.specs.declared.fault.Fault.{Fault}
 use Rattle.nm_set.specs.declared.fault.Fault.TheVariants as fault
-use Rattle.nm_set.specs.declared.tended.Habit.{Habit}
+use Rattle.nm_set.specs.declared.tended.Options.{Options}
 use Rattle.nm_set.specs.Tended.{FinishesPending, GoesOnTended, IsRetried, Tends, TendsDelete, round_bound}
 use Rattle.nm_set.specs.Popping.{AskedForEnd, IsEndedBy, PopLeft, PopsOnce, TendsPop, flags_told_by_pop, pop_busy, pop_rounds_bound}
 use Rattle.nm_set.proofs.Tending.{IsOnward, follows_then, retried_goes, goes_more, goes_then, keeps_in_a_row, lose_same, none_there, onward_itself, pending_tends, settled, wins_after}
@@ -33,7 +33,7 @@ asked_err : (end : End) (L : Layout) (t : ℕ) (w z : WorkerView) (lost : Lost) 
 asked_err First L t w z lost did = did.1
 asked_err Last L t w z lost did = did.1
 
-asked_held : {A : Type 0} (end : End) (L : Layout) (t : ℕ) (w z : WorkerView) → w.held ≡ None → AskedForEnd end L t w z (Err fault.Held) → A
+asked_held : {A : Type 0} (end : End) (L : Layout) (t : ℕ) (w z : WorkerView) → w.held ≡ None → AskedForEnd end L t w z (Err fault.Pinned) → A
 asked_held First L t w z free did = none_there w.held free did.0
 asked_held Last L t w z free did = none_there w.held free did.0
 
@@ -58,29 +58,29 @@ goes_found end L t w z l found =
 goes_asked_for : (end : End) (L : Layout) (t : ℕ) (w z : WorkerView) (r : Result (Option ℕ) Fault) → w.held ≡ None → AskedForEnd end L t w z r → GoesOnTended (round_bound t L) w z
 goes_asked_for end L t w z (Ok found) free did = goes_found end L t w z (Ok found) (asked_ok end L t w z found did)
 goes_asked_for end L t w z (Err (fault.Call lost)) free did = goes_found end L t w z (Err lost) (asked_err end L t w z lost did)
-goes_asked_for end L t w z (Err fault.Held) free did = asked_held end L t w z free did
+goes_asked_for end L t w z (Err fault.Pinned) free did = asked_held end L t w z free did
 
-tended : (b : TreeView) (h : Habit) (k : ℕ) (w z : WorkerView) (r : Result Bool Fault) → w.held ≡ None → TendsDelete b h k w z r → Tends b h Delete k w z r
+tended : (b : TreeView) (h : Options) (k : ℕ) (w z : WorkerView) (r : Result Bool Fault) → w.held ≡ None → TendsDelete b h k w z r → Tends b h Delete k w z r
 tended b h k w z r free (inl did) = none_there w.held free did.0
 tended b h k w z r free (inr did) = did.1.tends
 
 -- ---- one round
 
 -- the steps of one
-abbrev round_most : Habit → Layout → ℕ
+abbrev round_most : Options → Layout → ℕ
 round_most h L = (3 * h.rounds + 6) * round_bound h.tries L
 
-both : (h : Habit) (L : Layout) (w x z : WorkerView) → GoesOnTended (round_bound h.tries L) w x → GoesOnTended ((3 * h.rounds + 5) * round_bound h.tries L) x z → GoesOnTended (round_most h L) w z
+both : (h : Options) (L : Layout) (w x z : WorkerView) → GoesOnTended (round_bound h.tries L) w x → GoesOnTended ((3 * h.rounds + 5) * round_bound h.tries L) x z → GoesOnTended (round_most h L) w z
 both h L w x z first second =
     let more = suc-mul (3 * h.rounds + 5) (round_bound h.tries L) in
     goes_more (round_bound h.tries L + (3 * h.rounds + 5) * round_bound h.tries L) (round_most h L) w z (omega (arith, more)) (goes_then w x z first second)
 
-alone : (h : Habit) (L : Layout) (w z : WorkerView) → GoesOnTended (round_bound h.tries L) w z → GoesOnTended (round_most h L) w z
+alone : (h : Options) (L : Layout) (w z : WorkerView) → GoesOnTended (round_bound h.tries L) w z → GoesOnTended (round_most h L) w z
 alone h L w z a =
     let more = suc-mul (3 * h.rounds + 5) (round_bound h.tries L) in
     goes_more (round_bound h.tries L) (round_most h L) w z (omega (arith, more)) a
 
-once_goes : (end : End) (b : TreeView) (h : Habit) (w z : WorkerView) (r : Result (Option ℕ) Fault) → w.held ≡ None → PopsOnce end b h w z r → GoesOnTended (round_most h b.layout) w z
+once_goes : (end : End) (b : TreeView) (h : Options) (w z : WorkerView) (r : Result (Option ℕ) Fault) → w.held ≡ None → PopsOnce end b h w z r → GoesOnTended (round_most h b.layout) w z
 once_goes end b h w z (Ok None) free did = alone h b.layout w z (goes_asked_for end b.layout h.tries w z (Ok None) free did)
 once_goes end b h w z (Ok (Some key)) free (x, found, did) =
     let first = goes_asked_for end b.layout h.tries w x (Ok (Some key)) free found in
@@ -90,7 +90,7 @@ once_goes end b h w z (Err f) free (inr (x, key, told, found, did, ends)) =
     let first = goes_asked_for end b.layout h.tries w x (Ok (Some key)) free found in
     both h b.layout w x z first (tended b h key x z told first.held did).on
 
-module _ (end : End) (b : TreeView) (h : Habit) (w z : WorkerView) (none : w.pending ≡ None) (free : w.held ≡ None) where
+module _ (end : End) (b : TreeView) (h : Options) (w z : WorkerView) (none : w.pending ≡ None) (free : w.held ≡ None) where
   abbrev Says : Result (Option ℕ) Fault → Type 0
   Says r = TendsPop (comes_before end) (round_most h b.layout) w z r
 
@@ -118,7 +118,7 @@ module _ (end : End) (b : TreeView) (h : Habit) (w z : WorkerView) (none : w.pen
 
     -- or has not answered
     by_remove : (f : Fault) → Tends b h Delete key x z (Err f) → Says (Err f)
-    by_remove fault.Held t = record { took = tt; left = t.left; won = wins_after 0 0 w x z l.won t.won; on = on }
+    by_remove fault.Pinned t = record { took = tt; left = t.left; won = wins_after 0 0 w x z l.won t.won; on = on }
     by_remove (fault.Call call.Busy) t = record { took = tt; left = t.left; won = wins_after 0 0 w x z l.won t.won; on = on }
     by_remove (fault.Call call.Full) t = record { took = tt; left = t.left; won = wins_after 0 0 w x z l.won t.won; on = on }
     by_remove (fault.Call call.NoMemory) t = record { took = tt; left = t.left; won = wins_after 0 0 w x z l.won t.won; on = on }
@@ -146,7 +146,7 @@ module _ (end : End) (b : TreeView) (h : Habit) (w z : WorkerView) (none : w.pen
       by_key x key (asked_ok end b.layout h.tries w x (Some key) found) (once_goes end b h w z (Ok (Some key)) free (x, found, did)) (tended b h key x z (Ok true) first.held did)
   once_tends (Err (fault.Call lost)) (inl did) =
       by_near lost (once_goes end b h w z (Err (fault.Call lost)) free (inl did)) (found_by end b.layout h.tries w z (Err lost) (asked_err end b.layout h.tries w z lost did))
-  once_tends (Err fault.Held) (inl did) = asked_held end b.layout h.tries w z free did
+  once_tends (Err fault.Pinned) (inl did) = asked_held end b.layout h.tries w z free did
   once_tends (Err f) (inr (x, key, told, found, did, ends)) =
       let first = goes_asked_for end b.layout h.tries w x (Ok (Some key)) free found in
       by_told x key (asked_ok end b.layout h.tries w x (Some key) found) (once_goes end b h w z (Err f) free (inr (x, key, told, found, did, ends))) told f (tended b h key x z told first.held did) ends
@@ -164,7 +164,7 @@ took_since Before o p q (Err f) past t = tt
 
 left_since : (Before : ℕ → ℕ → Type 0) (o w z : WorkerView) (r : Result (Option ℕ) Fault) → HasSeenAllOf w.pass o.pass → w.pending ≡ None → PopLeft Before w z r → PopLeft Before o z r
 left_since Before o w z (Ok taken) past none left = left
-left_since Before o w z (Err fault.Held) past none left = left
+left_since Before o w z (Err fault.Pinned) past none left = left
 left_since Before o w z (Err (fault.Call call.Busy)) past none left = left
 left_since Before o w z (Err (fault.Call call.Full)) past none left = left
 left_since Before o w z (Err (fault.Call call.NoMemory)) past none left = left
@@ -172,12 +172,12 @@ left_since Before o w z (Err (fault.Call call.Pending)) past none left = none_th
 left_since Before o w z (Err (fault.Call call.Unfinished)) past none (n, is, key, was, missing) =
     (n, is, key, was_so_since o.pass w.pass z.pass n.key true past was, λ j is_key before. was_so_since o.pass w.pass z.pass j false past (missing j is_key before))
 
-onward_pop : (end : End) (b : TreeView) (h : Habit) (w x y : WorkerView) → IsOnward w x → PopsOnce end b h x y pop_busy → IsOnward w y
+onward_pop : (end : End) (b : TreeView) (h : Options) (w x y : WorkerView) → IsOnward w x → PopsOnce end b h x y pop_busy → IsOnward w y
 onward_pop end b h w x y on did =
     let t = once_tends end b h x y on.none on.free pop_busy did in
     record { none = t.left; free = t.on.held; follows = follows_then w.pass x.pass y.pass on.follows (record { same = t.on.same; past = t.on.past }); won = wins_after 0 0 w x y on.won t.won }
 
-pub pops_tend : (end : End) (b : TreeView) (h : Habit) (w x z : WorkerView) (answer : Bool) (r : Result (Option ℕ) Fault) → w.held ≡ None → FinishesPending b h w x (Ok answer) → IsRetried (PopsOnce end b h) pop_busy h.rounds x z r
+pub pops_tend : (end : End) (b : TreeView) (h : Options) (w x z : WorkerView) (answer : Bool) (r : Result (Option ℕ) Fault) → w.held ≡ None → FinishesPending b h w x (Ok answer) → IsRetried (PopsOnce end b h) pop_busy h.rounds x z r
     → TendsPop (comes_before end) (pop_rounds_bound h b.layout) w z r
 pops_tend end b h w x z answer r free f a =
     let at = settled b h w x answer free f in
@@ -198,7 +198,7 @@ pops_tend end b h w x z answer r free f a =
     }
 
 -- where the delete of an earlier call is not finished, nothing else is done
-pub pending_pop : (end : End) (b : TreeView) (h : Habit) (w z : WorkerView) (lost : Lost) → w.held ≡ None → FinishesPending b h w z (Err lost)
+pub pending_pop : (end : End) (b : TreeView) (h : Options) (w z : WorkerView) (lost : Lost) → w.held ≡ None → FinishesPending b h w z (Err lost)
     → FinishesPending b h w z (Err call.Unfinished) × TendsPop (comes_before end) (pop_rounds_bound h b.layout) w z (Err (fault.Call call.Pending))
 pending_pop end b h w z lost free f =
     let told = pending_tends b h Has 0 w z lost free f in

@@ -123,7 +123,7 @@ gathered_with m site w all t tree fit mine begins is own =
     fits = ap (λ (f : Fit). record { tree = m.tree; fit = f; closing = false; kept = m.worker ∷ [] }) (sym fit)
 
 -- and of one that is as it was
-pub as_before : (s t : SetView) (site : Site) (kept : List WorkerView) → open_set site kept ≡ s → t ≡ open_set site kept → (why : CloseReason) → why ≡ because.Away → IsLeftOpen s why t
+pub as_before : (s t : SetView) (site : Site) (kept : List WorkerView) → open_set site kept ≡ s → t ≡ open_set site kept → (why : CloseReason) → why ≡ because.Attached → IsLeftOpen s why t
 as_before s t site kept is same why e = subst (λ (w : CloseReason). IsLeftOpen s w t) (sym e) (ap (λ (u : SetView). u.closing) (sym is), same ∙ is)
 
 -- ---- from one clause to another

@@ -42,7 +42,7 @@ use Rattle.nm_set.specs.declared.fault.Fault.TheVariants as fault
 use Rattle.nm_set.specs.declared.fault.Fullness.{Fullness}
 use Rattle.nm_set.specs.declared.fault.InsertFault.{InsertFault}
 use Rattle.nm_set.specs.declared.fault.InsertFault.TheVariants as inserting
-use Rattle.nm_set.specs.declared.tended.Habit.{Habit}
+use Rattle.nm_set.specs.declared.tended.Options.{Options}
 use Rattle.nm_tree.specs.Calls.{LeavesHas, LeavesInsert, LeavesDelete, LeavesFinish, LeavesAdvance, LeavesCollect}
 use Rattle.nm_set.specs.Asked.{Asked}
 use Rattle.nm_set.specs.Tended.{OnlyLoses, OthersOnlyLose, GoesOnTended, InARow, IsRetried, busy, Leaves, Retries, FinishesPending, IsRelieved, IsTidied, RetriesInsert, InsertsTended, of_insert, plain, with_fullness, HasReadSince, WasElsewhere, WasMovedOn, of_finish, RetriesDelete, IsLeft, links_told_by, flags_told_by, round_bound, WasFull, Tends, TendsHas, TendsInsert, TendsDelete, IsTidy, IsMadeTidy, MakesTidy, HasTended, UnlessHeld, SaysTended}
@@ -245,7 +245,7 @@ keeps_in_a_row P step each (suc n) w z at (m, row, made) = each m z (keeps_in_a_
 asked_free : (leaves : WorkerView → WorkerView → Result Bool Lost → Type 0) (w z : WorkerView) (r : Result Bool Fault) → w.held ≡ None → Asked leaves w z r → (l : Result Bool Lost) × leaves w z l × (r ≡ of_finish l)
 asked_free leaves w z (Ok answer) free did = (Ok answer, did.1, refl)
 asked_free leaves w z (Err (fault.Call lost)) free did = (Err lost, did.1, refl)
-asked_free leaves w z (Err fault.Held) free did = none_there w.held free did.0
+asked_free leaves w z (Err fault.Pinned) free did = none_there w.held free did.0
 
 -- ---- moments
 
@@ -293,18 +293,18 @@ finish_err L t w z call.Full l = absurd l.says.told
 finish_err L t w z call.NoMemory l = absurd l.says.told
 finish_err L t w z call.Pending l = absurd l.says.told
 
-pub finishes_err : (b : TreeView) (h : Habit) (w z : WorkerView) (lost : Lost) → FinishesPending b h w z (Err lost) → lost ≡ call.Unfinished
+pub finishes_err : (b : TreeView) (h : Options) (w z : WorkerView) (lost : Lost) → FinishesPending b h w z (Err lost) → lost ≡ call.Unfinished
 finishes_err b h w z lost f = finish_err b.layout h.tries f.begun z lost f.last
 
 -- what was pending is so where the last finish begins
-pends : (b : TreeView) (h : Habit) (w z : WorkerView) (r : Result Bool Lost) (f : FinishesPending b h w z r) → f.begun.pending ≡ w.pending
+pends : (b : TreeView) (h : Options) (w z : WorkerView) (r : Result Bool Lost) (f : FinishesPending b h w z r) → f.begun.pending ≡ w.pending
 pends b h w z r f = keeps_in_a_row (λ (x : WorkerView). x.pending ≡ w.pending) (λ x y. LeavesFinish b.layout h.tries x y (Err call.Unfinished)) (λ x y at made. still b.layout h.tries x y made ∙ at) f.before w f.begun refl f.each
 
 finished : (L : Layout) (t : ℕ) (w z : WorkerView) (answer : Bool) → LeavesFinish L t w z (Ok answer) → z.pending ≡ None
 finished L t w z true l = l.says.told.1
 finished L t w z false l = ap (λ (y : WorkerView). y.pending) l.says.told.1 ∙ l.says.told.0
 
-pub goes_finishes : (b : TreeView) (h : Habit) (w z : WorkerView) (r : Result Bool Lost) → w.held ≡ None → FinishesPending b h w z r → GoesOnTended (suc h.rounds * round_bound h.tries b.layout) w z
+pub goes_finishes : (b : TreeView) (h : Options) (w z : WorkerView) (r : Result Bool Lost) → w.held ≡ None → FinishesPending b h w z r → GoesOnTended (suc h.rounds * round_bound h.tries b.layout) w z
 goes_finishes b h w z r free f = retried_goes (LeavesFinish b.layout h.tries) (Err call.Unfinished) (round_bound h.tries b.layout) (λ x y q held made. goes_finish b.layout h.tries x y q held made) h.rounds w z r free f
 
 -- ---- what is won
@@ -351,7 +351,7 @@ tidied_wins : (b : TreeView) (many : ℕ) (w z : WorkerView) → IsTidied b many
 tidied_wins b many w z (inl did) = relieved_wins b w z did.1
 tidied_wins b many w z (inr did) = subst (λ (y : WorkerView). Wins w y 0 0) (sym did.1) (wins_nothing w)
 
-finishes_wins : (b : TreeView) (h : Habit) (w z : WorkerView) (r : Result Bool Lost) → FinishesPending b h w z r → Wins w z 0 0
+finishes_wins : (b : TreeView) (h : Options) (w z : WorkerView) (r : Result Bool Lost) → FinishesPending b h w z r → Wins w z 0 0
 finishes_wins b h w z r f =
     let before = keeps_in_a_row (λ (x : WorkerView). Wins w x 0 0) (λ x y. LeavesFinish b.layout h.tries x y (Err call.Unfinished)) (λ x y at made. wins_after 0 0 w x y at made.says.won) f.before w f.begun (wins_nothing w) f.each in
     wins_after 0 0 w f.begun z before f.last.says.won
@@ -421,7 +421,7 @@ called Delete L t k w z l did = record {
   };
 }
 
-pub calls_go : (op : Op) (b : TreeView) (h : Habit) (k : ℕ) (w z : WorkerView) (r : Result Bool Fault) → w.held ≡ None → Retries (Leaves op) b h k w z r → GoesOnTended (suc h.rounds * round_bound h.tries b.layout) w z
+pub calls_go : (op : Op) (b : TreeView) (h : Options) (k : ℕ) (w z : WorkerView) (r : Result Bool Fault) → w.held ≡ None → Retries (Leaves op) b h k w z r → GoesOnTended (suc h.rounds * round_bound h.tries b.layout) w z
 calls_go op b h k w z r free a = retried_goes (Asked (Leaves op b.layout h.tries k)) busy (round_bound h.tries b.layout) each h.rounds w z r free a
   where
     each : (x y : WorkerView) (q : Result Bool Fault) → x.held ≡ None → Asked (Leaves op b.layout h.tries k) x y q → GoesOnTended (round_bound h.tries b.layout) x y
@@ -450,7 +450,7 @@ onward op L t k w x y on did =
     record { none = c.left w on.none; free = c.on.held; follows = follows_then w.pass x.pass y.pass on.follows (record { same = c.on.same; past = c.on.past }); won = wins_after 0 0 w x y on.won (busy_wins op x y c.won) }
 
 -- so it is where the last of them begins
-begun : (op : Op) (b : TreeView) (h : Habit) (k : ℕ) (w z : WorkerView) (r : Result Bool Fault) → w.pending ≡ None → w.held ≡ None → (a : Retries (Leaves op) b h k w z r) → IsOnward w a.begun
+begun : (op : Op) (b : TreeView) (h : Options) (k : ℕ) (w z : WorkerView) (r : Result Bool Fault) → w.pending ≡ None → w.held ≡ None → (a : Retries (Leaves op) b h k w z r) → IsOnward w a.begun
 begun op b h k w z r none free a = keeps_in_a_row (IsOnward w) (λ x y. Asked (Leaves op b.layout h.tries k) x y busy) (λ x y on did. onward op b.layout h.tries k w x y on did) a.before w a.begun (onward_itself w none free) a.each
 
 -- ---- what is told last
@@ -461,7 +461,7 @@ record IsTold (op : Op) (k : ℕ) (o z : WorkerView) (r : Result Bool Fault) : T
   left : IsLeft k o z r
   won : Wins o z (links_told_by op r) (flags_told_by op r)
 
-retries_told : (op : Op) (b : TreeView) (h : Habit) (k : ℕ) (o w z : WorkerView) (r : Result Bool Fault) → HasSeenAllOf w.pass o.pass → Wins o w 0 0 → w.pending ≡ None → w.held ≡ None → Retries (Leaves op) b h k w z r → IsTold op k o z r
+retries_told : (op : Op) (b : TreeView) (h : Options) (k : ℕ) (o w z : WorkerView) (r : Result Bool Fault) → HasSeenAllOf w.pass o.pass → Wins o w 0 0 → w.pending ≡ None → w.held ≡ None → Retries (Leaves op) b h k w z r → IsTold op k o z r
 retries_told op b h k o w z r past won none free a =
     let x = a.begun in
     let on = begun op b h k w z r none free a in
@@ -474,7 +474,7 @@ retries_told op b h k o w z r past won none free a =
     })
 
 -- a delete that is finished: y is where it began, with no call, and x where its leaf was flagged
-finish_told : (b : TreeView) (h : Habit) (k : ℕ) (leaf : NodeId) (o y x z : WorkerView) (f : Result Bool Lost) → HasSeenAllOf y.pass o.pass → Wins o x 0 1 → HadNoCall y.pass x.pass → x.pending ≡ Some (record { key = k; leaf = leaf }) → FinishesPending b h x z f → IsTold Delete k o z (of_finish f)
+finish_told : (b : TreeView) (h : Options) (k : ℕ) (leaf : NodeId) (o y x z : WorkerView) (f : Result Bool Lost) → HasSeenAllOf y.pass o.pass → Wins o x 0 1 → HadNoCall y.pass x.pass → x.pending ≡ Some (record { key = k; leaf = leaf }) → FinishesPending b h x z f → IsTold Delete k o z (of_finish f)
 finish_told b h k leaf o y x z (Ok true) past won had is a =
     let mine : Unfinished = record { key = k; leaf = leaf } in
     let follows = follow_in_a_row (λ p q. LeavesFinish b.layout h.tries p q (Err call.Unfinished)) (λ p q made. record { same = made.says.same; past = made.says.past }) a.before x a.begun a.each in
@@ -521,7 +521,7 @@ wins_pending Insert w z won = won
 wins_pending Delete w z won = won
 
 -- where the delete of an earlier call is not finished, nothing else is done
-pub pending_tends : (b : TreeView) (h : Habit) (op : Op) (k : ℕ) (w z : WorkerView) (lost : Lost) → w.held ≡ None → FinishesPending b h w z (Err lost) → FinishesPending b h w z (Err call.Unfinished) × Tends b h op k w z (Err (fault.Call call.Pending))
+pub pending_tends : (b : TreeView) (h : Options) (op : Op) (k : ℕ) (w z : WorkerView) (lost : Lost) → w.held ≡ None → FinishesPending b h w z (Err lost) → FinishesPending b h w z (Err call.Unfinished) × Tends b h op k w z (Err (fault.Call call.Pending))
 pending_tends b h op k w z lost free f =
     let unfinished = finishes_err b h w z lost f in
     let told = subst (λ (e : Lost). FinishesPending b h w z (Err e)) unfinished f in
@@ -530,15 +530,15 @@ pending_tends b h op k w z lost free f =
     (told, record { moment = tt; full = λ is. absurd (not_full_but call.Pending (λ e. cc) is); left = (there, kept); won = wins_pending op w z (finishes_wins b h w z (Err call.Unfinished) told); on = in_all h.rounds (suc h.rounds) (round_bound h.tries b.layout) w z (omega arith) (goes_finishes b h w z (Err call.Unfinished) free told) })
 
 -- what stands behind the finish of an earlier call's delete
-pub record IsSettled (b : TreeView) (h : Habit) (w x : WorkerView) : Type 0 where
+pub record IsSettled (b : TreeView) (h : Options) (w x : WorkerView) : Type 0 where
   pub none : x.pending ≡ None
   pub won : Wins w x 0 0
   pub on : GoesOnTended (suc h.rounds * round_bound h.tries b.layout) w x
 
-pub settled : (b : TreeView) (h : Habit) (w x : WorkerView) (answer : Bool) → w.held ≡ None → FinishesPending b h w x (Ok answer) → IsSettled b h w x
+pub settled : (b : TreeView) (h : Options) (w x : WorkerView) (answer : Bool) → w.held ≡ None → FinishesPending b h w x (Ok answer) → IsSettled b h w x
 settled b h w x answer free f = record { none = finished b.layout h.tries f.begun x answer f.last; won = finishes_wins b h w x (Ok answer) f; on = goes_finishes b h w x (Ok answer) free f }
 
-contains_tends : (b : TreeView) (h : Habit) (k : ℕ) (w x z : WorkerView) (answer : Bool) (r : Result Bool Fault) → w.held ≡ None → FinishesPending b h w x (Ok answer) → Retries LeavesHas b h k x z r → Tends b h Has k w z r
+contains_tends : (b : TreeView) (h : Options) (k : ℕ) (w x z : WorkerView) (answer : Bool) (r : Result Bool Fault) → w.held ≡ None → FinishesPending b h w x (Ok answer) → Retries LeavesHas b h k x z r → Tends b h Has k w z r
 contains_tends b h k w x z answer r free f looks =
     let at = settled b h w x answer free f in
     let most = round_bound h.tries b.layout in
@@ -552,7 +552,7 @@ contains_tends b h k w x z answer r free f looks =
     }
 
 -- the same behind a collection that was due
-pub record IsReady (b : TreeView) (h : Habit) (w y : WorkerView) : Type 0 where
+pub record IsReady (b : TreeView) (h : Options) (w y : WorkerView) : Type 0 where
   pub none : y.pending ≡ None
   pub won : Wins w y 0 0
   pub on : GoesOnTended ((suc h.rounds + 1) * round_bound h.tries b.layout) w y
@@ -564,7 +564,7 @@ tidied_place : (b : TreeView) (many : ℕ) (w z : WorkerView) → IsTidied b man
 tidied_place b many w z (inl did) = relieved_place b w z did.1
 tidied_place b many w z (inr did) = ap (λ (y : WorkerView). y.pending) did.1
 
-pub ready : (b : TreeView) (h : Habit) (w y : WorkerView) → IsMadeTidy b h w y → IsReady b h w y
+pub ready : (b : TreeView) (h : Options) (w y : WorkerView) → IsMadeTidy b h w y → IsReady b h w y
 ready b h w y m =
     let at = settled b h w m.between m.answer m.free m.finished in
     let most = round_bound h.tries b.layout in
@@ -581,7 +581,7 @@ plain_told (Err f) = refl
 
 pub fullness_told : (behind : Option ℕ) (n : ℕ) (t : Result Bool Fault) → of_insert (with_fullness behind n t) ≡ t
 fullness_told behind n (Ok answer) = refl
-fullness_told behind n (Err fault.Held) = refl
+fullness_told behind n (Err fault.Pinned) = refl
 fullness_told behind n (Err (fault.Call call.Full)) = refl
 fullness_told behind n (Err (fault.Call call.Busy)) = refl
 fullness_told behind n (Err (fault.Call call.NoMemory)) = refl
@@ -589,7 +589,7 @@ fullness_told behind n (Err (fault.Call call.Unfinished)) = refl
 fullness_told behind n (Err (fault.Call call.Pending)) = refl
 
 -- an insert, and one more behind a collection
-insert_retried : (b : TreeView) (h : Habit) (k : ℕ) (o w z : WorkerView) (r : Result Bool InsertFault) → HasSeenAllOf w.pass o.pass → Wins o w 0 0 → w.pending ≡ None → w.held ≡ None → RetriesInsert b h k w z r → IsTold Insert k o z (of_insert r) × GoesOnTended ((suc h.rounds + 1 + suc h.rounds) * round_bound h.tries b.layout) w z
+insert_retried : (b : TreeView) (h : Options) (k : ℕ) (o w z : WorkerView) (r : Result Bool InsertFault) → HasSeenAllOf w.pass o.pass → Wins o w 0 0 → w.pending ≡ None → w.held ≡ None → RetriesInsert b h k w z r → IsTold Insert k o z (of_insert r) × GoesOnTended ((suc h.rounds + 1 + suc h.rounds) * round_bound h.tries b.layout) w z
 insert_retried b h k o w z r past won none free (inl (t, did, known, is)) =
     let most = round_bound h.tries b.layout in
     (subst (λ (q : Result Bool Fault). IsTold Insert k o z q) (sym (ap of_insert is ∙ plain_told t)) (retries_told Insert b h k o w z t past won none free did), goes_more (suc h.rounds * most) ((suc h.rounds + 1 + suc h.rounds) * most) w z (mul-le-mul_right most (omega arith)) (calls_go Insert b h k w z t free did))
@@ -651,7 +651,7 @@ module _ (o p q z : PassView) (first : Follows o p) (last : Follows q z) where
   }
 
 -- what it tells of that, where it was full
-inserts_full : (b : TreeView) (h : Habit) (k : ℕ) (o w z : WorkerView) (r : Result Bool InsertFault) → Follows o.pass w.pass → w.held ≡ None → RetriesInsert b h k w z r → of_insert r ≡ Err (fault.Call call.Full) → (f : Fullness) × (r ≡ Err (inserting.Full f)) × WasFull o z f
+inserts_full : (b : TreeView) (h : Options) (k : ℕ) (o w z : WorkerView) (r : Result Bool InsertFault) → Follows o.pass w.pass → w.held ≡ None → RetriesInsert b h k w z r → of_insert r ≡ Err (fault.Call call.Full) → (f : Fullness) × (r ≡ Err (inserting.Full f)) × WasFull o z f
 inserts_full b h k o w z r past free (inl (t, did, known, is)) full = absurd (known (sym (ap of_insert is ∙ plain_told t) ∙ full))
 inserts_full b h k o w z r past free (inr (x, y, behind, t, first, found, once_more, is)) full =
     let before = calls_go Insert b h k w x (Err (fault.Call call.Full)) free first in
@@ -673,7 +673,7 @@ inserts_full b h k o w z r past free (inr (x, y, behind, t, first, found, once_m
       },
     )
 
-adds_tend : (b : TreeView) (h : Habit) (k : ℕ) (w y z : WorkerView) (r : Result Bool InsertFault) → IsMadeTidy b h w y → RetriesInsert b h k y z r → Tends b h Insert k w z (of_insert r)
+adds_tend : (b : TreeView) (h : Options) (k : ℕ) (w y z : WorkerView) (r : Result Bool InsertFault) → IsMadeTidy b h w y → RetriesInsert b h k y z r → Tends b h Insert k w z (of_insert r)
 adds_tend b h k w y z r made did =
     let at = ready b h w y made in
     let most = round_bound h.tries b.layout in
@@ -687,10 +687,10 @@ adds_tend b h k w y z r made did =
     }
 
 -- what an insert tells that was full
-pub full_told : (b : TreeView) (h : Habit) (k : ℕ) (w z : WorkerView) (f : Fullness) → TendsInsert b h k w z (Err (inserting.Full f)) → WasFull w z f
+pub full_told : (b : TreeView) (h : Options) (k : ℕ) (w z : WorkerView) (f : Fullness) → TendsInsert b h k w z (Err (inserting.Full f)) → WasFull w z f
 full_told b h k w z f (inl held) = absurd (differ held.1)
   where
-    differ : ◌≡◌ {A = Result Bool Fault} (Err (fault.Call call.Full)) (Err fault.Held) → ⊥
+    differ : ◌≡◌ {A = Result Bool Fault} (Err (fault.Call call.Full)) (Err fault.Pinned) → ⊥
     differ e = cc
 full_told b h k w z f (inr (free, t)) = by t.did
   where
@@ -705,7 +705,7 @@ full_told b h k w z f (inr (free, t)) = by t.did
         subst (WasFull w z) (same found.0 found.1) found.2
 
 -- a delete, and what is left to do of it
-delete_retried : (b : TreeView) (h : Habit) (k : ℕ) (o w z : WorkerView) (r : Result Bool Fault) → HasSeenAllOf w.pass o.pass → Wins o w 0 0 → IsIdle w → w.pending ≡ None → w.held ≡ None → RetriesDelete b h k w z r → IsTold Delete k o z r × GoesOnTended ((suc h.rounds + suc h.rounds) * round_bound h.tries b.layout) w z
+delete_retried : (b : TreeView) (h : Options) (k : ℕ) (o w z : WorkerView) (r : Result Bool Fault) → HasSeenAllOf w.pass o.pass → Wins o w 0 0 → IsIdle w → w.pending ≡ None → w.held ≡ None → RetriesDelete b h k w z r → IsTold Delete k o z r × GoesOnTended ((suc h.rounds + suc h.rounds) * round_bound h.tries b.layout) w z
 delete_retried b h k o w z r past won idle none free (inl (did, known)) =
     let most = round_bound h.tries b.layout in
     (retries_told Delete b h k o w z r past won none free did, goes_more (suc h.rounds * most) ((suc h.rounds + suc h.rounds) * most) w z (mul-le-mul_right most (omega arith)) (calls_go Delete b h k w z r free did))
@@ -718,7 +718,7 @@ delete_retried b h k o w z r past won idle none free (inr (x, f, first, rest, is
     (subst (λ (q : Result Bool Fault). IsTold Delete k o z q) (sym is) told, rounds_then (suc h.rounds) (suc h.rounds) most w x z before (goes_finishes b h x z f before.held rest))
 
 -- a delete asks for no slot
-deletes_never_full : (b : TreeView) (h : Habit) (k : ℕ) (w z : WorkerView) (r : Result Bool Fault) → RetriesDelete b h k w z r → r ≡ Err (fault.Call call.Full) → ⊥
+deletes_never_full : (b : TreeView) (h : Options) (k : ℕ) (w z : WorkerView) (r : Result Bool Fault) → RetriesDelete b h k w z r → r ≡ Err (fault.Call call.Full) → ⊥
 deletes_never_full b h k w z r (inl (did, known)) is = absurd (subst (Asked (LeavesDelete b.layout h.tries k) did.begun z) is did.last).1.says.told
 deletes_never_full b h k w z r (inr (x, f, first, rest, told)) is = by f rest (sym told ∙ is)
   where
@@ -729,7 +729,7 @@ deletes_never_full b h k w z r (inr (x, f, first, rest, told)) is = by f rest (s
         unlike : call.Unfinished ≡ call.Full → ⊥
         unlike i = cc
 
-removes_tend : (b : TreeView) (h : Habit) (k : ℕ) (w y z : WorkerView) (r : Result Bool Fault) → IsMadeTidy b h w y → IsIdle y → RetriesDelete b h k y z r → Tends b h Delete k w z r
+removes_tend : (b : TreeView) (h : Options) (k : ℕ) (w y z : WorkerView) (r : Result Bool Fault) → IsMadeTidy b h w y → IsIdle y → RetriesDelete b h k y z r → Tends b h Delete k w z r
 removes_tend b h k w y z r made idle did =
     let at = ready b h w y made in
     let most = round_bound h.tries b.layout in
@@ -745,42 +745,42 @@ removes_tend b h k w y z r made idle did =
 -- ---- where nothing is to be done first
 
 -- where nothing is pending, there is nothing to finish
-pub finishes_nothing : (b : TreeView) (h : Habit) (w : WorkerView) → w.pending ≡ None → FinishesPending b h w w (Ok false)
+pub finishes_nothing : (b : TreeView) (h : Options) (w : WorkerView) → w.pending ≡ None → FinishesPending b h w w (Ok false)
 finishes_nothing b h w none = not_retried (LeavesFinish b.layout h.tries) (Err call.Unfinished) h.rounds w w (Ok false) (finishes_none b.layout h.tries w none) (λ e. absurd (differ e))
   where
     differ : ◌≡◌ {A = Result Bool Lost} (Ok false) (Err call.Unfinished) → ⊥
     differ e = cc
 
 -- then it is tidy without it
-pub was_tidy : (b : TreeView) (h : Habit) (w : WorkerView) → IsTidy h w → IsMadeTidy b h w w
+pub was_tidy : (b : TreeView) (h : Options) (w : WorkerView) → IsTidy h w → IsMadeTidy b h w w
 was_tidy b h w tidy = record { free = tidy.free; answer = false; between = w; finished = finishes_nothing b h w tidy.none; tidied = inr (tidy.few, refl) }
 
 -- a call that has answered at once
-pub answered : (op : Op) (b : TreeView) (h : Habit) (k : ℕ) (w z : WorkerView) (answer : Bool) → Asked (Leaves op b.layout h.tries k) w z (Ok answer) → Retries (Leaves op) b h k w z (Ok answer)
+pub answered : (op : Op) (b : TreeView) (h : Options) (k : ℕ) (w z : WorkerView) (answer : Bool) → Asked (Leaves op b.layout h.tries k) w z (Ok answer) → Retries (Leaves op) b h k w z (Ok answer)
 answered op b h k w z answer did = not_retried (Asked (Leaves op b.layout h.tries k)) busy h.rounds w z (Ok answer) did (λ e. is_no_fault _ _ e)
 
-pub insert_answered : (b : TreeView) (h : Habit) (k : ℕ) (w z : WorkerView) (answer : Bool) → Asked (LeavesInsert b.layout h.tries k) w z (Ok answer) → RetriesInsert b h k w z (Ok answer)
+pub insert_answered : (b : TreeView) (h : Options) (k : ℕ) (w z : WorkerView) (answer : Bool) → Asked (LeavesInsert b.layout h.tries k) w z (Ok answer) → RetriesInsert b h k w z (Ok answer)
 insert_answered b h k w z answer did = inl (Ok answer, answered Insert b h k w z answer did, λ e. is_no_fault _ _ e, refl)
 
-pub delete_answered : (b : TreeView) (h : Habit) (k : ℕ) (w z : WorkerView) (answer : Bool) → Asked (LeavesDelete b.layout h.tries k) w z (Ok answer) → RetriesDelete b h k w z (Ok answer)
+pub delete_answered : (b : TreeView) (h : Options) (k : ℕ) (w z : WorkerView) (answer : Bool) → Asked (LeavesDelete b.layout h.tries k) w z (Ok answer) → RetriesDelete b h k w z (Ok answer)
 delete_answered b h k w z answer did = inl (answered Delete b h k w z answer did, λ e. is_no_fault _ _ e)
 
 -- what was finished first, and then looked up
-pub looks_tend : (b : TreeView) (h : Habit) (k : ℕ) (w x z : WorkerView) (answer : Bool) (r : Result Bool Fault) → w.held ≡ None → FinishesPending b h w x (Ok answer) → Retries LeavesHas b h k x z r → TendsHas b h k w z r
+pub looks_tend : (b : TreeView) (h : Options) (k : ℕ) (w x z : WorkerView) (answer : Bool) (r : Result Bool Fault) → w.held ≡ None → FinishesPending b h w x (Ok answer) → Retries LeavesHas b h k x z r → TendsHas b h k w z r
 looks_tend b h k w x z answer r free finished looks =
     inr (free, record { did = inr (answer, x, finished, looks); tends = contains_tends b h k w x z answer r free finished looks })
 
 -- what was made tidy, and then inserted or deleted
-pub inserts_tend : (b : TreeView) (h : Habit) (k : ℕ) (w y z : WorkerView) (r : Result Bool InsertFault) → IsMadeTidy b h w y → RetriesInsert b h k y z r → TendsInsert b h k w z r
+pub inserts_tend : (b : TreeView) (h : Options) (k : ℕ) (w y z : WorkerView) (r : Result Bool InsertFault) → IsMadeTidy b h w y → RetriesInsert b h k y z r → TendsInsert b h k w z r
 inserts_tend b h k w y z r made did =
     inr (made.free, record { did = inr (made.answer, made.between, made.finished, (y, made.tidied, did)); tends = adds_tend b h k w y z r made did })
 
-pub deletes_tend : (b : TreeView) (h : Habit) (k : ℕ) (w y z : WorkerView) (r : Result Bool Fault) → IsMadeTidy b h w y → IsIdle y → RetriesDelete b h k y z r → TendsDelete b h k w z r
+pub deletes_tend : (b : TreeView) (h : Options) (k : ℕ) (w y z : WorkerView) (r : Result Bool Fault) → IsMadeTidy b h w y → IsIdle y → RetriesDelete b h k y z r → TendsDelete b h k w z r
 deletes_tend b h k w y z r made idle did =
     inr (made.free, record { did = inr (made.answer, made.between, made.finished, (y, made.tidied, did)); tends = removes_tend b h k w y z r made idle did })
 
 -- and what is told where it was not made tidy
-pub not_tidied : (does : WorkerView → WorkerView → Result Bool Fault → Type 0) (b : TreeView) (h : Habit) (op : Op) (k : ℕ) (w z : WorkerView) (f : Fault) → (FinishesPending b h w z (Err call.Unfinished) → f ≡ fault.Call call.Pending → does w z (Err f))
+pub not_tidied : (does : WorkerView → WorkerView → Result Bool Fault → Type 0) (b : TreeView) (h : Options) (op : Op) (k : ℕ) (w z : WorkerView) (f : Fault) → (FinishesPending b h w z (Err call.Unfinished) → f ≡ fault.Call call.Pending → does w z (Err f))
     → MakesTidy b h w z (Err f) → UnlessHeld {A = Bool} (HasTended does b h op k w z (Err f)) w z (Err f)
 not_tidied does b h op k w z f pending (inl held) = inl (held.0, ap (λ (g : Fault). Err g) held.1, held.2)
 not_tidied does b h op k w z f pending (inr (free, unfinished, is)) =
@@ -789,7 +789,7 @@ not_tidied does b h op k w z f pending (inr (free, unfinished, is)) =
 -- ---- what a caller has
 
 -- of what was done and said, what was said
-pub said : {does : WorkerView → WorkerView → Result Bool Fault → Type 0} (b : TreeView) (h : Habit) (op : Op) (k : ℕ) (w z : WorkerView) (r : Result Bool Fault) → UnlessHeld (HasTended does b h op k w z r) w z r → SaysTended op b h k w z r
+pub said : {does : WorkerView → WorkerView → Result Bool Fault → Type 0} (b : TreeView) (h : Options) (op : Op) (k : ℕ) (w z : WorkerView) (r : Result Bool Fault) → UnlessHeld (HasTended does b h op k w z r) w z r → SaysTended op b h k w z r
 said b h op k w z r (inl held) = inl held
 said b h op k w z r (inr (free, did)) = inr (free, did.tends)
 
@@ -797,4 +797,4 @@ said b h op k w z r (inr (free, did)) = inr (free, did.tends)
 pub asked_says : (leaves says : WorkerView → WorkerView → Result Bool Lost → Type 0) (w z : WorkerView) (r : Result Bool Fault) → ((q : Result Bool Lost) → leaves w z q → says w z q) → Asked leaves w z r → Asked says w z r
 asked_says leaves says w z (Ok answer) of did = (did.0, of (Ok answer) did.1)
 asked_says leaves says w z (Err (fault.Call lost)) of did = (did.0, of (Err lost) did.1)
-asked_says leaves says w z (Err fault.Held) of did = did
+asked_says leaves says w z (Err fault.Pinned) of did = did

@@ -1,4 +1,4 @@
--- The end of a set.
+-- The close of a set: what its report accounts for, and what an error leaves.
 use Rattle.std.specs.Prelude.{◌≡◌, List, [], ◌∷◌, ◌++◌, true, false}
 use Rattle.nm_steps.specs.Steps.{TreeView}
 use Rattle.nm_tree.specs.declared.closing.CloseReason.{CloseReason as Reason}
@@ -7,20 +7,20 @@ use Rattle.nm_tree.specs.declared.closing.Report.{Report}
 use Rattle.nm_tree.specs.Closing.{IsClosed, IsCloseReason, SaysClosed}
 use Rattle.nm_tree.specs.Workers.{WorkerView}
 use Rattle.nm_set.specs.declared.ending.EndError.{EndError}
-use Rattle.nm_set.specs.declared.ending.EndError.TheVariants.{Away, Gathered}
+use Rattle.nm_set.specs.declared.ending.EndError.TheVariants.{Attached, Gathered}
 use Rattle.nm_set.specs.declared.fault.CloseReason.{CloseReason}
 use Rattle.nm_set.specs.declared.fault.CloseReason.TheVariants as because
 use Rattle.nm_set.specs.Seats.{AreOwn, MemberView, SetView}
 
--- What a caller has of a set that was ended: its tree was closed with the workers that the set
--- kept, each as it came, and then with those that were at home; which these had been is not said,
--- but that there are none where a refused close had gathered all
+-- What a caller learns from a closed set. Its tree was closed with the workers that the set kept,
+-- each unchanged, and then with those that had been returned. Which workers those were is not said,
+-- except that there are none if a refused close had gathered all
 pub record SaysEnded (s : SetView) (r : Report) : Type 0 where
   pub home : List WorkerView
   pub none : s.closing ≡ true → home ≡ []
   pub says : SaysClosed s.tree (s.kept ++ home) r.queues.items r.keys.items r.free r.reached
 
--- the same, with the run that ends with the tree's words, for who changes something
+-- the same, with the run that ends with the tree's words, for those who change this project
 pub record EndsSet (s : SetView) (r : Report) : Type 0 where
   pub home : List WorkerView
   pub own : AreOwn s.tree (s.kept ++ home)
@@ -37,8 +37,8 @@ abbrev pub IsTreesReason : TreeView → List WorkerView → CloseReason → Type
 IsTreesReason b ws why = (of_tree : Reason) × (why ≡ told_reason of_tree)
     × IsCloseReason b ws of_tree
 
--- a set whose workers were gathered keeps what it kept, and then those that were at home; and by
--- them its tree was not closed for that reason
+-- a set whose workers were gathered keeps those that it kept, and then those that had been
+-- returned; with them its tree was not closed, for that reason
 pub record HasGathered (s : SetView) (why : Reason) (t : SetView) : Type 0 where
   pub tree : t.tree ≡ s.tree
   pub fit : t.fit ≡ s.fit
@@ -48,31 +48,31 @@ pub record HasGathered (s : SetView) (why : Reason) (t : SetView) : Type 0 where
   pub none : s.closing ≡ true → home ≡ []
   pub reason : IsCloseReason t.tree t.kept why
 
--- an open set that is as it was
+-- the set is open and unchanged
 abbrev pub IsAsBefore : SetView → SetView → Type 0
 IsAsBefore s t = (s.closing ≡ false) × (t ≡ s)
 
--- why a set was not closed, and how it stands then
+-- why a set was not closed, and what the set is then
 abbrev pub IsLeftOpen : SetView → CloseReason → SetView → Type 0
-IsLeftOpen s because.Away t = IsAsBefore s t
+IsLeftOpen s because.Attached t = IsAsBefore s t
 IsLeftOpen s (because.NotAll given made) t = HasGathered s (tree.NotAll given made) t
 IsLeftOpen s because.NoMemory t = HasGathered s tree.NoMemory t
 
--- ---- the end by the last member
+-- ---- the close by the last member
 
--- a set that keeps the worker of this member, as it is, and no other
+-- a set that keeps the worker of this member, unchanged, and no other
 abbrev pub set_of : MemberView → SetView
 set_of m = record { tree = m.tree; fit = m.worker.fit; closing = false; kept = m.worker ∷ [] }
 
--- the tree of the member was closed with the member's worker, as it is, and then with those that
--- were at home
+-- the tree of the member was closed with the member's worker, unchanged, and then with those that
+-- had been returned
 abbrev pub EndsMember : MemberView → Report → Type 0
 EndsMember m r = EndsSet (set_of m) r
 
--- how a member stands that has not ended its set: it is as it was; or a set whose workers were
--- gathered keeps the member's, and then those that were at home, and its tree was not closed for
--- the reason that is told
+-- what is left of a member that has not closed its set: the member is unchanged; or the workers
+-- were gathered, and a set keeps the member's worker, and then those that had been returned, and
+-- its tree was not closed for that reason
 abbrev pub IsNotEnded : MemberView → EndError → Type 0
-IsNotEnded m (Away n) = n ≡ m
+IsNotEnded m (Attached n) = n ≡ m
 IsNotEnded m (Gathered e) = (why : Reason) × (e.reason ≡ told_reason why)
     × HasGathered (set_of m) why e.set

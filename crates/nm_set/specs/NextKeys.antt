@@ -1,4 +1,4 @@
--- What a call for the next key, or for the one before, leaves of its member's worker.
+-- What a call for the next key, or for the previous one, leaves of its member's worker.
 use Rattle.std.specs.Prelude.{ℕ, Option, Result}
 use Rattle.nm_edge.specs.Layouts.{Layout}
 use Rattle.nm_tree.specs.Workers.{WorkerView}
@@ -6,8 +6,8 @@ use Rattle.nm_tree.specs.Calls.{LeavesNext, LeavesPrev}
 use Rattle.nm_set.specs.declared.fault.Fault.{Fault}
 use Rattle.nm_set.specs.Asked.{Asked}
 
--- `AskedNext`, `AskedPrev`: of the least key that is not below this one, and of the greatest one that
--- is not above it
+-- `AskedNext`, `AskedPrev`: for the least key that is not below this one, and for the greatest key
+-- that is not above it
 abbrev pub AskedNext : Layout → ℕ → ℕ → WorkerView → WorkerView → Result (Option ℕ) Fault → Type 0
 AskedNext L tries key = Asked (LeavesNext L tries key)
 

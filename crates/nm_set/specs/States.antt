@@ -1,4 +1,4 @@
--- Where a set stands.
+-- The states of a set: open, or closing after a refused close.
 use Rattle.std.specs.Prelude.{◌≡◌, ℕ, ◌+◌, true, false, List, []}
 use Rattle.std.specs.Arc.{arc_value}
 use Rattle.nm_tree.specs.Workers.{WorkerView}
@@ -9,7 +9,7 @@ use Rattle.nm_set.specs.Seats.{HasRoom, SetView}
 use Rattle.nm_edge.specs.Layouts.{Layout}
 use Rattle.nm_edge.specs.declared.placement.Fit.{Fit}
 
--- the tree, and its fit
+-- the tree of the set, and its fit
 abbrev pub site_of : State → Site
 site_of (Open home) = arc_value home
 site_of (Closing site) = site
@@ -21,17 +21,17 @@ open_set site kept = record { tree = site.tree; fit = site.fit; closing = false;
 abbrev pub closing_set : Site → List WorkerView → SetView
 closing_set site kept = record { tree = site.tree; fit = site.fit; closing = true; kept = kept }
 
--- where a set stands
+-- the set in that state, with these workers kept
 abbrev pub standing_of : State → List WorkerView → SetView
 standing_of (Open home) kept = open_set (arc_value home) kept
 standing_of (Closing site) kept = closing_set site kept
 
--- the room for one worker that is kept, and for all that are gathered behind it
+-- the room for one worker that is kept, and for all that are gathered after it
 abbrev pub room_for_one : State → ℕ
 room_for_one (Open home) = 1 + (arc_value home).tree.layout.workers
 room_for_one (Closing site) = 1
 
--- the workers of an open set can be gathered behind those that it keeps, with no growth
+-- the workers of an open set can be gathered after those that it keeps, without a growth
 abbrev pub MayGather : State → List WorkerView → ℕ → Type 0
 MayGather (Open home) kept room = HasRoom (arc_value home).tree kept room
 MayGather (Closing site) kept room = Unit {0}

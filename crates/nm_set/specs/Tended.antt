@@ -1,5 +1,5 @@
--- Calls that tend the set: one that loses its tries is retried, a delete is finished, and the nodes
--- that wait are collected.
+-- Managed calls: a call that loses its tries is retried, a remove is finished, and waiting nodes
+-- are collected.
 use Rattle.std.specs.Prelude.{◌≡◌, ◌≢◌, ◌⊎◌, ◌+◌, ◌*◌, ◌≤◌, ◌<◌, ℕ, zero, suc, Bool, true, length, drop, List, [], ◌∷◌, ◌++◌, Option, Some, None, IsSome, Result, Ok, Err, IfOk, Contains as HasAmong}
 use Rattle.nm_edge.specs.Layouts.{Layout}
 use Rattle.nm_edge.specs.declared.node.NodeId.{NodeId}
@@ -7,7 +7,7 @@ use Rattle.nm_model.specs.declared.event.Op.{Op}
 use Rattle.nm_model.specs.declared.event.Op.TheVariants.{Has, Insert, Delete}
 use Rattle.nm_model.specs.declared.trace.Turn.{Turn}
 use Rattle.nm_progress.specs.Moves.{number_of, moves, moves_of_others}
-use Rattle.nm_progress.specs.Tries.{hinders, reshapes_of_others}
+use Rattle.nm_progress.specs.Tries.{interferes, reshapes_of_others}
 use Rattle.nm_model.specs.declared.event.Event.TheVariants.{Scan}
 use Rattle.nm_model.specs.declared.reply.Reply.TheVariants.{In}
 use Rattle.nm_model.specs.Step.{last_number}
@@ -30,23 +30,24 @@ use Rattle.nm_set.specs.declared.fault.Fault.TheVariants as fault
 use Rattle.nm_set.specs.declared.fault.Fullness.{Fullness}
 use Rattle.nm_set.specs.declared.fault.InsertFault.{InsertFault}
 use Rattle.nm_set.specs.declared.fault.InsertFault.TheVariants as inserting
-use Rattle.nm_set.specs.declared.tended.Habit.{Habit}
+use Rattle.nm_set.specs.declared.tended.Options.{Options}
 use Rattle.nm_tree.specs.Calls.{LeavesHas, LeavesInsert, LeavesDelete, LeavesFinish, LeavesAdvance, LeavesCollect}
 
--- ---- what a worker has come to
+-- ---- what a worker has become
 
--- it is the queue of that origin, or it has lost its front at most, and got nothing
+-- it is the queue of that origin, or it has only lost nodes at its front
 abbrev pub OnlyLoses : ℕ → HeldQueue → HeldQueue → Type 0
 OnlyLoses o h g = (h.origin ≡ o) ⊎ ((n : ℕ) × (g.queue.items ≡ drop n h.queue.items))
 
--- the same origins, and so each queue of another origin than that
+-- the origins are the same, and each queue of another origin has only lost nodes at its front
 abbrev pub OthersOnlyLose : ℕ → List HeldQueue → List HeldQueue → Type 0
 OthersOnlyLose o [] [] = Unit {0}
 OthersOnlyLose o (h ∷ hs) (g ∷ gs) =
     (g.origin ≡ h.origin) × OnlyLoses o h g × OthersOnlyLose o hs gs
 OthersOnlyLose o _ _ = ⊥
 
--- the worker has gone on, in so many steps at most: the same pass, which has seen more, not held
+-- the worker has gone on, in at most `most` steps: it has the same pass, which has seen more, and
+-- its caller has not pinned it
 pub record GoesOnTended (most : ℕ) (w z : WorkerView) : Type 0 where
   pub same : IsSamePass w.pass z.pass
   pub past : HasSeenAllOf z.pass w.pass
@@ -57,12 +58,13 @@ pub record GoesOnTended (most : ℕ) (w z : WorkerView) : Type 0 where
 
 -- ---- retries
 
--- so many steps in a row
+-- n steps in a row
 abbrev pub InARow : (WorkerView → WorkerView → Type 0) → ℕ → WorkerView → WorkerView → Type 0
 InARow step zero w z = z ≡ w
 InARow step (suc n) w z = (m : WorkerView) × InARow step n w m × step m z
 
--- a call is retried while it tells `lost`, so many times at most; what the last one tells is told
+-- a call is retried while it returns `lost`, at most `rounds` times; the result is that of the last
+-- one
 pub record IsRetried {R : Type 0} (leaves : WorkerView → WorkerView → R → Type 0) (lost : R) (rounds : ℕ)
     (w z : WorkerView) (r : R) : Type 0 where
   pub before : ℕ
@@ -72,7 +74,7 @@ pub record IsRetried {R : Type 0} (leaves : WorkerView → WorkerView → R → 
   pub few : before ≤ rounds
   pub all : r ≡ lost → before ≡ rounds
 
--- a call that lost each of its tries
+-- the result of a call that lost each of its tries
 abbrev pub busy : Result Bool Fault
 busy = Err (fault.Call call.Busy)
 
@@ -82,20 +84,20 @@ Leaves Has = LeavesHas
 Leaves Insert = LeavesInsert
 Leaves Delete = LeavesDelete
 
--- a call of the tree that leaves this, which is retried while it loses each of its tries
-abbrev pub Retries : (Layout → ℕ → ℕ → WorkerView → WorkerView → Result Bool Lost → Type 0) → TreeView → Habit → ℕ
+-- a call of the tree, which is retried while it loses each of its tries
+abbrev pub Retries : (Layout → ℕ → ℕ → WorkerView → WorkerView → Result Bool Lost → Type 0) → TreeView → Options → ℕ
     → WorkerView → WorkerView → Result Bool Fault → Type 0
 Retries leaves b h k w z r =
     IsRetried (Asked (leaves b.layout h.tries k)) busy h.rounds w z r
 
--- the delete that is pending, if one is, while it is not finished
-abbrev pub FinishesPending : TreeView → Habit → WorkerView → WorkerView → Result Bool Lost → Type 0
+-- if a remove is pending, `finish` is called for it, and called again while it is unfinished
+abbrev pub FinishesPending : TreeView → Options → WorkerView → WorkerView → Result Bool Lost → Type 0
 FinishesPending b h w z r =
     IsRetried (LeavesFinish b.layout h.tries) (Err call.Unfinished) h.rounds w z r
 
 -- ---- collecting
 
--- the epoch was asked to move on twice, and then what is ripe was collected
+-- two attempts to advance the epoch, and then a collection
 pub record IsRelieved (b : TreeView) (w z : WorkerView) : Type 0 where
   pub moved : Advance
   pub once : WorkerView
@@ -106,8 +108,8 @@ pub record IsRelieved (b : TreeView) (w z : WorkerView) : Type 0 where
   pub collected : Collected
   pub collects : LeavesCollect b.layout.nodes twice z collected
 
--- the worker that an advance found at another epoch than the one that it read; of two advances the
--- one that the second found, or else the first
+-- the worker that an advance found announcing another epoch than the one that it read; of two
+-- advances the one that the second found, or else the one that the first found
 abbrev pub found_behind : Advance → Advance → Option ℕ
 found_behind first (advance.Held worker at) = Some worker
 found_behind (advance.Held worker at) second = Some worker
@@ -129,15 +131,16 @@ pub record WasElsewhere (p q : PassView) (i : ℕ) : Type 0 where
   pub found : HasAmong (part_of p.view.number turns) (Scan i, In at)
   pub apart : at ≢ epoch
 
--- between p and q the epoch was moved on so often at least, by whomever
+-- between p and q any workers have advanced the epoch at least `times` times
 pub record WasMovedOn (p q : PassView) (times : ℕ) : Type 0 where
   pub turns : List Turn
   pub is : q.view.past ≡ p.view.past ++ turns
   pub moved : times ≤ number_of moves turns
 
--- a worker was relieved so, and this is who was found to hold the epoch back: of a worker that rests
--- another one, that was elsewhere; or nobody, and then the epoch was moved on twice, and the
--- collection has freed all that waited, unless the epoch is the last one
+-- the worker made these attempts and the collection, and `behind` is the worker that was found to
+-- hold the epoch back. If the worker rested before, `behind` is another worker, which announced
+-- another epoch. If none was found, the epoch was advanced twice and the collection has freed all
+-- that waited, or the epoch is the last one
 pub record FindsBehind (b : TreeView) (w z : WorkerView) (behind : Option ℕ) : Type 0 where
   pub relieved : IsRelieved b w z
   pub found : behind ≡ found_behind relieved.moved relieved.moved_again
@@ -147,61 +150,65 @@ pub record FindsBehind (b : TreeView) (w z : WorkerView) (behind : Option ℕ) :
       ⊎ (WasMovedOn w.pass z.pass 2 × (relieved.collected.freed ≡ waiting_in w.queues)
       × (waiting_in z.queues ≡ 0))
 
--- so it is where so many nodes wait; else nothing has changed
+-- if at least `many` nodes wait, the worker made these attempts and the collection; otherwise
+-- nothing has changed
 abbrev pub IsTidied : TreeView → ℕ → WorkerView → WorkerView → Type 0
 IsTidied b many w z = ((many ≤ waiting_in w.queues) × IsRelieved b w z)
     ⊎ ((waiting_in w.queues < many) × (z ≡ w))
 
--- its caller does not hold it, nothing is pending, and fewer nodes wait than those from which on it
--- collects
-pub record IsTidy (h : Habit) (w : WorkerView) : Type 0 where
+-- the caller has not pinned the worker, nothing is pending, and fewer nodes wait than
+-- `collect_after`
+pub record IsTidy (h : Options) (w : WorkerView) : Type 0 where
   pub free : w.held ≡ None
   pub none : w.pending ≡ None
   pub few : waiting_in w.queues < h.collect_after
 
--- its caller does not hold it, the delete of an earlier call is finished, where one was pending, and
--- then it has collected where so many nodes waited
-pub record IsMadeTidy (b : TreeView) (h : Habit) (w z : WorkerView) : Type 0 where
+-- the caller has not pinned the worker; the remove of an earlier call is finished if one was
+-- pending; and then the worker has collected if at least `collect_after` nodes waited
+pub record IsMadeTidy (b : TreeView) (h : Options) (w z : WorkerView) : Type 0 where
   pub free : w.held ≡ None
   pub answer : Bool
   pub between : WorkerView
   pub finished : FinishesPending b h w between (Ok answer)
   pub tidied : IsTidied b h.collect_after between z
 
--- so it is, or its caller holds it, or that delete is not finished
-abbrev pub MakesTidy : TreeView → Habit → WorkerView → WorkerView → Result (Unit {0}) Fault → Type 0
+-- the worker is made tidy; or its caller has pinned it; or the earlier remove is not finished
+abbrev pub MakesTidy : TreeView → Options → WorkerView → WorkerView → Result (Unit {0}) Fault → Type 0
 MakesTidy b h w z (Ok _) = IsMadeTidy b h w z
-MakesTidy b h w z (Err f) = (IsSome w.held × (f ≡ fault.Held) × (z ≡ w))
+MakesTidy b h w z (Err f) = (IsSome w.held × (f ≡ fault.Pinned) × (z ≡ w))
     ⊎ ((w.held ≡ None) × FinishesPending b h w z (Err call.Unfinished)
     × (f ≡ fault.Call call.Pending))
 
--- ---- who disturbed
+-- ---- interference by others
 
--- between what p had seen and what q has seen, other workers have moved the epoch on, or linked or
--- cut off nodes, at least so often together
-pub record WasDisturbed (p q : PassView) (times : ℕ) : Type 0 where
+-- between what p had seen and what q has seen, other workers have advanced the epoch, or linked or
+-- cut off nodes, together at least `times` times
+pub record LookupInterference (p q : PassView) (times : ℕ) : Type 0 where
   pub turns : List Turn
   pub is : q.view.past ≡ p.view.past ++ turns
-  pub disturbed : times ≤ number_of (moves_of_others p.view.number) turns
+  pub interfered : times ≤ number_of (moves_of_others p.view.number) turns
       + number_of (reshapes_of_others p.view.number) turns
 
--- and the same of others that moved the epoch on, and of turns that hindered the worker itself
-pub record WasHeldUp (p q : PassView) (times : ℕ) : Type 0 where
+-- the same for other workers that advanced the epoch, and for turns that interfered with the worker
+-- itself
+pub record ChangeInterference (p q : PassView) (times : ℕ) : Type 0 where
   pub turns : List Turn
   pub is : q.view.past ≡ p.view.past ++ turns
-  pub held_up : times ≤ number_of (moves_of_others p.view.number) turns
-      + number_of (hinders p.view.number) turns
+  pub interfered : times ≤ number_of (moves_of_others p.view.number) turns
+      + number_of (interferes p.view.number) turns
 
 -- ---- the three calls
 
--- what an insert tells, as the other calls tell it: without who holds memory back
+-- the result of an insert, in the form of the other calls, without the worker that holds memory
+-- back
 abbrev pub of_insert : Result Bool InsertFault → Result Bool Fault
 of_insert (Ok answer) = Ok answer
 of_insert (Err (inserting.Full f)) = Err (fault.Call call.Full)
 of_insert (Err (inserting.Other f)) = Err f
 
--- `plain`, `with_fullness`: what is told, as an insert tells it that is not full; and where no slot
--- was free, with who was found to hold the epoch back, and how many nodes wait
+-- `plain`, `with_fullness`: the result of an insert that is not full; and that of an insert which
+-- found no free slot, with the worker that was found to hold the epoch back, and how many nodes
+-- wait
 abbrev pub plain : Result Bool Fault → Result Bool InsertFault
 plain (Ok answer) = Ok answer
 plain (Err f) = Err (inserting.Other f)
@@ -211,57 +218,58 @@ with_fullness behind waiting (Err (fault.Call call.Full)) =
     Err (inserting.Full (record { waiting = waiting; behind = behind }))
 with_fullness behind waiting told = plain told
 
--- that no slot is free is told only behind a collection, and by an insert that was made once more
-abbrev pub RetriesInsert : TreeView → Habit → ℕ → WorkerView → WorkerView → Result Bool InsertFault → Type 0
+-- an insert returns `Full` only after a collection, and after the insert was made once more
+abbrev pub RetriesInsert : TreeView → Options → ℕ → WorkerView → WorkerView → Result Bool InsertFault → Type 0
 RetriesInsert b h k w z r = ((told : Result Bool Fault) × Retries LeavesInsert b h k w z told
     × (told ≢ Err (fault.Call call.Full)) × (r ≡ plain told))
     ⊎ ((x y : WorkerView) × (behind : Option ℕ) × (told : Result Bool Fault)
     × Retries LeavesInsert b h k w x (Err (fault.Call call.Full)) × FindsBehind b x y behind
     × Retries LeavesInsert b h k y z told × (r ≡ with_fullness behind (waiting_in z.queues) told))
 
--- what a finish tells, as a delete tells it
+-- the result of a `finish`, in the form of a remove
 abbrev pub of_finish : Result Bool Lost → Result Bool Fault
 of_finish (Ok answer) = Ok answer
 of_finish (Err lost) = Err (fault.Call lost)
 
--- a delete whose leaf is flagged goes on with that
-abbrev pub RetriesDelete : TreeView → Habit → ℕ → WorkerView → WorkerView → Result Bool Fault → Type 0
+-- a remove that has flagged its leaf goes on with `finish`
+abbrev pub RetriesDelete : TreeView → Options → ℕ → WorkerView → WorkerView → Result Bool Fault → Type 0
 RetriesDelete b h k w z r = (Retries LeavesDelete b h k w z r × (r ≢ Err (fault.Call call.Unfinished)))
     ⊎ ((x : WorkerView) × (f : Result Bool Lost)
     × Retries LeavesDelete b h k w x (Err (fault.Call call.Unfinished))
     × FinishesPending b h x z f × (r ≡ of_finish f))
 
--- first the delete of an earlier call is finished, where one is pending; what is told of where it
--- is not, is that
-abbrev pub FinishesThen : {A : Type 0} → TreeView → Habit → (WorkerView → Type 0) → WorkerView → WorkerView
+-- the remove of an earlier call is finished first, if one is pending; if it cannot be finished, the
+-- result is `Pending`
+abbrev pub FinishesThen : {A : Type 0} → TreeView → Options → (WorkerView → Type 0) → WorkerView → WorkerView
     → Result A Fault → Type 0
 FinishesThen b h rest w z r = (FinishesPending b h w z (Err call.Unfinished)
     × (r ≡ Err (fault.Call call.Pending)))
     ⊎ ((answer : Bool) × (x : WorkerView) × FinishesPending b h w x (Ok answer) × rest x)
 
--- `Contains`, `InsertsTended`, `RemovesTended`: first the delete of an earlier call is finished, and
--- then each of the three calls is made
-abbrev pub Contains : TreeView → Habit → ℕ → WorkerView → WorkerView → Result Bool Fault → Type 0
+-- `Contains`, `InsertsTended`, `RemovesTended`: the remove of an earlier call is finished first,
+-- and then the call is made
+abbrev pub Contains : TreeView → Options → ℕ → WorkerView → WorkerView → Result Bool Fault → Type 0
 Contains b h k w z r = FinishesThen b h (λ x. Retries LeavesHas b h k x z r) w z r
 
-abbrev pub InsertsTended : TreeView → Habit → ℕ → WorkerView → WorkerView → Result Bool InsertFault → Type 0
+abbrev pub InsertsTended : TreeView → Options → ℕ → WorkerView → WorkerView → Result Bool InsertFault → Type 0
 InsertsTended b h k w z r = FinishesThen b h
     (λ x. (y : WorkerView) × IsTidied b h.collect_after x y × RetriesInsert b h k y z r) w z (of_insert r)
 
-abbrev pub RemovesTended : TreeView → Habit → ℕ → WorkerView → WorkerView → Result Bool Fault → Type 0
+abbrev pub RemovesTended : TreeView → Options → ℕ → WorkerView → WorkerView → Result Bool Fault → Type 0
 RemovesTended b h k w z r = FinishesThen b h
     (λ x. (y : WorkerView) × IsTidied b h.collect_after x y × RetriesDelete b h k y z r) w z r
 
--- ---- what a caller has of each
+-- ---- what a caller learns from each
 
--- nothing is pending, but where that is told: of this call's key, or as it was before
+-- nothing is pending, except after `Unfinished` and `Pending`: after `Unfinished` the key of this
+-- call is pending, after `Pending` the same key as before
 abbrev pub IsLeft : ℕ → WorkerView → WorkerView → Result Bool Fault → Type 0
 IsLeft k w z (Err (fault.Call call.Unfinished)) =
     (leaf : NodeId) × (z.pending ≡ Some (record { key = k; leaf = leaf }))
 IsLeft k w z (Err (fault.Call call.Pending)) = IsSome w.pending × (z.pending ≡ w.pending)
 IsLeft k w z _ = z.pending ≡ None
 
--- `links_told_by`, `flags_told_by`: the links and the flags that it has won, by what it tells
+-- `links_told_by`, `flags_told_by`: the links and the flags that the call has won, by its result
 abbrev pub links_told_by : Op → Result Bool Fault → ℕ
 links_told_by Insert (Ok true) = 1
 links_told_by _ _ = 0
@@ -271,13 +279,13 @@ flags_told_by Delete (Ok true) = 1
 flags_told_by Delete (Err (fault.Call call.Unfinished)) = 1
 flags_told_by _ _ = 0
 
--- the steps of a round at most: those of a call of the tree, two moves of the epoch and a
--- collection
+-- the most steps of a round: those of a call of the tree, of two attempts to advance the epoch, and
+-- of a collection
 abbrev pub round_bound : ℕ → Layout → ℕ
 round_bound tries L = tries * (4 * reach L + 8 * chain_bound) + 7 * L.nodes + 2 * L.workers + 12
 
--- where an insert was full, in the call another worker was found to hold the epoch back; or the
--- epoch was moved on twice, unless it is the last one; and so many nodes wait as the call ends
+-- after `Full`: during the call another worker was found to hold the epoch back; or the epoch was
+-- advanced twice, or is the last one; `waiting` is how many nodes wait when the call ends
 pub record WasFull (w z : WorkerView) (f : Fullness) : Type 0 where
   pub other : (i : ℕ) → f.behind ≡ Some i
       → (i ≢ w.pass.view.number) × WasElsewhere w.pass z.pass i
@@ -285,10 +293,11 @@ pub record WasFull (w z : WorkerView) (f : Fullness) : Type 0 where
       → HasReadSince w.pass z.pass last_number ⊎ WasMovedOn w.pass z.pass 2
   pub waiting : f.waiting ≡ waiting_in z.queues
 
--- the answer has its moment behind all that the worker had seen before this call; where no slot was
--- free, who holds memory back was found; it has won what it tells and no more, and has gone on in so
--- many rounds at most
-pub record Tends (b : TreeView) (h : Habit) (op : Op) (k : ℕ) (w z : WorkerView)
+-- The answer has a moment (linearization point) that is later than all that the worker had seen
+-- before this call. If no slot was free, the call has found what holds memory back. The call has
+-- won the links and flags that its result implies and no more, and has made at most the steps of 3
+-- `rounds` + 5 rounds
+pub record Tends (b : TreeView) (h : Options) (op : Op) (k : ℕ) (w z : WorkerView)
     (r : Result Bool Fault) : Type 0 where
   pub moment : IfOk r (AnswerHasMoment w.pass z.pass op k)
   pub full : r ≡ Err (fault.Call call.Full) → (f : Fullness) × WasFull w z f
@@ -296,28 +305,30 @@ pub record Tends (b : TreeView) (h : Habit) (op : Op) (k : ℕ) (w z : WorkerVie
   pub won : HasWon w.pass.view.log z.pass.view.log (links_told_by op r) (flags_told_by op r)
   pub on : GoesOnTended ((3 * h.rounds + 5) * round_bound h.tries b.layout) w z
 
--- what the call did, and what a caller has of it
-pub record HasTended (does : WorkerView → WorkerView → Result Bool Fault → Type 0) (b : TreeView) (h : Habit)
+-- what the call did, and what a caller learns from it
+pub record HasTended (does : WorkerView → WorkerView → Result Bool Fault → Type 0) (b : TreeView) (h : Options)
     (op : Op) (k : ℕ) (w z : WorkerView) (r : Result Bool Fault) : Type 0 where
   pub did : does w z r
   pub tends : Tends b h op k w z r
 
--- a worker that its caller holds is not asked, and nothing has changed; else that
+-- if the caller has pinned the worker, the call does nothing, and nothing has changed; otherwise
+-- the property holds
 abbrev pub UnlessHeld : {A : Type 0} → Type 0 → WorkerView → WorkerView → Result A Fault → Type 0
-UnlessHeld did w z r = (IsSome w.held × (r ≡ Err fault.Held) × (z ≡ w)) ⊎ ((w.held ≡ None) × did)
+UnlessHeld did w z r = (IsSome w.held × (r ≡ Err fault.Pinned) × (z ≡ w)) ⊎ ((w.held ≡ None) × did)
 
--- what a caller has of each of the three calls
-abbrev pub SaysTended : Op → TreeView → Habit → ℕ → WorkerView → WorkerView → Result Bool Fault → Type 0
+-- what a caller learns from each of the three calls
+abbrev pub SaysTended : Op → TreeView → Options → ℕ → WorkerView → WorkerView → Result Bool Fault → Type 0
 SaysTended op b h k w z r = UnlessHeld (Tends b h op k w z r) w z r
 
--- `TendsHas`, `TendsInsert`, `TendsDelete`: that, and what each of them did
-abbrev pub TendsHas : TreeView → Habit → ℕ → WorkerView → WorkerView → Result Bool Fault → Type 0
+-- `TendsHas`, `TendsInsert`, `TendsDelete`: what a caller learns from each call, and what the call
+-- did
+abbrev pub TendsHas : TreeView → Options → ℕ → WorkerView → WorkerView → Result Bool Fault → Type 0
 TendsHas b h k w z r = UnlessHeld (HasTended (Contains b h k) b h Has k w z r) w z r
 
-abbrev pub TendsInsert : TreeView → Habit → ℕ → WorkerView → WorkerView → Result Bool InsertFault → Type 0
+abbrev pub TendsInsert : TreeView → Options → ℕ → WorkerView → WorkerView → Result Bool InsertFault → Type 0
 TendsInsert b h k w z r = UnlessHeld
     (HasTended (λ x y told. InsertsTended b h k x y r) b h Insert k w z (of_insert r)) w z
     (of_insert r)
 
-abbrev pub TendsDelete : TreeView → Habit → ℕ → WorkerView → WorkerView → Result Bool Fault → Type 0
+abbrev pub TendsDelete : TreeView → Options → ℕ → WorkerView → WorkerView → Result Bool Fault → Type 0
 TendsDelete b h k w z r = UnlessHeld (HasTended (RemovesTended b h k) b h Delete k w z r) w z r

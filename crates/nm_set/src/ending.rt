@@ -6,28 +6,28 @@ use crate::member::Member;
 use crate::set::CloseError;
 use nm_tree::Report;
 
-/// A member has not ended its set. No worker is lost.
+/// A member did not end its set. No worker is lost.
 #[derive(Drop)]
 pub enum EndError {
     /// The `Set` is not dropped, or another member is not closed, or is being closed at this
-    /// moment. The member is as it was.
-    Away(Member),
-    /// The tree was not closed, for the reason that is told, behind the point where all workers
-    /// were gathered. The set keeps the member's worker and then those that were at home; only
-    /// `Set::close` goes on with it.
+    /// moment. The member is unchanged.
+    Attached(Member),
+    /// The tree was not closed, for the given reason, after all workers had been gathered. The set
+    /// keeps the member's worker and then those that had been returned. Only `Set::close` goes on
+    /// with it.
     Gathered(CloseError),
 }
 
 impl Member {
-    /// Ends the set by its last member, once the `Set` was dropped and all other members are
-    /// closed, and tells what is left: `Tree::close` of `nm_tree`, over the member's worker and
-    /// those that are at home. So the report is told of the very tree on which this member has
-    /// worked, and of all that its worker has done; no value is compared, and the call has no
-    /// condition, as `Set::keep` has. The worker may be held or have a pending key.
+    /// Ends the set by its last member, after the `Set` was dropped and all other members were
+    /// closed. Returns the report: `Tree::close` of `nm_tree`, over the member's worker and the
+    /// workers that were returned. So the report is of the very tree on which this member has
+    /// worked, with all that its worker has done. No value is compared, and unlike `Set::keep` the
+    /// call has no condition. The caller may hold the worker, and a key may be pending.
     ///
-    /// `Away`: the member is as it was; of two members that call this at the same moment both may
-    /// be told so. `Gathered`: see `EndError`; where the `Set` kept workers (`Set::keep`) as it was
-    /// dropped, this is so, since the tree is not given all its workers.
+    /// Errors: `Attached`: the member is unchanged; if two members call this at the same moment,
+    /// both may get it. `Gathered`: see `EndError`; also if the `Set` kept workers (`Set::keep`)
+    /// when it was dropped, because the tree then lacks some of its workers.
     pub fn end(self) -> Result<Report, EndError>
         ensures says { IfOk result (SaysEnded (set_of self)) }
         ensures ended { IfOk result (EndsMember self) }
@@ -36,7 +36,7 @@ impl Member {
         let (home, sealed) = self.apart();
         let gathered = match home.gather(sealed) {
             Ok(gathered) => gathered,
-            Err((home, sealed)) => return Err(EndError::Away(Member::back(home, sealed))),
+            Err((home, sealed)) => return Err(EndError::Attached(Member::back(home, sealed))),
         };
         match gathered.close() {
             Ok(report) => Ok(report),

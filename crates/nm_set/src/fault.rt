@@ -1,41 +1,42 @@
-//! Why a call on a set or on one of its members was refused.
+//! The errors of calls on a set and on its members.
 use thiserror::Error;
 
-/// Why a call for a key has not answered.
+/// Why a call for a key failed.
 #[derive(Clone, Copy, Debug, Error, PartialEq, Eq)]
 pub enum Fault {
-    /// The caller holds the worker: it is pinned until `unpin`. Nothing has changed, and there was
-    /// no step.
+    /// The caller has pinned the worker, and has not unpinned it. Nothing has changed, and no step
+    /// was made.
     #[error("the worker is held")]
-    Held,
-    /// The tree's call has not answered.
+    Pinned,
+    /// The tree's call failed.
     #[error("{0}")]
     Call(nm_tree::CallFault),
 }
 
-/// Why an insert that tends the set has not answered.
+/// Why a managed insert failed.
 #[derive(Clone, Copy, Debug, Error, PartialEq, Eq)]
 pub enum InsertFault {
-    /// No slot was free for a new node, and none behind a collection either.
+    /// No slot was free for a new node, even after a collection.
     #[error("{0}")]
     Full(Fullness),
-    /// Another fault than `Full` of the tree.
+    /// Any other error than `Full` of the tree.
     #[error("{0}")]
     Other(Fault),
 }
 
-/// What an insert that tends the set has found where no slot was free: who holds memory back.
+/// What a managed insert found when no slot was free: which worker delays reuse.
 #[derive(Clone, Copy, Debug, Error, PartialEq, Eq)]
 #[error("no slot is free for a new node; {waiting} removed nodes wait, {}", whoever(.behind))]
 pub struct Fullness {
-    /// The nodes that wait in the queues that the worker holds, as the call leaves them.
+    /// The number of nodes that wait in the queues that the worker holds, when the call returns.
     pub waiting: u64,
-    /// The other worker that was found to hold the epoch back, at a moment of the call. `None`: none
-    /// was, and all that had waited was freed, unless the epoch is the last one.
+    /// The other worker that was found to hold the epoch back, at a moment of the call. `None`: no
+    /// worker was found so, and all nodes that had waited were freed, unless the epoch is the last
+    /// one.
     pub behind: Option<u32>,
 }
 
-/// Who holds removed nodes back, in words.
+/// Names the worker that delays reuse.
 #[derive(Clone, Copy, Debug, Error, PartialEq, Eq)]
 enum Holder {
     #[error("and worker {0} holds them back")]
@@ -54,57 +55,60 @@ fn whoever(behind: &Option<u32>) -> Holder {
 /// Why a worker was not pinned.
 #[derive(Clone, Copy, Debug, Error, PartialEq, Eq)]
 pub enum PinFault {
-    /// The caller holds the worker already. Nothing has changed, and there was no step.
+    /// The caller has pinned the worker already. Nothing has changed, and no step was made.
     #[error("the worker is held")]
-    Held,
-    /// The tree's call has not pinned it.
+    Pinned,
+    /// The tree's call did not pin it.
     #[error("{0}")]
     Call(nm_tree::PinFault),
 }
 
-/// The caller does not hold the worker. Nothing has changed, and there was no step.
+/// The caller has not pinned the worker. Nothing has changed, and no step was made.
 #[derive(Clone, Copy, Debug, Error, PartialEq, Eq)]
 #[error("the worker is not held")]
-pub struct NotHeld;
+pub struct NotPinned;
 
-/// Why a member was not given out.
+/// Why a set gave out no member.
 #[derive(Clone, Copy, Debug, Error, PartialEq, Eq)]
 pub enum MemberFault {
-    /// The tree has fewer workers than that.
+    /// The tree has no worker of that number.
     #[error("there is no worker of that number")]
     Number,
     /// Another member has that worker, or it has resigned.
-    #[error("the worker is taken")]
-    Away,
-    /// A close was refused behind the point where all workers were gathered: only `close` goes on.
+    #[error("the worker is attached")]
+    Attached,
+    /// Each worker is attached to a member.
+    #[error("each worker is attached")]
+    NoWorker,
+    /// A close failed after it had gathered all workers. Only `close` goes on.
     #[error("the set is closing")]
     Closing,
-    /// There are as many members as can be counted.
+    /// The set has as many members as can be counted.
     #[error("there are too many members")]
     Uncounted,
 }
 
-/// Why a member has not read a note.
+/// Why a member did not observe a stamp.
 #[derive(Clone, Copy, Debug, Error, PartialEq, Eq)]
-pub enum PostFault {
-    /// The tree has fewer workers than that.
+pub enum ObserveFault {
+    /// The tree has no worker of that number.
     #[error("there is no worker of that number")]
     Number,
-    /// Another member is at that mailbox at this moment.
+    /// Another member is publishing or observing that stamp at this moment.
     #[error("another member is at the mailbox")]
     Busy,
 }
 
-/// Why a member may not take over a worker.
+/// Why a member did not take over a worker.
 #[derive(Clone, Copy, Debug, Error, PartialEq, Eq)]
 pub enum ResignReason {
-    /// The tree has fewer workers than that.
+    /// The tree has no worker of that number.
     #[error("there is no worker of that number")]
     Number,
-    /// A member has that worker, the heir itself or another, or it has resigned.
+    /// A member has that worker (the heir itself or another one), or the worker has resigned.
     #[error("the worker is taken")]
-    Away,
-    /// The worker went home with a pending key.
+    Attached,
+    /// The worker was returned with a pending key.
     #[error("the leaver has a pending key")]
     Pending,
 }
@@ -114,8 +118,8 @@ pub enum ResignReason {
 pub enum CloseReason {
     /// A member is not closed yet, or is being closed at this moment.
     #[error("a member is not closed")]
-    Away,
-    /// Fewer workers are at home than the tree has. Those that resigned count with their heirs.
+    Attached,
+    /// Fewer workers were returned than the tree has. Workers that resigned count with their heirs.
     #[error("{given} of {made} workers are at home")]
     NotAll { given: u32, made: u32 },
     /// A growth was refused.

@@ -1,4 +1,4 @@
-//! The tree of a set with the workers that were gathered for its end.
+//! A tree together with the workers that were gathered for its end.
 ghost use Rattle.std.specs.Prelude.{◌≡◌, IfErr, IfOk};
 ghost use Rattle.nm_tree.specs.Closing.{IsClosed};
 ghost use Rattle.nm_set.specs.Ends.{IsTreesReason};
@@ -10,7 +10,7 @@ use crate::set::{CloseError, end};
 use nm_tree::{Report, Worker};
 use std::marker::Model;
 
-/// A tree and the workers that were gathered, of which elsewhere nothing can be had but its end.
+/// A tree and its gathered workers. Other modules can only end it.
 #[derive(Drop)]
 pub(crate) struct Gathered {
     site: Site,
@@ -36,7 +36,7 @@ impl Gathered {
         Gathered { site, workers }
     }
 
-    /// Closes the tree. Refused, a set that is closing keeps them.
+    /// Closes the tree. If that fails, a set that is closing keeps both.
     pub(crate) fn close(self) -> Result<Report, CloseError>
         ensures own { AreOwn self.tree self.kept }
         ensures closed { IfOk result

@@ -1,16 +1,16 @@
-//! The home of a tree's workers: a seat for each of them, where it is while nobody has it.
+//! The home of a tree's workers: one seat for each worker, which keeps it while no member has it.
 ghost use Rattle.std.specs.Prelude.{◌≡◌, ◌<◌, ◌≤◌, ◌+◌, ◌^◌, ◌↔◌, ◌∷◌, [], length, None, IfNone, IfOk, IfSome, IsErrOf, vec_capacity};
 ghost use Rattle.nm_tree.specs.Workers.{AreNew, HaveFit};
 ghost use Rattle.nm_set.specs.Posts.{IsTallyOf};
 ghost use Rattle.nm_set.specs.Seats.{AreOwn, AreSeats, BeginsWith, HasRoom, IsOwn, IsResident};
 
 use crate::posting::Mailbox;
-use crate::seat::{AtHome, SealedWorker, Seat, leave, retire, stand_up};
+use crate::seat::{ReturnedWorker, SealedWorker, Seat, leave, retire, stand_up};
 use nm_tree::{Fit, Tree, Worker};
 use std::alloc::{AllocError, Global};
 use std::marker::Model;
 
-/// A tree, and by which fit its workers claim.
+/// A tree, and the fit by which its workers claim slots.
 #[derive(Drop)]
 pub(crate) struct Site {
     pub(crate) tree: Tree,
@@ -18,7 +18,7 @@ pub(crate) struct Site {
 }
 
 impl Site {
-    /// Workers, with those that sit on these seats behind them. There is room for all.
+    /// Appends the workers that are on these seats. There is room for all.
     fn gather_from(&self, seats: Vec<Seat>, workers: Vec<Worker>) -> Vec<Worker>
         requires seats { AreSeats self.now 0 seats.items }
         requires own { AreOwn self.now.tree workers.items }
@@ -42,7 +42,8 @@ impl Site {
 pub(crate) struct Home {
     site: Site,
     seats: Vec<Seat>,
-    // Room for all workers and one more, which the end of the set takes: so it asks for none.
+    // Has room for all workers and one more. The end of the set takes this room, so that it asks
+    // for no memory.
     room: Vec<Worker>,
 }
 
@@ -60,17 +61,17 @@ impl Model for Home {
         × (1 + h.site.tree.layout.workers ≤ vec_capacity h.room) };
 }
 
-/// Why a worker is not at home.
+/// Why a worker is not on its seat.
 #[derive(Clone, Copy)]
 pub(crate) enum Absence {
-    /// There is no worker of that number.
+    /// The tree has no worker of that number.
     Number,
     /// Its seat is empty.
-    Away,
+    Attached,
 }
 
 impl Home {
-    /// The home of a tree with so many workers, all of which are away.
+    /// Makes the home of a tree with this many workers, all of which are attached.
     pub(crate) fn vacant(alloc: Global, site: Site, workers: u32) -> Result<Home, AllocError>
         requires all { site.tree.layout.workers ≡ workers }
         ensures { IfOk result (λ home. home ≡ site) }
@@ -98,11 +99,11 @@ impl Home {
         };
         match stand_up(seat) {
             Some(sealed) => Ok(sealed),
-            None => Err(Absence::Away),
+            None => Err(Absence::Attached),
         }
     }
 
-    /// The workers of a new tree sit down on their seats.
+    /// Puts the workers of a new tree on their seats.
     pub(crate) fn receive_all(&self, workers: Vec<Worker>)
         requires new { AreNew self.now.tree 0 workers.items }
         requires fit { HaveFit self.now.fit workers.items }
@@ -112,8 +113,8 @@ impl Home {
         }
     }
 
-    /// A worker of this tree, which its caller does not hold, sits down on its seat.
-    pub(crate) fn receive(&self, sealed: SealedWorker) -> AtHome
+    /// Puts a worker of this tree on its seat. Its caller has not pinned it.
+    pub(crate) fn receive(&self, sealed: SealedWorker) -> ReturnedWorker
         requires own { IsOwn self.now.tree sealed.worker }
         requires fit { sealed.worker.fit ≡ self.now.fit }
         requires free { sealed.worker.held ≡ None }
@@ -125,22 +126,22 @@ impl Home {
         sealed.sit_down(seat)
     }
 
-    /// A worker that was taken from its seat does not come back to it.
+    /// Notes that a worker that was taken from its seat does not come back to it.
     pub(crate) fn retire(&self, number: u32) {
         if let Some(seat) = self.seats.get(number as usize) {
             retire(seat);
         }
     }
 
-    /// Whether a worker is with a member. `None`: there is none of that number.
-    pub(crate) fn is_away(&self, number: u32) -> Option<bool>
+    /// Returns whether a member has the worker; `None` if there is no worker of that number.
+    pub(crate) fn is_attached(&self, number: u32) -> Option<bool>
         ensures some { IfSome result (λ _. number < self.now.tree.layout.workers) }
         ensures none { IfNone result (self.now.tree.layout.workers ≤ number) }
     {
-        Some(self.seats.get(number as usize)?.is_away())
+        Some(self.seats.get(number as usize)?.is_attached())
     }
 
-    /// The mailbox of a worker. `None`: there is none of that number.
+    /// Returns the mailbox of a worker; `None` if there is no worker of that number.
     pub(crate) fn mailbox_of(&self, number: u32) -> Option<&Mailbox>
         ensures some { IfSome result
             (λ p. (p.now ≡ (self.now, number)) × (number < self.now.tree.layout.workers)) }
@@ -149,7 +150,8 @@ impl Home {
         Some(self.seats.get(number as usize)?.mailbox())
     }
 
-    /// The tree, and the workers that were kept with those that are at home behind them.
+    /// Returns the tree, with the workers that were kept, followed by those that are on their
+    /// seats.
     pub(crate) fn gather(self, kept: Vec<Worker>) -> (Site, Vec<Worker>)
         requires own { AreOwn self.tree kept.items }
         requires room { HasRoom self.tree kept.items (vec_capacity kept) }
@@ -163,7 +165,7 @@ impl Home {
         (site, workers)
     }
 
-    /// The tree, and one worker that is away, with those that are at home behind it.
+    /// Returns the tree, with one attached worker, followed by those that are on their seats.
     pub(crate) fn gather_behind(self, sealed: SealedWorker) -> (Site, Vec<Worker>)
         requires own { IsOwn self.tree sealed.worker }
         ensures site { result.0 ≡ self }
@@ -177,14 +179,14 @@ impl Home {
         (site, workers)
     }
 
-    /// The tree.
+    /// Returns the tree.
     pub(crate) fn tree(&self) -> &Tree
         ensures { result.now ≡ self.now.tree }
     {
         &self.site.tree
     }
 
-    /// How many workers the tree has.
+    /// Returns the number of the tree's workers.
     pub(crate) fn workers(&self) -> usize
         ensures count { result ≡ self.now.tree.layout.workers }
         ensures few { 1 + result < 2 ^ 64 }

@@ -9,15 +9,15 @@ ghost use Rattle.nm_tree.specs.Workers.{WorkerView};
 use crate::gathering::Gathered;
 use crate::home::{Absence, Home};
 use crate::posting::Mailbox;
-use crate::seat::{AtHome, SealedWorker};
+use crate::seat::{ReturnedWorker, SealedWorker};
 use nm_tree::Tree;
 use std::alloc::Global;
 use std::marker::Model;
 use std::sync::Arc;
 
-/// A member's part in a home. To a call, which has it by reference, it gives the tree and the mailboxes
-/// alone. A worker is taken from a seat, or all of them, only by whoever gives the lease out of its
-/// hands for that, or has the home itself; so no call of a member can reach another worker than the
+/// A member's part in a home. Calls have it by reference, and get only the tree and the mailboxes
+/// from it. A worker, or all of them, is taken from a seat only by code that gives the lease away
+/// for that, or that has the home itself. So no call of a member can reach another worker than the
 /// member's own.
 #[derive(Drop)]
 pub(crate) struct Lease {
@@ -40,7 +40,7 @@ impl Lease {
         Lease { home }
     }
 
-    /// The tree.
+    /// Returns the tree.
     #[inline(always)]
     pub(crate) fn tree(&self) -> &Tree
         ensures { result.now ≡ self.now.tree }
@@ -48,7 +48,7 @@ impl Lease {
         self.home.tree()
     }
 
-    /// The mailbox of a worker. `None`: there is none of that number.
+    /// Returns the mailbox of a worker; `None` if there is no worker of that number.
     pub(crate) fn mailbox_of(&self, number: u32) -> Option<&Mailbox>
         ensures some { IfSome result
             (λ p. (p.now ≡ (self.now, number)) × (number < self.now.tree.layout.workers)) }
@@ -57,8 +57,8 @@ impl Lease {
         self.home.mailbox_of(number)
     }
 
-    /// A worker of this tree, which its caller does not hold, sits down on its seat.
-    pub(crate) fn receive(&self, sealed: SealedWorker) -> AtHome
+    /// Puts a worker of this tree on its seat. Its caller has not pinned it.
+    pub(crate) fn receive(&self, sealed: SealedWorker) -> ReturnedWorker
         requires own { IsOwn self.now.tree sealed.worker }
         requires fit { sealed.worker.fit ≡ self.now.fit }
         requires free { sealed.worker.held ≡ None }
@@ -79,7 +79,7 @@ impl Lease {
         (self, found)
     }
 
-    /// A worker that was taken from its seat does not come back to it.
+    /// Notes that a worker that was taken from its seat does not come back to it.
     pub(crate) fn retire(self, number: u32) -> Lease
         ensures { result ≡ self }
     {
@@ -87,8 +87,8 @@ impl Lease {
         self
     }
 
-    /// The tree, with this worker, as it is, and then all that are at home, where nobody else has
-    /// the home.
+    /// Returns the tree, with this worker followed by all that are on their seats, if nobody else
+    /// has the home.
     pub(crate) fn gather(self, sealed: SealedWorker) -> Result<Gathered, (Lease, SealedWorker)>
         requires own { IsOwn self.tree sealed.worker }
         ensures gathered { IfOk result

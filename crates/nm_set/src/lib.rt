@@ -1,10 +1,9 @@
-//! The set as values that own what they need, so that calls have no condition: a `Set` gives out
-//! its `Member`s, one for each worker, and each of them keeps the tree alive. A member that is
-//! closed goes home, and can be taken again, by any thread.
+//! The set as values that own what they need, so that calls have no condition. A `Set` gives out
+//! its `Member`s, one for each worker, and each member keeps the tree alive. The worker of a closed
+//! member is returned, and any thread can take it again.
 //!
-//! What a caller of `nm_tree` has to show is known here of each member, by its type: that its
-//! worker is one of the tree's. What may be wrong while a program runs is told as a fault, before
-//! any step.
+//! A caller of `nm_tree` has to show that a worker is one of the tree's. Here a member's type says
+//! so. What may be wrong while a program runs is returned as an error, before any step.
 #![tactic(auto)]
 
 mod attach;
@@ -23,7 +22,7 @@ mod tended;
 
 pub use ending::EndError;
 pub use fault::{
-    CloseReason, Fault, Fullness, InsertFault, MemberFault, NotHeld, PinFault, PostFault,
+    CloseReason, Fault, Fullness, InsertFault, MemberFault, NotPinned, ObserveFault, PinFault,
     ResignReason,
 };
 pub use member::{Member, ResignError};
@@ -31,7 +30,7 @@ pub use nm_tree::{
     Advance, Behind, CallFault, Collected, Counts, Entry, Fit, HeldQueue, NewError,
     PinFault as CallPinFault, Query, Report, Tally,
 };
-pub use posting::{Posted, letters_are_in_order};
-pub use seat::AtHome;
+pub use posting::{Stamp, letters_are_in_order};
+pub use seat::ReturnedWorker;
 pub use set::{CloseError, KeepError, Set};
-pub use tended::Habit;
+pub use tended::Options;

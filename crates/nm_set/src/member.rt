@@ -15,11 +15,11 @@ ghost use Rattle.nm_set.specs.NextKeys.{AskedNext, AskedPrev};
 ghost use Rattle.nm_set.specs.Posts.{IsTallyOf, ReadsNote};
 ghost use Rattle.nm_set.specs.Seats.{IsLetGo, IsOwn, IsResident, IsStaying, told_absence};
 
-use crate::fault::{Fault, NotHeld, PinFault, PostFault, ResignReason};
+use crate::fault::{Fault, NotPinned, ObserveFault, PinFault, ResignReason};
 use crate::home::{Absence, Home};
 use crate::lease::Lease;
-use crate::posting::{Posted, leave_letter, read_letter};
-use crate::seat::{AtHome, SealedWorker, Stay, unite};
+use crate::posting::{Stamp, leave_letter, read_letter};
+use crate::seat::{ReturnedWorker, SealedWorker, Stay, unite};
 use nm_edge::Key;
 use nm_steps::Note;
 use nm_tree::{Advance, Behind, Collected, Counts, Query, Worker};
@@ -28,8 +28,8 @@ use std::marker::Model;
 use std::sync::Arc;
 
 /// One worker of a set. It may go to another thread between two calls, and the tree lives as long
-/// as it does. Dropped, it goes home as by `close`. What it has of its home gives its calls the
-/// tree, and no seat: they act by its own worker alone.
+/// as the member does. A drop returns its worker, like `close`. A member's part in its home gives
+/// its calls the tree and no seat, so they act by its own worker alone.
 pub struct Member {
     pub(crate) home: Lease,
     pub(crate) sealed: SealedWorker,
@@ -47,7 +47,7 @@ impl Model for Member {
         × (m.sealed.worker.fit ≡ m.home.fit) };
 }
 
-/// A member has not taken over a worker. It is as it was.
+/// A member did not take over a worker. The member is unchanged.
 #[derive(Drop)]
 pub struct ResignError {
     pub reason: ResignReason,
@@ -64,7 +64,7 @@ impl Member {
         Member::back(Lease::of(home), sealed)
     }
 
-    /// The member that was taken apart.
+    /// Builds the member again that was taken apart.
     pub(crate) fn back(home: Lease, sealed: SealedWorker) -> Member
         requires own { IsOwn home.tree sealed.worker }
         requires fit { sealed.worker.fit ≡ home.fit }
@@ -74,18 +74,16 @@ impl Member {
         Member { home, sealed }
     }
 
-    /// The worker's number, below the number of workers.
+    /// Returns the worker's number, which is below the number of workers.
     pub fn number(&self) -> u32
         ensures { result ≡ self.now.worker.pass.view.number }
     {
         self.sealed.worker.number()
     }
 
-    /// What the worker has seen is a run of an ordered core of the set's sizes, its log is its part
-    /// of that, it has not resigned in it, and the turns that it has seen have the headline and a
-    /// history: `Worker::is_of_a_run` of `nm_tree`. And it is one of the set's, and leaves nothing
-    /// open between two calls: `Worker::is_between_calls`. It does nothing.
-    pub fn is_of_a_run(&self)
+    /// Proof only: establishes what `Worker::know_run` and `Worker::know_between_calls` of `nm_tree`
+    /// establish of the member's worker, and that this worker is one of the set's. No run-time effect.
+    pub fn know_run(&self)
         ensures own { IsOwn self.now.tree self.now.worker }
         ensures seen { HasSeen self.now.worker.pass.view }
         ensures turns { HasSeenTurns self.now.worker.pass.view }
@@ -95,13 +93,13 @@ impl Member {
             self.now.worker.pass.view.log }
         ensures fits { IsLayout self.now.worker.pass.view.layout }
     {
-        self.sealed.worker.is_of_a_run();
-        self.sealed.worker.is_between_calls();
+        self.sealed.worker.know_run();
+        self.sealed.worker.know_between_calls();
     }
 
-    /// Whether the set has the key: `Tree::has` of `nm_tree`.
+    /// Returns whether the set has the key: `Tree::has` of `nm_tree`.
     ///
-    /// `Held`: the caller holds the worker. Other faults are the tree's.
+    /// Errors: `Pinned`: the caller has pinned the worker; and those of the tree.
     #[inline(always)]
     pub fn try_contains(&mut self, key: Key, tries: u32) -> Result<bool, Fault>
         ensures tree { self.new.tree ≡ self.old.tree }
@@ -111,7 +109,7 @@ impl Member {
             self.new.worker result }
     {
         if self.sealed.worker.held().is_some() {
-            return Err(Fault::Held);
+            return Err(Fault::Pinned);
         }
         match self.home.tree().has(&mut self.sealed.worker, key, tries) {
             Ok(answer) => Ok(answer),
@@ -119,17 +117,17 @@ impl Member {
         }
     }
 
-    /// Whether the set has each of these keys, which their `found` tells then: `Tree::has_many` of
+    /// Looks up each of these keys, and writes the answers into their `found`: `Tree::has_many` of
     /// `nm_tree`.
     ///
-    /// `Held`: the caller holds the worker. Other faults are the tree's.
+    /// Errors: `Pinned`: the caller has pinned the worker; and those of the tree.
     pub fn contains_many(&mut self, queries: &mut [Query], tries: u32) -> Result<(), Fault>
         ensures tree { self.new.tree ≡ self.old.tree }
         ensures did { AskedMany self.old.tree.layout tries queries.old queries.new
             self.old.worker self.new.worker result }
     {
         if self.sealed.worker.held().is_some() {
-            return Err(Fault::Held);
+            return Err(Fault::Pinned);
         }
         match self
             .home
@@ -141,17 +139,17 @@ impl Member {
         }
     }
 
-    /// The least key of the set that is not below `key`, or `None` where there is none:
+    /// Returns the least key of the set that is not below `key`, or `None` if there is none:
     /// `Tree::next` of `nm_tree`.
     ///
-    /// `Held`: the caller holds the worker. Other faults are the tree's.
+    /// Errors: `Pinned`: the caller has pinned the worker; and those of the tree.
     pub fn next(&mut self, key: Key, tries: u32) -> Result<Option<Key>, Fault>
         ensures tree { self.new.tree ≡ self.old.tree }
         ensures did { AskedNext self.old.tree.layout tries key self.old.worker self.new.worker
             result }
     {
         if self.sealed.worker.held().is_some() {
-            return Err(Fault::Held);
+            return Err(Fault::Pinned);
         }
         match self.home.tree().next(&mut self.sealed.worker, key, tries) {
             Ok(found) => Ok(found),
@@ -159,17 +157,17 @@ impl Member {
         }
     }
 
-    /// The greatest key of the set that is not above `key`, or `None` where there is none:
+    /// Returns the greatest key of the set that is not above `key`, or `None` if there is none:
     /// `Tree::prev` of `nm_tree`.
     ///
-    /// `Held`: the caller holds the worker. Other faults are the tree's.
+    /// Errors: `Pinned`: the caller has pinned the worker; and those of the tree.
     pub fn prev(&mut self, key: Key, tries: u32) -> Result<Option<Key>, Fault>
         ensures tree { self.new.tree ≡ self.old.tree }
         ensures did { AskedPrev self.old.tree.layout tries key self.old.worker self.new.worker
             result }
     {
         if self.sealed.worker.held().is_some() {
-            return Err(Fault::Held);
+            return Err(Fault::Pinned);
         }
         match self.home.tree().prev(&mut self.sealed.worker, key, tries) {
             Ok(found) => Ok(found),
@@ -177,9 +175,9 @@ impl Member {
         }
     }
 
-    /// Inserts a key, and answers whether it was not in the set: `Tree::insert` of `nm_tree`.
+    /// Inserts `key`; returns true if it was absent: `Tree::insert` of `nm_tree`.
     ///
-    /// `Held`: the caller holds the worker. Other faults are the tree's.
+    /// Errors: `Pinned`: the caller has pinned the worker; and those of the tree.
     #[inline(always)]
     pub fn try_insert(&mut self, key: Key, tries: u32) -> Result<bool, Fault>
         ensures tree { self.new.tree ≡ self.old.tree }
@@ -189,7 +187,7 @@ impl Member {
             self.new.worker result }
     {
         if self.sealed.worker.held().is_some() {
-            return Err(Fault::Held);
+            return Err(Fault::Pinned);
         }
         match self.home.tree().insert(&mut self.sealed.worker, key, tries) {
             Ok(answer) => Ok(answer),
@@ -197,10 +195,10 @@ impl Member {
         }
     }
 
-    /// Deletes a key, and answers whether it was in the set: `Tree::delete` of `nm_tree`.
+    /// Removes `key`; returns true if it was present: `Tree::delete` of `nm_tree`.
     ///
-    /// `Held`: the caller holds the worker. Other faults are the tree's; behind `Unfinished` the
-    /// key is pending, and `finish` goes on.
+    /// Errors: `Pinned`: the caller has pinned the worker; and those of the tree. After
+    /// `Unfinished` the key is pending, and `finish` goes on.
     #[inline(always)]
     pub fn try_remove(&mut self, key: Key, tries: u32) -> Result<bool, Fault>
         ensures tree { self.new.tree ≡ self.old.tree }
@@ -210,7 +208,7 @@ impl Member {
             self.new.worker result }
     {
         if self.sealed.worker.held().is_some() {
-            return Err(Fault::Held);
+            return Err(Fault::Pinned);
         }
         match self.home.tree().delete(&mut self.sealed.worker, key, tries) {
             Ok(answer) => Ok(answer),
@@ -218,8 +216,8 @@ impl Member {
         }
     }
 
-    /// Goes on with the delete that is pending: `Tree::finish` of `nm_tree`, with its faults. False
-    /// with no step where none is pending.
+    /// Goes on with the remove that is pending: `Tree::finish` of `nm_tree`, with its errors.
+    /// Returns false, with no step, if none is pending.
     #[inline(always)]
     pub fn finish(&mut self, tries: u32) -> Result<bool, nm_tree::CallFault>
         ensures tree { self.new.tree ≡ self.old.tree }
@@ -230,15 +228,15 @@ impl Member {
         self.home.tree().finish(&mut self.sealed.worker, tries)
     }
 
-    /// Pins the epoch for the caller, until `unpin`: `Tree::pin` of `nm_tree`. The epoch.
+    /// Pins the epoch for the caller, until `unpin`, and returns it: `Tree::pin` of `nm_tree`.
     ///
-    /// `Held`: the caller holds the worker already. Other faults are the tree's.
+    /// Errors: `Pinned`: the caller has pinned the worker already; and those of the tree.
     pub fn pin(&mut self, tries: u32) -> Result<u64, PinFault>
         ensures tree { self.new.tree ≡ self.old.tree }
         ensures did { AskedToPin tries self.old.worker self.new.worker result }
     {
         if self.sealed.worker.held().is_some() {
-            return Err(PinFault::Held);
+            return Err(PinFault::Pinned);
         }
         match self.home.tree().pin(&mut self.sealed.worker, tries) {
             Ok(epoch) => Ok(epoch),
@@ -246,21 +244,22 @@ impl Member {
         }
     }
 
-    /// Ends the caller's pin: one step.
+    /// Ends the caller's pin, in one step.
     ///
-    /// `NotHeld`: the caller does not hold the worker. Nothing has changed, and there was no step.
-    pub fn unpin(&mut self) -> Result<(), NotHeld>
+    /// Errors: `NotPinned`: the caller has not pinned the worker. Nothing has changed, and no step
+    /// was made.
+    pub fn unpin(&mut self) -> Result<(), NotPinned>
         ensures tree { self.new.tree ≡ self.old.tree }
         ensures did { AskedToUnpin self.old.worker self.new.worker result }
     {
         if self.sealed.worker.held().is_none() {
-            return Err(NotHeld);
+            return Err(NotPinned);
         }
         self.home.tree().unpin(&mut self.sealed.worker);
         Ok(())
     }
 
-    /// Moves the epoch on by one, if no worker holds it back: `Tree::advance` of `nm_tree`.
+    /// Advances the epoch by one, if no worker holds it back: `Tree::advance` of `nm_tree`.
     pub fn advance(&mut self) -> Advance
         ensures tree { self.new.tree ≡ self.old.tree }
         ensures did { LeavesAdvance self.old.tree.layout.workers self.old.worker self.new.worker
@@ -269,7 +268,7 @@ impl Member {
         self.home.tree().advance(&mut self.sealed.worker)
     }
 
-    /// Which workers hold the epoch back, this one included: `Tree::behind` of `nm_tree`.
+    /// Returns which workers hold the epoch back, this one included: `Tree::behind` of `nm_tree`.
     pub fn behind(&mut self) -> Behind
         ensures tree { self.new.tree ≡ self.old.tree }
         ensures did { LeavesBehind self.old.tree.layout.workers self.old.worker self.new.worker
@@ -278,8 +277,8 @@ impl Member {
         self.home.tree().behind(&mut self.sealed.worker)
     }
 
-    /// Frees what is ripe at the front of each queue that the worker holds: `Tree::collect` of
-    /// `nm_tree`.
+    /// Frees what has waited long enough at the front of each queue that the worker holds:
+    /// `Tree::collect` of `nm_tree`.
     pub fn collect(&mut self) -> Collected
         ensures tree { self.new.tree ≡ self.old.tree }
         ensures did { LeavesCollect self.old.tree.layout.nodes self.old.worker self.new.worker result }
@@ -287,8 +286,8 @@ impl Member {
         self.home.tree().collect(&mut self.sealed.worker)
     }
 
-    /// A note of all that the worker has seen, for another member of this set: `Tree::note` of
-    /// `nm_tree`. No step, no lock and no memory.
+    /// Makes a note of all that the worker has seen, for another member of this set: `Tree::note`
+    /// of `nm_tree`. Takes no step, no lock and no memory.
     pub fn note(&mut self) -> Note
         ensures same { self.new ≡ self.old }
         ensures note { IsNoteOf self.old.worker.pass result }
@@ -297,12 +296,12 @@ impl Member {
         self.home.tree().note(&mut self.sealed.worker)
     }
 
-    /// The worker hears a note of another member of this set: all that it is asked from then on
-    /// comes behind all that the other one had done when the note was made: `Tree::hear` of
-    /// `nm_tree`. No step, no lock and no memory.
+    /// Hears a note of another member of this set: `Tree::hear` of `nm_tree`. All that this worker
+    /// is asked from then on happens after all that the other one had done when it made the note.
+    /// Takes no step, no lock and no memory.
     ///
-    /// The note must be of this set, which nobody can test: so this call has a condition, and it is
-    /// for a caller that proves what it has heard.
+    /// The note must be of this set, which nobody can test. So this call has a condition, and is
+    /// for callers that prove what they have heard.
     pub fn hear(&mut self, note: Note)
         requires table { note.table ≡ self.old.tree.table }
         ensures tree { self.new.tree ≡ self.old.tree }
@@ -315,15 +314,14 @@ impl Member {
         self.home.tree().hear(&mut self.sealed.worker, note);
     }
 
-    /// Leaves a note of all that the worker has seen in its mailbox, in place of its earlier one, for
-    /// any other member of this set to `read`: what it has done so far. No step, no lock and no
-    /// memory.
+    /// Publishes a stamp of all that the worker has seen, in place of its earlier one, for any
+    /// other member of this set to `observe`. Returns what the worker has done so far, or `None` if
+    /// another member is observing the earlier stamp at this moment, which then remains. Takes no
+    /// step, no lock and no memory.
     ///
-    /// `None`: a reader has the earlier note at this moment, and that stays.
-    ///
-    /// What is told is proved; that the note lies there then is shown by tests, since what lies on
-    /// a mailbox is in no clause.
-    pub fn post(&mut self) -> Option<Posted>
+    /// Proved: the numbers that are returned. Tested: that the stamp is there afterwards, because
+    /// no clause says what a mailbox holds.
+    pub fn publish(&mut self) -> Option<Stamp>
         ensures same { self.new ≡ self.old }
         ensures tally { IfSome result (IsTallyOf self.old.worker) }
     {
@@ -331,58 +329,62 @@ impl Member {
         leave_letter(self.home.tree(), mailbox, &mut self.sealed.worker)
     }
 
-    /// The worker hears the note that the worker of a number has left by `post`, and leaves it
-    /// there for others: all that it is asked from then on comes behind all that the other one had
-    /// seen when it left the note. What that one had done by then; `None` where it has left none. No
-    /// step, no lock and no memory. A reader that is told of as many keys as the other one had
-    /// inserted and removed has heard of all of them: `letters_are_in_order`.
+    /// Observes the stamp that the worker of a number has published, and leaves it there for
+    /// others. All that this worker is asked from then on happens after all that the other one had
+    /// seen when it published the stamp. Returns what the other one had done by then, or `None` if
+    /// it has published none. Takes no step, no lock and no memory.
     ///
-    /// `Number`: the tree has no worker of that number. `Busy`: another member is at that mailbox at
-    /// this moment. Nothing has changed.
+    /// An observer that is given as many keys as the other worker had inserted and removed has
+    /// heard of all of them: `letters_are_in_order`.
     ///
-    /// What is told is proved of what was heard; that this is the latest note, and that none was
-    /// left where none is told, is shown by tests, since what lies in a mailbox is in no clause.
-    pub fn read(&mut self, number: u32) -> Result<Option<Posted>, PostFault>
+    /// Errors: `Number`: the tree has no worker of that number. `Busy`: another member is
+    /// publishing or observing that stamp at this moment. Nothing has changed.
+    ///
+    /// Proved: what is returned is true of the stamp that was observed. Tested: that it is the
+    /// latest stamp, and that none was published if `None` is returned, because no clause says what
+    /// a mailbox holds.
+    pub fn observe(&mut self, number: u32) -> Result<Option<Stamp>, ObserveFault>
         ensures tree { self.new.tree ≡ self.old.tree }
         ensures heard { ReadsNote self.old.tree number self.old.worker self.new.worker result }
     {
         let Some(mailbox) = self.home.mailbox_of(number) else {
-            return Err(PostFault::Number);
+            return Err(ObserveFault::Number);
         };
         read_letter(self.home.tree(), mailbox, &mut self.sealed.worker)
     }
 
-    /// The key of a delete that has flagged its leaf and not answered yet; `finish` goes on with
-    /// it.
+    /// Returns the key of a remove that has flagged its leaf and is not finished; `finish` goes on
+    /// with it.
     pub fn pending(&self) -> Option<Key>
         ensures { result ≡ option_map (λ (n : Delete). n.key) self.now.worker.pending }
     {
         self.sealed.worker.pending()
     }
 
-    /// The epoch at which the worker is held, from a `pin` until its `unpin`.
-    pub fn held(&self) -> Option<u64>
+    /// Returns the epoch at which the caller has pinned the worker, from a `pin` until its `unpin`.
+    pub fn pinned(&self) -> Option<u64>
         ensures { result ≡ self.now.worker.held }
     {
         self.sealed.worker.held()
     }
 
-    /// What this worker has won, and what became of what it cut off.
-    pub fn ledger(&self) -> Counts
+    /// Returns what this worker has won, and what became of the nodes that it cut off.
+    pub fn stats(&self) -> Counts
         ensures { IsLedger self.now.worker.pass.view self.now.worker.pass.view.number result }
     {
         self.sealed.worker.ledger()
     }
 
-    /// How many nodes wait in the queues that the worker holds.
+    /// Returns the number of nodes that wait in the queues that the worker holds.
     pub fn queue_len(&self) -> u64
         ensures { result ≡ waiting_in self.now.worker.queues }
     {
         self.sealed.worker.queue_len()
     }
 
-    /// How many blocks of 32 places, of 776 bytes each, the queues that the worker holds have,
-    /// behind any call: at most what waits and 318 places a queue ask for.
+    /// Returns the number of blocks in the queues that the worker holds; a block has 32 places and
+    /// 776 bytes. After any call the queues have at most the blocks that the waiting nodes and 318
+    /// places a queue need.
     pub fn queue_blocks(&self) -> u64
         ensures blocks { result ≡ blocks_in self.now.worker.queues }
         ensures few { AreFewIn result self.now.worker.queues }
@@ -390,31 +392,31 @@ impl Member {
         self.sealed.worker.queue_blocks()
     }
 
-    /// The worker goes home, with all that it holds or has pending, and can be taken again by
-    /// `Set::member`. It goes unpinned: a pin of the caller ends as by `unpin`. Else nothing of its
-    /// tree changes: what it has done as it sits down is what it had done before.
-    pub fn close(self) -> AtHome
+    /// Returns the worker, with all that it holds or has pending; `Set::member` can take it again.
+    /// A pin of the caller ends as by `unpin`. Nothing else of its tree changes: what the worker
+    /// has done when it is returned is what it had done before.
+    pub fn close(self) -> ReturnedWorker
         ensures { IsTallyOf self.worker result }
     {
         let mut member = self;
-        member.is_of_a_run();
+        member.know_run();
         member.let_go();
-        member.is_of_a_run();
+        member.know_run();
         let (home, sealed) = member.apart();
         home.receive(sealed)
     }
 
-    /// Ends the caller's pin, where it holds the worker.
+    /// Ends the caller's pin, if there is one.
     fn let_go(&mut self)
         ensures tree { self.new.tree ≡ self.old.tree }
         ensures did { IsLetGo self.old.worker self.new.worker }
     {
-        if self.held().is_some() {
+        if self.pinned().is_some() {
             self.home.tree().unpin(&mut self.sealed.worker);
         }
     }
 
-    /// What the member has of its home, and its worker as it is.
+    /// Takes the member apart, into its part in the home and its worker, unchanged.
     pub(crate) fn apart(self) -> (Lease, SealedWorker)
         ensures worker { result.1.worker ≡ self.worker }
         ensures tree { result.0.tree ≡ self.tree }
@@ -425,7 +427,7 @@ impl Member {
         (home, sealed)
     }
 
-    /// The worker stays with these, as it is, and does not come back to its seat. There is room for
+    /// Keeps the worker with these, unchanged; it does not come back to its seat. There is room for
     /// it.
     pub(crate) fn stay_with(self, workers: &mut Vec<Worker>)
         requires { length workers.old.items < vec_capacity workers.old }
@@ -438,12 +440,12 @@ impl Member {
         sealed.stay_with(workers);
     }
 
-    /// A worker that is at home resigns to this one: `Tree::resign` of `nm_tree`. It never comes
-    /// back; this one holds all that it held.
+    /// Takes over a worker that is not attached: `Tree::resign` of `nm_tree`. That worker never
+    /// comes back; this one holds all that it held.
     ///
-    /// Refused, nothing has changed: the leaver is at home, as it was, and the member is handed
-    /// back as it was. `Number`: the tree has no worker of that number. `Away`: it is not at home.
-    /// `Pending`: it went home with a pending key.
+    /// Errors: nothing has changed, the leaver is still on its seat, and the member is given back
+    /// unchanged. `Number`: the tree has no worker of that number. `Attached`: a member has it, or
+    /// it has resigned. `Pending`: it was returned with a pending key.
     pub fn resign(self, leaver: u32) -> Result<Member, ResignError>
         ensures done { IfOk result
             (λ m. (m.tree ≡ self.tree) × (w : WorkerView) × IsResident self.tree self.worker.fit leaver w
@@ -482,12 +484,12 @@ impl Drop for Member {
     }
 }
 
-/// Why a worker that is not at home does not resign.
+/// Returns why a worker that is not on its seat does not resign.
 fn reason_of(absence: Absence) -> ResignReason
     ensures { result ≡ told_absence absence }
 {
     match absence {
         Absence::Number => ResignReason::Number,
-        Absence::Away => ResignReason::Away,
+        Absence::Attached => ResignReason::Attached,
     }
 }

@@ -1,4 +1,4 @@
-//! Sets whose members are all given out as they begin.
+//! Sets whose members are all given out when they are made.
 ghost use Rattle.std.specs.Prelude.{◌≡◌, ◌↔◌, [], length, IfErr, IfOk, IfSome, IsErrOf};
 ghost use Rattle.std.specs.Arc.{arc_value};
 ghost use Rattle.nm_edge.specs.Layouts.{IsLayoutFault, in_radix, spaced};
@@ -16,19 +16,19 @@ use std::alloc::Global;
 use std::sync::Arc;
 
 impl Set {
-    /// The empty set that `new` makes, and all its members, in the order of their numbers, which
-    /// have done nothing yet. So nobody has a worker of the set but who is given a member by the
-    /// caller, until one is closed and goes home. (That each seat is empty until then is in no
-    /// clause; that these are as many members as there are workers, and all new, is.)
+    /// Makes the empty set that `new` makes, with all its members, in the order of their numbers,
+    /// which have done nothing yet. So only code that gets a member from the caller has a worker of
+    /// the set, until a member is closed. (Proved: there are as many members as workers, and all
+    /// are new. No clause says that each seat is empty until then.)
     ///
-    /// `Nodes`, `Workers`: as `new` tells them. `NoMemory`: nothing is kept.
+    /// Errors: `Nodes`, `Workers`: as of `new`. `NoMemory`: nothing is kept.
     pub fn with_members(
         alloc: Global,
         nodes: u32,
         workers: u32,
     ) -> Result<(Set, Vec<Member>), NewError>
         ensures open { IfOk result
-            (λ r. IsNewSet (in_radix (spaced nodes workers)) Fit.Near r.0) }
+            (λ r. IsNewSet (in_radix (spaced nodes workers)) Fit.NextFit r.0) }
         ensures count { IfOk result (λ r. length r.1.items ≡ workers) }
         ensures new { IfOk result (λ r. AreNewMembers r.0.tree r.0.fit 0 r.1.items) }
         ensures nodes { IsErrOf result NewError.Nodes
@@ -37,16 +37,16 @@ impl Set {
             ↔ IsLayoutFault MOST_SPACED_NODES nodes workers LayoutError.Workers }
     {
         let layout = Layout::spaced(nodes, workers)?.in_radix();
-        let (tree, all) = Tree::of(alloc, layout, Fit::Near)?;
+        let (tree, all) = Tree::of(alloc, layout, Fit::NextFit)?;
         let site = Site {
             tree,
-            fit: Fit::Near,
+            fit: Fit::NextFit,
         };
         give_out(alloc, site, all, workers)
     }
 }
 
-/// A set of a new tree, whose seats are so many, and a member for each of its workers.
+/// Makes a set of a new tree with this many seats, and a member for each of its workers.
 fn give_out(
     alloc: Global,
     site: Site,
@@ -74,8 +74,9 @@ fn give_out(
     }
 }
 
-/// A member for each of these workers, in their order; the room for all is asked for first. `None`:
-/// it was refused, or the home has as many members as can be counted, which 64 are not.
+/// Makes a member for each of these workers, in their order, after it has asked for the room of
+/// all. Returns `None` if the room was refused, or if the home has as many members as can be
+/// counted, which 64 are not.
 fn members_of(alloc: Global, home: &Arc<Home, Global>, workers: Vec<Worker>) -> Option<Vec<Member>>
     requires new { AreNew (arc_value home.now).tree 0 workers.items }
     requires fit { HaveFit (arc_value home.now).fit workers.items }

@@ -1,4 +1,4 @@
-//! The least and the greatest key are taken, by calls that tend the set.
+//! Managed calls that remove the least or the greatest key.
 ghost use Rattle.std.specs.Prelude.{◌≡◌, ◌≢◌, ◌<◌, true, false};
 ghost use Rattle.nm_tree.specs.declared.popping.End.TheVariants as ends;
 ghost use Rattle.nm_set.specs.Popping.{AskedForEnd, PopsOnce, SaysPopTended, TendsPopOf, pop_busy};
@@ -6,11 +6,11 @@ ghost use Rattle.nm_set.specs.Tended.{IsRetried};
 
 use crate::fault::Fault;
 use crate::member::Member;
-use crate::tended::Habit;
+use crate::tended::Options;
 use nm_edge::{Key, MOST_KEY};
 use nm_tree::{CallFault, End};
 
-/// Whether a round has come to nothing.
+/// Returns whether a round came to nothing.
 fn is_busy(told: &Result<Option<Key>, Fault>) -> bool
     ensures yes { result ≡ true → told.now ≡ pop_busy }
     ensures no { result ≡ false → told.now ≢ pop_busy }
@@ -19,88 +19,89 @@ fn is_busy(told: &Result<Option<Key>, Fault>) -> bool
 }
 
 impl Member {
-    /// Takes the least key out of the set: finds it and removes it, and looks for the least one
-    /// again where another worker has removed it in between. `Some(key)`: this call removed it, at
-    /// a moment of it, and of each lesser key there was a moment of this call at which the set did
-    /// not have it. `None`: so of each key. The moments of two keys may differ: so no key is passed
-    /// over that stood all along, and one that was inserted meanwhile may be. Each moment is later
-    /// than all that the worker had seen before.
+    /// Removes the least key of the set, and returns it; `None` if the set is empty. It finds the
+    /// least key and removes it, and looks for the least one again if another worker removed that
+    /// key in between. After `Some(key)`: this call removed the key, at a moment of the call; and
+    /// for each lesser key there was a moment of this call at which the set did not have it. After
+    /// `None`: the same for each key. Two keys may have different moments. So no key is passed over
+    /// that was present throughout, and one that was inserted meanwhile may be. Each moment is
+    /// later than all that the worker had seen before.
     ///
-    /// As `remove` does, it finishes the delete of an earlier call, and collects where so many nodes
-    /// wait. A round that came to nothing is retried, `rounds` times at most. Nothing is pending
-    /// behind an answer, `Busy` and `NoMemory`.
+    /// Like `remove`, it finishes the remove of an earlier call first, and collects if
+    /// `collect_after` nodes wait. It retries a round that came to nothing, at most `rounds` times.
+    /// Nothing is pending after an answer, `Busy` and `NoMemory`.
     ///
-    /// `Held`, `Pending`, `NoMemory`: as `remove` tells them. `Busy`: each round has come to
-    /// nothing, since others have removed the key that was found, or a call has lost each of its
-    /// tries. `Unfinished`: the least key, as above, goes by this call, and is pending; the next
-    /// call that tends the set finishes it first. (The name of Rust's `BTreeSet`.)
-    pub fn pop_first(&mut self, habit: &Habit) -> Result<Option<Key>, Fault>
+    /// Errors: `Pinned`, `Pending`, `NoMemory`: as of `remove`. `Busy`: each round came to nothing,
+    /// because others removed the key that was found, or because a call lost each of its tries.
+    /// `Unfinished`: the least key, as above, will be removed by this call, and is pending; the
+    /// next managed call finishes it first. (The name is that of Rust's `BTreeSet`.)
+    pub fn pop_first(&mut self, options: &Options) -> Result<Option<Key>, Fault>
         ensures tree { self.new.tree ≡ self.old.tree }
-        ensures says { SaysPopTended ◌<◌ self.old.tree habit.now self.old.worker self.new.worker
+        ensures says { SaysPopTended ◌<◌ self.old.tree options.now self.old.worker self.new.worker
             result }
-        ensures did { TendsPopOf ends.First self.old.tree habit.now self.old.worker self.new.worker
+        ensures did { TendsPopOf ends.First self.old.tree options.now self.old.worker self.new.worker
             result }
     {
-        self.pop(End::First, habit)
+        self.pop(End::First, options)
     }
 
-    /// Takes the greatest key out of the set: the same as `pop_first`, and each greater key was not
-    /// in the set at a moment of this call.
-    pub fn pop_last(&mut self, habit: &Habit) -> Result<Option<Key>, Fault>
+    /// Removes the greatest key of the set, like `pop_first`: for each greater key there was a
+    /// moment of this call at which the set did not have it.
+    pub fn pop_last(&mut self, options: &Options) -> Result<Option<Key>, Fault>
         ensures tree { self.new.tree ≡ self.old.tree }
-        ensures says { SaysPopTended (λ j key. key < j) self.old.tree habit.now self.old.worker
+        ensures says { SaysPopTended (λ j key. key < j) self.old.tree options.now self.old.worker
             self.new.worker result }
-        ensures did { TendsPopOf ends.Last self.old.tree habit.now self.old.worker self.new.worker
+        ensures did { TendsPopOf ends.Last self.old.tree options.now self.old.worker self.new.worker
             result }
     {
-        self.pop(End::Last, habit)
+        self.pop(End::Last, options)
     }
 
-    /// Takes the key at that end.
-    fn pop(&mut self, end: End, habit: &Habit) -> Result<Option<Key>, Fault>
+    /// Removes the key at that end.
+    fn pop(&mut self, end: End, options: &Options) -> Result<Option<Key>, Fault>
         ensures tree { self.new.tree ≡ self.old.tree }
-        ensures did { TendsPopOf end self.old.tree habit.now self.old.worker self.new.worker result }
+        ensures did { TendsPopOf end self.old.tree options.now self.old.worker self.new.worker result }
     {
-        if self.held().is_some() {
-            return Err(Fault::Held);
+        if self.pinned().is_some() {
+            return Err(Fault::Pinned);
         }
-        let Ok(_done) = self.finish_with_retries(habit) else {
+        let Ok(_done) = self.finish_with_retries(options) else {
             return Err(Fault::Call(CallFault::Pending));
         };
-        self.pop_with_retries(end, habit)
+        self.pop_with_retries(end, options)
     }
 
-    /// Rounds, until one has not come to nothing: `rounds` and one at most.
-    fn pop_with_retries(&mut self, end: End, habit: &Habit) -> Result<Option<Key>, Fault>
+    /// Makes rounds until one does not come to nothing: at most `rounds` and one.
+    fn pop_with_retries(&mut self, end: End, options: &Options) -> Result<Option<Key>, Fault>
         ensures tree { self.new.tree ≡ self.old.tree }
-        ensures did { IsRetried (PopsOnce end self.old.tree habit.now) pop_busy habit.now.rounds
+        ensures did { IsRetried (PopsOnce end self.old.tree options.now) pop_busy options.now.rounds
             self.old.worker self.new.worker result }
     {
-        for _round in 0..habit.rounds {
-            let told = self.pop_once(end, habit);
+        for _round in 0..options.rounds {
+            let told = self.pop_once(end, options);
             if !is_busy(&told) {
                 return told;
             }
         }
-        self.pop_once(end, habit)
+        self.pop_once(end, options)
     }
 
     /// Finds the key at that end, and removes it.
-    fn pop_once(&mut self, end: End, habit: &Habit) -> Result<Option<Key>, Fault>
+    fn pop_once(&mut self, end: End, options: &Options) -> Result<Option<Key>, Fault>
         ensures tree { self.new.tree ≡ self.old.tree }
-        ensures did { PopsOnce end self.old.tree habit.now self.old.worker self.new.worker result }
+        ensures did { PopsOnce end self.old.tree options.now self.old.worker self.new.worker result }
     {
-        let Some(key) = self.key_at(end, habit.tries)? else {
+        let Some(key) = self.key_at(end, options.tries)? else {
             return Ok(None);
         };
-        if self.remove(key, habit)? {
+        if self.remove(key, options)? {
             Ok(Some(key))
         } else {
             Err(Fault::Call(CallFault::Busy))
         }
     }
 
-    /// The key at that end.
+    /// Returns the key at that end.
     fn key_at(&mut self, end: End, tries: u32) -> Result<Option<Key>, Fault>
         ensures tree { self.new.tree ≡ self.old.tree }
         ensures did { AskedForEnd end self.old.tree.layout tries self.old.worker self.new.worker

@@ -1,4 +1,5 @@
-//! The seats of a tree's workers, each with the mailbox of its worker, and workers that sit on none.
+//! The seats of a tree's workers, each with the mailbox of its worker, and workers that are on no
+//! seat.
 ghost use Rattle.std.specs.Prelude.{◌≡◌, ◌<◌, ◌∷◌, [], ◌++◌, length, vec_capacity, option_map, None, IfOk, IfErr, IfSome, IsSome};
 ghost use Rattle.nm_steps.specs.Steps.{IsOf};
 ghost use Rattle.nm_tree.specs.Resigning.{HasResigned};
@@ -6,12 +7,12 @@ ghost use Rattle.nm_set.specs.Posts.{IsTallyOf};
 ghost use Rattle.nm_set.specs.Seats.{IsResident};
 
 use crate::home::Site;
-use crate::posting::{Mailbox, Posted, empty_mailbox, tally_of};
+use crate::posting::{Mailbox, Stamp, empty_mailbox, tally_of};
 use counted_slot::{Counted, FREE, Fits, MARKED, PRESENT, TAKEN};
 use nm_tree::{Tree, Worker};
 use std::marker::Model;
 
-/// A worker that is at home.
+/// A worker that is on its seat.
 #[derive(Drop)]
 pub(crate) struct Resident {
     worker: Worker,
@@ -23,9 +24,9 @@ impl Fits for Resident {
     ghost fits = { λ place r. IsResident place.0.tree place.0.fit place.1 r.worker };
 }
 
-/// The place of one worker of one tree. The word of it is `FREE` while the worker is at
-/// home, `PRESENT` while it is away, and `MARKED` once it has resigned or is kept by the set, and
-/// so does not come back.
+/// The place of one worker of one tree. Its word is `FREE` while the worker is on it, `PRESENT`
+/// while the worker is attached, and `MARKED` after it has resigned or is kept by the set, so that
+/// it does not come back.
 #[derive(Drop)]
 pub(crate) struct Seat {
     worker: Counted<Option<Resident>>,
@@ -44,7 +45,7 @@ impl Model for Seat {
 }
 
 impl Seat {
-    /// A seat whose worker is away, and has never sat on it.
+    /// Makes a seat whose worker is attached, and was never on it.
     pub(crate) fn vacant(place: &(Site, u32)) -> Seat
         ensures { result ≡ place.now }
     {
@@ -52,72 +53,72 @@ impl Seat {
             worker: Counted::new(None, place),
             mailbox: empty_mailbox(place),
         };
-        // Nobody sits there, so that its word alone changes.
+        // The seat is empty, so only its word changes.
         if let Some(sealed) = stand_up(&seat) {
             sealed.sit_down(&seat);
         }
         seat
     }
 
-    /// Where the worker of this seat leaves its letters.
+    /// Returns the mailbox of this seat's worker.
     pub(crate) fn mailbox(&self) -> &Mailbox
         ensures { result.now ≡ self.now }
     {
         &self.mailbox
     }
 
-    /// Whether the worker was found away, so that it may come back.
-    pub(crate) fn is_away(&self) -> bool {
+    /// Returns whether the worker was found attached, so that it may come back.
+    pub(crate) fn is_attached(&self) -> bool {
         let word = self.worker.load();
         word == PRESENT || word == TAKEN
     }
 }
 
-/// A worker that sits on no seat: a member has it, or it is on its way to one or from one. It is
-/// not `Drop`, and nor is its seal, which this file alone can name: whoever has it hands it on, on
-/// each way out of each function, or takes it apart here. So no worker is lost by a way out that
-/// was not thought of, and none is taken out of its seal elsewhere.
+/// A worker that is on no seat: a member has it, or it is on its way from or to a seat. It is not
+/// `Drop`, and neither is its seal, which only this file can name. So code that has it must hand it
+/// on, on each way out of each function, or take it apart here. No worker is lost by a way out that
+/// nobody thought of, and none is taken out of its seal elsewhere.
 pub(crate) struct SealedWorker {
     pub(crate) worker: Worker,
     seal: Seal,
 }
 
-/// What keeps a sealed worker whole. It says nothing else.
+/// Keeps a sealed worker whole, and does nothing else.
 struct Seal {}
 
-/// That a worker has gone home, and what it had done as it sat down. It is made there, and nowhere
-/// else.
+/// Evidence that a worker was returned, with what it had done by then. It is made at the return,
+/// and nowhere else.
 #[derive(Drop)]
-pub struct AtHome {
-    done: Posted,
+pub struct ReturnedWorker {
+    done: Stamp,
 }
 
-impl Model for AtHome {
-    ghost use Rattle.nm_set.specs.declared.posting.Posted.{Posted};
+impl Model for ReturnedWorker {
+    ghost use Rattle.nm_set.specs.declared.posting.Stamp.{Stamp};
 
-    ghost Value = { Posted };
+    ghost Value = { Stamp };
 
     ghost view = { λ a. a.done };
 }
 
-impl AtHome {
-    /// What the worker had done as it sat down.
-    pub fn done(&self) -> Posted
+impl ReturnedWorker {
+    /// Returns what the worker had done when it was returned.
+    pub fn done(&self) -> Stamp
         ensures { result ≡ self.now }
     {
         self.done
     }
 }
 
-/// Two workers of which one does not resign to the other, since it has a pending key. Both are as
-/// they were.
+/// Two workers of which one did not resign to the other, because it has a pending key. Both are
+/// unchanged.
 pub(crate) struct Stay {
     pub(crate) heir: SealedWorker,
     pub(crate) leaver: SealedWorker,
 }
 
 impl SealedWorker {
-    /// A worker that comes with its tree.
+    /// Seals a worker that comes with its tree.
     pub(crate) fn of(worker: Worker) -> SealedWorker
         ensures { result.worker ≡ worker }
     {
@@ -127,7 +128,7 @@ impl SealedWorker {
         }
     }
 
-    /// The worker alone.
+    /// Takes the worker out of its seal.
     fn apart(self) -> Worker
         ensures { result ≡ self.worker }
     {
@@ -136,28 +137,28 @@ impl SealedWorker {
         worker
     }
 
-    /// The worker sits down on its seat, with what it has done so far. Only the worker that sits
-    /// there leaves it empty, so that it is empty when that one comes home: where it were not,
-    /// which no clause can tell of a seat, the worker would end here.
-    pub(crate) fn sit_down(self, seat: &Seat) -> AtHome
+    /// Puts the worker on its seat, with what it has done so far. Only the worker of a seat leaves
+    /// it empty, so the seat is empty when that worker comes back. No clause can say so of a seat;
+    /// if it were not empty, the worker would end here.
+    pub(crate) fn sit_down(self, seat: &Seat) -> ReturnedWorker
         requires { IsResident seat.now.0.tree seat.now.0.fit seat.now.1 self.worker }
         ensures { IsTallyOf self.worker result }
     {
-        let at_home = AtHome {
+        let returned = ReturnedWorker {
             done: tally_of(&self.worker),
         };
-        let resident = self.at_home();
+        let resident = self.returned();
         let (found, claim) = seat.worker.turn(PRESENT, TAKEN);
         if found != PRESENT {
             claim.done();
-            return at_home;
+            return returned;
         }
         claim.put(Some(resident), FREE);
-        at_home
+        returned
     }
 
-    /// The worker as it sits at home, which is as it came.
-    fn at_home(self) -> Resident
+    /// Returns the worker as it is on its seat, which is as it came.
+    fn returned(self) -> Resident
         ensures { result.worker ≡ self.worker }
     {
         Resident {
@@ -165,7 +166,7 @@ impl SealedWorker {
         }
     }
 
-    /// The worker stays with these. There is room for it.
+    /// Keeps the worker with these. There is room for it.
     pub(crate) fn stay_with(self, workers: &mut Vec<Worker>)
         requires { length workers.old.items < vec_capacity workers.old }
         ensures items { workers.new.items ≡ workers.old.items ++ self.worker ∷ [] }
@@ -187,7 +188,7 @@ pub(crate) fn stand_up(seat: &Seat) -> Option<SealedWorker>
     sealed_of(claim.put(None, PRESENT))
 }
 
-/// Whoever has left a seat does not come back.
+/// Notes that the worker that left a seat does not come back.
 pub(crate) fn retire(seat: &Seat) {
     let (found, claim) = seat.worker.turn(PRESENT, TAKEN);
     if found != PRESENT {
@@ -205,7 +206,7 @@ pub(crate) fn leave(seat: Seat) -> Option<SealedWorker>
     sealed_of(worker.into_inner())
 }
 
-/// What was on a seat.
+/// Returns what was on a seat.
 fn sealed_of(found: Option<Resident>) -> Option<SealedWorker>
     ensures { option_map (λ (g : SealedWorker). g.worker) result
         ≡ option_map (λ (r : Resident). r.worker) found }
@@ -214,7 +215,8 @@ fn sealed_of(found: Option<Resident>) -> Option<SealedWorker>
     Some(SealedWorker::of(worker))
 }
 
-/// One worker resigns to another: `Tree::resign` of `nm_tree`. Refused, both are handed back.
+/// Lets one worker resign to another: `Tree::resign` of `nm_tree`. If that is refused, both are
+/// handed back.
 pub(crate) fn unite(
     tree: &Tree,
     heir: SealedWorker,

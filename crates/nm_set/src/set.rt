@@ -1,11 +1,11 @@
-//! Sets: a tree that gives out its workers as members, and is closed when all of them are at home,
-//! or with the set.
+//! Sets: a tree that gives out its workers as members, and is closed when all of them are returned,
+//! or kept by the set.
 ghost use Rattle.std.specs.Prelude.{◌≡◌, ◌≤◌, ◌↔◌, ◌++◌, ◌∷◌, [], true, false, IfOk, IfErr, IsErrOf, OnOk, OnErr, vec_capacity};
 ghost use Rattle.std.specs.Arc.{arc_value};
 ghost use Rattle.nm_edge.specs.Layouts.{IsLayoutFault, in_radix, spaced};
 ghost use Rattle.nm_tree.specs.Closing.{IsClosed};
 ghost use Rattle.nm_tree.specs.Workers.{AreNew, HaveFit};
-ghost use Rattle.nm_set.specs.Seats.{AreOwn, HasRoom, IsResident, IsAnyResident, TellsAway};
+ghost use Rattle.nm_set.specs.Seats.{AreOwn, HasRoom, IsResident, IsAnyResident, TellsAttached};
 ghost use Rattle.nm_set.specs.Ends.{EndsSet, IsLeftOpen, IsTreesReason, SaysEnded, told_reason};
 ghost use Rattle.nm_set.specs.States.{IsNewSet, open_set, closing_set, room_for_one};
 
@@ -22,15 +22,15 @@ use std::sync::Arc;
 /// Where the tree of a set is.
 #[derive(Drop)]
 pub(crate) enum State {
-    /// With its workers at home, and with its members.
+    /// In its home, with the workers that were returned. Members may have others.
     Open(Arc<Home, Global>),
-    /// Its workers were gathered, by a close that was refused behind that.
+    /// With its workers, which a close gathered before it was refused.
     Closing(Site),
 }
 
 impl State {
-    /// How many workers there must be room for, so that one is kept and all that are at home can
-    /// be gathered behind it.
+    /// Returns for how many workers there must be room, so that one more can be kept and all that
+    /// were returned can be gathered after it.
     fn room_for_one(&self) -> usize
         ensures { result ≡ room_for_one self.now }
     {
@@ -45,7 +45,7 @@ impl State {
 #[derive(Drop)]
 pub struct Set {
     state: State,
-    // The workers of members that the set keeps, and all of them once they were gathered.
+    // The workers of members that the set keeps, and all workers after they were gathered.
     kept: Vec<Worker>,
 }
 
@@ -62,7 +62,7 @@ impl Model for Set {
         × MayGather s.state s.kept.items (vec_capacity s.kept) };
 }
 
-/// A set was not closed. Behind `Away` it is as it was; behind the others its workers were
+/// A set was not closed. After `Attached` it is unchanged. After the other errors its workers were
 /// gathered, so that only `close` goes on. No worker is lost: those that it keeps are as they came.
 #[derive(Drop)]
 pub struct CloseError {
@@ -70,32 +70,36 @@ pub struct CloseError {
     pub set: Set,
 }
 
-/// There is no memory to keep a member. It is as it was.
+/// There is no memory to keep a member. The member is unchanged.
 #[derive(Drop)]
 pub struct KeepError {
     pub member: Member,
 }
 
 impl Set {
-    /// The empty set, in a radix tree with room for `nodes` nodes, 7 to 268,435,456, for 1 to 64
-    /// workers, whose announcements have pages of their own. No walk takes more than 66 nodes,
-    /// whatever keys come in whatever order; and each worker looks for a free slot near the one
-    /// that it found last or gave back since then: `Fit::Near`.
+    /// Makes the empty set, in a radix tree with room for `nodes` nodes, 7 to 268,435,456, for 1 to
+    /// 64 workers, each of which announces in a page of its own. No walk passes more than 66 nodes,
+    /// whatever keys come in whatever order. Each worker reuses the slots that it gave back, and
+    /// otherwise searches from where it found the last one: `Fit::NextFit`.
     ///
-    /// `NoMemory`: nothing is kept.
+    /// Errors: `Nodes`, `Workers`, `NoMemory`: nothing is kept.
     pub fn new(alloc: Global, nodes: u32, workers: u32) -> Result<Set, NewError>
-        ensures open { IfOk result (IsNewSet (in_radix (spaced nodes workers)) Fit.Near) }
+        ensures open { IfOk result (IsNewSet (in_radix (spaced nodes workers)) Fit.NextFit) }
         ensures nodes { IsErrOf result NewError.Nodes
             ↔ IsLayoutFault MOST_SPACED_NODES nodes workers LayoutError.Nodes }
         ensures workers { IsErrOf result NewError.Workers
             ↔ IsLayoutFault MOST_SPACED_NODES nodes workers LayoutError.Workers }
     {
-        made(alloc, Layout::spaced(nodes, workers)?.in_radix(), Fit::Near)
+        made(
+            alloc,
+            Layout::spaced(nodes, workers)?.in_radix(),
+            Fit::NextFit,
+        )
     }
 
-    /// The same, in the tree of Natarajan and Mittal, which keys that come in order make one long
-    /// path, and with that fit: with `Fit::Lowest` a new node takes the lowest free slot, for who
-    /// compares slots.
+    /// Makes the empty set in the tree of Natarajan and Mittal, in which keys that come in order
+    /// make one long path, and with the given fit. With `Fit::FirstFit` a new node takes the lowest
+    /// free slot: for tests that compare slots.
     pub fn unbalanced(alloc: Global, nodes: u32, workers: u32, fit: Fit) -> Result<Set, NewError>
         ensures open { IfOk result (IsNewSet (spaced nodes workers) fit) }
         ensures nodes { IsErrOf result NewError.Nodes
@@ -106,7 +110,7 @@ impl Set {
         made(alloc, Layout::spaced(nodes, workers)?, fit)
     }
 
-    /// An open set that keeps no workers.
+    /// Makes an open set that keeps no workers.
     pub(crate) fn of(alloc: Global, home: Arc<Home, Global>) -> Set
         ensures { result ≡ open_set (arc_value home) [] }
     {
@@ -116,9 +120,11 @@ impl Set {
         }
     }
 
-    /// Gives out the worker of a number, with all that it held when it went home. It is not held.
+    /// Gives out the worker of a number, with all that it held when it was returned. The caller has
+    /// not pinned it.
     ///
-    /// `Number`: the tree has no worker of that number. `Away`: the worker is not at home.
+    /// Errors: `Number`: the tree has no worker of that number. `Attached`: a member has the
+    /// worker, or it has resigned.
     pub fn member(&self, number: u32) -> Result<Member, MemberFault>
         ensures member { IfOk result
             (λ m. (m.tree ≡ self.now.tree)
@@ -126,6 +132,7 @@ impl Set {
         ensures number { IsErrOf result MemberFault.Number
             ↔ ((self.now.closing ≡ false) × (self.now.tree.layout.workers ≤ number)) }
         ensures closing { IsErrOf result MemberFault.Closing ↔ (self.now.closing ≡ true) }
+        ensures named { IsErrOf result MemberFault.NoWorker → ⊥ }
     {
         let home = match &self.state {
             State::Open(home) => home,
@@ -140,21 +147,22 @@ impl Set {
         match home.take(number) {
             Ok(sealed) => Ok(Member::of(home, sealed)),
             Err(Absence::Number) => Err(MemberFault::Number),
-            Err(Absence::Away) => Err(MemberFault::Away),
+            Err(Absence::Attached) => Err(MemberFault::Attached),
         }
     }
 
-    /// Gives out a worker that is at home, with all that it held when it went home, where the
-    /// caller names no number. It is not held. It looks at each seat once, in the order of their
-    /// numbers, and takes the first worker that it finds (which one that is, is shown by tests).
+    /// Gives out any worker that is not attached, with all that it held when it was returned. The
+    /// caller has not pinned it. It looks at each seat once, in the order of their numbers, and
+    /// takes the first worker that it finds (tested: which one that is).
     ///
-    /// `Away`: each seat was empty when it was looked at, once each, one after the other. That no
-    /// worker was at home at one moment is not said: one may have gone home to a seat behind the
+    /// Errors: `NoWorker`: each seat was empty when it was looked at, one after the other. That no
+    /// worker was free at one moment is not said: one may have been returned to a seat after the
     /// look at it.
     pub fn attach(&self) -> Result<Member, MemberFault>
         ensures member { IfOk result
             (λ m. (m.tree ≡ self.now.tree) × IsAnyResident self.now.tree self.now.fit m.worker) }
         ensures number { IsErrOf result MemberFault.Number → ⊥ }
+        ensures any { IsErrOf result MemberFault.Attached → ⊥ }
         ensures closing { IsErrOf result MemberFault.Closing ↔ (self.now.closing ≡ true) }
     {
         let State::Open(home) = &self.state else {
@@ -165,34 +173,36 @@ impl Set {
         };
         match take_any(&home) {
             Some(sealed) => Ok(Member::of(home, sealed)),
-            None => Err(MemberFault::Away),
+            None => Err(MemberFault::NoWorker),
         }
     }
 
-    /// Whether `close` would miss the worker of a number, since a member has it, as its seat was
-    /// found: so a program learns which member it has lost. One that has resigned is with its heir,
-    /// and one that the set keeps with the set: false.
+    /// Returns whether `close` would miss the worker of a number because a member has it, by the
+    /// state in which its seat was found. So a program learns which member it has lost. The answer
+    /// is false for a worker that has resigned, which is with its heir, and for one that the set
+    /// keeps.
     ///
-    /// `Number`: the tree has no worker of that number. `Closing`: a close has gathered all.
-    pub fn is_away(&self, number: u32) -> Result<bool, MemberFault>
-        ensures { TellsAway self.now number result }
+    /// Errors: `Number`: the tree has no worker of that number. `Closing`: a close has gathered all
+    /// workers.
+    pub fn is_attached(&self, number: u32) -> Result<bool, MemberFault>
+        ensures { TellsAttached self.now number result }
     {
         let State::Open(home) = &self.state else {
             return Err(MemberFault::Closing);
         };
-        match home.is_away(number) {
+        match home.is_attached(number) {
             Some(away) => Ok(away),
             None => Err(MemberFault::Number),
         }
     }
 
-    /// The set keeps the worker of a member that has done its part, with all that it did, holds and
-    /// has pending, for `close`. It is not at home, so no `member` gives it out; what the member
-    /// was answered, the report of the set then takes into account, as `close` says.
+    /// Keeps the worker of a member for `close`, with all that it did, holds and has pending. It is
+    /// not on its seat, so no `member` gives it out. The report of the set accounts for what the
+    /// member was answered, as `close` says.
     ///
-    /// The member must be of this set, which nobody can test: so this call has a condition, and it
-    /// is for a caller that proves something of the report. Others close their members. A growth
-    /// may be refused, and then nothing has changed.
+    /// The member must be of this set, which nobody can test. So this call has a condition, and is
+    /// for callers that prove something of the report. Others close their members. If a growth is
+    /// refused, nothing has changed.
     pub fn keep(&mut self, member: Member) -> Result<(), KeepError>
         requires own { member.tree ≡ self.old.tree }
         ensures kept { OnOk result
@@ -209,13 +219,13 @@ impl Set {
         }
     }
 
-    /// Ends the set when all its members are at home or kept, and tells what is left: `Tree::close`
-    /// of `nm_tree`, over the workers that the set keeps and those that are at home. A worker may
-    /// be held or have a pending key.
+    /// Ends the set when all its members are closed or kept, and returns the report: `Tree::close`
+    /// of `nm_tree`, over the workers that the set keeps and those that were returned. A caller may
+    /// hold a kept worker, and a key may be pending.
     ///
-    /// `Away`: a member is neither closed nor kept; the set is as it was. `NotAll`, `NoMemory`: see
-    /// `CloseReason`; the set keeps all workers that it has gathered, and `close` can be called
-    /// again. So the set that is handed back tells which it was.
+    /// Errors: `Attached`: a member is neither closed nor kept; the set is unchanged. `NotAll`,
+    /// `NoMemory`: see `CloseReason`; the set keeps all workers that it has gathered, and `close`
+    /// can be called again. So the set that is handed back shows which it was.
     pub fn close(self) -> Result<Report, CloseError>
         ensures says { IfOk result (SaysEnded self) }
         ensures closed { IfOk result (EndsSet self) }
@@ -235,7 +245,7 @@ impl Set {
     }
 }
 
-/// The empty set of a layout, whose workers claim by that fit. The only error is `NoMemory`.
+/// Makes the empty set of a layout, whose workers claim by that fit. The only error is `NoMemory`.
 fn made(alloc: Global, layout: Layout, fit: Fit) -> Result<Set, NewError>
     ensures open { IfOk result (IsNewSet layout fit) }
     ensures memory { IfErr result (λ e. e ≡ NewError.NoMemory) }
@@ -244,7 +254,7 @@ fn made(alloc: Global, layout: Layout, fit: Fit) -> Result<Set, NewError>
     settle(alloc, Site { tree, fit }, all, layout.workers())
 }
 
-/// A set of a new tree and all its workers, which go to their seats.
+/// Makes a set of a new tree and puts all its workers on their seats.
 fn settle(alloc: Global, site: Site, workers: Vec<Worker>, seats: u32) -> Result<Set, NewError>
     requires new { AreNew site.tree 0 workers.items }
     requires each { site.tree.layout.workers ≡ seats }
@@ -262,15 +272,15 @@ fn settle(alloc: Global, site: Site, workers: Vec<Worker>, seats: u32) -> Result
     }
 }
 
-/// An open set that is as it was, since others have its home.
+/// Returns an open set unchanged, because others have its home.
 fn left_open(home: Arc<Home, Global>, kept: Vec<Worker>) -> CloseError
     requires own { AreOwn (arc_value home).tree kept.items }
     requires room { HasRoom (arc_value home).tree kept.items (vec_capacity kept) }
-    ensures told { result.reason ≡ CloseReason.Away }
+    ensures told { result.reason ≡ CloseReason.Attached }
     ensures set { result.set ≡ open_set (arc_value home) kept.items }
 {
     CloseError {
-        reason: CloseReason::Away,
+        reason: CloseReason::Attached,
         set: Set {
             state: State::Open(home),
             kept,
@@ -302,7 +312,7 @@ pub(crate) fn end(site: Site, workers: Vec<Worker>) -> Result<Report, CloseError
     }
 }
 
-/// The tree's reason.
+/// Converts the tree's reason.
 fn reason_of(reason: nm_tree::CloseReason) -> CloseReason
     ensures { result ≡ told_reason reason }
 {

@@ -1,4 +1,4 @@
--- What handles own, and what calls with them tell.
+-- What handles own, and what calls on them return and leave.
 pub mod Places
 pub mod Handles
 pub mod Outcomes

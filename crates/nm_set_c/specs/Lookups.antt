@@ -1,5 +1,5 @@
--- What a call that looks several keys up tells and leaves: m is the worker before the call, n the
--- worker after it, and o the outcome that is told.
+-- What a call that looks up several keys returns and leaves: m is the worker before the call, n the
+-- worker after it, and o the outcome.
 use Rattle.std.specs.Prelude.{◌≡◌, ◌⊎◌, ℕ, Bool, true, false, List, map, All, Result, Ok, Err, IfOk, IfErr}
 use Rattle.nm_edge.specs.Keys.{IsKey}
 use Rattle.nm_calls.specs.declared.many.Query.{Query}
@@ -15,7 +15,7 @@ use Rattle.nm_set_c.specs.declared.outcome.Outcome.TheVariants as outcome
 abbrev pub key_looked_up : Lookup → ℕ
 key_looked_up l = l.key
 
--- a query with its answer, as it is written
+-- the answer of a query, as it is written
 abbrev pub found_bit : Bool → ℕ
 found_bit true = 1
 found_bit false = 0
@@ -28,17 +28,17 @@ lookup_of q = record { key = q.key; found = found_bit q.found }
 abbrev pub AreKeys : List Lookup → Type 0
 AreKeys ls = All (λ l. IsKey l.key) ls
 
--- nothing was asked: memory was refused, or one of the numbers is no key
+-- no look-up was made: memory was refused, or one of the numbers is no key
 abbrev pub IsUnasked : List Lookup → Outcome → Type 0
 IsUnasked ls o = (o ≡ outcome.NoMemory) ⊎ ((o ≡ outcome.Key) × (AreKeys ls → ⊥))
 
--- the outcome of what such a call answers
+-- the outcome of such a call, by its answer
 abbrev pub of_many : Result (Unit {0}) Fault → Outcome
 of_many (Ok u) = outcome.Done
 of_many (Err f) = of_fault f
 
--- the worker's call looks these keys up, and what it answers is told; its answers are written where
--- it has answered, and else nothing is
+-- the worker's call looks up these keys, and the outcome is that of its answer; the keys' answers
+-- are written if there was no error, and else nothing is written
 pub record LooksUp (tries : ℕ) (old new : List Lookup) (m n : MemberView) (o : Outcome) : Type 0 where
   pub asked : List Query
   pub answered : List Query
@@ -50,7 +50,7 @@ pub record LooksUp (tries : ℕ) (old new : List Lookup) (m n : MemberView) (o :
   pub written : IfOk answer (λ u. new ≡ map lookup_of answered)
   pub kept : IfErr answer (λ f. new ≡ old)
 
--- the one or the other
+-- no look-up was made, and nothing has changed; or the worker's call was made
 abbrev pub DoesContainsMany : ℕ → List Lookup → List Lookup → MemberView → MemberView → Outcome → Type 0
 DoesContainsMany tries old new m n o =
     (IsUnasked old o × (n ≡ m) × (new ≡ old)) ⊎ LooksUp tries old new m n o

@@ -1,4 +1,4 @@
--- What calls tell C.
+-- What calls return to C.
 use Rattle.std.specs.Prelude.{◌≡◌, ℤ, pos, negsuc, Bool, true, false, Result, Ok, Err}
 use Rattle.nm_tree.specs.declared.fault.CallFault.{CallFault as Lost}
 use Rattle.nm_tree.specs.declared.fault.CallFault.TheVariants as lost
@@ -32,25 +32,26 @@ code_of outcome.Busy = negsuc 8
 code_of outcome.Full = negsuc 9
 code_of outcome.Unfinished = negsuc 10
 code_of outcome.Pending = negsuc 11
-code_of outcome.Held = negsuc 12
-code_of outcome.NotHeld = negsuc 13
+code_of outcome.Pinned = negsuc 12
+code_of outcome.NotPinned = negsuc 13
 code_of outcome.Behind = negsuc 14
 code_of outcome.Lost = negsuc 15
 code_of outcome.Spent = negsuc 16
-code_of outcome.Away = negsuc 17
+code_of outcome.Attached = negsuc 17
 code_of outcome.Closing = negsuc 18
 code_of outcome.NotAll = negsuc 19
 code_of outcome.Uncounted = negsuc 20
 code_of outcome.InUse = negsuc 21
+code_of outcome.NoWorker = negsuc 22
 
--- a number that tells an outcome of which this holds
+-- the number is the code of an outcome that has this property
 abbrev pub IsCodeOf : (Outcome → Type 0) → ℤ → Type 0
 IsCodeOf P n = (o : Outcome) × (n ≡ code_of o) × P o
 
--- ---- what the calls of a set and its workers answer, as outcomes
+-- ---- the results of the calls of a set and its workers, as outcomes
 
 -- `of_bool`, `of_lost`, `of_fault`, `of_answer`, `of_finished`, `of_new`, `of_taking`,
--- `of_staying`, `of_reason`: the outcome of what a call of `nm_set` answers
+-- `of_staying`, `of_reason`: the outcome for the result of a call of `nm_set`
 abbrev pub of_bool : Bool → Outcome
 of_bool true = outcome.Yes
 of_bool false = outcome.No
@@ -63,7 +64,7 @@ of_lost lost.Unfinished = outcome.Unfinished
 of_lost lost.Pending = outcome.Pending
 
 abbrev pub of_fault : Fault → Outcome
-of_fault fault.Held = outcome.Held
+of_fault fault.Pinned = outcome.Pinned
 of_fault (fault.Call f) = of_lost f
 
 abbrev pub of_answer : Result Bool Fault → Outcome
@@ -81,16 +82,17 @@ of_new making.NoMemory = outcome.NoMemory
 
 abbrev pub of_taking : MemberFault → Outcome
 of_taking taking.Number = outcome.Number
-of_taking taking.Away = outcome.Away
+of_taking taking.Attached = outcome.Attached
+of_taking taking.NoWorker = outcome.NoWorker
 of_taking taking.Closing = outcome.Closing
 of_taking taking.Uncounted = outcome.Uncounted
 
 abbrev pub of_staying : ResignReason → Outcome
 of_staying staying.Number = outcome.Number
-of_staying staying.Away = outcome.Away
+of_staying staying.Attached = outcome.Attached
 of_staying staying.Pending = outcome.Pending
 
 abbrev pub of_reason : CloseReason → Outcome
-of_reason because.Away = outcome.Away
+of_reason because.Attached = outcome.Attached
 of_reason (because.NotAll given made) = outcome.NotAll
 of_reason because.NoMemory = outcome.NoMemory

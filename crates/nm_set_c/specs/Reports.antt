@@ -1,5 +1,5 @@
--- What calls on a report tell and leave: r is the report before the call, q the one after it, and o
--- the outcome that is told.
+-- What calls on a report return and leave: r is the report before the call, q the one after it, and
+-- o the outcome.
 use Rattle.std.specs.Prelude.{◌≡◌, ◌≢◌, ◌⊎◌, ℕ, length, [], ◌∷◌, Option, Some, None, slice_get}
 use Rattle.nm_epoch.specs.declared.collecting.Entry.{Entry}
 use Rattle.nm_epoch.specs.declared.collecting.HeldQueue.{HeldQueue}
@@ -8,30 +8,30 @@ use Rattle.nm_set_c.specs.declared.outcome.Outcome.{Outcome}
 use Rattle.nm_set_c.specs.declared.outcome.Outcome.TheVariants as outcome
 use Rattle.nm_set_c.specs.declared.reports.Waiting.{Waiting}
 
--- how many slots are free, and how many reached
+-- the numbers of free and of reached slots are written
 pub record TellsSlots (free reached : ℕ) (r q : Report) (o : Outcome) : Type 0 where
   pub told : o ≡ outcome.Done
   pub free_told : free ≡ r.free
   pub reached_told : reached ≡ r.reached
   pub same : q ≡ r
 
--- how many keys there are
+-- the number of keys is written
 pub record TellsKeys (count : ℕ) (r q : Report) (o : Outcome) : Type 0 where
   pub told : o ≡ outcome.Done
   pub count_told : count ≡ length r.keys.items
   pub same : q ≡ r
 
--- what stands at an index is written; or there is nothing, and nothing is written
+-- what is at an index is written; or there is nothing, and nothing is written
 abbrev pub IsFoundAt : Option ℕ → ℕ → ℕ → Outcome → Type 0
 IsFoundAt None old new o = (o ≡ outcome.Number) × (new ≡ old)
 IsFoundAt (Some k) old new o = (o ≡ outcome.Done) × (new ≡ k)
 
--- `TellsKey`, `TellsQueue`: what a report says at an index is written, and it is as it was
+-- `TellsKey`, `TellsQueue`: what the report has at an index is written, and the report is unchanged
 pub record TellsKey (index old key : ℕ) (r q : Report) (o : Outcome) : Type 0 where
   pub found : IsFoundAt (slice_get r.keys.items index) old key o
   pub same : q ≡ r
 
--- how many nodes of a queue wait
+-- how many nodes wait in a queue is written
 abbrev pub IsCounted : Option HeldQueue → ℕ → ℕ → Outcome → Type 0
 IsCounted None old new o = (o ≡ outcome.Number) × (new ≡ old)
 IsCounted (Some h) old new o = (o ≡ outcome.Done) × (new ≡ length h.queue.items)
@@ -42,13 +42,13 @@ pub record TellsQueue (worker old count : ℕ) (r q : Report) (o : Outcome) : Ty
 
 -- ---- a node taken out
 
--- it is this one
+-- what is written is this entry
 pub record IsEntry (w : Waiting) (e : Entry) : Type 0 where
   pub slot : w.slot ≡ e.node.slot
-  pub birth : w.birth ≡ e.node.birth
+  pub generation : w.generation ≡ e.node.birth
   pub label : w.label ≡ e.label
 
--- a report with another queue at that index, or at none
+-- the report has this queue at that index, and is otherwise unchanged
 pub record HasQueue (worker : ℕ) (h : HeldQueue) (r q : Report) : Type 0 where
   pub here : slice_get q.queues.items worker ≡ Some h
   pub others : (i : ℕ) → i ≢ worker → slice_get q.queues.items i ≡ slice_get r.queues.items i
@@ -56,8 +56,8 @@ pub record HasQueue (worker : ℕ) (h : HeldQueue) (r q : Report) : Type 0 where
   pub free : q.free ≡ r.free
   pub reached : q.reached ≡ r.reached
 
--- the oldest node of the queue, which is left without it; no, where none waits; or there is no such
--- queue
+-- the oldest node of the queue is written, and the queue is left without it; or none waits, and the
+-- outcome is `No`; or there is no such queue
 abbrev pub IsTakenOut : Option HeldQueue → ℕ → Waiting → Waiting → Report → Report → Outcome
     → Type 0
 IsTakenOut None worker old new r q o = (o ≡ outcome.Number) × (new ≡ old) × (q ≡ r)
@@ -66,6 +66,6 @@ IsTakenOut (Some h) worker old new r q o =
     ⊎ ((o ≡ outcome.Yes) × (e : Entry) × (g : HeldQueue) × (h.queue.items ≡ e ∷ g.queue.items)
     × (g.origin ≡ h.origin) × IsEntry new e × HasQueue worker g r q)
 
--- the oldest node of a queue is written and taken out; of the report nothing else changes
+-- the oldest node of a queue is written and taken out; nothing else of the report changes
 abbrev pub TakesOldest : ℕ → Waiting → Waiting → Report → Report → Outcome → Type 0
 TakesOldest worker old new r q o = IsTakenOut (slice_get r.queues.items worker) worker old new r q o

@@ -1,4 +1,4 @@
--- What calls on a set tell and leave.
+-- What calls on a set return and leave.
 use Rattle.std.specs.Prelude.{◌≡◌, ◌≤◌, ◌⊎◌, ◌↔◌, ℕ, Bool, true, false, [], Result, Ok, Err}
 use Rattle.nm_edge.specs.Layouts.{Layout}
 use Rattle.nm_edge.specs.declared.placement.Fit.{Fit}
@@ -6,7 +6,7 @@ use Rattle.nm_set.specs.declared.fault.CloseReason.{CloseReason}
 use Rattle.nm_set.specs.declared.fault.MemberFault.{MemberFault}
 use Rattle.nm_set.specs.declared.fault.MemberFault.TheVariants as taking
 use Rattle.nm_set.specs.Ends.{EndsMember, EndsSet, HasGathered, IsLeftOpen, set_of, told_reason}
-use Rattle.nm_set.specs.Seats.{SetView, MemberView, IsResident, IsAnyResident, TellsAway}
+use Rattle.nm_set.specs.Seats.{SetView, MemberView, IsResident, IsAnyResident, TellsAttached}
 use Rattle.nm_tree.specs.Workers.{WorkerView}
 use Rattle.nm_tree.specs.declared.closing.CloseReason.{CloseReason as Reason}
 use Rattle.nm_tree.specs.declared.closing.Report.{Report}
@@ -33,8 +33,8 @@ pub record IsNewSet (f : Fit) (L : Layout) (s : SetView) : Type 0 where
   pub fit : s.fit ≡ f
   pub layout : s.tree.layout ≡ L
 
--- with sizes that fit, the handle has a new set, or memory was refused; else which size does not
--- fit is told, the nodes first
+-- if the sizes are allowed, the handle has a new set, or memory was refused; otherwise the outcome
+-- names a size that is not allowed, the nodes first
 abbrev pub IsMade : Fit → Layout → ℕ → ℕ → Hold → Outcome → Type 0
 IsMade f L nodes workers new o =
     ((o ≡ outcome.Done) × HasNodes nodes × HasWorkers workers × (s : SetView)
@@ -43,15 +43,15 @@ IsMade f L nodes workers new o =
     ⊎ (((o ≡ outcome.Nodes) × (HasNodes nodes → ⊥) × (new ≡ Closed))
     ⊎ ((o ≡ outcome.Workers) × HasNodes nodes × (HasWorkers workers → ⊥) × (new ≡ Closed))))
 
--- a closed handle owns a new set; one that is open already, or in use, is as it was
+-- a closed handle owns a new set afterwards; one that is open already, or in use, is unchanged
 abbrev pub MakesSet : Fit → Layout → ℕ → ℕ → Hold → Hold → Outcome → Type 0
 MakesSet f L nodes workers old new o =
     CannotOpen old new o ⊎ ((old ≡ Closed) × IsMade f L nodes workers new o)
 
 -- ---- a worker of a set
 
--- what a set gives: a worker of its tree with that fit, of which this holds, or why not; which
--- faults there are is up to the call
+-- what a set gives: a worker of its tree with its fit that has this property; or the reason for
+-- which it gives none, which depends on the call
 abbrev pub GivesWorker : (SetView → WorkerView → Type 0) → (SetView → MemberFault → Type 0) → Owner
     → Result MemberView Outcome → Type 0
 GivesWorker which faults (Set s) (Ok m) = (s.closing ≡ false) × (m.tree ≡ s.tree) × which s m.worker
@@ -62,14 +62,15 @@ GivesWorker which faults (Worker m) r = r ≡ Err outcome.Kind
 GivesWorker which faults (Ended r) t = t ≡ Err outcome.Kind
 GivesWorker which faults Nothing r = r ≡ Err outcome.Kind
 
--- the handle has what was given, or memory was refused and it is closed; or nothing was given, why
--- is told, and it is closed
+-- the handle has the worker that was given; or memory was refused, or none was given, for the
+-- reason in the outcome, and the handle is closed
 abbrev pub Keeps : Result MemberView Outcome → Hold → Outcome → Type 0
 Keeps (Ok m) new o = ((o ≡ outcome.Done) × (new ≡ Open (Worker m)))
     ⊎ ((o ≡ outcome.NoMemory) × (new ≡ Closed))
 Keeps (Err why) new o = (o ≡ why) × (new ≡ Closed)
 
--- by the handle of the worker, which must be closed, and that of the set, which stays as it is
+-- the call for a worker by two handles: that of the worker, which must be closed, and that of the
+-- set, which is unchanged
 abbrev pub TakesByHandles : (Owner → Result MemberView Outcome → Type 0) → Hold → Hold → Hold
     → Outcome → Type 0
 TakesByHandles gives set old new o =
@@ -78,17 +79,18 @@ TakesByHandles gives set old new o =
     ⊎ ((old ≡ Closed) × (x : Owner) × (set ≡ Open x) × (r : Result MemberView Outcome) × gives x r
     × Keeps r new o))
 
--- the worker of a number
+-- the worker of that number
 abbrev pub IsNumbered : ℕ → SetView → WorkerView → Type 0
 IsNumbered number s w = IsResident s.tree s.fit number w
 
--- `NumberFaults`, `AnyFaults`: that the number is none of the tree's is told exactly of an open set
--- where it is none; and not told where any worker is asked for
+-- `NumberFaults`, `AnyFaults`: the call for a number returns `Number` exactly if the set is open and the
+-- tree has no such worker, and never `NoWorker`; the call for any worker returns neither `Number` nor
+-- `Attached`
 abbrev pub NumberFaults : ℕ → SetView → MemberFault → Type 0
-NumberFaults number s why = (why ≡ taking.Number)
-    ↔ ((s.closing ≡ false) × (s.tree.layout.workers ≤ number))
+NumberFaults number s why = ((why ≡ taking.Number)
+    ↔ ((s.closing ≡ false) × (s.tree.layout.workers ≤ number))) × (why ≡ taking.NoWorker → ⊥)
 
--- a closed handle owns the worker of that number
+-- a closed handle owns the worker of that number afterwards
 abbrev pub TakesWorker : ℕ → Hold → Hold → Hold → Outcome → Type 0
 TakesWorker number set old new o =
     TakesByHandles (GivesWorker (IsNumbered number) (NumberFaults number)) set old new o
@@ -98,42 +100,42 @@ abbrev pub IsAny : SetView → WorkerView → Type 0
 IsAny s w = IsAnyResident s.tree s.fit w
 
 abbrev pub AnyFaults : SetView → MemberFault → Type 0
-AnyFaults s why = why ≡ taking.Number → ⊥
+AnyFaults s why = (why ≡ taking.Number → ⊥) × (why ≡ taking.Attached → ⊥)
 
--- a closed handle owns a worker, of any number
+-- a closed handle owns a worker of any number afterwards
 abbrev pub Attaches : Hold → Hold → Hold → Outcome → Type 0
 Attaches set old new o = TakesByHandles (GivesWorker IsAny AnyFaults) set old new o
 
--- ---- a worker that is missed
+-- ---- a worker that is not returned
 
--- the outcome of what `Set::is_away` answers
+-- the outcome for the result of `Set::is_attached`
 abbrev pub of_missing : Result Bool MemberFault → Outcome
 of_missing (Ok away) = of_bool away
 of_missing (Err why) = of_taking why
 
--- what the set tells of the worker of a number
+-- what the set answers about the worker of a number
 abbrev pub MissesOwned : ℕ → Owner → Outcome → Type 0
 MissesOwned number (Set s) o =
-    (r : Result Bool MemberFault) × (o ≡ of_missing r) × TellsAway s number r
+    (r : Result Bool MemberFault) × (o ≡ of_missing r) × TellsAttached s number r
 MissesOwned number (Worker m) o = o ≡ outcome.Kind
 MissesOwned number (Ended r) o = o ≡ outcome.Kind
 MissesOwned number Nothing o = o ≡ outcome.Kind
 
--- so by the handle of the set
+-- the same by the handle of the set
 abbrev pub Misses : ℕ → Hold → Outcome → Type 0
 Misses number set o = IsRefused set set o ⊎ ((x : Owner) × (set ≡ Open x) × MissesOwned number x o)
 
--- ---- the end of a set
+-- ---- the close of a set
 
--- there is the report, or why not is told, and the set still, as that reason leaves it
+-- the report is there; or the outcome is the reason, and the set is there as that reason leaves it
 abbrev pub IsEnded : SetView → Owner → Outcome → Type 0
 IsEnded s new o =
     ((o ≡ outcome.Done) × (r : Report) × (new ≡ Ended r) × EndsSet s r)
     ⊎ ((why : CloseReason) × (o ≡ of_reason why) × (t : SetView) × (new ≡ Set t)
     × IsLeftOpen s why t)
 
--- `EndsOwner`, `EndsHandle`: a set's handle owns its report, by what it owned and by the handle;
--- anything else is refused
+-- `EndsOwner`, `EndsHandle`: a set's handle owns its report afterwards, by what it owned and by the
+-- handle; anything else is refused
 abbrev pub EndsOwner : Owner → Owner → Outcome → Type 0
 EndsOwner (Set s) new o = IsEnded s new o
 EndsOwner (Worker m) new o = (o ≡ outcome.Kind) × (new ≡ Worker m)
@@ -144,18 +146,18 @@ abbrev pub EndsHandle : Hold → Hold → Outcome → Type 0
 EndsHandle old new o = IsRefused old new o
     ⊎ ((x : Owner) × (old ≡ Open x) × (y : Owner) × (new ≡ Open y) × EndsOwner x y o)
 
--- ---- the end of a set by its last worker
+-- ---- the close of a set by its last worker
 
--- there is the report; or the worker still, as it was; or why its tree was not closed is told, and
--- there is the set, with the worker and those at home
+-- the report is there; or the worker is there, unchanged; or the outcome is the reason for which
+-- its tree was not closed, and the set is there, with the worker and those that had been returned
 abbrev pub IsEndedBy : MemberView → Owner → Outcome → Type 0
 IsEndedBy m new o =
     ((o ≡ outcome.Done) × (r : Report) × (new ≡ Ended r) × EndsMember m r)
-    ⊎ (((o ≡ outcome.Away) × (new ≡ Worker m))
+    ⊎ (((o ≡ outcome.Attached) × (new ≡ Worker m))
     ⊎ ((why : Reason) × (o ≡ of_reason (told_reason why)) × (t : SetView) × (new ≡ Set t)
     × HasGathered (set_of m) why t))
 
--- `EndsByOwner`, `EndsByHandle`: the handle of a set's last worker owns what stands there then, by
+-- `EndsByOwner`, `EndsByHandle`: the handle of a set's last worker owns what is left afterwards, by
 -- what it owned and by the handle; anything else is refused
 abbrev pub EndsByOwner : Owner → Owner → Outcome → Type 0
 EndsByOwner (Worker m) new o = IsEndedBy m new o
@@ -169,7 +171,7 @@ EndsByHandle old new o = IsRefused old new o
 
 -- ---- what any handle owns
 
--- it is given up: the handle is closed, and it told whether it was open
+-- what it owns is given up: the handle is closed, and the outcome says whether it was open
 abbrev pub GivesUp : Hold → Hold → Outcome → Type 0
 GivesUp old new o = IsRefused old new o
     ⊎ ((x : Owner) × (old ≡ Open x) × (o ≡ outcome.Done) × (new ≡ Closed))

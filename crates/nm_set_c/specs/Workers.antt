@@ -1,5 +1,5 @@
--- What calls on a worker tell and leave: m is the worker before the call, n the worker after it,
--- and o the outcome that is told.
+-- What calls on a worker return and leave: m is the worker before the call, n the worker after it,
+-- and o the outcome.
 use Rattle.std.specs.Prelude.{◌≡◌, ◌⊎◌, ℕ, Bool, option_map, Option, Some, None, Result, Ok, Err}
 use Rattle.nm_edge.specs.Keys.{IsKey}
 use Rattle.nm_model.specs.declared.event.Op.TheVariants.{Has, Insert, Delete}
@@ -16,21 +16,21 @@ use Rattle.nm_tree.specs.Calls.{SaysHas, SaysInsert, SaysDelete, SaysFinish, Lea
 use Rattle.nm_set.specs.Asked.{Asked, AskedToPin, AskedToUnpin}
 use Rattle.nm_set.specs.declared.fault.Fault.{Fault}
 use Rattle.nm_set.specs.declared.fault.InsertFault.{InsertFault}
-use Rattle.nm_set.specs.declared.fault.NotHeld.{NotHeld}
+use Rattle.nm_set.specs.declared.fault.NotPinned.{NotPinned}
 use Rattle.nm_set.specs.declared.fault.PinFault.{PinFault}
 use Rattle.nm_set.specs.declared.fault.PinFault.TheVariants as pinning
 use Rattle.nm_set.specs.declared.fault.ResignReason.{ResignReason}
-use Rattle.nm_set.specs.declared.tended.Habit.{Habit}
+use Rattle.nm_set.specs.declared.tended.Options.{Options}
 use Rattle.nm_set.specs.Seats.{MemberView, IsResident, IsStaying}
 use Rattle.nm_set.specs.Tended.{SaysTended, TendsHas, TendsInsert, TendsDelete, of_insert}
 use Rattle.nm_set_c.specs.Outcomes.{of_answer, of_finished, of_staying}
 use Rattle.nm_set_c.specs.declared.outcome.Outcome.{Outcome}
 use Rattle.nm_set_c.specs.declared.outcome.Outcome.TheVariants as outcome
-use Rattle.nm_set_c.specs.declared.workers.Ledger.{Ledger}
+use Rattle.nm_set_c.specs.declared.workers.Stats.{Stats}
 
 -- ---- keys
 
--- the worker's call answers, and what it answers is told
+-- the worker's call is made, and the outcome is that of its answer
 pub record Answers (does : WorkerView → WorkerView → Result Bool Fault → Type 0) (m n : MemberView)
     (o : Outcome) : Type 0 where
   pub answer : Result Bool Fault
@@ -38,7 +38,7 @@ pub record Answers (does : WorkerView → WorkerView → Result Bool Fault → T
   pub tree : n.tree ≡ m.tree
   pub did : does m.worker n.worker answer
 
--- the same of a call that goes on with a delete
+-- the same for a call that goes on with a remove
 pub record Finishes (leaves : WorkerView → WorkerView → Result Bool Lost → Type 0) (m n : MemberView)
     (o : Outcome) : Type 0 where
   pub answer : Result Bool Lost
@@ -46,7 +46,7 @@ pub record Finishes (leaves : WorkerView → WorkerView → Result Bool Lost →
   pub tree : n.tree ≡ m.tree
   pub did : leaves m.worker n.worker answer
 
--- a number that is no key is told as such, and the worker is as it was
+-- if the number is no key, the outcome is `Key`, and the worker is unchanged
 abbrev pub OfKey : ℕ → Type 0 → MemberView → MemberView → Outcome → Type 0
 OfKey k did m n o = (IsKey k × did) ⊎ ((IsKey k → ⊥) × (o ≡ outcome.Key) × (n ≡ m))
 
@@ -65,8 +65,8 @@ DoesTryRemove tries k m n o = OfKey k (Answers (Asked (LeavesDelete m.tree.layou
 abbrev pub DoesFinish : ℕ → MemberView → MemberView → Outcome → Type 0
 DoesFinish tries m n o = Finishes (LeavesFinish m.tree.layout tries) m n o
 
--- `TellsTryContains`, `TellsTryInsert`, `TellsTryRemove`, `TellsFinish`: what a caller has of such a
--- call
+-- `TellsTryContains`, `TellsTryInsert`, `TellsTryRemove`, `TellsFinish`: what a caller learns from
+-- such a call
 abbrev pub TellsTryContains : ℕ → ℕ → MemberView → MemberView → Outcome → Type 0
 TellsTryContains tries k m n o = OfKey k (Answers (Asked (SaysHas m.tree.layout tries k)) m n o) m n o
 
@@ -79,47 +79,47 @@ TellsTryRemove tries k m n o = OfKey k (Answers (Asked (SaysDelete m.tree.layout
 abbrev pub TellsFinish : ℕ → MemberView → MemberView → Outcome → Type 0
 TellsFinish tries m n o = Finishes (SaysFinish m.tree.layout tries) m n o
 
--- ---- keys, by calls that tend the set
+-- ---- keys, by managed calls
 
--- an insert that tends the set, by what it tells without who holds memory back
-abbrev pub InsertsTelling : TreeView → Habit → ℕ → WorkerView → WorkerView → Result Bool Fault → Type 0
+-- a managed insert, by its result without the worker that holds memory back
+abbrev pub InsertsTelling : TreeView → Options → ℕ → WorkerView → WorkerView → Result Bool Fault → Type 0
 InsertsTelling b h k w z r =
     (told : Result Bool InsertFault) × (r ≡ of_insert told) × TendsInsert b h k w z told
 
--- `DoesContains`, `DoesInsert`, `DoesRemove`: the same of the member's calls that tend the set
-abbrev pub DoesContains : Habit → ℕ → MemberView → MemberView → Outcome → Type 0
+-- `DoesContains`, `DoesInsert`, `DoesRemove`: the same for the member's managed calls
+abbrev pub DoesContains : Options → ℕ → MemberView → MemberView → Outcome → Type 0
 DoesContains h k m n o = OfKey k (Answers (TendsHas m.tree h k) m n o) m n o
 
-abbrev pub DoesInsert : Habit → ℕ → MemberView → MemberView → Outcome → Type 0
+abbrev pub DoesInsert : Options → ℕ → MemberView → MemberView → Outcome → Type 0
 DoesInsert h k m n o = OfKey k (Answers (InsertsTelling m.tree h k) m n o) m n o
 
-abbrev pub DoesRemove : Habit → ℕ → MemberView → MemberView → Outcome → Type 0
+abbrev pub DoesRemove : Options → ℕ → MemberView → MemberView → Outcome → Type 0
 DoesRemove h k m n o = OfKey k (Answers (TendsDelete m.tree h k) m n o) m n o
 
--- `TellsContains`, `TellsInsert`, `TellsRemove`: what a caller has of it
-abbrev pub TellsContains : Habit → ℕ → MemberView → MemberView → Outcome → Type 0
+-- `TellsContains`, `TellsInsert`, `TellsRemove`: what a caller learns from such a call
+abbrev pub TellsContains : Options → ℕ → MemberView → MemberView → Outcome → Type 0
 TellsContains h k m n o = OfKey k (Answers (SaysTended Has m.tree h k) m n o) m n o
 
-abbrev pub TellsInsert : Habit → ℕ → MemberView → MemberView → Outcome → Type 0
+abbrev pub TellsInsert : Options → ℕ → MemberView → MemberView → Outcome → Type 0
 TellsInsert h k m n o = OfKey k (Answers (SaysTended Insert m.tree h k) m n o) m n o
 
-abbrev pub TellsRemove : Habit → ℕ → MemberView → MemberView → Outcome → Type 0
+abbrev pub TellsRemove : Options → ℕ → MemberView → MemberView → Outcome → Type 0
 TellsRemove h k m n o = OfKey k (Answers (SaysTended Delete m.tree h k) m n o) m n o
 
 -- ---- epochs
 
--- `of_pin`, `of_unpin`, `of_advance`: the outcome of what such a call answers
+-- `of_pin`, `of_unpin`, `of_advance`: the outcome of such a call, by its answer
 abbrev pub of_pin : Result ℕ PinFault → Outcome
 of_pin (Ok e) = outcome.Done
-of_pin (Err pinning.Held) = outcome.Held
+of_pin (Err pinning.Pinned) = outcome.Pinned
 of_pin (Err (pinning.Call (unpinned.Moved e))) = outcome.Busy
 of_pin (Err (pinning.Call unpinned.Pending)) = outcome.Pending
 
--- the epoch that is written, or what stood there
+-- the epoch that is written, or the value that was there before
 abbrev pub pin_epoch : Result ℕ PinFault → ℕ → ℕ
 pin_epoch (Ok e) old = e
 pin_epoch (Err (pinning.Call (unpinned.Moved e))) old = e
-pin_epoch (Err pinning.Held) old = old
+pin_epoch (Err pinning.Pinned) old = old
 pin_epoch (Err (pinning.Call unpinned.Pending)) old = old
 
 pub record DoesPin (tries old epoch : ℕ) (m n : MemberView) (o : Outcome) : Type 0 where
@@ -129,12 +129,12 @@ pub record DoesPin (tries old epoch : ℕ) (m n : MemberView) (o : Outcome) : Ty
   pub tree : n.tree ≡ m.tree
   pub did : AskedToPin tries m.worker n.worker answer
 
-abbrev pub of_unpin : Result (Unit {0}) NotHeld → Outcome
+abbrev pub of_unpin : Result (Unit {0}) NotPinned → Outcome
 of_unpin (Ok u) = outcome.Done
-of_unpin (Err f) = outcome.NotHeld
+of_unpin (Err f) = outcome.NotPinned
 
 pub record DoesUnpin (m n : MemberView) (o : Outcome) : Type 0 where
-  pub answer : Result (Unit {0}) NotHeld
+  pub answer : Result (Unit {0}) NotPinned
   pub told : o ≡ of_unpin answer
   pub tree : n.tree ≡ m.tree
   pub did : AskedToUnpin m.worker n.worker answer
@@ -145,8 +145,8 @@ of_advance (advance.Held w e) = outcome.Behind
 of_advance (advance.Lost e) = outcome.Lost
 of_advance advance.Spent = outcome.Spent
 
--- `advance_epoch`, `advance_worker`: the epoch and the worker that a move of the epoch writes, or
--- what stood there
+-- `advance_epoch`, `advance_worker`: the epoch and the worker that an advance writes, or the values
+-- that were there before
 abbrev pub advance_epoch : Advance → ℕ → ℕ
 advance_epoch (advance.Moved e) old = e
 advance_epoch (advance.Held w e) old = e
@@ -182,18 +182,19 @@ pub record DoesCollect (epoch freed : ℕ) (m n : MemberView) (o : Outcome) : Ty
 
 -- ---- what is read of a worker
 
--- a number is written and done told
+-- a number is written, and the outcome is `Done`
 pub record TellsNumber (value new : ℕ) (m n : MemberView) (o : Outcome) : Type 0 where
   pub told : o ≡ outcome.Done
   pub value_told : new ≡ value
   pub same : n ≡ m
 
--- yes, and the number is written; or no, and nothing is
+-- the outcome is `Yes`, and the number is written; or it is `No`, and nothing is written
 abbrev pub IsOptionTold : Option ℕ → ℕ → ℕ → Outcome → Type 0
 IsOptionTold None old new o = (o ≡ outcome.No) × (new ≡ old)
 IsOptionTold (Some k) old new o = (o ≡ outcome.Yes) × (new ≡ k)
 
--- `TellsOption`, `TellsLedger`: what a worker tells of itself is written, and it is as it was
+-- `TellsOption`, `TellsStats`: what a worker reports of itself is written, and the worker is
+-- unchanged
 pub record TellsOption (value : Option ℕ) (old new : ℕ) (m n : MemberView) (o : Outcome) : Type 0 where
   pub told : IsOptionTold value old new o
   pub same : n ≡ m
@@ -201,7 +202,7 @@ pub record TellsOption (value : Option ℕ) (old new : ℕ) (m n : MemberView) (
 abbrev pub pending_key : WorkerView → Option ℕ
 pending_key w = option_map (λ (u : Unfinished). u.key) w.pending
 
-abbrev pub counts_of : Ledger → Counts
+abbrev pub counts_of : Stats → Counts
 counts_of l = record {
   links = l.links;
   flags = l.flags;
@@ -211,15 +212,15 @@ counts_of l = record {
   queued = l.queued;
 }
 
-pub record TellsLedger (ledger : Ledger) (m n : MemberView) (o : Outcome) : Type 0 where
+pub record TellsStats (ledger : Stats) (m n : MemberView) (o : Outcome) : Type 0 where
   pub told : o ≡ outcome.Done
   pub counts : IsLedger m.worker.pass.view m.worker.pass.view.number (counts_of ledger)
   pub same : n ≡ m
 
 -- ---- the end of another worker
 
--- the worker of that number, which was at home, has resigned to this one; or it has not, for the
--- reason that is told, and this one is as it was
+-- the worker of that number, which was on its seat, has resigned to this one; or it has not, for
+-- the reason in the outcome, and this one is unchanged
 abbrev pub DoesResign : ℕ → MemberView → MemberView → Outcome → Type 0
 DoesResign leaver m n o =
     ((o ≡ outcome.Done) × (n.tree ≡ m.tree) × (w : WorkerView) × IsResident m.tree m.worker.fit leaver w

@@ -10,9 +10,11 @@ use nm_set::EndError;
 use std::alloc::Global;
 use std::mem::replace;
 
-/// Ends the set when all its workers are closed: `Set::close` of `nm_set`. `Done`, and the handle
-/// owns the report from then on. `Away`, `NotAll`, `NoMemory`: the handle owns the set still, as it
-/// was behind `Away`, and with all workers gathered behind the others. `Closed`, `InUse`, `Kind`.
+/// Ends the set when all its workers are closed: `Set::close` of `nm_set`. Returns `Done`, and the
+/// handle owns the report from then on.
+///
+/// Errors: `Attached`: the handle still owns the set, unchanged. `NotAll`, `NoMemory`: the handle
+/// still owns the set, and all workers were gathered. `Closed`, `InUse`, `Kind`.
 #[unsafe(no_mangle)]
 pub extern "C" fn nm_set_close(alloc: Global, set: &mut Handle) -> i32
     ensures { IsCodeOf (EndsHandle (held_by set.old) (held_by set.new)) result }
@@ -40,12 +42,14 @@ fn end(owner: Owner) -> (Owner, Outcome)
     }
 }
 
-/// Ends the set by its last worker, once its own handle was dropped and all its other workers are
-/// closed: `Member::end` of `nm_set`. `Done`, and the handle owns the report from then on, which is
-/// told of the tree on which this worker has worked, and of all that it has done. `Away`: the
-/// handle of the set or that of another worker is open still, and the worker is as it was.
-/// `NotAll`, `NoMemory`: all workers were gathered; the handle owns the set from then on, and only
-/// `nm_set_close` goes on. `Closed`, `InUse`, `Kind`.
+/// Ends the set by its last worker, after the set's own handle was dropped and all its other
+/// workers were closed: `Member::end` of `nm_set`. Returns `Done`, and the handle owns the report
+/// from then on. It is the report of the tree on which this worker has worked, with all that the
+/// worker has done.
+///
+/// Errors: `Attached`: the handle of the set or of another worker is still open, and the worker is
+/// unchanged. `NotAll`, `NoMemory`: all workers were gathered; the handle owns the set from then
+/// on, and only `nm_set_close` goes on. `Closed`, `InUse`, `Kind`.
 #[unsafe(no_mangle)]
 pub extern "C" fn nm_worker_end(alloc: Global, worker: &mut Handle) -> i32
     ensures { IsCodeOf (EndsByHandle (held_by worker.old) (held_by worker.new)) result }
@@ -69,7 +73,7 @@ fn end_by_worker(owner: Owner) -> (Owner, Outcome)
     };
     match member.end() {
         Ok(report) => (Owner::Ended(report), Outcome::Done),
-        Err(EndError::Away(member)) => (Owner::Worker(member), Outcome::Away),
+        Err(EndError::Attached(member)) => (Owner::Worker(member), Outcome::Attached),
         Err(EndError::Gathered(error)) => {
             (Owner::Set(error.set), Outcome::of_reason(error.reason))
         }

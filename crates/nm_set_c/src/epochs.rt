@@ -12,8 +12,11 @@ use crate::outcome::Outcome;
 use nm_set::{Advance, CallPinFault, Member, PinFault};
 use std::alloc::Global;
 
-/// Pins the epoch for the caller, until unpin, and writes it: `Member::pin` of `nm_set`. `Done`;
-/// `Busy`, with the epoch last read written; `Pending`, `Held`; `Closed`, `InUse`, `Kind`.
+/// Pins the epoch for the caller, until unpin, and writes it: `Member::pin` of `nm_set`. Returns
+/// `Done`.
+///
+/// Errors: `Busy`: the epoch that was read last is written. `Pending`, `Pinned`, `Closed`, `InUse`,
+/// `Kind`.
 #[unsafe(no_mangle)]
 pub extern "C" fn nm_worker_pin(
     alloc: Global,
@@ -35,7 +38,7 @@ fn pin(member: &mut Member, tries: u32, epoch: &mut u64) -> Outcome
             *epoch = pinned;
             Outcome::Done
         }
-        Err(PinFault::Held) => Outcome::Held,
+        Err(PinFault::Pinned) => Outcome::Pinned,
         Err(PinFault::Call(CallPinFault::Pending)) => Outcome::Pending,
         Err(PinFault::Call(CallPinFault::Moved { epoch: found })) => {
             *epoch = found;
@@ -44,8 +47,8 @@ fn pin(member: &mut Member, tries: u32, epoch: &mut u64) -> Outcome
     }
 }
 
-/// Ends the caller's pin: `Done`, or `NotHeld`: `Member::unpin` of `nm_set`. `Closed`, `InUse`,
-/// `Kind`.
+/// Ends the caller's pin: `Member::unpin` of `nm_set`. Returns `Done`. Errors: `NotPinned`,
+/// `Closed`, `InUse`, `Kind`.
 #[unsafe(no_mangle)]
 pub extern "C" fn nm_worker_unpin(alloc: Global, worker: &mut Handle) -> i32
     ensures { IsCodeOf (OfWorker (DoesUnpin) ⊤ (held_by worker.old) (held_by worker.new)) result }
@@ -58,13 +61,16 @@ fn unpin(member: &mut Member) -> Outcome
 {
     match member.unpin() {
         Ok(()) => Outcome::Done,
-        Err(_) => Outcome::NotHeld,
+        Err(_) => Outcome::NotPinned,
     }
 }
 
-/// Moves the epoch on by one, if no worker holds it back: `Member::advance` of `nm_set`. `Done` and
-/// the new epoch; `Behind`, that a worker is, with its number and the epoch that it announces;
-/// `Lost` and the epoch to which another worker moved it; `Spent`. `Closed`, `InUse`, `Kind`.
+/// Advances the epoch by one, if no worker holds it back: `Member::advance` of `nm_set`. Returns
+/// `Done` and writes the new epoch.
+///
+/// Errors: `Behind`: a worker holds it back; its number and the epoch that it announces are
+/// written. `Lost`: the epoch to which another worker advanced it is written. `Spent`, `Closed`,
+/// `InUse`, `Kind`.
 #[unsafe(no_mangle)]
 pub extern "C" fn nm_worker_advance(
     alloc: Global,
@@ -103,9 +109,9 @@ fn advance(member: &mut Member, epoch: &mut u64, behind: &mut u32) -> Outcome
     }
 }
 
-/// Which workers hold the epoch back: `Done`, the epoch, and a mask with bit w set exactly where
-/// worker w was found announcing another one: `Member::behind` of `nm_set`. `Closed`, `InUse`,
-/// `Kind`.
+/// Finds which workers hold the epoch back: `Member::behind` of `nm_set`. Returns `Done`, and
+/// writes the epoch and a mask; bit w is set exactly if worker w was found announcing another
+/// epoch. Errors: `Closed`, `InUse`, `Kind`.
 #[unsafe(no_mangle)]
 pub extern "C" fn nm_worker_behind(
     alloc: Global,
@@ -129,8 +135,9 @@ fn behind(member: &mut Member, epoch: &mut u64, mask: &mut u64) -> Outcome
     Outcome::Done
 }
 
-/// Frees what is ripe in the queues that the worker holds: `Done`, the epoch, and how many nodes
-/// were freed: `Member::collect` of `nm_set`. `Closed`, `InUse`, `Kind`.
+/// Frees what has waited long enough in the queues that the worker holds: `Member::collect` of
+/// `nm_set`. Returns `Done`, and writes the epoch and how many nodes were freed. Errors: `Closed`,
+/// `InUse`, `Kind`.
 #[unsafe(no_mangle)]
 pub extern "C" fn nm_worker_collect(
     alloc: Global,

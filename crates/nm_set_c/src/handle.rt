@@ -10,16 +10,17 @@ use crate::word::swap;
 use std::alloc::Global;
 use std::hint::spin_loop;
 
-/// How often a call looks at a handle of a set that another call has, before it tells so: some
-/// tenths of a second, so that a thread which the system stops as it takes a worker is waited for.
+/// How often a call looks at a handle of a set that another call has, before it returns `InUse`.
+/// That takes some tenths of a second, so that it waits for a thread that the system stops while it
+/// takes a worker.
 const LOOKS: u32 = 1 << 23;
 
 /// A handle for C: what it owns, and whether a call has it at this moment. Both words are zero
 /// while it is closed.
 ///
 /// A call takes the handle by one atomic exchange before it reads what is owned, and gives it back
-/// by another one behind its last write. So of two threads that use one handle at once the second
-/// finds it in use, and touches nothing.
+/// by another one after its last write. So if two threads use one handle at once, the second finds
+/// it in use, and touches nothing.
 #[repr(C)]
 #[derive(Drop)]
 pub struct Handle {
@@ -28,7 +29,7 @@ pub struct Handle {
 }
 
 impl Handle {
-    /// A handle that owns nothing.
+    /// Makes a handle that owns nothing.
     pub(crate) fn closed(alloc: Global) -> Handle
         ensures { held_by result ≡ Closed }
     {
@@ -38,10 +39,10 @@ impl Handle {
         }
     }
 
-    /// Takes what the handle owns for one call, which gives it back by `put` or ends it by `shut`:
-    /// until then the handle is in use.
+    /// Takes what the handle owns for one call, which gives it back by `put` or ends it by `shut`.
+    /// Until then the handle is in use.
     ///
-    /// `Closed`, `InUse`: the handle is as it was.
+    /// Errors: `Closed`, `InUse`: the handle is unchanged.
     pub(crate) fn claim(&mut self, alloc: Global) -> Result<Box<Owner>, Outcome>
         ensures claimed { IfOk result (λ b. held_by self.old ≡ Open b.value) }
         ensures emptied { IfOk result (λ _. self.new.place.held ≡ None) }
@@ -59,7 +60,7 @@ impl Handle {
         }
     }
 
-    /// The same, but it looks again for a while where another call has the handle.
+    /// Claims the handle, and looks again for a while if another call has it.
     pub(crate) fn claim_soon(&mut self, alloc: Global) -> Result<Box<Owner>, Outcome>
         ensures claimed { IfOk result (λ b. held_by self.old ≡ Open b.value) }
         ensures emptied { IfOk result (λ _. self.new.place.held ≡ None) }
@@ -74,10 +75,9 @@ impl Handle {
         self.claim(alloc)
     }
 
-    /// Takes a handle that is closed for a call that opens it by `put`, or leaves it closed by
-    /// `shut`.
+    /// Takes a closed handle for a call that opens it by `put`, or leaves it closed by `shut`.
     ///
-    /// `Open`, `InUse`: the handle is as it was.
+    /// Errors: `Open`, `InUse`: the handle is unchanged.
     pub(crate) fn reserve(&mut self, alloc: Global) -> Result<(), Outcome>
         ensures reserved { IfOk result (λ _. held_by self.old ≡ Closed) }
         ensures emptied { IfOk result (λ _. self.new.place.held ≡ None) }
@@ -112,10 +112,10 @@ impl Handle {
     }
 }
 
-/// What an export does with a worker or a report, by its handle: it claims what the handle owns,
-/// makes this call of it, gives it back, and has the outcome's number. It returns from the export
-/// where the claim is refused, where the handle owns something else, `Kind`, and where the number
-/// that is named behind it is no key, `Key`.
+/// Makes a call on a worker or a report, by its handle, as exports do: it claims what the handle
+/// owns, makes the call, gives it back, and has the outcome's number. It returns from the export if
+/// the claim is refused, if the handle owns something else (`Kind`), and if the number that is
+/// named after the kind is no key (`Key`).
 macro_rules! by_handle {
     ($alloc:ident, $handle:ident, $kind:ident($owned:ident) $(, $key:ident)? => $call:expr) => {{
         let mut owner = match $handle.claim($alloc) {

@@ -1,4 +1,4 @@
-//! Calls for a key, by the handle of a worker.
+//! Calls of the tree for a key, by the handle of a worker.
 #![tactic(auto, using(crate::proofs::Owners::asked_of_worker))]
 
 ghost use Rattle.std.specs.Prelude.{⊤};
@@ -12,8 +12,8 @@ use crate::outcome::Outcome;
 use nm_set::Member;
 use std::alloc::Global;
 
-/// Whether the set has the key: `Member::try_contains` of `nm_set`. `Yes`, `No`, `Key`, `Busy`,
-/// `Pending`, `Held`, `NoMemory`; `Closed`, `InUse`, `Kind`.
+/// Returns `Yes` if the set has the key, and else `No`: `Member::try_contains` of `nm_set`. Errors:
+/// `Key`, `Busy`, `Pending`, `Pinned`, `NoMemory`, `Closed`, `InUse`, `Kind`.
 #[unsafe(no_mangle)]
 pub extern "C" fn nm_worker_try_contains(
     alloc: Global,
@@ -29,8 +29,8 @@ pub extern "C" fn nm_worker_try_contains(
     by_handle!(alloc, worker, Worker(member), key => Outcome::of_answer(member.try_contains(key, tries)))
 }
 
-/// Inserts a key: `Yes` where it was not in the set, `No` where it was: `Member::try_insert` of
-/// `nm_set`. `Key`, `Busy`, `Full`, `Pending`, `Held`, `NoMemory`; `Closed`, `InUse`, `Kind`.
+/// Inserts a key; returns `Yes` if it was absent, and else `No`: `Member::try_insert` of `nm_set`.
+/// Errors: `Key`, `Busy`, `Full`, `Pending`, `Pinned`, `NoMemory`, `Closed`, `InUse`, `Kind`.
 #[unsafe(no_mangle)]
 pub extern "C" fn nm_worker_try_insert(
     alloc: Global,
@@ -46,8 +46,8 @@ pub extern "C" fn nm_worker_try_insert(
     by_handle!(alloc, worker, Worker(member), key => Outcome::of_answer(member.try_insert(key, tries)))
 }
 
-/// Deletes a key: `Yes` where it was in the set, `No` where it was not: `Member::try_remove` of
-/// `nm_set`. `Key`, `Busy`, `Unfinished`, `Pending`, `Held`, `NoMemory`; `Closed`, `InUse`, `Kind`.
+/// Removes a key; returns `Yes` if it was present, and else `No`: `Member::try_remove` of `nm_set`.
+/// Errors: `Key`, `Busy`, `Unfinished`, `Pending`, `Pinned`, `NoMemory`, `Closed`, `InUse`, `Kind`.
 #[unsafe(no_mangle)]
 pub extern "C" fn nm_worker_try_remove(
     alloc: Global,
@@ -63,9 +63,9 @@ pub extern "C" fn nm_worker_try_remove(
     by_handle!(alloc, worker, Worker(member), key => Outcome::of_answer(member.try_remove(key, tries)))
 }
 
-/// Goes on with the delete that is pending: `Yes` where it has answered now, `No` where none is
-/// pending: `Member::finish` of `nm_set`. `Unfinished`: the key is pending still; `Closed`,
-/// `InUse`, `Kind`.
+/// Goes on with the remove that is pending: `Member::finish` of `nm_set`. Returns `Yes` if it is
+/// finished now, and `No` if none is pending. Errors: `Unfinished`: the key is still pending.
+/// `Closed`, `InUse`, `Kind`.
 #[unsafe(no_mangle)]
 pub extern "C" fn nm_worker_finish(alloc: Global, worker: &mut Handle, tries: u32) -> i32
     ensures tells { IsCodeOf (OfWorker (TellsFinish tries) ⊤ (held_by worker.old)

@@ -1,15 +1,15 @@
 //! The set for C: `c/nm_set.h` declares what is exported here.
 //!
 //! A program in C holds handles, each two words that are zero while it is closed. An open handle
-//! owns a set, one of its workers, or the report that a set was closed with. No export asks
-//! anything of its arguments: what a program may get wrong is told as an outcome, and then nothing
-//! has changed. What nobody can test, and the program owes, is in the header.
+//! owns a set, one of its workers, or the report that a set was closed with. No export requires
+//! anything of its arguments: misuse returns an error, and then nothing has changed. The header
+//! says what nobody can test, and a program must keep.
 //!
-//! The second word says whether a call has the handle: each call takes it by one atomic exchange
-//! before it reads the first one, and gives it back by another behind its last write. The clauses
-//! say that a handle which is in use is told so and stays as it is (`IsRefused`, `CannotOpen`), and
-//! that a call has what it claimed until it puts it back; that the exchange is one step is what
-//! `word` is for.
+//! The second word says whether a call has the handle. Each call takes it by one atomic exchange
+//! before it reads the first word, and gives it back by another after its last write. The clauses
+//! say that a handle in use is refused and stays as it is (`IsRefused`, `CannotOpen`), and that a
+//! call has what it claimed until it puts it back. The module `word` is for the exchange, which is
+//! one step.
 #![tactic(auto)]
 
 mod ending;

@@ -1,4 +1,4 @@
-//! Keys that are looked up together, by the handle of a worker.
+//! Look-ups of several keys together, by the handle of a worker.
 #![tactic(auto, using(crate::proofs::Owners::asked_of_worker))]
 
 ghost use Rattle.std.specs.Prelude.{◌≡◌, length, map, IfOk, IfErr};
@@ -21,13 +21,13 @@ use std::alloc::Global;
 pub struct Lookup {
     /// The key, 0 to 2^64 - 4.
     pub key: u64,
-    /// 1 where the set had the key, else 0.
+    /// 1 if the set had the key, else 0.
     pub found: u64,
 }
 
-/// Whether the set has each of these keys: `Member::contains_many` of `nm_set`. `Done`, and each
-/// `found` is written; `Key`, where one of the numbers is no key; `Busy`, `Pending`, `Held`, `NoMemory`;
-/// `Closed`, `InUse`, `Kind`.
+/// Looks up each of these keys: `Member::contains_many` of `nm_set`. Returns `Done`, and writes
+/// each `found`. Errors: `Key`: one of the numbers is no key. `Busy`, `Pending`, `Pinned`,
+/// `NoMemory`, `Closed`, `InUse`, `Kind`.
 #[unsafe(no_mangle)]
 pub extern "C" fn nm_worker_contains_many(
     alloc: Global,
@@ -66,7 +66,7 @@ fn ask(member: &mut Member, queries: &mut Vec<Query>, tries: u32) -> Result<(), 
     member.contains_many(queries.as_mut_slice(), tries)
 }
 
-/// A query of each of these keys.
+/// Makes a query of each of these keys.
 fn queries_of(alloc: Global, lookups: &[Lookup]) -> Result<Vec<Query>, Outcome>
     ensures keys { IfOk result (λ v. map key_of v.items ≡ map key_looked_up lookups.now) }
     ensures unasked { IfErr result (λ o. IsUnasked lookups.now o) }

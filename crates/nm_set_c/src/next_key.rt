@@ -13,9 +13,9 @@ use nm_edge::Key;
 use nm_set::{Fault, Member};
 use std::alloc::Global;
 
-/// The least key of the set that is not below `key`: `Member::next` of `nm_set`. `Yes`, and it is
-/// written; `No`, where there is none; `Key`, `Busy`, `Pending`, `Held`, `NoMemory`; `Closed`,
-/// `InUse`, `Kind`.
+/// Finds the least key of the set that is not below `key`: `Member::next` of `nm_set`. Returns
+/// `Yes` and writes it, or `No` if there is none. Errors: `Key`, `Busy`, `Pending`, `Pinned`,
+/// `NoMemory`, `Closed`, `InUse`, `Kind`.
 #[unsafe(no_mangle)]
 pub extern "C" fn nm_worker_next(
     alloc: Global,
@@ -40,9 +40,9 @@ fn next(member: &mut Member, key: u64, tries: u32, found: &mut u64) -> Outcome
     tell_found(answer, found)
 }
 
-/// The greatest key of the set that is not above `key`: `Member::prev` of `nm_set`. `Yes`, and it is
-/// written; `No`, where there is none; `Key`, `Busy`, `Pending`, `Held`, `NoMemory`; `Closed`,
-/// `InUse`, `Kind`.
+/// Finds the greatest key of the set that is not above `key`: `Member::prev` of `nm_set`. Returns
+/// `Yes` and writes it, or `No` if there is none. Errors: `Key`, `Busy`, `Pending`, `Pinned`,
+/// `NoMemory`, `Closed`, `InUse`, `Kind`.
 #[unsafe(no_mangle)]
 pub extern "C" fn nm_worker_prev(
     alloc: Global,
@@ -67,7 +67,7 @@ fn prev(member: &mut Member, key: u64, tries: u32, found: &mut u64) -> Outcome
     tell_found(answer, found)
 }
 
-/// Writes the key that was found, where there is one, and tells what came of the call.
+/// Writes the key that was found, if there is one, and returns the outcome.
 pub(crate) fn tell_found(answer: Result<Option<Key>, Fault>, found: &mut u64) -> Outcome
     ensures told { result ≡ of_found answer }
     ensures written { found.new ≡ found_written answer found.old }

@@ -1,39 +1,40 @@
-//! Notes of what a worker has seen, by its handle: left in its mailbox, and read by another worker of
-//! its set.
+//! Stamps of what a worker has seen, by its handle: published by one worker, and observed by
+//! another one of its set.
 #![tactic(auto, using(crate::proofs::Owners::asked_of_worker))]
 
 ghost use Rattle.std.specs.Prelude.{◌≡◌};
 ghost use Rattle.nm_set_c.specs.Handles.{held_by};
-ghost use Rattle.nm_set_c.specs.Notes.{DoesPost, DoesRead};
+ghost use Rattle.nm_set_c.specs.Notes.{DoesPublish, DoesObserve};
 ghost use Rattle.nm_set_c.specs.Outcomes.{IsCodeOf};
 ghost use Rattle.nm_set_c.specs.Owners.{HasDone, OfWorker};
 
 use crate::handle::{Handle, by_handle};
 use crate::outcome::Outcome;
-use nm_set::{Member, PostFault};
+use nm_set::{Member, ObserveFault};
 use std::alloc::Global;
 
-/// Leaves a note of all that the worker has seen, in place of its earlier one, and writes how many
-/// keys it has inserted and removed so far: `Done`: `Member::post` of `nm_set`. `Busy`: a reader has
-/// the earlier note at this moment. `Closed`, `InUse`, `Kind`.
+/// Publishes a stamp of all that the worker has seen, in place of its earlier one, and writes how
+/// many keys it has inserted and removed so far: `Member::publish` of `nm_set`. Returns `Done`.
+/// Errors: `Busy`: another worker is observing the earlier stamp at this moment. `Closed`, `InUse`,
+/// `Kind`.
 #[unsafe(no_mangle)]
-pub extern "C" fn nm_worker_post(
+pub extern "C" fn nm_worker_publish(
     alloc: Global,
     worker: &mut Handle,
     inserted: &mut u64,
     removed: &mut u64,
 ) -> i32
-    ensures { IsCodeOf (OfWorker (DoesPost inserted.old inserted.new removed.old removed.new)
+    ensures { IsCodeOf (OfWorker (DoesPublish inserted.old inserted.new removed.old removed.new)
         ((inserted.new ≡ inserted.old) × (removed.new ≡ removed.old)) (held_by worker.old)
         (held_by worker.new)) result }
 {
-    by_handle!(alloc, worker, Worker(member) => post(member, inserted, removed))
+    by_handle!(alloc, worker, Worker(member) => publish(member, inserted, removed))
 }
 
-fn post(member: &mut Member, inserted: &mut u64, removed: &mut u64) -> Outcome
-    ensures { HasDone (DoesPost inserted.old inserted.new removed.old removed.new) member.old member.new result }
+fn publish(member: &mut Member, inserted: &mut u64, removed: &mut u64) -> Outcome
+    ensures { HasDone (DoesPublish inserted.old inserted.new removed.old removed.new) member.old member.new result }
 {
-    match member.post() {
+    match member.publish() {
         Some(posted) => {
             *inserted = posted.inserted;
             *removed = posted.removed;
@@ -43,35 +44,36 @@ fn post(member: &mut Member, inserted: &mut u64, removed: &mut u64) -> Outcome
     }
 }
 
-/// Hears the note that the worker of a number has left, and writes how many keys that one had
-/// inserted and removed then: `Yes`; `No`, where it has left none: `Member::read` of `nm_set`.
-/// `Number`; `Busy`: another worker is at that note at this moment. `Closed`, `InUse`, `Kind`.
+/// Observes the stamp that the worker of a number has published, and writes how many keys that
+/// worker had inserted and removed then: `Member::observe` of `nm_set`. Returns `Yes`, or `No` if
+/// it has published none. Errors: `Number`. `Busy`: another worker is at that stamp at this moment.
+/// `Closed`, `InUse`, `Kind`.
 #[unsafe(no_mangle)]
-pub extern "C" fn nm_worker_read(
+pub extern "C" fn nm_worker_observe(
     alloc: Global,
     worker: &mut Handle,
     number: u32,
     inserted: &mut u64,
     removed: &mut u64,
 ) -> i32
-    ensures { IsCodeOf (OfWorker (DoesRead number inserted.old inserted.new removed.old removed.new)
+    ensures { IsCodeOf (OfWorker (DoesObserve number inserted.old inserted.new removed.old removed.new)
         ((inserted.new ≡ inserted.old) × (removed.new ≡ removed.old)) (held_by worker.old)
         (held_by worker.new)) result }
 {
-    by_handle!(alloc, worker, Worker(member) => read(member, number, inserted, removed))
+    by_handle!(alloc, worker, Worker(member) => observe(member, number, inserted, removed))
 }
 
-fn read(member: &mut Member, number: u32, inserted: &mut u64, removed: &mut u64) -> Outcome
-    ensures { HasDone (DoesRead number inserted.old inserted.new removed.old removed.new) member.old member.new result }
+fn observe(member: &mut Member, number: u32, inserted: &mut u64, removed: &mut u64) -> Outcome
+    ensures { HasDone (DoesObserve number inserted.old inserted.new removed.old removed.new) member.old member.new result }
 {
-    match member.read(number) {
+    match member.observe(number) {
         Ok(Some(posted)) => {
             *inserted = posted.inserted;
             *removed = posted.removed;
             Outcome::Yes
         }
         Ok(None) => Outcome::No,
-        Err(PostFault::Number) => Outcome::Number,
-        Err(PostFault::Busy) => Outcome::Busy,
+        Err(ObserveFault::Number) => Outcome::Number,
+        Err(ObserveFault::Busy) => Outcome::Busy,
     }
 }

@@ -1,12 +1,11 @@
-//! What a call tells C: an answer or a fault, as a number.
+//! What a call returns to C: an answer or an error, as a number.
 ghost use Rattle.std.specs.Prelude.{◌≡◌};
 ghost use Rattle.nm_set.specs.Tended.{of_insert};
 ghost use Rattle.nm_set_c.specs.Outcomes.{code_of, of_bool, of_lost, of_fault, of_answer, of_finished, of_new, of_taking, of_staying, of_reason};
 
 use nm_set::{CallFault, CloseReason, Fault, InsertFault, MemberFault, NewError, ResignReason};
 
-/// What came of a call. Faults have left everything as it was, where their own line does not say
-/// more.
+/// What came of a call. After an error nothing has changed, unless its own line says more.
 #[derive(Clone, Copy, Debug, PartialEq, Eq)]
 pub enum Outcome {
     /// The answer is no.
@@ -31,7 +30,7 @@ pub enum Outcome {
     Workers,
     /// Memory was refused.
     NoMemory,
-    /// Each try was lost, or there might be none. Nothing of the call stands but help given to
+    /// Each try was lost, or the options allow none. Of the call nothing remains but help given to
     /// others.
     Busy,
     /// No slots were free for the two new nodes of an insert.
@@ -40,30 +39,32 @@ pub enum Outcome {
     Unfinished,
     /// A key is pending, so that only finish goes on.
     Pending,
-    /// The worker is held, from a pin until its unpin.
-    Held,
-    /// The worker is not held.
-    NotHeld,
+    /// The caller has pinned the worker, and has not unpinned it.
+    Pinned,
+    /// The caller has not pinned the worker.
+    NotPinned,
     /// A worker holds the epoch back.
     Behind,
-    /// Another worker moved the epoch on first.
+    /// Another worker advanced the epoch first.
     Lost,
     /// The epoch is the last one.
     Spent,
-    /// The worker is taken, or a worker is not closed yet.
-    Away,
-    /// A close was refused behind the point where all workers were gathered: only close goes on.
+    /// The worker is attached or has resigned, or a worker of the set is attached.
+    Attached,
+    /// A close was refused after all workers had been gathered: only close goes on.
     Closing,
-    /// Fewer workers are at home than the tree has.
+    /// Fewer workers were returned than the tree has.
     NotAll,
     /// There are as many handles as can be counted.
     Uncounted,
     /// Another call has the handle at this moment.
     InUse,
+    /// Each worker of the set is attached.
+    NoWorker,
 }
 
 impl Outcome {
-    /// Its number in the header.
+    /// Returns its number in the header.
     #[tactic(auto, unfolding(crate::specs::Outcomes::code_of))]
     pub(crate) fn code(self) -> i32
         ensures { result ≡ code_of self }
@@ -84,27 +85,28 @@ impl Outcome {
             Outcome::Full => -10,
             Outcome::Unfinished => -11,
             Outcome::Pending => -12,
-            Outcome::Held => -13,
-            Outcome::NotHeld => -14,
+            Outcome::Pinned => -13,
+            Outcome::NotPinned => -14,
             Outcome::Behind => -15,
             Outcome::Lost => -16,
             Outcome::Spent => -17,
-            Outcome::Away => -18,
+            Outcome::Attached => -18,
             Outcome::Closing => -19,
             Outcome::NotAll => -20,
             Outcome::Uncounted => -21,
             Outcome::InUse => -22,
+            Outcome::NoWorker => -23,
         }
     }
 
-    /// Yes or no.
+    /// Converts a yes or no.
     pub(crate) fn of(answer: bool) -> Outcome
         ensures { result ≡ of_bool answer }
     {
         if answer { Outcome::Yes } else { Outcome::No }
     }
 
-    /// Why the tree's call has not answered.
+    /// Converts the error of a tree's call.
     pub(crate) fn of_lost(fault: CallFault) -> Outcome
         ensures { result ≡ of_lost fault }
     {
@@ -117,17 +119,17 @@ impl Outcome {
         }
     }
 
-    /// Why the worker's call has not answered.
+    /// Converts the error of a worker's call.
     pub(crate) fn of_fault(fault: Fault) -> Outcome
         ensures { result ≡ of_fault fault }
     {
         match fault {
-            Fault::Held => Outcome::Held,
+            Fault::Pinned => Outcome::Pinned,
             Fault::Call(lost) => Outcome::of_lost(lost),
         }
     }
 
-    /// What a worker's call for a key has answered, or why it has not.
+    /// Converts the result of a worker's call for a key.
     pub(crate) fn of_answer(answer: Result<bool, Fault>) -> Outcome
         ensures { result ≡ of_answer answer }
     {
@@ -137,7 +139,7 @@ impl Outcome {
         }
     }
 
-    /// The same of an insert that tends the set, without who holds memory back.
+    /// Converts the result of a managed insert, and leaves out which worker delays reuse.
     pub(crate) fn of_inserted(answer: Result<bool, InsertFault>) -> Outcome
         ensures { result ≡ of_answer (of_insert answer) }
     {
@@ -148,7 +150,7 @@ impl Outcome {
         }
     }
 
-    /// The same of a call that goes on with a delete.
+    /// Converts the result of a call that goes on with a remove.
     pub(crate) fn of_finished(answer: Result<bool, CallFault>) -> Outcome
         ensures { result ≡ of_finished answer }
     {
@@ -158,7 +160,7 @@ impl Outcome {
         }
     }
 
-    /// Why a set was not made.
+    /// Converts why a set was not made.
     pub(crate) fn of_new(error: NewError) -> Outcome
         ensures { result ≡ of_new error }
     {
@@ -169,35 +171,36 @@ impl Outcome {
         }
     }
 
-    /// Why a worker was not given out.
+    /// Converts why a worker was not given out.
     pub(crate) fn of_taking(fault: MemberFault) -> Outcome
         ensures { result ≡ of_taking fault }
     {
         match fault {
             MemberFault::Number => Outcome::Number,
-            MemberFault::Away => Outcome::Away,
+            MemberFault::Attached => Outcome::Attached,
+            MemberFault::NoWorker => Outcome::NoWorker,
             MemberFault::Closing => Outcome::Closing,
             MemberFault::Uncounted => Outcome::Uncounted,
         }
     }
 
-    /// Why a worker has not resigned.
+    /// Converts why a worker did not resign.
     pub(crate) fn of_staying(reason: ResignReason) -> Outcome
         ensures { result ≡ of_staying reason }
     {
         match reason {
             ResignReason::Number => Outcome::Number,
-            ResignReason::Away => Outcome::Away,
+            ResignReason::Attached => Outcome::Attached,
             ResignReason::Pending => Outcome::Pending,
         }
     }
 
-    /// Why a set was not closed.
+    /// Converts why a set was not closed.
     pub(crate) fn of_reason(reason: CloseReason) -> Outcome
         ensures { result ≡ of_reason reason }
     {
         match reason {
-            CloseReason::Away => Outcome::Away,
+            CloseReason::Attached => Outcome::Attached,
             CloseReason::NotAll { .. } => Outcome::NotAll,
             CloseReason::NoMemory => Outcome::NoMemory,
         }

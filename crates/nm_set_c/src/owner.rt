@@ -8,8 +8,8 @@ pub enum Owner {
     Set(Set),
     /// A worker of a set.
     Worker(Member),
-    /// What a set was closed with.
+    /// The report that a set was closed with.
     Ended(Report),
-    /// Nothing, while a call has what was owned in its own hands.
+    /// Nothing, while a call has what was owned.
     Nothing,
 }

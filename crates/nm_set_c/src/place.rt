@@ -8,9 +8,9 @@ use std::alloc::Global;
 use std::marker::Model;
 use std::ptr::null_mut;
 
-/// One word, null while it is empty. Else it owns a set, a worker or a report, in a box.
+/// One word, null while it is empty. Otherwise it owns a set, a worker or a report, in a box.
 ///
-/// To drop a full one frees nothing, so each function takes what it owns first, and gives it back
+/// A drop of a full one frees nothing. So each function takes what it owns first, and gives it back
 /// or drops that.
 #[repr(C)]
 #[derive(Drop)]
@@ -25,7 +25,7 @@ impl Model for Place {
 }
 
 impl Place {
-    /// A place that owns nothing.
+    /// Makes a place that owns nothing.
     pub(crate) fn closed(alloc: Global) -> Place
         ensures { result.held ≡ None }
     {
@@ -35,7 +35,7 @@ impl Place {
         }
     }
 
-    /// The place of what a box owns.
+    /// Makes the place of what a box owns.
     pub(crate) fn of(owner: Box<Owner>) -> Place
         ensures { result.held ≡ Some owner.value }
     {
@@ -46,7 +46,7 @@ impl Place {
         }
     }
 
-    /// What the place owns, in its box.
+    /// Returns what the place owns, in its box.
     fn into_box(self) -> Option<Box<Owner>>
         ensures { MatchOption result (self.held ≡ None) (λ b. self.held ≡ Some b.value) }
     {
@@ -54,7 +54,7 @@ impl Place {
         if at.is_null() {
             return None;
         }
-        // A word that is not null came of a box in `of`.
+        // A word that is not null came from a box in `of`.
         Some(unsafe { Box::from_raw(alloc, at as *mut Owner) })
     }
 

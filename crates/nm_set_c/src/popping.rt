@@ -1,4 +1,4 @@
-//! The least and the greatest key are taken, by the handle of a worker.
+//! Managed calls that remove the least or the greatest key, by the handle of a worker.
 #![tactic(auto, using(crate::proofs::Owners::asked_of_worker))]
 
 ghost use Rattle.std.specs.Prelude.{◌≡◌, ◌≢◌, true, false, IfSome};
@@ -11,33 +11,33 @@ use crate::handle::{Handle, by_handle};
 use crate::next_key::tell_found;
 use crate::outcome::Outcome;
 use nm_edge::Key;
-use nm_set::{CallFault, Fault, Habit, Member};
+use nm_set::{CallFault, Fault, Member, Options};
 use std::alloc::Global;
 
 /// Removes the least key from the set: `Member::pop_first` of `nm_set`. Returns `Yes` and writes the
 /// key, or `No` if the set is empty. With `Unfinished` it writes the key too, which will be removed
-/// by this call and is pending. Errors: `Busy`, `Pending`, `Held`, `NoMemory`, `Closed`, `InUse`,
+/// by this call and is pending. Errors: `Busy`, `Pending`, `Pinned`, `NoMemory`, `Closed`, `InUse`,
 /// `Kind`.
 #[unsafe(no_mangle)]
 pub extern "C" fn nm_worker_pop_first(
     alloc: Global,
     worker: &mut Handle,
-    habit: &Habit,
+    options: &Options,
     taken: &mut u64,
 ) -> i32
-    ensures tells { IsCodeOf (OfWorker (TellsPopFirst habit.now taken.old taken.new)
+    ensures tells { IsCodeOf (OfWorker (TellsPopFirst options.now taken.old taken.new)
         (taken.new ≡ taken.old) (held_by worker.old) (held_by worker.new)) result }
-    ensures did { IsCodeOf (OfWorker (DoesPopFirst habit.now taken.old taken.new)
+    ensures did { IsCodeOf (OfWorker (DoesPopFirst options.now taken.old taken.new)
         (taken.new ≡ taken.old) (held_by worker.old) (held_by worker.new)) result }
 {
-    by_handle!(alloc, worker, Worker(member) => pop_first(member, habit, taken))
+    by_handle!(alloc, worker, Worker(member) => pop_first(member, options, taken))
 }
 
-fn pop_first(member: &mut Member, habit: &Habit, taken: &mut u64) -> Outcome
-    ensures tells { HasDone (TellsPopFirst habit.now taken.old taken.new) member.old member.new result }
-    ensures did { HasDone (DoesPopFirst habit.now taken.old taken.new) member.old member.new result }
+fn pop_first(member: &mut Member, options: &Options, taken: &mut u64) -> Outcome
+    ensures tells { HasDone (TellsPopFirst options.now taken.old taken.new) member.old member.new result }
+    ensures did { HasDone (DoesPopFirst options.now taken.old taken.new) member.old member.new result }
 {
-    let answer = member.pop_first(habit);
+    let answer = member.pop_first(options);
     let pending = member.pending();
     tell_taken(answer, pending, taken)
 }
@@ -48,33 +48,29 @@ fn pop_first(member: &mut Member, habit: &Habit, taken: &mut u64) -> Outcome
 pub extern "C" fn nm_worker_pop_last(
     alloc: Global,
     worker: &mut Handle,
-    habit: &Habit,
+    options: &Options,
     taken: &mut u64,
 ) -> i32
-    ensures tells { IsCodeOf (OfWorker (TellsPopLast habit.now taken.old taken.new)
+    ensures tells { IsCodeOf (OfWorker (TellsPopLast options.now taken.old taken.new)
         (taken.new ≡ taken.old) (held_by worker.old) (held_by worker.new)) result }
-    ensures did { IsCodeOf (OfWorker (DoesPopLast habit.now taken.old taken.new)
+    ensures did { IsCodeOf (OfWorker (DoesPopLast options.now taken.old taken.new)
         (taken.new ≡ taken.old) (held_by worker.old) (held_by worker.new)) result }
 {
-    by_handle!(alloc, worker, Worker(member) => pop_last(member, habit, taken))
+    by_handle!(alloc, worker, Worker(member) => pop_last(member, options, taken))
 }
 
-fn pop_last(member: &mut Member, habit: &Habit, taken: &mut u64) -> Outcome
-    ensures tells { HasDone (TellsPopLast habit.now taken.old taken.new) member.old member.new result }
-    ensures did { HasDone (DoesPopLast habit.now taken.old taken.new) member.old member.new result }
+fn pop_last(member: &mut Member, options: &Options, taken: &mut u64) -> Outcome
+    ensures tells { HasDone (TellsPopLast options.now taken.old taken.new) member.old member.new result }
+    ensures did { HasDone (DoesPopLast options.now taken.old taken.new) member.old member.new result }
 {
-    let answer = member.pop_last(habit);
+    let answer = member.pop_last(options);
     let pending = member.pending();
     tell_taken(answer, pending, taken)
 }
 
 /// Writes the key that was taken, or the pending one if its remove is unfinished, and returns the
 /// outcome.
-fn tell_taken(
-    answer: Result<Option<Key>, Fault>,
-    pending: Option<Key>,
-    taken: &mut u64,
-) -> Outcome
+fn tell_taken(answer: Result<Option<Key>, Fault>, pending: Option<Key>, taken: &mut u64) -> Outcome
     ensures told { result ≡ of_found answer }
     ensures going { answer ≡ unfinished → IfSome pending (λ key. taken.new ≡ key) }
     ensures written { answer ≢ unfinished → taken.new ≡ found_written answer taken.old }

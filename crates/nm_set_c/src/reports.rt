@@ -16,16 +16,16 @@ use std::alloc::Global;
 #[repr(C)]
 #[derive(Clone, Copy, Debug, Default, PartialEq, Eq)]
 pub struct Waiting {
-    /// The slot where it stands.
+    /// The slot of the node.
     pub slot: u64,
-    /// How often the slot had been put to use when the node was made.
-    pub birth: u64,
-    /// The epoch that its remover read after the cut.
+    /// The node's generation: how often the slot had been put to use when the node was made.
+    pub generation: u64,
+    /// The epoch that the worker read after it cut the node off.
     pub label: u64,
 }
 
-/// How many slots are free, and how many are reached from the root, the five fixed ones left out:
-/// `Done`. `Closed`, `InUse`, `Kind`.
+/// Writes how many slots are free, and how many are reached from the root, without the five fixed
+/// ones. Returns `Done`. Errors: `Closed`, `InUse`, `Kind`.
 #[unsafe(no_mangle)]
 pub extern "C" fn nm_report_slots(
     alloc: Global,
@@ -44,7 +44,7 @@ pub extern "C" fn nm_report_slots(
     })
 }
 
-/// How many keys the set had: `Done`. `Closed`, `InUse`, `Kind`.
+/// Writes how many keys the set had. Returns `Done`. Errors: `Closed`, `InUse`, `Kind`.
 #[unsafe(no_mangle)]
 pub extern "C" fn nm_report_keys(alloc: Global, report: &mut Handle, count: &mut u64) -> i32
     ensures { IsCodeOf (OfReport (TellsKeys count.new) (count.new ≡ count.old) (held_by report.old)
@@ -56,8 +56,8 @@ pub extern "C" fn nm_report_keys(alloc: Global, report: &mut Handle, count: &mut
     })
 }
 
-/// The key at an index, from 0 on, by which the keys ascend: `Done`, or `Number` where there are no
-/// more. `Closed`, `InUse`, `Kind`.
+/// Writes the key at an index, from 0 on; the keys ascend. Returns `Done`. Errors: `Number`: there
+/// are not that many keys. `Closed`, `InUse`, `Kind`.
 #[unsafe(no_mangle)]
 pub extern "C" fn nm_report_key(
     alloc: Global,
@@ -83,8 +83,8 @@ fn key_at(report: &mut Report, index: u64, key: &mut u64) -> Outcome
     }
 }
 
-/// How many nodes wait of those that a worker's splices cut off: `Done`, or `Number` where there is
-/// no such worker. `Closed`, `InUse`, `Kind`.
+/// Writes how many of the nodes wait that a worker's splices cut off. Returns `Done`. Errors:
+/// `Number`: there is no such worker. `Closed`, `InUse`, `Kind`.
 #[unsafe(no_mangle)]
 pub extern "C" fn nm_report_queue(
     alloc: Global,
@@ -110,8 +110,8 @@ fn queue_of(report: &mut Report, worker: u32, nodes: &mut u64) -> Outcome
     }
 }
 
-/// Takes the oldest node out of a worker's queue: `Yes` and the node, `No` where none waits any
-/// more, `Number` where there is no such worker. `Closed`, `InUse`, `Kind`.
+/// Takes the oldest node out of a worker's queue. Returns `Yes` and writes the node, or `No` if
+/// none waits any more. Errors: `Number`: there is no such worker. `Closed`, `InUse`, `Kind`.
 #[unsafe(no_mangle)]
 pub extern "C" fn nm_report_waiting(
     alloc: Global,
@@ -136,7 +136,7 @@ fn oldest(report: &mut Report, worker: u32, waiting: &mut Waiting) -> Outcome
     };
     *waiting = Waiting {
         slot: u64::from(entry.node.slot),
-        birth: entry.node.birth,
+        generation: entry.node.birth,
         label: entry.label,
     };
     Outcome::Yes

@@ -1,7 +1,7 @@
 //! Calls on a set, by its handle.
 ghost use Rattle.std.specs.Prelude.{◌≡◌, ◌⊎◌, None};
 ghost use Rattle.nm_edge.specs.Layouts.{in_radix, spaced};
-ghost use Rattle.nm_edge.specs.declared.placement.Fit.TheVariants.{Lowest, Near};
+ghost use Rattle.nm_edge.specs.declared.placement.Fit.TheVariants.{FirstFit, NextFit};
 ghost use Rattle.nm_set_c.specs.Handles.{held_by};
 ghost use Rattle.nm_set_c.specs.Handles.Hold.{Closed, Open};
 ghost use Rattle.nm_set_c.specs.Outcomes.{IsCodeOf};
@@ -14,11 +14,12 @@ use nm_set::{Fit, Member, Set};
 use std::alloc::Global;
 
 /// Makes the empty set, in a radix tree with room for `nodes` nodes, 7 to 268,435,456, for 1 to 64
-/// workers; no walk takes more than 66 nodes, whatever keys come in whatever order: `Set::new` of
-/// `nm_set`. `Done`, and the handle is open; `Open`, `InUse`, `Nodes`, `Workers`, `NoMemory`.
+/// workers: `Set::new` of `nm_set`. No walk passes more than 66 nodes, whatever keys come in
+/// whatever order. Returns `Done`, and the handle is open. Errors: `Open`, `InUse`, `Nodes`,
+/// `Workers`, `NoMemory`.
 #[unsafe(no_mangle)]
 pub extern "C" fn nm_set_new(alloc: Global, set: &mut Handle, nodes: u32, workers: u32) -> i32
-    ensures { IsCodeOf (MakesSet Near (in_radix (spaced nodes workers)) nodes workers
+    ensures { IsCodeOf (MakesSet NextFit (in_radix (spaced nodes workers)) nodes workers
         (held_by set.old) (held_by set.new)) result }
 {
     match set.reserve(alloc) {
@@ -34,18 +35,24 @@ pub extern "C" fn nm_set_new(alloc: Global, set: &mut Handle, nodes: u32, worker
     }
 }
 
-/// The same, in the tree of Natarajan and Mittal, which keys that come in order make one long path:
-/// `Set::unbalanced` of `nm_set`, with the near fit.
+/// Makes the empty set in the tree of Natarajan and Mittal, in which keys that come in order make
+/// one long path: `Set::unbalanced` of `nm_set`, with next fit. Returns and errors: as of
+/// `nm_set_new`.
 #[unsafe(no_mangle)]
-pub extern "C" fn nm_set_near(alloc: Global, set: &mut Handle, nodes: u32, workers: u32) -> i32
-    ensures { IsCodeOf (MakesSet Near (spaced nodes workers) nodes workers
+pub extern "C" fn nm_set_new_unbalanced(
+    alloc: Global,
+    set: &mut Handle,
+    nodes: u32,
+    workers: u32,
+) -> i32
+    ensures { IsCodeOf (MakesSet NextFit (spaced nodes workers) nodes workers
         (held_by set.old) (held_by set.new)) result }
 {
     match set.reserve(alloc) {
         Ok(()) => {}
         Err(told) => return told.code(),
     }
-    match Set::unbalanced(alloc, nodes, workers, Fit::Near) {
+    match Set::unbalanced(alloc, nodes, workers, Fit::NextFit) {
         Ok(made) => open(alloc, set, Owner::Set(made)).code(),
         Err(error) => {
             set.shut();
@@ -54,17 +61,23 @@ pub extern "C" fn nm_set_near(alloc: Global, set: &mut Handle, nodes: u32, worke
     }
 }
 
-/// The same as `nm_set_near`, but a new node takes the lowest free slot: the lowest fit.
+/// Makes the same set as `nm_set_new_unbalanced`, with first fit: a new node takes the lowest free
+/// slot. For tests that compare slots.
 #[unsafe(no_mangle)]
-pub extern "C" fn nm_set_lowest(alloc: Global, set: &mut Handle, nodes: u32, workers: u32) -> i32
-    ensures { IsCodeOf (MakesSet Lowest (spaced nodes workers) nodes workers
+pub extern "C" fn nm_set_new_first_fit(
+    alloc: Global,
+    set: &mut Handle,
+    nodes: u32,
+    workers: u32,
+) -> i32
+    ensures { IsCodeOf (MakesSet FirstFit (spaced nodes workers) nodes workers
         (held_by set.old) (held_by set.new)) result }
 {
     match set.reserve(alloc) {
         Ok(()) => {}
         Err(told) => return told.code(),
     }
-    match Set::unbalanced(alloc, nodes, workers, Fit::Lowest) {
+    match Set::unbalanced(alloc, nodes, workers, Fit::FirstFit) {
         Ok(made) => open(alloc, set, Owner::Set(made)).code(),
         Err(error) => {
             set.shut();
@@ -73,7 +86,7 @@ pub extern "C" fn nm_set_lowest(alloc: Global, set: &mut Handle, nodes: u32, wor
     }
 }
 
-/// Opens a handle that was kept for that.
+/// Opens a handle that was reserved for that.
 fn open(alloc: Global, handle: &mut Handle, owner: Owner) -> Outcome
     requires closed { handle.old.place.held ≡ None }
     ensures { ((result ≡ Outcome.Done) × (held_by handle.new ≡ Open owner))
@@ -91,13 +104,14 @@ fn open(alloc: Global, handle: &mut Handle, owner: Owner) -> Outcome
     }
 }
 
-/// Takes the worker of a number, with all that it held when it went home, and not held:
-/// `Set::member` of `nm_set`. `Done`, and the worker's handle is open; `Open`, `InUse` (of the
-/// worker's handle), `Number`, `Away`, `Closing`, `Uncounted`, `NoMemory`; `Closed`, `InUse`,
-/// `Kind` (of the set's handle).
+/// Takes the worker of a number, with all that it held when it was returned, and not pinned:
+/// `Set::member` of `nm_set`. Returns `Done`, and the worker's handle is open.
 ///
-/// Several threads may take workers by one handle of a set: each has it for the moment of the take
-/// alone, and looks again for a while where it finds another one there.
+/// Errors: `Open`, `InUse` (of the worker's handle), `Number`, `Attached`, `Closing`, `Uncounted`,
+/// `NoMemory`; `Closed`, `InUse`, `Kind` (of the set's handle).
+///
+/// Several threads may take workers by one handle of a set. Each has that handle only for the
+/// moment of the take, and looks again for a while if another one has it.
 #[tactic(auto, using(crate::proofs::Holds::refused_same, crate::proofs::Holds::refused_there))]
 #[unsafe(no_mangle)]
 pub extern "C" fn nm_set_worker(
@@ -138,7 +152,7 @@ fn member_of(owner: &Owner, number: u32) -> Result<Member, Outcome>
     }
 }
 
-/// Opens a handle that was kept for a worker, or leaves it closed where none was given.
+/// Opens a handle that was reserved for a worker, or leaves it closed if none was given.
 fn keep(alloc: Global, worker: &mut Handle, given: Result<Member, Outcome>) -> Outcome
     requires closed { worker.old.place.held ≡ None }
     ensures { Keeps given (held_by worker.new) result }
@@ -152,9 +166,9 @@ fn keep(alloc: Global, worker: &mut Handle, given: Result<Member, Outcome>) -> O
     }
 }
 
-/// Takes a worker that is at home, where the caller names no number: `Set::attach` of `nm_set`,
-/// which looks at the seats in the order of their numbers (as tests show). Else as `nm_set_worker`,
-/// but no `Number`.
+/// Takes any worker that is not attached: `Set::attach` of `nm_set`, which looks at the seats in
+/// the order of their numbers (tested). Returns and errors: as of `nm_set_worker`, with `NoWorker`
+/// instead of `Number` and `Attached`.
 #[tactic(auto, using(crate::proofs::Holds::refused_same, crate::proofs::Holds::refused_there))]
 #[unsafe(no_mangle)]
 pub extern "C" fn nm_set_attach(alloc: Global, set: &mut Handle, worker: &mut Handle) -> i32
@@ -190,11 +204,11 @@ fn any_of(owner: &Owner) -> Result<Member, Outcome>
     }
 }
 
-/// Whether a close would miss the worker of a number, since a handle has it: `Yes`, `No`:
-/// `Set::is_away` of `nm_set`. `Number`, `Closing`; `Closed`, `InUse`, `Kind`.
+/// Returns `Yes` if a close would miss the worker of a number because a handle has it, and else
+/// `No`: `Set::is_attached` of `nm_set`. Errors: `Number`, `Closing`, `Closed`, `InUse`, `Kind`.
 #[tactic(auto, using(crate::proofs::Holds::refused_same, crate::proofs::Holds::refused_there))]
 #[unsafe(no_mangle)]
-pub extern "C" fn nm_set_away(alloc: Global, set: &mut Handle, number: u32) -> i32
+pub extern "C" fn nm_set_attached(alloc: Global, set: &mut Handle, number: u32) -> i32
     ensures told { IsCodeOf (Misses number (held_by set.old)) result }
     ensures set { held_by set.new ≡ held_by set.old }
 {
@@ -202,26 +216,26 @@ pub extern "C" fn nm_set_away(alloc: Global, set: &mut Handle, number: u32) -> i
         Ok(owner) => owner,
         Err(told) => return told.code(),
     };
-    let outcome = is_away(&owner, number);
+    let outcome = is_attached(&owner, number);
     set.put(owner);
     outcome.code()
 }
 
-fn is_away(owner: &Owner, number: u32) -> Outcome
+fn is_attached(owner: &Owner, number: u32) -> Outcome
     ensures { MissesOwned number owner.now result }
 {
     let Owner::Set(set) = owner else {
         return Outcome::Kind;
     };
-    match set.is_away(number) {
+    match set.is_attached(number) {
         Ok(answer) => Outcome::of(answer),
         Err(fault) => Outcome::of_taking(fault),
     }
 }
 
-/// Gives up what a handle owns, and closes the handle: a worker goes home, and can be taken again;
-/// a set that was not closed is left to its workers, the last of which ends it; a report is
-/// forgotten. `Done`; `Closed`, `InUse`.
+/// Gives up what a handle owns, and closes the handle. A worker is returned, and can be taken
+/// again. A set that was not closed is left to its workers, the last of which ends it. A report is
+/// forgotten. Returns `Done`. Errors: `Closed`, `InUse`.
 #[unsafe(no_mangle)]
 pub extern "C" fn nm_drop(alloc: Global, handle: &mut Handle) -> i32
     ensures { IsCodeOf (GivesUp (held_by handle.old) (held_by handle.new)) result }

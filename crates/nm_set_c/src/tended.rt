@@ -1,4 +1,4 @@
-//! Calls for a key that tend the set, by the handle of a worker.
+//! Managed calls for a key, by the handle of a worker.
 #![tactic(auto, using(crate::proofs::Owners::asked_of_worker))]
 
 ghost use Rattle.std.specs.Prelude.{⊤};
@@ -9,56 +9,56 @@ ghost use Rattle.nm_set_c.specs.Workers.{DoesContains, DoesInsert, DoesRemove, T
 
 use crate::handle::{Handle, by_handle};
 use crate::outcome::Outcome;
-use nm_set::Habit;
+use nm_set::Options;
 use std::alloc::Global;
 
-/// Whether the set has the key: `Member::contains` of `nm_set`. `Yes`, `No`, `Key`, `Busy`,
-/// `Pending`, `Held`; `Closed`, `InUse`, `Kind`.
+/// Returns `Yes` if the set has the key, and else `No`: `Member::contains` of `nm_set`. Errors:
+/// `Key`, `Busy`, `Pending`, `Pinned`, `Closed`, `InUse`, `Kind`.
 #[unsafe(no_mangle)]
 pub extern "C" fn nm_worker_contains(
     alloc: Global,
     worker: &mut Handle,
     key: u64,
-    habit: &Habit,
+    options: &Options,
 ) -> i32
-    ensures tells { IsCodeOf (OfWorker (TellsContains habit.now key) ⊤ (held_by worker.old)
+    ensures tells { IsCodeOf (OfWorker (TellsContains options.now key) ⊤ (held_by worker.old)
         (held_by worker.new)) result }
-    ensures did { IsCodeOf (OfWorker (DoesContains habit.now key) ⊤ (held_by worker.old)
+    ensures did { IsCodeOf (OfWorker (DoesContains options.now key) ⊤ (held_by worker.old)
         (held_by worker.new)) result }
 {
-    by_handle!(alloc, worker, Worker(member), key => Outcome::of_answer(member.contains(key, habit)))
+    by_handle!(alloc, worker, Worker(member), key => Outcome::of_answer(member.contains(key, options)))
 }
 
-/// Inserts a key: `Yes` where it was not in the set, `No` where it was: `Member::insert` of
-/// `nm_set`. `Key`, `Busy`, `Full`, `Pending`, `Held`, `NoMemory`; `Closed`, `InUse`, `Kind`.
+/// Inserts a key; returns `Yes` if it was absent, and else `No`: `Member::insert` of `nm_set`.
+/// Errors: `Key`, `Busy`, `Full`, `Pending`, `Pinned`, `NoMemory`, `Closed`, `InUse`, `Kind`.
 #[unsafe(no_mangle)]
 pub extern "C" fn nm_worker_insert(
     alloc: Global,
     worker: &mut Handle,
     key: u64,
-    habit: &Habit,
+    options: &Options,
 ) -> i32
-    ensures tells { IsCodeOf (OfWorker (TellsInsert habit.now key) ⊤ (held_by worker.old)
+    ensures tells { IsCodeOf (OfWorker (TellsInsert options.now key) ⊤ (held_by worker.old)
         (held_by worker.new)) result }
-    ensures did { IsCodeOf (OfWorker (DoesInsert habit.now key) ⊤ (held_by worker.old)
+    ensures did { IsCodeOf (OfWorker (DoesInsert options.now key) ⊤ (held_by worker.old)
         (held_by worker.new)) result }
 {
-    by_handle!(alloc, worker, Worker(member), key => Outcome::of_inserted(member.insert(key, habit)))
+    by_handle!(alloc, worker, Worker(member), key => Outcome::of_inserted(member.insert(key, options)))
 }
 
-/// Deletes a key: `Yes` where it was in the set, `No` where it was not: `Member::remove` of
-/// `nm_set`. `Key`, `Busy`, `Unfinished`, `Pending`, `Held`, `NoMemory`; `Closed`, `InUse`, `Kind`.
+/// Removes a key; returns `Yes` if it was present, and else `No`: `Member::remove` of `nm_set`.
+/// Errors: `Key`, `Busy`, `Unfinished`, `Pending`, `Pinned`, `NoMemory`, `Closed`, `InUse`, `Kind`.
 #[unsafe(no_mangle)]
 pub extern "C" fn nm_worker_remove(
     alloc: Global,
     worker: &mut Handle,
     key: u64,
-    habit: &Habit,
+    options: &Options,
 ) -> i32
-    ensures tells { IsCodeOf (OfWorker (TellsRemove habit.now key) ⊤ (held_by worker.old)
+    ensures tells { IsCodeOf (OfWorker (TellsRemove options.now key) ⊤ (held_by worker.old)
         (held_by worker.new)) result }
-    ensures did { IsCodeOf (OfWorker (DoesRemove habit.now key) ⊤ (held_by worker.old)
+    ensures did { IsCodeOf (OfWorker (DoesRemove options.now key) ⊤ (held_by worker.old)
         (held_by worker.new)) result }
 {
-    by_handle!(alloc, worker, Worker(member), key => Outcome::of_answer(member.remove(key, habit)))
+    by_handle!(alloc, worker, Worker(member), key => Outcome::of_answer(member.remove(key, options)))
 }

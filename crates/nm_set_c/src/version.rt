@@ -11,8 +11,8 @@ const MINOR: u32 = 1;
 
 const PATCH: u32 = 0;
 
-/// The version of the library that a program runs with, where the header tells the one that it was
-/// compiled with: `Done`.
+/// Writes the version of the library that a program runs with; the header has the version that the
+/// program was compiled with. Returns `Done`.
 #[unsafe(no_mangle)]
 pub extern "C" fn nm_set_version(major: &mut u32, minor: &mut u32, patch: &mut u32) -> i32
     ensures { IsCodeOf (λ o. (o ≡ Outcome.Done) × (major.new ≡ MAJOR) × (minor.new ≡ MINOR)

@@ -1,4 +1,4 @@
-//! What a worker tells of itself, and the end of another one, by its handle.
+//! What a worker reports of itself, and the end of another one, by its handle.
 #![tactic(auto, using(crate::proofs::Owners::told_of_worker))]
 
 ghost use Rattle.std.specs.Prelude.{◌≡◌, ⊤};
@@ -7,7 +7,7 @@ ghost use Rattle.nm_set_c.specs.Handles.{held_by};
 ghost use Rattle.nm_set_c.specs.Outcomes.{IsCodeOf};
 ghost use Rattle.nm_set_c.specs.Handles.Hold.{Open};
 ghost use Rattle.nm_set_c.specs.Owners.{OfWorker, OwnsWorker};
-ghost use Rattle.nm_set_c.specs.Workers.{DoesResign, TellsNumber, TellsOption, TellsLedger, pending_key};
+ghost use Rattle.nm_set_c.specs.Workers.{DoesResign, TellsNumber, TellsOption, TellsStats, pending_key};
 
 use crate::handle::{Handle, by_handle};
 use crate::outcome::Outcome;
@@ -16,10 +16,10 @@ use nm_set::Member;
 use std::alloc::Global;
 use std::mem::replace;
 
-/// What a worker has won, and what became of what it cut off: `Counts` of `nm_tree`.
+/// What a worker has won, and what became of the nodes that it cut off: `Counts` of `nm_tree`.
 #[repr(C)]
 #[derive(Clone, Copy, Debug, Default, PartialEq, Eq)]
-pub struct Ledger {
+pub struct Stats {
     /// The links that it has won.
     pub links: u64,
     /// The flags that it has won.
@@ -34,7 +34,7 @@ pub struct Ledger {
     pub queued: u64,
 }
 
-/// The worker's number: `Done`. `Closed`, `InUse`, `Kind`.
+/// Writes the worker's number. Returns `Done`. Errors: `Closed`, `InUse`, `Kind`.
 #[unsafe(no_mangle)]
 pub extern "C" fn nm_worker_number(alloc: Global, worker: &mut Handle, number: &mut u32) -> i32
     ensures { IsCodeOf (OfWorker (λ m. TellsNumber m.worker.pass.view.number number.new m)
@@ -46,7 +46,8 @@ pub extern "C" fn nm_worker_number(alloc: Global, worker: &mut Handle, number: &
     })
 }
 
-/// How many nodes wait in the queues that the worker holds: `Done`. `Closed`, `InUse`, `Kind`.
+/// Writes how many nodes wait in the queues that the worker holds. Returns `Done`. Errors:
+/// `Closed`, `InUse`, `Kind`.
 #[unsafe(no_mangle)]
 pub extern "C" fn nm_worker_queue_len(alloc: Global, worker: &mut Handle, nodes: &mut u64) -> i32
     ensures { IsCodeOf (OfWorker (λ m. TellsNumber (waiting_in m.worker.queues) nodes.new m)
@@ -58,8 +59,8 @@ pub extern "C" fn nm_worker_queue_len(alloc: Global, worker: &mut Handle, nodes:
     })
 }
 
-/// The key of a delete that has flagged its leaf and not answered yet: `Yes` and the key, or `No`.
-/// `Closed`, `InUse`, `Kind`.
+/// Finds the key of a remove that has flagged its leaf and is not finished. Returns `Yes` and
+/// writes the key, or `No`. Errors: `Closed`, `InUse`, `Kind`.
 #[unsafe(no_mangle)]
 pub extern "C" fn nm_worker_pending(alloc: Global, worker: &mut Handle, key: &mut u64) -> i32
     ensures { IsCodeOf (OfWorker (λ m. TellsOption (pending_key m.worker) key.old key.new m)
@@ -81,20 +82,20 @@ fn pending(member: &mut Member, key: &mut u64) -> Outcome
     }
 }
 
-/// The epoch at which the worker is held, from a pin until its unpin: `Yes` and the epoch, or `No`.
-/// `Closed`, `InUse`, `Kind`.
+/// Finds the epoch at which the caller has pinned the worker, from a pin until its unpin. Returns
+/// `Yes` and writes the epoch, or `No`. Errors: `Closed`, `InUse`, `Kind`.
 #[unsafe(no_mangle)]
-pub extern "C" fn nm_worker_held(alloc: Global, worker: &mut Handle, epoch: &mut u64) -> i32
+pub extern "C" fn nm_worker_pinned(alloc: Global, worker: &mut Handle, epoch: &mut u64) -> i32
     ensures { IsCodeOf (OfWorker (λ m. TellsOption m.worker.held epoch.old epoch.new m)
         (epoch.new ≡ epoch.old) (held_by worker.old) (held_by worker.new)) result }
 {
-    by_handle!(alloc, worker, Worker(member) => held(member, epoch))
+    by_handle!(alloc, worker, Worker(member) => pinned(member, epoch))
 }
 
-fn held(member: &mut Member, epoch: &mut u64) -> Outcome
+fn pinned(member: &mut Member, epoch: &mut u64) -> Outcome
     ensures { TellsOption member.old.worker.held epoch.old epoch.new member.old member.new result }
 {
-    match member.held() {
+    match member.pinned() {
         Some(held) => {
             *epoch = held;
             Outcome::Yes
@@ -103,15 +104,16 @@ fn held(member: &mut Member, epoch: &mut u64) -> Outcome
     }
 }
 
-/// What this worker has won, and what became of what it cut off: `Done`. `Closed`, `InUse`, `Kind`.
+/// Writes what this worker has won, and what became of the nodes that it cut off. Returns `Done`.
+/// Errors: `Closed`, `InUse`, `Kind`.
 #[unsafe(no_mangle)]
-pub extern "C" fn nm_worker_ledger(alloc: Global, worker: &mut Handle, ledger: &mut Ledger) -> i32
-    ensures { IsCodeOf (OfWorker (TellsLedger ledger.new) (ledger.new ≡ ledger.old)
+pub extern "C" fn nm_worker_stats(alloc: Global, worker: &mut Handle, stats: &mut Stats) -> i32
+    ensures { IsCodeOf (OfWorker (TellsStats stats.new) (stats.new ≡ stats.old)
         (held_by worker.old) (held_by worker.new)) result }
 {
     by_handle!(alloc, worker, Worker(member) => {
-        let counts = member.ledger();
-        *ledger = Ledger {
+        let counts = member.stats();
+        *stats = Stats {
             links: counts.links,
             flags: counts.flags,
             splices: counts.splices,
@@ -123,9 +125,9 @@ pub extern "C" fn nm_worker_ledger(alloc: Global, worker: &mut Handle, ledger: &
     })
 }
 
-/// A worker that is at home resigns to this one, which then holds all that it held, and it never
-/// comes back: `Done`: `Member::resign` of `nm_set`. `Number`, `Away` and `Pending` tell what
-/// stands against it. `Closed`, `InUse`, `Kind`.
+/// Takes over a worker that is not attached: `Member::resign` of `nm_set`. This worker then holds
+/// all that the leaver held, and the leaver never comes back. Returns `Done`. Errors: `Number`,
+/// `Attached` and `Pending`, which are of the leaver. `Closed`, `InUse`, `Kind`.
 #[tactic(auto, using(crate::proofs::Owners::refused_worker, crate::proofs::Owners::owned_worker))]
 #[unsafe(no_mangle)]
 pub extern "C" fn nm_worker_resign(alloc: Global, worker: &mut Handle, leaver: u32) -> i32

@@ -85,7 +85,7 @@ opens L words fits e = record {
     all : IsShown L [] (everybody L)
     all = subst (LogsAre (everybody L).layout L []) (sym (held_by L (numbers_from 0 L.workers))) (subst (λ (l : Layout). LogsAre l L [] (numbers_from 0 L.workers)) (sym (layout_of L (numbers_from 0 L.workers))) (fresh L 0 L.workers))
 
-    first_here : (i : ℕ) (v : View) → get_elem? (everybody L ∷ []) i ≡ some v → v.spent ≡ false → (knowledge v).gone ≡ false
+    first_here : (i : ℕ) (v : View) → get_elem? (everybody L ∷ []) i ≡ some v → v.resigned ≡ false → (knowledge v).gone ≡ false
     first_here zero v is alive = subst (λ (x : View). (knowledge x).gone ≡ false) (some-injective _ _ is) (fresh_here L 0 L.workers)
     first_here (suc i) v is alive = absurd (some-ne-none v (sym is))
 
@@ -96,7 +96,7 @@ opens L words fits e = record {
 -- ---- cutting
 
 abbrev IsHere : View → Type 0
-IsHere v = v.spent ≡ false → (knowledge v).gone ≡ false
+IsHere v = v.resigned ≡ false → (knowledge v).gone ≡ false
 
 cuts : (L : Layout) (id : ℕ) (v left right : View) → ((t : List Turn) → IsShown L t v → IsShown L t left × IsShown L t right) → (IsHere v → IsHere left × IsHere right) → ((w : ℕ) → stands w left + stands w right ≡ stands w v)
     → ((ts : List Turn) → LagsBehind ts v → LagsBehind ts left × LagsBehind ts right) → Splits (Kept L) id v left right
@@ -125,7 +125,7 @@ abbrev pub left_from : Layout → ℕ → View
 left_from L k = viewing L (numbers_from k (L.workers - k))
 
 abbrev with_others : Layout → ℕ → List Held → View
-with_others L k hs = record { layout = L; spent = false; number = k; log = []; others = hs; past = []; heard = [] }
+with_others L k hs = record { layout = L; resigned = false; number = k; log = []; others = hs; past = []; heard = [] }
 
 left_has : (L : Layout) (k m : ℕ) → m ≡ suc (L.workers - suc k) → viewing L (numbers_from k m) ≡ with_others L k (numbers_from (suc k) (L.workers - suc k))
 left_has L k m e = ap (λ (n : ℕ). viewing L (numbers_from k n)) e
@@ -133,8 +133,8 @@ left_has L k m e = ap (λ (n : ℕ). viewing L (numbers_from k n)) e
 left_is : (L : Layout) (k : ℕ) → k < L.workers → left_from L k ≡ with_others L k (numbers_from (suc k) (L.workers - suc k))
 left_is L k h = left_has L k (L.workers - k) (omega arith)
 
-left_alive : (L : Layout) (k : ℕ) (v : View) → v ≡ left_from L k → k < L.workers → v.spent ≡ false
-left_alive L k v e h = ap (λ (x : View). x.spent) (e ∙ left_is L k h)
+left_alive : (L : Layout) (k : ℕ) (v : View) → v ≡ left_from L k → k < L.workers → v.resigned ≡ false
+left_alive L k v e h = ap (λ (x : View). x.resigned) (e ∙ left_is L k h)
 
 pub left_others : (L : Layout) (k : ℕ) (v : View) → v ≡ left_from L k → k < L.workers → the_others v ≡ left_from L (k + 1)
 left_others L k v e h = ap the_others (e ∙ left_is L k h) ∙ ap (left_from L) (let q : suc k ≡ k + 1 = omega arith in q)
@@ -176,7 +176,7 @@ each_two P views id other now then' first second others j u is =
     (at_set (set views id now) other j then' u is)
 
 -- a view may hear of what one has seen that stands for nobody
-pub hears : (L : Layout) (id : ℕ) (v : View) (other : ℕ) (w : View) → w.spent ≡ true → Joins (Kept L) id v other w (informed v w) nobody
+pub hears : (L : Layout) (id : ℕ) (v : View) (other : ℕ) (w : View) → w.resigned ≡ true → Joins (Kept L) id v other w (informed v w) nobody
 hears L id v other w spent s k at apart at' = record {
   fits = k.fits;
   turns = k.turns;
@@ -196,7 +196,7 @@ hears L id v other w spent s k at apart at' = record {
 
 -- ---- joining
 
-module _ (L : Layout) (id : ℕ) (v : View) (other : ℕ) (w : View) (alive : v.spent ≡ false) (alive' : w.spent ≡ false) (hands : HasEmptyHands (knowledge w)) (s : State Unit View) (k : Kept L s)
+module _ (L : Layout) (id : ℕ) (v : View) (other : ℕ) (w : View) (alive : v.resigned ≡ false) (alive' : w.resigned ≡ false) (hands : HasEmptyHands (knowledge w)) (s : State Unit View) (k : Kept L s)
     (at : get_elem? s.views id ≡ some v) (apart : ¬ (other ≡ id)) (at' : get_elem? s.views other ≡ some w) where
   abbrev before : List Turn
   before = trace_in (ordered L) k.turns
@@ -342,7 +342,7 @@ module _ (L : Layout) (id : ℕ) (v : View) (other : ℕ) (w : View) (alive : v.
   }
 
 -- the first stands for both, and the join is an event of both
-pub joins : (L : Layout) (id : ℕ) (v : View) (other : ℕ) (w : View) → v.spent ≡ false → w.spent ≡ false → HasEmptyHands (knowledge w) → Joins (Kept L) id v other w (joining_view v w) nobody
+pub joins : (L : Layout) (id : ℕ) (v : View) (other : ℕ) (w : View) → v.resigned ≡ false → w.resigned ≡ false → HasEmptyHands (knowledge w) → Joins (Kept L) id v other w (joining_view v w) nobody
 joins L id v other w alive alive' hands s k at apart at' = joint L id v other w alive alive' hands s k at apart (sym (set_else s.views id other (joining_view v w) apart) ∙ at')
 
 pub fresh_push : (b : TreeView) (k n : ℕ) (ps : List PassView) (p : PassView) → AreFresh b k ps → k + length ps ≡ n → p.table ≡ b.table → p.view ≡ fresh_view b.layout n → AreFresh b k (ps ++ p ∷ [])

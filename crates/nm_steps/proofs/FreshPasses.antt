@@ -30,7 +30,7 @@ pub fresh_tied : (L : Layout) (it : Seat Unit View) (w announcement : ℕ) → I
 unfolding empty_log trace_in
 fresh_tied L it w announcement fits below at view empty = record {
   empty = empty;
-  alive = ap (λ (v : View). v.spent) view;
+  alive = ap (λ (v : View). v.resigned) view;
   number_is = sym (ap (λ (v : View). v.number) view);
   announcement_is = at ∙ sym (ap (λ (v : View). word v.layout (at_announcement w)) view);
   brief_is = sym (ap (λ (v : View). (knowledge v).brief) view);

@@ -23,7 +23,7 @@ module _ (it mid after : Seat Unit View) (number announcement : ℕ) (brief : Br
   pub heard_tied : HasSeen after.me.0 → Tied after number announcement brief
   heard_tied seen = record {
     empty = slots ∙ (ap (λ m. m.1) me ∙ tied.empty);
-    alive = ap (λ (v : View). v.spent) view ∙ tied.alive;
+    alive = ap (λ (v : View). v.resigned) view ∙ tied.alive;
     number_is = tied.number_is ∙ sym (ap (λ (v : View). v.number) view);
     announcement_is = tied.announcement_is ∙ sym (ap (λ (v : View). word v.layout (at_announcement number)) view);
     brief_is = tied.brief_is ∙ sym (ap (λ (v : View). (knowledge v).brief) view);

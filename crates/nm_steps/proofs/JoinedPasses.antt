@@ -43,7 +43,7 @@ module _ (it mid after : Seat Unit View) (number announcement : ℕ) (brief : Br
       ap (λ (k : Knowledge). k.drafts) (known_push it.me.0.number it.me.0.layout it.me.0.log (passing w)) ∙ drafts_stay it.me.0.number w.number (knowledge it.me.0) (knowledge w).ledgers in
       record {
         empty = slots ∙ (ap (λ m. m.1) me ∙ tied.empty);
-        alive = ap (λ (v : View). v.spent) view ∙ tied.alive;
+        alive = ap (λ (v : View). v.resigned) view ∙ tied.alive;
         number_is = tied.number_is ∙ sym (ap (λ (v : View). v.number) view);
         announcement_is = tied.announcement_is ∙ sym (ap (λ (v : View). word v.layout (at_announcement number)) view);
         brief_is =

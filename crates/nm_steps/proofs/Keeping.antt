@@ -43,10 +43,10 @@ once_is w n = cases (ltb w n) refl
     cases true e = (omega arith, λ h. grind (arith, nat_tests))
     cases false e = (omega arith, λ h. absurd (omega arith))
 
-pub live : (v : View) → v.spent ≡ false → holdings v ≡ held_log v.number v.log ∷ v.others
+pub live : (v : View) → v.resigned ≡ false → holdings v ≡ held_log v.number v.log ∷ v.others
 live v h = ap (λ (b : Bool). cond b [] (held_log v.number v.log ∷ v.others)) h
 
-pub stands_live : (v : View) → v.spent ≡ false → stands v.number v ≡ 1 + count_by (λ h. eqb v.number h.number) v.others
+pub stands_live : (v : View) → v.resigned ≡ false → stands v.number v ≡ 1 + count_by (λ h. eqb v.number h.number) v.others
 stands_live v h =
     ap (count_by (λ (x : Held). eqb v.number x.number)) (live v h)
     ∙ sum_by-cons (λ (x : Held). cond (eqb v.number x.number) 1 0) (held_log v.number v.log) v.others
@@ -88,7 +88,7 @@ each_set P views id now own others j u is =
     ⊎_elim (λ (x : (j ≡ id) × (now ≡ u)). subst P x.1 own) (λ (x : (j ≢ id) × (get_elem? views j ≡ some u)). others j u x.0 x.1) (at_set views id j now u is)
 
 module _ (L : Layout) (words : List ℕ) (views : List View) (id : ℕ) (v : View) (e : Event) (i : ℕ)
-    (k : Runs L words views) (at : get_elem? views id ≡ some v) (alive : v.spent ≡ false) (layout : v.layout ≡ L)
+    (k : Runs L words views) (at : get_elem? views id ≡ some v) (alive : v.resigned ≡ false) (layout : v.layout ≡ L)
     (index : i ≡ word L (touched_field v.number e)) (may : May L v.number v.log e) where
   abbrev trace : List Turn
   trace = trace_in (ordered L) k.turns
@@ -180,7 +180,7 @@ module _ (L : Layout) (words : List ℕ) (views : List View) (id : ℕ) (v : Vie
     keys = keys_more k.turns (v.number, e) k.keys may.key;
     words_are = words_now;
     shown = each_set (IsShown L (trace_in (ordered L) more)) views id now shown_own shown_other;
-    here = each_set (λ (u : View). u.spent ≡ false → (knowledge u).gone ≡ false) views id now (λ _. here_now) (λ j u _. k.here j u);
+    here = each_set (λ (u : View). u.resigned ≡ false → (knowledge u).gone ≡ false) views id now (λ _. here_now) (λ j u _. k.here j u);
     once = λ w. omega (arith, sum_after (stands w) views id v now at, same_stands w, k.once w);
     lags = each_set (LagsBehind (trace_in (ordered L) more)) views id now
         (longer (λ ts. LagsBehind ts now) (record { past = goes_on_itself now.past; heard = goes_on_by trace v.heard (answered_turn v.number e reply) (k.lags id v at).heard }))
@@ -193,7 +193,7 @@ no_step = step 0 0 0 0 none
 -- one event more, by a word that was found: the view behind it, with the rule, and what the step
 -- tells; m is the word that it is told of
 pub goes_on : (L : Layout) (words : List ℕ) (views : List View) (id : ℕ) (v : View) (e : Event) (i m : ℕ) (k : Runs L words views)
-    → get_elem? views id ≡ some v → v.spent ≡ false → v.layout ≡ L → i ≡ word L (touched_field v.number e) → May L v.number v.log e
+    → get_elem? views id ≡ some v → v.resigned ≡ false → v.layout ≡ L → i ≡ word L (touched_field v.number e) → May L v.number v.log e
     → told v.layout (knowledge v) (known_births v) e m ≡ told v.layout (knowledge v) (known_births v) e (slice_index words i)
     → (is_store e ≡ false → m ≡ slice_index words i)
     → (w : View) × Runs L (slice_set words i (left_word v.layout (knowledge v) e (slice_index words i))) (set views id w) × Did e no_step (v, []) m (w, [])
@@ -225,7 +225,7 @@ goes_on L words views id v e i m k at alive layout index may same is =
 -- THE STEP: an event that the own log allows may be made at its word, by any operation that leaves
 -- the word that the event leaves
 pub allows : (L : Layout) (slots id : ℕ) (v : View) (e : Event) (i : ℕ) (f said : ℕ → ℕ)
-    → v.spent ≡ false → v.layout ≡ L → i ≡ word L (touched_field v.number e) → May L v.number v.log e
+    → v.resigned ≡ false → v.layout ≡ L → i ≡ word L (touched_field v.number e) → May L v.number v.log e
     → ((n : ℕ) → f n ≡ left_word v.layout (knowledge v) e n)
     → ((n : ℕ) → (told v.layout (knowledge v) (known_births v) e (said n) ≡ told v.layout (knowledge v) (known_births v) e n) × (is_store e ≡ false → said n ≡ n))
     → Allows (Kept L) slots id (v, []) i f (λ n. Did e no_step (v, []) (said n))

@@ -215,7 +215,7 @@ tied_after it after number announcement brief new e n tied may done is =
     ∙ sym (ap (λ (k : Knowledge). k.brief) (known_push it.me.0.number it.me.0.layout it.me.0.log (e, r))))) in
     record {
       empty = ap (λ m. m.1) done.me ∙ tied.empty;
-      alive = ap (λ (v : View). v.spent) me ∙ tied.alive;
+      alive = ap (λ (v : View). v.resigned) me ∙ tied.alive;
       number_is = tied.number_is ∙ sym (ap (λ (v : View). v.number) me);
       announcement_is = tied.announcement_is ∙ sym (ap (λ (v : View). word v.layout (at_announcement number)) me);
       brief_is = epochs ∙ sym (ap (λ (v : View). (knowledge v).brief) me);

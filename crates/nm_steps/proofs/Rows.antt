@@ -156,7 +156,7 @@ record Reaches (L : Layout) (s : State Unit View) (id n from k : ℕ) (v : View)
   view : View
   keeps_rule : Runs L s.words (set s.views id view)
   at : get_elem? (set s.views id view) id ≡ some view
-  alive : view.spent ≡ false
+  alive : view.resigned ≡ false
   layout : view.layout ≡ L
   claims : DidClaims from k (v, []) n (view, [])
 
@@ -165,7 +165,7 @@ within_length [] i a e = absurd (some-ne-none a (sym e))
 within_length (x ∷ xs) zero a e = omega arith
 within_length (x ∷ xs) (suc i) a e = let less = within_length xs i a e in omega (arith, less)
 
-module _ (L : Layout) (id i from : ℕ) (v : View) (s : State Unit View) (rule : Kept L s) (at : get_elem? s.views id ≡ some v) (alive : v.spent ≡ false) (layout : v.layout ≡ L) (small : slice_index s.words i < 18446744073709551616) (low : 6 ≤ from) where
+module _ (L : Layout) (id i from : ℕ) (v : View) (s : State Unit View) (rule : Kept L s) (at : get_elem? s.views id ≡ some v) (alive : v.resigned ≡ false) (layout : v.layout ≡ L) (small : slice_index s.words i < 18446744073709551616) (low : 6 ≤ from) where
   abbrev n : ℕ
   n = slice_index s.words i
 
@@ -182,7 +182,7 @@ module _ (L : Layout) (id i from : ℕ) (v : View) (s : State Unit View) (rule :
         view = w;
         keeps_rule = subst (λ (l : List View). Runs L s.words l) (set-set s.views id r.view w) (subst (λ (ws : List ℕ). Runs L ws (set (set s.views id r.view) id w)) words_same step.1);
         at = set_here s.views id w (within_length s.views id v at);
-        alive = ap (λ (x : View). x.spent) same ∙ r.alive;
+        alive = ap (λ (x : View). x.resigned) same ∙ r.alive;
         layout = ap (λ (x : View). x.layout) same ∙ r.layout;
         claims = ((r.view, []), r.claims, step.2);
       }
@@ -221,7 +221,7 @@ tied_same it after number announcement brief same t =
     let e : it.me.0 ≡ after.me.0 = sym (ap (λ (m : Me Unit View). m.0) same) in
     record {
       empty = ap (λ (m : Me Unit View). m.1) same ∙ t.empty;
-      alive = subst (λ (v : View). v.spent ≡ false) e t.alive;
+      alive = subst (λ (v : View). v.resigned ≡ false) e t.alive;
       number_is = subst (λ (v : View). number ≡ v.number) e t.number_is;
       announcement_is = subst (λ (v : View). announcement ≡ word v.layout (at_announcement number)) e t.announcement_is;
       brief_is = subst (λ (v : View). brief ≡ (knowledge v).brief) e t.brief_is;

@@ -22,13 +22,13 @@ use Rattle.nm_steps.proofs.Growing.{goes_on_itself, goes_on_from_nothing}
 use Rattle.nm_steps.proofs.Keeping.{live, stands_live, once_is, each_set}
 
 -- the log of a seat's own worker is its part of the run
-own_part : (L : Layout) (words : List ℕ) (views : List View) (id : ℕ) (v : View) → (k : Runs L words views) → get_elem? views id ≡ some v → v.spent ≡ false → part_of v.number (trace_in (ordered L) k.turns) ≡ v.log
+own_part : (L : Layout) (words : List ℕ) (views : List View) (id : ℕ) (v : View) → (k : Runs L words views) → get_elem? views id ≡ some v → v.resigned ≡ false → part_of v.number (trace_in (ordered L) k.turns) ≡ v.log
 own_part L words views id v k at alive =
     let mine : LogsAre v.layout L (trace_in (ordered L) k.turns) (held_log v.number v.log ∷ v.others) = subst (LogsAre v.layout L (trace_in (ordered L) k.turns)) (live v alive) (k.shown id v at) in
     sym mine.1
 
 -- the view of a seat stands in the run of its table
-pub stands_in_run : (L : Layout) (words : List ℕ) (views : List View) (id : ℕ) (v : View) → Runs L words views → get_elem? views id ≡ some v → v.spent ≡ false → v.layout ≡ L → StandsInRun v
+pub stands_in_run : (L : Layout) (words : List ℕ) (views : List View) (id : ℕ) (v : View) → Runs L words views → get_elem? views id ≡ some v → v.resigned ≡ false → v.layout ≡ L → StandsInRun v
 stands_in_run L words views id v k at alive layout =
     let mine : LogsAre v.layout L (trace_in (ordered L) k.turns) (held_log v.number v.log ∷ v.others) = subst (LogsAre v.layout L (trace_in (ordered L) k.turns)) (live v alive) (k.shown id v at) in
     let once : (w : ℕ) → stands w v ≤ once_below w L.workers = λ w. omega (arith, at_most_sum (stands w) views id v at, k.once w) in
@@ -56,12 +56,12 @@ module _ (L : Layout) (words : List ℕ) (views : List View) (id : ℕ) (v : Vie
     keys = k.keys;
     words_are = k.words_are;
     shown = each_set (IsShown L (trace_in (ordered L) k.turns)) views id (up_to (trace_in (ordered L) k.turns) v) (k.shown id v at) (λ j u _. k.shown j u);
-    here = each_set (λ (u : View). u.spent ≡ false → (knowledge u).gone ≡ false) views id (up_to (trace_in (ordered L) k.turns) v) (k.here id v at) (λ j u _. k.here j u);
+    here = each_set (λ (u : View). u.resigned ≡ false → (knowledge u).gone ≡ false) views id (up_to (trace_in (ordered L) k.turns) v) (k.here id v at) (λ j u _. k.here j u);
     once = λ w. omega (arith, sum_after (stands w) views id v (up_to (trace_in (ordered L) k.turns) v) at, k.once w);
     lags = each_set (LagsBehind (trace_in (ordered L) k.turns)) views id (up_to (trace_in (ordered L) k.turns) v) (record { past = goes_on_itself (trace_in (ordered L) k.turns); heard = goes_on_from_nothing (trace_in (ordered L) k.turns) }) (λ j u _. k.lags j u);
   }
 
-ties : (L : Layout) (slots id : ℕ) (v : View) (i : ℕ) → v.spent ≡ false → v.layout ≡ L → Allows (Kept L) slots id (v, []) i (λ n. n) (TellsItsStanding (step slots i 0 0 none) (v, []))
+ties : (L : Layout) (slots id : ℕ) (v : View) (i : ℕ) → v.resigned ≡ false → v.layout ≡ L → Allows (Kept L) slots id (v, []) i (λ n. n) (TellsItsStanding (step slots i 0 0 none) (v, []))
 ties L slots id v i alive layout s k homes at small =
     let same_words : slice_set s.words i (slice_index s.words i) ≡ s.words = set-get_or s.words i 0 in
     let stands = stands_in_run L s.words s.views id v k at alive layout in (
@@ -85,7 +85,7 @@ ties L slots id v i alive layout s k homes at small =
     )
 
 -- what the read asks of a seat
-pub may_tie : (z : TableId) (key L : Layout) (it : Seat Unit View) (i : ℕ) → Laid z key L → it.table_id ≡ z → it.me.0.spent ≡ false → it.me.1 ≡ [] → it.me.0.layout ≡ L → i ≡ word L at_epoch
+pub may_tie : (z : TableId) (key L : Layout) (it : Seat Unit View) (i : ℕ) → Laid z key L → it.table_id ≡ z → it.me.0.resigned ≡ false → it.me.1 ≡ [] → it.me.0.layout ≡ L → i ≡ word L at_epoch
     → (it.table_id ≡ z) × (i < z.words) × Allows (Kept key) z.slots it.id it.me i (λ n. n) (TellsItsStanding (step z.slots i 0 0 none) it.me)
 may_tie z key L it i laid table alive empty layout index = (
   table,

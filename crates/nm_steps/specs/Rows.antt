@@ -54,7 +54,7 @@ pub record CanPass (b : TreeView) (it : Seat Unit View) (from most i : ℕ) : Ty
   pub table : it.table_id ≡ b.table
   pub words : b.table.words ≡ words b.layout
   pub empty : it.me.1 ≡ []
-  pub alive : it.me.0.spent ≡ false
+  pub alive : it.me.0.resigned ≡ false
   pub layout : it.me.0.layout ≡ b.layout
   pub low : 6 ≤ from
   pub slot : from ≤ b.layout.nodes

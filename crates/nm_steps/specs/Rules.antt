@@ -27,7 +27,7 @@ held_log w log = record { number = w; log = log }
 
 -- the logs that a view has; a spent one has none
 abbrev pub holdings : View → List Held
-holdings v = if v.spent then [] else held_log v.number v.log ∷ v.others
+holdings v = if v.resigned then [] else held_log v.number v.log ∷ v.others
 
 -- what a view's own worker knows, by its log
 abbrev pub knowledge : View → Knowledge
@@ -73,7 +73,7 @@ pub record Runs (L : Layout) (words : List ℕ) (views : List View) : Type 0 whe
   pub words_are : words ≡ words_of L (after_in (ordered L) turns).state.memory
   pub shown : (i : ℕ) (v : View) → get_elem? views i ≡ some v
       → IsShown L (trace_in (ordered L) turns) v
-  pub here : (i : ℕ) (v : View) → get_elem? views i ≡ some v → v.spent ≡ false
+  pub here : (i : ℕ) (v : View) → get_elem? views i ≡ some v → v.resigned ≡ false
       → (knowledge v).gone ≡ false
   pub once : (w : ℕ) → sum_by (stands w) views ≡ once_below w L.workers
   pub lags : (i : ℕ) (v : View) → get_elem? views i ≡ some v
@@ -90,7 +90,7 @@ numbers_from k (suc n) = held_log k [] ∷ numbers_from (suc k) n
 abbrev pub viewing : Layout → List Held → View
 viewing L [] = record {
   layout = L;
-  spent = true;
+  resigned = true;
   number = 0;
   log = [];
   others = [];
@@ -99,7 +99,7 @@ viewing L [] = record {
 }
 viewing L (h ∷ hs) = record {
   layout = L;
-  spent = false;
+  resigned = false;
   number = h.number;
   log = h.log;
   others = hs;

@@ -81,7 +81,7 @@ pub record IsReadyFor (b : TreeView) (it : Seat Unit View) (e : Event) (i : ℕ)
   pub table : it.table_id ≡ b.table
   pub words : b.table.words ≡ words b.layout
   pub empty : it.me.1 ≡ []
-  pub alive : it.me.0.spent ≡ false
+  pub alive : it.me.0.resigned ≡ false
   pub layout : it.me.0.layout ≡ b.layout
   pub within : IsField b.layout (touched_field it.me.0.number e)
   pub word : i ≡ word b.layout (touched_field it.me.0.number e)
@@ -167,7 +167,7 @@ pub record HasSeen (v : View) : Type 0 where
 -- pool's range, and that the run which it has seen has the log as its part
 pub record Tied (it : Seat Unit View) (number announcement : ℕ) (brief : Brief) : Type 0 where
   pub empty : it.me.1 ≡ []
-  pub alive : it.me.0.spent ≡ false
+  pub alive : it.me.0.resigned ≡ false
   pub number_is : number ≡ it.me.0.number
   pub announcement_is : announcement ≡ word it.me.0.layout (at_announcement number)
   pub brief_is : brief ≡ (knowledge it.me.0).brief

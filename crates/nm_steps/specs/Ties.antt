@@ -9,7 +9,7 @@ use Rattle.nm_steps.specs.Steps.{IsOfRun, HasSeen}
 -- the seat is not spent, its own log is its worker's part of some run, the worker has not resigned,
 -- and each number stands once at most, below the number of workers
 pub record StandsInRun (v : View) : Type 0 where
-  pub alive : v.spent ≡ false
+  pub alive : v.resigned ≡ false
   pub fits : IsLayout v.layout
   pub run : IsOfRun v.layout v.number v.log
   pub once : (w : ℕ) → stands w v ≤ once_below w v.layout.workers

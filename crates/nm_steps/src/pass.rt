@@ -86,10 +86,10 @@ impl Pass {
         self.brief.pin
     }
 
-    /// The pass's log is its number's part of some run of an ordered core, and the worker has not
-    /// resigned in it: each law of such parts holds of it. One such run is what the pass has seen,
-    /// so each law of runs holds of that. It does nothing.
-    pub fn is_of_a_run(&self)
+    /// Proof only: establishes that the pass's log is its number's part of some run of an ordered core,
+    /// in which the worker has not resigned. Each law of such parts holds of the log. What the pass has
+    /// seen is one such run, so each law of runs holds of it. No run-time effect.
+    pub fn know_run(&self)
         ensures run { IsOfRun self.now.view.layout self.now.view.number self.now.view.log }
         ensures seen { HasSeen self.now.view }
         ensures fits { IsLayout self.now.view.layout }
@@ -97,8 +97,9 @@ impl Pass {
         let _brief = self.brief;
     }
 
-    /// Each of the worker's private slots is one of 6 to nodes. It does nothing.
-    pub fn holds_pooled_slots(&self)
+    /// Proof only: establishes that each of the worker's private slots is one of 6 to `nodes`. No
+    /// run-time effect.
+    pub fn know_pooled_slots(&self)
         ensures { (x : ℕ) → is_private (knowledge self.now.view) x ≡ true
             → IsPooled self.now.view.layout x }
     {

@@ -15,7 +15,7 @@ pub struct Held {
 /// so far as they were at its last step, and those of which a note told. No value of it is made.
 pub struct View {
     pub layout: Layout,
-    pub spent: bool,
+    pub resigned: bool,
     pub number: u32,
     pub log: LinkedList<(Event, Reply)>,
     pub others: LinkedList<Held>,

@@ -1,4 +1,4 @@
-//! The program: a command word, standard input and standard output.
+//! The program: it reads a command word and standard input, and writes standard output.
 #![tactic(auto)]
 
 ghost use Rattle.std.specs.Prelude.{◌≡◌, length, OnOk};
@@ -15,7 +15,7 @@ use std::process::ExitCode;
 use std::{env, io};
 use thiserror::Error;
 
-/// What the command line asks for.
+/// The command that the command line names.
 #[derive(Clone, Copy, Debug, PartialEq, Eq)]
 enum Request {
     Replay,
@@ -23,7 +23,7 @@ enum Request {
     Stress,
 }
 
-/// The gate of the program: it lets each worker go on.
+/// The gate of the program: it lets each worker play each line.
 #[derive(Clone, Copy, Debug)]
 struct OpenGate;
 
@@ -39,7 +39,7 @@ impl Gate for OpenGate {
     }
 }
 
-/// Why the command line asks for nothing.
+/// Why the command line names no command.
 #[derive(Clone, Copy, Debug, PartialEq, Eq, Error)]
 enum UsageError {
     #[error("usage: nm_stress COMMAND")]
@@ -49,7 +49,7 @@ enum UsageError {
 }
 
 impl UsageError {
-    /// The exit status after it.
+    /// Returns the exit status after this error.
     fn status(self) -> u8 {
         match self {
             UsageError::Usage => 2,
@@ -58,7 +58,7 @@ impl UsageError {
     }
 }
 
-/// What an error of clap's comes to.
+/// Converts an error of clap.
 fn refusal_of(error: &clap::Error) -> UsageError {
     if error.kind() == ErrorKind::OutOfMemory {
         UsageError::NoMemory
@@ -93,7 +93,7 @@ fn request_of(alloc: Global, words: &[String]) -> Result<Request, UsageError>
     }
 }
 
-/// Reads the command line. A word that is no text is as good as a wrong one.
+/// Reads the command line. A word that is not valid text is an error, like a wrong word.
 fn asked(rt: &(impl Env + AllocGlobal)) -> Result<Request, UsageError> {
     let words = match env::args(rt) {
         Ok(words) => words,
@@ -109,7 +109,7 @@ fn asked(rt: &(impl Env + AllocGlobal)) -> Result<Request, UsageError> {
     request_of(rt.alloc(), words.as_slice())
 }
 
-/// The exit status after a run that ended so.
+/// Returns the exit status after a run with this fault.
 fn status_of(fault: &RunFault) -> u8
     ensures { result ≡ exit_status fault.now }
 {

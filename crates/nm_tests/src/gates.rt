@@ -1,4 +1,4 @@
-//! Scripts whose workers, each in a thread of its own, go on as a gate lets them.
+//! Scripts whose workers play in threads of their own, as a gate lets them.
 use nm_files::fault::RunFault;
 use nm_serial::{Gate, stress};
 use std::alloc::Global;
@@ -6,7 +6,7 @@ use std::sync::Wait;
 use std::sync::atomic::{AtomicU64, Ordering};
 use std::thread::Threads;
 
-/// A gate that lets each worker go on.
+/// A gate that lets each worker play each line.
 #[derive(Clone, Copy)]
 pub(super) struct Open;
 
@@ -22,7 +22,7 @@ impl Gate for Open {
     }
 }
 
-/// Lets a worker go on up to a line.
+/// A gate that lets a worker play up to a line.
 #[derive(Clone, Copy)]
 struct UpTo {
     last: u32,
@@ -40,10 +40,10 @@ impl Gate for UpTo {
     }
 }
 
-/// Up to this line two workers take turns.
+/// The last line up to which two workers take turns.
 const LAST_TURN: u32 = 13;
 
-/// Of each of two workers, the line that it has asked for last: those before it are done.
+/// The line for which each of two workers has asked last; it has played its lines before that one.
 #[derive(Drop)]
 struct Turns {
     first: AtomicU64,
@@ -51,7 +51,7 @@ struct Turns {
 }
 
 impl Turns {
-    /// Tells what a worker asks for.
+    /// Records the line for which a worker asks.
     fn mark(&self, worker: u32, line: u32) {
         if worker == 0 {
             self.first.store(u64::from(line), Ordering::SeqCst);
@@ -60,7 +60,7 @@ impl Turns {
         }
     }
 
-    /// The line for which the other worker has asked.
+    /// Returns the line for which the other worker has asked.
     fn other(&self, worker: u32) -> u64 {
         if worker == 0 {
             self.second.load(Ordering::SeqCst)
@@ -77,8 +77,8 @@ impl Gate for Turns {
 
     ghost stops = { λ gate worker line. ⊤ };
 
-    /// Waits until the other worker has asked for the line behind this one, and so has done the one
-    /// before it.
+    /// Waits until the other worker has asked for the line after this one, so that it has played
+    /// the line before this one.
     fn turn(&self, worker: u32, line: u32) -> bool {
         self.mark(worker, line);
         if line == 2 || LAST_TURN < line {
@@ -112,7 +112,7 @@ keys -
 places pool 11 reached 0 queued 0
 ";
 
-/// Plays the look-ups with a gate that lets the workers go on up to a line.
+/// Plays the look-ups with a gate that lets the workers play up to a line.
 fn look_up<R: Threads + Wait + Sync>(
     rt: &R,
     alloc: Global,
@@ -123,8 +123,8 @@ fn look_up<R: Threads + Wait + Sync>(
     stress(rt, alloc, &mut reader, writer, &UpTo { last })
 }
 
-/// The lines of each worker stand in their order; and of the workers that their gate stops the
-/// least is told, at its line, and nothing is written.
+/// The output has the lines of each worker in their order. If the gate stops workers, the error
+/// names the least of them and its line, and nothing is written.
 #[test]
 fn the_least_worker_that_its_gate_stops_is_told(rt: HostRuntime) {
     let mut writer = Vec::new(rt.alloc());
@@ -140,8 +140,8 @@ fn the_least_worker_that_its_gate_stops_is_told(rt: HostRuntime) {
     assert!(&rt; writer.is_empty());
 }
 
-/// Worker 1 stays pinned over a delete and two moves of the epoch, and what was cut off is freed
-/// once it has left.
+/// Worker 1 stays pinned during a delete and two attempts to advance the epoch. The nodes that were
+/// cut off are freed after it has unpinned.
 const IN_TURNS: &str = "\
 stress 2 16 2 4
 0 insert 5

@@ -1,4 +1,4 @@
-//! Many workers, each in a thread of its own, over few keys. Under `rt try --test` it needs
+//! Many workers, each in a thread of its own, over few keys. With `rt try --test` it needs
 //! `--seconds 600`.
 use super::gates::Open;
 use nm_serial::stress;
@@ -6,12 +6,13 @@ use std::alloc::{AllocError, Global};
 
 const WORKERS: u32 = 64;
 
-/// How many lines each worker has.
+/// The number of lines of each worker.
 const ROUNDS: u32 = 1_500;
 
 const NODES: u64 = 4_096;
 
-/// One line: in turn two inserts, three deletes, a look-up, a move of the epoch and a collection.
+/// Appends one line: in turn two inserts, three deletes, a look-up, an advance of the epoch and a
+/// collection.
 fn put_call(text: &mut String, alloc: Global, worker: u32, round: u32) -> Result<(), AllocError> {
     let key = round.wrapping_mul(7).wrapping_add(worker) % 200;
     let line = match round % 8 {
@@ -24,7 +25,7 @@ fn put_call(text: &mut String, alloc: Global, worker: u32, round: u32) -> Result
     text.push_str(line.as_str())
 }
 
-/// So many rounds of a line of each worker.
+/// Returns a script of `ROUNDS` rounds, with a line of each worker in each round.
 fn script(alloc: Global) -> Result<String, AllocError> {
     let mut text = format!(in alloc; "stress 2 {NODES} {WORKERS} 64\n")?;
     for round in 0..ROUNDS {
@@ -35,7 +36,7 @@ fn script(alloc: Global) -> Result<String, AllocError> {
     Ok(text)
 }
 
-/// How many lines a text has, and the sum of the numbers in the last of them.
+/// Returns how many lines a text has, and the sum of the numbers in the last line.
 fn last_sum(text: &[u8]) -> (u64, u64) {
     let mut lines = 0u64;
     let mut last = 0u64;

@@ -1,17 +1,18 @@
-//! Members of a set in one thread, each answer compared, and two in threads of their own.
+//! Members of a set in one thread, with each answer compared, and two members in threads of their
+//! own.
 use nm_edge::Key;
 use nm_set::{
-    CallFault, CloseReason, EndError, Fault, Fit, Fullness, Habit, InsertFault, Member,
-    MemberFault, NotHeld, PinFault, PostFault, Posted, Report, ResignReason, Set,
+    CallFault, CloseReason, EndError, Fault, Fit, Fullness, InsertFault, Member, MemberFault,
+    NotPinned, ObserveFault, Options, PinFault, Report, ResignReason, Set, Stamp,
 };
 use std::process::Abort;
 use std::test::Fail;
 use std::thread::{Threads, join};
 
-/// How many tries each call has.
+/// The number of tries of each call.
 const TRIES: u32 = 100;
 
-/// A number as a key.
+/// Returns a number as a key.
 fn key(rt: &impl Abort, number: u64) -> Key {
     let Some(key) = Key::new(number) else {
         panic!(rt; "{number} is no key")
@@ -19,7 +20,7 @@ fn key(rt: &impl Abort, number: u64) -> Key {
     key
 }
 
-/// Why a set was not closed, and the set.
+/// Returns why a set was not closed, and the set.
 fn refused(rt: &impl Abort, set: Set) -> (CloseReason, Set) {
     match set.close() {
         Ok(_) => panic!(rt; "the set was closed"),
@@ -27,7 +28,7 @@ fn refused(rt: &impl Abort, set: Set) -> (CloseReason, Set) {
     }
 }
 
-/// The keys of a set that is closed, and how many of its slots are free, reached or waiting.
+/// Closes a set; returns its keys, and how many of its slots are free, reached or waiting.
 fn closed(rt: &impl Abort, set: Set) -> (Vec<Key>, u64) {
     let Ok(report) = set.close() else {
         panic!(rt; "the set was not closed")
@@ -35,7 +36,7 @@ fn closed(rt: &impl Abort, set: Set) -> (Vec<Key>, u64) {
     told(report)
 }
 
-/// The keys of a report, and how many slots are free, reached or waiting.
+/// Returns the keys of a report, and how many slots are free, reached or waiting.
 fn told(report: Report) -> (Vec<Key>, u64) {
     let mut slots = u64::from(report.free) + u64::from(report.reached);
     for held in &report.queues {
@@ -46,7 +47,7 @@ fn told(report: Report) -> (Vec<Key>, u64) {
 
 #[test]
 fn a_member_answers_and_keeps_what_it_holds(rt: HostRuntime) -> Result<(), Fail> {
-    let set = Set::unbalanced(rt.alloc(), 64, 2, Fit::Lowest)?;
+    let set = Set::unbalanced(rt.alloc(), 64, 2, Fit::FirstFit)?;
     let mut first = set.member(0)?;
     let five = key(&rt, 5);
     assert_eq!(rt;
@@ -76,14 +77,14 @@ fn a_member_answers_and_keeps_what_it_holds(rt: HostRuntime) -> Result<(), Fail>
         ),
         (2, None, Err(Fault::Call(nm_tree::CallFault::Busy)))
     );
-    let ledger = first.ledger();
+    let ledger = first.stats();
     assert_eq!(rt;
         (ledger.links, ledger.flags, ledger.retired, ledger.queued),
         (1, 1, 2, 2)
     );
     first.close();
     let mut again = set.member(0)?;
-    assert_eq!(rt; (again.queue_len(), again.ledger().retired), (2, 2));
+    assert_eq!(rt; (again.queue_len(), again.stats().retired), (2, 2));
     let _ = again.advance();
     let _ = again.advance();
     assert_eq!(rt; (again.collect().freed, again.queue_len()), (2, 0));
@@ -95,18 +96,18 @@ fn a_full_set_tells_who_holds_memory_back(rt: HostRuntime) -> Result<(), Fail> {
     let set = Set::new(rt.alloc(), 7, 2)?;
     let mut first = set.member(0)?;
     let mut reader = set.member(1)?;
-    let habit = Habit::default();
+    let options = Options::default();
     let (five, six) = (key(&rt, 5), key(&rt, 6));
     let _epoch = reader.pin(TRIES)?;
     assert_eq!(rt;
-        (first.insert(five, &habit), first.remove(five, &habit)),
+        (first.insert(five, &options), first.remove(five, &options)),
         (Ok(true), Ok(true))
     );
     let held = Fullness {
         waiting: 2,
         behind: Some(1),
     };
-    assert_eq!(rt; first.insert(six, &habit), Err(InsertFault::Full(held)));
+    assert_eq!(rt; first.insert(six, &options), Err(InsertFault::Full(held)));
     assert_eq!(rt;
         first.try_insert(six, TRIES),
         Err(Fault::Call(CallFault::Full))
@@ -116,46 +117,49 @@ fn a_full_set_tells_who_holds_memory_back(rt: HostRuntime) -> Result<(), Fail> {
         "no slot is free for a new node; 2 removed nodes wait, and worker 1 holds them back"
     );
     reader.unpin()?;
-    assert_eq!(rt; first.insert(six, &habit), Ok(true));
+    assert_eq!(rt; first.insert(six, &options), Ok(true));
     let brimful = Fullness {
         waiting: 0,
         behind: None,
     };
-    assert_eq!(rt; first.insert(five, &habit), Err(InsertFault::Full(brimful)));
+    assert_eq!(rt;
+        first.insert(five, &options),
+        Err(InsertFault::Full(brimful))
+    );
     Ok(())
 }
 
 #[test]
 fn a_held_member_is_not_asked(rt: HostRuntime) -> Result<(), Fail> {
-    let set = Set::unbalanced(rt.alloc(), 64, 2, Fit::Near)?;
+    let set = Set::unbalanced(rt.alloc(), 64, 2, Fit::NextFit)?;
     let mut first = set.member(0)?;
     let mut second = set.member(1)?;
     let five = key(&rt, 5);
-    assert_eq!(rt; first.unpin(), Err(NotHeld));
+    assert_eq!(rt; first.unpin(), Err(NotPinned));
     let epoch = first.pin(TRIES)?;
     assert_eq!(rt;
-        (first.held(), first.pin(TRIES)),
-        (Some(epoch), Err(PinFault::Held))
+        (first.pinned(), first.pin(TRIES)),
+        (Some(epoch), Err(PinFault::Pinned))
     );
     assert_eq!(rt;
         (
             first.try_contains(five, TRIES),
             first.try_insert(five, TRIES)
         ),
-        (Err(Fault::Held), Err(Fault::Held))
+        (Err(Fault::Pinned), Err(Fault::Pinned))
     );
     assert_eq!(rt;
         (
             first.try_remove(five, TRIES),
             second.try_insert(five, TRIES)
         ),
-        (Err(Fault::Held), Ok(true))
+        (Err(Fault::Pinned), Ok(true))
     );
     let _ = second.advance();
     let _ = second.advance();
     assert_eq!(rt; second.behind().mask, 1);
     assert_eq!(rt;
-        (first.unpin(), first.held(), second.behind().mask),
+        (first.unpin(), first.pinned(), second.behind().mask),
         (Ok(()), None, 0)
     );
     assert_eq!(rt; first.try_contains(five, TRIES), Ok(true));
@@ -164,19 +168,19 @@ fn a_held_member_is_not_asked(rt: HostRuntime) -> Result<(), Fail> {
 
 #[test]
 fn a_set_closes_when_all_are_at_home(rt: HostRuntime) -> Result<(), Fail> {
-    let set = Set::unbalanced(rt.alloc(), 64, 2, Fit::Lowest)?;
+    let set = Set::unbalanced(rt.alloc(), 64, 2, Fit::FirstFit)?;
     let mut first = set.member(0)?;
     let (again, none) = (set.member(0), set.member(2));
     assert_eq!(rt;
         (again.err(), none.err()),
-        (Some(MemberFault::Away), Some(MemberFault::Number))
+        (Some(MemberFault::Attached), Some(MemberFault::Number))
     );
     for number in [7, 3, 9] {
         assert_eq!(rt; first.try_insert(key(&rt, number), TRIES), Ok(true));
     }
     assert_eq!(rt; first.try_remove(key(&rt, 7), TRIES), Ok(true));
     let (reason, set) = refused(&rt, set);
-    assert_eq!(rt; reason, CloseReason::Away);
+    assert_eq!(rt; reason, CloseReason::Attached);
     assert_eq!(rt; first.try_contains(key(&rt, 3), TRIES), Ok(true));
     drop(first);
     let (keys, slots) = closed(&rt, set);
@@ -187,25 +191,25 @@ fn a_set_closes_when_all_are_at_home(rt: HostRuntime) -> Result<(), Fail> {
     Ok(())
 }
 
-/// Members come from the least number on, tend their set, and are closed with it where it keeps
-/// them.
+/// `attach` gives out members from the least number on. They make managed calls, and a set closes
+/// the members that it keeps.
 #[test]
 fn a_kept_member_is_closed_with_its_set(rt: HostRuntime) -> Result<(), Fail> {
-    let mut set = Set::unbalanced(rt.alloc(), 256, 16, Fit::Near)?;
+    let mut set = Set::unbalanced(rt.alloc(), 256, 16, Fit::NextFit)?;
     let mut first = set.attach()?;
     let second = set.attach()?;
     assert_eq!(rt; (first.number(), second.number()), (0, 1));
-    let (five, nine, habit) = (key(&rt, 5), key(&rt, 9), Habit::default());
+    let (five, nine, options) = (key(&rt, 5), key(&rt, 9), Options::default());
     assert_eq!(rt;
-        (first.insert(five, &habit), first.insert(five, &habit)),
+        (first.insert(five, &options), first.insert(five, &options)),
         (Ok(true), Ok(false))
     );
     assert_eq!(rt;
-        (first.insert(nine, &habit), first.contains(nine, &habit)),
+        (first.insert(nine, &options), first.contains(nine, &options)),
         (Ok(true), Ok(true))
     );
     assert_eq!(rt;
-        (first.remove(five, &habit), first.remove(five, &habit)),
+        (first.remove(five, &options), first.remove(five, &options)),
         (Ok(true), Ok(false))
     );
     second.close();
@@ -215,18 +219,19 @@ fn a_kept_member_is_closed_with_its_set(rt: HostRuntime) -> Result<(), Fail> {
     Ok(())
 }
 
-/// A member that is not the last one, or whose `Set` is there, has not ended it, and is as it was.
+/// Checks that a member does not close its set if it is not the last one, or if the `Set` still
+/// exists; returns the member.
 fn not_last(rt: &impl Abort, member: Member) -> Member {
     match member.end() {
-        Err(EndError::Away(member)) => member,
+        Err(EndError::Attached(member)) => member,
         _ => panic!(rt; "the set was ended, or closing"),
     }
 }
 
-/// The last member ends its set, once that was dropped and the other member is closed.
+/// The last member closes its set, after the `Set` was dropped and the other member was closed.
 #[test]
 fn the_last_member_ends_its_set(rt: HostRuntime) -> Result<(), Fail> {
-    let set = Set::unbalanced(rt.alloc(), 64, 3, Fit::Lowest)?;
+    let set = Set::unbalanced(rt.alloc(), 64, 3, Fit::FirstFit)?;
     let mut last = set.member(1)?;
     let other = set.member(0)?;
     let (five, nine) = (key(&rt, 5), key(&rt, 9));
@@ -247,30 +252,30 @@ fn the_last_member_ends_its_set(rt: HostRuntime) -> Result<(), Fail> {
     Ok(())
 }
 
-/// A note is heard as often as it is read, and tells what its worker had done; a set tells which
-/// workers a close would miss.
+/// A stamp can be observed several times, and has what its worker had done. A set reports which
+/// workers are attached.
 #[test]
 fn members_leave_notes(rt: HostRuntime) -> Result<(), Fail> {
-    let set = Set::unbalanced(rt.alloc(), 64, 3, Fit::Near)?;
+    let set = Set::unbalanced(rt.alloc(), 64, 3, Fit::NextFit)?;
     let mut writer = set.member(1)?;
     let mut reader = set.member(0)?;
     assert_eq!(rt;
-        (reader.read(1), reader.read(3)),
-        (Ok(None), Err(PostFault::Number))
+        (reader.observe(1), reader.observe(3)),
+        (Ok(None), Err(ObserveFault::Number))
     );
     assert_eq!(rt; writer.try_insert(key(&rt, 5), TRIES), Ok(true));
-    let won = Posted {
+    let won = Stamp {
         inserted: 1,
         removed: 0,
     };
-    assert_eq!(rt; writer.post(), Some(won));
+    assert_eq!(rt; writer.publish(), Some(won));
     assert_eq!(rt;
-        (reader.read(1), reader.read(1)),
+        (reader.observe(1), reader.observe(1)),
         (Ok(Some(won)), Ok(Some(won)))
     );
     reader.close();
     assert_eq!(rt;
-        (set.is_away(1), set.is_away(0), set.is_away(3)),
+        (set.is_attached(1), set.is_attached(0), set.is_attached(3)),
         (Ok(true), Ok(false), Err(MemberFault::Number))
     );
     writer.close();
@@ -280,7 +285,7 @@ fn members_leave_notes(rt: HostRuntime) -> Result<(), Fail> {
 
 #[test]
 fn a_worker_at_home_resigns_to_a_member(rt: HostRuntime) -> Result<(), Fail> {
-    let set = Set::unbalanced(rt.alloc(), 64, 2, Fit::Lowest)?;
+    let set = Set::unbalanced(rt.alloc(), 64, 2, Fit::FirstFit)?;
     let mut leaver = set.member(1)?;
     let five = key(&rt, 5);
     assert_eq!(rt;
@@ -292,27 +297,27 @@ fn a_worker_at_home_resigns_to_a_member(rt: HostRuntime) -> Result<(), Fail> {
     );
     let heir = set.member(0)?;
     let (reason, heir) = stays(&rt, heir, 1);
-    assert_eq!(rt; reason, ResignReason::Away);
+    assert_eq!(rt; reason, ResignReason::Attached);
     let (reason, heir) = stays(&rt, heir, 2);
     assert_eq!(rt; reason, ResignReason::Number);
     let _ = leaver.pin(TRIES)?;
     leaver.close();
     let leaver = set.member(1)?;
-    assert_eq!(rt; leaver.held(), None);
+    assert_eq!(rt; leaver.pinned(), None);
     leaver.close();
     let Ok(heir) = heir.resign(1) else {
         panic!(rt; "the worker has not resigned")
     };
     assert_eq!(rt;
         (heir.queue_len(), set.member(1).err()),
-        (2, Some(MemberFault::Away))
+        (2, Some(MemberFault::Attached))
     );
     heir.close();
     assert_eq!(rt; closed(&rt, set).1, 59);
     Ok(())
 }
 
-/// Why a worker has not resigned, and the member that was to be its heir.
+/// Returns why a worker has not resigned, and the member that was to be its heir.
 fn stays(rt: &impl Abort, heir: Member, leaver: u32) -> (ResignReason, Member) {
     match heir.resign(leaver) {
         Ok(_) => panic!(rt; "worker {leaver} has resigned"),
@@ -320,8 +325,8 @@ fn stays(rt: &impl Abort, heir: Member, leaver: u32) -> (ResignReason, Member) {
     }
 }
 
-/// Inserts so many keys, each a step of two behind the other, and deletes every fourth. How many
-/// answers were true.
+/// Inserts keys that are two apart, and deletes every fourth; returns how often a call returned
+/// true.
 fn works(mut member: Member, from: u64, keys: u64) -> u64 {
     let mut done = 0u64;
     for turn in 0..keys {
@@ -338,14 +343,14 @@ fn works(mut member: Member, from: u64, keys: u64) -> u64 {
     done
 }
 
-/// Both members at once, each in a thread of its own.
+/// Lets both members work at the same time, each in a thread of its own.
 fn by_two<R: Threads + Sync>(rt: &R, one: Member, two: Member) -> (u64, u64) {
     join(rt, move || works(one, 0, 400), move || works(two, 1, 400))
 }
 
 #[test]
 fn two_threads_fill_a_set(rt: HostRuntime) -> Result<(), Fail> {
-    let set = Set::unbalanced(rt.alloc(), 8192, 2, Fit::Near)?;
+    let set = Set::unbalanced(rt.alloc(), 8192, 2, Fit::NextFit)?;
     let (one, two) = by_two(&rt, set.member(0)?, set.member(1)?);
     assert_eq!(rt; (one, two), (500, 500));
     let (keys, slots) = closed(&rt, set);

@@ -1,5 +1,5 @@
-//! Readers and writers that fail at each call in turn, or give and take little at a time: `replay`,
-//! `serial` and `stress`.
+//! `replay`, `serial` and `stress` with readers and writers that fail at each call in turn, or give
+//! and take few bytes at a time.
 use super::gates::Open;
 use nm_files::fault::{Reason, RunFault};
 use nm_replay::replay;
@@ -73,10 +73,10 @@ const RUNS: [(Command, &str, &str); 3] = [
     ),
 ];
 
-/// How many bytes a sink holds of what it took.
+/// The number of bytes that a sink keeps of what it took.
 const ROOM: usize = 512;
 
-/// Gives some bytes, at most so many a call, and fails at one call.
+/// Gives some bytes, at most a fixed number in each call, and fails at one call.
 #[derive(Clone, Copy, Drop)]
 struct Source<'a> {
     rest: &'a [u8],
@@ -112,7 +112,8 @@ impl Read for Source<'_> {
     }
 }
 
-/// Takes at most so many bytes a call, holds the first of them, and fails at one call, a flush too.
+/// Takes at most a fixed number of bytes in each call, keeps the first of them, and fails at one
+/// call, which may be a flush.
 #[derive(Clone, Copy, Drop)]
 struct Sink {
     held: [u8; ROOM],
@@ -192,7 +193,7 @@ fn small_pieces(rt: HostRuntime) {
     }
 }
 
-/// A reader fails at each of its calls in turn, the one that finds the end too.
+/// A reader fails at each of its calls in turn, including the one that finds the end.
 #[test]
 fn failing_readers(rt: HostRuntime) {
     for (command, input, _) in RUNS {
@@ -212,7 +213,7 @@ fn failing_readers(rt: HostRuntime) {
     }
 }
 
-/// A writer fails at each of its calls in turn, the flush at the end too; and one that takes
+/// A writer fails at each of its calls in turn, including the flush at the end. A writer that takes
 /// nothing has failed.
 #[test]
 fn failing_writers(rt: HostRuntime) {
@@ -246,7 +247,7 @@ impl Read for Endless {
     }
 }
 
-/// Of a reader that never ends no more is read than decides.
+/// From a reader that never ends, the commands read no more than they need to decide.
 #[test]
 fn endless_readers(rt: HostRuntime) {
     for (command, _, _) in RUNS {

@@ -1,13 +1,13 @@
-//! Several keys that one call of a member looks up.
+//! Look-ups of several keys by one call of a member.
 use nm_edge::Key;
 use nm_set::{CallFault, Fault, Fit, Query, Set};
 use std::process::Abort;
 use std::test::Fail;
 
-/// How many tries each call has.
+/// The number of tries of each call.
 const TRIES: u32 = 100;
 
-/// A number as a key.
+/// Returns a number as a key.
 fn key(rt: &impl Abort, number: u64) -> Key {
     let Some(key) = Key::new(number) else {
         panic!(rt; "{number} is no key")
@@ -15,10 +15,10 @@ fn key(rt: &impl Abort, number: u64) -> Key {
     key
 }
 
-/// Of 60 numbers each third one was inserted, and 9 deleted again.
+/// Of 60 numbers each third one was inserted, and 9 was deleted again.
 #[test]
 fn each_key_is_found_that_is_there(rt: HostRuntime) -> Result<(), Fail> {
-    let set = Set::unbalanced(rt.alloc(), 256, 1, Fit::Near)?;
+    let set = Set::unbalanced(rt.alloc(), 256, 1, Fit::NextFit)?;
     let mut member = set.member(0)?;
     let mut queries = Vec::new(rt.alloc());
     for number in 0..60u64 {
@@ -38,7 +38,7 @@ fn each_key_is_found_that_is_there(rt: HostRuntime) -> Result<(), Fail> {
 
 #[test]
 fn keys_are_not_looked_up_where_nobody_may_be_asked(rt: HostRuntime) -> Result<(), Fail> {
-    let set = Set::unbalanced(rt.alloc(), 64, 1, Fit::Near)?;
+    let set = Set::unbalanced(rt.alloc(), 64, 1, Fit::NextFit)?;
     let mut member = set.member(0)?;
     let mut queries = [Query::new(key(&rt, 5)), Query::new(key(&rt, 6))];
     assert_eq!(rt;
@@ -47,7 +47,10 @@ fn keys_are_not_looked_up_where_nobody_may_be_asked(rt: HostRuntime) -> Result<(
     );
     assert_eq!(rt; member.contains_many(&mut [], TRIES), Ok(()));
     let _ = member.pin(TRIES)?;
-    assert_eq!(rt; member.contains_many(&mut queries, TRIES), Err(Fault::Held));
+    assert_eq!(rt;
+        member.contains_many(&mut queries, TRIES),
+        Err(Fault::Pinned)
+    );
     assert_eq!(rt; member.unpin(), Ok(()));
     assert_eq!(rt; member.contains_many(&mut queries, TRIES), Ok(()));
     assert_eq!(rt; (queries[0].found, queries[1].found), (false, false));

@@ -117,6 +117,6 @@ changed {r} w home q n e g is same kept others private stands room =
       own = let P : ℕ → Type 0 = λ o. QueueStandsAt home o (slice_set w.queues home g) in subst P (sym number) (stands_after home w.pass.view.number home w.queues g is.own own);
       numbers = numbers_stay w.pass q (slice_set w.queues home g) same (numbers_after w.pass.view home w.pass.view.number w.queues g is.own own is.numbers);
       resigned = resigned_stay w.pass q same is.resigned;
-      alive = ap (λ (x : PassView). x.view.spent) same ∙ is.alive;
+      alive = ap (λ (x : PassView). x.view.resigned) same ∙ is.alive;
       room = room_stays w.pass q r same is.room;
     }

@@ -133,6 +133,6 @@ collected {r} {r'} {nodes} {f} {c} w home q gs same_room is begun does =
       own = subst P (sym (ap (λ (x : PassView). x.view.number) same)) (stands_still_at c.epoch home w.pass.view.number w.queues gs lost is.own);
       numbers = numbers_stay w.pass q gs same (record { each = λ o has. is.numbers.each o (had_it c.epoch o w.queues gs lost has); all = λ o has. has_still c.epoch o w.queues gs lost (is.numbers.all o has) });
       resigned = resigned_stay w.pass q same is.resigned;
-      alive = ap (λ (x : PassView). x.view.spent) same ∙ is.alive;
+      alive = ap (λ (x : PassView). x.view.resigned) same ∙ is.alive;
       room = let now = room_stays w.pass q r same is.room in omega (arith, now, same_room);
     }

@@ -9,7 +9,7 @@ pub mod Staying
 pub mod Untouched
 pub mod Changing
 pub mod FlaggedSeen
-pub mod Disturbed
+pub mod Interfered
 pub mod OwnQueue
 pub mod Freeing
 pub mod Opening

@@ -55,7 +55,7 @@ pub looked_up : (L : Layout) (tries k : ℕ) (old new : List Entry) (b : Bool) �
 looked_up L tries k old new b d =
     quiet_then old d.pinned new (quiet old d.pinned (pin_adds Has k tries old d.pinned d.epoch d.pin))
     (quiet_then d.pinned d.begun new (quiet d.pinned d.begun (lost_walks_add L k d.broken d.pinned d.begun d.lost))
-    (quiet_then d.begun d.ended new (quiet d.begun d.ended (end_adds L k d.begun d.ended d.spot d.chain d.key d.walk)) (quiet d.ended new (adds_these _ d.ended new d.leaves))))
+    (quiet_then d.begun d.ended new (quiet d.begun d.ended (end_adds L k d.begun d.ended d.seek_record d.chain d.key d.walk)) (quiet d.ended new (adds_these _ d.ended new d.leaves))))
 
 pub missed : (L : Layout) (tries k : ℕ) (old new : List Entry) → HasMissed L tries k old new → Quiet old new
 missed L zero k old new m = quiet_none old new m

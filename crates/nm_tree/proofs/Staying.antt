@@ -55,7 +55,7 @@ stays {r} w home q n e is same none' drafts ledgers stands =
       few = is.few;
       numbers = numbers_stay w.pass q w.queues same is.numbers;
       resigned = resigned_stay w.pass q same is.resigned;
-      alive = ap (λ (x : PassView). x.view.spent) same ∙ is.alive;
+      alive = ap (λ (x : PassView). x.view.resigned) same ∙ is.alive;
       room = room_stays w.pass q r same is.room;
     }
 

@@ -21,7 +21,7 @@ module _ (L : Layout) (tries k : ℕ) (w : WorkerView) (there : IsSome w.pending
       same = refl;
       past = seen_itself w.pass;
       told = (there, refl);
-      disturbed = λ is. absurd (let no = is in cc);
+      interfered = λ is. absurd (let no = is in cc);
       moment = tt;
       won = nothing_won w.pass.view.log;
       steps = omega arith;
@@ -47,7 +47,7 @@ module _ (L : Layout) (tries k : ℕ) (w : WorkerView) (there : IsSome w.pending
       fit = refl;
     };
     did = (there, refl);
-    disturbed = λ is. absurd (let no = is in cc);
+    interfered = λ is. absurd (let no = is in cc);
   }
 
   pub delete_pending : LeavesDelete L tries k w w (Err fault.Pending)
@@ -66,7 +66,7 @@ module _ (L : Layout) (tries k : ℕ) (w : WorkerView) (there : IsSome w.pending
     };
     did = (there, refl);
     lacks = tt;
-    disturbed = λ is. absurd (let no = is in cc);
+    interfered = λ is. absurd (let no = is in cc);
     lost = λ is. absurd (let no = is in cc);
   }
 

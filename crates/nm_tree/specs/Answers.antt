@@ -1,4 +1,4 @@
--- What each call of the set leaves of its worker, by its answer.
+-- What each call of the set changes in its worker, for each answer.
 use Rattle.std.specs.Prelude.{◌≡◌, ◌⊎◌, ℕ, ◌-◌, Bool, true, false, Some, None, IsSome, Result, Ok, Err}
 use Rattle.nm_edge.specs.Layouts.{Layout}
 use Rattle.nm_edge.specs.declared.node.NodeId.{NodeId}
@@ -12,7 +12,7 @@ use Rattle.nm_calls.specs.Won.{links_of_insert, flags_of_delete}
 use Rattle.nm_epoch.specs.Tries.{IsPinnedBy as PinsSo, IsMoved}
 use Rattle.nm_model.specs.declared.event.Event.TheVariants.{Sight}
 use Rattle.nm_model.specs.declared.event.Op.TheVariants.{Delete}
-use Rattle.nm_busy.specs.Lost.{WasHindered}
+use Rattle.nm_busy.specs.Lost.{Interference}
 use Rattle.nm_tree.specs.declared.fault.PinFault.{PinFault}
 use Rattle.nm_tree.specs.declared.fault.PinFault.TheVariants as pinning
 use Rattle.nm_tree.specs.declared.fault.CallFault.{CallFault}
@@ -26,23 +26,23 @@ use Rattle.nm_steps.specs.Steps.{PassView}
 abbrev pub IsPendingStill : WorkerView → WorkerView → Type 0
 IsPendingStill w z = IsSome w.pending × (z ≡ w)
 
--- no key was pending, and none is
+-- no key was pending before, and none is after
 abbrev pub IsFree : WorkerView → WorkerView → Type 0
 IsFree w z = (w.pending ≡ None) × (z.pending ≡ None)
 
--- the own queue has less room than a try asks
+-- the worker's own queue has less room than a try needs
 abbrev pub LacksRoom : WorkerView → Type 0
 LacksRoom z = HasLittleRoom z.pass.view.number z.queues
 
--- what a look-up tells of its worker, by its answer: that a key was pending, and nothing changed, or
--- that none was, and none is
+-- a look-up, by its answer: either a key was pending and nothing has changed, or no key was pending
+-- before or after
 abbrev pub HasTold : WorkerView → WorkerView → Result Bool CallFault → Type 0
 HasTold w z (Ok b) = IsFree w z
 HasTold w z (Err fault.Busy) = IsFree w z
 HasTold w z (Err fault.Pending) = IsPendingStill w z
 HasTold w z (Err _) = ⊥
 
--- an insert too; and that its queue has little room
+-- an insert, in the same way; after `NoMemory` its own queue has little room
 abbrev pub InsertTold : WorkerView → WorkerView → Result Bool CallFault → Type 0
 InsertTold w z (Ok b) = IsFree w z
 InsertTold w z (Err fault.Busy) = IsFree w z
@@ -51,8 +51,8 @@ InsertTold w z (Err fault.NoMemory) = IsFree w z × LacksRoom z
 InsertTold w z (Err fault.Pending) = IsPendingStill w z
 InsertTold w z (Err fault.Unfinished) = ⊥
 
--- a delete of a key too; where it is not finished, that its key is pending, of the leaf that it has
--- flagged
+-- a delete of key k, in the same way; after `Unfinished` the key is pending, with the leaf that the
+-- worker has flagged
 abbrev pub DeleteTold : ℕ → WorkerView → WorkerView → Result Bool CallFault → Type 0
 DeleteTold k w z (Ok b) = IsFree w z
 DeleteTold k w z (Err fault.Busy) = IsFree w z
@@ -62,15 +62,16 @@ DeleteTold k w z (Err fault.Unfinished) =
 DeleteTold k w z (Err fault.Pending) = IsPendingStill w z
 DeleteTold k w z (Err fault.Full) = ⊥
 
--- a call that goes on with a delete: nothing was pending, and nothing has changed; or a key was, and
--- none is, or that one still
+-- a call that goes on with a delete: nothing was pending, and nothing has changed; or a key was
+-- pending, and none is now; or it is still pending
 abbrev pub FinishTold : WorkerView → WorkerView → Result Bool CallFault → Type 0
 FinishTold w z (Ok false) = (w.pending ≡ None) × (z ≡ w)
 FinishTold w z (Ok true) = IsSome w.pending × (z.pending ≡ None)
 FinishTold w z (Err fault.Unfinished) = IsSome w.pending × (z.pending ≡ w.pending)
 FinishTold w z (Err _) = ⊥
 
--- what a look-up leaves of its worker, by its answer (Natarajan and Mittal, section 3.2)
+-- what a look-up leaves of its worker and its log, by its answer (Natarajan and Mittal, section
+-- 3.2)
 abbrev pub HasAnswered : Layout → ℕ → ℕ → WorkerView → WorkerView → Result Bool CallFault → Type 0
 HasAnswered L tries k w z (Ok b) =
     IsFree w z × HasDid L tries k w.pass.view.log z.pass.view.log b
@@ -79,7 +80,8 @@ HasAnswered L tries k w z (Err fault.Busy) =
 HasAnswered L tries k w z (Err fault.Pending) = IsPendingStill w z
 HasAnswered L tries k w z (Err _) = ⊥
 
--- an insert, in the same way (Natarajan and Mittal, section 3.2)
+-- what an insert leaves of its worker and its log, by its answer (Natarajan and Mittal, section
+-- 3.2)
 abbrev pub HasInserted : Layout → ℕ → ℕ → WorkerView → WorkerView → Result Bool CallFault → Type 0
 HasInserted L tries k w z (Ok b) =
     IsFree w z × InsertDid w.fit L tries k w.pass.view.log z.pass.view.log (Ok b)
@@ -92,7 +94,7 @@ HasInserted L tries k w z (Err fault.NoMemory) =
 HasInserted L tries k w z (Err fault.Pending) = IsPendingStill w z
 HasInserted L tries k w z (Err fault.Unfinished) = ⊥
 
--- a delete (Natarajan and Mittal, section 3.2)
+-- what a delete leaves of its worker and its log, by its answer (Natarajan and Mittal, section 3.2)
 abbrev pub HasDeleted : Layout → ℕ → ℕ → WorkerView → WorkerView → Result Bool CallFault → Type 0
 HasDeleted L tries k w z (Ok b) =
     IsFree w z × DeleteDid L tries k w.pass.view.log z.pass.view.log (Ok b)
@@ -106,7 +108,8 @@ HasDeleted L tries k w z (Err fault.Unfinished) =
 HasDeleted L tries k w z (Err fault.Pending) = IsPendingStill w z
 HasDeleted L tries k w z (Err fault.Full) = ⊥
 
--- what is left to do of a delete (Natarajan and Mittal, section 3.2)
+-- what a call that goes on with a delete leaves of its worker and its log, by its answer (Natarajan
+-- and Mittal, section 3.2)
 abbrev pub HasFinished : Layout → ℕ → WorkerView → WorkerView → Result Bool CallFault → Type 0
 HasFinished L tries w z (Ok false) = (w.pending ≡ None) × (z ≡ w)
 HasFinished L tries w z (Ok true) =
@@ -117,14 +120,15 @@ HasFinished L tries w z (Err fault.Unfinished) =
     × FinishDid L n.key n.leaf tries w.pass.view.log z.pass.view.log false
 HasFinished L tries w z (Err _) = ⊥
 
--- ---- what a call has won, by its answer: for an insert a link where it is true
+-- ---- what a call has won, by its answer
 
--- the links that a call of a tree has won, by its answer: one for a true insert
+-- the links that a call of a tree has won, by its answer: one if an insert returned true
 abbrev pub links_won : Result Bool CallFault → ℕ
 links_won (Ok answer) = links_of_insert (Ok answer)
 links_won (Err fault) = 0
 
--- for a delete a flag where it is true, or not finished
+-- the flags that a call of a tree has won, by its answer: one if a delete returned true or
+-- `Unfinished`
 abbrev pub flags_won : Result Bool CallFault → ℕ
 flags_won (Ok answer) = flags_of_delete (Ok answer)
 flags_won (Err fault.Unfinished) = 1
@@ -132,7 +136,8 @@ flags_won (Err _) = 0
 
 -- ---- why a call gave up
 
--- a delete for want of memory; and one whose leaf is flagged lacks room, or has lost each try behind the flag
+-- why a delete gave up: after `NoMemory` it lacks room; after `Unfinished` it lacks room, or it
+-- lost each try after its flag
 abbrev pub DeleteLacks : Layout → ℕ → ℕ → WorkerView → WorkerView → CallFault → Type 0
 DeleteLacks L tries k w z fault.NoMemory = LacksRoom z
 DeleteLacks L tries k w z fault.Unfinished =
@@ -140,30 +145,31 @@ DeleteLacks L tries k w z fault.Unfinished =
     × LosesAfterFlag L tries k w.pass.view.log z.pass.view.log leaf)
 DeleteLacks L tries k w z _ = Unit {0}
 
--- what is left of a delete: it lacks room, or has lost each try
+-- why a call that goes on with a delete gave up: it lacks room, or it lost each try
 abbrev pub FinishLacks : Layout → ℕ → WorkerView → WorkerView → CallFault → Type 0
 FinishLacks L tries w z _ =
     LacksRoom z ⊎ ((n : Unfinished) × (w.pending ≡ Some n)
     × LosesEachTry L n.key n.leaf tries w.pass.view.log z.pass.view.log)
 
--- so each try of a delete that is not finished was lost, but for the one that won the flag and
--- the cleanup behind it, and each try of what is left of one; or room was lacking
+-- `DeleteWasLost`, `FinishWasLost`: room was lacking, or the worker met interference at least as
+-- often as the call had tries; of an unfinished delete, two tries are not counted: the one that won
+-- the flag, and the cleanup after it
 abbrev pub DeleteWasLost : ℕ → WorkerView → WorkerView → Type 0
-DeleteWasLost tries w z = LacksRoom z ⊎ WasHindered w.pass z.pass (tries - 2)
+DeleteWasLost tries w z = LacksRoom z ⊎ Interference w.pass z.pass (tries - 2)
 
 abbrev pub FinishWasLost : ℕ → WorkerView → WorkerView → Type 0
-FinishWasLost tries w z = LacksRoom z ⊎ WasHindered w.pass z.pass tries
+FinishWasLost tries w z = LacksRoom z ⊎ Interference w.pass z.pass tries
 
--- the delete that was pending is answered, and it is one behind all that the worker had seen
--- whenever it had no call, as before the call that began the delete: its leaf was cut at a moment
--- of it (Herlihy and Wing)
+-- if the call has finished the pending delete, the answer true has a moment (linearization point).
+-- It is later than all that the worker had seen at any time when it had no call, as before the call
+-- that began the delete (Herlihy and Wing)
 abbrev pub FinishHasMoment : WorkerView → WorkerView → Result Bool CallFault → Type 0
 FinishHasMoment w z (Ok true) =
     (n : Unfinished) × (w.pending ≡ Some n)
     × ((o : PassView) → HadNoCall o w.pass → AnswerHasMoment o z.pass Delete n.key true)
 FinishHasMoment w z _ = Unit {0}
 
--- a pin for the caller (Fraser, section 5)
+-- what a pin for the caller leaves of its worker, by its answer (Fraser, section 5)
 abbrev pub HasPinned : ℕ → WorkerView → WorkerView → Result ℕ PinFault → Type 0
 HasPinned tries w z (Ok epoch) =
     IsFree w z × (z.held ≡ Some epoch) × PinsSo Sight tries w.pass.view.log z.pass.view.log epoch
@@ -172,6 +178,6 @@ HasPinned tries w z (Err (pinning.Moved epoch)) =
     × IsMoved Sight tries w.pass.view.log z.pass.view.log
 HasPinned tries w z (Err pinning.Pending) = IsPendingStill w z
 
--- what is pending or held is so still
+-- what is pending, and the caller's pin, are unchanged
 abbrev pub KeepsPlace : WorkerView → WorkerView → Type 0
 KeepsPlace w z = (z.pending ≡ w.pending) × (z.held ≡ w.held)

@@ -1,4 +1,4 @@
--- What a call asks of its worker, and what each call leaves of it: all that it ensures, as one
+-- What a call requires of its worker, and what each call leaves of it: all that it ensures, in one
 -- record.
 use Rattle.std.specs.Prelude.{◌≡◌, ◌+◌, ◌*◌, ◌≤◌, ℕ, Bool, List, length, map, Option, None, Result, IfOk, IfErr, IsErrOf, All}
 use Rattle.nm_edge.specs.Layouts.{Layout}
@@ -38,23 +38,25 @@ use Rattle.nm_tree.specs.Looked.{HasLooked}
 use Rattle.nm_tree.specs.Running.{IsFreedInGrace}
 use Rattle.nm_tree.specs.Workers.{WorkerView, KeepsOtherQueues, TakeRoom}
 
--- the worker is one of this tree's, and its caller does not hold it
+-- the worker is one of this tree's, and its caller has not pinned it
 pub record MayCall (b : TreeView) (w : WorkerView) : Type 0 where
   pub own : IsOf b w.pass
   pub free : w.held ≡ None
 
--- `SaysHas`, `SaysInsert`, `SaysDelete`, `SaysFinish`: what a caller has of such a call, by its
--- answer, of a worker that was so and is so now. It is the same pass, which has seen all that it had
--- seen (`same`, `past`); what is told of the worker (`told`), and of the others, where a look-up was
--- busy (`disturbed`); that an answer was right at a moment of the call (`moment`); the links and flags that were won, and the longest log (`won`, `steps`); the
--- queues and how much memory they have (`queues`, `blocks`); and that the worker is held as it was
--- or not at all and claims as it did (`held`, `fit`). `LeavesHas` and its likes: that, how it was
--- done (`did`), and why not (`lacks`, and for all that hindered it `disturbed`, `lost`)
+-- `SaysHas`, `SaysInsert`, `SaysDelete`, `SaysFinish`: what a caller learns from such a call, by
+-- its answer, of the worker before it and after it. The pass is the same one, and has seen all that
+-- it had seen (`same`, `past`). `told` is what the answer shows of the worker. `interfered` is what
+-- others did if a look-up was busy. An answer was right at a moment (linearization point) of the
+-- call (`moment`). `won` counts the links and flags that were won, and `steps` bounds the log.
+-- `queues` and `blocks` are about the queues and their memory. The caller's pin is as before, or
+-- there is none (`held`), and the worker claims as before (`fit`). `LeavesHas` and the others that
+-- begin with `Leaves` have these fields (`says`), and also how the call was done (`did`), and why
+-- it gave up (`lacks`, `interfered`, `lost`)
 pub record SaysHas (L : Layout) (tries k : ℕ) (w z : WorkerView) (r : Result Bool CallFault) : Type 0 where
   pub same : IsSamePass w.pass z.pass
   pub past : HasSeenAllOf z.pass w.pass
   pub told : HasTold w z r
-  pub disturbed : IsErrOf r fault.Busy → WasBusy w.pass z.pass tries
+  pub interfered : IsErrOf r fault.Busy → WasBusy w.pass z.pass tries
   pub moment : IfOk r (AnswerHasMoment w.pass z.pass Has k)
   pub won : HasWon w.pass.view.log z.pass.view.log 0 0
   pub steps : IsWithinBound L tries w.pass.view.log z.pass.view.log
@@ -81,7 +83,7 @@ pub record SaysInsert (L : Layout) (tries k : ℕ) (w z : WorkerView) (r : Resul
 pub record LeavesInsert (L : Layout) (tries k : ℕ) (w z : WorkerView) (r : Result Bool CallFault) : Type 0 where
   pub says : SaysInsert L tries k w z r
   pub did : HasInserted L tries k w z r
-  pub disturbed : IsErrOf r fault.Busy → ChangeWasBusy w.pass z.pass tries
+  pub interfered : IsErrOf r fault.Busy → ChangeWasBusy w.pass z.pass tries
 
 pub record SaysDelete (L : Layout) (tries k : ℕ) (w z : WorkerView) (r : Result Bool CallFault) : Type 0 where
   pub same : IsSamePass w.pass z.pass
@@ -99,7 +101,7 @@ pub record LeavesDelete (L : Layout) (tries k : ℕ) (w z : WorkerView) (r : Res
   pub says : SaysDelete L tries k w z r
   pub did : HasDeleted L tries k w z r
   pub lacks : IfErr r (DeleteLacks L tries k w z)
-  pub disturbed : IsErrOf r fault.Busy → ChangeWasBusy w.pass z.pass tries
+  pub interfered : IsErrOf r fault.Busy → ChangeWasBusy w.pass z.pass tries
   pub lost : IsErrOf r fault.Unfinished → DeleteWasLost tries w z
 
 pub record SaysFinish (L : Layout) (tries : ℕ) (w z : WorkerView) (r : Result Bool CallFault) : Type 0 where
@@ -120,14 +122,14 @@ pub record LeavesFinish (L : Layout) (tries : ℕ) (w z : WorkerView) (r : Resul
   pub lacks : IfErr r (FinishLacks L tries w z)
   pub lost : IsErrOf r fault.Unfinished → FinishWasLost tries w z
 
--- `LeavesHasMany`: the same of a look-up of these queries, which are those after it then; and that it
--- is answered, where it may make a try and no other worker makes a turn (`alone`)
+-- `LeavesHasMany`: the same for a look-up of several queries, from the old ones to the new ones. A
+-- call that has a try is not busy if no other worker makes a transition during it (`alone`)
 pub record LeavesHasMany (L : Layout) (tries : ℕ) (old new : List Query) (w z : WorkerView)
     (r : Result (Unit {0}) CallFault) : Type 0 where
   pub same : IsSamePass w.pass z.pass
   pub past : HasSeenAllOf z.pass w.pass
   pub did : HasAnsweredMany L tries old w z r
-  pub disturbed : IsErrOf r fault.Busy → ManyWereBusy w.pass z.pass tries
+  pub interfered : IsErrOf r fault.Busy → ManyWereBusy w.pass z.pass tries
   pub alone : IsAlone w.pass z.pass → IsErrOf r fault.Busy → tries ≡ 0
   pub keys : map key_of new ≡ map key_of old
   pub moment : IfOk r (λ u. All (λ q. WasSo w.pass z.pass q.key q.found) new)
@@ -138,16 +140,17 @@ pub record LeavesHasMany (L : Layout) (tries : ℕ) (old new : List Query) (w z 
   pub held : z.held ≡ None
   pub fit : z.fit ≡ w.fit
 
--- `LeavesNear`: of a call for the key nearest to one, where `Was` is what is told of it, and `GivesUp`
--- how its walks end without an answer (`alone`: so where it may make two tries); `LeavesNext`,
--- `LeavesPrev`: the least key that is not below k, and the greatest one that is not above k
+-- `LeavesNear`: the same for a call for the key nearest to a given one. `Was` is what its answer
+-- says of the set, and `GivesUp` is how its walks end without an answer. A call that has two tries
+-- is not busy if no other worker makes a transition during it (`alone`). `LeavesNext`,
+-- `LeavesPrev`: for the least key that is not below k, and for the greatest key that is not above k
 pub record LeavesNear (Was : PassView → PassView → Option ℕ → Type 0)
     (GivesUp : List LogEntry → List LogEntry → Type 0) (L : Layout) (tries : ℕ) (w z : WorkerView)
     (r : Result (Option ℕ) CallFault) : Type 0 where
   pub same : IsSamePass w.pass z.pass
   pub past : HasSeenAllOf z.pass w.pass
   pub did : HasLooked GivesUp tries (tries * most_looks (reach L) 1) w z r
-  pub disturbed : IsErrOf r fault.Busy → NearWasBusy w.pass z.pass tries
+  pub interfered : IsErrOf r fault.Busy → NearWasBusy w.pass z.pass tries
   pub alone : IsAlone w.pass z.pass → IsErrOf r fault.Busy → tries ≤ 1
   pub moment : IfOk r (Was w.pass z.pass)
   pub won : HasWon w.pass.view.log z.pass.view.log 0 0
@@ -163,8 +166,8 @@ LeavesNext L tries k = LeavesNear (λ p q. WasNext p q k) (GiveUpNext L tries k)
 abbrev pub LeavesPrev : Layout → ℕ → ℕ → WorkerView → WorkerView → Result (Option ℕ) CallFault → Type 0
 LeavesPrev L tries k = LeavesNear (λ p q. WasPrev p q k) (GiveUpPrev L tries k) L tries
 
--- `LeavesPin`, `LeavesUnpin`, `LeavesAdvance`, `LeavesBehind`, `LeavesCollect`: of a call that
--- pins, or moves the epoch on
+-- `LeavesPin`, `LeavesUnpin`, `LeavesAdvance`, `LeavesBehind`, `LeavesCollect`: the same for a call
+-- that pins or unpins, advances or reads the epoch, or collects
 pub record LeavesPin (tries : ℕ) (w z : WorkerView) (r : Result ℕ PinFault) : Type 0 where
   pub same : IsSamePass w.pass z.pass
   pub past : HasSeenAllOf z.pass w.pass

@@ -1,4 +1,4 @@
--- The end of a tree.
+-- The close of a tree: what the report says, and what follows from it.
 use Rattle.std.specs.Prelude.{◌≡◌, ◌<◌, ◌≤◌, ◌↔◌, ◌+◌, ◌-◌, ◌==◌, ◌&&◌, ℕ, suc, true, false, length, filter, sum_by, List, [], ◌∷◌, ◌++◌, map, Bool, Option, Some, option_map, unwrap_or, Ok, All, AllPairs, Contains, slice_get, if◌then◌else◌}
 use Rattle.nm_edge.specs.Keys.{IsKey}
 use Rattle.nm_edge.specs.Layouts.{Layout}
@@ -32,66 +32,65 @@ use Rattle.nm_tree.specs.Running.{AreOfWorkers, wins}
 use Rattle.nm_tree.specs.Settled.{HaveNothingPending}
 use Rattle.nm_tree.specs.Workers.{WorkerView, TellLedgers, waiting_in}
 
--- the workers are this tree's
+-- the workers are all of this tree
 abbrev pub AreAllOf : TreeView → List WorkerView → Type 0
 AreAllOf b [] = Unit {0}
 AreAllOf b (w ∷ ws) = IsOf b w.pass × AreAllOf b ws
 
--- for how many workers these stand: their own numbers, and those of the workers that resigned to
--- them
+-- how many workers these cover: themselves, and those that resigned to them
 abbrev pub given_in : List WorkerView → ℕ
 given_in ws = sum_by (λ (w : WorkerView). length w.queues) ws
 
--- the last one stands for all, and those before it join it, the last of them first
+-- the view of the last one after the others have joined it, beginning with the last of them
 abbrev pub all_joined : List WorkerView → View
 all_joined [] = nobody
 all_joined (w ∷ []) = w.pass.view
 all_joined (w ∷ u ∷ ws) = joined (all_joined (u ∷ ws)) w.pass.view
 
--- the view has their logs, and has seen something of its own
+-- the view has the logs of all these workers, and has seen turns of its own
 abbrev pub StandsForAll : List WorkerView → View → Type 0
 StandsForAll ws v = v ≡ record (all_joined ws) { past = v.past }
 
--- these turns go on from what each of them had seen
+-- these turns extend what each of the workers had seen
 abbrev pub GoesOnFromAll : List Turn → List WorkerView → Type 0
 GoesOnFromAll turns ws = All (λ (w : WorkerView). Extends turns w.pass.view.past) ws
 
--- all their queues, by ascending origin, each as it was
+-- all queues of these workers, by ascending origin, each unchanged
 abbrev pub all_merged : List WorkerView → List HeldQueue
 all_merged [] = []
 all_merged (w ∷ []) = w.queues
 all_merged (w ∷ u ∷ ws) = merged (all_merged (u ∷ ws)) w.queues
 
--- of worker i, of the next one, and so on
+-- these are the queues of worker i, of worker i + 1, and so on
 abbrev pub AreFrom : ℕ → List HeldQueue → Type 0
 AreFrom i [] = Unit {0}
 AreFrom i (h ∷ hs) = (h.origin ≡ i) × AreFrom (suc i) hs
 
--- where a slot above 5 may stand at a tree's end: in the pool, at the end of a path from the root,
--- or in a worker's queue of the report at an index
+-- a place of a slot above 5 when a tree is closed: in the pool, at the end of a path from the root,
+-- or at an index of a worker's queue in the report
 pub data EndPlace : Type 0 where
   Free : EndPlace
   OnPath : List Side → EndPlace
   Waiting : ℕ → ℕ → EndPlace
 
--- the slot stands at that place
+-- the slot is at that place
 abbrev pub EndsAt : Memory → List HeldQueue → ℕ → EndPlace → Type 0
 EndsAt m hs x Free = in_pool m x ≡ true
 EndsAt m hs x (OnPath path) = at m path ≡ x
 EndsAt m hs x (Waiting w i) = (h : HeldQueue) × (e : Entry) × (slice_get hs w ≡ Some h)
     × (slice_get h.queue.items i ≡ Some e) × (e.node.slot ≡ x)
 
--- it stands at exactly one of these
+-- the slot is at exactly one of these places
 pub record EndsOnce (m : Memory) (hs : List HeldQueue) (x : ℕ) : Type 0 where
   pub place : EndPlace
   pub here : EndsAt m hs x place
   pub only : (other : EndPlace) → EndsAt m hs x other → other ≡ place
 
--- The theorem, of a tree. By these turns, which are its workers', its words came from those of the
--- empty tree, each turn writing what its reply tells. The turns have the headline, and are a history
--- of one plain set; the report's queue of each worker is what then waits of its cuts, its keys are
--- those of that set, and nobody has a slot in hands: so each slot above 5 is in the pool, on one
--- path, or at one index of one queue
+-- The theorem for a closed tree. The turns are by the tree's workers. They lead from the words of
+-- the empty tree to its words, if each turn writes what its reply implies. They have the headline,
+-- and are a history of one plain set. The report's queue of each worker has the nodes that still
+-- wait of those that it cut off. The report's keys are those of the plain set. No worker holds a
+-- private slot
 pub record IsOfTurns (L : Layout) (turns : List Turn) (words : List ℕ) (queues : List HeldQueue)
     (kept : List ℕ) : Type 0 where
   pub written : words ≡ words_of L (words_after L turns)
@@ -102,34 +101,37 @@ pub record IsOfTurns (L : Layout) (turns : List Turn) (words : List ℕ) (queues
   pub set : (k : ℕ) → Contains kept k ↔ InSet (words_after L turns) k × (k < infinity_0)
   pub no_hands : (w x : ℕ) → has_after (opening L) w x false turns ≡ false
 
--- behind these turns a worker has made joins alone, the steps of a close
+-- after the turns `was`, the worker makes no other turns than joins, which are the steps of a
+-- close; refused turns are not counted
 abbrev pub HasJoinedAlone : List Turn → List Turn → ℕ → Type 0
 HasJoinedAlone turns was w = (more : List Turn) (t : Turn) (r : Reply) → turns ≡ was ++ more
     → Contains more t → t.worker ≡ w → t.outcome ≡ Ok r → (v : ℕ) × (t.event ≡ Join v)
 
--- a call for k
+-- the call is for k
 abbrev pub is_for : ℕ → Option Called → Bool
 is_for k call = unwrap_or (option_map (λ (c : Called). c.key == k) call) false
 
--- how many links, or flags, calls for k have won in turns that were made behind others
+-- how many links (`Insert`) or flags (`Delete`) calls for k have won in these turns, which follow
+-- the turns `before`
 abbrev pub how_often : Op → ℕ → List Turn → List Turn → ℕ
 how_often op k before [] = 0
 how_often op k before (t ∷ ts) = how_often op k (before ++ t ∷ []) ts
     + (if wins op t.event t.outcome && is_for k (call_begun t.worker before) then 1 else 0)
 
--- with no delete pending each key is told as often as calls for it won a link, less as often as they
--- won a flag: once or never
+-- if no delete is pending, calls for a key have won one link more than flags if the report has the
+-- key, and as many links as flags if it does not
 abbrev pub KeysAreTheTotals : Layout → List Turn → List ℕ → Type 0
 KeysAreTheTotals L turns kept = NonePends L turns → (k : ℕ) → IsKey k
     → Agree (how_often Insert k [] turns) (how_often Delete k [] turns) (Contains kept k)
 
--- What a caller has of a closed tree. There are turns that go on from what each worker that was
--- given had seen, behind which it made joins alone: so all that they were answered was answered in
--- them, and they were answered no more. Of these turns and of the report the theorem holds. The
--- report has one queue a worker of the tree, in the order of their numbers, each as it was; the
--- keys, which ascend; and how many slots the words have in the pool, and reached from the root, the
--- five fixed ones left out: these and those that wait are all. Where nothing was pending of the
--- workers that were given, no delete is pending, and then the keys are as the links and flags tell
+-- What a caller learns from a closed tree. There are turns that extend what each worker that was
+-- given had seen, and after which it made only joins. So these turns have all answers that it got,
+-- and no others. The theorem holds for these turns and the report. The report has one queue for
+-- each worker of the tree, in the order of their numbers, each unchanged, and the keys in ascending
+-- order. It counts the slots in the pool, and the slots reached from the root without the five
+-- fixed ones. These and the waiting nodes are all nodes but the five. If the workers that were
+-- given had nothing pending, no delete is pending. If no delete is pending, the links and flags
+-- decide which keys the report has
 pub record SaysClosed (b : TreeView) (ws : List WorkerView) (queues : List HeldQueue) (kept : List ℕ)
     (free reached : ℕ) : Type 0 where
   pub words : List ℕ
@@ -147,25 +149,25 @@ pub record SaysClosed (b : TreeView) (ws : List WorkerView) (queues : List HeldQ
   pub rested : HaveNothingPending ws → NonePends b.layout turns
   pub totals : KeysAreTheTotals b.layout turns kept
 
--- ---- what follows of each closed tree
+-- ---- what follows for each closed tree
 
--- of the turns and the queues of every tree that was closed
+-- the property holds for the turns and the queues of every tree that was closed
 abbrev pub OfEachClosed : (Layout → List Turn → List HeldQueue → Type 0) → Type 0
 OfEachClosed P = (b : TreeView) (ws : List WorkerView) (queues : List HeldQueue) (kept : List ℕ)
     (free reached : ℕ) → (is : SaysClosed b ws queues kept free reached) → P b.layout is.turns queues
 
--- just as many workers were given as the tree has
+-- exactly as many workers were given as the tree has
 abbrev pub AllWereGiven : Type 0
 AllWereGiven = (b : TreeView) (ws : List WorkerView) (queues : List HeldQueue) (kept : List ℕ)
     (free reached : ℕ) → SaysClosed b ws queues kept free reached → given_in ws ≡ b.layout.workers
 
--- what the splices of a worker cut off is what was freed of it and then its queue of the report
+-- what the splices of a worker cut off is what was freed of it, followed by its queue in the report
 abbrev pub QueuesAreTheRest : Layout → List Turn → List HeldQueue → Type 0
 QueuesAreTheRest L turns queues =
     (w : ℕ) (h : HeldQueue) → slice_get queues w ≡ Some h
     → freed_of w turns ++ map (λ (e : Entry). e.node) h.queue.items ≡ cuts_of w turns
 
--- each slot above 5 stands once
+-- each slot above 5 is at exactly one place
 abbrev pub EachSlotEndsOnce : Layout → List Turn → List HeldQueue → Type 0
 EachSlotEndsOnce L turns queues =
     (x : ℕ) → 6 ≤ x → x ≤ L.nodes → EndsOnce (words_after L turns) queues x
@@ -176,11 +178,11 @@ IsCloseReason b ws (because.NotAll given made) =
     (given ≡ given_in ws) × (made ≡ b.layout.workers) × (given < made)
 IsCloseReason b ws because.NoMemory = b.layout.workers ≤ given_in ws
 
--- ---- for who changes something: the run of a closed tree
+-- ---- for those who change this project: the run of a closed tree
 
--- One worker stands for all that were given: the turns are those of a run that ends with the tree's
--- words, of which the logs of all are the parts, and the queues have the labels, and tell the
--- ledgers, by the logs
+-- One view covers all workers that were given. The turns are those of a run that ends with the
+-- tree's words, and the logs of all workers are its parts. By these logs the queues have their
+-- labels and report their ledgers
 pub record IsClosed (b : TreeView) (ws : List WorkerView) (queues : List HeldQueue) (kept : List ℕ)
     (free reached : ℕ) : Type 0 where
   pub says : SaysClosed b ws queues kept free reached
@@ -189,12 +191,12 @@ pub record IsClosed (b : TreeView) (ws : List WorkerView) (queues : List HeldQue
   pub held : AreHeld (knowledge (all_joined ws)) queues
   pub told : TellLedgers (all_joined ws) queues
 
--- of the run that ends with its words
+-- the property holds for the run that ends with the words of each closed tree
 abbrev pub OfEachClosedRun : (Layout → List (ℕ × Event) → Type 0) → Type 0
 OfEachClosedRun P = (b : TreeView) (ws : List WorkerView) (queues : List HeldQueue) (kept : List ℕ)
     (free reached : ℕ) → (is : IsClosed b ws queues kept free reached) → P b.layout is.ends.turns
 
--- a core tells the same behind that run: the same keys, and the same counts, with no slot private
+-- after that run a core has the same keys and the same counts, and no private slot
 abbrev pub EachReportIsACores : Type 0
 EachReportIsACores = (b : TreeView) (ws : List WorkerView) (queues : List HeldQueue) (kept : List ℕ)
     (free reached : ℕ) → (is : IsClosed b ws queues kept free reached)

@@ -8,8 +8,8 @@ use Rattle.nm_tree.specs.declared.fault.CallFault.{CallFault}
 use Rattle.nm_tree.specs.Looked.{HasLooked}
 use Rattle.nm_tree.specs.Workers.{WorkerView}
 
--- what a look-up of these queries leaves of its worker, by its answer (Natarajan and Mittal, section
--- 3.2)
+-- what a look-up of these queries leaves of its worker and its log, by its answer (Natarajan and
+-- Mittal, section 3.2)
 abbrev pub HasAnsweredMany : Layout → ℕ → List Query → WorkerView → WorkerView → Result (Unit {0}) CallFault → Type 0
 HasAnsweredMany L tries queries =
     HasLooked (GiveUp L (map key_of queries)) tries (most_looks (reach L) (length queries))

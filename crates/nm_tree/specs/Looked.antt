@@ -1,4 +1,4 @@
--- What a call that walks under a pin for no call leaves of its worker, by its answer.
+-- What a call whose pin is for no operation leaves of its worker, by its answer.
 use Rattle.std.specs.Prelude.{ℕ, List, Result, Ok, Err}
 use Rattle.nm_model.specs.Walks.{Entry}
 use Rattle.nm_calls.specs.PlainWalks.{LooksUnderPin, PlainMissed}
@@ -7,9 +7,8 @@ use Rattle.nm_tree.specs.declared.fault.CallFault.TheVariants as fault
 use Rattle.nm_tree.specs.Answers.{IsPendingStill, IsFree}
 use Rattle.nm_tree.specs.Workers.{WorkerView}
 
--- what a call leaves of its worker that walks under a pin for no call, by its answer, with so many
--- looks at most, where `GivesUp` says how its walks end without an answer (Natarajan and Mittal,
--- section 3.2)
+-- what such a call leaves of its worker and its log, by its answer, with at most `most` looks;
+-- `GivesUp` is how its walks end without an answer (Natarajan and Mittal, section 3.2)
 abbrev pub HasLooked : {X : Type 0} → (List Entry → List Entry → Type 0) → ℕ → ℕ → WorkerView → WorkerView
     → Result X CallFault → Type 0
 HasLooked GivesUp tries most w z (Ok _) =

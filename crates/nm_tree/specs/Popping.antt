@@ -1,4 +1,4 @@
--- The least or the greatest key is taken out of a set that others change.
+-- Pops of the least and of the greatest key, in a set that others change.
 use Rattle.std.specs.Prelude.{◌≡◌, ◌⊎◌, ◌+◌, ◌-◌, ◌*◌, ◌^◌, ◌≤◌, ◌<◌, ℕ, zero, suc, true, false, length, Option, Some, None, Result, Ok, Err, IfOk}
 use Rattle.nm_edge.specs.Keys.{IsKey}
 use Rattle.nm_edge.specs.Layouts.{Layout}
@@ -17,28 +17,28 @@ use Rattle.nm_tree.specs.Answers.{IsPendingStill, IsFree, LacksRoom}
 use Rattle.nm_tree.specs.Calls.{LeavesNext, LeavesPrev, LeavesDelete}
 use Rattle.nm_tree.specs.Workers.{WorkerView, KeepsOtherQueues, TakeRoom}
 
--- ---- what is told of keys
+-- ---- what the answer says of keys
 
--- keys are taken in this order: the least first, or the greatest
+-- the order in which keys are popped: the least first, or the greatest first
 abbrev pub comes_before : End → ℕ → ℕ → Type 0
 comes_before First j key = j < key
 comes_before Last j key = key < j
 
--- each key before this one was not in the set at a moment of its own
+-- each key before this one was absent, at a moment (linearization point) of its own
 abbrev pub WereMissing : (ℕ → ℕ → Type 0) → PassView → PassView → ℕ → Type 0
 WereMissing Before p q key = (j : ℕ) → IsKey j → Before j key → WasSo p q j false
 
--- a key was deleted at a moment of the call, and each key before it was not in the set at a moment
--- of its own; or so of each key
+-- if a key was popped, it was deleted at a moment (linearization point) of the call, and each key
+-- before it was absent at a moment of its own; otherwise each key was absent at a moment of its own
 abbrev pub Takes : (ℕ → ℕ → Type 0) → PassView → PassView → Option ℕ → Type 0
 Takes Before p q (Some key) =
     IsKey key × AnswerHasMoment p q Delete key true × WereMissing Before p q key
 Takes Before p q None = (j : ℕ) → IsKey j → WasSo p q j false
 
--- ---- what such a call tells of its worker
+-- ---- what the answer says of the worker
 
--- what a delete tells; where that is not finished, of the key that is pending: it was in the set at
--- a moment of the call, and each key before it was not
+-- a pop, by its answer, like a delete; after `Unfinished` a key is pending that was in the set at a
+-- moment of the call, and each key before it was absent at a moment of its own
 abbrev pub PopTold : (ℕ → ℕ → Type 0) → WorkerView → WorkerView → Result (Option ℕ) CallFault → Type 0
 PopTold Before w z (Ok taken) = IsFree w z
 PopTold Before w z (Err fault.Busy) = IsFree w z
@@ -49,18 +49,19 @@ PopTold Before w z (Err fault.Unfinished) =
 PopTold Before w z (Err fault.Pending) = IsPendingStill w z
 PopTold Before w z (Err fault.Full) = ⊥
 
--- the flags that it has won, by its answer: one where a key was taken, or is pending
+-- the flags that a pop has won, by its answer: one if it returned a key or `Unfinished`
 abbrev pub flags_popped : Result (Option ℕ) CallFault → ℕ
 flags_popped (Ok (Some key)) = 1
 flags_popped (Ok None) = 0
 flags_popped (Err fault.Unfinished) = 1
 flags_popped (Err _) = 0
 
--- how many steps it makes at most: in each round those of a call that finds a key, and of a delete
+-- the most steps that a pop makes: in each round those of a call that finds a key, and those of a
+-- delete
 abbrev pub pop_bound : Layout → ℕ → ℕ
 pop_bound L tries = tries * (tries * (7 * reach L + 8 * chain_bound + 4) + 12)
 
--- what a caller has of a call that takes a key, by its answer, as `SaysDelete` of a delete
+-- what a caller learns from a pop, by its answer: like `SaysDelete` for a delete
 pub record SaysPop (Before : ℕ → ℕ → Type 0) (L : Layout) (tries : ℕ) (w z : WorkerView)
     (r : Result (Option ℕ) CallFault) : Type 0 where
   pub same : IsSamePass w.pass z.pass
@@ -76,20 +77,19 @@ pub record SaysPop (Before : ℕ → ℕ → Type 0) (L : Layout) (tries : ℕ) 
 
 -- ---- how it is done
 
--- the call that finds the key which is to be taken
+-- the call that finds the key to be popped
 abbrev pub Finds : End → Layout → ℕ → WorkerView → WorkerView → Result (Option ℕ) CallFault → Type 0
 Finds First L tries = LeavesNext L tries 0
 Finds Last L tries = LeavesPrev L tries (2 ^ 64 - 4)
 
--- so many rounds in a row came too late: the key that was found was not there to be deleted
+-- n rounds in a row came too late: the key that was found was not there to be deleted
 abbrev pub LosesRounds : End → Layout → ℕ → ℕ → WorkerView → WorkerView → Type 0
 LosesRounds end L tries zero w z = z ≡ w
 LosesRounds end L tries (suc n) w z =
     (x y : WorkerView) × (key : ℕ) × LosesRounds end L tries n w x
     × Finds end L tries x y (Ok (Some key)) × LeavesDelete L tries key y z (Ok false)
 
--- the last round: no key was found, or the one that was is deleted; or one of both calls was not
--- answered
+-- the last round: no key was found; or a key was found and deleted; or one of the two calls gave up
 abbrev pub EndsRound : End → Layout → ℕ → WorkerView → WorkerView → Result (Option ℕ) CallFault → Type 0
 EndsRound end L tries w z (Ok None) = Finds end L tries w z (Ok None)
 EndsRound end L tries w z (Ok (Some key)) =
@@ -98,8 +98,8 @@ EndsRound end L tries w z (Err f) = Finds end L tries w z (Err f)
     ⊎ ((y : WorkerView) × (key : ℕ) × Finds end L tries w y (Ok (Some key))
     × LeavesDelete L tries key y z (Err f))
 
--- fewer rounds than there may be came too late, and then there was the last one; or all came too
--- late
+-- fewer than `tries` rounds came too late, and then there was the last one; or `tries` rounds came
+-- too late
 abbrev pub GoesInRounds : End → Layout → ℕ → WorkerView → WorkerView → Result (Option ℕ) CallFault → Type 0
 GoesInRounds end L tries w z r =
     ((n : ℕ) × (x : WorkerView) × (n < tries) × LosesRounds end L tries n w x
@@ -111,8 +111,8 @@ abbrev pub HasPopped : End → Layout → ℕ → WorkerView → WorkerView → 
 HasPopped end L tries w z r = (IsPendingStill w z × (r ≡ Err fault.Pending))
     ⊎ ((w.pending ≡ None) × GoesInRounds end L tries w z r)
 
--- `LeavesPop`: what a caller has, and how it was done; `LeavesPopFirst`, `LeavesPopLast`: of the
--- least key, and of the greatest
+-- `LeavesPop`: what a caller learns from a pop, and how it was done; `LeavesPopFirst`,
+-- `LeavesPopLast`: for the least key, and for the greatest
 pub record LeavesPop (end : End) (L : Layout) (tries : ℕ) (w z : WorkerView)
     (r : Result (Option ℕ) CallFault) : Type 0 where
   pub says : SaysPop (comes_before end) L tries w z r

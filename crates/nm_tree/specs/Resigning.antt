@@ -7,25 +7,25 @@ use Rattle.nm_tree.specs.declared.resigning.ResignReason.TheVariants as because
 use Rattle.nm_tree.specs.Answers.{KeepsPlace}
 use Rattle.nm_tree.specs.Workers.{WorkerView, IsBetweenCalls}
 
--- behind how many of these a queue of that origin has its place
+-- the index at which a queue of that origin belongs among these
 abbrev pub place_in : ℕ → List HeldQueue → ℕ
 place_in o [] = 0
 place_in o (h ∷ hs) = if nat_lt h.origin o then suc (place_in o hs) else 0
 
--- one queue more, by ascending origin
+-- these queues with one more, by ascending origin
 abbrev pub inserted : HeldQueue → List HeldQueue → List HeldQueue
 inserted g [] = g ∷ []
 inserted g (h ∷ hs) = if nat_lt h.origin g.origin then h ∷ inserted g hs else g ∷ h ∷ hs
 
--- the second queues among the first, by ascending origin, each as it was
+-- the first queues with the second ones among them, by ascending origin, each unchanged
 abbrev pub merged : List HeldQueue → List HeldQueue → List HeldQueue
 merged hs [] = hs
 merged hs (g ∷ gs) = inserted g (merged hs gs)
 
--- the leaver was in the midst of nothing; one step, by which the heir's pass stands for both, and
--- has seen all that both had seen; and the heir holds the queues of both, by ascending origin, each
--- as it was. What was pending or held of the heir is so still (Fraser, section 5.2.3, lists of
--- nodes that are passed on; by origin ours)
+-- the leaver was not pinned and had nothing pending. By one step the heir's pass covers both, and
+-- has seen all that both had seen. The heir holds the queues of both, by ascending origin, each
+-- unchanged. What it had pending, and its caller's pin, are unchanged (Fraser, section 5.2.3, lists
+-- of nodes that are passed on; by origin ours)
 pub record HasResigned (heir leaver z : WorkerView) : Type 0 where
   pub free : (leaver.held ≡ None) × (leaver.pending ≡ None)
   pub joined : HasJoined heir.pass leaver.pass z.pass

@@ -1,4 +1,4 @@
--- The theorem, at each moment of the running threads, and of what each worker has seen.
+-- The theorem for each moment of the running threads, and for what each worker has seen.
 use Rattle.std.specs.Prelude.{◌≡◌, ◌⊎◌, ◌==◌, ◌<◌, ℕ, Bool, true, false, ◌&&◌, List, ◌∷◌, ◌++◌, Contains, Some, Result, Ok}
 use Rattle.std.specs.List.{list_any}
 use mathlib.Core.Option.{some}
@@ -28,25 +28,26 @@ use Rattle.nm_steps.specs.Rules.{IsShown, Kept}
 abbrev pub AreOfWorkers : Layout → List Turn → Type 0
 AreOfWorkers L ts = (t : Turn) (r : Reply) → Contains ts t → t.outcome ≡ Ok r → t.worker < L.workers
 
--- the exchange was won by which an insert, or a delete, is to be answered true (Natarajan and
--- Mittal, section 3.2)
+-- an insert has won its link, or a delete its flag: the exchange because of which the call will
+-- return true (Natarajan and Mittal, section 3.2)
 abbrev pub wins : Op → Event → Result Reply Refused → Bool
 wins Insert (Link p side leaf new) (Ok (Linked n)) = true
 wins Delete (Flag p side s) (Ok (Flagged n)) = true
 wins op e o = false
 
--- the worker has won one in these turns
+-- the worker has won such an exchange in these turns
 abbrev pub WinsIn : Op → ℕ → List Turn → Type 0
 WinsIn op w turns = list_any (λ t. (t.worker == w) && wins op t.event t.outcome) turns ≡ true
 
--- before an insert is answered true its worker has won a link, and before a delete is, a flag
+-- before an insert returns true its worker has won a link, and before a delete returns true it has
+-- won a flag
 abbrev pub TrueAnswersHaveWon : List Turn → Type 0
 TrueAnswersHaveWon turns = (before since : List Turn) (w : ℕ) (c : Called)
     → turns ≡ before ++ answer_turn w true ∷ since → call_begun w before ≡ Some c
     → (c.op ≡ Has) ⊎ WinsIn c.op w before
 
--- the logs in the views of all seats are the parts of these turns, by which the words came from
--- those of the empty tree; and the turns have the headline, and are a history of one plain set
+-- the logs in the views of all seats are the parts of these turns; the turns lead from the words of
+-- the empty tree to these words, have the headline, and are a history of one plain set
 pub record IsOfTurnsSoFar (L : Layout) (s : State Unit View) : Type 0 where
   pub turns : List Turn
   pub shown : (i : ℕ) (v : View) → get_elem? s.views i ≡ some v → IsShown L turns v
@@ -54,14 +55,15 @@ pub record IsOfTurnsSoFar (L : Layout) (s : State Unit View) : Type 0 where
   pub headline : Headline L turns
   pub plain_set : HasHistory L turns
 
--- whatever the threads have done: where the rule of the table is kept, it is so
+-- at every moment at which the rule of the table holds there are such turns, whatever the threads
+-- have done
 abbrev pub EachMomentIsOfTurns : Type 0
 EachMomentIsOfTurns = (L : Layout) (s : State Unit View) → Kept L s → IsOfTurnsSoFar L s
 
 -- ---- what a worker has seen
 
--- the turns that a worker has seen are of the tree's workers, have the headline and are a history of
--- one plain set; and its log is its part of them
+-- the turns that a worker has seen are by the tree's workers, have the headline and are a history
+-- of one plain set; the worker's log is its part of them
 pub record HasSeenTurns (v : View) : Type 0 where
   pub own : part_of v.number v.past ≡ v.log
   pub workers : AreOfWorkers v.layout v.past
@@ -69,8 +71,8 @@ pub record HasSeenTurns (v : View) : Type 0 where
   pub headline : Headline v.layout v.past
   pub plain_set : HasHistory v.layout v.past
 
--- a node was freed by one of them, and each worker that was pinned where it was cut has left since
--- (Fraser, section 5.2.3)
+-- one of them freed the node, and each worker that was pinned when the node was cut off has
+-- unpinned since (Fraser, section 5.2.3)
 pub record IsFreedInGrace (v : View) (n : NodeId) : Type 0 where
   pub freed : Contains (freed_by v.past) n
   pub left : ReadersHaveLeft v.past n

@@ -1,4 +1,4 @@
--- Workers that are in the midst of no delete.
+-- Workers that have no delete pending.
 use Rattle.std.specs.Prelude.{◌≡◌, ◌∷◌, List, None, All, map}
 use Rattle.nm_model.specs.declared.trace.Turn.{Turn}
 use Rattle.nm_steps.specs.declared.view.Held.{Held}
@@ -12,26 +12,27 @@ use Rattle.nm_tree.specs.Workers.{WorkerView}
 abbrev pub turns_of : Held → List Turn
 turns_of h = map (λ e. answered_turn h.number e.0 e.1) h.log
 
--- by none of these logs has a call flagged a leaf and not ended
+-- by these logs, no call has flagged a leaf and has no answer
 abbrev pub TellNoFlag : List Held → Type 0
 TellNoFlag hs = All (λ (h : Held). leaf_after h.number None (turns_of h) ≡ None) hs
 
--- no delete of this worker is pending, and none of those that resigned to it
+-- no delete of this worker is pending, nor of a worker that resigned to it
 abbrev pub HasNothingPending : WorkerView → Type 0
 HasNothingPending w =
     TellNoFlag (record { number = w.pass.view.number; log = w.pass.view.log } ∷ w.pass.view.others)
 
--- no delete is pending of any of these workers, nor of those that resigned to them
+-- no delete of any of these workers is pending, nor of those that resigned to them
 abbrev pub HaveNothingPending : List WorkerView → Type 0
 HaveNothingPending ws = All HasNothingPending ws
 
--- a worker with nothing pending that takes over from another such one has nothing pending
+-- a worker with nothing pending that takes over from another one with nothing pending has nothing
+-- pending
 abbrev pub HeirsHaveNothingPending : Type 0
 HeirsHaveNothingPending = (heir leaver z : WorkerView) → HasResigned heir leaver z
     → HasNothingPending heir → HasNothingPending leaver → HasNothingPending z
 
--- so has one whose call has flagged no leaf by what it has seen, where none that resigned to it has
--- any
+-- a worker has nothing pending if in what it has seen its call has flagged no leaf, and no worker
+-- that resigned to it has anything pending
 abbrev pub RestingWorkersHaveNothingPending : Type 0
 RestingWorkersHaveNothingPending = (w : WorkerView) → HasSeenTurns w.pass.view
     → leaf_after w.pass.view.number None w.pass.view.past ≡ None → TellNoFlag w.pass.view.others

@@ -1,4 +1,4 @@
-//! Inserts, deletes, and what is left to do of a delete.
+//! Inserts, deletes, and the completion of a pending delete.
 ghost use Rattle.std.specs.Prelude.{◌≡◌, IsErrOf};
 ghost use Rattle.nm_steps.specs.Steps.{IsOf};
 ghost use Rattle.nm_busy.specs.Alone.{IsAlone};
@@ -12,13 +12,21 @@ use nm_calls::{Missed, NotInserted as Lost, Unfinished, delete, finish, insert};
 use nm_edge::Key;
 
 impl Tree {
-    /// Inserts a key, and answers whether it was not in the set.
+    /// Inserts `key`; returns true if it was absent.
     ///
-    /// A try is a walk with its answer, or a link of two new nodes with at most one cleanup of
-    /// help. Room for 128 entries is made before each try, that of the first one before the pin, in
-    /// the fewest blocks, and no other memory is taken. `Pending`: a key is pending. `Busy`,
-    /// `Full`, `NoMemory`: see `CallFault`. The worker is not held. (The insert of Natarajan and
-    /// Mittal, section 3.2.)
+    /// Each try is a walk that ends with the answer, or a link of two new nodes. If the link is
+    /// lost, the try helps with at most one cleanup. Before each try the call makes room for 128
+    /// entries in the worker's own queue, with as few new blocks as possible; for the first try it
+    /// does so before the pin. It takes no other memory. The caller must not have pinned the
+    /// worker.
+    ///
+    /// Errors: `Pending`: a key is pending. `Busy`, `Full`, `NoMemory`: see `CallFault`. Proved
+    /// (`alone`): a call that has at least one try is not `Busy` if no delete was pending before it
+    /// and no other worker makes a transition during it.
+    ///
+    /// Cost: at most `tries` * (4 `reach` + 512) + 6 `nodes` + 10 steps. A walk's reach is 66 nodes
+    /// in a radix tree, and the number of nodes otherwise. (The insert of Natarajan and Mittal,
+    /// section 3.2.)
     #[inline(always)]
     pub fn insert(&self, worker: &mut Worker, key: Key, tries: u32) -> Result<bool, CallFault>
         requires { MayCall self.now worker.old }
@@ -32,7 +40,7 @@ impl Tree {
             return Err(CallFault::Pending);
         }
         let own = &mut worker.queues[worker.home];
-        worker.pass.is_of_a_run();
+        worker.pass.know_run();
         match insert(
             &self.shared,
             &mut worker.pass,
@@ -43,7 +51,7 @@ impl Tree {
         ) {
             Ok(answer) => Ok(answer),
             Err(Lost::Busy) => {
-                worker.pass.is_of_a_run();
+                worker.pass.know_run();
                 Err(CallFault::Busy)
             }
             Err(Lost::Full) => Err(CallFault::Full),
@@ -51,16 +59,23 @@ impl Tree {
         }
     }
 
-    /// Deletes a key, and answers whether it was in the set: true once the leaf with the key is cut
+    /// Deletes `key`; returns true if it was present. The leaf with the key is then known to be cut
     /// off.
     ///
-    /// A try to flag ends with the answer that the key is not there or with a flag, won or lost,
-    /// with at most one cleanup of help where it is lost; from the flag on each cleanup is a try,
-    /// so that true takes two of them at least. Room for 128 entries is made before each try, that
-    /// of the first one before the pin, in the fewest blocks, and no other memory is taken.
-    /// `Unfinished`: the leaf is flagged, all tries were made or the room of one was refused, and
-    /// the key is pending: `finish` goes on. `Pending`, `Busy`, `NoMemory`: see `CallFault`. The worker
-    /// is not held. (The delete of Natarajan and Mittal, section 3.2.)
+    /// A try to flag ends with the answer that the key is absent, or with a flag that is won or
+    /// lost. If the flag is lost, the try helps with at most one cleanup. After the flag each
+    /// cleanup is one try, so a call that returns true takes at least two tries. Before each try
+    /// the call makes room for 128 entries in the worker's own queue, with as few new blocks as
+    /// possible; for the first try it does so before the pin. It takes no other memory. The caller
+    /// must not have pinned the worker.
+    ///
+    /// Errors: `Unfinished`: the leaf is flagged, but all tries were made or the room of one was
+    /// refused. The key is then pending, and `finish` goes on. `Pending`, `Busy`, `NoMemory`: see
+    /// `CallFault`. Proved (`alone`): a call that has at least one try is not `Busy` if no delete
+    /// was pending before it and no other worker makes a transition during it.
+    ///
+    /// Cost: at most `tries` * (4 `reach` + 512) + 10 steps. A walk's reach is 66 nodes in a radix
+    /// tree, and the number of nodes otherwise. (The delete of Natarajan and Mittal, section 3.2.)
     pub fn delete(&self, worker: &mut Worker, key: Key, tries: u32) -> Result<bool, CallFault>
         requires { MayCall self.now worker.old }
         ensures says { SaysDelete self.now.layout tries key worker.old worker.new result }
@@ -73,7 +88,7 @@ impl Tree {
             return Err(CallFault::Pending);
         }
         let own = &mut worker.queues[worker.home];
-        worker.pass.is_of_a_run();
+        worker.pass.know_run();
         match delete(
             &self.shared,
             &mut worker.pass,
@@ -84,25 +99,30 @@ impl Tree {
         ) {
             Ok(answer) => Ok(answer),
             Err(Missed::Busy) => {
-                worker.pass.is_of_a_run();
+                worker.pass.know_run();
                 Err(CallFault::Busy)
             }
             Err(Missed::NoMemory) => Err(CallFault::NoMemory),
             Err(Missed::Unfinished(leaf)) => {
-                worker.pass.is_of_a_run();
+                worker.pass.know_run();
                 worker.standing = Standing::Pending(Unfinished { key, leaf });
                 Err(CallFault::Unfinished)
             }
         }
     }
 
-    /// Goes on with the delete that is pending: true once its leaf is cut off. False with no step
-    /// where none is pending.
+    /// Goes on with the pending delete; returns true once its leaf is cut off. Returns false, with
+    /// no step, if no delete is pending.
     ///
-    /// Each cleanup is a try, which walks first. Room for 128 entries is made before each try, in
-    /// the fewest blocks, and no other memory is taken. `Unfinished`: all tries were made or the
-    /// room of one was refused, and the key is pending still. (The cleanup mode of Natarajan and
-    /// Mittal's delete, section 3.2.)
+    /// Each try walks first, and then cleans up. Before each try the call makes room for 128
+    /// entries in the worker's own queue, with as few new blocks as possible. It takes no other
+    /// memory.
+    ///
+    /// Errors: `Unfinished`: all tries were made, or the room of one was refused. The key is still
+    /// pending.
+    ///
+    /// Cost: at most `tries` * (4 `reach` + 512) + 10 steps, as for `delete`. (The cleanup mode of
+    /// Natarajan and Mittal's delete, section 3.2.)
     #[inline(always)]
     pub fn finish(&self, worker: &mut Worker, tries: u32) -> Result<bool, CallFault>
         requires own { IsOf self.now worker.old.pass }
@@ -115,7 +135,8 @@ impl Tree {
         Ok(false)
     }
 
-    /// `finish`, out of the way of the many calls before which nothing is pending.
+    /// Does the work of `finish`. It is a function of its own because in most calls nothing is
+    /// pending.
     #[cold]
     #[inline(never)]
     fn finish_pending(&self, worker: &mut Worker, tries: u32) -> Result<bool, CallFault>
@@ -127,7 +148,7 @@ impl Tree {
             return Ok(false);
         };
         let own = &mut worker.queues[worker.home];
-        worker.pass.is_of_a_run();
+        worker.pass.know_run();
         if !finish(
             &self.shared,
             &mut worker.pass,
@@ -136,7 +157,7 @@ impl Tree {
             &pending,
             tries,
         ) {
-            worker.pass.is_of_a_run();
+            worker.pass.know_run();
             return Err(CallFault::Unfinished);
         }
         worker.standing = Standing::Resting;

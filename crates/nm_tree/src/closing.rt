@@ -1,4 +1,4 @@
-//! The end of a tree.
+//! The close of a tree.
 ghost use Rattle.std.specs.Prelude.{◌≡◌, ◌<◌, ◌≤◌, All, length, min, IfOk, IfErr};
 ghost use Rattle.nm_steps.specs.Steps.{HasSeen, IsOf};
 ghost use Rattle.nm_order.specs.History.{RunHasHistory};
@@ -28,7 +28,7 @@ pub enum CloseReason {
     NoMemory,
 }
 
-/// A tree was not closed. It and the workers that were given are as they were.
+/// A tree was not closed. The tree and the workers that were given are unchanged.
 #[derive(Drop)]
 pub struct CloseError {
     pub reason: CloseReason,
@@ -36,28 +36,31 @@ pub struct CloseError {
     pub workers: Vec<Worker>,
 }
 
-/// What stood in a tree at its end. The free and the reached slots and the nodes that wait are
-/// together all its nodes but the five fixed ones.
+/// What a tree held when it was closed. The free slots, the reached slots and the waiting nodes are
+/// together all its nodes, except for the five fixed ones.
 #[derive(Drop)]
 pub struct Report {
-    /// The nodes that wait, oldest first, with their labels, and what is counted of each worker:
-    /// one queue a worker, in the order of the workers' numbers.
+    /// The nodes that wait, oldest first, with their labels, and the counts of each worker. There
+    /// is one queue for each worker, in the order of the workers' numbers.
     pub queues: Vec<HeldQueue>,
-    /// The keys of the set, ascending, and those of leaves that are flagged and not cut off.
+    /// The keys of the set, ascending, including those of leaves that are flagged and not cut off.
     pub keys: Vec<Key>,
-    /// How many slots are in the pool.
+    /// The number of slots in the pool.
     pub free: u32,
-    /// How many slots are reached from the root, the five fixed ones left out.
+    /// The number of slots that are reached from the root, without the five fixed ones.
     pub reached: u32,
 }
 
 impl Tree {
-    /// Ends the tree and all its workers, and tells what is left. The workers may come in any
-    /// order, and may be held or have a pending key; a worker that resigned comes with its heir.
-    /// All memory is taken before the first step; at most one step a worker, and none of the last.
+    /// Closes the tree and all its workers, and returns what is left. The workers may be given in
+    /// any order. A caller may have pinned them, and keys may be pending. A worker that resigned is
+    /// given with its heir.
     ///
-    /// `NotAll`: fewer workers were given than the tree has. `NoMemory`: the room of the report was
-    /// refused. The tree and its workers are handed back as they were.
+    /// Errors: `NotAll`: fewer workers were given than the tree has. `NoMemory`: the room of the
+    /// report was refused. The tree and its workers are given back unchanged.
+    ///
+    /// Cost: at most one step for each worker, and none for the last. All memory is taken before
+    /// the first step.
     pub fn close(self, workers: Vec<Worker>) -> Result<Report, CloseError>
         requires own { AreAllOf self workers.items }
         ensures says { IfOk result
@@ -89,7 +92,7 @@ impl Tree {
     }
 }
 
-/// Closes the tree of these workers, which are all of them.
+/// Closes the tree, given all its workers.
 fn close_all(tree: Tree, workers: Vec<Worker>, room: ReportRoom) -> Report
     requires own { AreAllOf tree workers.items }
     requires all { tree.layout.workers ≤ given_in workers.items }
@@ -107,7 +110,7 @@ fn close_all(tree: Tree, workers: Vec<Worker>, room: ReportRoom) -> Report
         standing: _,
         workspace: _,
     } = unite_all(&shared, workers);
-    pass.is_of_a_run();
+    pass.know_run();
     let words = shared.close(pass);
     let Found {
         keys,
@@ -122,19 +125,23 @@ fn close_all(tree: Tree, workers: Vec<Worker>, room: ReportRoom) -> Report
     }
 }
 
-/// What follows of every tree that was closed, by the page alone: just as many workers were given as
-/// it has; what the splices of each worker cut off is what was freed of it and then its queue of the
-/// report; and each slot above 5 stands once, in the pool, on one path, or at one index of one queue.
+/// Law: for every tree that was closed, exactly as many workers were given as it has. What the
+/// splices of each worker cut off is what was freed of it, followed by its queue in the report.
+/// Each slot above 5 is at exactly one place: in the pool, on a path from the root, or at an index
+/// of a queue.
 pub fn closed_trees_are_accounted_for()
     ensures given { AllWereGiven }
     ensures accounted { OfEachClosed QueuesAreTheRest }
     ensures once { OfEachClosed EachSlotEndsOnce }
 {}
 
-/// For who changes something: the run that ends with the words of a closed tree is one like any
-/// other. A core tells the same keys and counts behind it, and none private; it has a history; each
-/// key of its set stands on an unflagged edge as often as calls for it won a link, less as often as
-/// they won a flag, both by the logs of all workers.
+/// Law: for every tree that was closed, the run that ends with its words is a run like any other.
+/// After it a core reports the same keys and counts, and no private slot. The run has a history.
+/// For each key, the calls for it won one link more than flags, and the key is on an unflagged
+/// edge; or they won as many links as flags, and it is not. These links and flags are those in the
+/// logs of all workers.
+///
+/// The law is for those who change this project.
 pub fn runs_of_closed_trees_are_runs()
     ensures told { EachReportIsACores }
     ensures history { OfEachClosedRun RunHasHistory }
@@ -142,7 +149,7 @@ pub fn runs_of_closed_trees_are_runs()
     ensures logs { OfEachClosedRun TotalsAreInTheLogs }
 {}
 
-/// One worker that stands for all of these.
+/// Unites these workers in one, which holds all their queues.
 fn unite_all(shared: &Shared, mut workers: Vec<Worker>) -> Worker
     requires own { AreAllOf shared.now workers.items }
     requires some { 1 ≤ length workers.items }
@@ -155,15 +162,16 @@ fn unite_all(shared: &Shared, mut workers: Vec<Worker>) -> Worker
     let Some(mut heir) = workers.pop() else {
         unreachable!()
     };
-    heir.is_of_a_run();
+    heir.know_run();
     while let Some(leaver) = workers.pop() {
-        leaver.is_of_a_run();
+        leaver.know_run();
         heir = unite(shared, heir, leaver);
     }
     heir
 }
 
-/// For how many workers these stand; 2^32 - 1 where there are more.
+/// Returns how many workers these cover: themselves and those that resigned to them; 2^32 - 1 if
+/// there are more.
 fn count_given(workers: &[Worker]) -> u32
     ensures { result ≡ min (given_in workers.now) 4294967295 }
 {

@@ -1,27 +1,27 @@
-//! Why a call has not answered.
+//! The errors of calls.
 use thiserror::Error;
 
-/// Why `has`, `insert`, `delete` or `finish` has not answered. Where several hold, `Pending` is
-/// told before `Busy` for 0 tries, and that before `NoMemory`.
+/// Why `has`, `insert`, `delete` or `finish` has no answer. If several reasons apply, `Pending`
+/// comes before `Busy` for 0 tries, and that comes before `NoMemory`.
 #[derive(Clone, Copy, Debug, Error, PartialEq, Eq)]
 pub enum CallFault {
-    /// Each try was lost, those of the pin or those of the call, or there might be none. Nothing of
-    /// this call stands but help given to others, and the worker is not pinned.
+    /// Each try was lost, by the pin or by the call itself, or the call had no try. The call has
+    /// changed nothing in the set, but it may have helped other deletes. The worker is not pinned.
     #[error("each try was lost")]
     Busy,
-    /// No slots were free for the two new nodes of an insert. What was claimed is given back, and
-    /// the worker is not pinned.
+    /// No slots were free for the two new nodes of an insert. A slot that was claimed is given
+    /// back, and the worker is not pinned.
     #[error("no slot is free for a new node")]
     Full,
-    /// The room of a try was refused before its first step. Nothing of this call stands but help
-    /// given, and the worker is not pinned.
+    /// The room of a try was refused before its first step. The call has changed nothing in the
+    /// set, but it may have helped other deletes. The worker is not pinned.
     #[error("there is no memory for the room of a try")]
     NoMemory,
-    /// The worker has flagged the leaf with the key, which is not known to be cut off. It stays
-    /// pinned, and the key is pending.
+    /// The worker has flagged the leaf with the key, but the leaf is not known to be cut off. The
+    /// worker stays pinned, and the key is pending.
     #[error("the leaf is flagged and not known to be cut off")]
     Unfinished,
-    /// A key is pending, so that only `finish` goes on. Nothing has changed, and there was no step.
+    /// A key is pending, so only `finish` goes on. Nothing has changed, and there was no step.
     #[error("a key is pending")]
     Pending,
 }
@@ -29,8 +29,8 @@ pub enum CallFault {
 /// Why a worker was not pinned.
 #[derive(Clone, Copy, Debug, Error, PartialEq, Eq)]
 pub enum PinFault {
-    /// Each try was lost to a move of the epoch, or there might be none; this is the epoch last
-    /// read. The worker announces nothing.
+    /// The epoch moved on in each try, or the call had no try. The field is the epoch that was read
+    /// last. The worker announces nothing.
     #[error("the epoch moved on to {epoch} in each try")]
     Moved { epoch: u64 },
     /// A key is pending. Nothing has changed, and there was no step.

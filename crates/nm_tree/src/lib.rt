@@ -1,8 +1,9 @@
-//! The set: whole numbers that threads share without locks.
+//! A concurrent ordered set of 64-bit integers, without locks.
 //!
-//! The tree is the external search tree of Natarajan and Mittal (PPoPP 2014); its removed nodes are
-//! used again by epochs (Fraser, Practical lock-freedom, 2004). Open a `Tree`, give each thread one
-//! of its `Worker`s, and call `has`, `insert` and `delete` on the shared tree.
+//! The tree is the external search tree of Natarajan and Mittal (PPoPP 2014). Epoch-based
+//! reclamation makes its removed nodes free again (Fraser, Practical lock-freedom, 2004). Open a
+//! `Tree`, give each thread one of its `Worker`s, and call `has`, `insert` and `delete` on the
+//! shared tree.
 #![tactic(auto, using(nm_steps::proofs::Seeing::seen_all))]
 
 mod changes;

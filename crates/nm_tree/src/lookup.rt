@@ -1,4 +1,4 @@
-//! Look-ups.
+//! Look-ups of one key.
 ghost use Rattle.std.specs.Prelude.{◌≡◌, IsErrOf};
 ghost use Rattle.nm_busy.specs.Alone.{IsAlone};
 ghost use Rattle.nm_tree.specs.Calls.{MayCall, LeavesHas, SaysHas};
@@ -10,16 +10,22 @@ use nm_calls::{Busy, has};
 use nm_edge::Key;
 
 impl Tree {
-    /// Whether the set has the key, by the key of the leaf at which the walk for it ends, flagged
-    /// or not. It takes no memory.
+    /// Returns whether the set has the key: whether the leaf at which the walk for it ends has this
+    /// key, flagged or not. Takes no memory. The caller must not have pinned the worker.
     ///
-    /// `Busy`: `tries` is 0, and there was no step; or the pin was lost in each of `tries` tries,
-    /// each time to another worker, which moved the epoch on; or each of `tries` walks had looked
-    /// at as many nodes as there are, and none had ended, since others linked or cut off nodes
-    /// meanwhile, as it never is in a radix tree: so there a look-up whose pin stands is answered,
-    /// whatever others do. A call beside which no other worker makes a turn is not busy. `Pending`:
-    /// a key is pending. The worker is not held. (The search of Natarajan and Mittal,
-    /// section 3.2.)
+    /// Errors: `Pending`: a key is pending. `Busy`, for one of these reasons:
+    /// - `tries` is 0; then there was no step.
+    /// - The pin was lost in each of `tries` tries. Each time another worker had advanced the
+    ///   epoch.
+    /// - Each of `tries` walks had looked at as many nodes as there are, and had not ended, because
+    ///   other workers linked or cut off nodes meanwhile. In a radix tree this never happens: there
+    ///   a look-up that has its pin returns an answer, whatever others do.
+    ///
+    /// Proved (`alone`): a call that has at least one try is not `Busy` if no other worker makes a
+    /// transition during it.
+    ///
+    /// Cost: at most `tries` * (4 `reach` + 512) + 10 steps. A walk's reach is 66 nodes in a radix
+    /// tree, and the number of nodes otherwise. (The search of Natarajan and Mittal, section 3.2.)
     #[inline(always)]
     pub fn has(&self, worker: &mut Worker, key: Key, tries: u32) -> Result<bool, CallFault>
         requires { MayCall self.now worker.old }
@@ -31,11 +37,11 @@ impl Tree {
         if let Standing::Pending(_) = worker.standing {
             return Err(CallFault::Pending);
         }
-        worker.pass.is_of_a_run();
+        worker.pass.know_run();
         match has(&self.shared, &mut worker.pass, key, tries) {
             Ok(answer) => Ok(answer),
             Err(Busy) => {
-                worker.pass.is_of_a_run();
+                worker.pass.know_run();
                 Err(CallFault::Busy)
             }
         }

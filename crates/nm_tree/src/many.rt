@@ -7,19 +7,27 @@ use crate::worker::{Standing, Worker};
 use nm_calls::{Busy, Query, has_many};
 
 impl Tree {
-    /// Whether the set has each of these keys, which their `found` tells then: as `has` tells it,
-    /// by walks that go on in turns under one pin, so that the loads of one go on while the others
-    /// wait for theirs. Each answer is right at a moment of this call, later than all that the
-    /// worker had seen before; two answers may be of different moments. It takes no memory.
+    /// Looks up each of these keys, and writes the answers into their `found`. It walks for all
+    /// keys in turns under one pin, so that the loads of one walk go on while the others wait for
+    /// theirs. Each answer is right at a moment (linearization point) of this call, which is later
+    /// than all that the worker had seen before. Two answers may have different moments. The keys
+    /// are unchanged. Takes no memory. The caller must not have pinned the worker.
     ///
-    /// `Busy`: `tries` is 0, and there was no step; or the pin was lost in each of `tries` tries,
-    /// each time to another worker, which moved the epoch on; or one of the walks had looked at as
-    /// many nodes as there are, and had not ended, since others linked or cut off nodes meanwhile,
-    /// as it never is in a radix tree: so there look-ups whose pin stands are answered, whatever
-    /// others do. A call beside which no other worker makes a turn is not busy. `Pending`: a key is
-    /// pending. Then no `found` means anything. The keys stay. The worker is not held. At most 3
-    /// `tries` + 3 steps, and 3 `reach` for each key, where a walk's reach is 66 nodes in a radix
-    /// tree, and else as many as there are. (The search of Natarajan and Mittal, section 3.2.)
+    /// Errors: no `found` means anything then. `Pending`: a key is pending. `Busy`, for one of
+    /// these reasons:
+    /// - `tries` is 0; then there was no step.
+    /// - The pin was lost in each of `tries` tries. Each time another worker had advanced the
+    ///   epoch.
+    /// - One of the walks had looked at as many nodes as there are, and had not ended, because
+    ///   other workers linked or cut off nodes meanwhile. In a radix tree this never happens: there
+    ///   look-ups that have their pin return answers, whatever others do.
+    ///
+    /// Proved (`alone`): a call that has at least one try is not `Busy` if no other worker makes a
+    /// transition during it.
+    ///
+    /// Cost: at most 3 `tries` + 3 steps, and 3 `reach` for each key. A walk's reach is 66 nodes in
+    /// a radix tree, and the number of nodes otherwise. (The search of Natarajan and Mittal,
+    /// section 3.2.)
     pub fn has_many(
         &self,
         worker: &mut Worker,
@@ -33,11 +41,11 @@ impl Tree {
         if let Standing::Pending(_) = worker.standing {
             return Err(CallFault::Pending);
         }
-        worker.pass.is_of_a_run();
+        worker.pass.know_run();
         match has_many(&self.shared, &mut worker.pass, queries, tries) {
             Ok(()) => Ok(()),
             Err(Busy) => {
-                worker.pass.is_of_a_run();
+                worker.pass.know_run();
                 Err(CallFault::Busy)
             }
         }

@@ -1,4 +1,4 @@
-//! The next key of a set that is in use.
+//! The next key, in a set that others change.
 ghost use Rattle.nm_tree.specs.Calls.{MayCall, LeavesNext};
 
 use crate::fault::CallFault;
@@ -8,23 +8,29 @@ use nm_calls::{Busy, next};
 use nm_edge::Key;
 
 impl Tree {
-    /// The least key of the set that is not below `key`, or `None` where there is none, as walks
-    /// find it. With `Some(found)` the set had `found` at a moment of this call, and of each key
-    /// from `key` on below `found` there was a moment of this call at which the set did not have
-    /// it; with `None` so of each key from `key` on. The moments of two keys may differ: the answer
-    /// is weakly consistent, as the iterators of Java's `ConcurrentSkipListSet`. Each is later than
-    /// all that the worker had seen before. It takes no memory.
+    /// Returns the least key of the set that is not below `key`, or `None` if its walks find none.
+    /// `Some(found)`: the set had `found` at a moment (linearization point) of this call. For each
+    /// key from `key` on and below `found` there was a moment of this call at which the set did not
+    /// have it. `None`: so it was for each key from `key` on.
     ///
-    /// `Busy`: `tries` is 0, and there was no step; or the pin was lost in each of `tries` tries,
-    /// each time to another worker, which moved the epoch on; or each of `tries` walks has ended
-    /// with no key, the next one beginning where its keys end, and in the time of each two of
-    /// them others linked or cut off a node; or they did so while a walk had looked at as many
-    /// nodes as there are, and had not ended, as it never is in a radix tree. A call that may make
-    /// two tries, and beside which no other worker makes a turn, is not busy. `Pending`: a key is
-    /// pending.
-    /// The worker is not held. At most `tries` * (3 `reach` + 4) + 2 steps, where a walk's reach is
-    /// 66 nodes in a radix tree, and else as many as there are. (The search of Natarajan and
-    /// Mittal, section 3.2.)
+    /// Two keys may have different moments: the answer is weakly consistent, like the iterators of
+    /// Java's `ConcurrentSkipListSet`. Each moment is later than all that the worker had seen
+    /// before. Takes no memory. The caller must not have pinned the worker.
+    ///
+    /// Errors: `Pending`: a key is pending. `Busy`, for one of these reasons:
+    /// - `tries` is 0; then there was no step.
+    /// - The pin was lost in each of `tries` tries. Each time another worker had advanced the
+    ///   epoch.
+    /// - Each of `tries` walks has ended with no key, and the next one began where its keys end.
+    ///   During each two of them other workers linked or cut off a node.
+    /// - Other workers linked or cut off a node while a walk looked at as many nodes as there are,
+    ///   and the walk had not ended. In a radix tree this never happens.
+    ///
+    /// Proved (`alone`): a call that has at least two tries is not `Busy` if no other worker makes
+    /// a transition during it.
+    ///
+    /// Cost: at most `tries` * (3 `reach` + 4) + 2 steps. A walk's reach is 66 nodes in a radix
+    /// tree, and the number of nodes otherwise. (The search of Natarajan and Mittal, section 3.2.)
     pub fn next(&self, worker: &mut Worker, key: Key, tries: u32) -> Result<Option<Key>, CallFault>
         requires { MayCall self.now worker.old }
         ensures { LeavesNext self.now.layout tries key worker.old worker.new result }
@@ -32,11 +38,11 @@ impl Tree {
         if let Standing::Pending(_) = worker.standing {
             return Err(CallFault::Pending);
         }
-        worker.pass.is_of_a_run();
+        worker.pass.know_run();
         match next(&self.shared, &mut worker.pass, key, tries) {
             Ok(found) => Ok(found),
             Err(Busy) => {
-                worker.pass.is_of_a_run();
+                worker.pass.know_run();
                 Err(CallFault::Busy)
             }
         }

@@ -1,4 +1,4 @@
-//! How one worker tells another what it has seen.
+//! Notes of what a worker has seen, for other workers.
 ghost use Rattle.std.specs.Prelude.{◌≡◌};
 ghost use Rattle.nm_steps.specs.Rules.{Extends};
 ghost use Rattle.nm_steps.specs.Steps.{IsOf, IsNoteOf, HasHeard, HasSeenAllOf};
@@ -9,13 +9,13 @@ use crate::worker::Worker;
 use nm_steps::Note;
 
 impl Tree {
-    /// A note of all that the worker has seen, its own calls and those of others that came before
-    /// them. It may go to another thread, with a message or in any other way, and does nothing
-    /// where it is dropped. It may be made at any time, and the worker stays as it is: no step, no
-    /// word that is written, no lock and no memory.
+    /// Makes a note of all that the worker has seen: its own calls, and those of others that
+    /// happened before them. The note may go to another thread, in a message or in any other way. A
+    /// note that is dropped has no effect. It may be made at any time, and the worker is unchanged.
+    /// Takes no step, no lock and no memory, and writes no word.
     ///
-    /// Calls of workers that have told each other nothing are in some order, of which their callers
-    /// know nothing; `hear` makes it known.
+    /// Calls of workers that have exchanged no notes have an order, but their callers do not know
+    /// it. `hear` makes it known.
     pub fn note(&self, worker: &mut Worker) -> Note
         requires own { IsOf self.now worker.old.pass }
         ensures same { worker.new ≡ worker.old }
@@ -24,11 +24,13 @@ impl Tree {
         self.shared.note(&mut worker.pass)
     }
 
-    /// The worker hears a note of a worker of this tree: all that it is asked from then on comes
-    /// behind all that the other one had done when the note was made. So a key whose insert was
-    /// answered true before is found, unless a delete of it has won a flag in what the worker has
-    /// then seen. It may hear at any time, held or with a key pending. One read of the epoch, which
-    /// is in no log: no word is written, no lock and no memory.
+    /// Hears a note of a worker of this tree: all that this worker is asked from then on happens
+    /// after all that the other one had done when the note was made. So if an insert had returned
+    /// true before the note, its key is found, unless a delete of it has won a flag in what this
+    /// worker has then seen.
+    ///
+    /// It may be called at any time, even if the worker is pinned or a key is pending. It reads the
+    /// epoch once, which is in no log. Takes no lock and no memory, and writes no word.
     pub fn hear(&self, worker: &mut Worker, note: Note)
         requires own { IsOf self.now worker.old.pass }
         requires table { note.table ≡ self.now.table }

@@ -1,4 +1,4 @@
-//! The least and the greatest key are taken.
+//! Pops of the least and of the greatest key.
 ghost use Rattle.std.specs.Prelude.{◌<◌, None};
 ghost use Rattle.nm_tree.specs.Calls.{MayCall};
 ghost use Rattle.nm_tree.specs.Popping.{Finds, GoesInRounds, LeavesPop, LeavesPopFirst, LeavesPopLast, SaysPop};
@@ -8,7 +8,7 @@ use crate::tree::Tree;
 use crate::worker::Worker;
 use nm_edge::{Key, MOST_KEY};
 
-/// An end of a set: that of its least key, or that of its greatest.
+/// An end of a set: the end of its least key, or that of its greatest.
 #[derive(Clone, Copy, Debug)]
 pub enum End {
     First,
@@ -16,20 +16,26 @@ pub enum End {
 }
 
 impl Tree {
-    /// Takes the least key out of the set: finds it as `next` does and deletes it, and looks for
-    /// the least one again where another worker has deleted it in between, in `tries` rounds at
-    /// most. `Some(key)`: this call deleted it, at a moment of it, and of each lesser key there was
-    /// a moment of this call at which the set did not have it. `None`: so of each key. The moments
-    /// of two keys may differ: so no key is passed over that stood all along, and one that was
-    /// inserted meanwhile may be. Each moment is later than all that the worker had seen before.
+    /// Removes the least key and returns it. It finds the key as `next` does, and deletes it. If
+    /// another worker has deleted the key in between, it looks for the least key once more, in at
+    /// most `tries` rounds. The caller must not have pinned the worker.
     ///
-    /// `Busy`: `tries` is 0, and there was no step; or the key that was found in each of `tries`
-    /// rounds was not there to be deleted; or `next` or `delete` was busy, with so many tries each.
-    /// `Unfinished`: the leaf of the least key, as above, is flagged, and the key is pending:
-    /// `finish` goes on. `Pending`, `NoMemory`: see `CallFault`. The worker is not held. At most
-    /// `tries` * (`tries` * (7 `reach` + 516) + 12) steps, where a walk's reach is 66 nodes in a
-    /// radix tree, and else as many as there are. (The search and the delete of Natarajan and
-    /// Mittal, section 3.2; the name of Rust's `BTreeSet`.)
+    /// `Some(key)`: this call deleted the key, at a moment (linearization point) of this call. For
+    /// each lesser key there was a moment of this call at which the set did not have it. `None`: so
+    /// it was for each key. Two keys may have different moments. So the call passes over no key
+    /// that was in the set all the time, but it may pass over one that was inserted meanwhile. Each
+    /// moment is later than all that the worker had seen before.
+    ///
+    /// Errors: `Pending`, `NoMemory`: see `CallFault`. `Unfinished`: the leaf of the least key is
+    /// flagged, and the key is pending; `finish` goes on. It was in the set at a moment of this
+    /// call, and each lesser key was absent at one. `Busy`, for one of these reasons:
+    /// - `tries` is 0; then there was no step.
+    /// - In each of `tries` rounds the key that was found was not there to be deleted.
+    /// - `next` or `delete` was busy; each of them has `tries` tries.
+    ///
+    /// Cost: at most `tries` * (`tries` * (7 `reach` + 516) + 12) steps. A walk's reach is 66 nodes
+    /// in a radix tree, and the number of nodes otherwise. (The search and the delete of Natarajan
+    /// and Mittal, section 3.2; the name of Rust's `BTreeSet`.)
     pub fn pop_first(&self, worker: &mut Worker, tries: u32) -> Result<Option<Key>, CallFault>
         requires { MayCall self.now worker.old }
         ensures says { SaysPop ◌<◌ self.now.layout tries worker.old worker.new result }
@@ -38,8 +44,8 @@ impl Tree {
         self.pop(worker, End::First, tries)
     }
 
-    /// Takes the greatest key out of the set: the same as `pop_first`, but by `prev`, and each
-    /// greater key was not in the set at a moment of this call.
+    /// Removes the greatest key and returns it. It is like `pop_first`, but finds the key as `prev`
+    /// does: each greater key was absent at a moment of this call.
     pub fn pop_last(&self, worker: &mut Worker, tries: u32) -> Result<Option<Key>, CallFault>
         requires { MayCall self.now worker.old }
         ensures says { SaysPop (λ j key. key < j) self.now.layout tries worker.old worker.new
@@ -49,7 +55,7 @@ impl Tree {
         self.pop(worker, End::Last, tries)
     }
 
-    /// Takes the key at that end, if no key is pending.
+    /// Pops the key at that end, if no key is pending.
     fn pop(&self, worker: &mut Worker, end: End, tries: u32) -> Result<Option<Key>, CallFault>
         requires { MayCall self.now worker.old }
         ensures { LeavesPop end self.now.layout tries worker.old worker.new result }
@@ -60,7 +66,7 @@ impl Tree {
         self.pop_in_rounds(worker, end, tries)
     }
 
-    /// Finds the key at that end and deletes it, until it is this call that has deleted one.
+    /// Finds the key at that end and deletes it, in rounds, until this call has deleted one.
     fn pop_in_rounds(
         &self,
         worker: &mut Worker,
@@ -81,7 +87,7 @@ impl Tree {
         Err(CallFault::Busy)
     }
 
-    /// The key at that end, as walks find it.
+    /// Returns the key at that end that its walks find.
     fn key_at(&self, worker: &mut Worker, end: End, tries: u32) -> Result<Option<Key>, CallFault>
         requires { MayCall self.now worker.old }
         ensures { Finds end self.now.layout tries worker.old worker.new result }

@@ -1,4 +1,4 @@
-//! Workers that end early.
+//! Workers that end before the tree is closed.
 ghost use Rattle.std.specs.Prelude.{◌≡◌, ◌+◌, ◌≤◌, ◌<◌, length, insert, vec_capacity, IfOk, IfErr};
 ghost use Rattle.nm_steps.specs.Steps.{IsOf, HasJoined, HasSeenAllOf};
 ghost use Rattle.nm_tree.specs.Answers.{KeepsPlace};
@@ -14,16 +14,16 @@ use thiserror::Error;
 /// Why a worker may not resign.
 #[derive(Clone, Copy, Debug, Error, PartialEq, Eq)]
 pub enum ResignReason {
-    /// The caller holds the leaver: it is pinned until `unpin`.
+    /// The caller has pinned the leaver, until `unpin`.
     #[error("the leaver is held")]
     Held,
-    /// The leaver has flagged a leaf which is not known to be cut off: it is pinned until `finish`
-    /// answers true.
+    /// The leaver has flagged a leaf that is not known to be cut off. It is pinned until `finish`
+    /// returns true.
     #[error("the leaver has a pending key")]
     Pending,
 }
 
-/// A worker has not resigned. Both workers are as they were, and there was no step.
+/// A worker has not resigned. Both workers are unchanged, and there was no step.
 #[derive(Drop)]
 pub struct ResignFault {
     pub reason: ResignReason,
@@ -32,14 +32,16 @@ pub struct ResignFault {
 }
 
 impl Tree {
-    /// The leaver resigns: its heir holds all queues that it held, each in its order, and `collect`
-    /// of the heir frees from them too. One step, and no memory. It is for a thread that ends
-    /// before the others. Both are workers of this tree; the heir may be held or have a pending
-    /// key. The heir has then seen all that both had seen.
+    /// Lets the leaver resign: its heir then holds all queues that the leaver held, each in its
+    /// order, and `collect` of the heir frees from them too. It is for a thread that ends before
+    /// the others. Both must be workers of this tree. The heir may be pinned by its caller, or have
+    /// a pending key. The heir has then seen all that both had seen. Takes no memory.
     ///
-    /// `Held`: the leaver is held. `Pending`: it has a pending key. Both workers are handed back as
-    /// they were, after no step. (Limbo lists that are passed on: Fraser, Practical lock-freedom,
-    /// section 5.2.3.)
+    /// Errors: both workers are given back unchanged, after no step. `Held`: the caller has pinned
+    /// the leaver. `Pending`: the leaver has a pending key.
+    ///
+    /// Cost: one step. (Limbo lists that are passed on: Fraser, Practical lock-freedom, section
+    /// 5.2.3.)
     pub fn resign(&self, heir: Worker, leaver: Worker) -> Result<Worker, ResignFault>
         requires heir { IsOf self.now heir.pass }
         requires leaver { IsOf self.now leaver.pass }
@@ -60,7 +62,7 @@ impl Tree {
     }
 }
 
-/// One worker that stands for both, in the midst of what the first was in: one step.
+/// Unites two workers in one, in one step. What the first has pending, and its caller's pin, stay.
 pub(crate) fn unite(shared: &Shared, heir: Worker, leaver: Worker) -> Worker
     requires heir { IsOf shared.now heir.pass }
     requires leaver { IsOf shared.now leaver.pass }
@@ -98,7 +100,7 @@ pub(crate) fn unite(shared: &Shared, heir: Worker, leaver: Worker) -> Worker
     }
 }
 
-/// Puts more queues among these, by origin. There is room for them.
+/// Inserts more queues among these, by origin. There must be room for them.
 fn take_over(queues: &mut Vec<HeldQueue>, mut more: Vec<HeldQueue>)
     requires room { length queues.old.items + length more.items ≤ vec_capacity queues.old }
     ensures queues { queues.new.items ≡ merged queues.old.items more.items }
@@ -110,7 +112,7 @@ fn take_over(queues: &mut Vec<HeldQueue>, mut more: Vec<HeldQueue>)
     }
 }
 
-/// Puts a queue at an index. There is room for it.
+/// Inserts a queue at an index. There must be room for it.
 fn put_at(queues: &mut Vec<HeldQueue>, place: usize, queue: HeldQueue)
     requires { (place ≤ length queues.old.items)
         × (length queues.old.items < vec_capacity queues.old) }
@@ -122,7 +124,7 @@ fn put_at(queues: &mut Vec<HeldQueue>, place: usize, queue: HeldQueue)
     };
 }
 
-/// Behind how many of these queues one of that origin has its place.
+/// Returns the index at which a queue of that origin belongs: the number of queues before it.
 fn place_of(queues: &[HeldQueue], origin: u32) -> usize
     ensures place { result ≡ place_in origin queues.now }
     ensures within { result ≤ length queues.now }

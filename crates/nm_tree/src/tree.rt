@@ -13,7 +13,7 @@ use nm_walks::Workspace;
 use std::alloc::{AllocError, Global};
 use std::marker::Model;
 
-/// A set of keys, the whole numbers up to 2^64 - 4, which threads share.
+/// A set of keys, the integers from 0 to 2^64 - 4, which threads share.
 #[derive(Drop)]
 pub struct Tree {
     pub(crate) shared: Shared,
@@ -28,33 +28,37 @@ impl Model for Tree {
 }
 
 impl Tree {
-    /// The empty set with room for `nodes` nodes, 7 to 1,048,576 with five fixed ones, and its
-    /// workers, 1 to 64, in the order of their numbers from 0 on. A key takes two nodes, and a
-    /// removed node is free again some time after its removal. A new node takes the lowest slot
-    /// that its worker finds free: `of` a layout by `Layout::new`, with `Fit::Lowest`.
+    /// Makes the empty set and its workers, with room for `nodes` nodes, 7 to 1,048,576, which
+    /// include the five fixed ones. It has 1 to 64 workers, in the order of their numbers from 0
+    /// on. A key takes two nodes, and a removed node is free again some time after its removal. A
+    /// new node takes the lowest slot that its worker finds free. It is `of`, with the layout of
+    /// `Layout::new` and `Fit::FirstFit`.
     ///
-    /// `NoMemory`: nothing is kept. The room in which a worker may take over the queues of others
-    /// is made here.
+    /// Errors: `Nodes`, `Workers`: the number is out of range. `NoMemory`: nothing is kept. The
+    /// room in which a worker may take over the queues of others is made here.
     pub fn new(alloc: Global, nodes: u32, workers: u32) -> Result<(Tree, Vec<Worker>), NewError>
-        ensures new { IfOk result (λ r. IsNewTree (dense nodes workers) Fit.Lowest r.0 r.1.items) }
+        ensures new { IfOk result (λ r. IsNewTree (dense nodes workers) Fit.FirstFit r.0 r.1.items) }
         ensures nodes { IsErrOf result NewError.Nodes
             ↔ IsLayoutFault MOST_NODES nodes workers LayoutError.Nodes }
         ensures workers { IsErrOf result NewError.Workers
             ↔ IsLayoutFault MOST_NODES nodes workers LayoutError.Workers }
     {
-        Tree::of(alloc, Layout::new(nodes, workers)?, Fit::Lowest)
+        Tree::of(alloc, Layout::new(nodes, workers)?, Fit::FirstFit)
     }
 
-    /// The empty set of a layout and its workers, which claim by that fit. The only error is
-    /// `NoMemory`, and then nothing is kept.
+    /// Makes the empty set of a layout and its workers, which claim by that fit.
     ///
-    /// By `Layout::spaced`, workers in threads of their own disturb each other less; it takes 32
-    /// bytes a node and a bit, 4,096 a worker, the same again while it is made, and time for each
-    /// node. Of a layout `in_radix` no walk takes more than 66 nodes. With `Fit::Near` a claim takes
-    /// few steps where most slots are free, and which slot a new node takes is not told beforehand:
-    /// a worker looks for it first in one row of 64, that of the slot which it found last or, of
-    /// those that it gave back since then, of the first from its home on, and then from there
-    /// upwards, and round. Homes lie at equal distances.
+    /// With `Layout::spaced`, workers in different threads disturb each other less. It takes a
+    /// little more than 32 bytes for each node and 4,096 for each worker, the same again while it
+    /// is made, and time for each node. In a layout `in_radix` no walk takes more than 66 nodes.
+    ///
+    /// With `Fit::NextFit` a claim takes few steps if most slots are free, and no clause says which
+    /// slot a new node takes. The worker tries the last slot given back that it remembers, or else
+    /// the first one that the row of the slot which it found last shows to be free; a row has 64
+    /// slots. Otherwise it searches from that row upwards, and round. The workers begin at equal
+    /// distances. (Tested: which slot is tried.)
+    ///
+    /// Errors: `NoMemory`: nothing is kept. No other error occurs.
     ///
     /// (Next fit: Knuth, The Art of Computer Programming, volume 1, section 2.5.)
     pub fn of(alloc: Global, layout: Layout, fit: Fit) -> Result<(Tree, Vec<Worker>), NewError>
@@ -62,15 +66,15 @@ impl Tree {
         ensures memory { IfErr result (λ e. e ≡ NewError.NoMemory) }
     {
         let (shared, passes) = Shared::new(alloc, layout)?;
-        // Cursors begin at equal distances.
+        // The cursors begin at equal distances.
         let share = layout.nodes() / layout.workers().max(1);
         let made = workers_of(alloc, passes, fit, share)?;
         Ok((Tree { shared }, made))
     }
 }
 
-/// A worker of a pass that has done nothing yet, with room for the queues of all origins. Its
-/// cursor stands behind a share of the slots for each lesser number.
+/// Makes the worker of a pass that has done nothing yet, with room for the queues of all origins.
+/// Its cursor begins at the first slot plus one share of the slots for each lesser number.
 fn worker_of(
     alloc: Global,
     pass: Pass,
@@ -95,7 +99,7 @@ fn worker_of(
     })
 }
 
-/// The workers of these passes, in their order.
+/// Makes the workers of these passes, in their order.
 fn workers_of(
     alloc: Global,
     mut passes: Vec<Pass>,

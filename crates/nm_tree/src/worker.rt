@@ -1,4 +1,4 @@
-//! Workers: a pass with the queues that it holds, and what it is in the midst of.
+//! Workers: a pass, the queues that it holds, and what is open between two calls.
 ghost use Rattle.std.specs.Prelude.{◌≡◌, ◌<◌, length, option_map, IfSome, IfNone, None};
 ghost use Rattle.nm_edge.specs.Layouts.{IsLayout};
 ghost use Rattle.nm_steps.specs.Steps.{HasSeen, IsOfRun};
@@ -15,37 +15,37 @@ use nm_steps::Pass;
 use nm_walks::Workspace;
 use std::marker::Model;
 
-/// What a worker is in the midst of between two calls.
+/// What is open of a worker between two calls.
 #[derive(Clone, Copy)]
 pub(crate) enum Standing {
-    /// Nothing: it is not pinned.
+    /// Nothing: the worker is not pinned.
     Resting,
-    /// It is pinned at this epoch, until `unpin`.
+    /// The caller has pinned it at this epoch, until `unpin`.
     Held(u64),
-    /// It is pinned for the leaf of a delete, until `finish` answers true.
+    /// It is pinned for the leaf of a delete, until `finish` returns true.
     Pending(Unfinished),
 }
 
 /// What a worker has won, and what became of the nodes that its splices cut off. Each count but the
-/// last stays where it is at 2^64 - 1.
+/// last stops at 2^64 - 1.
 #[derive(Clone, Copy, Debug, PartialEq, Eq)]
 pub struct Counts {
     /// The links that it has won: each put a new key into the set.
     pub links: u64,
-    /// The flags that it has won, each on the leaf of a key to be deleted.
+    /// The flags that it has won, each on the leaf of a key that is to be deleted.
     pub flags: u64,
     /// The splices that it has won.
     pub splices: u64,
     /// The nodes that its splices cut off.
     pub retired: u64,
-    /// Those of them that were freed, by whoever holds their queue.
+    /// Those of them that were freed, by any worker that holds their queue.
     pub freed: u64,
     /// Those of them that wait.
     pub queued: u64,
 }
 
 impl Counts {
-    /// What a queue tells of the worker whose splices cut its nodes.
+    /// Returns the counts of the worker whose splices cut off the nodes of this queue.
     pub fn of(held: &HeldQueue) -> Self
         ensures { result ≡ counts_in held.now }
     {
@@ -61,12 +61,12 @@ impl Counts {
     }
 }
 
-/// One worker of a tree: what a thread needs to make calls on it. It may go to another thread
+/// One worker of a tree, which a thread needs to make calls on it. It may go to another thread
 /// between two calls.
 #[derive(Drop)]
 pub struct Worker {
     pub(crate) pass: Pass,
-    // By ascending origin, with the own one at `home`.
+    // The queues have ascending origins; the worker's own one has the index `home`.
     pub(crate) queues: Vec<HeldQueue>,
     pub(crate) home: usize,
     pub(crate) standing: Standing,
@@ -98,7 +98,7 @@ impl Model for Worker {
 }
 
 impl Worker {
-    /// The worker's number, below the number of workers.
+    /// Returns the worker's number, which is below the number of workers.
     pub fn number(&self) -> u32
         ensures number { result ≡ self.now.pass.view.number }
         ensures below { result < self.now.pass.view.layout.workers }
@@ -106,7 +106,7 @@ impl Worker {
         self.pass.number()
     }
 
-    /// How many nodes wait in the queues that the worker holds.
+    /// Returns the number of nodes that wait in the queues that the worker holds.
     pub fn queue_len(&self) -> u64
         ensures { result ≡ waiting_in self.now.queues }
     {
@@ -120,8 +120,9 @@ impl Worker {
         waiting
     }
 
-    /// How many blocks of 32 places its queues have: at most what waits and 318 places a queue ask
-    /// for. A block that is empty is used again, or given back by a collection.
+    /// Returns the number of blocks, of 32 places each, in the queues that the worker holds. They
+    /// are at most the blocks that the waiting nodes and 318 places for each queue need. An empty
+    /// block is used again, or given back by a collection.
     pub fn queue_blocks(&self) -> u64
         ensures blocks { result ≡ blocks_in self.now.queues }
         ensures few { AreFewIn result self.now.queues }
@@ -133,35 +134,36 @@ impl Worker {
         blocks
     }
 
-    /// Of how many origins it holds the queue: its own, and those that were passed to it.
+    /// Returns the number of origins whose queues the worker holds: its own, and those that were
+    /// passed to it.
     pub fn origins(&self) -> u32
         ensures { result ≡ length self.now.queues }
     {
         self.queues.len() as u32
     }
 
-    /// What this worker has won, and what became of what it cut off.
+    /// Returns what this worker has won, and what became of the nodes that it cut off.
     pub fn ledger(&self) -> Counts
         ensures { IsLedger self.now.pass.view self.now.pass.view.number result }
     {
-        self.pass.is_of_a_run();
+        self.pass.know_run();
         Counts::of(&self.queues[self.home])
     }
 
-    /// The same of the worker of an origin whose queue this one holds; `None` where it does not
-    /// hold it.
+    /// Returns the same for the worker of an origin whose queue this one holds, or `None` if it
+    /// does not hold it.
     pub fn ledger_of(&self, origin: u32) -> Option<Counts>
         ensures some { IfSome result (IsLedger self.now.pass.view origin) }
         ensures held { IfSome result (λ _. HasOrigin origin self.now.queues) }
         ensures none { IfNone result (NoneHas origin self.now.queues) }
     {
-        self.pass.is_of_a_run();
+        self.pass.know_run();
         counts_among(self.queues.as_slice(), origin)
     }
 
-    /// The key of a delete that has flagged its leaf and not answered yet; `finish` goes on with
-    /// it. `None`: no call of the worker, by the turns that it has seen, has flagged a leaf and not
-    /// answered.
+    /// Returns the key of a delete that has flagged its leaf and has no answer yet; `finish` goes
+    /// on with it. `None`: in the turns that the worker has seen, no call of it has flagged a leaf
+    /// and has no answer.
     pub fn pending(&self) -> Option<Key>
         ensures key { result ≡ option_map (λ (n : Delete). n.key) self.now.pending }
         ensures flagged { IfSome self.now.pending (λ (n : Delete). HasDeletePending
@@ -169,18 +171,19 @@ impl Worker {
         ensures rests { IfNone self.now.pending
             (leaf_after self.now.pass.view.number None self.now.pass.view.past ≡ None) }
     {
-        self.pass.is_of_a_run();
+        self.pass.know_run();
         match self.standing {
             Standing::Pending(unfinished) => Some(unfinished.key),
             Standing::Resting | Standing::Held(_) => None,
         }
     }
 
-    /// What the worker has seen is a run of an ordered core of the tree's sizes, its log is its
-    /// part of that, and it has not resigned in it. So each law of runs holds of what it has seen,
-    /// and each law of such parts of its log; and the turns that it has seen are of the tree's
-    /// workers, have the headline and a history. It does nothing.
-    pub fn is_of_a_run(&self)
+    /// Proof only: establishes that what the worker has seen is a run of an ordered core of the
+    /// tree's sizes, and that the worker's log is its part of that run, in which it has not
+    /// resigned. So each law of runs holds for what it has seen, and each law of such parts holds
+    /// for its log. The turns that it has seen are by the tree's workers; the main theorem holds
+    /// for them, and they have a history. No run-time effect.
+    pub fn know_run(&self)
         ensures seen { HasSeen self.now.pass.view }
         ensures turns { HasSeenTurns self.now.pass.view }
         ensures idle { IsIdle self.now }
@@ -188,19 +191,19 @@ impl Worker {
             self.now.pass.view.log }
         ensures fits { IsLayout self.now.pass.view.layout }
     {
-        self.pass.is_of_a_run();
+        self.pass.know_run();
     }
 
-    /// Nothing is left open between two calls: the queues are those of all ledgers that the worker
-    /// holds, and have few blocks, no slot is private, and it is pinned only where it is held or a
-    /// key is pending. It does nothing.
-    pub fn is_between_calls(&self)
+    /// Proof only: establishes what holds between two calls. The queues are those of all ledgers
+    /// that the worker holds, and have few blocks. No slot is private. The worker is pinned only if
+    /// its caller pinned it or a key is pending. No run-time effect.
+    pub fn know_between_calls(&self)
         ensures { IsBetweenCalls self.now }
     {
         let _home = self.home;
     }
 
-    /// The epoch at which the worker is held, from a `pin` until its `unpin`.
+    /// Returns the epoch at which the caller has pinned the worker, from a `pin` until its `unpin`.
     pub fn held(&self) -> Option<u64>
         ensures { result ≡ self.now.held }
     {
@@ -211,7 +214,7 @@ impl Worker {
     }
 }
 
-/// What the queue of an origin among these tells.
+/// Returns the counts of an origin, if its queue is among these.
 fn counts_among(queues: &[HeldQueue], origin: u32) -> Option<Counts>
     ensures { result ≡ counts_among queues.now origin }
 {

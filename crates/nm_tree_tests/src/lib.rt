@@ -1,5 +1,5 @@
-//! Tests of several calls on trees. Each of them is a function that is proved before it runs; no
-//! other crate stands on this one.
+//! Tests of several calls on trees. Each test is a function that is proved before it runs. No other
+//! crate depends on this one.
 #![tactic(auto)]
 
 #[cfg(test)]

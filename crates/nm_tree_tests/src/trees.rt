@@ -32,7 +32,7 @@ enum Call {
     Collect,
 }
 
-/// What it answered.
+/// The answer to a call.
 #[derive(Clone, Copy, Debug, PartialEq, Eq)]
 enum Answer {
     Is(bool),
@@ -42,7 +42,7 @@ enum Answer {
     Left,
     Moved(Advance),
     Freed(Collected),
-    /// It is held, or not held, so that the call is not made.
+    /// The caller has pinned the worker, or has not pinned it, so that the call is not made.
     Refused,
 }
 
@@ -53,7 +53,7 @@ fn told(outcome: Result<bool, CallFault>) -> Answer {
     }
 }
 
-/// A call for a key of the set.
+/// Makes a call for a key of the set.
 fn make_keyed(tree: &Tree, worker: &mut Worker, call: Call, key: Key, tries: u32) -> Answer
     requires own { IsOf tree.now worker.old.pass }
     ensures own { IsOf tree.now worker.new.pass }
@@ -68,7 +68,7 @@ fn make_keyed(tree: &Tree, worker: &mut Worker, call: Call, key: Key, tries: u32
     }
 }
 
-/// A call for no key.
+/// Makes a call for no key.
 fn make_plain(tree: &Tree, worker: &mut Worker, call: Call, tries: u32) -> Answer
     requires own { IsOf tree.now worker.old.pass }
     ensures own { IsOf tree.now worker.new.pass }
@@ -106,7 +106,7 @@ fn unpin(tree: &Tree, worker: &mut Worker) -> Answer
     Answer::Left
 }
 
-/// A call, and what it answered.
+/// Makes a call, and returns its answer.
 fn make(rt: &impl Abort, tree: &Tree, worker: &mut Worker, call: Call, tries: u32) -> Answer
     requires own { IsOf tree.now worker.old.pass }
     ensures own { IsOf tree.now worker.new.pass }
@@ -122,7 +122,7 @@ fn make(rt: &impl Abort, tree: &Tree, worker: &mut Worker, call: Call, tries: u3
     }
 }
 
-/// A tree and its two workers.
+/// Makes a tree and its two workers.
 fn two_of(rt: &(impl Abort + AllocGlobal), nodes: u32) -> Result<(Tree, Worker, Worker), Fail>
     ensures { IfOk result (λ r. MayCall r.0 r.1 × MayCall r.0 r.2) }
 {
@@ -136,7 +136,7 @@ fn two_of(rt: &(impl Abort + AllocGlobal), nodes: u32) -> Result<(Tree, Worker, 
     Ok((tree, first, second))
 }
 
-/// Makes these calls of workers 0 and 1 one behind the other, and compares what each answered.
+/// Makes these calls of workers 0 and 1, one after the other, and compares each answer.
 fn play(
     rt: &impl Abort,
     tree: &Tree,

@@ -12,8 +12,8 @@ use Rattle.nm_order.specs.Exchanges.{is_won_link}
 use Rattle.nm_order.specs.WalksToArrivals.{is_won_flag}
 use Rattle.nm_walks.specs.declared.cutting.Kept.{Kept}
 use Rattle.nm_walks.specs.declared.looking.Onward.{Onward}
-use Rattle.nm_walks.specs.declared.spot.ChainEdge.{ChainEdge}
-use Rattle.nm_walks.specs.declared.spot.Spot.{Spot}
+use Rattle.nm_walks.specs.declared.seek_record.ChainEdge.{ChainEdge}
+use Rattle.nm_walks.specs.declared.seek_record.SeekRecord.{SeekRecord}
 use Rattle.nm_walks.specs.Bounds.{reach}
 use Rattle.nm_walks.specs.Walks.{Reads, Walks, EndsAtLeaf}
 use Rattle.nm_walks.specs.Cleanups.{Chooses, FreezesOne, Freezes, Prepares, CutsOff, CleanupLost}
@@ -84,19 +84,19 @@ splice_counts t more old new a sum is = record {
 pub reads_add : (k x : ℕ) (old new : List Entry) (on : Onward) → Reads k x old new on → Adds 0 0 0 3 old new
 reads_add k x old new on r = adds_then old _ new (adds_these _ old _ refl) (adds_then _ _ new (adds_these _ _ _ refl) (adds_these _ _ new r.2))
 
-pub walk_adds : (k n : ℕ) (old new : List Entry) (s : Spot) (c : List ChainEdge) → Walks k n old new s c → Adds 0 0 0 (1 + 3 * n) old new
+pub walk_adds : (k n : ℕ) (old new : List Entry) (s : SeekRecord) (c : List ChainEdge) → Walks k n old new s c → Adds 0 0 0 (1 + 3 * n) old new
 walk_adds k zero old new s c w = adds_these _ old new w.3
 walk_adds k (suc n) old new s c w =
     adds_in (1 + 3 * suc n) old new (omega arith) (adds_then old w.0 new (walk_adds k n old w.0 w.1 w.2 w.4) (reads_add k w.1.edge.slot w.0 new w.3 w.6))
 
-pub end_adds : (L : Layout) (k : ℕ) (old new : List Entry) (s : Spot) (c : List ChainEdge) (key : ℕ) → EndsAtLeaf L k old new s c key → Adds 0 0 0 (3 * reach L) old new
+pub end_adds : (L : Layout) (k : ℕ) (old new : List Entry) (s : SeekRecord) (c : List ChainEdge) (key : ℕ) → EndsAtLeaf L k old new s c key → Adds 0 0 0 (3 * reach L) old new
 end_adds L k old new s c key e =
     let few = e.3 in
     adds_in (3 * reach L) old new (omega (arith, few)) (adds_then old e.1 new (walk_adds k e.0 old e.1 s c e.4) (reads_add k s.edge.slot e.1 new e.2 e.6))
 
 -- ---- cleanups
 
-pub choice_adds : (s : Spot) (r : Option Kept) (old new : List Entry) → Chooses s old new r → Adds 0 0 0 2 old new
+pub choice_adds : (s : SeekRecord) (r : Option Kept) (old new : List Entry) → Chooses s old new r → Adds 0 0 0 2 old new
 choice_adds s r old new h = adds_then old _ new (adds_these _ old _ refl) (adds_these _ _ new h.2)
 
 one_adds : (slot : ℕ) (side : Side) (old new : List Entry) → FreezesOne slot side old new → Adds 0 0 0 3 old new
@@ -106,14 +106,14 @@ chain_adds : (parent : ℕ) (keep : Side) (c : List ChainEdge) (old new : List E
 chain_adds parent keep [] old new h = one_adds parent keep old new h
 chain_adds parent keep (l ∷ c) old new h = adds_in (3 * suc (length c) + 3) old new (omega arith) (adds_then old h.0 new (one_adds l.slot l.side old h.0 h.1) (chain_adds parent keep c h.0 new h.2))
 
-prepared_adds : (s : Spot) (c : List ChainEdge) (k : Kept) (old new : List Entry) → Prepares s c k old new → Adds 0 0 0 (3 * length c + 6) old new
+prepared_adds : (s : SeekRecord) (c : List ChainEdge) (k : Kept) (old new : List Entry) → Prepares s c k old new → Adds 0 0 0 (3 * length c + 6) old new
 prepared_adds s c k old new h =
     adds_in (3 * length c + 6) old new (omega arith)
     (adds_then old h.0 new (choice_adds s (Some k) old h.0 h.2) (adds_then h.0 _ new (adds_these _ h.0 _ refl) (chain_adds s.parent k.side c _ new h.3)))
 
-pub cut_adds : (s : Spot) (c : List ChainEdge) (ns : List NodeId) (old new : List Entry) → CutsOff s c ns old new → Adds 0 0 1 (3 * length c + 7) old new
+pub cut_adds : (s : SeekRecord) (c : List ChainEdge) (ns : List NodeId) (old new : List Entry) → CutsOff s c ns old new → Adds 0 0 1 (3 * length c + 7) old new
 cut_adds s c ns old new h = adds_in (3 * length c + 7) old new (omega arith) (adds_then old h.1 new (prepared_adds s c h.0 old h.1 h.2) (adds_these _ h.1 new h.3))
 
-pub not_cleaned_adds : (s : Spot) (c : List ChainEdge) (old new : List Entry) → CleanupLost s c old new → Adds 0 0 0 (3 * length c + 8) old new
+pub not_cleaned_adds : (s : SeekRecord) (c : List ChainEdge) (old new : List Entry) → CleanupLost s c old new → Adds 0 0 0 (3 * length c + 8) old new
 not_cleaned_adds s c old new (inl none') = adds_in (3 * length c + 8) old new (omega arith) (choice_adds s None old new none')
 not_cleaned_adds s c old new (inr h) = adds_in (3 * length c + 8) old new (omega arith) (adds_then old h.1 new (prepared_adds s c h.0 old h.1 h.3) (adds_these _ h.1 new h.4))

@@ -22,7 +22,7 @@ use Rattle.nm_model.proofs.Tables.{Ascends}
 use Rattle.nm_order.specs.Logs.{known_by, IsLogOf}
 use Rattle.nm_order.proofs.LastEntries.{known_more, search_more, log_before}
 use Rattle.nm_order.proofs.ToldClaims.{claims_are_new}
-use Rattle.nm_pool.specs.Claims.{DoneAt, FoundWorn, MadeNew, PassedOver, PassedWithin, IsClaimBy, DoneInTurn, FoundTaken, LearnsSlots}
+use Rattle.nm_pool.specs.Claims.{DoneAt, FoundExhausted, MadeNew, PassedOver, PassedWithin, IsClaimBy, DoneInTurn, FoundTaken, LearnsSlots}
 use Rattle.nm_edge.specs.declared.placement.Fit.{Fit}
 use Rattle.nm_edge.specs.declared.placement.Fit.TheVariants as fit
 use Rattle.nm_steps.proofs.Presence.{known_after_step}
@@ -116,9 +116,9 @@ module _ (L : Layout) (low : 5 ≤ L.nodes) (w : ℕ) where
     kept = λ x ne. ap (λ log. get (slots log) x) is ∙ ap (λ (k : Knowledge). get k.drafts x) (known_more w _ old (Claim s, Taken) ∙ learn_taken w (known_by L w old) s);
   }
 
-  after_worn : (s : ℕ) (old new : List Entry) → IsLogOf L w new → FoundWorn s old new → Leaves (λ x. ⊥) old new
+  after_exhausted : (s : ℕ) (old new : List Entry) → IsLogOf L w new → FoundExhausted s old new → Leaves (λ x. ⊥) old new
   unfolding searched
-  after_worn s old new l is =
+  after_exhausted s old new l is =
       let claim : Entry = (Claim s, Claimed s) in
       let look : Entry = (Look s Birth, BirthIs last_number) in
       let give : Entry = (Give s, Returned s) in
@@ -146,7 +146,7 @@ module _ (L : Layout) (low : 5 ≤ L.nodes) (w : ℕ) where
 
   passed_over : (s : ℕ) (old new : List Entry) → IsLogOf L w new → PassedOver s old new → Leaves (λ x. ⊥) old new
   passed_over s old new l (inl taken) = after_taken s old new l taken
-  passed_over s old new l (inr worn) = after_worn s old new l worn
+  passed_over s old new l (inr exhausted) = after_exhausted s old new l exhausted
 
   all_passed : (from n : ℕ) (old new : List Entry) → IsLogOf L w new → DoneInTurn PassedOver from n old new → Leaves (λ x. ⊥) old new
   all_passed from zero old new l done = record {
@@ -210,11 +210,11 @@ record EndsWith (log : List Entry) : Type 0 where
 
 ends_over : (s : ℕ) (old new : List Entry) → PassedOver s old new → EndsWith new
 ends_over s old new (inl taken) = record { before = old; event = Claim s; reply = Taken; is = taken; other = refl }
-ends_over s old new (inr worn) = record {
+ends_over s old new (inr exhausted) = record {
   before = (old ++ (Claim s, Claimed s) ∷ []) ++ (Look s Birth, BirthIs last_number) ∷ [];
   event = Give s;
   reply = Returned s;
-  is = worn ∙ three (Claim s, Claimed s) (Look s Birth, BirthIs last_number) (Give s, Returned s) old;
+  is = exhausted ∙ three (Claim s, Claimed s) (Look s Birth, BirthIs last_number) (Give s, Returned s) old;
   other = refl;
 }
 
@@ -252,10 +252,10 @@ module _ (p q : PassView) (f : Fit) (nodes : ℕ) (o : Option NodeId) (same : Is
 
     leaves : (f : Fit) (o : Option NodeId) → IsClaimBy f nodes p.view.log q.view.log o → Leaves p.view.layout low p.view.number (but o) p.view.log q.view.log
     unfolding but
-    leaves fit.Lowest None is = all_passed p.view.layout low p.view.number 6 (nodes + 1 - 6) p.view.log q.view.log part is
-    leaves fit.Lowest (Some n) is = made_after n is.before (λ l. all_passed p.view.layout low p.view.number 6 (n.slot - 6) p.view.log is.before l is.passed) is.made
-    leaves fit.Near None is = all_passed_at p.view.layout low p.view.number nodes is.slots p.view.log q.view.log part is.passed
-    leaves fit.Near (Some n) is = made_after n is.before (λ l. all_passed_at p.view.layout low p.view.number nodes is.slots p.view.log is.before l is.passed) is.made
+    leaves fit.FirstFit None is = all_passed p.view.layout low p.view.number 6 (nodes + 1 - 6) p.view.log q.view.log part is
+    leaves fit.FirstFit (Some n) is = made_after n is.before (λ l. all_passed p.view.layout low p.view.number 6 (n.slot - 6) p.view.log is.before l is.passed) is.made
+    leaves fit.NextFit None is = all_passed_at p.view.layout low p.view.number nodes is.slots p.view.log q.view.log part is.passed
+    leaves fit.NextFit (Some n) is = made_after n is.before (λ l. all_passed_at p.view.layout low p.view.number nodes is.slots p.view.log is.before l is.passed) is.made
 
     then_leaves : Leaves p.view.layout low p.view.number (but o) p.view.log q.view.log
     then_leaves = leaves f o is

@@ -13,14 +13,14 @@ use Rattle.nm_order.specs.Facts.Fact.{KnowsLeaf, CallIs, ReadKey, EndedAt}
 use Rattle.nm_steps.specs.Rules.{knowledge}
 use Rattle.nm_steps.specs.Steps.{PassView}
 use Rattle.nm_walks.specs.declared.making.Contents.{Contents}
-use Rattle.nm_walks.specs.declared.making.Fork.{Fork}
-use Rattle.nm_walks.specs.declared.spot.WalkEnd.{WalkEnd}
+use Rattle.nm_walks.specs.declared.making.NewNodes.{NewNodes}
+use Rattle.nm_walks.specs.declared.seek_record.WalkEnd.{WalkEnd}
 use Rattle.nm_walks.specs.Telling.{GoesOn}
 use Rattle.nm_walks.specs.Making.{draft, with_node, IsFilled, IsInserting, IsPlace, IsRouter, IsWithin, KeepsOtherSlots, OnlyMakes}
 use Rattle.nm_walks.specs.Growing.{inner_of, MayGrow}
 use Rattle.nm_walks.proofs.Makes.{is_filled, same_draft, is_filled_still}
 
--- the internal node that a fork asks for
+-- the internal node that a new_nodes asks for
 as_fork : (q : PassView) (key other router leaf new fresh birth : ℕ) (i : Contents) → i ≡ inner_of key other router leaf fresh → other ≢ key → IsFilled q new birth i.key i.left i.right
     → ((key < other) × IsFilled q new birth router fresh leaf) ⊎ ((other < key) × IsFilled q new birth router leaf fresh)
 as_fork q key other router leaf new fresh birth i is ne f = go (nat_lt key other) refl
@@ -51,25 +51,25 @@ same_radix p q on = ap (λ (x : PassView). x.view.layout.radix) on.same
 place_later : (p q : PassView) (k x parent : ℕ) (side : Side) (key : ℕ) → GoesOn p q → IsPlace p.view.layout.radix p k x parent side key → IsPlace q.view.layout.radix q k x parent side key
 place_later p q k x parent side key on h = subst (λ (b : Bool). IsPlace b q k x parent side key) (sym (same_radix p q on)) (place_kept p.view.layout.radix p q k x parent side key on h)
 
-pub inserting : (p r q : PassView) (key : ℕ) (e : WalkEnd) (f : Fork) (i : Contents) → MayGrow p key e f → IsRouter p.view.layout.radix key e.key i.key → i ≡ inner_of key e.key i.key e.spot.edge.slot f.fresh.slot
-    → GoesOn p r → OnlyMakes p r → get (knowledge r.view).drafts f.new.slot ≡ Some (with_node (draft p f.new.slot) i.key i.left i.right) → KeepsOtherSlots f.new.slot p r
-    → GoesOn r q → OnlyMakes r q → get (knowledge q.view).drafts f.fresh.slot ≡ Some (with_node (draft r f.fresh.slot) key 0 0) → KeepsOtherSlots f.fresh.slot r q
-    → IsInserting q e.spot.parent e.spot.side e.spot.edge.slot f.new.slot f.fresh.slot
+pub inserting : (p r q : PassView) (key : ℕ) (e : WalkEnd) (f : NewNodes) (i : Contents) → MayGrow p key e f → IsRouter p.view.layout.radix key e.key i.key → i ≡ inner_of key e.key i.key e.seek_record.edge.slot f.leaf.slot
+    → GoesOn p r → OnlyMakes p r → get (knowledge r.view).drafts f.internal.slot ≡ Some (with_node (draft p f.internal.slot) i.key i.left i.right) → KeepsOtherSlots f.internal.slot p r
+    → GoesOn r q → OnlyMakes r q → get (knowledge q.view).drafts f.leaf.slot ≡ Some (with_node (draft r f.leaf.slot) key 0 0) → KeepsOtherSlots f.leaf.slot r q
+    → IsInserting q e.seek_record.parent e.seek_record.side e.seek_record.edge.slot f.internal.slot f.leaf.slot
 inserting p r q key e f i may between is on only new others on' only' fresh others' = record {
   key = key;
   other = e.key;
   call = on'.keeps (CallIs Insert key) (on.keeps (CallIs Insert key) may.call);
   not_linked = ap (λ (s : Search). s.linked) only'.search ∙ (ap (λ (s : Search). s.linked) only.search ∙ may.unlinked);
-  place = place_later r q key e.spot.edge.slot e.spot.parent e.spot.side e.key on' (place_later p r key e.spot.edge.slot e.spot.parent e.spot.side e.key on may.place);
+  place = place_later r q key e.seek_record.edge.slot e.seek_record.parent e.seek_record.side e.key on' (place_later p r key e.seek_record.edge.slot e.seek_record.parent e.seek_record.side e.key on may.place);
   apart = may.other;
-  fork = record {
+  new_nodes = record {
     router = i.key;
     between = subst (λ (b : Bool). IsRouter b key e.key i.key) (sym (same_radix r q on' ∙ same_radix p r on)) between;
-    new_birth = f.new.birth;
-    fresh_birth = f.fresh.birth;
+    new_birth = f.internal.birth;
+    fresh_birth = f.leaf.birth;
     apart = may.ready.apart;
-    as_leaf = is_filled r q f.fresh.slot f.fresh.birth key 0 0 (ap (λ (d : Draft). d.birth) (same_draft p r f.fresh.slot (others f.fresh.slot (λ same. may.ready.apart (sym same)))) ∙ may.ready.fresh_birth) fresh;
-    as_fork = as_fork q key e.key i.key e.spot.edge.slot f.new.slot f.fresh.slot f.new.birth i is may.other
-        (is_filled_still r q f.new.slot f.new.birth i.key i.left i.right (others' f.new.slot may.ready.apart) (is_filled p r f.new.slot f.new.birth i.key i.left i.right may.ready.new_birth new));
+    as_leaf = is_filled r q f.leaf.slot f.leaf.birth key 0 0 (ap (λ (d : Draft). d.birth) (same_draft p r f.leaf.slot (others f.leaf.slot (λ same. may.ready.apart (sym same)))) ∙ may.ready.fresh_birth) fresh;
+    as_fork = as_fork q key e.key i.key e.seek_record.edge.slot f.internal.slot f.leaf.slot f.internal.birth i is may.other
+        (is_filled_still r q f.internal.slot f.internal.birth i.key i.left i.right (others' f.internal.slot may.ready.apart) (is_filled p r f.internal.slot f.internal.birth i.key i.left i.right may.ready.new_birth new));
   };
 }

@@ -14,7 +14,7 @@ use Rattle.nm_steps.specs.Steps.{PassView}
 use Rattle.nm_walks.specs.Cleanups.{FrozenAt, FreezesOne, top}
 use Rattle.nm_walks.specs.Telling.{Tells, GoesOn}
 use Rattle.nm_walks.specs.Walks.{ChainLeads}
-use Rattle.nm_walks.specs.declared.spot.ChainEdge.{ChainEdge}
+use Rattle.nm_walks.specs.declared.seek_record.ChainEdge.{ChainEdge}
 
 pub top_of : (H : Fact → Type 0) (t : ℕ) (c : List ChainEdge) (p : ℕ) → ChainLeads H t c p → top c p ≡ t
 top_of H t [] p way = sym way

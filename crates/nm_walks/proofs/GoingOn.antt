@@ -9,7 +9,7 @@ use Rattle.nm_order.specs.Facts.Fact.{KnowsSlot, KnowsLeaf, IsTagged, IsFlagged,
 use Rattle.nm_order.specs.Taught.{EdgeLearned}
 use Rattle.nm_steps.specs.Steps.{TreeView, PassView, IsOf, IsSamePass}
 use Rattle.nm_steps.proofs.Seeing.{same_then, seen_through}
-use Rattle.nm_walks.specs.declared.spot.Spot.{Spot}
+use Rattle.nm_walks.specs.declared.seek_record.SeekRecord.{SeekRecord}
 use Rattle.nm_walks.specs.Labelling.{IsPinnedForCall}
 use Rattle.nm_walks.specs.Telling.{Tells, GoesOn, OnlyLooks, IsPinnedSomewhere, IsPinnedIn, KeyTold, EdgeTold, OnwardTold}
 use Rattle.nm_walks.specs.Walks.{begin, onto, edge_on, EachWalkHasCome, HasFound}
@@ -51,7 +51,7 @@ call_still op k p q on call = record { root = on.keeps (KnowsSlot 1) call.root; 
 
 -- ---- walks
 
-pub come_first : (p q : PassView) (k : ℕ) (e : Edge) (s : Spot) → EdgeTold p q 2 (begin e).side e → s ≡ begin e → EachWalkHasCome p q k s
+pub come_first : (p q : PassView) (k : ℕ) (e : Edge) (s : SeekRecord) → EdgeTold p q 2 (begin e).side e → s ≡ begin e → EachWalkHasCome p q k s
 come_first p q k e s told is since walks = rw is (told.begins since k walks refl refl)
 
 -- what is read stays so
@@ -83,11 +83,11 @@ told_onward p r s q k x key left right read at_left at_right on then Right is = 
 }
 
 -- the walk comes to the next node
-pub come_on : (o p q : PassView) (k key : ℕ) (t s : Spot) (side : Side) (e : Edge) → EachWalkHasCome o p k t → OnwardTold p q k t.edge.slot key side e → e.slot ≢ 0 → s ≡ onto t side e → EachWalkHasCome o q k s
+pub come_on : (o p q : PassView) (k key : ℕ) (t s : SeekRecord) (side : Side) (e : Edge) → EachWalkHasCome o p k t → OnwardTold p q k t.edge.slot key side e → e.slot ≢ 0 → s ≡ onto t side e → EachWalkHasCome o q k s
 come_on o p q k key t s side e come told some is since walks =
     let here : Tells q (Came since k e.slot t.edge.slot side) = told.goes since t.parent t.side (come since walks) some in
     let place = onto-parent t side e in
     rw (is, onto-edge t side e, place.0, place.1) here
 
-pub found_so : (o p q : PassView) (k key : ℕ) (t : Spot) (side : Side) (e : Edge) → EachWalkHasCome o p k t → OnwardTold p q k t.edge.slot key side e → e.slot ≡ 0 → HasFound o q k t.edge.slot t.parent t.side key
+pub found_so : (o p q : PassView) (k key : ℕ) (t : SeekRecord) (side : Side) (e : Edge) → EachWalkHasCome o p k t → OnwardTold p q k t.edge.slot key side e → e.slot ≡ 0 → HasFound o q k t.edge.slot t.parent t.side key
 found_so o p q k key t side e come told null since walks = told.ends since t.parent t.side (come since walks) null

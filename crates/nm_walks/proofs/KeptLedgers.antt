@@ -16,8 +16,8 @@ use Rattle.nm_steps.specs.Rules.{knowledge}
 use Rattle.nm_steps.specs.Steps.{PassView, Stepped, IsSamePass}
 use Rattle.nm_epoch.specs.declared.collecting.HeldQueue.{HeldQueue}
 use Rattle.nm_epoch.specs.declared.collecting.Tally.{Tally}
-use Rattle.nm_walks.specs.declared.spot.ChainEdge.{ChainEdge}
-use Rattle.nm_walks.specs.declared.spot.Spot.{Spot}
+use Rattle.nm_walks.specs.declared.seek_record.ChainEdge.{ChainEdge}
+use Rattle.nm_walks.specs.declared.seek_record.SeekRecord.{SeekRecord}
 use Rattle.nm_walks.specs.Telling.{IsInRun}
 use Rattle.nm_walks.specs.Cleanups.{HasCut, HoldsCuts, KeepsLedgers}
 use Rattle.nm_walks.specs.WonCounts.{CountsWon}
@@ -73,7 +73,7 @@ same_freed : (e : ℕ) (ns : List NodeId) (h : Option Ledger) → option_map (λ
 same_freed e ns None = refl
 same_freed e ns (Some l) = refl
 
-pub cut_ledgers : (s : Spot) (c : List ChainEdge) (ns : List NodeId) (e : ℕ) (p m q : PassView) → IsInRun p → HasCut s c ns p m → Stepped m q Sight (Labelled e) → KeepsLedgers p q
+pub cut_ledgers : (s : SeekRecord) (c : List ChainEdge) (ns : List NodeId) (e : ℕ) (p m q : PassView) → IsInRun p → HasCut s c ns p m → Stepped m q Sight (Labelled e) → KeepsLedgers p q
 cut_ledgers s c ns e p m q run cut step = record {
   others = λ o other.
       let law = held_ledgers_are_kept p.view.layout (enough p.view.layout run.fits) p.view.number p.view.log run.run.is_part in

@@ -137,22 +137,22 @@ module _ (p : PassView) (parent : ℕ) (side : Side) (leaf new fresh : ℕ) (i :
   search = search_after idle p.view.log
 
   shown : ForksOver (draft_of (knowledge p.view) new) leaf fresh
-  shown = fork_shown p i.key i.other leaf new fresh i.fork
+  shown = fork_shown p i.key i.other leaf new fresh i.new_nodes
 
   is_fresh : unwrap_or (beside (draft_of (knowledge p.view) new) leaf) 0 ≡ fresh
   is_fresh = ap (λ (o : Option ℕ). unwrap_or o 0) shown.beside_leaf
 
   new_private : is_private (knowledge p.view) new ≡ true
-  new_private = private_from_birth p new (ap is_some (fork_birth p i.key i.other leaf new fresh i.fork))
+  new_private = private_from_birth p new (ap is_some (fork_birth p i.key i.other leaf new fresh i.new_nodes))
 
   fresh_private : is_private (knowledge p.view) fresh ≡ true
-  fresh_private = private_from_birth p fresh (ap is_some i.fork.as_leaf.has_birth)
+  fresh_private = private_from_birth p fresh (ap is_some i.new_nodes.as_leaf.has_birth)
 
   fresh_leaf : is_leaf_draft (knowledge p.view) fresh ≡ true
   fresh_leaf =
       and_from (is_private k fresh) _ fresh_private
-      (and_from (is_some (draft_of k fresh).key) _ (ap is_some i.fork.as_leaf.has_key)
-      (and_from (is_number (draft_of k fresh).left 0) _ (number_there (draft_of k fresh).left 0 i.fork.as_leaf.has_left) (number_there (draft_of k fresh).right 0 i.fork.as_leaf.has_right)))
+      (and_from (is_some (draft_of k fresh).key) _ (ap is_some i.new_nodes.as_leaf.has_key)
+      (and_from (is_number (draft_of k fresh).left 0) _ (number_there (draft_of k fresh).left 0 i.new_nodes.as_leaf.has_left) (number_there (draft_of k fresh).right 0 i.new_nodes.as_leaf.has_right)))
 
   linkable : is_linkable (knowledge p.view) new leaf ≡ true
   linkable = and_from (is_fork_over (draft_of k new) leaf) _ shown.over (ap (is_leaf_draft k) is_fresh ∙ fresh_leaf)
@@ -197,7 +197,7 @@ module _ (p : PassView) (parent : ℕ) (side : Side) (leaf new fresh : ℕ) (i :
       (and_from (not (i.other == i.key)) _ (ap not (ne_eqb i.other i.key i.apart)) (leafy_or_out h.0)) forks)))
 
   walked : shows_place p.view.layout (knowledge p.view) i.key parent side leaf new (search_after idle p.view.log).walks ≡ true
-  walked = walked_so p.view.layout.radix i.place (forks_shown p i.key i.other leaf new fresh i.fork p.view.layout.radix i.fork.between)
+  walked = walked_so p.view.layout.radix i.place (forks_shown p i.key i.other leaf new fresh i.new_nodes p.view.layout.radix i.new_nodes.between)
 
   -- over such a slot a link may be
   may_over : (b : Bool) → IsPlace b p i.key leaf parent side i.other → (knows_leaf (knowledge p.view) leaf || (b && nat_le 6 leaf)) ≡ true
@@ -211,7 +211,7 @@ module _ (p : PassView) (parent : ℕ) (side : Side) (leaf new fresh : ℕ) (i :
   in_order = cond-false (not (links_in_order p.view.layout k search search.call parent side leaf new)) (Some NotOrdered) None (ap not
       (ap (λ (c : Option Call). links_in_order p.view.layout k search c parent side leaf new) i.call
       ∙ and_from (not search.linked) _ (ap not i.not_linked)
-      (and_from (is_number (new_leaf k leaf new).key i.key) _ (ap (λ (x : ℕ). is_number (draft_of k x).key i.key) is_fresh ∙ number_there (draft_of k fresh).key i.key i.fork.as_leaf.has_key) walked)))
+      (and_from (is_number (new_leaf k leaf new).key i.key) _ (ap (λ (x : ℕ). is_number (draft_of k x).key i.key) is_fresh ∙ number_there (draft_of k fresh).key i.key i.new_nodes.as_leaf.has_key) walked)))
 
   pub may_link : IsInRun p → IsPinnedSomewhere p → Tells p (KnowsSlot parent) → Tells p (KnowsSlot leaf) → ((x : ℕ) → is_private (knowledge p.view) x ≡ true → IsPooled p.view.layout x) → MayStep p (Link parent side leaf new)
   unfolding refusal
@@ -256,7 +256,7 @@ module _ (p q : PassView) (parent : ℕ) (side : Side) (leaf new fresh : ℕ) wh
       let later : Ascends (without k.drafts new) = ascends-without k.drafts new order in
       record {
         step = λ birth is. subst (λ (b : ℕ). Stepped p q (Link parent side leaf new) (Linked (record { slot = new; birth = b }))) (ap (λ (o : Option ℕ). unwrap_or o 0) is) step;
-        new_given = ap (λ m. is_some (get m new)) drafts_now ∙ ap is_some (without_another (without k.drafts new) fresh new later i.fork.apart ∙ without_it k.drafts new order);
+        new_given = ap (λ m. is_some (get m new)) drafts_now ∙ ap is_some (without_another (without k.drafts new) fresh new later i.new_nodes.apart ∙ without_it k.drafts new order);
         fresh_given = ap (λ m. is_some (get m fresh)) drafts_now ∙ ap is_some (without_it (without k.drafts new) fresh later);
         others = λ s ne_new ne_fresh. ap (λ m. get m s) drafts_now ∙ (without_another (without k.drafts new) fresh s later ne_fresh ∙ without_another k.drafts new s order ne_new);
         epochs = ap (λ (x : Knowledge). x.brief) at;

@@ -17,8 +17,8 @@ use Rattle.nm_order.proofs.RadixLaws.{walks_are_short, walks_pass_routers}
 use Rattle.nm_order.specs.Facts.Fact.{IsTagged, CallIs}
 use Rattle.nm_steps.specs.Steps.{TreeView, PassView}
 use Rattle.nm_walks.specs.declared.looking.Onward.{Onward}
-use Rattle.nm_walks.specs.declared.spot.ChainEdge.{ChainEdge}
-use Rattle.nm_walks.specs.declared.spot.Spot.{Spot}
+use Rattle.nm_walks.specs.declared.seek_record.ChainEdge.{ChainEdge}
+use Rattle.nm_walks.specs.declared.seek_record.SeekRecord.{SeekRecord}
 use Rattle.nm_walks.specs.Bounds.{chain_bound, reach}
 use Rattle.nm_walks.specs.Telling.{Tells, IsInRun, IsPinnedIn}
 use Rattle.nm_walks.specs.Walks.{onto, chained, chain_onto, Reads, Walks, IsTooLong, IsTooDeep, IsAt, ChainLeads}
@@ -26,13 +26,13 @@ use Rattle.nm_walks.proofs.Looks.{enough}
 use Rattle.nm_walks.proofs.PlainLooks.{first_look, looks_longer, walk_looks}
 use Rattle.nm_walks.proofs.Standing.{onto-edge, onto-parent}
 
--- a walk that stands at a spot came there in the log since the pin, by a look at slot 2 and by two
+-- a walk that stands at a seek_record came there in the log since the pin, by a look at slot 2 and by two
 -- at each node that it passed
-abbrev pub HasComeBy : ℕ → ℕ → List Entry → Spot → Type 0
+abbrev pub HasComeBy : ℕ → ℕ → List Entry → SeekRecord → Type 0
 HasComeBy k n log s = (walk : WalkComes k (since_pin [] log) s.edge.slot s.parent s.side) × (length walk.looks ≡ 1 + 2 * n)
 
-pub walk_comes : (k n : ℕ) (old new : List Entry) (s : Spot) (c : List ChainEdge) → Walks k n old new s c → HasComeBy k n new s
-walk_comes k zero old new s c w = subst (λ (t : Spot). (walk : WalkComes k (since_pin [] new) s.edge.slot t.parent t.side) × (length walk.looks ≡ 1 + 2 * 0)) (sym w.0) (
+pub walk_comes : (k n : ℕ) (old new : List Entry) (s : SeekRecord) (c : List ChainEdge) → Walks k n old new s c → HasComeBy k n new s
+walk_comes k zero old new s c w = subst (λ (t : SeekRecord). (walk : WalkComes k (since_pin [] new) s.edge.slot t.parent t.side) × (length walk.looks ≡ 1 + 2 * 0)) (sym w.0) (
   record {
     looks = (Look 2 (EdgeOn Left), EdgeIs s.edge) ∷ [];
     leads = begins s.edge w.2;
@@ -59,7 +59,7 @@ key_of_call p run op k call = facts_are_true p.view.layout (enough p.view.layout
 
 module _ (q : PassView) (run : IsInRun q) (radix : q.view.layout.radix ≡ true) (k : ℕ) (key : IsKey k) where
   -- no walk passes more than 64 nodes
-  pub few_passed : (n : ℕ) (old : List Entry) (s : Spot) (c : List ChainEdge) → Walks k n old q.view.log s c → n ≤ 64
+  pub few_passed : (n : ℕ) (old : List Entry) (s : SeekRecord) (c : List ChainEdge) → Walks k n old q.view.log s c → n ≤ 64
   few_passed n old s c w =
       let come = walk_comes k n old q.view.log s c w in
       let many = come.1 in
@@ -67,7 +67,7 @@ module _ (q : PassView) (run : IsInRun q) (radix : q.view.layout.radix ≡ true)
       omega (arith, many, few)
 
   -- each node that it passes is a router above the fixed ones
-  pub passes_router : (n : ℕ) (old mid : List Entry) (s : Spot) (c : List ChainEdge) (on : Onward) → Walks k n old mid s c → Reads k s.edge.slot mid q.view.log on → on.next.slot ≢ 0 → (6 ≤ s.edge.slot) × (covers on.found on.found ≡ true)
+  pub passes_router : (n : ℕ) (old mid : List Entry) (s : SeekRecord) (c : List ChainEdge) (on : Onward) → Walks k n old mid s c → Reads k s.edge.slot mid q.view.log on → on.next.slot ≢ 0 → (6 ≤ s.edge.slot) × (covers on.found on.found ≡ true)
   passes_router n old mid s c on w read some =
       let come = walk_comes k n old mid s c w in
       walks_pass_routers q.view.layout (enough q.view.layout run.fits) radix q.view.number q.view.log run.run.is_part k s.edge.slot s.parent s.side on.found (omega (arith, key)) (record {
@@ -86,11 +86,11 @@ data ChainOf (n : ℕ) (c : List ChainEdge) : Type 0 where
   Empty : c ≡ [] → ChainOf n c
   FromSecond : (rest : List ChainEdge) → c ≡ chained 2 Left ∷ rest → length c ≤ n → ChainOf n c
 
-first_link : (k n : ℕ) (old mid : List Entry) (t : Spot) (d c : List ChainEdge) → Walks k n old mid t d → c ≡ chained t.parent t.side ∷ [] → ChainOf (suc n) c
-first_link k zero old mid t d c w is = FromSecond [] (is ∙ ap (λ (r : Spot). chained r.parent r.side ∷ []) w.0) (let one = ap length is in omega (arith, one))
+first_link : (k n : ℕ) (old mid : List Entry) (t : SeekRecord) (d c : List ChainEdge) → Walks k n old mid t d → c ≡ chained t.parent t.side ∷ [] → ChainOf (suc n) c
+first_link k zero old mid t d c w is = FromSecond [] (is ∙ ap (λ (r : SeekRecord). chained r.parent r.side ∷ []) w.0) (let one = ap length is in omega (arith, one))
 first_link k (suc n) old mid t d c w is = Short (let one = ap length is in omega (arith, one))
 
-chain_of : (k n : ℕ) (old new : List Entry) (s : Spot) (c : List ChainEdge) → Walks k n old new s c → ChainOf n c
+chain_of : (k n : ℕ) (old new : List Entry) (s : SeekRecord) (c : List ChainEdge) → Walks k n old new s c → ChainOf n c
 chain_of k zero old new s c w = Empty w.1
 chain_of k (suc n) old new s c (mid, t, d, on, w, some, read, is, chain) = by t.edge.tag refl (chain_of k n old mid t d w)
   where
@@ -107,8 +107,8 @@ chain_of k (suc n) old new s c (mid, t, d, on, w, some, read, is, chain) = by t.
     by false plain above = Empty (chain ∙ ap (λ (b : Bool). cond b (d ++ chained t.parent t.side ∷ []) []) plain)
     by true tag above = tagged above (chain ∙ ap (λ (b : Bool). cond b (d ++ chained t.parent t.side ∷ []) []) tag)
 
--- where a walk goes on from its spot, the chain with the spot's node has at most 64 nodes
-pub not_deep : (p q : PassView) → IsInRun p → IsInRun q → q.view.layout.radix ≡ true → (k : ℕ) → IsKey k → (n : ℕ) (old : List Entry) (s : Spot) (c : List ChainEdge) (on : Onward) → Walks k n old p.view.log s c → IsAt (Tells p) s c
+-- where a walk goes on from its seek_record, the chain with the spot's node has at most 64 nodes
+pub not_deep : (p q : PassView) → IsInRun p → IsInRun q → q.view.layout.radix ≡ true → (k : ℕ) → IsKey k → (n : ℕ) (old : List Entry) (s : SeekRecord) (c : List ChainEdge) (on : Onward) → Walks k n old p.view.log s c → IsAt (Tells p) s c
     → Reads k s.edge.slot p.view.log q.view.log on → on.next.slot ≢ 0 → length c + 1 < chain_bound
 not_deep p q earlier run radix k key n old s c on w at read some = by (chain_of k n old p.view.log s c w)
   where
@@ -132,7 +132,7 @@ not_deep p q earlier run radix k key n old s c on w at read some = by (chain_of 
 pub far_of : (L : Layout) (radix : Bool) → L.radix ≡ radix → reach L ≡ cond radix 66 L.nodes
 far_of L radix is = ap (λ (b : Bool). cond b 66 L.nodes) is
 
-module _ (b : TreeView) (k : ℕ) (key : IsKey k) (n : ℕ) (old : List Entry) (s : Spot) (c : List ChainEdge) where
+module _ (b : TreeView) (k : ℕ) (key : IsKey k) (n : ℕ) (old : List Entry) (s : SeekRecord) (c : List ChainEdge) where
   -- a walk that has looked at as many nodes as it may
   pub too_long : (q : PassView) → IsPinnedIn b q → Walks k n old q.view.log s c → suc n ≡ reach b.layout → IsTooLong b.layout k old q.view.log
   too_long q pinned w all = by b.layout.radix refl

@@ -9,9 +9,9 @@ use Rattle.nm_edge.specs.declared.edge.Side.{Side}
 use Rattle.nm_order.specs.Facts.Fact.{ReadKey}
 use Rattle.nm_steps.specs.Steps.{TreeView, PassView}
 use Rattle.nm_walks.specs.declared.looking.Onward.{Onward}
-use Rattle.nm_walks.specs.declared.spot.ChainEdge.{ChainEdge}
-use Rattle.nm_walks.specs.declared.spot.WalkEnd.{WalkEnd}
-use Rattle.nm_walks.specs.declared.spot.Spot.{Spot}
+use Rattle.nm_walks.specs.declared.seek_record.ChainEdge.{ChainEdge}
+use Rattle.nm_walks.specs.declared.seek_record.WalkEnd.{WalkEnd}
+use Rattle.nm_walks.specs.declared.seek_record.SeekRecord.{SeekRecord}
 use Rattle.nm_walks.specs.Bounds.{reach}
 use Rattle.nm_walks.specs.Telling.{Tells, GoesOn, OnwardTold, IsPinnedIn}
 use Rattle.nm_walks.specs.Walks.{begin, onto, Reads, IsWalking, HasFound}
@@ -28,7 +28,7 @@ at_leaf true k on null = inl null
 
 -- ---- ranges on the way
 
-pub narrowed_first : (o p : PassView) (k : ℕ) (e : Edge) (s : Spot) → s ≡ begin e → IsNarrowed o p k s.parent s.side
+pub narrowed_first : (o p : PassView) (k : ℕ) (e : Edge) (s : SeekRecord) → s ≡ begin e → IsNarrowed o p k s.parent s.side
 narrowed_first o p k e s is = rw is (inl (refl, refl))
 
 pub narrowed_still : (o p q : PassView) (k parent : ℕ) (side : Side) → GoesOn p q → IsNarrowed o p k parent side → IsNarrowed o q k parent side
@@ -36,14 +36,14 @@ narrowed_still o p q k parent side on (inl first) = inl first
 narrowed_still o p q k parent side on (inr w) = inr (w.0, w.1, w.2, w.3, w.4, λ since walks. on.keeps (ReadKey since k parent w.1 w.2 w.0) (w.5 since walks))
 
 -- to the next node, in whose parent's range the key is
-pub narrowed_on : (L : Layout) (k n : ℕ) (o p q : PassView) (t : Spot) (c : List ChainEdge) (on : Onward) → IsWalking L k n o p t c → Reads k t.edge.slot p.view.log q.view.log on → OnwardTold p q k t.edge.slot on.found on.side on.next
-    → covers on.found k ≡ true → (s : Spot) → s ≡ onto t on.side on.next → IsNarrowed o q k s.parent s.side
+pub narrowed_on : (L : Layout) (k n : ℕ) (o p q : PassView) (t : SeekRecord) (c : List ChainEdge) (on : Onward) → IsWalking L k n o p t c → Reads k t.edge.slot p.view.log q.view.log on → OnwardTold p q k t.edge.slot on.found on.side on.next
+    → covers on.found k ≡ true → (s : SeekRecord) → s ≡ onto t on.side on.next → IsNarrowed o q k s.parent s.side
 narrowed_on L k n o p q t c on w read told is_in s is =
     let place = onto-parent t on.side on.next in
     rw (is, place.0, place.1) (inr (on.found, t.parent, t.side, is_in, sym read.3, λ since walks. told.reads since t.parent t.side (w.come since walks)))
 
 -- where it stops: at a leaf, or at a node above the fixed ones with another key
-module _ (b : TreeView) (radix : b.layout.radix ≡ true) (k : ℕ) (key : IsKey k) (n : ℕ) (o p q : PassView) (t : Spot) (c : List ChainEdge) (on : Onward) (w : IsWalking b.layout k n o p t c) (read : Reads k t.edge.slot p.view.log q.view.log on)
+module _ (b : TreeView) (radix : b.layout.radix ≡ true) (k : ℕ) (key : IsKey k) (n : ℕ) (o p q : PassView) (t : SeekRecord) (c : List ChainEdge) (on : Onward) (w : IsWalking b.layout k n o p t c) (read : Reads k t.edge.slot p.view.log q.view.log on)
     (goes : GoesOn p q) (told : OnwardTold p q k t.edge.slot on.found on.side on.next) (pinned : IsPinnedIn b q) where
   -- a node that is no leaf, and has not the key in its range
   record IsApart : Type 0 where
@@ -68,8 +68,8 @@ module _ (b : TreeView) (radix : b.layout.radix ≡ true) (k : ℕ) (key : IsKey
   over_of (inl null) = inl (told.learned.leaf null)
   over_of (inr apart) = inr (apart.high, apart.outside)
 
-  pub stops_here : IsStop true k on → n + 2 ≤ reach b.layout → IsNarrowed o p k t.parent t.side → (r : WalkEnd) → r.spot ≡ t → r.key ≡ on.found → HasStopped b.layout k o q c r × HasNarrowed o q k r
-  stops_here stop few narrowed r spot is = rw (spot, is) (
+  pub stops_here : IsStop true k on → n + 2 ≤ reach b.layout → IsNarrowed o p k t.parent t.side → (r : WalkEnd) → r.seek_record ≡ t → r.key ≡ on.found → HasStopped b.layout k o q c r × HasNarrowed o q k r
+  stops_here stop few narrowed r seek_record is = rw (seek_record, is) (
     record {
       walk = (n, p.view.log, on, few, w.walk, subst (λ (radix : Bool). IsStop radix k on) (sym radix) stop, read, refl);
       at = at_kept (Tells p) (Tells q) goes.keeps t c w.at;

@@ -25,8 +25,8 @@ use Rattle.nm_order.proofs.ToldLaws.{twice_other}
 use Rattle.nm_steps.specs.Rules.{knowledge}
 use Rattle.nm_steps.specs.Steps.{PassView, Stepped}
 use Rattle.nm_walks.specs.declared.cutting.Kept.{Kept}
-use Rattle.nm_walks.specs.declared.spot.ChainEdge.{ChainEdge}
-use Rattle.nm_walks.specs.declared.spot.Spot.{Spot}
+use Rattle.nm_walks.specs.declared.seek_record.ChainEdge.{ChainEdge}
+use Rattle.nm_walks.specs.declared.seek_record.SeekRecord.{SeekRecord}
 use Rattle.nm_walks.specs.Telling.{Tells, IsInRun, GoesOn, OnlyLooks}
 use Rattle.nm_walks.specs.Walks.{ChainLeads, IsAt}
 use Rattle.nm_walks.specs.Marking.{IsToBeCut, OnlyCuts, SpliceWon}
@@ -38,7 +38,7 @@ use Rattle.nm_walks.proofs.Standing.{leads_kept}
 
 -- ---- the chain of a walk
 
-module _ (p q : PassView) (s : Spot) (c : List ChainEdge) (at : IsAt (Tells p) s c) where
+module _ (p q : PassView) (s : SeekRecord) (c : List ChainEdge) (at : IsAt (Tells p) s c) where
   pub at_top : top c s.parent ≡ s.successor
   at_top = top_of (Tells p) s.successor c s.parent at.way
 
@@ -82,7 +82,7 @@ module _ (k : Knowledge) (S : Search) (y b : ℕ) (born : HoldsIn k S (IsBorn y 
 
 -- ---- a chain was cut off
 
-pub has_cut : (s : Spot) (c : List ChainEdge) (o p r t q : PassView) (k : Kept) (was : Edge) (ns : List NodeId) → GoesOn o t → OnlyLooks o t
+pub has_cut : (s : SeekRecord) (c : List ChainEdge) (o p r t q : PassView) (k : Kept) (was : Edge) (ns : List NodeId) → GoesOn o t → OnlyLooks o t
     → Chooses s o.view.log p.view.log (Some k) → r.view.log ≡ p.view.log ++ (Tag s.parent k.side, Was was) ∷ [] → Freezes s.parent k.side c r.view.log t.view.log → length ns ≡ 2 * (length c + 1)
     → FrozenTo (Tells t) s.parent k.side s.successor ns → ((to : ℕ) → Tells o (IsFlagged s.parent s.side to) → k.side ≡ other s.side)
     → SpliceWon t q s.ancestor s.above s.successor s.parent k.side ns → HasCut s c ns o q
@@ -118,26 +118,26 @@ chain_steps parent keep (l ∷ c) old new f =
     let rest = chain_steps parent keep c f.0 new f.2 in
     omega (arith, one, rest)
 
-choice_steps : (s : Spot) (r : Option Kept) (old new : List Entry) → Chooses s old new r → length new ≡ length old + 2
+choice_steps : (s : SeekRecord) (r : Option Kept) (old new : List Entry) → Chooses s old new r → length new ≡ length old + 2
 choice_steps s r old new f =
     let one : length (old ++ (Look s.parent (EdgeOn s.side), EdgeIs f.0) ∷ []) ≡ length old + 1 = one_more _ old _ refl in
     let two = one_more _ _ new f.2 in
     omega (arith, one, two)
 
-prepared_steps : (s : Spot) (c : List ChainEdge) (k : Kept) (old new : List Entry) → Prepares s c k old new → length new ≡ length old + 3 * length c + 6
+prepared_steps : (s : SeekRecord) (c : List ChainEdge) (k : Kept) (old new : List Entry) → Prepares s c k old new → length new ≡ length old + 3 * length c + 6
 prepared_steps s c k old new f =
     let one = choice_steps s (Some k) old f.0 f.2 in
     let two : length (f.0 ++ (Tag s.parent k.side, Was f.1) ∷ []) ≡ length f.0 + 1 = one_more _ f.0 _ refl in
     let three = chain_steps s.parent k.side c _ new f.3 in
     omega (arith, one, two, three)
 
-pub won_steps : (s : Spot) (c : List ChainEdge) (ns : List NodeId) (old new : List Entry) → CutsOff s c ns old new → length new ≡ length old + 3 * length c + 7
+pub won_steps : (s : SeekRecord) (c : List ChainEdge) (ns : List NodeId) (old new : List Entry) → CutsOff s c ns old new → length new ≡ length old + 3 * length c + 7
 won_steps s c ns old new f =
     let one = prepared_steps s c f.0 old f.1 f.2 in
     let two = one_more _ f.1 new f.3 in
     omega (arith, one, two)
 
-pub lost_steps : (s : Spot) (c : List ChainEdge) (old new : List Entry) → CleanupLost s c old new → length new ≤ length old + 3 * length c + 8
+pub lost_steps : (s : SeekRecord) (c : List ChainEdge) (old new : List Entry) → CleanupLost s c old new → length new ≤ length old + 3 * length c + 8
 lost_steps s c old new (inl none') = let one = choice_steps s None old new none' in omega (arith, one)
 lost_steps s c old new (inr f) =
     let one = prepared_steps s c f.0 old f.1 f.3 in
@@ -146,7 +146,7 @@ lost_steps s c old new (inr f) =
 
 -- ---- what a cleanup leaves
 
-pub only_cleans : (s : Spot) (c : List ChainEdge) (ns : List NodeId) (epoch : ℕ) (p m q : PassView) → IsInRun p → HasCut s c ns p m → OnlyCuts p m → OnlyLabels epoch m q → Stepped m q Sight (Labelled epoch) → OnlyCleans p q
+pub only_cleans : (s : SeekRecord) (c : List ChainEdge) (ns : List NodeId) (epoch : ℕ) (p m q : PassView) → IsInRun p → HasCut s c ns p m → OnlyCuts p m → OnlyLabels epoch m q → Stepped m q Sight (Labelled epoch) → OnlyCleans p q
 only_cleans s c ns epoch p m q run cut cuts labels step = record {
   announcement = labels.announcement ∙ ap (λ (b : Brief). b.announcement) cut.epochs;
   pin = labels.pin ∙ ap (λ (b : Brief). b.pin) cut.epochs;

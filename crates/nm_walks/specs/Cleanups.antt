@@ -18,24 +18,24 @@ use Rattle.nm_epoch.specs.Collecting.{IsQueueOf, labelled_so, capped}
 use Rattle.nm_epoch.specs.declared.collecting.Entry.{Entry as Waiting}
 use Rattle.nm_epoch.specs.declared.collecting.HeldQueue.{HeldQueue}
 use Rattle.nm_walks.specs.declared.cutting.Kept.{Kept}
-use Rattle.nm_walks.specs.declared.spot.ChainEdge.{ChainEdge}
-use Rattle.nm_walks.specs.declared.spot.Spot.{Spot}
+use Rattle.nm_walks.specs.declared.seek_record.ChainEdge.{ChainEdge}
+use Rattle.nm_walks.specs.declared.seek_record.SeekRecord.{SeekRecord}
 use Rattle.nm_walks.specs.Telling.{Tells, OnlyLooks}
 use Rattle.nm_walks.specs.WonCounts.{CountsWon}
 
 -- both edges of the parent were looked at, first the one on the walk's side
-abbrev pub after_both : Spot → List Entry → Edge → Edge → List Entry
+abbrev pub after_both : SeekRecord → List Entry → Edge → Edge → List Entry
 after_both s l e f = (l ++ (Look s.parent (EdgeOn s.side), EdgeIs e) ∷ [])
     ++ (Look s.parent (EdgeOn (other s.side)), EdgeIs f) ∷ []
 
 -- the edge to keep: the one beside the flagged edge, first the one on the walk's side
-abbrev pub kept_beside : Spot → Edge → Edge → Option Kept
+abbrev pub kept_beside : SeekRecord → Edge → Edge → Option Kept
 kept_beside s e f = if e.flag then Some (record { side = other s.side; leaf = e.slot })
     else if f.flag then Some (record { side = s.side; leaf = f.slot }) else None
 
 -- the edge of a parent to keep, by two looks (Natarajan and Mittal, section 3.2, cleanup; for whole
 -- chains ours)
-abbrev pub Chooses : Spot → List Entry → List Entry → Option Kept → Type 0
+abbrev pub Chooses : SeekRecord → List Entry → List Entry → Option Kept → Type 0
 Chooses s old new r = (e f : Edge) × (new ≡ after_both s old e f) × (r ≡ kept_beside s e f)
 
 -- the nodes of a slot and of the flagged leaf beside its edge on a side, as they were looked at
@@ -75,26 +75,26 @@ Freezes parent keep (l ∷ c) old new =
 
 -- up to its splice: both edges of the parent were looked at, the one to keep was tagged, and the
 -- chain was looked at (Natarajan and Mittal, section 3.2, cleanup; for whole chains ours)
-abbrev pub Prepares : Spot → List ChainEdge → Kept → List Entry → List Entry → Type 0
+abbrev pub Prepares : SeekRecord → List ChainEdge → Kept → List Entry → List Entry → Type 0
 Prepares s c k old new = (mid : List Entry) × (was : Edge) × Chooses s old mid (Some k)
     × Freezes s.parent k.side c (mid ++ (Tag s.parent k.side, Was was) ∷ []) new
 
 -- the splice was won, and cut just these nodes (Natarajan and Mittal, section 3.2, cleanup; for
 -- whole chains ours)
-abbrev pub CutsOff : Spot → List ChainEdge → List NodeId → List Entry → List Entry → Type 0
+abbrev pub CutsOff : SeekRecord → List ChainEdge → List NodeId → List Entry → List Entry → Type 0
 CutsOff s c ns old new = (k : Kept) × (mid : List Entry) × Prepares s c k old mid
     × (new ≡ mid ++ (Splice s.ancestor s.above s.successor s.parent k.side, Cut ns) ∷ [])
 
 -- neither edge of the parent was flagged, or the splice was lost (Natarajan and Mittal, section
 -- 3.2, cleanup; for whole chains ours)
-abbrev pub CleanupLost : Spot → List ChainEdge → List Entry → List Entry → Type 0
+abbrev pub CleanupLost : SeekRecord → List ChainEdge → List Entry → List Entry → Type 0
 CleanupLost s c old new = Chooses s old new None
     ⊎ ((k : Kept) × (mid : List Entry) × (e : Edge) × Prepares s c k old mid
     × (new ≡ mid ++ (Splice s.ancestor s.above s.successor s.parent k.side, Lost e) ∷ []))
 
 -- the splice was won, and followed at once by its label (Natarajan and Mittal, section 3.2,
 -- cleanup; for whole chains ours)
-abbrev pub CleanupWon : Spot → List ChainEdge → List NodeId → ℕ → List Entry → List Entry → Type 0
+abbrev pub CleanupWon : SeekRecord → List ChainEdge → List NodeId → ℕ → List Entry → List Entry → Type 0
 CleanupWon s c ns epoch old new =
     (mid : List Entry) × CutsOff s c ns old mid × (new ≡ mid ++ (Sight, Labelled epoch) ∷ [])
 
@@ -106,7 +106,7 @@ IsOneOfNodes n ns = is_flagged_in (Some n) ns ≡ true
 
 -- these nodes were cut off and wait for their label; and where the edge by which the walk ended is
 -- known flagged, its leaf is one of them
-pub record HasCut (s : Spot) (c : List ChainEdge) (ns : List NodeId) (p q : PassView) : Type 0 where
+pub record HasCut (s : SeekRecord) (c : List ChainEdge) (ns : List NodeId) (p q : PassView) : Type 0 where
   pub part : CutsOff s c ns p.view.log q.view.log
   pub size : length ns ≡ 2 * (length c + 1)
   pub queues : (o : ℕ) → held (knowledge q.view).ledgers o
@@ -120,7 +120,7 @@ pub record HasCut (s : Spot) (c : List ChainEdge) (ns : List NodeId) (p q : Pass
       || is_flagged_in (search_after idle p.view.log).flagged ns)
 
 -- a cleanup that was lost has only looked and tagged
-pub record HasCutNothing (s : Spot) (c : List ChainEdge) (p q : PassView) : Type 0 where
+pub record HasCutNothing (s : SeekRecord) (c : List ChainEdge) (p q : PassView) : Type 0 where
   pub part : CleanupLost s c p.view.log q.view.log
   pub only : OnlyLooks p q
 
@@ -148,7 +148,7 @@ pub record KeepsLedgers (p q : PassView) : Type 0 where
 
 -- these nodes were cut off and labelled, and are at the end of the queue, with the flagged leaf
 -- among them
-pub record HasCleaned (s : Spot) (c : List ChainEdge) (p q : PassView)
+pub record HasCleaned (s : SeekRecord) (c : List ChainEdge) (p q : PassView)
     (es fs : List Waiting) : Type 0 where
   pub nodes : List NodeId
   pub epoch : ℕ

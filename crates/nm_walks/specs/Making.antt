@@ -119,7 +119,7 @@ pub record IsInserting (p : PassView) (parent : ℕ) (side : Side) (leaf new fre
   pub not_linked : (search_after idle p.view.log).linked ≡ false
   pub place : IsPlace p.view.layout.radix p key leaf parent side other
   pub apart : other ≢ key
-  pub fork : IsFork p key other leaf new fresh
+  pub new_nodes : IsFork p key other leaf new fresh
 
 -- the link is won: the call has linked, and both slots are private no longer (Natarajan and Mittal,
 -- section 3.2, insert)

@@ -11,11 +11,11 @@ use Rattle.nm_order.specs.Facts.Fact.{KnowsLeaf, ReadKey}
 use Rattle.nm_order.specs.Taught.{WalksAreFor as HasWalks}
 use Rattle.nm_steps.specs.Steps.{PassView}
 use Rattle.nm_walks.specs.declared.looking.Onward.{Onward}
-use Rattle.nm_walks.specs.declared.spot.ChainEdge.{ChainEdge}
-use Rattle.nm_walks.specs.declared.spot.Descent.{Descent}
-use Rattle.nm_walks.specs.declared.spot.Descent.TheVariants.{Ended, Stopped}
-use Rattle.nm_walks.specs.declared.spot.WalkEnd.{WalkEnd}
-use Rattle.nm_walks.specs.declared.spot.Spot.{Spot}
+use Rattle.nm_walks.specs.declared.seek_record.ChainEdge.{ChainEdge}
+use Rattle.nm_walks.specs.declared.seek_record.Descent.{Descent}
+use Rattle.nm_walks.specs.declared.seek_record.Descent.TheVariants.{Ended, Stopped}
+use Rattle.nm_walks.specs.declared.seek_record.WalkEnd.{WalkEnd}
+use Rattle.nm_walks.specs.declared.seek_record.SeekRecord.{SeekRecord}
 use Rattle.nm_walks.specs.Bounds.{chain_bound, reach}
 use Rattle.nm_walks.specs.Telling.{Tells}
 use Rattle.nm_walks.specs.Walks.{Walks, Reads, IsBroken, IsAt, HasFound, IsWalking}
@@ -29,14 +29,14 @@ IsStop false k on = on.next.slot ≡ 0
 IsStop true k on = (on.next.slot ≡ 0) ⊎ (covers on.found k ≡ false)
 
 -- a walk to such a slot, which the edge of s leads to and whose key this is
-abbrev pub StopsAt : Layout → ℕ → List Entry → List Entry → Spot → List ChainEdge → ℕ → Type 0
+abbrev pub StopsAt : Layout → ℕ → List Entry → List Entry → SeekRecord → List ChainEdge → ℕ → Type 0
 StopsAt L k old new s c key =
     (n : ℕ) × (mid : List Entry) × (on : Onward) × (n + 2 ≤ reach L) × Walks k n old mid s c
     × IsStop L.radix k on × Reads k s.edge.slot mid new on × (on.found ≡ key)
 
 -- what it comes to. None: it was broken off at a bound
 abbrev pub Stops : Layout → ℕ → List Entry → List Entry → List ChainEdge → Option WalkEnd → Type 0
-Stops L k old new c (Some r) = StopsAt L k old new r.spot c r.key
+Stops L k old new c (Some r) = StopsAt L k old new r.seek_record c r.key
     × (length c < chain_bound)
 Stops L k old new c None = IsBroken L k old new
 
@@ -61,21 +61,21 @@ IsOver p k x key = Tells p (KnowsLeaf x) ⊎ ((6 ≤ x) × (covers key k ≡ fal
 
 -- in a tree of this shape the walk of an insert has stopped so
 pub record HasStopped (L : Layout) (k : ℕ) (o p : PassView) (c : List ChainEdge) (r : WalkEnd) : Type 0 where
-  pub walk : StopsAt L k o.view.log p.view.log r.spot c r.key
-  pub at : IsAt (Tells p) r.spot c
-  pub within : r.spot.edge.slot ≤ L.nodes
+  pub walk : StopsAt L k o.view.log p.view.log r.seek_record c r.key
+  pub at : IsAt (Tells p) r.seek_record c
+  pub within : r.seek_record.edge.slot ≤ L.nodes
   pub few : length c < chain_bound
-  pub found : r.key ≡ k → HasFound o p k r.spot.edge.slot r.spot.parent r.spot.side r.key
+  pub found : r.key ≡ k → HasFound o p k r.seek_record.edge.slot r.seek_record.parent r.seek_record.side r.key
 
 -- and there the key may be put, in the shape of Natarajan and Mittal, or in that of a radix tree
 pub record HasEndedPlain (o p : PassView) (k : ℕ) (r : WalkEnd) : Type 0 where
-  pub leaf : Tells p (KnowsLeaf r.spot.edge.slot)
-  pub found : HasFound o p k r.spot.edge.slot r.spot.parent r.spot.side r.key
+  pub leaf : Tells p (KnowsLeaf r.seek_record.edge.slot)
+  pub found : HasFound o p k r.seek_record.edge.slot r.seek_record.parent r.seek_record.side r.key
 
 pub record HasNarrowed (o p : PassView) (k : ℕ) (r : WalkEnd) : Type 0 where
-  pub read : EachWalkHasRead o p k r.spot.edge.slot r.spot.parent r.spot.side r.key
-  pub narrowed : IsNarrowed o p k r.spot.parent r.spot.side
-  pub over : IsOver p k r.spot.edge.slot r.key
+  pub read : EachWalkHasRead o p k r.seek_record.edge.slot r.seek_record.parent r.seek_record.side r.key
+  pub narrowed : IsNarrowed o p k r.seek_record.parent r.seek_record.side
+  pub over : IsOver p k r.seek_record.edge.slot r.key
 
 abbrev pub HasPlace : Bool → PassView → PassView → ℕ → WalkEnd → Type 0
 HasPlace false o p k r = HasEndedPlain o p k r

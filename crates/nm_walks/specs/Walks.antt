@@ -15,23 +15,23 @@ use Rattle.nm_order.specs.Facts.Fact.{KnowsSlot, KnowsLeaf, IsTagged, Came, Ende
 use Rattle.nm_order.specs.Taught.{WalksAreFor as HasWalks}
 use Rattle.nm_steps.specs.Steps.{PassView}
 use Rattle.nm_walks.specs.declared.looking.Onward.{Onward}
-use Rattle.nm_walks.specs.declared.spot.ChainEdge.{ChainEdge}
-use Rattle.nm_walks.specs.declared.spot.Descent.{Descent}
-use Rattle.nm_walks.specs.declared.spot.Descent.TheVariants.{Ended, Stopped}
-use Rattle.nm_walks.specs.declared.spot.WalkEnd.{WalkEnd}
-use Rattle.nm_walks.specs.declared.spot.Spot.{Spot}
+use Rattle.nm_walks.specs.declared.seek_record.ChainEdge.{ChainEdge}
+use Rattle.nm_walks.specs.declared.seek_record.Descent.{Descent}
+use Rattle.nm_walks.specs.declared.seek_record.Descent.TheVariants.{Ended, Stopped}
+use Rattle.nm_walks.specs.declared.seek_record.WalkEnd.{WalkEnd}
+use Rattle.nm_walks.specs.declared.seek_record.SeekRecord.{SeekRecord}
 use Rattle.nm_walks.specs.Bounds.{chain_bound, reach}
 use Rattle.nm_walks.specs.Telling.{Tells, GoesOn, OnlyLooks}
 
 -- ---- where a walk stands
 
 -- at first, at the left edge of slot 2 (Natarajan and Mittal, section 3.2, the seek record)
-abbrev pub begin : Edge → Spot
+abbrev pub begin : Edge → SeekRecord
 begin e = record { ancestor = 1; above = Left; successor = 2; parent = 2; side = Left; edge = e }
 
 -- where the edge of one place leads to the node of another one, whose edge this is
-abbrev pub spot_at : EdgePlace → EdgePlace → Edge → Spot
-spot_at above at e = record {
+abbrev pub seek_at : EdgePlace → EdgePlace → Edge → SeekRecord
+seek_at above at e = record {
   ancestor = above.slot;
   above = above.side;
   successor = at.slot;
@@ -42,7 +42,7 @@ spot_at above at e = record {
 
 -- at the node that the edge led to, left on a side by an edge (Natarajan and Mittal, section 3.2,
 -- the seek record)
-abbrev pub onto : Spot → Side → Edge → Spot
+abbrev pub onto : SeekRecord → Side → Edge → SeekRecord
 onto s d e = if s.edge.tag then record {
   ancestor = s.ancestor;
   above = s.above;
@@ -64,7 +64,7 @@ abbrev pub chained : ℕ → Side → ChainEdge
 chained s d = record { slot = s; side = d }
 
 -- the tagged edges from the successor down to the parent, one node further
-abbrev pub chain_onto : Spot → List ChainEdge → List ChainEdge
+abbrev pub chain_onto : SeekRecord → List ChainEdge → List ChainEdge
 chain_onto s c = if s.edge.tag then c ++ chained s.parent s.side ∷ [] else []
 
 -- ---- what a walk leaves in the log
@@ -92,17 +92,17 @@ IsLeafRead s old new on = on.side ≡ Left → on.next.slot ≡ 0 → (left righ
 
 -- slot 2 was looked at, and n nodes below it; none of the edges read was null (Natarajan and
 -- Mittal, section 3.2, seek)
-abbrev pub Walks : ℕ → ℕ → List Entry → List Entry → Spot → List ChainEdge → Type 0
+abbrev pub Walks : ℕ → ℕ → List Entry → List Entry → SeekRecord → List ChainEdge → Type 0
 Walks k zero old new s c = (s ≡ begin s.edge) × (c ≡ []) × (s.edge.slot ≢ 0)
     × (new ≡ old ++ (Look 2 (EdgeOn Left), EdgeIs s.edge) ∷ [])
 Walks k (suc n) old new s c =
-    (mid : List Entry) × (t : Spot) × (d : List ChainEdge) × (on : Onward) × Walks k n old mid t d
+    (mid : List Entry) × (t : SeekRecord) × (d : List ChainEdge) × (on : Onward) × Walks k n old mid t d
     × (on.next.slot ≢ 0)
     × Reads k t.edge.slot mid new on × (s ≡ onto t on.side on.next) × (c ≡ chain_onto t d)
 
 -- a walk to the leaf that the edge of s leads to, whose key this is; with slot 2 and the leaf it
 -- looked at no more nodes than its reach has (Natarajan and Mittal, section 3.2, seek)
-abbrev pub EndsAtLeaf : Layout → ℕ → List Entry → List Entry → Spot → List ChainEdge → ℕ → Type 0
+abbrev pub EndsAtLeaf : Layout → ℕ → List Entry → List Entry → SeekRecord → List ChainEdge → ℕ → Type 0
 EndsAtLeaf L k old new s c key =
     (n : ℕ) × (mid : List Entry) × (on : Onward) × (n + 2 ≤ reach L) × Walks k n old mid s c
     × (on.next.slot ≡ 0)
@@ -110,12 +110,12 @@ EndsAtLeaf L k old new s c key =
 
 -- a walk broken off where it had looked at as many nodes as there are, as none of a radix tree is
 abbrev pub IsTooLong : Layout → ℕ → List Entry → List Entry → Type 0
-IsTooLong L k old new = (L.radix ≡ false) × (n : ℕ) × (s : Spot) × (c : List ChainEdge)
+IsTooLong L k old new = (L.radix ≡ false) × (n : ℕ) × (s : SeekRecord) × (c : List ChainEdge)
     × Walks k n old new s c × (suc n ≡ L.nodes)
 
 -- a walk broken off where its chain would hold 65 nodes, as none of a radix tree is
 abbrev pub IsTooDeep : Layout → ℕ → List Entry → List Entry → Type 0
-IsTooDeep L k old new = (L.radix ≡ false) × (n : ℕ) × (mid : List Entry) × (s : Spot)
+IsTooDeep L k old new = (L.radix ≡ false) × (n : ℕ) × (mid : List Entry) × (s : SeekRecord)
     × (c : List ChainEdge) × (on : Onward) × (n + 2 ≤ L.nodes) × Walks k n old mid s c
     × Reads k s.edge.slot mid new on × (on.next.slot ≢ 0) × (s.edge.tag ≡ true)
     × (chain_bound ≤ length c + 1)
@@ -126,14 +126,14 @@ IsBroken L k old new = IsTooLong L k old new ⊎ IsTooDeep L k old new
 
 -- what a walk finds that remembers nothing: the leaf's key
 abbrev pub Finds : Layout → ℕ → List Entry → List Entry → Option ℕ → Type 0
-Finds L k old new (Some key) = (s : Spot) × (c : List ChainEdge)
+Finds L k old new (Some key) = (s : SeekRecord) × (c : List ChainEdge)
     × EndsAtLeaf L k old new s c key
 Finds L k old new None = IsTooLong L k old new
 
 -- what a walk finds that remembers its chain, which has 64 nodes at most with the parent (Natarajan
 -- and Mittal, section 3.2, seek)
 abbrev pub Seeks : Layout → ℕ → List Entry → List Entry → List ChainEdge → Option WalkEnd → Type 0
-Seeks L k old new c (Some r) = EndsAtLeaf L k old new r.spot c r.key
+Seeks L k old new c (Some r) = EndsAtLeaf L k old new r.seek_record c r.key
     × (length c < chain_bound)
 Seeks L k old new c None = IsBroken L k old new
 
@@ -145,8 +145,8 @@ ChainLeads H s [] q = s ≡ q
 ChainLeads H s (l ∷ c) q = (l.slot ≡ s) × (t : ℕ) × H (IsTagged s l.side t) × H (KnowsSlot t)
     × ChainLeads H t c q
 
--- what is known of the nodes of a spot and of its chain
-pub record IsAt (H : Fact → Type 0) (s : Spot) (c : List ChainEdge) : Type 0 where
+-- what is known of the nodes of a seek_record and of its chain
+pub record IsAt (H : Fact → Type 0) (s : SeekRecord) (c : List ChainEdge) : Type 0 where
   pub ancestor : H (KnowsSlot s.ancestor)
   pub successor : H (KnowsSlot s.successor)
   pub parent : H (KnowsSlot s.parent)
@@ -155,13 +155,13 @@ pub record IsAt (H : Fact → Type 0) (s : Spot) (c : List ChainEdge) : Type 0 w
   pub way : ChainLeads H s.successor c s.parent
 
 -- and where it has ended: that its leaf is one
-pub record HasEnded (H : Fact → Type 0) (L : Layout) (s : Spot) (c : List ChainEdge) : Type 0 where
+pub record HasEnded (H : Fact → Type 0) (L : Layout) (s : SeekRecord) (c : List ChainEdge) : Type 0 where
   pub at : IsAt H s c
   pub leaf : H (KnowsLeaf s.edge.slot)
   pub within : s.edge.slot ≤ L.nodes
 
 -- each kind of walk that the call has came so to the slot
-abbrev pub EachWalkHasCome : PassView → PassView → ℕ → Spot → Type 0
+abbrev pub EachWalkHasCome : PassView → PassView → ℕ → SeekRecord → Type 0
 EachWalkHasCome p q k s = (since : Since) → HasWalks p.view.layout p.view.number p.view.log since k
     → Tells q (Came since k s.edge.slot s.parent s.side)
 
@@ -174,7 +174,7 @@ HasFound p q k leaf parent side key =
 -- ---- a walk that remembers nothing, with what is known where it stands
 
 -- it stands at s, n nodes below slot 2
-pub record IsFinding (k n : ℕ) (o p : PassView) (s : Spot) : Type 0 where
+pub record IsFinding (k n : ℕ) (o p : PassView) (s : SeekRecord) : Type 0 where
   pub walk : (c : List ChainEdge) × Walks k n o.view.log p.view.log s c
   pub known : Tells p (KnowsSlot s.edge.slot)
   pub come : EachWalkHasCome o p k s
@@ -183,13 +183,13 @@ pub record IsFinding (k n : ℕ) (o p : PassView) (s : Spot) : Type 0 where
 -- nodes, which are not yet all
 abbrev pub HasDescended : Layout → ℕ → PassView → PassView → Descent → Type 0
 HasDescended L k o p (Ended r) = Finds L k o.view.log p.view.log (Some r.key)
-    × HasFound o p k r.spot.edge.slot r.spot.parent r.spot.side r.key
+    × HasFound o p k r.seek_record.edge.slot r.seek_record.parent r.seek_record.side r.key
 HasDescended L k o p (Stopped s n) = IsFinding k n o p s × (n + 1 ≤ reach L)
 
 -- ---- a walk that remembers its chain, with what is known where it stands
 
 -- in a table of so many nodes it stands at s, n nodes below slot 2
-pub record IsWalking (L : Layout) (k n : ℕ) (o p : PassView) (s : Spot) (c : List ChainEdge) : Type 0 where
+pub record IsWalking (L : Layout) (k n : ℕ) (o p : PassView) (s : SeekRecord) (c : List ChainEdge) : Type 0 where
   pub walk : Walks k n o.view.log p.view.log s c
   pub at : IsAt (Tells p) s c
   pub within : s.edge.slot ≤ L.nodes
@@ -200,11 +200,11 @@ pub record IsWalking (L : Layout) (k n : ℕ) (o p : PassView) (s : Spot) (c : L
 
 -- or it has ended, at a leaf above slot 5 where its key is below the sentinels
 pub record HasWalked (L : Layout) (k : ℕ) (o p : PassView) (c : List ChainEdge) (r : WalkEnd) : Type 0 where
-  pub walk : EndsAtLeaf L k o.view.log p.view.log r.spot c r.key
-  pub ended : HasEnded (Tells p) L r.spot c
+  pub walk : EndsAtLeaf L k o.view.log p.view.log r.seek_record c r.key
+  pub ended : HasEnded (Tells p) L r.seek_record c
   pub few : length c < chain_bound
-  pub high : r.key < infinity_0 → 6 ≤ r.spot.edge.slot
-  pub found : HasFound o p k r.spot.edge.slot r.spot.parent r.spot.side r.key
+  pub high : r.key < infinity_0 → 6 ≤ r.seek_record.edge.slot
+  pub found : HasFound o p k r.seek_record.edge.slot r.seek_record.parent r.seek_record.side r.key
 
 -- the part of it that goes by unmarked edges alone, so that its chain is empty: it has ended, or
 -- stands after so many nodes, which are not yet all

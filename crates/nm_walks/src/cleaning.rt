@@ -11,7 +11,7 @@ ghost use Rattle.nm_walks.specs.Cleanups.{HasCut, HasCutNothing, HasCleaned, Onl
 use crate::cutting::{choose, freeze};
 use crate::labelling::label;
 use crate::marking::{splice, tag};
-use crate::spot::{ChainEdge, Spot};
+use crate::seek_record::{ChainEdge, SeekRecord};
 use crate::workspace::{CutNodes, Workspace};
 use nm_edge::NodeId;
 use nm_epoch::{Entry, HeldQueue};
@@ -23,25 +23,25 @@ use nm_steps::{Pass, Shared};
 fn cut_off(
     shared: &Shared,
     pass: &mut Pass,
-    spot: &Spot,
+    seek_record: &SeekRecord,
     chain: &[ChainEdge],
     nodes: &mut CutNodes,
 ) -> bool
     requires pinned { IsPinnedIn shared.now pass.old }
-    requires at { IsAt (Tells pass.old) spot.now chain.now }
+    requires at { IsAt (Tells pass.old) seek_record.now chain.now }
     requires few { length chain.now < chain_bound }
-    ensures won { result ≡ true → HasCut spot.now chain.now nodes.new.items pass.old pass.new }
-    ensures lost { result ≡ false → HasCutNothing spot.now chain.now pass.old pass.new }
+    ensures won { result ≡ true → HasCut seek_record.now chain.now nodes.new.items pass.old pass.new }
+    ensures lost { result ≡ false → HasCutNothing seek_record.now chain.now pass.old pass.new }
     ensures on { GoesOn pass.old pass.new }
     ensures only { OnlyCuts pass.old pass.new }
 {
     nodes.clear();
-    let Some(kept) = choose(shared, pass, spot) else {
+    let Some(kept) = choose(shared, pass, seek_record) else {
         return false;
     };
-    let was = tag(shared, pass, spot.parent, kept.side);
-    freeze(shared, pass, chain, spot.parent, kept.side, nodes);
-    let Ok(()) = splice(shared, pass, spot, kept.side, was.tagged()) else {
+    let was = tag(shared, pass, seek_record.parent, kept.side);
+    freeze(shared, pass, chain, seek_record.parent, kept.side, nodes);
+    let Ok(()) = splice(shared, pass, seek_record, kept.side, was.tagged()) else {
         return false;
     };
     true
@@ -63,7 +63,7 @@ fn push_labelled(queue: &mut BlockQueue<Entry>, nodes: &[NodeId], label: u64)
     }
 }
 
-/// A cleanup by a walk that ended at this spot with the chain of this workspace, which stays, and
+/// A cleanup by a walk that ended at this seek_record with the chain of this workspace, which stays, and
 /// whether it is won. Won: the chain from the successor down to the parent is cut off with the
 /// flagged leaf beside each of its nodes, labelled at once, and waits at the end of the queue.
 /// Lost: it has only looked, and tagged an edge. It takes no memory. At most 3 steps for each node
@@ -74,18 +74,18 @@ pub fn cleanup(
     pass: &mut Pass,
     workspace: &mut Workspace,
     held: &mut HeldQueue,
-    spot: &Spot,
+    seek_record: &SeekRecord,
 ) -> bool
     requires pinned { IsPinnedIn shared.now pass.old }
-    requires at { IsAt (Tells pass.old) spot.now workspace.old.chain.items }
+    requires at { IsAt (Tells pass.old) seek_record.now workspace.old.chain.items }
     requires few { length workspace.old.chain.items < chain_bound }
     requires room { cut_bound ≤ held.old.queue.spare }
     requires kept { HoldsCuts pass.old held.old }
     ensures won { result ≡ true
-        → HasCleaned spot.now workspace.old.chain.items pass.old pass.new held.old.queue.items
+        → HasCleaned seek_record.now workspace.old.chain.items pass.old pass.new held.old.queue.items
         held.new.queue.items }
     ensures lost { result ≡ false
-        → HasCutNothing spot.now workspace.old.chain.items pass.old pass.new }
+        → HasCutNothing seek_record.now workspace.old.chain.items pass.old pass.new }
     ensures untouched { result ≡ false → held.new ≡ held.old }
     ensures chain { workspace.new.chain ≡ workspace.old.chain }
     ensures kept { HoldsCuts pass.new held.new }
@@ -99,7 +99,7 @@ pub fn cleanup(
     if !cut_off(
         shared,
         pass,
-        spot,
+        seek_record,
         workspace.chain.as_slice(),
         &mut workspace.nodes,
     ) {

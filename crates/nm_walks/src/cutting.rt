@@ -10,7 +10,7 @@ ghost use Rattle.nm_walks.specs.Walks.{ChainLeads};
 ghost use Rattle.nm_walks.specs.Cleanups.{Chooses, FrozenAt, Freezes, top};
 
 use crate::looking::{look_birth, look_edge};
-use crate::spot::{ChainEdge, Spot};
+use crate::seek_record::{ChainEdge, SeekRecord};
 use crate::workspace::CutNodes;
 use nm_edge::{NodeId, Side};
 use nm_steps::{Pass, Shared};
@@ -25,22 +25,22 @@ pub struct Kept {
 /// The edge to keep of the parent at which a walk stands, where one of its edges is flagged: two
 /// looks. (The cleanup of Natarajan and Mittal, section 3.2.)
 #[inline(always)]
-pub fn choose(shared: &Shared, pass: &mut Pass, spot: &Spot) -> Option<Kept>
+pub fn choose(shared: &Shared, pass: &mut Pass, seek_record: &SeekRecord) -> Option<Kept>
     requires pinned { IsPinnedIn shared.now pass.old }
-    requires known { Tells pass.old (KnowsSlot spot.now.parent) }
-    ensures looks { Chooses spot.now pass.old.view.log pass.new.view.log result }
+    requires known { Tells pass.old (KnowsSlot seek_record.now.parent) }
+    ensures looks { Chooses seek_record.now pass.old.view.log pass.new.view.log result }
     ensures on { GoesOn pass.old pass.new }
     ensures only { OnlyLooks pass.old pass.new }
     ensures flagged { IfSome result
-        (λ r. Tells pass.new (IsFlagged spot.now.parent (other r.side) r.leaf)) }
-    ensures high { IfSome result (λ r. 6 ≤ spot.now.parent) }
-    ensures again { (to : ℕ) → Tells pass.old (IsFlagged spot.now.parent spot.now.side to)
-        → result ≡ Some (record { side = other spot.now.side; leaf = to }) }
+        (λ r. Tells pass.new (IsFlagged seek_record.now.parent (other r.side) r.leaf)) }
+    ensures high { IfSome result (λ r. 6 ≤ seek_record.now.parent) }
+    ensures again { (to : ℕ) → Tells pass.old (IsFlagged seek_record.now.parent seek_record.now.side to)
+        → result ≡ Some (record { side = other seek_record.now.side; leaf = to }) }
 {
     let layout = shared.layout();
-    let across = spot.side.other();
-    let on = look_edge(shared, layout, pass, spot.parent, spot.side);
-    let off = look_edge(shared, layout, pass, spot.parent, across);
+    let across = seek_record.side.other();
+    let on = look_edge(shared, layout, pass, seek_record.parent, seek_record.side);
+    let off = look_edge(shared, layout, pass, seek_record.parent, across);
     if on.flag() {
         Some(Kept {
             side: across,
@@ -48,7 +48,7 @@ pub fn choose(shared: &Shared, pass: &mut Pass, spot: &Spot) -> Option<Kept>
         })
     } else if off.flag() {
         Some(Kept {
-            side: spot.side,
+            side: seek_record.side,
             leaf: off.slot(),
         })
     } else {

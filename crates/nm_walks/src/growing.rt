@@ -3,33 +3,37 @@ ghost use Rattle.std.specs.Prelude.{◌≡◌, ◌≢◌, None, IfOk, IfErr};
 ghost use Rattle.nm_steps.specs.Steps.{IsOf, PassView};
 ghost use Rattle.nm_walks.specs.Telling.{GoesOn, IsPinnedIn};
 ghost use Rattle.nm_walks.specs.Making.{IsRouter, OnlyMakes};
-ghost use Rattle.nm_walks.specs.Growing.{ClaimsFork, HasFork, IfReady, Returns, inner_of, MayGrow, KeepsCall, HasGrown, HasNotGrown};
+ghost use Rattle.nm_walks.specs.Growing.{ClaimsNewNodes, HasNewNodes, IfReady, Returns, inner_of, MayGrow, KeepsCall, HasGrown, HasNotGrown};
 
-use crate::making::{Contents, Fork, claim, fill, give, link};
-use crate::spot::WalkEnd;
+use crate::making::{Contents, NewNodes, claim, fill, give, link};
+use crate::seek_record::WalkEnd;
 use nm_edge::{Edge, Placement, parting};
 use nm_steps::{Pass, Shared};
 
 /// Claims an internal node and then a leaf. `None`: one of the claims answered nothing, and nothing
 /// is kept.
-pub fn claim_fork(shared: &Shared, pass: &mut Pass, placement: &mut Placement) -> Option<Fork>
+pub fn claim_new_nodes(
+    shared: &Shared,
+    pass: &mut Pass,
+    placement: &mut Placement,
+) -> Option<NewNodes>
     requires own { IsOf shared.now pass.old }
-    ensures part { ClaimsFork placement.old shared.now.layout.nodes pass.old.view.log
+    ensures part { ClaimsNewNodes placement.old shared.now.layout.nodes pass.old.view.log
         pass.new.view.log result }
     ensures on { GoesOn pass.old pass.new }
     ensures only { OnlyMakes pass.old pass.new }
-    ensures has { HasFork pass.old pass.new result }
+    ensures has { HasNewNodes pass.old pass.new result }
     ensures fit { placement.new ≡ placement.old }
 {
-    let Some(new) = claim(shared, pass, placement) else {
+    let Some(internal) = claim(shared, pass, placement) else {
         return None;
     };
-    let Some(fresh) = claim(shared, pass, placement) else {
-        give(shared, pass, new);
-        placement.keep(new.slot);
+    let Some(leaf) = claim(shared, pass, placement) else {
+        give(shared, pass, internal);
+        placement.keep(internal.slot);
         return None;
     };
-    Some(Fork { new, fresh })
+    Some(NewNodes { internal, leaf })
 }
 
 /// The new internal node over a leaf with key `other` and a new leaf with another key.
@@ -62,45 +66,50 @@ pub fn grow(
     pass: &mut Pass,
     key: u64,
     end: &WalkEnd,
-    fork: &Fork,
+    new_nodes: &NewNodes,
 ) -> Result<(), Edge>
     requires pinned { IsPinnedIn shared.now pass.old }
-    requires may { MayGrow pass.old key end.now fork.now }
+    requires may { MayGrow pass.old key end.now new_nodes.now }
     ensures on { GoesOn pass.old pass.new }
     ensures call { KeepsCall pass.old pass.new }
     ensures won { IfOk result (λ _. HasGrown shared.now.layout.radix pass.old pass.new key end.now
-        fork.now) }
+        new_nodes.now) }
     ensures lost { IfErr result (λ e. HasNotGrown shared.now.layout.radix pass.old pass.new key
-        end.now fork.now e) }
+        end.now new_nodes.now e) }
 {
-    let leaf = end.spot.edge.slot();
+    let leaf = end.seek_record.edge.slot();
     let radix = shared.layout().is_radix();
-    let node = node_over(radix, key, end.key, leaf, fork.fresh.slot);
-    fill(shared, pass, fork.new.slot, &node);
+    let node = node_over(radix, key, end.key, leaf, new_nodes.leaf.slot);
+    fill(shared, pass, new_nodes.internal.slot, &node);
     let alone = Contents {
         key,
         left: 0,
         right: 0,
     };
-    fill(shared, pass, fork.fresh.slot, &alone);
-    link(shared, pass, &end.spot, fork)
+    fill(shared, pass, new_nodes.leaf.slot, &alone);
+    link(shared, pass, &end.seek_record, new_nodes)
 }
 
 /// Gives both nodes back, the internal one first. The placement remembers their slots.
-pub fn give_back(shared: &Shared, pass: &mut Pass, placement: &mut Placement, fork: &Option<Fork>)
+pub fn give_back(
+    shared: &Shared,
+    pass: &mut Pass,
+    placement: &mut Placement,
+    new_nodes: &Option<NewNodes>,
+)
     requires own { IsOf shared.now pass.old }
-    requires ready { IfReady pass.old fork.now }
-    ensures part { Returns fork.now pass.old.view.log pass.new.view.log }
-    ensures given { (o : PassView) → HasFork o pass.old fork.now → HasFork o pass.new None }
+    requires ready { IfReady pass.old new_nodes.now }
+    ensures part { Returns new_nodes.now pass.old.view.log pass.new.view.log }
+    ensures given { (o : PassView) → HasNewNodes o pass.old new_nodes.now → HasNewNodes o pass.new None }
     ensures on { GoesOn pass.old pass.new }
     ensures only { OnlyMakes pass.old pass.new }
     ensures fit { placement.new ≡ placement.old }
 {
-    pass.is_of_a_run();
-    if let Some(made) = fork {
-        give(shared, pass, made.new);
-        give(shared, pass, made.fresh);
-        placement.keep(made.new.slot);
-        placement.keep(made.fresh.slot);
+    pass.know_run();
+    if let Some(made) = new_nodes {
+        give(shared, pass, made.internal);
+        give(shared, pass, made.leaf);
+        placement.keep(made.internal.slot);
+        placement.keep(made.leaf.slot);
     }
 }

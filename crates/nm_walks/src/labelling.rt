@@ -22,6 +22,6 @@ pub(crate) fn label(shared: &Shared, pass: &mut Pass) -> u64
     ensures only { OnlyLabels result pass.old pass.new }
     ensures queues { TakesLabels result (knowledge pass.old.view) (knowledge pass.new.view) }
 {
-    pass.is_of_a_run();
+    pass.know_run();
     label_cut(shared, pass)
 }

@@ -9,17 +9,19 @@ mod labelling;
 mod looking;
 mod making;
 mod marking;
-mod spot;
-mod trail;
+mod seek_record;
+mod unmarked_seek;
 mod walking;
 mod workspace;
 
 pub use cleaning::cleanup;
 pub use cutting::{Kept, choose};
-pub use growing::{claim_fork, give_back, grow};
+pub use growing::{claim_new_nodes, give_back, grow};
 pub use looking::{Onward, look_birth, look_edge, read_node};
-pub use making::Fork;
+pub use making::NewNodes;
 pub use marking::{flag, tag};
-pub use spot::{CHAIN_BOUND, ChainEdge, ChainEdges, Spot, WalkEnd, is_marked, is_null};
+pub use seek_record::{
+    CHAIN_BOUND, ChainEdge, ChainEdges, SeekRecord, WalkEnd, is_marked, is_null,
+};
 pub use walking::{find, place, reach, seek};
 pub use workspace::{CUT_BOUND, CutNodes, Workspace};

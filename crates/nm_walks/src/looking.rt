@@ -8,7 +8,7 @@ ghost use Rattle.nm_steps.specs.Steps.{Stepped};
 ghost use Rattle.nm_walks.specs.Telling.{Tells, GoesOn, OnlyLooks, EdgeTold, KeyTold, OnwardTold, IsPinnedIn};
 ghost use Rattle.nm_walks.specs.Walks.{IsLeafRead, Reads, edge_on};
 
-use crate::spot::side_at;
+use crate::seek_record::side_at;
 use nm_edge::{Edge, Layout, Side};
 use nm_steps::{Pass, Shared};
 
@@ -24,7 +24,7 @@ pub(crate) fn look_key(shared: &Shared, layout: Layout, pass: &mut Pass, slot: u
     ensures told { KeyTold pass.old pass.new slot result }
 {
     let key = shared.look_key(layout, pass, slot);
-    pass.is_of_a_run();
+    pass.know_run();
     key
 }
 
@@ -39,7 +39,7 @@ pub fn look_edge(shared: &Shared, layout: Layout, pass: &mut Pass, slot: u32, si
     ensures told { EdgeTold pass.old pass.new slot side result }
 {
     let edge = shared.look_edge(layout, pass, slot, side);
-    pass.is_of_a_run();
+    pass.know_run();
     edge
 }
 
@@ -93,6 +93,6 @@ pub fn look_birth(shared: &Shared, pass: &mut Pass, slot: u32) -> u64
     ensures born { Tells pass.new (IsBorn slot result) }
 {
     let birth = shared.look_birth(pass, slot);
-    pass.is_of_a_run();
+    pass.know_run();
     birth
 }

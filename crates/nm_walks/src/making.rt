@@ -13,7 +13,7 @@ ghost use Rattle.nm_steps.specs.Steps.{IsOf, Stepped};
 ghost use Rattle.nm_walks.specs.Telling.{Tells, GoesOn, IsPinnedIn};
 ghost use Rattle.nm_walks.specs.Making.{draft, KeepsOtherSlots, KeepsAllBut, OnlyMakes, with_node, HasFilled, IsInserting, HasLinked, HasLost};
 
-use crate::spot::Spot;
+use crate::seek_record::SeekRecord;
 use nm_edge::{Edge, NodeId, Placement, Side};
 use nm_pool::claim_by;
 use nm_steps::{Pass, Shared};
@@ -28,9 +28,9 @@ pub(crate) struct Contents {
 
 /// Two private nodes: a new internal node, and a new leaf to stand below it.
 #[derive(Clone, Copy, Debug, PartialEq, Eq)]
-pub struct Fork {
-    pub new: NodeId,
-    pub fresh: NodeId,
+pub struct NewNodes {
+    pub internal: NodeId,
+    pub leaf: NodeId,
 }
 
 /// Takes a slot out of the pool to be a new node, with its birth raised by one: the first that it
@@ -55,7 +55,7 @@ pub(crate) fn claim(shared: &Shared, pass: &mut Pass, placement: &mut Placement)
     ensures only { OnlyMakes pass.old pass.new }
     ensures fit { placement.new ≡ placement.old }
 {
-    pass.is_of_a_run();
+    pass.know_run();
     claim_by(shared, pass, placement)
 }
 
@@ -70,7 +70,7 @@ pub(crate) fn give(shared: &Shared, pass: &mut Pass, node: NodeId)
     ensures others { KeepsOtherSlots node.slot pass.old pass.new }
     ensures only { OnlyMakes pass.old pass.new }
 {
-    pass.is_of_a_run();
+    pass.know_run();
     nm_pool::give(shared, pass, node);
 }
 
@@ -87,33 +87,44 @@ pub(crate) fn fill(shared: &Shared, pass: &mut Pass, slot: u32, node: &Contents)
     ensures others { KeepsOtherSlots slot pass.old pass.new }
     ensures only { OnlyMakes pass.old pass.new }
 {
-    pass.is_of_a_run();
-    pass.holds_pooled_slots();
+    pass.know_run();
+    pass.know_pooled_slots();
     shared.fill_key(pass, slot, node.key);
     shared.fill_edge(pass, slot, Side::Left, node.left);
     shared.fill_edge(pass, slot, Side::Right, node.right);
 }
 
-/// Puts the new internal node of a fork, over the leaf and the new leaf, in the place of the leaf
-/// to which the edge of this spot leads. Lost: the edge that was found.
+/// Puts the new internal node of a new_nodes, over the leaf and the new leaf, in the place of the leaf
+/// to which the edge of this seek_record leads. Lost: the edge that was found.
 ///
 /// Only a call to insert the key of the new leaf may do so, once, by the edge by which a walk of it
 /// came to the leaf and ended there.
-pub(crate) fn link(shared: &Shared, pass: &mut Pass, spot: &Spot, fork: &Fork) -> Result<(), Edge>
+pub(crate) fn link(
+    shared: &Shared,
+    pass: &mut Pass,
+    seek_record: &SeekRecord,
+    new_nodes: &NewNodes,
+) -> Result<(), Edge>
     requires pinned { IsPinnedIn shared.now pass.old }
-    requires parent { Tells pass.old (KnowsSlot spot.now.parent) }
-    requires known { Tells pass.old (KnowsSlot spot.now.edge.slot) }
-    requires inserts { IsInserting pass.old spot.now.parent spot.now.side spot.now.edge.slot
-        fork.now.new.slot fork.now.fresh.slot }
+    requires parent { Tells pass.old (KnowsSlot seek_record.now.parent) }
+    requires known { Tells pass.old (KnowsSlot seek_record.now.edge.slot) }
+    requires inserts { IsInserting pass.old seek_record.now.parent seek_record.now.side seek_record.now.edge.slot
+        new_nodes.now.internal.slot new_nodes.now.leaf.slot }
     ensures on { GoesOn pass.old pass.new }
-    ensures won { IfOk result (λ _. HasLinked pass.old pass.new spot.now.parent spot.now.side
-        spot.now.edge.slot fork.now.new.slot fork.now.fresh.slot) }
-    ensures lost { IfErr result (HasLost pass.old pass.new spot.now.parent spot.now.side
-        spot.now.edge.slot fork.now.new.slot) }
+    ensures won { IfOk result (λ _. HasLinked pass.old pass.new seek_record.now.parent seek_record.now.side
+        seek_record.now.edge.slot new_nodes.now.internal.slot new_nodes.now.leaf.slot) }
+    ensures lost { IfErr result (HasLost pass.old pass.new seek_record.now.parent seek_record.now.side
+        seek_record.now.edge.slot new_nodes.now.internal.slot) }
 {
-    pass.holds_pooled_slots();
-    let leaf = spot.edge.slot();
-    let linked = shared.link(pass, spot.parent, spot.side, leaf, fork.new.slot);
-    pass.is_of_a_run();
+    pass.know_pooled_slots();
+    let leaf = seek_record.edge.slot();
+    let linked = shared.link(
+        pass,
+        seek_record.parent,
+        seek_record.side,
+        leaf,
+        new_nodes.internal.slot,
+    );
+    pass.know_run();
     linked
 }

@@ -11,7 +11,7 @@ ghost use Rattle.nm_steps.specs.Steps.{Stepped};
 ghost use Rattle.nm_walks.specs.Telling.{Tells, GoesOn, OnlyLooks, IsPinnedIn};
 ghost use Rattle.nm_walks.specs.Marking.{TagTold, IsToBeFlagged, OnlyFlags, FlagWon, FlagLost, IsToBeCut, OnlyCuts, SpliceWon, SpliceLost};
 
-use crate::spot::Spot;
+use crate::seek_record::SeekRecord;
 use nm_edge::{Edge, Side};
 use nm_steps::{FrozenChain, Pass, Shared};
 
@@ -27,7 +27,7 @@ pub fn tag(shared: &Shared, pass: &mut Pass, parent: u32, side: Side) -> Edge
     ensures told { TagTold pass.old pass.new parent side result }
 {
     let edge = shared.tag(pass, parent, side);
-    pass.is_of_a_run();
+    pass.know_run();
     edge
 }
 
@@ -50,11 +50,11 @@ pub fn flag(
     ensures only { OnlyFlags pass.old pass.new }
 {
     let won = shared.flag(pass, parent, side, leaf);
-    pass.is_of_a_run();
+    pass.know_run();
     won
 }
 
-/// Cuts a frozen chain off, from the successor of this spot down to its parent, with the flagged
+/// Cuts a frozen chain off, from the successor of this seek_record down to its parent, with the flagged
 /// leaf beside each of its nodes: the ancestor's edge leads from then on where the parent's edge on
 /// the side `keep` leads, which is frozen as `kept`. The nodes wait for their label. Lost: the edge
 /// that was found.
@@ -62,31 +62,31 @@ pub fn flag(
 pub(crate) fn splice(
     shared: &Shared,
     pass: &mut Pass,
-    spot: &Spot,
+    seek_record: &SeekRecord,
     keep: Side,
     kept: Edge,
 ) -> Result<(), Edge>
     requires pinned { IsPinnedIn shared.now pass.old }
-    requires frozen { IsToBeCut pass.old spot.now.ancestor spot.now.successor spot.now.parent keep
+    requires frozen { IsToBeCut pass.old seek_record.now.ancestor seek_record.now.successor seek_record.now.parent keep
         kept }
     ensures won { IfOk result (λ _. (ns : List NodeId)
-        → FrozenTo (Tells pass.old) spot.now.parent keep spot.now.successor ns
-        → SpliceWon pass.old pass.new spot.now.ancestor spot.now.above spot.now.successor
-        spot.now.parent keep ns) }
+        → FrozenTo (Tells pass.old) seek_record.now.parent keep seek_record.now.successor ns
+        → SpliceWon pass.old pass.new seek_record.now.ancestor seek_record.now.above seek_record.now.successor
+        seek_record.now.parent keep ns) }
     ensures lost { IfErr result
-        (λ e. SpliceLost pass.old pass.new spot.now.ancestor spot.now.above spot.now.successor
-        spot.now.parent keep e) }
+        (λ e. SpliceLost pass.old pass.new seek_record.now.ancestor seek_record.now.above seek_record.now.successor
+        seek_record.now.parent keep e) }
     ensures on { GoesOn pass.old pass.new }
     ensures only { OnlyCuts pass.old pass.new }
 {
     let chain = FrozenChain {
-        ancestor: spot.ancestor,
-        side: spot.above,
-        successor: spot.successor,
-        parent: spot.parent,
+        ancestor: seek_record.ancestor,
+        side: seek_record.above,
+        successor: seek_record.successor,
+        parent: seek_record.parent,
         keep,
     };
     let won = shared.splice(pass, chain, kept);
-    pass.is_of_a_run();
+    pass.know_run();
     won
 }

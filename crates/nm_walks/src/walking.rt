@@ -10,8 +10,8 @@ ghost use Rattle.nm_edge.specs.Ranges.{covers};
 ghost use Rattle.nm_walks.specs.Walks.{Finds, Seeks, HasDescended, HasFound, HasRemembered, HasWalked};
 
 use crate::looking::{Onward, look_edge, read_node};
-use crate::spot::{ChainEdges, Descent, WalkEnd, end_at, extend, further, is_null};
-use crate::trail::Trail;
+use crate::seek_record::{ChainEdges, Descent, WalkEnd, end_at, extend, further, is_null};
+use crate::unmarked_seek::UnmarkedSeek;
 use nm_edge::{Layout, Side, covers};
 use nm_steps::{Pass, Shared};
 
@@ -48,23 +48,23 @@ pub fn find(shared: &Shared, pass: &mut Pass, key: u64) -> Option<u64>
         (λ v. (leaf parent : ℕ) × (side : SideOf)
         × HasFound pass.old pass.new key leaf parent side v) }
 {
-    let (mut spot, below) = match descend(shared, pass, key) {
+    let (mut seek_record, below) = match descend(shared, pass, key) {
         Descent::Ended(end) => return Some(end.key),
-        Descent::Stopped(spot, below) => (spot, below),
+        Descent::Stopped(seek_record, below) => (seek_record, below),
     };
     let layout = shared.layout();
     for _below in below..reach(layout) - 1 {
-        let node = spot.edge.slot();
+        let node = seek_record.edge.slot();
         let on = read_node(shared, layout, pass, node, key);
         if is_null(on.next) {
             return Some(on.found);
         }
-        spot = further(spot, on.side, on.next);
+        seek_record = further(seek_record, on.side, on.next);
     }
     None
 }
 
-/// The spot at the end of the walk for a key, with its leaf's key; the chain has the internal nodes
+/// The seek_record at the end of the walk for a key, with its leaf's key; the chain has the internal nodes
 /// from its successor down to above its parent. At most three steps a node. `None`: the walk had
 /// looked at as many nodes as there are, or the chain would hold 65 nodes with the parent; in a
 /// radix tree neither is ever so. (The seek of Natarajan and Mittal, section 3.2, which here
@@ -85,21 +85,21 @@ pub fn seek(shared: &Shared, pass: &mut Pass, key: u64, chain: &mut ChainEdges) 
     ensures only { OnlyLooks pass.old pass.new }
 {
     chain.clear();
-    let (mut spot, below) = match descend(shared, pass, key) {
+    let (mut seek_record, below) = match descend(shared, pass, key) {
         Descent::Ended(end) => return Some(end),
-        Descent::Stopped(spot, below) => (spot, below),
+        Descent::Stopped(seek_record, below) => (seek_record, below),
     };
     let layout = shared.layout();
     for _below in below..reach(layout) - 1 {
-        let node = spot.edge.slot();
+        let node = seek_record.edge.slot();
         let on = read_node(shared, layout, pass, node, key);
         if is_null(on.next) {
-            return Some(end_at(&spot, on.found));
+            return Some(end_at(&seek_record, on.found));
         }
-        if !extend(chain, spot) {
+        if !extend(chain, seek_record) {
             return None;
         }
-        spot = further(spot, on.side, on.next);
+        seek_record = further(seek_record, on.side, on.next);
     }
     None
 }
@@ -118,23 +118,23 @@ fn descend(shared: &Shared, pass: &mut Pass, key: u64) -> Descent
     ensures only { OnlyLooks pass.old pass.new }
 {
     let layout = shared.layout();
-    let mut trail = Trail::first(look_edge(shared, layout, pass, 2, Side::Left));
+    let mut unmarked_seek = UnmarkedSeek::first(look_edge(shared, layout, pass, 2, Side::Left));
     let most = reach(layout) - 1;
     for below in 0..most {
-        if trail.is_marked() {
-            return Descent::Stopped(trail.spot(), below);
+        if unmarked_seek.is_marked() {
+            return Descent::Stopped(unmarked_seek.seek_record(), below);
         }
-        let node = trail.slot();
+        let node = unmarked_seek.slot();
         let on = read_node(shared, layout, pass, node, key);
         if is_null(on.next) {
-            return Descent::Ended(end_at(&trail.spot(), on.found));
+            return Descent::Ended(end_at(&unmarked_seek.seek_record(), on.found));
         }
-        trail = trail.further(on.side, on.next);
+        unmarked_seek = unmarked_seek.further(on.side, on.next);
     }
-    Descent::Stopped(trail.spot(), most)
+    Descent::Stopped(unmarked_seek.seek_record(), most)
 }
 
-/// Where a walk for a key comes to in a radix tree that is to put the key there: the spot at whose
+/// Where a walk for a key comes to in a radix tree that is to put the key there: the seek_record at whose
 /// edge's end is a leaf, or an internal node without the key in its range.
 #[inline(always)]
 pub fn place(shared: &Shared, pass: &mut Pass, key: u64, chain: &mut ChainEdges) -> Option<WalkEnd>
@@ -152,28 +152,28 @@ pub fn place(shared: &Shared, pass: &mut Pass, key: u64, chain: &mut ChainEdges)
     ensures only { OnlyLooks pass.old pass.new }
 {
     chain.clear();
-    let (mut spot, below) = match sink(shared, pass, key) {
+    let (mut seek_record, below) = match descend_to_place(shared, pass, key) {
         Descent::Ended(end) => return Some(end),
-        Descent::Stopped(spot, below) => (spot, below),
+        Descent::Stopped(seek_record, below) => (seek_record, below),
     };
     let layout = shared.layout();
     for _below in below..reach(layout) - 1 {
-        let node = spot.edge.slot();
+        let node = seek_record.edge.slot();
         let on = read_node(shared, layout, pass, node, key);
         if stops(&on, key) {
-            return Some(end_at(&spot, on.found));
+            return Some(end_at(&seek_record, on.found));
         }
-        if !extend(chain, spot) {
+        if !extend(chain, seek_record) {
             return None;
         }
-        spot = further(spot, on.side, on.next);
+        seek_record = further(seek_record, on.side, on.next);
     }
     None
 }
 
 /// The walk of `place` as far as it goes by unmarked edges, as `descend` of a look-up.
 #[inline(always)]
-fn sink(shared: &Shared, pass: &mut Pass, key: u64) -> Descent
+fn descend_to_place(shared: &Shared, pass: &mut Pass, key: u64) -> Descent
     requires pinned { IsPinnedIn shared.now pass.old }
     requires root { Tells pass.old (KnowsSlot 1) }
     requires known { Tells pass.old (KnowsSlot 2) }
@@ -184,20 +184,20 @@ fn sink(shared: &Shared, pass: &mut Pass, key: u64) -> Descent
     ensures only { OnlyLooks pass.old pass.new }
 {
     let layout = shared.layout();
-    let mut trail = Trail::first(look_edge(shared, layout, pass, 2, Side::Left));
+    let mut unmarked_seek = UnmarkedSeek::first(look_edge(shared, layout, pass, 2, Side::Left));
     let most = reach(layout) - 1;
     for below in 0..most {
-        if trail.is_marked() {
-            return Descent::Stopped(trail.spot(), below);
+        if unmarked_seek.is_marked() {
+            return Descent::Stopped(unmarked_seek.seek_record(), below);
         }
-        let node = trail.slot();
+        let node = unmarked_seek.slot();
         let on = read_node(shared, layout, pass, node, key);
         if stops(&on, key) {
-            return Descent::Ended(end_at(&trail.spot(), on.found));
+            return Descent::Ended(end_at(&unmarked_seek.seek_record(), on.found));
         }
-        trail = trail.further(on.side, on.next);
+        unmarked_seek = unmarked_seek.further(on.side, on.next);
     }
-    Descent::Stopped(trail.spot(), most)
+    Descent::Stopped(unmarked_seek.seek_record(), most)
 }
 
 /// Whether the insert of a key stops at a node of a radix tree that was read so: at a leaf, or where

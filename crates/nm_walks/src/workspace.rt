@@ -1,7 +1,7 @@
 //! What a worker's calls work with.
 ghost use Rattle.std.specs.Prelude.{◌≡◌};
 
-use crate::spot::ChainEdges;
+use crate::seek_record::ChainEdges;
 use arrayvec::ArrayVec;
 use nm_edge::{NodeId, Placement};
 

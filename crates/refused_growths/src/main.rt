@@ -1,6 +1,6 @@
 //! Plays inserts and deletes whose growths may be refused, and closes the tree. A call that is
-//! refused has changed nothing, but for the help that it gave, and is made again: so each run
-//! prints the same lines, whichever one growth was refused in it (`.ci/refused`).
+//! refused has changed nothing, except that it may have helped other calls, and is made again. So
+//! each run prints the same lines, whichever one growth was refused in it (`.ci/refused`).
 #![tactic(auto)]
 
 ghost use Rattle.std.specs.Prelude.{◌≡◌, [], ◌∷◌, All, IfOk, length};
@@ -14,7 +14,7 @@ use std::alloc::Global;
 
 const TRIES: u32 = 4;
 
-/// A tree of 16 nodes and its two workers, made again where memory was refused.
+/// Makes a tree of 16 nodes and its two workers, with a second attempt if memory was refused.
 fn made(alloc: Global) -> Result<(Tree, Vec<Worker>), NewError>
     ensures ready { IfOk result (λ r. All (λ w. MayCall r.0 w) r.1.items) }
     ensures count { IfOk result (λ r. length r.1.items ≡ 2) }
@@ -25,7 +25,7 @@ fn made(alloc: Global) -> Result<(Tree, Vec<Worker>), NewError>
     }
 }
 
-/// Such a tree and its workers; and the list in which they stood, with room for both.
+/// Makes such a tree and its workers, and a list with room for both.
 fn open(alloc: Global) -> Result<(Tree, Worker, Worker, Vec<Worker>)>
     ensures { IfOk result (λ r. MayCall r.0 r.1 × MayCall r.0 r.2 × (r.3.items ≡ [])) }
 {
@@ -35,8 +35,8 @@ fn open(alloc: Global) -> Result<(Tree, Worker, Worker, Vec<Worker>)>
     Ok((tree, first, second, workers))
 }
 
-/// What a call must leave where it is refused: whether the key is in the set, and how many nodes
-/// wait.
+/// Returns what a refused call must leave unchanged: whether the key is in the set, and how many
+/// nodes wait.
 fn seen(tree: &Tree, worker: &mut Worker, key: Key) -> (Result<bool, CallFault>, u64)
     requires { MayCall tree.now worker.old }
     ensures { MayCall tree.now worker.new }
@@ -44,7 +44,7 @@ fn seen(tree: &Tree, worker: &mut Worker, key: Key) -> (Result<bool, CallFault>,
     (tree.has(worker, key, TRIES), worker.queue_len())
 }
 
-/// Inserts a key, once more where memory was refused. `None`: the refused call has changed
+/// Inserts a key, with a second attempt if memory was refused. `None`: the refused call has changed
 /// something.
 fn insert(tree: &Tree, worker: &mut Worker, key: Key) -> Option<Result<bool, CallFault>>
     requires { MayCall tree.now worker.old }
@@ -61,8 +61,8 @@ fn insert(tree: &Tree, worker: &mut Worker, key: Key) -> Option<Result<bool, Cal
     Some(tree.insert(worker, key, TRIES))
 }
 
-/// Deletes a key, once more where memory was refused, and finishes what it left. `None`: the
-/// refused call has changed something.
+/// Deletes a key, with a second attempt if memory was refused, and finishes what it left. `None`:
+/// the refused call has changed something.
 fn delete(tree: &Tree, worker: &mut Worker, key: Key) -> Option<Result<bool, CallFault>>
     requires { MayCall tree.now worker.old }
     ensures { MayCall tree.now worker.new }
@@ -81,11 +81,11 @@ fn delete(tree: &Tree, worker: &mut Worker, key: Key) -> Option<Result<bool, Cal
     Some(tree.delete(worker, key, TRIES))
 }
 
-/// One worker flags a key, by a delete with a single try, which is made once more where memory was
-/// refused. The other one deletes the key too, helps, and finds at its second try, for which it
-/// asks for memory again, that the key has gone; refused there, it has helped and done no more.
-/// Then the first one finishes, in the room that its delete has made, so that no growth is there to
-/// be refused. `None`: a refused call has changed something else.
+/// Lets one worker flag a key, by a delete with a single try, with a second attempt if memory was
+/// refused. The other worker deletes the key too and helps. At its second try, for which it asks
+/// for memory again, it finds that the key is absent. If memory is refused there, it has helped and
+/// done nothing else. Then the first worker finishes, in the room that its delete has made, so that
+/// no growth can be refused. `None`: a refused call has changed something else.
 fn help(
     tree: &Tree,
     flagging: &mut Worker,
@@ -113,7 +113,7 @@ fn help(
     Some([flagged, helped, tree.finish(flagging, TRIES)])
 }
 
-/// Moves the epoch on twice, and frees what is ripe.
+/// Advances the epoch twice, and frees the ripe nodes.
 fn drain(tree: &Tree, worker: &mut Worker) -> u64
     requires { MayCall tree.now worker.old }
     ensures { MayCall tree.now worker.new }
@@ -123,7 +123,7 @@ fn drain(tree: &Tree, worker: &mut Worker) -> u64
     tree.collect(worker).freed
 }
 
-/// What the calls of a play answered at last, and how many nodes waited and were freed.
+/// The last answers of the calls of a play, and how many nodes waited and were freed.
 #[derive(Clone, Copy)]
 struct PlayAnswers {
     answers: [Option<Result<bool, CallFault>>; 5],
@@ -132,7 +132,8 @@ struct PlayAnswers {
     freed: (u64, u64),
 }
 
-/// Worker 0 inserts a key three times: it is deleted by worker 1, by both at once, and by worker 0.
+/// Lets worker 0 insert a key three times: worker 1 deletes it, then both at once, and then worker
+/// 0.
 fn play(tree: &Tree, first: &mut Worker, second: &mut Worker, key: Key) -> PlayAnswers
     requires first { MayCall tree.now first.old }
     requires second { MayCall tree.now second.old }
@@ -155,7 +156,7 @@ fn play(tree: &Tree, first: &mut Worker, second: &mut Worker, key: Key) -> PlayA
     }
 }
 
-/// Both workers, in the list in which they stood.
+/// Returns both workers, in the list that had them before.
 fn both(mut workers: Vec<Worker>, first: Worker, second: Worker) -> Result<Vec<Worker>>
     requires { workers.items ≡ [] }
     ensures { IfOk result (λ v. v.items ≡ first ∷ second ∷ []) }
@@ -165,8 +166,8 @@ fn both(mut workers: Vec<Worker>, first: Worker, second: Worker) -> Result<Vec<W
     Ok(workers)
 }
 
-/// Closes the tree, once more where memory was refused. `None`: a refused call has not handed back
-/// both workers.
+/// Closes the tree, with a second attempt if memory was refused. `None`: a refused call has not
+/// given back both workers.
 fn close(tree: Tree, workers: Vec<Worker>) -> Option<Report>
     requires { AreAllOf tree workers.items }
 {

@@ -1,6 +1,7 @@
-//! Plays schedules on cores whose growths may be refused. A run that stops for want of memory must
-//! leave what the events leave that it counts, played alone on another core; then the rest is run.
-//! So each run prints the same lines, whichever one growth was refused in it (`.ci/refused`).
+//! Plays schedules on cores whose growths may be refused. If a run stops because memory was
+//! refused, the core must be in the same state as another core on which only the counted events
+//! were played. Then the rest is run. So each run prints the same lines, whichever one growth was
+//! refused in it (`.ci/refused`).
 #![tactic(auto)]
 
 mod schedules;
@@ -20,7 +21,7 @@ const NODES: u32 = 16;
 /// Each core has two workers.
 const WORKERS: u32 = 2;
 
-/// A core at its opening.
+/// Makes a new core.
 fn open_once(alloc: Global, is_ordered: bool) -> std::result::Result<Core, NewError>
     ensures { IfOk result (λ core. core ≡ opening_of (dense NODES WORKERS) is_ordered) }
 {
@@ -31,7 +32,7 @@ fn open_once(alloc: Global, is_ordered: bool) -> std::result::Result<Core, NewEr
     }
 }
 
-/// A core at its opening, made again where memory was refused.
+/// Makes a new core, with a second attempt if memory was refused.
 fn open(alloc: Global, is_ordered: bool) -> Result<Core>
     ensures { IfOk result (λ core. core ≡ opening_of (dense NODES WORKERS) is_ordered) }
 {
@@ -41,7 +42,7 @@ fn open(alloc: Global, is_ordered: bool) -> Result<Core>
     }
 }
 
-/// The events as a vector, made again where memory was refused.
+/// Returns the events as a vector, with a second attempt if memory was refused.
 fn listed(alloc: Global, events: &[(u32, Event)]) -> Result<Vec<(u32, Event)>>
     ensures { IfOk result (λ list. list.items ≡ events.now) }
 {
@@ -51,7 +52,7 @@ fn listed(alloc: Global, events: &[(u32, Event)]) -> Result<Vec<(u32, Event)>>
     }
 }
 
-/// The keys of the set, told again where memory was refused.
+/// Returns the keys of the set, with a second attempt if memory was refused.
 fn keys_of(core: &Core) -> Result<Vec<Key>> {
     match core.keys() {
         Ok(keys) => Ok(keys),
@@ -59,7 +60,7 @@ fn keys_of(core: &Core) -> Result<Vec<Key>> {
     }
 }
 
-/// Whether both cores tell the same of what a worker's splices cut off.
+/// Returns whether both cores have the same ledger of a worker: what its splices cut off.
 fn have_same_ledger(one: &Core, other: &Core, worker: u32) -> bool {
     let (Some(ledger), Some(wanted)) = (one.ledger(worker), other.ledger(worker)) else {
         return false;
@@ -70,7 +71,7 @@ fn have_same_ledger(one: &Core, other: &Core, worker: u32) -> bool {
         && one.holder(worker) == other.holder(worker)
 }
 
-/// Whether both cores tell the same.
+/// Returns whether both cores report the same state.
 fn are_alike(one: &Core, other: &Core) -> Result<bool> {
     Ok(
         one.epoch() == other.epoch()
@@ -81,7 +82,8 @@ fn are_alike(one: &Core, other: &Core) -> Result<bool> {
     )
 }
 
-/// Whether a core tells what another one tells that was given these events alone.
+/// Returns whether a core reports the same state as a new core on which only these events were
+/// played.
 fn is_left_by(
     alloc: Global,
     is_ordered: bool,
@@ -95,8 +97,8 @@ fn is_left_by(
     are_alike(core, &other)
 }
 
-/// Runs the events on a core at its opening. Where memory is refused, it compares what is left with
-/// what the events leave that were done, and runs the rest.
+/// Runs the events on a new core. If memory is refused, it compares the state with the one that the
+/// events leave which were done, and runs the rest.
 fn play(alloc: Global, is_ordered: bool, events: &[(u32, Event)]) -> Result<Core>
     ensures { IfOk result (λ core. core
         ≡ after_in (opening_of (dense NODES WORKERS) is_ordered) events.now) }
@@ -118,7 +120,7 @@ fn play(alloc: Global, is_ordered: bool, events: &[(u32, Event)]) -> Result<Core
     Ok(core)
 }
 
-/// Prints what a worker's splices cut off, and who holds its queue.
+/// Prints what a worker's splices cut off, and which worker holds its queue.
 fn tell_worker(rt: &HostRuntime, core: &Core, worker: u32) -> Result<()> {
     let ledger = core.ledger(worker).context("a ledger")?;
     for node in ledger.retired.as_slice() {
@@ -138,7 +140,7 @@ fn tell_worker(rt: &HostRuntime, core: &Core, worker: u32) -> Result<()> {
     Ok(())
 }
 
-/// Prints what a core tells.
+/// Prints the state that a core reports.
 fn tell(rt: &HostRuntime, core: &Core) -> Result<()> {
     for worker in 0..WORKERS {
         tell_worker(rt, core, worker)?;

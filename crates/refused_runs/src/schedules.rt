@@ -1,10 +1,10 @@
-//! The schedules.
+//! The schedules that are played.
 use nm_core::{Event, Field, Op};
 use nm_edge::{Key, Side};
 
-/// Worker 0 links three leaves and deletes one of them as far as its tag; worker 1 deletes another,
-/// cuts off both with one splice, and resigns; worker 0 moves the epoch on and frees the four
-/// nodes, of which it tries one too early.
+/// Worker 0 links three leaves and deletes one of them up to its tag. Worker 1 deletes another one,
+/// cuts off both with one splice, and resigns. Worker 0 advances the epoch and frees the four
+/// nodes; it tries one of them too early.
 pub(crate) const CHAIN: [(u32, Event); 70] = [
     (0, Event::Sight),
     (0, Event::Announce),
@@ -78,7 +78,8 @@ pub(crate) const CHAIN: [(u32, Event); 70] = [
     (0, Event::Give(9)),
 ];
 
-/// Worker 0 inserts 5, and worker 1 deletes it, each as its search in an ordered core asks.
+/// Worker 0 inserts 5, and worker 1 deletes it, each in the order that a search in an ordered core
+/// requires.
 pub(crate) fn in_order(key: Key) -> [(u32, Event); 31] {
     [
         (0, Event::Sight),

@@ -1,4 +1,4 @@
-//! A tree with all its workers, from its filling to its end.
+//! A tree with all its workers, from its filling to its close.
 ghost use Rattle.std.specs.Prelude.{All, IfOk};
 ghost use Rattle.nm_tree.specs.Calls.{MayCall};
 
@@ -13,14 +13,14 @@ use std::marker::Model;
 use std::mem;
 use std::thread::Threads;
 
-/// For how many nodes the trees have room, and how many keys the sets have at first.
+/// The number of nodes for which the trees have room, and the number of keys in the sets at first.
 #[derive(Clone, Copy)]
 pub struct Sizes {
     pub nodes: u32,
     pub keys: u64,
 }
 
-/// A tree, the workers of the threads, those that no thread has, and what was done in it.
+/// A tree, the workers of the threads, the workers that no thread has, and what was done in it.
 #[derive(Drop)]
 pub struct Grown {
     tree: Tree,
@@ -42,13 +42,13 @@ impl Model for Grown {
         × All (λ w. MayCall g.tree w) g.others.items };
 }
 
-/// The workers of a tree, those of the threads and those that no thread has.
+/// The workers of a tree: those of the threads, and those that no thread has.
 struct Crew {
     workers: Vec<Worker>,
     others: Vec<Worker>,
 }
 
-/// Parts the workers of a tree.
+/// Divides the workers of a tree into those of the threads and the others.
 fn parted(alloc: Global, tree: &Tree, all: Vec<Worker>, habits: Habits) -> Result<Crew, AllocError>
     requires { All (λ w. MayCall tree.now w) all.items }
     ensures threads { IfOk result (λ p. All (λ w. MayCall tree.now w) p.workers.items) }
@@ -66,7 +66,7 @@ fn parted(alloc: Global, tree: &Tree, all: Vec<Worker>, habits: Habits) -> Resul
     Ok(Crew { workers, others })
 }
 
-/// How many nodes wait.
+/// Returns how many nodes wait.
 fn waiting(report: &Report) -> u64 {
     let mut waiting = 0u64;
     for held in &report.queues {
@@ -76,7 +76,7 @@ fn waiting(report: &Report) -> u64 {
 }
 
 impl Grown {
-    /// An empty tree with its workers.
+    /// Returns an empty tree with its workers.
     fn of(alloc: Global, tree: Tree, workers: Vec<Worker>, habits: Habits) -> Result<Grown>
         requires { All (λ w. MayCall tree w) workers.items }
     {
@@ -90,38 +90,42 @@ impl Grown {
         })
     }
 
-    /// An empty tree whose workers claim the lowest free slot.
+    /// Makes an empty tree whose workers claim the lowest free slot.
     pub fn lowest(alloc: Global, nodes: u32, habits: Habits) -> Result<Grown> {
         let (tree, workers) = Tree::of(
             alloc,
             Layout::spaced(nodes, habits.workers())?,
-            Fit::Lowest,
+            Fit::FirstFit,
         )?;
         Grown::of(alloc, tree, workers, habits)
     }
 
-    /// An empty tree whose workers claim near by.
+    /// Makes an empty tree whose workers claim by next fit.
     pub fn near(alloc: Global, nodes: u32, habits: Habits) -> Result<Grown> {
-        let (tree, workers) = Tree::of(alloc, Layout::spaced(nodes, habits.workers())?, Fit::Near)?;
+        let (tree, workers) = Tree::of(
+            alloc,
+            Layout::spaced(nodes, habits.workers())?,
+            Fit::NextFit,
+        )?;
         Grown::of(alloc, tree, workers, habits)
     }
 
-    /// Inserts the first so many keys, each worker its share of them in a thread of its own.
+    /// Inserts the first `keys` keys; each worker inserts its share of them in a thread of its own.
     pub fn fill<R: Threads + Sync>(&mut self, rt: &R, alloc: Global, keys: u64) -> Result<()> {
         let workers = mem::replace(&mut self.workers, Vec::new(alloc));
         self.workers = fill_all(rt, &self.tree, workers, self.habits, keys, &self.totals)?;
         Ok(())
     }
 
-    /// Plays a load, each worker that takes part in a thread of its own. An error: the workers are
-    /// lost.
+    /// Plays a load; each worker that takes part plays in a thread of its own. After an error the
+    /// workers are lost.
     pub fn play<R: Threads + Sync>(&mut self, rt: &R, alloc: Global, load: Load) -> Result<()> {
         let workers = mem::replace(&mut self.workers, Vec::new(alloc));
         self.workers = play_all(rt, &self.tree, workers, self.habits, load, &self.totals)?;
         Ok(())
     }
 
-    /// Closes the tree, and prints what was done and what is left. An error where keys or slots do
+    /// Closes the tree, and prints what was done and what is left. Errors: the keys or the slots do
     /// not add up.
     pub fn close(self, rt: &impl Print, name: &str, nodes: u32) -> Result<()> {
         let Grown {

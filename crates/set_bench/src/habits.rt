@@ -2,20 +2,20 @@
 use nm_tree::Worker;
 use std::num::{NonZeroU32, NonZeroU64};
 
-/// How many threads make calls, at most.
+/// The most threads that make calls.
 pub const THREADS: u32 = 4;
 
-/// How the threads use a tree.
+/// How the threads use a tree: which workers they have, and how often they collect.
 #[derive(Clone, Copy)]
 pub struct Habits {
-    /// How far apart the numbers of the threads' workers are: thread i has worker i * `apart`.
+    /// The distance between the numbers of the threads' workers: thread i has worker i * `apart`.
     pub apart: NonZeroU32,
-    /// After so many of its calls a thread moves the epoch on, and frees what is ripe.
+    /// The number of its calls after which a thread advances the epoch and frees the ripe nodes.
     pub tend: NonZeroU64,
 }
 
 impl Habits {
-    /// How many workers a tree needs, so that each thread has one.
+    /// Returns how many workers a tree needs, so that each thread has one.
     pub fn workers(self) -> u32 {
         self.apart
             .get()
@@ -23,12 +23,12 @@ impl Habits {
             .saturating_add(1)
     }
 
-    /// Whether a worker is a thread's.
+    /// Returns whether a worker belongs to a thread.
     pub fn has_thread(self, worker: &Worker) -> bool {
         worker.number() % self.apart == 0
     }
 
-    /// The number of a worker's thread.
+    /// Returns the number of a worker's thread.
     pub fn thread(self, worker: &Worker) -> u32 {
         worker.number() / self.apart
     }

@@ -1,11 +1,11 @@
-//! What the threads of a round do.
+//! The calls that the threads make in a round.
 use anyhow::{Result, ensure};
 use nm_edge::Key;
 use std::sync::atomic::{AtomicU64, Ordering};
 
 /// A part of a round: how many of 100 calls are look-ups, how many threads make calls, how many
-/// each makes, and from how many keys they draw. The other calls are inserts and deletes, about as
-/// many of each.
+/// calls each makes, and from how many keys they draw. The other calls are inserts and deletes,
+/// about as many of each.
 #[derive(Clone, Copy, Debug, PartialEq, Eq)]
 pub struct Load {
     pub lookups: u64,
@@ -22,7 +22,7 @@ pub enum SetCall {
     Delete(Key),
 }
 
-/// What came of a call.
+/// The result of a call.
 #[derive(Clone, Copy, Debug, PartialEq, Eq)]
 pub enum Done {
     Nothing,
@@ -48,7 +48,7 @@ impl Tally {
         }
     }
 
-    /// The same with one call more.
+    /// Returns the same with one more call.
     pub fn with(self, done: Done) -> Tally {
         match done {
             Done::Nothing => self,
@@ -92,7 +92,7 @@ impl Totals {
         self.deleted.fetch_add(tally.deleted, Ordering::SeqCst);
     }
 
-    /// Prints them, and how many keys are left in the set of that name. An error where these do not
+    /// Prints the totals, and how many keys are left in the set of that name. Errors: these do not
     /// add up.
     pub fn tell(self, rt: &impl Print, name: &str, left: u64) -> Result<()> {
         let found = self.found.into_inner();
@@ -109,7 +109,7 @@ impl Totals {
     }
 }
 
-/// The number of that index, in a fixed order that looks like none (the generator SplitMix64).
+/// Returns the number of that index in a fixed pseudo-random sequence (the generator SplitMix64).
 pub fn mixed(index: u64) -> u64 {
     let mut bits = index.wrapping_mul(0x9e37_79b9_7f4a_7c15);
     bits = (bits ^ (bits >> 30)).wrapping_mul(0xbf58_476d_1ce4_e5b9);
@@ -117,13 +117,13 @@ pub fn mixed(index: u64) -> u64 {
     bits ^ (bits >> 31)
 }
 
-/// The key with that number.
+/// Returns the key with that number.
 pub fn key_of(number: u64) -> Option<Key> {
     Key::new(mixed(number) >> 1)
 }
 
 impl Load {
-    /// The call of a thread at that turn.
+    /// Returns the call of a thread at that turn.
     pub fn call(self, thread: u32, turn: u64) -> Option<SetCall> {
         let draw = mixed((u64::from(thread) << 40).wrapping_add(turn));
         let key = key_of((draw >> 20) % self.keys.max(1))?;

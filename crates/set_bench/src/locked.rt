@@ -1,4 +1,4 @@
-//! Loads on a `BTreeSet` behind a `Mutex`.
+//! Loads on a `BTreeSet` in a `Mutex`.
 use crate::load::{Done, Load, SetCall, Tally, Totals, key_of};
 use anyhow::{Context, Result};
 use std::alloc::{AllocError, Global};
@@ -6,14 +6,14 @@ use std::collections::BTreeSet;
 use std::sync::{Mutex, Wait};
 use std::thread::{self, Threads};
 
-/// An ordered set behind its lock, and what was done in it.
+/// An ordered set in a lock, and what was done in it.
 #[derive(Drop)]
 pub struct Locked {
     keys: Mutex<BTreeSet<u64>>,
     totals: Totals,
 }
 
-/// Makes a call, and tells what came of it.
+/// Makes a call, and returns its result.
 fn make(rt: &impl Wait, keys: &Mutex<BTreeSet<u64>>, call: SetCall) -> Result<Done, AllocError> {
     let mut keys = keys.lock(rt);
     let (answer, done) = match call {
@@ -24,7 +24,7 @@ fn make(rt: &impl Wait, keys: &Mutex<BTreeSet<u64>>, call: SetCall) -> Result<Do
     Ok(if answer { done } else { Done::Nothing })
 }
 
-/// One thread's calls.
+/// Makes the calls of one thread.
 fn play(rt: &impl Wait, keys: &Mutex<BTreeSet<u64>>, thread: u32, load: Load) -> Tally {
     let mut tally = Tally::none();
     for turn in 0..load.calls {
@@ -38,7 +38,7 @@ fn play(rt: &impl Wait, keys: &Mutex<BTreeSet<u64>>, thread: u32, load: Load) ->
 }
 
 impl Locked {
-    /// A set of the first so many keys.
+    /// Makes a set of the first `count` keys.
     pub fn filled(alloc: Global, count: u64) -> Result<Locked> {
         let mut keys = BTreeSet::new(alloc);
         let mut tally = Tally::none();
@@ -56,7 +56,7 @@ impl Locked {
         })
     }
 
-    /// Plays a load, each thread its own calls.
+    /// Plays a load; each thread makes its own calls.
     pub fn play<R: Threads + Wait + Sync>(
         &self,
         rt: &R,
@@ -69,7 +69,7 @@ impl Locked {
         Ok(())
     }
 
-    /// Prints what was done and what is left. An error where the keys do not add up.
+    /// Prints what was done and what is left. Errors: the keys do not add up.
     pub fn close<R: Wait + Print>(self, rt: &R, name: &str) -> Result<()> {
         let Locked { keys, totals } = self;
         let left = keys.lock(rt).len() as u64;

@@ -1,15 +1,21 @@
-//! Times look-ups and mixed calls on two trees, one that claims the lowest free slot and one that
-//! claims near by, beside those on a `BTreeSet` behind a `Mutex`; and shows at the end that what
-//! each set was told to keep is there.
+//! Measures look-ups and mixed calls on three sets: a tree that claims the lowest free slot, a tree
+//! that claims by next fit, and a `BTreeSet` in a `Mutex`. At the end it checks that each set has
+//! as many keys as its inserts and deletes leave.
 //!
-//! The arguments are how many rounds there are, how many keys the sets have at first, how many
-//! nodes the trees have room for, how far apart the numbers of the threads' workers are (1 to 21),
-//! after how many of its calls a thread moves the epoch on and frees what is ripe (at least 1), and
-//! then the parts of a round, each by how many of 100 calls are look-ups, how many threads there
-//! are (at most 4), how many calls each makes, and how many it makes on the tree that claims the
-//! lowest slot, which may be fewer. Keys are drawn from twice as many as the sets have at first, so
-//! that about half of them are found. Standard output has what was found and changed and what is
-//! left, standard error the times in microseconds.
+//! The arguments are these numbers, in this order:
+//! - the number of rounds;
+//! - the number of keys in the sets at first;
+//! - the number of nodes for which the trees have room;
+//! - the distance between the numbers of the threads' workers (1 to 21);
+//! - the number of its calls after which a thread advances the epoch and frees the ripe nodes (at
+//!   least 1);
+//! - four numbers for each part of a round: how many of 100 calls are look-ups; how many threads
+//!   there are (at most 4); how many calls each makes; and how many calls each makes on the tree
+//!   that claims the lowest slot, which may be fewer.
+//!
+//! Keys are drawn from twice as many as the sets have at first, so that about half of them are
+//! found. Standard output has what was found and changed and what is left, standard error has the
+//! times in microseconds.
 #![tactic(auto)]
 
 mod grown;
@@ -38,7 +44,7 @@ struct Part {
     lowest_calls: u64,
 }
 
-/// The three sets that race.
+/// The three sets that are compared.
 #[derive(Drop)]
 struct Sets {
     lowest: Grown,
@@ -46,7 +52,7 @@ struct Sets {
     locked: Locked,
 }
 
-/// Prints how long a load took with a set of that name.
+/// Prints how long a load took on the set of that name.
 fn tell(rt: &impl Eprint, name: &str, load: Load, time: Duration) -> Result<()> {
     let Load {
         lookups,
@@ -59,7 +65,7 @@ fn tell(rt: &impl Eprint, name: &str, load: Load, time: Duration) -> Result<()> 
     Ok(())
 }
 
-/// Times a load on a tree of that name.
+/// Measures a load on the tree of that name.
 fn time_tree<R: Threads + Sync + AllocGlobal + Clock + Eprint>(
     rt: &R,
     name: &str,
@@ -71,7 +77,7 @@ fn time_tree<R: Threads + Sync + AllocGlobal + Clock + Eprint>(
     tell(rt, name, load, start.elapsed(rt)?)
 }
 
-/// Times a load on the set behind a lock.
+/// Measures a load on the set in a lock.
 fn time_locked<R: Threads + Wait + Sync + AllocGlobal + Clock + Eprint>(
     rt: &R,
     set: &Locked,
@@ -82,7 +88,7 @@ fn time_locked<R: Threads + Wait + Sync + AllocGlobal + Clock + Eprint>(
     tell(rt, "locked", load, start.elapsed(rt)?)
 }
 
-/// A round: each part on each set.
+/// Plays a round: each part on each set.
 fn race<R: Threads + Wait + Sync + AllocGlobal + Clock + Eprint>(
     rt: &R,
     sets: &mut Sets,
@@ -100,7 +106,7 @@ fn race<R: Threads + Wait + Sync + AllocGlobal + Clock + Eprint>(
     Ok(())
 }
 
-/// The three sets, filled.
+/// Makes the three sets, and fills them.
 fn open<R: Threads + Sync>(rt: &R, alloc: Global, sizes: Sizes, habits: Habits) -> Result<Sets> {
     let mut lowest = Grown::lowest(alloc, sizes.nodes, habits)?;
     lowest.fill(rt, alloc, sizes.keys)?;
@@ -114,7 +120,7 @@ fn open<R: Threads + Sync>(rt: &R, alloc: Global, sizes: Sizes, habits: Habits) 
     })
 }
 
-/// Opens the three sets, lets them race, and closes them.
+/// Opens the three sets, measures them, and closes them.
 fn compare<R: Threads + Wait + Sync + AllocGlobal + Clock + Print + Eprint>(
     rt: &R,
     sizes: Sizes,
@@ -131,7 +137,7 @@ fn compare<R: Threads + Wait + Sync + AllocGlobal + Clock + Print + Eprint>(
     sets.locked.close(rt, "locked")
 }
 
-/// The arguments as numbers.
+/// Returns the arguments as numbers.
 fn numbers(rt: &HostRuntime) -> Result<Vec<u64>> {
     let mut numbers = Vec::new(rt.alloc());
     for text in env::args(rt)?.skip(1) {
@@ -140,7 +146,7 @@ fn numbers(rt: &HostRuntime) -> Result<Vec<u64>> {
     Ok(numbers)
 }
 
-/// The habits that two numbers name.
+/// Returns the habits that two numbers name.
 fn habits_of(apart: u64, tend: u64) -> Result<Habits> {
     let apart = u32::try_from(apart).context("a distance of workers")?;
     Ok(Habits {
@@ -149,7 +155,7 @@ fn habits_of(apart: u64, tend: u64) -> Result<Habits> {
     })
 }
 
-/// The part that four numbers name.
+/// Returns the part that four numbers name.
 fn part_of(lookups: u64, threads: u64, calls: u64, lowest_calls: u64, keys: u64) -> Result<Part> {
     let load = Load {
         lookups,
@@ -161,7 +167,7 @@ fn part_of(lookups: u64, threads: u64, calls: u64, lowest_calls: u64, keys: u64)
     Ok(Part { load, lowest_calls })
 }
 
-/// The parts that numbers name, four for each.
+/// Returns the parts that these numbers name, four for each.
 fn parts_of(alloc: Global, numbers: &[u64], keys: u64) -> Result<Vec<Part>> {
     let mut parts = Vec::new(alloc);
     for four in numbers.chunks_exact(4) {

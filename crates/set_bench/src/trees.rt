@@ -10,10 +10,10 @@ use std::thread::{self, Threads};
 
 const TRIES: u32 = 100;
 
-/// Into so many shares the keys are parted that the sets have at first.
+/// The number of shares into which the first keys are divided.
 const SHARES: u64 = THREADS as u64;
 
-/// Inserts a worker's share of the first so many keys.
+/// Inserts a worker's share of the first `keys` keys.
 fn fill(tree: &Tree, mut worker: Worker, habits: Habits, keys: u64, totals: &Totals) -> Worker
     requires { MayCall tree.now worker }
     ensures { MayCall tree.now result }
@@ -33,7 +33,7 @@ fn fill(tree: &Tree, mut worker: Worker, habits: Habits, keys: u64, totals: &Tot
     worker
 }
 
-/// Inserts the first so many keys, each worker its share of them in a thread of its own.
+/// Inserts the first `keys` keys; each worker inserts its share of them in a thread of its own.
 pub fn fill_all<R: Threads + Sync>(
     rt: &R,
     tree: &Tree,
@@ -52,7 +52,7 @@ pub fn fill_all<R: Threads + Sync>(
     thread::map_vec(rt, workers, &one)
 }
 
-/// Moves the epoch on, if no worker holds it back, and frees what is ripe.
+/// Advances the epoch, if no worker holds it back, and frees the ripe nodes.
 fn tend(tree: &Tree, worker: &mut Worker)
     requires { MayCall tree.now worker.old }
     ensures { MayCall tree.now worker.new }
@@ -61,7 +61,7 @@ fn tend(tree: &Tree, worker: &mut Worker)
     let _ = tree.collect(worker);
 }
 
-/// Makes a call, or finishes a delete that was left unfinished, and tells what came of it.
+/// Makes a call, or finishes a delete that was left unfinished, and returns the result.
 fn make(tree: &Tree, worker: &mut Worker, call: SetCall) -> Done
     requires { MayCall tree.now worker.old }
     ensures { MayCall tree.now worker.new }
@@ -93,7 +93,7 @@ fn finish(tree: &Tree, worker: &mut Worker) -> Done
     Done::Nothing
 }
 
-/// One thread's calls.
+/// Makes the calls of one thread.
 fn play(tree: &Tree, worker: &mut Worker, habits: Habits, load: Load) -> Tally
     requires { MayCall tree.now worker.old }
     ensures { MayCall tree.now worker.new }
@@ -111,7 +111,7 @@ fn play(tree: &Tree, worker: &mut Worker, habits: Habits, load: Load) -> Tally
     tally
 }
 
-/// One worker's calls, none where the load has fewer threads.
+/// Makes the calls of one worker; none if the load has fewer threads.
 fn take_part(tree: &Tree, mut worker: Worker, habits: Habits, load: Load, totals: &Totals) -> Worker
     requires { MayCall tree.now worker }
     ensures { MayCall tree.now result }
@@ -122,7 +122,7 @@ fn take_part(tree: &Tree, mut worker: Worker, habits: Habits, load: Load, totals
     worker
 }
 
-/// The calls of all threads, each with a worker of its own.
+/// Makes the calls of all threads, each with a worker of its own.
 pub fn play_all<R: Threads + Sync>(
     rt: &R,
     tree: &Tree,

@@ -23,7 +23,7 @@ impl Model for Note {
 
     ghost view = { λ n. record { table = n.seat.table_id; past = n.seat.me.0.past } };
 
-    ghost invariant = { λ n. (n.seat.me.0.spent ≡ true) × (n.seat.me.1 ≡ []) };
+    ghost invariant = { λ n. (n.seat.me.0.resigned ≡ true) × (n.seat.me.1 ≡ []) };
 }
 
 /// A view stays as it is, and one that stands for nobody has seen what it has.

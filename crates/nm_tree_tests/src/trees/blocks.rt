@@ -3,7 +3,8 @@ ghost use Rattle.nm_tree.specs.Calls.{MayCall};
 
 use super::*;
 
-/// Inserts and deletes a key, moves the epoch on twice and collects: whether each call did so.
+/// Inserts and deletes a key, advances the epoch twice and collects; returns whether the insert and
+/// the delete returned true, and the collection freed two nodes.
 fn round(tree: &Tree, worker: &mut Worker, key: Key) -> bool
     requires { MayCall tree.now worker.old }
     ensures { MayCall tree.now worker.new }
@@ -16,8 +17,9 @@ fn round(tree: &Tree, worker: &mut Worker, key: Key) -> bool
     inserted && deleted && collected.freed == 2
 }
 
-/// The first delete makes room for 128 entries in four blocks, and a later one needs a fifth, since
-/// a block is empty only once all of its places were used; from then on no block more is taken.
+/// The first delete makes room for 128 entries in four blocks. A later one needs a fifth block,
+/// because a block is empty only after all of its places were used. From then on no other block is
+/// taken.
 #[test]
 fn blocks_are_used_again(rt: HostRuntime) -> Result<(), Fail> {
     let (tree, mut first, _second) = two_of(&rt, 16)?;
@@ -32,8 +34,8 @@ fn blocks_are_used_again(rt: HostRuntime) -> Result<(), Fail> {
     Ok(())
 }
 
-/// What waits for a worker that stays pinned takes a block for each 32 nodes. Behind its leave a
-/// collection gives back all but those that 256 nodes need.
+/// The nodes that wait because of a worker that stays pinned take a block for each 32 nodes. After
+/// its unpin, a collection gives back all blocks except those that 256 nodes need.
 #[test]
 fn blocks_go_back_behind_a_stall(rt: HostRuntime) -> Result<(), Fail> {
     let (tree, mut first, mut second) = two_of(&rt, 4096)?;

@@ -1,4 +1,4 @@
-//! Many workers in threads of their own, and what the tree tells at its end.
+//! Many workers in threads of their own, and the report of the tree at its close.
 ghost use Rattle.std.specs.Prelude.{◌≡◌, ◌+◌, ◌-◌, All, IfOk};
 ghost use Rattle.nm_steps.specs.Steps.{IsOf};
 ghost use Rattle.nm_tree.specs.Closing.{AreAllOf};
@@ -13,14 +13,14 @@ use std::thread::{Threads, map_vec};
 
 const NODES: u32 = 2048;
 
-/// A worker at the end of its rounds, and how many true answers it had.
+/// A worker after its rounds, and how often its calls returned true.
 #[derive(Drop)]
 pub(super) struct Played {
     pub(super) worker: Worker,
     pub(super) score: Score,
 }
 
-/// Each worker's rounds, in a thread of its own.
+/// Plays the rounds of each worker, in a thread of its own.
 fn play_all<R: Threads + Sync>(
     rt: &R,
     tree: &Tree,
@@ -44,7 +44,7 @@ fn play_all<R: Threads + Sync>(
     )
 }
 
-/// The worker with no delete pending, and the score of both.
+/// Finishes the pending delete of a worker; returns the worker and the sum of both scores.
 fn settled(tree: &Tree, played: Played, so_far: Score) -> (Worker, Score)
     requires { MayCall tree.now played.worker }
     ensures { IsOf tree.now result.0.pass }
@@ -57,7 +57,7 @@ fn settled(tree: &Tree, played: Played, so_far: Score) -> (Worker, Score)
     (worker, Score { inserted, deleted })
 }
 
-/// All workers, and how many true answers they had.
+/// Returns all workers, and how often their calls returned true.
 #[tactic(auto, using(nm_tree::proofs::Closed::all_and))]
 pub(super) fn gathered(
     alloc: Global,
@@ -77,7 +77,7 @@ pub(super) fn gathered(
     Ok((workers, sum))
 }
 
-/// How many nodes wait in all queues of a report.
+/// Returns how many nodes wait in all queues of a report.
 pub(super) fn waiting(report: &Report) -> u32 {
     report
         .queues
@@ -85,7 +85,7 @@ pub(super) fn waiting(report: &Report) -> u32 {
         .fold(0u32, |sum, held| sum.saturating_add(held.queue.len()))
 }
 
-/// What a tree tells at its end, all of whose workers are given.
+/// Returns the report of a tree that is closed with all its workers.
 pub(super) fn report_of(rt: &impl Abort, tree: Tree, workers: Vec<Worker>) -> Report
     requires { AreAllOf tree workers.items }
     ensures sum { result.free + result.reached + waiting_in result.queues.items
@@ -97,9 +97,9 @@ pub(super) fn report_of(rt: &impl Abort, tree: Tree, workers: Vec<Worker>) -> Re
     report
 }
 
-/// So many workers insert and delete the same keys, move the epoch on and collect, each in a thread
-/// of its own: the report has as many keys as their true answers add up to, and each slot is free,
-/// reached or waits.
+/// Several workers insert and delete the same keys, advance the epoch and collect, each in a thread
+/// of its own. The report has as many keys as follow from the calls that returned true, and each
+/// slot is free, is reached or waits.
 fn adds_up<R: Threads + Sync + Abort + AllocGlobal>(
     rt: &R,
     workers: u32,

@@ -7,7 +7,7 @@ use super::*;
 use nm_tree::{CloseReason, Report, ResignReason};
 use std::alloc::{AllocError, Global};
 
-/// The slots, births and labels of the first two nodes that wait, and how many wait.
+/// Returns how many nodes wait, and the slots, generations (births) and labels of the first two.
 pub(super) fn waiting(report: &mut Report, origin: usize) -> (u32, [(u32, u64, u64); 2]) {
     let mut found = [(0, 0, 0); 2];
     let Some(held) = report.queues.get_mut(origin) else {
@@ -22,7 +22,7 @@ pub(super) fn waiting(report: &mut Report, origin: usize) -> (u32, [(u32, u64, u
     (count, found)
 }
 
-/// Worker 1 inserts and deletes 5, worker 0 inserts and deletes 6.
+/// Lets worker 1 insert and delete 5, and worker 0 insert and delete 6.
 pub(super) fn each_deletes_one(
     rt: &impl Abort,
     tree: &Tree,
@@ -43,7 +43,7 @@ pub(super) fn each_deletes_one(
     play(rt, tree, first, second, 4, &calls);
 }
 
-/// The heir, where the leaver may resign.
+/// Returns the heir, if the leaver may resign.
 fn heir_of(rt: &impl Abort, tree: &Tree, heir: Worker, leaver: Worker) -> Worker
     requires heir { IsOf tree.now heir.pass }
     requires leaver { IsOf tree.now leaver.pass }
@@ -55,7 +55,7 @@ fn heir_of(rt: &impl Abort, tree: &Tree, heir: Worker, leaver: Worker) -> Worker
     both
 }
 
-/// Both workers.
+/// Returns a list of both workers.
 pub(super) fn both(alloc: Global, first: Worker, second: Worker) -> Result<Vec<Worker>, AllocError>
     ensures { IfOk result (λ v. v.items ≡ first ∷ second ∷ []) }
 {
@@ -65,7 +65,7 @@ pub(super) fn both(alloc: Global, first: Worker, second: Worker) -> Result<Vec<W
     Ok(workers)
 }
 
-/// One worker alone.
+/// Returns a list of one worker.
 fn alone(alloc: Global, worker: Worker) -> Result<Vec<Worker>, AllocError>
     ensures { IfOk result (λ v. v.items ≡ worker ∷ []) }
 {
@@ -74,7 +74,7 @@ fn alone(alloc: Global, worker: Worker) -> Result<Vec<Worker>, AllocError>
     Ok(workers)
 }
 
-/// The report of a tree whose workers are all given.
+/// Returns the report of a tree that is closed with all its workers.
 pub(super) fn report_of(rt: &impl Abort, tree: Tree, workers: Vec<Worker>) -> Report
     requires { AreAllOf tree workers.items }
 {
@@ -84,7 +84,7 @@ pub(super) fn report_of(rt: &impl Abort, tree: Tree, workers: Vec<Worker>) -> Re
     report
 }
 
-/// A call of one worker, whose answer is compared.
+/// Makes a call of one worker, and compares the answer.
 pub(super) fn step(rt: &impl Abort, tree: &Tree, worker: &mut Worker, call: Call, want: Answer)
     requires own { IsOf tree.now worker.old.pass }
     ensures own { IsOf tree.now worker.new.pass }
@@ -93,7 +93,7 @@ pub(super) fn step(rt: &impl Abort, tree: &Tree, worker: &mut Worker, call: Call
     assert_eq!(rt; answer, want);
 }
 
-/// Two moves of the epoch with a collection after each, and an insert.
+/// Advances the epoch twice, with a collection after each advance, and inserts a key.
 fn free_all(rt: &impl Abort, tree: &Tree, worker: &mut Worker)
     requires own { IsOf tree.now worker.old.pass }
     ensures own { IsOf tree.now worker.new.pass }

@@ -6,8 +6,8 @@ use std::thread::{Threads, join};
 
 const TRIES: u32 = 100;
 
-/// Inserts every second key below 200 from a first one on: the worker, and how many of them were
-/// not in the set.
+/// Inserts every second key below 200 from a first one on; returns the worker, and how many of the
+/// keys were absent.
 fn fill(tree: &Tree, mut worker: Worker, first: u64) -> (Worker, u64)
     requires { MayCall tree.now worker }
     ensures { MayCall tree.now result.0 }
@@ -24,7 +24,7 @@ fn fill(tree: &Tree, mut worker: Worker, first: u64) -> (Worker, u64)
     (worker, inserted)
 }
 
-/// One thread inserts the even keys and another the odd ones, on one tree.
+/// Inserts the even keys in one thread and the odd ones in another, on one tree.
 pub(super) fn fill_both<R: Threads + Sync>(
     rt: &R,
     tree: &Tree,

@@ -6,11 +6,11 @@ use super::endings::{both, each_deletes_one, report_of, step, waiting};
 use super::example::fill_both;
 use super::*;
 
-/// A tree and its two workers.
+/// Makes a tree and its two workers.
 fn near_of(rt: &(impl Abort + AllocGlobal), nodes: u32) -> Result<(Tree, Worker, Worker), Fail>
     ensures { IfOk result (λ r. MayCall r.0 r.1 × MayCall r.0 r.2) }
 {
-    let (tree, mut workers) = Tree::of(rt.alloc(), Layout::new(nodes, 2)?, Fit::Near)?;
+    let (tree, mut workers) = Tree::of(rt.alloc(), Layout::new(nodes, 2)?, Fit::NextFit)?;
     let Some(second) = workers.pop() else {
         unreachable!()
     };
@@ -20,7 +20,7 @@ fn near_of(rt: &(impl Abort + AllocGlobal), nodes: u32) -> Result<(Tree, Worker,
     Ok((tree, first, second))
 }
 
-/// The epoch moved on to this one.
+/// Returns the answer that the epoch was advanced to this one.
 fn moved(epoch: u64) -> Answer {
     Answer::Moved(Advance::Moved { epoch })
 }
@@ -51,7 +51,7 @@ fn each_worker_looks_from_a_cursor_of_its_own(rt: HostRuntime) -> Result<(), Fai
     Ok(())
 }
 
-/// Worker 1 deletes, frees both nodes, and takes their slots again, in the row from 65 on.
+/// Worker 1 deletes, frees both nodes, and claims their slots again, in the row from 65 on.
 #[test]
 fn slots_that_were_freed_are_taken_first(rt: HostRuntime) -> Result<(), Fail> {
     let (tree, first, mut second) = near_of(&rt, 200)?;

@@ -1,9 +1,9 @@
-//! Keys in their order: the next one, the one before, and the least and the greatest taken.
+//! Keys in their order: the next one, the previous one, and pops of the least and the greatest.
 ghost use Rattle.nm_steps.specs.Steps.{IsOf};
 
 use super::*;
 
-/// A call that finds a key by the order.
+/// A call that finds a key in the order of keys.
 #[derive(Clone, Copy, Debug)]
 enum Seek {
     Next(u64),
@@ -19,7 +19,7 @@ fn key_of(rt: &impl Abort, number: u64) -> Key {
     key
 }
 
-/// What such a call of a worker that is not held answers.
+/// Makes such a call, by a worker that its caller has not pinned, and returns its answer.
 fn found_by(
     rt: &impl Abort,
     tree: &Tree,
@@ -41,7 +41,7 @@ fn found_by(
     }
 }
 
-/// Makes these calls one behind the other, and compares the number that each has found.
+/// Makes these calls one after the other, and compares the number that each has found.
 fn seek_each(
     rt: &impl Abort,
     tree: &Tree,
@@ -109,7 +109,7 @@ fn insert_each(rt: &impl Abort, tree: &Tree, worker: &mut Worker, keys: u64)
     }
 }
 
-/// Takes the greatest key again and again, until there is none.
+/// Pops the greatest key repeatedly, until there is none.
 fn pop_each(rt: &impl Abort, tree: &Tree, worker: &mut Worker, keys: u64)
     requires own { IsOf tree.now worker.old.pass }
     ensures own { IsOf tree.now worker.new.pass }
@@ -123,7 +123,11 @@ fn pop_each(rt: &impl Abort, tree: &Tree, worker: &mut Worker, keys: u64)
 
 #[test]
 fn a_radix_tree_is_emptied_from_its_greatest_key_on(rt: HostRuntime) -> Result<(), Fail> {
-    let (tree, mut workers) = Tree::of(rt.alloc(), Layout::spaced(4096, 1)?.in_radix(), Fit::Near)?;
+    let (tree, mut workers) = Tree::of(
+        rt.alloc(),
+        Layout::spaced(4096, 1)?.in_radix(),
+        Fit::NextFit,
+    )?;
     let Some(mut worker) = workers.pop() else {
         unreachable!()
     };

@@ -6,7 +6,7 @@ ghost use Rattle.nm_tree.specs.Calls.{MayCall};
 use super::threads::by_two;
 use super::*;
 
-/// A tree and its three workers.
+/// Makes a tree and its three workers.
 fn three_of(
     rt: &(impl Abort + AllocGlobal),
     nodes: u32,
@@ -26,7 +26,8 @@ fn three_of(
     Ok((tree, first, second, third))
 }
 
-/// Moves the epoch on twice, and frees what is ripe in the queues of both: how many nodes.
+/// Advances the epoch twice, and frees the ripe nodes in the queues of both; returns how many
+/// nodes.
 fn drain(tree: &Tree, first: &mut Worker, second: &mut Worker) -> u64
     requires first { IsOf tree.now first.old.pass }
     requires second { IsOf tree.now second.old.pass }
@@ -40,8 +41,8 @@ fn drain(tree: &Tree, first: &mut Worker, second: &mut Worker) -> u64
     ours.saturating_add(theirs)
 }
 
-/// What two workers cut off while a third is pinned waits until it has left, so that at last no
-/// slot is free for a new node; and then all of it is freed.
+/// The nodes that two workers cut off while a third is pinned wait until it has unpinned, so that
+/// at last no slot is free for a new node. Then all of them are freed.
 #[test]
 fn a_pinned_reader_holds_all_back(rt: HostRuntime) -> Result<(), Fail> {
     let (tree, first, second, mut reader) = three_of(&rt, 64)?;

@@ -1,5 +1,5 @@
-//! Workers that stop: while pinned, while a delete is pending, and one that only pins beside three
-//! that change the set.
+//! Workers that stop: one while it is pinned, one while a delete is pending, and one that only pins
+//! beside three that change the set.
 ghost use Rattle.std.specs.Prelude.{All, IfOk};
 ghost use Rattle.nm_steps.specs.Steps.{IsOf};
 ghost use Rattle.nm_tree.specs.Calls.{MayCall};
@@ -11,8 +11,8 @@ use nm_tree::Behind;
 use std::alloc::AllocError;
 use std::thread::{Threads, map_vec};
 
-/// Worker 1 has stopped at epoch 0, and no slot is free. Worker 0 moves the epoch on by one and no
-/// further, frees nothing, finds no slot, and is told who is behind.
+/// Worker 1 has stopped at epoch 0, and no slot is free. Worker 0 advances the epoch by one and no
+/// further, frees nothing, finds no slot, and learns which worker holds the epoch back.
 fn is_held_back(rt: &impl Abort, tree: &Tree, first: &mut Worker, second: &mut Worker)
     requires first { IsOf tree.now first.old.pass }
     requires second { IsOf tree.now second.old.pass }
@@ -35,7 +35,7 @@ fn is_held_back(rt: &impl Abort, tree: &Tree, first: &mut Worker, second: &mut W
     assert_eq!(rt; tree.behind(first), Behind { epoch: 1, mask: 2 });
 }
 
-/// Worker 1 has gone on. Worker 0 frees the two nodes that waited, and has their slots.
+/// Worker 1 has gone on. Worker 0 frees the two nodes that waited, and claims their slots.
 fn recovers(rt: &impl Abort, tree: &Tree, first: &mut Worker, second: &mut Worker)
     requires first { IsOf tree.now first.old.pass }
     requires second { IsOf tree.now second.old.pass }
@@ -69,8 +69,8 @@ fn a_worker_stops_while_pinned(rt: HostRuntime) -> Result<(), Fail> {
     Ok(())
 }
 
-/// Worker 1 stops once it has flagged its leaf. The other's insert helps: it cuts the leaf off, and
-/// links its own behind it.
+/// Worker 1 stops after it has flagged its leaf. The insert of worker 0 helps: it cuts that leaf
+/// off, and then links its own.
 #[test]
 fn a_worker_stops_while_pending(rt: HostRuntime) -> Result<(), Fail> {
     let (tree, mut first, mut second) = two_of(&rt, 9)?;
@@ -92,7 +92,7 @@ fn a_worker_stops_while_pending(rt: HostRuntime) -> Result<(), Fail> {
     Ok(())
 }
 
-/// Pins and leaves, again and again.
+/// Pins and unpins, many times.
 fn pins(tree: &Tree, mut worker: Worker) -> Worker
     requires { MayCall tree.now worker }
     ensures { MayCall tree.now result }
@@ -105,7 +105,7 @@ fn pins(tree: &Tree, mut worker: Worker) -> Worker
     worker
 }
 
-/// The rounds of a worker, of which the last one only pins.
+/// Plays the rounds of a worker; the last worker only pins.
 fn rounds_of(tree: &Tree, worker: Worker) -> Played
     requires { MayCall tree.now worker }
     ensures { MayCall tree.now result.worker }
@@ -121,7 +121,7 @@ fn rounds_of(tree: &Tree, worker: Worker) -> Played
     Played { worker, score }
 }
 
-/// Each worker's rounds, in a thread of its own.
+/// Plays the rounds of each worker, in a thread of its own.
 fn play_each<R: Threads + Sync>(
     rt: &R,
     tree: &Tree,
@@ -140,8 +140,8 @@ fn play_each<R: Threads + Sync>(
     )
 }
 
-/// Three workers insert, delete, advance and collect on 64 nodes beside one that only pins: each
-/// slot above 5 is free, reached or waits at the end.
+/// Three workers insert, delete, advance and collect on 64 nodes beside one that only pins. At the
+/// end each slot above 5 is free, is reached or waits.
 fn adds_up<R: Threads + Sync + Abort + AllocGlobal>(rt: &R) -> Result<(), Fail> {
     let (tree, workers) = Tree::new(rt.alloc(), 64, 4)?;
     let played = play_each(rt, &tree, workers)?;

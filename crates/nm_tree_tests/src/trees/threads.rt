@@ -4,22 +4,22 @@ ghost use Rattle.nm_tree.specs.Calls.{MayCall};
 use super::*;
 use std::thread::{Threads, join};
 
-/// How many rounds each of two or four workers plays.
+/// The number of rounds that each of two or four workers plays.
 pub(super) const ROUNDS: u32 = 10_000;
 
 const KEYS: u32 = 10;
 
-/// How many tries each call has.
+/// The number of tries of each call.
 pub(super) const TRIES: u32 = 100;
 
-/// How many true answers a worker had.
+/// How often the calls of a worker returned true.
 #[derive(Clone, Copy, Debug, Default, PartialEq, Eq)]
 pub(super) struct Score {
     pub(super) inserted: u32,
     pub(super) deleted: u32,
 }
 
-/// One more, where the call was answered true.
+/// Returns the count, with one more if the call returned true.
 fn counted(count: u32, answer: Result<bool, CallFault>) -> u32 {
     if answer == Ok(true) {
         count.saturating_add(1)
@@ -28,7 +28,8 @@ fn counted(count: u32, answer: Result<bool, CallFault>) -> u32 {
     }
 }
 
-/// Inserts a key and deletes the next one, ends what is pending, moves the epoch on and collects.
+/// Inserts a key and deletes the next one, finishes the pending delete, advances the epoch and
+/// collects.
 fn round(tree: &Tree, worker: &mut Worker, key: Key, next: Key, so_far: Score) -> Score
     requires { MayCall tree.now worker.old }
     ensures { MayCall tree.now worker.new }
@@ -41,7 +42,7 @@ fn round(tree: &Tree, worker: &mut Worker, key: Key, next: Key, so_far: Score) -
     Score { inserted, deleted }
 }
 
-/// So many rounds over ten keys.
+/// Plays `count` rounds over ten keys.
 pub(super) fn rounds(tree: &Tree, mut worker: Worker, from: u32, count: u32) -> (Worker, Score)
     requires { MayCall tree.now worker }
     ensures { MayCall tree.now result.0 }
@@ -82,7 +83,7 @@ pub(super) fn by_two<R: Threads + Sync>(
     )
 }
 
-/// How many of the ten keys are in the set.
+/// Returns how many of the ten keys are in the set.
 fn there(tree: &Tree, worker: &mut Worker) -> u32
     requires { MayCall tree.now worker.old }
     ensures { MayCall tree.now worker.new }
@@ -96,8 +97,8 @@ fn there(tree: &Tree, worker: &mut Worker) -> u32
     found
 }
 
-/// Two workers insert and delete the same ten keys: their true answers add up to what is in the
-/// tree.
+/// Two workers insert and delete the same ten keys: the calls that returned true add up to the keys
+/// that are in the tree.
 #[test]
 fn true_answers_add_up(rt: HostRuntime) -> Result<(), Fail> {
     let (tree, first, second) = two_of(&rt, 256)?;

@@ -1,4 +1,4 @@
-use Rattle.nm_busy.proofs.HinderedCalls.{unfinished_deletes_were_lost as flagged, unfinished_finishes_were_lost as finish}
+use Rattle.nm_busy.proofs.InterferedCalls.{unfinished_deletes_were_lost as flagged, unfinished_finishes_were_lost as finish}
 use Rattle.nm_busy.proofs.deletes.unfinished_deletes_were_lost.Goals as goal
 
 pub returns-clause-flagged : goal.returns-clause-flagged

@@ -26,7 +26,7 @@ returns-clause-apart g c start early soon none =
     let other : x.view.number ≢ z.view.number = λ same. c.requires.others (sym number ∙ (same ∙ number')) in
     taken_apart c.args.tree.now.layout start w x y z last.view.past c.in_ok-first.field-0 c.in_ok-second.field-0 other (ap (λ (p : PassView). p.view.layout) did.one ∙ c.requires.one.own.layout) (ap (λ (p : PassView). p.view.layout) did.two ∙ c.requires.two.own.layout)
     took takes early soon (goes_on_through last.view.past mid.view.past x.view.past c.tell_worker-2.ensures.past.goes_on c.tell_worker.ensures.heard.goes_on) c.tell_worker-2.ensures.heard.goes_on
-    (subst (λ (l : Layout). HasHistory l last.view.past) c.tell_worker-2.ensures.own.layout c.is_of_a_run.ensures.turns.plain_set) none
+    (subst (λ (l : Layout). HasHistory l last.view.past) c.tell_worker-2.ensures.own.layout c.know_run.ensures.turns.plain_set) none
 
 pub returns-clause-passed : goal.returns-clause-passed
 returns-clause-passed g c start early soon k is stands =

@@ -11,7 +11,7 @@ use Rattle.nm_callers.proofs.members.add_then_find.Goals as goal
 pub returns-in-Ok-true-clause-found : goal.returns-in-Ok-true-clause-found
 returns-in-Ok-true-clause-found c none =
     let b = c.args.member.now.tree in
-    let h = c.args.habit.now in
+    let h = c.args.options.now in
     let k = c.args.key in
     let w = c.args.member.now.worker in
     let x = c.insert.new.self.worker in
@@ -21,10 +21,10 @@ returns-in-Ok-true-clause-found c none =
 
 pub returns-in-Ok-true-clause-past : goal.returns-in-Ok-true-clause-past
 returns-in-Ok-true-clause-past c =
-    seen_both Insert c.args.member.now.tree c.insert.new.self.tree c.args.habit.now c.args.key c.args.member.now.worker c.insert.new.self.worker c.contains.new.self.worker (of_insert c.insert.result) c.contains.result c.insert.ensures.says c.contains.ensures.says
+    seen_both Insert c.args.member.now.tree c.insert.new.self.tree c.args.options.now c.args.key c.args.member.now.worker c.insert.new.self.worker c.contains.new.self.worker (of_insert c.insert.result) c.contains.result c.insert.ensures.says c.contains.ensures.says
 
 pub returns-in_default-clause-past : goal.returns-in_default-clause-past
-returns-in_default-clause-past c = seen_behind Insert c.args.member.now.tree c.args.habit.now c.args.key c.args.member.now.worker c.insert.new.self.worker (of_insert c.insert.result) c.insert.ensures.says
+returns-in_default-clause-past c = seen_behind Insert c.args.member.now.tree c.args.options.now c.args.key c.args.member.now.worker c.insert.new.self.worker (of_insert c.insert.result) c.insert.ensures.says
 
 pub returns-in_default-2-clause-past : goal.returns-in_default-2-clause-past
-returns-in_default-2-clause-past c = seen_behind Insert c.args.member.now.tree c.args.habit.now c.args.key c.args.member.now.worker c.insert.new.self.worker (of_insert c.insert.result) c.insert.ensures.says
+returns-in_default-2-clause-past c = seen_behind Insert c.args.member.now.tree c.args.options.now c.args.key c.args.member.now.worker c.insert.new.self.worker (of_insert c.insert.result) c.insert.ensures.says

@@ -8,7 +8,7 @@ use Rattle.nm_callers.proofs.members.put_again.Goals as goal
 pub returns-in-Ok-true-clause-again : goal.returns-in-Ok-true-clause-again
 returns-in-Ok-true-clause-again c =
     let b = c.args.member.now.tree in
-    let h = c.args.habit.now in
+    let h = c.args.options.now in
     let k = c.args.key in
     let w = c.args.member.now.worker in
     let y = c.insert.new.self.worker in

@@ -12,6 +12,6 @@ returns-clause-rested c =
     let z = c.hear.new.self.worker.pass in
     let log : z.view.log ≡ [] = ap (λ (p : PassView). p.view.log) c.hear.ensures.same ∙ ap (λ (v : View). v.log) c.requires.new.2.new.1 in
     let number : z.view.number ≡ w.view.number = ap (λ (p : PassView). p.view.number) c.hear.ensures.same in
-    let none = subst (λ n. part_of n z.view.past ≡ []) number (c.is_of_a_run.ensures.seen.is_part ∙ log) in
+    let none = subst (λ n. part_of n z.view.past ≡ []) number (c.know_run.ensures.seen.is_part ∙ log) in
     no_turns w.view.number z.view.past c.args.member.now.worker.pass.view.past
     (subst (Extends z.view.past) (ap (λ n. n.past) c.note-note.ensures.note) c.hear.ensures.heard) none

@@ -16,7 +16,7 @@ pub returns-clause-found : goal.returns-clause-found
 returns-clause-found c none =
     let b = c.args.member.tree in
     let d = c.hear.new.self.tree in
-    let h = c.args.habit.now in
+    let h = c.args.options.now in
     let k = c.args.key in
     let w = c.args.member.worker in
     let x = c.insert.new.self.worker in
@@ -28,5 +28,5 @@ returns-clause-found c none =
     let told : HasSeenAllOf y.pass x.pass = record { goes_on = subst (Extends y.pass.view.past) (ap (λ n. n.past) c.note-note.ensures.note) c.hear.ensures.heard } in
     let seen = seen_through x.pass y.pass z.pass told (seen_behind Has d h k y z (Ok there) looked) in
     let trees : c.contains.new.self.tree ≡ c.insert.new.self.tree = c.contains.ensures.tree ∙ (c.hear.ensures.tree ∙ (c.in-Ok.ensures.member.0 ∙ (sym c.requires.own ∙ sym c.insert.ensures.tree))) in
-    let layout = c.is_of_a_run.ensures.own.own.layout ∙ (ap (λ (e : TreeView). e.layout) (sym trees) ∙ sym c.is_of_a_run-2.ensures.own.own.layout) in
+    let layout = c.know_run.ensures.own.own.layout ∙ (ap (λ (e : TreeView). e.layout) (sym trees) ∙ sym c.know_run-2.ensures.own.own.layout) in
     told_so NoneDeleted Insert true inserted_then_found k w.pass x.pass z.pass layout seen there (moment_since x.pass y.pass z.pass Has k there told (moment_of Has d h k y z (Ok there) looked)) (moment_of Insert b h k w x (Ok true) added) none

@@ -11,7 +11,7 @@ use Rattle.nm_callers.proofs.sharing.add_tasks.Goals.{then-new, else-new}
 pub loop-task-preserved : goal.loop-task-preserved
 loop-task-preserved c =
     let b = c.loop-task.member.tree in
-    let h = c.args.habit.now in
+    let h = c.args.options.now in
     let k = c.task-item.result in
     let w : WorkerView = c.args.member.now.worker in
     let x : WorkerView = c.loop-task.member.worker in

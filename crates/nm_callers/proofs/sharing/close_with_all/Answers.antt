@@ -20,9 +20,9 @@ returns-in-Ok-close c =
     let of_tree : SetView → TreeView = λ t. t.tree in
     let tree : s.tree ≡ c.args.set.tree = ap of_tree three ∙ (ap of_tree two ∙ ap of_tree one) in
     let workers : 3 ≡ s.tree.layout.workers = sym (ap (λ (b : TreeView). b.layout.workers) tree ∙ c.requires.three) in
-    let r1 = c.is_of_a_run.ensures in
-    let r2 = c.is_of_a_run-2.ensures in
-    let r3 = c.is_of_a_run-3.ensures in
+    let r1 = c.know_run.ensures in
+    let r2 = c.know_run-2.ensures in
+    let r3 = c.know_run-3.ensures in
     let settled : Settled s.tree.layout 0 (x ∷ y ∷ z ∷ []) = (
       c.requires.first.number,
       c.requires.first.settled,

@@ -9,7 +9,7 @@ use Rattle.nm_callers.proofs.sharing.take_tasks.Goals as goal
 pub loop-turn-preserved : goal.loop-turn-preserved
 loop-turn-preserved c =
     let b = c.loop-turn.member.tree in
-    let h = c.args.habit.now in
+    let h = c.args.options.now in
     let k = c.in-Ok-Some.task in
     let w : WorkerView = c.args.member.now.worker in
     let x : WorkerView = c.loop-turn.member.worker in

@@ -28,7 +28,7 @@ returns-clause-first c start moment none =
     let final = c.look_told-2.new.two.pass in
     let same = ap (λ (z : PassView). z.view.layout) c.look_told.ensures.two ∙ c.requires.reader.layout in
     let last = ap (λ (z : PassView). z.view.layout) c.look_told-2.ensures.two ∙ same in
-    let history = subst (λ (l : Layout). HasHistory l final.view.past) last c.is_of_a_run.ensures.turns.plain_set in
+    let history = subst (λ (l : Layout). HasHistory l final.view.past) last c.know_run.ensures.turns.plain_set in
     subst (λ o. IfSome o (λ b. b ≡ true)) c.in_ok-first.was (if_answered c.look_told.result c.ok.result (λ b. b ≡ true) c.ok.ensures.value
     (finds c.look_told.result c.args.tree.now.layout start c.args.one.now.pass mid final.view.past c.requires.one.layout same c.look_told.ensures.told c.look_told.ensures.moment moment c.look_told-2.ensures.past.goes_on history none))
 
@@ -36,6 +36,6 @@ pub returns-clause-second : goal.returns-clause-second
 returns-clause-second c start moment none =
     let final = c.look_told-2.new.two.pass in
     let last = ap (λ (z : PassView). z.view.layout) c.look_told-2.ensures.two ∙ (ap (λ (z : PassView). z.view.layout) c.look_told.ensures.two ∙ c.requires.reader.layout) in
-    let history = subst (λ (l : Layout). HasHistory l final.view.past) last c.is_of_a_run.ensures.turns.plain_set in
+    let history = subst (λ (l : Layout). HasHistory l final.view.past) last c.know_run.ensures.turns.plain_set in
     subst (λ o. IfSome o (λ b. b ≡ true)) c.in_ok-second.was (if_answered c.look_told-2.result c.ok-2.result (λ b. b ≡ true) c.ok-2.ensures.value
     (finds c.look_told-2.result c.args.tree.now.layout start c.args.two.now.pass final final.view.past c.requires.two.layout last c.look_told-2.ensures.told c.look_told-2.ensures.moment moment (goes_on_itself final.view.past) history none))

@@ -36,6 +36,6 @@ returns c =
           found_alone c.args.key start one before after last (ap (λ (l : Layout). l.workers) layout_two ∙ c.requires.pair) (layout_one ∙ sym layout_two)
           (λ e. c.requires.apart (sym number_one ∙ (e ∙ number_two)))
           inserted answer look c.tell_worker.ensures.heard looks.past heard c.tell_worker-2.ensures.heard
-          c.is_of_a_run.ensures.turns (subst (λ (w : WorkerView). HasSeenTurns w.pass.view) c.tell_worker-2.ensures.from c.is_of_a_run-3.ensures.turns) c.is_of_a_run-2.ensures.turns
+          c.know_run.ensures.turns (subst (λ (w : WorkerView). HasSeenTurns w.pass.view) c.tell_worker-2.ensures.from c.know_run-3.ensures.turns) c.know_run-2.ensures.turns
           (omega (arith, won_one, first_none)) (omega (arith, won_two, heard_flags, second_none))) looks.moment);
     }

@@ -23,7 +23,7 @@ returns-in-Ok-clause-won c =
     let q = c.flag.new.pass in
     let r = c.args.end.now in
     let b = c.look_birth-birth.result in
-    let born : Tells p (IsBorn r.spot.edge.slot b) = subst (λ (n : ℕ). Tells p (IsBorn n b)) c.slot-leaf.ensures c.look_birth-birth.ensures.born in
-    let won : FlagWon p q r.spot.parent r.spot.side (record { slot = r.spot.edge.slot; birth = b }) =
-    subst (λ (n : ℕ). FlagWon p q r.spot.parent r.spot.side (record { slot = n; birth = b })) c.slot-leaf.ensures (c.in-Ok.ensures.won b c.look_birth-birth.ensures.born) in
+    let born : Tells p (IsBorn r.seek_record.edge.slot b) = subst (λ (n : ℕ). Tells p (IsBorn n b)) c.slot-leaf.ensures c.look_birth-birth.ensures.born in
+    let won : FlagWon p q r.seek_record.parent r.seek_record.side (record { slot = r.seek_record.edge.slot; birth = b }) =
+    subst (λ (n : ℕ). FlagWon p q r.seek_record.parent r.seek_record.side (record { slot = n; birth = b })) c.slot-leaf.ensures (c.in-Ok.ensures.won b c.look_birth-birth.ensures.born) in
     has_flagged o p q r b (subst (λ (n : ℕ). p.view.log ≡ o.view.log ++ (Look n Birth, BirthIs b) ∷ []) c.slot-leaf.ensures (ap (λ (x : PassView). x.view.log) c.look_birth-birth.ensures.step)) born c.flag.ensures.on won

@@ -9,7 +9,7 @@ use Rattle.nm_calls.proofs.deleting.remove_after.Goals as goal
 pub returns-then-cleanup-clause-part : goal.returns-then-cleanup-clause-part
 returns-then-cleanup-clause-part c =
     let w = c.cleanup.ensures.won c.if-cleanup.true in
-    inl (c.if-flagged-eq0.false, w.nodes, w.epoch, w.part, w.leaf c.args.flagged.now.end.spot.edge.slot c.args.flagged.now.birth c.requires.edge c.requires.removing.born)
+    inl (c.if-flagged-eq0.false, w.nodes, w.epoch, w.part, w.leaf c.args.flagged.now.end.seek_record.edge.slot c.args.flagged.now.birth c.requires.edge c.requires.removing.born)
 
 pub remove-requires-clause-removing : goal.remove-requires-clause-removing
 remove-requires-clause-removing c =

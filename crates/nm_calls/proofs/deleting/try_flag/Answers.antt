@@ -13,7 +13,7 @@ use Rattle.nm_calls.proofs.deleting.try_flag.Goals as goal
 pub returns-then-end-sought-clause-shows : goal.returns-then-end-sought-clause-shows
 returns-then-end-sought-clause-shows c =
     let e = c.in-Some.end in
-    ((e.spot.edge.slot, e.key, (rw c.get-sought.ensures.number at c.if-end-sought.true), (e.spot.parent, e.spot.side, (rw c.get-sought.ensures.number at c.in-Some.ensures.came.found) ThePin (Delete, c.requires.call.call))), c.seek.ensures.only.flagged ∙ c.requires.unflagged)
+    ((e.seek_record.edge.slot, e.key, (rw c.get-sought.ensures.number at c.if-end-sought.true), (e.seek_record.parent, e.seek_record.side, (rw c.get-sought.ensures.number at c.in-Some.ensures.came.found) ThePin (Delete, c.requires.call.call))), c.seek.ensures.only.flagged ∙ c.requires.unflagged)
 
 pub flag_at-requires-clause-may : goal.flag_at-requires-clause-may
 flag_at-requires-clause-may c =
@@ -23,12 +23,12 @@ flag_at-requires-clause-may c =
 
 pub help-requires-clause-at : goal.help-requires-clause-at
 help-requires-clause-at c =
-    at_kept (Tells c.seek.new.pass) (Tells c.flag_at.new.pass) (λ fact holds. c.flag_at.ensures.on.keeps fact holds) c.in-Some.end.spot c.seek.new.chain.items c.in-Some.ensures.came.ended.at
+    at_kept (Tells c.seek.new.pass) (Tells c.flag_at.new.pass) (λ fact holds. c.flag_at.ensures.on.keeps fact holds) c.in-Some.end.seek_record c.seek.new.chain.items c.in-Some.ensures.came.ended.at
 
 pub returns-in-Ok-clause-shows : goal.returns-in-Ok-clause-shows
 returns-in-Ok-clause-shows c =
     let w = c.in-Ok.ensures.won in
-    (w.flagged, w.edge, w.born, at_kept (Tells c.seek.new.pass) (Tells c.flag_at.new.pass) (λ fact holds. c.flag_at.ensures.on.keeps fact holds) c.in-Some.end.spot c.seek.new.chain.items c.in-Some.ensures.came.ended.at, c.in-Some.ensures.came.few)
+    (w.flagged, w.edge, w.born, at_kept (Tells c.seek.new.pass) (Tells c.flag_at.new.pass) (λ fact holds. c.flag_at.ensures.on.keeps fact holds) c.in-Some.end.seek_record c.seek.new.chain.items c.in-Some.ensures.came.ended.at, c.in-Some.ensures.came.few)
 
 pub returns-in-Err-clause-on : goal.returns-in-Err-clause-on
 returns-in-Err-clause-on c =

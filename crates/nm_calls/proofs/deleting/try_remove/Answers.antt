@@ -12,14 +12,14 @@ returns-then-not-leads_to-clause-removed c = λ yes. (c.in-Some.end, c.seek.new.
 pub returns-then-not-leads_to-clause-shows : goal.returns-then-not-leads_to-clause-shows
 returns-then-not-leads_to-clause-shows c = λ yes.
     let e = c.in-Some.end in
-    elsewhere_shows c.args.pass.now c.seek.new.pass c.args.pending.now.key c.args.pending.now.leaf e.spot.edge.slot e.spot.parent e.key e.spot.side c.requires.removing c.seek.ensures.only.flagged (rw c.get-key.ensures.number at c.in-Some.ensures.came.found) (c.leads_to.ensures.no c.if-not-leads_to.true)
+    elsewhere_shows c.args.pass.now c.seek.new.pass c.args.pending.now.key c.args.pending.now.leaf e.seek_record.edge.slot e.seek_record.parent e.key e.seek_record.side c.requires.removing c.seek.ensures.only.flagged (rw c.get-key.ensures.number at c.in-Some.ensures.came.found) (c.leads_to.ensures.no c.if-not-leads_to.true)
 
 pub returns-clause-removed : goal.returns-clause-removed
 returns-clause-removed c = λ yes.
     let w = c.cleanup.ensures.won yes in
     let e = c.in-Some.end in
     let n = c.args.pending.now.leaf in
-    let edge = found_flagged c.args.pass.now c.seek.new.pass c.args.pending.now.key n e.spot.edge.slot e.spot.parent e.key e.spot.side c.requires.removing c.seek.ensures.on.run c.seek.ensures.only.flagged (rw c.get-key.ensures.number at c.in-Some.ensures.came.found) (c.leads_to.ensures.yes c.if-not-leads_to.false) in (
+    let edge = found_flagged c.args.pass.now c.seek.new.pass c.args.pending.now.key n e.seek_record.edge.slot e.seek_record.parent e.key e.seek_record.side c.requires.removing c.seek.ensures.on.run c.seek.ensures.only.flagged (rw c.get-key.ensures.number at c.in-Some.ensures.came.found) (c.leads_to.ensures.yes c.if-not-leads_to.false) in (
       c.in-Some.end,
       c.seek.new.chain.items,
       inr (
@@ -38,8 +38,8 @@ returns-clause-shows c = λ yes.
     let e = c.in-Some.end in
     let n = c.args.pending.now.leaf in
     let p = c.seek.new.pass in
-    let edge = found_flagged c.args.pass.now p c.args.pending.now.key n e.spot.edge.slot e.spot.parent e.key e.spot.side c.requires.removing c.seek.ensures.on.run c.seek.ensures.only.flagged (rw c.get-key.ensures.number at c.in-Some.ensures.came.found) (c.leads_to.ensures.yes c.if-not-leads_to.false) in
-    cleanup_shows p c.cleanup.new.pass e.spot c.seek.new.chain.items _ _ c.args.pending.now.key n (c.cleanup.ensures.won yes) (c.seek.ensures.only.flagged ∙ c.requires.removing.flagged) c.cleanup.ensures.only.flagged edge
+    let edge = found_flagged c.args.pass.now p c.args.pending.now.key n e.seek_record.edge.slot e.seek_record.parent e.key e.seek_record.side c.requires.removing c.seek.ensures.on.run c.seek.ensures.only.flagged (rw c.get-key.ensures.number at c.in-Some.ensures.came.found) (c.leads_to.ensures.yes c.if-not-leads_to.false) in
+    cleanup_shows p c.cleanup.new.pass e.seek_record c.seek.new.chain.items _ _ c.args.pending.now.key n (c.cleanup.ensures.won yes) (c.seek.ensures.only.flagged ∙ c.requires.removing.flagged) c.cleanup.ensures.only.flagged edge
     (c.seek.ensures.on.keeps (IsBorn n.slot n.birth) c.requires.removing.born)
 
 pub returns-in_default-clause-kept : goal.returns-in_default-clause-kept

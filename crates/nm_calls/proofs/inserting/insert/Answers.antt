@@ -26,7 +26,7 @@ returns-clause-after c =
       past = search (rules, seen_all);
       did = insert_did c.args.workspace.now.placement L c.args.tries c.args.key old new c.insert_pinned.result (a, c.in-Ok._epoch, c.in-Ok.ensures.pinned, part);
       moment = (
-          let pinned : HadNoCall c.args.pass.now c.pin_for.new.pass = record { same = c.pin_for.ensures.on.same; past = c.pin_for.ensures.on.past; call = none_begun c.args.pass.now c.is_of_a_run.ensures.seen c.is_of_a_run.ensures.fits (ap (λ (s : Search). s.call) c.requires.rests.idle) } in
+          let pinned : HadNoCall c.args.pass.now c.pin_for.new.pass = record { same = c.pin_for.ensures.on.same; past = c.pin_for.ensures.on.past; call = none_begun c.args.pass.now c.know_run.ensures.seen c.know_run.ensures.fits (ap (λ (s : Search). s.call) c.requires.rests.idle) } in
           subst (λ k. IfOk c.insert_pinned.result (AnswerHasMoment c.args.pass.now c.insert_pinned.new.pass Insert k)) c.get.ensures.number (c.insert_pinned.ensures.moment c.args.pass.now pinned)
           );
       won = insert_wins c.args.workspace.now.placement L c.args.tries c.args.key old a new c.in-Ok._epoch c.in-Ok.ensures.pinned c.insert_pinned.result part;
@@ -58,19 +58,19 @@ pub insert_pinned-requires-clause-kept : goal.insert_pinned-requires-clause-kept
 insert_pinned-requires-clause-kept c = holds_on _ _ _ c.pin_for.ensures.on.same (c.pin_for.ensures.hands.ledgers c.requires.rests.labelled) (pin_adds Insert c.args.key c.args.tries c.args.pass.now.view.log c.pin_for.new.pass.view.log c.in-Ok._epoch c.in-Ok.ensures.pinned) (holds_with_room _ _ _ c.make_room.ensures.items c.requires.kept)
 
 pub make_room-requires : goal.make_room-requires
-make_room-requires c = record { few = may_grow_more c.args.pass.now c.args.held.now.queue.items (record { fits = c.is_of_a_run.ensures.fits; run = c.is_of_a_run.ensures.run }) c.requires.kept.queue }
+make_room-requires c = record { few = may_grow_more c.args.pass.now c.args.held.now.queue.items (record { fits = c.know_run.ensures.fits; run = c.know_run.ensures.run }) c.requires.kept.queue }
 
 pub returns-clause-blocks : goal.returns-clause-blocks
 returns-clause-blocks c = takes_then c.args.held.now.queue c.make_room.new.queue c.insert_pinned.new.held.queue c.make_room.ensures.blocks c.insert_pinned.ensures.blocks
 
 pub returns-then-tries-eq0-clause-few : goal.returns-then-tries-eq0-clause-few
-returns-then-tries-eq0-clause-few c = few_in_table c.args.shared.now c.args.pass.now c.args.pass.now c.args.held.now c.requires.own refl (record { fits = c.is_of_a_run.ensures.fits; run = c.is_of_a_run.ensures.run }) c.requires.kept
+returns-then-tries-eq0-clause-few c = few_in_table c.args.shared.now c.args.pass.now c.args.pass.now c.args.held.now c.requires.own refl (record { fits = c.know_run.ensures.fits; run = c.know_run.ensures.run }) c.requires.kept
 
 pub returns-then-not-make_room-clause-few : goal.returns-then-not-make_room-clause-few
-returns-then-not-make_room-clause-few c = rw c.make_room.ensures.items (few_in_table c.args.shared.now c.args.pass.now c.args.pass.now c.args.held.now c.requires.own refl (record { fits = c.is_of_a_run.ensures.fits; run = c.is_of_a_run.ensures.run }) c.requires.kept)
+returns-then-not-make_room-clause-few c = rw c.make_room.ensures.items (few_in_table c.args.shared.now c.args.pass.now c.args.pass.now c.args.held.now c.requires.own refl (record { fits = c.know_run.ensures.fits; run = c.know_run.ensures.run }) c.requires.kept)
 
 pub returns-in_default-clause-few : goal.returns-in_default-clause-few
-returns-in_default-clause-few c = rw c.make_room.ensures.items (few_in_table c.args.shared.now c.args.pass.now c.args.pass.now c.args.held.now c.requires.own refl (record { fits = c.is_of_a_run.ensures.fits; run = c.is_of_a_run.ensures.run }) c.requires.kept)
+returns-in_default-clause-few c = rw c.make_room.ensures.items (few_in_table c.args.shared.now c.args.pass.now c.args.pass.now c.args.held.now c.requires.own refl (record { fits = c.know_run.ensures.fits; run = c.know_run.ensures.run }) c.requires.kept)
 
 pub returns-clause-few : goal.returns-clause-few
 returns-clause-few c = few_in_table c.args.shared.now c.args.pass.now c.insert_pinned.new.pass c.insert_pinned.new.held c.requires.own (search rules) c.insert_pinned.ensures.on.run c.insert_pinned.ensures.kept

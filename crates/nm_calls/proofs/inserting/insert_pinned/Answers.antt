@@ -6,10 +6,10 @@ use Rattle.nm_model.specs.declared.event.Op.TheVariants.{Insert}
 use Rattle.nm_model.specs.declared.knowledge.Brief.{Brief}
 use Rattle.nm_model.specs.Searches.{Search}
 use Rattle.nm_order.specs.Facts.Fact.{CallIs}
-use Rattle.nm_walks.specs.declared.making.Fork.{Fork}
+use Rattle.nm_walks.specs.declared.making.NewNodes.{NewNodes}
 use Rattle.nm_edge.specs.declared.placement.Fit.{Fit}
 use Rattle.nm_calls.specs.declared.inserting.Attempt.TheVariants as attempt
-use Rattle.nm_walks.specs.Growing.{HasFork}
+use Rattle.nm_walks.specs.Growing.{HasNewNodes}
 use Rattle.nm_calls.specs.Inserts.{IsTry}
 use Rattle.nm_steps.specs.Steps.{PassView}
 use Rattle.nm_calls.proofs.AddingInserts.{back_adds}
@@ -30,7 +30,7 @@ pub try_insert-requires-clause-call : goal.try_insert-requires-clause-call
 try_insert-requires-clause-call c = call_still Insert c.args.key c.args.pass.now c.loop-round.pass c.loop-round.invariant.on c.requires.call
 
 pub give_back-requires-in-Found-clause-ready : goal.give_back-requires-in-Found-clause-ready
-give_back-requires-in-Found-clause-ready c = if_ready c.args.pass.now c.try_insert.new.pass c.try_insert.new.fork (c.try_insert.ensures.has c.args.pass.now c.loop-round.invariant.has)
+give_back-requires-in-Found-clause-ready c = if_ready c.args.pass.now c.try_insert.new.pass c.try_insert.new.new_nodes (c.try_insert.ensures.has c.args.pass.now c.loop-round.invariant.has)
 
 pub answer-requires-clause-shown : goal.answer-requires-clause-shown
 answer-requires-clause-shown c =
@@ -45,16 +45,16 @@ returns-in-Found-clause-private c =
 pub returns-in-Linked-clause-private : goal.returns-in-Linked-clause-private
 returns-in-Linked-clause-private c =
     none_left c.args.pass.now c.try_insert.new.pass c.answer-in-Linked.new.pass c.answer-in-Linked.ensures.hands.private
-    (subst (λ (f : Option Fork). HasFork c.args.pass.now c.try_insert.new.pass f) c.in-Linked.ensures.part.4 (c.try_insert.ensures.has c.args.pass.now c.loop-round.invariant.has))
+    (subst (λ (f : Option NewNodes). HasNewNodes c.args.pass.now c.try_insert.new.pass f) c.in-Linked.ensures.part.4 (c.try_insert.ensures.has c.args.pass.now c.loop-round.invariant.has))
 
 pub returns-in-Full-clause-private : goal.returns-in-Full-clause-private
 returns-in-Full-clause-private c =
     none_left c.args.pass.now c.try_insert.new.pass c.leave-in-Full.new.pass c.leave-in-Full.ensures.hands.private
-    (subst (λ (f : Option Fork). HasFork c.args.pass.now c.try_insert.new.pass f) c.in-Full.ensures.part.6 (c.try_insert.ensures.has c.args.pass.now c.loop-round.invariant.has))
+    (subst (λ (f : Option NewNodes). HasNewNodes c.args.pass.now c.try_insert.new.pass f) c.in-Full.ensures.part.6 (c.try_insert.ensures.has c.args.pass.now c.loop-round.invariant.has))
 
 pub loop-round-preserved : goal.loop-round-preserved
 loop-round-preserved c = record {
-  lost = rw add-one (c.loop-round.fork, c.loop-round.pass.view.log, c.loop-round.invariant.lost, subst (λ (f : Fit). IsTry f c.args.shared.now.layout c.args.key c.loop-round.fork c.try_insert.new.fork c.loop-round.pass.view.log c.try_insert.new.pass.view.log attempt.Lost) c.loop-round.invariant.fit c.in-Lost.ensures.part);
+  lost = rw add-one (c.loop-round.new_nodes, c.loop-round.pass.view.log, c.loop-round.invariant.lost, subst (λ (f : Fit). IsTry f c.args.shared.now.layout c.args.key c.loop-round.new_nodes c.try_insert.new.new_nodes c.loop-round.pass.view.log c.try_insert.new.pass.view.log attempt.Lost) c.loop-round.invariant.fit c.in-Lost.ensures.part);
   on = goes_then c.args.pass.now c.loop-round.pass c.try_insert.new.pass c.loop-round.invariant.on c.try_insert.ensures.on;
   only = tries_then c.args.pass.now c.loop-round.pass c.try_insert.new.pass c.loop-round.invariant.on.same c.loop-round.invariant.only c.try_insert.ensures.only;
   unlinked = c.in-Lost.ensures.shows ∙ c.loop-round.invariant.unlinked;
@@ -93,7 +93,7 @@ returns-in-Linked-clause-moment c = λ o had.
 pub returns-then-not-make_room_for-clause-part : goal.returns-then-not-make_room_for-clause-part
 returns-then-not-make_room_for-clause-part c = (
   c.loop-round.round,
-  c.loop-round.fork,
+  c.loop-round.new_nodes,
   c.loop-round.pass.view.log,
   c.give_back.new.pass.view.log,
   later_refused c.loop-round.round c.loop-round.held.queue c.make_room_for.new.queue c.loop-round.invariant.first c.make_room_for.ensures.more (c.make_room_for.ensures.refused c.if-not-make_room_for.true),
@@ -117,10 +117,10 @@ returns-in-Full-clause-blocks c = takes_fills c.args.held.now.queue c.make_room_
 
 pub returns-in-Full-clause-part : goal.returns-in-Full-clause-part
 returns-in-Full-clause-part c =
-    let h : IsTry c.args.workspace.now.placement c.args.shared.now.layout c.args.key c.loop-round.fork c.try_insert.new.fork c.loop-round.pass.view.log c.try_insert.new.pass.view.log attempt.Full =
-    subst (λ (f : Fit). IsTry f c.args.shared.now.layout c.args.key c.loop-round.fork c.try_insert.new.fork c.loop-round.pass.view.log c.try_insert.new.pass.view.log attempt.Full) c.loop-round.invariant.fit c.in-Full.ensures.part in
-    let full : IsTry c.args.workspace.now.placement c.args.shared.now.layout c.args.key c.loop-round.fork None c.loop-round.pass.view.log c.try_insert.new.pass.view.log attempt.Full = (h.0, h.1, h.2, h.3, h.4, h.5, refl, h.7) in
-    (c.try_insert.new.pass.view.log, (c.loop-round.round, c.loop-round.fork, c.loop-round.pass.view.log, c.loop-round-test.true, c.loop-round.invariant.lost, full), ap (λ (s : PassView). s.view.log) c.leave-in-Full.ensures.took.step)
+    let h : IsTry c.args.workspace.now.placement c.args.shared.now.layout c.args.key c.loop-round.new_nodes c.try_insert.new.new_nodes c.loop-round.pass.view.log c.try_insert.new.pass.view.log attempt.Full =
+    subst (λ (f : Fit). IsTry f c.args.shared.now.layout c.args.key c.loop-round.new_nodes c.try_insert.new.new_nodes c.loop-round.pass.view.log c.try_insert.new.pass.view.log attempt.Full) c.loop-round.invariant.fit c.in-Full.ensures.part in
+    let full : IsTry c.args.workspace.now.placement c.args.shared.now.layout c.args.key c.loop-round.new_nodes None c.loop-round.pass.view.log c.try_insert.new.pass.view.log attempt.Full = (h.0, h.1, h.2, h.3, h.4, h.5, refl, h.7) in
+    (c.try_insert.new.pass.view.log, (c.loop-round.round, c.loop-round.new_nodes, c.loop-round.pass.view.log, c.loop-round-test.true, c.loop-round.invariant.lost, full), ap (λ (s : PassView). s.view.log) c.leave-in-Full.ensures.took.step)
 
 pub returns-in-Found-clause-on : goal.returns-in-Found-clause-on
 returns-in-Found-clause-on c =
@@ -141,16 +141,16 @@ returns-in-Full-clause-on c =
 
 pub returns-in-Found-clause-part : goal.returns-in-Found-clause-part
 returns-in-Found-clause-part c =
-    let h : IsTry c.args.workspace.now.placement c.args.shared.now.layout c.args.key c.loop-round.fork c.try_insert.new.fork c.loop-round.pass.view.log c.try_insert.new.pass.view.log attempt.Found =
-    subst (λ (f : Fit). IsTry f c.args.shared.now.layout c.args.key c.loop-round.fork c.try_insert.new.fork c.loop-round.pass.view.log c.try_insert.new.pass.view.log attempt.Found) c.loop-round.invariant.fit c.in-Found.ensures.part in
-    (c.try_insert.new.fork, c.try_insert.new.pass.view.log, c.give_back-in-Found.new.pass.view.log, (c.loop-round.round, c.loop-round.fork, c.loop-round.pass.view.log, c.loop-round-test.true, c.loop-round.invariant.lost, h), c.give_back-in-Found.ensures.part, ap (λ (s : PassView). s.view.log) c.answer.ensures.took.step)
+    let h : IsTry c.args.workspace.now.placement c.args.shared.now.layout c.args.key c.loop-round.new_nodes c.try_insert.new.new_nodes c.loop-round.pass.view.log c.try_insert.new.pass.view.log attempt.Found =
+    subst (λ (f : Fit). IsTry f c.args.shared.now.layout c.args.key c.loop-round.new_nodes c.try_insert.new.new_nodes c.loop-round.pass.view.log c.try_insert.new.pass.view.log attempt.Found) c.loop-round.invariant.fit c.in-Found.ensures.part in
+    (c.try_insert.new.new_nodes, c.try_insert.new.pass.view.log, c.give_back-in-Found.new.pass.view.log, (c.loop-round.round, c.loop-round.new_nodes, c.loop-round.pass.view.log, c.loop-round-test.true, c.loop-round.invariant.lost, h), c.give_back-in-Found.ensures.part, ap (λ (s : PassView). s.view.log) c.answer.ensures.took.step)
 
 pub returns-in-Linked-clause-part : goal.returns-in-Linked-clause-part
 returns-in-Linked-clause-part c =
-    let h : IsTry c.args.workspace.now.placement c.args.shared.now.layout c.args.key c.loop-round.fork c.try_insert.new.fork c.loop-round.pass.view.log c.try_insert.new.pass.view.log attempt.Linked =
-    subst (λ (f : Fit). IsTry f c.args.shared.now.layout c.args.key c.loop-round.fork c.try_insert.new.fork c.loop-round.pass.view.log c.try_insert.new.pass.view.log attempt.Linked) c.loop-round.invariant.fit c.in-Linked.ensures.part in
-    let linked : IsTry c.args.workspace.now.placement c.args.shared.now.layout c.args.key c.loop-round.fork None c.loop-round.pass.view.log c.try_insert.new.pass.view.log attempt.Linked = (h.0, h.1, h.2, h.3, refl) in
-    (c.try_insert.new.pass.view.log, (c.loop-round.round, c.loop-round.fork, c.loop-round.pass.view.log, c.loop-round-test.true, c.loop-round.invariant.lost, linked), ap (λ (s : PassView). s.view.log) c.answer-in-Linked.ensures.took.step)
+    let h : IsTry c.args.workspace.now.placement c.args.shared.now.layout c.args.key c.loop-round.new_nodes c.try_insert.new.new_nodes c.loop-round.pass.view.log c.try_insert.new.pass.view.log attempt.Linked =
+    subst (λ (f : Fit). IsTry f c.args.shared.now.layout c.args.key c.loop-round.new_nodes c.try_insert.new.new_nodes c.loop-round.pass.view.log c.try_insert.new.pass.view.log attempt.Linked) c.loop-round.invariant.fit c.in-Linked.ensures.part in
+    let linked : IsTry c.args.workspace.now.placement c.args.shared.now.layout c.args.key c.loop-round.new_nodes None c.loop-round.pass.view.log c.try_insert.new.pass.view.log attempt.Linked = (h.0, h.1, h.2, h.3, refl) in
+    (c.try_insert.new.pass.view.log, (c.loop-round.round, c.loop-round.new_nodes, c.loop-round.pass.view.log, c.loop-round-test.true, c.loop-round.invariant.lost, linked), ap (λ (s : PassView). s.view.log) c.answer-in-Linked.ensures.took.step)
 
 pub returns-then-not-make_room_for-clause-on : goal.returns-then-not-make_room_for-clause-on
 returns-then-not-make_room_for-clause-on c =
@@ -166,12 +166,12 @@ pub returns-then-not-make_room_for-clause-kept : goal.returns-then-not-make_room
 returns-then-not-make_room_for-clause-kept c =
     let room = holds_with_room c.loop-round.pass c.loop-round.held c.make_room_for.new.queue c.make_room_for.ensures.items c.loop-round.invariant.kept in
     holds_left c.give_back.new.pass c.leave.new.pass _ Leave tt c.leave.ensures.took c.leave.ensures.hands (ap (λ (b : Brief). b.unlabelled) c.give_back.ensures.only.epochs ∙ (c.loop-round.invariant.only.labelled c.requires.unchanged.labelled))
-    (holds_on c.loop-round.pass c.give_back.new.pass _ c.give_back.ensures.on.same c.give_back.ensures.only.ledgers (back_adds c.loop-round.fork c.loop-round.pass.view.log c.give_back.new.pass.view.log c.give_back.ensures.part) room)
+    (holds_on c.loop-round.pass c.give_back.new.pass _ c.give_back.ensures.on.same c.give_back.ensures.only.ledgers (back_adds c.loop-round.new_nodes c.loop-round.pass.view.log c.give_back.new.pass.view.log c.give_back.ensures.part) room)
 
 pub returns-in-Found-clause-kept : goal.returns-in-Found-clause-kept
 returns-in-Found-clause-kept c =
     holds_left c.give_back-in-Found.new.pass c.answer.new.pass _ (LeaveWith false) tt c.answer.ensures.took c.answer.ensures.hands (ap (λ (b : Brief). b.unlabelled) c.give_back-in-Found.ensures.only.epochs ∙ (c.try_insert.ensures.only.labelled (c.loop-round.invariant.only.labelled c.requires.unchanged.labelled)))
-    (holds_on c.try_insert.new.pass c.give_back-in-Found.new.pass _ c.give_back-in-Found.ensures.on.same c.give_back-in-Found.ensures.only.ledgers (back_adds c.try_insert.new.fork c.try_insert.new.pass.view.log c.give_back-in-Found.new.pass.view.log c.give_back-in-Found.ensures.part) c.try_insert.ensures.kept)
+    (holds_on c.try_insert.new.pass c.give_back-in-Found.new.pass _ c.give_back-in-Found.ensures.on.same c.give_back-in-Found.ensures.only.ledgers (back_adds c.try_insert.new.new_nodes c.try_insert.new.pass.view.log c.give_back-in-Found.new.pass.view.log c.give_back-in-Found.ensures.part) c.try_insert.ensures.kept)
 
 pub returns-in-Linked-clause-kept : goal.returns-in-Linked-clause-kept
 returns-in-Linked-clause-kept c = holds_left c.try_insert.new.pass c.answer-in-Linked.new.pass _ (LeaveWith true) tt c.answer-in-Linked.ensures.took c.answer-in-Linked.ensures.hands (c.try_insert.ensures.only.labelled (c.loop-round.invariant.only.labelled c.requires.unchanged.labelled)) c.try_insert.ensures.kept
@@ -182,4 +182,4 @@ returns-in-Full-clause-kept c = holds_left c.try_insert.new.pass c.leave-in-Full
 pub returns-clause-kept : goal.returns-clause-kept
 returns-clause-kept c =
     holds_left c.give_back-2.new.pass c.leave-2.new.pass _ Leave tt c.leave-2.ensures.took c.leave-2.ensures.hands (ap (λ (b : Brief). b.unlabelled) c.give_back-2.ensures.only.epochs ∙ (c.loop-round.invariant.only.labelled c.requires.unchanged.labelled))
-    (holds_on c.loop-round.pass c.give_back-2.new.pass _ c.give_back-2.ensures.on.same c.give_back-2.ensures.only.ledgers (back_adds c.loop-round.fork c.loop-round.pass.view.log c.give_back-2.new.pass.view.log c.give_back-2.ensures.part) c.loop-round.invariant.kept)
+    (holds_on c.loop-round.pass c.give_back-2.new.pass _ c.give_back-2.ensures.on.same c.give_back-2.ensures.only.ledgers (back_adds c.loop-round.new_nodes c.loop-round.pass.view.log c.give_back-2.new.pass.view.log c.give_back-2.ensures.part) c.loop-round.invariant.kept)

@@ -3,7 +3,7 @@ use Rattle.nm_model.specs.declared.event.Op.TheVariants.{Insert}
 use Rattle.nm_order.specs.Facts.Since.{ThePin}
 use Rattle.nm_order.specs.Facts.Fact.{EndedAt}
 use Rattle.nm_walks.specs.Telling.{Tells}
-use Rattle.nm_walks.specs.Growing.{HasFork, HoldsFork}
+use Rattle.nm_walks.specs.Growing.{HasNewNodes, HoldsNewNodes}
 use Rattle.nm_walks.proofs.GoingOn.{goes_then}
 use Rattle.nm_walks.proofs.Standing.{at_kept}
 use Rattle.nm_walks.proofs.ShortWalks.{key_of_call}
@@ -17,23 +17,23 @@ pub returns-then-end-key-clause-shows : goal.returns-then-end-key-clause-shows
 returns-then-end-key-clause-shows c =
     let e = c.in-Some.end in
     let ended = c.in-Some.ensures.came.found c.if-end-key.true ThePin (Insert, c.requires.call.call) in
-    ((e.spot.edge.slot, (e.spot.parent, e.spot.side, subst (λ n. Tells c.stop.new.pass (EndedAt ThePin c.args.key e.spot.edge.slot e.spot.parent e.spot.side n)) c.if-end-key.true ended)), c.stop.ensures.only.linked)
+    ((e.seek_record.edge.slot, (e.seek_record.parent, e.seek_record.side, subst (λ n. Tells c.stop.new.pass (EndedAt ThePin c.args.key e.seek_record.edge.slot e.seek_record.parent e.seek_record.side n)) c.if-end-key.true ended)), c.stop.ensures.only.linked)
 
 pub returns-in_default-ready-clause-has : goal.returns-in_default-ready-clause-has
-returns-in_default-ready-clause-has c = λ o has. c.ready.ensures.has o (kept_fork o c.args.pass.now c.stop.new.pass c.args.fork.now c.stop.ensures.on.same c.stop.ensures.only.private has)
+returns-in_default-ready-clause-has c = λ o has. c.ready.ensures.has o (kept_fork o c.args.pass.now c.stop.new.pass c.args.new_nodes.now c.stop.ensures.on.same c.stop.ensures.only.private has)
 
 pub grow-requires-clause-may : goal.grow-requires-clause-may
 grow-requires-clause-may c =
-    let o = c.requires.fork.0 in
-    let has = c.ready.ensures.has o (kept_fork o c.args.pass.now c.stop.new.pass c.args.fork.now c.stop.ensures.on.same c.stop.ensures.only.private c.requires.fork.1) in
-    let made = held_fork o c.ready.new.pass c.ready.new.fork c.in-Some-ready.made c.in-Some-ready.ensures.part.0 has in
+    let o = c.requires.new_nodes.0 in
+    let has = c.ready.ensures.has o (kept_fork o c.args.pass.now c.stop.new.pass c.args.new_nodes.now c.stop.ensures.on.same c.stop.ensures.only.private c.requires.new_nodes.1) in
+    let made = held_fork o c.ready.new.pass c.ready.new.new_nodes c.in-Some-ready.made c.in-Some-ready.ensures.part.0 has in
     may_grow c.args.shared.now c.args.pass.now c.stop.new.pass c.ready.new.pass c.args.key c.in-Some.end c.stop.new.chain.items c.in-Some-ready.made (search rules) c.requires.call.call c.requires.unlinked
     c.stop.ensures.on c.stop.ensures.only c.in-Some.ensures.came c.in-Some.ensures.place c.if-end-key.false c.ready.ensures.on c.ready.ensures.only made.ready
 
 pub help-requires-clause-at : goal.help-requires-clause-at
 help-requires-clause-at c =
     let on = goes_then c.stop.new.pass c.ready.new.pass c.grow.new.pass c.ready.ensures.on c.grow.ensures.on in
-    at_kept (Tells c.stop.new.pass) (Tells c.grow.new.pass) (λ fact holds. on.keeps fact holds) c.in-Some.end.spot c.stop.new.chain.items c.in-Some.ensures.came.at
+    at_kept (Tells c.stop.new.pass) (Tells c.grow.new.pass) (λ fact holds. on.keeps fact holds) c.in-Some.end.seek_record c.stop.new.chain.items c.in-Some.ensures.came.at
 
 pub returns-in-Ok-clause-on : goal.returns-in-Ok-clause-on
 returns-in-Ok-clause-on c =
@@ -48,16 +48,16 @@ returns-in-Err-clause-on c =
 
 pub returns-in-Ok-clause-has : goal.returns-in-Ok-clause-has
 returns-in-Ok-clause-has c = λ o has.
-    let there = c.ready.ensures.has o (kept_fork o c.args.pass.now c.stop.new.pass c.args.fork.now c.stop.ensures.on.same c.stop.ensures.only.private has) in
-    linked_fork c.args.shared.now.layout.radix o c.ready.new.pass c.grow.new.pass c.args.key c.in-Some.end c.in-Some-ready.made (held_fork o c.ready.new.pass c.ready.new.fork c.in-Some-ready.made c.in-Some-ready.ensures.part.0 there) c.in-Ok.ensures.won
+    let there = c.ready.ensures.has o (kept_fork o c.args.pass.now c.stop.new.pass c.args.new_nodes.now c.stop.ensures.on.same c.stop.ensures.only.private has) in
+    linked_fork c.args.shared.now.layout.radix o c.ready.new.pass c.grow.new.pass c.args.key c.in-Some.end c.in-Some-ready.made (held_fork o c.ready.new.pass c.ready.new.new_nodes c.in-Some-ready.made c.in-Some-ready.ensures.part.0 there) c.in-Ok.ensures.won
 
 pub returns-in-Err-clause-has : goal.returns-in-Err-clause-has
 returns-in-Err-clause-has c = λ o has.
-    let there = c.ready.ensures.has o (kept_fork o c.args.pass.now c.stop.new.pass c.args.fork.now c.stop.ensures.on.same c.stop.ensures.only.private has) in
+    let there = c.ready.ensures.has o (kept_fork o c.args.pass.now c.stop.new.pass c.args.new_nodes.now c.stop.ensures.on.same c.stop.ensures.only.private has) in
     let is = c.in-Some-ready.ensures.part.0 in
-    let now : HoldsFork o c.grow.new.pass c.in-Some-ready.made =
-    lost_fork c.args.shared.now.layout.radix o c.ready.new.pass c.grow.new.pass c.args.key c.in-Some.end c.in-Some-ready.made c.in-Err.found (held_fork o c.ready.new.pass c.ready.new.fork c.in-Some-ready.made is there) c.in-Err.ensures.lost in
-    kept_fork o c.grow.new.pass c.help.new.pass c.ready.new.fork c.help.ensures.on.same c.help.ensures.only.private (subst (λ f. HasFork o c.grow.new.pass f) (sym is) now)
+    let now : HoldsNewNodes o c.grow.new.pass c.in-Some-ready.made =
+    lost_fork c.args.shared.now.layout.radix o c.ready.new.pass c.grow.new.pass c.args.key c.in-Some.end c.in-Some-ready.made c.in-Err.found (held_fork o c.ready.new.pass c.ready.new.new_nodes c.in-Some-ready.made is there) c.in-Err.ensures.lost in
+    kept_fork o c.grow.new.pass c.help.new.pass c.ready.new.new_nodes c.help.ensures.on.same c.help.ensures.only.private (subst (λ f. HasNewNodes o c.grow.new.pass f) (sym is) now)
 
 pub returns-in_default-clause-kept : goal.returns-in_default-clause-kept
 returns-in_default-clause-kept c = holds_on _ _ _ c.stop.ensures.on.same c.stop.ensures.only.ledgers (stops_adds c.args.shared.now.layout c.args.key c.args.pass.now.view.log c.stop.new.pass.view.log c.stop.new.chain.items c.stop.result c.stop.ensures.walk) c.requires.kept
@@ -67,14 +67,14 @@ returns-then-end-key-clause-kept c = holds_on _ _ _ c.stop.ensures.on.same c.sto
 
 pub returns-in_default-ready-clause-kept : goal.returns-in_default-ready-clause-kept
 returns-in_default-ready-clause-kept c =
-    holds_on c.stop.new.pass c.ready.new.pass _ c.ready.ensures.on.same c.ready.ensures.only.ledgers (readied_adds c.args.workspace.now.placement c.args.shared.now.layout.nodes c.args.fork.now c.ready.new.fork c.ready.result c.stop.new.pass.view.log c.ready.new.pass.view.log c.ready.ensures.part)
+    holds_on c.stop.new.pass c.ready.new.pass _ c.ready.ensures.on.same c.ready.ensures.only.ledgers (readied_adds c.args.workspace.now.placement c.args.shared.now.layout.nodes c.args.new_nodes.now c.ready.new.new_nodes c.ready.result c.stop.new.pass.view.log c.ready.new.pass.view.log c.ready.ensures.part)
     (holds_on _ _ _ c.stop.ensures.on.same c.stop.ensures.only.ledgers (stops_adds c.args.shared.now.layout c.args.key c.args.pass.now.view.log c.stop.new.pass.view.log c.stop.new.chain.items c.stop.result c.stop.ensures.walk) c.requires.kept)
 
 pub help-requires-clause-kept : goal.help-requires-clause-kept
 help-requires-clause-kept c =
     holds_on c.ready.new.pass c.grow.new.pass _ c.grow.ensures.on.same c.grow.ensures.call.ledgers
     (grows_lost c.args.shared.now.layout.radix c.args.key c.in-Some.end c.in-Some-ready.made c.in-Err.found c.ready.new.pass.view.log c.grow.new.pass.view.log c.in-Err.ensures.lost.part)
-    (holds_on c.stop.new.pass c.ready.new.pass _ c.ready.ensures.on.same c.ready.ensures.only.ledgers (readied_adds c.args.workspace.now.placement c.args.shared.now.layout.nodes c.args.fork.now c.ready.new.fork c.ready.result c.stop.new.pass.view.log c.ready.new.pass.view.log c.ready.ensures.part)
+    (holds_on c.stop.new.pass c.ready.new.pass _ c.ready.ensures.on.same c.ready.ensures.only.ledgers (readied_adds c.args.workspace.now.placement c.args.shared.now.layout.nodes c.args.new_nodes.now c.ready.new.new_nodes c.ready.result c.stop.new.pass.view.log c.ready.new.pass.view.log c.ready.ensures.part)
     (holds_on _ _ _ c.stop.ensures.on.same c.stop.ensures.only.ledgers (stops_adds c.args.shared.now.layout c.args.key c.args.pass.now.view.log c.stop.new.pass.view.log c.stop.new.chain.items c.stop.result c.stop.ensures.walk) c.requires.kept))
 
 pub returns-in-Ok-clause-kept : goal.returns-in-Ok-clause-kept
@@ -82,7 +82,7 @@ returns-in-Ok-clause-kept c =
     let p = c.ready.new.pass in
     let q = c.grow.new.pass in
     let grown = grows_won c.args.shared.now.layout.radix c.args.key c.in-Some.end c.in-Some-ready.made p.view.log q.view.log c.in-Ok.ensures.won.part in
-    let was = holds_on c.stop.new.pass p c.args.held.now c.ready.ensures.on.same c.ready.ensures.only.ledgers (readied_adds c.args.workspace.now.placement c.args.shared.now.layout.nodes c.args.fork.now c.ready.new.fork c.ready.result c.stop.new.pass.view.log c.ready.new.pass.view.log c.ready.ensures.part)
+    let was = holds_on c.stop.new.pass p c.args.held.now c.ready.ensures.on.same c.ready.ensures.only.ledgers (readied_adds c.args.workspace.now.placement c.args.shared.now.layout.nodes c.args.new_nodes.now c.ready.new.new_nodes c.ready.result c.stop.new.pass.view.log c.ready.new.pass.view.log c.ready.ensures.part)
     (holds_on _ _ _ c.stop.ensures.on.same c.stop.ensures.only.ledgers (stops_adds c.args.shared.now.layout c.args.key c.args.pass.now.view.log c.stop.new.pass.view.log c.stop.new.chain.items c.stop.result c.stop.ensures.walk) c.requires.kept) in
     holds_so p q c.args.held.now _ c.grow.ensures.on.same c.grow.ensures.call.ledgers (link_counts _ _ p.view.log q.view.log grown c.saturating_add-held.ensures was.counted) refl was
 

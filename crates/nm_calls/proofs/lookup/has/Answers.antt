@@ -126,7 +126,7 @@ returns-in-Some c =
             begun = p;
             lost = c.loop-walk.invariant.lost;
             ended = q;
-            spot = walk.0;
+            seek_record = walk.0;
             chain = walk.1;
             key = found;
             walk = walk.2;
@@ -138,7 +138,7 @@ returns-in-Some c =
           let o = c.args.pass.now in
           let begun = c.pin_for.new.pass in
           let call = call_is begun c.in-Ok._epoch Has c.args.key c.in-Ok.ensures.at in
-          let pinned : HadNoCall o begun = record { same = c.pin_for.ensures.on.same; past = c.pin_for.ensures.on.past; call = none_begun o c.is_of_a_run.ensures.seen c.is_of_a_run.ensures.fits (ap (λ (s : Search). s.call) c.requires.rests.idle) } in
+          let pinned : HadNoCall o begun = record { same = c.pin_for.ensures.on.same; past = c.pin_for.ensures.on.past; call = none_begun o c.know_run.ensures.seen c.know_run.ensures.fits (ap (λ (s : Search). s.call) c.requires.rests.idle) } in
           let walked = no_call_on o c.loop-walk.pass c.find.new.pass (no_call_on o begun c.loop-walk.pass pinned c.loop-walk.invariant.on.same c.loop-walk.invariant.on.past) c.find.ensures.on.same c.find.ensures.on.past in
           c.leave_with.ensures.moment o Has c.args.key walked (c.in-Some.ensures.on.keeps (CallIs Has c.args.key) (c.loop-walk.invariant.on.keeps (CallIs Has c.args.key) call))
           );

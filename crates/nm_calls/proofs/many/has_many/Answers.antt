@@ -44,7 +44,7 @@ returns-then-ended c =
           let p = c.walk_all-ended.new.pass in
           let q = c.unpin.new.pass in
           let walked = c.walk_all-ended.ensures in
-          all_were_so p (WasSo o q) (was_so o c.pin.new.pass p q c.is_of_a_run.ensures.seen c.is_of_a_run.ensures.fits c.requires.rests.unpinned c.pin.ensures.on walked.on c.is_of_a_run-2.ensures.seen c.unpin.ensures.took) c.walk_all-ended.new.queries walked.under_way (walked.ended c.if-ended.true)
+          all_were_so p (WasSo o q) (was_so o c.pin.new.pass p q c.know_run.ensures.seen c.know_run.ensures.fits c.requires.rests.unpinned c.pin.ensures.on walked.on c.know_run-2.ensures.seen c.unpin.ensures.took) c.walk_all-ended.new.queries walked.under_way (walked.ended c.if-ended.true)
           );
       missed = search rules;
       won = has_won _ _ added;

@@ -24,7 +24,7 @@ returns c =
     let q = c.unpin.new.pass in
     let r = c.walk_back-found.result in
     let on = c.walk_back-found.ensures.on in
-    let so = was_so o a p q c.is_of_a_run.ensures.seen c.is_of_a_run.ensures.fits c.requires.rests.unpinned c.pin.ensures.on on c.is_of_a_run-2.ensures.seen c.unpin.ensures.took in
+    let so = was_so o a p q c.know_run.ensures.seen c.know_run.ensures.fits c.requires.rests.unpinned c.pin.ensures.on on c.know_run-2.ensures.seen c.unpin.ensures.took in
     let moment = IfOk-weaker r _ (λ found. WasPrev o q c.args.key found) (λ found n. prev_by (HasEndedSo p) (WasSo o q) so c.args.key (subst IsKey c.get.ensures.number c.get.ensures.fits) found (subst (λ (k : ℕ). IsPrevBy (HasEndedSo p) k found) c.get.ensures.number n)) c.walk_back-found.ensures.prev in
     let gives = IfErr-weaker r _ (λ e. GiveUp L c.args.tries c.args.key a.view.log p.view.log) (λ e gives. subst (λ (k : ℕ). GiveUp L c.args.tries k a.view.log p.view.log) c.get.ensures.number gives) c.walk_back-found.ensures.given_up in
     after_walks (λ v w. WasPrev v w c.args.key) (GiveUp L c.args.tries c.args.key) L c.args.tries c.in-Ok._epoch o a p q r c.pin.ensures.on c.in-Ok.ensures.pinned c.pin.ensures.hands on c.walk_back-found.ensures.only c.walk_back-found.ensures.looks

@@ -22,7 +22,7 @@ collect_fronts-requires t c =
 pub overflow_add-result : goal.overflow_add-result
 overflow_add-result t c =
     let p = c.args.pass.now in
-    let run : IsInRun p = record { fits = c.is_of_a_run.ensures.fits; run = c.is_of_a_run.ensures.run } in
+    let run : IsInRun p = record { fits = c.know_run.ensures.fits; run = c.know_run.ensures.run } in
     let apart : AreApart p.view.layout (knowledge p.view) = apart_in_run p run in
     let least = run.fits.least in
     let most = run.fits.most in

@@ -13,19 +13,19 @@ use Rattle.nm_steps.proofs.Seeing.{continues_by}
 use Rattle.nm_epoch.proofs.pinning.pin_by.Goals as goal
 
 pub sight_idle-first-requires-clause-labelled : goal.sight_idle-first-requires-clause-labelled
-sight_idle-first-requires-clause-labelled c = (rests_now c.args.pass.now c.is_of_a_run.ensures.run c.is_of_a_run.ensures.fits c.requires.unpinned).labelled
+sight_idle-first-requires-clause-labelled c = (rests_now c.args.pass.now c.know_run.ensures.run c.know_run.ensures.fits c.requires.unpinned).labelled
 
 pub returns-then-tries-eq0-clause-last : goal.returns-then-tries-eq0-clause-last
 returns-then-tries-eq0-clause-last c = sees c.args.pass.now c.sight_idle-first.new.pass c.sight_idle-first.result c.sight_idle-first.ensures.step
 
 pub returns-then-tries-eq0-clause-rests : goal.returns-then-tries-eq0-clause-rests
-returns-then-tries-eq0-clause-rests c = rests_on c.args.pass.now c.sight_idle-first.new.pass c.sight_idle-first.result (rests_now c.args.pass.now c.is_of_a_run.ensures.run c.is_of_a_run.ensures.fits c.requires.unpinned) c.sight_idle-first.ensures.step
+returns-then-tries-eq0-clause-rests c = rests_on c.args.pass.now c.sight_idle-first.new.pass c.sight_idle-first.result (rests_now c.args.pass.now c.know_run.ensures.run c.know_run.ensures.fits c.requires.unpinned) c.sight_idle-first.ensures.step
 
 pub loop-round-init : goal.loop-round-init
 loop-round-init c = record {
   on = continues_by _ _ _ _ c.sight_idle-first.ensures;
   tries = search rules;
-  trying = tries_on c.args.pass.now c.sight_idle-first.new.pass c.sight_idle-first.result (rests_now c.args.pass.now c.is_of_a_run.ensures.run c.is_of_a_run.ensures.fits c.requires.unpinned) c.sight_idle-first.ensures.step;
+  trying = tries_on c.args.pass.now c.sight_idle-first.new.pass c.sight_idle-first.result (rests_now c.args.pass.now c.know_run.ensures.run c.know_run.ensures.fits c.requires.unpinned) c.sight_idle-first.ensures.step;
   hands = hands_kept c.args.pass.now c.sight_idle-first.new.pass Sight (Saw c.sight_idle-first.result) c.sight_idle-first.ensures.step refl (λ _. refl);
   last = sees c.args.pass.now c.sight_idle-first.new.pass c.sight_idle-first.result c.sight_idle-first.ensures.step;
 }

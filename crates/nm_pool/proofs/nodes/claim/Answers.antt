@@ -18,7 +18,7 @@ returns-in-Ok-clause-part c =
     subst (IsClaim c.args.shared.now.layout.nodes old new) (sym (in_answer node claim.before new claim.made)) (is_lowest c.args.shared.now.layout.nodes old new (Some node) claim)
 
 pub returns-in-Ok-clause-steps : goal.returns-in-Ok-clause-steps
-returns-in-Ok-clause-steps c = claim_steps fit.Lowest c.args.shared.now.layout.nodes c.args.pass.now.view.log c.try_row.new.pass.view.log (node_in c.in-Ok.node) (returns-in-Ok-clause-part c)
+returns-in-Ok-clause-steps c = claim_steps fit.FirstFit c.args.shared.now.layout.nodes c.args.pass.now.view.log c.try_row.new.pass.view.log (node_in c.in-Ok.node) (returns-in-Ok-clause-part c)
 
 pub returns-in_default-clause-part : goal.returns-in_default-clause-part
 returns-in_default-clause-part c =
@@ -29,7 +29,7 @@ returns-in_default-clause-part c =
     (subst (λ n. IsClaimBetween 6 (n + 1) old new None) nodes (row_then 6 c.in-Err.next (c.nodes-nodes.result + 1) old c.try_row.new.pass.view.log new None c.in-Err.ensures.part c.in_default.ensures.part))
 
 pub returns-in_default-clause-steps : goal.returns-in_default-clause-steps
-returns-in_default-clause-steps c = claim_steps fit.Lowest c.args.shared.now.layout.nodes c.args.pass.now.view.log c.claim_by_rows.new.pass.view.log None (returns-in_default-clause-part c)
+returns-in_default-clause-steps c = claim_steps fit.FirstFit c.args.shared.now.layout.nodes c.args.pass.now.view.log c.claim_by_rows.new.pass.view.log None (returns-in_default-clause-part c)
 
 pub returns-clause-part : goal.returns-clause-part
 returns-clause-part c =
@@ -41,4 +41,4 @@ returns-clause-part c =
     subst (IsClaim c.args.shared.now.layout.nodes old new) (sym (in_answer node claim.before new claim.made)) (is_lowest c.args.shared.now.layout.nodes old new (Some node) claim)
 
 pub returns-clause-steps : goal.returns-clause-steps
-returns-clause-steps c = claim_steps fit.Lowest c.args.shared.now.layout.nodes c.args.pass.now.view.log c.claim_by_rows.new.pass.view.log (node_in c.in-Some.node) (returns-clause-part c)
+returns-clause-steps c = claim_steps fit.FirstFit c.args.shared.now.layout.nodes c.args.pass.now.view.log c.claim_by_rows.new.pass.view.log (node_in c.in-Some.node) (returns-clause-part c)

@@ -15,8 +15,8 @@ returns c =
     let queues = c.args.report.now.queues.items in
     let before : HeldQueue = c.in-Some.held.now in
     let after : HeldQueue = record before { queue = c.pop.new.self } in
-    let waiting : Waiting = record { slot = c.from.result; birth = c.in-Some-pop.entry.node.birth; label = c.in-Some-pop.entry.label } in
+    let waiting : Waiting = record { slot = c.from.result; generation = c.in-Some-pop.entry.node.birth; label = c.in-Some-pop.entry.label } in
     let left : Report = record { queues = with_item c.args.report.now.queues c.args.worker after; keys = c.args.report.now.keys; free = c.args.report.now.free; reached = c.args.report.now.reached } in
     let found : slice_get queues c.args.worker ≡ Some before = slice_get_read queues c.args.report.now.queues.len c.args.worker before c.args.report.now.queues.ok.0 (c.in-Some.ensures.variant.0 refl) c.in-Some.ensures.value in
     subst (λ (h : Option HeldQueue). IsTakenOut h c.args.worker c.args.waiting.now waiting c.args.report.now left Yes) (sym found)
-    (inr (refl, c.in-Some-pop.entry, after, c.in-Some-pop.ensures.popped.0, refl, record { slot = c.from.ensures; birth = refl; label = refl }, record { here = get_written queues c.args.worker after (slice_get_within queues c.args.worker before found); others = λ i apart. get_beside queues c.args.worker i after apart; keys = refl; free = refl; reached = refl }))
+    (inr (refl, c.in-Some-pop.entry, after, c.in-Some-pop.ensures.popped.0, refl, record { slot = c.from.ensures; generation = refl; label = refl }, record { here = get_written queues c.args.worker after (slice_get_within queues c.args.worker before found); others = λ i apart. get_beside queues c.args.worker i after apart; keys = refl; free = refl; reached = refl }))

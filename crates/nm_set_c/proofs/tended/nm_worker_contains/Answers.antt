@@ -12,7 +12,7 @@ pub returns-in_default-new-clause-did : goal.returns-in_default-new-clause-did
 returns-in_default-new-clause-did c = search (rules, told_worker)
 
 pub returns-clause-tells : goal.returns-clause-tells
-returns-clause-tells c = (c.of_answer-outcome.result, search rules, told_worker (TellsContains c.args.habit.now c.args.key) ⊤ (held_by c.args.worker.now) (held_by c.put-2.new.self) c.in-Worker.member c.contains.new.self c.of_answer-outcome.result (search rules) (search rules) (search rules))
+returns-clause-tells c = (c.of_answer-outcome.result, search rules, told_worker (TellsContains c.args.options.now c.args.key) ⊤ (held_by c.args.worker.now) (held_by c.put-2.new.self) c.in-Worker.member c.contains.new.self c.of_answer-outcome.result (search rules) (search rules) (search rules))
 
 pub returns-clause-did : goal.returns-clause-did
-returns-clause-did c = (c.of_answer-outcome.result, search rules, told_worker (DoesContains c.args.habit.now c.args.key) ⊤ (held_by c.args.worker.now) (held_by c.put-2.new.self) c.in-Worker.member c.contains.new.self c.of_answer-outcome.result (search rules) (search rules) (search rules))
+returns-clause-did c = (c.of_answer-outcome.result, search rules, told_worker (DoesContains c.args.options.now c.args.key) ⊤ (held_by c.args.worker.now) (held_by c.put-2.new.self) c.in-Worker.member c.contains.new.self c.of_answer-outcome.result (search rules) (search rules) (search rules))

@@ -23,7 +23,7 @@ returns-clause-closed c =
     c.requires.all
     c.unite_all.ensures.runs
     (subst S c.tree.view_is c.close-words.ensures.ends)
-    (record { fits = c.is_of_a_run.ensures.fits; run = c.is_of_a_run.ensures.run })
+    (record { fits = c.know_run.ensures.fits; run = c.know_run.ensures.run })
     (subst P room c.read-keys.ensures.keys)
     (subst Q room c.read-keys.ensures.free)
     (subst R room c.read-keys.ensures.reached)

@@ -14,10 +14,10 @@ use Rattle.nm_walks.proofs.WholeCleanups.{way_there, knows_top, at_top, to_be_cu
 use Rattle.nm_walks.proofs.cleaning.cut_off.Goals as goal
 
 pub freeze-requires-clause-way : goal.freeze-requires-clause-way
-freeze-requires-clause-way c = way_there c.args.pass.now c.tag-was.new.pass c.args.spot.now c.args.chain.now c.requires.at (goes_then c.args.pass.now c.choose.new.pass c.tag-was.new.pass c.choose.ensures.on c.tag-was.ensures.on)
+freeze-requires-clause-way c = way_there c.args.pass.now c.tag-was.new.pass c.args.seek_record.now c.args.chain.now c.requires.at (goes_then c.args.pass.now c.choose.new.pass c.tag-was.new.pass c.choose.ensures.on c.tag-was.ensures.on)
 
 pub freeze-requires-clause-known : goal.freeze-requires-clause-known
-freeze-requires-clause-known c = knows_top c.args.pass.now c.tag-was.new.pass c.args.spot.now c.args.chain.now c.requires.at (goes_then c.args.pass.now c.choose.new.pass c.tag-was.new.pass c.choose.ensures.on c.tag-was.ensures.on)
+freeze-requires-clause-known c = knows_top c.args.pass.now c.tag-was.new.pass c.args.seek_record.now c.args.chain.now c.requires.at (goes_then c.args.pass.now c.choose.new.pass c.tag-was.new.pass c.choose.ensures.on c.tag-was.ensures.on)
 
 pub splice-requires-clause-frozen : goal.splice-requires-clause-frozen
 splice-requires-clause-frozen c =
@@ -25,7 +25,7 @@ splice-requires-clause-frozen c =
     let p = c.choose.new.pass in
     let r = c.tag-was.new.pass in
     let t = c.freeze.new.pass in
-    let s = c.args.spot.now in
+    let s = c.args.seek_record.now in
     let frozen = c.freeze.ensures.frozen in
     to_be_cut o t s c.args.chain.now c.requires.at c.in-Some.kept.side c.tagged.result frozen.0 (goes_then o r t (goes_then o p r c.choose.ensures.on c.tag-was.ensures.on) c.freeze.ensures.on) frozen.2
     (subst (λ (e : Edge). Tells t (IsFrozen s.parent c.in-Some.kept.side e)) (sym c.tagged.ensures) (c.freeze.ensures.on.keeps (IsFrozen s.parent c.in-Some.kept.side (tagged c.tag-was.result)) c.tag-was.ensures.told.frozen))
@@ -36,7 +36,7 @@ returns-clause-won c =
     let p = c.choose.new.pass in
     let r = c.tag-was.new.pass in
     let t = c.freeze.new.pass in
-    let s = c.args.spot.now in
+    let s = c.args.seek_record.now in
     let k = c.in-Some.kept in
     let frozen = c.freeze.ensures.frozen in
     let none' : c.clear.new.self.items ≡ [] = search rules in

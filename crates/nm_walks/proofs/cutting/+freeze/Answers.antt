@@ -6,7 +6,7 @@ use Rattle.nm_order.specs.Told.{FrozenTo}
 use Rattle.nm_walks.specs.Cleanups.{top}
 use Rattle.nm_walks.specs.Telling.{Tells}
 use Rattle.nm_walks.specs.Walks.{ChainLeads}
-use Rattle.nm_walks.specs.declared.spot.ChainEdge.{ChainEdge}
+use Rattle.nm_walks.specs.declared.seek_record.ChainEdge.{ChainEdge}
 use Rattle.nm_walks.proofs.Freezing.{top_of, frozen_end, frozen_above}
 use Rattle.nm_walks.proofs.GoingOn.{pinned_in_still}
 use Rattle.nm_walks.proofs.Standing.{leads_kept}

@@ -10,14 +10,14 @@ use Rattle.nm_walks.proofs.Makes.{fillable, fillable_still, may_fill_key, may_fi
 use Rattle.nm_walks.proofs.making.fill.Goals as goal
 
 pub fill_key-requires-clause-may : goal.fill_key-requires-clause-may
-fill_key-requires-clause-may c = may_fill_key c.args.pass.now c.args.slot (fillable c.args.pass.now c.args.slot c.requires.born c.holds_pooled_slots.ensures) _
+fill_key-requires-clause-may c = may_fill_key c.args.pass.now c.args.slot (fillable c.args.pass.now c.args.slot c.requires.born c.know_pooled_slots.ensures) _
 
 pub fill_edge-requires-clause-may : goal.fill_edge-requires-clause-may
 fill_edge-requires-clause-may c =
     let p = c.args.pass.now in
     let q = c.fill_key.new.pass in
     let s = c.args.slot in
-    may_fill_edge q s (fillable_still p q s KeyOf _ c.fill_key.ensures.step refl (fillable p s c.requires.born c.holds_pooled_slots.ensures))
+    may_fill_edge q s (fillable_still p q s KeyOf _ c.fill_key.ensures.step refl (fillable p s c.requires.born c.know_pooled_slots.ensures))
     Left c.args.node.now.left (subst (λ (x : PassView). c.args.node.now.left ≤ x.view.layout.nodes) (sym c.fill_key.ensures.step) c.requires.left)
 
 pub fill_edge-requires-2-clause-may : goal.fill_edge-requires-2-clause-may
@@ -26,7 +26,7 @@ fill_edge-requires-2-clause-may c =
     let q = c.fill_key.new.pass in
     let r = c.fill_edge.new.pass in
     let s = c.args.slot in
-    may_fill_edge r s (fillable_still q r s (EdgeOn Left) c.args.node.now.left c.fill_edge.ensures.step refl (fillable_still p q s KeyOf _ c.fill_key.ensures.step refl (fillable p s c.requires.born c.holds_pooled_slots.ensures)))
+    may_fill_edge r s (fillable_still q r s (EdgeOn Left) c.args.node.now.left c.fill_edge.ensures.step refl (fillable_still p q s KeyOf _ c.fill_key.ensures.step refl (fillable p s c.requires.born c.know_pooled_slots.ensures)))
     Right c.args.node.now.right (subst (λ (x : PassView). c.args.node.now.right ≤ x.view.layout.nodes) (sym c.fill_edge.ensures.step) (subst (λ (x : PassView). c.args.node.now.right ≤ x.view.layout.nodes) (sym c.fill_key.ensures.step) c.requires.right))
 
 pub returns-clause-filled : goal.returns-clause-filled

@@ -8,10 +8,10 @@ pub returns-clause-on : goal.returns-clause-on
 returns-clause-on c = goes_on c.args.pass.now c.give.new.pass _ _ c.give.ensures.step (seen_by_turn _ _ _ _ c.give.ensures.past) refl refl c.give.ensures.run.fits c.give.ensures.run.run
 
 pub returns-clause-given : goal.returns-clause-given
-returns-clause-given c = is_given c.args.pass.now c.give.new.pass c.args.node.slot c.give.ensures.step (record { fits = c.is_of_a_run.ensures.fits; run = c.is_of_a_run.ensures.run })
+returns-clause-given c = is_given c.args.pass.now c.give.new.pass c.args.node.slot c.give.ensures.step (record { fits = c.know_run.ensures.fits; run = c.know_run.ensures.run })
 
 pub returns-clause-others : goal.returns-clause-others
-returns-clause-others c = given_others c.args.pass.now c.give.new.pass c.args.node.slot c.give.ensures.step (record { fits = c.is_of_a_run.ensures.fits; run = c.is_of_a_run.ensures.run })
+returns-clause-others c = given_others c.args.pass.now c.give.new.pass c.args.node.slot c.give.ensures.step (record { fits = c.know_run.ensures.fits; run = c.know_run.ensures.run })
 
 pub returns-clause-only : goal.returns-clause-only
 returns-clause-only c = only_given c.args.pass.now c.give.new.pass c.args.node.slot c.give.ensures.step

@@ -26,20 +26,20 @@ loop-below-init c =
     let p = c.look_edge.new.pass in
     let e = c.look_edge.result in
     let some = c.look_edge.ensures.told.root refl refl in
-    let come = come_first c.args.pass.now p c.args.key e c.first-trail.result c.look_edge.ensures.told c.first-trail.ensures in
+    let come = come_first c.args.pass.now p c.args.key e c.first-unmarked_seek.result c.look_edge.ensures.told c.first-unmarked_seek.ensures in
     record {
-      within = rw c.first-trail.ensures (rw (← c.requires.pinned.own.layout) c.look_edge.ensures.told.within);
+      within = rw c.first-unmarked_seek.ensures (rw (← c.requires.pinned.own.layout) c.look_edge.ensures.told.within);
       finding = record {
-        walk = ([], rw c.first-trail.ensures (refl, refl, some, ap (λ (s : PassView). s.view.log) c.look_edge.ensures.step));
-        known = rw c.first-trail.ensures (c.look_edge.ensures.told.learned.leads some);
+        walk = ([], rw c.first-unmarked_seek.ensures (refl, refl, some, ap (λ (s : PassView). s.view.log) c.look_edge.ensures.step));
+        known = rw c.first-unmarked_seek.ensures (c.look_edge.ensures.told.learned.leads some);
         come = come;
       };
       on = c.look_edge.ensures.on;
       only = c.look_edge.ensures.only;
       walking = λ root. record {
-        walk = rw c.first-trail.ensures (refl, refl, some, ap (λ (s : PassView). s.view.log) c.look_edge.ensures.step);
-        at = rw c.first-trail.ensures (at_begin (Tells p) e (c.look_edge.ensures.on.keeps (KnowsSlot 1) root) (c.look_edge.ensures.on.keeps (KnowsSlot 2) c.requires.known) c.look_edge.ensures.told.learned some);
-        within = rw c.first-trail.ensures (rw (← c.requires.pinned.own.layout) c.look_edge.ensures.told.within);
+        walk = rw c.first-unmarked_seek.ensures (refl, refl, some, ap (λ (s : PassView). s.view.log) c.look_edge.ensures.step);
+        at = rw c.first-unmarked_seek.ensures (at_begin (Tells p) e (c.look_edge.ensures.on.keeps (KnowsSlot 1) root) (c.look_edge.ensures.on.keeps (KnowsSlot 2) c.requires.known) c.look_edge.ensures.told.learned some);
+        within = rw c.first-unmarked_seek.ensures (rw (← c.requires.pinned.own.layout) c.look_edge.ensures.told.within);
         short = omega arith;
         on = c.look_edge.ensures.on;
         only = c.look_edge.ensures.only;
@@ -52,7 +52,7 @@ loop-below-preserved c =
     let o = c.args.pass.now in
     let p = c.loop-below.pass in
     let q = c.read_node-on.new.pass in
-    let t = c.loop-below.trail in
+    let t = c.loop-below.unmarked_seek in
     let on = c.read_node-on.result in
     let L = c.args.shared.now.layout in
     let some : on.next.slot ≢ 0 = c.is_null.ensures.no c.if-is_null.false in
@@ -61,13 +61,13 @@ loop-below-preserved c =
     let plain : t.edge.tag ≡ false = (or_parts t.edge.flag t.edge.tag (sym c.is_marked.ensures ∙ c.if-is_marked.false)).1 in
     let none' : chain_onto t [] ≡ [] = no_chain t [] plain in
     record {
-      within = rw c.further-trail.ensures.edge c.read_node-on.ensures.within;
-      finding = finds_on L c.args.key c.loop-below.below o p q t on c.loop-below.invariant.finding read told some c.further-trail.result c.further-trail.ensures.spot c.further-trail.ensures.edge;
+      within = rw c.further-unmarked_seek.ensures.edge c.read_node-on.ensures.within;
+      finding = finds_on L c.args.key c.loop-below.below o p q t on c.loop-below.invariant.finding read told some c.further-unmarked_seek.result c.further-unmarked_seek.ensures.seek_record c.further-unmarked_seek.ensures.edge;
       on = goes_then o p q c.loop-below.invariant.on c.read_node-on.ensures.on;
       only = only_then o p q c.loop-below.invariant.only c.read_node-on.ensures.only;
-      walking = λ root. subst (λ chain. IsWalking L c.args.key (c.loop-below.below + 1) o q c.further-trail.result chain) none'
+      walking = λ root. subst (λ chain. IsWalking L c.args.key (c.loop-below.below + 1) o q c.further-unmarked_seek.result chain) none'
           (walks_on L c.args.key c.loop-below.below o p q t [] on (c.loop-below.invariant.walking root) read c.read_node-on.ensures.on c.read_node-on.ensures.only told
-          some c.read_node-on.ensures.within (rw none' (omega arith)) c.further-trail.result c.further-trail.ensures.spot c.further-trail.ensures.edge);
+          some c.read_node-on.ensures.within (rw none' (omega arith)) c.further-unmarked_seek.result c.further-unmarked_seek.ensures.seek_record c.further-unmarked_seek.ensures.edge);
     }
 
 pub returns-then-is_null : goal.returns-then-is_null
@@ -75,7 +75,7 @@ returns-then-is_null c =
     let o = c.args.pass.now in
     let p = c.loop-below.pass in
     let q = c.read_node-on.new.pass in
-    let t = c.loop-below.trail in
+    let t = c.loop-below.unmarked_seek in
     let on = c.read_node-on.result in
     let L = c.args.shared.now.layout in
     let told : OnwardTold p q c.args.key t.edge.slot on.found on.side on.next = subst (λ n. OnwardTold p q c.args.key n on.found on.side on.next) c.slot-node.ensures c.read_node-on.ensures.told in
@@ -86,9 +86,9 @@ returns-then-is_null c =
     let null = c.is_null.ensures.yes c.if-is_null.true in
     let out = finds_out L c.args.key c.loop-below.below o p q t on c.loop-below.invariant.finding read told null (omega (arith, below, size, layout)) in
     record {
-      came = rw (c.end_at.ensures.spot ∙ c.spot-then-is_null.ensures, c.end_at.ensures.key) out;
+      came = rw (c.end_at.ensures.seek_record ∙ c.seek_record-then-is_null.ensures, c.end_at.ensures.key) out;
       remembers = λ root. walks_out L c.args.key c.loop-below.below o p q t [] on (c.loop-below.invariant.walking root) read c.read_node-on.ensures.on c.read_node-on.ensures.only told
-          null (omega (arith, below, size, layout)) c.end_at.result (c.end_at.ensures.spot ∙ c.spot-then-is_null.ensures) c.end_at.ensures.key;
+          null (omega (arith, below, size, layout)) c.end_at.result (c.end_at.ensures.seek_record ∙ c.seek_record-then-is_null.ensures) c.end_at.ensures.key;
       on = goes_then o p q c.loop-below.invariant.on c.read_node-on.ensures.on;
       only = only_then o p q c.loop-below.invariant.only c.read_node-on.ensures.only;
     }

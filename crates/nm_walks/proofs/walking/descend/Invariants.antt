@@ -6,9 +6,9 @@ use Rattle.nm_walks.proofs.walking.descend.Given as goal
 
 abbrev pub invariant-loop-below : goal.invariant-loop-below
 invariant-loop-below l = record {
-  within : l.trail.edge.slot ≤ l.shared.layout.nodes;
-  finding : IsFinding l.key l.below l.fn.pass l.pass l.trail;
+  within : l.unmarked_seek.edge.slot ≤ l.shared.layout.nodes;
+  finding : IsFinding l.key l.below l.fn.pass l.pass l.unmarked_seek;
   on : GoesOn l.fn.pass l.pass;
   only : OnlyLooks l.fn.pass l.pass;
-  walking : Tells l.fn.pass (KnowsSlot 1) → IsWalking l.shared.layout l.key l.below l.fn.pass l.pass l.trail [];
+  walking : Tells l.fn.pass (KnowsSlot 1) → IsWalking l.shared.layout l.key l.below l.fn.pass l.pass l.unmarked_seek [];
 }

@@ -16,7 +16,7 @@ loop-below-preserved c =
     let o = c.args.pass.now in
     let p = c.loop-below.pass in
     let q = c.read_node-on.new.pass in
-    let t = c.loop-below.spot in
+    let t = c.loop-below.seek_record in
     let on = c.read_node-on.result in
     let L = c.args.shared.now.layout in
     let some : on.next.slot ≢ 0 = (c.stops.ensures.no c.if-stops.false).0 in
@@ -28,11 +28,11 @@ loop-below-preserved c =
     let layout = ap reach c.layout-layout.ensures in
     record {
       inside = omega (arith, below, size, layout);
-      walking = subst (λ chain. IsWalking L c.args.key (c.loop-below._below + 1) o q c.further-spot.result chain) (sym more)
+      walking = subst (λ chain. IsWalking L c.args.key (c.loop-below._below + 1) o q c.further-seek_record.result chain) (sym more)
           (walks_on L c.args.key c.loop-below._below o p q t c.loop-below.chain.items on c.loop-below.invariant.walking read c.read_node-on.ensures.on c.read_node-on.ensures.only told
-          some c.read_node-on.ensures.within (rw (← more) (c.extend.ensures.short c.if-not-extend.false)) c.further-spot.result c.further-spot.ensures.spot c.further-spot.ensures.edge);
+          some c.read_node-on.ensures.within (rw (← more) (c.extend.ensures.short c.if-not-extend.false)) c.further-seek_record.result c.further-seek_record.ensures.seek_record c.further-seek_record.ensures.edge);
       narrowed = narrowed_on L c.args.key c.loop-below._below o p q t c.loop-below.chain.items on c.loop-below.invariant.walking read told
-          (c.stops.ensures.no c.if-stops.false).1 c.further-spot.result c.further-spot.ensures.spot;
+          (c.stops.ensures.no c.if-stops.false).1 c.further-seek_record.result c.further-seek_record.ensures.seek_record;
     }
 
 pub returns-then-stops : goal.returns-then-stops
@@ -40,7 +40,7 @@ returns-then-stops c =
     let o = c.args.pass.now in
     let p = c.loop-below.pass in
     let q = c.read_node-on.new.pass in
-    let t = c.loop-below.spot in
+    let t = c.loop-below.seek_record in
     let on = c.read_node-on.result in
     let told : OnwardTold p q c.args.key t.edge.slot on.found on.side on.next = subst (λ n. OnwardTold p q c.args.key n on.found on.side on.next) c.slot-node.ensures c.read_node-on.ensures.told in
     let read : Reads c.args.key t.edge.slot p.view.log q.view.log on = subst (λ n. Reads c.args.key n p.view.log q.view.log on) c.slot-node.ensures c.read_node-on.ensures.looks in
@@ -50,7 +50,7 @@ returns-then-stops c =
     let size = c.reach-below-end.ensures.reach in
     let layout = ap reach c.layout-layout.ensures in
     let stopped = stops_here c.args.shared.now c.requires.radix c.args.key c.requires.key c.loop-below._below o p q t c.loop-below.chain.items on walking read c.read_node-on.ensures.on told (pinned_in_still c.args.shared.now o q goes c.requires.pinned)
-    (c.stops.ensures.yes c.if-stops.true) (omega (arith, below, size, layout)) c.loop-below.invariant.narrowed c.end_at.result c.end_at.ensures.spot c.end_at.ensures.key in
+    (c.stops.ensures.yes c.if-stops.true) (omega (arith, below, size, layout)) c.loop-below.invariant.narrowed c.end_at.result c.end_at.ensures.seek_record c.end_at.ensures.key in
     record {
       walk = (stopped.0.walk, stopped.0.few);
       came = stopped.0;
@@ -70,7 +70,7 @@ returns-then-not-extend-clause-walk c =
     let o = c.args.pass.now in
     let p = c.loop-below.pass in
     let q = c.read_node-on.new.pass in
-    let t = c.loop-below.spot in
+    let t = c.loop-below.seek_record in
     let on = c.read_node-on.result in
     let read : Reads c.args.key t.edge.slot p.view.log q.view.log on = subst (λ n. Reads c.args.key n p.view.log q.view.log on) c.slot-node.ensures c.read_node-on.ensures.looks in
     let walking = c.loop-below.invariant.walking in
@@ -90,4 +90,4 @@ returns-clause-walk c =
     let end = c.loop-below-test.false in
     let size = c.reach-below-end.ensures.reach in
     let layout = ap reach c.layout-layout.ensures in
-    inl (too_long c.args.shared.now c.args.key c.requires.key c.loop-below._below o.view.log c.loop-below.spot c.loop-below.chain.items p (pinned_in_still c.args.shared.now o p walking.on c.requires.pinned) walking.walk (omega (arith, inside, end, size, layout)))
+    inl (too_long c.args.shared.now c.args.key c.requires.key c.loop-below._below o.view.log c.loop-below.seek_record c.loop-below.chain.items p (pinned_in_still c.args.shared.now o p walking.on c.requires.pinned) walking.walk (omega (arith, inside, end, size, layout)))

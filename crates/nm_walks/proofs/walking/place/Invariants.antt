@@ -7,6 +7,6 @@ use Rattle.nm_walks.proofs.walking.place.Given as goal
 abbrev pub invariant-loop-below : goal.invariant-loop-below
 invariant-loop-below l = record {
   inside : l._below + 1 ≤ reach l.shared.layout;
-  walking : IsWalking l.shared.layout l.key l._below l.fn.pass l.pass l.spot l.chain.items;
-  narrowed : IsNarrowed l.fn.pass l.pass l.key l.spot.parent l.spot.side;
+  walking : IsWalking l.shared.layout l.key l._below l.fn.pass l.pass l.seek_record l.chain.items;
+  narrowed : IsNarrowed l.fn.pass l.pass l.key l.seek_record.parent l.seek_record.side;
 }

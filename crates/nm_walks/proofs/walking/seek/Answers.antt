@@ -15,7 +15,7 @@ pub loop-below-preserved : goal.loop-below-preserved
 loop-below-preserved c =
     let p = c.loop-below.pass in
     let q = c.read_node-on.new.pass in
-    let t = c.loop-below.spot in
+    let t = c.loop-below.seek_record in
     let on = c.read_node-on.result in
     let L = c.args.shared.now.layout in
     let some : on.next.slot ≢ 0 = c.is_null.ensures.no c.if-is_null.false in
@@ -27,16 +27,16 @@ loop-below-preserved c =
     let layout = ap reach c.layout-layout.ensures in
     record {
       inside = omega (arith, below, size, layout);
-      walking = subst (λ chain. IsWalking L c.args.key (c.loop-below._below + 1) c.args.pass.now q c.further-spot.result chain) (sym more)
+      walking = subst (λ chain. IsWalking L c.args.key (c.loop-below._below + 1) c.args.pass.now q c.further-seek_record.result chain) (sym more)
           (walks_on L c.args.key c.loop-below._below c.args.pass.now p q t c.loop-below.chain.items on c.loop-below.invariant.walking read c.read_node-on.ensures.on c.read_node-on.ensures.only told
-          some c.read_node-on.ensures.within (rw (← more) (c.extend.ensures.short c.if-not-extend.false)) c.further-spot.result c.further-spot.ensures.spot c.further-spot.ensures.edge);
+          some c.read_node-on.ensures.within (rw (← more) (c.extend.ensures.short c.if-not-extend.false)) c.further-seek_record.result c.further-seek_record.ensures.seek_record c.further-seek_record.ensures.edge);
     }
 
 pub returns-then-is_null-clause-came : goal.returns-then-is_null-clause-came
 returns-then-is_null-clause-came c =
     let p = c.loop-below.pass in
     let q = c.read_node-on.new.pass in
-    let t = c.loop-below.spot in
+    let t = c.loop-below.seek_record in
     let on = c.read_node-on.result in
     let told : OnwardTold p q c.args.key t.edge.slot on.found on.side on.next = subst (λ n. OnwardTold p q c.args.key n on.found on.side on.next) c.slot-node.ensures c.read_node-on.ensures.told in
     let read : Reads c.args.key t.edge.slot p.view.log q.view.log on = subst (λ n. Reads c.args.key n p.view.log q.view.log on) c.slot-node.ensures c.read_node-on.ensures.looks in
@@ -44,21 +44,21 @@ returns-then-is_null-clause-came c =
     let L = c.reach-below-end.ensures.reach in
     let layout = ap reach c.layout-layout.ensures in
     walks_out c.args.shared.now.layout c.args.key c.loop-below._below c.args.pass.now p q t c.loop-below.chain.items on c.loop-below.invariant.walking read c.read_node-on.ensures.on c.read_node-on.ensures.only told
-    (c.is_null.ensures.yes c.if-is_null.true) (omega (arith, below, L, layout)) c.end_at.result c.end_at.ensures.spot c.end_at.ensures.key
+    (c.is_null.ensures.yes c.if-is_null.true) (omega (arith, below, L, layout)) c.end_at.result c.end_at.ensures.seek_record c.end_at.ensures.key
 
 pub returns-then-is_null-clause-walk : goal.returns-then-is_null-clause-walk
 returns-then-is_null-clause-walk c = let came = returns-then-is_null-clause-came c in (came.walk, came.few)
 
 pub returns-in-Ended-clause-steps : goal.returns-in-Ended-clause-steps
-returns-in-Ended-clause-steps c = (end_adds c.args.shared.now.layout c.args.key c.args.pass.now.view.log c.descend.new.pass.view.log c.in-Ended.end.spot _ c.in-Ended.end.key (c.in-Ended.ensures.remembers c.requires.root).walk).steps
+returns-in-Ended-clause-steps c = (end_adds c.args.shared.now.layout c.args.key c.args.pass.now.view.log c.descend.new.pass.view.log c.in-Ended.end.seek_record _ c.in-Ended.end.key (c.in-Ended.ensures.remembers c.requires.root).walk).steps
 
 pub returns-then-is_null-clause-steps : goal.returns-then-is_null-clause-steps
 returns-then-is_null-clause-steps c =
-    (end_adds c.args.shared.now.layout c.args.key c.args.pass.now.view.log c.read_node-on.new.pass.view.log c.end_at.result.spot c.loop-below.chain.items c.end_at.result.key (returns-then-is_null-clause-came c).walk).steps
+    (end_adds c.args.shared.now.layout c.args.key c.args.pass.now.view.log c.read_node-on.new.pass.view.log c.end_at.result.seek_record c.loop-below.chain.items c.end_at.result.key (returns-then-is_null-clause-came c).walk).steps
 
 pub returns-then-not-extend-clause-steps : goal.returns-then-not-extend-clause-steps
 returns-then-not-extend-clause-steps c =
-    let above = (walk_adds c.args.key c.loop-below._below c.args.pass.now.view.log c.loop-below.pass.view.log c.loop-below.spot c.loop-below.chain.items c.loop-below.invariant.walking.walk).steps in
+    let above = (walk_adds c.args.key c.loop-below._below c.args.pass.now.view.log c.loop-below.pass.view.log c.loop-below.seek_record c.loop-below.chain.items c.loop-below.invariant.walking.walk).steps in
     let last = (reads_add c.args.key c.slot-node.result c.loop-below.pass.view.log c.read_node-on.new.pass.view.log c.read_node-on.result c.read_node-on.ensures.looks).steps in
     let below = c.loop-below-test.true in
     let L = c.reach-below-end.ensures.reach in
@@ -67,7 +67,7 @@ returns-then-not-extend-clause-steps c =
 
 pub returns-clause-steps : goal.returns-clause-steps
 returns-clause-steps c =
-    let above = (walk_adds c.args.key c.loop-below._below c.args.pass.now.view.log c.loop-below.pass.view.log c.loop-below.spot c.loop-below.chain.items c.loop-below.invariant.walking.walk).steps in
+    let above = (walk_adds c.args.key c.loop-below._below c.args.pass.now.view.log c.loop-below.pass.view.log c.loop-below.seek_record c.loop-below.chain.items c.loop-below.invariant.walking.walk).steps in
     let inside = c.loop-below.invariant.inside in
     omega (arith, above, inside)
 
@@ -76,7 +76,7 @@ returns-then-not-extend-clause-walk c =
     let o = c.args.pass.now in
     let p = c.loop-below.pass in
     let q = c.read_node-on.new.pass in
-    let t = c.loop-below.spot in
+    let t = c.loop-below.seek_record in
     let on = c.read_node-on.result in
     let read : Reads c.args.key t.edge.slot p.view.log q.view.log on = subst (λ n. Reads c.args.key n p.view.log q.view.log on) c.slot-node.ensures c.read_node-on.ensures.looks in
     let walking = c.loop-below.invariant.walking in
@@ -96,4 +96,4 @@ returns-clause-walk c =
     let end = c.loop-below-test.false in
     let size = c.reach-below-end.ensures.reach in
     let layout = ap reach c.layout-layout.ensures in
-    inl (too_long c.args.shared.now c.args.key c.requires.key c.loop-below._below o.view.log c.loop-below.spot c.loop-below.chain.items p (pinned_in_still c.args.shared.now o p walking.on c.requires.pinned) walking.walk (omega (arith, inside, end, size, layout)))
+    inl (too_long c.args.shared.now c.args.key c.requires.key c.loop-below._below o.view.log c.loop-below.seek_record c.loop-below.chain.items p (pinned_in_still c.args.shared.now o p walking.on c.requires.pinned) walking.walk (omega (arith, inside, end, size, layout)))

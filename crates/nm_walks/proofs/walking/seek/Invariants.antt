@@ -6,5 +6,5 @@ use Rattle.nm_walks.proofs.walking.seek.Given as goal
 abbrev pub invariant-loop-below : goal.invariant-loop-below
 invariant-loop-below l = record {
   inside : l._below + 1 ≤ reach l.shared.layout;
-  walking : IsWalking l.shared.layout l.key l._below l.fn.pass l.pass l.spot l.chain.items;
+  walking : IsWalking l.shared.layout l.key l._below l.fn.pass l.pass l.seek_record l.chain.items;
 }

@@ -7,7 +7,7 @@ use Rattle.nm_set.specs.declared.fault.Fault.TheVariants as fault
 use Rattle.nm_set.specs.Asked.{Asked}
 use Rattle.nm_set.specs.Seats.{MemberView}
 use Rattle.nm_set.specs.Tended.{Retries, TendsHas}
-use Rattle.nm_set.proofs.Disturbances.{contains_disturbed}
+use Rattle.nm_set.proofs.Interferences.{contains_interfered}
 use Rattle.nm_set.proofs.Inside.{of_member}
 use Rattle.nm_set.proofs.Tending.{answered, finishes_nothing, looks_tend, said}
 use Rattle.nm_set.proofs.member.Member.contains.Goals as goal
@@ -15,7 +15,7 @@ use Rattle.nm_set.proofs.member.Member.contains.Goals as goal
 pub returns-in-Ok-clause-did : goal.returns-in-Ok-clause-did
 returns-in-Ok-clause-did c =
     let b = c.args.self.now.tree in
-    let h = c.args.habit.now in
+    let h = c.args.options.now in
     let k = c.args.key in
     let w = c.args.self.now.worker in
     let z = c.has.new.worker in
@@ -26,7 +26,7 @@ returns-in-Ok-clause-did c =
 pub returns-in-Err-clause-did : goal.returns-in-Err-clause-did
 returns-in-Err-clause-did c =
     let b = c.args.self.now.tree in
-    let h = c.args.habit.now in
+    let h = c.args.options.now in
     let k = c.args.key in
     let w = c.args.self.now.worker in
     let m = c.has.new.worker in
@@ -37,26 +37,26 @@ returns-in-Err-clause-did c =
     looks_tend b h k w w z false c.retry.result rest.0 (finishes_nothing b h w rest.1) (subst P c.self.view_is c.retry.ensures.did w (rest.0, did))
 
 pub returns-in-Ok-clause-says : goal.returns-in-Ok-clause-says
-returns-in-Ok-clause-says c = said c.args.self.now.tree c.args.habit.now Has c.args.key c.args.self.now.worker _ _ (returns-in-Ok-clause-did c)
+returns-in-Ok-clause-says c = said c.args.self.now.tree c.args.options.now Has c.args.key c.args.self.now.worker _ _ (returns-in-Ok-clause-did c)
 
 pub returns-in-Err-clause-says : goal.returns-in-Err-clause-says
-returns-in-Err-clause-says c = said c.args.self.now.tree c.args.habit.now Has c.args.key c.args.self.now.worker _ _ (returns-in-Err-clause-did c)
+returns-in-Err-clause-says c = said c.args.self.now.tree c.args.options.now Has c.args.key c.args.self.now.worker _ _ (returns-in-Err-clause-did c)
 
 pub returns-then-not-is_at_rest-clause-says : goal.returns-then-not-is_at_rest-clause-says
-returns-then-not-is_at_rest-clause-says c = said c.args.self.now.tree c.args.habit.now Has c.args.key c.args.self.now.worker _ _ c.contains_untidy.ensures.did
+returns-then-not-is_at_rest-clause-says c = said c.args.self.now.tree c.args.options.now Has c.args.key c.args.self.now.worker _ _ c.contains_untidy.ensures.did
 
-pub returns-then-not-is_at_rest-clause-disturbed : goal.returns-then-not-is_at_rest-clause-disturbed
-returns-then-not-is_at_rest-clause-disturbed c is =
+pub returns-then-not-is_at_rest-clause-interfered : goal.returns-then-not-is_at_rest-clause-interfered
+returns-then-not-is_at_rest-clause-interfered c is =
     let b = c.args.self.now.tree in
-    let h = c.args.habit.now in
+    let h = c.args.options.now in
     let w = c.args.self.now.worker in
     let z = c.contains_untidy.new.self.worker in
-    contains_disturbed b h c.args.key w z (subst (TendsHas b h c.args.key w z) is c.contains_untidy.ensures.did)
+    contains_interfered b h c.args.key w z (subst (TendsHas b h c.args.key w z) is c.contains_untidy.ensures.did)
 
-pub returns-in-Err-clause-disturbed : goal.returns-in-Err-clause-disturbed
-returns-in-Err-clause-disturbed c is =
+pub returns-in-Err-clause-interfered : goal.returns-in-Err-clause-interfered
+returns-in-Err-clause-interfered c is =
     let b = c.args.self.now.tree in
-    let h = c.args.habit.now in
+    let h = c.args.options.now in
     let w = c.args.self.now.worker in
     let z = c.retry.new.self.worker in
-    contains_disturbed b h c.args.key w z (subst (TendsHas b h c.args.key w z) is (returns-in-Err-clause-did c))
+    contains_interfered b h c.args.key w z (subst (TendsHas b h c.args.key w z) is (returns-in-Err-clause-did c))

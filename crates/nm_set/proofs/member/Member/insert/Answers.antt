@@ -7,7 +7,7 @@ use Rattle.nm_set.specs.declared.fault.Fault.TheVariants as fault
 use Rattle.nm_set.specs.Asked.{Asked}
 use Rattle.nm_set.specs.Seats.{MemberView}
 use Rattle.nm_set.specs.Tended.{RetriesInsert, TendsInsert}
-use Rattle.nm_set.proofs.Disturbances.{inserts_held_up}
+use Rattle.nm_set.proofs.Interferences.{inserts_interfered}
 use Rattle.nm_set.proofs.Inside.{of_member}
 use Rattle.nm_set.proofs.Tending.{insert_answered, inserts_tend, full_told, said, was_tidy}
 use Rattle.nm_set.proofs.member.Member.insert.Goals as goal
@@ -15,7 +15,7 @@ use Rattle.nm_set.proofs.member.Member.insert.Goals as goal
 pub returns-in-Ok-clause-did : goal.returns-in-Ok-clause-did
 returns-in-Ok-clause-did c =
     let b = c.args.self.now.tree in
-    let h = c.args.habit.now in
+    let h = c.args.options.now in
     let k = c.args.key in
     let w = c.args.self.now.worker in
     let z = c.insert.new.worker in
@@ -26,7 +26,7 @@ returns-in-Ok-clause-did c =
 pub returns-in-Err-clause-did : goal.returns-in-Err-clause-did
 returns-in-Err-clause-did c =
     let b = c.args.self.now.tree in
-    let h = c.args.habit.now in
+    let h = c.args.options.now in
     let k = c.args.key in
     let w = c.args.self.now.worker in
     let m = c.insert.new.worker in
@@ -37,18 +37,18 @@ returns-in-Err-clause-did c =
     inserts_tend b h k w w z c.retry_insert.result (was_tidy b h w tidy) (subst P c.self.view_is c.retry_insert.ensures.did w (tidy.free, did))
 
 pub returns-in-Ok-clause-says : goal.returns-in-Ok-clause-says
-returns-in-Ok-clause-says c = said c.args.self.now.tree c.args.habit.now Insert c.args.key c.args.self.now.worker _ _ (returns-in-Ok-clause-did c)
+returns-in-Ok-clause-says c = said c.args.self.now.tree c.args.options.now Insert c.args.key c.args.self.now.worker _ _ (returns-in-Ok-clause-did c)
 
 pub returns-in-Err-clause-says : goal.returns-in-Err-clause-says
-returns-in-Err-clause-says c = said c.args.self.now.tree c.args.habit.now Insert c.args.key c.args.self.now.worker _ _ (returns-in-Err-clause-did c)
+returns-in-Err-clause-says c = said c.args.self.now.tree c.args.options.now Insert c.args.key c.args.self.now.worker _ _ (returns-in-Err-clause-did c)
 
 pub returns-then-not-is_tidy-clause-says : goal.returns-then-not-is_tidy-clause-says
-returns-then-not-is_tidy-clause-says c = said c.args.self.now.tree c.args.habit.now Insert c.args.key c.args.self.now.worker _ _ c.insert_untidy.ensures.did
+returns-then-not-is_tidy-clause-says c = said c.args.self.now.tree c.args.options.now Insert c.args.key c.args.self.now.worker _ _ c.insert_untidy.ensures.did
 
 pub returns-then-not-is_tidy-clause-full : goal.returns-then-not-is_tidy-clause-full
 returns-then-not-is_tidy-clause-full c f is =
     let b = c.args.self.now.tree in
-    let h = c.args.habit.now in
+    let h = c.args.options.now in
     let w = c.args.self.now.worker in
     let z = c.insert_untidy.new.self.worker in
     full_told b h c.args.key w z f (subst (TendsInsert b h c.args.key w z) is c.insert_untidy.ensures.did)
@@ -56,15 +56,15 @@ returns-then-not-is_tidy-clause-full c f is =
 pub returns-in-Err-clause-full : goal.returns-in-Err-clause-full
 returns-in-Err-clause-full c f is =
     let b = c.args.self.now.tree in
-    let h = c.args.habit.now in
+    let h = c.args.options.now in
     let w = c.args.self.now.worker in
     let z = c.retry_insert.new.self.worker in
     full_told b h c.args.key w z f (subst (TendsInsert b h c.args.key w z) is (returns-in-Err-clause-did c))
 
-pub returns-then-not-is_tidy-clause-disturbed : goal.returns-then-not-is_tidy-clause-disturbed
-returns-then-not-is_tidy-clause-disturbed c is =
-    inserts_held_up c.args.self.now.tree c.args.habit.now c.args.key c.args.self.now.worker c.insert_untidy.new.self.worker c.insert_untidy.result is c.insert_untidy.ensures.did
+pub returns-then-not-is_tidy-clause-interfered : goal.returns-then-not-is_tidy-clause-interfered
+returns-then-not-is_tidy-clause-interfered c is =
+    inserts_interfered c.args.self.now.tree c.args.options.now c.args.key c.args.self.now.worker c.insert_untidy.new.self.worker c.insert_untidy.result is c.insert_untidy.ensures.did
 
-pub returns-in-Err-clause-disturbed : goal.returns-in-Err-clause-disturbed
-returns-in-Err-clause-disturbed c is =
-    inserts_held_up c.args.self.now.tree c.args.habit.now c.args.key c.args.self.now.worker c.retry_insert.new.self.worker c.retry_insert.result is (returns-in-Err-clause-did c)
+pub returns-in-Err-clause-interfered : goal.returns-in-Err-clause-interfered
+returns-in-Err-clause-interfered c is =
+    inserts_interfered c.args.self.now.tree c.args.options.now c.args.key c.args.self.now.worker c.retry_insert.new.self.worker c.retry_insert.result is (returns-in-Err-clause-did c)

@@ -13,14 +13,14 @@ use Rattle.nm_set.proofs.member.Member.insert_untidy.Goals as goal
 pub returns-in-Err-clause-did : goal.returns-in-Err-clause-did
 returns-in-Err-clause-did c =
     let b = c.args.self.now.tree in
-    let h = c.args.habit.now in
+    let h = c.args.options.now in
     let k = c.args.key in
     not_tidied (λ x y told. InsertsTended b h k x y (Err (inserting.Other c.in-Err.fault))) b h Insert k c.args.self.now.worker c.make_tidy.new.self.worker c.in-Err.fault (λ pending is. inl (pending, ap (λ (f : Fault). Err f) is)) c.in-Err.ensures.did
 
 pub returns-in-Ok-clause-did : goal.returns-in-Ok-clause-did
 returns-in-Ok-clause-did c =
     let b = c.args.self.now.tree in
-    let h = c.args.habit.now in
+    let h = c.args.options.now in
     let k = c.args.key in
     let y = c.make_tidy.new.self.worker in
     let z = c.try_insert.new.self.worker in
@@ -30,7 +30,7 @@ returns-in-Ok-clause-did c =
 pub returns-in-Err-try_insert-clause-did : goal.returns-in-Err-try_insert-clause-did
 returns-in-Err-try_insert-clause-did c =
     let b = c.args.self.now.tree in
-    let h = c.args.habit.now in
+    let h = c.args.options.now in
     let k = c.args.key in
     let y = c.make_tidy.new.self.worker in
     let m = c.try_insert.new.self.worker in

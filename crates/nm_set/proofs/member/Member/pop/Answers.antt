@@ -9,13 +9,13 @@ use Rattle.nm_set.proofs.member.Member.pop.Goals as goal
 pub returns-in_default-clause-did : goal.returns-in_default-clause-did
 returns-in_default-clause-did c =
     let free : c.args.self.now.worker.held ≡ None = search rules in
-    let told = pending_pop c.args.end c.args.self.now.tree c.args.habit.now c.args.self.now.worker c.finish_with_retries.new.self.worker c.in_default.field-0 free c.in_default.ensures.did in
+    let told = pending_pop c.args.end c.args.self.now.tree c.args.options.now c.args.self.now.worker c.finish_with_retries.new.self.worker c.in_default.field-0 free c.in_default.ensures.did in
     inr (free, record { did = inl (told.0, refl); tends = told.1 })
 
 pub returns-clause-did : goal.returns-clause-did
 returns-clause-did c =
     let b = c.args.self.now.tree in
-    let h = c.args.habit.now in
+    let h = c.args.options.now in
     let x = c.finish_with_retries.new.self.worker in
     let z = c.pop_with_retries.new.self.worker in
     let free : c.args.self.now.worker.held ≡ None = search rules in

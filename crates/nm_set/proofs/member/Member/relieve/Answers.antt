@@ -26,12 +26,12 @@ returns-clause-did c =
       collects = collects;
     } in
     let seen : AreSeen r = record {
-      enough = let least = c.is_of_a_run.ensures.fits.least in omega (arith, least);
-      first = c.is_of_a_run.ensures.seen;
-      second = c.is_of_a_run-2.ensures.seen;
-      third = c.is_of_a_run-3.ensures.seen;
-      last = c.is_of_a_run-4.ensures.seen;
-      between = c.is_of_a_run.ensures.between;
-      between_again = c.is_of_a_run-2.ensures.between;
+      enough = let least = c.know_run.ensures.fits.least in omega (arith, least);
+      first = c.know_run.ensures.seen;
+      second = c.know_run-2.ensures.seen;
+      third = c.know_run-3.ensures.seen;
+      last = c.know_run-4.ensures.seen;
+      between = c.know_run.ensures.between;
+      between_again = c.know_run-2.ensures.between;
     } in
     subst (λ (behind : Option ℕ). FindsBehind b w z behind) (sym c.behind_of.ensures) (finds_behind b w z r seen)

@@ -13,7 +13,7 @@ use Rattle.nm_set.proofs.member.Member.remove_untidy.Goals as goal
 pub returns-in_err-make_tidy-clause-did : goal.returns-in_err-make_tidy-clause-did
 returns-in_err-make_tidy-clause-did c =
     let b = c.args.self.now.tree in
-    let h = c.args.habit.now in
+    let h = c.args.options.now in
     let k = c.args.key in
     let why = c.in_err-make_tidy.field-0.0 in
     let p = err_from_is_err_and c.from_residual.result c.from_residual.ensures.1 in
@@ -22,17 +22,17 @@ returns-in_err-make_tidy-clause-did c =
 pub returns-in-Ok-clause-did : goal.returns-in-Ok-clause-did
 returns-in-Ok-clause-did c =
     let b = c.args.self.now.tree in
-    let h = c.args.habit.now in
+    let h = c.args.options.now in
     let k = c.args.key in
     let y = c.make_tidy.new.self.worker in
     let z = c.try_remove.new.self.worker in
     let did = subst (λ (d : TreeView). Asked (LeavesDelete d.layout h.tries k) y z (Ok c.in-Ok.answer)) c.make_tidy.ensures.tree c.in-Ok.ensures.did in
-    deletes_tend b h k c.args.self.now.worker y z (Ok c.in-Ok.answer) c.in_ok-make_tidy.ensures.did c.is_of_a_run.ensures.idle (delete_answered b h k y z c.in-Ok.answer did)
+    deletes_tend b h k c.args.self.now.worker y z (Ok c.in-Ok.answer) c.in_ok-make_tidy.ensures.did c.know_run.ensures.idle (delete_answered b h k y z c.in-Ok.answer did)
 
 pub returns-in-Err-clause-did : goal.returns-in-Err-clause-did
 returns-in-Err-clause-did c =
     let b = c.args.self.now.tree in
-    let h = c.args.habit.now in
+    let h = c.args.options.now in
     let k = c.args.key in
     let y = c.make_tidy.new.self.worker in
     let m = c.try_remove.new.self.worker in
@@ -40,4 +40,4 @@ returns-in-Err-clause-did c =
     let same = c.make_tidy.ensures.tree in
     let P : TreeView → Type 0 = λ d. Asked (LeavesDelete d.layout h.tries k) y m (Err c.in-Err.fault) → RetriesDelete d h k y z c.retry_remove.result in
     let first = subst (λ (d : TreeView). Asked (LeavesDelete d.layout h.tries k) y m (Err c.in-Err.fault)) same c.in-Err.ensures.did in
-    deletes_tend b h k c.args.self.now.worker y z c.retry_remove.result c.in_ok-make_tidy.ensures.did c.is_of_a_run.ensures.idle (subst P (c.try_remove.ensures.tree ∙ same) (c.retry_remove.ensures.did y) first)
+    deletes_tend b h k c.args.self.now.worker y z c.retry_remove.result c.in_ok-make_tidy.ensures.did c.know_run.ensures.idle (subst P (c.try_remove.ensures.tree ∙ same) (c.retry_remove.ensures.did y) first)

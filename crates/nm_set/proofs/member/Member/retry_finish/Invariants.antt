@@ -8,5 +8,5 @@ use Rattle.nm_set.proofs.member.Member.retry_finish.Given as goal
 abbrev pub invariant-loop-round : goal.invariant-loop-round
 invariant-loop-round l = record {
   tree : l.self.tree ≡ l.fn.self.tree;
-  each : InARow (λ x y. LeavesFinish l.fn.self.tree.layout l.habit.tries x y (Err Unfinished)) l._round l.fn.self.worker l.self.worker;
+  each : InARow (λ x y. LeavesFinish l.fn.self.tree.layout l.options.tries x y (Err Unfinished)) l._round l.fn.self.worker l.self.worker;
 }

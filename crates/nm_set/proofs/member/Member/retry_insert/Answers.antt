@@ -8,7 +8,7 @@ use Rattle.nm_set.proofs.member.Member.retry_insert.Goals as goal
 pub returns-clause-did : goal.returns-clause-did
 returns-clause-did c =
     let b = c.args.self.now.tree in
-    let h = c.args.habit.now in
+    let h = c.args.options.now in
     let k = c.args.key in
     let x = c.retry-told.new.self.worker in
     let y = c.relieve-behind.new.self.worker in

@@ -7,7 +7,7 @@ use Rattle.nm_set.proofs.member.Member.retry_remove.Goals as goal
 
 pub returns-in-Ok-clause-did : goal.returns-in-Ok-clause-did
 returns-in-Ok-clause-did c =
-    let h = c.args.habit.now in
+    let h = c.args.options.now in
     let x = c.retry-told.new.self.worker in
     let z = c.finish_with_retries.new.self.worker in
     let rest = subst (λ (d : TreeView). FinishesPending d h x z (Ok c.in-Ok.answer)) c.retry-told.ensures.tree c.in-Ok.ensures.did in
@@ -15,7 +15,7 @@ returns-in-Ok-clause-did c =
 
 pub returns-in-Err-clause-did : goal.returns-in-Err-clause-did
 returns-in-Err-clause-did c =
-    let h = c.args.habit.now in
+    let h = c.args.options.now in
     let x = c.retry-told.new.self.worker in
     let z = c.finish_with_retries.new.self.worker in
     let rest = subst (λ (d : TreeView). FinishesPending d h x z (Err c.in-Err.fault)) c.retry-told.ensures.tree c.in-Err.ensures.did in

@@ -10,7 +10,7 @@ join_seat-requires c = (search rules, search rules, c.note.invariant.1, omega (a
 -- the view that has heard is as it was but for what it heard
 pub load-requires : goal.load-requires
 load-requires c =
-    may_tie _ _ _ _ _ c.self.invariant (search rules) (ap (λ m. m.0.spent) c.join_seat.ensures.2 ∙ c.pass.invariant.alive) (ap (λ m. m.1) c.join_seat.ensures.2 ∙ c.pass.invariant.empty)
+    may_tie _ _ _ _ _ c.self.invariant (search rules) (ap (λ m. m.0.resigned) c.join_seat.ensures.2 ∙ c.pass.invariant.alive) (ap (λ m. m.1) c.join_seat.ensures.2 ∙ c.pass.invariant.empty)
     (ap (λ m. m.0.layout) c.join_seat.ensures.2 ∙ search rules) c.epoch-epoch.ensures
 
 pub invariant_of-pass : goal.invariant_of-pass

@@ -18,7 +18,7 @@ join_seat-requires c = (
 -- the joined view's layout is the table's, and it is alive
 pub load-requires : goal.load-requires
 load-requires c =
-    may_tie _ _ _ _ _ c.self.invariant (search rules) (ap (λ m. m.0.spent) c.join_seat.ensures.2 ∙ c.pass.invariant.alive) (ap (λ m. m.1) c.join_seat.ensures.2 ∙ c.pass.invariant.empty)
+    may_tie _ _ _ _ _ c.self.invariant (search rules) (ap (λ m. m.0.resigned) c.join_seat.ensures.2 ∙ c.pass.invariant.alive) (ap (λ m. m.1) c.join_seat.ensures.2 ∙ c.pass.invariant.empty)
     (ap (λ m. m.0.layout) c.join_seat.ensures.2 ∙ search rules) c.epoch-epoch.ensures
 
 pub invariant_of-result : goal.invariant_of-result

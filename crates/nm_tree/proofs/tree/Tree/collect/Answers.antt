@@ -11,28 +11,28 @@ use Rattle.nm_tree.proofs.RunningTurns.{collected_in_grace}
 use Rattle.nm_tree.proofs.tree.Tree.collect.Goals as goal
 
 -- the collection is one of all queues
-does : (c : goal.After-is_of_a_run-2) → Collects c.self.inside.shared.layout.nodes c.worker.inside.pass c.collect-collected.new.pass c.worker.inside.queues.items c.collect-collected.new.queues c.collect-collected.result
+does : (c : goal.After-know_run-2) → Collects c.self.inside.shared.layout.nodes c.worker.inside.pass c.collect-collected.new.pass c.worker.inside.queues.items c.collect-collected.new.queues c.collect-collected.result
 does c =
     subst (λ (hs : List HeldQueue). Collects c.self.inside.shared.layout.nodes c.worker.inside.pass c.collect-collected.new.pass hs c.collect-collected.new.queues c.collect-collected.result) c.as_mut_slice.ensures.value
     c.collect-collected.ensures.after
 
 -- which are as many as before
-left : (c : goal.After-is_of_a_run-2) → (with_items c.worker.inside.queues c.collect-collected.new.queues).items ≡ c.collect-collected.new.queues
+left : (c : goal.After-know_run-2) → (with_items c.worker.inside.queues c.collect-collected.new.queues).items ≡ c.collect-collected.new.queues
 left c =
     with_items_is c.worker.inside.queues c.collect-collected.new.queues (sym (c.worker.inside.queues.ok.0 ∙ as_many_queues c.collect-collected.result.epoch c.worker.inside.queues.items c.collect-collected.new.queues (does c).lost))
 
 -- the worker as it was, and with queues
-before : goal.After-is_of_a_run-2 → WorkerView
+before : goal.After-know_run-2 → WorkerView
 before c = record { pass = c.worker.inside.pass; queues = c.worker.inside.queues.items; pending = pending_in c.worker.inside.standing; held = held_in c.worker.inside.standing; fit = c.worker.inside.workspace.placement }
 
-after : goal.After-is_of_a_run-2 → List HeldQueue → WorkerView
+after : goal.After-know_run-2 → List HeldQueue → WorkerView
 after c hs = record { pass = c.collect-collected.new.pass; queues = hs; pending = pending_in c.worker.inside.standing; held = held_in c.worker.inside.standing; fit = c.collect-collected.new.placement }
 
 pub invariant_of-worker : goal.invariant_of-worker
 unfolding after
 invariant_of-worker c =
     subst (λ (hs : List HeldQueue). IsWorker (after c hs) c.worker.inside.home c.worker.inside.queues.cap) (sym (left c))
-    (collected _ c.worker.inside.home c.collect-collected.new.pass c.collect-collected.new.queues refl c.worker.invariant (record { fits = c.is_of_a_run.ensures.fits; run = c.is_of_a_run.ensures.run }) (does c))
+    (collected _ c.worker.inside.home c.collect-collected.new.pass c.collect-collected.new.queues refl c.worker.invariant (record { fits = c.know_run.ensures.fits; run = c.know_run.ensures.run }) (does c))
 
 pub returns : goal.returns
 unfolding before after
@@ -44,7 +44,7 @@ returns c =
       did = d.part;
       freed = d.freed;
       lost = d.lost;
-      grace = collected_in_grace c.collect-collected.new.pass.view c.worker.inside.pass.view.log c.collect-collected.result.epoch c.worker.inside.queues.items c.is_of_a_run-2.ensures.fits c.is_of_a_run-2.ensures.seen d.part;
+      grace = collected_in_grace c.collect-collected.new.pass.view c.worker.inside.pass.view.log c.collect-collected.result.epoch c.worker.inside.queues.items c.know_run-2.ensures.fits c.know_run-2.ensures.seen d.part;
       blocks = d.blocks;
       newest = d.newest;
       place = (refl, refl);

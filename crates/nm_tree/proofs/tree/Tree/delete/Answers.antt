@@ -5,7 +5,7 @@ use Rattle.nm_steps.proofs.Seeing.{seen_all}
 use Rattle.nm_tree.specs.Workers.{WorkerView, held_in, pending_in}
 use Rattle.nm_tree.proofs.QueueLists.{lacks_after, stands_within, room_after}
 use Rattle.nm_tree.proofs.Staying.{resting_in, rests_in, rests_as, free_in}
-use Rattle.nm_tree.proofs.Disturbed.{delete_disturbed, delete_lost, delete_alone}
+use Rattle.nm_tree.proofs.Interfered.{delete_interfered, delete_lost, delete_alone}
 use Rattle.nm_tree.proofs.Changing.{kept_there, changed, others_kept}
 use Rattle.nm_calls.specs.declared.deleting.Missed.{Missed}
 use Rattle.nm_calls.specs.Deletes.{DeleteDid, LacksRoomOr, LosesAfterFlag}
@@ -57,7 +57,7 @@ returns-in-Ok-clause-leaves c = record {
       (Ok c.in-Ok.answer) c.self.view_is c.worker.view_is (free_in c.worker.inside.standing (resting_in c.worker.inside.standing (ap (λ (w : WorkerView). w.held) c.worker.view_is ∙ c.requires.free) c.in_default.not-Pending), c.in-Ok.ensures.after.did)
       );
   lacks = search rules;
-  disturbed = λ is. absurd (let no = is in cc);
+  interfered = λ is. absurd (let no = is in cc);
   lost = λ is. absurd (let no = is in cc);
 }
 
@@ -89,10 +89,10 @@ returns-in-Err-Busy-clause-leaves c = record {
       (Err fault.Busy) c.self.view_is c.worker.view_is (free_in c.worker.inside.standing (resting_in c.worker.inside.standing (ap (λ (w : WorkerView). w.held) c.worker.view_is ∙ c.requires.free) c.in_default.not-Pending), (let P : Missed → Type 0 = λ m. DeleteDid c.self.inside.shared.layout c.args.tries c.args.key c.worker.inside.pass.view.log c.delete.new.pass.view.log (Err m) in subst P c.in-Err-Busy.field-0-is c.in-Err-Busy.ensures.after.did))
       );
   lacks = search rules;
-  disturbed = λ is. (
+  interfered = λ is. (
       let P : Missed → Type 0 = λ m. DeleteDid c.self.inside.shared.layout c.args.tries c.args.key c.worker.inside.pass.view.log c.delete.new.pass.view.log (Err m) in
-      delete_disturbed c.self.inside.shared c.args.self.now c.worker.inside.pass c.args.worker.now.pass c.delete.new.pass c.args.key c.args.tries c.self.view_is (ap (λ (x : WorkerView). x.pass) c.worker.view_is)
-      c.is_of_a_run.ensures.seen c.is_of_a_run-in-Err-Busy.ensures.seen c.is_of_a_run.ensures.fits c.delete.ensures.after.same c.delete.ensures.after.past c.requires.own (subst P c.in-Err-Busy.field-0-is c.in-Err-Busy.ensures.after.did)
+      delete_interfered c.self.inside.shared c.args.self.now c.worker.inside.pass c.args.worker.now.pass c.delete.new.pass c.args.key c.args.tries c.self.view_is (ap (λ (x : WorkerView). x.pass) c.worker.view_is)
+      c.know_run.ensures.seen c.know_run-in-Err-Busy.ensures.seen c.know_run.ensures.fits c.delete.ensures.after.same c.delete.ensures.after.past c.requires.own (subst P c.in-Err-Busy.field-0-is c.in-Err-Busy.ensures.after.did)
       );
   lost = λ is. absurd (let no = is in cc);
 }
@@ -101,7 +101,7 @@ pub returns-in-Err-Busy-clause-alone : goal.returns-in-Err-Busy-clause-alone
 returns-in-Err-Busy-clause-alone c alone none is =
     let P : Missed → Type 0 = λ m. DeleteDid c.self.inside.shared.layout c.args.tries c.args.key c.worker.inside.pass.view.log c.delete.new.pass.view.log (Err m) in
     delete_alone c.self.inside.shared c.args.self.now c.worker.inside.pass c.args.worker.now.pass c.delete.new.pass c.args.key c.args.tries c.self.view_is (ap (λ (x : WorkerView). x.pass) c.worker.view_is)
-    c.is_of_a_run.ensures.seen c.is_of_a_run-in-Err-Busy.ensures.seen c.is_of_a_run.ensures.fits c.delete.ensures.after.same c.delete.ensures.after.past c.requires.own alone none
+    c.know_run.ensures.seen c.know_run-in-Err-Busy.ensures.seen c.know_run.ensures.fits c.delete.ensures.after.same c.delete.ensures.after.past c.requires.own alone none
     (subst P c.in-Err-Busy.field-0-is c.in-Err-Busy.ensures.after.did)
 
 pub invariant_of-worker-in-Err-NoMemory : goal.invariant_of-worker-in-Err-NoMemory
@@ -138,7 +138,7 @@ returns-in-Err-NoMemory-clause-leaves c = record {
       let P : Missed → Type 0 = λ m. LacksRoomOr (LosesAfterFlag c.self.inside.shared.layout c.args.tries c.args.key c.worker.inside.pass.view.log c.delete.new.pass.view.log) c.delete.new.held.queue.spare m in
       lacks_after c.worker.inside.home _ _ c.worker.inside.queues.items c.delete.new.held c.worker.invariant.own c.delete.ensures.kept.own (subst P c.in-Err-NoMemory.field-0-is c.in-Err-NoMemory.ensures.refused)
       );
-  disturbed = λ is. absurd (let no = is in cc);
+  interfered = λ is. absurd (let no = is in cc);
   lost = λ is. absurd (let no = is in cc);
 }
 
@@ -177,14 +177,14 @@ returns-in-Err-Unfinished-clause-leaves c = record {
         | inr lost ↦ inr (c.in-Err-Unfinished.leaf, lost)
       ])
       );
-  disturbed = λ is. absurd (let no = is in cc);
+  interfered = λ is. absurd (let no = is in cc);
   lost = λ is. (
       let P : Missed → Type 0 = λ m. LacksRoomOr (LosesAfterFlag c.self.inside.shared.layout c.args.tries c.args.key c.worker.inside.pass.view.log c.delete.new.pass.view.log) c.delete.new.held.queue.spare m in
       (elim (subst P c.in-Err-Unfinished.field-0-is c.in-Err-Unfinished.ensures.refused) [
         | inl less ↦ inl (lacks_after c.worker.inside.home _ _ c.worker.inside.queues.items c.delete.new.held c.worker.invariant.own c.delete.ensures.kept.own less)
         | inr lost ↦ inr
             (delete_lost c.self.inside.shared c.args.self.now c.worker.inside.pass c.args.worker.now.pass c.delete.new.pass c.args.key c.args.tries c.self.view_is (ap (λ (x : WorkerView). x.pass) c.worker.view_is)
-            c.is_of_a_run.ensures.seen c.is_of_a_run-in-Err-Unfinished.ensures.seen c.is_of_a_run.ensures.fits c.delete.ensures.after.same c.delete.ensures.after.past c.requires.own c.in-Err-Unfinished.leaf
+            c.know_run.ensures.seen c.know_run-in-Err-Unfinished.ensures.seen c.know_run.ensures.fits c.delete.ensures.after.same c.delete.ensures.after.past c.requires.own c.in-Err-Unfinished.leaf
             (rw c.in-Err-Unfinished.field-0-is at c.in-Err-Unfinished.ensures.after.stands) lost)
       ])
       );

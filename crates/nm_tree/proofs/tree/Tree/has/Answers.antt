@@ -2,7 +2,7 @@ use Rattle.std.proofs.Common.{rules, ◌≡◌, ap, sym, ◌∙◌}
 use Rattle.nm_steps.proofs.Seeing.{seen_all}
 use Rattle.nm_tree.specs.declared.worker.Standing.TheVariants as standing
 use Rattle.nm_tree.specs.Workers.{WorkerView}
-use Rattle.nm_tree.proofs.Disturbed.{lookup_disturbed, lookup_alone}
+use Rattle.nm_tree.proofs.Interfered.{lookup_interfered, lookup_alone}
 use Rattle.nm_tree.proofs.Quiet.{has_quiet}
 use Rattle.nm_tree.proofs.Staying.{stays_resting, resting_in, free_in}
 use Rattle.nm_tree.proofs.Untouched.{has_pending}
@@ -31,11 +31,11 @@ returns-clause-says c = record {
         | in-Err w ↦ rw (w.result-is, ← c.worker.view_is) (free_in c.worker.inside.standing (resting c))
       ]
       );
-  disturbed = λ is. (
+  interfered = λ is. (
       elim c.match-has.branch [
         | in-Ok w ↦ absurd (let both = sym w.result-is ∙ is in cc)
-        | in-Err w ↦ lookup_disturbed c.self.inside.shared c.args.self.now c.worker.inside.pass c.args.worker.now.pass c.has.new.pass c.args.key c.args.tries c.self.view_is (ap (λ (x : WorkerView). x.pass) c.worker.view_is)
-            c.is_of_a_run.ensures.seen w.is_of_a_run-in-Err.ensures.seen c.is_of_a_run.ensures.fits c.has.ensures.same c.has.ensures.past c.requires.own w.in-Err.ensures.missed
+        | in-Err w ↦ lookup_interfered c.self.inside.shared c.args.self.now c.worker.inside.pass c.args.worker.now.pass c.has.new.pass c.args.key c.args.tries c.self.view_is (ap (λ (x : WorkerView). x.pass) c.worker.view_is)
+            c.know_run.ensures.seen w.know_run-in-Err.ensures.seen c.know_run.ensures.fits c.has.ensures.same c.has.ensures.past c.requires.own w.in-Err.ensures.missed
       ]
       );
   moment = search rules;
@@ -62,5 +62,5 @@ returns-clause-alone c alone is =
     elim c.match-has.branch [
       | in-Ok w ↦ absurd (let both = sym w.result-is ∙ is in cc)
       | in-Err w ↦ lookup_alone c.self.inside.shared c.args.self.now c.worker.inside.pass c.args.worker.now.pass c.has.new.pass c.args.key c.args.tries c.self.view_is (ap (λ (x : WorkerView). x.pass) c.worker.view_is)
-          c.is_of_a_run.ensures.seen w.is_of_a_run-in-Err.ensures.seen c.is_of_a_run.ensures.fits c.has.ensures.same c.has.ensures.past c.requires.own alone w.in-Err.ensures.missed
+          c.know_run.ensures.seen w.know_run-in-Err.ensures.seen c.know_run.ensures.fits c.has.ensures.same c.has.ensures.past c.requires.own alone w.in-Err.ensures.missed
     ]

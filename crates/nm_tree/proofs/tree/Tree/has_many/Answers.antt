@@ -4,7 +4,7 @@ use Rattle.nm_calls.specs.InTurns.{key_of}
 use Rattle.nm_tree.specs.declared.worker.Standing.TheVariants as standing
 use Rattle.nm_busy.proofs.AloneCalls.{many_alone}
 use Rattle.nm_tree.specs.Workers.{WorkerView}
-use Rattle.nm_tree.proofs.Disturbed.{many_disturbed}
+use Rattle.nm_tree.proofs.Interfered.{many_interfered}
 use Rattle.nm_tree.proofs.Quiet.{quiet_so}
 use Rattle.nm_tree.proofs.Staying.{stays_resting, resting_in, free_in}
 use Rattle.nm_tree.proofs.tree.Tree.has_many.Goals as goal
@@ -27,18 +27,18 @@ returns c = record {
       ]
       );
   keys = search rules;
-  disturbed = λ is. (
+  interfered = λ is. (
       elim c.match-has_many.branch [
         | in-Ok w ↦ absurd (let both = sym w.result-is ∙ is in cc)
-        | in-Err w ↦ many_disturbed c.self.inside.shared c.args.self.now c.worker.inside.pass c.args.worker.now.pass c.has_many.new.pass 0 c.args.tries c.self.view_is (ap (λ (x : WorkerView). x.pass) c.worker.view_is)
-            c.is_of_a_run.ensures.seen w.is_of_a_run-in-Err.ensures.seen c.is_of_a_run.ensures.fits c.has_many.ensures.same c.has_many.ensures.past c.requires.own (map key_of c.args.queries.now) w.in-Err.ensures.missed
+        | in-Err w ↦ many_interfered c.self.inside.shared c.args.self.now c.worker.inside.pass c.args.worker.now.pass c.has_many.new.pass 0 c.args.tries c.self.view_is (ap (λ (x : WorkerView). x.pass) c.worker.view_is)
+            c.know_run.ensures.seen w.know_run-in-Err.ensures.seen c.know_run.ensures.fits c.has_many.ensures.same c.has_many.ensures.past c.requires.own (map key_of c.args.queries.now) w.in-Err.ensures.missed
       ]
       );
   alone = λ alone is. (
       elim c.match-has_many.branch [
         | in-Ok w ↦ absurd (let both = sym w.result-is ∙ is in cc)
-        | in-Err w ↦ many_alone c.args.worker.now.pass c.has_many.new.pass c.args.tries alone (many_disturbed c.self.inside.shared c.args.self.now c.worker.inside.pass c.args.worker.now.pass c.has_many.new.pass 0 c.args.tries c.self.view_is (ap (λ (x : WorkerView). x.pass) c.worker.view_is)
-            c.is_of_a_run.ensures.seen w.is_of_a_run-in-Err.ensures.seen c.is_of_a_run.ensures.fits c.has_many.ensures.same c.has_many.ensures.past c.requires.own (map key_of c.args.queries.now) w.in-Err.ensures.missed)
+        | in-Err w ↦ many_alone c.args.worker.now.pass c.has_many.new.pass c.args.tries alone (many_interfered c.self.inside.shared c.args.self.now c.worker.inside.pass c.args.worker.now.pass c.has_many.new.pass 0 c.args.tries c.self.view_is (ap (λ (x : WorkerView). x.pass) c.worker.view_is)
+            c.know_run.ensures.seen w.know_run-in-Err.ensures.seen c.know_run.ensures.fits c.has_many.ensures.same c.has_many.ensures.past c.requires.own (map key_of c.args.queries.now) w.in-Err.ensures.missed)
       ]
       );
   moment = search rules;

@@ -5,7 +5,7 @@ use Rattle.nm_tree.specs.declared.worker.Standing.TheVariants as standing
 use Rattle.nm_tree.specs.Workers.{WorkerView}
 use Rattle.nm_tree.proofs.QueueLists.{lacks_after, stands_within, room_after}
 use Rattle.nm_tree.proofs.Staying.{resting_in, rests_in, rests_as, free_in}
-use Rattle.nm_tree.proofs.Disturbed.{insert_disturbed, insert_alone}
+use Rattle.nm_tree.proofs.Interfered.{insert_interfered, insert_alone}
 use Rattle.nm_tree.proofs.Changing.{kept_there, changed, others_kept}
 use Rattle.nm_calls.specs.declared.inserting.NotInserted.{NotInserted as Lost}
 use Rattle.nm_calls.specs.Inserts.{InsertDid}
@@ -81,13 +81,13 @@ returns-clause-leaves c = record {
             inserted_so _ _ c.args.tries c.args.key _ _ _ (Err fault.NoMemory) _ c.self.view_is c.worker.view_is w.result-is (free_in c.worker.inside.standing (resting c), subst P w.in-Err-NoMemory.field-0-is w.in-Err-NoMemory.ensures.after.did)
       ]
       );
-  disturbed = λ is. (
+  interfered = λ is. (
       elim c.match-insert.branch [
         | in-Ok w ↦ absurd (let both = sym w.result-is ∙ is in cc)
         | in-Err-Busy w ↦
             let P : Lost → Type 0 = λ m. InsertDid c.worker.inside.workspace.placement c.self.inside.shared.layout c.args.tries c.args.key c.worker.inside.pass.view.log c.insert.new.pass.view.log (Err m) in
-            insert_disturbed c.self.inside.shared c.args.self.now c.worker.inside.pass c.args.worker.now.pass c.insert.new.pass c.args.key c.args.tries c.self.view_is (ap (λ (x : WorkerView). x.pass) c.worker.view_is)
-            c.is_of_a_run.ensures.seen w.is_of_a_run-in-Err-Busy.ensures.seen c.is_of_a_run.ensures.fits c.insert.ensures.after.same c.insert.ensures.after.past c.requires.own _
+            insert_interfered c.self.inside.shared c.args.self.now c.worker.inside.pass c.args.worker.now.pass c.insert.new.pass c.args.key c.args.tries c.self.view_is (ap (λ (x : WorkerView). x.pass) c.worker.view_is)
+            c.know_run.ensures.seen w.know_run-in-Err-Busy.ensures.seen c.know_run.ensures.fits c.insert.ensures.after.same c.insert.ensures.after.past c.requires.own _
             (subst P w.in-Err-Busy.field-0-is w.in-Err-Busy.ensures.after.did)
         | in-Err-Full w ↦ absurd (let both = sym w.result-is ∙ is in cc)
         | in-Err-NoMemory w ↦ absurd (let both = sym w.result-is ∙ is in cc)
@@ -102,7 +102,7 @@ returns-clause-alone c alone none is =
       | in-Err-Busy w ↦
           let P : Lost → Type 0 = λ m. InsertDid c.worker.inside.workspace.placement c.self.inside.shared.layout c.args.tries c.args.key c.worker.inside.pass.view.log c.insert.new.pass.view.log (Err m) in
           insert_alone c.self.inside.shared c.args.self.now c.worker.inside.pass c.args.worker.now.pass c.insert.new.pass c.args.key c.args.tries c.self.view_is (ap (λ (x : WorkerView). x.pass) c.worker.view_is)
-          c.is_of_a_run.ensures.seen w.is_of_a_run-in-Err-Busy.ensures.seen c.is_of_a_run.ensures.fits c.insert.ensures.after.same c.insert.ensures.after.past c.requires.own _ alone none
+          c.know_run.ensures.seen w.know_run-in-Err-Busy.ensures.seen c.know_run.ensures.fits c.insert.ensures.after.same c.insert.ensures.after.past c.requires.own _ alone none
           (subst P w.in-Err-Busy.field-0-is w.in-Err-Busy.ensures.after.did)
       | in-Err-Full w ↦ absurd (let both = sym w.result-is ∙ is in cc)
       | in-Err-NoMemory w ↦ absurd (let both = sym w.result-is ∙ is in cc)

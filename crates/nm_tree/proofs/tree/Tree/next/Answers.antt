@@ -6,7 +6,7 @@ use Rattle.nm_busy.specs.Walked.{NearWasBusy}
 use Rattle.nm_busy.proofs.AloneCalls.{near_alone}
 use Rattle.nm_tree.specs.declared.fault.CallFault.TheVariants as fault
 use Rattle.nm_tree.specs.Workers.{WorkerView}
-use Rattle.nm_tree.proofs.Disturbed.{next_disturbed}
+use Rattle.nm_tree.proofs.Interfered.{next_interfered}
 use Rattle.nm_tree.proofs.Quiet.{quiet_so}
 use Rattle.nm_tree.proofs.Staying.{stays_resting, resting_in, free_in}
 use Rattle.nm_tree.proofs.tree.Tree.next.Goals as goal
@@ -22,8 +22,8 @@ why : (c : goal.Joined-next) → IsErrOf c.match-next.result fault.Busy → Near
 why c is =
     elim c.match-next.branch [
       | in-Ok w ↦ absurd (let both = sym w.result-is ∙ is in cc)
-      | in-Err w ↦ next_disturbed c.self.inside.shared c.args.self.now c.worker.inside.pass c.args.worker.now.pass c.next.new.pass c.args.key c.args.tries c.self.view_is (ap (λ (x : WorkerView). x.pass) c.worker.view_is)
-          c.is_of_a_run.ensures.seen w.is_of_a_run-in-Err.ensures.seen c.is_of_a_run.ensures.fits c.next.ensures.same c.next.ensures.past c.requires.own w.in-Err.ensures.missed
+      | in-Err w ↦ next_interfered c.self.inside.shared c.args.self.now c.worker.inside.pass c.args.worker.now.pass c.next.new.pass c.args.key c.args.tries c.self.view_is (ap (λ (x : WorkerView). x.pass) c.worker.view_is)
+          c.know_run.ensures.seen w.know_run-in-Err.ensures.seen c.know_run.ensures.fits c.next.ensures.same c.next.ensures.past c.requires.own w.in-Err.ensures.missed
     ]
 
 pub returns : goal.returns
@@ -36,7 +36,7 @@ returns c = record {
         | in-Err w ↦ rw (w.result-is, ← c.worker.view_is, ← c.self.view_is) (free_in c.worker.inside.standing (resting c), w.in-Err.ensures.missed)
       ]
       );
-  disturbed = why c;
+  interfered = why c;
   alone = λ alone is. near_alone c.args.worker.now.pass c.next.new.pass c.args.tries alone (why c is);
   moment = search rules;
   won = search rules;

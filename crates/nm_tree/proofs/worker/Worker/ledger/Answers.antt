@@ -11,4 +11,4 @@ returns c =
     let p = c.self.inside.pass in
     rw (c.of.ensures, ← c.self.view_is)
     (own_told p.view c.self.inside.home p.view.number c.self.inside.queues.items c.index.result.now c.self.invariant.own
-    (all_told p (record { fits = c.is_of_a_run.ensures.fits; run = c.is_of_a_run.ensures.run }) c.self.inside.queues.items c.self.invariant.counted c.self.invariant.between.queues) c.index.ensures)
+    (all_told p (record { fits = c.know_run.ensures.fits; run = c.know_run.ensures.run }) c.self.inside.queues.items c.self.invariant.counted c.self.invariant.between.queues) c.index.ensures)

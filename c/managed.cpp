@@ -1,0 +1,326 @@
+// The calls that any thread may make of a set in C++, and those over several keys: what they
+// answer, what a set tells of its room, and what a full one says.
+#include "thrown.hpp"
+
+#include <algorithm>
+#include <cstdio>
+#include <iterator>
+#include <list>
+#include <numeric>
+#include <thread>
+#include <vector>
+
+#if __cplusplus > 201703L
+#include <ranges>
+static_assert(std::ranges::input_range<nm::Set> && std::ranges::common_range<const nm::Set>,
+    "algorithms of ranges take a set");
+static_assert(std::ranges::input_range<nm::Range<nm::Worker>>, "and a part of it");
+static_assert(!std::ranges::sized_range<nm::Set> && !std::ranges::forward_range<nm::Set>,
+    "a container that made room for a count would write past it");
+#endif
+
+namespace {
+
+using Numbers = std::vector<std::uint64_t>;
+
+// What a set and a worker do alike.
+template <typename Of>
+void keys_are_kept(Of &of) {
+    CHECK(of.empty() && !of.first() && !of.last() && !of.pop_first() && !of.pop_last() &&
+          of.begin() == of.end() && of.rbegin() == of.rend());
+    CHECK(of.insert(5u) && !of.insert(5u) && of.contains(5u) && of.remove(5u) && !of.remove(5u) &&
+          !of.contains(5u));
+    CHECK(of.insert({9u, 3u, 5u, 3u}) == 3 && Numbers(of.begin(), of.end()) == Numbers{3, 5, 9});
+    CHECK(*of.lower_bound(4u) == 5 && *of.lower_bound(5u) == 5 && of.lower_bound(10u) == of.end() &&
+          of.lower_bound(UINT64_MAX) == of.end());
+    CHECK(!of.at_most(2u) && of.at_most(3u) == 3u && of.at_most(8u) == 5u &&
+          of.at_most(UINT64_MAX) == 9u);
+    CHECK(of.first() == 3u && of.last() == 9u && of.pop_first() == 3u && of.pop_last() == 9u &&
+          !of.empty() && of.insert(9u));
+    std::vector<nm_lookup> lookups{{9, 77}, {4, 77}}, none;
+    of.contains_many(none);
+    of.contains_many(lookups);
+    CHECK(lookups[0].found == 1 && lookups[1].found == 0);
+    std::list<unsigned> more{1, 9, 2};
+    CHECK(of.insert(more.begin(), more.end()) == 2 && of.insert_range(Numbers{1, 8}) == 1);
+    auto step = of.begin();
+    CHECK(*step++ == 1 && *step == 2 && step != of.begin());
+    of.clear();
+    CHECK(of.empty());
+}
+
+// What stands from one key on and below another one, the greatest key too.
+template <typename Of>
+void ranges_are_told(Of &of) {
+    auto part = [&](std::uint64_t from, std::uint64_t below) {
+        Numbers told;
+        for (std::uint64_t key : of.range(from, below)) told.push_back(key);
+        return told;
+    };
+    CHECK(of.insert({0u, 3u, 7u, nm::most_key}) == 4);
+    CHECK(part(0, UINT64_MAX) == Numbers{0, 3, 7, nm::most_key} && part(3, 7) == Numbers{3} &&
+          part(1, nm::most_key) == Numbers{3, 7} && part(7, 3).empty() && part(4, 4).empty() &&
+          part(nm::most_key, UINT64_MAX) == Numbers{nm::most_key});
+    CHECK(Numbers(of.rbegin(), of.rend()) == Numbers{nm::most_key, 7, 3, 0} &&
+          Numbers(of.range(3u, 7u).rbegin(), of.range(3u, 7u).rend()) == Numbers{3} &&
+          of.range(4u, 7u).rbegin() == of.range(4u, 7u).rend() &&
+          of.range(0u, 0u).rbegin() == of.range(0u, 0u).rend());
+    CHECK(of.last() == nm::most_key && std::distance(of.begin(), of.end()) == 4 &&
+          std::accumulate(of.begin(), std::next(of.begin(), 3), std::uint64_t{0}) == 10);
+#if __cplusplus > 201703L
+    CHECK(std::ranges::find(of, 7u) != of.end() && std::ranges::distance(of.range(1u)) == 3);
+    Numbers told;
+    std::ranges::copy(of.range(1u, 9u), std::back_inserter(told));
+    CHECK(told == Numbers{3, 7});
+#endif
+    of.clear();
+}
+
+// An iterator goes on where its key is removed before the step.
+void a_walk_goes_on() {
+    nm::Set set(64, nm::keys, {1u, 2u, 3u, 4u});
+    Numbers told;
+    for (std::uint64_t key : set) {
+        told.push_back(key);
+        set.remove(key);
+        set.remove(3u);
+    }
+    CHECK(told == Numbers{1, 2, 4} && set.empty());
+}
+
+void sets_are_made_of_keys() {
+    const Numbers keys{4, 1, 4};
+    nm::Options options;
+    options.workers = 3;
+    const nm::Set set(64, keys.begin(), keys.end(), options);
+    CHECK(set.size() == 2 && set.contains(4u) && *set.begin() == 1 && set.workers() == 3);
+    CHECK(nm::Set(64, nm::keys, {7u, 8u}).size() == 2 && nm::Set(64, nm::keys, {7u}).contains(7u) &&
+          nm::Set(64, nm::keys, {7u, 8u}, options).workers() == 3);
+    CHECK(nm::Set(64, {4}).workers() == 4 && nm::Set(64, {4}).empty());
+#if __cplusplus > 201703L
+    CHECK(nm::Set(64, {.workers = 5}).workers() == 5);
+#endif
+    CHECK(thrown([&] { nm::Set(7, nm::keys, {1u, 2u}); }) == NM_FULL);
+}
+
+// Sizes count the calls by each worker, those of a thread too.
+void sizes_are_counted() {
+    nm::Set set(1024);
+    nm::Worker worker = set.attach();
+    CHECK(set.nodes() == 1024 && set.workers() == 64 && set.capacity() == 509 &&
+          set.size() == 0 && set.free() == 1019 && set.waiting() == 0);
+    for (std::uint64_t key = 0; key < 20; key += 2)
+        CHECK(set.insert(key) && worker.insert(key + 1));
+    CHECK(set.size() == 20 && set.free() == 1019 - 40);
+    for (std::uint64_t key = 0; key < 10; key++) CHECK(worker.remove(key));
+    CHECK(set.size() == 10 && set.waiting() == 20 && set.free() == 1019 - 40);
+    CHECK(set.collect() == 20 && set.waiting() == 0 && set.free() == 1019 - 20);
+}
+
+// A remove that is unfinished counts as soon as it has begun, and never again: by a worker, and by
+// a call of the set, which finishes it before it gives the worker back.
+void unfinished_removes_count_once() {
+    nm::Set set(1024, {1});
+    nm::Worker worker = set.attach();
+    CHECK(worker.insert({1u, 2u, 3u, 4u}) == 4 && set.size() == 4);
+    CHECK(worker.try_remove(1u, 1) == NM_UNFINISHED && set.size() == 3);
+    CHECK(worker.try_finish() == NM_YES && set.size() == 3 && worker.try_finish() == NM_NO);
+    CHECK(worker.try_remove(2u, 1) == NM_UNFINISHED && worker.insert(5u) && set.size() == 3);
+    CHECK(worker.try_remove(3u, 1) == NM_UNFINISHED && set.contains(4u) && !worker.pending() &&
+          worker.try_finish() == NM_NO && set.size() == 2);
+    CHECK(worker.try_insert(4u) == NM_NO && worker.try_insert(6u) == NM_YES && set.size() == 3);
+    worker.close();
+    CHECK(set.pop_first() == 4u && set.pop_last() == 6u && set.size() == 1);
+    CHECK(set.close().size() == 1);
+}
+
+// By one attempt no remove is finished; a call of the set that has a thread's worker finishes it
+// after that, so that the thread meets no key of another's.
+void borrowed_workers_have_nothing_pending() {
+    nm::Options options;
+    options.workers = 1;
+    options.tries = 1;
+    options.rounds = 1;
+    nm::Set set(1024, options);
+    nm::Worker worker = set.attach();
+    for (std::uint64_t key = 0; key < 100; key++) CHECK(worker.insert(key));
+    for (std::uint64_t key = 0; key < 100; key++) {
+        CHECK(set.try_remove(key) == NM_YES && !worker.pending());
+        CHECK(worker.try_contains(key) == NM_NO && set.size() == 99 - key);
+    }
+}
+
+// A thread whose worker is borrowed meets no pending key of the threads that borrow it, although
+// removes beside two more workers are often unfinished by one attempt. It may meet one of those
+// that the bounds of the options left unfinished, and seldom does.
+void owners_meet_no_pending_key() {
+    constexpr std::uint64_t removes = 200'000;
+    nm::Set set(8192, {3, nm::Shape::radix, 1, 0});
+    nm::Worker worker = set.attach(), second = set.attach(), third = set.attach();
+    std::atomic<std::uint64_t> borrowed{0}, unfinished{0}, met{0};
+    std::vector<std::thread> threads;
+    for (nm::Worker *own : {&second, &third})
+        threads.emplace_back([&, own] {
+            for (std::uint64_t each = 0; borrowed < removes; each++) {
+                (void)own->try_insert(each % 2);
+                (void)own->try_remove(each % 2);
+                (void)own->try_finish();
+            }
+        });
+    for (int number = 0; number < 3; number++)
+        threads.emplace_back([&] {
+            for (std::uint64_t each = 0; borrowed++ < removes; each++) {
+                (void)set.try_insert(each % 2);
+                unfinished += set.try_remove(each % 2) == NM_UNFINISHED;
+            }
+        });
+    while (borrowed < removes) met += worker.try_contains(77u) == NM_PENDING;
+    for (std::thread &thread : threads) thread.join();
+    CHECK(met * 10 <= unfinished);
+}
+
+// The calls of a set that begin with try_ return outcomes, and wait for no worker.
+void calls_throw_nothing() {
+    nm::Set set(11, {2});
+    CHECK(set.try_insert(5u) == NM_YES && set.try_insert(5u) == NM_NO &&
+          set.try_contains(5u) == NM_YES && set.try_remove(5u) == NM_YES &&
+          set.try_remove(5u) == NM_NO && set.try_contains(5u) == NM_NO);
+    CHECK(set.try_insert(UINT64_MAX) == NM_KEY && set.try_insert(1u) == NM_YES &&
+          set.try_insert(2u) == NM_YES && set.try_insert(3u) == NM_YES &&
+          set.try_insert(4u) == NM_FULL && set.size() == 3);
+    nm::Worker one = set.attach(), other = set.attach();
+    CHECK(set.try_remove(1u) == NM_YES);
+    {
+        nm::Pin pin = one.pin(), second = other.pin();
+        CHECK(set.try_contains(2u) == NM_NO_WORKER && set.try_remove(2u) == NM_NO_WORKER);
+    }
+    CHECK(set.try_contains(2u) == NM_YES);
+    one.close(), other.close();
+    (void)set.close();
+    CHECK(set.try_insert(5u) == NM_CLOSED && set.try_remove(5u) == NM_CLOSED &&
+          set.try_contains(5u) == NM_CLOSED);
+    CHECK(nm::Set(std::move(set)).try_insert(5u) == NM_CLOSED);
+}
+
+// A set whose keys take each node says so at once, whatever its timeout is, with its numbers.
+void a_full_set_says_why() {
+    nm::Options options;
+    options.timeout_ms = UINT32_MAX;
+    nm::Set set(11, nm::keys, {1u, 2u, 3u}, options);
+    Thrown told = fault_of([&] { set.insert(4u); });
+    CHECK(told.outcome == NM_FULL && told.text == "the set is full: its 3 keys take 11 of its 11 "
+                                                  "nodes, and 0 wait to be freed");
+    CHECK(set.remove(2u) && set.insert(4u) && !set.insert(3u));
+}
+
+// An insert waits for nodes that wait, as long as the options say, and names whom it waits for.
+void an_insert_waits() {
+    nm::Options options;
+    options.workers = 3;
+    options.timeout_ms = 400;
+    nm::Set set(13, options);
+    nm::Worker stalled = set.worker(2);
+    std::uint64_t epoch = 0;
+    CHECK(stalled.try_pin(epoch) == NM_DONE);
+    for (std::uint64_t key = 0; key < 4; key++) CHECK(set.insert(key) && set.remove(key));
+    std::thread later([&] {
+        std::this_thread::sleep_for(std::chrono::milliseconds(20));
+        CHECK(stalled.try_unpin() == NM_DONE);
+    });
+    CHECK(set.insert(7u));
+    later.join();
+    set.remove(7u);
+    set.collect();
+    CHECK(stalled.try_pin(epoch) == NM_DONE);
+    for (std::uint64_t key = 0; key < 4; key++) CHECK(set.insert(key) && set.remove(key));
+    Thrown told = fault_of([&] { set.insert(7u); });
+    CHECK(told.outcome == NM_FULL &&
+          told.text == "the set is full: its 0 keys take 5 of its 13 nodes, and 8 wait to be freed;"
+                       " worker 2 is in their way, by a pin or in a call");
+    CHECK(stalled.try_unpin() == NM_DONE && stalled.insert(7u));
+}
+
+// Nodes that wait with a worker whose thread makes no calls are freed for others.
+void idle_workers_collect() {
+    nm::Set set(13);
+    nm::Worker idle = set.worker(9), pinned = set.worker(3);
+    std::uint64_t epoch = 0;
+    CHECK(pinned.try_pin(epoch) == NM_DONE);
+    for (std::uint64_t key = 0; key < 4; key++) CHECK(idle.insert(key) && idle.remove(key));
+    CHECK(idle.queue_len() == 8 && pinned.try_unpin() == NM_DONE);
+    CHECK(set.insert(5u) && idle.queue_len() == 0);
+}
+
+// A call finds a worker also where threads have all of them, and this thread is one.
+void threads_have_each_worker() {
+    nm::Options options;
+    options.workers = 2;
+    nm::Set set(64, nm::keys, {5u}, options);
+    nm::Worker mine = set.attach(), other = set.attach();
+    std::thread thread([&] { CHECK(set.contains(5u) && set.insert(6u)); });
+    thread.join();
+    CHECK(set.remove(5u) && mine.contains(6u) && other.remove(6u) && set.size() == 0);
+}
+
+// Two threads that call by one worker wait for each other, and nothing is lost.
+void a_worker_is_shared() {
+    constexpr std::uint64_t keys = 2000;
+    nm::Set set(8192);
+    nm::Worker worker = set.attach();
+    std::atomic<std::uint64_t> inserted{0};
+    auto fill = [&] {
+        for (std::uint64_t key = 0; key < keys; key++) {
+            inserted += worker.insert(key);
+            CHECK(worker.try_contains(key) == NM_YES);
+        }
+    };
+    std::thread other(fill);
+    fill();
+    other.join();
+    CHECK(inserted == keys && set.size() == keys);
+}
+
+// Many threads that attach nothing call a set of few workers; their answers add up.
+void many_threads_share_few_workers() {
+    constexpr std::uint64_t threads_at_work = 16, keys = 500, rounds = 4;
+    nm::Options options;
+    options.workers = 3;
+    nm::Set set(8192, options);
+    std::atomic<std::uint64_t> inserted{0}, removed{0};
+    std::vector<std::thread> threads;
+    for (std::uint64_t first = 0; first < threads_at_work; first++)
+        threads.emplace_back([&, first] {
+            for (std::uint64_t each = 0; each < keys * rounds; each++) {
+                std::uint64_t key = (first + each * 7) % keys;
+                if (each % 3 == 0) removed += set.remove(key);
+                else inserted += set.insert(key);
+            }
+        });
+    for (std::thread &thread : threads) thread.join();
+    CHECK(set.size() == inserted - removed && set.close().size() == inserted - removed);
+}
+
+}  // namespace
+
+int main() {
+    nm::Set set(65536);
+    keys_are_kept(set);
+    ranges_are_told(set);
+    nm::Worker worker = set.attach();
+    keys_are_kept(worker);
+    ranges_are_told(worker);
+    a_walk_goes_on();
+    sets_are_made_of_keys();
+    sizes_are_counted();
+    unfinished_removes_count_once();
+    borrowed_workers_have_nothing_pending();
+    owners_meet_no_pending_key();
+    calls_throw_nothing();
+    a_full_set_says_why();
+    an_insert_waits();
+    idle_workers_collect();
+    threads_have_each_worker();
+    a_worker_is_shared();
+    many_threads_share_few_workers();
+    std::puts("a set keeps keys, tells its room and waits");
+}

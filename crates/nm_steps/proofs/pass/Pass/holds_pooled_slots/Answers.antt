@@ -1,4 +1,0 @@
-use Rattle.nm_steps.proofs.pass.Pass.holds_pooled_slots.Goals as goal
-
-pub returns : goal.returns
-returns c = rw (← c.self.view_is) c.self.invariant.private

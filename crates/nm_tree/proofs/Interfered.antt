@@ -1,0 +1,102 @@
+-- Why a call was busy: who has interfered it, by the laws of progress.
+use Rattle.std.proofs.Common.{◌≡◌, ◌-◌, ◌≤◌, ℕ, List, sym, ap, subst, ◌∙◌, arith}
+use Rattle.std.specs.Prelude.{Err}
+use Rattle.nm_edge.specs.Layouts.{Layout, IsLayout}
+use Rattle.nm_edge.specs.declared.node.NodeId.{NodeId}
+use Rattle.nm_edge.specs.declared.placement.Fit.{Fit}
+use Rattle.nm_steps.specs.Steps.{TreeView, PassView, IsOf, IsSamePass, HasSeen, HasSeenAllOf}
+use Rattle.nm_calls.specs.declared.inserting.NotInserted.TheVariants as lost
+use Rattle.nm_calls.specs.declared.deleting.Missed.TheVariants as missed
+use Rattle.nm_calls.specs.Calls.{HasMissed}
+use Rattle.nm_calls.specs.InTurns.{GiveUp as GiveUpInTurns}
+use Rattle.nm_calls.specs.Inserts.{InsertDid}
+use Rattle.nm_calls.specs.NextKeys.{GiveUp as GiveUpNext}
+use Rattle.nm_calls.specs.PlainWalks.{PlainMissed}
+use Rattle.nm_calls.specs.PrevKeys.{GiveUp as GiveUpPrev}
+use Rattle.nm_calls.specs.Deletes.{DeleteDid, IsRemoving, LosesAfterFlag, LosesEachTry}
+use Rattle.nm_busy.specs.Lookups.{WasBusy}
+use Rattle.nm_busy.specs.Lost.{Interference, ChangeWasBusy}
+use Rattle.nm_busy.specs.Alone.{IsAlone}
+use Rattle.nm_busy.specs.Pending.{NonePends}
+use Rattle.nm_busy.specs.Walked.{ManyWereBusy, NearWasBusy}
+use Rattle.nm_busy.proofs.AloneCalls.{lookups_alone_are_answered, inserts_alone_are_answered, deletes_alone_are_not_busy}
+use Rattle.nm_busy.proofs.LostLookups.{busy_lookups_met_interference}
+use Rattle.nm_busy.proofs.LostWalked.{busy_many_met_interference, busy_nexts_met_interference, busy_prevs_met_interference}
+use Rattle.nm_busy.proofs.InterferedCalls.{busy_inserts_were_lost, busy_deletes_were_lost, unfinished_deletes_were_lost, unfinished_finishes_were_lost}
+
+-- of a tree and a worker whose insides are b and o, a call that ends at q
+module _ (b d : TreeView) (o p q : PassView) (k tries : ℕ) (tree : b ≡ d) (at : o ≡ p) (seen : HasSeen o.view) (after : HasSeen q.view) (fits : IsLayout o.view.layout) (same : IsSamePass o q) (past : HasSeenAllOf q o) where
+  enough : 5 ≤ o.view.layout.nodes
+  enough = let least = fits.least in omega (arith, least)
+
+  layouts : IsOf d p → o.view.layout ≡ b.layout
+  layouts own = ap (λ (x : PassView). x.view.layout) at ∙ (own.layout ∙ ap (λ (x : TreeView). x.layout) (sym tree))
+
+  -- nothing was pending by what o had seen
+  rested : IsOf d p → NonePends d.layout p.view.past → NonePends o.view.layout o.view.past
+  rested own none =
+      subst (λ (L : Layout). NonePends L o.view.past) (sym (layouts own ∙ ap (λ (x : TreeView). x.layout) tree))
+      (subst (λ (x : PassView). NonePends d.layout x.view.past) (sym at) none)
+
+  pub lookup_interfered : IsOf d p → HasMissed b.layout tries k o.view.log q.view.log → WasBusy p q tries
+  lookup_interfered own did =
+      let layout = layouts own in
+      subst (λ (x : PassView). WasBusy x q tries) at
+      (busy_lookups_met_interference k tries o q seen after enough same past (subst (λ (L : Layout). HasMissed L tries k o.view.log q.view.log) (sym layout) did))
+
+  pub insert_interfered : IsOf d p → (f : Fit) → InsertDid f b.layout tries k o.view.log q.view.log (Err lost.Busy) → ChangeWasBusy p q tries
+  insert_interfered own f did =
+      subst (λ (x : PassView). ChangeWasBusy x q tries) at
+      (busy_inserts_were_lost f k tries o q seen after enough fits.few same past (subst (λ (L : Layout). InsertDid f L tries k o.view.log q.view.log (Err lost.Busy)) (sym (layouts own)) did))
+
+  pub delete_interfered : IsOf d p → DeleteDid b.layout tries k o.view.log q.view.log (Err missed.Busy) → ChangeWasBusy p q tries
+  delete_interfered own did =
+      subst (λ (x : PassView). ChangeWasBusy x q tries) at
+      (busy_deletes_were_lost k tries o q seen after enough fits.few same past (subst (λ (L : Layout). DeleteDid L tries k o.view.log q.view.log (Err missed.Busy)) (sym (layouts own)) did))
+
+  pub delete_lost : IsOf d p → (n : NodeId) → IsRemoving q k n → LosesAfterFlag b.layout tries k o.view.log q.view.log n → Interference p q (tries - 2)
+  delete_lost own n removing did =
+      subst (λ (x : PassView). Interference x q (tries - 2)) at
+      (unfinished_deletes_were_lost k tries n o q seen after enough fits.few same past removing (subst (λ (L : Layout). LosesAfterFlag L tries k o.view.log q.view.log n) (sym (layouts own)) did))
+
+  pub finish_lost : IsOf d p → (n : NodeId) → IsRemoving q k n → LosesEachTry b.layout k n tries o.view.log q.view.log → Interference p q tries
+  finish_lost own n removing did =
+      subst (λ (x : PassView). Interference x q tries) at
+      (unfinished_finishes_were_lost k tries n o q seen after enough fits.few same past removing (subst (λ (L : Layout). LosesEachTry L k n tries o.view.log q.view.log) (sym (layouts own)) did))
+
+  pub many_interfered : IsOf d p → (keys : List ℕ) → PlainMissed (GiveUpInTurns b.layout keys) tries o.view.log q.view.log → ManyWereBusy p q tries
+  many_interfered own keys missed =
+      subst (λ (x : PassView). ManyWereBusy x q tries) at
+      (busy_many_met_interference keys tries o q seen after enough same past (subst (λ (L : Layout). PlainMissed (GiveUpInTurns L keys) tries o.view.log q.view.log) (sym (layouts own)) missed))
+
+  pub next_interfered : IsOf d p → PlainMissed (GiveUpNext b.layout tries k) tries o.view.log q.view.log → NearWasBusy p q tries
+  next_interfered own missed =
+      subst (λ (x : PassView). NearWasBusy x q tries) at
+      (busy_nexts_met_interference k tries o q seen after enough same past (subst (λ (L : Layout). PlainMissed (GiveUpNext L tries k) tries o.view.log q.view.log) (sym (layouts own)) missed))
+
+  pub prev_interfered : IsOf d p → PlainMissed (GiveUpPrev b.layout tries k) tries o.view.log q.view.log → NearWasBusy p q tries
+  prev_interfered own missed =
+      subst (λ (x : PassView). NearWasBusy x q tries) at
+      (busy_prevs_met_interference k tries o q seen after enough same past (subst (λ (L : Layout). PlainMissed (GiveUpPrev L tries k) tries o.view.log q.view.log) (sym (layouts own)) missed))
+
+  -- ---- alone
+
+  abbrev Alone : Type 0
+  Alone = IsAlone p q
+
+  mine : Alone → IsAlone o q
+  mine alone = subst (λ (x : PassView). IsAlone x q) (sym at) alone
+
+  pub lookup_alone : IsOf d p → Alone → HasMissed b.layout tries k o.view.log q.view.log → tries ≡ 0
+  lookup_alone own alone did =
+      lookups_alone_are_answered k tries o q seen after enough same past (mine alone) (subst (λ (L : Layout). HasMissed L tries k o.view.log q.view.log) (sym (layouts own)) did)
+
+  pub insert_alone : IsOf d p → (f : Fit) → Alone → NonePends d.layout p.view.past → InsertDid f b.layout tries k o.view.log q.view.log (Err lost.Busy) → tries ≡ 0
+  insert_alone own f alone none did =
+      inserts_alone_are_answered f k tries o q seen after enough same past (mine alone) (rested own none)
+      (subst (λ (L : Layout). InsertDid f L tries k o.view.log q.view.log (Err lost.Busy)) (sym (layouts own)) did)
+
+  pub delete_alone : IsOf d p → Alone → NonePends d.layout p.view.past → DeleteDid b.layout tries k o.view.log q.view.log (Err missed.Busy) → tries ≡ 0
+  delete_alone own alone none did =
+      deletes_alone_are_not_busy k tries o q seen after enough same past (mine alone) (rested own none)
+      (subst (λ (L : Layout). DeleteDid L tries k o.view.log q.view.log (Err missed.Busy)) (sym (layouts own)) did)

@@ -1,0 +1,103 @@
+use Rattle.std.proofs.Common.{◌≡◌, ◌≢◌, ◌+◌, ◌-◌, ℕ, false, [], refl, ap, subst, sym, ◌∙◌, arith}
+use Rattle.std.proofs.lemmas.Bool.{or_parts}
+use Rattle.nm_edge.specs.Layouts.{Layout}
+use Rattle.nm_order.specs.Facts.Fact.{KnowsSlot}
+use Rattle.nm_steps.specs.Steps.{PassView}
+use Rattle.nm_walks.specs.Bounds.{reach}
+use Rattle.nm_walks.specs.Telling.{Tells, OnwardTold}
+use Rattle.nm_walks.specs.Walks.{Reads, IsWalking, chain_onto}
+use Rattle.nm_walks.proofs.GoingOn.{goes_then, only_then, pinned_in_still, come_first}
+use Rattle.nm_walks.proofs.Standing.{at_begin}
+use Rattle.nm_walks.proofs.Stopping.{narrowed_first, narrowed_on, stops_here}
+use Rattle.nm_walks.proofs.Walked.{no_chain, walks_on}
+use Rattle.nm_walks.proofs.walking.descend_to_place.Goals as goal
+
+pub read_node-on-requires-clause-pinned : goal.read_node-on-requires-clause-pinned
+read_node-on-requires-clause-pinned c = pinned_in_still c.args.shared.now c.args.pass.now c.loop-below.pass c.loop-below.invariant.walking.on c.requires.pinned
+
+pub slot-node-requires : goal.slot-node-requires
+slot-node-requires c =
+    let within = c.loop-below.invariant.walking.within in
+    let most = c.requires.pinned.run.fits.most in
+    let layout = ap (λ (L : Layout). L.nodes) c.requires.pinned.own.layout in
+    omega (arith, within, most, layout)
+
+pub loop-below-init : goal.loop-below-init
+loop-below-init c =
+    let p = c.look_edge.new.pass in
+    let e = c.look_edge.result in
+    let some = c.look_edge.ensures.told.root refl refl in
+    record {
+      walking = record {
+        walk = rw c.first-unmarked_seek.ensures (refl, refl, some, ap (λ (s : PassView). s.view.log) c.look_edge.ensures.step);
+        at = rw c.first-unmarked_seek.ensures (at_begin (Tells p) e (c.look_edge.ensures.on.keeps (KnowsSlot 1) c.requires.root) (c.look_edge.ensures.on.keeps (KnowsSlot 2) c.requires.known) c.look_edge.ensures.told.learned some);
+        within = rw c.first-unmarked_seek.ensures (rw (← c.requires.pinned.own.layout) c.look_edge.ensures.told.within);
+        short = omega arith;
+        on = c.look_edge.ensures.on;
+        only = c.look_edge.ensures.only;
+        come = come_first c.args.pass.now p c.args.key e c.first-unmarked_seek.result c.look_edge.ensures.told c.first-unmarked_seek.ensures;
+      };
+      narrowed = narrowed_first c.args.pass.now p c.args.key e c.first-unmarked_seek.result c.first-unmarked_seek.ensures;
+    }
+
+pub loop-below-preserved : goal.loop-below-preserved
+loop-below-preserved c =
+    let o = c.args.pass.now in
+    let p = c.loop-below.pass in
+    let q = c.read_node-on.new.pass in
+    let t = c.loop-below.unmarked_seek in
+    let on = c.read_node-on.result in
+    let L = c.args.shared.now.layout in
+    let told : OnwardTold p q c.args.key t.edge.slot on.found on.side on.next = subst (λ n. OnwardTold p q c.args.key n on.found on.side on.next) c.slot-node.ensures c.read_node-on.ensures.told in
+    let read : Reads c.args.key t.edge.slot p.view.log q.view.log on = subst (λ n. Reads c.args.key n p.view.log q.view.log on) c.slot-node.ensures c.read_node-on.ensures.looks in
+    let some : on.next.slot ≢ 0 = (c.stops.ensures.no c.if-stops.false).0 in
+    let plain : t.edge.tag ≡ false = (or_parts t.edge.flag t.edge.tag (sym c.is_marked.ensures ∙ c.if-is_marked.false)).1 in
+    let none' : chain_onto t [] ≡ [] = no_chain t [] plain in
+    record {
+      walking = subst (λ chain. IsWalking L c.args.key (c.loop-below.below + 1) o q c.further-unmarked_seek.result chain) none'
+          (walks_on L c.args.key c.loop-below.below o p q t [] on c.loop-below.invariant.walking read c.read_node-on.ensures.on c.read_node-on.ensures.only told
+          some c.read_node-on.ensures.within (rw none' (omega arith)) c.further-unmarked_seek.result c.further-unmarked_seek.ensures.seek_record c.further-unmarked_seek.ensures.edge);
+      narrowed = narrowed_on L c.args.key c.loop-below.below o p q t [] on c.loop-below.invariant.walking read told
+          (c.stops.ensures.no c.if-stops.false).1 c.further-unmarked_seek.result c.further-unmarked_seek.ensures.seek_record;
+    }
+
+pub returns-then-stops : goal.returns-then-stops
+returns-then-stops c =
+    let o = c.args.pass.now in
+    let p = c.loop-below.pass in
+    let q = c.read_node-on.new.pass in
+    let t = c.loop-below.unmarked_seek in
+    let on = c.read_node-on.result in
+    let told : OnwardTold p q c.args.key t.edge.slot on.found on.side on.next = subst (λ n. OnwardTold p q c.args.key n on.found on.side on.next) c.slot-node.ensures c.read_node-on.ensures.told in
+    let read : Reads c.args.key t.edge.slot p.view.log q.view.log on = subst (λ n. Reads c.args.key n p.view.log q.view.log on) c.slot-node.ensures c.read_node-on.ensures.looks in
+    let walking = c.loop-below.invariant.walking in
+    let goes = goes_then o p q walking.on c.read_node-on.ensures.on in
+    let below = c.loop-below-test.true in
+    let size = c.reach-most.ensures.reach in
+    let layout = ap reach c.layout-layout.ensures in
+    let stopped = stops_here c.args.shared.now c.requires.radix c.args.key c.requires.key c.loop-below.below o p q t [] on walking read c.read_node-on.ensures.on told (pinned_in_still c.args.shared.now o q goes c.requires.pinned)
+    (c.stops.ensures.yes c.if-stops.true) (omega (arith, below, size, layout)) c.loop-below.invariant.narrowed c.end_at.result (c.end_at.ensures.seek_record ∙ c.seek_record-then-stops.ensures) c.end_at.ensures.key in
+    record {
+      came = stopped;
+      on = goes;
+      only = only_then o p q walking.only c.read_node-on.ensures.only;
+    }
+
+pub returns-then-is_marked-clause-came : goal.returns-then-is_marked-clause-came
+returns-then-is_marked-clause-came c =
+    let held = c.loop-below.invariant in
+    let below = c.loop-below-test.true in
+    let size = c.reach-most.ensures.reach in
+    let layout = ap reach c.layout-layout.ensures in
+    rw c.seek_record.ensures (held.walking, held.narrowed, omega (arith, below, size, layout))
+
+pub returns-clause-came : goal.returns-clause-came
+returns-clause-came c =
+    let held = c.loop-below.invariant in
+    let size = c.reach-most.ensures.reach in
+    let some = c.reach-most.ensures.some in
+    let layout = ap reach c.layout-layout.ensures in
+    let test = c.loop-below-test.false in
+    let end = c.loop-below.auto.below-end in
+    let all : c.loop-below.below ≡ c.reach-most.result - 1 = omega (arith, test, end, some) in
+    rw c.seek_record-2.ensures (subst (λ (n : ℕ). IsWalking c.args.shared.now.layout c.args.key n c.args.pass.now c.loop-below.pass c.loop-below.unmarked_seek []) all held.walking, held.narrowed, omega (arith, size, some, layout))
