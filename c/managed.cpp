@@ -105,7 +105,9 @@ void sets_are_made_of_keys() {
 
 // Sizes count the calls by each worker, those of a thread too.
 void sizes_are_counted() {
-    nm::Set set(1024);
+    nm::Options options;
+    options.collect_after = 64;
+    nm::Set set(1024, options);
     nm::Worker worker = set.attach();
     CHECK(set.nodes() == 1024 && set.workers() == 64 && set.capacity() == 509 &&
           set.size() == 0 && set.free() == 1019 && set.waiting() == 0);

@@ -1388,7 +1388,7 @@ public:
     // ---- the end ----
 
     // Ends the set, after the set and its other workers have ended; this worker is closed then.
-    // NM_NO_WORKER while one of them is open. NM_NO_MEMORY: only another `close_set` goes on. What is
+    // NM_ATTACHED while one of them is open. NM_NO_MEMORY: only another `close_set` goes on. What is
     // proved of the report is described at nm_worker_end.
     Report close_set() {
         Report report;

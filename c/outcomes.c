@@ -73,17 +73,21 @@ static void is_refused(nm_handle *handle, nm_outcome worker, nm_outcome report) 
 
 static void sizes(void) {
     nm_handle set = NM_CLOSED_HANDLE;
-    CHECK(nm_set_new_first_fit(&set, 6, 1) == NM_NODES && nm_set_new_unbalanced(&set, 268435457, 65) == NM_NODES);
+    CHECK(nm_set_new_first_fit(&set, 6, 1) == NM_NODES &&
+          nm_set_new_unbalanced(&set, 268435457, 65) == NM_NODES);
     CHECK(nm_set_new(&set, 6, 65) == NM_NODES && nm_set_new(&set, 268435456, 0) == NM_WORKERS);
-    CHECK(nm_set_new_first_fit(&set, 7, 0) == NM_WORKERS && nm_set_new_unbalanced(&set, 7, 65) == NM_WORKERS);
-    CHECK(nm_set_new_unbalanced(&set, 1048577, 64) == NM_DONE && nm_set_new_first_fit(&set, 7, 1) == NM_OPEN &&
+    CHECK(nm_set_new_first_fit(&set, 7, 0) == NM_WORKERS &&
+          nm_set_new_unbalanced(&set, 7, 65) == NM_WORKERS);
+    CHECK(nm_set_new_unbalanced(&set, 1048577, 64) == NM_DONE &&
+          nm_set_new_first_fit(&set, 7, 1) == NM_OPEN &&
           nm_set_new_unbalanced(&set, 7, 1) == NM_OPEN && nm_set_new(&set, 7, 1) == NM_OPEN);
     CHECK(nm_drop(&set) == NM_DONE && nm_drop(&set) == NM_CLOSED && set.at == NULL);
 }
 
 static void kinds(void) {
     nm_handle set = NM_CLOSED_HANDLE, worker = NM_CLOSED_HANDLE, none = NM_CLOSED_HANDLE;
-    CHECK(nm_set_new_first_fit(&set, 16, 1) == NM_DONE && nm_set_worker(&set, &worker, 0) == NM_DONE);
+    CHECK(nm_set_new_first_fit(&set, 16, 1) == NM_DONE &&
+          nm_set_worker(&set, &worker, 0) == NM_DONE);
     CHECK(nm_set_worker(&set, &worker, 0) == NM_OPEN && nm_set_worker(&set, &none, 1) == NM_NUMBER);
     CHECK(nm_set_worker(&set, &none, 0) == NM_ATTACHED && nm_set_close(&set) == NM_ATTACHED);
     nm_handle other = NM_CLOSED_HANDLE;
@@ -103,7 +107,8 @@ static void kinds(void) {
 
 static void answers(void) {
     nm_handle set = NM_CLOSED_HANDLE, worker = NM_CLOSED_HANDLE;
-    CHECK(nm_set_new_unbalanced(&set, 7, 2) == NM_DONE && nm_set_worker(&set, &worker, 1) == NM_DONE);
+    CHECK(nm_set_new_unbalanced(&set, 7, 2) == NM_DONE &&
+          nm_set_worker(&set, &worker, 1) == NM_DONE);
     CHECK(nm_worker_try_contains(&worker, 5, 0) == NM_BUSY &&
           nm_worker_try_contains(&worker, 5, TRIES) == NM_NO);
     CHECK(nm_worker_try_insert(&worker, 5, TRIES) == NM_YES &&
@@ -148,7 +153,8 @@ static void tended(void) {
     const nm_options *usual = &nm_default_options, none = {0, 0, 64};
     nm_handle set = NM_CLOSED_HANDLE, worker = NM_CLOSED_HANDLE, reader = NM_CLOSED_HANDLE;
     uint64_t told = NOT_WRITTEN;
-    CHECK(nm_set_new_first_fit(&set, 7, 2) == NM_DONE && nm_set_worker(&set, &worker, 0) == NM_DONE);
+    CHECK(nm_set_new_first_fit(&set, 7, 2) == NM_DONE &&
+          nm_set_worker(&set, &worker, 0) == NM_DONE);
     CHECK(nm_worker_contains(&worker, 5, usual) == NM_NO &&
           nm_worker_remove(&worker, 5, usual) == NM_NO);
     CHECK(nm_worker_insert(&worker, 5, usual) == NM_YES &&
@@ -268,7 +274,8 @@ static void ends(void) {
           nm_report_waiting(&set, 3, &waiting) == NM_NUMBER);
     CHECK(nm_report_waiting(&set, 0, &waiting) == NM_NO);
     CHECK(
-        nm_report_waiting(&set, 1, &waiting) == NM_YES && waiting.generation == 1 && waiting.label == 0);
+        nm_report_waiting(&set, 1, &waiting) == NM_YES && waiting.generation == 1 &&
+        waiting.label == 0);
     uint32_t oldest = waiting.slot;
     CHECK(nm_report_waiting(&set, 1, &waiting) == NM_YES && waiting.slot != oldest &&
           nm_report_waiting(&set, 1, &waiting) == NM_NO);
@@ -306,14 +313,16 @@ static void away(void) {
 static void notes(void) {
     nm_handle set = NM_CLOSED_HANDLE, writer = NM_CLOSED_HANDLE, reader = NM_CLOSED_HANDLE;
     uint64_t inserted = NOT_WRITTEN, removed = NOT_WRITTEN;
-    CHECK(nm_set_new_unbalanced(&set, 64, 2) == NM_DONE && nm_set_worker(&set, &writer, 1) == NM_DONE &&
+    CHECK(nm_set_new_unbalanced(&set, 64, 2) == NM_DONE &&
+          nm_set_worker(&set, &writer, 1) == NM_DONE &&
           nm_set_worker(&set, &reader, 0) == NM_DONE);
     CHECK(nm_worker_observe(&reader, 1, &inserted, &removed) == NM_NO &&
           nm_worker_observe(&reader, 2, &inserted, &removed) == NM_NUMBER);
     CHECK(inserted == NOT_WRITTEN && removed == NOT_WRITTEN);
     CHECK(nm_worker_try_insert(&writer, 5, TRIES) == NM_YES &&
           nm_worker_try_insert(&writer, 6, TRIES) == NM_YES);
-    CHECK(nm_worker_publish(&writer, &inserted, &removed) == NM_DONE && inserted == 2 && removed == 0);
+    CHECK(nm_worker_publish(&writer, &inserted, &removed) == NM_DONE && inserted == 2 &&
+          removed == 0);
     CHECK(nm_worker_try_remove(&writer, 5, TRIES) == NM_YES);
     for (int turn = 0; turn < 3; turn++)
         CHECK(nm_worker_observe(&reader, 1, &inserted, &removed) == NM_YES && inserted == 2 && removed == 0);
@@ -374,13 +383,14 @@ static void ended(void) {
 
 /* Each outcome has words of its own, and so has a number that is none. */
 static void texts(void) {
-    for (int first = NM_IN_USE - 1; first <= NM_DONE; first++)
-        for (int second = NM_IN_USE - 1; second < first; second++)
+    for (int first = NM_NO_WORKER - 1; first <= NM_DONE; first++)
+        for (int second = NM_NO_WORKER - 1; second < first; second++)
             CHECK(strcmp(nm_outcome_text((nm_outcome)first), nm_outcome_text((nm_outcome)second)) !=
                   0);
-    CHECK(strcmp(nm_outcome_text(NM_FULL), "no nodes are free for the new key") == 0);
+    CHECK(strcmp(nm_outcome_text(NM_FULL),
+                 "no nodes are free for the new key: advance, collect and call again") == 0);
     CHECK(strcmp(nm_outcome_text((nm_outcome)(NM_DONE + 1)),
-                 nm_outcome_text((nm_outcome)(NM_IN_USE - 1))) == 0);
+                 nm_outcome_text((nm_outcome)(NM_NO_WORKER - 1))) == 0);
 }
 
 /* The library is the one of the header. */

@@ -107,7 +107,8 @@ void faults_are_told() {
           "the number of nodes is not 7 to 268,435,456: 6");
     CHECK(fault_of([] { nm::Set set(1ull << 32); }).text ==
           "the number of nodes is not 7 to 268,435,456: 4,294,967,296");
-    CHECK(fault_of([] { unbalanced_set(7, 65); }).text == "the number of workers is not 1 to 64: 65");
+    CHECK(fault_of([] { unbalanced_set(7, 65); }).text ==
+          "the number of workers is not 1 to 64: 65");
     CHECK(thrown([] { unbalanced_set(7, 0); }) == NM_WORKERS);
     nm::Set set(64);
     Thrown told = fault_of([&] { set.insert(UINT64_MAX); });
@@ -262,7 +263,8 @@ void threads_attach_themselves() {
     std::vector<nm::Worker> all;
     for (std::uint32_t each = 0; each < set.workers(); each++) all.push_back(set.attach());
     nm::Worker none;
-    CHECK(set.try_attach(none) == NM_NO_WORKER && all[7].number() == 7 && all.back().number() == 63);
+    CHECK(set.try_attach(none) == NM_NO_WORKER && all[7].number() == 7 &&
+          all.back().number() == 63);
     CHECK(fault_of([&] { (void)set.attach(std::chrono::milliseconds(5)); }).text ==
           "threads have each of the 64 workers of the set (64 at most)");
     std::thread later([&] { CHECK(set.attach().number() == 5 && set.insert(5u)); });

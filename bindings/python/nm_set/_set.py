@@ -76,7 +76,7 @@ class Options:
     collect_after: Optional[int] = None
     """When this many removed nodes wait with its worker, an add or a discard first moves the epoch
     on and collects. None: nodes / (8 * workers), at least 8 and at most 64."""
-    timeout_ms: int = 64
+    timeout_ms: int = 1_000
     """The longest time in milliseconds that an add which finds no free nodes, while removed ones
     wait to be freed, sleeps and tries again before it raises `Full`. The sleeps begin with 20
     microseconds and double up to a millisecond. With 0 the add never sleeps, as an event loop needs

@@ -47,7 +47,7 @@ pub struct Options {
     /// The longest time in milliseconds that an insert which finds no free nodes, while removed
     /// ones wait to be freed, sleeps and tries again before it returns
     /// [`Fault::Full`](crate::Fault::Full). The sleeps begin with 20 microseconds and double up to
-    /// a millisecond. With 0 the insert never sleeps, as an asynchronous program needs it. 64 by
+    /// a millisecond. With 0 the insert never sleeps, as an asynchronous program needs it. 1,000 by
     /// default.
     pub timeout_ms: u32,
 }
@@ -72,7 +72,7 @@ impl Default for Options {
             tries: 64,
             rounds: 64,
             collect_after: None,
-            timeout_ms: 64,
+            timeout_ms: 1_000,
         }
     }
 }
