@@ -1,5 +1,5 @@
-/* The calls of nm_wait.h: they wait for nodes, for workers and for a close, as long as they are
- * told, and tell why a set is full. */
+/* Tests the calls of nm_wait.h: they wait for nodes, for workers and for a close, for timeout_ms at
+ * most, and write why a set is full. */
 #include "holds.h"
 #include "nm_wait.h"
 
@@ -10,11 +10,11 @@ enum { TRIES = 64, TIMEOUT = 10000, CALLERS = 16, WORKERS = 3, ROUNDS = 50 };
 
 static nm_handle set = NM_CLOSED_HANDLE, pinned = NM_CLOSED_HANDLE;
 
-static void nap_for_some(void) { nm_nap(20000000); }
+static void sleep_for_some(void) { nm_sleep(20000000); }
 
 /* Ends the pin after a while. */
 static void *unpin(void *unused) {
-    nap_for_some();
+    sleep_for_some();
     CHECK(nm_worker_unpin(&pinned) == NM_DONE);
     return unused;
 }
@@ -46,10 +46,10 @@ static void an_add_waits(void) {
     CHECK(strcmp(nm_full_text(&worker, 13, little, sizeof little), "the set is full") == 0);
     CHECK(pthread_create(&later, NULL, unpin, NULL) == 0);
     CHECK(nm_wait_insert(&worker, 7, &nm_default_options, TIMEOUT) == NM_YES);
-    CHECK(pthread_join(later, NULL) == 0 && nm_wait_away(&set, 2, 0) == NM_YES);
+    CHECK(pthread_join(later, NULL) == 0 && nm_wait_attached(&set, 2, 0) == NM_YES);
     CHECK(nm_wait_worker(&set, &worker, 2, 3) == NM_OPEN && nm_drop(&worker) == NM_DONE);
     CHECK(nm_wait_worker(&set, &worker, 2, 3) == NM_ATTACHED && nm_wait_close(&set, 3) == NM_ATTACHED);
-    CHECK(nm_drop(&pinned) == NM_DONE && nm_wait_away(&set, 2, 0) == NM_NO);
+    CHECK(nm_drop(&pinned) == NM_DONE && nm_wait_attached(&set, 2, 0) == NM_NO);
     CHECK(nm_wait_close(&set, 0) == NM_DONE && nm_drop(&set) == NM_DONE);
 }
 
@@ -83,7 +83,7 @@ static void threads_wait_for_workers(void) {
 
 /* Gives the worker back after a while. */
 static void *give_back(void *worker) {
-    nap_for_some();
+    sleep_for_some();
     CHECK(nm_drop((nm_handle *)worker) == NM_DONE);
     return NULL;
 }
@@ -94,7 +94,7 @@ static void a_close_waits(void) {
     CHECK(nm_set_new(&set, 64, 1) == NM_DONE && nm_wait_attach(&set, &worker, 0) == NM_DONE);
     CHECK(pthread_create(&later, NULL, give_back, &worker) == 0);
     CHECK(nm_wait_close(&set, TIMEOUT) == NM_DONE && pthread_join(later, NULL) == 0);
-    CHECK(nm_wait_away(&set, 0, 0) == NM_KIND && nm_drop(&set) == NM_DONE);
+    CHECK(nm_wait_attached(&set, 0, 0) == NM_KIND && nm_drop(&set) == NM_DONE);
 }
 
 int main(void) {
