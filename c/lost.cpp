@@ -139,7 +139,7 @@ void a_call_of_the_set_is_lost() {
 void a_collection_is_lost() {
     using nm::detail::Gain;
     nm::detail::Seats seats(nodes, {1});
-    auto insert = [&](nm_handle *worker) { return nm_worker_insert(worker, 5, &seats.bounds()); };
+    auto insert = [&](nm_handle *worker) { return nm_worker_insert(worker, 5, &seats.call_options()); };
     CHECK(seats.visit(Gain::inserts, insert) == NM_YES);
     std::atomic<bool> is_over{false};
     std::thread thread([&] {

@@ -69,10 +69,10 @@ void threads_fill_a_set() {
 void owners_are_moved() {
     nm::Set set = unbalanced_set(64, 2, nm::Shape::unbalanced);
     nm::Worker first = set.worker(0);
-    CHECK(fault_of([&] { (void)set.worker(0); }).text == "worker 0 is with a thread" &&
+    CHECK(fault_of([&] { (void)set.worker(0); }).text == "worker 0 is attached to a thread" &&
           thrown([&] { (void)set.worker(2); }) == NM_NUMBER);
     CHECK(fault_of([&] { set.close(); }).text ==
-          "worker 0 is with a thread: close what attach gave first");
+          "worker 0 is attached to a thread: close what attach gave first");
     nm::Worker moved = std::move(first);
     CHECK(moved.try_insert(5u) == NM_YES && moved.try_contains(5u) == NM_YES &&
           moved.try_remove(5u) == NM_YES && moved.try_remove(5u) == NM_NO);
@@ -266,7 +266,7 @@ void threads_attach_themselves() {
     CHECK(set.try_attach(none) == NM_NO_WORKER && all[7].number() == 7 &&
           all.back().number() == 63);
     CHECK(fault_of([&] { (void)set.attach(std::chrono::milliseconds(5)); }).text ==
-          "threads have each of the 64 workers of the set (64 at most)");
+          "each of the 64 workers of the set (64 at most) is attached or in a call");
     std::thread later([&] { CHECK(set.attach().number() == 5 && set.insert(5u)); });
     std::this_thread::sleep_for(std::chrono::milliseconds(20));
     all[5].close();
