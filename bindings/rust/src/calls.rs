@@ -1,52 +1,53 @@
-//! The calls by a worker that tend the set, and what they count.
+//! The managed calls by a worker, and what they count.
 
 use crate::fault::{answer, Fault};
 use crate::ffi::{CallOptions, Handle, Lookup, Outcome};
 use crate::pool::Entry;
 use crate::wait::IN_USE;
 
-/// How often the epoch is moved on at most before a collection: a removed node is free after two
-/// moves, and one move may be of another worker's.
+/// The most advances of the epoch before a collection. A removed node is free after two advances,
+/// and another worker may make one of them.
 const MOVES: u32 = 3;
 
-/// The outcome of a remove, or of a finish, that has reached its bound.
+/// The outcome of a remove or a finish that has reached its bound.
 const UNFINISHED: Outcome = -11;
 
-/// The outcomes of an advance that has not moved the epoch on.
+/// The outcomes of an advance that did not advance the epoch.
 const BEHIND: Outcome = -15;
 const LOST: Outcome = -16;
 const SPENT: Outcome = -17;
 
-/// The outcome of an answer that is yes.
+/// The outcome of the answer yes.
 const YES: Outcome = 1;
 
-/// How a remove that a call by a borrowed worker has begun is finished: by so many calls at most,
-/// of so many tries each. Each lost try means that another thread's call went on.
+/// The bound of finishing a remove that a call by a borrowed worker has begun: the number of calls,
+/// and the tries of each. Each lost try means that another thread's call went on.
 const FINISHES: u32 = 1_024;
 const TRIES: u32 = 64;
 
-/// The answer of a tended call. `Contention`: the bound was reached before the call, or the remove
-/// of an earlier one, was done.
+/// Returns the answer of a managed call. `Contention`: the bound was reached before the call, or
+/// the remove of an earlier call, was done.
 #[inline]
 fn managed(outcome: Outcome) -> Result<bool, Fault> {
     match answer(outcome) {
         Err(Fault::Busy | Fault::Pending) => Err(Fault::Contention),
-        told => told,
+        result => result,
     }
 }
 
-/// The keys as the library takes them.
+/// Returns the keys as the library takes them.
 pub(crate) fn lookups_of(keys: &[u64]) -> Vec<Lookup> {
     keys.iter().map(|&key| Lookup { key, found: 0 }).collect()
 }
 
-/// Whether the set had each of the keys.
+/// Returns for each lookup whether the set had the key.
 pub(crate) fn found(lookups: &[Lookup]) -> Vec<bool> {
     lookups.iter().map(|lookup| lookup.found != 0).collect()
 }
 
-/// A worker for one call, which its thread has itself or has borrowed from another one. If another
-/// call has the worker's handle, each of these calls returns `Other(IN_USE)` and does nothing.
+/// A worker for one call, which its thread has attached or has borrowed from another thread. If
+/// another call has the worker's handle, each of these calls returns `Other(IN_USE)` and does
+/// nothing.
 #[derive(Clone, Copy)]
 pub(crate) struct Seat<'a> {
     pub entry: &'a Entry,
@@ -62,19 +63,19 @@ impl Seat<'_> {
 
     #[inline]
     pub fn insert(&self, key: u64) -> Result<bool, Fault> {
-        let told = self.entry.handle.insert(key, self.options);
-        self.count_insert(told);
-        managed(told)
+        let outcome = self.entry.handle.insert(key, self.options);
+        self.count_insert(outcome);
+        managed(outcome)
     }
 
     #[inline]
     pub fn remove(&self, key: u64) -> Result<bool, Fault> {
-        let told = self.entry.handle.remove(key, self.options);
-        self.count_remove(told);
-        if told == UNFINISHED && self.is_given_back() {
+        let outcome = self.entry.handle.remove(key, self.options);
+        self.count_remove(outcome);
+        if outcome == UNFINISHED && self.is_given_back() {
             return Ok(true);
         }
-        managed(told)
+        managed(outcome)
     }
 
     pub fn pop_first(&self) -> Result<Option<u64>, Fault> {
@@ -85,28 +86,28 @@ impl Seat<'_> {
         self.take_by(Handle::pop_last)
     }
 
-    /// Takes a key by a call of the library. A key whose remove is unfinished is taken too: this
-    /// call will remove it, and no other call will.
+    /// Removes a key by a call of the library, and returns it. It returns a key whose remove is
+    /// unfinished too, because this call will remove it, and no other call will.
     fn take_by(
         &self,
         call: impl Fn(&Handle, &CallOptions, &mut u64) -> Outcome,
     ) -> Result<Option<u64>, Fault> {
         let mut taken = 0;
-        let told = call(&self.entry.handle, self.options, &mut taken);
-        self.count_remove(told);
-        let is_taken = match told {
+        let outcome = call(&self.entry.handle, self.options, &mut taken);
+        self.count_remove(outcome);
+        let is_taken = match outcome {
             UNFINISHED => {
                 self.is_given_back();
                 true
             }
-            told => managed(told)?,
+            outcome => managed(outcome)?,
         };
         Ok(is_taken.then_some(taken))
     }
 
     /// Finishes the remove that this call has begun by a borrowed worker, so that the worker's
-    /// owner does not meet it. Returns whether it is finished; false of a worker that is not
-    /// borrowed.
+    /// owner does not meet it. Returns whether the remove is finished, and false if the worker is
+    /// not borrowed.
     fn is_given_back(&self) -> bool {
         let has_finished = |_| self.entry.handle.finish(TRIES) != UNFINISHED;
         self.is_borrowed && (0..FINISHES).any(has_finished)
@@ -139,8 +140,8 @@ impl Seat<'_> {
         Ok(epoch)
     }
 
-    /// Makes a call of the library that changes no key, again if it has lost each of its tries, and
-    /// after the remove that is pending.
+    /// Makes a call of the library that changes no key, after the remove that is pending. It
+    /// retries the call if each of its tries was lost, at most `rounds` times.
     #[inline]
     fn look(&self, mut call: impl FnMut(&Handle, u32) -> Outcome) -> Result<bool, Fault> {
         let (handle, tries) = (&self.entry.handle, self.options.tries);
@@ -150,7 +151,7 @@ impl Seat<'_> {
                     return answer(IN_USE)
                 }
                 Err(Fault::Busy | Fault::Pending) => {}
-                told => return told,
+                result => return result,
             }
         }
         Err(Fault::Contention)
@@ -158,26 +159,28 @@ impl Seat<'_> {
 }
 
 impl Seat<'_> {
-    /// Counts the key that a call by the worker has inserted. Returns the call's outcome.
+    /// Counts the key that a call by the worker has inserted; returns the call's outcome.
     #[inline]
-    pub fn count_insert(&self, told: Outcome) -> Outcome {
-        self.entry.count(i64::from(told == YES), self.is_borrowed);
-        told
+    pub fn count_insert(&self, outcome: Outcome) -> Outcome {
+        self.entry
+            .count(i64::from(outcome == YES), self.is_borrowed);
+        outcome
     }
 
-    /// Counts the key that a call by the worker has removed. An unfinished remove counts now, and
-    /// not when it is finished: no other call will remove the key. Returns the call's outcome.
+    /// Counts the key that a call by the worker has removed; returns the call's outcome. An
+    /// unfinished remove counts now, and not when it is finished: no other call will remove the
+    /// key.
     #[inline]
-    pub fn count_remove(&self, told: Outcome) -> Outcome {
-        let is_removed = told == YES || told == UNFINISHED;
+    pub fn count_remove(&self, outcome: Outcome) -> Outcome {
+        let is_removed = outcome == YES || outcome == UNFINISHED;
         self.entry.count(-i64::from(is_removed), self.is_borrowed);
-        told
+        outcome
     }
 }
 
 impl Handle {
-    /// Moves the epoch on by one, if no worker holds it back.
-    pub(crate) fn move_on(&self) -> Advance {
+    /// Advances the epoch by one, if no worker holds it back.
+    pub(crate) fn advance_once(&self) -> Advance {
         let (mut epoch, mut worker) = (0, 0);
         match self.advance(&mut epoch, &mut worker) {
             BEHIND => Advance::Held { worker, epoch },
@@ -187,36 +190,36 @@ impl Handle {
         }
     }
 
-    /// Frees what has waited long enough: how many nodes.
+    /// Frees what has waited long enough; returns the number of freed nodes.
     pub(crate) fn free_old(&self) -> u64 {
         let (mut epoch, mut freed) = (0, 0);
         self.collect(&mut epoch, &mut freed);
         freed
     }
 
-    /// Moves the epoch on as often as removed nodes wait for, or until a worker holds it back, and
-    /// tells whether this worker was there for it: false where another call has it.
-    pub(crate) fn has_moved_on(&self) -> bool {
+    /// Advances the epoch as often as removed nodes need, or until a worker holds it back. Returns
+    /// whether it could do so by this worker, and false if another call has the worker.
+    pub(crate) fn has_advanced(&self) -> bool {
         let (mut epoch, mut behind) = (0, 0);
         for _ in 0..MOVES {
             match self.advance_at_once(&mut epoch, &mut behind) {
                 0.. | LOST => {}
-                told => return told == BEHIND || told == SPENT,
+                outcome => return outcome == BEHIND || outcome == SPENT,
             }
         }
         true
     }
 
-    /// Frees what has waited long enough, unless another call has the worker: how many nodes.
+    /// Frees what has waited long enough, unless another call has the worker; returns the number of
+    /// freed nodes.
     pub(crate) fn free_at_once(&self) -> u64 {
         let (mut epoch, mut freed) = (0, 0);
         self.collect_at_once(&mut epoch, &mut freed);
         freed
     }
 
-    /// Gets the worker ready to rest: it holds nothing back, and its remove is finished where the
-    /// bound allows.
-    pub(crate) fn rest(&self, options: &CallOptions) {
+    /// Unpins the worker, and finishes its remove if the bound allows.
+    pub(crate) fn settle(&self, options: &CallOptions) {
         self.unpin();
         for _ in 0..=options.rounds {
             if self.finish(options.tries) != UNFINISHED {
@@ -226,10 +229,10 @@ impl Handle {
     }
 }
 
-/// What came of a move of the epoch.
+/// The result of an advance of the epoch.
 #[derive(Clone, Copy, Debug, PartialEq, Eq)]
 pub enum Advance {
-    /// The epoch is this one now.
+    /// It advanced the epoch by one.
     Moved {
         /// The new epoch.
         epoch: u64,
@@ -241,11 +244,11 @@ pub enum Advance {
         /// The epoch that it announces.
         epoch: u64,
     },
-    /// Another worker moved the epoch on first.
+    /// Another worker advanced the epoch first.
     Lost {
-        /// The epoch to which it moved it.
+        /// The epoch to which the other worker advanced it.
         epoch: u64,
     },
-    /// It is the last epoch, 2^62.
+    /// The epoch is the last one, 2^62.
     Spent,
 }

@@ -1,20 +1,20 @@
-//! The traits of the standard library that a set has.
+//! The traits of the standard library that a set implements.
 
 use crate::fault::Fault;
 use crate::order::Range;
 use crate::set::Set;
 use std::fmt;
 
-/// The nodes of a set where none are named, at least.
+/// The least number of nodes of a set that is made of keys.
 const NODES: usize = 65_536;
 const MOST_NODES: usize = 268_435_456;
-/// How many nodes a set has for each key that it is made of.
+/// The nodes for each key of a set that is made of keys.
 const NODES_A_KEY: usize = 4;
 
-/// How many keys are shown of a set.
+/// The number of keys that `Debug` writes.
 const SHOWN: usize = 10;
 
-/// A set with these keys, and with room for as many more.
+/// Returns a set of these keys, with room for as many more.
 fn made_of(keys: &[u64]) -> Result<Set, Fault> {
     let nodes = keys
         .len()
@@ -25,18 +25,18 @@ fn made_of(keys: &[u64]) -> Result<Set, Fault> {
     Ok(set)
 }
 
-/// What a trait without faults makes of one.
-fn or_panic<T>(told: Result<T, Fault>) -> T {
-    told.unwrap_or_else(|fault| panic!("{fault}"))
+/// Returns the value of a result, or panics, for a trait that returns no faults.
+fn or_panic<T>(result: Result<T, Fault>) -> T {
+    result.unwrap_or_else(|fault| panic!("{fault}"))
 }
 
 impl FromIterator<u64> for Set {
-    /// A set of these keys, with four nodes for each and 65,536 at least.
+    /// Returns a set of these keys, with four nodes for each key, and at least 65,536.
     ///
     /// # Panics
     ///
-    /// Where one of them is above [`MOST_KEY`](crate::MOST_KEY), or memory is refused. A program
-    /// that is to be told takes [`Set::new`] and [`Set::extend`].
+    /// It panics if a key is above [`MOST_KEY`](crate::MOST_KEY), or if memory is refused.
+    /// [`Set::new`] and [`Set::extend`] return a fault instead.
     fn from_iter<I: IntoIterator<Item = u64>>(keys: I) -> Set {
         let keys: Vec<u64> = keys.into_iter().collect();
         or_panic(made_of(&keys))
@@ -44,11 +44,11 @@ impl FromIterator<u64> for Set {
 }
 
 impl<const N: usize> From<[u64; N]> for Set {
-    /// The same as by `from_iter`.
+    /// Returns a set of these keys, with four nodes for each key, and at least 65,536.
     ///
     /// # Panics
     ///
-    /// As `from_iter`.
+    /// It panics if a key is above [`MOST_KEY`](crate::MOST_KEY), or if memory is refused.
     fn from(keys: [u64; N]) -> Set {
         or_panic(made_of(&keys))
     }
@@ -59,7 +59,7 @@ impl Extend<u64> for Set {
     ///
     /// # Panics
     ///
-    /// Where the inherent [`Set::extend`] tells a fault.
+    /// It panics if the inherent [`Set::extend`] returns a fault.
     fn extend<I: IntoIterator<Item = u64>>(&mut self, keys: I) {
         or_panic(Set::extend(self, keys));
     }
@@ -70,7 +70,7 @@ impl<'a> Extend<&'a u64> for Set {
     ///
     /// # Panics
     ///
-    /// Where the inherent [`Set::extend`] tells a fault.
+    /// It panics if the inherent [`Set::extend`] returns a fault.
     fn extend<I: IntoIterator<Item = &'a u64>>(&mut self, keys: I) {
         or_panic(Set::extend(self, keys.into_iter().copied()));
     }

@@ -1,19 +1,19 @@
-//! What a call tells that has not answered.
+//! The faults that calls return.
 
 use crate::ffi::Outcome;
 use crate::numbers::Numbers;
 use crate::MOST_KEY;
 use std::fmt;
 
-/// Why a call has not answered. Nothing has changed, where the line does not say more.
+/// Why a call failed. The call has changed nothing, unless the line says more.
 #[derive(Clone, Copy, Debug, PartialEq, Eq, Hash)]
 #[non_exhaustive]
 pub enum Fault {
-    /// The key, which this is, is above 2^64 - 4 ([`MOST_KEY`](crate::MOST_KEY)).
+    /// This key is above 2^64 - 4 ([`MOST_KEY`](crate::MOST_KEY)).
     Key(u64),
-    /// The number of nodes, which this is, is not 7 to 268,435,456.
+    /// This number of nodes is not 7 to 268,435,456.
     Nodes(u32),
-    /// The number of workers, which this is, is not 1 to 64.
+    /// This number of workers is not 1 to 64.
     Workers(u32),
     /// There is no worker of that number.
     Number {
@@ -30,59 +30,59 @@ pub enum Fault {
     /// No nodes were free for the key of a [`try_insert`](crate::Worker::try_insert), which waits
     /// for none.
     NoNodes,
-    /// Each try was lost to other threads, or there might be none. Nothing of the call stands but
-    /// help given to others; it can be made again.
+    /// Other threads interfered with each try, or the call has none. Of the call nothing remains
+    /// but help given to others; call again.
     Busy,
-    /// The bound of a tended call was reached before it had answered, since other threads were in
-    /// the way. Nothing of the call stands but help given to others.
+    /// Other threads interfered with each try of each round of a managed call. Of the call nothing
+    /// remains but help given to others.
     Contention,
-    /// A remove has begun and its bound was reached before it was finished: the key will go, by
-    /// this remove and no other, and is pending until the worker's next tended call, or
-    /// [`try_finish`](crate::Worker::try_finish), has finished it.
+    /// A remove has begun, and its bound was reached before it was finished. The key will be
+    /// removed by this remove and no other. It is pending until the worker's next managed call, or
+    /// [`try_finish`](crate::Worker::try_finish), has finished the remove.
     Unfinished,
-    /// A remove of before has begun and is not finished, so that only
-    /// [`try_finish`](crate::Worker::try_finish) and the tended calls go on.
+    /// An earlier remove has begun and is not finished, so that only
+    /// [`try_finish`](crate::Worker::try_finish) and the managed calls go on.
     Pending,
-    /// The worker is pinned, since the guard of its pin was forgotten
-    /// ([`forget`](std::mem::forget)). Dropped, the worker goes back without its pin.
+    /// The worker is pinned, because the guard of its pin was forgotten
+    /// ([`forget`](std::mem::forget)). If the worker is dropped, its pin ends.
     Pinned,
-    /// Threads have each of the workers, and the call was not to wait for one, or not longer. Or
-    /// this thread itself has them all, so that an `attach` would never end; nor would a call of
-    /// the set if this thread has pinned each.
+    /// Each worker is attached or in a call, and the call was not to wait, or its timeout has
+    /// passed. Or this thread itself has attached all workers, so that an `attach` would never end;
+    /// if this thread has pinned each, a call of the set would never end either.
     NoWorker {
         /// How many workers the set has.
         workers: u32,
-        /// How many of them this thread has itself.
+        /// How many of them this thread itself has attached.
         own: u32,
     },
-    /// These workers are attached to threads: the one that was asked for, or those without which
-    /// the set cannot be closed.
+    /// These workers are attached to threads: the worker of the given number, or the workers that
+    /// keep the set from being closed.
     Attached(Numbers),
     /// The set is closed.
     Closed,
-    /// An outcome of the library that this crate does not know, by its number in `nm_set.h`.
+    /// An outcome of the library that this crate does not know. It has the number in `nm_set.h`.
     Other(i32),
 }
 
-/// How full a set was when an insert found no nodes for its key: as [`len`](crate::Set::len) and
-/// [`waiting`](crate::Set::waiting) return it.
+/// How full a set was when an insert found no nodes for its key, in the numbers that
+/// [`len`](crate::Set::len) and [`waiting`](crate::Set::waiting) return.
 #[derive(Clone, Copy, Debug, Default, PartialEq, Eq, Hash)]
 pub struct Full {
-    /// For how many nodes the set has room.
+    /// The number of nodes for which the set has room.
     pub nodes: u32,
     /// How many keys it had; n keys take 2 n + 5 nodes.
     pub keys: u64,
     /// How many removed nodes waited to be freed.
     pub waiting: u64,
     /// Which workers were in a call, so that the insert could not ask how many nodes wait with
-    /// them: `waiting` has what each one had when it was last asked.
+    /// them. For each of these, `waiting` has the number of the last time that it was asked.
     pub unasked: Numbers,
-    /// Which workers held the epoch back, by a pin or in a call, so that these were not freed.
+    /// Which workers held the epoch back, by a pin or in a call, so that nodes were not freed.
     pub behind: Numbers,
 }
 
 impl Fault {
-    /// The fault of an outcome below 0.
+    /// Returns the fault of an outcome below 0.
     pub(crate) fn of(outcome: Outcome) -> Fault {
         match outcome {
             -1 | -3 | -19 => Fault::Closed,
@@ -97,7 +97,7 @@ impl Fault {
     }
 }
 
-/// Whether the answer is not no, or the fault.
+/// Returns whether the answer is not no, or the fault of an error.
 #[inline]
 pub(crate) fn answer(outcome: Outcome) -> Result<bool, Fault> {
     match outcome {
@@ -106,17 +106,17 @@ pub(crate) fn answer(outcome: Outcome) -> Result<bool, Fault> {
     }
 }
 
-/// A number in groups of three digits.
+/// Returns a number as text, in groups of three digits.
 fn grouped(number: u64) -> String {
     let digits = number.to_string();
-    let mut told = String::new();
+    let mut text = String::new();
     for (at, digit) in digits.chars().enumerate() {
         if at > 0 && (digits.len() - at) % 3 == 0 {
-            told.push(',');
+            text.push(',');
         }
-        told.push(digit);
+        text.push(digit);
     }
-    told
+    text
 }
 
 impl fmt::Display for Full {
@@ -164,23 +164,28 @@ impl fmt::Display for Fault {
             }
             Fault::Full(full) => return full.fmt(f),
             Fault::NoWorker { workers, own } => {
-                let who = if own == workers {
-                    "this thread has each itself"
+                let why = if own == workers {
+                    "this thread itself has attached each"
                 } else {
-                    "threads have each"
+                    "each is attached or in a call"
                 };
                 return write!(
                     f,
-                    "no worker is free: the set has {workers} (64 at most), and {who}"
+                    "no worker is free: the set has {workers} (64 at most), and {why}"
                 );
             }
             Fault::Attached(numbers) => return write!(f, "{} attached to a thread", numbers.are()),
-            Fault::Other(number) => return write!(f, "the library told outcome {number}"),
+            Fault::Other(number) => return write!(f, "the library returned outcome {number}"),
             Fault::NoMemory => "memory was refused",
-            Fault::NoNodes => "no nodes are free for the new key",
-            Fault::Busy => "each try was lost to other threads",
-            Fault::Contention => "other threads were in the way for longer than the call's bound",
-            Fault::Unfinished => "the remove has begun and is not finished: the key will go",
+            Fault::NoNodes => "no nodes are free for the new key: collect and call again",
+            Fault::Busy => "other threads interfered with each try: call again, or give more tries",
+            Fault::Contention => {
+                "other threads interfered with each try of each round: call again, or raise the \
+                 rounds of the options"
+            }
+            Fault::Unfinished => {
+                "the remove has begun and is not finished: the key will be removed"
+            }
             Fault::Pending => "an earlier remove has begun and is not finished: finish it first",
             Fault::Pinned => "the worker is pinned, and the guard of its pin was forgotten",
             Fault::Closed => "the set is closed",
@@ -197,33 +202,36 @@ mod tests {
     #[test]
     fn an_outcome_that_is_not_known_keeps_its_number() {
         assert_eq!(Fault::of(-99), Fault::Other(-99));
-        assert_eq!(Fault::of(-99).to_string(), "the library told outcome -99");
+        assert_eq!(
+            Fault::of(-99).to_string(),
+            "the library returned outcome -99"
+        );
     }
 
     #[test]
-    fn digits_stand_in_groups_of_three() {
-        let told: Vec<_> = [0, 999, 1_000, 65_536, 268_435_456].map(grouped).into();
-        assert_eq!(told, ["0", "999", "1,000", "65,536", "268,435,456"]);
+    fn digits_are_in_groups_of_three() {
+        let text: Vec<_> = [0, 999, 1_000, 65_536, 268_435_456].map(grouped).into();
+        assert_eq!(text, ["0", "999", "1,000", "65,536", "268,435,456"]);
     }
 
     #[test]
-    fn a_full_set_tells_its_numbers() {
+    fn a_full_set_writes_its_numbers() {
         let mut full = Full {
             nodes: 65_536,
             keys: 1_200,
             waiting: 63_131,
             ..Full::default()
         };
-        let told =
+        let text =
             "the set is full: its 1,200 keys take 2,405 of its 65,536 nodes, and 63,131 wait \
                     to be freed";
-        assert_eq!(full.to_string(), told);
+        assert_eq!(full.to_string(), text);
         full.behind = Numbers::of(0b1010);
-        let told = format!("{told}; workers 1 and 3 are in their way, by a pin or in a call");
-        assert_eq!(Fault::Full(full).to_string(), told);
+        let text = format!("{text}; workers 1 and 3 are in their way, by a pin or in a call");
+        assert_eq!(Fault::Full(full).to_string(), text);
         full.unasked = Numbers::of(0b1000);
-        let told =
-            format!("{told}; worker 3 is in a call, so what waits there is counted as last seen");
-        assert_eq!(full.to_string(), told);
+        let text =
+            format!("{text}; worker 3 is in a call, so what waits there is counted as last seen");
+        assert_eq!(full.to_string(), text);
     }
 }

@@ -1,22 +1,22 @@
-//! The functions of `nm_set.h`, and the one place with `unsafe`: a [`Handle`] that keeps what the
-//! header asks of its callers.
+//! The functions of `nm_set.h`, and the one place with `unsafe`: a [`Handle`], which meets the
+//! conditions that the header asks of its callers.
 //!
-//! What the header asks, and why it is kept here:
+//! What the header asks, and why it holds here:
 //!
 //! - *A handle is all zero before its first use, and only the library writes it.* It begins as
 //!   null, and its field is private to this module.
 //! - *It may be moved.* Rust moves values by copying their bytes and never uses the old place, and
 //!   a handle is not `Copy` or `Clone`.
 //! - *That it is all zero happens before another thread's first call.* It was made before it was
-//!   shared, and Rust lets it be shared in no other way than the header names.
+//!   shared, and Rust lets it be shared only in the ways that the header names.
 //! - *Pointers are to places of their type that no other call is using, and two parameters are at
-//!   different places.* They are made of `&mut`, and of `&` where the library only reads; two
+//!   different places.* They are made from `&mut`, and from `&` if the library only reads. Two
 //!   handles of one call are two values.
-//! - *An open handle is not lost.* It drops what it owns.
+//! - *An open handle is not lost.* A dropped `Handle` gives up what it owns.
 //!
-//! Of two calls that have one handle at the same time the library refuses the second one, which
-//! then touches nothing. Some calls are made again here until they are not refused; the others,
-//! which are listed as made at once, return that outcome to their caller.
+//! If two calls have one handle at the same time, the library refuses the second one, which then
+//! touches nothing. Some calls are repeated here until they are not refused. The others, which are
+//! listed as made at once, return that outcome to their caller.
 
 use crate::wait::{at_once, waited_out};
 use std::cell::UnsafeCell;
@@ -27,8 +27,8 @@ use std::sync::atomic::AtomicU64;
 #[cfg(test)]
 use std::sync::atomic::Ordering;
 
-/// `nm_handle`: a word that is null, or owns a set, a worker or a report, and whether a call has
-/// it.
+/// `nm_handle`: a pointer that is null or owns a set, a worker or a report, and whether a call has
+/// the handle.
 #[repr(C)]
 struct Word {
     at: *mut u8,
@@ -41,7 +41,7 @@ struct Word {
 pub struct Stats {
     /// The links that it has won: one for each key that it inserted.
     pub links: u64,
-    /// The flags that it has won: one for each key that it deleted, a pending one too.
+    /// The flags that it has won: one for each key that it removed, a pending one included.
     pub flags: u64,
     /// The splices that it has won, each of which cuts off one or more keys.
     pub splices: u64,
@@ -53,16 +53,17 @@ pub struct Stats {
     pub queued: u64,
 }
 
-/// What a call that tends the set may spend, and when it collects: `nm_options`.
+/// What a managed call may spend, and when it collects: `nm_options`.
 #[repr(C)]
 #[derive(Clone, Copy)]
 pub(crate) struct CallOptions {
     /// The tries of each call of the tree.
     pub tries: u32,
-    /// How often a call that has lost each of its tries is made again, and how often a delete that
-    /// has begun is gone on with.
+    /// How often a call that lost each of its tries is retried, and how often a remove that has
+    /// begun is continued.
     pub rounds: u32,
-    /// From how many waiting nodes on an insert or a remove first moves the epoch on and collects.
+    /// The number of waiting nodes from which an insert or a remove first advances the epoch and
+    /// collects.
     pub collect_after: u32,
 }
 
@@ -71,7 +72,7 @@ pub(crate) struct CallOptions {
 #[derive(Clone, Copy)]
 pub(crate) struct Lookup {
     pub key: u64,
-    /// 1 where the set had the key, else 0.
+    /// 1 if the set had the key, else 0.
     pub found: u64,
 }
 
@@ -79,11 +80,11 @@ pub(crate) struct Lookup {
 #[repr(C)]
 #[derive(Clone, Copy, Debug, Default, PartialEq, Eq)]
 pub struct Waiting {
-    /// The slot where it stands.
+    /// The slot of the node.
     pub slot: u64,
     /// How often the slot had been put to use when the node was made.
     pub generation: u64,
-    /// The epoch that its remover read after the cut.
+    /// The epoch that the worker read after it cut the node off.
     pub label: u64,
 }
 
@@ -135,32 +136,32 @@ extern "C" {
     fn nm_report_waiting(report: *mut Word, worker: u32, waiting: *mut Waiting) -> c_int;
 }
 
-/// What a call tells, as the number of `nm_outcome`: an answer from 0 on, or a fault below 0.
+/// The outcome of a call, a number of `nm_outcome`: an answer, 0 or above, or an error, below 0.
 pub(crate) type Outcome = c_int;
 
-/// The handle of a set, of its report once it was closed, or of a worker, which threads share. It
-/// gives up what it owns when it is dropped.
+/// A handle that threads share: it owns a set, the report of a closed set, or a worker. It gives up
+/// what it owns when it is dropped.
 pub(crate) struct Handle(UnsafeCell<Word>);
 
-// SAFETY: the header allows a handle to be used by one thread after another, where what the first
-// did happens before the second's call: a `Handle` that was sent to a thread has that.
+// SAFETY: the header allows a handle to be used by one thread after another, if what the first
+// thread did happens before the second's call. A `Handle` that was sent to a thread meets this.
 unsafe impl Send for Handle {}
 
-// SAFETY: a shared one is given to the library's functions alone. Of two calls that have one handle
-// at the same time, the library tells the second so, and that one touches nothing: each takes the
-// handle by an atomic exchange before it reads what it owns.
+// SAFETY: only the library's functions get a shared handle. If two calls have one handle at the
+// same time, the library refuses the second, which touches nothing: each call takes the handle by
+// an atomic exchange before it reads what the handle owns.
 unsafe impl Sync for Handle {}
 
 // No call of the library unwinds, so that a panic never comes in the middle of one.
 impl UnwindSafe for Handle {}
 impl RefUnwindSafe for Handle {}
 
-/// A safe call of a function over one handle, made as a function of `wait` has it.
+/// Makes safe methods that each call a function with this handle, by a function of `wait`.
 macro_rules! calls {
     ($made:ident: $($name:ident = $function:ident($($parameter:ident: $type:ty),*);)*) => {
         $(pub(crate) fn $name(&self, $($parameter: $type),*) -> Outcome {
-            // SAFETY: the handle lies in a cell that only the library writes, also where several
-            // threads call it (see `Sync` above); each place to write is borrowed for this call
+            // SAFETY: the handle is in a cell that only the library writes, even if several
+            // threads call it (see `Sync` above). Each place to write is borrowed for this call
             // alone, so it is valid and apart from the others.
             $made(|| unsafe { $function(self.0.get(), $($parameter),*) })
         })*
@@ -168,7 +169,7 @@ macro_rules! calls {
 }
 
 impl Handle {
-    /// A closed one.
+    /// Returns a closed handle.
     pub(crate) fn closed() -> Handle {
         Handle(UnsafeCell::new(Word {
             at: null_mut(),
@@ -220,11 +221,11 @@ impl Handle {
         stats_at_once = nm_worker_stats(stats: &mut Stats);
     }
 
-    /// Looks several keys up, at once.
+    /// Looks up several keys; the call is made at once.
     pub(crate) fn contains_many(&self, lookups: &mut [Lookup], tries: u32) -> Outcome {
         let (first, count) = (lookups.as_mut_ptr(), lookups.len());
-        // SAFETY: as of the calls above; the slice is borrowed for this call alone, and its pointer
-        // is not null, even if it is empty.
+        // SAFETY: see the calls above. The slice is borrowed for this call alone, and its pointer
+        // is not null, even if the slice is empty.
         at_once(|| unsafe { nm_worker_contains_many(self.0.get(), first, count, tries) })
     }
 
@@ -232,15 +233,18 @@ impl Handle {
     /// call ended.
     #[cfg(test)]
     pub(crate) fn set_in_use(&self, is_in_use: bool) {
-        // SAFETY: the word lives as long as the handle, and all threads change it by atomic steps.
+        // SAFETY: the word exists as long as the handle, and all threads change it by atomic steps.
         let in_use = unsafe { &(*self.0.get()).in_use };
         in_use.store(is_in_use.into(), Ordering::SeqCst);
     }
 
-    /// Takes the worker of a number out of the set, into a closed handle, which is another one.
+    /// Attaches the worker of a number to a closed handle, which is not this one.
     pub(crate) fn take(&self, worker: &Handle, number: u32) -> Outcome {
-        assert!(!std::ptr::eq(self, worker), "a set's handle is no worker's");
-        // SAFETY: as of the calls above, of both handles, which are two.
+        assert!(
+            !std::ptr::eq(self, worker),
+            "the handle of a set and of a worker are the same"
+        );
+        // SAFETY: see the calls above, for each of the two handles.
         waited_out(|| unsafe { nm_set_worker(self.0.get(), worker.0.get(), number) })
     }
 }

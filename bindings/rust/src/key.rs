@@ -1,9 +1,9 @@
-//! The numbers that are keys.
+//! The range of keys.
 
 use crate::fault::Fault;
 use crate::MOST_KEY;
 
-/// The key, where the number is one.
+/// Returns the key, or `Key` if the number is no key.
 pub(crate) fn checked(key: u64) -> Result<u64, Fault> {
     if key > MOST_KEY {
         return Err(Fault::Key(key));

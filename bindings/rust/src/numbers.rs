@@ -18,33 +18,33 @@ use std::fmt;
 pub struct Numbers(u64);
 
 impl Numbers {
-    /// Those whose bits a mask has.
+    /// Returns the numbers of the bits of a mask.
     pub(crate) fn of(mask: u64) -> Numbers {
         Numbers(mask)
     }
 
-    /// Whether a number is one of these.
+    /// Returns whether a number is one of these.
     pub fn contains(&self, number: u32) -> bool {
         number < u64::BITS && self.0 >> number & 1 == 1
     }
 
-    /// The numbers, ascending.
+    /// Returns the numbers, ascending.
     pub fn iter(&self) -> impl Iterator<Item = u32> {
         let numbers = *self;
         (0..u64::BITS).filter(move |&number| numbers.contains(number))
     }
 
-    /// How many they are.
+    /// Returns how many they are.
     pub fn len(&self) -> usize {
         self.0.count_ones() as usize
     }
 
-    /// Whether there is none.
+    /// Returns whether there are none.
     pub fn is_empty(&self) -> bool {
         self.0 == 0
     }
 
-    /// Workers as they stand in a sentence, with its verb.
+    /// Returns the workers as the subject of a sentence, with its verb.
     pub(crate) fn are(&self) -> String {
         match self.len() {
             1 => format!("worker {self} is"),
@@ -54,7 +54,7 @@ impl Numbers {
 }
 
 impl FromIterator<u32> for Numbers {
-    /// Those of these numbers that are below 64.
+    /// Returns those of the numbers that are below 64.
     fn from_iter<I: IntoIterator<Item = u32>>(numbers: I) -> Numbers {
         let bit = |number| 1_u64.checked_shl(number).unwrap_or(0);
         Numbers(numbers.into_iter().map(bit).fold(0, |all, bit| all | bit))
@@ -79,11 +79,11 @@ mod tests {
     use super::Numbers;
 
     #[test]
-    fn numbers_stand_in_a_sentence() {
-        let told = |numbers: &[u32]| numbers.iter().copied().collect::<Numbers>().are();
-        assert_eq!(told(&[63]), "worker 63 is");
-        assert_eq!(told(&[5, 0]), "workers 0 and 5 are");
-        assert_eq!(told(&[1, 2, 3]), "workers 1, 2 and 3 are");
+    fn numbers_are_the_subject_of_a_sentence() {
+        let text = |numbers: &[u32]| numbers.iter().copied().collect::<Numbers>().are();
+        assert_eq!(text(&[63]), "worker 63 is");
+        assert_eq!(text(&[5, 0]), "workers 0 and 5 are");
+        assert_eq!(text(&[1, 2, 3]), "workers 1, 2 and 3 are");
     }
 
     #[test]

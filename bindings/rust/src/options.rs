@@ -5,7 +5,7 @@ use crate::ffi::CallOptions;
 /// The shape of the tree.
 #[derive(Clone, Copy, Debug, Default, PartialEq, Eq)]
 pub enum Shape {
-    /// A radix tree: no call passes more than 66 nodes, whatever keys come in whatever order.
+    /// A radix tree: no call passes more than 66 nodes, in whatever order the keys come.
     #[default]
     Radix,
     /// The tree of Natarajan and Mittal, in which keys that come in order make one long path: then
@@ -13,7 +13,7 @@ pub enum Shape {
     Unbalanced,
 }
 
-/// How a set is made, and what its tended calls may spend.
+/// How a set is made, and what its managed calls may spend.
 ///
 /// ```
 /// use nm_set::{Options, Set};
@@ -25,35 +25,31 @@ pub enum Shape {
 /// ```
 #[derive(Clone, Copy, Debug, PartialEq, Eq)]
 pub struct Options {
-    /// The workers, 1 to 64: so many calls are made at one time. 64 by default; each takes 4,096
-    /// bytes.
+    /// The number of workers, 1 to 64, which is the number of calls at the same time. 64 by
+    /// default; each worker takes 4,096 bytes.
     pub workers: u32,
     /// The shape of the tree. A radix tree by default.
     pub shape: Shape,
-    /// The tries of each call of the library that a tended call makes. With fewer than 2 no remove
-    /// answers at once, and with fewer than 3 not each look for the least key from one on. 64 by
-    /// default.
+    /// The tries of each call of the tree. With fewer than 2 no remove returns true at once, and
+    /// with fewer than 3 some searches for the next key do not answer at once. 64 by default.
     pub tries: u32,
-    /// How often a tended call is made again that has lost each of its tries, before it tells
-    /// [`Fault::Contention`](crate::Fault::Contention), and how often a remove that has begun is
-    /// gone on with, before it tells [`Fault::Unfinished`](crate::Fault::Unfinished). 64 by
-    /// default.
+    /// How often a call that lost each of its tries is retried, before it returns
+    /// [`Fault::Contention`](crate::Fault::Contention). And how often a remove that has begun is
+    /// continued, before it returns [`Fault::Unfinished`](crate::Fault::Unfinished). 64 by default.
     pub rounds: u32,
-    /// When this many removed nodes wait with its worker, an insert or a remove first moves the
-    /// epoch on and collects. None by default: nodes / (8 * workers), at least 8 and at most 64, so
-    /// that all workers together leave at most an eighth of the nodes uncollected, unless each has
-    /// 8.
+    /// The number of waiting nodes from which an insert or a remove first advances the epoch and
+    /// collects. None, the default, is nodes / (8 * workers), at least 8 and at most 64. So all
+    /// workers together leave at most an eighth of the nodes uncollected, unless each has 8.
     pub collect_after: Option<u32>,
-    /// The longest time in milliseconds that an insert which finds no free nodes, while removed
-    /// ones wait to be freed, sleeps and tries again before it returns
-    /// [`Fault::Full`](crate::Fault::Full). The sleeps begin with 20 microseconds and double up to
-    /// a millisecond. With 0 the insert never sleeps, as an asynchronous program needs it. 1,000 by
-    /// default.
+    /// The longest time, in milliseconds, that an insert waits for removed nodes to be freed before
+    /// it returns [`Fault::Full`](crate::Fault::Full). It sleeps and tries again; the sleeps begin
+    /// with 20 microseconds and double up to a millisecond. With 0 the insert never sleeps, which
+    /// an asynchronous program needs. 1,000 by default.
     pub timeout_ms: u32,
 }
 
 impl Options {
-    /// What a tended call may spend in a set of this many nodes. There is a worker at least.
+    /// Returns what a managed call may spend in a set of this many nodes and at least one worker.
     pub(crate) fn for_calls(&self, nodes: u32) -> CallOptions {
         let share = nodes / (8 * self.workers);
         CallOptions {

@@ -1,4 +1,4 @@
-//! The keys in order, and what is made of single calls for keys.
+//! The keys in order, and the calls that are made of several calls for single keys.
 
 use crate::fault::Fault;
 use crate::set::Set;
@@ -8,17 +8,17 @@ use std::fmt;
 use std::iter::FusedIterator;
 use std::ops::{Bound, RangeBounds};
 
-/// Who makes the calls: a set, or a worker of one.
+/// What makes the calls: a set, or a worker of a set.
 pub trait Calls {
-    /// The least key from one on.
+    /// Returns the least key that is not below this one.
     fn least_from(&mut self, key: u64) -> Result<Option<u64>, Fault>;
-    /// The greatest key up to one.
+    /// Returns the greatest key that is not above this one.
     fn greatest_to(&mut self, key: u64) -> Result<Option<u64>, Fault>;
-    /// Whether a key was in the set; it is not now.
+    /// Removes a key; returns whether it was present.
     fn take(&mut self, key: u64) -> Result<bool, Fault>;
 }
 
-/// These calls have other names where a user finds them, the same for a set as for a worker.
+/// Implements `Calls` by the public calls, which have the same names for a set and for a worker.
 macro_rules! calls_of {
     ($($whose:ty),*) => {$(
         impl Calls for $whose {
@@ -39,7 +39,7 @@ macro_rules! calls_of {
 
 calls_of!(&Set, &mut Worker);
 
-/// Takes a key away. One that is told to be unfinished goes by this call and no other.
+/// Removes a key. If the remove is unfinished, this call will remove the key, and no other will.
 fn take(calls: &mut impl Calls, key: u64) -> Result<(), Fault> {
     match calls.take(key) {
         Ok(_) | Err(Fault::Unfinished) => Ok(()),
@@ -47,7 +47,7 @@ fn take(calls: &mut impl Calls, key: u64) -> Result<(), Fault> {
     }
 }
 
-/// Removes each key of which a function does not tell that it stays.
+/// Removes each key for which `stays` returns false.
 pub(crate) fn retain(
     mut calls: impl Calls,
     mut stays: impl FnMut(u64) -> bool,
@@ -67,10 +67,10 @@ pub(crate) fn retain(
 
 /// The keys of a range, ascending by [`next`](Iterator::next) and descending by
 /// [`next_back`](DoubleEndedIterator::next_back), while the set is in use: see
-/// [`Set::range`](crate::Set::range). It ends behind the first fault.
+/// [`Set::range`](crate::Set::range). It ends after the first fault.
 pub struct Range<C> {
     calls: C,
-    /// The least and the greatest key that are to come; none once it has ended.
+    /// The least and the greatest key that it may still return; None after its end.
     rest: Option<(u64, u64)>,
 }
 
@@ -96,14 +96,14 @@ impl<C: Calls> Iterator for Range<C> {
 
     fn next(&mut self) -> Option<Result<u64, Fault>> {
         let (low, high) = self.rest.take()?;
-        let told = self.calls.least_from(low).transpose()?;
-        if told.as_ref().is_ok_and(|&key| key > high) {
+        let found = self.calls.least_from(low).transpose()?;
+        if found.as_ref().is_ok_and(|&key| key > high) {
             return None;
         }
-        if let Ok(key) = told {
+        if let Ok(key) = found {
             self.rest = (key < high).then(|| (key + 1, high));
         }
-        Some(told)
+        Some(found)
     }
 
     fn last(mut self) -> Option<Result<u64, Fault>> {
@@ -114,14 +114,14 @@ impl<C: Calls> Iterator for Range<C> {
 impl<C: Calls> DoubleEndedIterator for Range<C> {
     fn next_back(&mut self) -> Option<Result<u64, Fault>> {
         let (low, high) = self.rest.take()?;
-        let told = self.calls.greatest_to(high).transpose()?;
-        if told.as_ref().is_ok_and(|&key| key < low) {
+        let found = self.calls.greatest_to(high).transpose()?;
+        if found.as_ref().is_ok_and(|&key| key < low) {
             return None;
         }
-        if let Ok(key) = told {
+        if let Ok(key) = found {
             self.rest = (key > low).then(|| (low, key - 1));
         }
-        Some(told)
+        Some(found)
     }
 }
 
@@ -140,7 +140,7 @@ mod tests {
     use super::{retain, Calls, Fault, Range};
     use std::collections::BTreeSet;
 
-    /// A set in which each remove stays unfinished.
+    /// A set in which each remove returns `Unfinished`.
     struct Unfinished(BTreeSet<u64>);
 
     impl Calls for &mut Unfinished {
@@ -159,7 +159,7 @@ mod tests {
     }
 
     #[test]
-    fn a_key_whose_remove_is_unfinished_goes() {
+    fn a_key_whose_remove_is_unfinished_is_removed() {
         let mut set = Unfinished([5, 6, 7].into());
         assert_eq!(retain(&mut set, |key| key == 6), Ok(()));
         assert_eq!(set.0, [6].into());

@@ -1,12 +1,12 @@
 //! What the clones of a set share: the set's handle, and a handle for each of its workers.
 //!
-//! A worker stays in its entry from its first use until the set is closed. A call of a thread that
-//! has no worker takes the lock of an entry that is idle, makes its call by the worker there, and
-//! unlocks the entry. A [`Worker`](crate::Worker) has its entry lent, and takes no lock. If no
-//! entry is idle, a call borrows a lent worker that is in no call and not pinned; it takes no lock
-//! either, because the library refuses the second of two calls that have one handle at the same
-//! time. In the same way any thread may ask a worker how many nodes wait in its queue. If a call
-//! finds no worker, it sleeps and looks again.
+//! A worker remains in its entry from its first use until the set is closed. A call of a thread
+//! that has no worker locks an idle entry, makes its call by the worker there, and unlocks the
+//! entry. A [`Worker`](crate::Worker) has its entry lent, and takes no lock. If no entry is idle, a
+//! call borrows a lent worker that is in no call and not pinned. It takes no lock either, because
+//! the library refuses the second of two calls that have one handle at the same time. In the same
+//! way any thread may ask a worker how many nodes wait in its queue. If a call finds no worker, it
+//! sleeps and looks again.
 
 use crate::calls::Seat;
 use crate::fault::Fault;
@@ -20,14 +20,14 @@ use std::sync::atomic::{AtomicI64, AtomicU64, AtomicU8, Ordering};
 use std::sync::{Mutex, MutexGuard, PoisonError, TryLockError};
 use std::time::{Duration, Instant};
 
-/// Where a worker is.
+/// The place of a worker.
 #[derive(Clone, Copy, PartialEq, Eq)]
 enum Place {
-    /// In the set of the library: nobody has used it yet.
+    /// In the set of the library: no thread has used it so far.
     Unused,
     /// In its entry, for the calls of the set.
     Idle,
-    /// With a thread.
+    /// Attached to a thread.
     Lent,
 }
 
@@ -36,36 +36,36 @@ enum Place {
 pub(crate) struct Entry {
     place: Mutex<Place>,
     pub handle: Handle,
-    /// The thread that took it, or that has made its latest call.
+    /// The thread that attached the worker, or that made the latest call by it.
     holder: AtomicU64,
-    /// How many keys the calls by the worker have inserted, less those that they have removed: the
-    /// calls of the thread that has it, and the calls that have borrowed it.
+    /// How many keys calls by the worker have inserted, less those that they have removed: the
+    /// calls of the thread that attached it, and the calls that borrowed it.
     keys: AtomicI64,
     borrowed_keys: AtomicI64,
     /// How many nodes waited in the worker's queue when it was last asked.
     pub waiting: AtomicU64,
 }
 
-/// A worker that its thread alone uses until this is dropped.
+/// An idle worker, which only this thread uses until this value is dropped.
 struct Idle<'a> {
     place: MutexGuard<'a, Place>,
     number: u32,
     entry: &'a Entry,
 }
 
-/// How far a set is on the way to its end.
+/// The phase of a set: calls are made.
 const OPEN: u8 = 0;
-/// A close waits for calls; none begins meanwhile, and none is refused.
+/// The phase of a set: a close waits for calls. No call begins meanwhile, and no call is refused.
 const CLOSING: u8 = 1;
-/// No call is made any more.
+/// The phase of a set: it is closed, and no more calls are made.
 const CLOSED: u8 = 2;
 
-/// How long a thread that has each worker itself waits before `NoWorker` is returned: another
-/// thread, to which it has sent one, may not have made a call by it yet.
+/// How long a thread that has attached all workers itself waits before it returns `NoWorker`. It
+/// may have sent a worker to another thread that has made no call by it so far.
 const ALONE: Duration = Duration::from_millis(250);
 
 pub(crate) struct Pool {
-    /// Tells the sets of a process apart.
+    /// The number of this set in its process.
     identity: u64,
     pub options: CallOptions,
     pub timeout_ms: u32,
@@ -81,13 +81,14 @@ static IDENTITIES: AtomicU64 = AtomicU64::new(1);
 static THREADS: AtomicU64 = AtomicU64::new(1);
 
 thread_local! {
-    /// The set that this thread used last without a worker of its own, and by which one.
+    /// The set that this thread last called without a worker of its own, and the worker that it
+    /// used.
     static LAST: Cell<(u64, u32)> = const { Cell::new((0, 0)) };
-    /// The number of this thread, or 0 where it has none yet.
+    /// The number of this thread, or 0 before it has one.
     static THREAD: Cell<u64> = const { Cell::new(0) };
 }
 
-/// A number that no other thread has, from 1 on.
+/// Returns the number of this thread, 1 or above, which no other thread has.
 pub(crate) fn this_thread() -> u64 {
     if THREAD.get() == 0 {
         THREAD.set(THREADS.fetch_add(1, Ordering::Relaxed));
@@ -95,11 +96,12 @@ pub(crate) fn this_thread() -> u64 {
     THREAD.get()
 }
 
-/// No code panics while it holds one of these locks, so a poisoned one is as good.
+/// Locks a mutex. No code panics while it has such a lock, so a poisoned lock is as good.
 fn locked<T>(mutex: &Mutex<T>) -> MutexGuard<'_, T> {
     mutex.lock().unwrap_or_else(PoisonError::into_inner)
 }
 
+/// Locks a mutex if it is free.
 fn free<T>(mutex: &Mutex<T>) -> Option<MutexGuard<'_, T>> {
     match mutex.try_lock() {
         Ok(guard) => Some(guard),
@@ -120,8 +122,8 @@ impl Entry {
         }
     }
 
-    /// Adds to the number of keys that the calls by the worker have inserted. One thread at a time
-    /// has the worker, so that its calls need no atomic addition, which takes longer.
+    /// Adds to the number of keys that calls by the worker have inserted. One thread at a time has
+    /// the worker, so its calls need no atomic addition, which takes longer.
     #[inline]
     pub fn count(&self, change: i64, is_borrowed: bool) {
         if is_borrowed {
@@ -132,29 +134,29 @@ impl Entry {
         }
     }
 
-    /// How many keys the calls by the worker have inserted, less those that they have removed.
+    /// Returns how many keys calls by the worker have inserted, less those that they have removed.
     pub fn keys(&self) -> i64 {
         self.keys.load(Ordering::Relaxed) + self.borrowed_keys.load(Ordering::Relaxed)
     }
 
-    /// Whether a thread has the worker.
+    /// Returns whether the worker is attached to a thread.
     fn is_lent(&self) -> bool {
         free(&self.place).is_some_and(|place| *place == Place::Lent)
     }
 }
 
 impl Pool {
-    /// What the clones of a new set share.
+    /// Makes what the clones of a new set share.
     pub fn new(nodes: u32, options: &Options) -> Result<Pool, Fault> {
         let (set, workers) = (Handle::closed(), options.workers);
-        let told = match options.shape {
+        let outcome = match options.shape {
             Shape::Radix => set.open(nodes, workers),
             Shape::Unbalanced => set.open_unbalanced(nodes, workers),
         };
-        match told {
+        match outcome {
             -6 => return Err(Fault::Nodes(nodes)),
             -7 => return Err(Fault::Workers(workers)),
-            ..=-1 => return Err(Fault::of(told)),
+            ..=-1 => return Err(Fault::of(outcome)),
             _ => {}
         }
         Ok(Pool {
@@ -169,7 +171,7 @@ impl Pool {
         })
     }
 
-    /// How many workers the set has.
+    /// Returns how many workers the set has.
     pub fn workers(&self) -> u32 {
         self.entries.len() as u32
     }
@@ -190,14 +192,14 @@ impl Pool {
         &self.entries[number as usize]
     }
 
-    /// A thread makes a call by the worker of a number, which was lent.
-    pub fn note_holder(&self, number: u32, thread: u64) {
+    /// Records that a thread makes a call by the lent worker of a number.
+    pub fn set_holder(&self, number: u32, thread: u64) {
         self.entry(number).holder.store(thread, Ordering::Relaxed);
     }
 
     // ---- a worker for a call ----
 
-    /// The worker of an entry whose lock this thread has, unless another one has the worker.
+    /// Returns the worker of an entry that this thread has locked, or None if the worker is lent.
     fn opened<'a>(
         &'a self,
         mut place: MutexGuard<'a, Place>,
@@ -206,9 +208,9 @@ impl Pool {
         self.need_open()?;
         let entry = self.entry(number);
         if *place == Place::Unused {
-            let told = self.set.take(&entry.handle, number);
-            if told < 0 {
-                return Err(Fault::of(told));
+            let outcome = self.set.take(&entry.handle, number);
+            if outcome < 0 {
+                return Err(Fault::of(outcome));
             }
             *place = Place::Idle;
         }
@@ -219,7 +221,7 @@ impl Pool {
         }))
     }
 
-    /// The worker of a number, if nobody uses it at this moment.
+    /// Returns the worker of a number, or None if a thread uses it at this moment.
     fn idle(&self, number: u32) -> Result<Option<Idle<'_>>, Fault> {
         match free(&self.entry(number).place) {
             Some(place) => self.opened(place, number),
@@ -227,7 +229,7 @@ impl Pool {
         }
     }
 
-    /// A worker that nobody uses at this moment: the first in the order of their numbers.
+    /// Returns the worker with the least number of those that no thread uses at this moment.
     fn any_idle(&self) -> Result<Option<Idle<'_>>, Fault> {
         for number in 0..self.workers() {
             if let Some(idle) = self.idle(number)? {
@@ -237,8 +239,9 @@ impl Pool {
         Ok(None)
     }
 
-    /// Asks for a worker, with short sleeps, until there is one, or until a moment. A function says
-    /// whether the workers that this thread has itself are of no use for it.
+    /// Asks for a worker, with short sleeps, until there is one, or until the given time. The
+    /// function `is_own_useless` returns whether this thread can use none of the workers that it
+    /// has itself.
     fn wait_for<T>(
         &self,
         until: Option<Instant>,
@@ -263,23 +266,23 @@ impl Pool {
         }
     }
 
-    /// Refuses to wait any longer, and to wait for a worker if this thread has them all.
+    /// Returns `NoWorker` if the time is over, or if this thread itself has all workers.
     fn fail_late(&self, is_late: bool) -> Result<(), Fault> {
-        let (workers, own) = (self.workers(), self.held_by(this_thread()));
+        let (workers, own) = (self.workers(), self.attached_by(this_thread()));
         if is_late || own == workers {
             return Err(Fault::NoWorker { workers, own });
         }
         Ok(())
     }
 
-    /// How many workers a thread has.
-    fn held_by(&self, thread: u64) -> u32 {
-        let is_held =
+    /// Returns how many workers a thread has attached.
+    fn attached_by(&self, thread: u64) -> u32 {
+        let is_its_own =
             |entry: &&Entry| entry.holder.load(Ordering::Relaxed) == thread && entry.is_lent();
-        self.entries.iter().filter(is_held).count() as u32
+        self.entries.iter().filter(is_its_own).count() as u32
     }
 
-    /// The worker that this thread used last for a call of the set, if it is idle.
+    /// Returns the worker that this thread last used for a call of the set, if it is idle.
     fn last_used(&self) -> Option<Idle<'_>> {
         let (identity, number) = LAST.get();
         if identity != self.identity || self.phase.load(Ordering::SeqCst) != OPEN {
@@ -297,7 +300,7 @@ impl Pool {
         })
     }
 
-    /// A worker for one call, which this thread has.
+    /// Returns a worker of this thread, for one call.
     #[inline]
     pub fn seat<'a>(&'a self, entry: &'a Entry) -> Seat<'a> {
         Seat {
@@ -307,8 +310,8 @@ impl Pool {
         }
     }
 
-    /// Makes a call by a worker that nobody uses at this moment, else by one that is attached to a
-    /// thread, in no call and not pinned. It waits while there is neither.
+    /// Makes a call by a worker that no thread uses at this moment, or else by one that is
+    /// attached, in no call and not pinned. It waits while there is neither.
     pub fn with_any<T>(&self, call: impl Fn(Seat) -> Result<T, Fault>) -> Result<T, Fault> {
         if let Some(idle) = self.last_used() {
             return settled(|| call(self.seat(idle.entry)));
@@ -325,7 +328,7 @@ impl Pool {
     }
 
     /// Makes a call by a worker that is attached to a thread, and neither in a call nor pinned.
-    /// None if there is no such worker. Counts the pinned ones that it has met.
+    /// Returns None if there is no such worker. It counts the pinned workers.
     fn by_borrowed<T>(
         &self,
         call: impl Fn(Seat) -> Result<T, Fault>,
@@ -339,9 +342,9 @@ impl Pool {
             };
             match call(seat) {
                 Err(Fault::Pinned) => pinned.set(pinned.get() + 1),
-                // Closed: its thread has dropped it, and the set was closed.
+                // Closed: the thread of the worker has dropped it, and the set was closed.
                 Err(Fault::Other(IN_USE) | Fault::Closed) => {}
-                told => return Some(told),
+                result => return Some(result),
             }
         }
         None
@@ -349,21 +352,21 @@ impl Pool {
 
     // ---- a worker for a thread ----
 
-    /// Lends a worker that this thread alone uses: its number.
+    /// Lends an idle worker to this thread; returns the worker's number.
     fn lent(&self, mut idle: Idle<'_>) -> u32 {
-        idle.entry.handle.rest(&self.options);
+        idle.entry.handle.settle(&self.options);
         idle.entry.holder.store(this_thread(), Ordering::Relaxed);
         *idle.place = Place::Lent;
         idle.number
     }
 
-    /// Lends a worker that nobody uses: its number.
+    /// Lends a worker that no thread uses; returns its number.
     pub fn lend(&self, until: Option<Instant>) -> Result<u32, Fault> {
         let idle = self.wait_for(until, || self.any_idle(), || true)?;
         Ok(self.lent(idle))
     }
 
-    /// Lends the worker of a number, after the call that is made by it at this moment.
+    /// Lends the worker of a number, after the call by it that is in progress; returns the number.
     pub fn lend_number(&self, number: u32) -> Result<u32, Fault> {
         let workers = self.workers();
         let entry = self
@@ -376,25 +379,26 @@ impl Pool {
         }
     }
 
-    /// A worker that was lent comes back, and holds nothing back.
+    /// Takes a lent worker back, and unpins it.
     pub fn receive(&self, number: u32) {
         let entry = self.entry(number);
-        entry.handle.rest(&self.options);
+        entry.handle.settle(&self.options);
         *locked(&entry.place) = Place::Idle;
     }
 
     // ---- the end ----
 
-    /// Ends the set, where no worker is lent: no call begins from now on, removes that have begun
-    /// are finished, the workers go back to the library, and the report is read. Where one is lent,
-    /// or memory was refused for the report, the close can be made again.
+    /// Ends the set if no worker is lent, and returns its report. No call begins from now on. It
+    /// finishes the removes that have begun, returns the workers to the library, and reads the
+    /// report. If a worker is lent, or memory was refused for the report, the close can be
+    /// repeated.
     pub fn end(&self) -> Result<Report, Fault> {
         let _one_at_a_time = locked(&self.closer);
         if !self.is_closed() {
             self.gather()?;
         }
         match self.set.end() {
-            told @ ..=-1 => Err(Fault::of(told)),
+            outcome @ ..=-1 => Err(Fault::of(outcome)),
             _ => {
                 let report = Report::of(&self.set, self.workers());
                 self.set.close();
@@ -403,8 +407,8 @@ impl Pool {
         }
     }
 
-    /// Gives all workers back to the library, and closes the set for all calls, which wait until
-    /// that is decided.
+    /// Returns all workers to the library, and closes the set for all calls. Calls wait until that
+    /// is decided.
     fn gather(&self) -> Result<(), Fault> {
         self.phase.store(CLOSING, Ordering::SeqCst);
         let places: Vec<_> = self
@@ -420,7 +424,7 @@ impl Pool {
         }
         self.phase.store(CLOSED, Ordering::SeqCst);
         for entry in self.entries.iter() {
-            entry.handle.rest(&self.options);
+            entry.handle.settle(&self.options);
             entry.handle.close();
         }
         Ok(())

@@ -1,8 +1,8 @@
-//! What a set was closed with.
+//! The report that a set was closed with.
 
 use crate::ffi::{Handle, Waiting};
 
-/// What a set was closed with.
+/// The report that a set was closed with.
 #[derive(Clone, Debug, Default, PartialEq, Eq)]
 pub struct Report {
     keys: Vec<u64>,
@@ -12,7 +12,7 @@ pub struct Report {
 }
 
 impl Report {
-    /// Reads what a handle of a report tells, for so many workers.
+    /// Reads the report that a handle owns, of a set with this number of workers.
     pub(crate) fn of(handle: &Handle, workers: u32) -> Report {
         let mut report = Report::default();
         let mut count = 0;
@@ -27,38 +27,38 @@ impl Report {
         report
     }
 
-    /// The keys that the set had, ascending.
+    /// Returns the keys that the set had, ascending.
     pub fn keys(&self) -> &[u64] {
         &self.keys
     }
 
-    /// How many keys the set had.
+    /// Returns how many keys the set had.
     pub fn len(&self) -> usize {
         self.keys.len()
     }
 
-    /// Whether the set had no key.
+    /// Returns whether the set had no key.
     pub fn is_empty(&self) -> bool {
         self.keys.is_empty()
     }
 
-    /// Whether the set had the key.
+    /// Returns whether the set had the key.
     pub fn contains(&self, key: u64) -> bool {
         self.keys.binary_search(&key).is_ok()
     }
 
-    /// How many nodes are free.
+    /// Returns how many nodes are free.
     pub fn free(&self) -> u32 {
         self.free
     }
 
-    /// How many nodes are reached from the root, the five fixed ones left out.
+    /// Returns how many nodes are reached from the root, without the five fixed ones.
     pub fn reached(&self) -> u32 {
         self.reached
     }
 
-    /// The nodes that wait of those that each worker cut off, oldest first, in the order of the
-    /// workers' numbers.
+    /// Returns for each worker, in the order of their numbers, the nodes that it cut off and that
+    /// wait, the oldest first.
     pub fn waiting(&self) -> &[Vec<Waiting>] {
         &self.waiting
     }
@@ -68,13 +68,13 @@ impl IntoIterator for Report {
     type Item = u64;
     type IntoIter = std::vec::IntoIter<u64>;
 
-    /// The keys that the set had, ascending.
+    /// Returns the keys that the set had, ascending.
     fn into_iter(self) -> std::vec::IntoIter<u64> {
         self.keys.into_iter()
     }
 }
 
-/// Takes all nodes out of a worker's queue.
+/// Takes all nodes out of a worker's queue, and returns them.
 fn taken(handle: &Handle, worker: u32) -> Vec<Waiting> {
     let mut nodes = Vec::new();
     let mut node = Waiting::default();

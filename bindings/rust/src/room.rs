@@ -1,20 +1,20 @@
-//! How full a set is, and what an insert does that finds no free nodes.
+//! How full a set is, and what an insert does if it finds no free nodes.
 
 use crate::fault::{Fault, Full};
 use crate::ffi::Stats;
 use crate::numbers::Numbers;
 use crate::pool::{Entry, Pool};
-use crate::wait::{IN_USE, NAP};
+use crate::wait::{IN_USE, PAUSE};
 use std::sync::atomic::Ordering;
 use std::thread;
 use std::time::{Duration, Instant};
 
-/// How often an insert that found no nodes goes on at once after some were freed.
+/// The number of times that an insert into a full set tries again at once after nodes were freed.
 const AT_ONCE: u32 = 4;
 
-/// How long an insert that found no nodes sleeps first. Each later sleep is twice as long, up to
-/// [`NAP`].
-const FIRST_NAP: Duration = Duration::from_micros(20);
+/// The first sleep of an insert into a full set. Each later sleep is twice as long, up to
+/// [`PAUSE`].
+const FIRST_PAUSE: Duration = Duration::from_micros(20);
 
 /// How full a set is.
 pub(crate) struct Tally {
@@ -23,13 +23,13 @@ pub(crate) struct Tally {
     pub waiting: u64,
     /// How many nodes are free.
     pub free: u64,
-    /// The workers that were in a call and could not be asked: what each had when it was last asked
-    /// is counted in `waiting`.
+    /// The workers that were in a call and could not be asked. For each of these, `waiting` has the
+    /// number of the last time that it was asked.
     pub unasked: Numbers,
 }
 
 impl Entry {
-    /// How many nodes wait in the worker's queue, or None if the worker is in a call.
+    /// Returns how many nodes wait in the worker's queue, or None if the worker is in a call.
     fn asked(&self) -> Option<u64> {
         let mut stats = Stats::default();
         if self.handle.stats_at_once(&mut stats) == IN_USE {
@@ -41,13 +41,13 @@ impl Entry {
 }
 
 impl Pool {
-    /// How many keys the set has, by what the calls by each worker have counted.
+    /// Returns how many keys the set has, by what the calls by each worker have counted.
     pub fn keys(&self) -> u64 {
         let keys: i64 = self.entries.iter().map(Entry::keys).sum();
         u64::try_from(keys).unwrap_or(0)
     }
 
-    /// How full the set is. Asks each worker once.
+    /// Returns how full the set is. It asks each worker once.
     pub fn tally(&self) -> Tally {
         let asked: Vec<_> = self.entries.iter().map(Entry::asked).collect();
         let nodes = |(entry, asked): (&Entry, &Option<u64>)| {
@@ -65,24 +65,24 @@ impl Pool {
         }
     }
 
-    /// Moves the epoch on as far as can be, by the first worker that no other call has.
-    fn move_on(&self) {
+    /// Advances the epoch as far as possible, by the first worker that no other call has.
+    fn advance(&self) {
         for entry in self.entries.iter() {
-            if entry.handle.has_moved_on() {
+            if entry.handle.has_advanced() {
                 return;
             }
         }
     }
 
-    /// Frees what can be freed, of all workers by which no call is made at this moment, including
-    /// those that are attached: how many nodes.
+    /// Frees what can be freed, of all workers that are in no call at this moment, including
+    /// attached ones. Returns the number of freed nodes.
     pub fn relieve(&self) -> u64 {
-        self.move_on();
+        self.advance();
         let freed = self.entries.iter().map(|entry| entry.handle.free_at_once());
         freed.fold(0, u64::saturating_add)
     }
 
-    /// Which workers hold the epoch back, as the first one says that is in no call.
+    /// Returns which workers hold the epoch back. It asks the first worker that is in no call.
     fn behind(&self) -> Numbers {
         let (mut epoch, mut mask) = (0, 0);
         for entry in self.entries.iter() {
@@ -104,30 +104,30 @@ impl Pool {
         })
     }
 
-    /// Whether the keys take all nodes, so that none is to be freed. False if a worker is in a
-    /// call, which may free some.
+    /// Returns whether the keys take all nodes, so that no node is to be freed. Returns false if a
+    /// worker is in a call, which may free some.
     fn is_brimful(&self) -> bool {
         let tally = self.tally();
         tally.unasked.is_empty() && tally.waiting == 0 && tally.free < 2
     }
 
-    /// Makes an insert until it does not find the set full.
+    /// Makes an insert, and repeats it while the set is full. Returns its answer, or `Full`.
     pub fn insert(&self, insert: impl Fn() -> Result<bool, Fault>) -> Result<bool, Fault> {
         match insert() {
             Err(Fault::NoNodes) => self.insert_later(insert),
-            told => told,
+            answer => answer,
         }
     }
 
-    /// Makes an insert again that found no free nodes. It collects before each time, and sleeps if
-    /// that freed nothing, or has freed something often. `Full`: the keys take all nodes, or the
-    /// set's timeout has passed.
+    /// Repeats an insert that found no free nodes. Before each repetition it collects. It also
+    /// sleeps if that freed nothing, or if `AT_ONCE` collections freed something before. `Full`:
+    /// the keys take all nodes, or the set's timeout has passed.
     fn insert_later(&self, insert: impl Fn() -> Result<bool, Fault>) -> Result<bool, Fault> {
         let (begin, most) = (
             Instant::now(),
             Duration::from_millis(self.timeout_ms.into()),
         );
-        let (mut nap, mut at_once) = (FIRST_NAP, AT_ONCE);
+        let (mut pause, mut at_once) = (FIRST_PAUSE, AT_ONCE);
         loop {
             let freed = self.relieve();
             self.need_open()?;
@@ -138,12 +138,12 @@ impl Pool {
                 if left.is_zero() || (freed == 0 && self.is_brimful()) {
                     return Err(self.full());
                 }
-                thread::sleep(nap.min(left));
-                nap = (2 * nap).min(NAP);
+                thread::sleep(pause.min(left));
+                pause = (2 * pause).min(PAUSE);
             }
             match insert() {
                 Err(Fault::NoNodes) => {}
-                told => return told,
+                answer => return answer,
             }
         }
     }
@@ -174,8 +174,8 @@ mod tests {
         let handle = &set.pool().entries[0].handle;
         handle.set_in_use(true);
         let begin = Instant::now();
-        let told = (set.len(), set.waiting(), set.free(), set.collect());
-        assert_eq!(told, (Ok(1), Ok(2), Ok(0), Ok(0)));
+        let numbers = (set.len(), set.waiting(), set.free(), set.collect());
+        assert_eq!(numbers, (Ok(1), Ok(2), Ok(0), Ok(0)));
         assert_eq!(format!("{set:?}"), "{5}");
         assert!(
             begin.elapsed() < Duration::from_millis(40),

@@ -14,39 +14,39 @@ use std::ops::RangeBounds;
 use std::sync::Arc;
 use std::time::{Duration, Instant};
 
-/// How many keys are best looked up in one call.
+/// The number of keys that one call looks up together.
 const TOGETHER: usize = 64;
 
-/// A set of the whole numbers up to [`MOST_KEY`] that threads share, as a
-/// [`BTreeSet<u64>`](BTreeSet) by its calls. A clone is the same set.
+/// A concurrent ordered set of the integers 0 to [`MOST_KEY`], without locks, with the interface of
+/// [`BTreeSet<u64>`](BTreeSet). A clone is the same set.
 ///
-/// Any thread may call it. Each call is made by one of the set's workers that no thread uses at
-/// that moment, usually the one that the thread used before. If there is none, the call borrows a
-/// worker that is attached to a thread, if it is in no call and not pinned. If each worker is in a
-/// call or pinned, the call **waits** until one is not: it sleeps a millisecond and looks again,
-/// with no bound. It waits with no bound, too, while another thread closes the set. A thread that
-/// makes many calls may take a [`Worker`] of its own by [`attach`](Set::attach).
+/// Any thread may call it. Each call uses one of the set's workers that no thread uses at that
+/// moment, usually the one that the thread used before. If there is none, the call borrows a worker
+/// that is attached to a thread, if it is in no call and not pinned. If each worker is in a call or
+/// pinned, the call **waits** until one is not: it sleeps a millisecond and looks again, with no
+/// bound. It also waits with no bound while another thread closes the set. A thread that makes many
+/// calls may take a [`Worker`] of its own by [`attach`](Set::attach).
 ///
-/// [`contains`](Set::contains), [`insert`](Set::insert) and [`remove`](Set::remove) **tend** the
-/// set. A call that lost its tries to other threads is made again, at most
-/// [`rounds`](Options::rounds) times, and a remove that has begun is finished. When
+/// [`contains`](Set::contains), [`insert`](Set::insert) and [`remove`](Set::remove) are **managed
+/// calls**. A call that lost its tries to other threads is retried, at most
+/// [`rounds`](Options::rounds) times, and a remove that has begun is finished. If
 /// [`collect_after`](Options::collect_after) removed nodes wait with the worker, the call first
-/// moves the epoch on and collects. If that is not enough the call returns [`Fault::Contention`],
+/// advances the epoch and collects. If that is not enough the call returns [`Fault::Contention`],
 /// or [`Fault::Unfinished`] for a remove that has begun. The library does all of this within a
 /// bound of steps, which is **proved**.
 ///
-/// This crate finds a worker for each call, and lets an insert wait for removed nodes to be freed,
-/// for [`timeout_ms`](Options::timeout_ms) at most, before it returns [`Fault::Full`]. This part is
-/// **tested and not proved**.
+/// This crate finds a worker for each call. It lets an insert wait for removed nodes to be freed,
+/// for at most [`timeout_ms`](Options::timeout_ms), before the insert returns [`Fault::Full`]. This
+/// part is **tested, not proved**.
 ///
-/// A call that goes over several keys takes **no snapshot**: of each key its answer was right at a
-/// moment of the call, of two keys perhaps at different moments. That is so of iteration, `retain`,
-/// `clear`, `extend` and the comparisons with a `BTreeSet`.
+/// A call that passes over several keys takes **no snapshot**: the answer for each key was right at
+/// a moment of the call, and two keys may have different moments. This holds for iteration,
+/// `retain`, `clear`, `extend` and the comparisons with a `BTreeSet`.
 ///
-/// Besides the faults that its line names each call returns `Closed` beside or after a
-/// [`close`](Set::close). A call that takes a worker returns `NoMemory` if memory is refused as it
-/// does so for the first time, and `NoWorker` if this thread has attached each worker itself and
-/// has pinned each. A tended call returns `Contention`.
+/// Besides the faults that its line names, each call returns `Closed` beside or after a
+/// [`close`](Set::close). A call that uses a worker for the first time returns `NoMemory` if memory
+/// is refused. It returns `NoWorker` if this thread itself has attached all workers and has pinned
+/// each. A managed call returns `Contention`.
 ///
 /// ```
 /// # fn main() -> Result<(), nm_set::Fault> {
@@ -70,14 +70,18 @@ const TOGETHER: usize = 64;
 pub struct Set(Arc<Pool>);
 
 impl Set {
-    /// The empty set with room for so many nodes, 7 to 268,435,456, made as [`Options::default`]
-    /// has it. n keys take 2 n + 5 nodes, and the removed nodes that wait to be freed take theirs:
-    /// give it four for each key. `Nodes`, `NoMemory`.
+    /// Makes the empty set with room for 7 to 268,435,456 nodes, by [`Options::default`]. n keys
+    /// take 2 n + 5 nodes, and the removed nodes that wait to be freed take theirs: give the set
+    /// four for each key.
+    ///
+    /// Errors: `Nodes`, `NoMemory`.
     pub fn new(nodes: u32) -> Result<Set, Fault> {
         Set::with_options(nodes, Options::default())
     }
 
-    /// The same, made as the options have it. `Nodes`, `Workers`, `NoMemory`.
+    /// Makes the empty set with room for 7 to 268,435,456 nodes, by these options.
+    ///
+    /// Errors: `Nodes`, `Workers`, `NoMemory`.
     pub fn with_options(nodes: u32, options: Options) -> Result<Set, Fault> {
         let pool = Pool::new(nodes, &options)?;
         Ok(Set(Arc::new(pool)))
@@ -98,16 +102,19 @@ impl Set {
 
     // ---- a key ----
 
-    /// Whether the set has the key. `Key`.
+    /// Returns whether the set has the key.
+    ///
+    /// Errors: `Key`.
     pub fn contains(&self, key: u64) -> Result<bool, Fault> {
         let key = checked(key)?;
         self.with_any(|seat| seat.contains(key))
     }
 
-    /// Whether the set has each of these keys, in their order, by one call of the library: the
-    /// searches go on in turns, so that the loads of one go on while the others wait for theirs,
-    /// which pays where the set is larger than the caches; eight to sixty-four keys are best.
-    /// `Key`, `NoMemory`.
+    /// Returns for each of these keys, in their order, whether the set has it. One call of the
+    /// library interleaves the searches, so that one goes on while others wait for memory. 8 to 64
+    /// keys a call are fastest.
+    ///
+    /// Errors: `Key`, `NoMemory`.
     ///
     /// ```
     /// # fn main() -> Result<(), nm_set::Fault> {
@@ -121,16 +128,18 @@ impl Set {
         self.with_any(|seat| seat.contains_many(keys))
     }
 
-    /// Inserts a key, and returns whether it was not in the set; it is now. If the set is full it
-    /// waits for nodes for [`timeout_ms`](Options::timeout_ms) at most, and for no thread's call.
-    /// `Key`, `Full`, `NoMemory`.
+    /// Inserts a key; returns true if it was absent. If the set is full it waits for nodes, for at
+    /// most [`timeout_ms`](Options::timeout_ms), and for no thread's call.
+    ///
+    /// Errors: `Key`, `Full`, `NoMemory`.
     pub fn insert(&self, key: u64) -> Result<bool, Fault> {
         let key = checked(key)?;
         self.0.insert(|| self.with_any(|seat| seat.insert(key)))
     }
 
-    /// Removes a key, and tells whether it was in the set; it is not now. `Key`, `NoMemory`;
-    /// `Unfinished`: the key will go.
+    /// Removes a key; returns true if it was present.
+    ///
+    /// Errors: `Key`, `NoMemory`, `Unfinished` (the key will be removed by this call and no other).
     pub fn remove(&self, key: u64) -> Result<bool, Fault> {
         let key = checked(key)?;
         self.with_any(|seat| seat.remove(key))
@@ -138,33 +147,38 @@ impl Set {
 
     // ---- keys in order ----
 
-    /// The least key of the set that is not below this one, or None where there is none. At a
-    /// moment of the call the set had the key, and of each key that was passed over there was one
-    /// at which it had it not: two of these moments may differ. `Key`.
+    /// Returns the least key of the set that is not below this one, or None if there is none. At a
+    /// moment of the call the set had the key. For each key that was passed over there was a moment
+    /// of the call at which the set did not have it. The moments of two keys may differ.
+    ///
+    /// Errors: `Key`.
     pub fn at_least(&self, key: u64) -> Result<Option<u64>, Fault> {
         let key = checked(key)?;
         self.with_any(|seat| seat.at_least(key))
     }
 
-    /// The greatest key of the set that is not above this one, or None where there is none, as
-    /// [`at_least`](Set::at_least) tells the least. `Key`.
+    /// Returns the greatest key of the set that is not above this one, or None if there is none, in
+    /// the way of [`at_least`](Set::at_least).
+    ///
+    /// Errors: `Key`.
     pub fn at_most(&self, key: u64) -> Result<Option<u64>, Fault> {
         let key = checked(key)?;
         self.with_any(|seat| seat.at_most(key))
     }
 
-    /// The least key, or None of an empty set.
+    /// Returns the least key, or None if the set is empty.
     pub fn first(&self) -> Result<Option<u64>, Fault> {
         self.at_least(0)
     }
 
-    /// The greatest key, or None of an empty set.
+    /// Returns the greatest key, or None if the set is empty.
     pub fn last(&self) -> Result<Option<u64>, Fault> {
         self.at_most(MOST_KEY)
     }
 
-    /// Removes the least key, and tells it, or None of an empty set. No two calls tell one key,
-    /// unless it was inserted again between, and none is passed over that was in the set all along.
+    /// Removes the least key and returns it, or None if the set is empty. No two calls return one
+    /// key, unless it was inserted again in between. No call passes over a key that was in the set
+    /// during the whole call.
     ///
     /// ```
     /// # fn main() -> Result<(), nm_set::Fault> {
@@ -178,15 +192,16 @@ impl Set {
         self.with_any(|seat| seat.pop_first())
     }
 
-    /// The same of the greatest key.
+    /// Removes the greatest key and returns it, or None if the set is empty, in the way of
+    /// [`pop_first`](Set::pop_first).
     pub fn pop_last(&self) -> Result<Option<u64>, Fault> {
         self.with_any(|seat| seat.pop_last())
     }
 
-    /// The keys of a range, ascending, while the set is in use, by a call of
-    /// [`at_least`](Set::at_least) for each; or from the end back, by one of
-    /// [`at_most`](Set::at_most). Keys that are inserted or removed meanwhile may be told or not.
-    /// A range whose start is above its end has no keys, where that of a `BTreeSet` panics.
+    /// Returns an iterator over the keys of a range, while the set is in use. It finds each
+    /// ascending key by [`at_least`](Set::at_least), and each descending key by
+    /// [`at_most`](Set::at_most). It may return or skip a key that is inserted or removed
+    /// meanwhile. A range whose start is above its end has no keys; with a `BTreeSet` it panics.
     ///
     /// ```
     /// # fn main() -> Result<(), nm_set::Fault> {
@@ -202,15 +217,17 @@ impl Set {
         Range::of(self, bounds)
     }
 
-    /// All keys, as [`range`](Set::range) tells them.
+    /// Returns an iterator over all keys, in the way of [`range`](Set::range).
     pub fn iter(&self) -> Range<&Set> {
         self.range(..)
     }
 
     // ---- several keys ----
 
-    /// Inserts these keys, and tells how many were not in the set. Behind a fault those before are
-    /// in the set. `Key`, `Full`, `NoMemory`.
+    /// Inserts these keys, one by one; returns how many were absent. After a fault the keys before
+    /// that one are inserted.
+    ///
+    /// Errors: `Key`, `Full`, `NoMemory`.
     pub fn extend(&self, keys: impl IntoIterator<Item = u64>) -> Result<usize, Fault> {
         let mut added = 0;
         for key in keys {
@@ -219,18 +236,18 @@ impl Set {
         Ok(added)
     }
 
-    /// Removes each key of which the function does not tell true. One that is inserted meanwhile
-    /// may stay. Behind a fault a part of them is removed.
+    /// Removes each key for which `stays` returns false. A key that is inserted meanwhile may
+    /// remain. After a fault a part of the keys is removed.
     pub fn retain(&self, stays: impl FnMut(u64) -> bool) -> Result<(), Fault> {
         order::retain(self, stays)
     }
 
-    /// Removes each key; one that is inserted meanwhile may stay.
+    /// Removes all keys. A key that is inserted meanwhile may remain.
     pub fn clear(&self) -> Result<(), Fault> {
         self.retain(|_| false)
     }
 
-    /// Whether the other set has each key of this one.
+    /// Returns whether the other set has each key of this one.
     pub fn is_subset(&self, other: &BTreeSet<u64>) -> Result<bool, Fault> {
         for key in self {
             if !other.contains(&key?) {
@@ -240,18 +257,19 @@ impl Set {
         Ok(true)
     }
 
-    /// Whether this set has each key of the other one.
+    /// Returns whether this set has each key of the other one.
     pub fn is_superset(&self, other: &BTreeSet<u64>) -> Result<bool, Fault> {
         let is_out = other.last().is_some_and(|&key| key > MOST_KEY);
         Ok(!is_out && self.all_of(other, true)?)
     }
 
-    /// Whether this set has no key of the other one.
+    /// Returns whether this set has no key of the other one.
     pub fn is_disjoint(&self, other: &BTreeSet<u64>) -> Result<bool, Fault> {
         self.all_of(other, false)
     }
 
-    /// Whether each number of the other set that can be a key is in this one, or none.
+    /// Returns whether each number of the other set that can be a key is in this one, if `is_in`,
+    /// or whether none is.
     fn all_of(&self, other: &BTreeSet<u64>, is_in: bool) -> Result<bool, Fault> {
         let keys: Vec<u64> = other.range(..=MOST_KEY).copied().collect();
         for some in keys.chunks(TOGETHER) {
@@ -264,52 +282,53 @@ impl Set {
 
     // ---- how full it is ----
 
-    /// Returns how many keys the set has: exact if no thread makes a call meanwhile, else off by as
-    /// many keys as calls insert and remove meanwhile. It never waits, and takes no worker: it adds
-    /// up a count of each worker.
+    /// Returns how many keys the set has. It is exact if no thread makes a call meanwhile;
+    /// otherwise it is off by at most the keys that calls insert and remove meanwhile. It never
+    /// waits and uses no worker: it adds up one count for each worker.
     pub fn len(&self) -> Result<usize, Fault> {
         self.0.need_open()?;
         Ok(usize::try_from(self.0.keys()).unwrap_or(usize::MAX))
     }
 
-    /// Whether the set has no key, by one look for the least.
+    /// Returns whether the set has no key, by one search for the least key.
     pub fn is_empty(&self) -> Result<bool, Fault> {
         Ok(self.first()?.is_none())
     }
 
     /// Returns how many removed nodes wait to be freed. It asks each worker once and never waits.
-    /// For a worker that is in a call it takes the number of an earlier time: what waited when the
-    /// worker was last asked, by `waiting`, `free` or an insert into a full set.
+    /// For a worker that is in a call it takes the number of an earlier time, when `waiting`,
+    /// `free` or an insert into a full set last asked it.
     pub fn waiting(&self) -> Result<u64, Fault> {
         self.0.need_open()?;
         Ok(self.0.tally().waiting)
     }
 
-    /// Returns how many nodes are free, as exact as [`len`](Set::len) and
-    /// [`waiting`](Set::waiting): a new key takes two. It never waits.
+    /// Returns how many nodes are free, computed from [`len`](Set::len) and
+    /// [`waiting`](Set::waiting). A new key takes two. It never waits.
     pub fn free(&self) -> Result<u64, Fault> {
         self.0.need_open()?;
         Ok(self.0.tally().free)
     }
 
-    /// For how many nodes the set has room.
+    /// Returns the number of nodes for which the set has room.
     pub fn nodes(&self) -> u32 {
         self.0.nodes
     }
 
-    /// How many keys the set can have if no removed node waits to be freed: (nodes - 5) / 2.
+    /// Returns how many keys the set can have if no removed node waits to be freed: (nodes - 5) /
+    /// 2.
     pub fn capacity(&self) -> usize {
         (self.nodes() as usize - 5) / 2
     }
 
-    /// How many workers the set has.
+    /// Returns how many workers the set has.
     pub fn workers(&self) -> u32 {
         self.0.workers()
     }
 
-    /// Moves the epoch on as far as can be, and frees what has waited long enough, of all workers
-    /// by which no call is made at this moment. Returns how many nodes were freed. It waits for no
-    /// other call, but a call by a worker waits while its nodes are collected.
+    /// Advances the epoch as far as possible, and frees what has waited long enough with each
+    /// worker that is in no call at this moment. Returns the number of freed nodes. It waits for no
+    /// other call, but a call by a worker waits while the worker's nodes are collected.
     pub fn collect(&self) -> Result<u64, Fault> {
         self.0.need_open()?;
         Ok(self.0.relieve())
@@ -317,22 +336,28 @@ impl Set {
 
     // ---- workers for threads ----
 
-    /// Takes a worker for this thread; the least number comes first. It **waits** while each is
-    /// attached or in a call, with no bound. `NoWorker`: this thread has each worker itself, those
-    /// that it has attached or used last, for a quarter of a second.
+    /// Attaches a worker to this thread, the least number first. It **waits** while each worker is
+    /// attached or in a call, with no bound.
     ///
-    /// A worker stays shared: while all workers are attached, calls of the set borrow those that
-    /// are in no call. See [`Worker`].
+    /// Errors: `NoWorker`: for a quarter of a second this thread itself has had all workers, which
+    /// it attached or used last.
+    ///
+    /// An attached worker is not exclusive: while all workers are attached, calls of the set borrow
+    /// those that are in no call. See [`Worker`].
     pub fn attach(&self) -> Result<Worker, Fault> {
         self.attach_until(None)
     }
 
-    /// The same, and does not wait. `NoWorker`: none is free at this moment.
+    /// Attaches a worker to this thread, the least number first, and does not wait.
+    ///
+    /// Errors: `NoWorker`: no worker is free at this moment.
     pub fn try_attach(&self) -> Result<Worker, Fault> {
         self.attach_timeout(Duration::ZERO)
     }
 
-    /// The same, and waits for a time at most. `NoWorker`: none was free in that time.
+    /// Attaches a worker to this thread, the least number first, and waits for at most `timeout`.
+    ///
+    /// Errors: `NoWorker`: no worker was free in that time.
     pub fn attach_timeout(&self, timeout: Duration) -> Result<Worker, Fault> {
         self.attach_until(Instant::now().checked_add(timeout))
     }
@@ -342,8 +367,10 @@ impl Set {
         Ok(Worker::of(Arc::clone(&self.0), number))
     }
 
-    /// Takes the worker of a number. It waits for the call of the set that another thread makes by
-    /// it at this moment, as long as that takes. `Number`; `Attached`: the worker is attached.
+    /// Attaches the worker of a number to this thread. It waits for the call of the set that
+    /// another thread makes by this worker at this moment, as long as that call takes.
+    ///
+    /// Errors: `Number`, `Attached` (the worker is attached).
     pub fn worker(&self, number: u32) -> Result<Worker, Fault> {
         let number = self.0.lend_number(number)?;
         Ok(Worker::of(Arc::clone(&self.0), number))
@@ -351,12 +378,12 @@ impl Set {
 
     // ---- the end ----
 
-    /// Ends the set, and returns the keys that it had. It waits for calls that other threads make
-    /// of the set at this moment, as long as they take; each call that waits, and each later one,
-    /// returns `Closed`.
+    /// Ends the set, and returns the report with the keys that it had. It waits for calls that
+    /// other threads make of the set at this moment, as long as they take. Each call that waits
+    /// returns `Closed`, and so does each later call.
     ///
-    /// `Attached`: a [`Worker`] is not dropped yet, and the set goes on. `NoMemory`: only `close` goes
-    /// on. `Closed`: it was closed before.
+    /// Errors: `Attached`: a [`Worker`] was not dropped, and the set goes on. `NoMemory`: only
+    /// `close` goes on. `Closed`: the set was closed before.
     pub fn close(&self) -> Result<Report, Fault> {
         self.0.end()
     }

@@ -1,4 +1,4 @@
-//! How a thread waits for another one.
+//! How a thread waits for another thread.
 
 use crate::fault::Fault;
 use crate::ffi::Outcome;
@@ -6,27 +6,27 @@ use std::hint;
 use std::thread;
 use std::time::Duration;
 
-/// How long a thread sleeps between two looks at what another one has.
-pub(crate) const NAP: Duration = Duration::from_millis(1);
+/// The longest sleep between two looks at what another thread has.
+pub(crate) const PAUSE: Duration = Duration::from_millis(1);
 
-/// How often a handle that another call has is looked at again at once: it is free between two
-/// calls of its worker, for some nanoseconds.
+/// The number of looks at a handle that another call has, before the thread gives way. Between two
+/// calls of its worker a handle is free for some nanoseconds.
 const LOOKS: u32 = 1_000;
 
-/// How often a wait then gives other threads their turn, before it sleeps.
+/// The number of times that a wait then yields to other threads, before it sleeps.
 const TURNS: u32 = 10;
 
-/// The outcome of a handle that another call has.
+/// The outcome of a call if another call has the handle.
 pub(crate) const IN_USE: Outcome = -22;
 
-/// A wait, with how many turns are left of each kind.
+/// A wait: how many looks and yields are left before it sleeps.
 pub(crate) struct Wait {
     looks: u32,
     turns: u32,
 }
 
 impl Wait {
-    /// For the end of a call.
+    /// Returns a wait for the end of another call.
     fn for_call() -> Wait {
         Wait {
             looks: LOOKS,
@@ -34,7 +34,7 @@ impl Wait {
         }
     }
 
-    /// For another thread to give back a worker.
+    /// Returns a wait for a worker that another thread returns.
     pub fn for_worker() -> Wait {
         Wait {
             looks: 0,
@@ -42,7 +42,7 @@ impl Wait {
         }
     }
 
-    /// Lets other threads go on.
+    /// Spins, yields or sleeps once, so that other threads go on.
     pub fn go_on(&mut self) {
         if self.looks > 0 {
             self.looks -= 1;
@@ -51,36 +51,37 @@ impl Wait {
             self.turns -= 1;
             thread::yield_now();
         } else {
-            thread::sleep(NAP);
+            thread::sleep(PAUSE);
         }
     }
 }
 
-/// Makes a call of the library again while another call has its handle.
+/// Makes a call of the library, and repeats it while another call has the handle.
 pub(crate) fn waited_out(mut call: impl FnMut() -> Outcome) -> Outcome {
     let mut wait = Wait::for_call();
     loop {
-        let told = call();
-        if told != IN_USE {
-            return told;
+        let outcome = call();
+        if outcome != IN_USE {
+            return outcome;
         }
         wait.go_on();
     }
 }
 
-/// Makes a call again while another call has the handle of its worker. It waits as long as that
-/// call takes, which is within a bound of steps, but may be longer if its thread is not running.
+/// Makes a call, and repeats it while another call has the handle of its worker. It waits as long
+/// as that call takes. The other call ends within a bound of steps, but takes longer if its thread
+/// is not running.
 pub(crate) fn settled<T>(mut call: impl FnMut() -> Result<T, Fault>) -> Result<T, Fault> {
     let mut wait = Wait::for_call();
     loop {
         match call() {
             Err(Fault::Other(IN_USE)) => wait.go_on(),
-            told => return told,
+            result => return result,
         }
     }
 }
 
-/// Makes a call of the library once. If another call has the handle, it has done nothing.
+/// Makes a call of the library once. If another call has the handle, the call does nothing.
 pub(crate) fn at_once(call: impl FnOnce() -> Outcome) -> Outcome {
     call()
 }
@@ -106,12 +107,12 @@ mod tests {
     }
 
     #[test]
-    fn a_call_is_made_again_while_its_handle_is_in_use() {
+    fn a_call_is_repeated_while_its_handle_is_in_use() {
         let mut left = LOOKS + TURNS + 3;
-        let told = settled(|| {
+        let answer = settled(|| {
             left -= 1;
             answer(if left > 0 { IN_USE } else { 1 })
         });
-        assert_eq!((told, left), (Ok(true), 0));
+        assert_eq!((answer, left), (Ok(true), 0));
     }
 }
