@@ -1,4 +1,4 @@
-"""A set of whole numbers that threads share without locks, over the proved library libnm_set.
+"""A concurrent ordered set of integers, without locks, over the proved library libnm_set.
 
     import nm_set
 

@@ -1,5 +1,5 @@
-"""The calls for keys: those in C, where they are built, else those by ctypes. With NM_SET_PURE in
-the environment those by ctypes."""
+"""The calls for keys: those in C if they are built, and otherwise those by ctypes. With NM_SET_PURE
+in the environment they are those by ctypes."""
 
 from __future__ import annotations
 

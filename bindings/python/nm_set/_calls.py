@@ -1,8 +1,8 @@
-"""The calls for keys, by ctypes alone: what `_native` has in C, where that is built.
+"""The calls for keys by ctypes; `_native` has the same calls in C.
 
-Some handles lie in places beside each other. A call is made by the first of them that is open and
-that no other call has, which the library tells; so nothing is taken here for a call, and nothing
-has to be given back behind it, whatever exception comes at whatever moment.
+Each place has a handle. A call uses the first handle that is open and that no other call has, as
+the library decides. So a call takes nothing here, and gives nothing back after it: an exception at
+any moment does no harm.
 """
 
 from __future__ import annotations
@@ -17,11 +17,11 @@ from itertools import tee
 from typing import Any, Optional, SupportsIndex
 
 from . import _library as c
-from ._faults import MOST_KEY, Closed, InUse, fault, forked, key_fault, told
+from ._faults import MOST_KEY, Closed, InUse, answered, fault, forked, key_fault
 
-_SEVERAL = 64  # how many keys one call of the library looks up
+_SEVERAL = 64  # the number of keys that one call of the library looks up
 SOME = 256
-"""How many keys one call of a method named `.._some` goes over at most."""
+"""The most keys of one call of a method named `.._some`."""
 
 
 def _number(key: SupportsIndex) -> int:
@@ -32,7 +32,7 @@ def _number(key: SupportsIndex) -> int:
 
 
 class Count:
-    """How often the calls that add a key have had each outcome, and those that remove one."""
+    """How often calls that add a key returned each outcome, and calls that remove a key."""
 
     def __init__(self) -> None:
         self.added: Counter[int] = Counter()
@@ -40,13 +40,13 @@ class Count:
 
     def keys(self) -> int:
         """Returns how many keys calls have added, less those that they have removed. An unfinished
-        discard counts as it begins: no other call will remove the key."""
+        discard counts when it begins: no other call will remove the key."""
         return self.added[c.YES] - self.removed[c.YES] - self.removed[c.UNFINISHED]
 
 
 def _counted(outcomes: Counter[int], call: Callable[..., int]) -> Callable[..., int]:
-    """A call that counts its outcome as it is made. All of that is one step of Python, so that no
-    exception comes between, whenever it comes."""
+    """Returns a call that also counts its outcome. The call and the count are one step of Python,
+    so that no exception can separate them."""
 
     def made(handle: c.Handle, second: Any, third: Any) -> int:
         counted, outcome = tee(map(call, (handle,), (second,), (third,)))
@@ -58,10 +58,10 @@ def _counted(outcomes: Counter[int], call: Callable[..., int]) -> Callable[..., 
 
 class Calls:
     """The calls for keys by the first of some places whose handle is open and in no other call.
-    `Closed` or `InUse`, if there is none; nothing has changed then."""
+    They raise `Closed` or `InUse` if there is no such place; then nothing has changed."""
 
     def __init__(
-        self, places: ctypes.Array[c.Place], options: c.HabitWords, count: Count, line: int
+        self, places: ctypes.Array[c.Place], options: c.OptionsWords, count: Count, line: int
     ) -> None:
         self._handles = tuple(place.handle for place in places)
         self._call_options = options
@@ -71,7 +71,7 @@ class Calls:
         self._pop_first = _counted(count.removed, c.quick.nm_worker_pop_first)
         self._pop_last = _counted(count.removed, c.quick.nm_worker_pop_last)
         self.reach = 0
-        """How many of the places are looked at."""
+        """The number of places that a call tries."""
 
     def _asked(self, call: Callable[..., int], *arguments: Any) -> int:
         if os.getpid() != self._process:
@@ -84,10 +84,10 @@ class Calls:
         raise fault(outcome)
 
     def _looked(self, call: Callable[[c.Handle], int]) -> bool:
-        """Makes a call of the library that only looks, behind the discard that is pending, and
-        again where it has lost each of its tries."""
+        """Makes a call of the library that changes no key, after the discard that is pending. It
+        retries the call if each of its tries was lost, at most `rounds` times."""
 
-        def behind(handle: c.Handle) -> int:
+        def look(handle: c.Handle) -> int:
             outcome = call(handle)
             if outcome != c.PENDING:
                 return outcome
@@ -95,19 +95,19 @@ class Calls:
             return call(handle)
 
         for _ in range(self._call_options.rounds):
-            outcome = self._asked(behind)
+            outcome = self._asked(look)
             if outcome != c.BUSY:
-                return told(outcome)
-        return told(self._asked(behind))
+                return answered(outcome)
+        return answered(self._asked(look))
 
     def contains(self, key: SupportsIndex) -> bool:
-        return told(self._asked(c.quick.nm_worker_contains, _number(key), self._call_options))
+        return answered(self._asked(c.quick.nm_worker_contains, _number(key), self._call_options))
 
     def add(self, key: SupportsIndex) -> bool:
-        return told(self._asked(self._insert, _number(key), self._call_options))
+        return answered(self._asked(self._insert, _number(key), self._call_options))
 
     def remove(self, key: SupportsIndex) -> bool:
-        return told(self._asked(self._remove, _number(key), self._call_options))
+        return answered(self._asked(self._remove, _number(key), self._call_options))
 
     def _nearest(self, call: Callable[..., int], key: SupportsIndex) -> Optional[int]:
         number, found, tries = _number(key), c_uint64(), self._call_options.tries
@@ -121,11 +121,11 @@ class Calls:
         return self._nearest(c.quick.nm_worker_prev, key)
 
     def _taken(self, call: Callable[..., int]) -> Optional[int]:
-        """Takes a key by a call of the library. A key whose discard is unfinished is taken too:
-        this call will remove it, and no other call will."""
+        """Removes a key by a call of the library, and returns it. It returns a key whose discard is
+        unfinished too: this call will remove it, and no other call will."""
         taken = c_uint64()
         outcome = self._asked(call, self._call_options, taken)
-        return taken.value if outcome == c.UNFINISHED or told(outcome) else None
+        return taken.value if outcome == c.UNFINISHED or answered(outcome) else None
 
     def pop_first(self) -> Optional[int]:
         return self._taken(self._pop_first)
@@ -134,7 +134,8 @@ class Calls:
         return self._taken(self._pop_last)
 
     def contains_some(self, keys: memoryview, first: int, found: memoryview) -> int:
-        """Looks up some of these keys, from an index on, and writes 1 or 0 of each: how many."""
+        """Looks up some of these keys, from an index on, and writes 1 or 0 for each. Returns how
+        many keys it looked up."""
         wanted = keys[first : first + _SEVERAL]
         asked: Any = ((key, 0) for key in wanted)
         lookups = (c.LookupWords * max(len(wanted), 1))(*asked)
@@ -167,22 +168,23 @@ class Calls:
     def add_some(
         self, keys: memoryview, first: int, answers: Optional[memoryview]
     ) -> tuple[int, int, int]:
-        """Adds some of these keys, from an index on, and writes 1 for each that was new, if there
-        is room for answers. Returns how many keys it went over, how many of them were new, and the
-        outcome of the next one, if that is below 0."""
+        """Adds some of these keys, from an index on, and writes 1 for each that was absent, if
+        there is room for answers. Returns how many keys it tried, how many of them were absent, and
+        the outcome of the next key, if that is below 0."""
         return self._some(self._insert, keys, first, answers)
 
     def remove_some(
         self, keys: memoryview, first: int, answers: Optional[memoryview]
     ) -> tuple[int, int, int]:
-        """The same, but it removes them, and returns how many were in the set."""
+        """Removes some of these keys, in the way of `add_some`. It counts the keys that were
+        present."""
         return self._some(self._remove, keys, first, answers)
 
     def waiting(self) -> tuple[int, int]:
-        """How many nodes wait with the workers of the places, and how many places were in use,
-        which are left out."""
+        """Returns how many nodes wait with the workers of the places, and how many places were in
+        use. It leaves out the nodes of places in use."""
         waiting = missed = 0
-        words = c.LedgerWords()
+        words = c.StatsWords()
         for handle in self._handles[: self.reach]:
             outcome = c.quick.nm_worker_stats(handle, words)
             if outcome == c.DONE:
@@ -192,7 +194,7 @@ class Calls:
 
 
 def first_wrong(keys: memoryview, is_signed: bool) -> int:
-    """The index of the first of these words that is no key, or -1."""
+    """Returns the index of the first of these words that is no key, or -1."""
     view = keys.cast("B").cast("q") if is_signed else keys
     if not len(view) or (min(view) >= 0 and max(view) <= MOST_KEY):
         return -1
@@ -200,5 +202,5 @@ def first_wrong(keys: memoryview, is_signed: bool) -> int:
 
 
 def answers(found: memoryview) -> list[bool]:
-    """Of each byte whether it is not 0."""
+    """Returns for each byte whether it is not 0."""
     return [byte != 0 for byte in found]

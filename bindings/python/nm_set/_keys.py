@@ -1,5 +1,5 @@
-"""What a set and each of its workers have: the calls for keys, and over them what a set of Python
-has."""
+"""What a set and each of its workers have: the calls for keys, and the calls of a set of Python,
+which are made of them."""
 
 from __future__ import annotations
 
@@ -17,13 +17,13 @@ from ._backend import Calls, answers, first_wrong
 from ._faults import MOST_KEY, SHOWN, Closed, Full, InUse, fault, key_fault, shortened
 
 _T = TypeVar("_T")
-_Out = TypeVar("_Out", bound=Sized)  # a buffer, for which Python has a type from 3.12 on alone
+_Out = TypeVar("_Out", bound=Sized)  # a buffer, for which Python has a type only from 3.12 on
 _UNSIGNED, _SIGNED = frozenset("QLN"), frozenset("qln")  # the formats of words of 64 bits
 
 
 def _number(key: object) -> Optional[int]:
-    """The key that equals an object, or None. TypeError of what has no hash and is no set, as a set
-    of Python has it."""
+    """Returns the key that equals an object, or None. Like a set of Python, it raises TypeError for
+    an object that has no hash and is no set."""
     with suppress(TypeError):
         return _key_or_none(operator.index(key))  # type: ignore[arg-type]
     if not isinstance(key, AbstractSet):
@@ -40,8 +40,8 @@ def _key_or_none(number: int) -> Optional[int]:
 
 
 def words_of(keys: Iterable[SupportsIndex]) -> memoryview:
-    """Keys as words that lie beside each other: as they are, where they lie so in a buffer, as
-    those of array.array("Q") or of numpy. Each is tested."""
+    """Returns keys as adjacent words in memory, after a test of each key. It copies them, unless
+    they are in a buffer of such words, like those of array.array("Q") and numpy."""
     try:
         view = memoryview(keys)  # type: ignore[arg-type]
     except TypeError:
@@ -57,12 +57,12 @@ def words_of(keys: Iterable[SupportsIndex]) -> memoryview:
 
 
 def _cast(view: memoryview, kind: str) -> memoryview:
-    """A view by another format, which an empty one cannot be given."""
+    """Returns a view in another format. An empty view is unchanged, because it cannot be cast."""
     return view.cast("B").cast(kind) if view.nbytes else view
 
 
 def _answers_of(out: Any, count: int) -> memoryview:
-    """A buffer with a byte for the answer of each of so many keys."""
+    """Returns a view of `out`, which has one byte for each of `count` keys."""
     room = _cast(memoryview(out), "B")
     if room.readonly:
         raise TypeError("the answers cannot be written: `out` is read-only")
@@ -87,24 +87,24 @@ def _as_set(other: Iterable[Any]) -> AbstractSet[Any]:
 
 
 class Keys(MutableSet):  # type: ignore[type-arg]
-    """The whole numbers of a set that threads share, as a set of Python.
+    """The keys of a set that threads share, with the calls of a set of Python.
 
-    While other threads add and remove, a call that goes over several keys takes no snapshot: each
-    key has an answer that was right at a moment of the call, two of them perhaps at different
-    moments. This is so of iteration and all that stands on it: comparisons, operators, `copy`,
+    While other threads add and remove, a call that passes over several keys takes no snapshot: the
+    answer for each key was right at a moment of the call, and two keys may have different moments.
+    This holds for iteration, and for all that is made of it: comparisons, operators, `copy`,
     `clear` and the updates.
     """
 
     _calls: Calls
 
     def _again(self, name: str, *arguments: object) -> Any:
-        """Makes a call of `Calls` again that found no worker free, or no nodes."""
+        """Repeats a call of `Calls` that found no worker or no nodes free."""
         raise NotImplementedError
 
     # ---- one key ----
 
     def __contains__(self, key: object) -> bool:
-        """Whether the set has a key. What is no key is in no set."""
+        """Returns whether the set has a key. A value that is no key is in no set."""
         try:
             return self._calls.contains(key)  # type: ignore[arg-type]
         except (TypeError, ValueError, InUse):
@@ -112,13 +112,13 @@ class Keys(MutableSet):  # type: ignore[type-arg]
         return number is not None and bool(self._again("contains", number))
 
     def contains(self, key: object) -> bool:
-        """The same as `key in numbers`."""
+        """Returns whether the set has a key, like `key in numbers`."""
         return key in self
 
     def add(self, key: SupportsIndex) -> bool:  # type: ignore[override]
-        """Adds a key, 0 to 2^64 - 4, and returns whether it was not in the set. If the set is full
-        it waits for nodes for the `timeout_ms` of `Options` at most, and for no other thread's
-        call. `OutOfRange` or `TypeError` for what is no key; `Full`."""
+        """Adds a key, 0 to 2^64 - 4; returns True if it was absent. If the set is full it waits for
+        nodes, for at most the `timeout_ms` of `Options`, and for no other thread's call. Raises
+        `OutOfRange` or `TypeError` for a value that is no key, and `Full`."""
         try:
             return self._calls.add(key)
         except (Closed, InUse, Full):
@@ -126,7 +126,7 @@ class Keys(MutableSet):  # type: ignore[type-arg]
         return bool(self._again("add", key))
 
     def discard(self, key: object) -> bool:  # type: ignore[override]
-        """Removes a key: True where it was in the set."""
+        """Removes a key; returns True if it was present."""
         try:
             return self._calls.remove(key)  # type: ignore[arg-type]
         except (TypeError, ValueError, InUse):
@@ -134,14 +134,14 @@ class Keys(MutableSet):  # type: ignore[type-arg]
         return number is not None and bool(self._again("remove", number))
 
     def remove(self, key: object) -> None:
-        """Removes a key, or raises KeyError where it was not in the set."""
+        """Removes a key. Raises KeyError if it was absent."""
         if not self.discard(key):
             raise KeyError(key)
 
     def at_least(self, key: SupportsIndex) -> Optional[int]:
-        """The least key of the set that is not below this one, or None where there is none. At a
-        moment of the call the set had the key, and of each key that was passed over there was one
-        at which it had it not: two of these moments may differ."""
+        """Returns the least key of the set that is not below this one, or None if there is none. At
+        a moment of the call the set had the key. For each key that was passed over there was a
+        moment of the call at which the set did not have it. The moments of two keys may differ."""
         try:
             return self._calls.at_least(key)
         except (Closed, InUse):
@@ -150,8 +150,8 @@ class Keys(MutableSet):  # type: ignore[type-arg]
         return found
 
     def at_most(self, key: SupportsIndex) -> Optional[int]:
-        """The greatest key of the set that is not above this one, or None where there is none, as
-        `at_least` tells the least."""
+        """Returns the greatest key of the set that is not above this one, or None if there is none,
+        in the way of `at_least`."""
         try:
             return self._calls.at_most(key)
         except (Closed, InUse):
@@ -166,10 +166,10 @@ class Keys(MutableSet):  # type: ignore[type-arg]
     @overload
     def contains_many(self, keys: Iterable[SupportsIndex], out: _Out) -> _Out: ...
     def contains_many(self, keys: Iterable[SupportsIndex], out: Any = None) -> Any:
-        """Returns whether the set has each of these keys, in their order: a list, or `out`, a
-        buffer of one byte for each key, such as a `bytearray` or a numpy array, in which 1 or 0 is
-        written. Each answer was right at a moment of the call. Keys in a buffer, such as
-        array.array("Q") or a numpy array, are read where they are, and other threads run
+        """Returns for each of these keys, in their order, whether the set has it: a list, or `out`
+        if it is given. `out` is a buffer of one byte for each key, such as a `bytearray` or a numpy
+        array; the call writes 1 or 0 into it. Each answer was right at a moment of the call. Keys
+        in a buffer, such as array.array("Q") or a numpy array, are not copied. Other threads run
         meanwhile."""
         words = words_of(keys)
         found = _answers_of(bytearray(len(words)) if out is None else out, len(words))
@@ -183,41 +183,40 @@ class Keys(MutableSet):  # type: ignore[type-arg]
 
     def _change_many(self, keys: Iterable[SupportsIndex], name: str, out: Any = None) -> int:
         words, at, changed = words_of(keys), 0, 0
-        told = None if out is None else _answers_of(out, len(words))
-        if told is not None:
-            told[:] = bytes(len(told))
+        found = None if out is None else _answers_of(out, len(words))
+        if found is not None:
+            found[:] = bytes(len(found))
         some = getattr(self._calls, f"{name}_some")
         while at < len(words):
-            done, count, outcome = some(words, at, told)
+            done, count, outcome = some(words, at, found)
             at, changed = at + done, changed + count
             if outcome in (c.CLOSED, c.IN_USE, c.FULL):
                 is_changed = self._again(name, words[at])
-                if told is not None:
-                    told[at] = is_changed
+                if found is not None:
+                    found[at] = is_changed
                 at, changed = at + 1, changed + is_changed
             elif outcome < 0:
                 raise fault(outcome)
         return changed
 
     def add_many(self, keys: Iterable[SupportsIndex], out: Any = None) -> int:
-        """Adds these keys, and returns how many were not in the set. All keys are tested before the
-        first one is added. `out` is a buffer of one byte for each key, as for `contains_many`: 1 is
-        written for each key that this call added, else 0. If `Full` is raised, the keys before are
-        in the set, and the rest of `out` is 0. Keys in a buffer are read where they are, as by
-        `contains_many`, and other threads run meanwhile."""
+        """Adds these keys; returns how many were absent. It tests all keys before it adds the first
+        one. `out` is a buffer of one byte for each key, like that of `contains_many`: the call
+        writes 1 for each key that it added, else 0. If it raises `Full`, the keys before are added,
+        and the rest of `out` is 0. Keys in a buffer are not copied. Other threads run meanwhile."""
         return self._change_many(keys, "add", out)
 
     def discard_many(self, keys: Iterable[SupportsIndex], out: Any = None) -> int:
-        """Removes these keys, and returns how many were in the set. In `out`, 1 is written for each
-        key that this call removed, and no other call did. See `add_many`."""
+        """Removes these keys; returns how many were present. In `out` the call writes 1 for each
+        key that it removed, and that no other call did. See `add_many`."""
         return self._change_many(keys, "remove", out)
 
     # ---- in order ----
 
     def __iter__(self) -> Iterator[int]:
-        """The keys, ascending, while the set is in use, by a call of `at_least` for each. Keys that
-        are added or removed meanwhile may be told or not; one that was removed before it is told is
-        not told."""
+        """Returns an iterator over the keys, ascending, while the set is in use. It calls
+        `at_least` for each key. It may return or skip a key that is added or removed meanwhile. It
+        does not return a key that was removed before that step."""
         return self.irange()
 
     def irange(
@@ -227,8 +226,8 @@ class Keys(MutableSet):  # type: ignore[type-arg]
         inclusive: tuple[bool, bool] = (True, True),
         reverse: bool = False,
     ) -> Iterator[int]:
-        """The keys from a least to a greatest one, ascending, as `__iter__` tells them; or
-        descending, by a call of `at_most` for each."""
+        """Returns an iterator over the keys from `minimum` to `maximum`, ascending like `__iter__`.
+        If `reverse`, they are descending, and it calls `at_most` for each."""
         first = 0 if minimum is None else operator.index(minimum) + (not inclusive[0])
         last = MOST_KEY if maximum is None else operator.index(maximum) - (not inclusive[1])
         go = self._descending if reverse else self._ascending
@@ -251,11 +250,11 @@ class Keys(MutableSet):  # type: ignore[type-arg]
             last = key - 1
 
     def first(self) -> Optional[int]:
-        """The least key, or None of an empty set."""
+        """Returns the least key, or None if the set is empty."""
         return self.at_least(0)
 
     def last(self) -> Optional[int]:
-        """The greatest key, or None of an empty set."""
+        """Returns the greatest key, or None if the set is empty."""
         return self.at_most(MOST_KEY)
 
     def _pop(self, name: str) -> int:
@@ -268,22 +267,21 @@ class Keys(MutableSet):  # type: ignore[type-arg]
         return int(key)
 
     def pop_first(self) -> int:
-        """Removes the least key and returns it. KeyError if the set is empty. No two calls return
-        one key, unless it was added again between, and none is passed over that was in the set all
-        along.
-        """
+        """Removes the least key and returns it. Raises KeyError if the set is empty. No two calls
+        return one key, unless it was added again in between. No call passes over a key that was in
+        the set during the whole call."""
         return self._pop("pop_first")
 
     def pop_last(self) -> int:
-        """The same of the greatest key."""
+        """Removes the greatest key and returns it, in the way of `pop_first`."""
         return self._pop("pop_last")
 
     def pop(self) -> int:
-        """The same as `pop_first`, by the name that a set has for it."""
+        """Removes the least key and returns it, like `pop_first`."""
         return self.pop_first()
 
     def __reversed__(self) -> Iterator[int]:
-        """The keys, descending, as `__iter__` tells them ascending."""
+        """Returns an iterator over the keys, descending, in the way of `__iter__`."""
         return self.irange(reverse=True)
 
     def __bool__(self) -> bool:
@@ -293,45 +291,46 @@ class Keys(MutableSet):  # type: ignore[type-arg]
         keys = list(islice(self, SHOWN + 1))
         return f"{type(self).__name__}({shortened(keys, len(self))})"
 
-    # ---- as a set ----
+    # ---- the calls of a set of Python ----
 
     @classmethod
     def _from_iterable(cls, it: Iterable[Any]) -> set[Any]:
-        """What the operators make: a set of Python, since one of these has a size, and an end."""
+        """Returns what the operators make: a set of Python, because this class has a fixed size and
+        must be closed."""
         return set(it)
 
     def copy(self) -> set[int]:
-        """The keys, in a set of Python."""
+        """Returns the keys in a set of Python."""
         return set(self)
 
     def clear(self) -> None:
-        """Removes each key of the set; one that is added meanwhile may stay."""
+        """Removes all keys. A key that is added meanwhile may remain."""
         for key in self:
             self.discard(key)
 
     def update(self, *others: Iterable[SupportsIndex]) -> None:
-        """Adds the keys of all others, which are tested before the first one is added."""
+        """Adds the keys of all others. It tests all keys before it adds the first one."""
         for words in [words_of(other) for other in others]:
             self._change_many(words, "add")
 
     def union(self, *others: Iterable[Any]) -> set[Any]:
-        """A set of Python with the keys of this and all others."""
+        """Returns a set of Python with the keys of this set and all others."""
         return set(self).union(*others)
 
     def intersection(self, *others: Iterable[Any]) -> set[int]:
-        """A set of Python with the keys that this and all others have."""
+        """Returns a set of Python with the keys that this set and all others have."""
         return set(self).intersection(*others)
 
     def difference(self, *others: Iterable[Any]) -> set[int]:
-        """A set of Python with the keys that none of the others has."""
+        """Returns a set of Python with the keys of this set that none of the others has."""
         return set(self).difference(*others)
 
     def symmetric_difference(self, other: Iterable[Any]) -> set[Any]:
-        """A set of Python with the keys that one of the two has."""
+        """Returns a set of Python with the keys that exactly one of the two has."""
         return set(self).symmetric_difference(other)
 
     def intersection_update(self, *others: Iterable[Any]) -> None:
-        """Removes the keys that some other one has not."""
+        """Removes the keys that one of the others does not have."""
         kept = set(self).intersection(*others)
         for key in self:
             if key not in kept:
@@ -344,21 +343,21 @@ class Keys(MutableSet):  # type: ignore[type-arg]
                 self.discard(key)
 
     def symmetric_difference_update(self, other: Iterable[Any]) -> None:
-        """Removes the keys of the other one that the set has, and adds those that it has not."""
+        """Removes the keys of the other that this set has, and adds those that it does not have."""
         for key in _copied(set(other)):
             if not self.discard(key):
                 self.add(key)
 
     def isdisjoint(self, other: Iterable[Any]) -> bool:
-        """Whether the set has no key of the other one."""
+        """Returns whether the set has no key of the other."""
         return not any(key in self for key in other)
 
     def issubset(self, other: Iterable[Any]) -> bool:
-        """Whether the other one has each key of the set."""
+        """Returns whether the other has each key of this set."""
         return set(self).issubset(other)
 
     def issuperset(self, other: Iterable[Any]) -> bool:
-        """Whether the set has each key of the other one."""
+        """Returns whether this set has each key of the other."""
         return all(key in self for key in other)
 
     def __le__(self, other: object) -> bool:
@@ -439,7 +438,7 @@ class Keys(MutableSet):  # type: ignore[type-arg]
         self.symmetric_difference_update(other)  # type: ignore[attr-defined]
         return self
 
-    # ---- what would make a second one of the same memory ----
+    # ---- the calls that would copy the shared memory ----
 
     def _refuse(self, *_: object) -> NoReturn:
         raise TypeError(

@@ -1,10 +1,9 @@
 """The functions of nm_set.h, by ctypes.
 
-A handle is two words of memory that this process owns. Of two calls that have one handle at the
-same time the library tells the second so, and touches nothing; so no handle needs a lock here.
-`exports` has each function so that other threads run while it does; `quick` has those that end
-within some hundred steps, and are made while other threads wait, which costs less than to let them
-go on and wait for them.
+A handle is two words of memory that this process owns. If two calls have one handle at the same
+time, the library refuses the second, which then touches nothing. So no handle needs a lock here.
+Other threads run during a call of a function of `exports`. They wait during a call of a function of
+`quick`: such a call ends within some hundred steps, so waiting costs less than switching threads.
 """
 
 from __future__ import annotations
@@ -21,8 +20,8 @@ from . import __version__
 
 
 def _refuse_other_interpreters() -> None:
-    """Raises ImportError in each interpreter of the process but the first. What `_native` keeps is
-    of the process: a second interpreter would replace the exceptions of the first one."""
+    """Raises ImportError in each interpreter of the process except the first. `_native` keeps its
+    exceptions for the whole process: a second interpreter would replace those of the first."""
     python = ctypes.PyDLL(None)
     python.PyInterpreterState_Get.restype = c_void_p
     python.PyInterpreterState_GetID.argtypes = [c_void_p]
@@ -30,7 +29,7 @@ def _refuse_other_interpreters() -> None:
     if python.PyInterpreterState_GetID(python.PyInterpreterState_Get()) != 0:
         raise ImportError(
             "nm_set can be imported by the first interpreter of a process alone, and this is"
-            " another one: use processes or threads in place of subinterpreters",
+            " another one: use processes or threads instead of subinterpreters",
             name="nm_set",
         )
 
@@ -39,18 +38,19 @@ _refuse_other_interpreters()
 
 
 class Handle(ctypes.Structure):
-    """nm_handle: null, or what owns a set, a worker or a report, and whether a call has it."""
+    """nm_handle: a pointer that is null or owns a set, a worker or a report, and whether a call has
+    the handle."""
 
     _fields_ = [("at", c_void_p), ("in_use", c_uint64)]
 
 
 class Place(ctypes.Structure):
-    """A handle on a line of memory of its own, since each call writes its handle."""
+    """A handle in a cache line of its own, because each call writes its handle."""
 
     _fields_ = [("handle", Handle), ("unused", c_uint64 * 6)]
 
 
-class LedgerWords(ctypes.Structure):
+class StatsWords(ctypes.Structure):
     """nm_stats."""
 
     _fields_ = [
@@ -58,7 +58,7 @@ class LedgerWords(ctypes.Structure):
     ]
 
 
-class HabitWords(ctypes.Structure):
+class OptionsWords(ctypes.Structure):
     """nm_options."""
 
     _fields_ = [(name, c_uint32) for name in ("tries", "rounds", "collect_after")]
@@ -88,14 +88,14 @@ FUNCTIONS: dict[str, list[Any]] = {
     "nm_set_close": [_H],
     "nm_set_attached": [_H, c_uint32],
     "nm_drop": [_H],
-    "nm_worker_contains": [_H, c_uint64, POINTER(HabitWords)],
+    "nm_worker_contains": [_H, c_uint64, POINTER(OptionsWords)],
     "nm_worker_contains_many": [_H, POINTER(LookupWords), c_size_t, c_uint32],
     "nm_worker_next": [_H, c_uint64, c_uint32, _U64],
     "nm_worker_prev": [_H, c_uint64, c_uint32, _U64],
-    "nm_worker_insert": [_H, c_uint64, POINTER(HabitWords)],
-    "nm_worker_remove": [_H, c_uint64, POINTER(HabitWords)],
-    "nm_worker_pop_first": [_H, POINTER(HabitWords), _U64],
-    "nm_worker_pop_last": [_H, POINTER(HabitWords), _U64],
+    "nm_worker_insert": [_H, c_uint64, POINTER(OptionsWords)],
+    "nm_worker_remove": [_H, c_uint64, POINTER(OptionsWords)],
+    "nm_worker_pop_first": [_H, POINTER(OptionsWords), _U64],
+    "nm_worker_pop_last": [_H, POINTER(OptionsWords), _U64],
     "nm_worker_finish": [_H, c_uint32],
     "nm_worker_pin": [_H, c_uint32, _U64],
     "nm_worker_unpin": [_H],
@@ -104,7 +104,7 @@ FUNCTIONS: dict[str, list[Any]] = {
     "nm_worker_collect": [_H, _U64, _U64],
     "nm_worker_number": [_H, _U32],
     "nm_worker_pending": [_H, _U64],
-    "nm_worker_stats": [_H, POINTER(LedgerWords)],
+    "nm_worker_stats": [_H, POINTER(StatsWords)],
     "nm_worker_publish": [_H, _U64, _U64],
     "nm_worker_observe": [_H, c_uint32, _U64, _U64],
     "nm_report_slots": [_H, _U32, _U32],
@@ -114,7 +114,7 @@ FUNCTIONS: dict[str, list[Any]] = {
     "nm_report_waiting": [_H, c_uint32, POINTER(WaitingWords)],
 }
 
-# The outcomes that are told apart here.
+# The outcomes that this module knows.
 NO: Final = 0
 YES: Final = 1
 DONE: Final = 2
@@ -130,32 +130,34 @@ BUSY: Final = -9
 FULL: Final = -10
 UNFINISHED: Final = -11
 PENDING: Final = -12
-HELD: Final = -13
-NOT_HELD: Final = -14
+PINNED: Final = -13
+NOT_PINNED: Final = -14
 LOST: Final = -16
-AWAY: Final = -18
+ATTACHED: Final = -18
 CLOSING: Final = -19
 IN_USE: Final = -22
+NO_WORKER: Final = -23
 
 _FILE = "libnm_set.so.0.1"
 
 
 def _by_pkg_config() -> Iterator[str]:
-    """Where pkg-config has the library."""
+    """Yields the file of the library that pkg-config finds."""
     if shutil.which("pkg-config") is None:
         return
     import subprocess
 
-    asked = ["pkg-config", "--variable=libdir", "nm_set"]
-    told = subprocess.run(asked, capture_output=True, text=True, check=False)
-    if told.returncode == 0 and told.stdout.strip():
-        yield str(Path(told.stdout.strip()) / _FILE)
+    command = ["pkg-config", "--variable=libdir", "nm_set"]
+    done = subprocess.run(command, capture_output=True, text=True, check=False)
+    if done.returncode == 0 and done.stdout.strip():
+        yield str(Path(done.stdout.strip()) / _FILE)
 
 
 def _candidates() -> Iterator[str]:
-    """Where the library may be, in the order in which it is tried: the file that NM_SET_LIBRARY
-    names, and no other where it names one; beside this module, or what c/build has left in the
-    checkout in which it lies; where pkg-config has it; and where the linker finds it."""
+    """Yields the files that may be the library, in the order in which they are tried. If
+    NM_SET_LIBRARY names a file, it is the only one. Otherwise: the file beside this module, the
+    file that c/build made in this checkout, the file that pkg-config finds, and the file that the
+    linker finds."""
     named = os.environ.get("NM_SET_LIBRARY")
     if named:
         yield named
@@ -183,7 +185,7 @@ _Library = TypeVar("_Library", bound=ctypes.CDLL)
 
 
 def _typed(library: _Library, name: str) -> _Library:
-    """The library, in which each function has its types."""
+    """Returns the library after it has set the types of each function."""
     for function, parameters in FUNCTIONS.items():
         try:
             found = getattr(library, function)
@@ -210,10 +212,10 @@ def _load() -> tuple[ctypes.CDLL, ctypes.PyDLL]:
         _typed(library, name)
         quick = ctypes.PyDLL(name, handle=library._handle)
         return library, _typed(quick, name)
-    told = "; ".join(faults)
+    text = "; ".join(faults)
     raise ImportError(
-        f"the library of nm_set was not found: {told}. c/install puts it below a folder, where"
-        " pkg-config finds it by PKG_CONFIG_PATH; or NM_SET_LIBRARY names its file",
+        f"the library of nm_set was not found: {text}. Install it by c/install and let"
+        " PKG_CONFIG_PATH name its folder, or name its file in NM_SET_LIBRARY",
         name="nm_set",
     )
 
@@ -222,5 +224,5 @@ exports, quick = _load()
 
 
 def address(function: str) -> int:
-    """Where a function of the library is."""
+    """Returns the address of a function of the library."""
     return ctypes.cast(getattr(exports, function), c_void_p).value or 0

@@ -1,9 +1,10 @@
-/* The calls for keys in C: what _calls.py has by ctypes, and its names and meanings.
+/* The calls for keys in C: the calls that _calls.py makes by ctypes, with the same names and
+ * meanings.
  *
- * The library is found by _library.py, which gives the addresses of its functions to `bind`. A call
- * for one key ends within some hundred steps, and is made while other threads of Python wait; one
- * for several keys lets them go on. No step of Python, and so no signal handler, comes between what
- * is done here.
+ * _library.py finds the library, and gives the addresses of its functions to `bind`. A call for one
+ * key ends within some hundred steps, and other threads of Python wait meanwhile. A call for
+ * several keys lets them go on. No step of Python runs in the middle of a call here, and so no
+ * signal handler does.
  */
 #define PY_SSIZE_T_CLEAN
 #include <Python.h>
@@ -17,36 +18,36 @@
 
 #define MOST_KEY (UINT64_MAX - 3)
 #define STRIDE 64    /* a place: a handle, and the rest of its line */
-#define SEVERAL 64   /* how many keys one call of the library looks up */
-#define SOME 4096    /* how many keys one call of a method named `.._some` goes over at most */
+#define SEVERAL 64   /* the number of keys that one call of the library looks up */
+#define SOME 4096    /* the most keys of one call of a method named `.._some` */
 #define MOST_PLACES 64
 #define LINES 64     /* the lines of a count */
 
-typedef nm_outcome (*tended_call)(nm_handle *, uint64_t, const nm_options *);
+typedef nm_outcome (*managed_call)(nm_handle *, uint64_t, const nm_options *);
 typedef nm_outcome (*pop_call)(nm_handle *, const nm_options *, uint64_t *);
 typedef nm_outcome (*near_call)(nm_handle *, uint64_t, uint32_t, uint64_t *);
 typedef nm_outcome (*many_call)(nm_handle *, nm_lookup *, size_t, uint32_t);
 typedef nm_outcome (*finish_call)(nm_handle *, uint32_t);
-typedef nm_outcome (*ledger_call)(nm_handle *, nm_stats *);
+typedef nm_outcome (*stats_call)(nm_handle *, nm_stats *);
 
-static tended_call contains_of, insert_of, remove_of;
+static managed_call contains_of, insert_of, remove_of;
 static pop_call pop_first_of, pop_last_of;
 static near_call next_of, prev_of;
 static many_call contains_many_of;
 static finish_call finish_of;
-static ledger_call ledger_of;
+static stats_call stats_of;
 
-/* What makes the exceptions, of _faults.py. */
+/* The functions of _faults.py that make the exceptions. */
 static PyObject *fault_of, *key_fault_of, *forked_of;
 
-/* How often the process was forked on the way to this one. */
+/* The number of forks since this module was loaded, counted in each child. */
 static unsigned long forks;
 
 static void count_fork(void) { forks++; }
 
 /* How many keys the calls of a set and of its workers have added, less those that they have
- * removed: a part in each of some lines of memory, so that threads which run at the same time
- * seldom write the same one. */
+ * removed. The count has a part in each of 64 cache lines, so that threads that run at the same
+ * time seldom write the same line. */
 typedef struct {
     PyObject_HEAD
     struct {
@@ -61,8 +62,8 @@ typedef struct {
     nm_options options;
     Count *count;
     int line;      /* place i counts in line (line + i) % LINES */
-    uint64_t lent; /* bit i: a thread that let others go on is at work by place i */
-    int reach;     /* how many of the places are looked at */
+    uint64_t lent; /* bit i: a thread that let others go on is making a call by place i */
+    int reach;     /* the number of places that a call tries */
     unsigned long forks;
     long process;
 } Calls;
@@ -91,7 +92,8 @@ static nm_handle *place_of(Calls *self, int at) {
     return (nm_handle *)((char *)self->places.buf + (size_t)at * STRIDE);
 }
 
-/* Raises what a function of _faults.py makes of an argument, which is given up. */
+/* Raises the exception that a function of _faults.py makes of an argument. It releases the argument
+ * and returns NULL. */
 static PyObject *raise_of(PyObject *make, PyObject *argument) {
     PyObject *made = argument ? PyObject_CallFunctionObjArgs(make, argument, NULL) : NULL;
     Py_XDECREF(argument);
@@ -106,8 +108,8 @@ static PyObject *raise_fault(nm_outcome outcome) {
     return raise_of(fault_of, PyLong_FromLong(outcome));
 }
 
-/* Whether this is the process in which the calls were made; else an exception is set. */
-static int is_at_home(Calls *self) {
+/* Returns whether this is the process that made `self`, and otherwise sets an exception. */
+static int is_own_process(Calls *self) {
     if (self->forks == forks) {
         return 1;
     }
@@ -115,7 +117,7 @@ static int is_at_home(Calls *self) {
     return 0;
 }
 
-/* The key that an object is, or -1 behind an exception. */
+/* Writes the key that an object equals. Returns -1 after an exception, else 0. */
 static int key_of(PyObject *object, uint64_t *key) {
     PyObject *number = PyNumber_Index(object);
     if (!number) {
@@ -140,7 +142,7 @@ static int key_of(PyObject *object, uint64_t *key) {
 
 static int is_free_place(Calls *self, int at) { return !(self->lent >> at & 1); }
 
-/* Whether a call has to be made by another place. */
+/* Returns whether a call must be repeated by another place. */
 static int is_elsewhere(nm_outcome outcome) {
     return outcome == NM_IN_USE || outcome == NM_CLOSED;
 }
@@ -149,7 +151,7 @@ static PyObject *answer(nm_outcome outcome) {
     return outcome < 0 ? raise_fault(outcome) : PyBool_FromLong(outcome != NM_NO);
 }
 
-/* A tended call by a place, which counts what it changes. */
+/* A managed call by a place, which counts what it changes. */
 typedef nm_outcome (*place_call)(Calls *, int, uint64_t);
 
 static nm_outcome contains_by(Calls *self, int at, uint64_t key) {
@@ -164,10 +166,10 @@ static nm_outcome remove_by(Calls *self, int at, uint64_t key) {
     return count_removed(self, at, remove_of(place_of(self, at), key, &self->options));
 }
 
-static PyObject *tended(Calls *self, PyObject *object, place_call call) {
+static PyObject *managed(Calls *self, PyObject *object, place_call call) {
     uint64_t key;
     nm_outcome outcome = NM_CLOSED;
-    if (key_of(object, &key) < 0 || !is_at_home(self)) {
+    if (key_of(object, &key) < 0 || !is_own_process(self)) {
         return NULL;
     }
     for (int at = 0; at < self->reach; at++) {
@@ -180,19 +182,19 @@ static PyObject *tended(Calls *self, PyObject *object, place_call call) {
 }
 
 static PyObject *calls_contains(PyObject *self, PyObject *key) {
-    return tended((Calls *)self, key, contains_by);
+    return managed((Calls *)self, key, contains_by);
 }
 
 static PyObject *calls_add(PyObject *self, PyObject *key) {
-    return tended((Calls *)self, key, add_by);
+    return managed((Calls *)self, key, add_by);
 }
 
 static PyObject *calls_remove(PyObject *self, PyObject *key) {
-    return tended((Calls *)self, key, remove_by);
+    return managed((Calls *)self, key, remove_by);
 }
 
-/* The key that a call has told, or None. */
-static PyObject *told_key(nm_outcome outcome, uint64_t key) {
+/* Returns the key that a call has written, or None after NM_NO. */
+static PyObject *found_key(nm_outcome outcome, uint64_t key) {
     if (outcome < 0) {
         return raise_fault(outcome);
     }
@@ -202,7 +204,7 @@ static PyObject *told_key(nm_outcome outcome, uint64_t key) {
     return PyLong_FromUnsignedLongLong(key);
 }
 
-/* The key nearest to one, by a place, behind the discard that is pending there. */
+/* Finds the key nearest to one, by a place, after the discard that is pending there. */
 static nm_outcome near_by(Calls *self, nm_handle *place, near_call call, uint64_t key,
                           uint64_t *found) {
     nm_outcome outcome = call(place, key, self->options.tries, found);
@@ -220,7 +222,7 @@ static nm_outcome near_by(Calls *self, nm_handle *place, near_call call, uint64_
 static PyObject *nearest(Calls *self, PyObject *asked, near_call call) {
     uint64_t key, found = 0;
     nm_outcome outcome = NM_CLOSED;
-    if (key_of(asked, &key) < 0 || !is_at_home(self)) {
+    if (key_of(asked, &key) < 0 || !is_own_process(self)) {
         return NULL;
     }
     for (int at = 0; at < self->reach; at++) {
@@ -230,7 +232,7 @@ static PyObject *nearest(Calls *self, PyObject *asked, near_call call) {
             break;
         }
     }
-    return told_key(outcome, found);
+    return found_key(outcome, found);
 }
 
 static PyObject *calls_at_least(PyObject *self, PyObject *key) {
@@ -241,12 +243,12 @@ static PyObject *calls_at_most(PyObject *self, PyObject *key) {
     return nearest((Calls *)self, key, prev_of);
 }
 
-/* Takes a key. A key whose remove is unfinished is taken too: this call will remove it, and no
- * other call will. */
+/* Removes a key and returns it. It returns a key whose remove is unfinished too: this call will
+ * remove it, and no other call will. */
 static PyObject *take(Calls *self, pop_call call) {
     uint64_t taken = 0;
     nm_outcome outcome = NM_CLOSED;
-    if (!is_at_home(self)) {
+    if (!is_own_process(self)) {
         return NULL;
     }
     for (int at = 0; at < self->reach; at++) {
@@ -257,7 +259,7 @@ static PyObject *take(Calls *self, pop_call call) {
             break;
         }
     }
-    return told_key(outcome == NM_UNFINISHED ? NM_YES : outcome, taken);
+    return found_key(outcome == NM_UNFINISHED ? NM_YES : outcome, taken);
 }
 
 static PyObject *calls_pop_first(PyObject *self, PyObject *unused) {
@@ -272,7 +274,7 @@ static PyObject *calls_pop_last(PyObject *self, PyObject *unused) {
 
 /* ---- several keys ---- */
 
-/* Keys that lie in a buffer, from an index on, and how many of them there are. */
+/* Keys in a buffer, from an index on, and how many there are. */
 typedef struct {
     Py_buffer buffer;
     const uint64_t *from;
@@ -295,11 +297,11 @@ static int keys_of(PyObject *object, Py_ssize_t first, Keys *keys) {
     return 0;
 }
 
-/* What a thread does by one place while the others go on: it looks keys up, or adds or removes each
- * by a call. Its answer for each key is written to `answers`, if there are any. */
+/* What a thread does by one place while other threads go on: it looks keys up, or adds or removes
+ * each by a call. It writes its answer for each key to `answers`, unless that is NULL. */
 typedef struct {
     place_call call; /* NULL to look keys up */
-    int is_to_stand;
+    int is_to_add;
     unsigned char *answers;
     Py_ssize_t done, changed;
     nm_outcome outcome;
@@ -320,7 +322,7 @@ static void take_group(const Keys *keys, Py_ssize_t first, Group *group) {
     }
 }
 
-/* Looks up a group, behind the discard that is pending. */
+/* Looks up a group, after the discard that is pending. */
 static nm_outcome look_up(Calls *self, nm_handle *place, Group *group) {
     size_t count = (size_t)group->count;
     nm_outcome outcome = contains_many_of(place, group->each, count, self->options.tries);
@@ -351,14 +353,14 @@ static void look_up_each(Calls *self, nm_handle *place, const Keys *keys, Work *
     } while (work->done < keys->count);
 }
 
-/* Adds or removes the keys of a group one by one, after a look at all of them: walks that go side
- * by side wait for memory together, and a key that is already in the set, or out of it, as it
- * should be needs no change. If that look fails, the changes find out why. Returns whether each was
- * made. */
+/* Adds or removes the keys of a group one by one, after a look-up of all of them. The look-up
+ * interleaves its searches, so that they wait for memory together. A key that is already present
+ * when it is to be added, or absent when it is to be removed, needs no change. If the look-up
+ * fails, the changes find out why. Returns whether each change was made. */
 static int change_group(Calls *self, int place, Group *group, Work *work) {
-    int is_told = look_up(self, place_of(self, place), group) >= 0;
+    int is_known = look_up(self, place_of(self, place), group) >= 0;
     for (Py_ssize_t at = 0; at < group->count; at++, work->done++) {
-        if (is_told && (group->each[at].found != 0) == work->is_to_stand) {
+        if (is_known && (group->each[at].found != 0) == work->is_to_add) {
             continue;
         }
         nm_outcome outcome = work->call(self, place, group->each[at].key);
@@ -385,7 +387,8 @@ static void change_each(Calls *self, int place, const Keys *keys, Work *work) {
     work->outcome = NM_DONE;
 }
 
-/* Works by the first place that is open and free, which no other call takes meanwhile. */
+/* Does the work by the first place that is open and free. No other call takes that place
+ * meanwhile. */
 static void work_by_one(Calls *self, const Keys *keys, Work *work) {
     work->outcome = NM_CLOSED;
     work->done = work->changed = 0;
@@ -409,8 +412,8 @@ static void work_by_one(Calls *self, const Keys *keys, Work *work) {
     }
 }
 
-/* Takes the buffer of answers from an index on, which is to have room for the answers of these
- * keys. -1 after an exception. */
+/* Gets the buffer of answers, which must have room for the answers of these keys. Returns -1 after
+ * an exception, else 0. */
 static int answers_of(PyObject *object, const Keys *keys, Py_buffer *answers) {
     if (PyObject_GetBuffer(object, answers, PyBUF_WRITABLE) < 0) {
         return -1;
@@ -423,13 +426,13 @@ static int answers_of(PyObject *object, const Keys *keys, Py_buffer *answers) {
     return 0;
 }
 
-static PyObject *change_some(Calls *self, PyObject *args, place_call call, int is_to_stand) {
+static PyObject *change_some(Calls *self, PyObject *args, place_call call, int is_to_add) {
     PyObject *object, *out;
     Py_ssize_t first;
     Keys keys;
     Py_buffer answers;
-    Work work = {.call = call, .is_to_stand = is_to_stand, .outcome = NM_CLOSED};
-    if (!PyArg_ParseTuple(args, "OnO", &object, &first, &out) || !is_at_home(self) ||
+    Work work = {.call = call, .is_to_add = is_to_add, .outcome = NM_CLOSED};
+    if (!PyArg_ParseTuple(args, "OnO", &object, &first, &out) || !is_own_process(self) ||
         keys_of(object, first, &keys) < 0) {
         return NULL;
     }
@@ -461,7 +464,7 @@ static PyObject *calls_contains_some(PyObject *object, PyObject *args) {
     Keys keys;
     Py_buffer answers;
     Work work = {.outcome = NM_CLOSED};
-    if (!PyArg_ParseTuple(args, "OnO", &asked, &first, &out) || !is_at_home(self) ||
+    if (!PyArg_ParseTuple(args, "OnO", &asked, &first, &out) || !is_own_process(self) ||
         keys_of(asked, first, &keys) < 0) {
         return NULL;
     }
@@ -485,7 +488,7 @@ static PyObject *calls_waiting(PyObject *object, PyObject *unused) {
     nm_stats stats;
     (void)unused;
     for (int at = 0; at < self->reach; at++) {
-        nm_outcome outcome = ledger_of(place_of(self, at), &stats);
+        nm_outcome outcome = stats_of(place_of(self, at), &stats);
         if (outcome == NM_DONE) {
             waiting += (long long)stats.queued;
         }
@@ -496,7 +499,7 @@ static PyObject *calls_waiting(PyObject *object, PyObject *unused) {
 
 /* ---- the type, and the module ---- */
 
-static int habit_of(PyObject *object, nm_options *options) {
+static int options_of(PyObject *object, nm_options *options) {
     Py_buffer words;
     if (PyObject_GetBuffer(object, &words, PyBUF_SIMPLE) < 0) {
         return -1;
@@ -505,7 +508,7 @@ static int habit_of(PyObject *object, nm_options *options) {
     if (fits) {
         memcpy(options, words.buf, sizeof *options);
     } else {
-        PyErr_SetString(PyExc_TypeError, "the options is not of the library");
+        PyErr_SetString(PyExc_TypeError, "the options are not those of the library");
     }
     PyBuffer_Release(&words);
     return fits ? 0 : -1;
@@ -552,7 +555,7 @@ static PyObject *calls_new(PyTypeObject *type, PyObject *args, PyObject *named) 
     nm_options of;
     (void)named;
     if (!PyArg_ParseTuple(args, "OOO!i", &places, &options, count_type, &count, &line) ||
-        habit_of(options, &of) < 0) {
+        options_of(options, &of) < 0) {
         return NULL;
     }
     allocfunc alloc = (allocfunc)PyType_GetSlot(type, Py_tp_alloc);
@@ -599,7 +602,7 @@ static int calls_set_reach(PyObject *object, PyObject *to, void *unused) {
         return -1;
     }
     if (reach < 0 || reach > MOST_PLACES || reach * STRIDE > self->places.len) {
-        PyErr_SetString(PyExc_ValueError, "there are not so many places");
+        PyErr_SetString(PyExc_ValueError, "there are fewer places than that");
         return -1;
     }
     self->reach = (int)reach;
@@ -655,7 +658,7 @@ static PyObject *first_wrong(PyObject *module, PyObject *args) {
     return PyLong_FromSsize_t(at < count ? at : -1);
 }
 
-/* Of each byte whether it is not 0. */
+/* Returns for each byte whether it is not 0. */
 static PyObject *answers(PyObject *module, PyObject *object) {
     Py_buffer found;
     (void)module;
@@ -671,7 +674,7 @@ static PyObject *answers(PyObject *module, PyObject *object) {
     return list;
 }
 
-/* Where the functions of the library are, and what makes the exceptions. */
+/* Stores the addresses of the library's functions, and the functions that make the exceptions. */
 static PyObject *bind(PyObject *module, PyObject *args) {
     unsigned long long contains, insert, remove, pop_first, pop_last, next, prev;
     unsigned long long contains_many, finish, stats;
@@ -681,16 +684,16 @@ static PyObject *bind(PyObject *module, PyObject *args) {
                           &key_fault_of, &forked_of)) {
         return NULL;
     }
-    contains_of = (tended_call)(uintptr_t)contains;
-    insert_of = (tended_call)(uintptr_t)insert;
-    remove_of = (tended_call)(uintptr_t)remove;
+    contains_of = (managed_call)(uintptr_t)contains;
+    insert_of = (managed_call)(uintptr_t)insert;
+    remove_of = (managed_call)(uintptr_t)remove;
     pop_first_of = (pop_call)(uintptr_t)pop_first;
     pop_last_of = (pop_call)(uintptr_t)pop_last;
     next_of = (near_call)(uintptr_t)next;
     prev_of = (near_call)(uintptr_t)prev;
     contains_many_of = (many_call)(uintptr_t)contains_many;
     finish_of = (finish_call)(uintptr_t)finish;
-    ledger_of = (ledger_call)(uintptr_t)stats;
+    stats_of = (stats_call)(uintptr_t)stats;
     Py_INCREF(fault_of);
     Py_INCREF(key_fault_of);
     Py_INCREF(forked_of);
@@ -704,8 +707,9 @@ static PyMethodDef functions[] = {
     {NULL, NULL, 0, NULL},
 };
 
-/* Whether this is the first interpreter of the process; else an exception is set. What the module
- * keeps is of the process: a second interpreter would replace the exceptions of the first one. */
+/* Returns whether this is the first interpreter of the process, and otherwise sets an exception.
+ * The module keeps its exceptions for the whole process: a second interpreter would replace those
+ * of the first. */
 static int is_first_interpreter(void) {
     if (PyInterpreterState_GetID(PyInterpreterState_Get()) == 0) {
         return 1;

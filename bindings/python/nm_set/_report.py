@@ -1,4 +1,4 @@
-"""What a set was closed with."""
+"""The report that a set was closed with."""
 
 from __future__ import annotations
 
@@ -11,7 +11,7 @@ from dataclasses import dataclass
 from typing import SupportsIndex
 
 from . import _library as c
-from ._faults import SHOWN, shortened, told
+from ._faults import SHOWN, answered, shortened
 
 
 @dataclass(frozen=True)
@@ -25,20 +25,20 @@ class Waiting:
 
 @dataclass(frozen=True, repr=False)
 class Report:
-    """What a set was closed with."""
+    """The report that a set was closed with."""
 
     keys: tuple[int, ...]
     """The keys of the set, ascending."""
     free: int
     """How many nodes are free."""
     reached: int
-    """How many nodes are reached from the root, the five fixed ones left out."""
+    """How many nodes are reached from the root, without the five fixed ones."""
     waiting: tuple[tuple[Waiting, ...], ...]
-    """The nodes that wait of those that each worker cut off, oldest first, in the order of the
-    workers' numbers."""
+    """For each worker, in the order of their numbers, the nodes that it cut off and that wait, the
+    oldest first."""
 
     def __repr__(self) -> str:
-        """Shows the first ten keys, and how many nodes waited in place of each."""
+        """Shows the first ten keys, and how many nodes waited instead of showing each node."""
         waiting = sum(map(len, self.waiting))
         return (
             f"Report({shortened(self.keys[: SHOWN + 1], len(self))}, free={self.free},"
@@ -57,21 +57,21 @@ class Report:
         return place < len(self.keys) and self.keys[place] == number
 
 
-def _told(call: Callable[..., int], *arguments: object) -> None:
-    """Makes a call by the handle of a report, again while another thread has it, which asks a set
-    for a worker that was closed meanwhile."""
+def _read(call: Callable[..., int], *arguments: object) -> None:
+    """Makes a call by the handle of a report, and repeats it while another thread has the handle.
+    Such a thread tried to attach a worker of the set, which was closed meanwhile."""
     outcome = c.IN_USE
     while outcome == c.IN_USE:
         outcome = call(*arguments)
         if outcome == c.IN_USE:
             time.sleep(0)
-    told(outcome)
+    answered(outcome)
 
 
 class Reader:
-    """Reads the report that a handle owns. A node that waits is told once by the library, so it is
-    written where it stays: a read that was interrupted is made again by another call, and goes on
-    from there."""
+    """Reads the report that a handle owns. The library returns each waiting node once, so it is
+    written to memory that this object keeps. If a read is interrupted, another call goes on from
+    there."""
 
     def __init__(self, handle: c.Handle, workers: int) -> None:
         self._handle, self._workers = handle, workers
@@ -79,29 +79,29 @@ class Reader:
 
     def _nodes(self, worker: int) -> tuple[Waiting, ...]:
         left = c_uint64()
-        _told(c.exports.nm_report_queue, self._handle, worker, left)
+        _read(c.exports.nm_report_queue, self._handle, worker, left)
         if worker not in self._waiting:
             room = (c.WaitingWords * max(left.value, 1))()
             self._waiting.setdefault(worker, (left.value, room))
         count, nodes = self._waiting[worker]
         while left.value:
             at = count - left.value
-            _told(c.exports.nm_report_waiting, self._handle, worker, nodes[at])  # type: ignore
-            _told(c.exports.nm_report_queue, self._handle, worker, left)
+            _read(c.exports.nm_report_waiting, self._handle, worker, nodes[at])  # type: ignore
+            _read(c.exports.nm_report_queue, self._handle, worker, left)
         words = nodes[:count]  # type: ignore[index]
         return tuple(Waiting(node.slot, node.generation, node.label) for node in words)
 
     def _keys(self) -> tuple[int, ...]:
         count, key = c_uint64(), c_uint64()
-        _told(c.exports.nm_report_keys, self._handle, count)
+        _read(c.exports.nm_report_keys, self._handle, count)
         keys = []
         for index in range(count.value):
-            _told(c.quick.nm_report_key, self._handle, index, key)
+            _read(c.quick.nm_report_key, self._handle, index, key)
             keys.append(key.value)
         return tuple(keys)
 
     def read(self) -> Report:
         free, reached = c_uint32(), c_uint32()
-        _told(c.exports.nm_report_slots, self._handle, free, reached)
+        _read(c.exports.nm_report_slots, self._handle, free, reached)
         waiting = tuple(self._nodes(worker) for worker in range(self._workers))
         return Report(self._keys(), free.value, reached.value, waiting)

@@ -178,7 +178,7 @@ def left_behind(numbers: Set, leases: int) -> list[str]:
     """What is wrong of a set whose calls were interrupted: a worker that is out, a close that does
     not end, a node that the report does not tell, a lease that is never given up."""
     gc.collect()  # the objects that the interrupts have left
-    faults = [f"worker {worker.number} is out" for worker in numbers._out()]
+    faults = [f"worker {worker.number} is out" for worker in numbers._attached()]
     if not faults:
         taken = [numbers.attach(timeout=5) for _ in range(numbers.workers)]
         if sorted(worker.number for worker in taken) != list(range(numbers.workers)):

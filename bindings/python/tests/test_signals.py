@@ -85,7 +85,7 @@ class Handlers(unittest.TestCase):
         with numbers.attach() as worker:
 
             def calls(begin: Play) -> None:
-                with self.assertRaisesRegex(nm_set.Attached, "worker 0 is with a thread"):
+                with self.assertRaisesRegex(nm_set.Attached, "worker 0 is attached to a thread"):
                     begin()
                     while True:
                         worker.add(5)

@@ -145,7 +145,7 @@ class Threads(unittest.TestCase):
             holder.start()
             taken.wait()
             asker.start()
-            words = "threads have each of the 1 workers of the set \\(64 at most\\)"
+            words = "threads have attached each of the 1 workers of the set \\(64 at most\\)"
             for waits in ({"blocking": False}, {"timeout": 0}, {"timeout": 0.05}):
                 with self.assertRaisesRegex(nm_set.NoWorker, words):
                     numbers.attach(**waits)  # type: ignore[arg-type]
@@ -160,7 +160,7 @@ class Threads(unittest.TestCase):
 
     def test_a_thread_that_has_each_worker_itself_is_told(self) -> None:
         numbers = Set(64, workers=2)
-        words = "this thread itself has each of"
+        words = "this thread itself has attached each of"
         with numbers.attach() as first, numbers.attach() as second:
             with self.assertRaisesRegex(nm_set.NoWorker, words):
                 numbers.attach()

@@ -277,7 +277,8 @@ fn a_thread_that_has_each_worker_itself_is_told_so() {
         (set.try_attach().err(), set.attach().err()),
         (Some(own), Some(own))
     );
-    let text = "no worker is free: the set has 2 (64 at most), and this thread itself has attached \
+    let text =
+        "no worker is free: the set has 2 (64 at most), and this thread itself has attached \
                 each";
     assert_eq!(own.to_string(), text);
     let pins = (first.pin().unwrap(), second.pin().unwrap());
