@@ -1,5 +1,5 @@
-// closing [ROUNDS [CALLERS]]: a set is closed beside threads that call it and attach themselves:
-// each of them is told that it is closed, and their answers add up to its report.
+// closing [ROUNDS [CALLERS]]: closes a set beside threads that call it and attach workers. Each of
+// these gets NM_CLOSED, and their answers add up to the report.
 #include "thrown.hpp"
 
 #include <atomic>

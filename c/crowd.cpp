@@ -1,6 +1,6 @@
-// crowd [SECONDS]: more threads than processors on a set with room for 65,536 nodes and some 500
-// keys, by its own calls and each by a worker of its own, for so many seconds each: no insert is
-// told that the set is full. And 200 threads attach themselves, work and end.
+// crowd [SECONDS]: more threads than processors call a set with room for 65,536 nodes and about 500
+// keys. They do so for SECONDS by calls of the set, and for SECONDS each by a worker of its own. No
+// insert throws NM_FULL. And 200 threads attach workers, work and end.
 #include "thrown.hpp"
 
 #include <algorithm>

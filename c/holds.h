@@ -1,5 +1,5 @@
-/* CHECK(what): ends the program with status 1 where that does not hold, and tells the file, the
- * line and the text. */
+/* CHECK(what): if that does not hold, ends the program with status 1, and writes the file, the line
+ * and the text. */
 #ifndef HOLDS_H
 #define HOLDS_H
 

@@ -1,6 +1,6 @@
-// A thread is lost inside of a call, by a signal whose handler waits, while the set is full: calls
-// of other threads do not wait for it, or for as long as the options say and no longer, and what
-// they say is right.
+// A thread is lost inside a call, by a signal whose handler waits, while the set is full. Calls of
+// other threads do not wait for it, or no longer than the options say, and their answers and texts
+// are right.
 #include "thrown.hpp"
 
 #include <pthread.h>
@@ -139,7 +139,9 @@ void a_call_of_the_set_is_lost() {
 void a_collection_is_lost() {
     using nm::detail::Gain;
     nm::detail::Seats seats(nodes, {1});
-    auto insert = [&](nm_handle *worker) { return nm_worker_insert(worker, 5, &seats.call_options()); };
+    auto insert = [&](nm_handle *worker) {
+        return nm_worker_insert(worker, 5, &seats.call_options());
+    };
     CHECK(seats.visit(Gain::inserts, insert) == NM_YES);
     std::atomic<bool> is_over{false};
     std::thread thread([&] {

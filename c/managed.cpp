@@ -1,5 +1,5 @@
-// The calls that any thread may make of a set in C++, and those over several keys: what they
-// answer, what a set tells of its room, and what a full one says.
+// Tests the calls of a set in C++ that any thread may make, and the calls for several keys: their
+// answers, the sizes that a set returns, and the text of the fault of a full set.
 #include "thrown.hpp"
 
 #include <algorithm>

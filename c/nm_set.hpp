@@ -502,8 +502,8 @@ public:
     // ---- room for an insert ----
 
     // Frees nodes for an insert that returned NM_FULL. The first call returns at once if it freed
-    // nodes. Otherwise it pauses, and frees again. Throws NM_FULL if the keys take all nodes, or the
-    // wait is over. A worker passes its own handle.
+    // nodes. Otherwise it pauses, and frees again. Throws NM_FULL if the keys take all nodes, or
+    // the wait is over. A worker passes its own handle.
     void make_room(Wait &wait, bool is_first, nm_handle *own) {
         if (is_first && collect(own) != 0) return;
         if (is_brimful() || !wait.pause()) fail_full(own);

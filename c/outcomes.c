@@ -1,5 +1,5 @@
-/* Each function once and more, by one thread, and each outcome that one thread can meet without a
- * refusal of memory. */
+/* Tests each function by one thread, and each outcome that one thread can meet if no memory is
+ * refused. */
 #include "holds.h"
 #include "nm_set.h"
 
@@ -8,7 +8,7 @@
 
 enum { TRIES = 64, NOT_WRITTEN = 77 };
 
-/* What any call for a key tells. */
+/* Checks that each call for a key returns the wanted outcome. */
 static void each_tells(nm_handle *worker, uint64_t key, nm_outcome wanted) {
     nm_lookup lookup = {key, NOT_WRITTEN};
     uint64_t found = NOT_WRITTEN;
@@ -308,9 +308,9 @@ static void away(void) {
     CHECK(nm_drop(&leaver) == NM_DONE && nm_drop(&heir) == NM_DONE && nm_drop(&set) == NM_DONE);
 }
 
-/* A note is heard as often as it is read, tells what its worker had done when it left it, and is the
- * latest one. */
-static void notes(void) {
+/* A stamp can be observed several times, has what its worker had done when it published the stamp,
+ * and is the latest one. */
+static void stamps(void) {
     nm_handle set = NM_CLOSED_HANDLE, writer = NM_CLOSED_HANDLE, reader = NM_CLOSED_HANDLE;
     uint64_t inserted = NOT_WRITTEN, removed = NOT_WRITTEN;
     CHECK(nm_set_new_unbalanced(&set, 64, 2) == NM_DONE &&
@@ -325,18 +325,22 @@ static void notes(void) {
           removed == 0);
     CHECK(nm_worker_try_remove(&writer, 5, TRIES) == NM_YES);
     for (int turn = 0; turn < 3; turn++)
-        CHECK(nm_worker_observe(&reader, 1, &inserted, &removed) == NM_YES && inserted == 2 && removed == 0);
+        CHECK(nm_worker_observe(&reader, 1, &inserted, &removed) == NM_YES && inserted == 2 &&
+              removed == 0);
     CHECK(nm_worker_try_contains(&reader, 6, TRIES) == NM_YES &&
           nm_worker_observe(&writer, 1, &inserted, &removed) == NM_YES && inserted == 2);
-    CHECK(nm_worker_publish(&writer, &inserted, &removed) == NM_DONE && inserted == 2 && removed == 1);
-    CHECK(nm_worker_observe(&reader, 1, &inserted, &removed) == NM_YES && inserted == 2 && removed == 1);
-    CHECK(nm_drop(&writer) == NM_DONE && nm_worker_observe(&reader, 1, &inserted, &removed) == NM_YES &&
-          inserted == 2 && removed == 1);
+    CHECK(nm_worker_publish(&writer, &inserted, &removed) == NM_DONE && inserted == 2 &&
+          removed == 1);
+    CHECK(nm_worker_observe(&reader, 1, &inserted, &removed) == NM_YES && inserted == 2 &&
+          removed == 1);
+    CHECK(nm_drop(&writer) == NM_DONE &&
+          nm_worker_observe(&reader, 1, &inserted, &removed) == NM_YES && inserted == 2 &&
+          removed == 1);
     CHECK(nm_drop(&reader) == NM_DONE && nm_set_close(&set) == NM_DONE && nm_drop(&set) == NM_DONE);
 }
 
-/* A set tells which worker a close would miss: one that a handle has, and not one that has
- * resigned. Where one is lost the others go on, and tell its keys. */
+/* nm_set_attached returns which worker a close would miss: one that a handle has, and not one that
+ * has resigned. If a worker is lost, the others go on, and find its keys. */
 static void missed(void) {
     nm_handle set = NM_CLOSED_HANDLE, lost = NM_CLOSED_HANDLE, other = NM_CLOSED_HANDLE;
     uint64_t key = NOT_WRITTEN;
@@ -365,8 +369,8 @@ static void missed(void) {
 static void ended(void) {
     nm_handle set = NM_CLOSED_HANDLE, last = NM_CLOSED_HANDLE, other = NM_CLOSED_HANDLE;
     uint64_t told = NOT_WRITTEN;
-    CHECK(nm_set_new_unbalanced(&set, 64, 3) == NM_DONE && nm_set_worker(&set, &last, 1) == NM_DONE &&
-          nm_set_worker(&set, &other, 0) == NM_DONE);
+    CHECK(nm_set_new_unbalanced(&set, 64, 3) == NM_DONE &&
+          nm_set_worker(&set, &last, 1) == NM_DONE && nm_set_worker(&set, &other, 0) == NM_DONE);
     CHECK(nm_worker_try_insert(&last, 5, TRIES) == NM_YES &&
           nm_worker_try_insert(&other, 6, TRIES) == NM_YES);
     CHECK(nm_worker_end(&set) == NM_KIND && nm_worker_end(&last) == NM_ATTACHED &&
@@ -407,13 +411,15 @@ static void attached(void) {
     nm_handle set = NM_CLOSED_HANDLE, workers[WORKERS] = {NM_CLOSED_HANDLE},
               none = NM_CLOSED_HANDLE;
     uint32_t number = NOT_WRITTEN;
-    CHECK(nm_set_attach(&set, &none) == NM_CLOSED && nm_set_new_unbalanced(&set, 64, WORKERS) == NM_DONE);
+    CHECK(nm_set_attach(&set, &none) == NM_CLOSED &&
+          nm_set_new_unbalanced(&set, 64, WORKERS) == NM_DONE);
     for (int i = 0; i < WORKERS; i++) {
         CHECK(nm_set_attach(&set, &workers[i]) == NM_DONE &&
               nm_set_attach(&set, &workers[i]) == NM_OPEN);
         CHECK(nm_worker_number(&workers[i], &number) == NM_DONE && number == (uint32_t)i);
     }
-    CHECK(nm_set_attach(&set, &none) == NM_NO_WORKER && nm_set_attach(&workers[0], &none) == NM_KIND);
+    CHECK(nm_set_attach(&set, &none) == NM_NO_WORKER &&
+          nm_set_attach(&workers[0], &none) == NM_KIND);
     CHECK(nm_drop(&workers[4]) == NM_DONE && nm_set_attach(&set, &none) == NM_DONE);
     CHECK(nm_worker_number(&none, &number) == NM_DONE && number == 4 && nm_drop(&none) == NM_DONE);
     for (int i = 0; i < WORKERS; i++) CHECK(nm_drop(&workers[i]) == (i == 4 ? NM_CLOSED : NM_DONE));
@@ -421,18 +427,19 @@ static void attached(void) {
           nm_drop(&set) == NM_DONE);
 }
 
-/* A handle that another call has tells so to each function, keeps what it owns, and is as good as
- * before when that call is done. */
+/* If another call has a handle, each function returns NM_IN_USE, and the handle keeps what it owns.
+ * After that call the handle can be used as before. */
 static void used(void) {
     nm_handle set = NM_CLOSED_HANDLE, worker = NM_CLOSED_HANDLE, other = NM_CLOSED_HANDLE;
-    CHECK(nm_set_new_unbalanced(&set, 64, 2) == NM_DONE && nm_set_worker(&set, &worker, 0) == NM_DONE);
+    CHECK(nm_set_new_unbalanced(&set, 64, 2) == NM_DONE &&
+          nm_set_worker(&set, &worker, 0) == NM_DONE);
     worker.in_use = 1;
     void *owned = worker.at;
     is_refused(&worker, NM_IN_USE, NM_IN_USE);
     CHECK(nm_drop(&worker) == NM_IN_USE && nm_set_worker(&set, &worker, 1) == NM_IN_USE &&
           nm_set_attach(&set, &worker) == NM_IN_USE);
-    CHECK(nm_set_new_unbalanced(&worker, 64, 2) == NM_IN_USE && nm_set_close(&worker) == NM_IN_USE &&
-          worker.at == owned);
+    CHECK(nm_set_new_unbalanced(&worker, 64, 2) == NM_IN_USE &&
+          nm_set_close(&worker) == NM_IN_USE && worker.at == owned);
     worker.in_use = 0;
     CHECK(nm_worker_try_insert(&worker, 5, TRIES) == NM_YES);
     set.in_use = 1;
@@ -462,7 +469,7 @@ int main(void) {
     epochs();
     ends();
     away();
-    notes();
+    stamps();
     missed();
     ended();
     puts("each outcome is as it should be");

@@ -1,5 +1,5 @@
-// Owners in C++: four threads, each with a worker that was moved into it, fill one set by the calls
-// of nm_set.h as they are; then its report is compared. And what owners do when they are moved, are
+// Tests owners in C++. Four threads, each with a worker that was moved into it, fill one set by the
+// try_ calls; then the report is compared. It also tests what owners do when they are moved, are
 // destroyed, or meet a fault.
 #include "thrown.hpp"
 

@@ -1,7 +1,7 @@
 // poplost [SECONDS [TRIES]]: three threads insert keys, three pop them, and two ask for the size
-// and collect, with so few tries that pops are often unfinished. Fails if a key is lost or comes
-// twice: for each key, the number of inserts that returned true is the number of pops that returned
-// it, and one more if the report of the closed set has it.
+// and collect, with so few tries that pops are often unfinished. Fails if a key is lost or is
+// returned twice: for each key, the number of inserts that returned true is the number of pops that
+// returned it, and one more if the report of the closed set has it.
 #include "thrown.hpp"
 
 #include <array>

@@ -1,5 +1,5 @@
-/* Makes each call again where memory was refused. With any one growth refused it writes what it
- * writes without, which is in refused.out. */
+/* Repeats each call after memory was refused. If any one allocation is refused, it writes the same
+ * text as without a refusal, which is in refused.out. */
 #include "holds.h"
 #include "nm_set.h"
 

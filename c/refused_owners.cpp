@@ -1,5 +1,5 @@
-// Owners in C++ where memory was refused: each call is made again, and then ends as without the
-// refusal. With any one growth refused it writes what it writes without: refused_owners.out.
+// Tests owners in C++ if memory is refused: it repeats each call, which then ends like without the
+// refusal. If any one allocation is refused, it writes the same text: refused_owners.out.
 #include "thrown.hpp"
 
 #include <cstdio>

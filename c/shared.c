@@ -1,7 +1,6 @@
-/* One handle, several threads, and no lock of theirs. Four threads take their workers from one
- * handle of a set, again and again; and two threads make calls by one handle of a worker at the
- * same time, which is a fault of the program: each call answers, or is told that the handle is in
- * use, and nothing is lost. */
+/* Tests several threads that use one handle without a lock. Four threads repeatedly attach workers
+ * by one handle of a set. Two threads make calls by one handle of a worker at the same time, which
+ * is a fault of the program: each call answers or returns NM_IN_USE, and nothing is lost. */
 #include "holds.h"
 #include "nm_set.h"
 

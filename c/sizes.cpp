@@ -1,6 +1,6 @@
-// sizes [SAMPLES]: how long size, waiting and free take beside four threads that write without a
-// pause: prints the median and the 99th percentile. Fails if the median of size is above 10
-// microseconds, or if the size at rest is not that of the report.
+// sizes [SAMPLES]: measures how long size, waiting and free take beside four threads that write
+// without a pause. Prints the median and the 99th percentile. Fails if the median of size is above
+// 10 microseconds, or if the size without calls in progress is not that of the report.
 #include "thrown.hpp"
 
 #include <algorithm>

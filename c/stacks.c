@@ -1,7 +1,7 @@
-/* How much stack the calls take. Each is made in a thread of its own on a painted stack. Fails if a
- * call takes more than the header says: 64 kilobytes for a call that makes, takes, gives back or
- * ends a set or a worker, and 16 kilobytes for any other; and if such a call faults in a thread
- * with a stack of that size. What the thread itself takes is part of it. */
+/* Measures how much stack the calls take. It makes each call in a thread of its own, on a painted
+ * stack. Fails if a call takes more than the header says: 64 kilobytes for a call that makes,
+ * takes, gives back or ends a set or a worker, and 16 kilobytes for any other. Fails too if such a
+ * call crashes in a thread with a stack of that size. What the thread itself takes is included. */
 #define _POSIX_C_SOURCE 200809L
 
 #include "holds.h"

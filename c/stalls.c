@@ -1,7 +1,8 @@
-/* Each of 63 workers in turn meets one stall: while worker 0 is pinned it deletes so much that
- * 400,000 nodes wait, which are freed when worker 0 has gone on; then it goes home. Behind each of
- * that the queues of all workers take no more than the header says for each worker, and behind all
- * of it no more is taken from malloc than twice what the set took when it was made. */
+/* Tests the memory of the queues after stalls. Each of 63 workers in turn meets one stall: while
+ * worker 0 is pinned, it removes keys until 400,000 nodes wait. When worker 0 has gone on, these
+ * are freed, and the worker is returned. After each stall the queues of all workers take no more
+ * than the header says for each worker. At the end malloc has given out no more than twice what the
+ * set took when it was made. */
 #include "holds.h"
 #include "nm_set.h"
 

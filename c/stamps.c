@@ -1,6 +1,7 @@
-/* Notes in threads. Each of four threads inserts keys, leaves a note after each, and then says in a
- * number of the program's own how many keys that told of. Each reads the notes of the others: one
- * that was read after that number tells of no fewer keys, and finds those of that many inserts. */
+/* Tests stamps between threads. Each of four threads inserts keys, publishes a stamp after each,
+ * and then writes the stamp's number of keys to a variable of the program. Each observes the stamps
+ * of the others: a stamp that was observed after that number was read has no fewer keys, and the
+ * thread finds the keys of that many inserts. */
 #include "holds.h"
 #include "nm_set.h"
 
@@ -74,7 +75,7 @@ int main(void) {
     CHECK(nm_set_worker(&set, &worker, 1) == NM_DONE);
     for (uint32_t i = 0; i < THREADS; i++) CHECK(read_inserted(&worker, i * APART) == KEYS);
     CHECK(nm_drop(&worker) == NM_DONE && nm_set_close(&set) == NM_DONE && nm_drop(&set) == NM_DONE);
-    printf("%d notes were left and read; %" PRIuFAST64 " calls found another thread at the mailbox\n",
+    printf("%d stamps were published; %" PRIuFAST64 " calls found another thread at a stamp\n",
         THREADS * KEYS, (uint_fast64_t)busy);
     return 0;
 }

@@ -1,6 +1,6 @@
-/* Four threads insert keys of their own, ascending, and take the least key or the greatest: each
- * key that was inserted is taken once, or is in the report; and a key that stands below all others,
- * or above them, is taken by the first call that takes one from there. */
+/* Tests pops. Four threads insert keys of their own, ascending, and pop the least key or the
+ * greatest. Each key that was inserted is popped once, or is in the report. A key that is below all
+ * others, or above them, is popped by the first call at that end. */
 #include "holds.h"
 #include "nm_set.h"
 

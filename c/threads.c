@@ -1,7 +1,7 @@
-/* Four threads insert, delete and look up the same keys, each by a worker of its own, two of them
- * by calls that tend the set. Then the set is closed, and its report is compared with what the
- * calls answered: a key is in the set exactly where it was inserted once more than deleted, and
- * each slot stands somewhere. */
+/* Four threads insert, remove and look up the same keys, each by a worker of its own, two of them
+ * by managed calls. Then the set is closed, and its report is compared with the answers of the
+ * calls: a key is in the set exactly if it was inserted once more than removed, and each slot is
+ * accounted for. */
 #include "holds.h"
 #include "nm_set.h"
 

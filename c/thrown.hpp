@@ -1,4 +1,4 @@
-// What the programs in C++ ask of their calls.
+// What the tests in C++ share: the faults that their calls throw.
 #ifndef THROWN_HPP
 #define THROWN_HPP
 
@@ -7,7 +7,7 @@
 
 #include <string>
 
-// The outcome that a call throws, or NM_DONE where it throws none; and the text of its fault.
+// The outcome that a call throws, or NM_DONE if it throws none, and the text of its fault.
 struct Thrown {
     nm_outcome outcome;
     std::string text;

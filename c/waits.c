@@ -48,7 +48,8 @@ static void an_add_waits(void) {
     CHECK(nm_wait_insert(&worker, 7, &nm_default_options, TIMEOUT) == NM_YES);
     CHECK(pthread_join(later, NULL) == 0 && nm_wait_attached(&set, 2, 0) == NM_YES);
     CHECK(nm_wait_worker(&set, &worker, 2, 3) == NM_OPEN && nm_drop(&worker) == NM_DONE);
-    CHECK(nm_wait_worker(&set, &worker, 2, 3) == NM_ATTACHED && nm_wait_close(&set, 3) == NM_ATTACHED);
+    CHECK(nm_wait_worker(&set, &worker, 2, 3) == NM_ATTACHED &&
+          nm_wait_close(&set, 3) == NM_ATTACHED);
     CHECK(nm_drop(&pinned) == NM_DONE && nm_wait_attached(&set, 2, 0) == NM_NO);
     CHECK(nm_wait_close(&set, 0) == NM_DONE && nm_drop(&set) == NM_DONE);
 }
@@ -59,7 +60,8 @@ static void *come_and_go(void *number) {
     for (uint64_t round = 0; round < ROUNDS; round++) {
         nm_handle worker = NM_CLOSED_HANDLE;
         CHECK(nm_wait_attach(&set, &worker, TIMEOUT) == NM_DONE);
-        CHECK(nm_wait_insert(&worker, first * ROUNDS + round, &nm_default_options, TIMEOUT) == NM_YES);
+        CHECK(nm_wait_insert(&worker, first * ROUNDS + round, &nm_default_options, TIMEOUT) ==
+              NM_YES);
         CHECK(nm_drop(&worker) == NM_DONE);
     }
     return NULL;

@@ -1,5 +1,5 @@
-/* A walk from inside the library, as a debugger makes it, or the handler of a crash, comes to the
- * program that called it: for each of the library's functions it is told how its caller is found.
+/* Tests that a walk of the stack from inside the library finds the program that called it, like the
+ * walk of a debugger or of the handler of a crash: each function of the library has unwind data.
  * The walks begin in malloc, which the library calls: c/check links this with --wrap=malloc. */
 #include "../holds.h"
 #include "nm_set.h"
@@ -8,7 +8,7 @@
 
 enum { DEEP = 64, KEYS = 200 };
 
-/* Where the functions that call the library stand. */
+/* The section of the functions that call the library. */
 #define IN_CALLERS __attribute__((noinline, section("callers")))
 extern const char __start_callers[], __stop_callers[];
 

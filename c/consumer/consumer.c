@@ -1,4 +1,4 @@
-/* A program as one writes it over the installed set. It tells the version of its header. */
+/* A program as one writes it over the installed set. It prints the version of its header. */
 #include <nm_wait.h>
 
 #include <stdio.h>
