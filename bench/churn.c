@@ -1,5 +1,5 @@
-/* For bench/churn: inserts after churn, of which valgrind counts the instructions. Arguments: how many
- * keys the set holds, and how many inserts are counted. It prints how many inserts were true. */
+/* For bench/churn: inserts after churn, whose instructions valgrind counts. Arguments: how many
+ * keys the set has, and how many inserts are counted. It prints how many inserts were true. */
 #include "nm_set.h"
 
 #include <stdint.h>

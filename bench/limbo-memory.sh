@@ -1,5 +1,5 @@
 #!/bin/sh
-# Runs each test of nm_limbo, and limbo_bench with 5,000 items, under valgrind. Fails where valgrind
+# Runs each test of nm_limbo, and limbo_bench with 5,000 items, under valgrind. Fails if valgrind
 # reports a wrong read or write, or a block that was not given back.
 set -eu
 cd "$(dirname "$0")/../crates"

@@ -1,7 +1,7 @@
 #!/bin/sh
-# Passes 10,000,000 items, or as many as the argument says, through a BlockQueue and through a
-# VecDeque that hold 900 items throughout, three times over, and prints the times. Fails where the
-# queue took more than twice the deque's time.
+# Passes 10,000,000 items, or the number of the argument, through a BlockQueue and through a
+# VecDeque, each of which always has 900 items. It does so three times, and prints the times. Fails
+# if the queue took more than twice the deque's time.
 set -e
 cd "$(dirname "$0")"
 ./program limbo_bench "${1:-10000000}" 2>&1 | awk '

@@ -1,6 +1,6 @@
-/* Four threads fill a set with many keys, look each of them up and one beside it that is not there;
- * then the set is closed, and its report must have each key once, ascending. Prints the times. The
- * first argument is how many keys. */
+/* Four threads fill a set with many keys, and look up each key and an absent one beside it. Then
+ * the set is closed, and its report must have each key once, ascending. Prints the times. The first
+ * argument is the number of keys. */
 #define _POSIX_C_SOURCE 199309L
 #include "holds.h"
 #include "nm_set.h"

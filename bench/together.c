@@ -1,6 +1,6 @@
-/* Look-ups of random keys by one thread, one by one and several in a call, of the same set by
- * turns. Prints, for each size of the set and of the call, the medians of the processor time of a
- * look-up, and of each round's ratio. */
+/* One thread looks up random keys, one by one and several in a call, by turns in the same set.
+ * Prints for each size of the set and of the call the medians of the processor time of a look-up,
+ * and of each round's ratio. */
 #define _POSIX_C_SOURCE 199309L
 #include "holds.h"
 #include "nm_set.h"

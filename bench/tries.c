@@ -1,6 +1,6 @@
-/* Inserts and deletes with one try a call, made again until they are answered, by several threads on
- * few keys. Prints how many tries were lost, to whom by the laws of progress, and the longest streak
- * of one call. */
+/* Several threads insert and remove few keys, with one try a call, and repeat each call until it is
+ * answered. Prints how many tries were lost, to which threads by the laws of progress, and the
+ * longest run of lost tries of one call. */
 #define _POSIX_C_SOURCE 200112L
 #include "holds.h"
 #include "nm_set.h"

@@ -2,7 +2,7 @@ import java.util.Scanner;
 import java.util.concurrent.ConcurrentSkipListSet;
 import java.util.concurrent.CountDownLatch;
 
-/** Java's ConcurrentSkipListSet for bench/peers: as peers.cpp, which says what a row is. */
+/** Java's ConcurrentSkipListSet for bench/peers, with the rows and answers of peers.cpp. */
 public final class Peers {
     private static volatile boolean ends;
 

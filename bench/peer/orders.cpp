@@ -1,6 +1,6 @@
 // For bench/orders: nanoseconds a call on sets whose keys come in some order. The first argument
-// names the set; then each line of standard input is a row: what is done, how many keys the set has,
-// and how many threads do it. bench/orders says what each row does.
+// names the set; then each line of standard input is a row: what is done, how many keys the set
+// has, and how many threads do it. bench/orders says what each row does.
 #include "nm_set.h"
 #include "plain.hpp"
 
@@ -292,8 +292,8 @@ template <class Set> double windowed(std::size_t window, std::size_t threads) {
     });
 }
 
-// A scheduler: a turn adds the next timestamp and takes the least one that stands, of which there is
-// always one.
+// A scheduler: a turn adds the next timestamp and takes the least one that stands, of which there
+// is always one.
 template <class Set> double scheduled(std::size_t standing, std::size_t threads) {
     Set set(standing, threads);
     std::atomic<Key> clock{standing + 1};

@@ -1,4 +1,4 @@
-//! Rust's `BTreeSet` behind a `Mutex` for bench/orders: as orders.cpp, rows and answers too.
+//! Rust's `BTreeSet` in a `Mutex` for bench/orders, with the rows and answers of orders.cpp.
 use std::cell::Cell;
 use std::collections::BTreeSet;
 use std::io::BufRead;

@@ -1,4 +1,4 @@
-//! Rust's `BTreeSet` behind a `Mutex` for bench/peers: as peers.cpp, which says what a row is.
+//! Rust's `BTreeSet` in a `Mutex` for bench/peers, with the rows and answers of peers.cpp.
 use std::collections::BTreeSet;
 use std::io::BufRead;
 use std::sync::atomic::{AtomicBool, Ordering::Relaxed};

@@ -1,8 +1,8 @@
-// The same tree and the same reclamation in plain C++, without a proof: what the set is measured
-// against where the question is what its proof costs. The external binary search tree of Natarajan
-// and Mittal (PPoPP 2014), or the radix tree with its edges (Morrison, JACM 1968), over slots of one
-// array, whose removed nodes wait for two moves of the epoch (Fraser 2004). It is written to be as
-// fast as the same contract allows, and is tested by its answers alone.
+// The same tree and the same reclamation in plain C++, without a proof: the set is measured against
+// it to see what its proof costs. The external binary search tree of Natarajan and Mittal (PPoPP
+// 2014), or the radix tree with its edges (Morrison, JACM 1968), over slots of one array, whose
+// removed nodes wait for two moves of the epoch (Fraser 2004). It is written to be as fast as the
+// same contract allows, and is tested by its answers alone.
 #ifndef PLAIN_HPP
 #define PLAIN_HPP
 
@@ -98,7 +98,8 @@ public:
         return found == key;
     }
 
-    // Looks for the least key and removes it, until it has removed one; infinity_0 if there is none.
+    // Looks for the least key and removes it, until it has removed one; infinity_0 if there is
+    // none.
     std::uint64_t pop_first() {
         std::uint64_t found = least();
         while (found != infinity_0 && !remove(found)) found = least();

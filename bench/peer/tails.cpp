@@ -1,10 +1,11 @@
-// tails THREADS KEYS NODES_A_KEY LOOKUPS ROUNDS MILLIS: how long single calls take, of a set that
-// threads read and change without a pause: by workers, by the set, and of std::set behind a mutex,
-// by turns in each round. Of 100 calls LOOKUPS are look-ups, and the rest are as many inserts as
-// removes, of a range of twice KEYS. Prints a line for each set and kind of call: its name, the
-// kind, the number of calls, the percentiles 50, 99, 99.9 and 99.99, the longest, in nanoseconds,
-// how many calls slept, and how many were left out. A call is left out if the kernel took the
-// processor from its thread meanwhile, and it did not sleep: its time says nothing of the set.
+// tails THREADS KEYS NODES_A_KEY LOOKUPS ROUNDS MILLIS: measures how long single calls take while
+// threads read and change a set without a pause: by workers, by the set, and on std::set with a
+// mutex, by turns in each round. Of 100 calls LOOKUPS are look-ups, and the rest are as many
+// inserts as removes, of a range of twice KEYS. Prints a line for each set and kind of call: its
+// name, the kind, the number of calls, the percentiles 50, 99, 99.9 and 99.99, the longest, in
+// nanoseconds, how many calls slept, and how many were left out. A call is left out if the kernel
+// took the processor from its thread meanwhile, and it did not sleep: its time says nothing about
+// the set.
 #include "nm_set.hpp"
 
 #include <x86intrin.h>

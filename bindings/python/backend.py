@@ -1,10 +1,10 @@
-"""Builds the wheel of nm_set, as PEP 517 and PEP 660 have it, by the standard library alone: so it
-needs no network, and no package.
+"""Builds the wheel of nm_set by PEP 517 and PEP 660, with the standard library alone: it needs no
+network and no package.
 
-The calls for keys are compiled where there is a compiler, the headers of Python, and nm_set.h,
-which lies in this checkout or is found by pkg-config: for the limited API from Python 3.11 on, for
-the one Python else. Where they are not, or with NM_SET_PURE in the environment, the wheel is for
-each Python, and makes those calls by ctypes.
+It compiles the calls for keys if there are a compiler, the headers of Python, and nm_set.h, in this
+checkout or by pkg-config. From Python 3.11 on it compiles them for the limited API, and before for
+the running Python alone. Otherwise, or with NM_SET_PURE in the environment, the wheel is for each
+Python, and makes those calls by ctypes.
 """
 
 from __future__ import annotations

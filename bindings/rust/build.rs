@@ -1,5 +1,5 @@
-//! Finds the static library `libnm_set.a`: in the folder that `NM_SET_LIB_DIR` names, else in the
-//! one that `pkg-config` tells, else where the checkout of this crate has it, in `out/c`.
+//! Finds the static library `libnm_set.a`: in the folder that `NM_SET_LIB_DIR` names, or else in the
+//! folder that `pkg-config` returns, or else in `out/c` of the checkout of this crate.
 
 use std::env;
 use std::path::{Path, PathBuf};

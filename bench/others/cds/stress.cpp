@@ -1,5 +1,5 @@
-// One of libcds' stress tests of sets on nm::Set: TESTS names its header, FIXTURE its class there,
-// and EXTRACTS stands where the test has a form that also extracts keys.
+// One of libcds' stress tests of sets on nm::Set: TESTS names its header, and FIXTURE its class
+// there. EXTRACTS is defined if the test has a form that also extracts keys.
 #include "stress.hpp"
 
 #include TESTS

@@ -1,6 +1,6 @@
-// nm::Set as libcds' stress tests of sets want one. They give keys, and values beside them at which
-// none of these tests looks. Each test is made in two ways: by the calls of the set, which any
-// thread may make, and by a worker that each thread takes.
+// nm::Set with the interface of libcds' stress tests of sets. These give keys and values, and none
+// of them reads the values. Each test is made in two ways: by the calls of the set, which any
+// thread may make, and by a worker that each thread attaches.
 #ifndef CDS_STRESS_HPP
 #define CDS_STRESS_HPP
 

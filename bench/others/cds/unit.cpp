@@ -1,7 +1,7 @@
-// libcds' unit tests of sets on nm::Set, one thread each: those of its trees, and by -DHASHED those
-// of its other sets, whose classes have the same names. They look at values. A set of numbers has
-// none, so they stand in a map beside, and each answer is the set's: what the map holds is never
-// asked whether it is there.
+// libcds' unit tests of sets on nm::Set, one thread each: those of its trees, and with -DHASHED
+// those of its other sets, whose classes have the same names. The tests read values. A set of
+// numbers has none, so the values are in a map beside the set. Each answer is that of the set: no
+// test asks the map whether a key is present.
 #include "nm_set.hpp"
 
 #include <cds/algo/atomic.h>
