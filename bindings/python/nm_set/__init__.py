@@ -20,15 +20,15 @@ from ._faults import (
     Fault,
     Forked,
     Full,
-    Pinned,
     InUse,
     NoMemory,
     NoWorker,
     OutOfRange,
+    Pinned,
     Unfinished,
 )
 from ._report import Report, Waiting
-from ._set import Stats, Stamp, Set, Options, Worker
+from ._set import Options, Set, Stamp, Stats, Worker
 
 __all__ = [
     "MOST_KEY",
@@ -38,16 +38,16 @@ __all__ = [
     "Fault",
     "Forked",
     "Full",
-    "Pinned",
     "InUse",
-    "Stats",
     "NoMemory",
     "NoWorker",
+    "Options",
     "OutOfRange",
-    "Stamp",
+    "Pinned",
     "Report",
     "Set",
-    "Options",
+    "Stamp",
+    "Stats",
     "Unfinished",
     "Waiting",
     "Worker",

@@ -1,4 +1,4 @@
-//! Each call by one thread, and each fault that one thread can meet.
+//! Tests each call by one thread, and each fault that one thread can meet.
 
 use nm_set::{Advance, Fault, Options, Set, Shape, Stamp, Worker, MOST_KEY};
 use std::error::Error;
@@ -29,26 +29,26 @@ fn types_cross_threads_as_they_should() {
     assert_eq!(fault.to_string(), "memory was refused");
 }
 
-/// What a set of so many nodes and workers is refused with.
+/// Returns the text of the fault of a set with these nodes and workers, or None.
 fn refused(nodes: u32, workers: u32) -> Option<String> {
     let options = Options {
         workers,
         ..Options::default()
     };
-    let told = Set::with_options(nodes, options).err();
-    told.map(|fault| fault.to_string())
+    let result = Set::with_options(nodes, options).err();
+    result.map(|fault| fault.to_string())
 }
 
 #[test]
-fn sizes_are_told() {
+fn wrong_sizes_return_faults() {
     assert_eq!(Set::new(6).err(), Some(Fault::Nodes(6)));
-    let told = refused(268_435_457, 64).unwrap();
+    let result = refused(268_435_457, 64).unwrap();
     assert_eq!(
-        told,
+        result,
         "the number of nodes is not 7 to 268,435,456: 268435457"
     );
-    let told = refused(64, 0).unwrap();
-    assert_eq!(told, "the number of workers is not 1 to 64: 0");
+    let result = refused(64, 0).unwrap();
+    assert_eq!(result, "the number of workers is not 1 to 64: 0");
     assert_eq!(
         refused(64, 65).unwrap(),
         "the number of workers is not 1 to 64: 65"
@@ -80,42 +80,42 @@ fn keys_come_and_go() {
 }
 
 #[test]
-fn what_is_no_key_is_told_by_each_call_for_a_key() {
+fn each_call_for_a_key_returns_the_fault_of_a_number_that_is_no_key() {
     let set = small(2);
     let mut worker = set.attach().unwrap();
-    let told = Fault::Key(u64::MAX);
+    let result = Fault::Key(u64::MAX);
     let key = u64::MAX;
     assert_eq!(
         (set.insert(key), worker.insert(key)),
-        (Err(told), Err(told))
+        (Err(result), Err(result))
     );
     assert_eq!(
         (set.remove(key), worker.remove(key)),
-        (Err(told), Err(told))
+        (Err(result), Err(result))
     );
     assert_eq!(
         (set.contains(key), worker.contains(key)),
-        (Err(told), Err(told))
+        (Err(result), Err(result))
     );
     assert_eq!(
         (set.at_least(key), worker.at_least(key)),
-        (Err(told), Err(told))
+        (Err(result), Err(result))
     );
     assert_eq!(
         (set.at_most(key), worker.at_most(key)),
-        (Err(told), Err(told))
+        (Err(result), Err(result))
     );
     let keys = [5, key];
-    assert_eq!(set.contains_many(&keys), Err(told));
-    assert_eq!(worker.contains_many(&keys), Err(told));
-    assert_eq!(worker.try_contains_many(&keys, 64), Err(told));
-    assert_eq!(worker.try_insert(key, 64), Err(told));
-    assert_eq!(worker.try_remove(key, 64), Err(told));
-    assert_eq!(worker.try_contains(key, 64), Err(told));
-    assert_eq!(worker.try_at_least(key, 64), Err(told));
+    assert_eq!(set.contains_many(&keys), Err(result));
+    assert_eq!(worker.contains_many(&keys), Err(result));
+    assert_eq!(worker.try_contains_many(&keys, 64), Err(result));
+    assert_eq!(worker.try_insert(key, 64), Err(result));
+    assert_eq!(worker.try_remove(key, 64), Err(result));
+    assert_eq!(worker.try_contains(key, 64), Err(result));
+    assert_eq!(worker.try_at_least(key, 64), Err(result));
     assert_eq!(set.insert(MOST_KEY + 1), Err(Fault::Key(MOST_KEY + 1)));
     let text = "the key 18446744073709551615 is above 18,446,744,073,709,551,612 (2^64 - 4)";
-    assert_eq!(told.to_string(), text);
+    assert_eq!(result.to_string(), text);
 }
 
 #[test]
@@ -198,7 +198,7 @@ fn several_keys_are_looked_up_in_a_call() {
 }
 
 #[test]
-fn a_worker_whose_guard_was_forgotten_is_told_so_and_goes_back_without_its_pin() {
+fn a_worker_whose_guard_was_forgotten_is_pinned_until_it_is_dropped() {
     let set = small(1);
     let mut worker = set.attach().unwrap();
     std::mem::forget(worker.pin().unwrap());
@@ -214,7 +214,7 @@ fn a_worker_whose_guard_was_forgotten_is_told_so_and_goes_back_without_its_pin()
 }
 
 #[test]
-fn a_worker_reads_the_note_of_another_one() {
+fn a_worker_observes_the_stamp_of_another_one() {
     let set = small(2);
     let (mut writer, mut reader) = (set.worker(0).unwrap(), set.worker(1).unwrap());
     assert_eq!(
@@ -269,7 +269,7 @@ fn workers_are_given_out_once() {
 }
 
 #[test]
-fn a_thread_that_has_each_worker_itself_is_told_so() {
+fn a_thread_that_has_all_workers_itself_gets_no_worker() {
     let set = small(2);
     let (mut first, mut second) = (set.attach().unwrap(), set.attach().unwrap());
     let own = Fault::NoWorker { workers: 2, own: 2 };
@@ -331,7 +331,7 @@ fn keys_are_counted_by_each_kind_of_call() {
     assert_eq!((worker.extend(5..15), set.len()), (Ok(5), Ok(15)));
     assert_eq!((worker.try_insert(20, 64), set.len()), (Ok(true), Ok(16)));
     assert_eq!((worker.try_insert(20, 64), set.len()), (Ok(false), Ok(16)));
-    // An unfinished remove counts once: as it begins.
+    // An unfinished remove counts once: when it begins.
     let unfinished = Err(Fault::Unfinished);
     assert_eq!((worker.try_remove(20, 1), set.len()), (unfinished, Ok(15)));
     assert_eq!((worker.try_finish(64), set.len()), (Ok(true), Ok(15)));

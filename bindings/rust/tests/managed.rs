@@ -1,5 +1,5 @@
-//! What the calls that tend a set do where the library's plain calls give up: each part of it, made
-//! to run by small bounds.
+//! Tests what managed calls do when the library's plain calls give up. Small bounds make each part
+//! run.
 
 use nm_set::{Fault, Full, Options, Set};
 use std::thread;
@@ -48,7 +48,7 @@ fn a_remove_of_before_is_finished_first() {
 }
 
 #[test]
-fn contention_is_told_at_the_bound() {
+fn contention_is_returned_at_the_bound() {
     let options = Options {
         tries: 0,
         ..Options::default()
@@ -75,7 +75,7 @@ fn contention_is_told_at_the_bound() {
 }
 
 #[test]
-fn full_is_told_only_behind_a_collection() {
+fn full_is_returned_only_after_a_collection() {
     let set = small(2);
     let mut worker = set.attach().unwrap();
     for key in 0..100 {
@@ -140,7 +140,7 @@ fn what_waits_with_workers_that_nobody_uses_is_collected_too() {
 }
 
 #[test]
-fn a_worker_that_holds_the_epoch_back_lets_full_be_told_after_the_timeout() {
+fn full_is_returned_after_the_timeout_if_a_worker_holds_the_epoch_back() {
     let set = small(2);
     let mut reader = set.attach().unwrap();
     let guard = reader.pin().unwrap();
@@ -196,10 +196,10 @@ fn an_insert_waits_for_a_pin_to_end() {
         thread::sleep(Duration::from_millis(50));
         assert!(!own.is_finished() && !any.is_finished());
         drop(guard);
-        let told = (own.join().unwrap(), any.join().unwrap());
+        let result = (own.join().unwrap(), any.join().unwrap());
         assert!(
-            told == (Ok(true), Ok(false)) || told == (Ok(false), Ok(true)),
-            "{told:?}"
+            result == (Ok(true), Ok(false)) || result == (Ok(false), Ok(true)),
+            "{result:?}"
         );
     });
 }

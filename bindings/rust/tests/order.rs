@@ -1,5 +1,5 @@
-//! What a set has as a `BTreeSet` has it: the same calls on both, and what is weaker while others
-//! go on.
+//! Tests the interface of `BTreeSet`: the same calls on both sets, and what is weaker beside other
+//! threads.
 
 use nm_set::{Fault, Options, Set, Shape, MOST_KEY};
 use std::collections::BTreeSet;
@@ -7,7 +7,7 @@ use std::sync::atomic::{AtomicBool, Ordering};
 use std::sync::Barrier;
 use std::thread;
 
-/// Keys that stand close together, far apart, and at both ends.
+/// Keys that are close together, far apart, and at both ends.
 fn spread() -> BTreeSet<u64> {
     let near = 500..520;
     let far = (0..64).map(|bit| 1_u64 << bit);
@@ -24,7 +24,7 @@ fn draw(seed: &mut u64) -> u64 {
 }
 
 #[test]
-fn both_ends_are_told_and_taken() {
+fn both_ends_are_found_and_popped() {
     let mut model = spread();
     let set: Set = model.iter().copied().collect();
     let mut worker = set.attach().unwrap();
@@ -46,7 +46,7 @@ fn both_ends_are_told_and_taken() {
 }
 
 #[test]
-fn the_neighbours_of_each_key_are_told() {
+fn the_neighbours_of_each_key_are_found() {
     let model = spread();
     let set: Set = model.iter().copied().collect();
     let mut worker = set.attach().unwrap();
@@ -116,11 +116,11 @@ fn a_walk_goes_on_from_both_ends_and_ends_where_they_meet() {
     let model = spread();
     let set: Set = model.iter().copied().collect();
     let mut worker = set.attach().unwrap();
-    let (mut wanted, mut told, mut own) = (model.iter().copied(), set.iter(), worker.iter());
+    let (mut wanted, mut found, mut own) = (model.iter().copied(), set.iter(), worker.iter());
     for turn in 0..model.len() + 4 {
         let (key, one, other) = match turn % 3 {
-            0 => (wanted.next_back(), told.next_back(), own.next_back()),
-            _ => (wanted.next(), told.next(), own.next()),
+            0 => (wanted.next_back(), found.next_back(), own.next_back()),
+            _ => (wanted.next(), found.next(), own.next()),
         };
         assert_eq!((one, other), (key.map(Ok), key.map(Ok)));
     }
@@ -172,7 +172,7 @@ fn keys_are_kept_or_removed() {
 fn a_set_is_compared_with_one_of_the_standard_library() {
     let set: Set = (0..200).collect();
     let same: BTreeSet<u64> = (0..200).collect();
-    let told = |other: &BTreeSet<u64>| {
+    let found = |other: &BTreeSet<u64>| {
         [
             set.is_subset(other),
             set.is_superset(other),
@@ -180,12 +180,12 @@ fn a_set_is_compared_with_one_of_the_standard_library() {
         ]
         .map(Result::unwrap)
     };
-    assert_eq!(told(&same), [true, true, false]);
-    assert_eq!(told(&(0..199).collect()), [false, true, false]);
-    assert_eq!(told(&(0..201).collect()), [true, false, false]);
-    assert_eq!(told(&BTreeSet::new()), [false, true, true]);
-    assert_eq!(told(&[199, u64::MAX].into()), [false, false, false]);
-    assert_eq!(told(&[200, u64::MAX].into()), [false, false, true]);
+    assert_eq!(found(&same), [true, true, false]);
+    assert_eq!(found(&(0..199).collect()), [false, true, false]);
+    assert_eq!(found(&(0..201).collect()), [true, false, false]);
+    assert_eq!(found(&BTreeSet::new()), [false, true, true]);
+    assert_eq!(found(&[199, u64::MAX].into()), [false, false, false]);
+    assert_eq!(found(&[200, u64::MAX].into()), [false, false, true]);
     let read: Result<BTreeSet<u64>, Fault> = set.iter().collect();
     assert_eq!(read.unwrap(), same);
 }
@@ -238,7 +238,7 @@ fn how_full_a_set_is_counts_what_waits() {
     );
 }
 
-/// Threads that take from both ends: each key is told once.
+/// Threads pop from both ends: each key is returned once.
 #[test]
 fn no_key_is_taken_twice() {
     let set: Set = (0..20_000).collect();
@@ -267,8 +267,8 @@ fn no_key_is_taken_twice() {
     assert_eq!(taken, (0..20_000).collect());
 }
 
-/// Keys that stand all the time are told by each walk in both directions, in order, whatever comes
-/// and goes between them; and a key that never comes is not told.
+/// A walk in either direction returns each key that is in the set all the time, in order, whatever
+/// is inserted and removed between them. It does not return a key that is never inserted.
 #[test]
 fn a_walk_beside_changes_tells_what_stands() {
     let set: Set = (0..50).map(|key| key * 8).collect();

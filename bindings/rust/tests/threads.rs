@@ -1,4 +1,4 @@
-//! Threads on one set: what they were answered adds up to the report.
+//! Tests threads on one set: their answers add up to the report.
 
 use nm_set::{Fault, Options, Set, Worker};
 use std::collections::BTreeSet;
@@ -12,7 +12,7 @@ const THREADS: u64 = 4;
 const KEYS: u64 = 64;
 const CALLS: u64 = 20_000;
 
-/// The calls of a thread for keys, however it makes them.
+/// The calls of a thread for keys, by the set or by a worker.
 trait Calls {
     fn has(&mut self, key: u64) -> Result<bool, Fault>;
     fn add(&mut self, key: u64) -> Result<bool, Fault>;
@@ -37,14 +37,14 @@ macro_rules! calls_of {
 
 calls_of!(Worker, Set);
 
-/// A number that the environment tells, for a longer run; else the usual one.
-fn told_by(name: &str, usual: u64) -> u64 {
-    let told = std::env::var(name).ok();
-    told.map_or(usual, |number| number.parse().expect("a whole number"))
+/// Returns a number from the environment, for a longer run, or else the usual number.
+fn number_of(name: &str, usual: u64) -> u64 {
+    let result = std::env::var(name).ok();
+    result.map_or(usual, |number| number.parse().expect("a whole number"))
 }
 
-/// A set whose inserts wait for ten seconds: on a busy machine a thread may lose its processor, in
-/// the middle of a call, for longer than the usual timeout.
+/// Returns a set whose inserts wait for ten seconds: on a busy machine a thread may be preempted,
+/// in the middle of a call, for longer than the usual timeout.
 fn with_workers(nodes: u32, workers: u32) -> Set {
     let options = Options {
         workers,
@@ -61,8 +61,8 @@ fn draw(seed: &mut u64) -> u64 {
     *seed
 }
 
-/// Makes a call until it has answered. Contention may be told where tries are few; a remove that
-/// has begun counts, since its key will go.
+/// Repeats a call until it has answered. With few tries it may return contention. A remove that has
+/// begun counts, because its key will be removed.
 fn answered(mut call: impl FnMut() -> Result<bool, Fault>) -> bool {
     loop {
         match call() {
@@ -74,7 +74,7 @@ fn answered(mut call: impl FnMut() -> Result<bool, Fault>) -> bool {
     }
 }
 
-/// Of each key how often it was inserted, less how often it was removed.
+/// For each key how often it was inserted, less how often it was removed.
 fn work(calls: &mut impl Calls, mut seed: u64) -> Vec<i64> {
     let mut balance = vec![0; KEYS as usize];
     for _ in 0..CALLS {
@@ -89,10 +89,10 @@ fn work(calls: &mut impl Calls, mut seed: u64) -> Vec<i64> {
     balance
 }
 
-/// The report has the keys that the balances leave, and each node once; and before it the set tells
-/// the same of itself.
+/// Checks that the report has the keys that the balances leave, and each node once, and that the
+/// set returns the same numbers before its close.
 fn adds_up(set: &Set, balances: &[Vec<i64>]) {
-    let told = (
+    let result = (
         set.len().unwrap(),
         set.waiting().unwrap(),
         set.free().unwrap(),
@@ -108,10 +108,10 @@ fn adds_up(set: &Set, balances: &[Vec<i64>]) {
         report.free() as usize + report.reached() as usize + waiting,
         set.nodes() as usize - 5
     );
-    assert_eq!(told, (report.len(), waiting as u64, report.free().into()));
+    assert_eq!(result, (report.len(), waiting as u64, report.free().into()));
 }
 
-/// Four threads on one set, each of which makes its calls by what a function gives it.
+/// Runs four threads on one set. Each makes its calls by what a function returns to it.
 fn play<C: Calls>(set: &Set, calls: impl Fn(&Set) -> C + Sync) {
     let (balances, begin) = (Mutex::new(Vec::new()), Barrier::new(THREADS as usize));
     scope(|scope| {
@@ -127,7 +127,7 @@ fn play<C: Calls>(set: &Set, calls: impl Fn(&Set) -> C + Sync) {
     adds_up(set, &balances.into_inner().unwrap());
 }
 
-/// A set in which room is scarce and tries are few, and whose inserts wait long instead.
+/// Returns a set with few nodes and few tries, whose inserts wait long instead.
 fn scarce(tries: u32, workers: u32) -> Set {
     let options = Options {
         workers,
@@ -216,16 +216,16 @@ fn two_hundred_threads_attach_work_and_end() {
 }
 
 #[test]
-fn an_attach_waits_for_another_thread_and_no_longer_than_it_is_told() {
+fn an_attach_waits_for_another_thread_and_no_longer_than_its_timeout() {
     let set = with_workers(64, 1);
     let (mut worker, begin) = (set.attach().unwrap(), Instant::now());
     scope(|scope| {
-        let told = scope.spawn(|| {
+        let result = scope.spawn(|| {
             let at_once = set.try_attach().unwrap_err();
             let later = set.attach_timeout(Duration::from_millis(30)).unwrap_err();
             (at_once, later, begin.elapsed())
         });
-        let (at_once, later, took) = told.join().unwrap();
+        let (at_once, later, took) = result.join().unwrap();
         let none = Fault::NoWorker { workers: 1, own: 0 };
         assert_eq!((at_once, later), (none, none));
         let text =
@@ -246,8 +246,8 @@ fn an_attach_waits_for_another_thread_and_no_longer_than_it_is_told() {
     });
 }
 
-/// The other thread makes its first call a little later, and keeps the worker for longer than a
-/// thread waits that has each worker itself.
+/// The other thread makes its first call a little later. It keeps the worker for longer than a
+/// thread waits that has all workers itself.
 #[test]
 fn a_thread_that_has_sent_its_workers_away_waits_for_one() {
     let set = with_workers(64, 1);
@@ -296,12 +296,12 @@ fn threads_that_have_all_workers_call_the_set() {
 fn a_worker_goes_back_with_a_thread_that_panics() {
     let set = with_workers(64, 1);
     let mut worker = set.attach().unwrap();
-    let told = thread::spawn(move || {
+    let result = thread::spawn(move || {
         assert_eq!((worker.insert(5), worker.insert(6)), (Ok(true), Ok(true)));
         assert_eq!(worker.try_remove(6, 1), Err(Fault::Unfinished));
         assert_eq!(worker.pending(), None, "as it should");
     });
-    assert!(told.join().is_err());
+    assert!(result.join().is_err());
     assert_eq!(set.attach().unwrap().pending(), None);
     assert_eq!((set.contains(5), set.contains(6)), (Ok(true), Ok(false)));
     assert_eq!(set.close().unwrap().keys(), [5]);
@@ -339,11 +339,11 @@ fn how_full_a_set_is_can_be_asked_beside_callers() {
 fn a_panic_through_a_pin_leaves_the_worker_and_the_set_usable() {
     let set = with_workers(7, 2);
     let mut worker = set.attach().unwrap();
-    let told = catch_unwind(AssertUnwindSafe(|| {
+    let result = catch_unwind(AssertUnwindSafe(|| {
         let guard = worker.pin().unwrap();
         assert_eq!(guard.epoch(), u64::MAX, "as it should");
     }));
-    assert!(told.is_err());
+    assert!(result.is_err());
     for key in 0..100 {
         assert_eq!(
             (worker.insert(key), worker.remove(key)),
@@ -351,13 +351,13 @@ fn a_panic_through_a_pin_leaves_the_worker_and_the_set_usable() {
         );
         assert_eq!((set.insert(key), set.remove(key)), (Ok(true), Ok(true)));
     }
-    let told = catch_unwind(|| set.retain(|key| panic!("as it should, at {key}")));
-    assert_eq!((told.is_ok(), set.insert(5)), (true, Ok(true)));
-    let told = catch_unwind(|| set.retain(|key| panic!("as it should, at {key}")));
-    assert_eq!((told.is_err(), set.len()), (true, Ok(1)));
+    let result = catch_unwind(|| set.retain(|key| panic!("as it should, at {key}")));
+    assert_eq!((result.is_ok(), set.insert(5)), (true, Ok(true)));
+    let result = catch_unwind(|| set.retain(|key| panic!("as it should, at {key}")));
+    assert_eq!((result.is_err(), set.len()), (true, Ok(1)));
 }
 
-/// The keys that a thread popped until no key was left and no thread inserted any more.
+/// Returns the keys that a thread popped, until no key was left and no thread inserted.
 fn popped_by(
     mut pop: impl FnMut() -> Result<Option<u64>, Fault>,
     are_all_in: &AtomicBool,
@@ -374,8 +374,8 @@ fn popped_by(
     }
 }
 
-/// With one try and no further round many removes are left unfinished. Other threads ask the
-/// workers how full the set is, and collect, meanwhile.
+/// With one try and no further round many removes are left unfinished. Meanwhile other threads ask
+/// the workers how full the set is, and collect.
 #[test]
 fn each_key_is_popped_by_one_call_where_tries_are_few() {
     const KEYS: u64 = 20_000;
@@ -410,15 +410,15 @@ fn each_key_is_popped_by_one_call_where_tries_are_few() {
     assert!(set.close().unwrap().is_empty());
 }
 
-/// Calls until the set is closed: how many keys it has inserted, and the fault that ended it.
+/// Inserts until the set is closed; returns how many keys it inserted, and the fault at the end.
 fn call_until_closed(set: &Set, first: u64) -> (usize, Fault) {
     let mut inserted = 0;
     for key in (first..16_000).step_by(16).cycle() {
-        let told = set.insert(key).and_then(|is_new| {
+        let result = set.insert(key).and_then(|is_new| {
             inserted += usize::from(is_new);
             set.contains(key)
         });
-        match told {
+        match result {
             Ok(is_in) => assert!(is_in),
             Err(fault) => return (inserted, fault),
         }
@@ -428,10 +428,10 @@ fn call_until_closed(set: &Set, first: u64) -> (usize, Fault) {
 
 #[test]
 fn a_set_closed_beside_sixteen_callers_tells_each_so() {
-    for round in 0..told_by("NM_SET_CLOSES", 40) {
+    for round in 0..number_of("NM_SET_CLOSES", 40) {
         let workers = 1 + round as u32 % 24;
         let (set, begin) = (with_workers(65_536, workers), Barrier::new(17));
-        let (report, told) = scope(|scope| {
+        let (report, result) = scope(|scope| {
             let callers: Vec<_> = (0..16)
                 .map(|first| {
                     let (set, begin) = (&set, &begin);
@@ -444,17 +444,17 @@ fn a_set_closed_beside_sixteen_callers_tells_each_so() {
             begin.wait();
             thread::sleep(Duration::from_micros(round % 40 * 100));
             let report = set.close().unwrap();
-            let told: Vec<_> = callers
+            let result: Vec<_> = callers
                 .into_iter()
                 .map(|caller| caller.join().unwrap())
                 .collect();
-            (report, told)
+            (report, result)
         });
         assert!(
-            told.iter().all(|(_, fault)| *fault == Fault::Closed),
-            "{told:?}"
+            result.iter().all(|(_, fault)| *fault == Fault::Closed),
+            "{result:?}"
         );
-        let inserted: usize = told.iter().map(|(inserted, _)| inserted).sum();
+        let inserted: usize = result.iter().map(|(inserted, _)| inserted).sum();
         assert_eq!(
             report.len(),
             inserted,
@@ -473,15 +473,16 @@ fn of_several_closes_one_has_the_report() {
                 set.close()
             };
             let closers: Vec<_> = (0..4).map(|_| scope.spawn(close)).collect();
-            let told = closers.into_iter().map(|closer| closer.join().unwrap());
-            told.filter_map(|told| match told {
-                Ok(report) => Some(report),
-                Err(fault) => {
-                    assert_eq!(fault, Fault::Closed);
-                    None
-                }
-            })
-            .collect()
+            let result = closers.into_iter().map(|closer| closer.join().unwrap());
+            result
+                .filter_map(|result| match result {
+                    Ok(report) => Some(report),
+                    Err(fault) => {
+                        assert_eq!(fault, Fault::Closed);
+                        None
+                    }
+                })
+                .collect()
         });
         assert_eq!(reports.len(), 1);
         assert_eq!(reports[0].keys(), [5, 7]);
@@ -496,9 +497,9 @@ fn a_set_closed_beside_threads_that_attach_tells_each_so_or_names_its_worker() {
             for _ in 0..4 {
                 scope.spawn(|| {
                     begin.wait();
-                    let told =
+                    let result =
                         std::iter::repeat_with(|| set.attach().map(drop)).find_map(Result::err);
-                    assert_eq!(told, Some(Fault::Closed));
+                    assert_eq!(result, Some(Fault::Closed));
                 });
             }
             begin.wait();
@@ -509,8 +510,8 @@ fn a_set_closed_beside_threads_that_attach_tells_each_so_or_names_its_worker() {
     }
 }
 
-/// Threads that insert and remove below 1,000 for a while, so that some 500 keys stand: how many
-/// calls they made.
+/// Lets threads insert and remove keys below 1,000 for a while, so that the set has about 500 keys.
+/// Returns how many calls they made.
 fn churn<C: Calls>(
     set: &Set,
     threads: u64,
@@ -526,11 +527,11 @@ fn churn<C: Calls>(
                 let (mut seed, mut own, mut count) = (thread + 1, calls(set), 0_u64);
                 while Instant::now() < end {
                     let drawn = draw(&mut seed);
-                    let told = match drawn >> 32 & 1 {
+                    let result = match drawn >> 32 & 1 {
                         0 => own.add(drawn % 1_000),
                         _ => own.take(drawn % 1_000),
                     };
-                    told.unwrap_or_else(|fault| panic!("{fault}"));
+                    result.unwrap_or_else(|fault| panic!("{fault}"));
                     count += 1;
                 }
                 *made.lock().unwrap() += count;
@@ -542,7 +543,7 @@ fn churn<C: Calls>(
 
 #[test]
 fn sixteen_and_sixty_four_threads_find_no_set_full_that_has_room() {
-    let time = Duration::from_millis(told_by("NM_SET_CHURN_MILLISECONDS", 500));
+    let time = Duration::from_millis(number_of("NM_SET_CHURN_MILLISECONDS", 500));
     for threads in [16, 64] {
         let set = with_workers(65_536, 64);
         let made = churn(&set, threads, time, |set| set.attach().unwrap());
