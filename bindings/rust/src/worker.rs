@@ -131,7 +131,7 @@ impl Worker {
     }
 
     /// Makes a tended call, again while a call of the set has borrowed the worker.
-    fn tended<T>(&mut self, call: impl Fn(Seat) -> Result<T, Fault>) -> Result<T, Fault> {
+    fn managed<T>(&mut self, call: impl Fn(Seat) -> Result<T, Fault>) -> Result<T, Fault> {
         let seat = self.seat();
         settled(|| call(seat))
     }
