@@ -54,12 +54,14 @@ class NoWorker(Fault):
     Or this thread itself has them all, so that an `attach` would never end; nor would a call of the
     set if each of them is pinned."""
 
+    outcome = c.NO_WORKER
+
 
 class Attached(Fault):
     """A worker is with a thread: it cannot be taken, or its set cannot be closed; or the set is
     open, and so has no report yet."""
 
-    outcome = c.AWAY
+    outcome = c.ATTACHED
 
 
 class Closed(Fault, ValueError):
@@ -71,7 +73,7 @@ class Closed(Fault, ValueError):
 class Pinned(Fault):
     """The worker is pinned, from a pin until its unpin; or it is not, and an unpin was asked."""
 
-    outcome = c.HELD
+    outcome = c.PINNED
 
 
 class InUse(Fault):
@@ -100,9 +102,10 @@ _TEXTS = {
     c.BUSY: "other threads were in the way for longer than the call's bound",
     c.FULL: "no nodes are free for the new key",
     c.UNFINISHED: "the discard has begun and is not finished: the key will go",
-    c.HELD: "the worker is pinned: unpin it first",
-    c.NOT_HELD: "the worker is not pinned",
-    c.AWAY: "a worker is with a thread",
+    c.PINNED: "the worker is pinned: unpin it first",
+    c.NOT_PINNED: "the worker is not pinned",
+    c.ATTACHED: "the worker is attached to a thread",
+    c.NO_WORKER: "each worker is attached to a thread",
     c.CLOSED: "the worker is closed",
     c.CLOSING: "the set is closed",
     c.IN_USE: "another thread is in a call by the worker",
@@ -118,9 +121,10 @@ _KINDS: dict[int, type[Fault]] = {
     c.PENDING: Contention,
     c.FULL: Full,
     c.UNFINISHED: Unfinished,
-    c.HELD: Pinned,
-    c.NOT_HELD: Pinned,
-    c.AWAY: Attached,
+    c.PINNED: Pinned,
+    c.NOT_PINNED: Pinned,
+    c.ATTACHED: Attached,
+    c.NO_WORKER: NoWorker,
     c.CLOSED: Closed,
     c.CLOSING: Closed,
     c.IN_USE: InUse,

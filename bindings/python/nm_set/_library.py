@@ -130,12 +130,13 @@ BUSY: Final = -9
 FULL: Final = -10
 UNFINISHED: Final = -11
 PENDING: Final = -12
-HELD: Final = -13
-NOT_HELD: Final = -14
+PINNED: Final = -13
+NOT_PINNED: Final = -14
 LOST: Final = -16
-AWAY: Final = -18
+ATTACHED: Final = -18
 CLOSING: Final = -19
 IN_USE: Final = -22
+NO_WORKER: Final = -23
 
 _FILE = "libnm_set.so.0.1"
 

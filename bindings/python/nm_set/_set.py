@@ -313,7 +313,7 @@ class Set(Keys):
             outcome = c.exports.nm_set_attach(self._handle, handle)
             if outcome in (c.OPEN, c.IN_USE) and at < self._calls.reach:
                 continue
-            if outcome in (c.AWAY, c.IN_USE):
+            if outcome in (c.NO_WORKER, c.IN_USE):
                 return False
             self._succeed(outcome)
             _rest(handle, self._call_options)
@@ -501,9 +501,9 @@ class Set(Keys):
         whether there was one."""
         self._need_open()
         outcome = self._asked(worker, number)
-        while outcome == c.AWAY and self._spare(number):
+        while outcome in (c.ATTACHED, c.NO_WORKER) and self._spare(number):
             outcome = self._asked(worker, number)
-        if outcome in (c.AWAY, c.IN_USE):
+        if outcome in (c.ATTACHED, c.NO_WORKER, c.IN_USE):
             return False
         self._succeed(outcome)
         try:
@@ -569,11 +569,11 @@ class Set(Keys):
         if not self._is_closing:
             self._fail_away(sorted(worker._number for worker in self._out()))
         self._is_closing = True
-        outcome = c.AWAY
-        while outcome == c.AWAY:
+        outcome = c.ATTACHED
+        while outcome == c.ATTACHED:
             self._give_back()
             outcome = self._soon(c.exports.nm_set_close)
-            if outcome == c.AWAY:
+            if outcome == c.ATTACHED:
                 self._look_for_missed()
         if outcome not in (c.DONE, c.KIND, c.CLOSED):
             raise fault(outcome)
