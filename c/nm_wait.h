@@ -84,8 +84,9 @@ static inline nm_outcome nm_wait_insert(nm_handle *worker, uint64_t key, const n
     return outcome;
 }
 
-/* Makes nm_set_attach, and repeats it after NM_NO_WORKER, because each worker is attached, and
- * after NM_IN_USE, because another call has a handle for longer than the library looks again. */
+/* Makes nm_set_attach, and repeats it after NM_NO_WORKER and after NM_IN_USE. The former means that
+ * each worker is attached. The latter means that another call has a handle for longer than the
+ * library looks again. */
 static inline nm_outcome nm_wait_attach(nm_handle *set, nm_handle *worker, uint32_t timeout_ms) {
     nm_wait wait = {0, 0};
     nm_outcome outcome = nm_set_attach(set, worker);

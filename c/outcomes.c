@@ -21,21 +21,21 @@ static void each_tells(nm_handle *worker, uint64_t key, nm_outcome wanted) {
     CHECK(nm_worker_try_remove(worker, key, TRIES) == wanted);
 }
 
-/* What any call for a key that tends the set tells. */
+/* Checks that each managed call for a key returns the wanted outcome. */
 static void each_tending_tells(nm_handle *worker, uint64_t key, nm_outcome wanted) {
     CHECK(nm_worker_contains(worker, key, &nm_default_options) == wanted);
     CHECK(nm_worker_insert(worker, key, &nm_default_options) == wanted);
     CHECK(nm_worker_remove(worker, key, &nm_default_options) == wanted);
 }
 
-/* What a call that takes a key tells, which is told none. */
+/* Checks the outcome of a call that pops a key, and that it writes no key. */
 static void each_pop_tells(nm_handle *worker, const nm_options *options, nm_outcome wanted) {
     uint64_t taken = NOT_WRITTEN;
     CHECK(nm_worker_pop_first(worker, options, &taken) == wanted && taken == NOT_WRITTEN);
     CHECK(nm_worker_pop_last(worker, options, &taken) == wanted && taken == NOT_WRITTEN);
 }
 
-/* What is no open worker, or no report, tells that, and writes nothing. */
+/* A handle that owns no worker, or no report, returns that outcome, and the call writes nothing. */
 static void is_refused(nm_handle *handle, nm_outcome worker, nm_outcome report) {
     uint64_t wide = NOT_WRITTEN, other = NOT_WRITTEN;
     uint32_t narrow = NOT_WRITTEN, second = NOT_WRITTEN;
@@ -211,7 +211,7 @@ static void collected(void) {
     CHECK(nm_drop(&worker) == NM_DONE && nm_drop(&set) == NM_DONE);
 }
 
-/* A worker that is held stays where it is, and holds the others back. */
+/* A pinned worker keeps its epoch, and holds the others back. */
 static void epochs(void) {
     nm_handle set = NM_CLOSED_HANDLE, reader = NM_CLOSED_HANDLE, writer = NM_CLOSED_HANDLE;
     uint64_t epoch = NOT_WRITTEN, mask = NOT_WRITTEN, freed = NOT_WRITTEN;
@@ -240,7 +240,7 @@ static void epochs(void) {
     CHECK(nm_drop(&reader) == NM_DONE && nm_drop(&writer) == NM_DONE && nm_drop(&set) == NM_DONE);
 }
 
-/* A worker at home resigns, and what it cut off is told in the report as its own. */
+/* A worker that is not attached resigns, and the report has what it cut off as its own. */
 static void ends(void) {
     nm_handle set = NM_CLOSED_HANDLE, heir = NM_CLOSED_HANDLE, leaver = NM_CLOSED_HANDLE;
     uint64_t nodes = NOT_WRITTEN, count = NOT_WRITTEN, key = NOT_WRITTEN;
@@ -405,7 +405,7 @@ static void versions(void) {
           patch == NM_SET_VERSION_PATCH);
 }
 
-/* Workers are handed out from the least number on, and none where all are away. */
+/* Workers are attached from the least number on, and none if all are attached. */
 static void attached(void) {
     enum { WORKERS = 18 };
     nm_handle set = NM_CLOSED_HANDLE, workers[WORKERS] = {NM_CLOSED_HANDLE},

@@ -25,7 +25,8 @@ from words import (Edge, Layout, Memory, NodeId, Side, at, child, edge, in_pool,
 
 
 def written(m: Memory, worker: int, event: Event, outcome: Outcome) -> Memory:
-    """What an event with its outcome has written: one word, or none; where it was refused, none."""
+    """The words after an event with its outcome: one word is written, or none; if it was refused,
+    none."""
     match event, outcome:
         case Announce(), Announced(epoch):
             return replace(m, announcements=slice_set(m.announcements, worker, epoch))
@@ -55,7 +56,8 @@ def written(m: Memory, worker: int, event: Event, outcome: Outcome) -> Memory:
 
 
 def after_turn(m: Memory, turn: Turn) -> Memory:
-    """`after_turn`, `words_from`: the words after a turn, and after these turns, from others on."""
+    """`after_turn`, `words_from`: the words after a turn; the words after these turns, from given
+    words on."""
     return written(m, turn.worker, turn.event, turn.outcome)
 
 
@@ -77,9 +79,9 @@ def words_after(layout: Layout, turns: Turns) -> Memory:
 
 
 def tells_what_stands(m: Memory, event: Event, reply: Outcome) -> Fault | None:
-    """A reply to a look tells the word that stands, and one to a scan the announcement; an exchange
-    that is lost, and a tag, tell the edge that stands, and a link or a flag that is won has found
-    the unmarked edge that it names; a birth that is stored is one more than the one that stood."""
+    """The reply to a look is the word in memory, and that to a scan is the announcement. A lost
+    exchange, and a tag, return the edge in memory. A won link or flag has found the unmarked edge
+    that it names. A birth that is stored is one more than the one before it."""
     told: object = reply
     stands: object = reply
     match event, reply:
@@ -116,8 +118,8 @@ def tells_what_stands(m: Memory, event: Event, reply: Outcome) -> Fault | None:
 
 
 def nodes_cut_of(outcome: Outcome) -> list[NodeId]:
-    """`nodes_cut_of`, `nodes_freed_of`: the nodes that a turn says it cut, and the one that it says
-    it freed."""
+    """`nodes_cut_of`, `nodes_freed_of`: the nodes that a turn's reply names as cut, and the one
+    that it names as freed."""
     return list(outcome.nodes) if isinstance(outcome, Cut) else []
 
 
@@ -132,8 +134,9 @@ def is_frozen_over(m: Memory, x: int, side: Side, leaf: int) -> bool:
 
 
 def is_frozen_chain_to(m: Memory, parent: int, keep: Side, s: int, slots: list[int]) -> bool:
-    """From a slot down to a parent: each internal node and then its flagged leaf, and on by its
-    tagged edge; the last of these nodes is the parent, and its tagged edge is the one to keep."""
+    """A chain from a slot down to a parent: each internal node is followed by its flagged leaf, and
+    then by the node to which its tagged edge leads. The last internal node is the parent, and its
+    tagged edge is the one to keep."""
     match slots:
         case [x, leaf]:
             return x == s and x == parent and is_frozen_over(m, x, keep, leaf)
@@ -151,8 +154,8 @@ def slots_of(nodes: list[NodeId]) -> list[int]:
 
 
 def is_won_splice(m: Memory, event: Event, nodes: list[NodeId]) -> Fault | None:
-    """The nodes that a won splice says it cut are a chain from its successor down to its parent,
-    each with the birth that stood in its word."""
+    """The nodes that a won splice names as cut are a chain from its successor down to its parent,
+    each with the birth in its word."""
     name = "IsWonSplice"
     if not isinstance(event, Splice):
         return Fault(name, "it is no splice, and says that it cut something")
@@ -169,8 +172,8 @@ def is_won_splice(m: Memory, event: Event, nodes: list[NodeId]) -> Fault | None:
 
 
 def cuts_just(before: Memory, nodes: list[NodeId], after: Memory) -> Fault | None:
-    """From one moment to the next just these nodes were cut off: paths from the root reached them
-    before, and none does after."""
+    """From one moment to the next exactly these nodes were cut off: paths from the root reached
+    them before, and none does after."""
     gone = sorted(x for x in before.paths if is_cut(before, after, x))
     if set(gone) == set(slots_of(nodes)):
         return None
@@ -179,7 +182,8 @@ def cuts_just(before: Memory, nodes: list[NodeId], after: Memory) -> Fault | Non
 
 
 def cuts_its_nodes(m: Memory, turn: Turn) -> Fault | None:
-    """A turn cuts just the nodes that it says it cut, and only won splices say so."""
+    """A turn cuts exactly the nodes that its reply names as cut, and only the reply of a won splice
+    names any."""
     fault = cuts_just(m, nodes_cut_of(turn.outcome), after_turn(m, turn))
     if fault is None and isinstance(turn.outcome, Cut):
         fault = is_won_splice(m, turn.event, nodes_cut_of(turn.outcome))
@@ -200,21 +204,21 @@ def cuts_of(worker: int, turns: Turns) -> list[NodeId]:
 
 @kept
 def freed_by(turns: Turns) -> list[NodeId]:
-    """The nodes that were freed, whoever freed them, in the order of the turns."""
+    """The nodes that were freed, by any worker, in the order of the turns."""
     if turns.before is None or turns.last is None:
         return []
     return freed_by(turns.before) + nodes_freed_of(turns.last.outcome)
 
 
 def is_among(nodes: list[NodeId], it: NodeId) -> bool:
-    """A node, a slot with its birth, is one of these."""
+    """A node (a slot with its birth) is one of these."""
     return any(it.slot == m.slot and it.birth == m.birth for m in nodes)
 
 
 @kept
 def freed_of(worker: int, turns: Turns) -> list[NodeId]:
-    """`freed_of`, `waits_of`: those of a worker's cuts that were freed, in the order in which they
-    were, and those that wait, in cut order."""
+    """`freed_of`, `waits_of`: those of a worker's cuts that were freed, in the order of the frees;
+    and those that wait, in the order of the cuts."""
     return [it for it in freed_by(turns) if is_among(cuts_of(worker, turns), it)]
 
 
@@ -224,8 +228,8 @@ def waits_of(worker: int, turns: Turns) -> list[NodeId]:
 
 
 def are_freed_in_turn(turns: Turns) -> Fault | None:
-    """Of each worker, what was freed and then what waits of its cuts are its cuts, in their order;
-    nothing else is freed; and no node, a slot with its birth, is cut twice."""
+    """For each worker, its freed nodes followed by those that wait are its cuts, in their order.
+    Only nodes that were cut are freed, and no node (a slot with its birth) is cut twice."""
     name = "AreFreedInTurn"
     cuts = [it for worker in sorted(workers_of(turns)) for it in cuts_of(worker, turns)]
     twice = [it for it in cuts if cuts.count(it) > 1]
@@ -244,12 +248,12 @@ def are_freed_in_turn(turns: Turns) -> Fault | None:
 
 
 def confirms(event: Event, outcome: Outcome) -> bool:
-    """A sight, for a call or for none, that was answered `pinned`."""
+    """A sight (epoch read), for a call or for none, that was answered `pinned`."""
     return isinstance(event, (Sight, SightFor)) and isinstance(outcome, Pinned)
 
 
 def departs(event: Event, outcome: Outcome) -> bool:
-    """A leave, with an answer or without."""
+    """A leave (unpin), with an answer or without."""
     return isinstance(event, (Leave, LeaveWith)) and isinstance(outcome, Departed)
 
 
@@ -265,7 +269,7 @@ def has_left(worker: int, turns: Iterable[Turn]) -> bool:
 
 @kept
 def is_pinned(worker: int, turns: Turns) -> bool:
-    """After these turns a worker is pinned: it has confirmed a pin, and not left since."""
+    """After these turns a worker is pinned: it has confirmed a pin, and has not left after that."""
     if turns.before is None or turns.last is None:
         return False
     if turns.last.worker == worker and confirms(turns.last.event, turns.last.outcome):
@@ -274,8 +278,8 @@ def is_pinned(worker: int, turns: Turns) -> bool:
 
 
 def grace(turns: Turns) -> Fault | None:
-    """Where a node is cut by one turn and freed by a later one, each worker that was pinned at the
-    cut, the remover too, has left between the two. (The later one is the last here.)"""
+    """If a node is cut by one turn and freed by a later one, each worker that was pinned at the
+    cut, including the remover, has left between the two. (The later one is the last here.)"""
     freed = nodes_freed_of(turns.last.outcome) if turns.last else []
     between: list[Turn] = []
     for before, cut in splits(turns.before) if turns.before and freed else ():
@@ -293,13 +297,13 @@ def grace(turns: Turns) -> Fault | None:
 
 
 def takes(event: Event, outcome: Outcome, x: int) -> bool:
-    """A turn takes a slot into its worker's hands by a won claim."""
+    """By a won claim a worker takes a slot into its hands."""
     return isinstance(event, Claim) and isinstance(outcome, Claimed) and x == event.slot
 
 
 def lets_go(m: Memory, event: Event, outcome: Outcome, x: int) -> bool:
-    """And lets go of it where it gives it back, or links it: the new node of a won link, and both
-    slots to which its edges lead, of which one is the new leaf."""
+    """A worker lets go of a slot if it gives the slot back or links it. A won link lets go of the
+    new node, and of both slots to which the new node's edges lead: the new leaf is one of them."""
     match event, outcome:
         case Give(slot), Returned(_):
             return x == slot
@@ -309,8 +313,8 @@ def lets_go(m: Memory, event: Event, outcome: Outcome, x: int) -> bool:
 
 
 def has_after(m: Memory, worker: int, x: int, had: bool, turns: Iterable[Turn]) -> bool:
-    """Whether a worker has a slot in its hands after these turns, by the words and by what it had
-    before them."""
+    """Whether a worker has a slot in its hands after these turns, by the words and by whether it
+    had the slot before them."""
     for t in turns:
         if t.worker == worker:
             kept_it = had and not lets_go(m, t.event, t.outcome, x)
@@ -329,8 +333,8 @@ def holds(layout: Layout, worker: int, x: int, turns: Turns) -> bool:
 
 
 class Place:
-    """Where a slot may be: in the pool, in a worker's hands, at the end of a path from the root, or
-    at an index of what waits of a worker's cuts."""
+    """The places of a slot: in the pool, in a worker's hands, at the end of a path from the root,
+    or at an index of those of a worker's cuts that wait."""
 
 
 @dataclass(frozen=True)
@@ -388,7 +392,7 @@ def places(layout: Layout, turns: Turns, x: int) -> Iterator[Place]:
 
 
 def one_place(layout: Layout, turns: Turns, x: int) -> Fault | None:
-    """It is at exactly one of these."""
+    """The slot is in exactly one place."""
     found = [it for it in places(layout, turns, x) if stands_at(layout, turns, x, it)]
     if len(found) == 1:
         return None
@@ -397,7 +401,7 @@ def one_place(layout: Layout, turns: Turns, x: int) -> Fault | None:
 
 
 def only_holders_store(layout: Layout, before: Turns, turn: Turn) -> Fault | None:
-    """Only its holder stores in a node."""
+    """Only the worker that has a slot in its hands stores in the slot's fields."""
     match turn.event, turn.outcome:
         case Fill(slot, _, _), Filled():
             if not holds(layout, turn.worker, slot, before):
@@ -407,8 +411,8 @@ def only_holders_store(layout: Layout, before: Turns, turn: Turn) -> Fault | Non
 
 
 def what_is_reached_is_younger(layout: Layout, turns: Turns) -> Fault | None:
-    """A slot that paths from the root reach has a greater birth than each node of it that was
-    cut."""
+    """A slot that a path from the root reaches has a greater birth than each node in that slot that
+    was cut (the birth is the node's generation)."""
     m = words_after(layout, turns)
     for worker in sorted(workers_of(turns)):
         for it in cuts_of(worker, turns):
@@ -422,8 +426,8 @@ def what_is_reached_is_younger(layout: Layout, turns: Turns) -> Fault | None:
 
 
 def touched(event: Event) -> list[int]:
-    """The slots of which an event reads or exchanges a word, and the nodes that a link, a flag or a
-    splice names."""
+    """The slots with a word that an event reads or exchanges, and the nodes that a link, a flag or
+    a splice names."""
     match event:
         case Look(slot, _):
             return [slot]
@@ -439,9 +443,9 @@ def touched(event: Event) -> list[int]:
 
 
 def edge_told(event: Event, outcome: Outcome) -> tuple[int, int] | None:
-    """The node of which a reply tells an edge, and the slot to which that leads: the edge that was
-    looked at or tagged, the one that was found in place of the wanted one, and behind a won link
-    the one to the new node."""
+    """The node whose edge a reply returns, and the slot to which this edge leads. It is the edge
+    that was looked at or tagged, or the one that an exchange found in place of the expected one.
+    After a won link it is the edge to the new node."""
     match event, outcome:
         case Look(slot, Side()), EdgeIs(found):
             return slot, found.slot
@@ -477,14 +481,14 @@ def tellings(layout: Layout, turns: Turns) -> Iterator[Telling]:
 
 
 def was_told(layout: Layout, worker: int, x: int, turns: Turns) -> bool:
-    """A worker was told of a slot, and has not left since: it was pinned, and a reply told it an
-    edge to that slot, of a node that it had not in its hands."""
+    """A worker has learned of a slot, and has not left after that: it was pinned, and a reply
+    returned an edge to that slot, of a node that was not in its hands."""
     return any(it.worker == worker and it.slot == x for it in tellings(layout, turns))
 
 
 def only_what_was_told_is_touched(layout: Layout, before: Turns, turn: Turn) -> Fault | None:
-    """A worker that touches a slot other than 1 and 2, with which each walk begins, and has it not
-    in its hands, was told of it under the pin that stands."""
+    """A worker touches a slot other than 1 and 2, which it does not have in its hands, only after
+    it has learned of the slot under its present pin. Each walk begins with slots 1 and 2."""
     if isinstance(turn.outcome, Refused):
         return None
     for x in touched(turn.event):
@@ -498,7 +502,7 @@ def only_what_was_told_is_touched(layout: Layout, before: Turns, turn: Turn) -> 
 
 
 def is_still(layout: Layout, was: Turns, now: Turns, x: int) -> Fault | None:
-    """A slot is neither in the pool nor in anybody's hands, and is the node that it was."""
+    """A slot is neither in the pool nor in a worker's hands, and has the birth that it had."""
     if in_pool(words_after(layout, now), x):
         return Fault("IsStill", f"slot {x} is in the pool")
     for worker in sorted(workers_of(now)):
@@ -510,8 +514,8 @@ def is_still(layout: Layout, was: Turns, now: Turns, x: int) -> Fault | None:
 
 
 def what_was_told_stays(layout: Layout, turns: Turns) -> Fault | None:
-    """What a worker was told of is still the node that it was then, in the tree or waiting, for as
-    long as the worker has not left."""
+    """Until a worker leaves, a slot that it has learned of is the same node as then, and neither in
+    the pool nor in a worker's hands."""
     for it in tellings(layout, turns):
         fault = is_still(layout, it.before, turns, it.slot)
         if fault:
@@ -605,7 +609,7 @@ class Finding(NamedTuple):
 
 
 def headline(layout: Layout, turns: Turns) -> Iterator[Finding]:
-    """The theorem, of the turns of a run: all that is against it, the earliest first."""
+    """The theorem, for the turns of a run. : all that is against it, the earliest first."""
     for so_far in moments(turns):
         for field, sentence in fields().items():
             fault = sentence(layout, so_far)

@@ -20,8 +20,8 @@ Keys = frozenset[int]
 
 
 class Act(NamedTuple):
-    """A call with its answer, at a moment: the number of turns made until then. A call is named by
-    its worker and the number of the turn that confirmed its pin."""
+    """A call with its answer and its moment (linearization point): the number of turns made until
+    then. A call is named by its worker and the number of the turn that confirmed its pin."""
     worker: int
     pin: int
     op: Op
@@ -37,20 +37,21 @@ def is_among(acts: list[Act], a: Act) -> bool:
 
 def has_in_a_row(acts: list[Act], keys: list[int], moment: int,
                  holds: Callable[[Act], bool]) -> bool:
-    """Acts of these keys in a row, at that moment, of each of which something holds."""
+    """Acts with these keys follow each other in the list, all at that moment, and something holds
+    for each of them."""
     rows = (acts[at : at + len(keys)] for at in range(len(acts) - len(keys) + 1))
     return any([a.key for a in row] == keys and all(a.moment == moment and holds(a) for a in row)
                for row in rows)
 
 
 def gives(in_set: Keys, op: Op, key: int, answer: bool) -> bool:
-    """What a plain set answers: `has` tells whether the key is in it, an insert is true where it
-    was not, and a delete where it was."""
+    """What a plain set answers: `has` is true if the key is in it, an insert is true if the key was
+    not, and a delete if it was."""
     return ((key in in_set) != answer) if op is Op.INSERT else ((key in in_set) == answer)
 
 
 def changed(before: Keys, op: Op, key: int, answer: bool) -> Keys:
-    """What is in the set after a call that was answered so."""
+    """The keys in the set after a call with that answer."""
     if op is Op.INSERT and answer:
         return before | {key}
     return before - {key} if op is Op.DELETE and answer else before
@@ -62,8 +63,8 @@ def nothing() -> Keys:
 
 
 def replays(first: Keys, acts: list[Act], last: Keys) -> Fault | None:
-    """One plain set, which has these keys first and those at last, gives each call its answer, one
-    after the other."""
+    """One plain set gives each call its answer, one after the other. It has the keys `first` before
+    the calls and the keys `last` after them."""
     for a in acts:
         if not is_key(a.key) or not gives(first, a.op, a.key, a.answer):
             return Fault("Replays", f"a plain set does not answer so to the {called(a)}")
@@ -74,12 +75,12 @@ def replays(first: Keys, acts: list[Act], last: Keys) -> Fault | None:
 
 
 def in_set(m: Memory) -> Keys:
-    """A key of the set is that of a reached leaf. (All such keys.)"""
+    """A key is in the set if a reached leaf has it. (All such keys.)"""
     return frozenset(node(m, x).key for x in m.paths if reached(m, x) and is_leaf(node(m, x)))
 
 
 def leaf_keys(m: Memory, slots: list[int]) -> list[int]:
-    """The keys of the leaves among slots, in their order."""
+    """The keys of the leaves among these slots, in their order."""
     return [node(m, x).key for x in slots if is_leaf(node(m, x))]
 
 
@@ -87,16 +88,16 @@ def leaf_keys(m: Memory, slots: list[int]) -> list[int]:
 
 
 class Called(NamedTuple):
-    """A call that has begun and is not answered: the number of the turn that confirmed its pin, its
-    operation and its key."""
+    """A call that has begun and has no answer yet: the number of the turn that confirmed its pin,
+    its operation and its key."""
     pin: int
     op: Op
     key: int
 
 
 def call_by(n: int, so_far: Called | None, event: Event, outcome: Outcome) -> Called | None:
-    """The call of a worker's pin after its turn of that number: a sight for a call that was
-    answered `pinned` begins it, and it ends with that pin."""
+    """The call of a worker's pin after its turn of that number. A sight for a call that was
+    answered `pinned` begins the call, and the call ends with that pin."""
     match event, outcome:
         case SightFor(op, key), Pinned(_):
             return Called(n, op, key)
@@ -108,7 +109,7 @@ def call_by(n: int, so_far: Called | None, event: Event, outcome: Outcome) -> Ca
 
 
 def call_after(worker: int, n: int, so_far: Called | None, turns: list[Turn]) -> Called | None:
-    """After these turns, the first of which is number n."""
+    """The call after these turns; the first of them is number n."""
     for it in turns:
         if it.worker == worker:
             so_far = call_by(n, so_far, it.event, it.outcome)
@@ -118,8 +119,8 @@ def call_after(worker: int, n: int, so_far: Called | None, turns: list[Turn]) ->
 
 @kept
 def call_begun(worker: int, turns: Turns) -> Called | None:
-    """The call of a worker's pin, by its turns: begun by a sight for it that was answered `pinned`,
-    with the number of that turn."""
+    """The call of a worker's pin after its turns. It began with a sight for it that was answered
+    `pinned`, and has the number of that turn."""
     if turns.before is None or turns.last is None:
         return None
     so_far = call_begun(worker, turns.before)
@@ -147,8 +148,8 @@ def answered_calls(turns: Turns) -> Iterator[Answered]:
 
 
 def is_act(turns: Turns, a: Act) -> bool:
-    """An act is a call that a leave answered with its answer, or one that is not answered yet; its
-    moment, a number of turns, is one of the call."""
+    """An act is a call that a leave answered with its answer, or a call that has no answer yet. Its
+    moment (linearization point), a number of turns, is within the call."""
     ends = [it.before for it in answered_calls(turns)
             if (it.worker, it.call, it.answer) == (a.worker, called_in(a), a.answer)]
     if call_begun(a.worker, turns) == called_in(a):
@@ -157,14 +158,14 @@ def is_act(turns: Turns, a: Act) -> bool:
 
 
 def has_act(acts: list[Act], worker: int, call: Called, answer: bool) -> bool:
-    """The act of a call, with that answer."""
+    """The call has an act, with that answer."""
     return any(is_among(acts, a) for a in acts
                if (a.worker, called_in(a), a.answer) == (worker, call, answer))
 
 
 def is_in_call(turns: Turns, op: Op, a: Act) -> bool:
-    """An act of the call that its worker is in after these turns: of that operation, and answered
-    true."""
+    """An act of the call in which its worker is after these turns; the call has that operation, and
+    the answer is true."""
     return call_begun(a.worker, turns) == called_in(a) and a.op is op and a.answer
 
 
@@ -218,10 +219,10 @@ def at_moments(layout: Layout, turns: Turns, acts: list[Act]) -> Iterator[tuple[
 
 
 def is_history(layout: Layout, turns: Turns, acts: list[Act]) -> Iterator[tuple[str, int, Fault]]:
-    """The acts are the answered calls and some of those that are not answered yet, each once, in
-    the order of moments that lie within the calls; and one plain set, empty at first, gives each
-    its answer, and has at each moment the keys of the leaves that are reached then. What is against
-    it: by which field, after how many turns, and why."""
+    """The acts are the answered calls and some of those with no answer yet, each once, in the order
+    of their moments, which are within the calls. One plain set, empty at first, gives each call its
+    answer. At each moment it has the keys of the leaves that are reached then. What is against it:
+    by which field, after how many turns, and why."""
     yield from at_moments(layout, turns, acts)
     fault = replays(nothing(), acts, in_set(words_after(layout, turns)))
     if fault:

@@ -1,4 +1,4 @@
-"""Reads a trace: a schedule with the answer of each step (docs/TRACES.md, docs/FORMATS.md)."""
+"""Reads a trace: a schedule with the answer of each step (stress/TRACES.md, stress/FORMATS.md)."""
 from __future__ import annotations
 
 import re

@@ -26,7 +26,7 @@ class NodeId(NamedTuple):
 
 
 class Edge(NamedTuple):
-    """An edge: the slot that it leads to, 0 for none, and its two marks."""
+    """An edge: the slot to which it leads, 0 for none, and its two marks."""
     slot: int
     flag: bool
     tag: bool
@@ -38,7 +38,7 @@ def to(slot: int) -> Edge:
 
 
 def tagged(edge: Edge) -> Edge:
-    """`tagged`, `untagged`: the edge with, and without its tag; a null edge is never marked."""
+    """`tagged`, `untagged`: the edge with its tag, and without it; a null edge is never marked."""
     return Edge(edge.slot, edge.flag, edge.slot != 0)
 
 
@@ -55,9 +55,9 @@ def other(side: Side) -> Side:
 
 
 class Layout(NamedTuple):
-    """How many nodes there is room for, how many workers there are, how many words that say nothing
-    stand behind the announcement of each, and whether the tree has the shape of a radix tree, in which each
-    internal node is between the halves of a range (`Ranges`), or that of Natarajan and Mittal."""
+    """The number of nodes, the number of workers, the number of unused words after the announcement
+    of each, and the shape of the tree. In a radix tree each internal node is between the halves of
+    a range (`Ranges`); the other shape is that of Natarajan and Mittal."""
     nodes: int
     workers: int
     gap: int
@@ -103,8 +103,8 @@ class Node(NamedTuple):
 
 @dataclass(frozen=True)
 class Memory:
-    """The global epoch, what each worker announces, and by slot the nodes and whether the slot is
-    in the pool. Slot 0 is no node, and stands there with null edges."""
+    """The global epoch, the announcement of each worker, and by slot the nodes and whether the slot
+    is in the pool. Slot 0 is no node: its entry has null edges."""
     epoch: int
     announcements: Row
     nodes: Row
@@ -124,13 +124,13 @@ class Memory:
 
 
 def blank() -> Node:
-    """A slot that was never put to use, or is none."""
+    """The content of a slot that was never used, or that does not exist."""
     return Node(0, to(0), to(0), 0)
 
 
 def node(m: Memory, slot: int) -> Node:
-    """The node in a slot: key, left and right edge, and birth, the number of times that its slot
-    has been put to use."""
+    """The node in a slot: key, left and right edge, and birth (generation), the number of times
+    that its slot has been put to use."""
     return slice_index_or(m.nodes, slot, blank())
 
 
@@ -143,12 +143,12 @@ def edge(m: Memory, slot: int, side: Side) -> Edge:
 
 
 def child(m: Memory, slot: int, side: Side) -> int:
-    """The slot that an edge leads to."""
+    """The slot to which an edge leads."""
     return edge(m, slot, side).slot
 
 
 def is_leaf(it: Node) -> bool:
-    """A node is a leaf where both its edges are null."""
+    """A node is a leaf if both its edges are null."""
     return it.left.slot == 0 and it.right.slot == 0
 
 
@@ -180,7 +180,7 @@ def put_edge(m: Memory, slot: int, side: Side, new: Edge) -> Memory:
 
 
 def infinity_0() -> int:
-    """`infinity_0`, `infinity_1`, `infinity_2`: the sentinels, above all keys of the set."""
+    """`infinity_0`, `infinity_1`, `infinity_2`: the sentinels, greater than all keys of the set."""
     return 2**64 - 3
 
 
@@ -202,9 +202,9 @@ def fork(key: int, left: int, right: int) -> Node:
 
 
 def opening(layout: Layout) -> Memory:
-    """The empty tree: root 1 with key ∞2 over 2 and 5, 2 with key ∞1 over the leaves 3 and 4 with
-    keys ∞0 and ∞1, leaf 5 with ∞2; epoch 0, everybody idle, all slots above 5 in the pool, and
-    their words 0."""
+    """The empty tree. Root 1 has key ∞2 and the children 2 and 5. Node 2 has key ∞1 and the leaves
+    3 and 4 with keys ∞0 and ∞1, and leaf 5 has key ∞2. The epoch is 0, all workers are idle, and
+    all slots above 5 are in the pool, with words 0."""
     fixed = [blank(), fork(infinity_2(), 2, 5), fork(infinity_1(), 3, 4), leaf(infinity_0()),
              leaf(infinity_1()), leaf(infinity_2())]
     return Memory(
@@ -219,7 +219,7 @@ def opening(layout: Layout) -> Memory:
 
 
 def follow(m: Memory, s: int, path: tuple[Side, ...]) -> int:
-    """The slot where a path from s ends; 0 where it falls off."""
+    """The slot where a path from s ends; 0 if it leaves the tree."""
     for side in path:
         s = child(m, s, side)
     return s
@@ -236,5 +236,5 @@ def reached(m: Memory, slot: int) -> bool:
 
 
 def is_cut(before: Memory, after: Memory, slot: int) -> bool:
-    """An event cuts what was reached before it and isn't after it."""
+    """An event cuts a slot that was reached before it and is not reached after it."""
     return reached(before, slot) and not reached(after, slot)

@@ -1,4 +1,4 @@
--- A call while which no other worker makes a turn.
+-- Calls during which no other worker makes a turn.
 use Rattle.std.specs.Prelude.{◌≡◌, ℕ, ◌≤◌, List, ◌++◌, All, Err}
 use Rattle.nm_model.specs.declared.trace.Turn.{Turn}
 use Rattle.nm_edge.specs.declared.placement.Fit.{Fit}
@@ -14,19 +14,19 @@ use Rattle.nm_calls.specs.PrevKeys.{GiveUp as GiveUpPrev}
 use Rattle.nm_busy.specs.Pending.{NonePends}
 use Rattle.nm_busy.specs.Walked.{OfEachWalked}
 
--- what q has seen more than p are turns of its own worker alone
+-- the turns that q has seen after those of p are all of its own worker
 pub record IsAlone (p q : PassView) : Type 0 where
   pub turns : List Turn
   pub is : q.view.past ≡ p.view.past ++ turns
   pub own : All (λ t. t.worker ≡ p.view.number) turns
 
--- a look-up alone that may make a try is answered
+-- a look-up that runs alone and may make a try is answered
 abbrev pub LookupsAloneAreAnswered : Type 0
 LookupsAloneAreAnswered = (k tries : ℕ) (p q : PassView) → HasSeen p.view → HasSeen q.view
     → 5 ≤ p.view.layout.nodes → IsSamePass p q → HasSeenAllOf q p → IsAlone p q
     → HasMissed p.view.layout tries k p.view.log q.view.log → tries ≡ 0
 
--- so is an insert, where no delete was pending before it
+-- an insert that runs alone and may make a try is not busy, if no delete was pending before it
 abbrev pub InsertsAloneAreAnswered : Type 0
 InsertsAloneAreAnswered = (fit : Fit) (k tries : ℕ) (p q : PassView) → HasSeen p.view
     → HasSeen q.view → 5 ≤ p.view.layout.nodes → IsSamePass p q → HasSeenAllOf q p → IsAlone p q
@@ -34,7 +34,8 @@ InsertsAloneAreAnswered = (fit : Fit) (k tries : ℕ) (p q : PassView) → HasSe
     → InsertDid fit p.view.layout tries k p.view.log q.view.log (Err fault.Busy)
     → tries ≡ 0
 
--- and a delete: it is answered, or it has flagged its leaf
+-- a delete that runs alone and may make a try is not busy, if no delete was pending before it: it
+-- is answered, or it has flagged its leaf
 abbrev pub DeletesAloneAreNotBusy : Type 0
 DeletesAloneAreNotBusy = (k tries : ℕ) (p q : PassView) → HasSeen p.view
     → HasSeen q.view → 5 ≤ p.view.layout.nodes → IsSamePass p q → HasSeenAllOf q p → IsAlone p q
@@ -42,8 +43,8 @@ DeletesAloneAreNotBusy = (k tries : ℕ) (p q : PassView) → HasSeen p.view
     → DeleteDid p.view.layout tries k p.view.log q.view.log (Err missed.Busy)
     → tries ≡ 0
 
--- a look-up of several keys is answered too, and a call for the next key, or for the one before, that
--- may make two tries
+-- a look-up of several keys that runs alone and may make a try is answered, and so is a call for
+-- the next or the previous key that may make two tries
 abbrev pub ManyAloneAreAnswered : Type 0
 ManyAloneAreAnswered = (keys : List ℕ)
     → OfEachWalked (λ p tries. GiveUpInTurns p.view.layout keys)

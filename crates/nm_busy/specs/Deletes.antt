@@ -1,4 +1,4 @@
--- What a delete tells of the others that answers `Busy`, or that it is not finished.
+-- What other workers did during a delete that returned `Busy`, or that is not finished.
 use Rattle.std.specs.Prelude.{ℕ, ◌-◌, ◌≤◌, Err}
 use Rattle.nm_edge.specs.declared.node.NodeId.{NodeId}
 use Rattle.nm_steps.specs.Steps.{PassView, IsSamePass, HasSeenAllOf, HasSeen}
@@ -7,15 +7,16 @@ use Rattle.nm_calls.specs.declared.deleting.Missed.TheVariants as missed
 use Rattle.nm_calls.specs.Deletes.{DeleteDid, IsRemoving, LosesAfterFlag, LosesEachTry}
 use Rattle.nm_busy.specs.Lost.{Interference, ChangeWasBusy}
 
--- by its contract each delete that is busy was lost so
+-- each delete that is busy, by its contract, was lost for such a reason
 abbrev pub BusyDeletesWereLost : Type 0
 BusyDeletesWereLost = (k tries : ℕ) (p q : PassView) → HasSeen p.view → HasSeen q.view
     → 5 ≤ p.view.layout.nodes → p.view.layout.workers ≤ chain_bound → IsSamePass p q → HasSeenAllOf q p
     → DeleteDid p.view.layout tries k p.view.log q.view.log (Err missed.Busy)
     → ChangeWasBusy p q tries
 
--- and one that has flagged its leaf n and lost all tries since: those before and behind the flag,
--- but for the one that won it, and the cleanup that follows it
+-- a delete that has flagged its leaf n and lost all tries after that: its worker was interfered
+-- with at least as many times as it had tries, less two. These are the try that won the flag, and
+-- the cleanup that follows it
 abbrev pub UnfinishedDeletesWereLost : Type 0
 UnfinishedDeletesWereLost = (k tries : ℕ) (n : NodeId) (p q : PassView) → HasSeen p.view
     → HasSeen q.view → 5 ≤ p.view.layout.nodes → p.view.layout.workers ≤ chain_bound
@@ -23,7 +24,8 @@ UnfinishedDeletesWereLost = (k tries : ℕ) (n : NodeId) (p q : PassView) → Ha
     → IsRemoving q k n → LosesAfterFlag p.view.layout tries k p.view.log q.view.log n
     → Interference p q (tries - 2)
 
--- and where such a delete is gone on with, each try that is lost
+-- a call that goes on with such a delete and loses each try: its worker was interfered with at
+-- least as many times as it had tries
 abbrev pub UnfinishedFinishesWereLost : Type 0
 UnfinishedFinishesWereLost = (k tries : ℕ) (n : NodeId) (p q : PassView) → HasSeen p.view
     → HasSeen q.view → 5 ≤ p.view.layout.nodes → p.view.layout.workers ≤ chain_bound

@@ -1,4 +1,4 @@
--- What an insert that answers `Busy` tells of the others.
+-- What other workers did during an insert that returned `Busy`.
 use Rattle.std.specs.Prelude.{ℕ, ◌≤◌, Err}
 use Rattle.nm_edge.specs.declared.placement.Fit.{Fit}
 use Rattle.nm_steps.specs.Steps.{PassView, IsSamePass, HasSeenAllOf, HasSeen}
@@ -7,7 +7,7 @@ use Rattle.nm_calls.specs.declared.inserting.NotInserted.TheVariants as fault
 use Rattle.nm_calls.specs.Inserts.{InsertDid}
 use Rattle.nm_busy.specs.Lost.{ChangeWasBusy}
 
--- by its contract each insert that is busy was lost so
+-- each insert that is busy, by its contract, was lost for such a reason
 abbrev pub BusyInsertsWereLost : Type 0
 BusyInsertsWereLost = (fit : Fit) (k tries : ℕ) (p q : PassView) → HasSeen p.view → HasSeen q.view
     → 5 ≤ p.view.layout.nodes → p.view.layout.workers ≤ chain_bound → IsSamePass p q → HasSeenAllOf q p

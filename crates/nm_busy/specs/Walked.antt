@@ -1,4 +1,5 @@
--- What a call tells of the others that walks under a pin for no call, and answers `Busy`.
+-- What other workers did during a call that walks under a pin without an operation, and returned
+-- `Busy`.
 use Rattle.std.specs.Prelude.{◌≡◌, ◌⊎◌, ℕ, ◌+◌, ◌*◌, ◌≤◌, false, List}
 use Rattle.nm_model.specs.Walks.{Entry}
 use Rattle.nm_steps.specs.Steps.{PassView, IsSamePass, HasSeenAllOf, HasSeen}
@@ -9,19 +10,20 @@ use Rattle.nm_calls.specs.PrevKeys.{GiveUp as GiveUpPrev}
 use Rattle.nm_busy.specs.Lookups.{WasReshaped}
 use Rattle.nm_busy.specs.Pins.{WasMovedPast}
 
--- why a look-up of several keys was busy: it might make no try; or others moved the epoch on as often
--- as it might try; or, in the shape of Natarajan and Mittal alone, they linked or cut off a node
+-- why a look-up of several keys was busy: its number of tries was 0; or others advanced the epoch
+-- at least as many times; or, only in the shape of Natarajan and Mittal, they linked or cut off a
+-- node
 abbrev pub ManyWereBusy : PassView → PassView → ℕ → Type 0
 ManyWereBusy p q tries = (tries ≡ 0) ⊎ WasMovedPast p q tries
     ⊎ (p.view.layout.radix ≡ false) × WasReshaped p q 1
 
--- why a call for the key nearest to one was busy: so; or others linked or cut off nodes half as often
--- as it might try
+-- why a call for the next or the previous key was busy: for such a reason; or others linked or cut
+-- off nodes at least half as many times as it had tries, rounded down
 abbrev pub NearWasBusy : PassView → PassView → ℕ → Type 0
 NearWasBusy p q tries = ManyWereBusy p q tries
     ⊎ ((times : ℕ) × (tries ≤ 2 * times + 1) × WasReshaped p q times)
 
--- by its contract each call is busy so, whose walks give up like that
+-- each call whose walks give up in this way, by its contract, was busy for such a reason
 abbrev pub OfEachWalked : (PassView → ℕ → List Entry → List Entry → Type 0)
     → (PassView → PassView → ℕ → Type 0) → Type 0
 OfEachWalked GivesUp WasBusy = (tries : ℕ) (p q : PassView) → HasSeen p.view → HasSeen q.view

@@ -1,26 +1,31 @@
-//! Calls alone.
+//! Laws of calls that run alone.
 ghost use Rattle.nm_busy.specs.Alone.{DeletesAloneAreNotBusy, InsertsAloneAreAnswered, LookupsAloneAreAnswered, ManyAloneAreAnswered, NextsAloneAreAnswered, PrevsAloneAreAnswered};
 
-/// A look-up that may make a try, and between whose begin and end no other worker makes a turn, is
-/// not busy. (Obstruction freedom: Herlihy, Luchangco and Moir.)
+/// Law: for every look-up that may make a try, it does not return `Busy` if no other worker makes a
+/// turn (transition) between its begin and its end. (Obstruction freedom: Herlihy, Luchangco and
+/// Moir.)
 pub fn lookups_alone_are_answered()
     ensures { LookupsAloneAreAnswered }
 {}
 
-/// Nor is such a look-up of several keys; and a call for the next key, or for the one before, that may
-/// make two tries.
+/// Law: for every look-up of several keys that may make a try, it does not return `Busy` if no
+/// other worker makes a turn between its begin and its end. The same holds of every call for the
+/// next or the previous key that may make two tries.
 pub fn walks_alone_are_answered()
     ensures many { ManyAloneAreAnswered }
     ensures next { NextsAloneAreAnswered }
     ensures prev { PrevsAloneAreAnswered }
 {}
 
-/// Nor is such an insert, where no delete was pending when it began.
+/// Law: for every insert that may make a try, it does not return `Busy` if no other worker makes a
+/// turn between its begin and its end, and no delete was pending when it began.
 pub fn inserts_alone_are_answered()
     ensures { InsertsAloneAreAnswered }
 {}
 
-/// Nor is such a delete: it is answered, or it has flagged its leaf.
+/// Law: for every delete that may make a try, it does not return `Busy` if no other worker makes a
+/// turn between its begin and its end, and no delete was pending when it began. It is answered, or
+/// it has flagged its leaf.
 pub fn deletes_alone_are_not_busy()
     ensures { DeletesAloneAreNotBusy }
 {}

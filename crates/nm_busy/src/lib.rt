@@ -1,4 +1,4 @@
-//! What a call that answers `Busy` tells of the others, as laws over the contracts of the
+//! What other workers did during a call that returned `Busy`, as laws over the contracts of the
 //! calls. Nothing here runs.
 #![tactic(auto)]
 

@@ -1,9 +1,9 @@
-//! Look-ups.
+//! Law of look-ups that return `Busy`.
 ghost use Rattle.nm_busy.specs.Lookups.{BusyLookupsMetInterference};
 
-/// A look-up is busy only where it might make no try, or where others, in the part of the run
-/// between its begin and its end, have moved the epoch on at least as often as it might try, or
-/// have at least so often linked or cut off nodes.
+/// Law: for every look-up that returns `Busy`, its number of tries was 0, or between its begin and
+/// its end others did one of two things at least as many times as it had tries. They advanced the
+/// epoch, or they linked or cut off nodes.
 pub fn busy_lookups_met_interference()
     ensures { BusyLookupsMetInterference }
 {}

@@ -1,8 +1,8 @@
-//! Lost pins.
+//! Law of pins that lost each try.
 ghost use Rattle.nm_busy.specs.Pins.{LostPinsWereMovedPast};
 
-/// Where each try of a pin was lost, other workers have moved the epoch on at least as often, in
-/// the part of the run between the begin and the end of the call.
+/// Law: for every pin that lost each try, other workers advanced the epoch at least as many times,
+/// between the begin and the end of the call.
 pub fn lost_pins_were_moved_past()
     ensures { LostPinsWereMovedPast }
 {}

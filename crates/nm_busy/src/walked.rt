@@ -1,15 +1,15 @@
-//! Calls that walk under a pin for no call.
+//! Laws of calls that walk under a pin without an operation, and return `Busy`.
 ghost use Rattle.nm_busy.specs.Walked.{BusyManyMetInterference, BusyNextsMetInterference, BusyPrevsMetInterference};
 
-/// A look-up of several keys is busy only where it might make no try; or where others have moved the
-/// epoch on at least as often as it might try; or where they have linked or cut off a node, and the
-/// tree is of the shape of Natarajan and Mittal.
+/// Law: for every look-up of several keys that returns `Busy`, its number of tries was 0, or others
+/// advanced the epoch at least as many times as it had tries, or they linked or cut off a node. The
+/// last is possible only in a tree of the shape of Natarajan and Mittal.
 pub fn busy_many_met_interference()
     ensures { BusyManyMetInterference }
 {}
 
-/// A call for the next key, or for the one before, is busy only so, or where others have linked or
-/// cut off nodes half as often as it might try: in the time of each two of its walks once at least.
+/// Law: for every call for the next or the previous key that returns `Busy`, the same holds, or
+/// others linked or cut off nodes at least half as many times as it had tries, rounded down.
 pub fn busy_near_met_interference()
     ensures next { BusyNextsMetInterference }
     ensures prev { BusyPrevsMetInterference }

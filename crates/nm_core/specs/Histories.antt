@@ -1,4 +1,5 @@
--- Worked schedules of ordered cores with their histories: the calls in the order of their moments.
+-- Worked schedules of ordered cores with their histories: the calls in the order of their moments
+-- (linearization points).
 use Rattle.std.specs.Prelude.{ℕ, true, false, List, [], ◌∷◌, ◌++◌, map, Some, Ok, Contains}
 use Rattle.nm_edge.specs.Layouts.{dense}
 use Rattle.nm_edge.specs.declared.edge.Side.TheVariants.{Left, Right}
@@ -14,7 +15,7 @@ use Rattle.nm_core.specs.Schedules.{Worked, IsAsWorkedInOrder, q, l}
 use Rattle.nm_model.specs.Acts.{Act, IsAmong, Replays, nothing}
 use Rattle.nm_order.specs.History.{InOrderOfMoments, EachOnce, IsActOfRun, HasActOfCall, IsRunHistory}
 
--- the acts that were worked out by hand, and the keys of the set at last
+-- the acts that were worked out by hand, and the keys of the set at the end
 pub record Told : Type 0 where
   pub schedule : Worked
   pub acts : List Act
@@ -23,9 +24,9 @@ pub record Told : Type 0 where
 abbrev pub events_of : Told → List (ℕ × Event)
 events_of x = map turn_of x.schedule.turns
 
--- the schedule is as worked; its acts are ones of calls of the run, each at a moment of its call,
--- in order and each once; one plain set, empty at first, gives each its answer and has those keys
--- at last; and every history of the run has acts of just these calls
+-- the schedule is as worked. Its acts are of calls of the run, each at a moment of its call, in
+-- order and each once. One plain set, empty at first, gives each its answer and has those keys at
+-- the end. Every history of the run has acts of exactly these calls
 pub record IsAsTold (x : Told) : Type 0 where
   pub schedule : IsAsWorkedInOrder x.schedule x.keys
   pub replays : Replays nothing x.acts (Contains x.keys)
@@ -51,7 +52,7 @@ inserted =
     t 0 (LeaveWith true) (Ok Departed) ∷
     []
 
--- and flags its leaf to delete it
+-- worker 0 flags the leaf of 5 to delete it
 abbrev pub flagged : List Turn
 flagged =
     t 0 Announce (Ok (Announced 0)) ∷
@@ -65,8 +66,8 @@ flagged =
     []
 
 -- worker 0 inserts 5, and flags its leaf to delete it. Worker 1, which inserts 6, comes to the
--- flagged leaf, cuts it off and links. The delete is never answered, and its moment is the other's
--- splice
+-- flagged leaf, cuts it off and links. The delete is never answered, and its moment is the splice
+-- of worker 1
 abbrev pub helped : Told
 helped = record {
   schedule = record {
@@ -106,8 +107,8 @@ helped = record {
 }
 
 -- worker 0 inserts 5. Worker 1 looks for 5 and comes to the edge of its leaf; then worker 0 deletes
--- 5, and answers. Worker 1 reads the leaf, which is cut, and answers that 5 is there. So it was at
--- a moment of that call, before the splice
+-- 5, and answers. Worker 1 reads the leaf, which is cut, and answers that 5 is in the set. This was
+-- true at a moment of its call, before the splice
 abbrev pub stale : Told
 stale = record {
   schedule = record {

@@ -9,9 +9,9 @@ use Rattle.nm_model.specs.declared.reply.Reply.TheVariants.{Saw, Labelled, Pinne
 use Rattle.nm_model.specs.Shorthands.{t, e, n, makes}
 use Rattle.nm_core.specs.Schedules.{Worked, q, l}
 
--- worker 0 inserts 5, then 6 beside it and 100 over the internal node 8, whose range is from 4 to 7.
--- It comes to slot 8 again to insert 12, by the edge of the internal node 10. Worker 1 deletes 100,
--- and so cuts 10 off; the link over 8 is lost, and won at the next edge that leads there
+-- worker 0 inserts 5, then 6 beside it and 100 over the internal node 8, whose range is from 4 to
+-- 7. It comes to slot 8 again to insert 12, by the edge of the internal node 10. Worker 1 deletes
+-- 100, and so cuts 10 off. The link over 8 is lost, and is won at the next edge that leads to 8
 abbrev pub parent_cut : Worked
 parent_cut = record {
   layout = in_radix (dense 16 2);

@@ -24,7 +24,7 @@ pub record Worked : Type 0 where
   pub epoch : ℕ
   pub counts : Places
 
--- played from the opening, the events have these outcomes, and lead to these ledgers, this epoch
+-- a run of the events from the opening has these outcomes, and leads to these ledgers, this epoch
 -- and these counts
 abbrev pub IsAsWorked : Worked → Type 0
 IsAsWorked x = report x.layout (map (λ t. (t.worker, t.event)) x.turns)
@@ -62,7 +62,7 @@ ten =
     t 0 (Look 7 (EdgeOn Left)) (Ok (EdgeIs (e 0 false false))) ∷
     []
 
--- and 20 behind it
+-- then worker 0 inserts 20
 abbrev pub ten_and_twenty : List Turn
 ten_and_twenty = ten ++ makes 0 8 9 20 7 9 20 ++ t 0 (Link 6 Left 7 8) (Ok (Linked (n 8 1))) ∷ []
 
@@ -86,7 +86,7 @@ held_back = record {
   counts = record { pool = 2; private = 0; reached = 0; queued = 0 };
 }
 
--- two workers scan one epoch, and one of them moves it
+-- two workers scan one epoch, and one of them advances it
 abbrev pub two_scanners : Worked
 two_scanners = record {
   layout = dense 7 2;
@@ -131,7 +131,7 @@ stale_announcement = record {
   counts = record { pool = 2; private = 0; reached = 0; queued = 0 };
 }
 
--- a pin is lost to a move of the epoch, and won at the second try
+-- a pin is lost because the epoch was advanced, and won at the second attempt
 abbrev pub lost_pin : Worked
 lost_pin = record {
   layout = dense 7 2;
@@ -282,7 +282,7 @@ helping = record {
   counts = record { pool = 5; private = 0; reached = 4; queued = 2 };
 }
 
--- nodes are freed in order and not too young
+-- nodes are freed in order, and only if they are not too young
 abbrev pub order_and_age : Worked
 order_and_age = record {
   layout = dense 7 1;
@@ -315,7 +315,7 @@ order_and_age = record {
   counts = record { pool = 2; private = 0; reached = 0; queued = 0 };
 }
 
--- events that are refused for what they name
+-- events that are refused because of what they name
 abbrev pub refusals : Worked
 refusals = record {
   layout = dense 16 2;
@@ -354,7 +354,8 @@ refusals = record {
   counts = record { pool = 7; private = 0; reached = 4; queued = 0 };
 }
 
--- a worker with a private slot can't resign; then it does, and takes no step any more
+-- a worker with a private slot cannot resign; once it has given the slot back it does, and makes no
+-- step any more
 abbrev pub resigning_schedule : Worked
 resigning_schedule = record {
   layout = dense 7 2;
@@ -400,7 +401,7 @@ insert_in_order = record {
   counts = record { pool = 0; private = 0; reached = 2; queued = 0 };
 }
 
--- a delete in an ordered core, which flags one leaf alone, and whose own splice shows the answer
+-- a delete in an ordered core: it flags only one leaf, and its own splice shows the answer
 abbrev pub delete_in_order : Worked
 delete_in_order = record {
   layout = dense 7 1;

@@ -13,8 +13,8 @@ ghost use Rattle.nm_core.specs.Histories as histories;
 pub use nm_model::{Event, Field, NewError, Op, Places, Refused, Reply, RunError, Trace, Turn};
 pub use pure_core::Core;
 
-/// The definitions, played on the worked schedules, say what the schedules say: each outcome, each
-/// ledger, the epoch and the counts.
+/// Law: the definitions, applied to the worked schedules, give what the schedules say: each
+/// outcome, each ledger, the epoch and the counts; for ordered cores, the keys too.
 pub fn worked_schedules()
     ensures held_back { IsAsWorked worked.held_back }
     ensures two_scanners { IsAsWorked worked.two_scanners }
@@ -32,9 +32,9 @@ pub fn worked_schedules()
     ensures parent_cut { IsAsWorkedInOrder parent_cut (5 ∷ 6 ∷ 12 ∷ []) }
 {}
 
-/// Two worked schedules have the histories that were worked out by hand: one with a delete that
-/// another worker's splice ends and that is never answered, and one with a look-up that answers by
-/// a leaf which was cut off since.
+/// Law: two worked schedules have the histories that were worked out by hand. In one, another
+/// worker's splice ends a delete that is never answered. In the other, a look-up answers by a leaf
+/// that was cut off in the meantime.
 pub fn worked_histories()
     ensures helped { IsAsTold histories.helped }
     ensures stale { IsAsTold histories.stale }

@@ -25,8 +25,8 @@ use nm_model::{NewError, Places};
 use std::alloc::{AllocError, Global};
 use std::marker::Model;
 
-/// All words of the tree, and what each worker knows, as plain data. Its state is one to which some
-/// events lead from the opening.
+/// All words of the tree, and what each worker knows, as plain data. Some events lead from the
+/// opening to its state.
 #[derive(Drop)]
 pub struct Core {
     machine: Machine,
@@ -49,7 +49,7 @@ impl Model for Core {
         (record { state = c.machine; searches = option_map searches_of c.searches }) };
 }
 
-// The call of an event is for a key of the set: the type of its key says so.
+// Establishes that the call of an event is for a key of the set, by the type of its key.
 fn read_key(event: &Event)
     ensures { HasKey event.now }
 {
@@ -59,8 +59,10 @@ fn read_key(event: &Event)
 }
 
 impl Core {
-    /// The opening: the empty tree, epoch 0, everybody idle, and every slot above 5 in the pool
-    /// with birth 0.
+    /// Returns the opening: the empty tree, epoch 0, all workers idle, and every slot above 5 in
+    /// the pool with birth (generation) 0.
+    ///
+    /// Errors: `Nodes`, `Workers`: there are too few or too many; `NoMemory`.
     pub fn new(alloc: Global, nodes: u32, workers: u32) -> Result<Core, NewError>
         ensures opening { IfOk result (λ core. core ≡ plain (dense nodes workers)) }
         ensures nodes { IsErrOf result NewError.Nodes
@@ -71,9 +73,12 @@ impl Core {
         Ok(Core::of(alloc, Layout::new(nodes, workers)?, false)?)
     }
 
-    /// The opening of an ordered core, where no worker has an operation yet. It refuses as a plain
-    /// core does, and then links and flags that are not where a walk of the worker's own operation
-    /// ended, and leaves without an answer that its log shows.
+    /// Returns the opening of an ordered core, in which no worker has an operation yet. It refuses
+    /// what a plain core refuses. It also refuses links and flags that are not at a place to which
+    /// a walk of the worker's own operation came, and leaves without an answer that the worker's
+    /// log shows.
+    ///
+    /// Errors: `Nodes`, `Workers`: there are too few or too many; `NoMemory`.
     pub fn ordered(alloc: Global, nodes: u32, workers: u32) -> Result<Core, NewError>
         ensures opening { IfOk result (λ core. core ≡ ordered (dense nodes workers)) }
         ensures nodes { IsErrOf result NewError.Nodes
@@ -84,10 +89,12 @@ impl Core {
         Ok(Core::of(alloc, Layout::new(nodes, workers)?, true)?)
     }
 
-    /// The opening of a core of that layout, an ordered one or a plain one. In a core of a radix
-    /// tree a link may be over an internal node; an ordered one allows it where a walk of the
-    /// worker's own operation came within the ranges of the nodes above, to a leaf or to a node
-    /// without the key in its range.
+    /// Returns the opening of a core of that layout, ordered or plain. In a radix tree a link may
+    /// be over an internal node. An ordered core allows it if a walk of the worker's own operation
+    /// came there, to a leaf or to a node without the key in its range. The walk's last edge must
+    /// be the root's, or one of a node with the key in its range.
+    ///
+    /// Errors: out of memory.
     pub fn of(alloc: Global, layout: Layout, is_ordered: bool) -> Result<Core, AllocError>
         ensures opening { IfOk result (λ core. core ≡ opening_of layout is_ordered) }
     {
@@ -106,16 +113,17 @@ impl Core {
         })
     }
 
-    /// Proof only: establishes that the core came from its opening by some events, whose calls are for
-    /// keys of the set. So each law of all runs holds of this core, and each law of ordered runs holds
-    /// of an ordered core. No run-time effect.
+    /// Proof only: establishes that some events, whose calls are for keys of the set, lead from the
+    /// opening to this core. Each law of all runs therefore holds for this core, and each law of
+    /// ordered runs for an ordered core. No run-time effect.
     pub fn know_run(&self)
         ensures { IsReached self.now }
     {
         let _machine = &self.machine;
     }
 
-    /// The global epoch. While a worker is pinned at an epoch, it is that one or the next.
+    /// Returns the global epoch. While a worker is pinned at an epoch, the global epoch is that one
+    /// or the next.
     pub fn epoch(&self) -> u64
         ensures epoch { result ≡ self.now.state.memory.epoch }
         ensures near { PinsAreNear self.now.state }
@@ -123,8 +131,8 @@ impl Core {
         self.machine.epoch()
     }
 
-    /// What a worker's splices cut off, whoever holds its queue; `None` exactly where there is no
-    /// such worker.
+    /// Returns what a worker's splices cut off, whichever worker holds its queue; `None` exactly if
+    /// there is no such worker.
     pub fn ledger(&self, worker: u32) -> Option<&Ledger>
         ensures ledger { option_copied result ≡ ledger_of self.now.state worker }
         ensures none { (ledger_of self.now.state worker ≡ None)
@@ -133,8 +141,8 @@ impl Core {
         self.machine.ledger(worker)
     }
 
-    /// The worker that holds the ledger of an origin: itself, or one to which it resigned, directly
-    /// or through others. `None` exactly where there is no such worker.
+    /// Returns the worker that holds the ledger of an origin: the origin itself, or a worker to
+    /// which it resigned, directly or through others. `None` exactly if there is no such worker.
     pub fn holder(&self, origin: u32) -> Option<u32>
         ensures holder { result ≡ holder self.now.state origin }
         ensures none { (result ≡ None) ↔ (self.now.state.layout.workers ≤ origin) }
@@ -142,10 +150,11 @@ impl Core {
         self.machine.holder(origin)
     }
 
-    /// How many of the slots above 5 are in the pool, private to a worker, reached from the root,
-    /// and queued: of each place, the number of the slots that stand there, by what the place
-    /// means. Each is in exactly one of these places, so the four add up to the nodes above slot 5.
-    /// Takes one pass and no memory.
+    /// Returns how many of the slots above 5 are in the pool, private to a worker, reached from the
+    /// root, and queued. Each slot is in exactly one of these places, so the four numbers add up to
+    /// the nodes above slot 5.
+    ///
+    /// Cost: one pass, and no memory.
     pub fn places(&self) -> Places
         ensures places { result ≡ counts self.now.state }
         ensures slots { AreNumbersOfSlots self.now.state result }
@@ -154,9 +163,11 @@ impl Core {
         self.machine.places()
     }
 
-    /// The keys of the set: exactly those of the leaves that paths from the root lead to, without
-    /// the fixed leaves; a key for each such path, from left to right. Of an ordered core each
-    /// stands there once, and they ascend.
+    /// Returns the keys of the set: exactly those of the leaves to which paths from the root lead,
+    /// except the fixed leaves. There is one key for each such path, from left to right. In an
+    /// ordered core each key is there once, and the keys ascend.
+    ///
+    /// Errors: out of memory.
     pub fn keys(&self) -> Result<Vec<Key>, AllocError>
         ensures keys { IfOk result (λ found. found.items ≡ keys self.now.state) }
         ensures paths { IfOk result
@@ -167,8 +178,8 @@ impl Core {
         self.machine.keys()
     }
 
-    /// One event. Answers its reply, or the first reason in the order of `Refused` for which it is
-    /// refused; what is refused changes nothing.
+    /// Applies one event; returns its reply, or the first reason in the order of `Refused` for
+    /// which it is refused. A refused event changes nothing.
     pub fn apply(&mut self, worker: u32, event: Event) -> Result<Reply, Refused>
         ensures outcome { IsAnswer (refused_in self.old worker event)
             (reply_of self.old.state worker event) result }
@@ -183,7 +194,7 @@ impl Core {
         }
     }
 
-    // One event and its outcome, or nothing where memory was refused.
+    // Applies one event and returns its outcome. If memory runs out, nothing has changed.
     #[tactic(auto, unfolding(nm_model::specs::Ordered::next_in, nm_model::specs::Ordered::outcome_in))]
     fn settle(&mut self, worker: u32, event: Event) -> Result<Result<Reply, Refused>, AllocError>
         ensures outcome { IfOk result (λ o. o ≡ outcome_in self.old (worker, event)) }
@@ -198,7 +209,7 @@ impl Core {
         }
     }
 
-    // Applies each event in turn, and notes its outcome.
+    // Applies each event in turn, and records its outcome.
     #[tactic(auto, unfolding(nm_model::specs::Ordered::after_in, nm_model::specs::Ordered::trace_in))]
     fn play(&mut self, events: &[(u32, Event)]) -> Result<Trace, RunError>
         ensures trace { IfOk result (λ t. t ≡ trace_in self.old events.now) }
@@ -233,17 +244,20 @@ impl Core {
     /// Applies each event in turn, and goes on after one that is refused. The trace lists worker,
     /// event and outcome of each.
     ///
-    /// The turns that led here, whatever they were, and then those of this run have the headline
-    /// (`nm_theorem`): at each moment each slot is in one place, each turn cuts exactly the nodes
-    /// of its outcome, each worker's cuts are its freed and then its waiting nodes, none twice,
-    /// nothing is freed while a worker that was pinned at its cut has not left, and what a worker
-    /// has touched stays until it leaves. Each state of this run keeps what every state keeps, and
-    /// its ledgers grow by the turns (`lawful`). An ordered core stays in order, and its whole run,
-    /// from its opening on, is a history of one plain set (it is linearizable; see
+    /// Proved (clause `headline`): the turns that led to this core, followed by those of this run,
+    /// have the headline (`nm_theorem`). At each moment each slot above the five fixed ones is in
+    /// one place. Each turn cuts exactly the nodes of its outcome. Each worker's cuts are its freed
+    /// nodes followed by those that wait, and no node is cut twice. No node is freed before each
+    /// worker that was pinned at its cut has left. A node that a worker has learned of stays the
+    /// same until the worker leaves.
+    ///
+    /// Proved (clauses `lawful`, `order` and `histories`): each state of this run keeps what every
+    /// state keeps, and its ledgers grow by the turns. An ordered core stays in order. Its whole
+    /// run, from its opening on, is a history of one plain set (it is linearizable; see
     /// `runs_are_histories` of `nm_order`).
     ///
-    /// Where memory is refused, the first `done` events have been applied and no more, and the next
-    /// is one that the core would have allowed; or `done` is 0, and no event was tried.
+    /// Errors: if memory runs out, only the first `done` events have been applied. The next one is
+    /// an event that the core would have allowed; or `done` is 0, and no event was tried.
     pub fn run(&mut self, events: Vec<(u32, Event)>) -> Result<Trace, RunError>
         ensures trace { IfOk result (λ t. t ≡ trace_in self.old events.items) }
         ensures state { OnOk result (self.new ≡ after_in self.old events.items) }

@@ -1,5 +1,5 @@
--- The edge in a word has that word, and the place in a number that number. The models of `Edge` and
--- `EdgePlace` cite it: each is kept as such a number.
+-- The edge in a word has that word, and the place in a number has that number. The models of `Edge`
+-- and `EdgePlace` use this, because both are kept as such numbers.
 use Rattle.std.specs.Prelude.{◌≡◌, ℕ, zero, suc, ◌*◌, ◌/◌, ◌%◌, ◌<◌, ◌==◌, true, if◌then◌else◌}
 use Rattle.std.proofs.Common.{refl, arith}
 use Rattle.std.proofs.lemmas.Bool.Decides.{nat_tests}

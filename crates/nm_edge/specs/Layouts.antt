@@ -3,18 +3,17 @@ use Rattle.std.specs.Prelude.{◌≡◌, ◌⊎◌, ℕ, ◌<◌, ◌≤◌, Boo
 use Rattle.nm_edge.specs.declared.layout.LayoutError.{LayoutError}
 use Rattle.nm_edge.specs.declared.layout.LayoutError.TheVariants.{Nodes, Workers}
 
--- how many nodes there is room for, how many workers there are, how many words that say nothing
--- stand behind the announcement of each, and whether the tree has the shape of a radix tree, in
--- which each internal node is between the halves of a range (`Ranges`), or that of Natarajan and
--- Mittal
+-- the number of nodes, the number of workers, the number of unused words after the announcement of
+-- each, and the shape of the tree. In a radix tree each internal node is between the halves of a
+-- range (`Ranges`); the other shape is that of Natarajan and Mittal
 pub record Layout : Type 0 where
   pub nodes : ℕ
   pub workers : ℕ
   pub gap : ℕ
   pub radix : Bool
 
--- the sizes that there may be: 7 to 268,435,456 nodes, the five fixed ones counted, 1 to 64
--- workers, and no words or 511 behind each announcement
+-- the sizes that are allowed: 7 to 268,435,456 nodes, the five fixed ones counted, 1 to 64 workers,
+-- and 0 or 511 unused words after each announcement
 pub record IsLayout (L : Layout) : Type 0 where
   pub least : 7 ≤ L.nodes
   pub most : L.nodes ≤ 268435456
@@ -34,8 +33,8 @@ spaced nodes workers = record { nodes = nodes; workers = workers; gap = 511; rad
 abbrev pub in_radix : Layout → Layout
 in_radix L = record { nodes = L.nodes; workers = L.workers; gap = L.gap; radix = true }
 
--- why there is no layout of so many nodes, 7 to `most`, and so many workers, 1 to 64: the nodes are
--- others; or they are not, and the workers are
+-- why there is no layout of these nodes, 7 to `most`, and these workers, 1 to 64: the number of
+-- nodes is out of range; or it is in range, and that of the workers is not
 abbrev pub IsLayoutFault : ℕ → ℕ → ℕ → LayoutError → Type 0
 IsLayoutFault most nodes workers Nodes = (nodes < 7) ⊎ (most < nodes)
 IsLayoutFault most nodes workers Workers =

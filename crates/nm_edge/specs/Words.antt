@@ -5,8 +5,8 @@ use Rattle.nm_edge.specs.declared.edge.Side.TheVariants.{Left, Right}
 use Rattle.nm_edge.specs.declared.layout.PoolPlace.{PoolPlace}
 use Rattle.nm_edge.specs.Layouts.{Layout}
 
--- the fields of a tree, a word each: the epoch; a worker's announcement; of each slot its key, two
--- edges and birth; and the rows of the pool, of 64 slots each
+-- the fields of a tree, one word each: the epoch; each worker's announcement; for each slot its
+-- key, two edges and birth; and the rows of the pool, of 64 slots each
 pub data Field : Type 0 where
   at_epoch : Field
   at_announcement : ℕ → Field
@@ -19,7 +19,7 @@ pub data Field : Type 0 where
 abbrev pub IsSlot : Layout → ℕ → Type 0
 IsSlot L s = (1 ≤ s) × (s ≤ L.nodes)
 
--- how many rows the pool has
+-- the number of rows of the pool
 abbrev pub rows : Layout → ℕ
 rows L = (L.nodes + 63) / 64
 
@@ -32,14 +32,14 @@ IsField L (at_edge s _) = IsSlot L s
 IsField L (at_birth s) = IsSlot L s
 IsField L (at_row r) = r < rows L
 
--- the first word behind the epoch's and the announcements of so many workers. With no gap the words
--- stand side by side. With a gap of 511 announcements are 512 words apart, a page; two words of the
--- epoch's page are thought to stand before it, so that each announcement begins a page, and so does
--- the first node
+-- the first word after the epoch's and the announcements of this number of workers. With no gap the
+-- words are side by side. With a gap of 511, announcements are 512 words apart, which is a page.
+-- Two words of the epoch's page are assumed before its own word, so that each announcement begins a
+-- page, and so does the first node
 abbrev pub behind_announcements : Layout → ℕ → ℕ
 behind_announcements L w = 1 + (L.gap - 2) + (1 + L.gap) * w
 
--- the first word of a slot's four, behind the announcements
+-- the first word of a slot's four, after the announcements
 abbrev pub slot_word : Layout → ℕ → ℕ
 slot_word L s = behind_announcements L L.workers + 4 * (s - 1)
 
@@ -47,8 +47,8 @@ slot_word L s = behind_announcements L L.workers + 4 * (s - 1)
 abbrev pub pool_word : Layout → ℕ
 pool_word L = behind_announcements L L.workers + 4 * L.nodes
 
--- the number of a field's word: the epoch, an announcement a worker, four words a slot, and the
--- pool in rows of 64 slots
+-- the number of a field's word: the epoch, one word for each announcement, four words for each
+-- slot, and the pool in rows of 64 slots
 abbrev pub word : Layout → Field → ℕ
 word L at_epoch = 0
 word L (at_announcement w) = behind_announcements L w
@@ -58,7 +58,7 @@ word L (at_edge s Right) = slot_word L s + 2
 word L (at_birth s) = slot_word L s + 3
 word L (at_row r) = pool_word L + r
 
--- how many words there are
+-- the number of words
 abbrev pub words : Layout → ℕ
 words L = pool_word L + rows L
 
@@ -68,12 +68,12 @@ pool_place L s = record { word = word L (at_row ((s - 1) / 64)); mask = 2 ^ ((s 
 
 -- ---- laws
 
--- no two fields have one word
+-- no two fields have the same word
 abbrev pub FieldsAreApart : Type 0
 FieldsAreApart = (L : Layout) (f g : Field) → IsField L f → IsField L g → word L f ≡ word L g
     → f ≡ g
 
--- the number of each field's word is below that of all words
+-- the number of each field's word is below the number of words
 abbrev pub FieldsAreWithin : Type 0
 FieldsAreWithin = (L : Layout) (f : Field) → IsField L f → word L f < words L
 
@@ -81,13 +81,13 @@ FieldsAreWithin = (L : Layout) (f : Field) → IsField L f → word L f < words 
 abbrev pub PoolPlacesAreRows : Type 0
 PoolPlacesAreRows = (L : Layout) (s : ℕ) → IsSlot L s → IsField L (at_row ((s - 1) / 64))
 
--- two places in one word share no bit
+-- two places in the same word share no bit
 abbrev pub PoolMasksAreApart : Type 0
 PoolMasksAreApart = (L : Layout) (s t : ℕ) → IsSlot L s → IsSlot L t → s ≢ t
     → (pool_place L s).word ≡ (pool_place L t).word
     → bit_and (pool_place L s).mask (pool_place L t).mask ≡ 0
 
--- no two slots have one place
+-- no two slots have the same place
 abbrev pub PoolPlacesAreApart : Type 0
 PoolPlacesAreApart = (L : Layout) (s t : ℕ) → IsSlot L s → IsSlot L t
     → pool_place L s ≡ pool_place L t → s ≡ t

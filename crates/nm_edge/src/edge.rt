@@ -1,24 +1,23 @@
-//! Edges: where a node's child stands, and the two marks that freeze an edge.
+//! Edges: the slot of a node's child, and the two marks that freeze an edge.
 ghost use Rattle.std.specs.Prelude.{◌≡◌, ◌≢◌, ◌/◌, ◌^◌, ◌<◌, ◌≤◌, ◌⊎◌, ◌↔◌, IfSome, IsNone, true};
 ghost use Rattle.nm_edge.specs.Edges.{IsEdge, edge_in, is_to, is_word, other, tagged, to, unpacked, untagged, word_of};
 
 use std::fmt;
 use std::marker::Model;
 
-/// A side of a node. A search for a key goes left where the key is less than the node's, else
-/// right.
+/// A side of a node. A search for a key goes left if the key is less than the node's, else right.
 #[derive(Clone, Copy, Debug, PartialEq, Eq)]
 pub enum Side {
     Left,
     Right,
 }
 
-/// An edge of a node: the slot that it leads to, and its two marks (Natarajan and Mittal, section
+/// An edge of a node: the slot to which it leads, and its two marks (Natarajan and Mittal, section
 /// 3.1).
 ///
-/// The flag says that the leaf below and the node above are to be removed, the tag that the node
-/// above alone is. The null edge, to slot 0, has no mark. It is kept as its word, so that a word
-/// that was loaded is an edge with no test.
+/// The flag means that the leaf below the edge and the node above it are to be removed. The tag
+/// means that only the node above it is. The null edge, to slot 0, has no mark. An edge is kept as
+/// its word, so a word that was loaded is an edge without a test.
 #[derive(Clone, Copy, PartialEq, Eq)]
 pub struct Edge {
     word: u64,
@@ -42,7 +41,7 @@ impl Model for Edge {
 }
 
 impl Edge {
-    /// The edge to a slot with these marks; `None` exactly for a null edge with a mark.
+    /// Returns the edge to a slot with these marks; `None` exactly for a null edge with a mark.
     pub fn new(slot: u32, flag: bool, tag: bool) -> Option<Edge>
         ensures edge { IfSome result
             (λ edge. edge ≡ record { slot = slot; flag = flag; tag = tag }) }
@@ -57,7 +56,7 @@ impl Edge {
         })
     }
 
-    /// The edge to a slot, with no mark.
+    /// Returns the edge to a slot, with no mark.
     pub fn to(slot: u32) -> Edge
         ensures { result ≡ to slot }
     {
@@ -66,35 +65,36 @@ impl Edge {
         }
     }
 
-    /// The slot that it leads to; 0 for the null edge.
+    /// Returns the slot to which the edge leads; 0 for the null edge.
     pub fn slot(self) -> u32
         ensures { result ≡ self.slot }
     {
         (self.word / 4) as u32
     }
 
-    /// Whether the leaf below it and the node above it are to be removed.
+    /// Returns whether the leaf below the edge and the node above it are to be removed.
     pub fn flag(self) -> bool
         ensures { result ≡ self.flag }
     {
         self.word % 2 == 1
     }
 
-    /// Whether the node above it alone is to be removed.
+    /// Returns whether the node above the edge alone is to be removed.
     pub fn tag(self) -> bool
         ensures { result ≡ self.tag }
     {
         self.word / 2 % 2 == 1
     }
 
-    /// Whether it leads to that slot and has no mark: what an exchange of the edge expects.
+    /// Returns whether the edge leads to that slot and has no mark. An exchange expects such an
+    /// edge.
     pub fn is_to(self, slot: u32) -> bool
         ensures { result ≡ is_to self slot }
     {
         self.word == 4 * u64::from(slot)
     }
 
-    /// The edge with its flag set.
+    /// Returns the edge with its flag set.
     pub fn flagged(self) -> Edge
         requires { self.slot ≢ 0 }
         ensures { result ≡ record self { flag = true } }
@@ -104,7 +104,7 @@ impl Edge {
         }
     }
 
-    /// The edge with its tag set. The null edge stays as it is.
+    /// Returns the edge with its tag set. The null edge stays as it is.
     pub fn tagged(self) -> Edge
         ensures { result ≡ tagged self }
     {
@@ -116,7 +116,7 @@ impl Edge {
         }
     }
 
-    /// The edge without its tag.
+    /// Returns the edge without its tag.
     pub fn untagged(self) -> Edge
         ensures { result ≡ untagged self }
     {
@@ -125,7 +125,8 @@ impl Edge {
         }
     }
 
-    /// The word of the edge, below 2^34: four times its slot, 2 for its tag and 1 for its flag.
+    /// Returns the word of the edge, which is below 2^34: four times its slot, plus 2 for its tag
+    /// and 1 for its flag.
     pub fn pack(self) -> u64
         ensures { result ≡ word_of self }
     {
@@ -133,7 +134,7 @@ impl Edge {
         word
     }
 
-    /// The edge of a word that is known to be an edge's, with no test.
+    /// Returns the edge of a word that is known to be an edge's, without a test.
     pub fn of_word(word: u64) -> Edge
         requires { is_word word ≡ true }
         ensures { result ≡ edge_in word }
@@ -141,8 +142,8 @@ impl Edge {
         Edge { word }
     }
 
-    /// The edge of a word; `None` exactly where the slot would be above 2^32 - 1, or a null edge
-    /// would have a mark.
+    /// Returns the edge of a word; `None` exactly if the slot would be above 2^32 - 1, or a null
+    /// edge would have a mark.
     pub fn unpack(word: u64) -> Option<Edge>
         ensures edge { result ≡ unpacked word }
         ensures fits { IfSome result IsEdge }
@@ -156,7 +157,7 @@ impl Edge {
     }
 }
 
-/// Tells slot, flag and tag.
+/// Writes slot, flag and tag.
 impl fmt::Debug for Edge {
     fn fmt<W: fmt::Write>(&self, f: &mut fmt::Formatter<W>) -> fmt::Result {
         f.debug_struct("Edge")
@@ -168,7 +169,7 @@ impl fmt::Debug for Edge {
 }
 
 impl Side {
-    /// The other side.
+    /// Returns the other side.
     pub fn other(self) -> Side
         ensures { result ≡ other self }
     {

@@ -1,15 +1,15 @@
-//! Which edge of which node.
+//! The place of an edge: a node and a side.
 ghost use Rattle.std.specs.Prelude.{◌≡◌, ◌^◌, ◌<◌, ◌≤◌, false};
 ghost use Rattle.nm_edge.specs.Edges.{turn};
 
 use crate::edge::{Edge, Side};
 use std::marker::Model;
 
-/// Which edge of a tree: that of a node on a side.
+/// The place of an edge in a tree: a node and a side.
 ///
-/// It is kept as one number, four times the node's slot, and one more on the right. So the word of an
-/// edge with no mark gives the two places of the node below it without a shift, and a walk has one
-/// word to remember where a node and a side are two.
+/// It is kept as one number: four times the node's slot, plus one on the right. The word of an
+/// unmarked edge thus gives the two places of the node below it without a shift. A walk remembers
+/// one word instead of a node and a side.
 #[derive(Clone, Copy)]
 pub struct EdgePlace {
     number: u32,
@@ -33,7 +33,7 @@ impl Model for EdgePlace {
 }
 
 impl EdgePlace {
-    /// That of a node on a side.
+    /// Returns the place of the edge of a node on a side.
     pub fn new(slot: u32, side: Side) -> EdgePlace
         requires { slot < 2 ^ 30 }
         ensures { result ≡ record { slot = slot; side = side } }
@@ -43,7 +43,7 @@ impl EdgePlace {
         }
     }
 
-    /// That of the node to which an edge with no mark leads, on a side.
+    /// Returns the place of an edge, on a side, of the node to which an unmarked edge leads.
     pub fn below(edge: Edge, side: Side) -> EdgePlace
         requires slot { edge.slot < 2 ^ 30 }
         requires flag { edge.flag ≡ false }
@@ -55,14 +55,14 @@ impl EdgePlace {
         }
     }
 
-    /// The slot of the node.
+    /// Returns the slot of the node.
     pub fn slot(self) -> u32
         ensures { result ≡ self.slot }
     {
         self.number / 4
     }
 
-    /// On which side of the node it is.
+    /// Returns the side of the node.
     pub fn side(self) -> Side
         ensures { result ≡ self.side }
     {
@@ -74,7 +74,7 @@ impl EdgePlace {
     }
 }
 
-/// What a side adds to four times its node's slot.
+/// Returns what a side adds to four times its node's slot.
 fn turn(side: Side) -> u32
     ensures is { result ≡ turn side }
     ensures few { result ≤ 1 }

@@ -7,20 +7,20 @@ use std::marker::Model;
 /// The greatest key of the set, 2^64 - 4.
 pub const MOST_KEY: u64 = u64::MAX - 3;
 
-/// The least key of the fixed nodes, above each key of the set (the infinite keys of Natarajan and
-/// Mittal, section 3.1).
+/// The least key of the fixed nodes. It is greater than each key of the set (the infinite keys of
+/// Natarajan and Mittal, section 3.1).
 pub const INFINITY_0: u64 = u64::MAX - 2;
 
-/// The next one.
+/// The second key of the fixed nodes.
 pub const INFINITY_1: u64 = u64::MAX - 1;
 
-/// The greatest one, and the greatest word.
+/// The greatest key of the fixed nodes, and the greatest word.
 pub const INFINITY_2: u64 = u64::MAX;
 
-/// A key of the set: a whole number from 0 to 2^64 - 4. A contract sees it as the number.
+/// A key of the set: an integer from 0 to 2^64 - 4. A contract sees it as the number.
 ///
-/// The three greatest words, 2^64 - 3 to 2^64 - 1, are the keys of the fixed nodes, above each key
-/// of the set (the infinite keys of Natarajan and Mittal).
+/// The three greatest words, 2^64 - 3 to 2^64 - 1, are the keys of the fixed nodes. They are
+/// greater than each key of the set (the infinite keys of Natarajan and Mittal).
 #[derive(Clone, Copy, Debug, PartialEq, Eq, PartialOrd, Ord)]
 pub struct Key(u64);
 
@@ -38,7 +38,7 @@ impl Model for Key {
 }
 
 impl Key {
-    /// The key of that number; `None` exactly above 2^64 - 4.
+    /// Returns the key of that number; `None` exactly if it is above 2^64 - 4.
     pub fn new(number: u64) -> Option<Key>
         ensures { SomeIff result (IsKey number) number }
     {
@@ -48,7 +48,7 @@ impl Key {
         Some(Key(number))
     }
 
-    /// The number of the key, 0 to 2^64 - 4.
+    /// Returns the number of the key, 0 to 2^64 - 4.
     pub fn get(self) -> u64
         ensures number { result ≡ self }
         ensures fits { IsKey result }

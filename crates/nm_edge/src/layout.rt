@@ -10,7 +10,7 @@ use thiserror::Error;
 /// The least number of nodes: the five fixed ones, and two for one key.
 pub const LEAST_NODES: u32 = 7;
 
-/// The greatest number of nodes of a layout whose words stand side by side.
+/// The greatest number of nodes of a layout whose words are side by side.
 pub const MOST_NODES: u32 = 1_048_576;
 
 /// The greatest number of nodes of a layout whose announcements have pages of their own.
@@ -19,22 +19,22 @@ pub const MOST_SPACED_NODES: u32 = 268_435_456;
 /// The greatest number of workers.
 pub const MOST_WORKERS: u32 = 64;
 
-/// The least slot that is not one of the five fixed ones: the slots from here on are claimed and
-/// given back.
+/// The least slot that is not one of the five fixed ones. Workers claim the slots from here on, and
+/// give them back.
 pub const FIRST_SLOT: u32 = 6;
 
-/// How many words stand behind an announcement that has a page of its own: the rest of its 4,096
-/// bytes. A cache line of its own would not do: processors fetch lines of a page ahead, and so
-/// those that walks read there would bring announcements along.
+/// The number of unused words after an announcement that has a page of its own: the rest of its
+/// 4,096 bytes. A cache line of its own would not be enough: processors fetch lines of a page
+/// ahead, so walks that read such lines would fetch announcements too.
 const PAGE_GAP: u32 = 511;
 
-/// How many words of the epoch's page stand before the epoch's own: those in which an allocator
-/// keeps what it knows of a large block.
+/// The number of words of the epoch's page before the epoch's own word. An allocator keeps its data
+/// about a large block in them.
 const BEFORE_EPOCH: u32 = 2;
 
-/// How many nodes a tree has room for, the five fixed ones counted, how many workers share it, and
-/// whether their announcements have pages of their own; and the shape of the tree: whether it is a
-/// radix tree, or that of Natarajan and Mittal.
+/// The sizes and the shape of a tree. The sizes are the number of nodes (the five fixed ones
+/// counted), the number of workers, and whether their announcements have pages of their own. The
+/// shape is that of a radix tree, or that of Natarajan and Mittal.
 #[derive(Clone, Copy, Debug, PartialEq, Eq)]
 pub struct Layout {
     nodes: u32,
@@ -76,10 +76,10 @@ impl Model for Layout {
 /// The number of the epoch's word.
 const EPOCH_WORD: u32 = 0;
 
-/// How many slots one word of the pool, a row, tells of, a bit each.
+/// The number of slots of a row of the pool: one word, with one bit for each slot.
 pub const SLOTS_OF_A_ROW: u32 = 64;
 
-/// How many words a node has: its key, its left and right edge, and its birth.
+/// The number of words of a node: its key, its left and right edge, and its birth (generation).
 const WORDS_OF_A_NODE: u32 = 4;
 
 /// The place of a slot in the pool: one bit of one word.
@@ -91,7 +91,7 @@ pub struct PoolPlace {
     pub mask: u64,
 }
 
-/// Why there is no such layout. Where both hold, `Nodes` is answered.
+/// Why there is no such layout. If both reasons hold, `Nodes` is returned.
 #[derive(Clone, Copy, Debug, PartialEq, Eq, Error)]
 pub enum LayoutError {
     /// Fewer than 7 nodes, or more than there may be.
@@ -103,8 +103,10 @@ pub enum LayoutError {
 }
 
 impl Layout {
-    /// The layout of so many nodes, 7 to 1,048,576, and 1 to 64 workers. Its words stand side by
-    /// side.
+    /// Returns the layout of `nodes` nodes, 7 to 1,048,576, and 1 to 64 workers. Its words are side
+    /// by side.
+    ///
+    /// Errors: `Nodes`, `Workers`: there are too few or too many.
     pub fn new(nodes: u32, workers: u32) -> Result<Layout, LayoutError>
         ensures layout { IfOk result (λ layout. layout ≡ dense nodes workers) }
         ensures nodes { IsErrOf result LayoutError.Nodes
@@ -116,9 +118,11 @@ impl Layout {
         Layout::within(MOST_NODES, nodes, workers, 0)
     }
 
-    /// The layout of so many nodes, 7 to 268,435,456, and 1 to 64 workers, in which each
-    /// announcement has a page of its own, and no node lies in two cache lines, where the words
-    /// begin 16 bytes behind the beginning of a page, as large blocks of glibc's `malloc` do.
+    /// Returns the layout of `nodes` nodes, 7 to 268,435,456, and 1 to 64 workers, in which each
+    /// announcement has a page of its own. No node is in two cache lines, if the words begin 16
+    /// bytes after the beginning of a page, like large blocks of glibc's `malloc`.
+    ///
+    /// Errors: `Nodes`, `Workers`: there are too few or too many.
     pub fn spaced(nodes: u32, workers: u32) -> Result<Layout, LayoutError>
         ensures layout { IfOk result (λ layout. layout ≡ spaced nodes workers) }
         ensures nodes { IsErrOf result LayoutError.Nodes
@@ -130,7 +134,7 @@ impl Layout {
         Layout::within(MOST_SPACED_NODES, nodes, workers, PAGE_GAP)
     }
 
-    /// The layout of so many nodes, 7 to `most`, and 1 to 64 workers, with that gap.
+    /// Returns the layout of `nodes` nodes, 7 to `most`, and 1 to 64 workers, with that gap.
     fn within(most: u32, nodes: u32, workers: u32, gap: u32) -> Result<Layout, LayoutError>
         requires most { most ≤ MOST_SPACED_NODES }
         requires gap { (gap ≡ 0) ⊎ (gap ≡ PAGE_GAP) }
@@ -158,8 +162,8 @@ impl Layout {
         })
     }
 
-    /// The layout of the same sizes for a radix tree: no walk there takes more than 66 nodes,
-    /// whatever keys come in whatever order.
+    /// Returns the layout of the same sizes for a radix tree. There a walk takes at most 66 nodes,
+    /// for all keys in every order.
     pub fn in_radix(self) -> Layout
         ensures { result ≡ in_radix self }
     {
@@ -169,7 +173,7 @@ impl Layout {
         }
     }
 
-    /// Whether it is that of a radix tree.
+    /// Returns whether the layout is that of a radix tree.
     pub fn is_radix(self) -> bool
         ensures { result ≡ self.radix }
     {
@@ -177,7 +181,7 @@ impl Layout {
         radix
     }
 
-    /// How many nodes there is room for, 7 to 268,435,456. Slots are numbered from 1 to this.
+    /// Returns the number of nodes, 7 to 268,435,456. Slots are numbered from 1 to this.
     pub fn nodes(self) -> u32
         ensures nodes { result ≡ self.nodes }
         ensures fits { IsLayout self }
@@ -186,7 +190,7 @@ impl Layout {
         nodes
     }
 
-    /// How many workers there are, 1 to 64. They are numbered from 0.
+    /// Returns the number of workers, 1 to 64. They are numbered from 0.
     pub fn workers(self) -> u32
         ensures workers { result ≡ self.workers }
         ensures fits { IsLayout self }
@@ -195,23 +199,23 @@ impl Layout {
         workers
     }
 
-    /// How many words there are: one for the epoch, one a worker, four a node, and one for each 64
-    /// slots of the pool, in this order. Where announcements have pages of their own, each has the
-    /// 511 words behind it too, and 509 words stand behind the epoch's.
+    /// Returns the number of words. They are, in this order: one for the epoch, one for each
+    /// worker, four for each node, and one for each 64 slots of the pool. If announcements have
+    /// pages of their own, 511 unused words follow each of them, and 509 follow the epoch's word.
     pub fn words(self) -> u32
         ensures { result ≡ words self }
     {
         self.pool_word() + self.nodes.div_ceil(SLOTS_OF_A_ROW)
     }
 
-    /// The number of the epoch's word, 0.
+    /// Returns the number of the epoch's word, 0.
     pub fn epoch(self) -> u32
         ensures { result ≡ word self at_epoch }
     {
         EPOCH_WORD
     }
 
-    /// The number of the word of a worker's announcement. Workers are numbered from 0.
+    /// Returns the number of the word of a worker's announcement. Workers are numbered from 0.
     pub fn announcement(self, worker: u32) -> u32
         requires { worker < self.workers }
         ensures { result ≡ word self (at_announcement worker) }
@@ -219,7 +223,8 @@ impl Layout {
         announcements_end(self.gap, worker)
     }
 
-    /// The number of the word of a slot's key, the first of its four. Slots are numbered from 1.
+    /// Returns the number of the word of a slot's key, the first of its four. Slots are numbered
+    /// from 1.
     pub fn key(self, slot: u32) -> u32
         requires { IsSlot self slot }
         ensures word { result ≡ word self (at_key slot) }
@@ -228,7 +233,7 @@ impl Layout {
         self.first + WORDS_OF_A_NODE * (slot - 1)
     }
 
-    /// The number of the word of a slot's edge at that side.
+    /// Returns the number of the word of a slot's edge on that side.
     pub fn edge(self, slot: u32, side: Side) -> u32
         requires { IsSlot self slot }
         ensures { result ≡ word self (at_edge slot side) }
@@ -239,7 +244,7 @@ impl Layout {
         }
     }
 
-    /// The number of the word of a slot's birth.
+    /// Returns the number of the word of a slot's birth.
     pub fn birth(self, slot: u32) -> u32
         requires { IsSlot self slot }
         ensures { result ≡ word self (at_birth slot) }
@@ -247,7 +252,7 @@ impl Layout {
         self.key(slot) + 3
     }
 
-    /// The place of a slot in the pool.
+    /// Returns the place of a slot in the pool.
     pub fn pool(self, slot: u32) -> PoolPlace
         requires { IsSlot self slot }
         ensures { result ≡ pool_place self slot }
@@ -258,7 +263,7 @@ impl Layout {
         }
     }
 
-    /// The number of the first word of the pool.
+    /// Returns the number of the first word of the pool.
     fn pool_word(self) -> u32
         ensures word { result ≡ pool_word self }
         ensures fits { IsLayout self }
@@ -267,7 +272,7 @@ impl Layout {
     }
 }
 
-/// How many slots stand before this one in its row of the pool.
+/// Returns the number of slots before this one in its row of the pool.
 pub fn place_in_row(slot: u32) -> u32
     requires { 1 ≤ slot }
     ensures place { result ≡ (slot - 1) % 64 }
@@ -276,8 +281,8 @@ pub fn place_in_row(slot: u32) -> u32
     (slot - 1) % SLOTS_OF_A_ROW
 }
 
-/// The number of the first word behind the epoch's and the announcements of so many workers, with
-/// that gap behind each.
+/// Returns the number of the first word after the epoch's word and the announcements of `workers`
+/// workers, with that gap after each.
 fn announcements_end(gap: u32, workers: u32) -> u32
     requires { (workers ≤ MOST_WORKERS) × ((gap ≡ 0) ⊎ (gap ≡ PAGE_GAP)) }
     ensures word { result ≡ 1 + (gap - 2) + (1 + gap) * workers }

@@ -1,5 +1,5 @@
-//! What the words of the tree hold: keys, edges, the two sides of a node, nodes by slot and birth,
-//! the sizes of a tree, and where a worker looks for a free slot.
+//! The words of the tree: keys, edges, the two sides of a node, nodes by slot and birth, the sizes
+//! of a tree, and the search for a free slot.
 #![tactic(auto)]
 
 mod edge;

@@ -1,13 +1,13 @@
-//! Nodes by name.
+//! Nodes by slot and birth.
 
-/// The greatest birth, and the greatest epoch, 2^62. A slot with this birth is exhausted, and is never
-/// put to use again.
+/// The greatest birth (generation), and the greatest epoch: 2^62. A slot with this birth is
+/// exhausted, and is never put to use again.
 pub const LAST_NUMBER: u64 = 1 << 62;
 
-/// A node: the slot where it stands, and how often that slot had been put to use when it was made.
+/// A node: its slot, and how often that slot had been put to use when the node was made.
 ///
-/// A slot is used again and again, and each use raises its birth by one, so a `NodeId` names one
-/// node for ever.
+/// A slot is used again and again, and each use raises its birth (generation) by one. A `NodeId`
+/// thus names one node for ever.
 #[derive(Clone, Copy, Debug, PartialEq, Eq)]
 pub struct NodeId {
     /// The number of the slot. 0 is no slot.

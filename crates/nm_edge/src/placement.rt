@@ -15,7 +15,8 @@ pub enum Fit {
     NextFit,
 }
 
-/// How many slots given back a placement remembers. Collections free some 64 nodes at a time.
+/// The number of slots given back that a placement remembers. Collections free about 64 nodes at a
+/// time.
 const MOST_GIVEN: usize = 128;
 
 /// Where one worker looks for a free slot; contracts see its fit alone. A placement is a hint: it may

@@ -2,15 +2,16 @@
 ghost use Rattle.std.specs.Prelude.{◌≡◌, ◌≢◌};
 ghost use Rattle.nm_edge.specs.Ranges.{IsParting, covers};
 
-/// Whether a key is in the range of a router: it differs from it in the bits up to the router's
-/// lowest one alone.
+/// Returns whether a key is in the range of a router: the two differ only in bits up to the
+/// router's lowest one.
 pub fn covers(router: u64, key: u64) -> bool
     ensures { result ≡ covers router key }
 {
     (key ^ router) / 2 < (router & router.wrapping_neg())
 }
 
-/// The router between two keys: the greater one down to the highest bit in which they differ.
+/// Returns the router between two keys: the greater key, with all bits cleared below the highest
+/// bit in which the keys differ.
 pub fn parting(key: u64, other: u64) -> u64
     requires { key ≢ other }
     ensures { IsParting key other result }

@@ -1,4 +1,4 @@
--- The nodes that wait, and what collecting frees of them.
+-- The nodes that wait, and those that a collection frees.
 use Rattle.std.specs.Prelude.{◌≡◌, ◌≢◌, ◌⊎◌, ℕ, ◌+◌, ◌*◌, ◌<◌, ◌≤◌, nat_le, min, Bool, List, [], ◌∷◌, ◌++◌, map, drop, length, Option, Some, None, option_map, if◌then◌else◌}
 use Rattle.std.specs.List.{take_while, prefix_len}
 use Rattle.nm_edge.specs.declared.node.NodeId.{NodeId}
@@ -30,8 +30,8 @@ abbrev pub IsQueueOf : Knowledge → ℕ → List Entry → Type 0
 IsQueueOf k origin es = option_map (λ (l : Ledger). l.queue) (held k.ledgers origin)
     ≡ Some (map queued es)
 
--- the worker holds the ledger of that origin, and in its queue these entries wait, and behind them
--- these nodes, which wait for their label
+-- the worker holds the ledger of that origin. In its queue these entries wait, and after them these
+-- nodes, which wait for their label
 abbrev pub IsQueueThen : Knowledge → ℕ → List Entry → List NodeId → Type 0
 IsQueueThen k origin es ns = option_map (λ (l : Ledger). l.queue) (held k.ledgers origin)
     ≡ Some (map queued es ++ map unlabelled ns)
@@ -39,8 +39,8 @@ IsQueueThen k origin es ns = option_map (λ (l : Ledger). l.queue) (held k.ledge
 abbrev pub labelled_so : ℕ → NodeId → Entry
 labelled_so epoch n = record { node = n; label = epoch }
 
--- in each held queue what waited without a label has this one now, and what had one has it still
--- (Fraser, section 5)
+-- in each held queue the entries without a label have this one now, and those with a label still
+-- have it (Fraser, section 5)
 abbrev pub TakesLabels : ℕ → Knowledge → Knowledge → Type 0
 TakesLabels epoch k l = (o : ℕ) (es : List Entry) (ns : List NodeId) → IsQueueThen k o es ns
     → IsQueueOf l o (es ++ map (labelled_so epoch) ns)
@@ -49,38 +49,38 @@ TakesLabels epoch k l = (o : ℕ) (es : List Entry) (ns : List NodeId) → IsQue
 abbrev pub is_ripe : ℕ → Entry → Bool
 is_ripe epoch e = nat_le (e.label + 2) epoch
 
--- the node at the front, where it is ripe
+-- the node at the front, if it is ripe
 abbrev pub ripe_front : ℕ → List Entry → Option NodeId
 ripe_front epoch [] = None
 ripe_front epoch (e ∷ es) = if is_ripe epoch e then Some e.node else None
 
--- the longest front of ripe entries, and what is behind it
+-- the longest front of ripe entries
 abbrev pub ripe_part : ℕ → List Entry → List Entry
 ripe_part epoch es = take_while (is_ripe epoch) es
 
--- what is left of these entries behind the ripe front
+-- the entries after the ripe front
 abbrev pub rest_of : ℕ → List Entry → List Entry
 rest_of epoch es = drop (prefix_len (is_ripe epoch) es) es
 
--- the entry's slot is given back to the pool, and its node is freed
+-- the entry's slot is given to the pool, and its node is freed
 abbrev pub freeing : Entry → LogEntry
 freeing e = (Give e.node.slot, Freed e.node)
 
 -- ---- what is counted beside a queue
 
--- a number as a counter of 64 bits holds it, which stays where it is the greatest
+-- the value of a 64-bit counter, which stops at its greatest value
 abbrev pub capped : ℕ → ℕ
 capped n = min n 18446744073709551615
 
--- nothing is counted yet
+-- all counts are zero
 abbrev pub blank : Tally
 blank = record { links = 0; flags = 0; splices = 0; freed = 0 }
 
--- so many more were freed
+-- the counts after n more nodes were freed
 abbrev pub freed_more : ℕ → Tally → Tally
 freed_more n t = record t { freed = capped (t.freed + n) }
 
--- a queue has lost what was ripe at its front, and as many more are counted as freed
+-- a queue has lost what was ripe at its front, and that number is added to its count of freed nodes
 pub record HasLost (epoch : ℕ) (h g : HeldQueue) : Type 0 where
   pub origin : g.origin ≡ h.origin
   pub items : g.queue.items ≡ rest_of epoch h.queue.items
@@ -104,65 +104,64 @@ abbrev pub ripe_of : ℕ → List HeldQueue → List Entry
 ripe_of epoch [] = []
 ripe_of epoch (h ∷ hs) = ripe_part epoch h.queue.items ++ ripe_of epoch hs
 
--- so each of these
+-- each of these queues has lost what was ripe at its front
 abbrev pub HaveLost : ℕ → List HeldQueue → List HeldQueue → Type 0
 HaveLost epoch [] [] = Unit {0}
 HaveLost epoch (h ∷ hs) (g ∷ gs) = HasLost epoch h g × HaveLost epoch hs gs
 HaveLost epoch _ _ = ⊥
 
--- how many places for more nodes a queue keeps, where it has them: room for a try, and for what is
+-- the number of spare places that a queue keeps, if it has them: room for a try, and for what is
 -- cut off until the next collection
 abbrev pub spare_kept : ℕ
 spare_kept = 256
 
--- no block more than what waits and so many places ask for: less is to spare than those and a
--- block, of 32 places, and fewer places than a block has are used up
+-- the queue has no more blocks, of 32 places each, than its entries and these spare places need:
+-- there are fewer spare places than these and a block, and fewer used up places than a block has
 pub record HasFewBlocks (q : BlockQueue Entry) : Type 0 where
   pub spare : q.spare < spare_kept + 32
   pub blocks : 32 * q.blocks < length q.items + q.spare + 32
 
--- r, which a collection left of q, has so few blocks. It has none that q had not, and all of them
--- unless there is room for so many nodes still
+-- r, which a collection left of q, has so few blocks. It has no more blocks than q had, and as many
+-- unless it still has this many spare places
 pub record IsTrimmed (q r : BlockQueue Entry) : Type 0 where
   pub few : HasFewBlocks r
   pub fewer : r.blocks ≤ q.blocks
   pub kept : (r.blocks ≡ q.blocks) ⊎ (spare_kept ≤ r.spare)
 
--- so of each queue
+-- each queue is trimmed so
 abbrev pub AreTrimmed : List HeldQueue → List HeldQueue → Type 0
 AreTrimmed [] [] = Unit {0}
 AreTrimmed (h ∷ hs) (g ∷ gs) = IsTrimmed h.queue g.queue × AreTrimmed hs gs
 AreTrimmed _ _ = ⊥
 
--- the ledgers that a sight of this epoch leaves: where a cut waited for its label, it has this one
+-- the ledgers after a sight of this epoch: if a cut waited for its label, it has this one
 abbrev pub ledgers_seen : ℕ → Knowledge → List (Option Ledger)
 ledgers_seen epoch k = if k.brief.unlabelled then label epoch k.ledgers else k.ledgers
 
--- the ledgers of all origins of which none of these queues is are as that sight left them: as they
--- were, or with the label that was missing
+-- the ledgers of all other origins are as that sight left them: unchanged, or with the label that
+-- was missing
 abbrev pub KeepsOtherLedgers : ℕ → List HeldQueue → Knowledge → Knowledge → Type 0
 KeepsOtherLedgers epoch hs k l = (o : ℕ) → NoneHas o hs
     → held l.ledgers o ≡ held (ledgers_seen epoch k) o
 
--- what was retired, of an origin whose ledger is held
+-- the nodes that were retired, of an origin whose ledger is held
 abbrev pub retired_of : Knowledge → ℕ → Option (List NodeId)
 retired_of k o = option_map (λ (l : Ledger). l.retired) (held k.ledgers o)
 
--- nothing was retired
+-- no more nodes were retired
 abbrev pub KeepsRetired : Knowledge → Knowledge → Type 0
 KeepsRetired k l = (o : ℕ) → retired_of l o ≡ retired_of k o
 
--- what a collection leaves in the log, oldest entry first: one sight of the epoch, and then, queue
--- by queue, a give of each entry of the longest front whose label is at least two below the epoch
--- read (Fraser, section 5)
+-- the log of a collection, oldest entry first: one sight of the epoch, and then, queue by queue, a
+-- give of each entry of the longest front whose label is at least two below the epoch read (Fraser,
+-- section 5)
 abbrev pub IsCollection : ℕ → List HeldQueue → List LogEntry → List LogEntry → Type 0
 IsCollection epoch hs old new =
     (mid : List LogEntry) × IsSightOf epoch old mid × (new ≡ mid ++ map freeing (ripe_of epoch hs))
 
--- ---- what a collection leaves
+-- ---- the effect of a collection
 
--- nodes were freed, and nothing else: nothing was retired, and epochs, the call, what is known of
--- nodes and private slots are as they were
+-- nothing was retired; epochs, the call, what is known of nodes, and private slots are unchanged
 pub record OnlyFrees (p q : PassView) : Type 0 where
   pub retired : KeepsRetired (knowledge p.view) (knowledge q.view)
   pub epochs_are : epochs q ≡ epochs p
@@ -170,7 +169,7 @@ pub record OnlyFrees (p q : PassView) : Type 0 where
   pub nodes : (knowledge q.view).known ≡ (knowledge p.view).known
   pub private : (knowledge q.view).drafts ≡ (knowledge p.view).drafts
 
--- n nodes at the front of one queue were freed, which are all that is ripe there
+-- n nodes at the front of one queue were freed: all that are ripe there
 pub record FreesFront (epoch : ℕ) (p q : PassView) (h g : HeldQueue) (n : ℕ) : Type 0 where
   pub on : Continues p q
   pub entries : q.view.log ≡ p.view.log ++ map freeing (ripe_part epoch h.queue.items)
@@ -182,7 +181,7 @@ pub record FreesFront (epoch : ℕ) (p q : PassView) (h g : HeldQueue) (n : ℕ)
       → held (knowledge q.view).ledgers o ≡ held (knowledge p.view).ledgers o
   pub only : OnlyFrees p q
 
--- n nodes at the fronts of these queues were freed, which are all that is ripe there
+-- n nodes at the fronts of these queues were freed: all that are ripe there
 pub record FreesFronts (epoch : ℕ) (p q : PassView) (hs gs : List HeldQueue) (n : ℕ) : Type 0 where
   pub on : Continues p q
   pub entries : q.view.log ≡ p.view.log ++ map freeing (ripe_of epoch hs)
@@ -194,8 +193,8 @@ pub record FreesFronts (epoch : ℕ) (p q : PassView) (hs gs : List HeldQueue) (
       → held (knowledge q.view).ledgers o ≡ held (knowledge p.view).ledgers o
   pub only : OnlyFrees p q
 
--- the epoch was read, and what was ripe at the fronts of these queues freed, in a tree of so many
--- nodes
+-- the epoch was read, and what was ripe at the fronts of these queues was freed, in a tree of this
+-- many nodes
 pub record Collects (nodes : ℕ) (p q : PassView) (hs gs : List HeldQueue) (r : Collected) : Type 0 where
   pub on : Continues p q
   pub part : IsCollection r.epoch hs p.view.log q.view.log

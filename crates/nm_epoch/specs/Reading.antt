@@ -1,4 +1,4 @@
--- What a read of the epoch leaves.
+-- The effect of a read of the epoch.
 use Rattle.std.specs.Prelude.{◌≡◌, ◌≤◌, ℕ, Some}
 use Rattle.nm_model.specs.Step.{last_number}
 use Rattle.nm_steps.specs.Rules.{knowledge}
@@ -7,8 +7,7 @@ use Rattle.nm_epoch.specs.Collecting.{ledgers_seen}
 use Rattle.nm_epoch.specs.Resting.{KeepsHands, Settles, epochs}
 use Rattle.nm_epoch.specs.Scans.{IsSightOf}
 
--- the epoch was found to be this one, by one sight; where a cut waited for its label, this is the
--- label
+-- one sight found this epoch; if a cut waited for its label, this is the label
 pub record Reads (epoch : ℕ) (p q : PassView) : Type 0 where
   pub on : Continues p q
   pub step : IsSightOf epoch p.view.log q.view.log

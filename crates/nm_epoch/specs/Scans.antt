@@ -1,4 +1,4 @@
--- What a look at all workers' announcements leaves in the log, oldest entry first.
+-- The log of a look at all workers' announcements, oldest entry first.
 use Rattle.std.specs.Prelude.{◌≡◌, ◌≢◌, ◌+◌, ◌⊎◌, ◌<◌, ◌==◌, ℕ, zero, suc, Bool, true, List, [], ◌∷◌, ◌++◌, Option, Some, None}
 use Rattle.nm_model.specs.declared.event.Event.TheVariants as event
 use Rattle.nm_model.specs.declared.reply.Reply.{Reply}
@@ -13,7 +13,7 @@ use Rattle.nm_order.specs.Reads.{sight_epoch}
 abbrev pub IsSightOf : ℕ → List Entry → List Entry → Type 0
 IsSightOf e old new = (r : Reply) × (sight_epoch r ≡ Some e) × (new ≡ old ++ (event.Sight, r) ∷ [])
 
--- worker v was found so: by one scan, or, where it is worker me itself, by its own pin and no step
+-- worker v was found so: by one scan, or, if it is worker me itself, by its own pin and no step
 abbrev pub LooksAt : ℕ → Option ℕ → ℕ → Option ℕ → List Entry → List Entry → Type 0
 LooksAt me pin v found old new =
     ((v ≡ me) × (found ≡ pin) × (new ≡ old))
@@ -31,14 +31,14 @@ AllLetPass me pin e (suc n) old new =
     (mid : List Entry) × (found : Option ℕ) × AllLetPass me pin e n old mid
     × LooksAt me pin n found mid new × (lets_pass found e ≡ true)
 
--- a sight of the epoch e, and then those below n, none of which holds it back
+-- a sight of the epoch e, and then looks at the workers below n, none of which holds it back
 abbrev pub SightThenScans : ℕ → Option ℕ → ℕ → ℕ → List Entry → List Entry → Type 0
 SightThenScans me pin e n old new =
     (mid : List Entry) × IsSightOf e old mid × AllLetPass me pin e n mid new
 
--- what an advance of worker me, with that pin, among m workers leaves in its log, by its answer: a
--- sight, scans up to the first worker that is at another epoch, or of all and then the move of the
--- epoch to the next (Fraser, section 5)
+-- the log of an advance of worker me, with that pin, among m workers, by its result. There is a
+-- sight, and then scans up to the first worker that is at another epoch; or scans of all workers,
+-- and then the move of the epoch to the next (Fraser, section 5)
 abbrev pub IsAdvance : ℕ → ℕ → Option ℕ → List Entry → List Entry → Advance → Type 0
 IsAdvance m me pin old new (Moved next) =
     (e : ℕ) × (mid : List Entry) × SightThenScans me pin e m old mid × (next ≡ e + 1)

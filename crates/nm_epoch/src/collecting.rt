@@ -1,4 +1,4 @@
-//! Nodes that have waited long enough, back to the pool.
+//! Frees nodes that have waited long enough, so that their slots are in the pool again.
 ghost use Rattle.std.specs.Prelude.{◌≡◌, ◌+◌, nat_le, drop, [], Some};
 ghost use Rattle.nm_model.specs.declared.event.Event.TheVariants.{Give};
 ghost use Rattle.nm_steps.specs.Rules.{knowledge};
@@ -13,15 +13,16 @@ use nm_limbo::BlockQueue;
 use nm_steps::{Pass, Shared};
 use std::alloc::Global;
 
-/// A retired node that waits, with its label: the epoch that its remover read after the cut.
+/// A retired node that waits, with its label (retire epoch): the epoch that its remover read after
+/// the cut.
 #[derive(Clone, Copy, Debug, PartialEq, Eq)]
 pub struct Entry {
     pub node: NodeId,
     pub label: u64,
 }
 
-/// What a worker has won, and how many of the nodes that it cut off were freed. Each count stays
-/// where it is at 2^64 - 1.
+/// The links, flags and splices that a worker has won, and the number of nodes that it cut off and
+/// that were freed. Each count stops at 2^64 - 1.
 #[derive(Clone, Copy, Debug, PartialEq, Eq)]
 pub struct Tally {
     pub links: u64,
@@ -30,18 +31,18 @@ pub struct Tally {
     pub freed: u64,
 }
 
-/// The nodes that wait of those that one worker's splices cut, oldest first, and what is counted of
-/// that worker.
+/// The waiting nodes that one worker's splices cut off, oldest first, and the counts of that
+/// worker.
 #[derive(Drop)]
 pub struct HeldQueue {
-    /// The worker whose splices cut them.
+    /// The worker whose splices cut off these nodes.
     pub origin: u32,
     pub queue: BlockQueue<Entry>,
     pub counts: Tally,
 }
 
 impl HeldQueue {
-    /// That of a worker that has done nothing yet. It takes no memory.
+    /// Makes the empty queue of a worker that has taken no step. It takes no memory.
     pub fn new(origin: u32, alloc: Global) -> Self
         ensures origin { result.origin ≡ origin }
         ensures queue { result.queue ≡ block_queue [] 0 0 }
@@ -60,19 +61,19 @@ impl HeldQueue {
     }
 }
 
-/// How many places for more nodes a queue keeps behind a collection, where it has them: 128 that a
-/// try asks for, and as many again for what is cut off until the next collection, so that a worker
-/// that collects now and then takes the same blocks again and asks for no memory.
+/// The number of spare places that a queue keeps after a collection, if it has them: 128 that a try
+/// needs, and 128 for what is cut off until the next collection. So a worker that collects now and
+/// then reuses its blocks and allocates no memory.
 const SPARE_KEPT: u32 = 256;
 
-/// Whether the label is at least two below the epoch.
+/// Returns whether the label is at least two below the epoch.
 fn is_ripe(label: u64, epoch: u64) -> bool
     ensures { result ≡ nat_le (label + 2) epoch }
 {
     2 <= epoch && label <= epoch - 2
 }
 
-/// The node at the front, where it is ripe.
+/// Returns the node at the front, if it is ripe.
 fn next_ripe(queue: &BlockQueue<Entry>, epoch: u64) -> Option<NodeId>
     ensures { result ≡ ripe_front epoch queue.now.items }
 {
@@ -88,7 +89,7 @@ fn next_ripe(queue: &BlockQueue<Entry>, epoch: u64) -> Option<NodeId>
     }
 }
 
-/// Takes the front off, where there is one. It takes no memory.
+/// Removes the front, if there is one. It takes no memory.
 fn drop_front(queue: &mut BlockQueue<Entry>)
     ensures items { queue.new.items ≡ drop 1 queue.old.items }
     ensures blocks { queue.new.blocks ≡ queue.old.blocks }
@@ -96,7 +97,7 @@ fn drop_front(queue: &mut BlockQueue<Entry>)
     let _ = queue.pop();
 }
 
-/// Frees what waits in a slot: one step.
+/// Frees the node that waits in a slot. Cost: one step.
 fn free(shared: &Shared, pass: &mut Pass, slot: u32)
     requires own { IsOf shared.now pass.old }
     requires may { MayStep pass.old (Give slot) }
@@ -106,8 +107,8 @@ fn free(shared: &Shared, pass: &mut Pass, slot: u32)
 }
 
 /// Frees what is ripe at the front of one held queue, given the epoch that the worker read last, by
-/// one step each: how many, which are counted as freed. The placement remembers the slots. Empty
-/// blocks that the queue does not need are given back.
+/// one step per node. Returns the number of freed nodes, and adds it to the queue's count. The
+/// placement remembers the slots. The queue gives back empty blocks that it does not need.
 fn collect_front(
     shared: &Shared,
     pass: &mut Pass,
@@ -134,7 +135,8 @@ fn collect_front(
     freed
 }
 
-/// Frees what is ripe at the front of each of these held queues, one after the other: how many.
+/// Frees what is ripe at the front of each of these held queues, one after the other. Returns the
+/// number of freed nodes.
 fn collect_fronts(
     shared: &Shared,
     pass: &mut Pass,
@@ -156,29 +158,30 @@ fn collect_fronts(
     u64::from(here) + collect_fronts(shared, pass, placement, rest, epoch)
 }
 
-/// What a collection came to.
+/// The result of a collection.
 #[derive(Clone, Copy, Debug, PartialEq, Eq)]
 pub struct Collected {
-    /// The epoch read.
+    /// The epoch that was read.
     pub epoch: u64,
-    /// The nodes that were freed.
+    /// The number of nodes that were freed.
     pub freed: u64,
 }
 
 /// Reads the epoch, and frees what is ripe at the front of each of these held queues, in their
-/// order: of each exactly the longest front of entries whose labels are at least two below the
-/// epoch. Each node goes back to the pool by one step, and leaves its queue. One step to read the
-/// epoch, and one a node.
+/// order. It frees exactly the longest front of entries whose labels are at least two below the
+/// epoch. Each freed node leaves its queue, and its slot is in the pool again. Cost: one step to
+/// read the epoch, and one for each freed node.
 ///
-/// The queues are those of ledgers that the worker holds, each of another origin, with all that
-/// waits in them. They are gone through as they stand: by ascending origin where they stand so. The
-/// epoch is not below any that the worker had read. Where a cut waits for its label, the first step
-/// labels it. The ledgers that the worker holds of other origins stay as they are, but for that
-/// label. The placement, which stays of its fit, remembers the last slots that were freed; each
-/// queue counts what was freed of it. It takes no memory, and gives back the blocks of each queue
-/// that neither what waits in it nor 256 more nodes need.
+/// The queues must be those of ledgers that the worker holds, each of another origin, with all that
+/// waits in them. They may be in any order. The epoch is not below any that the worker had read. If
+/// a cut waits for its label, the first step labels it. The worker's ledgers of other origins are
+/// unchanged, except for that label.
 ///
-/// Two epochs after the label no worker is pinned that could still come to the node (Fraser,
+/// The placement, whose fit is unchanged, remembers the last slots that were freed, and each queue
+/// counts its freed nodes. The call takes no memory. It gives back the blocks that a queue needs
+/// neither for what waits in it nor for 256 more nodes.
+///
+/// Two epochs after the label, no worker is pinned that could still come to the node (Fraser,
 /// Practical lock-freedom, 2004, chapter 5).
 pub fn collect(
     shared: &Shared,

@@ -1,4 +1,4 @@
-//! Leaving a pin, and labelling a cut: one step each.
+//! Unpins, and labels a cut: one step each.
 ghost use Rattle.std.specs.Prelude.{◌≡◌, false, true};
 ghost use Rattle.nm_model.specs.declared.event.Event.TheVariants.{Sight, Leave, LeaveWith};
 ghost use Rattle.nm_model.specs.declared.reply.Reply.TheVariants.{Labelled, Departed};
@@ -9,8 +9,8 @@ ghost use Rattle.nm_epoch.specs.Collecting.{TakesLabels};
 
 use nm_steps::{Pass, Shared, Sighted};
 
-/// Takes the announcement back, and with it the pin. A pin for an operation that linked or flagged
-/// leaves with an answer only (`unpin_with`). One step.
+/// Clears the announcement, and so unpins the worker. A pin for an operation that has linked or
+/// flagged can only be left with an answer (`unpin_with`). Cost: one step.
 pub fn unpin(shared: &Shared, pass: &mut Pass)
     requires own { IsOf shared.now pass.old }
     requires may { MayStep pass.old Leave }
@@ -21,7 +21,7 @@ pub fn unpin(shared: &Shared, pass: &mut Pass)
     shared.leave(pass);
 }
 
-/// Takes the announcement back, and answers the operation of the pin. One step.
+/// Clears the announcement, and records the answer to the operation of the pin. Cost: one step.
 pub fn unpin_with(shared: &Shared, pass: &mut Pass, answer: bool)
     requires own { IsOf shared.now pass.old }
     requires may { MayStep pass.old (LeaveWith answer) }
@@ -32,9 +32,9 @@ pub fn unpin_with(shared: &Shared, pass: &mut Pass, answer: bool)
     shared.leave_with(pass, answer);
 }
 
-/// Labels the nodes that the worker's last splice cut by the epoch, which it reads and answers. The
-/// label is taken after the cut, so that no worker that is pinned above it can still come to them.
-/// One step.
+/// Reads the epoch, labels the nodes of the worker's last splice with it, and returns it. The label
+/// is taken after the cut, so no worker that is pinned above it can still come to these nodes.
+/// Cost: one step.
 pub fn label(shared: &Shared, pass: &mut Pass) -> u64
     requires own { IsOf shared.now pass.old }
     requires cut { (epochs pass.old).unlabelled ≡ true }

@@ -1,8 +1,8 @@
-//! Pins, and the global epoch: calls of a few steps each.
+//! Pins and the global epoch: pinning, advancing and collecting.
 //!
-//! A worker pins an epoch before it walks, so that no slot that it may come to is used anew; the
-//! epoch goes on only past workers that announce it or nothing (epoch-based reclamation: Fraser,
-//! Practical lock-freedom, 2004, chapter 5).
+//! A worker pins an epoch before it walks, so that no slot to which it may come is reused. The
+//! epoch advances only if each worker that announces an epoch announces the current one
+//! (epoch-based reclamation: Fraser, Practical lock-freedom, 2004, chapter 5).
 #![tactic(auto, using(nm_steps::proofs::Seeing::seen_all))]
 
 mod answers;

@@ -1,4 +1,4 @@
-//! Reading the epoch, and what each worker announces.
+//! Reads the epoch and the workers' announcements.
 ghost use Rattle.std.specs.Prelude.{◌≡◌, ◌<◌, Some, IsSome, MatchOption, true, false};
 ghost use Rattle.nm_steps.specs.Steps.{IsOf, sight_reply, Continues};
 ghost use Rattle.nm_epoch.specs.Reading.{Reads};
@@ -8,7 +8,7 @@ ghost use Rattle.nm_order.specs.Reads.{sight_epoch};
 
 use nm_steps::{Pass, Shared, Sighted};
 
-/// The epoch that a sight found.
+/// Returns the epoch that a sight found.
 fn epoch_of(sighted: Sighted) -> u64
     ensures { sight_epoch (sight_reply sighted) ≡ Some result }
 {
@@ -20,7 +20,7 @@ fn epoch_of(sighted: Sighted) -> u64
     }
 }
 
-/// Reads the epoch. Where a cut waits for its label, this is the label.
+/// Reads the epoch. If a cut waits for its label, the epoch becomes this label.
 pub(crate) fn read(shared: &Shared, pass: &mut Pass) -> u64
     requires { IsOf shared.now pass.old }
     ensures { Reads result pass.old pass.new }
@@ -28,7 +28,8 @@ pub(crate) fn read(shared: &Shared, pass: &mut Pass) -> u64
     epoch_of(shared.sight(pass))
 }
 
-/// What a worker announces; of the own one, `me`, where it is pinned.
+/// Returns the epoch that a worker announces, or, for the calling worker `me`, the epoch at which
+/// it is pinned.
 pub(crate) fn look(shared: &Shared, pass: &mut Pass, me: u32, worker: u32) -> Option<u64>
     requires own { IsOf shared.now pass.old }
     requires me { me ≡ pass.old.view.number }
@@ -46,7 +47,8 @@ pub(crate) fn look(shared: &Shared, pass: &mut Pass, me: u32, worker: u32) -> Op
     }
 }
 
-/// The epoch that a worker was found at, where it is another than this one and so holds it back.
+/// Returns the epoch at which a worker was found, if it differs from this one, so that the worker
+/// holds this one back.
 pub(crate) fn elsewhere(found: Option<u64>, epoch: u64) -> Option<u64>
     ensures { MatchOption result (lets_pass found epoch ≡ true)
         (λ at. (found ≡ Some at) × (lets_pass found epoch ≡ false)) }

@@ -1,4 +1,4 @@
-//! Moving the epoch on.
+//! Advances the epoch.
 ghost use Rattle.std.specs.Prelude.{◌≡◌, ◌+◌, ◌≤◌, ◌<◌, length};
 ghost use Rattle.nm_steps.specs.Steps.{IsOf};
 ghost use Rattle.nm_epoch.specs.Resting.{GoesOnSettled, epochs};
@@ -9,17 +9,17 @@ use crate::looking::{elsewhere, look, read};
 use nm_edge::LAST_NUMBER;
 use nm_steps::{Pass, Shared};
 
-/// Moves the epoch on by one, if no worker holds it back. The epoch is read once, and then each
-/// worker's announcement in the order of their numbers; of the own worker its pin counts, with no
-/// step. At most as many steps as there are workers, and one.
+/// Advances the epoch by one, if no worker holds it back. It reads the epoch once, and then each
+/// worker's announcement in the order of their numbers. For the calling worker its own pin counts,
+/// which takes no step. Cost: at most one step more than there are workers.
 ///
-/// `Moved`: every worker was found idle or at the epoch read, and the epoch is the next one now.
-/// `Held`: this worker, the first by number, was found at another epoch, this one. `Lost`: no
-/// worker held the epoch back, but another moved it on first. `Spent`: no worker held it back, but
-/// it is the last epoch, 2^62.
+/// `Moved`: every worker was found idle or at the epoch that was read, and the epoch is now the
+/// next one. `Held`: this worker, the first by number, was found at this other epoch. `Lost`: no
+/// worker held the epoch back, but another worker moved it on first. `Spent`: no worker held it
+/// back, but it is the last epoch, 2^62.
 ///
-/// Where a cut waits for its label, the first step labels it. (Fraser, 2004, chapter 5: the epoch
-/// goes on once every worker that is pinned has been seen at it.)
+/// If a cut waits for its label, the first step labels it. (Fraser, 2004, chapter 5: the epoch
+/// advances after every pinned worker has been seen at it.)
 pub fn advance(shared: &Shared, pass: &mut Pass) -> Advance
     requires { IsOf shared.now pass.old }
     ensures after { GoesOnSettled pass.old pass.new }
@@ -32,7 +32,7 @@ pub fn advance(shared: &Shared, pass: &mut Pass) -> Advance
     move_on(shared, pass, me)
 }
 
-/// Moves the epoch on, by the worker of that number.
+/// Advances the epoch, for the worker of that number.
 fn move_on(shared: &Shared, pass: &mut Pass, me: u32) -> Advance
     requires own { IsOf shared.now pass.old }
     requires me { me ≡ pass.old.view.number }

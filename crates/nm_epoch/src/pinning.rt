@@ -1,4 +1,4 @@
-//! Pinning an epoch.
+//! Pins the epoch.
 ghost use Rattle.std.specs.Prelude.{◌≡◌, ◌+◌, ◌*◌, ◌≤◌, length, Some, None, IfOk, IfErr};
 ghost use Rattle.nm_model.specs.declared.event.Event.TheVariants.{Sight, SightFor};
 ghost use Rattle.nm_order.specs.Intervals.{HasKey};
@@ -11,15 +11,15 @@ use nm_edge::Key;
 use nm_model::Op;
 use nm_steps::{Pass, Shared, Sighted};
 
-/// What a pin is for.
+/// The purpose of a pin.
 #[derive(Clone, Copy)]
 enum Confirming {
     Plain,
     For(Op, Key),
 }
 
-/// Reads the epoch, to confirm a pin: `Ok` where it is the announced one still, at which the worker
-/// is pinned now, else the one that was found in its place.
+/// Reads the epoch again, to confirm a pin. `Ok`: it is still the announced one, and the worker is
+/// pinned at it. `Err`: the epoch that was found instead.
 fn confirm(shared: &Shared, pass: &mut Pass, announced: u64, by: &Confirming) -> Result<u64, u64>
     requires own { IsOf shared.now pass.old }
     requires may { MayStep pass.old (confirming by.now) }
@@ -37,8 +37,8 @@ fn confirm(shared: &Shared, pass: &mut Pass, announced: u64, by: &Confirming) ->
     }
 }
 
-/// Announces the epoch last read and reads it again: the epoch, at which the worker is pinned now,
-/// or the one found in its place.
+/// Announces the epoch that was read last, and reads the epoch again. `Ok`: the epoch at which the
+/// worker is now pinned. `Err`: the epoch that was found instead.
 fn attempt(shared: &Shared, pass: &mut Pass, by: &Confirming) -> Result<u64, u64>
     requires own { IsOf shared.now pass.old }
     requires trying { IsTrying pass.old }
@@ -57,7 +57,7 @@ fn attempt(shared: &Shared, pass: &mut Pass, by: &Confirming) -> Result<u64, u64
     confirm(shared, pass, announced, by)
 }
 
-/// Reads the epoch, and then tries so often to pin it.
+/// Reads the epoch, and then makes at most `tries` tries to pin it.
 #[inline(always)]
 fn pin_by(shared: &Shared, pass: &mut Pass, tries: u32, by: &Confirming) -> Result<u64, Moved>
     requires own { IsOf shared.now pass.old }
@@ -89,18 +89,19 @@ fn pin_by(shared: &Shared, pass: &mut Pass, tries: u32, by: &Confirming) -> Resu
     Err(Moved { epoch })
 }
 
-/// Pins the epoch. The epoch is read once, and each try announces the epoch last read and reads it
-/// again.
+/// Pins the epoch. The epoch is read once, and then each try announces the epoch that was read last
+/// and reads it again.
 ///
-/// `Ok(epoch)`: the worker is pinned at the epoch that its last sight found, after fewer than
-/// `tries` lost tries. `Err`: the epoch moved on in each of `tries` tries, and the announcement is
-/// taken back; with 0 tries the epoch was only read. At most 3 `tries` + 1 steps.
+/// `Ok(epoch)`: the worker is pinned at the epoch that its last sight (epoch read) found, after
+/// fewer than `tries` lost tries. `Err`: the epoch moved on in each of `tries` tries, and the
+/// announcement is cleared; with 0 tries the epoch was only read. Cost: at most 3 * `tries` + 1
+/// steps.
 ///
-/// The worker must not be pinned and must announce nothing. It has no call then, and no cut of its
+/// The worker must not be pinned and must announce nothing. It then has no call, and no cut that
 /// waits for a label.
 ///
-/// The epoch is confirmed after it was announced, since it may have moved on before the
-/// announcement was there for others to see (Fraser, 2004, chapter 5).
+/// The epoch is read again after it was announced, because it may have moved on before other
+/// workers could see the announcement (Fraser, 2004, chapter 5).
 pub fn pin(shared: &Shared, pass: &mut Pass, tries: u32) -> Result<u64, Moved>
     requires own { IsOf shared.now pass.old }
     requires unpinned { IsUnpinned pass.old }
@@ -117,8 +118,8 @@ pub fn pin(shared: &Shared, pass: &mut Pass, tries: u32) -> Result<u64, Moved>
     pin_by(shared, pass, tries, &Confirming::Plain)
 }
 
-/// Pins the epoch, as `pin` does, for an operation on a key, which begins with the sight that
-/// confirms the pin. At most 3 `tries` + 1 steps.
+/// Pins the epoch, as `pin` does, for an operation on a key. The operation begins with the sight
+/// that confirms the pin. Cost: at most 3 * `tries` + 1 steps.
 #[inline(always)]
 pub fn pin_for(shared: &Shared, pass: &mut Pass, tries: u32, op: Op, key: Key) -> Result<u64, Moved>
     requires own { IsOf shared.now pass.old }

@@ -1,4 +1,4 @@
-//! Which workers hold the epoch back.
+//! Finds the workers that hold the epoch back.
 ghost use Rattle.std.specs.Prelude.{◌+◌, ◌≤◌, length};
 ghost use Rattle.nm_steps.specs.Steps.{IsOf};
 ghost use Rattle.nm_epoch.specs.Resting.{GoesOnSettled, epochs};
@@ -8,12 +8,12 @@ use crate::answers::Behind;
 use crate::looking::{elsewhere, look, read};
 use nm_steps::{Pass, Shared};
 
-/// Reads the epoch, and tells which workers hold it back: a worker's bit is set exactly where it
-/// was found announcing another epoch than the one read; the own bit exactly where the own pin is
-/// at another. As many steps as there are workers.
+/// Reads the epoch, and finds the workers that hold it back. A worker's bit is set exactly if it
+/// was found announcing another epoch than the one that was read; for the calling worker its own
+/// pin counts. Cost: as many steps as there are workers.
 ///
-/// A worker that stalls while it is pinned is found so (Fraser, 2004, chapter 5: one such worker
-/// holds back all reclamation). Where a cut waits for its label, the first step labels it.
+/// This finds a worker that stalls while it is pinned (Fraser, 2004, chapter 5: one such worker
+/// holds back all reclamation). If a cut waits for its label, the first step labels it.
 pub fn behind(shared: &Shared, pass: &mut Pass) -> Behind
     requires { IsOf shared.now pass.old }
     ensures after { GoesOnSettled pass.old pass.new }

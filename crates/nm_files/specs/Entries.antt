@@ -1,4 +1,4 @@
--- A file by its lines: a schedule, a header and events of workers in their order; a script, a
+-- A file by its lines: a schedule is a header and events of workers in their order; a script is a
 -- header and calls.
 use Rattle.nm_files.specs.Chain.{◌>>=◌}
 use Rattle.std.specs.Prelude.{◌<◌, ℕ, List, ◌∷◌, length, ◌==◌, Result, Ok, Err, if◌then◌else◌}
@@ -17,7 +17,7 @@ use Rattle.nm_files.specs.Kinds.{kind_row, kind_of, events, calls, IsAllowed}
 use Rattle.nm_files.specs.Headers.{header_of, SerialAlone}
 use Rattle.nm_files.specs.Files.{Fault, File, file_from}
 
--- the worker and the entry of a line, by its fields
+-- the worker and the entry of a line, from its fields
 unfoldable pub entry_of : {X : Type 0} → Format X → Header → List (List ℕ) → Result (ℕ × X) Reason
 entry_of format header (worker ∷ word ∷ arguments) = do
   kind ← kind_of format.kinds header.is_extended word (length arguments == 0)
@@ -26,7 +26,7 @@ entry_of format header (worker ∷ word ∷ arguments) = do
   Ok (told.0, entry)
 entry_of format header _ = Err reason.Form
 
--- what a line says in a file with that header
+-- the worker and the entry of a line, in a file with that header
 abbrev pub line_of : {X : Type 0} → Format X → Header → List ℕ → Result (ℕ × X) Reason
 line_of format header line =
     if list_all is_field (fields line) then entry_of format header (fields line)
@@ -35,7 +35,7 @@ line_of format header line =
 abbrev pub first_line_of : Command → List ℕ → Result Header Reason
 first_line_of command line = header_of command (fields line)
 
--- what the bytes of a file for that command say, in lines of that format
+-- the contents of a file for that command from its bytes, in lines of that format
 abbrev pub file_of : {X : Type 0} → Format X → Command → List ℕ → Result (File Header (ℕ × X)) Fault
 file_of format command bytes = file_from (first_line_of command) (line_of format) (parts bytes)
 

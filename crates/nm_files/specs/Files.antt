@@ -1,4 +1,4 @@
--- A file of lines: a header, and an entry by each further line; or its first faulty line with the
+-- A file of lines: a header, and an entry for each further line; or its first faulty line with the
 -- least reason.
 use Rattle.nm_files.specs.Chain.{◌>>=◌}
 use Rattle.std.specs.Prelude.{◌≡◌, ℕ, ◌+◌, List, [], ◌∷◌, length, Result, Ok, Err, Bool, ◌||◌, ◌==◌, nat_le, nat_lt, if◌then◌else◌}
@@ -39,11 +39,11 @@ abbrev pub at_line : {X : Type 0} → ℕ → Result X Reason → Result X Fault
 at_line number (Ok x) = Ok x
 at_line number (Err r) = Err (record { line = number; reason = r })
 
--- what the line of this number says, unless it is long
+-- the contents of the line of this number, unless it is long
 abbrev pub checked : {X : Type 0} → ℕ → List ℕ → Result X Reason → Result X Fault
 checked number line says = at_line number (if is_long number line then Err reason.Long else says)
 
--- what is wrong with a line that no newline ends
+-- the fault of a line that does not end with a newline
 abbrev pub cut_off : ℕ → List ℕ → Fault
 cut_off number line = record {
   line = number;
@@ -51,7 +51,7 @@ cut_off number line = record {
       else reason.Cut;
 }
 
--- the entries by the lines from this number on. What follows the last newline is nothing, or a line
+-- the entries of the lines from this number on. After the last newline there is nothing, or a line
 -- that is cut off
 unfoldable pub entries_from : {X : Type 0} → (List ℕ → Result X Reason) → ℕ → List (List ℕ)
     → Result (List X) Fault
@@ -63,12 +63,13 @@ entries_from line_of number (line ∷ next ∷ more) = do
   entries ← entries_from line_of (number + 1) (next ∷ more)
   Ok (entry ∷ entries)
 
--- what a file says
+-- the contents of a file
 pub record File (H X : Type 0) : Type 0 where
   pub header : H
   pub entries : List X
 
--- a file whose first line says a header, and whose further lines, by that header, say an entry each
+-- a file whose first line is a header, and whose further lines are entries, each parsed by that
+-- header
 unfoldable pub file_from : {H X : Type 0} → (List ℕ → Result H Reason)
     → (H → List ℕ → Result X Reason) → List (List ℕ) → Result (File H X) Fault
 file_from header_of line_of [] = Err (record { line = 1; reason = reason.Cut })
@@ -78,9 +79,9 @@ file_from header_of line_of (line ∷ next ∷ more) = do
   entries ← entries_from (line_of header) 2 (next ∷ more)
   Ok (record { header = header; entries = entries })
 
--- ---- what a function of the program tells of a file
+-- ---- what a function of the program returns for a file
 
--- the fault that a run ends with
+-- the fault with which a run ends
 abbrev pub Fails : {Y : Type 0} → RunFault → Result Y Fault → Type 0
 Fails (run.Line line reason) said = said ≡ Err (record { line = line; reason = reason })
 Fails run.NoMemory said = Unit {0}
@@ -89,12 +90,13 @@ Fails run.Write said = ⊥
 Fails (run.Gate worker line) said = ⊥
 Fails run.Thread said = ⊥
 
--- what a function returned, seen by view, is what the file says, unless memory ran out
+-- what a function returned, seen by view, is the contents of the file or its fault, unless memory
+-- ran out
 abbrev pub GivesWhatIsSaid : {X Y : Type 0} → (X → Y) → Result X RunFault → Result Y Fault → Type 0
 GivesWhatIsSaid view (Ok x) said = said ≡ Ok (view x)
 GivesWhatIsSaid view (Err e) said = Fails e said
 
--- of a faulty line
+-- this holds of a faulty line and its reason
 abbrev pub IfLine : RunFault → (ℕ → Reason → Type 0) → Type 0
 IfLine (run.Line line reason) P = P line reason
 IfLine run.NoMemory P = Unit {0}
@@ -103,7 +105,7 @@ IfLine run.Write P = Unit {0}
 IfLine (run.Gate worker line) P = Unit {0}
 IfLine run.Thread P = Unit {0}
 
--- the run got as far as to judge its input
+-- the run came to the point of judging its input
 abbrev pub HasJudged : {X : Type 0} → Result X RunFault → Type 0
 HasJudged (Ok x) = Unit {0}
 HasJudged (Err (run.Line line reason)) = Unit {0}
@@ -113,7 +115,7 @@ HasJudged (Err run.Write) = Unit {0}
 HasJudged (Err (run.Gate worker line)) = Unit {0}
 HasJudged (Err run.Thread) = Unit {0}
 
--- the exit status of the program after a run that ended so
+-- the exit status of the program after a run that ended with this fault
 abbrev pub exit_status : RunFault → ℕ
 exit_status (run.Line line reason) = 1
 exit_status run.NoMemory = 3

@@ -1,5 +1,4 @@
--- A format of lines: the kinds that a line may have, and what each makes of the values of its
--- fields.
+-- A format of lines: the kinds that a line may have, and the entry of each kind and its values.
 use Rattle.std.specs.Prelude.{List, Result}
 use Rattle.nm_files.specs.declared.fault.Reason.{Reason}
 use Rattle.nm_files.specs.declared.kind.Kind.{Kind}

@@ -1,5 +1,5 @@
--- The first line of a file: its command and version, how many nodes and workers it is for, and how
--- many tries each call has.
+-- The first line of a file: its command and version, its numbers of nodes and workers, and the
+-- number of tries of each call.
 use Rattle.nm_files.specs.Chain.{◌>>=◌}
 use Rattle.std.specs.Prelude.{◌≡◌, ℕ, List, [], ◌∷◌, codes, Bool, true, false, Result, Ok, Err, if◌then◌else◌}
 use Rattle.std.specs.Str.{bytes_eq}
@@ -19,7 +19,7 @@ command_word Replay = codes "schedule"
 command_word Serial = codes "serial"
 command_word Stress = codes "stress"
 
--- as many nodes and workers as a layout can have
+-- the limits with as many nodes and workers as a layout can have
 abbrev pub greatest : Bool → Bool → Limits
 greatest is_extended is_radix = record {
   nodes = 1048576;
@@ -28,8 +28,9 @@ greatest is_extended is_radix = record {
   is_radix = is_radix;
 }
 
--- `later_limits`, `limits_by`: the sizes that a version of the format allows, whether it has the
--- lines of later versions, and whether its tree is a radix tree; in versions 2 and on, and in all
+-- `later_limits`, `limits_by`: the greatest sizes that a version of the format allows, whether it
+-- has the lines of later versions, and whether its tree is a radix tree; for versions 2 and later,
+-- and for all versions
 abbrev pub later_limits : Command → List ℕ → Result Limits Reason
 later_limits Replay version =
     if bytes_eq version (codes "2") then Ok (greatest false false)
@@ -57,7 +58,7 @@ limits_of command given version =
     if bytes_eq given (command_word command) then limits_by command version
     else Err reason.Header
 
--- whatever is wrong with a number here is a fault of the header
+-- any fault of a number here is a fault of the header
 abbrev pub in_header : Result ℕ Reason → Result ℕ Reason
 in_header (Ok n) = Ok n
 in_header (Err r) = Err reason.Header
@@ -66,8 +67,8 @@ in_header (Err r) = Err reason.Header
 abbrev pub count : List ℕ → Result ℕ Reason
 count field = in_header (number field)
 
--- the tries by the fields behind the sizes: one field in a script, and none in a schedule, whose
--- events have one try each
+-- the number of tries from the fields after the sizes: one field in a script, and none in a
+-- schedule, whose events have one try each
 abbrev pub tries_of : Command → List (List ℕ) → Result ℕ Reason
 tries_of Replay [] = Ok 1
 tries_of Serial (tries ∷ []) = count tries
@@ -90,7 +91,7 @@ header_within limits nodes workers tries =
       is_extended = limits.is_extended;
     })
 
--- the header by its fields, in a file for that command
+-- the header from its fields, in a file for that command
 unfoldable pub header_of : Command → List (List ℕ) → Result Header Reason
 header_of command (given ∷ version ∷ nodes ∷ workers ∷ tries) = do
   limits ← limits_of command given version
@@ -100,7 +101,7 @@ header_of command (given ∷ version ∷ nodes ∷ workers ∷ tries) = do
   header_within limits nodes workers tries
 header_of command _ = Err reason.Header
 
--- workers may resign in files of `serial` alone, and not in those of `stress`
+-- workers may resign only in files of `serial`, not in those of `stress`
 abbrev pub SerialAlone : Command → Bool → Type 0
 SerialAlone Stress is_extended = is_extended ≡ false
 SerialAlone command is_extended = Unit {0}

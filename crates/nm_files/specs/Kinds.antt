@@ -1,4 +1,5 @@
--- The kinds of line: the word of each, what the fields behind it must be, and what they say.
+-- The kinds of line: the word of each, what the fields after it must be, and the entry that it
+-- gives.
 use Rattle.std.specs.Prelude.{◌≡◌, ◌<◌, ℕ, List, [], ◌∷◌, codes, Bool, true, not, ◌&&◌, Result, Ok, Err}
 use Rattle.std.specs.List.{find}
 use Rattle.std.specs.Option.{ok_or}
@@ -43,7 +44,7 @@ kind_word Unpin = codes "unpin"
 kind_word Collect = codes "collect"
 kind_word Resign = codes "resign"
 
--- what the fields behind its word must be
+-- what the fields after its word must be
 abbrev pub kind_row : Kind → List Argument
 kind_row SightFor = a.Op ∷ a.Key ∷ []
 kind_row LeaveWith = a.Answer ∷ []
@@ -62,15 +63,15 @@ kind_row Delete = a.Key ∷ []
 kind_row Resign = a.Worker ∷ []
 kind_row kind = []
 
--- a file may have lines of this kind: sights and leaves of operations and lines of resigning in
--- later versions alone. With no field behind its word a sight or a leave is of no operation
+-- a file may have lines of this kind: sights and leaves of operations, and lines of resigning, only
+-- in later versions. With no field after its word, a sight or a leave is not of an operation
 abbrev pub may_stand : Bool → Bool → Kind → Bool
 may_stand is_extended is_bare SightFor = is_extended && not is_bare
 may_stand is_extended is_bare LeaveWith = is_extended && not is_bare
 may_stand is_extended is_bare Resign = is_extended
 may_stand is_extended is_bare kind = true
 
--- it has this word, and may stand
+-- the kind has this word, and is allowed
 abbrev pub is_named : Bool → List ℕ → Bool → Kind → Bool
 is_named is_extended given is_bare kind =
     bytes_eq given (kind_word kind) && may_stand is_extended is_bare kind
@@ -80,8 +81,8 @@ abbrev pub kind_of : List Kind → Bool → List ℕ → Bool → Result Kind Re
 kind_of kinds is_extended given is_bare =
     ok_or (find (is_named is_extended given is_bare) kinds) reason.Kind
 
--- `removal`, `tree_event`, `slot_event`, `event_made`: the event of each kind by the values of its
--- fields: of a tag and a splice, of all changes of the tree, of what is done on one slot too, and of
+-- `removal`, `tree_event`, `slot_event`, `event_made`: the event of each kind from the values of
+-- its fields: of a tag and a splice; of all changes of the tree; of all steps on one slot too; of
 -- all kinds
 abbrev pub removal : Kind → List Value → Result Event Reason
 removal Tag (Place parent ∷ Side side ∷ []) = Ok (event.Tag parent side)
@@ -112,7 +113,7 @@ event_made Scan (Place worker ∷ []) = Ok (event.Scan worker)
 event_made Advance [] = Ok event.Advance
 event_made kind values = slot_event kind values
 
--- the call of each kind by the values of its fields
+-- the call of each kind from the values of its fields
 abbrev pub call_made : Kind → List Value → Result ScriptCall Reason
 call_made Has (Key key ∷ []) = Ok (call.Has key)
 call_made Insert (Key key ∷ []) = Ok (call.Insert key)
@@ -140,7 +141,8 @@ calls = record {
   made = call_made;
 }
 
--- a worker of so many, and a call that a file may have
+-- a call that a file may have: its heir is one of the workers, and it resigns only in later
+-- versions
 abbrev pub IsAllowed : ℕ → Bool → ScriptCall → Type 0
 IsAllowed workers is_extended (call.Resign heir) = (is_extended ≡ true) × (heir < workers)
 IsAllowed workers is_extended c = Unit {0}

@@ -16,23 +16,23 @@ abbrev pub further : ℕ → Option (List ℕ) → List (List ℕ)
 further c None = []
 further c (Some text) = pieces c text
 
--- what stands between newlines: each part but the last is a line, and the last is what follows the
--- last newline
+-- the pieces between newlines: each part except the last is a line, and the last is what follows
+-- the last newline
 abbrev pub parts : List ℕ → List (List ℕ)
 parts bytes = pieces 10 bytes
 
--- what stands between spaces
+-- the pieces between spaces
 abbrev pub fields : List ℕ → List (List ℕ)
 fields line = pieces 32 line
 
 abbrev pub is_visible : ℕ → Bool
 is_visible b = nat_le 33 b && nat_le b 126
 
--- a field is of bytes 33 to 126, and not empty: so spaces are single
+-- a field is of bytes 33 to 126 and not empty, so spaces are single
 abbrev pub is_field : List ℕ → Bool
 is_field field = nat_lt 0 (length field) && list_all is_visible field
 
--- decimal digits without a leading zero, but for 0 itself
+-- decimal digits without a leading zero, except for 0 itself
 abbrev pub is_numeral : List ℕ → Bool
 is_numeral field = nat_lt 0 (length field) && list_all is_ascii_digit field
     && (not (slice_index field 0 == 48) || length field == 1)

@@ -1,4 +1,4 @@
--- When each reason holds of a line, each for itself.
+-- When each reason holds of a line, independently of the others.
 use Rattle.std.specs.Prelude.{ℕ, List, [], ◌∷◌, length, drop, slice_index_or, Bool, true, false, not, ◌&&◌, ◌||◌, ◌==◌, nat_lt, Option, Some, None, Result, Ok, Err, is_ok}
 use Rattle.std.specs.List.{list_all}
 use Rattle.nm_files.specs.declared.fault.Reason.{Reason}
@@ -16,14 +16,14 @@ use Rattle.nm_files.specs.Headers.{limits_of, tries_of}
 use Rattle.nm_model.specs.Step.{outside}
 use Rattle.nm_files.specs.Files.{Fault, is_long}
 
--- so it is of the value, where there is one
+-- this is true of the value, and there is one
 abbrev pub so_at : {X : Type 0} → (X → Bool) → Result X Reason → Bool
 so_at is_so (Ok x) = is_so x
 so_at is_so (Err r) = false
 
--- ---- a field behind the word of a line
+-- ---- a field after the word of a line
 
--- it is no word of those that it must be one of
+-- the field must be one of some words, and is none of them
 abbrev pub is_no_word : Argument → List ℕ → Bool
 is_no_word a.Field f = not (is_ok (by_word field_words f))
 is_no_word a.Side f = not (is_ok (by_word side_words f))
@@ -31,7 +31,7 @@ is_no_word a.Op f = not (is_ok (by_word op_words f))
 is_no_word a.Answer f = not (is_ok (by_word answer_words f))
 is_no_word argument f = false
 
--- it is not in its spelling and range, where it must be a number
+-- the field must be a number, and is not in its spelling and range
 abbrev pub is_no_number : Argument → List ℕ → Bool
 is_no_number a.Place f = not (is_ok (place f))
 is_no_number a.Number f = not (is_ok (number f))
@@ -39,17 +39,17 @@ is_no_number a.Key f = not (is_ok (number f))
 is_no_number a.Worker f = not (is_ok (place f))
 is_no_number argument f = false
 
--- it is a number, and none of so many workers, where it must be one
+-- the field must be a worker, and is a number that is not below the number of workers
 abbrev pub is_none_of_workers : ℕ → Argument → List ℕ → Bool
 is_none_of_workers workers a.Worker f = so_at (λ w. not (nat_lt w workers)) (place f)
 is_none_of_workers workers argument f = false
 
--- it is a number, and no key of the set, where it must be one
+-- the field must be a key, and is a number that is no key of the set
 abbrev pub is_no_key : Argument → List ℕ → Bool
 is_no_key a.Key f = so_at (λ n. not (is_key n)) (number f)
 is_no_key argument f = false
 
--- the reason holds of a field that must be this, in a file of so many workers
+-- the reason holds of a field that must be this, in a file with this number of workers
 abbrev pub field_holds : ℕ → Argument → List ℕ → Reason → Bool
 field_holds workers argument f Fields = is_no_word argument f
 field_holds workers argument f Number = is_no_number argument f
@@ -57,7 +57,7 @@ field_holds workers argument f Worker = is_none_of_workers workers argument f
 field_holds workers argument f Key = is_no_key argument f
 field_holds workers argument f _ = false
 
--- the reason holds of one of these fields; of their number, where the row has another
+-- the reason holds of one of these fields, or of their number if it is not that of the row
 abbrev pub row_holds : ℕ → List Argument → List (List ℕ) → Reason → Bool
 row_holds workers [] [] r = false
 row_holds workers (argument ∷ row) (f ∷ fs) r =
@@ -90,7 +90,8 @@ holds_of kinds header long fs r =
 abbrev pub holds : List KindOf → HeaderOf → ℕ → List ℕ → Reason → Bool
 holds kinds header number line = holds_of kinds header (is_long number line) (fields line)
 
--- those that fields can have, and a line but the first, in the order of their numbers
+-- the reasons that fields can have, and those that a line after the first can have, in the order of
+-- their numbers
 abbrev pub field_reasons : List Reason
 field_reasons = Fields ∷ Number ∷ Worker ∷ Key ∷ []
 
@@ -99,17 +100,17 @@ line_reasons = Long ∷ Form ∷ Kind ∷ field_reasons
 
 -- ---- the first line
 
--- the limits that the first two of four fields or more name
+-- the limits that the first two fields name, if there are at least four
 abbrev pub header_limits : CommandOf → List (List ℕ) → Result Limits Reason
 header_limits command (given ∷ version ∷ nodes ∷ workers ∷ more) = limits_of command given version
 header_limits command _ = Err Header
 
--- the third field and the fourth are numbers, and those behind them the tries
+-- the third field and the fourth are numbers, and the fields after them are the tries
 abbrev pub has_counts : CommandOf → List (List ℕ) → Bool
 has_counts command fs = is_ok (number (slice_index_or fs 2 []))
     && (is_ok (number (slice_index_or fs 3 [])) && is_ok (tries_of command (drop 4 fs)))
 
--- a number of the header is above or below what there may be, where it is a number
+-- the field is a number, and is below or above the allowed range
 abbrev pub is_no_size : ℕ → ℕ → List ℕ → Bool
 is_no_size least most field = so_at (outside least most) (number field)
 
@@ -131,11 +132,11 @@ header_holds_of command long fs _ = false
 abbrev pub header_holds : CommandOf → List ℕ → Reason → Bool
 header_holds command line = header_holds_of command (is_long 1 line) (fields line)
 
--- those that the first line can have, in the order of their numbers
+-- the reasons that the first line can have, in the order of their numbers
 abbrev pub header_reasons : List Reason
 header_reasons = Long ∷ Header ∷ Nodes ∷ Workers ∷ Tries ∷ []
 
--- ---- what is answered
+-- ---- what is returned
 
 abbrev pub reason_of : {X : Type 0} → Result X Fault → Option Reason
 reason_of (Ok x) = None

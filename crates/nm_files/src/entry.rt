@@ -1,4 +1,4 @@
-//! What a line says beside its worker: an event of a schedule, or a call of a script.
+//! The entry of a line, besides its worker: an event of a schedule, or a call of a script.
 ghost use Rattle.std.specs.Prelude.{◌≡◌};
 ghost use Rattle.nm_files.specs.Kinds as spec;
 
@@ -8,7 +8,7 @@ use crate::value::Value;
 use nm_edge::Key;
 use nm_model::Event;
 
-/// A call of the set by one of its workers.
+/// A call on the set by one of its workers.
 #[derive(Clone, Copy, Debug, PartialEq, Eq)]
 pub enum ScriptCall {
     Has(Key),
@@ -23,17 +23,19 @@ pub enum ScriptCall {
     Resign(u32),
 }
 
-/// What lines of one format say: their kinds, and what each makes of its values.
+/// The entries of one format: the kinds of its lines, and the entry of each kind and its values.
 pub trait FileEntry: Copy {
     ghost use Rattle.nm_files.specs.Formats.{Format};
 
     ghost format: { Format Self };
 
-    /// The kinds that a line may have. Of two that have one word and may stand, the first is meant.
+    /// Returns the kinds that a line may have. If two of them have the same word and are allowed,
+    /// the first is meant.
     fn kinds() -> &'static [Kind]
         ensures { result.now ≡ format.kinds };
 
-    /// What a line of this kind says by the values of its fields. With others it is `Fields`.
+    /// Returns the entry of a line of this kind, from the values of its fields. Errors: `Fields`
+    /// for other values.
     fn made(kind: Kind, values: &[Value]) -> Result<Self, Reason>
         ensures { result ≡ format.made kind values.now };
 }
@@ -77,7 +79,7 @@ impl FileEntry for Event {
     }
 }
 
-/// An event on one slot, by the values of its fields.
+/// Returns an event on one slot, from the values of its fields.
 fn slot_event(kind: Kind, values: &[Value]) -> Result<Event, Reason>
     ensures { result ≡ spec.slot_event kind values.now }
 {
@@ -93,7 +95,7 @@ fn slot_event(kind: Kind, values: &[Value]) -> Result<Event, Reason>
     }
 }
 
-/// A link or a flag, or what else changes the tree, by the values of its fields.
+/// Returns a link, a flag or another change of the tree, from the values of its fields.
 fn tree_event(kind: Kind, values: &[Value]) -> Result<Event, Reason>
     ensures { result ≡ spec.tree_event kind values.now }
 {
@@ -109,7 +111,7 @@ fn tree_event(kind: Kind, values: &[Value]) -> Result<Event, Reason>
     }
 }
 
-/// A tag or a splice, by the values of its fields.
+/// Returns a tag or a splice, from the values of its fields.
 fn removal(kind: Kind, values: &[Value]) -> Result<Event, Reason>
     ensures { result ≡ spec.removal kind values.now }
 {

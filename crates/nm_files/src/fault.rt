@@ -1,4 +1,4 @@
-//! What can be wrong with a file, and with a run.
+//! The faults of a file and of a run.
 ghost use Rattle.std.specs.Prelude.{◌≡◌};
 
 use thiserror::Error;
@@ -18,16 +18,17 @@ pub enum Reason {
     Workers,
     /// The header's tries are not 1 to 1,000,000.
     Tries,
-    /// Not fields with single spaces between, or fewer than two fields.
+    /// The line is not formed of fields with single spaces between them, or has fewer than two
+    /// fields.
     Form,
-    /// The second field isn't a kind of event, or of call.
+    /// The second field is not a kind of event or of call.
     Kind,
-    /// Another number of arguments than the kind has, or a word that names none of the fields,
-    /// sides, operations or answers where one is asked.
+    /// The number of arguments is not that of the kind, or a word is not one of the fields, sides,
+    /// operations or answers that is required.
     Fields,
-    /// A number that isn't in its one spelling, or above its range.
+    /// A number is not in its one spelling, or above its range.
     Number,
-    /// The line's worker, or the heir that it names, isn't one of the header's.
+    /// The line's worker, or the heir that it names, is not one of the header's.
     Worker,
     /// The key of an operation is above those of the set.
     Key,
@@ -36,8 +37,8 @@ pub enum Reason {
 impl Reason {
     ghost use Rattle.nm_files.specs.Files.{least, reason_number};
 
-    /// The number by which a faulty line is reported. Of several faults of a line, the one with the
-    /// least number is answered.
+    /// Returns the number by which a faulty line is reported. If a line has several faults, the one
+    /// with the least number is returned.
     pub fn number(self) -> u8
         ensures { result ≡ reason_number self }
     {
@@ -57,7 +58,7 @@ impl Reason {
         }
     }
 
-    /// The lesser of two reasons by their numbers.
+    /// Returns the lesser of two reasons by their numbers.
     pub fn least(self, other: Reason) -> Reason
         ensures { result ≡ least self other }
     {
@@ -72,8 +73,8 @@ impl Reason {
 /// Why a run ended early.
 #[derive(Debug, Drop, Error)]
 pub enum RunFault {
-    /// The first faulty line of the file, numbered from 1, and the least reason that it has.
-    /// Nothing was written.
+    /// The first faulty line of the file, numbered from 1, and its least reason. Nothing was
+    /// written.
     #[error("line {line}: reason {}", .reason.number())]
     Line { line: u32, reason: Reason },
     /// Memory was refused. Nothing was written.
@@ -82,14 +83,14 @@ pub enum RunFault {
     /// The reader failed. Nothing was written.
     #[error("read failed")]
     Read,
-    /// The writer failed. How much was written isn't said.
+    /// The writer failed. An unknown part of the text was written.
     #[error("write failed")]
     Write,
-    /// The gate stopped a worker before a line, numbered in the file from 1. Of several such
-    /// workers it is the least. Nothing was written.
+    /// The gate stopped a worker before a line, numbered in the file from 1. If there are several
+    /// such workers, it is the least. Nothing was written.
     #[error("worker {worker} was stopped at line {line}")]
     Gate { worker: u32, line: u32 },
-    /// A thread was refused. Those that had started have ended. Nothing was written.
+    /// No thread could be started. Those that had started have ended. Nothing was written.
     #[error("no thread")]
     Thread,
 }

@@ -4,7 +4,7 @@ ghost use Rattle.nm_files.specs.Lines as spec;
 
 use crate::fault::Reason;
 
-/// Tests that a field is of bytes 33 to 126, and has one at least.
+/// Returns whether a field has at least one byte, and only bytes 33 to 126.
 pub fn is_field(field: &[u8]) -> bool
     ensures { result ≡ spec.is_field field.now }
 {
@@ -16,7 +16,7 @@ pub fn is_field(field: &[u8]) -> bool
     !field.is_empty()
 }
 
-/// The number that a field spells, below 2^64; else `Number`.
+/// Parses a field into a number below 2^64. Errors: `Number`.
 pub fn number(field: &[u8]) -> Result<u64, Reason>
     ensures { result ≡ spec.number field.now }
 {
@@ -37,7 +37,7 @@ pub fn number(field: &[u8]) -> Result<u64, Reason>
     Ok(value)
 }
 
-/// The slot or the worker that a field spells, below 2^32; else `Number`.
+/// Parses a field into a slot or a worker, below 2^32. Errors: `Number`.
 pub fn place(field: &[u8]) -> Result<u32, Reason>
     ensures { result ≡ spec.place field.now }
 {
@@ -45,7 +45,8 @@ pub fn place(field: &[u8]) -> Result<u32, Reason>
     u32::try_from(n).map_err(|_| Reason::Number)
 }
 
-/// A number has one spelling: a field that is read as n is n in decimal digits.
+/// Law: for every field that is parsed as a number n, the field is n in decimal digits. So each
+/// number has one spelling.
 pub fn one_spelling()
     ensures { (field : List ℕ) (n : ℕ) → spec.number field ≡ Ok n → field ≡ decimal n }
 {}

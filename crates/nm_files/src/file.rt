@@ -14,7 +14,7 @@ use crate::pieces::cut;
 use nm_model::Event;
 use std::alloc::Global;
 
-/// What a file says, and the bytes after its first line.
+/// The contents of a file, and the bytes after its first line.
 #[derive(Drop)]
 pub struct File<'a, T> {
     pub header: Header,
@@ -32,21 +32,21 @@ const MOST_LINES: u32 = 100_001;
 
 const MOST_BYTES: usize = 120;
 
-/// The fault of a line, numbered from 1.
+/// Returns the fault of a line, numbered from 1.
 fn fault(line: u32, reason: Reason) -> RunFault
     ensures { result ≡ RunFault.Line line reason }
 {
     RunFault::Line { line, reason }
 }
 
-/// Tests that a line is too long, or numbered above what a file may have.
+/// Returns whether a line is too long, or its number is too great for a file.
 fn is_long(number: u32, line: &[u8]) -> bool
     ensures { result ≡ files.is_long number line.now }
 {
     number > MOST_LINES || line.len() > MOST_BYTES
 }
 
-/// The fault of a line that no newline ends.
+/// Returns the fault of a line that does not end with a newline.
 fn cut_off(number: u32, line: &[u8]) -> RunFault
     ensures { let off = files.cut_off number line.now
         in result ≡ RunFault.Line off.line off.reason }
@@ -58,7 +58,7 @@ fn cut_off(number: u32, line: &[u8]) -> RunFault
     }
 }
 
-/// What the line of this number says, unless it is too long.
+/// Returns what the line of this number was parsed into, or the fault `Long` if it is too long.
 fn checked<T: Drop>(number: u32, line: &[u8], said: Result<T, Reason>) -> Result<T, RunFault>
     ensures says { GivesWhatIsSaid (λ x. x) result (files.checked number line.now said) }
     ensures same { IfOk result (λ x. said ≡ Ok x) }
@@ -70,7 +70,7 @@ fn checked<T: Drop>(number: u32, line: &[u8], said: Result<T, Reason>) -> Result
     said.map_err(|reason| fault(number, reason))
 }
 
-/// The entries of the lines from the second on.
+/// Parses the lines from the second on into entries.
 fn entries_of<T: FileEntry>(
     alloc: Global,
     header: &Header,
@@ -97,8 +97,8 @@ fn entries_of<T: FileEntry>(
     }
 }
 
-/// What the bytes of a file for that command say. A faulty file is answered by its first faulty
-/// line, numbered from 1, and the least reason of that line.
+/// Parses the bytes of a file for that command. Errors: `Line` with the first faulty line, numbered
+/// from 1, and the least reason of that line; `NoMemory`.
 fn file_of<T: FileEntry>(
     alloc: Global,
     command: Command,
@@ -122,7 +122,7 @@ fn file_of<T: FileEntry>(
     })
 }
 
-/// What the bytes of a schedule say.
+/// Parses the bytes of a schedule.
 pub fn schedule_of(alloc: Global, bytes: &[u8]) -> Result<Schedule<'_>, RunFault>
     ensures says { GivesWhatIsSaid (λ s. record { header = s.header; entries = s.entries.items })
         result (spec.schedule_of bytes.now) }
@@ -131,7 +131,7 @@ pub fn schedule_of(alloc: Global, bytes: &[u8]) -> Result<Schedule<'_>, RunFault
     file_of(alloc, Command::Replay, bytes)
 }
 
-/// What the bytes of a script for that command say.
+/// Parses the bytes of a script for that command.
 pub fn script_of(alloc: Global, command: Command, bytes: &[u8]) -> Result<Script<'_>, RunFault>
     ensures says { GivesWhatIsSaid (λ s. record { header = s.header; entries = s.entries.items })
         result (spec.script_of command bytes.now) }

@@ -7,22 +7,22 @@ use crate::fault::Reason;
 use crate::field::number;
 use nm_edge::{LEAST_NODES, Layout, LayoutError, MOST_NODES, MOST_WORKERS};
 
-/// As many tries as a call may have.
+/// The largest number of tries of a call.
 const MOST_TRIES: u32 = 1_000_000;
 
 /// The command that a file is for.
 #[derive(Clone, Copy, Debug, PartialEq, Eq)]
 pub enum Command {
-    /// Events of a schedule, by the core, in their order.
+    /// Runs the events of a schedule on the core, in their order.
     Replay,
-    /// All calls of a script by one thread, in their order.
+    /// Runs all calls of a script in one thread, in their order.
     Serial,
-    /// The calls of each worker by a thread of its own.
+    /// Runs the calls of each worker in a thread of its own.
     Stress,
 }
 
 impl Command {
-    /// The word by which a header names it.
+    /// Returns the word by which a header names it.
     fn word(self) -> &'static [u8]
         ensures { result.now ≡ spec.command_word self }
     {
@@ -34,8 +34,8 @@ impl Command {
     }
 }
 
-/// The sizes that a version of the format allows, whether it has the lines of later versions, and
-/// whether its tree is a radix tree.
+/// The greatest sizes that a version of the format allows, whether it has the lines of later
+/// versions, and whether its tree is a radix tree.
 #[derive(Clone, Copy, Debug, PartialEq, Eq)]
 pub struct Limits {
     pub nodes: u32,
@@ -44,19 +44,19 @@ pub struct Limits {
     pub is_radix: bool,
 }
 
-/// What the first line of a file says.
+/// The contents of the first line of a file.
 #[derive(Clone, Copy, Debug, PartialEq, Eq)]
 pub struct Header {
-    /// How many nodes and workers the tree is for, and its shape.
+    /// The numbers of nodes and of workers of the tree, and its shape.
     pub layout: Layout,
-    /// How many tries each call has that takes tries, 1 to 1,000,000; of a schedule 1.
+    /// The number of tries of each call that takes tries, 1 to 1,000,000; 1 in a schedule.
     pub tries: u32,
-    /// A schedule is played by an ordered core, and its sights and leaves may be of operations; a
-    /// line of a script may let its worker resign.
+    /// Whether the file has the lines of later versions. Such a schedule is run by an ordered core,
+    /// and its sights and leaves may be of operations. In such a script a worker may resign.
     pub is_extended: bool,
 }
 
-/// As many nodes and workers as a layout can have.
+/// Returns the limits with as many nodes and workers as a layout can have.
 fn greatest(is_extended: bool, is_radix: bool) -> Limits
     ensures { result ≡ record {
       nodes = MOST_NODES;
@@ -73,10 +73,10 @@ fn greatest(is_extended: bool, is_radix: bool) -> Limits
     }
 }
 
-/// The limits of a version of a command's format: of 1, 65,536 nodes and 32 workers; of later ones,
-/// as many as a layout can have. Versions 3 and 4 of a schedule are for an ordered core, and workers
-/// of `serial` may resign from 2 on; the tree is a radix tree in version 4 of a schedule, and in 3
-/// of a script.
+/// Returns the limits of a version of a command's format. Version 1 has 65,536 nodes and 32
+/// workers; later ones have as many as a layout can have. Versions 3 and 4 of a schedule are for an
+/// ordered core, and workers of `serial` may resign from version 2 on. The tree is a radix tree in
+/// version 4 of a schedule, and in version 3 of a script.
 fn limits_of(command: Command, word: &[u8], version: &[u8]) -> Result<Limits, Reason>
     ensures limits { result ≡ spec.limits_of command word.now version.now }
     ensures stress { IfOk result (λ limits. SerialAlone command limits.is_extended) }
@@ -104,14 +104,15 @@ fn limits_of(command: Command, word: &[u8], version: &[u8]) -> Result<Limits, Re
     }
 }
 
-/// A number of the header. In a wrong spelling, or above 2^64 - 1, it is `Header`.
+/// Parses a number of the header. Errors: `Header` if it is in a wrong spelling or above 2^64 - 1.
 fn count(field: &[u8]) -> Result<u64, Reason>
     ensures { result ≡ spec.count field.now }
 {
     number(field).map_err(|_| Reason::Header)
 }
 
-/// The tries by the fields behind the sizes: one field in a script, and none in a schedule.
+/// Parses the number of tries from the fields after the sizes: one field in a script, and none in a
+/// schedule.
 fn tries_of(command: Command, fields: &[&[u8]]) -> Result<u64, Reason>
     ensures { result ≡ spec.tries_of command (map (λ f. f.now) fields.now) }
 {
@@ -122,14 +123,15 @@ fn tries_of(command: Command, fields: &[&[u8]]) -> Result<u64, Reason>
     }
 }
 
-/// The layout of these sizes, for a radix tree or not.
+/// Returns the layout of these sizes, for a radix tree or not.
 fn shaped(layout: Layout, is_radix: bool) -> Layout
     ensures { result ≡ spec.shaped is_radix layout }
 {
     if is_radix { layout.in_radix() } else { layout }
 }
 
-/// The header of so many nodes, workers and tries.
+/// Returns the header with these numbers of nodes, workers and tries, if they are within the
+/// limits.
 fn header_within(limits: Limits, nodes: u64, workers: u64, tries: u64) -> Result<Header, Reason>
     requires { (limits.nodes ≤ MOST_NODES) × (limits.workers ≤ MOST_WORKERS) }
     ensures says { result ≡ spec.header_within limits nodes workers tries }
@@ -155,7 +157,7 @@ fn header_within(limits: Limits, nodes: u64, workers: u64, tries: u64) -> Result
     }
 }
 
-/// What the fields of the first line say, in a file for that command.
+/// Parses the fields of the first line, in a file for that command.
 #[tactic(auto, unfolding(crate::specs::Headers::header_of))]
 pub fn header_of(command: Command, fields: &[&[u8]]) -> Result<Header, Reason>
     ensures says { result ≡ spec.header_of command (map (λ f. f.now) fields.now) }

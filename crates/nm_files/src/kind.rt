@@ -1,11 +1,11 @@
-//! The kinds of line: a word, and what the fields behind it must be.
+//! The kinds of line: a word, and what the fields after it must be.
 ghost use Rattle.std.specs.Prelude.{◌≡◌, ◌≤◌, length};
 ghost use Rattle.nm_files.specs.Kinds as spec;
 
 use crate::fault::Reason;
 use crate::value::Argument;
 
-/// A kind of line: of event in a schedule, of call in a script; `Advance` is one of each.
+/// A kind of line: of an event in a schedule, or of a call in a script; `Advance` is one of each.
 #[derive(Clone, Copy, Debug, PartialEq, Eq)]
 pub enum Kind {
     SightFor,
@@ -34,7 +34,7 @@ pub enum Kind {
 }
 
 impl Kind {
-    /// The word by which a line names it.
+    /// Returns the word by which a line names it.
     fn word(self) -> &'static [u8]
         ensures { result.now ≡ spec.kind_word self }
     {
@@ -63,7 +63,7 @@ impl Kind {
         }
     }
 
-    /// What the fields behind its word must be.
+    /// Returns what the fields after its word must be.
     pub fn row(self) -> &'static [Argument]
         ensures row { result.now ≡ spec.kind_row self }
         ensures few { length result.now ≤ 5 }
@@ -85,8 +85,8 @@ impl Kind {
         }
     }
 
-    /// Tests that a line may be of this kind, in a file that has the lines of later versions or not.
-    /// With no field behind its word a sight or a leave is of no operation.
+    /// Returns whether a line may be of this kind, in a file that has the lines of later versions
+    /// or not. With no field after its word, a sight or a leave is not of an operation.
     fn may_stand(self, is_extended: bool, is_bare: bool) -> bool
         ensures { result ≡ spec.may_stand is_extended is_bare self }
     {
@@ -98,7 +98,8 @@ impl Kind {
     }
 }
 
-/// The first of these kinds that has this word and may stand; else `Kind`.
+/// Returns the first of these kinds that has this word and is allowed. Errors: `Kind` if there is
+/// none.
 pub fn kind_of(
     kinds: &[Kind],
     is_extended: bool,

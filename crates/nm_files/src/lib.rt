@@ -1,4 +1,4 @@
-//! What a file of events or of calls says, or its first faulty line.
+//! Parses a file of events or of calls, or returns its first faulty line.
 #![tactic(auto)]
 
 pub mod entry;

@@ -19,7 +19,7 @@ use crate::pieces::cut;
 use crate::value::worker_and_values;
 use arrayvec::ArrayVec;
 
-/// Tests that a line is fields with single spaces between.
+/// Returns whether a line consists of fields with single spaces between them.
 fn is_formed(line: &[u8]) -> bool
     ensures { result ≡ list_all lines.is_field (fields line.now) }
 {
@@ -34,7 +34,7 @@ fn is_formed(line: &[u8]) -> bool
     true
 }
 
-/// The first eight fields: no line that is right has more.
+/// Returns the first eight fields of a line: no correct line has more.
 fn fields_of(line: &[u8]) -> ArrayVec<&[u8], 8>
     ensures { map (λ f. f.now) result.items ≡ take 8 (fields line.now) }
 {
@@ -51,7 +51,7 @@ fn fields_of(line: &[u8]) -> ArrayVec<&[u8], 8>
     fields
 }
 
-/// The worker and the entry of a line, by its fields.
+/// Parses the fields of a line into a worker and an entry.
 #[tactic(auto, unfolding(crate::specs::Entries::entry_of))]
 fn entry_of<T: FileEntry>(header: &Header, fields: &[&[u8]]) -> Result<(u32, T), Reason>
     ensures { result ≡ spec.entry_of T.format header.now (map (λ f. f.now) fields.now) }
@@ -70,7 +70,7 @@ fn entry_of<T: FileEntry>(header: &Header, fields: &[&[u8]]) -> Result<(u32, T),
     Ok((worker, entry))
 }
 
-/// The worker and the entry that a line says, in a file with that header.
+/// Parses a line into a worker and an entry, in a file with that header.
 pub fn line_of<T: FileEntry>(header: &Header, line: &[u8]) -> Result<(u32, T), Reason>
     ensures { result ≡ spec.line_of T.format header.now line.now }
 {
@@ -80,7 +80,7 @@ pub fn line_of<T: FileEntry>(header: &Header, line: &[u8]) -> Result<(u32, T), R
     entry_of(header, fields_of(line).as_slice())
 }
 
-/// What the first line says, in a file for that command.
+/// Parses the first line, in a file for that command.
 pub fn first_line_of(command: Command, line: &[u8]) -> Result<Header, Reason>
     ensures says { result ≡ spec.first_line_of command line.now }
     ensures stress { IfOk result (spec.ResignsInSerial command) }
@@ -88,8 +88,9 @@ pub fn first_line_of(command: Command, line: &[u8]) -> Result<Header, Reason>
     header_of(command, fields_of(line).as_slice())
 }
 
-/// The reason that is answered for a line is the first that holds of it in the order of their
-/// numbers, so the least; and a line is right exactly where none holds.
+/// Law: for every line that ends with a newline, the reason that is returned is the first that
+/// holds of it, in the order of their numbers, so the least. A line is correct exactly if no reason
+/// holds of it.
 pub fn least_reason()
     ensures first_line { (command : CommandOf) (line : List ℕ)
         → reason_of (checked 1 line (spec.first_line_of command line))

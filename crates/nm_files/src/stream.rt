@@ -1,4 +1,4 @@
-//! The bytes that a reader gives, and a text that a writer takes.
+//! Reads the bytes of a reader, and writes a text to a writer.
 ghost use Rattle.std.specs.Prelude.{◌≡◌, ◌<◌, ◌≤◌, ◌⊎◌, length, take, drop, Some, IfOk, IfSome, OnOk, IfErr};
 ghost use Rattle.std.specs.Io.KnownBytes.{Appends, Consumes, IsAtEnd};
 
@@ -6,13 +6,13 @@ use crate::fault::RunFault;
 use std::alloc::Global;
 use std::io::{Read, Write};
 
-/// So many bytes are read at most: the longest file that is right, and one more.
+/// The largest number of bytes that is read: the length of the longest correct file, and one more.
 pub const LIMIT: usize = 12_100_122;
 
-// So many bytes a read; they lie on the stack, which may be one of 64 kilobytes.
+// The number of bytes per read. They are on the stack, which may have only 64 kilobytes.
 const CHUNK: usize = 8_192;
 
-/// One read. A read that gives nothing into a chunk with room is the end.
+/// Does one read. A read that returns no byte for a chunk with room is the end.
 fn read_some<R: Read>(reader: &mut R, chunk: &mut [u8]) -> Result<usize, RunFault>
     ensures bound { IfOk result (λ n. n ≤ length chunk.new) }
     ensures bytes { IfOk result
@@ -27,7 +27,7 @@ fn read_some<R: Read>(reader: &mut R, chunk: &mut [u8]) -> Result<usize, RunFaul
     }
 }
 
-/// Reads to the end, or to the limit. Any error ends it, an interruption too.
+/// Reads to the end, or to the limit. Any error ends it, even an interruption.
 pub fn input_of<R: Read>(alloc: Global, reader: &mut R) -> Result<Vec<u8>, RunFault>
     ensures bytes { IfOk result
         (λ v. IfSome (R.remaining reader.old) (λ input. v.items ≡ take LIMIT input)) }
@@ -51,7 +51,7 @@ pub fn input_of<R: Read>(alloc: Global, reader: &mut R) -> Result<Vec<u8>, RunFa
     Ok(bytes)
 }
 
-/// Writes all of the text. Any error ends it, an interruption too.
+/// Writes all of the text, and flushes the writer. Any error ends it, even an interruption.
 pub fn write_text<W: Write>(writer: &mut W, text: &[u8]) -> Result<(), RunFault>
     ensures ok { OnOk result (Appends (W.contents writer.old) (W.contents writer.new) text.now) }
     ensures err { IfErr result (λ e. e ≡ RunFault.Write) }

@@ -1,4 +1,4 @@
-//! What a field of a line must be, and its value.
+//! The arguments of a line: what each field must be, and its value.
 ghost use Rattle.std.specs.Prelude.{◌≡◌, ◌<◌, ◌≤◌, length, map, IfOk};
 ghost use Rattle.nm_files.specs.Values.{with_view};
 ghost use Rattle.nm_files.specs.Values as spec;
@@ -43,7 +43,7 @@ pub enum Value {
     Answer(bool),
 }
 
-/// What stands in `Values` behind the last one.
+/// The value in unused places of `Values`.
 impl Default for Value {
     fn default() -> Value {
         Value::Place(0)
@@ -53,7 +53,7 @@ impl Default for Value {
 /// The values of the fields of a line: no kind of line has more than five.
 pub type Values = ArrayVec<Value, 5>;
 
-/// The value that stands beside this word; else `Fields`.
+/// Returns the value that belongs to this word. Errors: `Fields` if there is none.
 fn by_word<T: Copy>(words: &[(&[u8], T)], given: &[u8]) -> Result<T, Reason>
     ensures { result ≡ spec.by_word (map (λ w. (w.0.now, w.1)) words.now) given.now }
 {
@@ -65,7 +65,7 @@ fn by_word<T: Copy>(words: &[(&[u8], T)], given: &[u8]) -> Result<T, Reason>
     Err(Reason::Fields)
 }
 
-/// The field of a node that a word names.
+/// Returns the field of a node that a word names.
 fn node_field(given: &[u8]) -> Result<Field, Reason>
     ensures { result ≡ spec.by_word spec.field_words given.now }
 {
@@ -78,7 +78,7 @@ fn node_field(given: &[u8]) -> Result<Field, Reason>
     by_word(&words, given)
 }
 
-/// The side of a node that a word names.
+/// Returns the side of a node that a word names.
 fn side_of(given: &[u8]) -> Result<Side, Reason>
     ensures { result ≡ spec.by_word spec.side_words given.now }
 {
@@ -86,7 +86,7 @@ fn side_of(given: &[u8]) -> Result<Side, Reason>
     by_word(&words, given)
 }
 
-/// The operation of the set that a word names.
+/// Returns the operation of the set that a word names.
 fn op_of(given: &[u8]) -> Result<Op, Reason>
     ensures { result ≡ spec.by_word spec.op_words given.now }
 {
@@ -98,7 +98,7 @@ fn op_of(given: &[u8]) -> Result<Op, Reason>
     by_word(&words, given)
 }
 
-/// The answer that a word names.
+/// Returns the answer that a word names.
 fn answer_of(given: &[u8]) -> Result<bool, Reason>
     ensures { result ≡ spec.by_word spec.answer_words given.now }
 {
@@ -106,7 +106,8 @@ fn answer_of(given: &[u8]) -> Result<bool, Reason>
     by_word(&words, given)
 }
 
-/// The key of the set that a field spells; above those of the set, `Key`.
+/// Parses a field into a key of the set. Errors: `Key` if it is above those of the set, `Number` if
+/// it is no number.
 fn key_of(field: &[u8]) -> Result<Key, Reason>
     ensures { result ≡ spec.key_field field.now }
 {
@@ -117,7 +118,7 @@ fn key_of(field: &[u8]) -> Result<Key, Reason>
     }
 }
 
-/// The worker that a field spells, one of so many.
+/// Parses a field into a worker, whose number must be below `workers`.
 fn worker_of(workers: u32, field: &[u8]) -> Result<u32, Reason>
     ensures { result ≡ spec.worker_of workers field.now }
 {
@@ -130,7 +131,7 @@ fn worker_of(workers: u32, field: &[u8]) -> Result<u32, Reason>
 }
 
 impl Argument {
-    /// The value of a field that must be this, in a file of so many workers.
+    /// Parses a field that must be this, in a file with this number of workers.
     fn value(self, workers: u32, field: &[u8]) -> Result<Value, Reason>
         ensures { result ≡ spec.value_of workers self field.now }
     {
@@ -147,7 +148,7 @@ impl Argument {
     }
 }
 
-/// What both say, or the lesser of their reasons.
+/// Returns both values, or the reason of the one that failed; the lesser one if both failed.
 fn both<A: Drop, B: Drop>(a: Result<A, Reason>, b: Result<B, Reason>) -> Result<(A, B), Reason>
     ensures { result ≡ spec.both a b }
 {
@@ -158,8 +159,8 @@ fn both<A: Drop, B: Drop>(a: Result<A, Reason>, b: Result<B, Reason>) -> Result<
     }
 }
 
-/// The values of as many fields as the row has, each what it must be there; else the least reason
-/// why one is not.
+/// Parses as many fields as the row has, each by its argument in the row. Errors: the least reason
+/// for which a field fails.
 fn values_of(workers: u32, row: &[Argument], fields: &[&[u8]]) -> Result<Values, Reason>
     requires { length row.now ≤ 5 }
     ensures values { with_view (λ v. v.items) result
@@ -182,8 +183,8 @@ fn values_of(workers: u32, row: &[Argument], fields: &[&[u8]]) -> Result<Values,
     Ok(values)
 }
 
-/// The worker that a line names, one of so many, and the values of the fields behind its word; else
-/// the least reason why it has none.
+/// Parses the worker of a line, whose number must be below `workers`, and the fields after the
+/// line's word. Errors: the least reason for which one of them fails.
 pub fn worker_and_values(
     workers: u32,
     worker: &[u8],

@@ -10,9 +10,9 @@ use Rattle.nm_model.specs.Memory.{Memory, edge, child}
 use Rattle.nm_model.specs.Headline.{slots_of, IsFrozenChainTo}
 use Rattle.nm_model.specs.Runs.{State, next, outcome}
 
--- of the edges before and after a splice: the one from the ancestor led to the successor, without a
--- mark; from there the slots that were cut are a frozen chain down to the parent; the ancestor's
--- edge is now the parent's kept one, with its slot and its flag and no tag; and no other has
+-- the edges before and after a splice. The ancestor's edge led to the successor, without a mark.
+-- From there the slots that were cut are a frozen chain down to the parent. The ancestor's edge is
+-- now the one that the parent keeps, with its slot and its flag and no tag. No other edge has
 -- changed (Natarajan and Mittal, section 3.2, cleanup)
 pub record KeepsTheEdge (before after : Memory) (ancestor : ℕ) (side : Side) (successor parent : ℕ)
     (keep : Side) (slots : List ℕ) : Type 0 where
@@ -24,7 +24,7 @@ pub record KeepsTheEdge (before after : Memory) (ancestor : ℕ) (side : Side) (
   pub others : (x : ℕ) (d : Side) → ((x ≡ ancestor) × (d ≡ side) → ⊥)
       → edge after x d ≡ edge before x d
 
--- so of every splice that is won in a state (Natarajan and Mittal, section 3.2, cleanup)
+-- this holds for every splice that is won in a state (Natarajan and Mittal, section 3.2, cleanup)
 abbrev pub EachSpliceKeepsTheEdge : State → Type 0
 EachSpliceKeepsTheEdge s = (w ancestor : ℕ) (side : Side) (successor parent : ℕ) (keep : Side)
     (ns : List NodeId)

@@ -7,7 +7,7 @@ use Rattle.nm_model.specs.Paths.{at}
 use Rattle.nm_model.specs.Reports.{keys}
 use Rattle.nm_model.specs.Runs.{State}
 
--- a path stands left of another: where they part, it goes left, and the other right
+-- a path is left of another: at the node at which they part, it goes left, and the other right
 abbrev pub IsLeftOf : List Side → List Side → Type 0
 IsLeftOf [] q = ⊥
 IsLeftOf (side ∷ p) [] = ⊥
@@ -31,6 +31,6 @@ pub record AreKeysFromTheLeft (m : Memory) (keys : List ℕ) : Type 0 where
   pub exactly : (path : List Side) → Contains paths path ↔ IsLeafOfTheSet m (at m path)
   pub theirs : keys ≡ map (λ path. (node m (at m path)).key) paths
 
--- so the keys that a state tells
+-- the keys that a state reports are these
 abbrev pub KeysAreFromTheLeft : State → Type 0
 KeysAreFromTheLeft s = AreKeysFromTheLeft s.memory (keys s)

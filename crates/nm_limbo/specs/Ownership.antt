@@ -12,7 +12,7 @@ use denote.RawPtr.{Ptr, RawPtr, lies_at, room_for, ◌+ₚ◌}
 use Rattle.circular_buffer.specs.Ownership.{cells_own, cells_lent}
 use Rattle.nm_limbo.specs.Blocks.{first_block_of}
 
--- where the link lies in the block at p
+-- the address of the link in the block at p
 abbrev pub next_of : Ptr → Ptr
 next_of p = p +ₚ 0
 
@@ -34,7 +34,7 @@ module _ (R : RattleType) where
   abbrev pub block_type : Ty
   block_type = ty_struct [] (tcons ty_ptr (tcons (raw places_type) tnil))
 
-  -- where the places lie in a block
+  -- the offset of the places in a block
   abbrev pub places_offset : ℕ
   places_offset = up (align places_type) 8
 

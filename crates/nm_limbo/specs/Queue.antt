@@ -1,10 +1,10 @@
--- What a contract sees of a `BlockQueue`, and what holds of its fields.
+-- What a contract sees of a `BlockQueue`, and the invariant of its fields.
 use Rattle.std.specs.Prelude.{◌≡◌, ℕ, ◌+◌, ◌-◌, ◌*◌, ◌/◌, ◌^◌, ◌<◌, ◌≤◌, ◌==◌, List, ◌∷◌, ◌++◌, map, length, replicate, Option, Some, None, refl, if◌then◌else◌}
 use Rattle.std.specs.Coded.{Coded, code_by, coded×, coded_list, coded_ℕ}
 use Rattle.circular_buffer.specs.Places.{somes}
 use Rattle.nm_limbo.specs.List.{BlockList}
 
--- the items from the front to the back, the places that are free to push to, and the blocks of 32
+-- the items from the front to the back, the number of spare places, and the number of blocks of 32
 -- places each
 pub record BlockQueue (X : Type 0) : Type 0 where
   pub items : List X
@@ -19,7 +19,7 @@ module _ {X : Type 0} where
   block_queue_code c = code_by (List X × (ℕ × ℕ)) (coded× (coded_list c) (coded× coded_ℕ coded_ℕ))
       (λ q. (q.items, (q.spare, q.blocks))) (λ p. block_queue p.0 p.1.0 p.1.1) (λ _. refl)
 
-  -- the used-up places of the front block: what of the blocks is neither an item's place nor spare
+  -- the used-up places of the front block: those that are neither an item's nor spare
   abbrev pub popped : BlockQueue X → ℕ
   popped q = 32 * q.blocks - (length q.items + q.spare)
 
@@ -32,45 +32,45 @@ module _ {X : Type 0} where
   IsGrown q r = (r.items ≡ q.items) × (q.blocks ≤ r.blocks)
       × (r.spare ≡ q.spare + 32 * (r.blocks - q.blocks))
 
-  -- r has room for n items, in the fewest blocks more than q has
+  -- r has n spare places, with the fewest blocks added to those of q
   abbrev pub HasLeast : BlockQueue X → BlockQueue X → ℕ → Type 0
   HasLeast q r n = (n ≤ r.spare) × ((m : ℕ) → n ≤ q.spare + 32 * m → r.blocks ≤ q.blocks + m)
 
-  -- r is q without its first item x. Where that was in the last place of the front block, its
-  -- places are spare again
+  -- r is q without its first item x. If x had the last place of the front block, the block's places
+  -- are spare again
   abbrev pub IsPopped : BlockQueue X → BlockQueue X → X → Type 0
   IsPopped q r x = (q.items ≡ x ∷ r.items) × (r.blocks ≡ q.blocks)
       × (r.spare ≡ q.spare + (if popped q == 31 then 32 else 0))
 
-  -- how many blocks lie in the spare places but for n of them
+  -- the number of whole blocks in the spare places, apart from n of these places
   abbrev pub blocks_beyond : ℕ → BlockQueue X → ℕ
   blocks_beyond n q = (q.spare - n) / 32
 
-  -- q without so many blocks
+  -- q without these blocks
   abbrev pub shrunk : ℕ → BlockQueue X → BlockQueue X
   shrunk n q = block_queue q.items (q.spare - 32 * blocks_beyond n q) (q.blocks - blocks_beyond n q)
 
-  -- the places of used-up items, of the items, and then empty ones
+  -- the places of used-up items, then those of the items, and then empty ones
   abbrev pub laid : ℕ → List X → ℕ → List (Option X)
   laid p xs r = replicate p None ++ (map Some xs ++ replicate r None)
 
 module _ {X A : Type 0} where
-  -- the items in the blocks in use, and the places there that are neither the p used-up ones nor
-  -- those of the n items
+  -- the items in the blocks in use, and the number of places there that are neither the p used-up
+  -- ones nor those of the n items
   abbrev pub items_in : BlockList X A → List X
   items_in used = somes used.slots
 
   abbrev pub left_in : BlockList X A → ℕ → ℕ → ℕ
   left_in used p n = length used.slots - (p + n)
 
-  -- the queue in the blocks in use and the empty ones after them, of which the first p places are
-  -- used up, and the next n are the items'
+  -- the queue in the blocks in use and the empty ones after them. The first p places are used up,
+  -- and the next n are the items'
   abbrev pub block_queue_of : BlockList X A → BlockList X A → ℕ → ℕ → BlockQueue X
   block_queue_of used empty p n = block_queue (items_in used) (left_in used p n + length empty.slots)
       (used.blocks + empty.blocks)
 
-  -- in the blocks in use lie p used-up places, the items xs and s empty places, and every place of
-  -- the others is empty
+  -- the blocks in use have p used-up places, the items xs and s empty places, and every place of
+  -- the other blocks is empty
   pub record IsLaid (used empty : BlockList X A) (p : ℕ) (xs : List X) (s : ℕ)
       (a : A) : Type 0 where
     pub alloc : (used.alloc ≡ a) × (empty.alloc ≡ a)
@@ -82,8 +82,8 @@ module _ {X A : Type 0} where
     pub laid_out : used.slots ≡ laid p xs s
     pub free : empty.slots ≡ replicate (length empty.slots) None
 
-  -- what holds of the fields of a queue: so it lies in its blocks, and the last of those in use has
-  -- a place that is an item's or used up
+  -- the invariant of the fields of a queue: it is laid out in its blocks in this way, and the last
+  -- block in use has a place that is an item's or used up
   abbrev pub IsQueue : BlockList X A → BlockList X A → ℕ → ℕ → A → Type 0
   IsQueue used empty p n a = ((n ≡ length (items_in used)) × (left_in used p n ≤ 31))
       × IsLaid used empty p (items_in used) (left_in used p n) a

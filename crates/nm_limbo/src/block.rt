@@ -1,5 +1,5 @@
-//! A block of raw memory, and the values that stand for who owns which part of it. They are taken
-//! apart here and in the chain alone: elsewhere who has them can only hand them on.
+//! A block of raw memory, and the values that represent who owns which part of it. Only this module
+//! and the chain take these values apart: other code can only pass them on.
 ghost use Rattle.std.specs.Prelude.{◌≡◌, ◌+◌, ◌*◌, ◌^◌, ◌<◌, IfOk, ⊤};
 ghost use Rattle.std.specs.Mem.{type_size};
 ghost use denote.RawPtr.{Ptr, null_ptr};
@@ -15,14 +15,14 @@ use std::ptr;
 /// The number of items that a block has room for.
 pub(crate) const BLOCK_LEN: u32 = 32;
 
-/// A block as it lies in memory: the link to the next block, and a place for each item. No value of
-/// it is made.
+/// The layout of a block in memory: the link to the next block, and a place for each item. No value
+/// of this type is made.
 pub struct Block<T> {
     next: *mut Block<T>,
     places: [T; BLOCK_LEN as usize],
 }
 
-/// Where a block lies. It owns nothing.
+/// The address of a block. It owns nothing.
 pub struct BlockPtr<T> {
     ptr: *mut Block<T>,
 }
@@ -40,7 +40,7 @@ impl<T> Clone for BlockPtr<T> {
 impl<T> Copy for BlockPtr<T> {}
 
 impl<T> BlockPtr<T> {
-    /// Where no block lies.
+    /// Returns the address of no block.
     pub(crate) fn null() -> BlockPtr<T>
         ensures { result.ptr ≡ null_ptr }
     {
@@ -74,7 +74,9 @@ impl<T, A: Allocator> Model for Deed<T, A> {
     ghost also_owns = { λ d. deed_owns T.row (A.dealloc_token d.alloc) d.at };
 }
 
-/// Takes a block.
+/// Allocates a block; returns its memory and the right to give it back.
+///
+/// Errors: out of memory.
 pub(crate) fn allocate<T, A: Allocator>(alloc: &A) -> Result<(Room<T>, Deed<T, A>), AllocError>
     requires { 32 * type_size T.row < 2 ^ 63 }
     ensures { IfOk result (λ r. (r.1.at ≡ r.0.ptr) × (r.1.alloc ≡ alloc.now)) }
@@ -88,7 +90,7 @@ pub(crate) fn allocate<T, A: Allocator>(alloc: &A) -> Result<(Room<T>, Deed<T, A
     }
 }
 
-/// Gives the block back.
+/// Gives the block back to `alloc`.
 fn deallocate<T, A: Allocator>(alloc: &A, room: Room<T>, deed: Deed<T, A>)
     requires { (deed.at ≡ room.ptr) × (deed.alloc ≡ alloc.now) }
 {
@@ -103,22 +105,22 @@ fn deallocate<T, A: Allocator>(alloc: &A, room: Room<T>, deed: Deed<T, A>)
     }
 }
 
-/// A receipt for blocks that were given back: how many. It is written here alone, where a block is
-/// given back.
+/// A receipt for blocks that were given back, with their number. Only this module writes it, when
+/// it gives a block back.
 #[derive(Drop)]
 pub struct Receipt {
     blocks: u32,
 }
 
 impl Receipt {
-    /// A receipt for no block.
+    /// Returns a receipt for no block.
     pub(crate) fn new() -> Receipt
         ensures { result.blocks ≡ 0 }
     {
         Receipt { blocks: 0 }
     }
 
-    /// Gives a block back to `alloc`: a receipt for one more.
+    /// Gives a block back to `alloc`, and returns a receipt for one more.
     pub(crate) fn and<T, A: Allocator>(self, alloc: &A, room: Room<T>, deed: Deed<T, A>) -> Receipt
         requires { (deed.at ≡ room.ptr) × (deed.alloc ≡ alloc.now)
             × (self.blocks + 1 < 2 ^ 32) }
@@ -130,7 +132,7 @@ impl Receipt {
         }
     }
 
-    /// One receipt in place of two.
+    /// Returns one receipt in place of two, for the blocks of both.
     pub(crate) fn with(self, other: Receipt) -> Receipt
         requires { self.blocks + other.blocks < 2 ^ 32 }
         ensures { result.blocks ≡ self.blocks + other.blocks }
@@ -140,7 +142,7 @@ impl Receipt {
         }
     }
 
-    /// How many blocks were given back.
+    /// Returns the number of blocks that were given back.
     pub fn blocks(&self) -> u32
         ensures { result ≡ self.now.blocks }
     {

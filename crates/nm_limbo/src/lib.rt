@@ -1,8 +1,8 @@
 //! A queue over raw memory: a singly linked list of blocks, each with room for 32 items.
 //!
-//! The queue takes memory in `reserve` alone, and uses a block again once its items are popped;
-//! `shrink_to` gives empty blocks back. An item never moves: it stays at the place that it was pushed
-//! to until it is popped.
+//! Only `reserve` takes memory. A block is used again once its items are popped, and `shrink_to`
+//! gives empty blocks back. An item never moves: it stays at the place to which it was pushed until
+//! it is popped.
 #![tactic(auto)]
 
 mod block;

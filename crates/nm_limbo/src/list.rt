@@ -65,7 +65,7 @@ impl<T, A: Allocator> BlockList<T, A> {
         self.count += 1;
     }
 
-    /// Takes the first block out.
+    /// Takes the first block out, and returns it with its deed.
     pub(crate) fn pop_block(&mut self) -> (Room<T>, Deed<T, A>)
         requires { (0 < self.old.blocks) × (take 32 self.old.slots ≡ replicate 32 None) }
         ensures list { self.new
@@ -78,7 +78,7 @@ impl<T, A: Allocator> BlockList<T, A> {
         (room, deed)
     }
 
-    /// Moves the first block of `from`, which holds no item, to the end.
+    /// Moves the first block of `from`, which holds no item, to the end of this list.
     pub(crate) fn take_block(&mut self, from: &mut BlockList<T, A>)
         requires { (0 < from.old.blocks) × (take 32 from.old.slots ≡ replicate 32 None)
             × (self.old.alloc ≡ from.old.alloc) × (self.old.blocks < 2 ^ 31) }
@@ -103,7 +103,7 @@ impl<T, A: Allocator> BlockList<T, A> {
         self.chain.write(self.last, index as usize, item);
     }
 
-    /// Empties the place at `index` of the first block.
+    /// Empties the place at `index` of the first block, and returns its item.
     pub(crate) fn read(&mut self, index: u32) -> T
         requires { (index < 32) × IsFilled self.old.slots index }
         ensures item { slice_index_or self.old.slots index None ≡ Some result }
@@ -113,7 +113,7 @@ impl<T, A: Allocator> BlockList<T, A> {
         self.chain.read(self.first, index as usize)
     }
 
-    /// The item in the place at `index` of the first block.
+    /// Returns the item in the place at `index` of the first block.
     pub(crate) fn get(&self, index: u32) -> &T
         requires { (index < 32) × IsFilled self.now.slots index }
         ensures { slice_index_or self.now.slots index None ≡ Some result.now }
@@ -121,7 +121,7 @@ impl<T, A: Allocator> BlockList<T, A> {
         self.chain.get(self.first, index as usize)
     }
 
-    /// Gives the first `n` blocks of an empty list back.
+    /// Gives the first `n` blocks of an empty list back to `alloc`, and returns a receipt for them.
     pub(crate) fn free_first(&mut self, n: u32, alloc: &A) -> Receipt
         requires { (n ≤ self.old.blocks) × (self.old.alloc ≡ alloc.now)
             × (self.old.slots ≡ replicate (length self.old.slots) None) }
@@ -138,7 +138,7 @@ impl<T, A: Allocator> BlockList<T, A> {
         receipt
     }
 
-    /// Gives each block of an empty list back.
+    /// Gives each block of an empty list back to `alloc`, and returns a receipt for them.
     pub(crate) fn free(mut self, alloc: &A) -> Receipt
         requires { (self.alloc ≡ alloc.now) × (self.slots ≡ replicate (length self.slots) None) }
         ensures { result.blocks ≡ self.blocks }

@@ -9,24 +9,24 @@ use std::marker::Model;
 use std_alloc::room::may_hold;
 use thiserror::Error;
 
-/// There was no memory for a block, or its items are too large for one: 2 ^ 63 bytes or more for 32
-/// of them.
+/// No memory for a block, or items that are too large for one: 32 of them would take 2 ^ 63 bytes
+/// or more.
 #[derive(Clone, Copy, Debug, Error, PartialEq, Eq)]
 #[error("there is no memory for a block of the queue")]
 pub struct NoMemory;
 
 /// A queue of items in blocks of 32 places each.
 ///
-/// The places of the blocks, in order, are those of the popped items of the front block, at most
-/// 31; those of the items, from the front; and the spare ones. `reserve` alone takes memory, and an
+/// The places of the blocks are, in order: those of the popped items of the front block, at most
+/// 31; those of the items, from the front; and the spare ones. Only `reserve` takes memory, and an
 /// item stays at its place until it is popped. A drop drops each item and frees each block. A queue
-/// may cross threads where its items and its allocator may.
+/// may cross threads if its items and its allocator may.
 pub struct BlockQueue<T, A: Allocator = Global> {
     // The blocks from the front one to the last that holds or held an item, and then the empty
     // ones.
     used: BlockList<T, A>,
     empty: BlockList<T, A>,
-    // The places of the front block whose items are popped.
+    // The number of places of the front block whose items are popped.
     popped: u32,
     len: u32,
     alloc: A,
@@ -90,12 +90,12 @@ impl<T, A: Allocator> BlockQueue<T, A> {
     }
 
     /// Takes memory until `n` items, at most 1,024, can be pushed: the fewest blocks that are
-    /// enough. The queue has at most 536,870,912 items.
+    /// enough. The queue may have at most 536,870,912 items.
     ///
     /// # Errors
     ///
-    /// `NoMemory` if a block is refused, and fewer than `n` items can be pushed. The blocks got
-    /// before it stay. Either way the items are the same.
+    /// `NoMemory` if a block is refused, and fewer than `n` items can be pushed. The blocks that it
+    /// got before stay. In either case the items are unchanged.
     pub fn reserve(&mut self, n: u32) -> Result<(), NoMemory>
         requires { (n ≤ 1024) × (length self.old.items ≤ 536870912) }
         ensures grown { IsGrown self.old self.new }
@@ -129,7 +129,7 @@ impl<T, A: Allocator> BlockQueue<T, A> {
         Ok(())
     }
 
-    /// Appends the item, at a place that is spare. It takes no memory.
+    /// Appends the item at a spare place. Takes no memory.
     pub fn push_reserved(&mut self, item: T)
         requires { 0 < self.old.spare }
         ensures queue { self.new
@@ -145,7 +145,7 @@ impl<T, A: Allocator> BlockQueue<T, A> {
         self.len += 1;
     }
 
-    /// Returns the item at the front, or `None` where there is none.
+    /// Returns the item at the front, or `None` if there is none.
     pub fn front(&self) -> Option<&T>
         ensures { option_copied result ≡ slice_get self.now.items 0 }
     {
@@ -155,9 +155,9 @@ impl<T, A: Allocator> BlockQueue<T, A> {
         Some(self.used.get(self.popped))
     }
 
-    /// Takes the item at the front out, or returns `None` where there is none. A block whose last
-    /// place this uses up goes to the end, for use again: its 32 places are spare then. No other
-    /// place becomes spare.
+    /// Takes the item at the front out and returns it, or returns `None` if there is none. If the
+    /// item had the last place of its block, the block goes to the end and its 32 places are spare
+    /// again. No other place becomes spare.
     pub fn pop(&mut self) -> Option<T>
         ensures popped { MatchOption result ((self.old.items ≡ []) × (self.new ≡ self.old))
             (IsPopped self.old self.new) }
@@ -176,10 +176,10 @@ impl<T, A: Allocator> BlockQueue<T, A> {
         Some(item)
     }
 
-    /// Gives the blocks back in which nothing waits, but for those that are needed so that `n`
-    /// items can be pushed: as few blocks are left as hold the items and `n` spare places. Where
-    /// fewer than `n` items can be pushed, none is given back. The items are the same. A receipt
-    /// for the blocks that were given back.
+    /// Gives back the empty blocks that are not needed for `n` spare places: the fewest blocks that
+    /// hold the items and `n` spare places are left. If fewer than `n` items can be pushed, no
+    /// block is given back. The items are unchanged. Returns a receipt for the blocks that were
+    /// given back.
     pub fn shrink_to(&mut self, n: u32) -> Receipt
         ensures queue { self.new ≡ shrunk n self.old }
         ensures balanced { IsBalanced self.new }
@@ -189,7 +189,7 @@ impl<T, A: Allocator> BlockQueue<T, A> {
         self.empty.free_first(beyond, &self.alloc)
     }
 
-    /// Ends an empty queue. Each of its blocks is given back.
+    /// Ends an empty queue: gives each of its blocks back, and returns a receipt for them.
     fn destroy_empty(self) -> Receipt
         requires { self.items ≡ [] }
         ensures { result.blocks ≡ self.blocks }

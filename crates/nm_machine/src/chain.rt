@@ -9,14 +9,15 @@ use nm_edge::{Edge, Layout, Side};
 use std::alloc::{AllocError, Global};
 
 impl WorkerState {
-    // Whether the edge on a side is known tagged, and its twin known flagged.
+    // Returns whether the edge on a side is known as tagged and not flagged, and its twin as
+    // flagged.
     fn leads_on(&self, slot: u32, side: Side) -> bool
         ensures { result ≡ leads_on self.now slot side }
     {
         goes_by(&self.seen(slot), side)
     }
 
-    // The side on which the chain goes on.
+    // Returns the side on which the chain goes on, if it does.
     fn onward(&self, slot: u32) -> Option<Side>
         ensures { result ≡ onward self.now slot }
     {
@@ -29,15 +30,15 @@ impl WorkerState {
         None
     }
 
-    // The slot to which the edge on a side led when it was read; 0 where it was not.
+    // Returns the slot to which the edge on a side led when it was read; 0 if it was not read.
     fn slot_read(&self, slot: u32, side: Side) -> u32
         ensures { result ≡ slot_read (read self.now slot side) }
     {
         slot_read(self.read(slot, side))
     }
 
-    /// Whether a chain of known tagged edges with flagged twins leads from the successor to the
-    /// parent, and on by the edge that is kept.
+    /// Returns whether the worker knows a chain of tagged edges with flagged twins, from the
+    /// successor to the parent, and on by the edge that is kept.
     pub fn is_frozen(&mut self, layout: Layout, successor: u32, parent: u32, keep: Side) -> bool
         ensures frozen { result ≡ is_frozen layout self.old successor parent keep }
         ensures same { self.new ≡ self.old }
@@ -47,7 +48,7 @@ impl WorkerState {
             && self.knows_flagged(parent, keep.other())
     }
 
-    /// The edge that the splice leaves: the kept one without its tag.
+    /// Returns the edge that the splice leaves: the kept one, without its tag.
     pub fn kept(&self, parent: u32, keep: Side) -> Edge
         ensures { result ≡ kept (read self.now parent keep) }
     {
@@ -57,8 +58,8 @@ impl WorkerState {
         }
     }
 
-    /// The slots of the chain, from the successor downwards, each internal node and then its
-    /// flagged leaf.
+    /// Returns the slots of the chain from the successor downwards: each internal node, followed by
+    /// its flagged leaf.
     pub fn cut(
         &self,
         alloc: Global,
@@ -88,7 +89,7 @@ impl WorkerState {
     }
 }
 
-// An internal node and the flagged leaf beside its chain.
+// Appends an internal node and the flagged leaf beside its chain.
 fn push_both(slots: &mut Vec<u32>, node: u32, leaf: u32) -> Result<(), AllocError>
     ensures { OnOk result (slots.new.items ≡ slots.old.items ++ node ∷ leaf ∷ []) }
 {

@@ -22,7 +22,7 @@ impl Machine {
         self.workers[worker].sight(epoch)
     }
 
-    /// Whether a sight can confirm a pin.
+    /// Checks whether a sight (epoch read) can confirm a pin.
     pub(crate) fn may_sight_for(&self, worker: usize, op: Op, key: Key) -> Result<(), Refused>
         requires { worker < length self.now.workers }
         ensures { Admits (refusal_of self.now worker (event.SightFor op key)) result }
@@ -34,7 +34,7 @@ impl Machine {
         Ok(())
     }
 
-    /// As a sight.
+    /// Acts like `sight`.
     pub(crate) fn sight_for(&mut self, worker: usize, op: Op, key: Key) -> Result<Reply, AllocError>
         requires { worker < length self.old.workers }
         ensures { AppliesOrKeeps self.old self.new worker (event.SightFor op key) result }
@@ -42,7 +42,7 @@ impl Machine {
         self.sight(worker)
     }
 
-    /// Whether there is an epoch to announce.
+    /// Checks whether there is an epoch to announce, and no pin.
     pub(crate) fn may_announce(&self, worker: usize) -> Result<(), Refused>
         requires { worker < length self.now.workers }
         ensures { Admits (refusal_of self.now worker event.Announce) result }
@@ -64,7 +64,7 @@ impl Machine {
         Reply::Announced(epoch)
     }
 
-    /// Whether the announcement may be cleared.
+    /// Checks whether the announcement may be cleared.
     pub(crate) fn may_leave(&self, worker: usize) -> Result<(), Refused>
         requires { worker < length self.now.workers }
         ensures { Admits (refusal_of self.now worker event.Leave) result }
@@ -85,7 +85,7 @@ impl Machine {
         Reply::Departed
     }
 
-    /// As a leave.
+    /// Acts like `leave`.
     pub(crate) fn leave_with(&mut self, worker: usize, answer: bool) -> Reply
         requires shaped { IsShaped self.old }
         requires is_there { worker < length self.old.workers }
@@ -94,7 +94,7 @@ impl Machine {
         self.leave(worker)
     }
 
-    /// Whether the announcement of another worker may be read.
+    /// Checks whether the announcement of a worker may be read.
     pub(crate) fn may_scan(&self, worker: usize, other: u32) -> Result<(), Refused>
         requires { worker < length self.now.workers }
         ensures { Admits (refusal_of self.now worker (event.Scan other)) result }
@@ -116,7 +116,8 @@ impl Machine {
         self.workers[worker].scan(other as usize, announcement)
     }
 
-    /// Whether the worker has seen all others at its epoch, or idle.
+    /// Checks whether the epoch may be advanced: the worker has found all others at its epoch, or
+    /// idle.
     pub(crate) fn may_advance(&self, worker: usize) -> Result<(), Refused>
         requires { worker < length self.now.workers }
         ensures { Admits (refusal_of self.now worker event.Advance) result }

@@ -1,4 +1,4 @@
-//! The steps of chains that were found, so that none is looked for twice.
+//! The steps of chains that were found, so that no step is searched for twice.
 ghost use Rattle.std.specs.Prelude.{◌≡◌, ◌<◌, ℕ, List, true, length, Some, IfSome};
 ghost use Rattle.nm_model.specs.declared.knowledge.Seen.{Seen};
 ghost use Rattle.nm_machine.specs.Chains.{Remembers, next_slot_in};
@@ -7,14 +7,14 @@ use nm_model::slot_map::SlotMap;
 use std::alloc::{AllocError, Global};
 use std::marker::Model;
 
-/// A node of a chain: its slot, and an index at which the step from it may stand.
+/// A node of a chain: its slot, and an index at which the step from it may be.
 #[derive(Clone, Copy, Debug, PartialEq, Eq)]
 pub struct ChainNode {
     pub slot: u32,
     pub index: u32,
 }
 
-/// Where a chain leads on from a slot: to the next node, or to slot 0 where that was not found yet.
+/// A step of a chain: a slot, and the next node. The next slot is 0 if it was not found yet.
 #[derive(Clone, Copy, Debug, PartialEq, Eq)]
 pub struct ChainStep {
     pub slot: u32,
@@ -22,7 +22,7 @@ pub struct ChainStep {
 }
 
 impl ChainStep {
-    // A step that was not found yet.
+    // Returns a step that was not found yet.
     fn unknown(slot: u32) -> ChainStep
         ensures { result ≡ record { slot = slot; next = record { slot = 0; index = 0 } } }
     {
@@ -33,11 +33,11 @@ impl ChainStep {
     }
 }
 
-/// The steps of chains that were found. Where memory is refused, fewer are kept.
+/// The steps of chains that were found. If memory runs out, fewer are kept.
 #[derive(Drop)]
 pub struct FoundSteps {
     steps: Vec<ChainStep>,
-    // by slot, an index at which the step from it may stand
+    // by slot, an index at which the step from it may be
     indices: SlotMap<u32>,
 }
 
@@ -51,7 +51,7 @@ impl Model for FoundSteps {
 }
 
 impl FoundSteps {
-    /// None was found. Takes no memory.
+    /// Returns an empty record of steps. Takes no memory.
     #[tactic(auto, unfolding(crate::specs::Chains::Remembers))]
     pub fn new(alloc: Global) -> FoundSteps
         ensures { (known : List (ℕ × Seen)) → Remembers known result }
@@ -62,7 +62,7 @@ impl FoundSteps {
         }
     }
 
-    /// The node after this one, where it was found.
+    /// Returns the node after this one, if it was found.
     pub fn next(&self, node: &ChainNode) -> Option<ChainNode>
         ensures { (known : List (ℕ × Seen)) → Remembers known self.now
             → IfSome result (λ next. next_slot_in known node.now.slot ≡ Some next.slot) }
@@ -73,7 +73,7 @@ impl FoundSteps {
         }
     }
 
-    // Whether the step from this slot stands at this index.
+    // Returns whether the step from this slot is at this index.
     fn is_at(&self, slot: u32, index: u32) -> bool
         ensures { result ≡ true → index < length self.now }
     {
@@ -83,7 +83,7 @@ impl FoundSteps {
         }
     }
 
-    /// The node of a slot, which gets a place for its step where it has none.
+    /// Returns the node of a slot. If its step has no place, makes one if memory allows.
     pub fn node(&mut self, slot: u32) -> ChainNode
         ensures slot { result.slot ≡ slot }
         ensures keeps { (known : List (ℕ × Seen)) → Remembers known self.old
@@ -98,7 +98,7 @@ impl FoundSteps {
         ChainNode { slot, index }
     }
 
-    // The index of a new step from a slot, which leads nowhere yet.
+    // Enters a step from a slot, which leads nowhere yet, and returns its index.
     fn enter(&mut self, slot: u32) -> Result<u32, AllocError>
         ensures { (known : List (ℕ × Seen)) → Remembers known self.old → Remembers known self.new }
     {
@@ -110,7 +110,7 @@ impl FoundSteps {
         Ok(index)
     }
 
-    /// The chain was found to lead on from one node to another.
+    /// Records that the chain leads on from one node to another.
     pub fn learn(&mut self, node: &ChainNode, next: &ChainNode)
         ensures { (known : List (ℕ × Seen)) → next_slot_in known node.now.slot ≡ Some next.now.slot
             → Remembers known self.old → Remembers known self.new }
@@ -123,7 +123,7 @@ impl FoundSteps {
         }
     }
 
-    /// Forgets all.
+    /// Forgets all steps.
     #[tactic(auto, unfolding(crate::specs::Chains::Remembers))]
     pub fn clear(&mut self)
         ensures { (known : List (ℕ × Seen)) → Remembers known self.new }

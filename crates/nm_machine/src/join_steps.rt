@@ -1,4 +1,4 @@
-//! A worker that resigns.
+//! The step by which a worker resigns and another takes over its ledgers.
 #![tactic(auto, unfolding(nm_model::specs::Learning::learn, nm_model::specs::Step::write, nm_model::specs::Runs::applied))]
 
 ghost use Rattle.std.specs.Prelude.{◌≡◌, ◌<◌};
@@ -13,7 +13,7 @@ use nm_model::reply::{Refused, Reply};
 use std::alloc::AllocError;
 
 impl Machine {
-    /// Whether there is no such worker, or it has resigned.
+    /// Returns whether the worker does not exist, or has resigned.
     pub(crate) fn is_no_worker(&self, worker: u32) -> bool
         requires { IsShaped self.now }
         ensures { result ≡ is_no_worker self.now worker }
@@ -21,7 +21,7 @@ impl Machine {
         worker >= self.layout.workers() || self.workers[worker as usize].is_gone()
     }
 
-    /// Whether a worker may pass its ledgers to this one.
+    /// Checks whether `leaver` may pass its ledgers to `worker`.
     pub(crate) fn may_join(&self, worker: u32, leaver: u32) -> Result<(), Refused>
         requires { IsShaped self.now }
         ensures { Admits (refusal_of self.now worker (event.Join leaver)) result }

@@ -9,7 +9,7 @@ use nm_model::keys::Subtree;
 use nm_model::memory::Node;
 use std::alloc::AllocError;
 
-// A key is found, if there is one.
+// Appends a key, if there is one.
 fn put_key(found: &mut Vec<Key>, key: Option<Key>) -> Result<(), AllocError>
     ensures { OnOk result (found.new.items ≡ found.old.items ++ option_to_list key) }
 {
@@ -20,7 +20,7 @@ fn put_key(found: &mut Vec<Key>, key: Option<Key>) -> Result<(), AllocError>
 }
 
 impl Machine {
-    // The part below an edge of a slot.
+    // Returns the part of the tree below an edge of a slot.
     fn part_below(&self, slot: u32, side: Side, depth: u32) -> Subtree
         ensures { result ≡ record { slot = child self.now.memory slot side; depth = depth } }
     {
@@ -28,14 +28,14 @@ impl Machine {
         Subtree { slot: below, depth }
     }
 
-    // The key of the set that a slot has.
+    // Returns the key of the set that a slot has, if any.
     fn key_at(&self, slot: u32) -> Option<Key>
         ensures { result ≡ set_key (node self.now.memory slot) }
     {
         self.node(slot).set_key()
     }
 
-    // The parts below a slot wait, the left one in front.
+    // Appends the parts below a slot, the left one last, so that it is visited first.
     fn put_below(&self, waiting: &mut Vec<Subtree>, slot: u32, depth: u32) -> Result<(), AllocError>
         ensures { OnOk result (waiting.new.items
             ≡ waiting.old.items ++ below self.now.memory slot depth) }
@@ -45,8 +45,8 @@ impl Machine {
         Ok(())
     }
 
-    /// The keys of the set: those of the reached leaves, without the fixed ones, from left to
-    /// right.
+    /// Returns the keys of the set from left to right: those of the reached leaves, without the
+    /// fixed ones.
     pub fn keys(&self) -> Result<Vec<Key>, AllocError>
         ensures { IfOk result (λ found. found.items ≡ keys self.now) }
     {

@@ -1,4 +1,4 @@
-//! The nodes that a worker knows, with what was found of the chains among them.
+//! The nodes that a worker knows, with the steps that were found of the chains among them.
 ghost use Rattle.std.specs.Prelude.{◌≡◌, ◌⊎◌, true, None, [], OnOk, OnErr, IfOk};
 ghost use Rattle.std.specs.Option.{option_map};
 ghost use Rattle.nm_edge.specs.Edges.{other};
@@ -15,8 +15,8 @@ use nm_model::slot_map::SlotMap;
 use std::alloc::{AllocError, Global};
 use std::marker::Model;
 
-/// What is known of each known node. The steps of chains that were found are kept, and no clause
-/// tells of them.
+/// What is known of each known node. It also keeps the steps of chains that were found, which no
+/// clause mentions.
 #[derive(Drop)]
 pub struct Known {
     seen: SlotMap<Seen>,
@@ -36,7 +36,7 @@ impl Model for Known {
 }
 
 impl Known {
-    /// No node is known. Takes no memory.
+    /// Returns a value in which no node is known. Takes no memory.
     pub fn new(alloc: Global) -> Known
         ensures { result ≡ [] }
     {
@@ -46,7 +46,7 @@ impl Known {
         }
     }
 
-    /// The root and its left child are known.
+    /// Returns a value in which the root and its left child are known.
     pub fn rooted(alloc: Global) -> Result<Known, AllocError>
         ensures { IfOk result (λ known. known ≡ rooted) }
     {
@@ -71,7 +71,9 @@ impl Known {
         self.seen.get(slot)
     }
 
-    /// Of a node this is known. Only a new node takes memory.
+    /// Sets what is known of a node. Takes memory only for a new node.
+    ///
+    /// Errors: out of memory; what is known is unchanged.
     pub fn put(&mut self, slot: u32, seen: Seen) -> Result<(), AllocError>
         ensures ok { OnOk result (self.new ≡ put self.old slot seen) }
         ensures err { OnErr result (self.new ≡ self.old) }
@@ -80,7 +82,7 @@ impl Known {
         self.seen.put(slot, seen)
     }
 
-    /// Of a known node this is known, which takes no memory.
+    /// Sets what is known of a known node. Takes no memory.
     pub fn replace(&mut self, slot: u32, seen: Seen)
         requires { has self.old slot ≡ true }
         ensures { self.new ≡ put self.old slot seen }
@@ -99,7 +101,7 @@ impl Known {
 }
 
 impl Known {
-    // The node to which the chain leads on from another.
+    // Returns the node to which the chain leads on from another.
     fn next(&mut self, node: &ChainNode) -> Option<ChainNode>
         ensures next { option_map (λ (n : ChainNode). n.slot) result
             ≡ next_slot_in self.old node.now.slot }
@@ -111,7 +113,7 @@ impl Known {
         }
     }
 
-    // The same by what is known, which is kept.
+    // Finds that node by what is known, and keeps the step if memory allows.
     fn find_next(&mut self, node: &ChainNode) -> Option<ChainNode>
         ensures next { option_map (λ (n : ChainNode). n.slot) result
             ≡ next_slot_in self.old node.now.slot }
@@ -123,7 +125,7 @@ impl Known {
         Some(next)
     }
 
-    // The node of a slot.
+    // Returns the node of a slot.
     fn node(&mut self, slot: u32) -> ChainNode
         ensures slot { result.slot ≡ slot }
         ensures same { self.new ≡ self.old }
@@ -131,7 +133,8 @@ impl Known {
         self.found.node(slot)
     }
 
-    /// Whether the chain leads from one node to another, past fewer than so many nodes.
+    /// Returns whether the chain leads from one node to another in fewer than `fuel` steps. Keeps
+    /// the steps that it finds, if memory allows.
     pub fn has_way(&mut self, fuel: u32, from: u32, to: u32) -> bool
         ensures way { result ≡ leads_to fuel self.old from to }
         ensures same { self.new ≡ self.old }
@@ -150,7 +153,7 @@ impl Known {
     }
 }
 
-// Whether a chain goes on from a node by its edge on a side.
+// Returns whether a chain goes on from a node by its edge on a side.
 pub(crate) fn goes_by(seen: &Seen, side: Side) -> bool
     ensures { result ≡ goes_by (read_on seen.now side) (read_on seen.now (other side)) }
 {
@@ -159,7 +162,7 @@ pub(crate) fn goes_by(seen: &Seen, side: Side) -> bool
         && !seen.on(side).is_some_and(Edge::flag)
 }
 
-// The slot to which an edge led when it was read; 0 where it was not.
+// Returns the slot to which an edge led when it was read; 0 if it was not read.
 pub(crate) fn slot_read(edge: Option<Edge>) -> u32
     ensures { result ≡ slot_read edge }
 {
@@ -169,7 +172,7 @@ pub(crate) fn slot_read(edge: Option<Edge>) -> u32
     }
 }
 
-// The slot to which a chain leads on from a node of which this is known.
+// Returns the slot to which a chain leads on from a node, by what is known of the node.
 fn next_of(seen: &Seen) -> Option<u32>
     ensures { result ≡ next_slot_of seen.now }
 {
@@ -182,7 +185,7 @@ fn next_of(seen: &Seen) -> Option<u32>
     None
 }
 
-// The same by the slot of the node.
+// Returns the same, by the slot of the node.
 fn next_in(known: &SlotMap<Seen>, slot: u32) -> Option<u32>
     ensures { result ≡ next_slot_in known.now slot }
 {
@@ -192,7 +195,8 @@ fn next_in(known: &SlotMap<Seen>, slot: u32) -> Option<u32>
     }
 }
 
-// Whether, once this is known of a node, no chain that led on from it leads elsewhere.
+// Returns whether this new knowledge of a node changes no step: no chain led on from the node, or
+// it still leads to the same slot.
 fn keeps_chains(known: &SlotMap<Seen>, slot: u32, seen: &Seen) -> bool
     ensures { result ≡ true → (next_slot_in known.now slot ≡ None)
         ⊎ (next_slot_in known.now slot ≡ next_slot_of seen.now) }
@@ -201,7 +205,7 @@ fn keeps_chains(known: &SlotMap<Seen>, slot: u32, seen: &Seen) -> bool
     next.is_none() || next == next_of(seen)
 }
 
-// This will be known of a node: all steps are forgotten, unless they stay as they are.
+// Forgets all steps before this becomes known of a node, unless the steps stay as they are.
 fn keep(found: &mut FoundSteps, known: &SlotMap<Seen>, slot: u32, seen: &Seen)
     ensures before { Remembers known.now found.old → Remembers known.now found.new }
     ensures after { Remembers known.now found.old

@@ -1,4 +1,4 @@
-//! The exact machine: all words of the tree and what every worker knows, moved by one event at a
+//! The exact machine: all words of the tree and what every worker knows, changed by one event at a
 //! time.
 #![tactic(auto)]
 

@@ -47,7 +47,7 @@ impl Model for Machine {
 }
 
 impl Machine {
-    /// The opening: the empty tree, and workers that have done nothing yet.
+    /// Returns the opening: the empty tree, and workers that have done nothing yet.
     pub fn new(alloc: Global, layout: Layout) -> Result<Machine, AllocError>
         ensures { IfOk result (λ machine. machine ≡ start layout) }
     {
@@ -67,14 +67,14 @@ impl Machine {
         })
     }
 
-    /// The global epoch.
+    /// Returns the global epoch.
     pub fn epoch(&self) -> u64
         ensures { result ≡ self.now.memory.epoch }
     {
         self.epoch
     }
 
-    /// The worker that holds the ledger of an origin.
+    /// Returns the worker that holds the ledger of an origin.
     pub fn holder(&self, origin: u32) -> Option<u32>
         requires { IsShaped self.now }
         ensures { result ≡ holder self.now origin }
@@ -87,7 +87,7 @@ impl Machine {
         None
     }
 
-    /// The ledger of an origin, whoever holds it.
+    /// Returns the ledger of an origin, whichever worker holds it.
     pub fn ledger(&self, origin: u32) -> Option<&Ledger>
         ensures { option_copied result ≡ ledger_of self.now origin }
     {
@@ -99,14 +99,14 @@ impl Machine {
         None
     }
 
-    /// Whether a slot is not one of `least` to the number of nodes.
+    /// Returns whether a slot is below `least` or above the number of nodes.
     pub(crate) fn is_outside(&self, least: u32, slot: u32) -> bool
         ensures { result ≡ outside least self.now.layout.nodes slot }
     {
         slot < least || self.layout.nodes() < slot
     }
 
-    /// The words of a node.
+    /// Returns the words of a node.
     pub(crate) fn node(&self, slot: u32) -> Node
         ensures { result ≡ node self.now.memory slot }
     {
@@ -116,14 +116,14 @@ impl Machine {
         }
     }
 
-    /// The edge of a slot on a side.
+    /// Returns the edge of a slot on a side.
     pub(crate) fn edge(&self, slot: u32, side: Side) -> Edge
         ensures { result ≡ edge self.now.memory slot side }
     {
         self.node(slot).edge(side)
     }
 
-    /// A slot with the birth that it has now.
+    /// Returns a slot with the birth that it has now.
     pub(crate) fn named(&self, slot: u32) -> NodeId
         ensures { result ≡ named self.now.memory slot }
     {
@@ -148,8 +148,8 @@ impl Machine {
         self.put_node(slot, node);
     }
 
-    /// Whether an event is admitted: its worker is there, and no refusal holds. What is found of a
-    /// chain is kept, where there is memory.
+    /// Checks whether an event is admitted: its worker exists, and no refusal holds. Keeps the
+    /// steps of chains that it finds, if memory allows.
     #[tactic(auto, unfolding(nm_model::specs::Runs::refused))]
     pub fn admit(&mut self, worker: u32, event: &Event) -> Result<(), Refused>
         requires { IsShaped self.old }
@@ -181,7 +181,9 @@ impl Machine {
         }
     }
 
-    /// One event that is admitted.
+    /// Applies one event that is admitted.
+    ///
+    /// Errors: out of memory; the state is unchanged.
     pub fn step(&mut self, worker: u32, event: &Event) -> Result<Reply, AllocError>
         requires { IsAdmitted self.old worker event.now }
         ensures { AppliesOrKeeps self.old self.new worker event.now result }
@@ -209,7 +211,7 @@ impl Machine {
         }
     }
 
-    /// One event.
+    /// Applies one event, or refuses it; then the state is unchanged.
     #[tactic(auto, unfolding(nm_model::specs::Runs::refused))]
     pub fn apply(&mut self, worker: u32, event: Event) -> Result<Reply, Refused>
         requires { IsShaped self.old }

@@ -1,4 +1,4 @@
-//! How many slots stand where.
+//! The number of slots in each place.
 ghost use Rattle.std.specs.Prelude.{◌≡◌, ◌+◌, ◌-◌, ◌<◌, ◌^◌, length, filter};
 ghost use Rattle.nm_edge.specs.Layouts.{IsLayout};
 ghost use Rattle.nm_model.specs.Lawful.{CountsAddUp};
@@ -9,8 +9,8 @@ use crate::worker::WorkerState;
 use nm_model::Places;
 
 impl Machine {
-    /// How many slots stand where. Each slot stands in one place, so those that stand nowhere else
-    /// are reached.
+    /// Returns the number of slots in each place. The slots that are in no other place are reached,
+    /// because the counts add up.
     pub fn places(&self) -> Places
         requires fits { IsLayout self.now.layout }
         requires sum { CountsAddUp self.now }
@@ -29,14 +29,14 @@ impl Machine {
     }
 }
 
-// How many slots are in the pool.
+// Returns the number of slots in the pool.
 fn pooled(pool: &Vec<bool>) -> usize
     ensures { result ≡ length (filter (λ free. free) pool.now.items) }
 {
     pool.iter().filter(|free| **free).count()
 }
 
-// How many slots are private to a worker.
+// Returns the number of slots that are private to a worker.
 fn private(workers: &Vec<WorkerState>) -> usize
     requires { all_private workers.now.items < 2 ^ 32 }
     ensures { result ≡ all_private workers.now.items }
@@ -48,7 +48,7 @@ fn private(workers: &Vec<WorkerState>) -> usize
     slots
 }
 
-// How many entries wait in queues.
+// Returns the number of entries that wait in queues.
 fn queued(workers: &Vec<WorkerState>) -> usize
     requires { all_queued workers.now.items < 2 ^ 32 }
     ensures { result ≡ all_queued workers.now.items }

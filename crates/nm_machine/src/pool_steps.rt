@@ -13,7 +13,7 @@ use nm_model::reply::{Refused, Reply};
 use std::alloc::AllocError;
 
 impl Machine {
-    /// Whether the pool has such a slot, free or not.
+    /// Checks whether the pool has such a slot, free or not.
     pub(crate) fn may_claim(&self, worker: usize, slot: u32) -> Result<(), Refused>
         ensures { Admits (refusal_of self.now worker (event.Claim slot)) result }
     {
@@ -36,7 +36,7 @@ impl Machine {
         Ok(Reply::Claimed(slot))
     }
 
-    /// Whether the slot is private, or the front of a queue that is old enough.
+    /// Checks whether the slot is private, or the front of a queue and old enough.
     pub(crate) fn may_give(&self, worker: usize, slot: u32) -> Result<(), Refused>
         requires { worker < length self.now.workers }
         ensures { Admits (refusal_of self.now worker (event.Give slot)) result }
@@ -66,7 +66,7 @@ impl Machine {
         Ok(Reply::Freed(node))
     }
 
-    /// Whether a field of the slot may be read.
+    /// Checks whether a field of the slot may be read.
     pub(crate) fn may_look(&self, worker: usize, slot: u32, field: Field) -> Result<(), Refused>
         requires { worker < length self.now.workers }
         ensures { Admits (refusal_of self.now worker (event.Look slot field)) result }
@@ -100,7 +100,7 @@ impl Machine {
         self.workers[worker].look(slot, field, node)
     }
 
-    /// Whether a field may be stored.
+    /// Checks whether a field may be stored.
     pub(crate) fn may_fill(
         &self,
         worker: usize,

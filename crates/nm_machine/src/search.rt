@@ -1,4 +1,4 @@
-//! What a worker's log tells of the operation of its pin: the walks for its key, and what it
+//! What a worker's log shows of the operation of its pin: the walks for its key, and what it
 //! changed.
 #![tactic(auto, unfolding(nm_model::specs::Searches::searched))]
 
@@ -19,7 +19,7 @@ use nm_model::reply::{Refused, Reply};
 use std::alloc::{AllocError, Global};
 use std::marker::Model;
 
-/// What a worker's log tells of the operation of its pin.
+/// What a worker's log shows of the operation of its pin.
 #[derive(Drop)]
 pub struct Search {
     call: Option<Call>,
@@ -50,7 +50,7 @@ impl Model for Search {
     } };
 }
 
-// Whether a node is one of these.
+// Returns whether a node is one of these.
 fn is_among(nodes: &[NodeId], node: NodeId) -> bool
     ensures { result ≡ list_any (is_node node) nodes.now }
 {
@@ -58,7 +58,7 @@ fn is_among(nodes: &[NodeId], node: NodeId) -> bool
 }
 
 impl Search {
-    /// No operation. Takes no memory.
+    /// Returns the search of no operation. Takes no memory.
     pub fn idle(alloc: Global) -> Search
         ensures { result.tells ≡ idle }
     {
@@ -72,7 +72,8 @@ impl Search {
         }
     }
 
-    /// Asks for the memory that an event takes: a look that of one more arrival.
+    /// Reserves the memory that an event needs: a look needs room for one more arrival in each
+    /// list.
     pub fn make_room(&mut self, event: &Event) -> Result<(), AllocError>
         ensures same { self.new.tells ≡ self.old.tells }
         ensures room { OnOk result (HasRoomFor event.now self.new) }
@@ -84,7 +85,7 @@ impl Search {
         Ok(())
     }
 
-    // No pin stands, or a new one for this operation.
+    // Starts anew, for this operation or for none.
     fn restart(&mut self, call: Option<Call>)
         ensures { self.new.tells
             ≡ record {
@@ -104,7 +105,7 @@ impl Search {
         self.later.clear();
     }
 
-    // A sight was answered, for this operation or for none.
+    // Starts a new search if a sight (epoch read) confirmed a pin, for this operation or for none.
     fn begin(&mut self, call: Option<Call>, reply: &Reply)
         ensures { self.new.tells ≡ begun self.old.tells call reply.now }
     {
@@ -113,7 +114,7 @@ impl Search {
         }
     }
 
-    // A leave was answered.
+    // Ends the search if a leave (unpin) was answered.
     fn leave(&mut self, reply: &Reply)
         ensures { self.new.tells ≡ left self.old.tells reply.now }
     {
@@ -122,7 +123,7 @@ impl Search {
         }
     }
 
-    // A look was answered.
+    // Records a look with its reply.
     fn look(&mut self, slot: u32, field: Field, reply: &Reply)
         requires { HasRoom self.old }
         ensures { self.new.tells
@@ -135,7 +136,7 @@ impl Search {
         }
     }
 
-    // The key of a slot was looked at.
+    // Records that the key of a slot was read.
     fn key(&mut self, slot: u32, key: u64)
         ensures { self.new.tells
             ≡ look_for self.old.tells self.old.tells.call slot field.Key (reply.KeyIs key) }
@@ -149,7 +150,7 @@ impl Search {
         }
     }
 
-    // An edge of a slot was read.
+    // Records that an edge of a slot was read.
     fn edge(&mut self, slot: u32, side: Side, edge: Edge)
         requires { HasRoom self.old }
         ensures { self.new.tells
@@ -165,7 +166,7 @@ impl Search {
         }
     }
 
-    // A link was answered.
+    // Records a link with its reply.
     fn link(&mut self, reply: &Reply)
         ensures { self.new.tells ≡ linked self.old.tells reply.now }
     {
@@ -174,7 +175,7 @@ impl Search {
         }
     }
 
-    // A flag was answered.
+    // Records a flag with its reply.
     fn flag(&mut self, reply: &Reply)
         ensures { self.new.tells ≡ flagged self.old.tells reply.now }
     {
@@ -183,7 +184,7 @@ impl Search {
         }
     }
 
-    // A splice was answered.
+    // Records a splice with its reply.
     fn splice(&mut self, reply: &Reply)
         ensures { self.new.tells ≡ spliced self.old.tells reply.now }
     {
@@ -192,7 +193,7 @@ impl Search {
         }
     }
 
-    // Whether the flagged leaf is one of these nodes.
+    // Returns whether the flagged leaf is one of these nodes.
     fn flagged_in(&self, nodes: &[NodeId]) -> bool
         ensures { result ≡ is_flagged_in self.now.tells.flagged nodes.now }
     {
@@ -202,7 +203,7 @@ impl Search {
         }
     }
 
-    /// An event was answered. A look takes room.
+    /// Records an event with its reply. A look needs room.
     pub fn learn(&mut self, event: &Event, reply: &Reply)
         requires { HasRoomFor event.now self.old }
         ensures { self.new.tells ≡ searched self.old.tells event.now reply.now }
@@ -228,8 +229,8 @@ impl Search {
 }
 
 impl Search {
-    // Whether the leaf that was flagged is cut: by an own splice, or since a walk that began after
-    // the flag ended elsewhere.
+    // Returns whether the leaf that was flagged is cut: by a splice of this worker, or because a
+    // walk that began after the flag ended elsewhere.
     fn has_removed(&self) -> bool
         ensures { result ≡ has_removed self.now.tells self.now.tells.flagged }
     {
@@ -239,7 +240,7 @@ impl Search {
         }
     }
 
-    // Whether the log shows this answer of the operation.
+    // Returns whether the log shows this answer of the operation.
     fn shows(&self, answer: bool) -> bool
         ensures { result ≡ shows_call self.now.tells self.now.tells.call answer }
     {
@@ -258,15 +259,16 @@ impl Search {
         }
     }
 
-    // Whether the operation has linked or flagged, so that it owes an answer.
+    // Returns whether the operation has linked or flagged, so that it owes an answer.
     fn owes_answer(&self) -> bool
         ensures { result ≡ (self.now.tells.linked || is_some self.now.tells.flagged) }
     {
         self.linked || self.flagged.is_some()
     }
 
-    // Whether a walk for the key came to where the new nodes put it beside a slot: it ended there,
-    // at a leaf, or in a radix tree each node above has the key in its range.
+    // Returns whether a walk for the key came to the place at which the new nodes put it beside a
+    // slot. The walk ended there, at a leaf. In a radix tree it may come to any slot, by the root's
+    // edge or from a parent that has the key in its range.
     fn shows_place(
         &self,
         layout: Layout,
@@ -290,7 +292,8 @@ impl Search {
         }
     }
 
-    // Whether the operation is an insert that may link here: once, where a walk of it came.
+    // Returns whether the operation is an insert that may link here: it has not linked yet, the new
+    // leaf has its key, and a walk of it came here.
     fn may_link(
         &self,
         layout: Layout,
@@ -317,7 +320,8 @@ impl Search {
             && self.shows_place(layout, worker, key, parent, side, slot, new)
     }
 
-    // Whether the operation is a delete that may flag here: one leaf, where a walk of it ended.
+    // Returns whether the operation is a delete that may flag here: it has flagged no leaf yet, and
+    // a walk of it ended here.
     fn may_flag(&self, parent: u32, side: Side, leaf: u32) -> bool
         ensures { result ≡ flags_in_order self.now.tells self.now.tells.call parent side leaf }
     {
@@ -333,8 +337,9 @@ impl Search {
         self.flagged.is_none() && arrivals::may_flag(&self.walks, key, parent, side, leaf)
     }
 
-    /// Whether an event that a plain core allows is in order: a link or a flag where a walk of the
-    /// own operation came, a leave that owes no answer or gives one that the log shows.
+    /// Checks whether an event that a plain core allows is in order. A link or a flag must be at a
+    /// place to which a walk of the worker's own operation came. A leave must owe no answer, or
+    /// give one that the log shows.
     pub fn admit(&self, layout: Layout, worker: &WorkerState, event: &Event) -> Result<(), Refused>
         ensures { Admits (disorder layout worker.now self.now.tells event.now) result }
     {

@@ -1,5 +1,5 @@
-//! What an ordered core asks of an event beside what a plain one asks, and what each worker's log
-//! tells.
+//! What an ordered core checks of an event in addition to a plain one, and what each worker's log
+//! shows.
 #![tactic(auto)]
 
 ghost use Rattle.std.specs.Prelude.{◌≡◌, ◌<◌, length, replicate, IfOk, OnOk, OnErr};
@@ -17,7 +17,7 @@ use nm_model::reply::{Refused, Reply};
 use std::alloc::{AllocError, Global};
 use std::marker::Model;
 
-/// By worker, what its log tells of the operation of its pin.
+/// By worker, what its log shows of the operation of its pin.
 #[derive(Drop)]
 pub struct Searches {
     by_worker: Vec<Search>,
@@ -33,7 +33,7 @@ impl Model for Searches {
 }
 
 impl Searches {
-    /// No worker has an operation yet.
+    /// Returns searches in which no worker has an operation yet.
     pub fn new(alloc: Global, workers: u32) -> Result<Searches, AllocError>
         ensures { IfOk result (λ searches. searches_of searches ≡ replicate workers idle) }
     {
@@ -44,7 +44,7 @@ impl Searches {
         Ok(Searches { by_worker })
     }
 
-    // Whether an event that its machine admits is in order.
+    // Checks whether an event that its machine admits is in order.
     fn admit(&self, machine: &Machine, worker: usize, event: &Event) -> Result<(), Refused>
         requires is_there { worker < length machine.now.workers }
         requires has { worker < length self.now }
@@ -54,7 +54,7 @@ impl Searches {
         self.by_worker[worker].admit(machine.layout, &machine.workers[worker], event)
     }
 
-    // Asks for the memory that an event takes.
+    // Reserves the memory that an event needs.
     fn make_room(&mut self, worker: usize, event: &Event) -> Result<(), AllocError>
         requires { worker < length self.old }
         ensures same { searches_of self.new ≡ searches_of self.old }
@@ -63,7 +63,7 @@ impl Searches {
         self.by_worker[worker].make_room(event)
     }
 
-    // An event of a worker was answered.
+    // Records an event of a worker with its reply.
     fn learn(&mut self, worker: usize, event: &Event, reply: &Reply)
         requires is_there { worker < length self.old }
         requires room { HasRoomFor event.now (roomy_of self.old worker) }
@@ -73,7 +73,8 @@ impl Searches {
         self.by_worker[worker].learn(event, reply);
     }
 
-    /// One event in an ordered core, by its machine and what its workers' logs tell.
+    /// Applies one event in an ordered core, by its machine and its workers' logs, or refuses it.
+    /// If it is refused, both are unchanged.
     #[tactic(auto, unfolding(nm_model::specs::Ordered::refused_in, nm_model::specs::Runs::refused))]
     pub fn apply(
         &mut self,

@@ -16,7 +16,7 @@ use nm_model::reply::{Refused, Reply};
 use std::alloc::AllocError;
 
 impl Machine {
-    /// Whether the exchange may be tried.
+    /// Checks whether the link may be tried.
     pub(crate) fn may_link(
         &self,
         worker: usize,
@@ -68,7 +68,7 @@ impl Machine {
         Ok(Reply::Linked(node))
     }
 
-    /// Whether the exchange may be tried.
+    /// Checks whether the flag may be tried.
     pub(crate) fn may_flag(
         &self,
         worker: usize,
@@ -114,7 +114,7 @@ impl Machine {
         Ok(Reply::Flagged(node))
     }
 
-    /// Whether the exchange may be tried.
+    /// Checks whether the tag may be tried.
     pub(crate) fn may_tag(&self, worker: usize, parent: u32, side: Side) -> Result<(), Refused>
         requires { worker < length self.now.workers }
         ensures { Admits (refusal_of self.now worker (event.Tag parent side)) result }
@@ -150,7 +150,7 @@ impl Machine {
         Ok(Reply::Was(edge))
     }
 
-    /// Whether the exchange may be tried.
+    /// Checks whether the splice may be tried.
     pub(crate) fn may_splice(
         &mut self,
         worker: usize,
@@ -185,7 +185,7 @@ impl Machine {
         Ok(())
     }
 
-    // The nodes of a chain, each by its birth word.
+    // Returns the nodes of a chain, each with its birth word.
     fn cut_nodes(
         &self,
         worker: usize,
@@ -210,7 +210,7 @@ impl Machine {
         self.names(&slots)
     }
 
-    // Slots, each with the birth that it has now.
+    // Returns slots, each with the birth that it has now.
     fn names(&self, slots: &[u32]) -> Result<Vec<NodeId>, AllocError>
         ensures { IfOk result (λ nodes. nodes.items ≡ map (named self.now.memory) slots.now) }
     {

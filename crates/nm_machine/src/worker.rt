@@ -1,4 +1,4 @@
-//! What one worker knows, and how its events add to it.
+//! What one worker knows, and how its events change it.
 ghost use Rattle.std.specs.Prelude.{◌≡◌, ◌<◌, ◌==◌, ◌^◌, true, false, not, ◌&&◌, unwrap_or, replicate, length, [], Some, None, is_some, IfOk, OnOk, OnErr};
 ghost use Rattle.std.specs.Option.{option_copied};
 ghost use Rattle.nm_model.specs.declared.event.Field.TheVariants.{Birth};
@@ -53,7 +53,7 @@ impl Model for WorkerState {
 }
 
 impl WorkerState {
-    /// A worker that has done nothing yet.
+    /// Returns a worker that has done nothing yet.
     pub fn new(alloc: Global, layout: Layout, number: u32) -> Result<WorkerState, AllocError>
         requires { number < layout.workers }
         ensures { IfOk result (λ worker. worker ≡ newcomer layout number) }
@@ -75,28 +75,28 @@ impl WorkerState {
         })
     }
 
-    /// Its epochs.
+    /// Returns its epochs.
     pub fn brief(&self) -> Brief
         ensures { result ≡ self.now.brief }
     {
         self.brief
     }
 
-    /// Whether it has resigned.
+    /// Returns whether it has resigned.
     pub fn is_gone(&self) -> bool
         ensures { result ≡ self.now.gone }
     {
         self.gone
     }
 
-    /// How many slots are private to it.
+    /// Returns the number of slots that are private to it.
     pub fn private(&self) -> usize
         ensures { result ≡ length self.now.drafts }
     {
         self.drafts.len()
     }
 
-    /// How many entries wait in the queues that it holds.
+    /// Returns the number of entries that wait in the queues that it holds.
     pub fn waiting(&self) -> usize
         requires { in_queues self.now.ledgers < 2 ^ 32 }
         ensures { result ≡ in_queues self.now.ledgers }
@@ -104,7 +104,7 @@ impl WorkerState {
         self.ledgers.waiting()
     }
 
-    // The global epoch was read.
+    // Records that the global epoch was read.
     fn saw(&mut self, epoch: u64)
         ensures { self.new ≡ saw self.old epoch }
     {
@@ -114,7 +114,10 @@ impl WorkerState {
         self.brief.seen = Some(epoch);
     }
 
-    /// The global epoch was read: it labels a cut, or confirms a pin, or is only seen.
+    /// Records a sight (epoch read) and returns its reply: it labels a cut, confirms a pin, or only
+    /// reads.
+    ///
+    /// Errors: out of memory; the knowledge is unchanged.
     pub fn sight(&mut self, epoch: u64) -> Result<Reply, AllocError>
         ensures reply { IfOk result (λ reply. reply ≡ reply_sight self.old epoch) }
         ensures ok { OnOk result (self.new ≡ learn_sight self.old (reply_sight self.old epoch)) }
@@ -143,7 +146,7 @@ impl WorkerState {
         }
     }
 
-    // Its cuts have this label.
+    // Gives its cuts this label.
     fn label(&mut self, epoch: u64)
         ensures { self.new ≡ labelling self.old epoch }
     {
@@ -151,7 +154,7 @@ impl WorkerState {
         self.brief.unlabelled = false;
     }
 
-    // It is pinned, and knows the root and its left child.
+    // Pins the worker, which then knows the root and its left child.
     fn pin(&mut self, epoch: u64, known: Known)
         requires { known ≡ rooted }
         ensures { self.new ≡ pinned self.old epoch }
@@ -160,7 +163,7 @@ impl WorkerState {
         self.known = known;
     }
 
-    /// The epoch that was seen is announced.
+    /// Records that the epoch last read was announced.
     pub fn announce(&mut self, epoch: u64)
         ensures { self.new ≡ record self.old
             { brief = record self.old.brief { announcement = Some epoch } } }
@@ -168,7 +171,7 @@ impl WorkerState {
         self.brief.announcement = Some(epoch);
     }
 
-    /// The announcement was taken back: it forgets all known nodes.
+    /// Records that the announcement was cleared: the worker forgets all known nodes.
     pub fn leave(&mut self)
         ensures { self.new ≡ record self.old
             { brief = record self.old.brief { announcement = None; pin = None }; known = [] } }
@@ -178,7 +181,7 @@ impl WorkerState {
         self.known.clear();
     }
 
-    /// The announcement of a worker was read.
+    /// Records that the announcement of a worker was read, and returns the reply.
     pub fn scan(&mut self, other: usize, announcement: Option<u64>) -> Reply
         requires { other < length self.old.scanned }
         ensures reply { result ≡ reply_scan announcement }
@@ -188,14 +191,14 @@ impl WorkerState {
         announcement.map_or(Reply::Idle, Reply::In)
     }
 
-    /// Whether each worker was scanned at the epoch last read, this one, of number `me`, aside.
+    /// Returns whether each worker other than `me` was scanned at the epoch last read.
     pub fn has_scanned_others(&self, me: usize) -> bool
         ensures { result ≡ others_scanned me self.now.scanned }
     {
         others_scanned(me, &self.scanned)
     }
 
-    /// An exchange of the global epoch found or left this one.
+    /// Records that an exchange of the global epoch found or left this one.
     pub fn moved(&mut self, epoch: u64)
         ensures { self.new ≡ moved self.old epoch }
     {
@@ -205,28 +208,28 @@ impl WorkerState {
 }
 
 impl WorkerState {
-    /// Whether a node is known.
+    /// Returns whether a node is known.
     pub fn knows(&self, slot: u32) -> bool
         ensures { result ≡ knows self.now slot }
     {
         self.known.contains(slot)
     }
 
-    /// Whether a slot is private.
+    /// Returns whether a slot is private.
     pub fn is_private(&self, slot: u32) -> bool
         ensures { result ≡ is_private self.now slot }
     {
         self.drafts.contains(slot)
     }
 
-    /// Whether it has private slots.
+    /// Returns whether it has private slots.
     pub fn has_private(&self) -> bool
         ensures { result ≡ not (length self.now.drafts == 0) }
     {
         !self.drafts.is_empty()
     }
 
-    // What is known of a node.
+    // Returns what is known of a node.
     pub(crate) fn seen(&self, slot: u32) -> Seen
         ensures { result ≡ seen_of self.now slot }
     {
@@ -236,22 +239,22 @@ impl WorkerState {
         }
     }
 
-    /// What was filled into a private slot.
+    /// Returns what was stored in a private slot.
     pub fn draft(&self, slot: u32) -> Draft
         ensures { result ≡ draft_of self.now slot }
     {
         self.drafts.get(slot).unwrap_or(Draft::unfilled())
     }
 
-    /// The last word read of an edge.
+    /// Returns the last word read of an edge, if any.
     pub fn read(&self, slot: u32, side: Side) -> Option<Edge>
         ensures { result ≡ read self.now slot side }
     {
         self.seen(slot).on(side)
     }
 
-    /// Whether the chain leads from one node to another, past fewer than so many nodes. What is
-    /// found of it is kept, where there is memory.
+    /// Returns whether the chain leads from one node to another in fewer than `fuel` steps. Keeps
+    /// the steps that it finds, if memory allows.
     pub fn has_way(&mut self, fuel: u32, from: u32, to: u32) -> bool
         ensures way { result ≡ is_some (way fuel self.old from to) }
         ensures same { self.new ≡ self.old }
@@ -259,14 +262,16 @@ impl WorkerState {
         self.known.has_way(fuel, from, to)
     }
 
-    /// Whether an edge of the node was read as null.
+    /// Returns whether an edge of the node was last read as null.
     pub fn knows_leaf(&self, slot: u32) -> bool
         ensures { result ≡ knows_leaf self.now slot }
     {
         is_null(self.read(slot, Side::Left)) || is_null(self.read(slot, Side::Right))
     }
 
-    /// A slot was claimed.
+    /// Records that a slot was claimed.
+    ///
+    /// Errors: out of memory; the knowledge is unchanged.
     pub fn claim(&mut self, slot: u32) -> Result<(), AllocError>
         ensures ok { OnOk result
             (self.new ≡ record self.old { drafts = put self.old.drafts slot unfilled }) }
@@ -275,14 +280,14 @@ impl WorkerState {
         self.drafts.put(slot, Draft::unfilled())
     }
 
-    /// A private slot was given back.
+    /// Records that a private slot was given back.
     pub fn give(&mut self, slot: u32)
         ensures { self.new ≡ record self.old { drafts = without self.old.drafts slot } }
     {
         self.drafts.remove(slot);
     }
 
-    /// Whether a slot is the front of a queue, and may be freed.
+    /// Checks whether a slot is the front of a queue, and may be freed.
     pub fn may_free(&self, slot: u32) -> Result<(), Refused>
         ensures { Admits (first (free_checks self.now slot)) result }
     {
@@ -298,7 +303,7 @@ impl WorkerState {
         Ok(())
     }
 
-    /// The node at the front of a queue that is of this slot.
+    /// Returns the node at the front of a held queue that is of this slot; slot 0 if there is none.
     pub fn front(&self, slot: u32) -> NodeId
         ensures { result ≡ node_of (front_of self.now.ledgers slot) }
     {
@@ -308,7 +313,9 @@ impl WorkerState {
         }
     }
 
-    /// The node at the front of a queue was freed.
+    /// Records that the node at the front of a queue was freed.
+    ///
+    /// Errors: out of memory; the knowledge is unchanged.
     pub fn free(&mut self, node: NodeId) -> Result<(), AllocError>
         ensures ok { OnOk result
             (self.new ≡ record self.old { ledgers = free self.old.ledgers node }) }
@@ -317,8 +324,10 @@ impl WorkerState {
         self.ledgers.free(node)
     }
 
-    /// A field of a slot was read: of a known node the worker learns an edge or a birth, of a
-    /// private slot a birth.
+    /// Records a read of `field` of `slot`, and returns the reply. The worker learns an edge or a
+    /// birth of a known node, and only a birth of a private slot.
+    ///
+    /// Errors: out of memory; the knowledge is unchanged.
     pub fn look(&mut self, slot: u32, field: Field, node: Node) -> Result<Reply, AllocError>
         requires { is_private self.old slot ≡ false → knows self.old slot ≡ true }
         ensures reply { IfOk result (λ reply. reply ≡ reply_look node field) }
@@ -341,7 +350,7 @@ impl WorkerState {
         }
     }
 
-    // A birth was read.
+    // Records that a birth was read.
     fn look_at_birth(&mut self, slot: u32, birth: u64) -> Result<(), AllocError>
         ensures ok { OnOk result (self.new ≡ looked self.old slot Birth (BirthIs birth)) }
         ensures err { OnErr result (self.new ≡ self.old) }
@@ -360,7 +369,7 @@ impl WorkerState {
         self.known.put(slot, seen)
     }
 
-    // A slot is known from now on, if it is one.
+    // Makes a slot known, unless it is 0.
     fn meet(&mut self, slot: u32) -> Result<(), AllocError>
         ensures ok { OnOk result (self.new ≡ record self.old { known = met self.old.known slot }) }
         ensures err { OnErr result (self.new ≡ self.old) }
@@ -371,7 +380,7 @@ impl WorkerState {
         self.known.put(slot, Seen::unread())
     }
 
-    /// A field of a private slot was stored.
+    /// Records that a field of a private slot was stored.
     pub fn fill(&mut self, slot: u32, field: Field, value: u64)
         requires private { is_private self.old slot ≡ true }
         requires fits { is_edge field ≡ true → value < 2 ^ 32 }
@@ -382,7 +391,7 @@ impl WorkerState {
         self.drafts.replace(slot, draft);
     }
 
-    /// Whether a parent is known, and a leaf known as one.
+    /// Returns whether a parent is known, and a leaf is known as one.
     pub fn holds_leaf(&self, parent: u32, leaf: u32) -> bool
         ensures { result ≡ (knows self.now parent
             && (knows self.now leaf && knows_leaf self.now leaf)) }
@@ -390,15 +399,15 @@ impl WorkerState {
         self.knows(parent) && self.knows(leaf) && self.knows_leaf(leaf)
     }
 
-    /// Whether a link may be over a slot: over a known leaf, and in a radix tree over any slot but
-    /// the fixed ones.
+    /// Returns whether a link may be over a slot: over a known leaf, or in a radix tree over any
+    /// slot but the fixed ones.
     pub fn may_be_over(&self, layout: Layout, slot: u32) -> bool
         ensures { result ≡ may_be_over layout self.now slot }
     {
         self.knows_leaf(slot) || (layout.is_radix() && 6 <= slot)
     }
 
-    /// Whether a parent is known, and a slot over which a link may be.
+    /// Returns whether a parent is known, and a slot over which a link may be.
     pub fn holds_place(&self, layout: Layout, parent: u32, slot: u32) -> bool
         ensures { result ≡ (knows self.now parent
             && (knows self.now slot && may_be_over layout self.now slot)) }
@@ -406,21 +415,21 @@ impl WorkerState {
         self.knows(parent) && self.knows(slot) && self.may_be_over(layout, slot)
     }
 
-    /// Whether the edge on a side was last read as flagged.
+    /// Returns whether the edge on a side was last read as flagged.
     pub fn knows_flagged(&self, slot: u32, side: Side) -> bool
         ensures { result ≡ is_flagged (read self.now slot side) }
     {
         self.read(slot, side).is_some_and(Edge::flag)
     }
 
-    /// Whether the edge on a side was last read as tagged.
+    /// Returns whether the edge on a side was last read as tagged.
     pub fn knows_tagged(&self, slot: u32, side: Side) -> bool
         ensures { result ≡ is_tagged (read self.now slot side) }
     {
         self.read(slot, side).is_some_and(Edge::tag)
     }
 
-    // Whether a private slot is filled as a leaf.
+    // Returns whether a private slot is filled as a leaf.
     fn is_leaf_draft(&self, slot: u32) -> bool
         ensures { result ≡ is_leaf_draft self.now slot }
     {
@@ -431,14 +440,15 @@ impl WorkerState {
             && draft.right == Some(0)
     }
 
-    /// Whether a private slot is filled as an internal node over this slot and a private leaf.
+    /// Returns whether a private slot is filled as an internal node over this slot and a private
+    /// leaf.
     pub fn is_linkable(&self, new: u32, leaf: u32) -> bool
         ensures { result ≡ is_linkable self.now new leaf }
     {
         self.draft(new).is_fork_over(leaf) && self.is_leaf_draft(self.leaf_beside(new, leaf))
     }
 
-    // Two slots are private no longer.
+    // Makes two slots no longer private.
     fn publish(&mut self, new: u32, leaf: u32)
         ensures { self.new ≡ record self.old
             { drafts = without (without self.old.drafts new) leaf } }
@@ -447,8 +457,10 @@ impl WorkerState {
         self.drafts.remove(leaf);
     }
 
-    /// A private slot was put into the tree, over this slot and the private leaf beside it. Answers
-    /// the new node.
+    /// Records that a private slot was linked into the tree, over this slot and the private leaf
+    /// beside it. Returns the new node.
+    ///
+    /// Errors: out of memory; the knowledge is unchanged.
     pub fn link(&mut self, leaf: u32, new: u32) -> Result<NodeId, AllocError>
         ensures node { IfOk result (λ node. node ≡ node_linked self.old new) }
         ensures ok { OnOk result (self.new ≡ linked_in self.old leaf new) }
@@ -461,7 +473,9 @@ impl WorkerState {
         Ok(node)
     }
 
-    /// Nodes were cut by this worker, of this number, and wait for their label.
+    /// Records that this worker, of this number, cut nodes, which wait for their label.
+    ///
+    /// Errors: out of memory; the knowledge is unchanged.
     pub fn retire(&mut self, number: usize, nodes: &[NodeId]) -> Result<(), AllocError>
         requires { number < length self.old.ledgers }
         ensures ok { OnOk result (self.new ≡ cutting number self.old nodes.now) }
@@ -472,21 +486,21 @@ impl WorkerState {
         Ok(())
     }
 
-    /// A copy of the ledgers that it holds.
+    /// Returns a copy of the ledgers that it holds.
     pub fn ledgers_in(&self, alloc: Global) -> Result<Ledgers, AllocError>
         ensures { IfOk result (λ ledgers. ledgers ≡ self.now.ledgers) }
     {
         self.ledgers.clone_in(alloc)
     }
 
-    /// The ledger of an origin, if it holds it.
+    /// Returns the ledger of an origin, if it holds it.
     pub fn ledger(&self, origin: u32) -> Option<&Ledger>
         ensures { option_copied result ≡ held self.now.ledgers origin }
     {
         self.ledgers.get(origin)
     }
 
-    /// It resigns, and its ledgers pass to another.
+    /// Resigns, and returns its ledgers, which another worker takes over.
     pub fn resign(&mut self, none: Ledgers) -> Ledgers
         requires { none ≡ replicate (length self.old.ledgers) None }
         ensures ledgers { result ≡ self.old.ledgers }
@@ -496,7 +510,7 @@ impl WorkerState {
         mem::replace(&mut self.ledgers, none)
     }
 
-    /// It takes over the ledgers of another.
+    /// Takes over the ledgers of another worker.
     pub fn inherit(&mut self, passed: Ledgers)
         requires { length passed ≡ length self.old.ledgers }
         ensures { self.new ≡ inheriting self.old passed }
@@ -504,7 +518,7 @@ impl WorkerState {
         self.ledgers.take_over(passed);
     }
 
-    // The node that a private slot becomes.
+    // Returns the node that a private slot becomes.
     fn node_drafted(&self, new: u32) -> NodeId
         ensures { result ≡ node_linked self.now new }
     {
@@ -514,22 +528,26 @@ impl WorkerState {
         }
     }
 
-    // Of the two filled edges of a private slot, where the one leads that does not lead to this
-    // leaf.
+    // Returns, of the two slots to which the filled edges of a private slot lead, the one that is
+    // not this leaf.
     fn leaf_beside(&self, new: u32, leaf: u32) -> u32
         ensures { result ≡ unwrap_or (beside (draft_of self.now new) leaf) 0 }
     {
         self.draft(new).beside(leaf).unwrap_or(0)
     }
 
-    /// Whether the new leaf, which stands beside this leaf under a new internal node, has this key.
+    /// Returns whether the new leaf, which is beside this leaf under a new internal node, has this
+    /// key.
     pub fn has_new_leaf(&self, new: u32, leaf: u32, key: Key) -> bool
         ensures { result ≡ is_number (new_leaf self.now leaf new).key key }
     {
         self.draft(self.leaf_beside(new, leaf)).has_key(key)
     }
 
-    /// An edge of a known node was read, and its slot is known from now on.
+    /// Records that an edge of a known node was read. The slot to which it leads is known from now
+    /// on.
+    ///
+    /// Errors: out of memory; the knowledge is unchanged.
     pub fn read_edge(&mut self, slot: u32, side: Side, edge: Edge) -> Result<(), AllocError>
         requires { knows self.old slot ≡ true }
         ensures ok { OnOk result (self.new ≡ read_edge self.old slot side edge) }
@@ -542,14 +560,14 @@ impl WorkerState {
     }
 }
 
-// An edge was read, and as null.
+// Returns whether an edge was read, and as null.
 fn is_null(edge: Option<Edge>) -> bool
     ensures { result ≡ is_null edge }
 {
     edge.is_some_and(|edge| edge.slot() == 0)
 }
 
-// Each worker but this one is scanned.
+// Returns whether each worker other than this one was scanned.
 fn others_scanned(me: usize, scanned: &[bool]) -> bool
     ensures { result ≡ others_scanned me scanned.now }
 {

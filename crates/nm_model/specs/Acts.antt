@@ -1,5 +1,5 @@
--- Acts: calls with their answers at a moment, a plain set that gives the answers, and the set that
--- the words hold.
+-- Acts: calls with their answers, each at a moment (linearization point); a plain set that gives
+-- the answers; and the set that the words hold.
 use Rattle.std.specs.Prelude.{◌≡◌, ◌⊎◌, ◌↔◌, ℕ, Bool, true, false, List, [], ◌∷◌, ◌++◌, map, if◌then◌else◌}
 use Rattle.nm_edge.specs.Keys.{IsKey}
 use Rattle.nm_model.specs.declared.event.Op.{Op}
@@ -7,8 +7,9 @@ use Rattle.nm_model.specs.declared.event.Op.TheVariants.{Has, Insert, Delete}
 use Rattle.nm_model.specs.Memory.{Memory, node, is_leaf}
 use Rattle.nm_model.specs.Paths.{Reached}
 
--- a call with its answer, at a moment: the number of turns made until then. A call is named by its
--- worker and the number of the turn that confirmed its pin (Herlihy and Wing)
+-- a call with its answer and its moment (linearization point): the number of turns made until then.
+-- A call is named by its worker and the number of the turn that confirmed its pin (Herlihy and
+-- Wing)
 pub record Act : Type 0 where
   pub worker : ℕ
   pub pin : ℕ
@@ -22,7 +23,8 @@ abbrev pub IsAmong : List Act → Act → Type 0
 IsAmong [] a = ⊥
 IsAmong (b ∷ acts) a = (b ≡ a) ⊎ IsAmong acts a
 
--- acts of these keys in a row, at that moment, of each of which something holds
+-- acts with these keys follow each other in the list, all at that moment, and something holds for
+-- each of them
 pub record HasInARow (acts : List Act) (ks : List ℕ) (moment : ℕ) (Is : Act → Type 0) : Type 0 where
   pub front : List Act
   pub row : List Act
@@ -34,8 +36,8 @@ pub record HasInARow (acts : List Act) (ks : List ℕ) (moment : ℕ) (Is : Act 
 
 -- ---- a plain set
 
--- what a plain set answers: `has` tells whether the key is in it, an insert is true where it was
--- not, and a delete where it was (Herlihy and Wing, section 2, sequential specification)
+-- what a plain set answers: `has` is true if the key is in it, an insert is true if the key was
+-- not, and a delete if it was (Herlihy and Wing, section 2, sequential specification)
 abbrev pub Gives : (ℕ → Type 0) → Op → ℕ → Bool → Type 0
 Gives in_set Has k true = in_set k
 Gives in_set Has k false = in_set k → ⊥
@@ -44,7 +46,7 @@ Gives in_set Insert k false = in_set k
 Gives in_set Delete k true = in_set k
 Gives in_set Delete k false = in_set k → ⊥
 
--- what is in the set after a call that was answered so (Herlihy and Wing, legal sequential history)
+-- the keys in the set after a call with that answer (Herlihy and Wing, legal sequential history)
 abbrev pub changed : (ℕ → Type 0) → Op → ℕ → Bool → ℕ → Type 0
 changed in_set Has k answer j = in_set j
 changed in_set Insert k true j = in_set j ⊎ (j ≡ k)
@@ -56,22 +58,22 @@ changed in_set Delete k false j = in_set j
 abbrev pub nothing : ℕ → Type 0
 nothing k = ⊥
 
--- one plain set, which has these keys first and those at last, gives each call its answer, one
--- after the other (Herlihy and Wing, legal sequential history)
+-- one plain set gives each call its answer, one after the other. It has the keys `first` before the
+-- calls and the keys `last` after them (Herlihy and Wing, legal sequential history)
 abbrev pub Replays : (ℕ → Type 0) → List Act → (ℕ → Type 0) → Type 0
 Replays first [] last = (k : ℕ) → IsKey k → first k ↔ last k
 Replays first (a ∷ acts) last = IsKey a.key × Gives first a.op a.key a.answer × Replays (changed first a.op a.key a.answer) acts last
 
 -- ---- the set that the words hold
 
--- a key of the set is that of a reached leaf
+-- a key is in the set if a reached leaf has it
 pub record InSet (m : Memory) (k : ℕ) : Type 0 where
   pub slot : ℕ
   pub reached : Reached m slot
   pub leaf : is_leaf (node m slot) ≡ true
   pub has_key : (node m slot).key ≡ k
 
--- the keys of the leaves among slots, in their order
+-- the keys of the leaves among these slots, in their order
 abbrev pub leaf_keys : Memory → List ℕ → List ℕ
 leaf_keys m [] = []
 leaf_keys m (x ∷ xs) = if is_leaf (node m x) then (node m x).key ∷ leaf_keys m xs else leaf_keys m xs

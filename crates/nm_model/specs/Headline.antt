@@ -1,6 +1,6 @@
--- The theorem, on one page. It speaks of the words of the tree at each moment and of the turns that
--- were made, and of nothing else: a turn is an event of a worker with its outcome, and the words at
--- a moment are those of the empty tree, changed by the turns so far as their replies tell.
+-- The theorem, on one page. It speaks only of the words of the tree at each moment and of the turns
+-- that were made. A turn (transition) is an event of a worker with its outcome. The words at a
+-- moment are those of the empty tree, changed by the turns so far as their replies say.
 use Rattle.std.specs.Prelude.{◌≡◌, ◌↔◌, ◌⊎◌, ℕ, ◌+◌, ◌<◌, ◌≤◌, ◌==◌, Bool, true, false, not, ◌&&◌, ◌||◌, List, [], ◌∷◌, ◌++◌, map, filter, slice_get, slice_set, Contains, Option, Some, None, option_map, Result, Ok, if◌then◌else◌}
 use Rattle.std.specs.List.{list_any}
 use Rattle.nm_edge.specs.Edges.{to, tagged, untagged, other}
@@ -21,7 +21,7 @@ use Rattle.nm_model.specs.Paths.{at, Reached, IsCut}
 
 -- ---- the words
 
--- what an event with its outcome has written: one word, or none; where it was refused, none
+-- the words after an event with its outcome: one word is written, or none; if it was refused, none
 abbrev pub written : Memory → ℕ → Event → Result Reply Refused → Memory
 written m w Announce (Ok (Announced e)) = record m { announcements = slice_set m.announcements w (Some e) }
 written m w Leave (Ok Departed) = record m { announcements = slice_set m.announcements w None }
@@ -39,7 +39,8 @@ written m w (Tag p side) (Ok (Was e)) = put_edge m p side (tagged e)
 written m w (Splice a side s p keep) (Ok (Cut ns)) = put_edge m a side (untagged (edge m p keep))
 written m w _ _ = m
 
--- `after_turn`, `words_from`: the words after a turn, and after these turns, from others on
+-- `after_turn`, `words_from`: the words after a turn; the words after these turns, from given words
+-- on
 abbrev pub after_turn : Memory → Turn → Memory
 after_turn m t = written m t.worker t.event t.outcome
 
@@ -53,9 +54,9 @@ words_after L turns = words_from (opening L) turns
 
 -- ---- reads
 
--- a reply to a look tells the word that stands, and one to a scan the announcement; an exchange
--- that is lost, and a tag, tell the edge that stands, and a link or a flag that is won has found
--- the unmarked edge that it names; a birth that is stored is one more than the one that stood
+-- the reply to a look is the word in memory, and that to a scan is the announcement. A lost
+-- exchange, and a tag, return the edge in memory. A won link or flag has found the unmarked edge
+-- that it names. A birth that is stored is one more than the one before it
 abbrev pub TellsWhatStands : Memory → Event → Reply → Type 0
 TellsWhatStands m (Look s Key) r = r ≡ KeyIs (node m s).key
 TellsWhatStands m (Look s (EdgeOn side)) r = r ≡ EdgeIs (edge m s side)
@@ -72,8 +73,8 @@ TellsWhatStands m _ r = Unit {0}
 
 -- ---- cuts
 
--- `nodes_cut_of`, `nodes_freed_of`: the nodes that a turn says it cut, and the one that it says it
--- freed (Natarajan and Mittal, section 3.2, cleanup)
+-- `nodes_cut_of`, `nodes_freed_of`: the nodes that a turn's reply names as cut, and the one that it
+-- names as freed (Natarajan and Mittal, section 3.2, cleanup)
 abbrev pub nodes_cut_of : Result Reply Refused → List NodeId
 nodes_cut_of (Ok (Cut ns)) = ns
 nodes_cut_of _ = []
@@ -87,9 +88,10 @@ nodes_freed_of _ = []
 abbrev pub IsFrozenOver : Memory → ℕ → Side → ℕ → Type 0
 IsFrozenOver m x side leaf = ((edge m x side).tag ≡ true) × ((edge m x (other side)).flag ≡ true) × (child m x (other side) ≡ leaf)
 
--- from a slot down to a parent: each internal node and then its flagged leaf, and on by its tagged
--- edge; the last of these nodes is the parent, and its tagged edge is the one to keep (Natarajan
--- and Mittal, section 3.2, cleanup; for whole chains ours)
+-- a chain from a slot down to a parent: each internal node is followed by its flagged leaf, and
+-- then by the node to which its tagged edge leads. The last internal node is the parent, and its
+-- tagged edge is the one to keep (Natarajan and Mittal, section 3.2, cleanup; for whole chains
+-- ours)
 abbrev pub IsFrozenChainTo : Memory → ℕ → Side → ℕ → List ℕ → Type 0
 IsFrozenChainTo m parent keep s (x ∷ leaf ∷ []) = (x ≡ s) × (x ≡ parent) × IsFrozenOver m x keep leaf
 IsFrozenChainTo m parent keep s (x ∷ leaf ∷ y ∷ rest) = (x ≡ s) × (side : Side) × IsFrozenOver m x side leaf × IsFrozenChainTo m parent keep (child m x side) (y ∷ rest)
@@ -99,8 +101,8 @@ IsFrozenChainTo m parent keep s _ = ⊥
 abbrev pub slots_of : List NodeId → List ℕ
 slots_of ns = map (λ n. n.slot) ns
 
--- the nodes that a won splice says it cut are a chain from its successor down to its parent, each
--- with the birth that stood in its word
+-- the nodes that a won splice names as cut are a chain from its successor down to its parent, each
+-- with the birth in its word
 pub record IsWonSplice (m : Memory) (e : Event) (ns : List NodeId) : Type 0 where
   pub ancestor : ℕ
   pub side : Side
@@ -112,13 +114,13 @@ pub record IsWonSplice (m : Memory) (e : Event) (ns : List NodeId) : Type 0 wher
   pub chain : IsFrozenChainTo m parent keep successor (slots_of ns)
   pub births : ns ≡ map (named m) (slots_of ns)
 
--- from one moment to the next just these nodes were cut off: paths from the root reached them
+-- from one moment to the next exactly these nodes were cut off: paths from the root reached them
 -- before, and none does after (Natarajan and Mittal, section 3.2, cleanup)
 abbrev pub CutsJust : Memory → List NodeId → Memory → Type 0
 CutsJust before ns after = (x : ℕ) → IsCut before after x ↔ Contains (slots_of ns) x
 
--- a turn cuts just the nodes that it says it cut, and only won splices say so (Natarajan and
--- Mittal, section 3.2, cleanup)
+-- a turn cuts exactly the nodes that its reply names as cut, and only the reply of a won splice
+-- names any (Natarajan and Mittal, section 3.2, cleanup)
 pub record CutsItsNodes (m : Memory) (t : Turn) : Type 0 where
   pub just : CutsJust m (nodes_cut_of t.outcome) (after_turn m t)
   pub splices : (ns : List NodeId) → t.outcome ≡ Ok (Cut ns) → IsWonSplice m t.event ns
@@ -130,25 +132,25 @@ abbrev pub cuts_of : ℕ → List Turn → List NodeId
 cuts_of w [] = []
 cuts_of w (t ∷ ts) = (if t.worker == w then nodes_cut_of t.outcome else []) ++ cuts_of w ts
 
--- the nodes that were freed, whoever freed them, in the order of the turns
+-- the nodes that were freed, by any worker, in the order of the turns
 abbrev pub freed_by : List Turn → List NodeId
 freed_by [] = []
 freed_by (t ∷ ts) = nodes_freed_of t.outcome ++ freed_by ts
 
--- a node, a slot with its birth, is one of these
+-- a node (a slot with its birth) is one of these
 abbrev pub is_among : List NodeId → NodeId → Bool
 is_among ns n = list_any (λ m. (n.slot == m.slot) && (n.birth == m.birth)) ns
 
--- `freed_of`, `waits_of`: those of a worker's cuts that were freed, in the order in which they
--- were, and those that wait, in cut order
+-- `freed_of`, `waits_of`: those of a worker's cuts that were freed, in the order of the frees; and
+-- those that wait, in the order of the cuts
 abbrev pub freed_of : ℕ → List Turn → List NodeId
 freed_of w turns = filter (is_among (cuts_of w turns)) (freed_by turns)
 
 abbrev pub waits_of : ℕ → List Turn → List NodeId
 waits_of w turns = filter (λ n. not (is_among (freed_by turns) n)) (cuts_of w turns)
 
--- of each worker, what was freed and then what waits of its cuts are its cuts, in their order;
--- nothing else is freed; and no node, a slot with its birth, is cut twice
+-- for each worker, its freed nodes followed by those that wait are its cuts, in their order. Only
+-- nodes that were cut are freed, and no node (a slot with its birth) is cut twice
 pub record AreFreedInTurn (turns : List Turn) : Type 0 where
   pub queues : (w : ℕ) → freed_of w turns ++ waits_of w turns ≡ cuts_of w turns
   pub only : (n : NodeId) → Contains (freed_by turns) n → (w : ℕ) × Contains (cuts_of w turns) n
@@ -156,13 +158,13 @@ pub record AreFreedInTurn (turns : List Turn) : Type 0 where
 
 -- ---- grace
 
--- a sight, for a call or for none, that was answered `pinned`
+-- a sight (epoch read), for a call or for none, that was answered `pinned`
 abbrev pub confirms : Event → Result Reply Refused → Bool
 confirms Sight (Ok (Pinned e)) = true
 confirms (SightFor op key) (Ok (Pinned e)) = true
 confirms _ _ = false
 
--- a leave, with an answer or without
+-- a leave (unpin), with an answer or without
 abbrev pub departs : Event → Result Reply Refused → Bool
 departs Leave (Ok Departed) = true
 departs (LeaveWith answer) (Ok Departed) = true
@@ -176,8 +178,8 @@ leaves w t = (t.worker == w) && departs t.event t.outcome
 abbrev pub HasLeft : ℕ → List Turn → Type 0
 HasLeft w turns = list_any (leaves w) turns ≡ true
 
--- after these turns a worker is pinned: it has confirmed a pin, and not left since (Fraser, section
--- 5.2.3)
+-- after these turns a worker is pinned: it has confirmed a pin, and has not left after that
+-- (Fraser, section 5.2.3)
 pub record IsPinned (w : ℕ) (turns : List Turn) : Type 0 where
   pub before : List Turn
   pub sight : Turn
@@ -187,8 +189,8 @@ pub record IsPinned (w : ℕ) (turns : List Turn) : Type 0 where
   pub pins : confirms sight.event sight.outcome ≡ true
   pub stays : HasLeft w since → ⊥
 
--- where a node is cut by one turn and freed by a later one, each worker that was pinned at the cut,
--- the remover too, has left between the two (Fraser, section 5.2.3)
+-- if a node is cut by one turn and freed by a later one, each worker that was pinned at the cut,
+-- including the remover, has left between the two (Fraser, section 5.2.3)
 abbrev pub Grace : List Turn → Type 0
 Grace turns = (before between rest : List Turn) (cut free : Turn) (n : NodeId) → turns ≡ before ++ cut ∷ (between ++ free ∷ rest)
     → Contains (nodes_cut_of cut.outcome) n → Contains (nodes_freed_of free.outcome) n
@@ -196,26 +198,26 @@ Grace turns = (before between rest : List Turn) (cut free : Turn) (n : NodeId) �
 
 -- ---- places
 
--- a turn takes a slot into its worker's hands by a won claim
+-- by a won claim a worker takes a slot into its hands
 abbrev pub takes : Event → Result Reply Refused → ℕ → Bool
 takes (Claim s) (Ok (Claimed t)) x = x == s
 takes _ _ x = false
 
--- and lets go of it where it gives it back, or links it: the new node of a won link, and both slots
--- to which its edges lead, of which one is the new leaf
+-- a worker lets go of a slot if it gives the slot back or links it. A won link lets go of the new
+-- node, and of both slots to which the new node's edges lead: the new leaf is one of them
 abbrev pub lets_go : Memory → Event → Result Reply Refused → ℕ → Bool
 lets_go m (Give s) (Ok (Returned t)) x = x == s
 lets_go m (Link p side leaf new) (Ok (Linked n)) x = (x == new) || ((x == child m new Left) || (x == child m new Right))
 lets_go m _ _ x = false
 
--- whether a worker has a slot in its hands after these turns, by the words and by what it had
--- before them
+-- whether a worker has a slot in its hands after these turns, by the words and by whether it had
+-- the slot before them
 abbrev pub has_after : Memory → ℕ → ℕ → Bool → List Turn → Bool
 has_after m w x had [] = had
 has_after m w x had (t ∷ ts) = has_after (after_turn m t) w x (if t.worker == w then takes t.event t.outcome x || (had && not (lets_go m t.event t.outcome x)) else had) ts
 
--- where a slot may be: in the pool, in a worker's hands, at the end of a path from the root, or at
--- an index of what waits of a worker's cuts
+-- the places of a slot: in the pool, in a worker's hands, at the end of a path from the root, or at
+-- an index of those of a worker's cuts that wait
 pub data Place : Type 0 where
   InPool : Place
   InHands : ℕ → Place
@@ -229,24 +231,25 @@ StandsAt L turns x (InHands w) = has_after (opening L) w x false turns ≡ true
 StandsAt L turns x (OnPath path) = at (words_after L turns) path ≡ x
 StandsAt L turns x (Waits w i) = option_map (λ (n : NodeId). n.slot) (slice_get (waits_of w turns) i) ≡ Some x
 
--- it is at exactly one of these
+-- the slot is in exactly one place
 pub record OnePlace (L : Layout) (turns : List Turn) (x : ℕ) : Type 0 where
   pub place : Place
   pub here : StandsAt L turns x place
   pub only : (there : Place) → StandsAt L turns x there → there ≡ place
 
--- only its holder stores in a node
+-- only the worker that has a slot in its hands stores in the slot's fields
 abbrev pub OnlyHoldersStore : Layout → List Turn → Type 0
 OnlyHoldersStore L turns = (before rest : List Turn) (t : Turn) (s v : ℕ) (f : Field) → turns ≡ before ++ t ∷ rest → t.event ≡ Fill s f v → t.outcome ≡ Ok Filled
     → has_after (opening L) t.worker s false before ≡ true
 
--- a slot that paths from the root reach has a greater birth than each node of it that was cut
+-- a slot that a path from the root reaches has a greater birth than each node in that slot that was
+-- cut (the birth is the node's generation)
 abbrev pub WhatIsReachedIsYounger : Layout → List Turn → Type 0
 WhatIsReachedIsYounger L turns = (w : ℕ) (n : NodeId) → Contains (cuts_of w turns) n → Reached (words_after L turns) n.slot → n.birth < (node (words_after L turns) n.slot).birth
 
--- ---- what workers stand on
+-- ---- what workers touch
 
--- the slots of which an event reads or exchanges a word, and the nodes that a link, a flag or a
+-- the slots with a word that an event reads or exchanges, and the nodes that a link, a flag or a
 -- splice names
 abbrev pub touched : Event → List ℕ
 touched (Look s f) = s ∷ []
@@ -256,9 +259,9 @@ touched (Tag p side) = p ∷ []
 touched (Splice a side s p keep) = a ∷ s ∷ p ∷ []
 touched _ = []
 
--- the node of which a reply tells an edge, and the slot to which that leads: the edge that was
--- looked at or tagged, the one that was found in place of the wanted one, and behind a won link the
--- one to the new node
+-- the node whose edge a reply returns, and the slot to which this edge leads. It is the edge that
+-- was looked at or tagged, or the one that an exchange found in place of the expected one. After a
+-- won link it is the edge to the new node
 abbrev pub edge_told : Event → Result Reply Refused → Option (ℕ × ℕ)
 edge_told (Look s (EdgeOn side)) (Ok (EdgeIs e)) = Some (s, e.slot)
 edge_told (Link p side leaf new) (Ok (Linked n)) = Some (p, new)
@@ -268,8 +271,8 @@ edge_told (Tag p side) (Ok (Was e)) = Some (p, e.slot)
 edge_told (Splice a side s p keep) (Ok (Lost e)) = Some (a, e.slot)
 edge_told _ _ = None
 
--- a worker was told of a slot, and has not left since: it was pinned, and a reply told it an edge
--- to that slot, of a node that it had not in its hands
+-- a worker has learned of a slot, and has not left after that: it was pinned, and a reply returned
+-- an edge to that slot, of a node that was not in its hands
 pub record WasTold (L : Layout) (w x : ℕ) (turns : List Turn) : Type 0 where
   pub before : List Turn
   pub told : Turn
@@ -282,46 +285,48 @@ pub record WasTold (L : Layout) (w x : ℕ) (turns : List Turn) : Type 0 where
   pub free : has_after (opening L) w from false before ≡ false
   pub stays : HasLeft w since → ⊥
 
--- a worker that touches a slot other than 1 and 2, with which each walk begins, and has it not in
--- its hands, was told of it under the pin that stands
+-- a worker touches a slot other than 1 and 2, which it does not have in its hands, only after it
+-- has learned of the slot under its present pin. Each walk begins with slots 1 and 2
 abbrev pub OnlyWhatWasToldIsTouched : Layout → List Turn → Type 0
 OnlyWhatWasToldIsTouched L turns = (before rest : List Turn) (t : Turn) (r : Reply) (x : ℕ) → turns ≡ before ++ t ∷ rest → t.outcome ≡ Ok r → Contains (touched t.event) x → 3 ≤ x
     → has_after (opening L) t.worker x false before ≡ false → WasTold L t.worker x before
 
--- a slot is neither in the pool nor in anybody's hands, and is the node that it was
+-- a slot is neither in the pool nor in a worker's hands, and has the birth that it had
 pub record IsStill (L : Layout) (was now : List Turn) (x : ℕ) : Type 0 where
   pub pooled : in_pool (words_after L now) x ≡ false
   pub in_hands : (w : ℕ) → has_after (opening L) w x false now ≡ false
   pub birth : (node (words_after L now) x).birth ≡ (node (words_after L was) x).birth
 
--- what a worker was told of is still the node that it was then, in the tree or waiting, for as long
--- as the worker has not left
+-- until a worker leaves, a slot that it has learned of is the same node as then, and neither in the
+-- pool nor in a worker's hands
 abbrev pub WhatWasToldStays : Layout → List Turn → Type 0
 WhatWasToldStays L turns = (w x : ℕ) (o : WasTold L w x turns) → IsStill L o.before turns x
 
--- ---- the theorem, of the turns of a run from the empty tree on
+-- ---- the theorem, for the turns of a run from the empty tree on
 
--- the theorem, of the turns of a run
+-- the theorem, for the turns of a run
 pub record Headline (L : Layout) (turns : List Turn) : Type 0 where
   -- what is read is what the turns have written
   pub reads : (before rest : List Turn) (t : Turn) (r : Reply) → turns ≡ before ++ t ∷ rest → t.outcome ≡ Ok r → TellsWhatStands (words_after L before) t.event r
-  -- each turn cuts just the nodes that it says it cut
+  -- each turn cuts exactly the nodes that its reply names as cut
   pub cuts : (before rest : List Turn) (t : Turn) → turns ≡ before ++ t ∷ rest → CutsItsNodes (words_after L before) t
-  -- at each moment what was freed and then what waits of each worker's cuts are these cuts, in
-  -- their order, and no node is cut twice
+  -- at each moment each worker's freed nodes followed by those that wait are its cuts, in their
+  -- order, and no node is cut twice
   pub queues : (so_far rest : List Turn) → turns ≡ so_far ++ rest → AreFreedInTurn so_far
-  -- nothing is freed while a worker that was pinned at its cut has not left
+  -- no node is freed before each worker that was pinned at its cut has left
   pub grace : Grace turns
-  -- a worker touches what it was told of under its pin
+  -- a worker touches only slots that it has learned of under its pin, apart from slots 1 and 2 and
+  -- those in its hands
   pub told : OnlyWhatWasToldIsTouched L turns
-  -- and at each moment that is the node that it was when it was told, until the worker leaves
+  -- at each moment such a slot is the same node as when the worker learned of it, until the worker
+  -- leaves
   pub stays : (so_far rest : List Turn) → turns ≡ so_far ++ rest → WhatWasToldStays L so_far
-  -- at each moment the five fixed slots are in no pool, in nobody's hands, and as they were at
-  -- first
+  -- at each moment the five fixed slots are neither in the pool nor in a worker's hands, and have
+  -- the births that they had at first
   pub fixed : (so_far rest : List Turn) → turns ≡ so_far ++ rest → (x : ℕ) → x ≤ 5 → IsStill L [] so_far x
-  -- only its holder stores in a node
+  -- only the worker that has a slot in its hands stores in the slot's fields
   pub stores : OnlyHoldersStore L turns
-  -- at each moment a slot in the tree is younger than each node of it that was cut
+  -- at each moment a slot in the tree has a greater birth than each node in it that was cut
   pub younger : (so_far rest : List Turn) → turns ≡ so_far ++ rest → WhatIsReachedIsYounger L so_far
-  -- at each moment each slot above the five fixed ones is in one place
+  -- at each moment each slot above the five fixed ones is in exactly one place
   pub places : (so_far rest : List Turn) → turns ≡ so_far ++ rest → (x : ℕ) → 6 ≤ x → x ≤ L.nodes → OnePlace L so_far x

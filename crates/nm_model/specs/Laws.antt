@@ -1,5 +1,5 @@
--- The laws of all runs, of the states that they come to. What a list of turns alone tells stands on
--- the page (`Headline`), and is taken from there.
+-- The laws of all runs, about the states that they reach. The laws of a list of turns alone are on
+-- the page (`Headline`), and are taken from there.
 use Rattle.std.specs.Prelude.{◌≡◌, ℕ, ◌+◌, ◌<◌, ◌≤◌, ◌⊎◌, List, [], ◌∷◌, ◌++◌, map, filter, slice_get, Contains, Some, IsSome, Ok}
 use Rattle.nm_edge.specs.Layouts.{Layout}
 use Rattle.nm_edge.specs.declared.edge.Side.{Side}
@@ -16,14 +16,14 @@ use Rattle.nm_model.specs.Paths.{Reached}
 pub use Rattle.nm_model.specs.Headline.{slots_of, nodes_cut_of, nodes_freed_of, cuts_of, freed_by, is_among, freed_of, CutsJust, HasLeft}
 use Rattle.nm_model.specs.Runs.{State, of, start, after, trace, next, outcome}
 
--- in every run, of every state
+-- it holds in every state of every run, if there are nodes for the fixed part of the tree
 abbrev pub OfEachState : (State → Type 0) → Type 0
 OfEachState P = (L : Layout) → 5 ≤ L.nodes → (turns : List (ℕ × Event)) → P (after (start L) turns)
 
 -- ---- runs
 
--- `StatesJoin`, `TracesJoin`: running the rest from where the first events lead gives the state,
--- and the trace, of one run of all
+-- `StatesJoin`, `TracesJoin`: a run of the first events, followed by a run of the others from the
+-- state reached, gives the state, and the trace, of one run of all
 abbrev pub StatesJoin : Type 0
 StatesJoin = (s : State) (ts us : List (ℕ × Event)) → after s (ts ++ us) ≡ after (after s ts) us
 
@@ -38,29 +38,29 @@ abbrev pub PinsAreNear : State → Type 0
 PinsAreNear s = (w e : ℕ) → (of s w).brief.pin ≡ Some e
     → (s.memory.epoch ≡ e) ⊎ (s.memory.epoch ≡ e + 1)
 
--- in every run, whatever the workers do and in whatever order
+-- this holds in every run, for all events of the workers in every order
 abbrev pub PinsStayNear : Type 0
 PinsStayNear = (L : Layout) (turns : List (ℕ × Event)) → PinsAreNear (after (start L) turns)
 
 -- ---- cuts
 
--- each node has the birth that stands in its slot
+-- each node has the birth that is in its slot
 abbrev pub NamesBirths : State → List NodeId → Type 0
 NamesBirths before ns = ns ≡ map (named before.memory) (slots_of ns)
 
--- of every splice that is won in a state: that state, its successor, the nodes of its reply and the
--- state after it
+-- it holds for every splice that is won in a state: for that state, its successor, the nodes of its
+-- reply and the state after it
 abbrev pub OfEachCut : (State → ℕ → List NodeId → State → Type 0) → State → Type 0
 OfEachCut P s = (w a : ℕ) (side : Side) (successor parent : ℕ) (keep : Side) (ns : List NodeId)
     → outcome s (w, Splice a side successor parent keep) ≡ Ok (Cut ns)
     → P s successor ns (next s (w, Splice a side successor parent keep))
 
--- a turn that does not answer a cut cuts nothing
+-- a turn whose reply is not a cut cuts nothing
 abbrev pub NothingElseCuts : State → Type 0
 NothingElseCuts s = (turn : ℕ × Event) → ((ns : List NodeId) → outcome s turn ≡ Ok (Cut ns) → ⊥)
     → (x : ℕ) → Reached s.memory x → Reached (next s turn).memory x
 
--- no event but a splice answers a cut
+-- only a splice has a cut as its reply
 abbrev pub OnlySplicesAnswerCuts : State → Type 0
 OnlySplicesAnswerCuts s = (turn : ℕ × Event) (ns : List NodeId) → outcome s turn ≡ Ok (Cut ns)
     → (a : ℕ) × (side : Side) × (successor : ℕ) × (parent : ℕ) × (keep : Side)
@@ -68,19 +68,19 @@ OnlySplicesAnswerCuts s = (turn : ℕ × Event) (ns : List NodeId) → outcome s
 
 -- ---- ledgers
 
--- one worker holds the ledger of an origin, and no other
+-- exactly one worker holds the ledger of an origin
 pub record OneHolder (s : State) (origin : ℕ) : Type 0 where
   pub holder : ℕ
   pub is_worker : holder < s.layout.workers
   pub holds : IsSome (held (of s holder).ledgers origin)
   pub only : (w : ℕ) → IsSome (held (of s w).ledgers origin) → w ≡ holder
 
--- in every run, of every origin
+-- this holds in every run, for every origin
 abbrev pub EachLedgerHasOneHolder : Type 0
 EachLedgerHasOneHolder = (L : Layout) (turns : List (ℕ × Event)) (origin : ℕ) → origin < L.workers
     → OneHolder (after (start L) turns) origin
 
--- in every run, of the ledger of every origin, whoever holds it then
+-- it holds in every run, for the ledger of every origin, whichever worker holds it then
 abbrev pub OfEachLedger : (ℕ → List Turn → Ledger → Type 0) → Type 0
 OfEachLedger P = (L : Layout) (turns : List (ℕ × Event)) (w origin : ℕ) (l : Ledger)
     → held (of (after (start L) turns) w).ledgers origin ≡ Some l
@@ -89,37 +89,37 @@ OfEachLedger P = (L : Layout) (turns : List (ℕ × Event)) (w origin : ℕ) (l 
 abbrev pub node_in : Queued → NodeId
 node_in e = e.node
 
--- what was retired is what was freed and then what waits, in this order
+-- the retired nodes are the freed ones followed by those that wait, in this order
 abbrev pub IsFreedThenQueue : Ledger → Type 0
 IsFreedThenQueue l = l.retired ≡ l.freed ++ map node_in l.queue
 
--- what was retired are the nodes that the origin's splices cut, in this order
+-- the retired nodes are those that the origin's splices cut, in this order
 abbrev pub IsTheCuts : ℕ → List Turn → Ledger → Type 0
 IsTheCuts origin turns l = l.retired ≡ cuts_of origin turns
 
--- in every run, of every ledger, where there are nodes for the fixed part of the tree
+-- it holds in every run, for every ledger, if there are nodes for the fixed part of the tree
 abbrev pub OfEachLedgerOfATree : (ℕ → List Turn → Ledger → Type 0) → Type 0
 OfEachLedgerOfATree P = (L : Layout) → 5 ≤ L.nodes
     → (turns : List (ℕ × Event)) (w origin : ℕ) (l : Ledger)
     → held (of (after (start L) turns) w).ledgers origin ≡ Some l
     → P origin (trace (start L) turns) l
 
--- the nodes that gives freed of those that are among these, in the order of the gives
+-- those of these nodes that gives freed, in the order of the gives
 abbrev pub freed_among : List NodeId → List Turn → List NodeId
 freed_among ns turns = filter (is_among ns) (freed_by turns)
 
--- what was freed are the nodes that gives freed of those that the origin's splices cut, in this
--- order
+-- the freed nodes are those of the origin's cuts that gives freed, in the order of the gives
 abbrev pub IsTheFrees : ℕ → List Turn → Ledger → Type 0
 IsTheFrees origin turns l = l.freed ≡ freed_of origin turns
 
--- so what was freed and then what waits, by the turns: a node leaves a queue by such a give alone
+-- the nodes that gives freed, followed by those in the queue, are the origin's cuts: a node leaves
+-- a queue only by such a give
 abbrev pub FreesThenQueueAreTheCuts : ℕ → List Turn → Ledger → Type 0
 FreesThenQueueAreTheCuts origin turns l =
     freed_of origin turns ++ map node_in l.queue ≡ cuts_of origin turns
 
--- a node is freed from the front of a queue that the worker holds, and is the next that was freed
--- there
+-- a node is freed from the front of a queue that the worker holds, and becomes the last freed node
+-- of that ledger
 pub record FreesAFront (s : State) (turn : ℕ × Event) (n : NodeId) : Type 0 where
   pub origin : ℕ
   pub before : Ledger
@@ -136,17 +136,17 @@ abbrev pub EachFreeTakesAFront : State → Type 0
 EachFreeTakesAFront s = (turn : ℕ × Event) (n : NodeId) → outcome s turn ≡ Ok (Freed n)
     → FreesAFront s turn n
 
--- no node, a slot with its birth, stands twice over the retired nodes of all ledgers
+-- no node (a slot with its birth) is twice among the retired nodes of all ledgers
 abbrev pub NoNodeTwice : State → Type 0
 NoNodeTwice s = (w v origin other i j : ℕ) (l m : Ledger) (n : NodeId)
     → held (of s w).ledgers origin ≡ Some l → held (of s v).ledgers other ≡ Some m
     → slice_get l.retired i ≡ Some n → slice_get m.retired j ≡ Some n → (origin ≡ other) × (i ≡ j)
 
--- what an origin's ledger retired grew by the nodes that its splices cut in these turns
+-- the retired nodes of an origin's ledger grew by those that its splices cut in these turns
 abbrev pub GrewByTheCuts : ℕ → List Turn → Ledger → Ledger → Type 0
 GrewByTheCuts origin turns before after = after.retired ≡ before.retired ++ cuts_of origin turns
 
--- so over each run, whoever holds it
+-- this holds over each run, whichever worker holds the ledger
 abbrev pub RetiredGrowsByTheCuts : State → Type 0
 RetiredGrowsByTheCuts s = (turns : List (ℕ × Event)) (w v origin : ℕ) (l m : Ledger)
     → held (of s w).ledgers origin ≡ Some l → held (of (after s turns) v).ledgers origin ≡ Some m
@@ -154,8 +154,8 @@ RetiredGrowsByTheCuts s = (turns : List (ℕ × Event)) (w v origin : ℕ) (l m 
 
 -- ---- grace
 
--- where a node is cut by one turn and freed by a later one, each worker that was pinned at the cut,
--- the remover too, left between the two
+-- if a node is cut by one turn and freed by a later one, each worker that was pinned at the cut,
+-- including the remover, left between the two
 abbrev pub GraceHolds : State → Type 0
 GraceHolds s = (cut : ℕ × Event) (between : List (ℕ × Event)) (free : ℕ × Event) (ns : List NodeId)
     (n : NodeId) (w e : ℕ)

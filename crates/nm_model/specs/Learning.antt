@@ -1,4 +1,5 @@
--- How an event that a worker made, with its reply, adds to what it knows. Nothing else does.
+-- How an event with its reply changes what a worker knows. Only its own events do, and joins in
+-- which it takes part.
 use Rattle.std.specs.Prelude.{ℕ, ◌==◌, Bool, true, false, List, [], ◌∷◌, length, replicate, slice_set, if◌then◌else◌, Option, Some, None, unwrap_or}
 use Rattle.nm_edge.specs.Edges.{Edge, tagged}
 use Rattle.nm_edge.specs.declared.edge.Side.{Side}
@@ -17,11 +18,11 @@ use Rattle.nm_model.specs.declared.ledger.Ledger.{Ledger}
 use Rattle.nm_model.specs.Ledgers.{retire, label, free, taken_over}
 use Rattle.nm_model.specs.Knowledge.{Knowledge, unread, unfilled, is_private, seen_of, draft_of, beside}
 
--- nobody is scanned
+-- no worker counts as scanned
 abbrev pub forgotten : List Bool → List Bool
 forgotten marks = replicate (length marks) false
 
--- the epoch was read: scans at another one are forgotten
+-- the epoch was read; scans at another epoch are forgotten
 abbrev pub saw : Knowledge → ℕ → Knowledge
 saw k e = record k {
   brief = record k.brief { seen = Some e };
@@ -29,7 +30,7 @@ saw k e = record k {
       then k.scanned else forgotten k.scanned;
 }
 
--- `labelling`, `pinned`: what waited for its label has this one; the worker is pinned, and knows
+-- `labelling`, `pinned`: the entries without a label get this one; the worker is pinned, and knows
 -- slots 1 and 2
 abbrev pub labelling : Knowledge → ℕ → Knowledge
 labelling k e = record k {
@@ -44,7 +45,7 @@ rooted = (1, unread) ∷ (2, unread) ∷ []
 abbrev pub pinned : Knowledge → ℕ → Knowledge
 pinned k e = record k { brief = record k.brief { pin = Some e }; known = rooted }
 
--- what a sight teaches, by its answer
+-- what a worker learns by a sight (epoch read), by its answer
 abbrev pub learn_sight : Knowledge → Reply → Knowledge
 learn_sight k (Saw e) = saw k e
 learn_sight k (Labelled e) = labelling (saw k e) e
@@ -52,17 +53,17 @@ learn_sight k (Pinned e) = pinned (saw k e) e
 learn_sight k (Missed e) = saw k e
 learn_sight k _ = k
 
--- the announcement was taken back: all known nodes are forgotten
+-- the announcement was cleared; all known nodes are forgotten
 abbrev pub departed : Knowledge → Knowledge
 departed k = record k { brief = record k.brief { announcement = None; pin = None }; known = [] }
 
--- `scanned`, `moved`: a worker was scanned, and counts or not; the epoch was moved on, and the
--- scans are forgotten
+-- `scanned`, `moved`: a worker was scanned, and counts as scanned or not; the epoch was advanced,
+-- and the scans are forgotten
 abbrev pub scanned : Knowledge → ℕ → Bool → Knowledge
 scanned k u counts = record k { scanned = slice_set k.scanned u counts }
 
--- a worker that is idle, or announces the epoch last read, counts as scanned; any other does no
--- more
+-- a worker that is idle, or announces the epoch last read, counts as scanned; any other no longer
+-- does
 abbrev pub learn_scan : Knowledge → ℕ → Reply → Knowledge
 learn_scan k u Idle = scanned k u true
 learn_scan k u (In e) = scanned k u (is_number k.brief.seen e)
@@ -71,7 +72,7 @@ learn_scan k u _ = k
 abbrev pub moved : Knowledge → ℕ → Knowledge
 moved k e = record k { brief = record k.brief { seen = Some e }; scanned = forgotten k.scanned }
 
--- a slot is known from now on, if it is one
+-- a slot is known from now on, unless it is 0
 abbrev pub met : List (ℕ × Seen) → ℕ → List (ℕ × Seen)
 met m s = if s == 0 then m else if has m s then m else put m s unread
 
@@ -79,13 +80,13 @@ abbrev pub with_read : Seen → Side → Edge → Seen
 with_read n Left e = record n { left = Some e }
 with_read n Right e = record n { right = Some e }
 
--- an edge was read, and its slot is known from now on
+-- an edge was read, and the slot to which it leads is known from now on
 abbrev pub read_edge : Knowledge → ℕ → Side → Edge → Knowledge
 read_edge k s side e = record k
     { known = put (met k.known e.slot) s (with_read (seen_of k s) side e) }
 
--- `look_known`, `look_private`, `looked`: what a look teaches of a known node, of a private slot,
--- and of either
+-- `look_known`, `look_private`, `looked`: what a worker learns by a look at a known node, at a
+-- private slot, and at either
 abbrev pub look_known : Knowledge → ℕ → Field → Reply → Knowledge
 look_known k s (EdgeOn side) (EdgeIs e) = read_edge k s side e
 look_known k s Birth (BirthIs b) =
@@ -100,14 +101,14 @@ look_private k s _ _ = k
 abbrev pub looked : Knowledge → ℕ → Field → Reply → Knowledge
 looked k s f r = if is_private k s then look_private k s f r else look_known k s f r
 
--- a field was stored. A birth that was looked at before the birth was stored is forgotten
+-- a field was stored. If it is the birth, the birth that was read before is forgotten
 abbrev pub filled_in : Draft → Field → ℕ → Draft
 filled_in d Key v = record d { key = Some v }
 filled_in d (EdgeOn Left) v = record d { left = Some v }
 filled_in d (EdgeOn Right) v = record d { right = Some v }
 filled_in d Birth v = record d { looked = None; birth = Some v }
 
--- the new node and the new leaf are private no longer
+-- the new node and the new leaf are no longer private; the new node is known
 abbrev pub linked_in : Knowledge → ℕ → ℕ → Knowledge
 linked_in k leaf new = record k {
   known = met k.known new;
@@ -133,8 +134,9 @@ inheriting k ls = record k { ledgers = taken_over k.ledgers ls }
 abbrev pub resigned : Knowledge → Knowledge
 resigned k = record k { ledgers = replicate (length k.ledgers) None; gone = true }
 
--- what worker w knows after an event with its reply, one line a case; nobody else learns anything.
--- A join stands in both logs, both learn of it, and the own number tells the leaver from the heir
+-- what worker w knows after an event with its reply, one line for each case; no other worker learns
+-- anything. A join is in the logs of both workers, and both learn of it. By its own number a worker
+-- finds whether it is the leaver or the heir
 unfoldable pub learn : ℕ → Knowledge → Event → Reply → Knowledge
 learn w k Sight r = learn_sight k r
 learn w k (SightFor op key) r = learn_sight k r

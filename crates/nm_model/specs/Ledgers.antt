@@ -1,4 +1,4 @@
--- What one worker's splices cut off, by origin: what was freed of it, and what waits.
+-- Ledgers by origin: what one worker's splices cut off, what of it was freed, and what waits.
 use Rattle.std.specs.Prelude.{ℕ, List, [], ◌∷◌, ◌++◌, map, drop, if◌then◌else◌, slice_index_or, slice_set, Option, Some, None, is_some, option_map}
 use Rattle.nm_edge.specs.declared.node.NodeId.{NodeId}
 use Rattle.nm_model.specs.declared.ledger.Queued.{Queued}
@@ -10,7 +10,7 @@ pub use Rattle.nm_model.specs.Queues.{front_at, entry_at, unlabelled, with_label
 abbrev pub fresh_ledger : Ledger
 fresh_ledger = record { retired = []; freed = []; queue = [] }
 
--- the ledgers that a worker holds, by origin: the worker whose splices cut the nodes
+-- the ledger of an origin, if it is held; the origin is the worker whose splices cut the nodes
 abbrev pub held : List (Option Ledger) → ℕ → Option Ledger
 held ls origin = slice_index_or ls origin None
 
@@ -30,7 +30,7 @@ abbrev pub first_of : List (Option Ledger) → ℕ → Option Queued
 first_of [] s = None
 first_of (l ∷ ls) s = or_else (entry_at (queue_of l) s) (first_of ls s)
 
--- the entry of a slot: a front, where there is one
+-- the entry of a slot: a front if there is one, else the first entry
 abbrev pub queued_entry : List (Option Ledger) → ℕ → Option Queued
 queued_entry ls s = or_else (front_of ls s) (first_of ls s)
 
@@ -49,7 +49,7 @@ retire ls origin ns = slice_set ls origin (option_map (with_cut ns) (held ls ori
 abbrev pub labelled : ℕ → Ledger → Ledger
 labelled e l = record { retired = l.retired; freed = l.freed; queue = map (with_label e) l.queue }
 
--- entries without a label get it
+-- entries without a label get this one
 abbrev pub label : ℕ → List (Option Ledger) → List (Option Ledger)
 label e ls = map (option_map (labelled e)) ls
 
@@ -57,15 +57,14 @@ label e ls = map (option_map (labelled e)) ls
 abbrev pub with_freed : NodeId → Ledger → Ledger
 with_freed n l = record { retired = l.retired; freed = l.freed ++ n ∷ []; queue = drop 1 l.queue }
 
--- the node is freed by the first held queue whose front it is: the front of the first one that has
--- the slot there
+-- the node is freed from the first held queue that has the node's slot at its front
 abbrev pub free : List (Option Ledger) → NodeId → List (Option Ledger)
 free [] n = []
 free (l ∷ ls) n = if is_some (front_at (queue_of l) n.slot) then option_map (with_freed n) l ∷ ls
     else l ∷ free ls n
 
--- each ledger of the second list, and where that has none, that of the first: an heir holds each
--- ledger of the leaver under its origin
+-- each ledger of the second list, and that of the first list if the second has none: an heir holds
+-- each ledger of the leaver under its origin
 abbrev pub taken_over : List (Option Ledger) → List (Option Ledger) → List (Option Ledger)
 taken_over [] ms = []
 taken_over (l ∷ ls) [] = l ∷ ls

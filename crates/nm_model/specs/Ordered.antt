@@ -1,5 +1,5 @@
--- Ordered cores: links and flags only where a walk of the own call ended, and answers that the own
--- log shows.
+-- Ordered cores: links and flags only at a place to which a walk of the worker's own call came, and
+-- only answers that the worker's own log shows.
 use Rattle.std.specs.Prelude.{◌≡◌, ℕ, ◌<◌, ◌==◌, nat_lt, nat_le, Bool, true, false, not, ◌&&◌, ◌||◌, List, [], ◌∷◌, if◌then◌else◌, replicate, filter, map, slice_index_or, slice_set, Option, Some, None, is_some, is_none, option_map, unwrap_or, is_ok, IfSome, Result, All}
 use Rattle.std.specs.List.{list_any}
 use Rattle.nm_edge.specs.Keys.{IsKey}
@@ -39,8 +39,8 @@ ended_at k a = a.ended && is_number a.key k
 abbrev pub ended_elsewhere : ℕ → Arrival → Bool
 ended_elsewhere slot a = a.ended && not (a.slot == slot)
 
--- the leaf that was flagged is cut: by an own splice, or since a walk that began after the flag
--- ended elsewhere
+-- the leaf that was flagged is cut: by a splice of the same worker, or because a walk that began
+-- after the flag ended elsewhere
 abbrev pub has_removed : Search → Option NodeId → Bool
 has_removed s None = false
 has_removed s (Some n) = s.cut || list_any (ended_elsewhere n.slot) s.later
@@ -60,8 +60,8 @@ shows_call s (Some c) answer = shows s c.op c.key answer
 
 -- ---- links and flags in order
 
--- over a leaf with key v, and a new leaf with key k: the new node has the greater key, and the
--- lesser leaf is on the left (Natarajan and Mittal, section 3.1)
+-- an internal node over a leaf with key v and a new leaf with key k: it has the greater key, and
+-- the lesser leaf is on the left (Natarajan and Mittal, section 3.1)
 abbrev pub is_fork_for : Draft → ℕ → ℕ → ℕ → Bool
 is_fork_for d leaf k v = if nat_lt k v then is_number d.key v && is_number d.right leaf
     else is_number d.key k && is_number d.left leaf
@@ -74,7 +74,7 @@ forks_over d leaf k (Some v) = not (v == k) && is_fork_for d leaf k v
 abbrev pub may_link_at : Draft → ℕ → ℕ → Side → ℕ → Arrival → Bool
 may_link_at d key p side leaf a = is_by leaf p side a && (a.ended && forks_over d leaf key a.key)
 
--- `is_covered`, `narrows`: in a radix tree, a key is in the range of a node whose key was read; and a
+-- `is_covered`, `narrows`: in a radix tree, a key is in the range of a node whose key was read; a
 -- walk for the key goes on from the slot by its edge on the side, within the slot's range
 abbrev pub is_covered : ℕ → Option ℕ → Bool
 is_covered k None = false
@@ -89,31 +89,33 @@ parts d slot k r None = false
 parts d slot k r (Some R) = (covers R k && covers R r)
     && (if nat_lt k R then nat_le R r && is_number d.right slot else nat_lt r R && is_number d.left slot)
 
--- between k and a slot with key r: a leaf with another key, or a slot without k in its range
+-- the new node parts k from a slot with key r: a leaf with another key, or a slot whose range does
+-- not have k
 abbrev pub parts_from : Draft → ℕ → ℕ → Bool → Option ℕ → Bool
 parts_from d slot k leafy None = false
 parts_from d slot k leafy (Some r) =
     (not (r == k) && (leafy || not (covers r k))) && parts d slot k r d.key
 
--- a walk came to the slot, which is known as a leaf or not, by that edge, and the new nodes put k
--- beside it
+-- a walk came to the slot by that edge, and the new nodes put k beside it; the slot is known as a
+-- leaf or not
 abbrev pub may_link_between : Draft → Bool → ℕ → ℕ → Side → ℕ → Arrival → Bool
 may_link_between d leafy key p side slot a =
     is_by slot p side a && parts_from d slot key leafy a.key
 
--- a walk of the call came to where it links: in a radix tree to any slot, by the root's edge or by
--- one within whose node's range the key is
+-- a walk of the call came to the place of its link. In a radix tree this is any slot, reached by
+-- the root's edge or by the edge of a node whose range has the key
 abbrev pub shows_place : Layout → Knowledge → ℕ → ℕ → Side → ℕ → ℕ → List Arrival → Bool
 shows_place L k key p side x new ws =
     if L.radix then (is_first p side || list_any (narrows key p side) ws)
     && list_any (may_link_between (draft_of k new) (knows_leaf k x) key p side x) ws
     else list_any (may_link_at (draft_of k new) key p side x) ws
 
--- the new leaf, of the two nodes under the new internal node the one beside the leaf
+-- the new leaf: of the two nodes under the new internal node, the one beside the leaf
 abbrev pub new_leaf : Knowledge → ℕ → ℕ → Draft
 new_leaf k leaf new = draft_of k (unwrap_or (beside (draft_of k new) leaf) 0)
 
--- a call to insert links once, where a walk of it ended
+-- a call to insert may make this link: it has made none yet, the new leaf has its key, and a walk
+-- of it shows the place
 abbrev pub inserts : Layout → Knowledge → Search → Op → ℕ → ℕ → Side → ℕ → ℕ → Bool
 inserts L k s Insert key p side leaf new =
     not s.linked && (is_number (new_leaf k leaf new).key key
@@ -124,13 +126,13 @@ inserts L k s _ key p side leaf new = false
 abbrev pub may_flag_at : ℕ → ℕ → Side → ℕ → Arrival → Bool
 may_flag_at key p side leaf a = is_by leaf p side a && ended_at key a
 
--- a call to delete flags one leaf, where a walk of it ended
+-- a call to delete may flag this leaf: it has flagged none yet, and a walk of it ended there
 abbrev pub deletes : Search → Op → ℕ → ℕ → Side → ℕ → Bool
 deletes s Delete key p side leaf =
     is_none s.flagged && list_any (may_flag_at key p side leaf) s.walks
 deletes s _ key p side leaf = false
 
--- `links_in_order`, `flags_in_order`: the log shows that the link, or the flag, is one of the call
+-- `links_in_order`, `flags_in_order`: the log shows that the link, or the flag, belongs to the call
 abbrev pub links_in_order : Layout → Knowledge → Search → Option Call → ℕ → Side → ℕ → ℕ → Bool
 links_in_order L k s None p side leaf new = false
 links_in_order L k s (Some c) p side leaf new = inserts L k s c.op c.key p side leaf new
@@ -139,9 +141,10 @@ abbrev pub flags_in_order : Search → Option Call → ℕ → Side → ℕ → 
 flags_in_order s None p side leaf = false
 flags_in_order s (Some c) p side leaf = deletes s c.op c.key p side leaf
 
--- why an event that a plain core allows is refused, if it is, by the own knowledge and the own log:
--- a link or a flag that is not where a walk of the own operation ended, or a leave without the
--- answer that the log shows (from Natarajan and Mittal, section 3.2)
+-- why an ordered core refuses an event that a plain core allows, if it does, by the worker's own
+-- knowledge and log. A link or a flag must be at a place to which a walk of the worker's own
+-- operation came. A leave must have the answer that the log shows, and after a link or a flag it
+-- must have one (from Natarajan and Mittal, section 3.2)
 abbrev pub disorder : Layout → Knowledge → Search → Event → Option Refused
 disorder L k s (Link p side leaf new) =
     first (not (links_in_order L k s s.call p side leaf new) refuses NotOrdered ∷ [])
@@ -153,12 +156,12 @@ disorder L k s _ = None
 
 -- ---- configurations of a core
 
--- a state, and in an ordered core what each worker's log tells of its call
+-- a state, and in an ordered core what each worker's log shows of its call
 pub record Configuration : Type 0 where
   pub state : State
   pub searches : Option (List Search)
 
--- the opening of a plain core, and that of an ordered one
+-- the opening of a plain core
 abbrev pub plain : Layout → Configuration
 plain L = record { state = start L; searches = None }
 
@@ -179,11 +182,11 @@ disorder_among L (Some ss) k w e = disorder L k (search_of ss w) e
 abbrev pub disorder_in : Configuration → ℕ → Event → Option Refused
 disorder_in c w e = disorder_among c.state.layout c.searches (of c.state w) w e
 
--- the least refusal that holds, if one does: a plain core's first
+-- the least refusal that holds, if one does; those of a plain core come first
 unfoldable pub refused_in : Configuration → ℕ → Event → Option Refused
 refused_in c w e = or_else (refused c.state w e) (disorder_in c w e)
 
--- the searches behind an event with its reply
+-- the searches after an event with its reply
 abbrev pub learned_from : List Search → ℕ → Event → Reply → List Search
 learned_from ss w e r = slice_set ss w (searched (search_of ss w) e r)
 
@@ -199,7 +202,7 @@ abbrev pub unless_refused_in : Option Refused → Configuration → Configuratio
 unless_refused_in None c d = d
 unless_refused_in (Some r) c d = c
 
--- the configuration behind an event; what is refused changes nothing
+-- the configuration after an event; what is refused changes nothing
 unfoldable pub next_in : Configuration → ℕ × Event → Configuration
 next_in c t = unless_refused_in (refused_in c t.0 t.1) c (applied_in c t.0 t.1)
 
@@ -220,7 +223,7 @@ trace_in c [] = []
 trace_in c (t ∷ ts) = record { worker = t.0; event = t.1; outcome = outcome_in c t }
     ∷ trace_in (next_in c t) ts
 
--- the opening of a core for that layout, which is ordered or not
+-- the opening of a core for that layout, ordered or not
 abbrev pub opening_of : Layout → Bool → Configuration
 opening_of L true = ordered L
 opening_of L false = plain L
@@ -230,7 +233,7 @@ abbrev pub HasKey : Event → Type 0
 HasKey (SightFor op k) = IsKey k
 HasKey _ = Unit {0}
 
--- a configuration to which some events lead from an opening, where calls are for keys of the set
+-- a configuration that is reached from an opening by events whose calls are for keys of the set
 pub record IsReached (c : Configuration) : Type 0 where
   pub is_ordered : Bool
   pub fits : IsLayout c.state.layout
@@ -254,8 +257,8 @@ accepted turns = filter (λ t. is_ok t.outcome) turns
 abbrev pub turn_of : Turn → ℕ × Event
 turn_of t = (t.worker, t.event)
 
--- an ordered run is a run: the events that it allows lead from state to state as in a plain run,
--- with the same outcomes
+-- the events that an ordered run allowed lead from state to state as in a plain run, with the same
+-- outcomes
 abbrev pub IsRunOfAccepted : State → List Turn → State → Type 0
 IsRunOfAccepted s turns t = (t ≡ after s (map turn_of (accepted turns)))
     × (trace s (map turn_of (accepted turns)) ≡ accepted turns)
@@ -267,7 +270,7 @@ OrderedRunsAreRuns = (c : Configuration) (ts : List (ℕ × Event))
 
 -- ---- searches and logs
 
--- in every run of an ordered core, what it keeps of a worker's call is what that worker's log tells
+-- in every run of an ordered core, what it keeps of a worker's call is what that worker's log shows
 abbrev pub SearchesTellTheLogs : Type 0
 SearchesTellTheLogs = (L : Layout) (ts : List (ℕ × Event)) (w : ℕ) → w < L.workers
     → IfSome (after_in (ordered L) ts).searches

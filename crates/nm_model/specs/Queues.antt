@@ -4,7 +4,7 @@ use Rattle.std.specs.List.{find}
 use Rattle.nm_edge.specs.declared.node.NodeId.{NodeId}
 use Rattle.nm_model.specs.declared.ledger.Queued.{Queued}
 
--- the entry at the front of a queue, where it is of this slot
+-- the entry at the front of a queue, if it is of this slot
 abbrev pub front_at : List Queued → ℕ → Option Queued
 front_at [] s = None
 front_at (e ∷ es) s = if e.node.slot == s then Some e else None
@@ -13,8 +13,8 @@ front_at (e ∷ es) s = if e.node.slot == s then Some e else None
 abbrev pub entry_at : List Queued → ℕ → Option Queued
 entry_at es s = find (λ e. e.node.slot == s) es
 
--- a node as it enters a queue: it has no label yet, which is the epoch that its remover reads after
--- the splice (Fraser, section 5.2.3; labels are ours)
+-- an entry as it enters a queue: it has no label yet. The label is the epoch that its remover reads
+-- after the splice, its retire epoch (Fraser, section 5.2.3; labels are ours)
 abbrev pub unlabelled : NodeId → Queued
 unlabelled n = record { node = n; label = None }
 

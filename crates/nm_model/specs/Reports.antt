@@ -1,5 +1,5 @@
--- A whole run, as it is told: each event with its outcome, and at the end each worker's ledger, the
--- epoch and how many slots above 5 stand where.
+-- The report of a whole run: each event with its outcome, and at the end each worker's ledger, the
+-- epoch and the number of slots above 5 in each place.
 use Rattle.std.specs.Prelude.{ℕ, zero, suc, ◌+◌, ◌-◌, ◌==◌, nat_lt, ◌&&◌, true, false, List, [], ◌∷◌, ◌++◌, map, length, filter, sum_by, Option, Some, None, if◌then◌else◌, is_some}
 use Rattle.std.specs.List.{range_with_len, filter_map}
 use Rattle.nm_edge.specs.Layouts.{Layout}
@@ -29,7 +29,7 @@ holder_from w (k ∷ ks) origin =
 abbrev pub holder : State → ℕ → Option ℕ
 holder s origin = holder_from 0 s.workers origin
 
--- the ledger of an origin, whoever of these holds it
+-- the ledger of an origin, whichever of these workers holds it
 abbrev pub ledger_among : List Knowledge → ℕ → Option Ledger
 ledger_among [] origin = None
 ledger_among (k ∷ ks) origin = or_else (held k.ledgers origin) (ledger_among ks origin)
@@ -48,19 +48,19 @@ tree_slots (suc fuel) m s = elim (s == 0) [
       ++ tree_slots fuel m (child m s Right)
 ]
 
--- how many slots are private to these workers
+-- the number of slots that are private to these workers
 abbrev pub all_private : List Knowledge → ℕ
 all_private ks = sum_by (λ k. length k.drafts) ks
 
--- how many entries wait in these queues
+-- the number of entries that wait in these queues
 abbrev pub in_queues : List (Option Ledger) → ℕ
 in_queues ls = sum_by (λ l. length (queue_of l)) ls
 
--- how many entries wait in the queues that these workers hold
+-- the number of entries that wait in the queues that these workers hold
 abbrev pub all_queued : List Knowledge → ℕ
 all_queued ks = sum_by (λ k. in_queues k.ledgers) ks
 
--- how many slots above 5 are in the pool, private, reached and queued
+-- the numbers of the slots above 5 that are in the pool, private, reached and queued
 abbrev pub counts : State → Places
 counts s = record {
   pool = length (filter (λ free. free) s.memory.pool);
@@ -71,7 +71,7 @@ counts s = record {
 
 -- ---- the keys of the set
 
--- the key of a leaf, without those of the fixed leaves
+-- the key of a leaf, unless it is that of a fixed leaf
 abbrev pub set_key : Node → Option ℕ
 set_key n = if is_leaf n && nat_lt n.key infinity_0 then Some n.key else None
 
@@ -90,7 +90,7 @@ keys s = keys_below s.layout.nodes s.memory 1
 
 -- ---- the report
 
--- `Report`, `report_of`: what a run tells at its end
+-- `Report`, `report_of`: what is reported at the end of a run
 pub record Report : Type 0 where
   pub trace : List Turn
   pub ledgers : List (Option Ledger)
@@ -114,7 +114,7 @@ pub record OrderedReport : Type 0 where
   pub report : Report
   pub keys : List ℕ
 
--- `ordered_report_of`, `ordered_report`: the same of an ordered run, with its keys
+-- `ordered_report_of`, `ordered_report`: the report of an ordered run, with its keys
 abbrev pub ordered_report_of : List Turn → Configuration → OrderedReport
 ordered_report_of turns c = record { report = report_of turns c.state; keys = keys c.state }
 

@@ -1,5 +1,5 @@
--- Searches as the code keeps them: with the room of their lists. What they tell is in Searches, and
--- what an ordered core is in Ordered.
+-- Searches as the code keeps them, with the capacity of their lists. What a search knows is in
+-- Searches, and what an ordered core is in Ordered.
 use Rattle.std.specs.Prelude.{ℕ, ◌<◌, List, map, length, slice_index_or, Some}
 use Rattle.nm_model.specs.declared.event.Event.{Event}
 use Rattle.nm_model.specs.declared.event.Event.TheVariants.{Look}
@@ -7,7 +7,7 @@ use Rattle.nm_model.specs.Searches.{Search, idle}
 use Rattle.nm_model.specs.Runs.{State}
 use Rattle.nm_model.specs.Ordered.{Configuration}
 
--- a search, and how many arrivals its two lists have room for
+-- a search, and the capacities of its two lists of arrivals
 pub record Roomy : Type 0 where
   pub tells : Search
   pub room : ℕ
@@ -24,11 +24,11 @@ pub record HasRoom (s : Roomy) : Type 0 where
   pub walks : length s.tells.walks < s.room
   pub later : length s.tells.later < s.later_room
 
--- only a look takes room
+-- only a look needs room
 abbrev pub HasRoomFor : Event → Roomy → Type 0
 HasRoomFor (Look slot field) s = HasRoom s
 HasRoomFor e s = Unit {0}
 
--- an ordered core
+-- an ordered core with these searches
 abbrev pub in_order : State → List Roomy → Configuration
 in_order s ss = record { state = s; searches = Some (searches_of ss) }

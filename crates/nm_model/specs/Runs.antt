@@ -34,18 +34,18 @@ start L = record {
 
 -- ---- one event
 
--- a worker that there is not, or that has resigned
+-- a worker that does not exist, or that has resigned
 abbrev pub is_no_worker : State → ℕ → Bool
 is_no_worker s w = nat_le s.layout.workers w || (of s w).gone
 
--- a worker passes its ledgers to another, which is there, only with empty hands: no private slot
--- and no unlabelled cut
+-- a worker passes its ledgers to another worker, which must exist. It may do so only if it has no
+-- private slot and no unlabelled cut
 abbrev pub join_refusal : State → ℕ → ℕ → Option Refused
 join_refusal s w v = first (
     ((v == w) || is_no_worker s v) refuses NoWorker
     ∷ (not (length (of s v).drafts == 0) || (of s v).brief.unlabelled) refuses NotReady ∷ [])
 
--- why an event is refused in a state, joins too
+-- why an event is refused in a state, including a join
 abbrev pub refusal_of : State → ℕ → Event → Option Refused
 refusal_of s w (Join v) = join_refusal s w v
 refusal_of s w e = refusal s.layout s.memory (of s w) w e
@@ -54,12 +54,12 @@ refusal_of s w e = refusal s.layout s.memory (of s w) w e
 unfoldable pub refused : State → ℕ → Event → Option Refused
 refused s w e = if is_no_worker s w then Some NoWorker else refusal_of s w e
 
--- what an event answers in a state, joins too
+-- the reply to an event in a state, including a join
 abbrev pub reply_of : State → ℕ → Event → Reply
 reply_of s w (Join v) = Joined (of s v).ledgers
 reply_of s w e = reply s.layout s.memory (of s w) e
 
--- a worker learns from its own events alone, but for a join, which both workers learn of
+-- a worker learns only from its own events; but both workers learn of a join
 abbrev pub taught : State → ℕ → Event → Reply → List Knowledge
 taught s w (Join v) r = slice_set (slice_set s.workers w (learn w (of s w) (Join v) r)) v
     (learn v (of s v) (Join v) r)
@@ -78,7 +78,7 @@ abbrev pub unless_refused : Option Refused → State → State → State
 unless_refused None s t = t
 unless_refused (Some r) s t = s
 
--- the state behind an event; what is refused changes nothing
+-- the state after an event; what is refused changes nothing
 unfoldable pub next : State → ℕ × Event → State
 next s t = unless_refused (refused s t.0 t.1) s (applied s t.0 t.1)
 

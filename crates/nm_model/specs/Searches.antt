@@ -1,4 +1,4 @@
--- What one worker's log tells of the operation of its pin: the walks for its key, and what it
+-- What one worker's log shows of the operation of its pin: the walks for its key, and what it
 -- changed.
 use Rattle.std.specs.Prelude.{ℕ, ◌==◌, nat_lt, Bool, true, false, ◌&&◌, ◌||◌, List, [], ◌∷◌, ◌++◌, map, if◌then◌else◌, Option, Some, None, is_none}
 use Rattle.std.specs.List.{list_any}
@@ -16,7 +16,8 @@ use Rattle.nm_model.specs.declared.arrivals.Arrival.{Arrival}
 
 -- ---- walks
 
--- the side of a key at a node with key v: left where it is less (Natarajan and Mittal, section 3.1)
+-- the side of a key at a node with key v: left if the key is less (Natarajan and Mittal, section
+-- 3.1)
 abbrev pub side_of : ℕ → ℕ → Side
 side_of k v = if nat_lt k v then Left else Right
 
@@ -45,9 +46,9 @@ goes_on k slot side a = (a.slot == slot) && turns k a.key side
 abbrev pub is_first : ℕ → Side → Bool
 is_first slot side = (slot == 2) && is_side side Left
 
--- a walk for the key came to a slot by a parent's edge on a side. Its key, once that was looked at
--- afterwards, and whether its edge on the key's side was then read as null, are told later
--- (Natarajan and Mittal, section 3.2, seek, as facts that stay)
+-- a walk for the key came to a slot by a parent's edge on a side. Two facts are added later. One is
+-- the slot's key, if it was read after the arrival. The other is whether the slot's edge on the
+-- key's side was then read as null (Natarajan and Mittal, section 3.2, seek, as facts that stay)
 abbrev pub new_arrival : ℕ → ℕ → Side → Arrival
 new_arrival slot parent side =
     record { slot = slot; parent = parent; side = side; key = None; ended = false }
@@ -57,7 +58,7 @@ abbrev pub with_arrival : List Arrival → ℕ → ℕ → Side → List Arrival
 with_arrival ws slot parent side =
     if list_any (is_by slot parent side) ws then ws else ws ++ new_arrival slot parent side ∷ []
 
--- the slot's key was looked at: each walk that waits for it has it
+-- the slot's key was read: each arrival that waits for it gets it
 abbrev pub keyed : ℕ → ℕ → Arrival → Arrival
 keyed slot v a = if (a.slot == slot) && is_none a.key then record a { key = Some v } else a
 
@@ -73,7 +74,7 @@ walk_edge k ws slot side child =
     then with_arrival ws child slot side
     else ws
 
--- how a look adds to the walks for k
+-- what a look adds to the walks for k
 abbrev pub walked : ℕ → List Arrival → ℕ → Field → Reply → List Arrival
 walked k ws slot Key (KeyIs v) = map (keyed slot v) ws
 walked k ws slot (EdgeOn side) (EdgeIs e) = walk_edge k ws slot side e.slot
@@ -82,7 +83,7 @@ walked k ws slot _ _ = ws
 -- ---- a search
 
 -- the call; whether it linked; the leaf that it flagged, and whether a splice of its own cut that
--- leaf; where its walks came, and where those came that began after the flag
+-- leaf; the arrivals of its walks, and those of the walks that began after the flag
 pub record Search : Type 0 where
   pub call : Option Call
   pub linked : Bool
@@ -91,7 +92,7 @@ pub record Search : Type 0 where
   pub walks : List Arrival
   pub later : List Arrival
 
--- no pin, or one without a call
+-- no pin, or a pin without a call
 abbrev pub idle : Search
 idle = record { call = None; linked = false; flagged = None; cut = false; walks = []; later = [] }
 
@@ -113,7 +114,7 @@ abbrev pub left : Search → Reply → Search
 left s Departed = idle
 left s _ = s
 
--- walks after the flag, once there is one
+-- the walks after the flag, if there is one
 abbrev pub later_walked : Option NodeId → ℕ → List Arrival → ℕ → Field → Reply → List Arrival
 later_walked None k ws slot field r = ws
 later_walked (Some n) k ws slot field r = walked k ws slot field r
@@ -143,7 +144,7 @@ abbrev pub spliced : Search → Reply → Search
 spliced s (Cut ns) = record s { cut = s.cut || is_flagged_in s.flagged ns }
 spliced s _ = s
 
--- how an event with its reply adds to a search
+-- what an event with its reply adds to a search
 unfoldable pub searched : Search → Event → Reply → Search
 searched s Sight r = begun s None r
 searched s (SightFor op key) r = begun s (Some (record { op = op; key = key })) r

@@ -1,4 +1,4 @@
--- Turns, edges and nodes in short, for worked runs.
+-- Short forms of turns, edges and nodes, for worked runs.
 use Rattle.std.specs.Prelude.{ℕ, Bool, Result, Ok, List, [], ◌∷◌}
 use Rattle.nm_edge.specs.Edges.{Edge}
 use Rattle.nm_edge.specs.declared.edge.Side.TheVariants.{Left, Right}
@@ -21,11 +21,11 @@ e slot flag tag = record { slot = slot; flag = flag; tag = tag }
 abbrev pub n : ℕ → ℕ → NodeId
 n slot birth = record { slot = slot; birth = birth }
 
--- a worker pins epoch 0 at its first try
+-- a worker pins epoch 0 at its first attempt
 abbrev pub pins : ℕ → List Turn
 pins w = t w Sight (Ok (Saw 0)) ∷ t w Announce (Ok (Announced 0)) ∷ t w Sight (Ok (Pinned 0)) ∷ []
 
--- a worker makes two nodes of slots that held none before: an internal one with that router and
+-- a worker makes two nodes in slots that held none before: an internal node with that router and
 -- those two children, and a leaf with that key
 abbrev pub makes : (w inner leaf router left right key : ℕ) → List Turn
 makes w inner leaf router left right key =

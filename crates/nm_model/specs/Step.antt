@@ -1,4 +1,4 @@
--- One event of one worker: whether it is refused, what it answers, and what it writes.
+-- One event of one worker: whether it is refused, its reply, and what it writes.
 use Rattle.std.specs.Prelude.{ℕ, ◌+◌, ◌^◌, ◌==◌, nat_lt, nat_le, Bool, true, false, not, ◌&&◌, ◌||◌, List, [], ◌∷◌, map, slice_set, if◌then◌else◌, Option, Some, None, is_some, is_none, unwrap_or}
 use Rattle.std.specs.List.{list_all, enumerate_from}
 use Rattle.nm_edge.specs.Edges.{Edge, to, is_to, other, tagged, untagged}
@@ -24,7 +24,7 @@ use Rattle.nm_model.specs.Learning.{flag_to}
 
 -- ---- refusals
 
--- `Check`, `◌refuses◌`: a test that fails, with the reason that it is then
+-- `Check`, `◌refuses◌`: a test, and the reason of the refusal if it fails
 pub record Check : Type 0 where
   pub fails : Bool
   pub reason : Refused
@@ -33,12 +33,12 @@ infix 70 ◌refuses◌
 abbrev pub ◌refuses◌ : Bool → Refused → Check
 b refuses r = record { fails = b; reason = r }
 
--- the first that fails
+-- the reason of the first test that fails
 abbrev pub first : List Check → Option Refused
 first [] = None
 first (c ∷ cs) = if c.fails then Some c.reason else first cs
 
--- not one of low to high
+-- a number that is below low or above high
 abbrev pub outside : ℕ → ℕ → ℕ → Bool
 outside low high s = nat_lt s low || nat_lt high s
 
@@ -46,11 +46,11 @@ outside low high s = nat_lt s low || nat_lt high s
 abbrev pub last_number : ℕ
 last_number = 2 ^ 62
 
--- each worker was scanned, w itself aside
+-- each worker was scanned, except w itself
 abbrev pub others_scanned : ℕ → List Bool → Bool
 others_scanned w marks = list_all (λ mark. mark.1 || (mark.0 == w)) (enumerate_from 0 marks)
 
--- it is pinned, at another epoch than the one it saw
+-- the worker is pinned at another epoch than the one that it read last
 abbrev pub is_held_back : Option ℕ → Option ℕ → Bool
 is_held_back None seen = false
 is_held_back (Some e) seen = not (is_number seen e)
@@ -59,7 +59,7 @@ abbrev pub has_no_label : Option Queued → Bool
 has_no_label None = false
 has_no_label (Some e) = is_none e.label
 
--- its label and 2 more are above the epoch that was seen
+-- its label plus 2 is above the epoch that was read
 abbrev pub is_young : Option Queued → Option ℕ → Bool
 is_young None seen = false
 is_young (Some e) seen = nat_lt (unwrap_or seen 0) (unwrap_or e.label 0 + 2)
@@ -72,7 +72,7 @@ abbrev pub is_birth : Field → Bool
 is_birth Birth = true
 is_birth _ = false
 
--- a birth that may not be stored over the word b, or another field before the birth
+-- a birth that may not be stored over the word b, or another field that is stored before the birth
 abbrev pub is_early : Draft → Field → ℕ → ℕ → Bool
 is_early d Birth v b = is_some d.birth || not (v == b + 1)
 is_early d _ v b = is_none d.birth
@@ -92,17 +92,18 @@ abbrev pub is_linkable : Knowledge → ℕ → ℕ → Bool
 is_linkable k new leaf = is_fork_over (draft_of k new) leaf
     && is_leaf_draft k (unwrap_or (beside (draft_of k new) leaf) 0)
 
--- a link may be over a slot that is known as a leaf, and in a radix tree over any but the fixed
--- ones
+-- a link may be over a slot that is known as a leaf; in a radix tree it may be over any slot but
+-- the fixed ones
 abbrev pub may_be_over : Layout → Knowledge → ℕ → Bool
 may_be_over L k x = knows_leaf k x || (L.radix && nat_le 6 x)
 
--- a chain of known tagged edges with flagged twins, from s to p and on by the edge on keep
+-- the worker knows a chain of tagged edges with flagged twins, from s to p and on by the edge on
+-- keep
 abbrev pub is_frozen : Layout → Knowledge → ℕ → ℕ → Side → Bool
 is_frozen L k s p keep = is_some (way L.nodes k s p)
     && (is_tagged (read k p keep) && is_flagged (read k p (other keep)))
 
--- what a slot that is not private must be to be given back
+-- the tests of a slot that is given back and is not private
 abbrev pub free_checks : Knowledge → ℕ → List Check
 free_checks k s =
     is_none (queued_entry k.ledgers s) refuses NotPrivate
@@ -110,8 +111,8 @@ free_checks k s =
     ∷ is_none (front_of k.ledgers s) refuses NotFront
     ∷ is_young (front_of k.ledgers s) k.brief.seen refuses TooYoung ∷ []
 
--- the least refusal that holds, by the worker's own knowledge and, of memory, one birth word.
--- (A join is judged by what both workers know: see Runs.)
+-- the least refusal that holds, by the worker's own knowledge and one birth word in memory. (A join
+-- depends on what both workers know: see Runs.)
 unfoldable pub refusal : Layout → Memory → Knowledge → ℕ → Event → Option Refused
 refusal L m k w Sight = None
 refusal L m k w (SightFor op key) =
@@ -158,29 +159,29 @@ refusal L m k w (Splice a side s p keep) = first (
     ∷ is_none k.brief.pin refuses NotPinned
     ∷ not (knows k a && knows k s) refuses NotHeld
     ∷ not (is_frozen L k s p keep) refuses NotFrozen ∷ [])
--- (what its own worker knows refuses no join; what both know does, by join_refusal of Runs)
+-- (no join is refused here: join_refusal of Runs refuses joins, by what both workers know)
 refusal L m k w (Join v) = None
 
 -- ---- replies
 
--- what a sight answers a worker that is not pinned, by its announcement
+-- the reply to a sight (epoch read) of a worker that is not pinned, by its announcement
 abbrev pub sighted : Option ℕ → ℕ → Reply
 sighted None e = Saw e
 sighted (Some a) e = if a == e then Pinned e else Missed e
 
--- a worker that announces and is not pinned is pinned by reading the epoch that it announces; else
--- the try is lost (Fraser, section 5.2.3)
+-- a worker that announces an epoch and is not pinned becomes pinned if it reads the epoch that it
+-- announces; else the attempt has failed (Fraser, section 5.2.3)
 abbrev pub confirmed : Option ℕ → Option ℕ → ℕ → Reply
 confirmed (Some p) announced e = Saw e
 confirmed None announced e = sighted announced e
 
--- of a sight, also of one for an operation and its key (`SightFor`), which is refused where it
--- cannot confirm a pin. (In a plain core that is a sight, and a leave with an answer, `LeaveWith`,
--- a leave.)
+-- the reply to a sight, including one for an operation and its key (`SightFor`), which is refused
+-- if it cannot confirm a pin. (In a plain core `SightFor` is a sight, and a leave with an answer,
+-- `LeaveWith`, is a leave.)
 abbrev pub reply_sight : Knowledge → ℕ → Reply
 reply_sight k e = if k.brief.unlabelled then Labelled e else confirmed k.brief.pin k.brief.announcement e
 
--- `reply_scan`, `reply_look`: what a scan answers, by the announcement; what a look answers, by the
+-- `reply_scan`, `reply_look`: the reply to a scan, by the announcement; the reply to a look, by the
 -- node
 abbrev pub reply_scan : Option ℕ → Reply
 reply_scan None = Idle
@@ -191,7 +192,7 @@ reply_look n Key = KeyIs n.key
 reply_look n (EdgeOn side) = EdgeIs (edge_of n side)
 reply_look n Birth = BirthIs n.birth
 
--- an exchange of an edge is won where the edge is the unmarked one to s
+-- an exchange of an edge is won if the edge is the unmarked one to s
 abbrev pub reply_exchange : Edge → ℕ → Reply → Reply
 reply_exchange e s won = if is_to e s then won else Lost e
 
@@ -200,7 +201,7 @@ abbrev pub node_of : Option Queued → NodeId
 node_of None = record { slot = 0; birth = 0 }
 node_of (Some e) = e.node
 
--- the nodes that a won splice cuts, each by its birth word
+-- the nodes that a won splice cuts, each with its birth word
 abbrev pub cut_nodes : Layout → Memory → Knowledge → ℕ → ℕ → Side → List NodeId
 cut_nodes L m k s p keep = map (named m) (cut_by k s (unwrap_or (way L.nodes k s p) []) keep)
 
@@ -208,7 +209,7 @@ cut_nodes L m k s p keep = map (named m) (cut_by k s (unwrap_or (way L.nodes k s
 abbrev pub node_linked : Knowledge → ℕ → NodeId
 node_linked k new = record { slot = new; birth = unwrap_or (draft_of k new).birth 0 }
 
--- what an event answers, by the word that it finds (Fraser, section 5.2.3: pin, advance; Natarajan
+-- the reply to an event, by the word that it finds (Fraser, section 5.2.3: pin, advance; Natarajan
 -- and Mittal, section 3.2: link, flag, tag, splice)
 unfoldable pub reply : Layout → Memory → Knowledge → Event → Reply
 reply L m k Sight = reply_sight k m.epoch
@@ -228,13 +229,14 @@ reply L m k (Flag p side leaf) = reply_exchange (edge m p side) leaf (Flagged (n
 reply L m k (Tag p side) = Was (edge m p side)
 reply L m k (Splice a side s p keep) =
     reply_exchange (edge m a side) s (Cut (cut_nodes L m k s p keep))
--- (this row is never answered: a join's reply is by what its leaver knows, by reply_of of Runs)
+-- (this row is never used: the reply to a join depends on what its leaver knows, by reply_of of
+-- Runs)
 reply L m k (Join v) = Joined []
 
 -- ---- writes, of one word at most
 
--- `filled`, `exchanged`: a node with one field filled; a memory with one edge exchanged, where it
--- is the unmarked one to the slot
+-- `filled`, `exchanged`: a node with one field stored; a memory with one edge exchanged, if it is
+-- the unmarked one to the slot
 abbrev pub filled : Node → Field → ℕ → Node
 filled n Key v = record n { key = v }
 filled n (EdgeOn side) v = with_edge n side (to v)
@@ -243,7 +245,7 @@ filled n Birth v = record n { birth = v }
 abbrev pub exchanged : Memory → ℕ → Side → ℕ → Edge → Memory
 exchanged m p side s e = if is_to (edge m p side) s then put_edge m p side e else m
 
--- the edge that a splice leaves: the kept one without its tag
+-- the edge that a splice leaves: the kept one, without its tag
 abbrev pub kept : Option Edge → Edge
 kept None = to 0
 kept (Some e) = untagged e

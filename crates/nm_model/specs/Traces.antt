@@ -8,27 +8,26 @@ use Rattle.nm_model.specs.Runs.{State, of}
 use Rattle.nm_model.specs.Laws.{PinsAreNear, OneHolder, NoNodeTwice, GrewByTheCuts, IsFreedThenQueue, freed_among}
 use Rattle.nm_model.specs.Lawful.{LabelsDoNotFall, NoLabelIsAboveTheEpoch, BriefsAreRight, QueuedNodesAreFrozen, TaggedEdgesHaveFlaggedTwins, FlaggedEdgesLeadToLeaves, OnlyThePinnedKnow, ReachIsShared, ReachIsGuarded, EpochsAgree, CountsAddUp, EachReadStands, KnownLeavesAreLeaves, EachBirthStands}
 
--- of every ledger, what was retired is what was freed and then what waits
+-- in every ledger, the retired nodes are the freed ones followed by those that wait
 abbrev pub LedgersAreSplit : State → Type 0
 LedgersAreSplit s = (w origin : ℕ) (l : Ledger) → held (of s w).ledgers origin ≡ Some l
     → IsFreedThenQueue l
 
--- each ledger grew by the cuts of the turns so far, whoever holds it
+-- each ledger grew by the cuts of the turns so far, whichever worker holds it
 abbrev pub LedgersGrowByTheCuts : (ℕ → State) → List Turn → Type 0
 LedgersGrowByTheCuts states turns =
     (i w v origin : ℕ) (l m : Ledger) → held (of (states 0) w).ledgers origin ≡ Some l
     → held (of (states i) v).ledgers origin ≡ Some m
     → GrewByTheCuts origin (take i turns) l m
 
--- and what was freed of it grew by the nodes that gives freed in those turns of those that were
--- retired there
+-- the freed nodes of each ledger grew by those of its retired nodes that gives freed in those turns
 abbrev pub LedgersFreeWhatGivesFreed : (ℕ → State) → List Turn → Type 0
 LedgersFreeWhatGivesFreed states turns =
     (i w v origin : ℕ) (l m : Ledger) → held (of (states 0) w).ledgers origin ≡ Some l
     → held (of (states i) v).ledgers origin ≡ Some m
     → m.freed ≡ l.freed ++ freed_among m.retired (take i turns)
 
--- ---- the sentences of one state, and of one run
+-- ---- the laws of one state, and of one run
 
 -- the ledger of each origin has one holder
 abbrev pub EachHasOneHolder : State → Type 0
@@ -43,11 +42,13 @@ pub record IsLawfulState (s : State) : Type 0 where
   -- pins are near the epoch; announcements, pins, sights and scans agree with it
   pub near : PinsAreNear s
   pub epochs : EpochsAgree s
-  -- each ledger has one holder, is what was freed and then the queue, and no node was retired twice
+  -- each ledger has one holder and is what was freed followed by the queue, and no node was retired
+  -- twice
   pub holders : EachHasOneHolder s
   pub split : LedgersAreSplit s
   pub once : NoNodeTwice s
-  -- labels in a queue do not fall, none is above the epoch, and only the own queue waits for labels
+  -- labels in a queue do not fall, none is above the epoch, and only a worker's own queue has
+  -- entries without a label
   pub rising : LabelsDoNotFall s
   pub below : NoLabelIsAboveTheEpoch s
   pub briefs : BriefsAreRight s
@@ -55,7 +56,7 @@ pub record IsLawfulState (s : State) : Type 0 where
   pub queued : QueuedNodesAreFrozen s
   pub twins : TaggedEdgesHaveFlaggedTwins s
   pub leaves : FlaggedEdgesLeadToLeaves s
-  -- what a worker can come to, and what it has read
+  -- what a worker can reach, and what it has read
   pub pinned : OnlyThePinnedKnow s
   pub shared : ReachIsShared s
   pub guarded : ReachIsGuarded s
@@ -63,7 +64,7 @@ pub record IsLawfulState (s : State) : Type 0 where
   pub known : KnownLeavesAreLeaves s
   pub births : EachBirthStands s
 
--- what the states of one run keep, and what becomes of their ledgers by its turns
+-- what the states of one run keep, and how its turns change their ledgers
 pub record IsLawfulRun (states : ℕ → State) (turns : List Turn) : Type 0 where
   pub each : (i : ℕ) → IsLawfulState (states i)
   pub growing : LedgersGrowByTheCuts states turns

@@ -27,17 +27,17 @@ logged_by t = entry_by t.event t.outcome
     entry_by e (Ok r) = (e, r) ∷ []
     entry_by e (Err x) = []
 
--- worker w's log: what it did in these turns, in their order
+-- worker w's log: its entries in these turns, in their order
 abbrev pub log_of : ℕ → List Turn → List Entry
 log_of w [] = []
 log_of w (t ∷ ts) = (if t.worker == w then logged_by t else []) ++ log_of w ts
 
--- what a log tells of the call of the last pin
+-- what a log shows of the call of the last pin
 abbrev pub search_after : Search → List Entry → Search
 search_after s [] = s
 search_after s (e ∷ es) = search_after (searched s e.0 e.1) es
 
--- a pin is confirmed, or left
+-- a pin is confirmed, or ended
 abbrev pub begins_anew : Entry → Bool
 begins_anew (Sight, Pinned n) = true
 begins_anew (SightFor op key, Pinned n) = true
@@ -45,7 +45,7 @@ begins_anew (Leave, Departed) = true
 begins_anew (LeaveWith answer, Departed) = true
 begins_anew _ = false
 
--- the part of a log since its last pin was confirmed, after a part that is since then already
+-- the part of a log after its last pin was confirmed or ended; `so_far` is such a part already
 abbrev pub since_pin : List Entry → List Entry → List Entry
 since_pin so_far [] = so_far
 since_pin so_far (e ∷ es) = since_pin (if begins_anew e then [] else so_far ++ e ∷ []) es
@@ -58,9 +58,9 @@ pub data IsPart {X : Type 0} : List X → List X → Type 0 where
 
 -- ---- walks
 
--- the looks of a walk for k that came to a slot by a parent's edge on a side: at first at the left
--- edge of slot 2, and then at the key of each node to which an edge led, and at its edge on k's
--- side (Natarajan and Mittal, section 3.2, seek)
+-- the looks of a walk for k that came to a slot by a parent's edge on a side. The first look is at
+-- the left edge of slot 2. The others are at the key of each node to which an edge led, and at its
+-- edge on k's side (Natarajan and Mittal, section 3.2, seek)
 pub data Leads (k : ℕ) : List Entry → ℕ → ℕ → Side → Type 0 where
   begins : (e : Edge) → e.slot ≢ 0 → Leads k ((Look 2 (EdgeOn Left), EdgeIs e) ∷ []) e.slot 2 Left
   leads_on : {looks : List Entry} {slot parent : ℕ} {side : Side} → Leads k looks slot parent side
@@ -75,15 +75,15 @@ pub record WalkComes (k : ℕ) (log : List Entry) (slot parent : ℕ) (side : Si
   pub leads : Leads k looks slot parent side
   pub is_part : IsPart looks log
 
--- and then it looked at the slot's key (Natarajan and Mittal, section 3.2, seek)
+-- after that the walk looked at the slot's key (Natarajan and Mittal, section 3.2, seek)
 pub record WalkReads (k : ℕ) (log : List Entry) (slot parent : ℕ) (side : Side)
     (key : ℕ) : Type 0 where
   pub looks : List Entry
   pub leads : Leads k looks slot parent side
   pub is_part : IsPart (looks ++ (Look slot Key, KeyIs key) ∷ []) log
 
--- and then at the slot's edge on k's side, which was null: it ended at that leaf (Natarajan and
--- Mittal, section 3.2, seek)
+-- after that the walk looked at the slot's edge on k's side, which was null: it ended at that leaf
+-- (Natarajan and Mittal, section 3.2, seek)
 pub record WalkEnds (k : ℕ) (log : List Entry) (slot parent : ℕ) (side : Side)
     (key : ℕ) : Type 0 where
   pub looks : List Entry
@@ -93,16 +93,16 @@ pub record WalkEnds (k : ℕ) (log : List Entry) (slot parent : ℕ) (side : Sid
   pub is_part : IsPart (looks ++ (Look slot Key, KeyIs key)
       ∷ (Look slot (EdgeOn (side_of k key)), EdgeIs null) ∷ []) log
 
--- ---- what a search knows is so
+-- ---- what a search knows is true
 
--- an arrival is one of a walk in the log; where it has a key, a walk looked at it; where it has
--- ended, a walk ended
+-- an arrival is one of a walk in the log. If it has a key, a walk looked at it; if it has ended, a
+-- walk ended
 pub record IsOfWalk (k : ℕ) (log : List Entry) (a : Arrival) : Type 0 where
   pub comes : WalkComes k log a.slot a.parent a.side
   pub reads : (v : ℕ) → a.key ≡ Some v → WalkReads k log a.slot a.parent a.side v
   pub ends : a.ended ≡ true → (v : ℕ) × (a.key ≡ Some v) × WalkEnds k log a.slot a.parent a.side v
 
--- of every log, each arrival is that of a walk since the pin was confirmed
+-- in every log, each arrival is that of a walk after the pin was confirmed
 abbrev pub ArrivalsAreWalks : Type 0
 ArrivalsAreWalks = (log : List Entry) (c : Call) → (search_after idle log).call ≡ Some c
     → All (IsOfWalk c.key (since_pin [] log)) (search_after idle log).walks
@@ -122,7 +122,7 @@ pub record SearchGrows (s t : Search) : Type 0 where
   pub cut : s.cut ≡ true → t.cut ≡ true
   pub walks : (a : Arrival) → Contains s.walks a → (b : Arrival) × Contains t.walks b × GrowsTo a b
 
--- while a pin stands, what its search knows only grows
+-- while a pin lasts, what its search knows only grows
 abbrev pub SearchesOnlyGrow : Type 0
 SearchesOnlyGrow = (s : Search) (e : Event) (r : Reply) → begins_anew (e, r) ≡ false
     → SearchGrows s (searched s e r)

@@ -1,4 +1,4 @@
-//! What workers do, one atomic step at a time.
+//! The events of workers: one atomic step each.
 ghost use Rattle.std.specs.Prelude.{◌≡◌};
 ghost use Rattle.nm_model.specs.Step.{is_edge};
 
@@ -13,7 +13,7 @@ pub enum Field {
 }
 
 impl Field {
-    /// Whether it is an edge.
+    /// Returns whether the field is an edge.
     pub fn is_edge(self) -> bool
         ensures { result ≡ is_edge self }
     {
@@ -24,11 +24,11 @@ impl Field {
 /// An operation of the set on a key.
 #[derive(Clone, Copy, Debug, PartialEq, Eq)]
 pub enum Op {
-    /// Whether the key is in the set.
+    /// Returns whether the key is in the set.
     Has,
-    /// Puts the key into the set; false where it was there.
+    /// Inserts the key; returns true if it was absent.
     Insert,
-    /// Takes the key out of the set; false where it wasn't there.
+    /// Deletes the key; returns true if it was present.
     Delete,
 }
 
@@ -36,39 +36,41 @@ pub enum Op {
 /// worker learns by it.
 #[derive(Clone, Copy, Debug, PartialEq, Eq)]
 pub enum Event {
-    /// Reads the global epoch, which may confirm a pin or label a cut.
+    /// Reads the global epoch (a sight), which may confirm a pin or label a cut.
     Sight,
-    /// Reads the global epoch to confirm a pin, for an operation on a key that begins with it.
+    /// Reads the global epoch to confirm a pin. An operation on a key begins with this pin.
     SightFor(Op, Key),
-    /// Stores the epoch last read in the worker's own announcement.
+    /// Announces the epoch last read: stores it in the worker's own announcement.
     Announce,
-    /// Clears the worker's own announcement.
+    /// Unpins: clears the worker's own announcement.
     Leave,
-    /// Clears the worker's own announcement and answers the operation of its pin.
+    /// Unpins and answers the operation of the pin: clears the worker's own announcement.
     LeaveWith(bool),
     /// Reads the announcement of a worker.
     Scan(u32),
-    /// Exchanges the global epoch, the one last read for the next.
+    /// Advances the global epoch by one, if it is still the one last read.
     Advance,
-    /// Takes a slot out of the pool.
+    /// Takes a slot from the pool.
     Claim(u32),
-    /// Puts a slot back into the pool: a private one, or the front of a queue.
+    /// Gives a slot back to the pool: a private one, or the front of a queue.
     Give(u32),
     /// Reads a field of a slot.
     Look(u32, Field),
     /// Stores a field of a private slot.
     Fill(u32, Field, u64),
-    /// Exchanges the edge of a parent, on a side, from a leaf, in a radix tree also from an
-    /// internal node, to a new internal node: parent, side, leaf, new.
+    /// Replaces the edge of a parent on a side by an edge to a new internal node, if it leads
+    /// unmarked to the leaf. In a radix tree it may lead to an internal node instead. Fields:
+    /// parent, side, leaf, new.
     Link(u32, Side, u32, u32),
-    /// Exchanges the edge of a parent, on a side, from a leaf to that leaf flagged: parent, side,
-    /// leaf.
+    /// Flags the edge of a parent on a side, if it leads unmarked to the leaf. Fields: parent,
+    /// side, leaf.
     Flag(u32, Side, u32),
     /// Sets the tag of the edge of a parent on a side.
     Tag(u32, Side),
-    /// Exchanges the edge of an ancestor, on a side, from the successor to what the parent keeps:
-    /// ancestor, side, successor, parent, and the side that is kept.
+    /// Replaces the edge of an ancestor on a side by the edge that the parent keeps, if it leads
+    /// unmarked to the successor. Fields: ancestor, side, successor, parent, and the side that is
+    /// kept.
     Splice(u32, Side, u32, u32, Side),
-    /// Takes over all queues that another worker holds, which resigns by it.
+    /// Takes over all queues that another worker holds. That worker resigns by it.
     Join(u32),
 }

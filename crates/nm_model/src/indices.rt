@@ -1,4 +1,5 @@
-//! Where the entries of each slot stand in a list, so that one is found without a look through all.
+//! The indices of each slot's entries in a list, which find an entry without a search of the whole
+//! list.
 ghost use Rattle.std.specs.Prelude.{◌≡◌, length, OnOk, OnErr};
 ghost use Rattle.nm_model.specs.Maps.{get, put};
 ghost use Rattle.nm_model.specs.Indexing.{Covers, is_at_least, with_index};
@@ -7,17 +8,17 @@ use crate::ledger::Queued;
 use crate::slot_map::SlotMap;
 use std::alloc::AllocError;
 
-/// Where the entries of one slot stand.
+/// The indices of the entries of one slot.
 #[derive(Clone, Copy, Debug, PartialEq, Eq)]
 pub struct Indices {
-    /// The index of the last one.
+    /// The index of the last entry.
     pub last: usize,
-    /// An index that those of all others are not above; `None` where there is no other.
+    /// An upper bound for the indices of all other entries; `None` if there is no other.
     pub earlier: Option<usize>,
 }
 
 impl Indices {
-    // With one more entry, behind the others.
+    // Returns the indices with one more entry, after the others.
     fn with(known: Option<Indices>, index: usize) -> Indices
         ensures { result ≡ with_index known index }
     {
@@ -33,7 +34,7 @@ impl Indices {
         }
     }
 
-    /// Whether an entry other than the last may stand at this index or behind it.
+    /// Returns whether an entry other than the last may be at this index or after it.
     pub fn has_others_from(self, index: usize) -> bool
         ensures { result ≡ is_at_least self.earlier index }
     {
@@ -41,7 +42,7 @@ impl Indices {
     }
 }
 
-// A slot has an entry at this index, behind its others.
+// Records that a slot has an entry at this index, after its others.
 fn put_index(indices: &mut SlotMap<Indices>, slot: u32, index: usize) -> Result<(), AllocError>
     ensures ok { OnOk result (indices.new
         ≡ put indices.old slot (with_index (get indices.old slot) index)) }
@@ -51,7 +52,7 @@ fn put_index(indices: &mut SlotMap<Indices>, slot: u32, index: usize) -> Result<
     indices.put(slot, Indices::with(known, index))
 }
 
-/// Notes the entries from an index on; those before it are noted.
+/// Records the entries from an index on. Those before it are recorded already.
 pub fn index_from(
     indices: &mut SlotMap<Indices>,
     entries: &[Queued],

@@ -1,6 +1,6 @@
-//! Parts of the tree, as the keys are found.
+//! Parts of the tree that a search for all keys has still to visit.
 
-/// A part of the tree that waits for its turn: the slot at its top, and how deep it may be.
+/// A part of the tree that is still to be visited: the slot at its top, and how deep it may be.
 #[derive(Clone, Copy)]
 pub struct Subtree {
     pub slot: u32,

@@ -1,4 +1,4 @@
-//! What one worker knows, by parts.
+//! What one worker knows: its epochs, the known nodes and the private slots.
 
 ghost use Rattle.std.specs.Prelude.{◌≡◌, ◌<◌, ◌^◌, true};
 ghost use Rattle.nm_model.specs.Knowledge.{unread, unfilled, read_on, beside};
@@ -10,20 +10,20 @@ ghost use Rattle.nm_model.specs.Ordered.{is_fork_for, parts, parts_from};
 use crate::event::Field;
 use nm_edge::{Edge, Key, Side, covers};
 
-/// The epochs of a worker.
+/// The epochs of a worker, and whether a label is due.
 #[derive(Clone, Copy, Debug, PartialEq, Eq)]
 pub struct Brief {
     /// The global epoch last read.
     pub seen: Option<u64>,
-    /// What the worker announces.
+    /// The epoch that the worker announces, if any.
     pub announcement: Option<u64>,
-    /// The epoch at which it is pinned.
+    /// The epoch at which it is pinned, if it is.
     pub pin: Option<u64>,
     /// Whether nodes that it cut wait for their label.
     pub unlabelled: bool,
 }
 
-/// What is known of a known node: the last word read of each edge, and its birth.
+/// What a worker has read of a known node: the last word of each edge, and the birth (generation).
 #[derive(Clone, Copy, Debug, PartialEq, Eq)]
 pub struct Seen {
     pub left: Option<Edge>,
@@ -31,7 +31,8 @@ pub struct Seen {
     pub birth: Option<u64>,
 }
 
-/// A private slot: the birth word that was looked at, and what was filled in.
+/// What a worker knows of a private slot: the birth word that it read, and the fields that it
+/// stored.
 #[derive(Clone, Copy, Debug, PartialEq, Eq)]
 pub struct Draft {
     pub looked: Option<u64>,
@@ -42,7 +43,7 @@ pub struct Draft {
 }
 
 impl Seen {
-    /// Nothing is known yet but that the node is there.
+    /// Returns the knowledge of a node before any of its words was read.
     pub fn unread() -> Seen
         ensures { result ≡ unread }
     {
@@ -53,7 +54,7 @@ impl Seen {
         }
     }
 
-    /// The last word read of the edge on a side.
+    /// Returns the last word read of the edge on a side, if any.
     pub fn on(self, side: Side) -> Option<Edge>
         ensures { result ≡ read_on self side }
     {
@@ -63,7 +64,7 @@ impl Seen {
         }
     }
 
-    /// The edge on a side was read.
+    /// Returns the knowledge after the edge on a side was read.
     pub fn with_read(self, side: Side, edge: Edge) -> Seen
         ensures { result ≡ with_read self side edge }
     {
@@ -81,7 +82,7 @@ impl Seen {
 }
 
 impl Draft {
-    /// Nothing was looked at or filled in yet.
+    /// Returns the draft of a slot in which nothing was read or stored yet.
     pub fn unfilled() -> Draft
         ensures { result ≡ unfilled }
     {
@@ -94,22 +95,23 @@ impl Draft {
         }
     }
 
-    /// Whether it is filled as an internal node over this leaf.
+    /// Returns whether the draft is filled as an internal node over this leaf.
     pub fn is_fork_over(self, leaf: u32) -> bool
         ensures { result ≡ is_fork_over self leaf }
     {
         self.key.is_some() && (self.left == Some(leaf) || self.right == Some(leaf))
     }
 
-    /// Whether this key was stored.
+    /// Returns whether this key was stored.
     pub fn has_key(self, key: Key) -> bool
         ensures { result ≡ is_number self.key key }
     {
         self.key == Some(key.get())
     }
 
-    /// Whether it is filled as an internal node over a leaf with another key and a new leaf with
-    /// this one: with the greater of both keys, and the lesser leaf on the left.
+    /// Returns whether the draft is filled as an internal node that puts a new leaf with `key`
+    /// beside `leaf`, whose key is `other`. It must have the greater of both keys, and `leaf` on
+    /// the side of `other`.
     pub fn is_fork_for(self, leaf: u32, key: Key, other: u64) -> bool
         ensures { result ≡ is_fork_for self leaf key other }
     {
@@ -120,9 +122,9 @@ impl Draft {
         }
     }
 
-    // Whether it is filled as an internal node of a radix tree over a slot with another key and a
-    // new leaf with this one: both keys are in its range, in its two halves, and the slot is on the
-    // side of the other key.
+    // Returns whether the draft is filled as an internal node of a radix tree that parts `key` from
+    // `slot`, whose key is `other`. Both keys must be in its range, in different halves, and the
+    // slot on the side of `other`.
     fn parts(self, slot: u32, key: Key, other: u64) -> bool
         ensures { result ≡ parts self slot key other self.key }
     {
@@ -137,8 +139,8 @@ impl Draft {
         covers(router, key.get()) && covers(router, other) && is_between
     }
 
-    /// Whether it is filled so between the key and a slot, known as a leaf or not, whose key, once
-    /// it was looked at, is another one: a leaf, or a slot without the key in its range.
+    /// Returns whether the draft parts the key from the slot, whose key was read as `other`. The
+    /// slot must have another key, and be known as a leaf or not have the key in its range.
     pub fn parts_from(self, slot: u32, key: Key, is_leaf: bool, other: Option<u64>) -> bool
         ensures { result ≡ parts_from self slot key is_leaf other }
     {
@@ -148,7 +150,7 @@ impl Draft {
         other != key.get() && (is_leaf || !covers(other, key.get())) && self.parts(slot, key, other)
     }
 
-    /// Of the two filled edges the one that does not lead to the leaf.
+    /// Returns, of the two filled edges, the one that does not lead to the leaf.
     pub fn beside(self, leaf: u32) -> Option<u32>
         ensures { result ≡ beside self leaf }
     {
@@ -159,7 +161,8 @@ impl Draft {
         }
     }
 
-    /// Whether the birth may not be stored over this word, or another field not before the birth.
+    /// Returns whether the field may not be stored. A birth is stored only once, as one more than
+    /// the word `birth`. Other fields are stored only after the birth.
     pub fn is_early(self, field: Field, value: u64, birth: u64) -> bool
         ensures { result ≡ is_early self field value birth }
     {
@@ -169,7 +172,7 @@ impl Draft {
         }
     }
 
-    /// The draft with a field stored.
+    /// Returns the draft after a field was stored.
     pub fn filled_in(self, field: Field, value: u64) -> Draft
         requires { is_edge field ≡ true → value < 2 ^ 32 }
         ensures { result ≡ filled_in self field value }

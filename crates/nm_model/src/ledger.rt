@@ -1,5 +1,5 @@
-//! What a worker's splices cut off: the nodes that it retired, those of them that were freed, and
-//! the queue of the rest.
+//! What one worker's splices cut off: the retired nodes, those that were freed, and the queue of
+//! the others.
 ghost use Rattle.std.specs.Prelude.{◌≡◌, ◌+◌, ◌++◌, nat_lt, unwrap_or, [], ◌∷◌, length, take, IfOk, OnOk, OnErr};
 ghost use Rattle.nm_model.specs.Queues.{with_label};
 ghost use Rattle.nm_model.specs.Ledgers.{fresh_ledger, with_cut, labelled, with_freed};
@@ -13,13 +13,14 @@ use std::marker::Model;
 #[derive(Clone, Copy, Debug, PartialEq, Eq)]
 pub struct Queued {
     pub node: NodeId,
-    /// The global epoch that its remover read after the splice; `None` until it has read it.
+    /// The global epoch that its remover read after the splice (the retire epoch); `None` until it
+    /// has read it.
     pub label: Option<u64>,
 }
 
 impl Queued {
-    /// Whether its label and 2 more are above the epoch that was seen, or it has no label and the
-    /// epoch is below 2.
+    /// Returns whether the label plus 2 is above `seen`. An entry without a label counts as one
+    /// with label 0.
     pub fn is_young(self, seen: u64) -> bool
         ensures { result ≡ nat_lt seen (unwrap_or self.label 0 + 2) }
     {
@@ -27,7 +28,7 @@ impl Queued {
         seen < 2 || seen - 2 < label
     }
 
-    /// The entry with this label, unless it has one.
+    /// Returns the entry with this label. An entry that has a label keeps it.
     pub fn with_label(self, label: u64) -> Queued
         ensures { result ≡ with_label label self }
     {
@@ -38,7 +39,7 @@ impl Queued {
     }
 }
 
-/// Nodes in order.
+/// A list of nodes, in order.
 #[derive(Debug, Drop)]
 pub struct Nodes {
     items: Vec<NodeId>,
@@ -53,27 +54,27 @@ impl Model for Nodes {
     ghost view = { λ n. n.items.items };
 }
 
-/// What the splices of one worker cut off. The retired nodes are the freed ones and then those of
-/// the queue.
+/// What the splices of one worker cut off. In every run the retired nodes are the freed ones
+/// followed by those of the queue.
 #[derive(Debug, Drop)]
 pub struct Ledger {
     /// The nodes that were cut off, in order.
     pub retired: Nodes,
-    /// Those whose slots were given back to the pool, in order.
+    /// The nodes whose slots were given back to the pool, in order.
     pub freed: Nodes,
-    /// Those that wait.
+    /// The nodes that wait.
     pub queue: Queue,
 }
 
 impl Nodes {
-    /// These nodes. Takes no memory.
+    /// Wraps these nodes. Takes no memory.
     pub fn from_vec(nodes: Vec<NodeId>) -> Nodes
         ensures { result ≡ nodes.items }
     {
         Nodes { items: nodes }
     }
 
-    /// The nodes as a vector. Takes no memory.
+    /// Returns the nodes as a vector. Takes no memory.
     pub fn into_vec(self) -> Vec<NodeId>
         ensures { result.items ≡ self }
     {
@@ -81,7 +82,7 @@ impl Nodes {
         items
     }
 
-    /// The nodes in order.
+    /// Returns the nodes in order.
     pub fn as_slice(&self) -> &[NodeId]
         ensures { result.now ≡ self.now }
     {
@@ -125,7 +126,7 @@ impl Nodes {
 }
 
 impl Ledger {
-    /// The ledger of a worker that has cut nothing. Takes no memory.
+    /// Returns the ledger of a worker that has cut nothing. Takes no memory.
     pub fn new(alloc: Global) -> Ledger
         ensures { result ≡ fresh_ledger }
     {
@@ -136,7 +137,9 @@ impl Ledger {
         }
     }
 
-    /// Nodes were cut, and wait for their label.
+    /// Records that nodes were cut. They wait for their label.
+    ///
+    /// Errors: out of memory; the ledger is unchanged.
     pub fn retire(&mut self, nodes: &[NodeId]) -> Result<(), AllocError>
         ensures ok { OnOk result (self.new ≡ with_cut nodes.now self.old) }
         ensures err { OnErr result (self.new ≡ self.old) }
@@ -157,7 +160,9 @@ impl Ledger {
         self.queue.label(label);
     }
 
-    /// The node at the front was freed.
+    /// Records that the node at the front was freed.
+    ///
+    /// Errors: out of memory; the ledger is unchanged.
     pub fn free(&mut self, node: NodeId) -> Result<(), AllocError>
         ensures ok { OnOk result (self.new ≡ with_freed node self.old) }
         ensures err { OnErr result (self.new ≡ self.old) }
@@ -167,7 +172,7 @@ impl Ledger {
         Ok(())
     }
 
-    /// A copy.
+    /// Returns a copy.
     pub fn clone_in(&self, alloc: Global) -> Result<Ledger, AllocError>
         ensures { IfOk result (λ ledger. ledger ≡ self.now) }
     {

@@ -26,7 +26,7 @@ impl Model for Ledgers {
 }
 
 impl Ledgers {
-    /// None, for so many origins.
+    /// Returns a list with a place for each of `origins` origins, which holds no ledger.
     pub fn none(alloc: Global, origins: usize) -> Result<Ledgers, AllocError>
         ensures { IfOk result (λ ledgers. ledgers ≡ replicate origins None) }
     {
@@ -37,7 +37,8 @@ impl Ledgers {
         Ok(Ledgers { by_origin })
     }
 
-    /// The ledger of a worker that has cut nothing, among so many.
+    /// Returns the ledgers of a new worker: a list with `origins` places, which holds an empty
+    /// ledger for `origin` alone.
     pub fn own(alloc: Global, origins: usize, origin: usize) -> Result<Ledgers, AllocError>
         requires { origin < origins }
         ensures { IfOk result (λ ledgers. ledgers
@@ -48,14 +49,14 @@ impl Ledgers {
         Ok(ledgers)
     }
 
-    /// The ledger of an origin, if it is held.
+    /// Returns the ledger of an origin, if it is held.
     pub fn get(&self, origin: u32) -> Option<&Ledger>
         ensures { option_copied result ≡ held self.now origin }
     {
         self.by_origin.get(origin as usize)?.as_ref()
     }
 
-    /// The first front of a queue that is of this slot.
+    /// Returns the first front of a held queue that is of this slot.
     pub fn front(&self, slot: u32) -> Option<Queued>
         ensures { result ≡ front_of self.now slot }
     {
@@ -67,7 +68,7 @@ impl Ledgers {
         None
     }
 
-    /// The first entry of a slot in a queue.
+    /// Returns the first entry of a slot in a held queue.
     fn first(&self, slot: u32) -> Option<Queued>
         ensures { result ≡ first_of self.now slot }
     {
@@ -79,7 +80,7 @@ impl Ledgers {
         None
     }
 
-    /// The entry of a slot: a front, where there is one.
+    /// Returns the entry of a slot: a front if there is one, else the first entry.
     pub fn find(&self, slot: u32) -> Option<Queued>
         ensures { result ≡ queued_entry self.now slot }
     {
@@ -89,7 +90,9 @@ impl Ledgers {
         self.first(slot)
     }
 
-    /// Nodes of this origin were cut, and wait for their label.
+    /// Records that nodes of this origin were cut. They wait for their label.
+    ///
+    /// Errors: out of memory; the ledgers are unchanged.
     pub fn retire(&mut self, origin: usize, nodes: &[NodeId]) -> Result<(), AllocError>
         requires { origin < length self.old }
         ensures ok { OnOk result (self.new ≡ retire self.old origin nodes.now) }
@@ -101,7 +104,7 @@ impl Ledgers {
         ledger.retire(nodes)
     }
 
-    /// How many entries wait in its queues.
+    /// Returns the number of entries that wait in the held queues.
     pub fn waiting(&self) -> usize
         requires { in_queues self.now < 2 ^ 32 }
         ensures { result ≡ in_queues self.now }
@@ -113,7 +116,7 @@ impl Ledgers {
         entries
     }
 
-    // The first origin whose queue has its front at this slot.
+    // Returns the first origin whose queue has this slot at its front.
     fn origin_of_front(&self, slot: u32) -> Option<usize>
         ensures { result ≡ position (λ l. is_some (front_at (queue_of l) slot)) self.now }
     {
@@ -122,7 +125,9 @@ impl Ledgers {
             .position(|ledger| front_in(ledger, slot).is_some())
     }
 
-    /// The node at the front of a queue was freed.
+    /// Records that the node at the front of a queue was freed.
+    ///
+    /// Errors: out of memory; the ledgers are unchanged.
     pub fn free(&mut self, node: NodeId) -> Result<(), AllocError>
         ensures ok { OnOk result (self.new ≡ free self.old node) }
         ensures err { OnErr result (self.new ≡ self.old) }
@@ -133,7 +138,7 @@ impl Ledgers {
         free_in(&mut self.by_origin[origin], node)
     }
 
-    /// Takes over the ledgers that another held, each under its origin.
+    /// Takes over the ledgers that another worker held, each under its origin.
     pub fn take_over(&mut self, passed: Ledgers)
         requires { length passed ≡ length self.old }
         ensures { self.new ≡ taken_over self.old passed }
@@ -142,7 +147,7 @@ impl Ledgers {
         take_over_all(&mut self.by_origin, &mut passed);
     }
 
-    /// A copy.
+    /// Returns a copy.
     pub fn clone_in(&self, alloc: Global) -> Result<Ledgers, AllocError>
         ensures { IfOk result (λ ledgers. ledgers ≡ self.now) }
     {

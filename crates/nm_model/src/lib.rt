@@ -1,5 +1,5 @@
 //! The words of the tree and what every worker knows, as plain data, and the definitions that all
-//! crates speak in.
+//! crates use.
 #![tactic(auto)]
 
 pub mod arrivals;

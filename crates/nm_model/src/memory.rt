@@ -18,21 +18,21 @@ pub struct Node {
 }
 
 impl Node {
-    /// A slot that was never put to use.
+    /// Returns the content of a slot that was never used.
     pub fn blank() -> Node
         ensures { result ≡ blank }
     {
         Node::leaf(0)
     }
 
-    /// A fixed leaf.
+    /// Returns a fixed leaf.
     fn leaf(key: u64) -> Node
         ensures { result ≡ leaf key }
     {
         Node::fork(key, 0, 0)
     }
 
-    /// A fixed internal node.
+    /// Returns a fixed internal node.
     fn fork(key: u64, left: u32, right: u32) -> Node
         ensures { result ≡ fork key left right }
     {
@@ -44,7 +44,7 @@ impl Node {
         }
     }
 
-    /// The edge on a side.
+    /// Returns the edge on a side.
     pub fn edge(self, side: Side) -> Edge
         ensures { result ≡ edge_of self side }
     {
@@ -54,7 +54,7 @@ impl Node {
         }
     }
 
-    /// The node with another edge on a side.
+    /// Returns the node with another edge on a side.
     pub fn with_edge(self, side: Side, edge: Edge) -> Node
         ensures { result ≡ with_edge self side edge }
     {
@@ -69,14 +69,15 @@ impl Node {
 }
 
 impl Node {
-    // Whether both edges are null.
+    // Returns whether both edges are null.
     fn is_leaf(self) -> bool
         ensures { result ≡ is_leaf self }
     {
         self.left.slot() == 0 && self.right.slot() == 0
     }
 
-    /// The key of the set that it has: the key of a leaf, if it is none of a fixed one.
+    /// Returns the node's key if it is a leaf and its key is one of the set, not that of a fixed
+    /// leaf.
     pub fn set_key(self) -> Option<Key>
         ensures { result ≡ set_key self }
     {
@@ -84,7 +85,7 @@ impl Node {
         if self.is_leaf() { Key::new(key) } else { None }
     }
 
-    /// The node with a field stored; an edge is stored unmarked.
+    /// Returns the node with a field stored. An edge is stored unmarked.
     pub fn filled(self, field: Field, value: u64) -> Node
         requires { is_edge field ≡ true → value < 2 ^ 32 }
         ensures { result ≡ filled self field value }
@@ -100,7 +101,7 @@ impl Node {
     }
 }
 
-/// By slot, the nodes of the empty tree, and those of the pool.
+/// Returns the nodes of the empty tree by slot, including those of the pool.
 pub fn opening_nodes(alloc: Global, layout: Layout) -> Result<Vec<Node>, AllocError>
     ensures { IfOk result (λ nodes. nodes.items ≡ (opening layout).nodes) }
 {
@@ -116,7 +117,7 @@ pub fn opening_nodes(alloc: Global, layout: Layout) -> Result<Vec<Node>, AllocEr
     Ok(nodes)
 }
 
-/// By slot, whether it is in the pool: all above the fixed ones.
+/// Returns, by slot, whether the slot is in the pool: all slots above the fixed ones are.
 pub fn opening_pool(alloc: Global, layout: Layout) -> Result<Vec<bool>, AllocError>
     ensures { IfOk result (λ pool. pool.items ≡ (opening layout).pool) }
 {

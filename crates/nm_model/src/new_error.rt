@@ -1,10 +1,10 @@
-//! Why no core and no tree was made.
+//! Why a core or a tree could not be made.
 use nm_edge::LayoutError;
 use std::alloc::AllocError;
 use thiserror::Error;
 
-/// Why no core, and no tree, was made. Where several reasons hold, the first of this order is
-/// answered.
+/// Why a core or a tree could not be made. If several reasons hold, the first of this order is
+/// returned.
 #[derive(Clone, Copy, Debug, PartialEq, Eq, Error)]
 pub enum NewError {
     /// Fewer than 7 nodes, or more than there may be.
@@ -13,7 +13,7 @@ pub enum NewError {
     /// No worker, or more than 64.
     #[error("workers are not 1 to 64")]
     Workers,
-    /// A growth was refused.
+    /// Out of memory.
     #[error("no memory")]
     NoMemory,
 }

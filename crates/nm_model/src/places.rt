@@ -1,7 +1,7 @@
-//! How many slots stand where.
+//! The number of slots in each place.
 
-/// How many of the slots above 5 are in the pool, private to a worker, reached from the root, and
-/// queued. Together they are all of them.
+/// The numbers of the slots above 5 that are in the pool, private to a worker, reached from the
+/// root, and queued. In every run they add up to all slots above 5.
 #[derive(Clone, Copy, Debug, PartialEq, Eq)]
 pub struct Places {
     pub pool: u32,

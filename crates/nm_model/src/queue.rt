@@ -13,11 +13,11 @@ use std::marker::Model;
 #[derive(Debug, Drop)]
 pub struct Queue {
     entries: Vec<Queued>,
-    // how many entries have left at the front
+    // the number of entries that have left at the front
     departed: usize,
-    // how many entries have had their label since they came
+    // the number of first entries that are known to have a label
     labelled: usize,
-    // where the entries of each slot stand, those that have left too
+    // the indices of the entries of each slot, including those that have left
     indices: SlotMap<Indices>,
 }
 
@@ -34,7 +34,7 @@ impl Model for Queue {
 }
 
 impl Queue {
-    /// The empty queue. Takes no memory.
+    /// Returns the empty queue. Takes no memory.
     pub fn new(alloc: Global) -> Queue
         ensures { result ≡ [] }
     {
@@ -46,14 +46,14 @@ impl Queue {
         }
     }
 
-    /// The entries in order, the front first.
+    /// Returns the entries in order, the front first.
     pub fn as_slice(&self) -> &[Queued]
         ensures { result.now ≡ self.now }
     {
         &self.entries[self.departed..]
     }
 
-    // The front, where it is of this slot.
+    // Returns the front, if it is of this slot.
     pub fn front(&self, slot: u32) -> Option<Queued>
         ensures { result ≡ front_at self.now slot }
     {
@@ -63,9 +63,9 @@ impl Queue {
         }
     }
 
-    // The first entry of a slot. A look through the queue is taken only where the slot may stand in
-    // it twice: no run leads to that, and it may only seem so once a node could not be noted for
-    // want of memory.
+    // Returns the first entry of a slot. Searches through the queue only if the slot may be in it
+    // twice. No run leads to that: it can only seem so after a node could not be recorded for lack
+    // of memory.
     pub fn find(&self, slot: u32) -> Option<Queued>
         ensures { result ≡ entry_at self.now slot }
     {
@@ -79,7 +79,7 @@ impl Queue {
         entry_at(&self.entries, indices.last, slot)
     }
 
-    // The first entry of a slot, by a look through the queue.
+    // Returns the first entry of a slot, by a search through the queue.
     fn first(&self, slot: u32) -> Option<Queued>
         ensures { result ≡ entry_at self.now slot }
     {
@@ -91,7 +91,7 @@ impl Queue {
         None
     }
 
-    // Takes the front away.
+    // Removes the front.
     pub fn pop(&mut self)
         ensures { self.new ≡ drop 1 self.old }
     {
@@ -100,7 +100,7 @@ impl Queue {
         }
     }
 
-    // Puts nodes at the end, without a label.
+    // Appends nodes, without a label.
     pub fn append(&mut self, nodes: &[NodeId]) -> Result<(), AllocError>
         ensures ok { OnOk result (self.new ≡ self.old ++ map unlabelled nodes.now) }
         ensures err { OnErr result (self.new ≡ self.old) }
@@ -137,7 +137,7 @@ impl Queue {
     }
 }
 
-// The entry at an index, where it is of this slot.
+// Returns the entry at an index, if it is of this slot.
 fn entry_at(entries: &[Queued], index: usize, slot: u32) -> Option<Queued>
     ensures { result ≡ front_at (drop index entries.now) slot }
 {
@@ -163,7 +163,7 @@ fn append_unlabelled(entries: &mut Vec<Queued>, nodes: &[NodeId]) -> Result<(), 
     Ok(())
 }
 
-// Labels the entries from an index on; those before it have a label.
+// Labels the entries from an index on. Those before it have a label already.
 fn label_from(entries: &mut Vec<Queued>, from: usize, label: u64)
     requires fits { from ≤ length entries.old.items }
     requires stays { map (with_label label) (take from entries.old.items)

@@ -1,19 +1,19 @@
-//! What workers are answered.
+//! The replies to events, and the reasons why an event is refused.
 use crate::ledger::Nodes;
 use crate::ledgers::Ledgers;
 use nm_edge::{Edge, NodeId};
 use std::alloc::AllocError;
 
-/// What an event that was allowed answers.
+/// The reply to an event that was allowed.
 #[derive(Debug, Drop)]
 pub enum Reply {
     /// The global epoch.
     Saw(u64),
-    /// The global epoch, with which the entries of a cut were labelled.
+    /// The global epoch, which is now the label of the entries that had none.
     Labelled(u64),
     /// The worker is pinned at this epoch.
     Pinned(u64),
-    /// The announcement came too late: the global epoch is this one.
+    /// The pin is not confirmed, because the global epoch is now this one.
     Missed(u64),
     /// The epoch that was announced.
     Announced(u64),
@@ -23,9 +23,9 @@ pub enum Reply {
     Idle,
     /// The worker that was scanned announces this epoch.
     In(u64),
-    /// The global epoch was moved on to this one.
+    /// The global epoch was advanced to this one.
     Moved(u64),
-    /// Another had moved the global epoch, to this one.
+    /// Another worker had advanced the global epoch, to this one.
     Behind(u64),
     /// The slot is private to the worker.
     Claimed(u32),
@@ -47,48 +47,51 @@ pub enum Reply {
     Linked(NodeId),
     /// The leaf is flagged.
     Flagged(NodeId),
-    /// The edge before it was tagged.
+    /// The edge as it was before it was tagged.
     Was(Edge),
-    /// The nodes that were cut off, from the successor downwards, each internal node and then its
-    /// flagged leaf.
+    /// The nodes that were cut off, from the successor downwards: each internal node, followed by
+    /// its flagged leaf.
     Cut(Nodes),
-    /// The exchange was lost: the edge that was found.
+    /// The exchange failed, because it found this edge.
     Lost(Edge),
-    /// The ledgers that passed to the worker, by origin.
+    /// The ledgers that the worker took over, by origin.
     Joined(Ledgers),
 }
 
-/// Why an event was refused. Where several reasons hold, the first of this order is answered. The
-/// state is as it was.
+/// Why an event was refused. If several reasons hold, the first of this order is returned. The
+/// state is unchanged.
 #[derive(Clone, Copy, Debug, PartialEq, Eq)]
 pub enum Refused {
-    /// A worker number isn't below the number of workers, or that worker has resigned.
+    /// A worker number is not below the number of workers, or that worker has resigned.
     NoWorker,
-    /// A slot is out of the range that the event asks.
+    /// A slot is outside the range that the event allows.
     NoSlot,
     /// The event needs a pin, and the worker has none.
     NotPinned,
-    /// A node isn't known to this worker, or isn't known to be a leaf where one is asked.
+    /// The worker does not know a node, or does not know it as a leaf although the event needs one.
     NotHeld,
-    /// The slot isn't private to this worker; for a give, nor in a queue that it holds.
+    /// The slot is not private to this worker. For a give: and it is in no queue that the worker
+    /// holds.
     NotPrivate,
-    /// No sight yet, a pin that is in the way, an unlabelled cut, an unfinished scan or an unfilled
-    /// node.
+    /// The worker has read no epoch yet, has a pin that is in the way or an unlabelled cut, has not
+    /// finished its scans, or has not filled the node.
     NotReady,
-    /// The node isn't the front of a queue that the worker holds.
+    /// The node is not the front of a queue that the worker holds.
     NotFront,
-    /// The node's label and 2 more are above the epoch that the worker read.
+    /// The node's label plus 2 is above the epoch that the worker read.
     TooYoung,
-    /// No chain of tagged edges with flagged twins is known.
+    /// The worker does not know the twin of the edge as flagged (for a tag), or knows no chain of
+    /// tagged edges with flagged twins (for a splice).
     NotFrozen,
-    /// The epoch or the slot's birth is at its last number, 2^62.
+    /// The epoch or the slot's birth is exhausted: it is 2^62.
     Spent,
-    /// In an ordered core: no walk of the worker's operation ends, or in a radix tree comes to
-    /// where a link is, so that this exchange is its own.
+    /// In an ordered core: the worker's log does not show that this link or flag belongs to its
+    /// operation.
     NotOrdered,
-    /// In an ordered core: the worker's log doesn't show the answer of its operation.
+    /// In an ordered core: the worker's log does not show the answer of its operation, or the
+    /// worker leaves without an answer after a link or a flag.
     NoAnswer,
-    /// A growth was refused, and no other reason holds.
+    /// Out of memory, and no other reason holds.
     NoMemory,
 }
 

@@ -6,7 +6,7 @@ use std::alloc::{AllocError, Global};
 use std::collections::BTreeMap;
 use std::marker::Model;
 
-/// A finite map from slots, which takes memory only for the slots that it has.
+/// A finite map from slots. It takes memory only for the slots that it has.
 #[derive(Debug, Drop)]
 pub struct SlotMap<V> {
     entries: BTreeMap<u32, V>,
@@ -21,7 +21,7 @@ impl<V> Model for SlotMap<V> {
 }
 
 impl<V: Copy> SlotMap<V> {
-    /// The empty map. Takes no memory.
+    /// Returns the empty map. Takes no memory.
     pub fn new(alloc: Global) -> SlotMap<V>
         ensures { result ≡ [] }
     {
@@ -36,7 +36,7 @@ impl<V: Copy> SlotMap<V> {
         self.entries.len() == 0
     }
 
-    /// How many slots it has.
+    /// Returns the number of slots in the map.
     pub fn len(&self) -> usize
         ensures { result ≡ length self.now }
     {
@@ -55,7 +55,9 @@ impl<V: Copy> SlotMap<V> {
         self.entries.get(&slot).copied()
     }
 
-    /// Gives a slot this value. Only a new slot takes memory.
+    /// Sets the value of a slot. Takes memory only for a new slot.
+    ///
+    /// Errors: out of memory; the map is unchanged.
     pub fn put(&mut self, slot: u32, value: V) -> Result<(), AllocError>
         ensures ok { OnOk result (self.new ≡ put self.old slot value) }
         ensures err { OnErr result (self.new ≡ self.old) }
@@ -64,7 +66,7 @@ impl<V: Copy> SlotMap<V> {
         Ok(())
     }
 
-    /// Gives a slot that is there this value, which takes no memory.
+    /// Sets the value of a slot that is in the map. Takes no memory.
     pub fn replace(&mut self, slot: u32, value: V)
         requires { has self.old slot ≡ true }
         ensures { self.new ≡ put self.old slot value }
@@ -74,14 +76,14 @@ impl<V: Copy> SlotMap<V> {
         };
     }
 
-    /// Takes a slot out.
+    /// Removes a slot.
     pub fn remove(&mut self, slot: u32)
         ensures { self.new ≡ without self.old slot }
     {
         self.entries.remove(&slot);
     }
 
-    /// Takes all slots out.
+    /// Removes all slots.
     pub fn clear(&mut self)
         ensures { self.new ≡ [] }
     {

@@ -1,4 +1,4 @@
-//! What a run of events left.
+//! The trace of a run: its events with their outcomes.
 ghost use Rattle.std.specs.Prelude.{◌≡◌};
 
 use crate::event::Event;
@@ -6,7 +6,7 @@ use crate::reply::{Refused, Reply};
 use std::marker::Model;
 use thiserror::Error;
 
-/// One event of a run, with its outcome.
+/// A turn (transition): one event of a run, with its worker and its outcome.
 #[derive(Debug, Drop)]
 pub struct Turn {
     pub worker: u32,
@@ -14,7 +14,7 @@ pub struct Turn {
     pub outcome: Result<Reply, Refused>,
 }
 
-/// The events of a run in their order, the refused ones in their places.
+/// The events of a run in their order, including the refused ones.
 #[derive(Debug, Drop)]
 pub struct Trace {
     turns: Vec<Turn>,
@@ -36,7 +36,7 @@ impl Trace {
         Trace { turns }
     }
 
-    /// The turns in their order.
+    /// Returns the turns in their order.
     pub fn as_slice(&self) -> &[Turn]
         ensures { result.now ≡ self.now }
     {
@@ -44,10 +44,10 @@ impl Trace {
     }
 }
 
-/// Memory was refused in a run.
+/// A run was out of memory.
 #[derive(Clone, Copy, Debug, PartialEq, Eq, Error)]
 #[error("no memory after {done} events")]
 pub struct RunError {
-    /// How many events had been applied. No more were.
+    /// The number of events that were applied. No others were.
     pub done: usize,
 }

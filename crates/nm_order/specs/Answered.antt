@@ -1,5 +1,5 @@
--- The moment of an answer, by the log of its worker alone: whatever the run was of which that log
--- is a part.
+-- The moment (linearization point) of an answer, by the log of its worker alone, in any run of
+-- which that log is a part.
 use Rattle.std.specs.Prelude.{◌≡◌, ℕ, ◌≤◌, Bool, true, false, List, [], ◌∷◌, ◌++◌, Some}
 use Rattle.nm_edge.specs.Layouts.{Layout}
 use Rattle.nm_edge.specs.declared.node.NodeId.{NodeId}
@@ -25,7 +25,7 @@ HasMoment L before w Insert k false = WasLegal L before w Insert k false
 HasMoment L before w Delete k true = HasWonDelete L before w k
 HasMoment L before w Delete k false = WasLegal L before w Delete k false
 
--- a run goes up to the worker's answer, which has its moment before, and on from there
+-- the run contains the worker's answer, which has its moment in the turns before it
 pub record IsAnsweredIn (L : Layout) (turns : List (ℕ × Event)) (w : ℕ) (op : Op) (k : ℕ)
     (answer : Bool) : Type 0 where
   pub before : List (ℕ × Event)
@@ -34,11 +34,12 @@ pub record IsAnsweredIn (L : Layout) (turns : List (ℕ × Event)) (w : ℕ) (op
   pub may : MayAnswer (after_in (ordered L) before) w op k answer
   pub moment : HasMoment L before w op k answer
 
--- a log that ends with the answer of its call: in each ordered run of which it is the worker's part
+-- for a log that ends with the answer of its call: in each ordered run of which it is the worker's
+-- part, the answer has its moment
 abbrev pub HasItsMoment : Layout → ℕ → List Entry → Op → ℕ → Bool → Type 0
 HasItsMoment L w log op k answer = (l : IsLogOf L w log) → IsAnsweredIn L l.turns w op k answer
 
--- an answer that a log ends with, of a call whose pin the log confirmed last, has its moment
+-- the answer that a log ends with, of a call whose pin the log confirmed last, has its moment
 abbrev pub AnswersHaveMoments : Type 0
 AnswersHaveMoments = (L : Layout) → 5 ≤ L.nodes
     → (w : ℕ) (log : List Entry) (op : Op) (k : ℕ) (answer : Bool)
@@ -48,11 +49,11 @@ AnswersHaveMoments = (L : Layout) → 5 ≤ L.nodes
 -- ---- a delete that is not answered yet
 
 -- in each ordered run of which a log is the worker's part, its call to delete k has flagged that
--- leaf, under the pin that stands
+-- leaf, under the current pin
 abbrev pub IsPendingIn : Layout → ℕ → List Entry → ℕ → NodeId → Type 0
 IsPendingIn L w log k n = (l : IsLogOf L w log) → (f : HasFlagged L l.turns w k) × (f.flagged ≡ n)
 
--- a log that tells of a flagged leaf is that of a delete which is pending
+-- a log that shows a flagged leaf is that of a pending delete
 abbrev pub PendingDeletesHaveFlagged : Type 0
 PendingDeletesHaveFlagged = (L : Layout) → 5 ≤ L.nodes
     → (w : ℕ) (log : List Entry) (k : ℕ) (n : NodeId)

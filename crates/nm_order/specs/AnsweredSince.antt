@@ -1,5 +1,4 @@
--- The moment of an answer is one of its own call: it lies behind all that was seen before that call
--- began.
+-- The moment of an answer is one of its own call: it is after all turns before that call began.
 use Rattle.std.specs.Prelude.{◌≡◌, ℕ, ◌+◌, ◌<◌, ◌≤◌, Bool, true, false, List, [], ◌∷◌, ◌++◌, length, Some, None, All}
 use Rattle.nm_edge.specs.Layouts.{Layout}
 use Rattle.nm_model.specs.declared.event.Op.{Op}
@@ -15,8 +14,8 @@ use Rattle.nm_order.specs.Exchanges.{MayAnswer}
 use Rattle.nm_order.specs.History.{pin_of}
 use Rattle.nm_order.specs.Answered.{HasMoment}
 
--- how many turns are made at the moment of an answer: the link of a true insert and the cut of a
--- true delete are the last of them
+-- the number of turns that were made up to the moment of an answer: the link of a true insert and
+-- the cut of a true delete are the last of them
 abbrev pub moment_number : (L : Layout) (before : List (ℕ × Event)) (w : ℕ) (op : Op) (k : ℕ)
     (answer : Bool) → HasMoment L before w op k answer → ℕ
 moment_number L before w Has k answer m = length m.before
@@ -25,9 +24,9 @@ moment_number L before w Insert k false m = length m.before
 moment_number L before w Delete k true m = length m.before + 1
 moment_number L before w Delete k false m = length m.before
 
--- by a turn of the run the worker answers, and the log is its part before that turn; the pin of the
--- call was confirmed behind as many turns as the earlier run has, and the moment is later than
--- that, and no later than the answer
+-- the worker answers by a turn of the run, and the log is its part before that turn. The pin of the
+-- call was confirmed after the earlier run, the moment is later than the pin, and it is no later
+-- than the answer
 pub record IsAnsweredSince (L : Layout) (past turns : List (ℕ × Event)) (w : ℕ) (log : List Entry)
     (op : Op) (k : ℕ) (answer : Bool) : Type 0 where
   pub before : List (ℕ × Event)
@@ -40,8 +39,8 @@ pub record IsAnsweredSince (L : Layout) (past turns : List (ℕ × Event)) (w : 
   pub later : pin_of L before w < moment_number L before w op k answer moment
   pub sooner : moment_number L before w op k answer moment ≤ length before
 
--- a worker that had no call in an earlier run, and whose log in the longer one ends with the answer
--- of a call
+-- for a worker that had no call in an earlier run, and whose log in a longer run ends with the
+-- answer of a call
 abbrev pub AnswersAreOfTheirCalls : Type 0
 AnswersAreOfTheirCalls = (L : Layout) → 5 ≤ L.nodes → (w : ℕ) → w < L.workers
     → (past more : List (ℕ × Event)) → All (λ t. HasKey t.1) (past ++ more)

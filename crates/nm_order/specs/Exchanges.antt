@@ -1,5 +1,5 @@
--- Links and flags that a call won, by its worker's log since the pin, and the answers that they
--- stand for.
+-- Links and flags that a call won, by its worker's log after the pin, and the answers that follow
+-- from them.
 use Rattle.std.specs.Prelude.{◌≡◌, ℕ, Bool, true, false, List, [], ◌∷◌, ◌++◌, length, filter, Ok}
 use Rattle.nm_edge.specs.Layouts.{Layout}
 use Rattle.nm_edge.specs.declared.edge.Side.{Side}
@@ -21,7 +21,7 @@ abbrev pub is_won_link : Entry → Bool
 is_won_link (Link parent side leaf new, Linked n) = true
 is_won_link _ = false
 
--- how many such entries a worker's log has since its pin was confirmed
+-- the number of such entries in a worker's log after its pin was confirmed
 abbrev pub how_many : (Entry → Bool) → ℕ → List Turn → ℕ
 how_many is_such w turns = length (filter is_such (since_pin [] (log_of w turns)))
 
@@ -32,31 +32,31 @@ pub record MayAnswer (c : Configuration) (w : ℕ) (op : Op) (k : ℕ) (answer :
   pub called : IsCalled c w op k
   pub leaves : outcome_in c (w, LeaveWith answer) ≡ Ok Departed
 
--- an insert that is true stands for one link, and any other answer for none (from Natarajan and
--- Mittal, section 3.2)
+-- the number of links that a call with this answer has won: one for a true insert, none for any
+-- other answer (from Natarajan and Mittal, section 3.2)
 abbrev pub links_told : Op → Bool → ℕ
 links_told Insert true = 1
 links_told _ _ = 0
 
--- a delete that is true stands for one flag, and any other answer for none (from Natarajan and
--- Mittal, section 3.2)
+-- the number of flags that a call with this answer has won: one for a true delete, none for any
+-- other answer (from Natarajan and Mittal, section 3.2)
 abbrev pub flags_told : Op → Bool → ℕ
 flags_told Delete true = 1
 flags_told _ _ = 0
 
--- since its pin a worker won just the links that its answer stands for
+-- after its pin a worker won exactly the number of links that its answer implies
 abbrev pub AnswersTellLinks : Layout → List (ℕ × Event) → Type 0
 AnswersTellLinks L turns = (w : ℕ) (op : Op) (k : ℕ) (answer : Bool)
     → MayAnswer (after_in (ordered L) turns) w op k answer
     → how_many is_won_link w (trace_in (ordered L) turns) ≡ links_told op answer
 
--- and just the flags
+-- after its pin a worker won exactly the number of flags that its answer implies
 abbrev pub AnswersTellFlags : Layout → List (ℕ × Event) → Type 0
 AnswersTellFlags L turns = (w : ℕ) (op : Op) (k : ℕ) (answer : Bool)
     → MayAnswer (after_in (ordered L) turns) w op k answer
     → how_many is_won_flag w (trace_in (ordered L) turns) ≡ flags_told op answer
 
--- a worker that may leave without an answer won neither
+-- a worker that may leave without an answer has won no link and no flag after its pin
 abbrev pub SilentLeavesWonNothing : Layout → List (ℕ × Event) → Type 0
 SilentLeavesWonNothing L turns =
     (w : ℕ) → outcome_in (after_in (ordered L) turns) (w, Leave) ≡ Ok Departed
@@ -65,7 +65,7 @@ SilentLeavesWonNothing L turns =
 
 -- ---- the moment of an insert
 
--- under the pin that stands since, the worker's call to insert k won a link, and by it the set
+-- under the pin that lasts from then on, the worker's call to insert k won a link. By it the set
 -- gained k, which was not in it, and nothing else (Natarajan and Mittal, section 3.2, insert)
 pub record HasWonInsert (L : Layout) (turns : List (ℕ × Event)) (w k : ℕ) : Type 0 where
   pub before : List (ℕ × Event)
@@ -91,8 +91,8 @@ TrueInsertsHaveInserted L turns =
 
 -- ---- the moment of a delete's flag
 
--- under the pin that stands since, the worker's call to delete k won a flag on the edge to the leaf
--- with key k (Natarajan and Mittal, section 3.2, injection)
+-- under the pin that lasts from then on, the worker's call to delete k won a flag on the edge to
+-- the leaf with key k (Natarajan and Mittal, section 3.2, injection)
 pub record HasFlagged (L : Layout) (turns : List (ℕ × Event)) (w k : ℕ) : Type 0 where
   pub before : List (ℕ × Event)
   pub since : List (ℕ × Event)

@@ -1,5 +1,5 @@
--- Facts that stay: what a worker's log tells it under one pin, in pieces that no later event of
--- that pin takes back.
+-- Facts that stay: what a worker's log shows under one pin, in pieces that no later event of that
+-- pin makes false.
 use Rattle.std.specs.Prelude.{◌≡◌, ℕ, ◌≤◌, true, false, List, [], ◌∷◌, ◌++◌, Some, Contains}
 use Rattle.nm_edge.specs.Edges.{Edge}
 use Rattle.nm_edge.specs.Keys.{IsKey}
@@ -17,31 +17,31 @@ use Rattle.nm_model.specs.Walks.{Entry, search_after, begins_anew}
 use Rattle.nm_model.specs.Ordered.{ordered, after_in}
 use Rattle.nm_order.specs.Logs.{known_by, IsLogOf}
 
--- the walks of a call since its pin, or since the flag that it won
+-- the walks of a call after its pin, or after the flag that it won
 pub data Since : Type 0 where
   ThePin : Since
   TheFlag : Since
 
--- a piece of what a worker's log tells that stays so while its pin stands; of walks those since the
--- pin, or since the flag (`Since`)
+-- a piece of what a worker's log shows, that stays true while its pin lasts. A fact of walks is of
+-- those after the pin, or of those after the flag (`Since`)
 pub data Fact : Type 0 where
   -- the worker is pinned at that epoch
   IsPinned : ℕ → Fact
-  -- it knows that slot; and as a leaf
+  -- it knows that slot, and it knows that slot as a leaf
   KnowsSlot : ℕ → Fact
   KnowsLeaf : ℕ → Fact
-  -- the edge of a slot on a side is tagged, and leads to another slot; is flagged, and leads to
-  -- another
+  -- the edge of a slot on a side is tagged and leads to another slot, and the same for a flagged
+  -- edge
   IsTagged : ℕ → Side → ℕ → Fact
   IsFlagged : ℕ → Side → ℕ → Fact
-  -- the edge of a slot on a side is tagged, and is this one, with this flag too
+  -- the edge of a slot on a side is tagged and is exactly this one, including its flag
   IsFrozen : ℕ → Side → Edge → Fact
   -- a slot has that birth
   IsBorn : ℕ → ℕ → Fact
   -- the pin is for a call of that operation on that key
   CallIs : Op → ℕ → Fact
   -- a walk of the call, for a key, came to a slot by a parent's edge on a side; it read a key
-  -- there; and it ended there
+  -- there; it ended there
   Came : Since → ℕ → ℕ → ℕ → Side → Fact
   ReadKey : Since → ℕ → ℕ → ℕ → Side → ℕ → Fact
   EndedAt : Since → ℕ → ℕ → ℕ → Side → ℕ → Fact
@@ -63,7 +63,7 @@ pub record Arrived (s : Search) (since : Since) (k slot parent : ℕ) (side : Si
   pub is_parent : arrival.parent ≡ parent
   pub is_side : arrival.side ≡ side
 
--- what a worker knows, with its search, tells the fact
+-- the fact follows from what a worker knows and from its search
 abbrev pub HoldsIn : Knowledge → Search → Fact → Type 0
 HoldsIn known s (IsPinned epoch) = known.brief.pin ≡ Some epoch
 HoldsIn known s (KnowsSlot slot) = knows known slot ≡ true
@@ -81,20 +81,20 @@ HoldsIn known s (ReadKey since k slot parent side key) =
 HoldsIn known s (EndedAt since k slot parent side key) =
     (a : Arrived s since k slot parent side) × (a.arrival.key ≡ Some key) × (a.arrival.ended ≡ true)
 
--- the log of worker w tells the fact, by the knowledge and the search that it tells
+-- the fact follows from the log of worker w, by the knowledge and the search of that log
 abbrev pub Holds : Layout → ℕ → List Entry → Fact → Type 0
 Holds L w log fact = HoldsIn (known_by L w log) (search_after idle log) fact
 
 -- ---- facts are true
 
--- a slot that is in nobody's hands: neither in the pool nor private to any worker
+-- a slot that is neither in the pool nor private to any worker
 pub record IsShared (s : State) (slot : ℕ) : Type 0 where
   pub not_pooled : in_pool s.memory slot ≡ false
   pub not_private : (u : ℕ) → is_private (of s u) slot ≡ false
 
--- what a fact of worker w says of the state as it is: the announcement is that epoch, the slot is
--- shared, the node is a leaf, the edge has that mark and leads there, the birth or the key is that
--- one
+-- what a fact of worker w says of the current state: the announcement is that epoch, the slot is
+-- shared, the node is a leaf, the edge has that mark and leads there, or the birth or the key is
+-- that one
 abbrev pub IsTrueIn : State → ℕ → Fact → Type 0
 IsTrueIn s w (IsPinned epoch) = announcement s.memory w ≡ Some epoch
 IsTrueIn s w (KnowsSlot slot) = IsShared s slot
@@ -120,8 +120,8 @@ FactsAreTrue = (L : Layout) → 5 ≤ L.nodes
 
 -- ---- facts stay
 
--- while no pin begins or ends, each fact that a worker's log holds is held by it with one entry
--- more
+-- each fact that a worker's log holds is still held after one more entry that neither begins nor
+-- ends a pin
 abbrev pub FactsStay : Type 0
 FactsStay = (L : Layout) → 5 ≤ L.nodes → (w : ℕ) (log : List Entry) (entry : Entry)
     → IsLogOf L w (log ++ entry ∷ []) → begins_anew entry ≡ false → (fact : Fact)
@@ -129,21 +129,21 @@ FactsStay = (L : Layout) → 5 ≤ L.nodes → (w : ℕ) (log : List Entry) (ent
 
 -- ---- marked edges
 
--- a slot of which a worker knows a flagged edge is one of the pool's range: none of the fixed nodes
--- has one
+-- a slot of which a worker knows a flagged edge is one of the pool's range: no fixed node has such
+-- an edge
 abbrev pub FlaggedSlotsStandHigh : Type 0
 FlaggedSlotsStandHigh = (L : Layout) → 5 ≤ L.nodes → (w : ℕ) (log : List Entry) → IsLogOf L w log
     → (x to : ℕ) (side : Side) → Holds L w log (IsFlagged x side to) → 6 ≤ x
 
--- so is one of which it knows a tagged edge, whose twin is flagged
+-- a slot of which a worker knows a tagged edge is one of the pool's range
 abbrev pub TaggedSlotsStandHigh : Type 0
 TaggedSlotsStandHigh = (L : Layout) → 5 ≤ L.nodes → (w : ℕ) (log : List Entry) → IsLogOf L w log
     → (x to : ℕ) (side : Side) → Holds L w log (IsTagged x side to) → 6 ≤ x
 
 -- ---- the leaf that a call flagged
 
--- where a walk that began after the flag came to the flagged leaf, the edge by which it came is
--- known flagged
+-- if a walk that began after the flag came to the flagged leaf, the edge by which it came is known
+-- as flagged
 abbrev pub LaterWalksFindTheFlag : Type 0
 LaterWalksFindTheFlag = (L : Layout) → 5 ≤ L.nodes → (w : ℕ) (log : List Entry) → IsLogOf L w log
     → (n : NodeId) (k parent : ℕ) (side : Side)

@@ -1,5 +1,4 @@
--- What a worker has in its hands, as its log tells it: private slots, and the queues of the ledgers
--- that it holds.
+-- What a worker holds, by its log: private slots, and the queues of the ledgers that it holds.
 use Rattle.std.specs.Prelude.{◌≡◌, ℕ, ◌<◌, ◌≤◌, false, true, List, ◌++◌, map, Some, None, IsSome, slice_get}
 use Rattle.nm_edge.specs.Layouts.{Layout}
 use Rattle.nm_model.specs.declared.ledger.Ledger.{Ledger}
@@ -14,7 +13,7 @@ use Rattle.nm_order.specs.Logs.{known_by, IsLogOf}
 abbrev pub WaitsAt : Knowledge → ℕ → ℕ → Queued → Type 0
 WaitsAt k origin i e = slice_get (queue_of (held k.ledgers origin)) i ≡ Some e
 
--- one of the slots that are claimed and given back
+-- one of the slots that are claimed and given to the pool
 abbrev pub IsPooled : Layout → ℕ → Type 0
 IsPooled L x = (6 ≤ x) × (x ≤ L.nodes)
 
@@ -28,23 +27,23 @@ pub record AreApart (L : Layout) (k : Knowledge) : Type 0 where
       → e.node.slot ≡ f.node.slot → (o ≡ p) × (i ≡ j)
   pub origins : (o : ℕ) → IsSome (held k.ledgers o) → o < L.workers
 
--- the hands of each worker, as its part of any ordered run tells them
+-- for each worker, by its part of any ordered run
 abbrev pub HandsAreApart : Type 0
 HandsAreApart = (L : Layout) → 5 ≤ L.nodes → (w : ℕ) (log : List Entry) → IsLogOf L w log
     → AreApart L (known_by L w log)
 
 -- ---- the ledgers that it holds
 
--- of each ledger that worker w holds, what was retired is what was freed and then what waits, in
--- this order; and an entry without a label waits in the own queue alone, after a cut that its brief
--- tells of
+-- of each ledger that worker w holds, the retired nodes are the freed ones and then the waiting
+-- ones, in this order. An entry without a label waits in the worker's own queue only, after a cut
+-- that its brief shows as unlabelled
 pub record LedgersAreKept (w : ℕ) (k : Knowledge) : Type 0 where
   pub split : (o : ℕ) (l : Ledger) → held k.ledgers o ≡ Some l
       → l.retired ≡ l.freed ++ map node_in l.queue
   pub labelled : (o i : ℕ) (e : Queued) → WaitsAt k o i e → e.label ≡ None
       → (o ≡ w) × (k.brief.unlabelled ≡ true)
 
--- the ledgers of each worker, as its part of any ordered run tells them
+-- for the ledgers that each worker holds, by its part of any ordered run
 abbrev pub HeldLedgersAreKept : Type 0
 HeldLedgersAreKept = (L : Layout) → 5 ≤ L.nodes → (w : ℕ) (log : List Entry) → IsLogOf L w log
     → LedgersAreKept w (known_by L w log)

@@ -22,8 +22,8 @@ use Rattle.nm_order.specs.Legal.{changes}
 
 -- ---- lists of acts
 
--- an act may stand behind one of that moment, which was quiet where it changed nothing: it is
--- later, or of the same moment, and then it is no change where the one before it was quiet
+-- an act may come next after one of that moment. It is later, or it is of the same moment; then it
+-- is no change if the act before it changed nothing (was quiet)
 abbrev pub ComesNext : ℕ → Bool → Act → Type 0
 ComesNext m quiet a = (m < a.moment)
     ⊎ ((m ≡ a.moment) × (quiet ≡ true → changes a.op a.answer ≡ false))
@@ -45,14 +45,14 @@ EachOnce (a ∷ acts) = ((b : Act) → IsAmong acts b → SameCall a b → ⊥) 
 
 -- ---- calls of a run
 
--- the number of the last of these turns, the first of which is number n, by which a worker
--- confirmed or left a pin; so_far, where there is none
+-- the number of the last of these turns by which a worker confirmed or left a pin, if the first of
+-- them is number n; so_far, if there is none
 abbrev pub last_anew : ℕ → ℕ → ℕ → List Turn → ℕ
 last_anew w so_far n [] = so_far
 last_anew w so_far n (t ∷ turns) =
     last_anew w (if list_any begins_anew (log_of w (t ∷ [])) then n else so_far) (n + 1) turns
 
--- the number of the turn that confirmed a worker's pin, which stands
+-- the number of the turn that confirmed a worker's current pin
 abbrev pub pin_of : Layout → List (ℕ × Event) → ℕ → ℕ
 pin_of L turns w = last_anew w 0 0 (trace_in (ordered L) turns)
 
@@ -63,9 +63,9 @@ HasChanged L turns w Has k = ⊥
 HasChanged L turns w Insert k = HasWonInsert L turns w k
 HasChanged L turns w Delete k = HasWonDelete L turns w k
 
--- an act of a run: a call with its answer, or one that has made its change and is not answered yet;
--- and its moment is one of the call, later than its pin and no later than its answer (Herlihy and
--- Wing, completions of a history)
+-- an act of a run: a call with its answer, or one that has made its change and is not answered yet.
+-- Its moment is one of the call: later than its pin and no later than its answer (Herlihy and Wing,
+-- completions of a history)
 pub data IsActOfRun (L : Layout) (turns : List (ℕ × Event)) (a : Act) : Type 0 where
   IsAnswered : (before since : List (ℕ × Event))
       → turns ≡ before ++ (a.worker, LeaveWith a.answer) ∷ since
@@ -102,16 +102,16 @@ pub record LeadsTo (acts : List Act) (moment : ℕ) (keys : ℕ → Type 0) : Ty
   pub beyond : (a : Act) → IsAmong later a → moment < a.moment
   pub replays : Replays nothing first keys
 
--- the history of a run: these acts are its answered calls and its unanswered calls that have made
--- their change, each once, in the order of their moments, and those of one cut in that cut's order;
--- and one plain set, empty at first, gives each its answer, and has at each moment, and at last,
--- the keys of the tree then (Herlihy and Wing, section 3, linearizability)
+-- the history of a run. These acts are its answered calls and its unanswered calls that have made
+-- their change, each once, in the order of their moments; those of one cut are in that cut's order.
+-- One plain set, empty at first, gives each its answer, and at each moment and at the end it has
+-- the keys of the tree (Herlihy and Wing, section 3, linearizability)
 pub record IsRunHistory (L : Layout) (turns : List (ℕ × Event)) (acts : List Act) : Type 0 where
   pub replays : Replays nothing acts (InSet (after_in (ordered L) turns).state.memory)
   pub in_order : InOrderOfMoments 0 false acts
   pub once : EachOnce acts
-  -- a link that is won is the moment of its own insert, and a cut that of the deletes whose leaves
-  -- it cuts, in its order
+  -- a link that is won is the moment of its own insert; a cut is the moment of the deletes whose
+  -- leaves it cuts, in its order
   pub links : (before since : List (ℕ × Event)) (w parent : ℕ) (side : Side) (leaf new : ℕ)
       (n : NodeId) (k : ℕ) → turns ≡ before ++ (w, Link parent side leaf new) ∷ since
       → outcome_in (after_in (ordered L) before) (w, Link parent side leaf new) ≡ Ok (Linked n)

@@ -1,5 +1,5 @@
--- The interval of a node: the keys whose search from the root comes to it; and what ordered runs
--- keep of it.
+-- The interval of a node: the keys whose search from the root comes to it, and what ordered runs
+-- preserve of it.
 use Rattle.std.specs.Prelude.{◌≡◌, ◌⊎◌, ◌↔◌, ℕ, ◌<◌, ◌≤◌, true, false, Contains, AllPairs, Ok, List, [], ◌∷◌, slice_get, All, Some}
 use Rattle.nm_edge.specs.Edges.{to}
 use Rattle.nm_edge.specs.Layouts.{Layout}
@@ -20,8 +20,8 @@ use Rattle.nm_model.specs.Ordered.{Configuration, ordered, after_in, next_in, ou
 pub use Rattle.nm_model.specs.Ordered.{HasKey}
 use Rattle.nm_model.specs.Acts.{InSet}
 
--- a search for k goes that way from a slot: at each node to the side of k (Natarajan and Mittal,
--- section 3.1)
+-- a search for k goes along this path from a slot: at each node to the side of k (Natarajan and
+-- Mittal, section 3.1)
 abbrev pub GoesBy : (ℕ → Side → ℕ) → (ℕ → ℕ) → ℕ → ℕ → List Side → Type 0
 GoesBy children keys k s [] = Unit {0}
 GoesBy children keys k s (side ∷ sides) =
@@ -30,25 +30,25 @@ GoesBy children keys k s (side ∷ sides) =
 abbrev pub key : Memory → ℕ → ℕ
 key m x = (node m x).key
 
--- the interval of a slot: the keys, sentinels too, for which the search from the root comes to it
--- (Natarajan and Mittal, section 4)
+-- the interval of a slot: the keys, including sentinels, for which the search from the root comes
+-- to it (Natarajan and Mittal, section 4)
 pub record InInterval (m : Memory) (k x : ℕ) : Type 0 where
   pub path : List Side
   pub ends : at m path ≡ x
   pub goes : GoesBy (child m) (key m) k 1 path
 
--- in every run of an ordered core of at least 5 nodes from its opening, with calls for keys of the
--- set: of the configuration to which it leads
+-- holds of the configuration to which every run leads: the runs of an ordered core of at least 5
+-- nodes from its opening, with calls for keys of the set
 abbrev pub OfEachOrdered : (Configuration → Type 0) → Type 0
 OfEachOrdered P = (L : Layout) → 5 ≤ L.nodes → (turns : List (ℕ × Event))
     → All (λ t. HasKey t.1) turns → P (after_in (ordered L) turns)
 
--- each reached node's key lies in its interval
+-- each reached node's key is in its interval
 abbrev pub KeysLieInIntervals : Configuration → Type 0
 KeysLieInIntervals c = (x : ℕ) → Reached c.state.memory x
     → InInterval c.state.memory (key c.state.memory x) x
 
--- no two reached leaves have one key
+-- no two reached leaves have the same key
 abbrev pub LeavesHaveTheirOwnKeys : Configuration → Type 0
 LeavesHaveTheirOwnKeys c = (x y : ℕ) → Reached c.state.memory x → Reached c.state.memory y
     → is_leaf (node c.state.memory x) ≡ true → is_leaf (node c.state.memory y) ≡ true
@@ -64,7 +64,8 @@ pub record HasCome (c : Configuration) (u k : ℕ) (a : Arrival) : Type 0 where
   pub index : ℕ
   pub is : slice_get (search_of searches u).walks index ≡ Some a
 
--- in the shape of Natarajan and Mittal: where an internal node to which a walk came is reached now, the walk's key is in its interval now
+-- in the shape of Natarajan and Mittal: if an internal node to which a walk came is reached now,
+-- the walk's key is in its interval now
 abbrev pub WalksStayInOrder : Configuration → Type 0
 WalksStayInOrder c = c.state.layout.radix ≡ false → (u k : ℕ) (a : Arrival) → HasCome c u k a → Reached c.state.memory a.slot
     → is_leaf (node c.state.memory a.slot) ≡ false → InInterval c.state.memory k a.slot
@@ -112,10 +113,10 @@ FlagsMarkLeaves c = (w p : ℕ) (side : Side) (leaf : ℕ) (n : NodeId)
     → outcome_in c (w, Flag p side leaf) ≡ Ok (Flagged n)
     → (k : ℕ) × IsCalled c w Delete k × Marks c.state.memory p side leaf n k
 
--- the keys that a core tells are those of the set, without the sentinels
+-- the keys that a core reports are those of the set, without the sentinels
 abbrev pub KeysTellTheSet : Configuration → Type 0
 KeysTellTheSet c = (k : ℕ) → Contains (keys c.state) k ↔ InSet c.state.memory k × (k < infinity_0)
 
--- and they ascend
+-- the keys that a core reports ascend
 abbrev pub KeysAscend : Configuration → Type 0
 KeysAscend c = AllPairs (λ j k. j < k) (keys c.state)

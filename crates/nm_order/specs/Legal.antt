@@ -1,4 +1,4 @@
--- That an answer which changes nothing was right at a moment of its call.
+-- An answer that changes nothing was right at a moment of its call.
 use Rattle.std.specs.Prelude.{◌≡◌, ℕ, Bool, false, List, ◌++◌}
 use Rattle.nm_edge.specs.Layouts.{Layout}
 use Rattle.nm_model.specs.declared.event.Op.{Op}
@@ -17,8 +17,8 @@ changes Has answer = false
 changes Insert answer = answer
 changes Delete answer = answer
 
--- at a moment under the pin that stands since, a plain set of the keys of the reached leaves gives
--- the answer to the call (Herlihy and Wing)
+-- at a moment under the pin that lasts from then on, a plain set of the keys of the reached leaves
+-- gives the answer to the call (Herlihy and Wing)
 pub record WasLegal (L : Layout) (turns : List (ℕ × Event)) (w : ℕ) (op : Op) (k : ℕ)
     (answer : Bool) : Type 0 where
   pub before : List (ℕ × Event)
@@ -28,7 +28,7 @@ pub record WasLegal (L : Layout) (turns : List (ℕ × Event)) (w : ℕ) (op : O
   pub stands : PinStands w (trace_in (after_in (ordered L) before) since)
   pub gives : Gives (InSet (after_in (ordered L) before).state.memory) op k answer
 
--- an answer that changes nothing was right at a moment since the pin
+-- an answer that changes nothing was right at a moment under the pin
 abbrev pub OtherAnswersWereLegal : Layout → List (ℕ × Event) → Type 0
 OtherAnswersWereLegal L turns =
     (w : ℕ) (op : Op) (k : ℕ) (answer : Bool) → MayAnswer (after_in (ordered L) turns) w op k answer

@@ -10,7 +10,7 @@ use Rattle.nm_order.specs.Logs.{part_of}
 use Rattle.nm_order.specs.Totals.{is_for, links_of, flags_of}
 use Rattle.nm_order.specs.WalksToArrivals.{is_won_flag}
 
--- how many entries of a log are such, in calls for k, after what was told of the call before
+-- the number of such entries of a log in calls for k, if the search before it was s
 unfoldable pub log_often : (Entry → Bool) → ℕ → Search → List Entry → ℕ
 log_often is_such k s [] = 0
 log_often is_such k s (e ∷ es) =
@@ -21,7 +21,7 @@ abbrev pub sum_of : (ℕ → ℕ) → ℕ → ℕ
 sum_of f zero = 0
 sum_of f (suc n) = sum_of f n + f n
 
--- the links, and the flags, of a run are those in its workers' parts
+-- the numbers of links and of flags of a run are the sums over its workers' parts
 abbrev pub TotalsAreInTheLogs : Layout → List (ℕ × Event) → Type 0
 TotalsAreInTheLogs L turns = (k : ℕ)
     → (links_of k L turns ≡ sum_of

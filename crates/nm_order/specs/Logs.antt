@@ -1,4 +1,4 @@
--- The part of each worker in a run, and what it tells of that worker's knowledge.
+-- The part of each worker in a run, and what follows from it of that worker's knowledge.
 use Rattle.std.specs.Prelude.{◌≡◌, ℕ, ◌<◌, ◌==◌, Bool, false, ◌||◌, List, [], ◌∷◌, ◌++◌, if◌then◌else◌, All}
 use Rattle.nm_edge.specs.Layouts.{Layout}
 use Rattle.nm_model.specs.declared.event.Event.{Event}
@@ -16,22 +16,22 @@ abbrev pub is_leaver : ℕ → Event → Bool
 is_leaver w (Join v) = v == w
 is_leaver w _ = false
 
--- a worker takes part in what it does, and in a join by which it resigns
+-- a worker takes part in its own events, and in a join by which it resigns
 abbrev pub takes_part : ℕ → ℕ → Event → Bool
 takes_part w u e = (u == w) || is_leaver w e
 
 -- worker w's part of these turns, in their order: its own entries, and the join by which it
--- resigns. (`log_of` has the own entries alone.)
+-- resigns. (`log_of` has only its own entries.)
 abbrev pub part_of : ℕ → List Turn → List Entry
 part_of w [] = []
 part_of w (t ∷ ts) = (if takes_part w t.worker t.event then logged_by t else []) ++ part_of w ts
 
--- what worker w knows after a log, by what it knew before
+-- what worker w knows after a log, from what it knew before
 abbrev pub known_after : ℕ → Knowledge → List Entry → Knowledge
 known_after w k [] = k
 known_after w k (e ∷ es) = known_after w (learn w k e.0 e.1) es
 
--- what a log tells of the knowledge of its worker, which began with nothing
+-- what the worker of a log knows after it, if it began with no knowledge
 abbrev pub known_by : Layout → ℕ → List Entry → Knowledge
 known_by L w log = known_after w (newcomer L w) log
 
@@ -42,7 +42,7 @@ pub record IsLogOf (L : Layout) (w : ℕ) (log : List Entry) : Type 0 where
   pub keys : All (λ t. HasKey t.1) turns
   pub is_part : part_of w (trace_in (ordered L) turns) ≡ log
 
--- in every ordered run, what a worker knows is what its part tells
+-- in every ordered run, what a worker knows follows from its part
 abbrev pub LogsTellWhatIsKnown : Type 0
 LogsTellWhatIsKnown = (L : Layout) (turns : List (ℕ × Event)) (w : ℕ) → w < L.workers
     → of (after_in (ordered L) turns).state w

@@ -1,4 +1,4 @@
--- Moments of an ordered run: what was so at some moment since a worker's pin was confirmed.
+-- Moments of an ordered run, and the turns in which a worker's pin lasts.
 use Rattle.std.specs.Prelude.{◌≡◌, ℕ, ◌≤◌, false, List, All}
 use Rattle.std.specs.List.{list_any}
 use Rattle.nm_edge.specs.Layouts.{Layout}
@@ -7,7 +7,7 @@ use Rattle.nm_model.specs.declared.trace.Turn.{Turn}
 use Rattle.nm_model.specs.Walks.{log_of, begins_anew}
 use Rattle.nm_order.specs.Intervals.{HasKey}
 
--- in every ordered run, of its layout and its turns
+-- holds of the layout and the turns of every ordered run
 abbrev pub OfEachOrderedRun : (Layout → List (ℕ × Event) → Type 0) → Type 0
 OfEachOrderedRun P = (L : Layout) → 5 ≤ L.nodes → (turns : List (ℕ × Event))
     → All (λ t. HasKey t.1) turns → P L turns

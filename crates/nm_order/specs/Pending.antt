@@ -10,8 +10,8 @@ use Rattle.nm_model.specs.Paths.{Reached}
 use Rattle.nm_model.specs.Ordered.{ordered, outcome_in, after_in}
 use Rattle.nm_order.specs.Exchanges.{HasFlagged}
 
--- one delete to which a leaf belongs: a call under a pin that stands has flagged it, and no other
--- such call has
+-- a leaf belongs to one delete: a call under its current pin has flagged it, and no call of another
+-- worker has
 pub record IsOfOneDelete (L : Layout) (turns : List (ℕ × Event)) (n : NodeId) : Type 0 where
   pub worker : ℕ
   pub key : ℕ

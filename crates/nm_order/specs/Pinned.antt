@@ -1,4 +1,4 @@
--- Who is pinned, by the own log alone.
+-- The pin of a worker, by its own log alone.
 use Rattle.std.specs.Prelude.{◌≡◌, ℕ, ◌≤◌, List, [], ◌∷◌, Option, Some, None}
 use Rattle.nm_edge.specs.Layouts.{Layout}
 use Rattle.nm_model.specs.declared.event.Event.{Event}
@@ -7,8 +7,8 @@ use Rattle.nm_model.specs.declared.reply.Reply.TheVariants.{Pinned, Departed}
 use Rattle.nm_model.specs.Runs.{of, start, after, trace}
 use Rattle.nm_model.specs.Walks.{Entry, log_of}
 
--- a sight, for a call or for none, that was answered `pinned` pins at that epoch, and a leave, with
--- an answer or without, unpins (Fraser, section 5, critical region)
+-- a sight that was answered `pinned`, with or without a call, pins at that epoch; a leave, with or
+-- without an answer, unpins (Fraser, section 5, critical region)
 abbrev pub pinned_by : Option ℕ → Entry → Option ℕ
 pinned_by pin (Sight, Pinned e) = Some e
 pinned_by pin (SightFor op key, Pinned e) = Some e
@@ -16,14 +16,14 @@ pinned_by pin (Leave, Departed) = None
 pinned_by pin (LeaveWith answer, Departed) = None
 pinned_by pin _ = pin
 
--- the epoch at which a log leaves its worker pinned, if it does (Fraser, section 5, critical
+-- the epoch at which a worker is pinned after its log, if it is (Fraser, section 5, critical
 -- region)
 abbrev pub pinned_after : Option ℕ → List Entry → Option ℕ
 pinned_after pin [] = pin
 pinned_after pin (entry ∷ entries) = pinned_after (pinned_by pin entry) entries
 
--- in every run, a worker is pinned at an epoch just where the last sight of it that was answered
--- `pinned` is at that epoch, and no leave of it came behind
+-- in every run, a worker is pinned at an epoch exactly if its last sight that was answered `pinned`
+-- is at that epoch, and no leave of it came after
 abbrev pub PinsAreTold : Type 0
 PinsAreTold = (L : Layout) → 5 ≤ L.nodes → (turns : List (ℕ × Event)) (w : ℕ)
     → (of (after (start L) turns) w).brief.pin

@@ -8,8 +8,8 @@ use Rattle.nm_model.specs.declared.reply.Reply.TheVariants.{Saw, Labelled, Pinne
 use Rattle.nm_model.specs.Walks.{Entry}
 use Rattle.nm_order.specs.Logs.{known_by, IsLogOf}
 
--- `sight_epoch`, `left_by_advance`: the epoch that a sight answers, and the one that a move leaves
--- or finds
+-- `sight_epoch`, `left_by_advance`: the epoch that a sight returns, and the epoch after an advance,
+-- which moved it or found another one
 abbrev pub sight_epoch : Reply → Option ℕ
 sight_epoch (Saw e) = Some e
 sight_epoch (Labelled e) = Some e
@@ -22,21 +22,21 @@ left_by_advance (Moved e) = Some e
 left_by_advance (Behind e) = Some e
 left_by_advance _ = None
 
--- the epoch that an event with its reply tells: a sight the one that it found, an advance the one
--- that stands after it
+-- the epoch that an event with its reply shows: for a sight the one that it found, for an advance
+-- the one after it
 abbrev pub epoch_read : Event → Reply → Option ℕ
 epoch_read Sight r = sight_epoch r
 epoch_read (SightFor op key) r = sight_epoch r
 epoch_read Advance r = left_by_advance r
 epoch_read _ r = None
 
--- an entry of the log tells that epoch
+-- an entry of the log shows that epoch
 pub record HasRead (log : List Entry) (epoch : ℕ) : Type 0 where
   pub entry : Entry
   pub among : Contains log entry
   pub tells : epoch_read entry.0 entry.1 ≡ Some epoch
 
--- what a worker has read last is the greatest epoch that it has read
+-- the worker has read an epoch last, and this one is no greater
 pub record ReadLast (log : List Entry) (seen : Option ℕ) (epoch : ℕ) : Type 0 where
   pub last : ℕ
   pub is_seen : seen ≡ Some last

@@ -1,4 +1,4 @@
--- The order of calls in time, and that of their acts in a history; and that each call has one act.
+-- The order of calls in time and of their acts in a history; each call has one act.
 use Rattle.std.specs.Prelude.{◌≡◌, ℕ, ◌<◌, List, ◌∷◌, ◌++◌, length}
 use Rattle.nm_edge.specs.Layouts.{Layout}
 use Rattle.nm_model.specs.declared.event.Event.{Event}
@@ -8,7 +8,7 @@ use Rattle.nm_order.specs.Exchanges.{MayAnswer}
 use Rattle.nm_model.specs.Acts.{Act, IsAmong}
 use Rattle.nm_order.specs.History.{SameCall, pin_of, IsRunHistory}
 
--- one act stands before another (Herlihy and Wing, section 2, real-time order)
+-- one act comes before another (Herlihy and Wing, section 2, real-time order)
 pub record Precedes (acts : List Act) (a b : Act) : Type 0 where
   pub front : List Act
   pub between : List Act
@@ -25,22 +25,22 @@ pub record EndsBefore (L : Layout) (turns : List (ℕ × Event)) (a : Act) (n : 
   pub is_pin : a.pin ≡ pin_of L before a.worker
   pub early : length before < n
 
--- calls that do not overlap stand in their order: one that was answered before the other's pin was
--- confirmed comes first; and so do the calls of each worker (Herlihy and Wing, section 2, real-time
--- order)
+-- calls that do not overlap keep their order: one that was answered before the other's pin was
+-- confirmed comes first; and the calls of each worker keep their order (Herlihy and Wing, section
+-- 2, real-time order)
 pub record KeepsRealTime (L : Layout) (turns : List (ℕ × Event)) (acts : List Act) : Type 0 where
   pub apart : (a b : Act) → IsAmong acts a → IsAmong acts b → EndsBefore L turns a b.pin
       → Precedes acts a b
   pub own : (a b : Act) → IsAmong acts a → IsAmong acts b → a.worker ≡ b.worker → a.pin < b.pin
       → Precedes acts a b
 
--- of each call a history has one act
+-- a history has one act for each call
 abbrev pub HistoriesHaveOneActACall : Layout → List (ℕ × Event) → Type 0
 HistoriesHaveOneActACall L turns =
     (acts : List Act) → IsRunHistory L turns acts → (a b : Act) → IsAmong acts a → IsAmong acts b
     → SameCall a b → a ≡ b
 
--- each history of a run keeps that order
+-- each history of a run keeps the real-time order
 abbrev pub HistoriesKeepRealTime : Layout → List (ℕ × Event) → Type 0
 HistoriesKeepRealTime L turns =
     (acts : List Act) → IsRunHistory L turns acts → KeepsRealTime L turns acts

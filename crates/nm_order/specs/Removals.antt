@@ -1,5 +1,5 @@
--- The moment of a delete: the cut that contains the leaf which it flagged; and what a cut takes
--- from the set.
+-- The moment of a delete: the cut that contains the leaf that it flagged; and the keys that a cut
+-- removes from the set.
 use Rattle.std.specs.Prelude.{◌≡◌, ◌↔◌, ℕ, true, List, ◌∷◌, ◌++◌, Contains, Ok}
 use Rattle.nm_edge.specs.Layouts.{Layout}
 use Rattle.nm_edge.specs.declared.node.NodeId.{NodeId}
@@ -25,13 +25,13 @@ pub record Loses (before after : Memory) (ns : List NodeId) : Type 0 where
   pub had : (k : ℕ) → IsKeyOf before ns k → InSet before k
   pub now : (k : ℕ) → InSet after k ↔ InSet before k × (IsKeyOf before ns k → ⊥)
 
--- a cut takes from the set just the keys of its leaves
+-- a cut removes from the set exactly the keys of its leaves
 abbrev pub CutsTakeTheirKeys : Configuration → Type 0
 CutsTakeTheirKeys c = (turn : ℕ × Event) (ns : List NodeId) → outcome_in c turn ≡ Ok (Cut ns)
     → Loses c.state.memory (next_in c turn).state.memory ns
 
--- under the pin that stands since, the worker's call to delete k had flagged its leaf, and
--- somebody's splice cut that leaf (Natarajan and Mittal, section 3.2, cleanup, with helpers)
+-- under the pin that lasts from then on, the worker's call to delete k had flagged its leaf, and a
+-- splice of some worker cut that leaf (Natarajan and Mittal, section 3.2, cleanup, with helpers)
 pub record HasWonDelete (L : Layout) (turns : List (ℕ × Event)) (w k : ℕ) : Type 0 where
   pub before : List (ℕ × Event)
   pub cut : ℕ × Event
@@ -43,7 +43,7 @@ pub record HasWonDelete (L : Layout) (turns : List (ℕ × Event)) (w k : ℕ) :
   pub among : Contains nodes flag.flagged
   pub stands : PinStands w (trace_in (after_in (ordered L) before) (cut ∷ since))
 
--- a true delete is a cut of the leaf that it flagged, by now
+-- a call that may answer its delete with true has had its flagged leaf cut
 abbrev pub TrueDeletesHaveDeleted : Layout → List (ℕ × Event) → Type 0
 TrueDeletesHaveDeleted L turns =
     (w k : ℕ) → MayAnswer (after_in (ordered L) turns) w Delete k true → HasWonDelete L turns w k

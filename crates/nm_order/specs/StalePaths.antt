@@ -1,5 +1,5 @@
--- Stale paths, for any key and under any pin: where the walks in a worker's log came since its pin
--- was confirmed, for a call or for none.
+-- Stale paths, for any key and under any pin: the slots to which the walks in a worker's log came
+-- after its pin was confirmed, with or without a call.
 use Rattle.std.specs.Prelude.{◌≡◌, ℕ, ◌<◌, false, List, [], ◌++◌, Some}
 use Rattle.nm_edge.specs.Layouts.{Layout}
 use Rattle.nm_edge.specs.declared.edge.Side.{Side}
@@ -12,18 +12,19 @@ use Rattle.nm_model.specs.Ordered.{Configuration, ordered, after_in, trace_in}
 use Rattle.nm_order.specs.Intervals.{InInterval, key}
 use Rattle.nm_order.specs.Moments.{PinStands}
 
--- the worker is pinned, for a call or for none (Fraser, section 5, critical region)
+-- the worker is pinned, with or without a call (Fraser, section 5, critical region)
 abbrev pub HasPin : Configuration → ℕ → Type 0
 HasPin c u = (epoch : ℕ) × ((of c.state u).brief.pin ≡ Some epoch)
 
--- the worker's log since its pin was confirmed, in an ordered run. Where it is not pinned this has
--- no walks, since slot 2 is looked at under a pin alone (Fraser, section 5, critical region)
+-- the worker's log after its pin was confirmed, in an ordered run. If the worker is not pinned,
+-- this has no walks, because slot 2 is looked at only under a pin (Fraser, section 5, critical
+-- region)
 abbrev pub log_under_pin : Layout → List (ℕ × Event) → ℕ → List Entry
 log_under_pin L turns u = since_pin [] (log_of u (trace_in (ordered L) turns))
 
--- at a moment of the run, under a pin that stands since, the slot was reached and the search for k
--- came to it; and its node then is its node at the end: birth and key are the same, and it is a
--- leaf where it was one (O'Hearn and others)
+-- at a moment of the run, under a pin that lasts from then on, the slot was reached and the search
+-- for k came to it. Its node at that moment is its node at the end: birth and key are the same, and
+-- it is a leaf at both or at neither (O'Hearn and others)
 pub record WasReachedSince (c : Configuration) (turns : List (ℕ × Event)) (u k x : ℕ) : Type 0 where
   pub before : List (ℕ × Event)
   pub since : List (ℕ × Event)
@@ -39,15 +40,17 @@ pub record WasReachedSince (c : Configuration) (turns : List (ℕ × Event)) (u 
   pub same_kind : is_leaf (node (after_in c before).state.memory x)
       ≡ is_leaf (node (after_in c turns).state.memory x)
 
--- each slot to which a walk for k came in a worker's log since its pin was reached since the pin,
--- with k in its interval. The key may be any that is below the key of slot 2: each walk begins at
--- the left edge of slot 2, and the searches for all other keys turn right at slot 1 or 2
+-- in the shape of Natarajan and Mittal, each slot to which a walk for k came in a worker's log
+-- after its pin was reached after the pin, with k in its interval. The key may be any below the key
+-- of slot 2: each walk begins at the left edge of slot 2, and the searches for all other keys turn
+-- right at slot 1 or 2
 abbrev pub AnyWalkWasReached : Layout → List (ℕ × Event) → Type 0
 AnyWalkWasReached L turns = L.radix ≡ false → (u k slot parent : ℕ) (side : Side) → k < infinity_1
     → WalkComes k (log_under_pin L turns u) slot parent side
     → WasReachedSince (ordered L) turns u k slot
 
--- and where it is an internal node that is reached now, k is in its interval now
+-- in the shape of Natarajan and Mittal, if an internal node to which a walk for k came is reached
+-- now, k is in its interval now
 abbrev pub AnyWalkStaysInOrder : Layout → List (ℕ × Event) → Type 0
 AnyWalkStaysInOrder L turns = L.radix ≡ false → (u k slot parent : ℕ) (side : Side) → k < infinity_1
     → WalkComes k (log_under_pin L turns u) slot parent side
@@ -55,7 +58,7 @@ AnyWalkStaysInOrder L turns = L.radix ≡ false → (u k slot parent : ℕ) (sid
     → is_leaf (node (after_in (ordered L) turns).state.memory slot) ≡ false
     → InInterval (after_in (ordered L) turns).state.memory k slot
 
--- the key that a walk read at a slot is that slot's key now, whatever the walk's own key is
+-- the key that a walk read at a slot is that slot's key now, for a walk for any key
 abbrev pub AnyWalkReadsKeys : Layout → List (ℕ × Event) → Type 0
 AnyWalkReadsKeys L turns = (u k slot parent : ℕ) (side : Side) (v : ℕ)
     → WalkReads k (log_under_pin L turns u) slot parent side v

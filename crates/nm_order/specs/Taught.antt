@@ -1,4 +1,4 @@
--- What the last entry of a log teaches: facts that the log holds from then on.
+-- What a worker learns by the last entry of its log: facts that the log holds from then on.
 use Rattle.std.specs.Prelude.{◌≡◌, ◌≢◌, ℕ, true, List, [], ◌∷◌, ◌++◌, IsSome}
 use Rattle.nm_edge.specs.Edges.{Edge, tagged}
 use Rattle.nm_edge.specs.Layouts.{Layout}
@@ -18,14 +18,14 @@ use Rattle.nm_order.specs.Told.{TellsEdge}
 
 -- ---- edges and nodes
 
--- the edge of slot x on a side was read: what that adds to the facts of a log
+-- the edge of slot x on a side was read: the facts that this adds to a log
 pub record EdgeLearned (holds : Fact → Type 0) (x : ℕ) (side : Side) (e : Edge) : Type 0 where
   pub leads : e.slot ≢ 0 → holds (KnowsSlot e.slot)
   pub leaf : e.slot ≡ 0 → holds (KnowsLeaf x)
   pub tagged : e.tag ≡ true → holds (IsTagged x side e.slot)
   pub flagged : e.flag ≡ true → holds (IsFlagged x side e.slot)
 
--- an edge that is told of a known slot is read, with its marks and its slot
+-- an edge that an entry returns of a known slot is learned, with its marks and its slot
 abbrev pub EdgesAreLearned : Layout → ℕ → List Entry → Entry → Type 0
 EdgesAreLearned L w log entry =
     (x : ℕ) (side : Side) (e : Edge) → TellsEdge entry x side e → Holds L w log (KnowsSlot x)
@@ -37,7 +37,7 @@ TagsAreLearned L w log entry =
     (x : ℕ) (side : Side) (e : Edge) → entry ≡ (Tag x side, Was e)
     → Holds L w (log ++ entry ∷ []) (IsTagged x side e.slot)
 
--- and is just the one that was there, with the tag
+-- an edge that was tagged is known exactly: it is the one that was there, with the tag
 abbrev pub TagsFreeze : Layout → ℕ → List Entry → Entry → Type 0
 TagsFreeze L w log entry = (x : ℕ) (side : Side) (e : Edge) → entry ≡ (Tag x side, Was e)
     → Holds L w (log ++ entry ∷ []) (IsFrozen x side (tagged e))
@@ -54,14 +54,14 @@ BirthsAreLearned L w log entry =
     (x b : ℕ) → entry ≡ (Look x Birth, BirthIs b) → Holds L w log (KnowsSlot x)
     → Holds L w (log ++ entry ∷ []) (IsBorn x b)
 
--- what a pin for a call tells at once
+-- the facts that a pin for a call shows at once
 pub record PinLearned (holds : Fact → Type 0) (op : Op) (key epoch : ℕ) : Type 0 where
   pub pinned : holds (IsPinned epoch)
   pub root : holds (KnowsSlot 1)
   pub second : holds (KnowsSlot 2)
   pub call : holds (CallIs op key)
 
--- each pin that is confirmed for a call tells that
+-- each pin that is confirmed for a call shows these facts
 abbrev pub PinsAreLearned : Layout → ℕ → List Entry → Entry → Type 0
 PinsAreLearned L w log entry =
     (op : Op) (key epoch : ℕ) → entry ≡ (SightFor op key, Pinned epoch)
@@ -69,8 +69,8 @@ PinsAreLearned L w log entry =
 
 -- ---- walks
 
--- the walks since the pin are those of a call; those since the flag are there once the call has won
--- it
+-- the walks after the pin are those of a call; the walks after the flag are those of a call that
+-- has won its flag
 abbrev pub WalksAreFor : Layout → ℕ → List Entry → Since → ℕ → Type 0
 WalksAreFor L w log ThePin k = (op : Op) × Holds L w log (CallIs op k)
 WalksAreFor L w log TheFlag k = (op : Op) × Holds L w log (CallIs op k)
@@ -96,7 +96,7 @@ WalksGoOn L w log entry = (since : Since) (k x parent v : ℕ) (side : Side) (e 
     → entry ≡ (Look x (EdgeOn (side_of k v)), EdgeIs e) → e.slot ≢ 0
     → Holds L w (log ++ entry ∷ []) (Came since k e.slot x (side_of k v))
 
--- and ends where that edge is null
+-- a walk that has read a key ends if the edge on the side of its own key is null
 abbrev pub WalksEnd : Layout → ℕ → List Entry → Entry → Type 0
 WalksEnd L w log entry = (since : Since) (k x parent v : ℕ) (side : Side) (e : Edge)
     → Holds L w log (ReadKey since k x parent side v)

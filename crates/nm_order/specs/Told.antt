@@ -1,5 +1,5 @@
--- What the last entry of a log tells, by what its worker knew before: laws that a caller may rely
--- on when it looks.
+-- What the last entry of a log can return, by what its worker knew before: laws that a caller may
+-- rely on when it looks.
 use Rattle.std.specs.Prelude.{◌≡◌, ◌≢◌, ℕ, ◌<◌, ◌≤◌, ◌==◌, true, false, List, [], ◌∷◌, ◌++◌, Some, option_map, slice_get, if◌then◌else◌}
 use Rattle.nm_edge.specs.Edges.{Edge, other}
 use Rattle.nm_edge.specs.Layouts.{Layout}
@@ -19,12 +19,12 @@ use Rattle.nm_order.specs.Logs.{known_by, IsLogOf}
 use Rattle.nm_order.specs.Facts.{Fact, Holds}
 use Rattle.nm_order.specs.Facts.Fact.{KnowsSlot, KnowsLeaf, IsTagged, IsFlagged, IsBorn}
 
--- of each part of an ordered run that ends with an entry
+-- holds of each part of an ordered run that ends with an entry
 abbrev pub OfEachEntry : (Layout → ℕ → List Entry → Entry → Type 0) → Type 0
 OfEachEntry P = (L : Layout) → 5 ≤ L.nodes → (w : ℕ) (log : List Entry) (entry : Entry)
     → IsLogOf L w (log ++ entry ∷ []) → P L w log entry
 
--- an entry that tells an edge, as it was found: a look, an exchange that was lost, or a tag
+-- an entry that returns an edge as it was found: a look, an exchange that was lost, or a tag
 -- (Natarajan and Mittal, section 3.2)
 pub data TellsEdge : Entry → ℕ → Side → Edge → Type 0 where
   ByLook : (x : ℕ) (side : Side) (e : Edge) → TellsEdge (Look x (EdgeOn side), EdgeIs e) x side e
@@ -35,13 +35,13 @@ pub data TellsEdge : Entry → ℕ → Side → Edge → Type 0 where
   BySplice : (x s p : ℕ) (side keep : Side) (e : Edge)
       → TellsEdge (Splice x side s p keep, Lost e) x side e
 
--- where an edge is known tagged, its twin is told as flagged
+-- if an edge is known as tagged, its twin is returned as flagged
 abbrev pub TwinsAreToldFlagged : Layout → ℕ → List Entry → Entry → Type 0
 TwinsAreToldFlagged L w log entry =
     (x : ℕ) (side : Side) (e : Edge) (to : ℕ) → TellsEdge entry x side e
     → Holds L w log (IsTagged x (other side) to) → e.flag ≡ true
 
--- where an edge is known flagged, it is told as flagged and leads there still
+-- if an edge is known as flagged, it is returned as flagged and still leads to the same slot
 abbrev pub FlagsAreTold : Layout → ℕ → List Entry → Entry → Type 0
 FlagsAreTold L w log entry = (x : ℕ) (side : Side) (e : Edge) (to : ℕ) → TellsEdge entry x side e
     → Holds L w log (IsFlagged x side to) → (e.flag ≡ true) × (e.slot ≡ to)
@@ -52,7 +52,8 @@ FlaggedEdgesLeadHigh L w log entry =
     (x : ℕ) (side : Side) (e : Edge) → TellsEdge entry x side e → Holds L w log (KnowsSlot x)
     → e.flag ≡ true → 6 ≤ e.slot
 
--- and is an edge of such a slot: none of the fixed nodes has a flagged edge
+-- a flagged edge of a known slot is one of a slot of the pool's range: no fixed node has a flagged
+-- edge
 abbrev pub FlaggedEdgesStandHigh : Layout → ℕ → List Entry → Entry → Type 0
 FlaggedEdgesStandHigh L w log entry =
     (x : ℕ) (side : Side) (e : Edge) → TellsEdge entry x side e → Holds L w log (KnowsSlot x)
@@ -81,8 +82,8 @@ TagsLead L w log entry = (x : ℕ) (side : Side) (e : Edge) → entry ≡ (Tag x
 abbrev pub LowKeysStandHigh : Layout → ℕ → List Entry → Entry → Type 0
 LowKeysStandHigh L w log entry = (x n : ℕ) → entry ≡ (Look x Key, KeyIs n) → n < infinity_0 → 6 ≤ x
 
--- a slot that is claimed is in none of the worker's hands: it does not hold it, know it, nor have
--- it in a queue
+-- a slot that is claimed is new to the worker: it is not private to the worker, not known to it,
+-- and in no queue that the worker holds
 pub record IsNew (L : Layout) (w : ℕ) (log : List Entry) (x : ℕ) : Type 0 where
   pub not_held : is_private (known_by L w log) x ≡ false
   pub not_known : knows (known_by L w log) x ≡ false
@@ -97,9 +98,9 @@ ClaimsAreNew L w log entry = (x y : ℕ) → entry ≡ (Claim x, Claimed y)
 -- ---- answers that name nodes
 
 -- the facts of a frozen chain from a slot down to p: each edge on the way is tagged, the one beside
--- it is flagged, and of both nodes the birth is known; p is left by the edge on keep. With the
--- nodes so known: each slot and then its leaf, downwards (Natarajan and Mittal, section 3.2,
--- cleanup; for whole chains ours)
+-- it is flagged, and the births of both nodes are known. The edge of p on keep is its last tagged
+-- one. The list has each slot and then its leaf, downwards, as they are known (Natarajan and
+-- Mittal, section 3.2, cleanup; for whole chains ours)
 pub data FrozenTo (holds : Fact → Type 0) (p : ℕ) (keep : Side) : ℕ → List NodeId → Type 0 where
   ends_there : {leaf birth leaf_birth to : ℕ} → holds (IsTagged p keep to)
       → holds (IsFlagged p (other keep) leaf) → holds (IsBorn p birth)
@@ -114,15 +115,15 @@ pub data FrozenTo (holds : Fact → Type 0) (p : ℕ) (keep : Side) : ℕ → Li
       (record { slot = slot; birth = birth } ∷ record { slot = leaf; birth = leaf_birth }
       ∷ nodes)
 
--- a splice that is won answers just the nodes of the chain as it was known
+-- a splice that is won returns exactly the nodes of the chain as it was known
 abbrev pub CutsAreAsKnown : Layout → ℕ → List Entry → Entry → Type 0
 CutsAreAsKnown L w log entry =
     (a s p : ℕ) (side keep : Side) (ns known : List NodeId)
     → entry ≡ (Splice a side s p keep, Cut ns) → FrozenTo (Holds L w log) p keep s known
     → ns ≡ known
 
--- the nodes of a splice that is won enter its worker's own queue at the end, without a label; the
--- other ledgers stay
+-- the nodes of a splice that is won are appended to its worker's own queue, without a label; the
+-- other ledgers are unchanged
 abbrev pub CutsEnterTheQueue : Layout → ℕ → List Entry → Entry → Type 0
 CutsEnterTheQueue L w log entry =
     (a s p : ℕ) (side keep : Side) (ns : List NodeId) → entry ≡ (Splice a side s p keep, Cut ns)
@@ -131,14 +132,14 @@ CutsEnterTheQueue L w log entry =
     ≡ (if o == w then option_map (with_cut ns) (held (known_by L w log).ledgers o)
     else held (known_by L w log).ledgers o)
 
--- a flag that is won answers the leaf with its birth as it was known
+-- a flag that is won returns the leaf with its birth as it was known
 abbrev pub FlagsAreAsKnown : Layout → ℕ → List Entry → Entry → Type 0
 FlagsAreAsKnown L w log entry =
     (p leaf birth : ℕ) (side : Side) (n : NodeId) → entry ≡ (Flag p side leaf, Flagged n)
     → Holds L w log (IsBorn leaf birth) → n ≡ record { slot = leaf; birth = birth }
 
--- a chain that is frozen by the facts of a log is one that a splice may cut off, by the worker's
--- own knowledge
+-- a chain that is frozen by the facts of a log may be cut off by a splice, by the worker's own
+-- knowledge
 abbrev pub FrozenChainsMayBeCut : Type 0
 FrozenChainsMayBeCut = (L : Layout) → 5 ≤ L.nodes → (w : ℕ) (log : List Entry) → IsLogOf L w log
     → (s p : ℕ) (keep : Side) (nodes : List NodeId) → FrozenTo (Holds L w log) p keep s nodes

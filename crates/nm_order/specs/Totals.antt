@@ -1,4 +1,4 @@
--- Totals: each key stands as often as it was linked less as often as it was flagged.
+-- Totals: the calls for a key won as many links as flags, or one link more.
 use Rattle.std.specs.Prelude.{◌≡◌, ◌≢◌, ◌⊎◌, ℕ, ◌+◌, ◌==◌, Bool, true, false, ◌&&◌, List, [], ◌∷◌, if◌then◌else◌, Option, Some, None, unwrap_or, Result, Ok, Err}
 use Rattle.nm_edge.specs.Keys.{IsKey}
 use Rattle.nm_edge.specs.Layouts.{Layout}
@@ -30,16 +30,16 @@ abbrev pub is_so : (Entry → Bool) → Event → Result Reply Refused → Bool
 is_so is_such e (Ok r) = is_such (e, r)
 is_so is_such e (Err x) = false
 
--- 1 where a turn is such an entry of a call for k
+-- 1 if a turn is such an entry of a call for k
 abbrev pub once : (Entry → Bool) → ℕ → Configuration → ℕ × Event → ℕ
 once is_such k c t = if is_so is_such t.1 (outcome_in c t) && is_for k (call_of c t.0) then 1 else 0
 
--- how many turns are such entries of calls for k
+-- the number of turns that are such entries of calls for k
 unfoldable pub how_often : (Entry → Bool) → ℕ → Configuration → List (ℕ × Event) → ℕ
 how_often is_such k c [] = 0
 how_often is_such k c (t ∷ ts) = once is_such k c t + how_often is_such k (next_in c t) ts
 
--- `links_of`, `flags_of`: the links, and the flags, that calls for k won
+-- `links_of`, `flags_of`: the number of links, and of flags, that calls for k won
 abbrev pub links_of : ℕ → Layout → List (ℕ × Event) → ℕ
 links_of k L turns = how_often is_won_link k (ordered L) turns
 
@@ -56,24 +56,23 @@ pub record StandsUnflagged (m : Memory) (k : ℕ) : Type 0 where
   pub leaf : is_leaf (node m (child m parent side)) ≡ true
   pub has_key : key m (child m parent side) ≡ k
 
--- a number of links and a number of flags are such that the key stands as often as the first less
--- the second, which is once or never
+-- there is one link more than flags if the key is there, and there are as many of both if it is not
 abbrev pub Agree : ℕ → ℕ → Type 0 → Type 0
 Agree links flags Stands = ((links ≡ flags + 1) × Stands) ⊎ ((links ≡ flags) × (Stands → ⊥))
 
--- each key of the set stands unflagged as often as calls for it won a link, less as often as they
--- won a flag: once or never
+-- for each key of the set there is one link more than flags if an unflagged edge leads to its leaf,
+-- and else there are as many of both
 abbrev pub TotalsAgree : Layout → List (ℕ × Event) → Type 0
 TotalsAgree L turns = (k : ℕ) → IsKey k
     → Agree (links_of k L turns) (flags_of k L turns)
     (StandsUnflagged (after_in (ordered L) turns).state.memory k)
 
--- no delete is pending: no call whose pin stands has flagged a leaf
+-- no delete is pending: no call under its current pin has flagged a leaf
 abbrev pub NothingIsPending : Layout → List (ℕ × Event) → Type 0
 NothingIsPending L turns = (w k : ℕ) → HasFlagged L turns w k → ⊥
 
--- then each key of the set is in it as often as calls for it won a link, less as often as they won
--- a flag: once or never
+-- if no delete is pending, there is one link more than flags for each key that is in the set, and
+-- for other keys there are as many of both
 abbrev pub TotalsAreTheSet : Layout → List (ℕ × Event) → Type 0
 TotalsAreTheSet L turns = NothingIsPending L turns → (k : ℕ) → IsKey k
     → Agree (links_of k L turns) (flags_of k L turns)

@@ -1,5 +1,5 @@
--- What a walk tells that has ended, for any key and under any pin, for a call or for none: whether
--- its key was in the set at a moment since the pin.
+-- What a walk that has ended shows, for any key and under any pin, with or without a call: whether
+-- its key was in the set at a moment under the pin.
 use Rattle.std.specs.Prelude.{◌≡◌, ℕ, ◌==◌, ◌<◌, ◌≤◌, Bool, List, [], ◌++◌, length, None, All}
 use Rattle.nm_edge.specs.Layouts.{Layout}
 use Rattle.nm_edge.specs.declared.edge.Side.{Side}
@@ -14,8 +14,8 @@ use Rattle.nm_order.specs.Logs.{part_of, known_by}
 use Rattle.nm_order.specs.Moments.{PinStands}
 use Rattle.nm_order.specs.StalePaths.{HasPin, log_under_pin}
 
--- at a moment of the run, under a pin that stands since, a plain set of the keys of the reached
--- leaves answers so whether k is in it (O'Hearn and others)
+-- at a moment of the run, under a pin that lasts from then on, a plain set of the keys of the
+-- reached leaves gives this answer for k (O'Hearn and others)
 pub record WasSoUnderPin (L : Layout) (turns : List (ℕ × Event)) (w k : ℕ)
     (answer : Bool) : Type 0 where
   pub before : List (ℕ × Event)
@@ -25,15 +25,15 @@ pub record WasSoUnderPin (L : Layout) (turns : List (ℕ × Event)) (w k : ℕ)
   pub stands : PinStands w (trace_in (after_in (ordered L) before) since)
   pub gives : Gives (InSet (after_in (ordered L) before).state.memory) Has k answer
 
--- a walk that has ended in a worker's log since its pin tells by the key of its leaf whether its
--- own key was in the set then. The key may be any that is below the key of slot 2 (O'Hearn and
--- others)
+-- the leaf at which a walk in a worker's log after its pin ended shows by its key whether the
+-- walk's key was in the set at a moment under the pin. The key may be any below the key of slot 2
+-- (O'Hearn and others)
 abbrev pub AnyWalkTells : Layout → List (ℕ × Event) → Type 0
 AnyWalkTells L turns = (u k slot parent : ℕ) (side : Side) (v : ℕ) → k < infinity_1
     → WalkEnds k (log_under_pin L turns u) slot parent side v → WasSoUnderPin L turns u k (v == k)
 
--- at a moment of the run that is later than an earlier run, and at which the worker was pinned, a
--- plain set of the keys of the reached leaves answers so whether k is in it (O'Hearn and others)
+-- at a moment that is later than an earlier run, and at which the worker was pinned, a plain set of
+-- the keys of the reached leaves gives this answer for k (O'Hearn and others)
 pub record WasSoSince (L : Layout) (past turns : List (ℕ × Event)) (w k : ℕ)
     (answer : Bool) : Type 0 where
   pub before : List (ℕ × Event)
@@ -43,8 +43,8 @@ pub record WasSoSince (L : Layout) (past turns : List (ℕ × Event)) (w k : ℕ
   pub pinned : HasPin (after_in (ordered L) before) w
   pub gives : Gives (InSet (after_in (ordered L) before).state.memory) Has k answer
 
--- of a worker that was not pinned at the end of an earlier run: a walk that has ended in its log
--- since its pin tells of a moment later than that run (O'Hearn and others)
+-- for a worker that was not pinned at the end of an earlier run: the moment of a walk that has
+-- ended in its log after its pin is later than that run (O'Hearn and others)
 abbrev pub WalksTellOfTheirPin : Type 0
 WalksTellOfTheirPin = (L : Layout) → 5 ≤ L.nodes → (w : ℕ) → w < L.workers
     → (past more : List (ℕ × Event)) → All (λ t. HasKey t.1) (past ++ more)

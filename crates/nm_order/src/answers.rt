@@ -1,26 +1,28 @@
-//! Laws of what an ordered core's calls change, and of the answers that stand for it.
+//! Laws of ordered runs: what a call changes by the exchanges that it wins, and the answers that
+//! follow from them.
 ghost use Rattle.nm_order.specs.Exchanges.{AnswersTellFlags, AnswersTellLinks, SilentLeavesWonNothing, TrueDeletesHaveFlagged, TrueInsertsHaveInserted};
 ghost use Rattle.nm_order.specs.Moments.{OfEachOrderedRun};
 
-/// An answer tells what its call changed: by the worker's log since the pin, a true insert won
-/// exactly one link and a true delete exactly one flag; no other answer is given where the call won
-/// a link or a flag, nor may a worker leave without an answer then.
+/// Law: for every ordered run, an answer agrees with the exchanges that the call won after its pin,
+/// by the worker's log. A true insert won exactly one link, and any other answer none. A true
+/// delete won exactly one flag, and any other answer none. A worker that may leave without an
+/// answer has won neither.
 pub fn answers_tell_changes()
     ensures links { OfEachOrderedRun AnswersTellLinks }
     ensures flags { OfEachOrderedRun AnswersTellFlags }
     ensures silent { OfEachOrderedRun SilentLeavesWonNothing }
 {}
 
-/// A true insert is its own link: at a moment of the run, under the pin that stands, the call won a
-/// link, by which the set gained the call's key, which was not in it, and nothing else. (The insert
-/// of Natarajan and Mittal, section 3.2.)
+/// Law: for every ordered run, a true insert won its own link at a moment (linearization point) of
+/// the run under its current pin. By that link the set gained the call's key, which was not in it,
+/// and nothing else. (The insert of Natarajan and Mittal, section 3.2.)
 pub fn inserts_are_links()
     ensures { OfEachOrderedRun TrueInsertsHaveInserted }
 {}
 
-/// A true delete has flagged its leaf: at a moment of the run, under the pin that stands, the call
-/// won the flag on the edge to the reached leaf with the call's key. (The injection of Natarajan
-/// and Mittal's delete, section 3.2.)
+/// Law: for every ordered run, a true delete won a flag at a moment of the run under its current
+/// pin. The flag marks the edge to the reached leaf with the call's key. (The injection of
+/// Natarajan and Mittal's delete, section 3.2.)
 pub fn deletes_have_flagged()
     ensures { OfEachOrderedRun TrueDeletesHaveFlagged }
 {}

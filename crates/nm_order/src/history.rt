@@ -1,5 +1,5 @@
-//! The set's history: laws on the moments of an ordered core's calls, over every run, also one that
-//! ends in mid-call.
+//! Laws of every run of an ordered core, even one that ends in the middle of a call: the history of
+//! the set, and the moments of its calls.
 ghost use Rattle.nm_order.specs.Answered.{AnswersHaveMoments, PendingDeletesHaveFlagged};
 ghost use Rattle.nm_order.specs.AnsweredSince.{AnswersAreOfTheirCalls};
 ghost use Rattle.nm_order.specs.History.{RunHasHistory};
@@ -12,63 +12,64 @@ ghost use Rattle.nm_order.specs.RealTime.{HistoriesHaveOneActACall, HistoriesKee
 ghost use Rattle.nm_order.specs.Removals.{CutsTakeTheirKeys, TrueDeletesHaveDeleted};
 ghost use Rattle.nm_order.specs.Totals.{TotalsAgree, TotalsAreTheSet};
 
-/// A true delete is a cut: at a moment of the run, under the pin that stands, a splice of some
-/// worker cut the leaf that the call had flagged. A cut takes from the set just the keys of its
-/// leaves, and each of these leaves is that of one delete, which is not answered yet. (The cleanup
-/// of Natarajan and Mittal, section 3.2.)
+/// Law: for every ordered run, a true delete is a cut: at a moment of the run, under its current
+/// pin, a splice of some worker cut the leaf that the call had flagged. A cut removes from the set
+/// exactly the keys of its leaves. Each leaf of a cut is that of one delete, which is not answered
+/// yet. (The cleanup of Natarajan and Mittal, section 3.2.)
 pub fn deletes_are_cuts()
     ensures moments { OfEachOrderedRun TrueDeletesHaveDeleted }
     ensures takes { OfEachOrdered CutsTakeTheirKeys }
     ensures one { OfEachOrderedRun CutLeavesAreOfOneDelete }
 {}
 
-/// An answer that changes nothing, of `has`, a false insert or a false delete, was right at some
-/// moment since the call's pin was confirmed: a plain set of the keys that were reached then gives
-/// it.
+/// Law: for every ordered run, an answer that changes nothing (of `has`, a false insert or a false
+/// delete) was right at some moment after the call's pin was confirmed. At that moment a plain set
+/// of the reached keys gives this answer.
 pub fn answers_were_legal()
     ensures { OfEachOrderedRun OtherAnswersWereLegal }
 {}
 
-/// A flagged edge of a reached node leads to the leaf of one delete, which is not answered yet.
+/// Law: for every ordered run, a flagged edge of a reached node leads to the leaf of one delete,
+/// which is not answered yet.
 pub fn flagged_leaves_are_pending()
     ensures { OfEachOrderedRun FlaggedLeavesArePending }
 {}
 
-/// Totals: at every moment each key of the set stands on an unflagged edge as often as calls for it
-/// won a link, less as often as they won a flag, which is once or never; and where no delete is
-/// pending it is in the set that often. These links and flags are those in the parts of all
-/// workers.
+/// Law: for every ordered run and each key of the set, the calls for the key have won as many links
+/// as flags, or one link more. There is one more exactly if a reached leaf has the key on an
+/// unflagged edge. If no delete is pending, there is one more exactly if the key is in the set.
+/// These links and flags are those in the parts of all workers.
 pub fn totals_agree()
     ensures stand { OfEachOrderedRun TotalsAgree }
     ensures set { OfEachOrderedRun TotalsAreTheSet }
     ensures logs { OfEachOrderedRun TotalsAreInTheLogs }
 {}
 
-/// Each run is a history of one plain set (it is linearizable): the answered calls, with each
-/// unanswered insert that has linked and each unanswered delete whose leaf is cut, each once, in
-/// the order of moments that lie within the calls, give a plain set's answers. In each such history
-/// each call has one act, and calls that do not overlap stand in their order: one that was answered
-/// before another's pin was confirmed comes first; and so do the calls of each worker. (Herlihy and
-/// Wing, Linearizability, TOPLAS 1990.)
+/// Law: every ordered run is a history of one plain set (it is linearizable). The history has the
+/// answered calls, each unanswered insert that has linked and each unanswered delete whose leaf is
+/// cut. Each is there once, in the order of moments that lie within the calls, and a plain set
+/// gives their answers. In each such history each call has one act. A call that was answered before
+/// another call's pin was confirmed comes first, and the calls of each worker keep their order.
+/// (Herlihy and Wing, Linearizability, TOPLAS 1990.)
 pub fn runs_are_histories()
     ensures history { OfEachOrderedRun RunHasHistory }
     ensures real_time { OfEachOrderedRun HistoriesKeepRealTime }
     ensures one_act { OfEachOrderedRun HistoriesHaveOneActACall }
 {}
 
-/// The same by the log of one worker, whatever the run was of which that log is a part: where the
-/// log ends with the answer of its call, the run goes up to that answer, and before it, under the
-/// call's pin, are the link of a true insert, the cut of a true delete's leaf, or a moment at which
-/// any other answer was right. And a log that tells of a flagged leaf is that of a delete which is
-/// pending.
+/// Law: for the log of one worker, and for every ordered run of which it is a part, a final answer
+/// of the log has its moment in that run. The moment is the link of a true insert, the cut of a
+/// true delete's leaf, or for any other answer a moment at which it was right. It is before the
+/// answer and under the call's pin. A log that shows a flagged leaf is that of a pending delete.
 pub fn logged_answers_have_moments()
     ensures answers { AnswersHaveMoments }
     ensures pending { PendingDeletesHaveFlagged }
 {}
 
-/// The moment of an answer is one of its own call: where a worker had no call in an earlier run,
-/// the pin of the call which its log ends with in a run that goes on from it was confirmed behind
-/// that, and the moment is later still. So no earlier answer of the worker stands for this one.
+/// Law: for every worker that had no call in an earlier run, and every run that goes on from it,
+/// the moment of the answer with which the worker's log ends is one of the answered call. The
+/// call's pin was confirmed after the earlier run, and the moment is later than the pin. So an
+/// earlier answer of the worker cannot be taken for this one.
 pub fn answers_are_of_their_calls()
     ensures { AnswersAreOfTheirCalls }
 {}

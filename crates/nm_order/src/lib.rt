@@ -1,5 +1,5 @@
-//! Laws of ordered runs: what the calls of an ordered core make of the tree and of the set, and
-//! what a worker's log tells of them. Nothing here runs.
+//! Laws of ordered runs: what calls do to the tree and to the set, and what follows from one
+//! worker's log. Nothing here runs.
 #![tactic(auto)]
 
 mod answers;

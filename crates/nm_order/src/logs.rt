@@ -1,8 +1,8 @@
-//! What the log of one worker tells: laws of ordered runs over each worker's part of the run alone.
+//! Law of ordered runs: what a worker knows follows from its own part of the run.
 ghost use Rattle.nm_order.specs.Logs.{LogsTellWhatIsKnown};
 
-/// What a worker knows is what its own part of the run tells: its accepted events with their
-/// replies, and the join by which it resigned.
+/// Law: for every ordered run, what a worker knows follows from its own part of the run: its
+/// accepted events with their replies, and the join by which it resigned.
 pub fn logs_tell_what_is_known()
     ensures { LogsTellWhatIsKnown }
 {}

@@ -1,26 +1,27 @@
-//! Laws of ordered runs of a radix tree: whatever the workers do and in whatever order, where every
-//! call is for a key of the set.
+//! Laws of ordered runs of a radix tree, in which every call is for a key of the set: its paths and
+//! walks are short. Each holds for any workers' turns, in any order.
 ghost use Rattle.nm_order.specs.Intervals.{OfEachOrdered};
 ghost use Rattle.nm_order.specs.Moments.{OfEachOrderedRun};
 ghost use Rattle.nm_order.specs.Ranges.{AnyWalkIsShort, AnyWalkPassesRouters, OfEachRadixLog, PathsAreShort, RangesNest, WalksAreShort, WalksPassRouters};
 
-/// In a radix tree each reached node but the fixed ones has in its range what each child stands for,
-/// all of it on the child's side.
+/// Law: in every ordered run of a radix tree, for each reached node above the fixed ones, every key
+/// that a child represents is in the node's range and on the child's side.
 pub fn ranges_nest()
     ensures { OfEachOrdered RangesNest }
 {}
 
-/// So no path of a radix tree has more than 66 edges, and no walk comes to its slot by more than 129
-/// looks, at 65 nodes, also by edges that were read at different moments under one pin: of each run,
-/// and of each part that a worker has of one.
+/// Law: in every ordered run of a radix tree, no path has more than 66 edges, and no walk comes to
+/// its slot by more than 129 looks, at 65 nodes. This includes walks whose edges were read at
+/// different moments under one pin. It holds of each worker's part of the run too.
 pub fn radix_walks_are_short()
     ensures paths { OfEachOrdered PathsAreShort }
     ensures walks { OfEachOrderedRun AnyWalkIsShort }
     ensures logs { OfEachRadixLog WalksAreShort }
 {}
 
-/// And each walk goes on from routers alone: from nodes above the fixed ones, each of which has its
-/// own key in its range, so that a key that is not in the range is another key.
+/// Law: in every ordered run of a radix tree, each walk goes on only from routers: nodes above the
+/// fixed ones with their own key in their range. So a key that is not in the range differs from the
+/// router's key.
 pub fn radix_walks_pass_routers()
     ensures walks { OfEachOrderedRun AnyWalkPassesRouters }
     ensures logs { OfEachRadixLog WalksPassRouters }

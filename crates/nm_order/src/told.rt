@@ -1,12 +1,12 @@
-//! What the last entry of a log tells: laws over the log of one worker, of each log that ends with
-//! the entry.
+//! Laws of every log of one worker: what the reply of the log's last entry can be.
 ghost use Rattle.nm_order.specs.Told.{ClaimsAreNew, CutsAreAsKnown, CutsEnterTheQueue, EdgesStayInside, FlaggedEdgesLeadHigh, FlaggedEdgesStandHigh, FlagsAreAsKnown, FlagsAreTold, FrozenChainsMayBeCut, LeavesLeadNowhere, LowKeysStandHigh, OfEachEntry, RootLeads, TagsLead, TwinsAreToldFlagged};
 
-/// What an edge that is told must be: flagged where its twin is known tagged; as it was known where
-/// it is known flagged; where it is flagged, one of a slot above 5 to a slot above 5; in any case
-/// one to a slot of the layout; not null where it is the left edge of slot 2, or was tagged; and null
-/// where its node is known as a leaf. (A tag follows the flag of its twin: Natarajan and Mittal,
-/// section 3.2.)
+/// Law: for every log, an edge that the last entry returns agrees with what the worker knew. It is
+/// flagged if its twin is known as tagged. If it is known as flagged, it is still flagged and leads
+/// to the same slot. If it is flagged and its slot is known, it leads from a slot above 5 to a slot
+/// above 5. It leads to a slot of the layout. It is not null if it is the left edge of slot 2, or
+/// was tagged by this entry. It is null if its node is known as a leaf. (A tag follows the flag of
+/// its twin: Natarajan and Mittal, section 3.2.)
 pub fn edges_are_told()
     ensures twins { OfEachEntry TwinsAreToldFlagged }
     ensures flags { OfEachEntry FlagsAreTold }
@@ -18,35 +18,35 @@ pub fn edges_are_told()
     ensures leaves { OfEachEntry LeavesLeadNowhere }
 {}
 
-/// A key below the sentinels is read at a slot above 5.
+/// Law: for every log, if the last entry reads a key below the sentinels, its slot is above 5.
 pub fn low_keys_stand_high()
     ensures { OfEachEntry LowKeysStandHigh }
 {}
 
-/// A slot that a worker claims is above 5, and one that it neither holds, nor knows, nor has in a
-/// queue.
+/// Law: for every log, a slot that the last entry claims is above 5. Before that, it was not
+/// private to the worker, not known to it, and in no queue that it holds.
 pub fn claims_are_new()
     ensures { OfEachEntry ClaimsAreNew }
 {}
 
-/// A splice that is won answers just the nodes of the chain as its worker's facts name it,
-/// downwards and each with its leaf, and a flag that is won answers the leaf with the birth that is
-/// known of it: what was marked and what was born cannot have changed since.
+/// Law: for every log, a won splice returns exactly the nodes of the chain that the worker's facts
+/// name, downwards and each with its leaf. A won flag returns the leaf with its known birth. Other
+/// workers cannot have changed these marks and births.
 pub fn answers_name_what_is_known()
     ensures cuts { OfEachEntry CutsAreAsKnown }
     ensures flags { OfEachEntry FlagsAreAsKnown }
 {}
 
-/// The nodes of a splice that is won enter its worker's own queue at the end, and wait there for
-/// their label. The other ledgers that the worker holds stay as they are. (Retired nodes wait in
-/// order; Fraser, section 5.2.3.)
+/// Law: for every log, the nodes of a won splice are appended to the worker's own queue, and wait
+/// there for their label. The other ledgers that the worker holds are unchanged. (Retired nodes
+/// wait in order; Fraser, section 5.2.3.)
 pub fn cuts_enter_the_queue()
     ensures { OfEachEntry CutsEnterTheQueue }
 {}
 
-/// A chain that a worker's facts say is frozen, by tagged edges from a slot down to another and
-/// with a flagged edge beside each, is one that its own knowledge lets it cut off by a splice. (The
-/// chain of Natarajan and Mittal's cleanup, section 3.2.)
+/// Law: for every log, a chain that is frozen by the worker's facts may be cut off by a splice, by
+/// the worker's own knowledge. Such a chain has tagged edges from one slot down to another, and a
+/// flagged edge beside each. (The chain of Natarajan and Mittal's cleanup, section 3.2.)
 pub fn frozen_chains_may_be_cut()
     ensures { FrozenChainsMayBeCut }
 {}

@@ -10,12 +10,14 @@ use crate::nodes::{Tried, claim, claim_by_rows, try_slot};
 use nm_edge::{FIRST_SLOT, Fit, NodeId, Placement};
 use nm_steps::{Pass, Shared};
 
-/// Takes a slot out of the pool to be a new node, as `claim` does, with the slots tried in the
-/// order of a placement.
+/// Takes a slot out of the pool for a new node, like `claim`, with the slots tried in the order of
+/// a placement.
 ///
-/// `Fit::FirstFit`: the very same. `Fit::NextFit`: `Some(node)`: fewer than `nodes` slots were found
-/// taken or exhausted in this call, and then this one in the pool. `None`: at most `nodes` were, and
-/// each slot above 5 is among them. At most three steps a slot, and 3 `nodes` in all.
+/// `Fit::FirstFit`: exactly like `claim`. `Fit::NextFit`: `Some(node)` if fewer than `nodes` slots
+/// were found taken or exhausted in this call, and then this one in the pool. `None` if each slot
+/// above 5 was found taken or exhausted in this call, in at most `nodes` tries.
+///
+/// Cost: at most three steps for each slot that is tried, and 3 * `nodes` in all.
 #[inline(always)]
 pub fn claim_by(shared: &Shared, pass: &mut Pass, placement: &mut Placement) -> Option<NodeId>
     requires { IsOf shared.now pass.old }
@@ -36,8 +38,9 @@ pub fn claim_by(shared: &Shared, pass: &mut Pass, placement: &mut Placement) -> 
     }
 }
 
-/// The slot that the cursor's row shows, if it is got, and else the first that is found from this
-/// row upwards, and round; the cursor stands there from then on.
+/// Claims the slot that the worker gave back last, or that the cursor's row shows to be free, if it
+/// gets it. Else claims the first slot that is found from the cursor's row upwards, and round; the
+/// cursor then is at this slot.
 #[inline(always)]
 fn claim_near(shared: &Shared, pass: &mut Pass, placement: &mut Placement) -> Option<NodeId>
     requires { IsOf shared.now pass.old }
@@ -55,8 +58,8 @@ fn claim_near(shared: &Shared, pass: &mut Pass, placement: &mut Placement) -> Op
     some_node(claim_in_turn(shared, pass, placement))
 }
 
-/// Tries one slot of those in which a node of the tree can be: the one that the worker gave back
-/// last, or else the first that the cursor's row shows to be free.
+/// Tries one slot: the one that the worker gave back last, or else the first that the cursor's row
+/// shows to be free. It must be a slot in which a node of the tree can be.
 #[inline(always)]
 fn claim_shown(shared: &Shared, pass: &mut Pass, placement: &mut Placement) -> Option<NodeId>
     requires { IsOf shared.now pass.old }
@@ -80,8 +83,8 @@ fn claim_shown(shared: &Shared, pass: &mut Pass, placement: &mut Placement) -> O
     Some(NodeId { slot, birth })
 }
 
-/// Returns the slot that the worker gave back last, or else the first that the cursor's row shows to
-/// be free. Nothing is known of that slot.
+/// Returns the slot that the worker gave back last, or else the first that the cursor's row shows
+/// to be free. Nothing is proved about that slot.
 #[inline(always)]
 fn slot_to_try(shared: &Shared, pass: &mut Pass, placement: &mut Placement) -> Option<u32>
     requires { IsOf shared.now pass.old }
@@ -98,10 +101,10 @@ fn slot_to_try(shared: &Shared, pass: &mut Pass, placement: &mut Placement) -> O
     shared.glance(pass, placement.cursor(shared.layout().nodes()))
 }
 
-/// The first slot that is found from the first one of the cursor's row upwards, and round; the
-/// cursor stands there from then on. Slot 0 with birth 0: there was none.
+/// Claims the first slot that is found from the first one of the cursor's row upwards, and round;
+/// the cursor then is at this slot. Returns slot 0 with birth 0 if there was none.
 ///
-/// With one slot passed over before, it is a near claim still.
+/// If one slot was passed over before, the two calls are together a near claim.
 #[cold]
 #[inline(never)]
 fn claim_in_turn(shared: &Shared, pass: &mut Pass, placement: &mut Placement) -> NodeId
@@ -129,7 +132,7 @@ fn claim_in_turn(shared: &Shared, pass: &mut Pass, placement: &mut Placement) ->
     node
 }
 
-/// The node that was claimed, if there is one: its birth is above 0.
+/// Returns the node that was claimed, if there is one: its birth is above 0.
 #[inline(always)]
 fn some_node(node: NodeId) -> Option<NodeId>
     ensures { result ≡ node_in node }

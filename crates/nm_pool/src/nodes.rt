@@ -11,27 +11,29 @@ ghost use Rattle.nm_pool.specs.Claims.{IsClaim, IsClaimBetween, IsTried, IsTried
 use nm_edge::{FIRST_SLOT, LAST_NUMBER, NodeId, SLOTS_OF_A_ROW, place_in_row};
 use nm_steps::{Pass, Shared};
 
-/// What a try of one slot answers.
+/// The result of a try of one slot.
 #[derive(Clone, Copy)]
 pub(crate) enum Tried {
-    /// It is not in the pool.
+    /// The slot is not in the pool.
     Taken,
-    /// It has the greatest birth, and is in the pool again.
+    /// The slot has the greatest birth (generation), and is in the pool again.
     Exhausted,
-    /// It is private to the worker now, with this birth, raised by one.
+    /// The slot is now private to the worker, with this birth, which is one more than before.
     Got(u64),
 }
 
-/// Takes a slot out of the pool to be a new node: the lowest that it finds there with a birth below
-/// 2^62, which it raises by one.
+/// Takes a slot out of the pool for a new node: the lowest that it finds there with a birth
+/// (generation) below 2^62. Raises the birth by one.
 ///
-/// A node: its slot is private to the worker, which had it nowhere before; the birth that was found
-/// there and 1 more is stored in it, and each lesser slot above 5 was found taken or exhausted in this
-/// call; a exhausted one is back in the pool. Slot 0 with birth 0: each slot above 5 was. At most three
-/// steps a slot.
+/// If a node is returned, its slot is private to the worker, which had it nowhere before. The birth
+/// that was found there, plus 1, is stored in it. Each lower slot above 5 was found taken or
+/// exhausted in this call; an exhausted one is back in the pool. Slot 0 with birth 0 is returned if
+/// each slot above 5 was found taken or exhausted.
+///
+/// Cost: at most three steps for each slot.
 ///
 /// Slots come back to the pool by epoch-based reclamation (Fraser, Practical lock-freedom, 2004,
-/// chapter 5); the births tell apart the nodes that stood in one slot.
+/// chapter 5). The births distinguish the nodes that were in one slot.
 #[inline(never)]
 pub(crate) fn claim(shared: &Shared, pass: &mut Pass) -> NodeId
     requires { IsOf shared.now pass.old }
@@ -56,8 +58,8 @@ pub(crate) fn claim(shared: &Shared, pass: &mut Pass) -> NodeId
     node
 }
 
-/// The first slot from one on and below another that is found in the pool and is not exhausted, row by
-/// row.
+/// Claims the first slot, from `from` on and below `to`, that is found in the pool and is not
+/// exhausted, row by row.
 #[cold]
 #[inline(never)]
 pub(crate) fn claim_by_rows(shared: &Shared, pass: &mut Pass, from: u32, to: u32) -> Option<NodeId>
@@ -83,8 +85,8 @@ pub(crate) fn claim_by_rows(shared: &Shared, pass: &mut Pass, from: u32, to: u32
     None
 }
 
-/// Looks at a slot's row of the pool: passes over the slots that it shows to be taken, all at one
-/// moment, and tries the first that it shows to be there. `Err`: the slot to look on from.
+/// Looks at a slot's row of the pool. Passes over the slots that it shows to be taken, all at one
+/// moment, and tries the first that it shows to be in the pool. `Err`: the slot at which to go on.
 #[inline(always)]
 fn try_row(shared: &Shared, pass: &mut Pass, from: u32, to: u32) -> Result<NodeId, u32>
     requires own { IsOf shared.now pass.old }
@@ -109,7 +111,7 @@ fn try_row(shared: &Shared, pass: &mut Pass, from: u32, to: u32) -> Result<NodeI
     Err(shown + 1)
 }
 
-/// How many slots there are from this one to the end of its row.
+/// Returns the number of slots from this one to the end of its row.
 fn left_in_row(slot: u32) -> u32
     requires { 1 ≤ slot }
     ensures some { 1 ≤ result }
@@ -119,8 +121,8 @@ fn left_in_row(slot: u32) -> u32
     SLOTS_OF_A_ROW - place_in_row(slot)
 }
 
-/// Gives a private node back to the pool, in one step. Its birth stays, so that the slot's next
-/// node has another.
+/// Gives a private node back to the pool, in one step. Its birth stays, so the slot's next node has
+/// another one.
 pub fn give(shared: &Shared, pass: &mut Pass, node: NodeId)
     requires own { IsOf shared.now pass.old }
     requires private { is_private (knowledge pass.old.view) node.slot ≡ true }
@@ -140,7 +142,8 @@ fn put(shared: &Shared, pass: &mut Pass, slot: u32)
     shared.give(pass, slot);
 }
 
-/// Takes one slot out of the pool, if it is there, and raises its birth by one, if it is not exhausted.
+/// Takes one slot out of the pool, if it is there, and raises its birth by one. An exhausted slot
+/// is put back instead.
 #[inline(always)]
 pub(crate) fn try_slot(shared: &Shared, pass: &mut Pass, slot: u32) -> Tried
     requires own { IsOf shared.now pass.old }

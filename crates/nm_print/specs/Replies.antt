@@ -1,4 +1,4 @@
--- How a reply is written.
+-- The outcome of an event as text.
 use Rattle.std.specs.Prelude.{ℕ, List, [], ◌∷◌, ◌++◌, codes, decimal, Result, Ok, Err, if◌then◌else◌}
 use Rattle.nm_edge.specs.Edges.{Edge}
 use Rattle.nm_edge.specs.declared.node.NodeId.{NodeId}
@@ -23,7 +23,7 @@ refusal_number NoMemory = 11
 refusal_number NotOrdered = 12
 refusal_number NoAnswer = 13
 
--- a slot, followed by f where the edge is flagged and t where it is tagged
+-- a slot, then f if the edge is flagged, and t if it is tagged
 abbrev pub edge_text : Edge → List ℕ
 edge_text e = decimal e.slot
     ++ ((if e.flag then codes "f" else []) ++ (if e.tag then codes "t" else []))
@@ -37,7 +37,7 @@ abbrev pub spaced_nodes : List NodeId → List ℕ
 spaced_nodes [] = []
 spaced_nodes (n ∷ ns) = (codes " " ++ node_text n) ++ spaced_nodes ns
 
--- how a reply is spelled
+-- a reply as text
 abbrev pub reply_text : Reply → List ℕ
 reply_text (Saw e) = codes "saw " ++ decimal e
 reply_text (Labelled e) = codes "label " ++ decimal e
@@ -64,7 +64,7 @@ reply_text (Cut ns) = codes "cut" ++ spaced_nodes ns
 reply_text (Lost e) = codes "lost " ++ edge_text e
 reply_text (Joined ls) = codes "joined"
 
--- what an event was answered
+-- the outcome of an event as text: its reply, or its refusal
 abbrev pub outcome_text : Result Reply Refused → List ℕ
 outcome_text (Ok r) = reply_text r
 outcome_text (Err r) = codes "refused " ++ decimal (refusal_number r)

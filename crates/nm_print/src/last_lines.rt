@@ -1,5 +1,5 @@
-//! The lines that a last state is told by: a worker's ledger, the epoch, how many slots stand
-//! where, and the keys of the set.
+//! Writes the summary of a last state as text: a worker's ledger, the epoch, the numbers of slots
+//! by their place, and the keys of the set.
 ghost use Rattle.std.specs.Prelude.{◌≡◌, ◌++◌, codes, Some, OnOk};
 ghost use Rattle.nm_print.specs.LastLines as spec;
 
@@ -8,7 +8,7 @@ use nm_edge::{Key, NodeId};
 use nm_model::{Ledger, Places, Queued};
 use std::alloc::AllocError;
 
-/// Appends each node after a space, or a dash where there is none.
+/// Appends each node after a space, or a dash if there is none.
 fn put_nodes(out: &mut Vec<u8>, nodes: &[NodeId]) -> Result<(), AllocError>
     ensures { OnOk result (out.new.items ≡ out.old.items ++ spec.nodes_text nodes.now) }
 {
@@ -18,7 +18,7 @@ fn put_nodes(out: &mut Vec<u8>, nodes: &[NodeId]) -> Result<(), AllocError>
     put_spaced_nodes(out, nodes)
 }
 
-/// Appends a label, or a dash where there is none yet.
+/// Appends a label, or a dash if there is none yet.
 fn put_label(out: &mut Vec<u8>, label: Option<u64>) -> Result<(), AllocError>
     ensures { OnOk result (out.new.items ≡ out.old.items ++ (codes "@" ++ spec.label_text label)) }
 {
@@ -46,7 +46,7 @@ fn put_spaced_entries(out: &mut Vec<u8>, entries: &[Queued]) -> Result<(), Alloc
     Ok(())
 }
 
-/// Appends each entry of a queue after a space, or a dash where there is none.
+/// Appends each entry of a queue after a space, or a dash if there is none.
 fn put_queue(out: &mut Vec<u8>, entries: &[Queued]) -> Result<(), AllocError>
     ensures { OnOk result (out.new.items ≡ out.old.items ++ spec.queue_text entries.now) }
 {
@@ -72,7 +72,7 @@ fn put_nodes_line(
     out.extend_from_slice(b"\n")
 }
 
-/// Appends the line of the queue of what a worker's splices cut off.
+/// Appends the line of the queue of the nodes that a worker's splices cut off.
 fn put_queue_line(out: &mut Vec<u8>, worker: u32, entries: &[Queued]) -> Result<(), AllocError>
     ensures { OnOk result (out.new.items
         ≡ out.old.items ++ spec.worker_line worker (codes " queue") (spec.queue_text entries.now)) }
@@ -101,7 +101,7 @@ pub fn put_epoch(out: &mut Vec<u8>, epoch: u64) -> Result<(), AllocError>
     out.extend_from_slice(b"\n")
 }
 
-/// Appends the line of how many slots stand where.
+/// Appends the line of the numbers of slots in the pool, private, reached and queued.
 #[tactic(auto, unfolding(crate::specs::LastLines::places_line))]
 pub fn put_places(out: &mut Vec<u8>, places: Places) -> Result<(), AllocError>
     ensures { OnOk result (out.new.items ≡ out.old.items ++ spec.places_line places) }
@@ -123,7 +123,7 @@ fn put_spaced_keys(out: &mut Vec<u8>, keys: &[Key]) -> Result<(), AllocError>
     Ok(())
 }
 
-/// Appends each key after a space, or a dash where there is none.
+/// Appends each key after a space, or a dash if there is none.
 fn put_keys(out: &mut Vec<u8>, keys: &[Key]) -> Result<(), AllocError>
     ensures { OnOk result (out.new.items ≡ out.old.items ++ spec.numbers_text keys.now) }
 {

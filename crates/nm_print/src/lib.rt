@@ -1,4 +1,4 @@
-//! How answers and states are spelled.
+//! Writes replies and states as text.
 #![tactic(auto)]
 
 pub mod last_lines;

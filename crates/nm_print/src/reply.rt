@@ -1,4 +1,4 @@
-//! How what an event was answered is written.
+//! Writes the outcome of an event as text.
 ghost use Rattle.std.specs.Prelude.{◌≡◌, ◌++◌, codes, decimal, OnOk};
 ghost use Rattle.nm_print.specs.Replies as spec;
 
@@ -16,8 +16,7 @@ pub fn put_number(out: &mut Vec<u8>, word: &[u8], n: u64) -> Result<(), AllocErr
     out.extend_from_slice(buffer.format(n).as_bytes())
 }
 
-/// Appends a word, and an edge: its slot, followed by `f` where it is flagged and `t` where it is
-/// tagged.
+/// Appends a word, and an edge: its slot, then `f` if it is flagged, and `t` if it is tagged.
 fn put_edge(out: &mut Vec<u8>, word: &[u8], edge: Edge) -> Result<(), AllocError>
     ensures { OnOk result (out.new.items ≡ out.old.items ++ (word.now ++ spec.edge_text edge)) }
 {
@@ -90,7 +89,7 @@ fn put_reply(out: &mut Vec<u8>, reply: &Reply) -> Result<(), AllocError>
     }
 }
 
-/// The number by which a refusal is reported.
+/// Returns the number by which a refusal is reported.
 fn refusal_number(refused: Refused) -> u64
     ensures { result ≡ spec.refusal_number refused }
 {
@@ -111,7 +110,7 @@ fn refusal_number(refused: Refused) -> u64
     }
 }
 
-/// Appends what an event was answered.
+/// Appends the outcome of an event: its reply, or its refusal.
 pub fn put_outcome(out: &mut Vec<u8>, outcome: &Result<Reply, Refused>) -> Result<(), AllocError>
     ensures { OnOk result (out.new.items ≡ out.old.items ++ spec.outcome_text outcome.now) }
 {

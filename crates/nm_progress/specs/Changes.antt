@@ -1,4 +1,4 @@
--- What changes an edge that has no mark, and the tries that are lost by it.
+-- Changes of an edge that has no mark, and the tries that are lost by them.
 use Rattle.std.specs.Prelude.{◌≡◌, ◌≢◌, ℕ, ◌==◌, Bool, true, false, not, ◌&&◌, List, ◌∷◌, ◌++◌, Result, Ok}
 use Rattle.std.specs.List.{list_any}
 use Rattle.nm_edge.specs.Edges.{Edge, to}
@@ -20,7 +20,7 @@ use Rattle.nm_order.specs.Moments.{PinStands}
 
 -- ---- changes
 
--- it has no mark
+-- the edge has no mark
 abbrev pub is_bare : Edge → Bool
 is_bare e = not e.flag && not e.tag
 
@@ -29,8 +29,7 @@ abbrev pub is_at : ℕ → Side → ℕ → Side → Bool
 is_at x d p side = (p == x) && is_side side d
 
 -- an event with its outcome changes the edge of x on a side, which had no mark: a link, a flag or a
--- splice that is won there, or a tag that found it without a mark (Natarajan and Mittal, section
--- 3.2)
+-- splice that is won there, or a tag that found it unmarked (Natarajan and Mittal, section 3.2)
 abbrev pub changes : ℕ → Side → Event → Result Reply Refused → Bool
 changes x d (Link p side leaf new) (Ok (Linked n)) = is_at x d p side
 changes x d (Flag p side leaf) (Ok (Flagged n)) = is_at x d p side
@@ -42,8 +41,8 @@ changes x d _ _ = false
 abbrev pub is_change : ℕ → Side → Entry → Bool
 is_change x d e = changes x d e.0 (Ok e.1)
 
--- in these turns, from a configuration on, there is one of another worker than w that changes the
--- edge of x on a side, which until then leads to s without a mark
+-- in these turns, from a configuration on, another worker than w changes the edge of x on a side,
+-- which led to s without a mark before that turn
 pub record IsChangedByAnother (c : Configuration) (turns : List (ℕ × Event)) (w x : ℕ) (d : Side)
     (s : ℕ) : Type 0 where
   pub before : List (ℕ × Event)
@@ -62,13 +61,12 @@ pub data Expects (x : ℕ) (d : Side) (s : ℕ) : Event → Type 0 where
   ToFlag : Expects x d s (Flag x d s)
   ToCut : (p : ℕ) (keep : Side) → Expects x d s (Splice x d s p keep)
 
--- the configuration behind a look of w at the edge of x on side d
+-- the configuration after a look of w at the edge of x on side d
 abbrev pub behind_look : Layout → List (ℕ × Event) → ℕ → ℕ → Side → Configuration
 behind_look L before w x d = next_in (after_in (ordered L) before) (w, Look x (EdgeOn d))
 
--- worker w read the edge of a node that it knows as one to s without a mark; under the same pin it
--- tried an exchange that expects this, and lost; and between the two it changed that edge by no
--- turn of its own
+-- worker w read the edge of a node that it knows as one to s without a mark. Under the same pin it
+-- tried an exchange that expects this, and lost. Between the two it did not itself change that edge
 pub record IsLostTry (L : Layout) (turns : List (ℕ × Event)) (w x : ℕ) (d : Side)
     (s : ℕ) : Type 0 where
   pub before : List (ℕ × Event)

@@ -1,4 +1,4 @@
--- What pays for the changes of edges: splices and tags are paid by won flags.
+-- What pays for the changes of edges: won flags pay for splices and tags.
 use Rattle.std.specs.Prelude.{ℕ, ◌+◌, ◌≤◌, Bool, true, false, List, ◌++◌, Result, Ok, All}
 use Rattle.nm_edge.specs.Layouts.{Layout}
 use Rattle.nm_model.specs.declared.event.Event.{Event}
@@ -32,9 +32,9 @@ abbrev pub tags_on : Event → Result Reply Refused → Bool
 tags_on (Tag p side) (Ok (Was e)) = is_bare e
 tags_on _ _ = false
 
--- ---- how many of them there are
+-- ---- the number of each kind
 
--- `links_in`, `flags_in`, `cuts_in`, `tags_in`: in these turns
+-- `links_in`, `flags_in`, `cuts_in`, `tags_in`: the number of such turns among these
 abbrev pub links_in : List Turn → ℕ
 links_in turns = number_of (λ t. links_on t.event t.outcome) turns
 
@@ -47,25 +47,26 @@ cuts_in turns = number_of (λ t. cuts_on t.event t.outcome) turns
 abbrev pub tags_in : List Turn → ℕ
 tags_in turns = number_of (λ t. tags_on t.event t.outcome) turns
 
--- ---- and what pays for them
+-- ---- what pays for them
 
 -- over a whole run there are no more splices than flags
 abbrev pub SplicesArePaid : Layout → List (ℕ × Event) → Type 0
 SplicesArePaid L turns = cuts_in (trace_in (ordered L) turns) ≤ flags_in (trace_in (ordered L) turns)
 
--- and over each part of a run only as many more as there are workers, of whom each may have had one
--- flag before it
+-- over each part of a run there are at most as many more splices than flags as there are workers,
+-- because each worker may have had one flag before that part
 abbrev pub SplicesArePaidSince : Type 0
 SplicesArePaidSince = (L : Layout) → 5 ≤ L.nodes → (past turns : List (ℕ × Event))
     → All (λ t. HasKey t.1) (past ++ turns)
     → cuts_in (trace_in (after_in (ordered L) past) turns)
     ≤ flags_in (trace_in (after_in (ordered L) past) turns) + L.workers
 
--- over a whole run there are no more tags of edges without a mark than flags
+-- over a whole run there are no more tags of unmarked edges than flags
 abbrev pub TagsArePaid : Layout → List (ℕ × Event) → Type 0
 TagsArePaid L turns = tags_in (trace_in (ordered L) turns) ≤ flags_in (trace_in (ordered L) turns)
 
--- and over each part of a run only as many more as there are workers
+-- over each part of a run there are at most as many more tags of unmarked edges than flags as there
+-- are workers
 abbrev pub TagsArePaidSince : Type 0
 TagsArePaidSince = (L : Layout) → 5 ≤ L.nodes → (past turns : List (ℕ × Event))
     → All (λ t. HasKey t.1) (past ++ turns)

@@ -1,4 +1,5 @@
--- How many tries a worker can lose, by its own log: no more than the others change edges.
+-- The number of tries that a worker can lose, by its own log: at most the number of changes that
+-- other workers make.
 use Rattle.std.specs.Prelude.{◌≡◌, ℕ, suc, ◌+◌, ◌*◌, ◌<◌, ◌≤◌, ◌==◌, Bool, true, false, not, ◌&&◌, ◌||◌, if◌then◌else◌, List, [], ◌∷◌, ◌++◌, Result, All}
 use Rattle.std.specs.List.{list_any}
 use Rattle.nm_edge.specs.Edges.{Edge, to}
@@ -20,47 +21,46 @@ use Rattle.nm_progress.specs.Changes.{is_change, Expects}
 use Rattle.nm_progress.specs.Moves.{number_of}
 use Rattle.nm_progress.specs.Paid.{links_on, flags_on, cuts_on, tags_on, links_in, flags_in}
 
--- ---- changes of others
+-- ---- changes by other workers
 
 -- an event with its outcome changes an edge that had no mark
 abbrev pub changes_edge : Event → Result Reply Refused → Bool
 changes_edge e o = links_on e o || (flags_on e o || (cuts_on e o || tags_on e o))
 
--- a turn of another worker that does
+-- a turn of another worker that changes an edge
 abbrev pub changes_of_others : ℕ → Turn → Bool
 changes_of_others w t = not (t.worker == w) && changes_edge t.event t.outcome
 
--- an event with its outcome puts a node in or cuts nodes off: it changes where an edge leads
+-- an event with its outcome links a node or cuts nodes off: it changes where an edge leads
 abbrev pub reshapes : Event → Result Reply Refused → Bool
 reshapes e o = links_on e o || cuts_on e o
 
--- a turn of another worker that does
+-- a turn of another worker that links a node or cuts nodes off
 abbrev pub reshapes_of_others : ℕ → Turn → Bool
 reshapes_of_others w t = not (t.worker == w) && reshapes t.event t.outcome
 
--- an event with its outcome helps a delete on: a splice that is won, or a tag of an edge that had
--- no mark (Natarajan and Mittal, section 3.2, cleanup)
+-- an event with its outcome helps a delete: a splice that is won, or a tag of an unmarked edge
+-- (Natarajan and Mittal, section 3.2, cleanup)
 abbrev pub helps_on : Event → Result Reply Refused → Bool
 helps_on e o = cuts_on e o || tags_on e o
 
--- a turn that interferes a call of worker w: another changes an edge, or w itself helps a delete on
+-- a turn that interferes with worker w: another worker changes an edge, or w itself helps a delete
 abbrev pub interferes : ℕ → Turn → Bool
 interferes w t = if t.worker == w then helps_on t.event t.outcome else changes_edge t.event t.outcome
 
 -- ---- lost tries in a log
 
--- the entries that read an edge as one to s without a mark, and that lose an exchange which expects
--- this
+-- the entries that read an edge as one to s without a mark, and that lose an exchange
 abbrev pub reading : ℕ → Side → ℕ → Entry
 reading x d s = (Look x (EdgeOn d), EdgeIs (to s))
 
 abbrev pub losing : Event → Edge → Entry
 losing exchange found = (exchange, Lost found)
 
--- of the entries of worker w's log behind a first part: so many tries are lost in them, one behind
--- the other. Each is a look at an edge of a known node, which leads to s without a mark, and then
--- an exchange that expects this and is lost; between the two the worker's pin stands, and it does
--- not change that edge itself
+-- this many tries are lost in these entries of worker w's log, one after the other, after a first
+-- part of the log. Each try is a look at an edge of a known node, which leads to s without a mark,
+-- and then an exchange that expects this and is lost. Between the two the worker's pin lasts, and
+-- the worker does not change that edge itself
 pub data LosesTries (L : Layout) (w : ℕ) : List Entry → List Entry → ℕ → Type 0 where
   NoTry : {so_far entries : List Entry} → LosesTries L w so_far entries 0
   OneTry : {so_far : List Entry} (n x : ℕ) (d : Side) (s : ℕ) (first between rest : List Entry)
@@ -74,9 +74,8 @@ pub data LosesTries (L : Layout) (w : ℕ) : List Entry → List Entry → ℕ �
 
 -- ---- laws
 
--- from one moment of an ordered run to a later one, of a worker whose part of it grows by these
--- entries: it loses no more tries in them than others change edges in the run from the one moment
--- to the other
+-- the law holds from one moment of an ordered run to a later one: of a worker, of the tries that it
+-- loses in the entries by which its part of the run grows, and of the turns between the two moments
 abbrev pub OfEachPart : (Layout → ℕ → ℕ → List Turn → Type 0) → Type 0
 OfEachPart P = (L : Layout) → 5 ≤ L.nodes → (w : ℕ) → w < L.workers
     → (past turns : List (ℕ × Event)) → All (λ t. HasKey t.1) (past ++ turns) → (n : ℕ)
@@ -87,20 +86,21 @@ OfEachPart P = (L : Layout) → 5 ≤ L.nodes → (w : ℕ) → w < L.workers
 abbrev pub TriesAreLostToChanges : Layout → ℕ → ℕ → List Turn → Type 0
 TriesAreLostToChanges L w n turns = n ≤ number_of (changes_of_others w) turns
 
--- so no more than the links that are won, three times the flags, and twice the workers (for flags
--- that were won before)
+-- the worker loses at most as many tries as there are won links, three times the flags, and twice
+-- the workers (for flags that were won before)
 abbrev pub TriesArePaid : Layout → ℕ → ℕ → List Turn → Type 0
 TriesArePaid L w n turns = n ≤ links_in turns + 3 * flags_in turns + 2 * L.workers
 
--- over a whole run a worker loses no more tries than links are won, and three times as many flags
+-- over a whole run a worker loses at most as many tries as there are won links and three times the
+-- won flags
 abbrev pub TriesArePaidEver : Type 0
 TriesArePaidEver = (L : Layout) → 5 ≤ L.nodes → (w : ℕ) → w < L.workers → (turns : List (ℕ × Event))
     → All (λ t. HasKey t.1) turns → (n : ℕ)
     → LosesTries L w [] (part_of w (trace_in (ordered L) turns)) n
     → n ≤ links_in (trace_in (ordered L) turns) + 3 * flags_in (trace_in (ordered L) turns)
 
--- from one moment of an ordered run to a later one there are no more turns that interfere a worker than
--- links that are won, three times the flags, and twice the workers
+-- from one moment of an ordered run to a later one, at most as many turns interfere with a worker
+-- as there are won links, three times the flags, and twice the workers
 abbrev pub HindrancesArePaid : Type 0
 HindrancesArePaid = (L : Layout) → 5 ≤ L.nodes → (w : ℕ) (past turns : List (ℕ × Event))
     → All (λ t. HasKey t.1) (past ++ turns)

@@ -1,4 +1,4 @@
--- A worked schedule: a link that is lost to a flag, and the help that follows.
+-- A worked schedule: a link is lost to a flag, and its worker then helps the delete.
 use Rattle.std.specs.Prelude.{◌≡◌, true, false, List, [], ◌∷◌, ◌++◌, map, Ok}
 use Rattle.nm_edge.specs.Layouts.{Layout, dense}
 use Rattle.nm_edge.specs.declared.edge.Side.TheVariants.{Left, Right}
@@ -17,8 +17,8 @@ use Rattle.nm_progress.specs.Tries.{changes_of_others, LosesTries}
 abbrev pub layout : Layout
 layout = dense 9 2
 
--- worker 0 inserts 10; worker 1 announces itself at epoch 0, which worker 0 then moves on; so its
--- pin is missed once
+-- worker 0 inserts 10. Worker 1 reads epoch 0, which worker 0 then advances, and announces it; so
+-- its pin is missed once
 abbrev pub inserting : List Turn
 inserting =
     t 0 Sight (Ok (Saw 0)) ∷
@@ -59,7 +59,7 @@ reads =
     t 0 (Flag 6 Left 7) (Ok (Flagged (n 7 1))) ∷
     []
 
--- worker 1 loses its link, and helps the delete: it tags the edge beside, and cuts 6 and 7 off
+-- worker 1 loses its link, and helps the delete: it tags the other edge of 6, and cuts off 6 and 7
 abbrev pub helps : List Turn
 helps =
     t 1 (Link 6 Left 7 8) (Ok (Lost (e 7 true false))) ∷
@@ -71,8 +71,8 @@ helps =
 abbrev pub worked : List Turn
 worked = inserting ++ (reads ++ helps)
 
--- one link, one flag, one splice and one tag; worker 1 loses one try, and worker 0 makes one change
--- behind its pin; the epoch was moved once, by the other worker, and one pin was missed
+-- there are one link, one flag, one splice and one tag. Worker 1 loses one try, and worker 0 makes
+-- one change after worker 1's pin. The epoch was advanced once, by worker 0
 pub record IsWorked : Type 0 where
   pub is_run : trace_in (ordered layout) (map turn_of worked) ≡ worked
   pub links : links_in worked ≡ 1

@@ -1,5 +1,5 @@
-//! Progress, as laws of all ordered runs: what is lost is lost to a change of another worker, and is
-//! paid for by what others won. Nothing here runs.
+//! Progress, as laws of all ordered runs: a lost try is due to a change by another worker, and is
+//! paid for by what workers won. Nothing here runs.
 #![tactic(auto)]
 
 mod lost;

@@ -1,18 +1,18 @@
-//! What pays for changes of edges.
+//! Laws on what pays for changes of edges.
 ghost use Rattle.nm_order.specs.Moments.{OfEachOrderedRun};
 ghost use Rattle.nm_progress.specs.Paid.{SplicesArePaid, SplicesArePaidSince, TagsArePaid, TagsArePaidSince};
 
-/// There are no more won splices than won flags, and over each part of a run only as many more as
-/// there are workers: each splice takes a flagged leaf out of the tree, and each leaf was flagged
-/// once.
+/// Law: for every ordered run there are no more won splices than won flags. Over each part of a run
+/// there are at most as many more as there are workers. The reason is that each splice removes a
+/// flagged leaf from the tree, and each leaf was flagged once.
 pub fn splices_are_paid()
     ensures all { OfEachOrderedRun SplicesArePaid }
     ensures since { SplicesArePaidSince }
 {}
 
-/// There are no more tags of unmarked edges than won flags, and over each part of a run only as
-/// many more as there are workers: the flagged leaf beside such an edge is the only one that it is
-/// tagged for.
+/// Law: for every ordered run there are no more tags of unmarked edges than won flags. Over each
+/// part of a run there are at most as many more as there are workers. The reason is that such an
+/// edge is tagged only for the flagged leaf beside it.
 pub fn tags_are_paid()
     ensures all { OfEachOrderedRun TagsArePaid }
     ensures since { TagsArePaidSince }

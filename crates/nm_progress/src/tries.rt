@@ -1,22 +1,25 @@
-//! How many tries a worker can lose.
+//! Laws on the number of tries that a worker can lose.
 ghost use Rattle.nm_progress.specs.Tries.{OfEachPart, TriesAreLostToChanges, TriesArePaid, TriesArePaidEver, HindrancesArePaid};
 
-/// From one moment of a run to another a worker loses no more tries, by its own log, than other
-/// workers change edges.
+/// Law: from one moment of an ordered run to a later one, a worker loses no more tries, by its own
+/// log, than other workers make changes of edges.
 pub fn tries_are_lost_to_changes()
     ensures { OfEachPart TriesAreLostToChanges }
 {}
 
-/// And no more than the links and three times the flags that are won, and twice the workers: so
-/// where a worker loses try upon try, other calls have their moment (lock freedom: Herlihy and
-/// Shavit).
+/// Law: from one moment of an ordered run to a later one, a worker loses at most as many tries as
+/// there are won links, three times the won flags, and twice the workers. Over a whole run it loses
+/// at most as many as there are won links and three times the won flags. So if a worker loses many
+/// tries, other calls have their moment (linearization point). (Lock freedom: Herlihy and Shavit.)
 pub fn tries_are_paid()
     ensures part { OfEachPart TriesArePaid }
     ensures ever { TriesArePaidEver }
 {}
 
-/// From one moment of a run to another as many turns interfere a worker, by a change of another or by a
-/// help of its own, as links are won, three times the flags, and twice the workers.
+/// Law: from one moment of an ordered run to a later one, the number of turns (transitions) that
+/// interfere with a worker is bounded by what is won. It is at most the number of won links, three
+/// times the won flags, and twice the workers. A turn interferes if another worker changes an edge,
+/// or if the worker itself helps a delete.
 pub fn hindrances_are_paid()
     ensures { HindrancesArePaid }
 {}

@@ -1,4 +1,4 @@
--- What is written for a file.
+-- The output for a file.
 use Rattle.nm_files.specs.Chain.{◌>>=◌}
 use Rattle.std.specs.Prelude.{◌≡◌, ℕ, false, List, [], ◌∷◌, ◌++◌, drop, codes, Option, Result, Ok, Err}
 use Rattle.std.specs.Io.KnownBytes.{Appends}
@@ -16,40 +16,40 @@ use Rattle.nm_print.specs.Replies.{outcome_text}
 use Rattle.nm_print.specs.LastLines.{epoch_line, places_line}
 use Rattle.nm_replay.specs.LastState.{workers_lines, last_lines}
 
--- each line with what its event was answered
+-- each line with the outcome of its event
 abbrev pub lines_with : List (List ℕ) → List Turn → List ℕ
 lines_with [] turns = []
 lines_with (line ∷ lines) [] = []
 lines_with (line ∷ lines) (turn ∷ turns) =
     line ++ codes " = " ++ outcome_text turn.outcome ++ codes "\n" ++ lines_with lines turns
 
--- the core that plays a file with that header, at its opening
+-- the core that runs a file with that header, at its opening
 abbrev pub opening_core : Header → Configuration
 opening_core header = opening_of header.layout header.is_extended
 
--- what is written for a schedule whose lines from the second on are these
+-- the output for a schedule whose lines from the second on are these
 abbrev pub text_of : Schedule → List (List ℕ) → List ℕ
 text_of s lines = lines_with lines (trace_in (opening_core s.header) s.entries)
     ++ last_lines s.header (after_in (opening_core s.header) s.entries).state
 
--- what the last state of a file that is not ordered is told by
+-- the summary of the last state, for a file that is not ordered
 abbrev pub plain_lines : ℕ → State → List ℕ
 plain_lines workers s = workers_lines s workers
     ++ (epoch_line s.memory.epoch ++ places_line (counts s))
 
--- a file that is not ordered is told by a run of states, without a line of keys
+-- the output for a file that is not ordered shows a run of states, without a line of keys
 abbrev pub PlainFilesAreRuns : Type 0
 PlainFilesAreRuns = (L : Layout) (ts : List (ℕ × Event)) (lines : List (List ℕ))
     → text_of (record { header = record { layout = L; tries = 1; is_extended = false }; entries = ts }) lines
     ≡ lines_with lines (trace (start L) ts) ++ plain_lines L.workers (after (start L) ts)
 
--- what is written for a file, or its first faulty line with the least reason
+-- the output for a file, or its first faulty line with the least reason
 abbrev pub output_of : List ℕ → Result (List ℕ) Fault
 output_of bytes = do
   s ← schedule_of bytes
   Ok (text_of s (drop 1 (parts bytes)))
 
--- a writer gained the text
+-- the writer's contents have grown by the text
 abbrev pub Writes : Result (List ℕ) Fault → Option (List ℕ) → Option (List ℕ) → Type 0
 Writes (Ok text) old new = Appends old new text
 Writes (Err fault) old new = ⊥

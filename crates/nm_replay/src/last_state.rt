@@ -1,4 +1,4 @@
-//! What the last state of a core is told by.
+//! Writes the summary of the last state of a core.
 ghost use Rattle.std.specs.Prelude.{◌≡◌, ◌<◌, ◌++◌, ℕ, Bool, List, IsSome, OnOk};
 ghost use Rattle.nm_edge.specs.Layouts.{Layout};
 ghost use Rattle.nm_model.specs.declared.event.Event.{Event};
@@ -11,7 +11,7 @@ use nm_files::header::Header;
 use nm_print::last_lines::{put_epoch, put_keys_line, put_ledger, put_places};
 use std::alloc::AllocError;
 
-/// Appends the lines of each worker by number.
+/// Appends the lines of each worker, in the order of their numbers.
 fn put_ledgers(out: &mut Vec<u8>, workers: u32, core: &Core) -> Result<(), AllocError>
     ensures { OnOk result (out.new.items
         ≡ out.old.items ++ spec.workers_lines core.now.state workers) }
@@ -24,7 +24,7 @@ fn put_ledgers(out: &mut Vec<u8>, workers: u32, core: &Core) -> Result<(), Alloc
     Ok(())
 }
 
-/// Appends the line of the keys, in an ordered file alone.
+/// Appends the line of the keys, only in an ordered file.
 fn put_keys_in(out: &mut Vec<u8>, is_ordered: bool, core: &Core) -> Result<(), AllocError>
     ensures { OnOk result (out.new.items
         ≡ out.old.items ++ spec.keys_line_in is_ordered core.now.state) }
@@ -36,7 +36,8 @@ fn put_keys_in(out: &mut Vec<u8>, is_ordered: bool, core: &Core) -> Result<(), A
     put_keys_line(out, keys.as_slice())
 }
 
-/// Appends what the last state of a file with that header is told by.
+/// Appends the summary of the last state, for a file with that header: ledgers, epoch, numbers of
+/// slots and, in an ordered file, keys.
 #[tactic(auto, unfolding(crate::specs::LastState::last_lines))]
 pub fn put_last_lines(out: &mut Vec<u8>, header: &Header, core: &Core) -> Result<(), AllocError>
     ensures { OnOk result (out.new.items
@@ -48,7 +49,7 @@ pub fn put_last_lines(out: &mut Vec<u8>, header: &Header, core: &Core) -> Result
     put_keys_in(out, header.is_extended, core)
 }
 
-/// Each worker of a tree has a ledger, whatever was done and by whom, in an ordered core or not, so
+/// Law: for every run of an ordered or of a plain core, each worker of the tree has a ledger. So
 /// each has its three lines.
 pub fn each_worker_is_told()
     ensures { (L : Layout) (is_ordered : Bool) (turns : List (ℕ × Event)) (worker : ℕ)

@@ -1,4 +1,4 @@
-//! `replay`: a file of events in, what the core answers out.
+//! `replay`: reads a file of events, and writes what the core replies.
 #![tactic(auto)]
 
 mod last_state;

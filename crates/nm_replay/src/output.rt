@@ -1,4 +1,4 @@
-//! What is written for a schedule.
+//! The output for a schedule.
 ghost use Rattle.std.specs.Prelude.{◌≡◌, ◌++◌, codes, IfOk, OnOk};
 ghost use Rattle.nm_files.specs.Lines.{parts};
 ghost use Rattle.nm_print.specs.Replies.{outcome_text};
@@ -13,7 +13,7 @@ use nm_model::Turn;
 use nm_print::reply::put_outcome;
 use std::alloc::{AllocError, Global};
 
-/// Appends a line of the file with what its event was answered.
+/// Appends a line of the file with the outcome of its event.
 fn put_line(out: &mut Vec<u8>, line: &[u8], turn: &Turn) -> Result<(), AllocError>
     ensures { OnOk result (out.new.items
         ≡ out.old.items
@@ -25,7 +25,8 @@ fn put_line(out: &mut Vec<u8>, line: &[u8], turn: &Turn) -> Result<(), AllocErro
     out.extend_from_slice(b"\n")
 }
 
-/// Each line with what its event was answered, and then what the last state is told by.
+/// Returns the output: each line with the outcome of its event, and then the summary of the last
+/// state.
 pub fn text_of(
     alloc: Global,
     body: &[u8],
@@ -50,8 +51,8 @@ pub fn text_of(
     Ok(out)
 }
 
-/// A file that is not ordered, of version 1 or 2, is told by a run of states, each event answered
-/// as a plain core answers it, and has no line of keys.
+/// Law: for every file that is not ordered, of version 1 or 2, the output shows a run of states, in
+/// which each event has the outcome of a plain core, and has no line of keys.
 pub fn plain_files_are_runs()
     ensures { spec.PlainFilesAreRuns }
 {}

@@ -1,4 +1,4 @@
-//! The commands, from a reader to a writer.
+//! The command, from a reader to a writer.
 ghost use Rattle.std.specs.Prelude.{◌≡◌, ◌≢◌, drop, Some, IfSome, IfOk, OnOk, IfErr, IsOk};
 ghost use Rattle.nm_files.specs.Files.{GivesWhatIsSaid, IfLine, HasJudged};
 ghost use Rattle.nm_replay.specs.Output.{opening_core, output_of, Writes};
@@ -12,7 +12,7 @@ use nm_files::stream::{LIMIT, input_of, write_text};
 use std::alloc::Global;
 use std::io::{Read, Write};
 
-/// The core that plays a file with that header, at its opening.
+/// Makes the core that runs a file with that header.
 fn core_of(alloc: Global, header: &Header) -> Result<Core, RunFault>
     ensures opening { IfOk result (λ core. core ≡ opening_core header.now) }
     ensures err { IfErr result (λ e. e ≡ RunFault.NoMemory) }
@@ -23,7 +23,7 @@ fn core_of(alloc: Global, header: &Header) -> Result<Core, RunFault>
     }
 }
 
-/// What is written for the bytes of a file.
+/// Returns the output for the bytes of a file.
 fn output(alloc: Global, bytes: &[u8]) -> Result<Vec<u8>, RunFault>
     ensures { GivesWhatIsSaid (λ v. v.items) result (output_of bytes.now) }
 {
@@ -45,13 +45,13 @@ fn output(alloc: Global, bytes: &[u8]) -> Result<Vec<u8>, RunFault>
     }
 }
 
-/// Plays the schedule that the reader gives, and writes each of its lines with what the event was
-/// answered, and then what the last state is told by: each worker's ledger, the epoch, how many
-/// slots stand where, and in an ordered file the keys of the set.
+/// Runs the schedule that the reader gives. Writes each of its lines with the outcome of its event,
+/// and then a summary of the last state: each worker's ledger, the epoch, the numbers of slots by
+/// their place, and in an ordered file the keys of the set.
 ///
-/// Everything is read before a line is checked, and nothing is written before all lines are checked
-/// and run. An event that the core refuses is written with the number of the refusal, and is no
-/// fault.
+/// The whole input, up to `LIMIT` bytes, is read before a line is checked. Nothing is written
+/// before all lines are checked and run. An event that the core refuses is written with the number
+/// of the refusal, and is no fault.
 pub fn replay<R: Read, W: Write>(
     alloc: Global,
     reader: &mut R,
@@ -60,20 +60,20 @@ pub fn replay<R: Read, W: Write>(
     // The output of the input is written, and nothing else.
     ensures ok { OnOk result (IfSome (R.remaining reader.old)
         (λ input. Writes (output_of input) (W.contents writer.old) (W.contents writer.new))) }
-    // The first faulty line is answered, with the least reason.
+    // The error names the first faulty line, with the least reason.
     ensures line { IfErr result
         (λ e. IfSome (R.remaining reader.old)
         (λ input. IfLine e (λ line reason. output_of input
         ≡ Err (record { line = line; reason = reason })))) }
-    // A writer is first asked where no line is faulty.
+    // A write error is returned only if no line is faulty.
     ensures write { IfErr result
         (λ e. e ≡ RunFault.Write
         → IfSome (R.remaining reader.old) (λ input. IsOk (output_of input))) }
-    // However it was judged, the input was read to its end, or to the limit.
+    // If the input was judged, it was read to its end, or to the limit.
     ensures read { HasJudged result
         → IfSome (R.remaining reader.old)
         (λ input. R.remaining reader.new ≡ Some (drop LIMIT input)) }
-    // Nothing is written unless all was right.
+    // After any error except `Write` nothing was written.
     ensures unwritten { IfErr result (λ e. e ≢ RunFault.Write → writer.new ≡ writer.old) }
 {
     let bytes = input_of(alloc, reader)?;

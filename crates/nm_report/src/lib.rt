@@ -1,5 +1,5 @@
-//! What the words of a closed tree tell: the keys of the set, and how many slots are free and
-//! reached.
+//! The report on the words of a closed tree: the keys of the set, and the numbers of free and of
+//! reached slots.
 #![tactic(auto)]
 
 mod reading;

@@ -9,7 +9,7 @@ use nm_edge::{Edge, FIRST_SLOT, Key, Layout, Side};
 use nm_model::memory::Node;
 use nm_steps::Words;
 
-// The edge of a slot on that side.
+// Returns the edge of a slot on that side.
 fn edge(words: &Words, layout: Layout, slot: u32, side: Side) -> Edge
     requires ended { IsEndOf layout words.now }
     requires slot { IsSlot layout slot }
@@ -20,7 +20,7 @@ fn edge(words: &Words, layout: Layout, slot: u32, side: Side) -> Edge
     Edge::of_word(word)
 }
 
-/// The node of a slot, its four words.
+/// Returns the node of a slot: its four words.
 pub fn node(words: &Words, layout: Layout, slot: u32) -> Node
     requires ended { IsEndOf layout words.now }
     requires slot { IsSlot layout slot }
@@ -37,7 +37,7 @@ pub fn node(words: &Words, layout: Layout, slot: u32) -> Node
     }
 }
 
-// Whether a slot is in the pool.
+// Returns whether a slot is in the pool.
 fn is_free(words: &Words, layout: Layout, slot: u32) -> bool
     requires ended { IsEndOf layout words.now }
     requires slot { IsSlot layout slot }
@@ -49,7 +49,7 @@ fn is_free(words: &Words, layout: Layout, slot: u32) -> bool
     word & place.mask != 0
 }
 
-/// How many slots are in the pool. None of the fixed ones is.
+/// Returns the number of slots in the pool. No fixed slot is in it.
 pub fn count_free(words: &Words, layout: Layout) -> u32
     requires ended { IsEndOf layout words.now }
     ensures { (e : IsEndOf layout words.now) → result ≡ (counts (end_of layout words.now e)).pool }

@@ -1,4 +1,4 @@
-//! The report.
+//! The report on a closed tree.
 ghost use Rattle.std.specs.Prelude.{◌≡◌, ◌↔◌, ℕ, ◌<◌, AllPairs, Contains};
 ghost use Rattle.nm_model.specs.Memory.{infinity_0};
 ghost use Rattle.nm_model.specs.Reports.{counts, keys};
@@ -12,23 +12,23 @@ use nm_edge::{FIRST_SLOT, Key};
 use nm_model::keys::Subtree;
 use nm_steps::Words;
 
-/// What the words of a closed tree tell.
+/// What the words of a closed tree hold.
 #[derive(Debug, Drop)]
 pub struct Found {
-    /// The keys of the set, ascending: those of the reached leaves, flagged ones too, without the
-    /// three infinite keys.
+    /// The keys of the set, ascending: those of the reached leaves, including flagged ones, without
+    /// the three infinite keys.
     pub keys: Vec<Key>,
-    /// How many slots are in the pool.
+    /// The number of slots in the pool.
     pub free: u32,
-    /// How many slots are reached from the root, the five fixed ones left out.
+    /// The number of slots that are reached from the root, except the five fixed ones.
     pub reached: u32,
 }
 
-/// Reads the words of a closed tree: the keys of the set, how many slots are free, and how many are
-/// reached.
+/// Reads the words of a closed tree; returns the keys of the set, the number of free slots, and the
+/// number of reached ones.
 ///
-/// It takes no memory beside the room, and cannot fail. A stack takes the place of recursion, so
-/// the tree may be as deep as it has nodes.
+/// Takes no memory besides the room, and cannot fail. It uses a stack in place of recursion, so the
+/// tree may be as deep as it has nodes.
 pub fn read(words: &Words, room: ReportRoom) -> Found
     requires { IsEndOf room words.now }
     ensures keys { (e : IsEndOf room words.now)

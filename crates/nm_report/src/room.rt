@@ -6,7 +6,7 @@ use nm_model::keys::Subtree;
 use std::alloc::{AllocError, Global};
 use std::marker::Model;
 
-/// All memory that the report on a tree takes: room for the keys, and for the parts of the tree
+/// All memory that the report on a tree needs: room for the keys, and for the parts of the tree
 /// that wait.
 ///
 /// It is made before the tree is closed, so that nothing can fail afterwards. A contract sees it as
@@ -31,8 +31,10 @@ impl Model for ReportRoom {
 }
 
 impl ReportRoom {
-    /// Room for the report on a tree of that layout: one key a node, and one part a node and one
-    /// more. It fails only where memory runs out.
+    /// Returns the room for the report on a tree of that layout: for one key for each node, and one
+    /// part for each node and one more.
+    ///
+    /// Errors: out of memory.
     pub fn new(alloc: Global, layout: Layout) -> Result<ReportRoom, AllocError>
         ensures { IfOk result (λ room. room ≡ layout) }
     {

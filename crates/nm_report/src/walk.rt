@@ -1,4 +1,4 @@
-//! A walk over the tree of a closed table, from its root.
+//! A walk over all nodes of a closed tree, from its root.
 ghost use Rattle.std.specs.Prelude.{◌≡◌, ◌+◌, ◌≤◌, ◌++◌, [], ◌∷◌, length, option_to_list, vec_capacity};
 ghost use Rattle.nm_model.specs.Reports.{keys, tree_slots};
 ghost use Rattle.nm_report.specs.Ended.{IsEndOf, end_of};
@@ -9,7 +9,7 @@ use nm_model::keys::Subtree;
 use nm_model::memory::Node;
 use nm_steps::Words;
 
-// A key is found, if there is one.
+// Appends a key, if there is one.
 fn put_key(found: &mut Vec<Key>, key: Option<Key>)
     requires { length found.old.items + length (option_to_list key) ≤ vec_capacity found.old }
     ensures items { found.new.items ≡ found.old.items ++ option_to_list key }
@@ -20,7 +20,7 @@ fn put_key(found: &mut Vec<Key>, key: Option<Key>)
     }
 }
 
-// The parts below a node wait, the left one in front.
+// Appends the parts below a node, the left one last, so that it is visited first.
 fn put_below(waiting: &mut Vec<Subtree>, node: &Node, depth: u32)
     requires { length waiting.old.items + 2 ≤ vec_capacity waiting.old }
     ensures items { waiting.new.items
@@ -42,7 +42,8 @@ fn put_below(waiting: &mut Vec<Subtree>, node: &Node, depth: u32)
         .unwrap();
 }
 
-/// Finds the keys from left to right, and answers how many slots are reached, the fixed ones too.
+/// Finds the keys from left to right, and returns the number of slots that are reached, including
+/// the fixed ones.
 pub fn walk(words: &Words, layout: Layout, found: &mut Vec<Key>, waiting: &mut Vec<Subtree>) -> u32
     requires ended { IsEndOf layout words.now }
     requires first { found.old.items ≡ [] }

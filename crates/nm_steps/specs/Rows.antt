@@ -1,4 +1,4 @@
--- A look at a row of the pool: a lost claim of each slot that it shows to be taken, all at one moment.
+-- A look at a row of the pool: a lost claim of each slot that it shows as taken, all at one moment.
 use Rattle.std.specs.Prelude.{◌≡◌, ◌+◌, ◌-◌, ◌%◌, ◌^◌, ◌≤◌, ◌==◌, ℕ, zero, suc, false, List, [], ◌∷◌, ◌++◌, bit_and, if◌then◌else◌}
 use mathlib.Core.Option.{none}
 use Rattle.atomic_table.specs.Table.{Me, Step, step}
@@ -15,13 +15,13 @@ use Rattle.nm_steps.specs.Steps.{TreeView}
 abbrev pub Doing : Type 1
 Doing = ℕ → List Entry → List Entry → Type 0
 
--- it was done at so many slots one after the other, from a first one upwards
+-- it was done at n slots one after the other, from a first one upwards
 abbrev pub DoneInTurn : Doing → ℕ → ℕ → List Entry → List Entry → Type 0
 DoneInTurn Done from zero old new = new ≡ old
 DoneInTurn Done from (suc n) old new =
     (mid : List Entry) × DoneInTurn Done from n old mid × Done (from + n) mid new
 
--- it was done at each slot from one on and below another, in this order
+-- it was done at each slot from `from` on and below `to`, in this order
 abbrev pub DoneBelow : Doing → ℕ → ℕ → List Entry → List Entry → Type 0
 DoneBelow Done from to old new = DoneInTurn Done from (to - from) old new
 
@@ -29,8 +29,8 @@ DoneBelow Done from to old new = DoneInTurn Done from (to - from) old new
 abbrev pub FoundTaken : Doing
 FoundTaken s old new = new ≡ old ++ (Claim s, Taken) ∷ []
 
--- of so many slots of one row, from s on: how many, up to the first one that its word shows to be
--- there, are taken
+-- the number of taken slots, among this many slots of one row from s on, before the first one that
+-- the word n shows as free
 abbrev pub shown_taken : ℕ → ℕ → ℕ → ℕ
 shown_taken n s zero = 0
 shown_taken n s (suc k) =
@@ -39,17 +39,18 @@ shown_taken n s (suc k) =
 abbrev pub no_step : Step Unit
 no_step = step 0 0 0 0 none
 
--- a claim of each of so many slots, from a first one upwards, each by the word n
+-- a claim of each of this many slots, from a first one upwards, each by the word n
 abbrev pub DidClaims : ℕ → ℕ → Me Unit View → ℕ → Me Unit View → Type 0
 DidClaims from zero me n after = after ≡ me
 DidClaims from (suc k) me n after =
     (mid : Me Unit View) × DidClaims from k me n mid × Did (Claim (from + k)) no_step mid n after
 
--- what a look at a row tells its seat: the claims of the slots that it shows to be taken
+-- what a seat learns by a look at a row: the claims of the slots that the word shows as taken
 abbrev pub PassedOver : ℕ → ℕ → Step Unit → Me Unit View → ℕ → Me Unit View → Type 0
 PassedOver from most s me n after = DidClaims from (shown_taken n from most) me n after
 
--- the pass of this seat can look at so many slots of one row, from a first one on, whose word is i
+-- the pass of this seat can look at this many slots of one row, from a first one on, whose word is
+-- i
 pub record CanPass (b : TreeView) (it : Seat Unit View) (from most i : ℕ) : Type 0 where
   pub table : it.table_id ≡ b.table
   pub words : b.table.words ≡ words b.layout
@@ -62,7 +63,7 @@ pub record CanPass (b : TreeView) (it : Seat Unit View) (from most i : ℕ) : Ty
   pub row : (from - 1) % 64 + most ≤ 64
   pub word : i ≡ (pool_place b.layout from).word
 
--- the look has been had, with this word found
+-- the look was done, and found this word
 pub record HasPassed (it after : Seat Unit View) (from most n : ℕ) : Type 0 where
   pub table : after.table_id ≡ it.table_id
   pub seat : after.id ≡ it.id

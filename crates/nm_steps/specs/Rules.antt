@@ -1,5 +1,5 @@
--- The rule: the logs of all workers are a run of the ordered core, and the words are those of its
--- memory.
+-- The rule of the table: the logs of all workers are a run of the ordered core, and the words are
+-- those of its memory.
 use Rattle.std.specs.Prelude.{◌≡◌, ◌<◌, ℕ, Option, zero, suc, Bool, true, false, List, [], ◌∷◌, ◌++◌, All, Ok, if◌then◌else◌, ◌==◌, nat_lt}
 use Rattle.std.specs.List.{sum_by, count_by}
 use mathlib.Core.Option.{some}
@@ -25,7 +25,7 @@ use Rattle.nm_steps.specs.declared.view.View.{View}
 abbrev pub held_log : ℕ → List Entry → Held
 held_log w log = record { number = w; log = log }
 
--- the logs that a view has; a spent one has none
+-- the logs that a view has; a spent view has none
 abbrev pub holdings : View → List Held
 holdings v = if v.resigned then [] else held_log v.number v.log ∷ v.others
 
@@ -33,11 +33,11 @@ holdings v = if v.resigned then [] else held_log v.number v.log ∷ v.others
 abbrev pub knowledge : View → Knowledge
 knowledge v = known_by v.layout v.number v.log
 
--- the births that its log tells
+-- the births that its log shows
 abbrev pub known_births : View → ℕ → Option ℕ
 known_births v = births_by v.layout v.number v.log
 
--- how often the number stands in the view
+-- the number of logs of worker w in the view
 abbrev pub stands : ℕ → View → ℕ
 stands w v = count_by (λ h. w == h.number) (holdings v)
 
@@ -53,7 +53,7 @@ LogsAre l L t (h ∷ hs) = (l ≡ L) × (h.log ≡ part_of h.number t) × LogsAr
 abbrev pub IsShown : Layout → List Turn → View → Type 0
 IsShown L t v = LogsAre v.layout L t (holdings v)
 
--- the turns of a run go on from those of an earlier one
+-- the turns of a run extend those of an earlier one
 pub record Extends (run earlier : List Turn) : Type 0 where
   pub more : List Turn
   pub is : run ≡ earlier ++ more
@@ -63,9 +63,9 @@ pub record LagsBehind (turns : List Turn) (v : View) : Type 0 where
   pub past : Extends turns v.past
   pub heard : Extends turns v.heard
 
--- some ordered run of calls for keys of the set ends with these words; the log of each worker is
--- its part of that run and stands in the view of one seat, and whoever stands for itself has not
--- resigned; and what each view has seen is a beginning of the run
+-- some ordered run of calls for keys of the set ends with these words. The log of each worker is
+-- its part of that run and is in the view of one seat. A worker whose log is its view's own has not
+-- resigned. What each view has seen is a beginning of the run
 pub record Runs (L : Layout) (words : List ℕ) (views : List View) : Type 0 where
   pub fits : IsLayout L
   pub turns : List (ℕ × Event)
@@ -79,14 +79,14 @@ pub record Runs (L : Layout) (words : List ℕ) (views : List View) : Type 0 whe
   pub lags : (i : ℕ) (v : View) → get_elem? views i ≡ some v
       → LagsBehind (trace_in (ordered L) turns) v
 
--- ---- how the views begin, are cut and are joined
+-- ---- how views begin, are split and are joined
 
--- the numbers from k on, n of them
+-- empty logs of n workers, with the numbers from k on
 abbrev pub numbers_from : ℕ → ℕ → List Held
 numbers_from k zero = []
 numbers_from k (suc n) = held_log k [] ∷ numbers_from (suc k) n
 
--- a view of these, the first of them its own
+-- a view of these logs, the first of them its own
 abbrev pub viewing : Layout → List Held → View
 viewing L [] = record {
   layout = L;
@@ -107,8 +107,8 @@ viewing L (h ∷ hs) = record {
   heard = [];
 }
 
--- `everybody`, `own_alone`, `the_others`: a view that stands for all; for its own worker alone; for
--- those that joined it alone
+-- `everybody`, `own_alone`, `the_others`: the view of all workers; of its own worker only; of those
+-- that joined it only
 abbrev pub everybody : Layout → View
 everybody L = viewing L (numbers_from 0 L.workers)
 
@@ -118,15 +118,16 @@ own_alone v = record v { others = [] }
 abbrev pub the_others : View → View
 the_others v = viewing v.layout v.others
 
--- a view that stands for no one
+-- a view without a worker
 abbrev pub nobody : View
 nobody = viewing (dense 0 0) []
 
--- the entry of a join: the ledgers that the leaver holds
+-- the entry of a join: the leaver's ledgers are passed on
 abbrev pub passing : View → Entry
 passing w = (Join w.number, Joined (knowledge w).ledgers)
 
--- the first view stands for both, with the other's logs beside its own, and the join is in both
+-- the first view has the logs of both, with the other's logs beside its own, and the join is in
+-- both logs
 abbrev pub joined : View → View → View
 joined v w = record v {
   log = v.log ++ passing w ∷ [];
@@ -137,21 +138,22 @@ joined v w = record v {
 abbrev pub informed : View → View → View
 informed v w = record v { heard = w.past }
 
--- until the next step
+-- the joined view, which has heard what the other one had seen; its next step adds that to what it
+-- has seen
 abbrev pub joining_view : View → View → View
 joining_view v w = informed (joined v w) w
 
--- a view that stands for nobody, and has seen what this one has
+-- a view without a worker that has seen what this one has
 abbrev pub noted_down : View → View
 noted_down v = record nobody { past = v.past }
 
 -- ---- a step
 
--- the turn of a worker whose event was answered so
+-- the turn of a worker with this event and this reply
 abbrev pub answered_turn : ℕ → Event → Reply → Turn
 answered_turn w e r = record { worker = w; event = e; outcome = Ok r }
 
--- an event with the reply that the word n gives enters the log, and has been seen behind these
+-- an event with the reply that the word n gives is appended to the log, and is seen after these
 -- turns
 abbrev pub logged : View → Event → ℕ → List Turn → View
 logged v e n turns = record v {
@@ -161,7 +163,7 @@ logged v e n turns = record v {
       ++ answered_turn v.number e (told v.layout (knowledge v) (known_births v) e n) ∷ [];
 }
 
--- it is a store, which finds nothing
+-- it is a store, whose reply does not show what it found
 abbrev pub is_store : Event → Bool
 is_store Announce = true
 is_store Leave = true
@@ -169,8 +171,8 @@ is_store (LeaveWith answer) = true
 is_store (Fill s f v) = true
 is_store _ = false
 
--- in some run with that log, in which the worker has not resigned, the event finds the word n (of a
--- store nothing is said of the word)
+-- in some run with that log, in which the worker has not resigned, the event finds the word n. For
+-- a store the word may be any
 pub record IsFound (L : Layout) (w : ℕ) (log : List Entry) (e : Event) (n : ℕ) : Type 0 where
   pub fits : IsLayout L
   pub worker : w < L.workers
@@ -181,9 +183,8 @@ pub record IsFound (L : Layout) (w : ℕ) (log : List Entry) (e : Event) (n : �
   pub word : is_store e ≡ false
       → n ≡ word_at L (after_in (ordered L) turns).state.memory (touched_field w e)
 
--- what a step tells its seat: the event is in its log with its reply, in a run that goes on from
--- the one that it had seen, and which it has now seen with this turn at its end; and nothing else
--- changed
+-- what a seat learns by a step: the event with its reply is in its log, and nothing else changed.
+-- The run extends the one that it had seen, and it has now seen the run with this turn at its end
 abbrev pub Did : Event → Step Unit → Me Unit View → ℕ → Me Unit View → Type 0
 Did e s me n after = (f : IsFound me.0.layout me.0.number me.0.log e n)
     × (after ≡ (logged me.0 e n (trace_in (ordered me.0.layout) f.turns), me.1))

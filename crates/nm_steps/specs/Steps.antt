@@ -1,4 +1,4 @@
--- What a step asks of its worker, and what it does.
+-- What a step requires of its worker, and what it does.
 use Rattle.std.specs.Prelude.{◌≡◌, ◌≢◌, ◌+◌, ◌≤◌, ◌<◌, IfSome, ℕ, suc, true, false, List, [], ◌∷◌, ◌++◌, length, map, Bool, if◌then◌else◌, unwrap_or, Result, Ok, Err, Option, Some, None, IsSome, All}
 use Rattle.atomic_table.specs.Seated.{TableId}
 use Rattle.atomic_table.specs.declared.shared.Seat.{Seat}
@@ -35,18 +35,18 @@ use Rattle.nm_steps.specs.Rules.{held_log, knowledge, known_births, viewing, joi
 
 -- ---- what a worker's own log allows
 
--- the birth word that a fill raises was looked at
+-- if the event raises a birth, that birth was looked at
 abbrev pub HasLookedAtBirth : Knowledge → Event → Type 0
 HasLookedAtBirth k (Fill s Birth v) = IsSome (draft_of k s).looked
 HasLookedAtBirth k _ = Unit {0}
 
--- and it is so in a memory
+-- if the event raises a birth, the birth in this memory is the one that was looked at
 abbrev pub IsAsLooked : Knowledge → Memory → Event → Type 0
 IsAsLooked k m (Fill s Birth v) = (b : ℕ) → (draft_of k s).looked ≡ Some b → (node m s).birth ≡ b
 IsAsLooked k m _ = Unit {0}
 
--- the own log alone shows that an event is refused by no ordered core, whatever the memory, as long
--- as the birth that was looked at is so; the births that its reply names are known, and one that it
+-- the worker's own log shows that no ordered core refuses the event, for any memory in which the
+-- birth that was looked at is unchanged. The births that its reply names are known, and one that it
 -- raises was looked at
 pub record May (L : Layout) (w : ℕ) (log : List Entry) (e : Event) : Type 0 where
   pub looked : HasLookedAtBirth (known_by L w log) e
@@ -56,14 +56,14 @@ pub record May (L : Layout) (w : ℕ) (log : List Entry) (e : Event) : Type 0 wh
   pub births : BirthsAreKnown L (known_by L w log) (births_by L w log) e
   pub key : HasKey e
 
--- no private slot and no unlabelled cut: what a worker that resigns must have
+-- no private slot and no cut without a label: required of a worker that resigns
 pub record HasEmptyHands (k : Knowledge) : Type 0 where
   pub drafts : length k.drafts ≡ 0
   pub labelled : k.brief.unlabelled ≡ false
 
 -- ---- what clauses see of a table and of a pass
 
--- what clauses see of a tree's words: which table they lie in, and the layout
+-- what clauses see of a tree's words: their table and the layout
 pub record TreeView : Type 0 where
   pub table : TableId
   pub layout : Layout
@@ -96,7 +96,7 @@ pub record IsDone (it after : Seat Unit View) (e : Event) (n : ℕ) : Type 0 whe
       ≡ (logged it.me.0 e n (trace_in (ordered it.me.0.layout) found.turns), it.me.1)
   pub past : Extends (trace_in (ordered it.me.0.layout) found.turns) it.me.0.past
 
--- the operation leaves the word that the event leaves
+-- the operation changes the word exactly as the event does
 abbrev pub Changes : Event → View → (ℕ → ℕ) → Type 0
 Changes e v f = (n : ℕ) → f n ≡ left_word v.layout (knowledge v) e n
 
@@ -121,13 +121,13 @@ splice_of c = Splice c.ancestor c.side c.successor c.parent c.keep
 abbrev pub MayStep : PassView → Event → Type 0
 MayStep p e = May p.view.layout p.view.number p.view.log e
 
--- this event with this reply is in the log, more has been seen, and nothing else changed
+-- this event with this reply is appended to the log, more has been seen, and nothing else changed
 abbrev pub Stepped : PassView → PassView → Event → Reply → Type 0
 Stepped p q e r = q ≡ record p
     { view = record p.view { log = p.view.log ++ (e, r) ∷ []; past = q.view.past } }
 
--- and what has been seen: turns that go on from what had been, the last of them this event with
--- this reply
+-- what has been seen is turns that extend what had been seen before, and the last of them is this
+-- event with this reply
 pub record HasTurn (p q : PassView) (e : Event) (r : Reply) : Type 0 where
   pub before : List Turn
   pub extends : Extends before p.view.past
@@ -140,20 +140,20 @@ pub record IsOfRun (L : Layout) (w : ℕ) (log : List Entry) : Type 0 where
   pub is_part : IsLogOf L w log
   pub here : (known_by L w log).gone ≡ false
 
--- the pass's log is its worker's part of a run, in a layout that there is, and the worker has not
--- resigned: what each step leaves
+-- the pass's log is its worker's part of a run, in a valid layout, and the worker has not resigned:
+-- what each step leaves
 pub record IsInRun (p : PassView) : Type 0 where
   pub fits : IsLayout p.view.layout
   pub run : IsOfRun p.view.layout p.view.number p.view.log
 
--- what each step function leaves: the step, as the last turn of what has been seen, and a pass that
--- is in a run
+-- what each step function leaves: the step, as the last turn that has been seen, and a pass that is
+-- in a run
 pub record TakesStep (p q : PassView) (e : Event) (r : Reply) : Type 0 where
   pub step : Stepped p q e r
   pub past : HasTurn p q e r
   pub run : IsInRun q
 
--- what a view has seen are the turns of an ordered run, its log is its worker's part of them, and
+-- what a view has seen is the turns of an ordered run, its log is its worker's part of them, and
 -- the worker has not resigned
 pub record HasSeen (v : View) : Type 0 where
   pub worker : v.number < v.layout.workers
@@ -163,8 +163,8 @@ pub record HasSeen (v : View) : Type 0 where
   pub is_part : part_of v.number v.past ≡ v.log
   pub here : (knowledge v).gone ≡ false
 
--- what a pass keeps of its log: its number and epochs, that its private slots are ones of the
--- pool's range, and that the run which it has seen has the log as its part
+-- what a pass always satisfies: its number and epochs agree with its log, its private slots are
+-- ones of the pool's range, and its log is its worker's part of the run that it has seen
 pub record Tied (it : Seat Unit View) (number announcement : ℕ) (brief : Brief) : Type 0 where
   pub empty : it.me.1 ≡ []
   pub alive : it.me.0.resigned ≡ false
@@ -178,7 +178,7 @@ pub record Tied (it : Seat Unit View) (number announcement : ℕ) (brief : Brief
   pub seen : HasSeen it.me.0
   pub heard : it.me.0.heard ≡ []
 
--- what a table keeps
+-- what a table always satisfies
 pub record Laid (z : TableId) (key L : Layout) : Type 0 where
   pub key_is : key ≡ L
   pub words_are : z.words ≡ words L
@@ -190,17 +190,17 @@ pub record Laid (z : TableId) (key L : Layout) : Type 0 where
 abbrev pub fresh_view : Layout → ℕ → View
 fresh_view L k = viewing L (held_log k [] ∷ [])
 
--- passes of workers k and on, which have done nothing yet
+-- passes of workers k and on, which have taken no step
 abbrev pub AreFresh : TreeView → ℕ → List PassView → Type 0
 AreFresh b k [] = Unit {0}
 AreFresh b k (p ∷ ps) = (p.table ≡ b.table) × (p.view ≡ fresh_view b.layout k)
     × AreFresh b (suc k) ps
 
--- the first pass stands for both
+-- the first pass represents the workers of both
 abbrev pub HasJoined : PassView → PassView → PassView → Type 0
 HasJoined p q all = all ≡ record p { view = record (joined p.view q.view) { past = all.view.past } }
 
--- what a pass has seen goes on from what another one had seen
+-- what a pass has seen extends what another one had seen
 pub record HasSeenAllOf (later earlier : PassView) : Type 0 where
   pub goes_on : Extends later.view.past earlier.view.past
 
@@ -209,16 +209,16 @@ pub record Notice : Type 0 where
   pub table : TableId
   pub past : List Turn
 
--- a note tells what a pass had seen
+-- a note has what a pass had seen
 abbrev pub IsNoteOf : PassView → Notice → Type 0
 IsNoteOf p note = note ≡ record { table = p.table; past = p.view.past }
 
--- a pass that hears a note has seen more, and has done nothing
+-- a pass that has heard a note may have seen more, and has taken no step
 abbrev pub HasHeard : PassView → PassView → Type 0
 HasHeard p q = q ≡ record p { view = record p.view { past = q.view.past } }
 
--- some ordered run ends with these words, and goes on from what the view has seen; the view's logs
--- are its parts, each once
+-- some ordered run ends with these words, and extends what the view has seen; the view's logs are
+-- parts of it, at most one of each worker
 pub record Ends (L : Layout) (words : List ℕ) (view : View) : Type 0 where
   pub fits : IsLayout L
   pub turns : List (ℕ × Event)
@@ -228,20 +228,20 @@ pub record Ends (L : Layout) (words : List ℕ) (view : View) : Type 0 where
   pub once : (w : ℕ) → stands w view ≤ once_below w L.workers
   pub past : Extends (trace_in (ordered L) turns) view.past
 
--- nothing but the log and what has been seen changed
+-- only the log and what has been seen have changed
 abbrev pub IsSamePass : PassView → PassView → Type 0
 IsSamePass p q = q ≡ record p { view = record p.view { log = q.view.log; past = q.view.past } }
 
--- what some steps leave: it is the same pass, has seen all that it had seen, and is in a run
+-- what one or more steps leave: it is the same pass, has seen all that it had seen, and is in a run
 pub record Continues (p q : PassView) : Type 0 where
   pub same : IsSamePass p q
   pub past : HasSeenAllOf q p
   pub run : IsInRun q
 
--- ---- replies, by what the step functions answer
+-- ---- replies, from the results of step functions
 
 -- `sight_reply`, `pin_reply`, `advance_reply`, `claim_reply`, `splice_reply`: the reply of an
--- event, by what its step function answers
+-- event, from the result of its step function
 abbrev pub sight_reply : Sighted → Reply
 sight_reply (seeing.Saw e) = Saw e
 sight_reply (seeing.Labelled e) = Labelled e
@@ -260,12 +260,12 @@ abbrev pub claim_reply : ℕ → Bool → Reply
 claim_reply s true = Claimed s
 claim_reply s false = Taken
 
--- an exchange of an edge, with the reply of a won one
+-- the reply of an exchange of an edge, if `won` is that of a won one
 abbrev pub exchange_reply : Reply → Result Unit Edge → Reply
 exchange_reply won (Ok u) = won
 exchange_reply won (Err e) = Lost e
 
--- the new node, with the birth that was filled in
+-- the new node, with the birth that was stored
 abbrev pub link_reply : View → ℕ → Result Unit Edge → Reply
 link_reply v new r = exchange_reply (Linked (node_linked (knowledge v) new)) r
 
@@ -273,7 +273,7 @@ link_reply v new r = exchange_reply (Linked (node_linked (knowledge v) new)) r
 abbrev pub flag_reply : View → ℕ → Result Unit Edge → Reply
 flag_reply v leaf r = exchange_reply (Flagged (known_as (known_births v) leaf)) r
 
--- the nodes of the known way, each with the birth that is known
+-- the nodes of the known chain, each with the birth that is known
 abbrev pub nodes_cut : View → ℕ → ℕ → Side → List NodeId
 nodes_cut v s p keep = map (known_as (known_births v))
     (cut_by (knowledge v) s (unwrap_or (way v.layout.nodes (knowledge v) s p) []) keep)
@@ -281,14 +281,14 @@ nodes_cut v s p keep = map (known_as (known_births v))
 abbrev pub splice_reply : View → ℕ → ℕ → Side → Result Unit Edge → Reply
 splice_reply v s p keep r = exchange_reply (Cut (nodes_cut v s p keep)) r
 
--- a private slot is returned, and the front of a queue is freed
+-- the reply of a give: a private slot is returned, and the front of a queue is freed
 abbrev pub give_reply : View → ℕ → Reply
 give_reply v s = if is_private (knowledge v) s then Returned s
     else Freed (node_of (front_of (knowledge v).ledgers s))
 
--- ---- what a pass mirrors
+-- ---- what a pass copies from its log
 
--- what an event with its reply leaves of a worker's epochs
+-- a worker's epochs after a sight with this reply
 abbrev pub noted_sight : Brief → Reply → Brief
 noted_sight b (Saw e) = record b { seen = Some e }
 noted_sight b (Labelled e) = record b { seen = Some e; unlabelled = false }
@@ -300,12 +300,12 @@ noted_sight b _ = b
 abbrev pub sight_of : Brief → ℕ → Reply
 sight_of b e = if b.unlabelled then Labelled e else confirmed b.pin b.announcement e
 
--- what a sight may answer a worker with these epochs
+-- a possible reply to a sight of a worker with these epochs
 abbrev pub IsSight : Brief → Reply → Type 0
 IsSight b r = (e : ℕ) × (e ≤ last_number) × (r ≡ sight_of b e)
 
--- an advance is won where it found the epoch last read, and then the next one stands; else another
--- was found
+-- an advance is won if it found the epoch last read, and then it returns the next one; otherwise it
+-- found another one
 abbrev pub IsAdvanceFrom : Option ℕ → Result ℕ ℕ → Type 0
 IsAdvanceFrom seen (Ok e) = (s : ℕ) × (seen ≡ Some s) × (e ≡ s + 1)
 IsAdvanceFrom seen (Err e) = (s : ℕ) × (seen ≡ Some s) × (e ≢ s)

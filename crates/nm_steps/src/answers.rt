@@ -1,14 +1,14 @@
-//! What steps answer.
+//! The reply of a sight.
 
-/// What a sight answers, each with the global epoch.
+/// The reply of a sight (epoch read); each variant has the global epoch.
 #[derive(Clone, Copy, Debug, PartialEq, Eq)]
 pub enum Sighted {
     /// The epoch, and nothing else.
     Saw(u64),
-    /// The entries of the worker's last cut have this label.
+    /// The nodes of the worker's last cut have this epoch as their label (retire epoch).
     Labelled(u64),
     /// The worker is pinned at this epoch.
     Pinned(u64),
-    /// The announcement came too late.
+    /// The epoch differs from the announced one: the worker is not pinned.
     Missed(u64),
 }

@@ -12,8 +12,8 @@ use nm_edge::Key;
 use nm_model::{Brief, Event, Op};
 
 impl Shared {
-    /// Reads the global epoch. It confirms a pin where the worker announces that epoch, and labels
-    /// a cut.
+    /// Reads the global epoch, in one step. If a cut of the worker waits for its label, this labels
+    /// it. Otherwise, if the worker announces that epoch and is not pinned, this confirms its pin.
     pub fn sight(&self, pass: &mut Pass) -> Sighted
         requires { IsOf self.now pass.old }
         ensures took { TakesStep pass.old pass.new Sight (sight_reply result) }
@@ -26,8 +26,8 @@ impl Shared {
         reply
     }
 
-    /// Reads the global epoch, by a worker that is not pinned and announces nothing, and no cut of
-    /// which waits for a label: so the epoch is all that this tells.
+    /// Reads the global epoch, for a worker that is not pinned, announces nothing and has no cut
+    /// that waits for a label. It returns the epoch and has no other effect.
     pub fn sight_idle(&self, pass: &mut Pass) -> u64
         requires own { IsOf self.now pass.old }
         requires unpinned { (knowledge pass.old.view).brief.pin ≡ None }
@@ -41,10 +41,10 @@ impl Shared {
         epoch
     }
 
-    /// Reads the global epoch again, to confirm a pin for an operation on a key that begins with
-    /// it, by a worker that announces `announced` and is not pinned, and no cut of which waits for
-    /// a label. `Ok`: the epoch is that one still, and the worker is pinned. `Err`: another one was
-    /// found.
+    /// Reads the global epoch again, to confirm a pin for an operation on a key. The worker
+    /// announces `announced`, is not pinned, and has no cut that waits for a label. `Ok`: the epoch
+    /// is still `announced`, and the worker is pinned for this operation. `Err`: another epoch was
+    /// found; the worker is not pinned.
     pub fn sight_for(&self, pass: &mut Pass, announced: u64, op: Op, key: Key) -> Result<u64, u64>
         requires own { IsOf self.now pass.old }
         requires may { MayStep pass.old (SightFor op key) }
@@ -66,7 +66,7 @@ impl Shared {
         }
     }
 
-    /// Announces the epoch last read, and answers it.
+    /// Announces the epoch that the worker read last, and returns it.
     pub fn announce(&self, pass: &mut Pass) -> u64
         requires own { IsOf self.now pass.old }
         requires may { MayStep pass.old Announce }
@@ -82,7 +82,7 @@ impl Shared {
         seen
     }
 
-    /// Takes the worker's announcement back.
+    /// Clears the worker's announcement, and so unpins it.
     pub fn leave(&self, pass: &mut Pass)
         requires own { IsOf self.now pass.old }
         requires may { MayStep pass.old Leave }
@@ -95,7 +95,7 @@ impl Shared {
         pass.brief.pin = None;
     }
 
-    /// Takes the worker's announcement back and answers the operation of its pin.
+    /// Clears the worker's announcement, and records the answer to the operation of its pin.
     pub fn leave_with(&self, pass: &mut Pass, answer: bool)
         requires own { IsOf self.now pass.old }
         requires may { MayStep pass.old (LeaveWith answer) }
@@ -108,7 +108,7 @@ impl Shared {
         pass.brief.pin = None;
     }
 
-    /// Reads a worker's announcement: the epoch, or `None` of an idle worker.
+    /// Reads a worker's announcement. Returns the epoch, or `None` if that worker announces none.
     pub fn scan(&self, pass: &mut Pass, worker: u32) -> Option<u64>
         requires own { IsOf self.now pass.old }
         requires may { MayStep pass.old (Scan worker) }
@@ -119,8 +119,8 @@ impl Shared {
         if found == 0 { None } else { Some(found - 1) }
     }
 
-    /// Moves the global epoch from the one last read to the next: the new one, or the one that was
-    /// found in the place of the old.
+    /// Advances the global epoch by one from the epoch that the worker read last. `Ok`: the new
+    /// epoch. `Err`: the epoch that was found in place of the old one.
     pub fn advance(&self, pass: &mut Pass) -> Result<u64, u64>
         requires own { IsOf self.now pass.old }
         requires may { MayStep pass.old Advance }
@@ -142,7 +142,7 @@ impl Shared {
     }
 }
 
-/// What a sight of this epoch answers.
+/// Returns what a sight of this epoch returns.
 fn sighted(brief: Brief, epoch: u64) -> Sighted
     ensures { sight_reply result ≡ sight_of brief epoch }
 {
@@ -156,7 +156,7 @@ fn sighted(brief: Brief, epoch: u64) -> Sighted
     }
 }
 
-/// Notes a sight: what it does not tell of a worker's epochs stays as it stands.
+/// Records a sight in the worker's epochs. What the reply does not change stays as it is.
 fn note_sight(brief: &mut Brief, reply: Sighted)
     ensures { brief.new ≡ noted_sight brief.old (sight_reply reply) }
 {

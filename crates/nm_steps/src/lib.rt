@@ -1,4 +1,4 @@
-//! Running workers that take only steps of the core.
+//! Workers at run time, which take only steps of the core.
 #![tactic(auto)]
 
 mod answers;

@@ -1,7 +1,8 @@
-//! The table with its layout, and one worker's seat with what its log says.
+//! The shared table with its layout, and one worker's seat with what its log says of epochs.
 //!
-//! The table is a private field: the modules below this one alone reach it, and every other one
-//! steps by the five operations of `acts`, each of which is one operation on one word.
+//! The table is a private field, which only the modules below this one can use. All other code
+//! takes steps by `join` and by the operations of `acts`, each of which is one operation on one
+//! word.
 ghost use Rattle.std.specs.Prelude.{◌≡◌, ◌<◌, ℕ, true};
 ghost use Rattle.nm_edge.specs.Layouts.{IsLayout};
 ghost use Rattle.nm_model.specs.Knowledge.{is_private};
@@ -24,7 +25,7 @@ pub use notes::Note;
 use std::alloc::Global;
 use std::marker::Model;
 
-/// The words of a tree, which workers share.
+/// The words of a tree, which all its workers share.
 #[derive(Drop)]
 pub struct Shared {
     table: Table<(), View, Layout, Law, Global>,
@@ -41,7 +42,7 @@ impl Model for Shared {
     ghost invariant = { λ s. Laid s.table.shared.table_id s.table.shared.key s.layout };
 }
 
-/// One worker: its seat, its number, the number of the word of its announcement, and what its log
+/// One worker: its seat, its number, the index of the word of its announcement, and what its log
 /// says of epochs.
 #[derive(Drop)]
 pub struct Pass {
@@ -62,7 +63,7 @@ impl Model for Pass {
 }
 
 impl Shared {
-    /// The sizes of the tree.
+    /// Returns the sizes of the tree.
     pub fn layout(&self) -> Layout
         ensures { result ≡ self.now.layout }
     {
@@ -71,7 +72,7 @@ impl Shared {
 }
 
 impl Pass {
-    /// The worker's number, below the number of workers.
+    /// Returns the worker's number, which is below the number of workers.
     pub fn number(&self) -> u32
         ensures number { result ≡ self.now.view.number }
         ensures below { result < self.now.view.layout.workers }
@@ -79,16 +80,16 @@ impl Pass {
         self.number
     }
 
-    /// The epoch at which the worker is pinned; `None` while it is not.
+    /// Returns the epoch at which the worker is pinned, or `None` if it is not pinned.
     pub fn pinned(&self) -> Option<u64>
         ensures { result ≡ (knowledge self.now.view).brief.pin }
     {
         self.brief.pin
     }
 
-    /// Proof only: establishes that the pass's log is its number's part of some run of an ordered core,
-    /// in which the worker has not resigned. Each law of such parts holds of the log. What the pass has
-    /// seen is one such run, so each law of runs holds of it. No run-time effect.
+    /// Proof only: establishes that the pass's log is its worker's part of some run of an ordered
+    /// core, in which the worker has not resigned. Each law of such parts holds of the log. What
+    /// the pass has seen is one such run, so each law of runs holds of it. No run-time effect.
     pub fn know_run(&self)
         ensures run { IsOfRun self.now.view.layout self.now.view.number self.now.view.log }
         ensures seen { HasSeen self.now.view }

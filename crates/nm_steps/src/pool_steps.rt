@@ -1,4 +1,4 @@
-//! The steps on the pool, one bit of one word each.
+//! The steps on the pool, each on one bit of one word.
 ghost use Rattle.std.specs.Prelude.{◌≡◌, ◌+◌, ◌-◌, ◌%◌, ◌≤◌, true};
 ghost use Rattle.nm_model.specs.declared.event.Event.TheVariants.{Claim, Give};
 ghost use Rattle.nm_order.specs.Told.{IsNew};
@@ -11,8 +11,8 @@ use nm_edge::place_in_row;
 use nm_model::Event;
 
 impl Shared {
-    /// Takes a slot out of the pool; false where it was not there. One that is taken was in none of
-    /// the worker's hands.
+    /// Takes a slot out of the pool; returns whether the slot was there. A slot that was taken is
+    /// new to the worker: it was not private to it, not known to it, and in no queue that it holds.
     pub fn claim(&self, pass: &mut Pass, slot: u32) -> bool
         requires own { IsOf self.now pass.old }
         requires may { MayStep pass.old (Claim slot) }
@@ -27,9 +27,9 @@ impl Shared {
         found & place.mask != 0
     }
 
-    /// Looks once at the row of a slot, by one load: the first of `most` slots, from this one on,
-    /// that is shown to be there, or the one behind all of them. Each lesser one was found taken,
-    /// all at one moment.
+    /// Looks once at the row of a slot, by one load. It returns the first of `most` slots, from
+    /// `from` on, that the word shows as free, or the slot after all of them. Each slot before the
+    /// result was found taken, all at one moment.
     pub fn pass_row(&self, pass: &mut Pass, from: u32, most: u32) -> u32
         requires own { IsOf self.now pass.old }
         requires low { 6 ≤ from }
@@ -47,9 +47,9 @@ impl Shared {
         from + taken_in_row(found, from, most)
     }
 
-    /// Glances at the row of a slot, by one load: the first slot that its word shows to be in the
-    /// pool, if it shows one. No slot counts as found by that, and it may be one that no node of
-    /// the tree can stand in.
+    /// Reads the row of a slot, by one load; returns the first slot of the row that its word shows
+    /// as free, if there is one. The log does not change, so the slot does not count as found, and
+    /// it may be outside of the pool's range.
     #[inline(always)]
     pub fn glance(&self, pass: &mut Pass, slot: u32) -> Option<u32>
         requires own { IsOf self.now pass.old }
@@ -80,8 +80,8 @@ impl Shared {
     }
 }
 
-/// How many slots of a row, of so many from this one on, its word shows to be taken, up to the
-/// first one that it shows to be there.
+/// Returns how many of `most` slots of a row, from `from` on, the word shows as taken, up to the
+/// first one that it shows as free.
 fn taken_in_row(found: u64, from: u32, most: u32) -> u32
     requires low { 1 ≤ from }
     requires row { (from - 1) % 64 + most ≤ 64 }

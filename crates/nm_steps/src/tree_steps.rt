@@ -17,9 +17,9 @@ use nm_model::{Event, Field};
 /// The tag's bit of an edge's word.
 const TAG: u64 = 2;
 
-/// A frozen chain, from the successor down to the parent, whose edge on the side `keep` stays: what
-/// a splice of the ancestor's edge on `side` cuts off (the cleanup of Natarajan and Mittal, section
-/// 3.2).
+/// A frozen chain, from the successor down to the parent: what a splice of the ancestor's edge on
+/// `side` cuts off. The parent's edge on the side `keep` stays. (The cleanup of Natarajan and
+/// Mittal, section 3.2.)
 #[derive(Clone, Copy, Debug, PartialEq, Eq)]
 pub struct FrozenChain {
     pub ancestor: u32,
@@ -30,9 +30,9 @@ pub struct FrozenChain {
 }
 
 impl Shared {
-    /// Reads the key of a known node. The caller keeps the sizes in its own hands (`layout`), since
-    /// an operation may have changed all that is shared, so that they would be loaded again for
-    /// each node.
+    /// Reads the key of a known node. The caller passes a copy of the layout. An operation may
+    /// change all that is shared, so without the copy the sizes would be loaded again for each
+    /// node.
     pub fn look_key(&self, layout: Layout, pass: &mut Pass, slot: u32) -> u64
         requires layout { layout ≡ self.now.layout }
         requires own { IsOf self.now pass.old }
@@ -44,8 +44,8 @@ impl Shared {
         self.load(&mut pass.seat, word, Event::Look(slot, Field::Key))
     }
 
-    /// Reads an edge of a known node, by sizes that the caller keeps, as `look_key` does. Its slot
-    /// is known from then on.
+    /// Reads an edge of a known node, by a copy of the layout, as `look_key` does. The slot to
+    /// which it leads is known from then on.
     pub fn look_edge(&self, layout: Layout, pass: &mut Pass, slot: u32, side: Side) -> Edge
         requires layout { layout ≡ self.now.layout }
         requires own { IsOf self.now pass.old }
@@ -58,7 +58,7 @@ impl Shared {
         edge_of(self.load(&mut pass.seat, word, event))
     }
 
-    /// Reads the birth of a known node, or of a private slot: 2^62 at most.
+    /// Reads the birth (generation) of a known node or of a private slot; it is at most 2^62.
     pub fn look_birth(&self, pass: &mut Pass, slot: u32) -> u64
         requires own { IsOf self.now pass.old }
         requires may { MayStep pass.old (Look slot Birth) }
@@ -91,7 +91,7 @@ impl Shared {
         self.store(&mut pass.seat, word, word_to(child), event);
     }
 
-    /// Stores the birth of a private slot: the one that was looked at and 1 more.
+    /// Stores the birth of a private slot: the birth that was looked at, plus 1.
     pub fn fill_birth(&self, pass: &mut Pass, slot: u32, birth: u64)
         requires own { IsOf self.now pass.old }
         requires may { MayStep pass.old (Fill slot Birth birth) }
@@ -102,8 +102,8 @@ impl Shared {
         self.store(&mut pass.seat, word, birth, event);
     }
 
-    /// Puts a private internal node, over the leaf and a private leaf, in the place of the leaf.
-    /// Lost: the edge that was found.
+    /// Replaces a leaf, or in a radix tree perhaps an internal node, by a private internal node
+    /// over it and a private new leaf. `Err`: the link was lost; this edge was found instead.
     pub fn link(
         &self,
         pass: &mut Pass,
@@ -128,7 +128,7 @@ impl Shared {
         }
     }
 
-    /// Flags the edge to a leaf. Lost: the edge that was found.
+    /// Flags the edge to a leaf. `Err`: the flag was lost; this edge was found instead.
     pub fn flag(&self, pass: &mut Pass, parent: u32, side: Side, leaf: u32) -> Result<(), Edge>
         requires own { IsOf self.now pass.old }
         requires may { MayStep pass.old (Flag parent side leaf) }
@@ -146,7 +146,7 @@ impl Shared {
         }
     }
 
-    /// Tags an edge, and answers it as it was.
+    /// Tags an edge, and returns it as it was before.
     pub fn tag(&self, pass: &mut Pass, parent: u32, side: Side) -> Edge
         requires own { IsOf self.now pass.old }
         requires may { MayStep pass.old (Tag parent side) }
@@ -157,9 +157,10 @@ impl Shared {
         edge_of(self.mark(&mut pass.seat, word, TAG, event))
     }
 
-    /// Cuts the nodes from the successor down to the parent off, with the flagged leaf beside each:
-    /// the ancestor's edge leads from then on where the parent's edge on the side `keep` leads,
-    /// which is known to be `kept`. Lost: the edge that was found.
+    /// Cuts off the nodes from the successor down to the parent, with the flagged leaf beside each.
+    /// From then on the ancestor's edge leads to the node to which the parent's edge on the side
+    /// `keep` leads, which is known to be `kept`. `Err`: the splice was lost; this edge was found
+    /// instead.
     pub fn splice(&self, pass: &mut Pass, chain: FrozenChain, kept: Edge) -> Result<(), Edge>
         requires own { IsOf self.now pass.old }
         requires may { MayStep pass.old (splice_of chain) }
@@ -187,8 +188,8 @@ impl Shared {
     }
 }
 
-/// The number of the word of a slot's edge, by that of its key: so the looks at one node count from
-/// one number.
+/// Returns the index of the word of a slot's edge, computed from that of its key, so that the looks
+/// at one node share one index.
 fn edge_word(layout: Layout, slot: u32, side: Side) -> usize
     requires { IsSlot layout slot }
     ensures { result ≡ word layout (at_edge slot side) }
@@ -200,7 +201,7 @@ fn edge_word(layout: Layout, slot: u32, side: Side) -> usize
     }
 }
 
-/// The edge of a word that some run leaves there.
+/// Returns the edge of a word that some run leaves in an edge's place.
 fn edge_of(word: u64) -> Edge
     requires { is_word word ≡ true }
     ensures { result ≡ edge_in word }
@@ -208,14 +209,14 @@ fn edge_of(word: u64) -> Edge
     Edge::of_word(word)
 }
 
-/// The word of the unmarked edge to a slot.
+/// Returns the word of the unmarked edge to a slot.
 fn word_to(slot: u32) -> u64
     ensures { result ≡ 4 * slot }
 {
     Edge::to(slot).pack()
 }
 
-/// The word of the flagged edge to a slot.
+/// Returns the word of the flagged edge to a slot.
 fn word_flagged(slot: u32) -> u64
     requires { 1 ≤ slot }
     ensures { result ≡ 4 * slot + 1 }

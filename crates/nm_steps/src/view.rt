@@ -1,18 +1,19 @@
-//! What a seat knows, and the rule.
+//! The knowledge of a seat, and the rule of the table.
 use atomic_table::{Play, Seat, TableRule};
 use nm_edge::Layout;
 use nm_model::{Event, Reply, Turn};
 use std::collections::LinkedList;
 use std::marker::{Brand, PhantomData};
 
-/// A worker's log, oldest entry first. No value of it is made.
+/// A worker's log, oldest entry first. Proof only: no value of it is made.
 pub struct Held {
     pub number: u32,
     pub log: LinkedList<(Event, Reply)>,
 }
 
-/// What a seat knows: the logs of the workers that it stands for, its own apart, the turns of the run
-/// so far as they were at its last step, and those of which a note told. No value of it is made.
+/// The knowledge of a seat: the logs of the workers that it represents, its own apart from the
+/// others; the turns of the run up to its last step; and the turns of a note that it has heard.
+/// Proof only: no value of it is made.
 pub struct View {
     pub layout: Layout,
     pub resigned: bool,
@@ -33,7 +34,7 @@ impl TableRule<(), View, Layout> for Law {
     ghost first = { everybody };
 }
 
-/// The event that a step is.
+/// The event that a step performs.
 pub trait Doing {
     ghost use Rattle.nm_model.specs.declared.event.Event.{Event};
 
@@ -46,7 +47,7 @@ impl Doing for Brand {
     ghost event = { Sight };
 }
 
-/// What a step tells its seat.
+/// What a seat learns by a step.
 pub struct Does<D> {
     of: PhantomData<D>,
 }
@@ -57,7 +58,8 @@ impl<D: Doing> Play<(), View> for Does<D> {
     ghost then = { Did D.event };
 }
 
-/// The slots of one row of the pool that a look at it may pass over: the first one, and how many.
+/// The slots of one row of the pool that a look at it may pass over: the first one, and their
+/// number.
 pub trait Passing {
     ghost use Rattle.std.specs.Prelude.{ℕ};
 
@@ -72,7 +74,7 @@ impl Passing for Brand {
     ghost most = { 0 };
 }
 
-/// What a look at a row of the pool tells its seat.
+/// What a seat learns by a look at a row of the pool.
 pub struct Passes<D> {
     of: PhantomData<D>,
 }
@@ -83,7 +85,7 @@ impl<D: Passing> Play<(), View> for Passes<D> {
     ghost then = { PassedOver D.from D.most };
 }
 
-/// A read that changes nothing, and tells a seat that its logs are parts of one run.
+/// A read that changes nothing, by which a seat learns that its logs are parts of one run.
 pub struct Ties;
 
 impl Play<(), View> for Ties {

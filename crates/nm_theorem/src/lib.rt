@@ -1,5 +1,5 @@
-//! The theorem on one page: what the words of the tree and the turns of every run keep, with no
-//! word on what a worker knows. Nothing here runs.
+//! The theorem on one page: what the words of the tree and the turns of every run keep. It does not
+//! mention what a worker knows. Nothing here runs.
 #![tactic(auto)]
 
 mod headline;

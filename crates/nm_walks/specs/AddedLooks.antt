@@ -1,4 +1,4 @@
--- Looks at nodes, as a log has them.
+-- Looks at nodes, as entries of a log.
 use Rattle.std.specs.Prelude.{◌≡◌, ◌≤◌, ◌+◌, ℕ, Bool, true, false, List, ◌++◌, length}
 use Rattle.std.specs.List.{list_all}
 use Rattle.nm_model.specs.declared.event.Event.TheVariants.{Look}
@@ -10,7 +10,7 @@ abbrev pub is_look : Entry → Bool
 is_look (Look x f, r) = true
 is_look _ = false
 
--- looks alone, and so many at most
+-- only looks were added, at most this many
 pub record AddsLooks (most : ℕ) (old new : List Entry) : Type 0 where
   pub looks : List Entry
   pub grown : new ≡ old ++ looks

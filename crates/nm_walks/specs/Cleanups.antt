@@ -33,12 +33,12 @@ abbrev pub kept_beside : SeekRecord → Edge → Edge → Option Kept
 kept_beside s e f = if e.flag then Some (record { side = other s.side; leaf = e.slot })
     else if f.flag then Some (record { side = s.side; leaf = f.slot }) else None
 
--- the edge of a parent to keep, by two looks (Natarajan and Mittal, section 3.2, cleanup; for whole
--- chains ours)
+-- the edge of a parent to keep was chosen by two looks (Natarajan and Mittal, section 3.2, cleanup;
+-- for whole chains ours)
 abbrev pub Chooses : SeekRecord → List Entry → List Entry → Option Kept → Type 0
 Chooses s old new r = (e f : Edge) × (new ≡ after_both s old e f) × (r ≡ kept_beside s e f)
 
--- the nodes of a slot and of the flagged leaf beside its edge on a side, as they were looked at
+-- a slot and the flagged leaf beside its edge on a side were looked at, and these are their nodes
 -- (Natarajan and Mittal, section 3.2, cleanup; for whole chains ours)
 pub record FrozenAt (p q : PassView) (slot : ℕ) (side : Side) (node leaf : NodeId) : Type 0 where
   pub edge : Edge
@@ -56,16 +56,16 @@ abbrev pub top : List ChainEdge → ℕ → ℕ
 top [] p = p
 top (l ∷ c) p = l.slot
 
--- three looks at a node whose edge on a side is tagged: at the edge beside, at its birth and at
--- that of the leaf beside
+-- three looks at a node whose edge on a side is tagged: at the edge beside it, at the node's birth
+-- and at that of the leaf beside it
 abbrev pub FreezesOne : ℕ → Side → List Entry → List Entry → Type 0
 FreezesOne slot side old new =
     (e : Edge) × (b c : ℕ) × (new
     ≡ ((old ++ (Look slot (EdgeOn (other side)), EdgeIs e) ∷ []) ++ (Look slot Birth, BirthIs b)
     ∷ []) ++ (Look e.slot Birth, BirthIs c) ∷ [])
 
--- so at each node of a chain, by three looks, and at its end, and nothing else (Natarajan and
--- Mittal, section 3.2, cleanup; for whole chains ours)
+-- three such looks at each node of a chain and at its end, and nothing else (Natarajan and Mittal,
+-- section 3.2, cleanup; for whole chains ours)
 abbrev pub Freezes : ℕ → Side → List ChainEdge → List Entry → List Entry → Type 0
 Freezes parent keep [] old new = FreezesOne parent keep old new
 Freezes parent keep (l ∷ c) old new =
@@ -73,14 +73,14 @@ Freezes parent keep (l ∷ c) old new =
 
 -- ---- a whole cleanup
 
--- up to its splice: both edges of the parent were looked at, the one to keep was tagged, and the
--- chain was looked at (Natarajan and Mittal, section 3.2, cleanup; for whole chains ours)
+-- a cleanup up to its splice: both edges of the parent were looked at, the one to keep was tagged,
+-- and the chain was looked at (Natarajan and Mittal, section 3.2, cleanup; for whole chains ours)
 abbrev pub Prepares : SeekRecord → List ChainEdge → Kept → List Entry → List Entry → Type 0
 Prepares s c k old new = (mid : List Entry) × (was : Edge) × Chooses s old mid (Some k)
     × Freezes s.parent k.side c (mid ++ (Tag s.parent k.side, Was was) ∷ []) new
 
--- the splice was won, and cut just these nodes (Natarajan and Mittal, section 3.2, cleanup; for
--- whole chains ours)
+-- the splice was won, and cut off exactly these nodes (Natarajan and Mittal, section 3.2, cleanup;
+-- for whole chains ours)
 abbrev pub CutsOff : SeekRecord → List ChainEdge → List NodeId → List Entry → List Entry → Type 0
 CutsOff s c ns old new = (k : Kept) × (mid : List Entry) × Prepares s c k old mid
     × (new ≡ mid ++ (Splice s.ancestor s.above s.successor s.parent k.side, Cut ns) ∷ [])
@@ -104,8 +104,8 @@ CleanupWon s c ns epoch old new =
 abbrev pub IsOneOfNodes : NodeId → List NodeId → Type 0
 IsOneOfNodes n ns = is_flagged_in (Some n) ns ≡ true
 
--- these nodes were cut off and wait for their label; and where the edge by which the walk ended is
--- known flagged, its leaf is one of them
+-- these nodes were cut off and wait for their label. If the edge by which the walk ended is known
+-- as flagged, its leaf is one of them
 pub record HasCut (s : SeekRecord) (c : List ChainEdge) (ns : List NodeId) (p q : PassView) : Type 0 where
   pub part : CutsOff s c ns p.view.log q.view.log
   pub size : length ns ≡ 2 * (length c + 1)
@@ -124,13 +124,13 @@ pub record HasCutNothing (s : SeekRecord) (c : List ChainEdge) (p q : PassView) 
   pub part : CleanupLost s c p.view.log q.view.log
   pub only : OnlyLooks p q
 
--- the nodes that were freed of an origin's ledger, where the worker holds it (Fraser, section
--- 5.2.3; by origin ours)
+-- the nodes of an origin's ledger that were freed, if the worker holds it (Fraser, section 5.2.3;
+-- by origin ours)
 abbrev pub freed_of_origin : Knowledge → ℕ → Option (List NodeId)
 freed_of_origin k o = option_map (λ (l : Ledger). l.freed) (held k.ledgers o)
 
--- a worker's own queue: it is the one of what its splices cut off, and counts what the worker has
--- won by its log, and what was freed
+-- a worker's own queue: its nodes are those that the worker's splices cut off and that wait, and
+-- its counts are what the worker has won by its log, and what was freed
 pub record HoldsCuts (p : PassView) (h : HeldQueue) : Type 0 where
   pub own : h.origin ≡ p.view.number
   pub queue : IsQueueOf (knowledge p.view) p.view.number h.queue.items
@@ -138,16 +138,16 @@ pub record HoldsCuts (p : PassView) (h : HeldQueue) : Type 0 where
   pub freed : option_map (λ (ns : List NodeId). capped (length ns))
       (freed_of_origin (knowledge p.view) p.view.number) ≡ Some h.counts.freed
 
--- each ledger of another origin is as it was, and nothing was freed of the own one (Fraser, section
--- 5.2.3; by origin ours)
+-- each ledger of another origin is unchanged, and nothing was freed of the worker's own ledger
+-- (Fraser, section 5.2.3; by origin ours)
 pub record KeepsLedgers (p q : PassView) : Type 0 where
   pub others : (o : ℕ) → o ≢ p.view.number
       → held (knowledge q.view).ledgers o ≡ held (knowledge p.view).ledgers o
   pub freed : freed_of_origin (knowledge q.view) p.view.number
       ≡ freed_of_origin (knowledge p.view) p.view.number
 
--- these nodes were cut off and labelled, and are at the end of the queue, with the flagged leaf
--- among them
+-- these nodes were cut off, labelled and appended to the queue, and the flagged leaf, if the edge
+-- to it was known as flagged, is one of them
 pub record HasCleaned (s : SeekRecord) (c : List ChainEdge) (p q : PassView)
     (es fs : List Waiting) : Type 0 where
   pub nodes : List NodeId
@@ -160,8 +160,8 @@ pub record HasCleaned (s : SeekRecord) (c : List ChainEdge) (p q : PassView)
       ≡ ((search_after idle p.view.log).cut
       || is_flagged_in (search_after idle p.view.log).flagged nodes)
 
--- what a cleanup leaves: the pin, private slots, the call with what it linked and flagged, and
--- ledgers but for the nodes that it cut
+-- what a cleanup leaves unchanged: the pin, private slots, the call with what it linked and
+-- flagged, and ledgers except for the nodes that it cut
 pub record OnlyCleans (p q : PassView) : Type 0 where
   pub announcement : (knowledge q.view).brief.announcement ≡ (knowledge p.view).brief.announcement
   pub pin : (knowledge q.view).brief.pin ≡ (knowledge p.view).brief.pin

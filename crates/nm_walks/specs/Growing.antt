@@ -1,4 +1,4 @@
--- New nodes for a key, and how they are linked into the tree or given back.
+-- New nodes for a key, which are linked into the tree or given back.
 use Rattle.std.specs.Prelude.{◌≡◌, ◌≢◌, ◌≤◌, ◌⊎◌, ℕ, nat_lt, Bool, true, false, if◌then◌else◌, List, [], ◌∷◌, ◌++◌, Option, Some, None}
 use Rattle.nm_edge.specs.Edges.{Edge}
 use Rattle.nm_edge.specs.declared.node.NodeId.{NodeId}
@@ -31,26 +31,25 @@ pub record HasBothNodes (p : PassView) (f : NewNodes) : Type 0 where
   pub new_within : f.internal.slot ≤ p.view.layout.nodes
   pub fresh_within : f.leaf.slot ≤ p.view.layout.nodes
 
--- each slot but these is private as it was
+-- the private slots other than these are unchanged
 abbrev pub KeepsBut : NewNodes → PassView → PassView → Type 0
 KeepsBut f o p = (s : ℕ) → s ≢ f.internal.slot → s ≢ f.leaf.slot
     → get (knowledge p.view).drafts s ≡ get (knowledge o.view).drafts s
 
--- the private slots are those that there were, and with them two new nodes, if the call has made
--- them
+-- the private slots are those that there were, and two new nodes
 pub record HoldsNewNodes (o p : PassView) (f : NewNodes) : Type 0 where
   pub ready : HasBothNodes p f
   pub others : KeepsBut f o p
   pub new_was : get (knowledge o.view).drafts f.internal.slot ≡ None
   pub fresh_was : get (knowledge o.view).drafts f.leaf.slot ≡ None
 
--- the two new nodes that an insert keeps over its tries, once it has made them (Natarajan and
--- Mittal, section 3.2, insert)
+-- the private slots are those that there were, and the two new nodes that an insert keeps over its
+-- tries, once it has made them (Natarajan and Mittal, section 3.2, insert)
 abbrev pub HasNewNodes : PassView → PassView → Option NewNodes → Type 0
 HasNewNodes o p None = (s : ℕ) → get (knowledge p.view).drafts s ≡ get (knowledge o.view).drafts s
 HasNewNodes o p (Some f) = HoldsNewNodes o p f
 
--- the new nodes, if there are some, are ready
+-- the new nodes, if there are any, are ready
 abbrev pub IfReady : PassView → Option NewNodes → Type 0
 IfReady p None = Unit {0}
 IfReady p (Some f) = HasBothNodes p f
@@ -62,8 +61,8 @@ Returns (Some f) old new = new
     ≡ (old ++ (Give f.internal.slot, Returned f.internal.slot) ∷ [])
     ++ (Give f.leaf.slot, Returned f.leaf.slot) ∷ []
 
--- the internal node is claimed first and the leaf second; where one of the two claims answers
--- nothing, the other slot is returned
+-- the internal node is claimed first and the leaf second; if one of the two claims finds no slot,
+-- the other slot is returned
 abbrev pub ClaimsNewNodes : Fit → ℕ → List Entry → List Entry → Option NewNodes → Type 0
 ClaimsNewNodes fit nodes old new (Some f) =
     (mid : List Entry) × IsClaimBy fit nodes old mid (Some f.internal)
@@ -74,13 +73,14 @@ ClaimsNewNodes fit nodes old new None = IsClaimBy fit nodes old new None
 
 -- ---- a link of both
 
--- the new internal node has that key, and the slot with the lesser key is on its left
+-- the contents of the new internal node: it has that key, and the slot with the lesser key is on
+-- its left
 abbrev pub inner_of : ℕ → ℕ → ℕ → ℕ → ℕ → Contents
 inner_of key other router leaf fresh =
     if nat_lt key other then record { key = router; left = fresh; right = leaf }
     else record { key = router; left = leaf; right = fresh }
 
--- the call may put its key beside the leaf at which its walk ended
+-- the call may put its key beside the slot at which its walk ended
 pub record MayGrow (p : PassView) (key : ℕ) (r : WalkEnd) (f : NewNodes) : Type 0 where
   pub call : Tells p (CallIs Insert key)
   pub unlinked : (search p).linked ≡ false
@@ -98,14 +98,14 @@ Grows radix key r f reply old new = (i : Contents) × IsRouter radix key r.key i
     × (new ≡ ((old ++ fills f.internal.slot i.key i.left i.right) ++ fills f.leaf.slot key 0 0)
     ++ (Link r.seek_record.parent r.seek_record.side r.seek_record.edge.slot f.internal.slot, reply) ∷ [])
 
--- the worker's epochs and queues, and its call, are as they were
+-- the worker's epochs and queues, its call and what the call flagged are unchanged
 pub record KeepsCall (p q : PassView) : Type 0 where
   pub epochs : epochs q ≡ epochs p
   pub ledgers : (knowledge q.view).ledgers ≡ (knowledge p.view).ledgers
   pub call : (search q).call ≡ (search p).call
   pub flagged : (search q).flagged ≡ (search p).flagged
 
--- the link was won: the call has linked, and the new nodes are private no longer
+-- the link was won: the call has linked, and the new nodes are no longer private
 pub record HasGrown (radix : Bool) (p q : PassView) (key : ℕ) (r : WalkEnd) (f : NewNodes) : Type 0 where
   pub part : Grows radix key r f (Linked f.internal) p.view.log q.view.log
   pub linked : (search q).linked ≡ true
@@ -113,7 +113,7 @@ pub record HasGrown (radix : Bool) (p q : PassView) (key : ℕ) (r : WalkEnd) (f
   pub new_given : get (knowledge q.view).drafts f.internal.slot ≡ None
   pub fresh_given : get (knowledge q.view).drafts f.leaf.slot ≡ None
 
--- it was lost: the new nodes are ready still, and the edge that was found is told
+-- the link was lost: the new nodes are still ready, and the edge that was found is known
 pub record HasNotGrown (radix : Bool) (p q : PassView) (key : ℕ) (r : WalkEnd) (f : NewNodes)
     (e : Edge) : Type 0 where
   pub part : Grows radix key r f (Lost e) p.view.log q.view.log

@@ -1,4 +1,4 @@
--- What the label of a cut leaves.
+-- The effect of a cut's label, and the pin of a call.
 use Rattle.std.specs.Prelude.{◌≡◌, ℕ, false, Some}
 use Rattle.nm_model.specs.declared.event.Op.{Op}
 use Rattle.nm_order.specs.Facts.Fact.{KnowsSlot, CallIs}
@@ -7,13 +7,13 @@ use Rattle.nm_steps.specs.Steps.{PassView}
 use Rattle.nm_epoch.specs.Resting.{epochs, search}
 use Rattle.nm_walks.specs.Telling.{Tells}
 
--- the pin is one for a call of that operation on k, which knows the slots where walks begin
+-- the pin is one for a call of that operation on k, and the slots from which walks begin are known
 pub record IsPinnedForCall (op : Op) (k : ℕ) (p : PassView) : Type 0 where
   pub root : Tells p (KnowsSlot 1)
   pub known : Tells p (KnowsSlot 2)
   pub call : Tells p (CallIs op k)
 
--- nothing has changed but the label of the cut, and the epoch that was read
+-- only the label of the cut and the epoch that was read have changed
 pub record OnlyLabels (epoch : ℕ) (p q : PassView) : Type 0 where
   pub seen : (epochs q).seen ≡ Some epoch
   pub announcement : (epochs q).announcement ≡ (epochs p).announcement

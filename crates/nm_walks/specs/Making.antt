@@ -1,4 +1,4 @@
--- What a pass's private slots have, and what the steps that make nodes leave.
+-- The contents of a pass's private slots, and the effects of the steps that make nodes.
 use Rattle.std.specs.Prelude.{◌≡◌, ◌≢◌, ◌⊎◌, ℕ, ◌<◌, nat_lt, Bool, true, false, if◌then◌else◌, List, [], ◌∷◌, ◌++◌, Option, Some, IfSome}
 use Rattle.nm_edge.specs.Edges.{Edge}
 use Rattle.nm_edge.specs.Ranges.{IsParting, covers}
@@ -22,7 +22,7 @@ use Rattle.nm_steps.specs.Steps.{PassView, Stepped}
 use Rattle.nm_walks.specs.Places.{IsOver}
 use Rattle.nm_walks.specs.Telling.{Tells, OnlyLooks}
 
--- ---- what private slots have
+-- ---- the contents of private slots
 
 -- what is stored in a private slot
 abbrev pub draft : PassView → ℕ → Draft
@@ -35,19 +35,19 @@ pub record IsFilled (p : PassView) (slot birth key left right : ℕ) : Type 0 wh
   pub has_left : (draft p slot).left ≡ Some left
   pub has_right : (draft p slot).right ≡ Some right
 
--- ---- what a step leaves
+-- ---- the effect of a step
 
--- each other slot is private with what was stored there, or is not private, as it was
+-- each other slot is unchanged: private with the same contents, or not private
 abbrev pub KeepsOtherSlots : ℕ → PassView → PassView → Type 0
 KeepsOtherSlots slot p q = (s : ℕ) → s ≢ slot
     → get (knowledge q.view).drafts s ≡ get (knowledge p.view).drafts s
 
--- so does each slot but the claimed one, if one was claimed
+-- each slot other than the claimed one, if one was claimed, is unchanged
 abbrev pub KeepsAllBut : Option NodeId → PassView → PassView → Type 0
 KeepsAllBut claimed p q = (s : ℕ) → IfSome claimed (λ node. s ≢ node.slot)
     → get (knowledge q.view).drafts s ≡ get (knowledge p.view).drafts s
 
--- nothing but private slots has changed
+-- only private slots have changed
 pub record OnlyMakes (p q : PassView) : Type 0 where
   pub epochs : (knowledge q.view).brief ≡ (knowledge p.view).brief
   pub known : (knowledge q.view).known ≡ (knowledge p.view).known
@@ -76,13 +76,13 @@ HasFilled p q slot key left right =
 -- ---- linking a new node
 
 -- the key of the internal node over two keys: the greater one (Natarajan and Mittal, section 3.2,
--- insert); and in a radix tree one that has both keys in its range, in two halves
+-- insert). In a radix tree it is one that has both keys in its range, in different halves
 abbrev pub IsRouter : Bool → ℕ → ℕ → ℕ → Type 0
 IsRouter false key other router = router ≡ (if nat_lt key other then other else key)
 IsRouter true key other router = IsParting key other router
 
--- two private slots are filled to put a key beside a slot that has another: one as a leaf with the
--- key, and one as the internal node over both; the slot with the lesser key is on the left
+-- two private slots are filled to put a key beside a slot that has another key: one as a leaf with
+-- the key, and one as the internal node over both; the slot with the lesser key is on the left
 -- (Natarajan and Mittal, section 3.2, insert)
 pub record IsFork (p : PassView) (key other leaf new fresh : ℕ) : Type 0 where
   pub router : ℕ
@@ -94,24 +94,26 @@ pub record IsFork (p : PassView) (key other leaf new fresh : ℕ) : Type 0 where
   pub as_fork : ((key < other) × IsFilled p new new_birth router fresh leaf)
       ⊎ ((other < key) × IsFilled p new new_birth router leaf fresh)
 
--- the edge is the first one that a walk reads, or its node has the call's key in its range, on that
+-- the edge is the first one that a walk reads; or its node has the call's key in its range, on that
 -- side, as a walk of the call has read
 abbrev pub IsWithin : PassView → ℕ → ℕ → Side → Type 0
 IsWithin p k parent side = ((parent ≡ 2) × (side ≡ Left))
     ⊎ ((v above : ℕ) × (up : Side) × (covers v k ≡ true) × (side_of k v ≡ side)
     × Tells p (ReadKey ThePin k parent above up v))
 
--- a walk of the call came by that edge to a slot with another key, where the call may put its own:
--- it ended there, at a leaf; or, in a radix tree, each node above has the key in its range, and the
--- slot is a leaf, or has not
+-- a walk of the call came by that edge to a slot with another key, beside which the call may put
+-- its own. In the shape of Natarajan and Mittal it ended there, at a leaf. In a radix tree the
+-- edge's node has the key in its range, and the slot is a leaf or does not have the key in its
+-- range
 abbrev pub IsPlace : Bool → PassView → ℕ → ℕ → ℕ → Side → ℕ → Type 0
 IsPlace false p k x parent side key = Tells p (KnowsLeaf x)
     × Tells p (EndedAt ThePin k x parent side key)
 IsPlace true p k x parent side key = IsOver p k x key
     × Tells p (ReadKey ThePin k x parent side key) × IsWithin p k parent side
 
--- the call is to insert a key and has not linked yet, a walk of it ended at the leaf, by that edge,
--- and the new nodes put the key beside the leaf (Natarajan and Mittal, section 3.2, insert)
+-- the call is to insert a key and has not linked yet. A walk of it came to the slot by that edge
+-- and may put the key there. The new nodes put the key beside the slot (Natarajan and Mittal,
+-- section 3.2, insert)
 pub record IsInserting (p : PassView) (parent : ℕ) (side : Side) (leaf new fresh : ℕ) : Type 0 where
   pub key : ℕ
   pub other : ℕ
@@ -121,7 +123,7 @@ pub record IsInserting (p : PassView) (parent : ℕ) (side : Side) (leaf new fre
   pub apart : other ≢ key
   pub new_nodes : IsFork p key other leaf new fresh
 
--- the link is won: the call has linked, and both slots are private no longer (Natarajan and Mittal,
+-- the link is won: the call has linked, and both slots are no longer private (Natarajan and Mittal,
 -- section 3.2, insert)
 pub record HasLinked (p q : PassView) (parent : ℕ) (side : Side) (leaf new fresh : ℕ) : Type 0 where
   pub step : (birth : ℕ) → (draft p new).birth ≡ Some birth

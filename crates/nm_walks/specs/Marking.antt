@@ -1,4 +1,4 @@
--- What tags, flags and splices add to what a pass's log tells.
+-- What a pass's log shows after tags, flags and splices.
 use Rattle.std.specs.Prelude.{◌≡◌, ◌≢◌, ℕ, ◌≤◌, ◌==◌, true, ◌||◌, List, Some, None, option_map, if◌then◌else◌}
 use Rattle.nm_edge.specs.Edges.{Edge, other, tagged}
 use Rattle.nm_edge.specs.declared.edge.Side.{Side}
@@ -19,9 +19,9 @@ use Rattle.nm_walks.specs.Telling.{Tells, OnlyLooks}
 
 -- ---- a tag
 
--- what an edge tells that was tagged, as it was before: it is tagged from now on, and just this
--- edge; it is not null, and leads to a known slot of the layout; and where it had a flag, it is
--- known as flagged (Natarajan and Mittal, section 3.2, cleanup)
+-- what is known after an edge was tagged, which was this one before: it is tagged from now on, and
+-- exactly this edge; it is not null, and leads to a known slot of the layout; and if it had a flag,
+-- it is known as flagged (Natarajan and Mittal, section 3.2, cleanup)
 pub record TagTold (p q : PassView) (x : ℕ) (side : Side) (e : Edge) : Type 0 where
   pub marked : Tells q (IsTagged x side e.slot)
   pub frozen : Tells q (IsFrozen x side (tagged e))
@@ -30,11 +30,11 @@ pub record TagTold (p q : PassView) (x : ℕ) (side : Side) (e : Edge) : Type 0 
   pub within : e.slot ≤ p.view.layout.nodes
   pub flagged : e.flag ≡ true → Tells q (IsFlagged x side e.slot)
 
--- ---- an edge that is found in place of another
+-- ---- an edge that is found instead of another
 
--- what an edge tells that an exchange found in place of the one that it asked for: it is read; it
--- is flagged where its twin is known tagged; and it leads inside the layout, and is one of a slot
--- above 5 to a slot above 5 where it is flagged
+-- what is known of an edge that an exchange found instead of the expected one: it is read. It is
+-- flagged if its twin is known as tagged. It leads to a slot of the layout. If it is flagged, it
+-- leads from a slot above 5 to a slot above 5
 pub record EdgeFound (p q : PassView) (x : ℕ) (side : Side) (e : Edge) : Type 0 where
   pub learned : EdgeLearned (Tells q) x side e
   pub twin : (to : ℕ) → Tells p (IsTagged x (other side) to) → e.flag ≡ true
@@ -45,8 +45,8 @@ pub record EdgeFound (p q : PassView) (x : ℕ) (side : Side) (e : Edge) : Type 
 -- ---- a flag
 
 -- what a call to delete a key has found: a walk of it ended by that edge at a leaf above slot 5,
--- which has that key and whose birth is known; and it has won no flag yet (Natarajan and Mittal,
--- section 3.2, delete, injection)
+-- which has that key and whose birth is known; and the call has won no flag yet (Natarajan and
+-- Mittal, section 3.2, delete, injection)
 pub record IsToBeFlagged (p : PassView) (parent : ℕ) (side : Side) (leaf : ℕ) : Type 0 where
   pub knows_parent : Tells p (KnowsSlot parent)
   pub knows_leaf : Tells p (KnowsSlot leaf)
@@ -58,8 +58,8 @@ pub record IsToBeFlagged (p : PassView) (parent : ℕ) (side : Side) (leaf : ℕ
   pub ended : Tells p (EndedAt ThePin key leaf parent side key)
   pub unflagged : (search_after idle p.view.log).flagged ≡ None
 
--- nothing but what is known of nodes, and of the leaf that the call flagged, has changed (Natarajan
--- and Mittal, section 3.2, delete, injection)
+-- only what is known of nodes, the walks of the call, and the leaf that it flagged may have changed
+-- (Natarajan and Mittal, section 3.2, delete, injection)
 pub record OnlyFlags (p q : PassView) : Type 0 where
   pub epochs : (knowledge q.view).brief ≡ (knowledge p.view).brief
   pub private : (knowledge q.view).drafts ≡ (knowledge p.view).drafts
@@ -75,8 +75,8 @@ pub record FlagWon (p q : PassView) (parent : ℕ) (side : Side) (n : NodeId) : 
   pub known : Tells q (IsFlagged parent side n.slot)
   pub flagged : (search_after idle q.view.log).flagged ≡ Some n
 
--- it is lost: another edge was found, and the call has flagged what it had (Natarajan and Mittal,
--- section 3.2, delete, injection)
+-- the flag is lost: another edge was found, and what the call has flagged is unchanged (Natarajan
+-- and Mittal, section 3.2, delete, injection)
 pub record FlagLost (p q : PassView) (parent : ℕ) (side : Side) (leaf : ℕ) (e : Edge) : Type 0 where
   pub step : Stepped p q (Flag parent side leaf) (Lost e)
   pub found : EdgeFound p q parent side e
@@ -84,8 +84,8 @@ pub record FlagLost (p q : PassView) (parent : ℕ) (side : Side) (leaf : ℕ) (
 
 -- ---- a splice
 
--- what a splice cuts: a chain from the successor down to the parent that the facts freeze, below a
--- known ancestor; the parent is left by its edge on one side, which is frozen as this one
+-- what a splice cuts off: a chain from the successor down to the parent that is frozen by the
+-- facts, below a known ancestor. The parent's edge on one side is kept, and is frozen as this one
 -- (Natarajan and Mittal, section 3.2, cleanup; its ledger is ours)
 pub record IsToBeCut (p : PassView) (ancestor successor parent : ℕ) (keep : Side)
     (kept : Edge) : Type 0 where
@@ -94,7 +94,7 @@ pub record IsToBeCut (p : PassView) (ancestor successor parent : ℕ) (keep : Si
   pub frozen : FrozenTo (Tells p) parent keep successor nodes
   pub kept_so : Tells p (IsFrozen parent keep kept)
 
--- private slots, the call, and what it linked and flagged, are as before (Natarajan and Mittal,
+-- private slots, the call, and what it linked and flagged, are unchanged (Natarajan and Mittal,
 -- section 3.2, cleanup; its ledger is ours)
 pub record OnlyCuts (p q : PassView) : Type 0 where
   pub private : (knowledge q.view).drafts ≡ (knowledge p.view).drafts
@@ -102,8 +102,8 @@ pub record OnlyCuts (p q : PassView) : Type 0 where
   pub linked : (search_after idle q.view.log).linked ≡ (search_after idle p.view.log).linked
   pub flagged : (search_after idle q.view.log).flagged ≡ (search_after idle p.view.log).flagged
 
--- the splice is won: these nodes enter the own queue at the end, without a label, and wait for one;
--- and where the leaf that the call flagged is one of them, the call has cut it (Natarajan and
+-- the splice is won: these nodes are appended to the worker's own queue without a label, and wait
+-- for one. If the leaf that the call flagged is one of them, the call's leaf is cut (Natarajan and
 -- Mittal, section 3.2, cleanup; its ledger is ours)
 pub record SpliceWon (p q : PassView) (ancestor : ℕ) (side : Side) (successor parent : ℕ) (keep : Side)
     (ns : List NodeId) : Type 0 where
@@ -116,8 +116,8 @@ pub record SpliceWon (p q : PassView) (ancestor : ℕ) (side : Side) (successor 
       ≡ ((search_after idle p.view.log).cut
       || is_flagged_in (search_after idle p.view.log).flagged ns)
 
--- it is lost: another edge of the ancestor was found (Natarajan and Mittal, section 3.2, cleanup;
--- its ledger is ours)
+-- the splice is lost: another edge of the ancestor was found (Natarajan and Mittal, section 3.2,
+-- cleanup; its ledger is ours)
 pub record SpliceLost (p q : PassView) (ancestor : ℕ) (side : Side) (successor parent : ℕ)
     (keep : Side) (e : Edge) : Type 0 where
   pub step : Stepped p q (Splice ancestor side successor parent keep) (Lost e)

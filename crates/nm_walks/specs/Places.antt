@@ -1,4 +1,4 @@
--- The walk of an insert: it ends at a leaf or, in a radix tree, comes to where the key may be put.
+-- The walk of an insert: it ends at a leaf or, in a radix tree, at the place for the key.
 use Rattle.std.specs.Prelude.{◌≡◌, ◌≤◌, ◌<◌, ◌+◌, ◌⊎◌, ℕ, Bool, true, false, List, [], length, Option, Some, None}
 use Rattle.nm_edge.specs.Layouts.{Layout}
 use Rattle.nm_edge.specs.Ranges.{covers}
@@ -20,46 +20,46 @@ use Rattle.nm_walks.specs.Bounds.{chain_bound, reach}
 use Rattle.nm_walks.specs.Telling.{Tells}
 use Rattle.nm_walks.specs.Walks.{Walks, Reads, IsBroken, IsAt, HasFound, IsWalking}
 
--- ---- what such a walk leaves in the log
+-- ---- the log of such a walk
 
 -- an insert of k stops at a node that was read so: at a leaf; and in a radix tree at an internal
--- node too that has not k in its range
+-- node too, if k is not in its range
 abbrev pub IsStop : Bool → ℕ → Onward → Type 0
 IsStop false k on = on.next.slot ≡ 0
 IsStop true k on = (on.next.slot ≡ 0) ⊎ (covers on.found k ≡ false)
 
--- a walk to such a slot, which the edge of s leads to and whose key this is
+-- a walk to the slot at which it stops, which the edge of s leads to and whose key this is
 abbrev pub StopsAt : Layout → ℕ → List Entry → List Entry → SeekRecord → List ChainEdge → ℕ → Type 0
 StopsAt L k old new s c key =
     (n : ℕ) × (mid : List Entry) × (on : Onward) × (n + 2 ≤ reach L) × Walks k n old mid s c
     × IsStop L.radix k on × Reads k s.edge.slot mid new on × (on.found ≡ key)
 
--- what it comes to. None: it was broken off at a bound
+-- the result of such a walk. None: it was broken off at a bound
 abbrev pub Stops : Layout → ℕ → List Entry → List Entry → List ChainEdge → Option WalkEnd → Type 0
 Stops L k old new c (Some r) = StopsAt L k old new r.seek_record c r.key
     × (length c < chain_bound)
 Stops L k old new c None = IsBroken L k old new
 
--- ---- what is known where it stands
+-- ---- what is known at its position
 
--- each kind of walk that the call has read that key at the slot, to which it came so
+-- each kind of walk that the call has came to the slot by this edge and read that key there
 abbrev pub EachWalkHasRead : PassView → PassView → ℕ → ℕ → ℕ → Side → ℕ → Type 0
 EachWalkHasRead p q k slot parent up v =
     (since : Since) → HasWalks p.view.layout p.view.number p.view.log since k
     → Tells q (ReadKey since k slot parent up v)
 
--- the edge of s is the first one that a walk reads, or its node has k in its range, on that side
+-- the edge is the first one that a walk reads, or its node has k in its range, on that side
 abbrev pub IsNarrowed : PassView → PassView → ℕ → ℕ → Side → Type 0
 IsNarrowed o p k parent side = ((parent ≡ 2) × (side ≡ Left))
     ⊎ ((v above : ℕ) × (up : Side) × (covers v k ≡ true) × (side_of k v ≡ side)
     × EachWalkHasRead o p k parent above up v)
 
--- between k and the slot x with another key a new node may be put: x is known as a leaf, or has not
--- k in its range
+-- a new node may be put over k and the slot x with another key: x is known as a leaf, or does not
+-- have k in its range
 abbrev pub IsOver : PassView → ℕ → ℕ → ℕ → Type 0
 IsOver p k x key = Tells p (KnowsLeaf x) ⊎ ((6 ≤ x) × (covers key k ≡ false))
 
--- in a tree of this shape the walk of an insert has stopped so
+-- in a tree of this shape the walk of an insert has stopped there, with what is known of it
 pub record HasStopped (L : Layout) (k : ℕ) (o p : PassView) (c : List ChainEdge) (r : WalkEnd) : Type 0 where
   pub walk : StopsAt L k o.view.log p.view.log r.seek_record c r.key
   pub at : IsAt (Tells p) r.seek_record c
@@ -67,7 +67,7 @@ pub record HasStopped (L : Layout) (k : ℕ) (o p : PassView) (c : List ChainEdg
   pub few : length c < chain_bound
   pub found : r.key ≡ k → HasFound o p k r.seek_record.edge.slot r.seek_record.parent r.seek_record.side r.key
 
--- and there the key may be put, in the shape of Natarajan and Mittal, or in that of a radix tree
+-- the key may be put there: in the shape of Natarajan and Mittal, or in that of a radix tree
 pub record HasEndedPlain (o p : PassView) (k : ℕ) (r : WalkEnd) : Type 0 where
   pub leaf : Tells p (KnowsLeaf r.seek_record.edge.slot)
   pub found : HasFound o p k r.seek_record.edge.slot r.seek_record.parent r.seek_record.side r.key
@@ -81,7 +81,7 @@ abbrev pub HasPlace : Bool → PassView → PassView → ℕ → WalkEnd → Typ
 HasPlace false o p k r = HasEndedPlain o p k r
 HasPlace true o p k r = HasNarrowed o p k r
 
--- the part of the walk that goes by unmarked edges alone
+-- the first part of the walk, by unmarked edges only
 abbrev pub HasSunk : Layout → ℕ → PassView → PassView → Descent → Type 0
 HasSunk L k o p (Ended r) = HasStopped L k o p [] r × HasNarrowed o p k r
 HasSunk L k o p (Stopped s n) = IsWalking L k n o p s []

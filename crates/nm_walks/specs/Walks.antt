@@ -23,13 +23,14 @@ use Rattle.nm_walks.specs.declared.seek_record.SeekRecord.{SeekRecord}
 use Rattle.nm_walks.specs.Bounds.{chain_bound, reach}
 use Rattle.nm_walks.specs.Telling.{Tells, GoesOn, OnlyLooks}
 
--- ---- where a walk stands
+-- ---- the position of a walk
 
--- at first, at the left edge of slot 2 (Natarajan and Mittal, section 3.2, the seek record)
+-- the first position, at the left edge of slot 2 (Natarajan and Mittal, section 3.2, the seek
+-- record)
 abbrev pub begin : Edge → SeekRecord
 begin e = record { ancestor = 1; above = Left; successor = 2; parent = 2; side = Left; edge = e }
 
--- where the edge of one place leads to the node of another one, whose edge this is
+-- the position at an edge, if the edge above it leads to its node and is not tagged
 abbrev pub seek_at : EdgePlace → EdgePlace → Edge → SeekRecord
 seek_at above at e = record {
   ancestor = above.slot;
@@ -40,8 +41,8 @@ seek_at above at e = record {
   edge = e;
 }
 
--- at the node that the edge led to, left on a side by an edge (Natarajan and Mittal, section 3.2,
--- the seek record)
+-- the next position: after the node that the edge led to, which the walk leaves on a side by an
+-- edge (Natarajan and Mittal, section 3.2, the seek record)
 abbrev pub onto : SeekRecord → Side → Edge → SeekRecord
 onto s d e = if s.edge.tag then record {
   ancestor = s.ancestor;
@@ -63,11 +64,11 @@ onto s d e = if s.edge.tag then record {
 abbrev pub chained : ℕ → Side → ChainEdge
 chained s d = record { slot = s; side = d }
 
--- the tagged edges from the successor down to the parent, one node further
+-- the chain of tagged edges from the successor down to the parent, one node further
 abbrev pub chain_onto : SeekRecord → List ChainEdge → List ChainEdge
 chain_onto s c = if s.edge.tag then c ++ chained s.parent s.side ∷ [] else []
 
--- ---- what a walk leaves in the log
+-- ---- the log of a walk
 
 -- a look at a node's key, then one at its left edge and one at its right edge
 abbrev pub after_looks : List Entry → ℕ → ℕ → Edge → Edge → List Entry
@@ -75,23 +76,24 @@ after_looks l s key left right =
     ((l ++ (Look s KeyOf, KeyIs key) ∷ []) ++ (Look s (EdgeOn Left), EdgeIs left) ∷ [])
     ++ (Look s (EdgeOn Right), EdgeIs right) ∷ []
 
--- of these two the edge on that side
+-- the one of two edges that is on that side
 abbrev pub edge_on : Side → Edge → Edge → Edge
 edge_on Left left right = left
 edge_on Right left right = right
 
--- so a walk for k reads a node: the side of k there, and the edge on that side
+-- a walk for k reads a node: its key, both edges, the side of k there, and the edge on that side
 abbrev pub Reads : ℕ → ℕ → List Entry → List Entry → Onward → Type 0
 Reads k s old new on = (left right : Edge) × (new ≡ after_looks old s on.found left right)
     × (on.side ≡ side_of k on.found) × (on.next ≡ edge_on on.side left right)
 
--- a node was read so, whose left edge is null and is the one on the walk's side: so is its right edge
+-- if the edge on the walk's side of a node that was read is its left one and is null, its right
+-- edge is null too
 abbrev pub IsLeafRead : ℕ → List Entry → List Entry → Onward → Type 0
 IsLeafRead s old new on = on.side ≡ Left → on.next.slot ≡ 0 → (left right : Edge)
     × (new ≡ after_looks old s on.found left right) × (left.slot ≡ 0) × (right.slot ≡ 0)
 
--- slot 2 was looked at, and n nodes below it; none of the edges read was null (Natarajan and
--- Mittal, section 3.2, seek)
+-- slot 2 was looked at, and n nodes below it; no edge on the path was null (Natarajan and Mittal,
+-- section 3.2, seek)
 abbrev pub Walks : ℕ → ℕ → List Entry → List Entry → SeekRecord → List ChainEdge → Type 0
 Walks k zero old new s c = (s ≡ begin s.edge) × (c ≡ []) × (s.edge.slot ≢ 0)
     × (new ≡ old ++ (Look 2 (EdgeOn Left), EdgeIs s.edge) ∷ [])
@@ -100,20 +102,22 @@ Walks k (suc n) old new s c =
     × (on.next.slot ≢ 0)
     × Reads k t.edge.slot mid new on × (s ≡ onto t on.side on.next) × (c ≡ chain_onto t d)
 
--- a walk to the leaf that the edge of s leads to, whose key this is; with slot 2 and the leaf it
--- looked at no more nodes than its reach has (Natarajan and Mittal, section 3.2, seek)
+-- a walk to the leaf that the edge of s leads to, whose key this is; including slot 2 and the leaf,
+-- it looked at no more nodes than its reach allows (Natarajan and Mittal, section 3.2, seek)
 abbrev pub EndsAtLeaf : Layout → ℕ → List Entry → List Entry → SeekRecord → List ChainEdge → ℕ → Type 0
 EndsAtLeaf L k old new s c key =
     (n : ℕ) × (mid : List Entry) × (on : Onward) × (n + 2 ≤ reach L) × Walks k n old mid s c
     × (on.next.slot ≡ 0)
     × Reads k s.edge.slot mid new on × (on.found ≡ key)
 
--- a walk broken off where it had looked at as many nodes as there are, as none of a radix tree is
+-- a walk was broken off after it had looked at as many nodes as the tree has; this cannot occur in
+-- a radix tree
 abbrev pub IsTooLong : Layout → ℕ → List Entry → List Entry → Type 0
 IsTooLong L k old new = (L.radix ≡ false) × (n : ℕ) × (s : SeekRecord) × (c : List ChainEdge)
     × Walks k n old new s c × (suc n ≡ L.nodes)
 
--- a walk broken off where its chain would hold 65 nodes, as none of a radix tree is
+-- a walk was broken off because its chain would have 65 nodes with the parent; this cannot occur in
+-- a radix tree
 abbrev pub IsTooDeep : Layout → ℕ → List Entry → List Entry → Type 0
 IsTooDeep L k old new = (L.radix ≡ false) × (n : ℕ) × (mid : List Entry) × (s : SeekRecord)
     × (c : List ChainEdge) × (on : Onward) × (n + 2 ≤ L.nodes) × Walks k n old mid s c
@@ -124,28 +128,28 @@ IsTooDeep L k old new = (L.radix ≡ false) × (n : ℕ) × (mid : List Entry) �
 abbrev pub IsBroken : Layout → ℕ → List Entry → List Entry → Type 0
 IsBroken L k old new = IsTooLong L k old new ⊎ IsTooDeep L k old new
 
--- what a walk finds that remembers nothing: the leaf's key
+-- the result of a walk that remembers only the leaf's key
 abbrev pub Finds : Layout → ℕ → List Entry → List Entry → Option ℕ → Type 0
 Finds L k old new (Some key) = (s : SeekRecord) × (c : List ChainEdge)
     × EndsAtLeaf L k old new s c key
 Finds L k old new None = IsTooLong L k old new
 
--- what a walk finds that remembers its chain, which has 64 nodes at most with the parent (Natarajan
--- and Mittal, section 3.2, seek)
+-- the result of a walk that remembers its chain, which has at most 64 nodes with the parent
+-- (Natarajan and Mittal, section 3.2, seek)
 abbrev pub Seeks : Layout → ℕ → List Entry → List Entry → List ChainEdge → Option WalkEnd → Type 0
 Seeks L k old new c (Some r) = EndsAtLeaf L k old new r.seek_record c r.key
     × (length c < chain_bound)
 Seeks L k old new c None = IsBroken L k old new
 
--- ---- what is known where it stands
+-- ---- what is known at its position
 
--- by tagged edges the chain leads from s to q
+-- the chain leads from s to q by tagged edges
 abbrev pub ChainLeads : (Fact → Type 0) → ℕ → List ChainEdge → ℕ → Type 0
 ChainLeads H s [] q = s ≡ q
 ChainLeads H s (l ∷ c) q = (l.slot ≡ s) × (t : ℕ) × H (IsTagged s l.side t) × H (KnowsSlot t)
     × ChainLeads H t c q
 
--- what is known of the nodes of a seek_record and of its chain
+-- what is known of the nodes of a seek record and of its chain
 pub record IsAt (H : Fact → Type 0) (s : SeekRecord) (c : List ChainEdge) : Type 0 where
   pub ancestor : H (KnowsSlot s.ancestor)
   pub successor : H (KnowsSlot s.successor)
@@ -154,41 +158,41 @@ pub record IsAt (H : Fact → Type 0) (s : SeekRecord) (c : List ChainEdge) : Ty
   pub tagged : s.edge.tag ≡ true → H (IsTagged s.parent s.side s.edge.slot)
   pub way : ChainLeads H s.successor c s.parent
 
--- and where it has ended: that its leaf is one
+-- what is known at the end of a walk: that its leaf is a leaf, too
 pub record HasEnded (H : Fact → Type 0) (L : Layout) (s : SeekRecord) (c : List ChainEdge) : Type 0 where
   pub at : IsAt H s c
   pub leaf : H (KnowsLeaf s.edge.slot)
   pub within : s.edge.slot ≤ L.nodes
 
--- each kind of walk that the call has came so to the slot
+-- each kind of walk that the call has came to the slot by this edge
 abbrev pub EachWalkHasCome : PassView → PassView → ℕ → SeekRecord → Type 0
 EachWalkHasCome p q k s = (since : Since) → HasWalks p.view.layout p.view.number p.view.log since k
     → Tells q (Came since k s.edge.slot s.parent s.side)
 
--- or ended so at the leaf, with its key
+-- each kind of walk that the call has ended at the leaf by this edge, with its key
 abbrev pub HasFound : PassView → PassView → ℕ → ℕ → ℕ → Side → ℕ → Type 0
 HasFound p q k leaf parent side key =
     (since : Since) → HasWalks p.view.layout p.view.number p.view.log since k
     → Tells q (EndedAt since k leaf parent side key)
 
--- ---- a walk that remembers nothing, with what is known where it stands
+-- ---- a walk that remembers nothing, with what is known at its position
 
--- it stands at s, n nodes below slot 2
+-- the walk is at s, n nodes below slot 2
 pub record IsFinding (k n : ℕ) (o p : PassView) (s : SeekRecord) : Type 0 where
   pub walk : (c : List ChainEdge) × Walks k n o.view.log p.view.log s c
   pub known : Tells p (KnowsSlot s.edge.slot)
   pub come : EachWalkHasCome o p k s
 
--- the part of a walk that goes by unmarked edges alone: it has ended, or stands after so many
--- nodes, which are not yet all
+-- the first part of a walk, by unmarked edges only: it has ended, or is at s after n nodes, which
+-- are fewer than its reach
 abbrev pub HasDescended : Layout → ℕ → PassView → PassView → Descent → Type 0
 HasDescended L k o p (Ended r) = Finds L k o.view.log p.view.log (Some r.key)
     × HasFound o p k r.seek_record.edge.slot r.seek_record.parent r.seek_record.side r.key
 HasDescended L k o p (Stopped s n) = IsFinding k n o p s × (n + 1 ≤ reach L)
 
--- ---- a walk that remembers its chain, with what is known where it stands
+-- ---- a walk that remembers its chain, with what is known at its position
 
--- in a table of so many nodes it stands at s, n nodes below slot 2
+-- in a tree of this layout the walk is at s, n nodes below slot 2
 pub record IsWalking (L : Layout) (k n : ℕ) (o p : PassView) (s : SeekRecord) (c : List ChainEdge) : Type 0 where
   pub walk : Walks k n o.view.log p.view.log s c
   pub at : IsAt (Tells p) s c
@@ -198,7 +202,7 @@ pub record IsWalking (L : Layout) (k n : ℕ) (o p : PassView) (s : SeekRecord) 
   pub only : OnlyLooks o p
   pub come : EachWalkHasCome o p k s
 
--- or it has ended, at a leaf above slot 5 where its key is below the sentinels
+-- the walk has ended at a leaf, which is above slot 5 if its key is below the sentinels
 pub record HasWalked (L : Layout) (k : ℕ) (o p : PassView) (c : List ChainEdge) (r : WalkEnd) : Type 0 where
   pub walk : EndsAtLeaf L k o.view.log p.view.log r.seek_record c r.key
   pub ended : HasEnded (Tells p) L r.seek_record c
@@ -206,8 +210,8 @@ pub record HasWalked (L : Layout) (k : ℕ) (o p : PassView) (c : List ChainEdge
   pub high : r.key < infinity_0 → 6 ≤ r.seek_record.edge.slot
   pub found : HasFound o p k r.seek_record.edge.slot r.seek_record.parent r.seek_record.side r.key
 
--- the part of it that goes by unmarked edges alone, so that its chain is empty: it has ended, or
--- stands after so many nodes, which are not yet all
+-- the first part of it, by unmarked edges only, so that its chain is empty: it has ended, or is at
+-- s after n nodes, which are fewer than its reach
 abbrev pub HasRemembered : Layout → ℕ → PassView → PassView → Descent → Type 0
 HasRemembered L k o p (Ended r) = HasWalked L k o p [] r
 HasRemembered L k o p (Stopped s n) = IsWalking L k n o p s [] × (n + 1 ≤ reach L)

@@ -15,7 +15,8 @@ is_won_splice _ = false
 
 -- ---- in a log
 
--- `won_links`, `won_flags`, `won_splices`: how many links, flags and splices a log has won
+-- `won_links`, `won_flags`, `won_splices`: the number of links, flags and splices that a log has
+-- won
 abbrev pub won_links : List Entry → ℕ
 won_links log = length (filter is_won_link log)
 
@@ -25,7 +26,7 @@ won_flags log = length (filter is_won_flag log)
 abbrev pub won_splices : List Entry → ℕ
 won_splices log = length (filter is_won_splice log)
 
--- what is counted of links, flags and splices is what a log has won
+-- the counts of links, flags and splices are the numbers that the log has won
 pub record CountsWon (log : List Entry) (t : Tally) : Type 0 where
   pub links : t.links ≡ capped (won_links log)
   pub flags : t.flags ≡ capped (won_flags log)

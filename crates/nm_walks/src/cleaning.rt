@@ -1,4 +1,4 @@
-//! Whole cleanups: a frozen chain is cut off, labelled, and waits in the worker's queue.
+//! Whole cleanups: a frozen chain is cut off and labelled, and waits in the worker's queue.
 ghost use Rattle.std.specs.Prelude.{◌≡◌, ◌<◌, ◌≤◌, ◌+◌, ◌*◌, ◌++◌, true, false, length, map};
 ghost use Rattle.nm_epoch.specs.Collecting.{labelled_so};
 ghost use Rattle.nm_walks.specs.Bounds.{chain_bound, cut_bound};
@@ -18,7 +18,7 @@ use nm_epoch::{Entry, HeldQueue};
 use nm_limbo::BlockQueue;
 use nm_steps::{Pass, Shared};
 
-/// A cleanup up to its splice, and whether that is won.
+/// Does a cleanup up to its splice; returns whether the splice was won.
 #[inline(always)]
 fn cut_off(
     shared: &Shared,
@@ -63,11 +63,15 @@ fn push_labelled(queue: &mut BlockQueue<Entry>, nodes: &[NodeId], label: u64)
     }
 }
 
-/// A cleanup by a walk that ended at this seek_record with the chain of this workspace, which stays, and
-/// whether it is won. Won: the chain from the successor down to the parent is cut off with the
-/// flagged leaf beside each of its nodes, labelled at once, and waits at the end of the queue.
-/// Lost: it has only looked, and tagged an edge. It takes no memory. At most 3 steps for each node
-/// of the chain, and 8 more. (The cleanup of Natarajan and Mittal, section 3.2, for a whole chain.)
+/// Tries one cleanup, after a walk that ended at this seek record with the chain of this workspace;
+/// returns whether it won. The chain is unchanged.
+///
+/// True: the chain from the successor down to the parent is cut off, with the flagged leaf beside
+/// each of its nodes. These nodes are labelled at once and appended to the queue. False: the
+/// cleanup has only looked, tagged at most one edge, and cut nothing.
+///
+/// Cost: at most 3 steps for each node of the chain, and 8 more. It takes no memory. (The cleanup
+/// of Natarajan and Mittal, section 3.2, for a whole chain.)
 #[inline(always)]
 pub fn cleanup(
     shared: &Shared,

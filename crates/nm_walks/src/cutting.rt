@@ -1,4 +1,4 @@
-//! Finding what a cleanup may cut.
+//! The nodes that a cleanup may cut off.
 ghost use Rattle.std.specs.Prelude.{◌≡◌, ◌≤◌, ◌+◌, ◌*◌, ◌++◌, ◌∷◌, [], ℕ, List, length, Some, IfSome};
 ghost use Rattle.nm_edge.specs.Edges.{other};
 ghost use Rattle.nm_edge.specs.declared.node.NodeId.{NodeId as Node};
@@ -22,8 +22,8 @@ pub struct Kept {
     pub leaf: u32,
 }
 
-/// The edge to keep of the parent at which a walk stands, where one of its edges is flagged: two
-/// looks. (The cleanup of Natarajan and Mittal, section 3.2.)
+/// Chooses the edge to keep of the parent of a walk, if one of the parent's edges is flagged. Cost:
+/// two looks. (The cleanup of Natarajan and Mittal, section 3.2.)
 #[inline(always)]
 pub fn choose(shared: &Shared, pass: &mut Pass, seek_record: &SeekRecord) -> Option<Kept>
     requires pinned { IsPinnedIn shared.now pass.old }
@@ -56,8 +56,8 @@ pub fn choose(shared: &Shared, pass: &mut Pass, seek_record: &SeekRecord) -> Opt
     }
 }
 
-/// Looks at a node whose edge on a side is tagged, and at the flagged leaf beside: both, with their
-/// births. Three looks.
+/// Looks at a node whose edge on a side is tagged, and at the flagged leaf beside it; returns both,
+/// with their births. Cost: three looks.
 fn freeze_one(shared: &Shared, pass: &mut Pass, slot: u32, side: Side) -> (NodeId, NodeId)
     requires pinned { IsPinnedIn shared.now pass.old }
     requires known { Tells pass.old (KnowsSlot slot) }
@@ -78,7 +78,7 @@ fn freeze_one(shared: &Shared, pass: &mut Pass, slot: u32, side: Side) -> (NodeI
     )
 }
 
-/// Adds a node whose edge on a side is tagged, and the flagged leaf beside it.
+/// Appends to `nodes` a node whose edge on a side is tagged, and the flagged leaf beside it.
 fn add_frozen(shared: &Shared, pass: &mut Pass, slot: u32, side: Side, nodes: &mut CutNodes)
     requires pinned { IsPinnedIn shared.now pass.old }
     requires known { Tells pass.old (KnowsSlot slot) }
@@ -95,9 +95,9 @@ fn add_frozen(shared: &Shared, pass: &mut Pass, slot: u32, side: Side, nodes: &m
 }
 
 /// Looks at each node of a chain of tagged edges down to the parent, whose edge on `keep` is tagged
-/// too, and at the flagged leaf beside each: downwards each node and then its leaf, with their
-/// births. Three looks a node, the parent included. (The chain that one splice of Natarajan and
-/// Mittal's cleanup cuts off, section 3.2.)
+/// too, and at the flagged leaf beside each. It appends to `nodes`, downwards, each node and then
+/// its leaf, with their births. Cost: three looks per node, including the parent. (The chain that
+/// one splice of Natarajan and Mittal's cleanup cuts off, section 3.2.)
 pub(crate) fn freeze(
     shared: &Shared,
     pass: &mut Pass,

@@ -1,4 +1,4 @@
-//! The two new nodes of an insert: claimed, filled and linked, or given back.
+//! The two new nodes of an insert: they are claimed, filled and linked, or given back.
 ghost use Rattle.std.specs.Prelude.{◌≡◌, ◌≢◌, None, IfOk, IfErr};
 ghost use Rattle.nm_steps.specs.Steps.{IsOf, PassView};
 ghost use Rattle.nm_walks.specs.Telling.{GoesOn, IsPinnedIn};
@@ -10,8 +10,8 @@ use crate::seek_record::WalkEnd;
 use nm_edge::{Edge, Placement, parting};
 use nm_steps::{Pass, Shared};
 
-/// Claims an internal node and then a leaf. `None`: one of the claims answered nothing, and nothing
-/// is kept.
+/// Claims an internal node and then a leaf. `None`: one of the claims found no slot, and the worker
+/// keeps neither.
 pub fn claim_new_nodes(
     shared: &Shared,
     pass: &mut Pass,
@@ -36,7 +36,8 @@ pub fn claim_new_nodes(
     Some(NewNodes { internal, leaf })
 }
 
-/// The new internal node over a leaf with key `other` and a new leaf with another key.
+/// Returns the contents of the new internal node, over a node with key `other` and a new leaf with
+/// another key.
 fn node_over(radix: bool, key: u64, other: u64, leaf: u32, fresh: u32) -> Contents
     requires apart { other ≢ key }
     ensures key { IsRouter radix key other result.key }
@@ -59,8 +60,8 @@ fn node_over(radix: bool, key: u64, other: u64, leaf: u32, fresh: u32) -> Conten
     }
 }
 
-/// Fills both new nodes, and links them in the place of the leaf at which the walk ended. Lost: the
-/// edge that was found.
+/// Fills both new nodes, and links them in place of the node at which the walk ended. `Err`: the
+/// link was lost; this edge was found instead.
 pub fn grow(
     shared: &Shared,
     pass: &mut Pass,
@@ -90,7 +91,7 @@ pub fn grow(
     link(shared, pass, &end.seek_record, new_nodes)
 }
 
-/// Gives both nodes back, the internal one first. The placement remembers their slots.
+/// Gives both nodes back to the pool, the internal one first. The placement remembers their slots.
 pub fn give_back(
     shared: &Shared,
     pass: &mut Pass,

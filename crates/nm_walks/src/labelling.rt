@@ -1,4 +1,4 @@
-//! The label of a cut.
+//! The label (retire epoch) of a cut.
 ghost use Rattle.std.specs.Prelude.{◌≡◌, true};
 ghost use Rattle.nm_model.specs.declared.event.Event.TheVariants.{Sight};
 ghost use Rattle.nm_model.specs.declared.reply.Reply.TheVariants.{Labelled};
@@ -12,8 +12,8 @@ ghost use Rattle.nm_walks.specs.Labelling.{OnlyLabels};
 use nm_epoch::label as label_cut;
 use nm_steps::{Pass, Shared};
 
-/// Labels the nodes that the worker's last splice cut, by the epoch, which it reads and answers.
-/// One step.
+/// Reads the epoch, labels the nodes of the worker's last splice with it, and returns it. Cost: one
+/// step.
 pub(crate) fn label(shared: &Shared, pass: &mut Pass) -> u64
     requires own { IsOf shared.now pass.old }
     requires cut { (epochs pass.old).unlabelled ≡ true }

@@ -1,5 +1,5 @@
-//! Steps by what the own log tells, the walk for a key, what a cleanup cuts off, and how a new leaf
-//! is linked, over a pass and a queue (the external search tree of Natarajan and Mittal, PPoPP 2014).
+//! Steps that the worker's own log allows, the walk for a key, cleanups, and the link of a new
+//! leaf, over a pass and a queue (the external search tree of Natarajan and Mittal, PPoPP 2014).
 #![tactic(auto, using(nm_steps::proofs::Seeing::seen_all))]
 
 mod cleaning;

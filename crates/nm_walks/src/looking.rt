@@ -1,4 +1,4 @@
-//! Looks at known nodes: what the worker's own log tells allows them, and they add to it.
+//! Looks at known nodes, if the worker's own log allows them; each adds to what the log shows.
 ghost use Rattle.std.specs.Prelude.{◌≡◌, ◌≤◌};
 ghost use Rattle.nm_model.specs.declared.event.Event.TheVariants.{Look};
 ghost use Rattle.nm_model.specs.declared.event.Field.TheVariants.{Key as KeyOf, Edge as EdgeOn, Birth};
@@ -12,8 +12,8 @@ use crate::seek_record::side_at;
 use nm_edge::{Edge, Layout, Side};
 use nm_steps::{Pass, Shared};
 
-/// Reads the key of a known node, below 2^64, by the sizes that the caller keeps in its hands. A
-/// key of the set stands above slot 5 alone.
+/// Reads the key of a known node, below 2^64, by the copy of the layout that the caller keeps. Only
+/// a slot above 5 has a key below the sentinels.
 pub(crate) fn look_key(shared: &Shared, layout: Layout, pass: &mut Pass, slot: u32) -> u64
     requires layout { layout ≡ shared.now.layout }
     requires pinned { IsPinnedIn shared.now pass.old }
@@ -28,7 +28,8 @@ pub(crate) fn look_key(shared: &Shared, layout: Layout, pass: &mut Pass, slot: u
     key
 }
 
-/// Reads an edge of a known node, by such sizes. The node to which it leads is known from then on.
+/// Reads an edge of a known node, by the caller's copy of the layout. The node to which it leads is
+/// known from then on.
 pub fn look_edge(shared: &Shared, layout: Layout, pass: &mut Pass, slot: u32, side: Side) -> Edge
     requires layout { layout ≡ shared.now.layout }
     requires pinned { IsPinnedIn shared.now pass.old }
@@ -52,8 +53,8 @@ pub struct Onward {
     pub next: Edge,
 }
 
-/// Reads the key of a known node and both of its edges, and then compares the keys, so that no read
-/// waits for the comparison. Three looks.
+/// Reads the key of a known node and both of its edges, and only then compares the keys, so that no
+/// read waits for the comparison. Cost: three looks.
 pub fn read_node(shared: &Shared, layout: Layout, pass: &mut Pass, slot: u32, key: u64) -> Onward
     requires layout { layout ≡ shared.now.layout }
     requires pinned { IsPinnedIn shared.now pass.old }
@@ -73,7 +74,7 @@ pub fn read_node(shared: &Shared, layout: Layout, pass: &mut Pass, slot: u32, ke
     Onward { found, side, next }
 }
 
-/// Of a node's two edges the one on that side.
+/// Returns the edge on that side, of a node's two edges.
 fn edge_at(side: Side, left: Edge, right: Edge) -> Edge
     ensures { result ≡ edge_on side left right }
 {
@@ -83,7 +84,7 @@ fn edge_at(side: Side, left: Edge, right: Edge) -> Edge
     }
 }
 
-/// Reads the birth of a known node, at most 2^62.
+/// Reads the birth of a known node.
 pub fn look_birth(shared: &Shared, pass: &mut Pass, slot: u32) -> u64
     requires pinned { IsPinnedIn shared.now pass.old }
     requires known { Tells pass.old (KnowsSlot slot) }

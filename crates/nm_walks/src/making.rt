@@ -1,4 +1,4 @@
-//! New nodes: filled in private slots, and linked into the tree.
+//! New nodes: they are filled in private slots, and linked into the tree.
 ghost use Rattle.std.specs.Prelude.{◌≡◌, ◌+◌, ◌*◌, ◌≤◌, false, length, Some, IsSome, IfSome, IfOk, IfErr};
 ghost use Rattle.nm_model.specs.declared.event.Event.TheVariants.{Give};
 ghost use Rattle.nm_model.specs.declared.reply.Reply.TheVariants.{Returned};
@@ -18,7 +18,7 @@ use nm_edge::{Edge, NodeId, Placement, Side};
 use nm_pool::claim_by;
 use nm_steps::{Pass, Shared};
 
-/// What is stored in a new node: its key, and its edges, which are 0 at a leaf.
+/// The contents of a new node: its key, and its edges, which are 0 for a leaf.
 #[derive(Clone, Copy, Debug, PartialEq, Eq)]
 pub(crate) struct Contents {
     pub key: u64,
@@ -26,18 +26,18 @@ pub(crate) struct Contents {
     pub right: u32,
 }
 
-/// Two private nodes: a new internal node, and a new leaf to stand below it.
+/// Two private nodes: a new internal node, and a new leaf to be linked below it.
 #[derive(Clone, Copy, Debug, PartialEq, Eq)]
 pub struct NewNodes {
     pub internal: NodeId,
     pub leaf: NodeId,
 }
 
-/// Takes a slot out of the pool to be a new node, with its birth raised by one: the first that it
-/// finds there with a birth below 2^62, in the order of the placement.
+/// Takes a slot out of the pool for a new node, and raises its birth (generation) by one. It takes
+/// the first slot that it finds free with a birth below 2^62, in the order of the placement.
 ///
-/// `Some(node)`: the slot is private to the worker, which had it nowhere before; its birth is
-/// stored there, and nothing else is. At most three steps a slot.
+/// `Some(node)`: the slot is private to the worker, and was new to it. Its birth is stored there,
+/// and nothing else is. Cost: at most three steps per slot.
 #[inline(always)]
 pub(crate) fn claim(shared: &Shared, pass: &mut Pass, placement: &mut Placement) -> Option<NodeId>
     requires own { IsOf shared.now pass.old }
@@ -59,8 +59,8 @@ pub(crate) fn claim(shared: &Shared, pass: &mut Pass, placement: &mut Placement)
     claim_by(shared, pass, placement)
 }
 
-/// Gives a private node back to the pool, in one step. Its birth stays, so that the slot's next
-/// node has another.
+/// Gives a private node back to the pool, in one step. Its birth stays in the slot, so the next
+/// node there has another one.
 pub(crate) fn give(shared: &Shared, pass: &mut Pass, node: NodeId)
     requires own { IsOf shared.now pass.old }
     requires birth { (draft pass.old node.slot).birth ≡ Some node.birth }
@@ -94,11 +94,12 @@ pub(crate) fn fill(shared: &Shared, pass: &mut Pass, slot: u32, node: &Contents)
     shared.fill_edge(pass, slot, Side::Right, node.right);
 }
 
-/// Puts the new internal node of a new_nodes, over the leaf and the new leaf, in the place of the leaf
-/// to which the edge of this seek_record leads. Lost: the edge that was found.
+/// Replaces the node to which the edge of this seek record leads by the new internal node, over
+/// that node and the new leaf. It is a leaf or, in a radix tree, perhaps an internal node. `Err`:
+/// the link was lost; this edge was found instead.
 ///
-/// Only a call to insert the key of the new leaf may do so, once, by the edge by which a walk of it
-/// came to the leaf and ended there.
+/// Only a call to insert the key of the new leaf may do this, and only once. The edge must be the
+/// one by which a walk of the call came to the node and stopped there.
 pub(crate) fn link(
     shared: &Shared,
     pass: &mut Pass,

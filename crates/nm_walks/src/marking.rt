@@ -1,5 +1,5 @@
-//! Marks and cuts: tags and flags of edges, and splices that cut frozen chains off, as far as the
-//! worker's own log allows them.
+//! Marks and cuts: tags and flags of edges, and splices that cut off frozen chains, if the worker's
+//! own log allows them.
 ghost use Rattle.std.specs.Prelude.{ℕ, List, IfOk, IfErr};
 ghost use Rattle.nm_edge.specs.Edges.{other};
 ghost use Rattle.nm_edge.specs.declared.node.NodeId.{NodeId};
@@ -15,8 +15,8 @@ use crate::seek_record::SeekRecord;
 use nm_edge::{Edge, Side};
 use nm_steps::{FrozenChain, Pass, Shared};
 
-/// Tags an edge of a known node whose other edge is known to be flagged, and answers the edge as it
-/// was. It is never null.
+/// Tags an edge of a known node whose other edge is known as flagged; returns the edge as it was
+/// before. That edge is never null.
 pub fn tag(shared: &Shared, pass: &mut Pass, parent: u32, side: Side) -> Edge
     requires pinned { IsPinnedIn shared.now pass.old }
     requires known { Tells pass.old (KnowsSlot parent) }
@@ -31,9 +31,9 @@ pub fn tag(shared: &Shared, pass: &mut Pass, parent: u32, side: Side) -> Edge
     edge
 }
 
-/// Flags the edge to a leaf that the call to delete has found. Won: the call has flagged that leaf,
-/// which a cleanup is to cut off. Lost: the edge that was found, and the call has flagged nothing
-/// still.
+/// Flags the edge to a leaf that the call to delete has found. `Ok`: the call has flagged that
+/// leaf, which a cleanup is to cut off. `Err`: this edge was found instead, and the call has still
+/// flagged nothing.
 pub fn flag(
     shared: &Shared,
     pass: &mut Pass,
@@ -54,10 +54,10 @@ pub fn flag(
     won
 }
 
-/// Cuts a frozen chain off, from the successor of this seek_record down to its parent, with the flagged
-/// leaf beside each of its nodes: the ancestor's edge leads from then on where the parent's edge on
-/// the side `keep` leads, which is frozen as `kept`. The nodes wait for their label. Lost: the edge
-/// that was found.
+/// Cuts off a frozen chain, from the successor of this seek record down to its parent, with the
+/// flagged leaf beside each of its nodes. From then on the ancestor's edge leads to the node to
+/// which the parent's edge on the side `keep` leads, which is frozen as `kept`. The nodes wait for
+/// their label. `Err`: the splice was lost; this edge was found instead.
 #[inline(always)]
 pub(crate) fn splice(
     shared: &Shared,

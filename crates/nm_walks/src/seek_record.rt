@@ -1,4 +1,4 @@
-//! Where a walk stands.
+//! The position of a walk (seek record), its chain, and its end.
 ghost use Rattle.std.specs.Prelude.{◌≡◌, ◌≢◌, ◌<◌, ◌≤◌, ◌+◌, ◌||◌, true, false, length};
 ghost use Rattle.nm_model.specs.Searches.{side_of};
 ghost use Rattle.nm_walks.specs.Bounds.{chain_bound};
@@ -23,11 +23,12 @@ impl Default for ChainEdge {
     }
 }
 
-/// How many nodes a splice cuts off at most, their leaves left out: those of a chain, and the
-/// parent below it.
+/// The largest number of internal nodes that a splice cuts off: those of a chain, and the parent
+/// below it.
 pub const CHAIN_BOUND: usize = 64;
 
-/// The internal nodes from a successor down to above its parent, by tagged edges.
+/// The internal nodes from a successor down to the last one above its parent, which are connected
+/// by tagged edges.
 pub type ChainEdges = ArrayVec<ChainEdge, CHAIN_BOUND>;
 
 /// The edge that a walk read last, from `parent` on `side`; and the last edge above it that was
@@ -43,34 +44,35 @@ pub struct SeekRecord {
     pub edge: Edge,
 }
 
-/// Where a walk has ended: the edge of its seek_record leads to a leaf, with this key; or, where a key is to
-/// be put in a radix tree, to an internal node with this key, which has not the other in its range.
+/// The end of a walk: the edge of its seek record leads to a leaf with this key. In a radix tree,
+/// the walk of an insert may also end above an internal node with this key, which does not have the
+/// inserted key in its range.
 #[derive(Clone, Copy, Debug, PartialEq, Eq)]
 pub struct WalkEnd {
     pub seek_record: SeekRecord,
     pub key: u64,
 }
 
-/// What the part of a walk came to that goes by unmarked edges alone.
+/// The result of the first part of a walk, which uses unmarked edges only.
 #[derive(Clone, Copy)]
 pub(crate) enum Descent {
-    /// It has ended at a leaf; or, where a key is to be put in a radix tree, over an internal node
-    /// without the key in its range.
+    /// The walk has ended at a leaf. In a radix tree, the walk of an insert may also have ended
+    /// above an internal node without the key in its range.
     Ended(WalkEnd),
-    /// It stands at this seek_record, so many nodes below slot 2: the spot's edge is marked, or the walk
-    /// has looked at as many nodes as a walk may.
+    /// The walk is at this seek record, this number of nodes below slot 2. The record's edge is
+    /// marked, or the walk has looked at as many nodes as a walk may.
     Stopped(SeekRecord, u32),
 }
 
-/// The side of a key at a node: left where it is less than the node's.
+/// Returns the side of a key at a node: left if the key is less than the node's.
 pub(crate) fn side_at(key: u64, node: u64) -> Side
     ensures { result ≡ side_of key node }
 {
     if key < node { Side::Left } else { Side::Right }
 }
 
-/// Whether this is the null edge, which a leaf has: it has no mark, so one comparison of its word
-/// tells.
+/// Returns whether this is the null edge, which every leaf has. The null edge has no mark, so one
+/// comparison of its word is enough.
 pub fn is_null(edge: Edge) -> bool
     ensures yes { result ≡ true → edge.slot ≡ 0 }
     ensures no { result ≡ false → edge.slot ≢ 0 }
@@ -78,7 +80,7 @@ pub fn is_null(edge: Edge) -> bool
     edge.is_to(0)
 }
 
-/// Whether the edge has a mark: one test of its word.
+/// Returns whether the edge has a mark, by one test of its word.
 pub fn is_marked(edge: Edge) -> bool
     ensures { result ≡ (edge.flag || edge.tag) }
 {
@@ -95,7 +97,8 @@ pub(crate) fn end_at(seek_record: &SeekRecord, key: u64) -> WalkEnd
     }
 }
 
-/// The seek_record after the node that the edge leads to, left on `side` by the edge `next`.
+/// Returns the seek record after the node that the edge leads to, which the walk leaves on `side`
+/// by the edge `next`.
 pub(crate) fn further(seek_record: SeekRecord, side: Side, next: Edge) -> SeekRecord
     ensures seek_record { result ≡ onto seek_record side next }
     ensures edge { result.edge ≡ next }
@@ -120,7 +123,7 @@ pub(crate) fn further(seek_record: SeekRecord, side: Side, next: Edge) -> SeekRe
     }
 }
 
-/// The chain at the next node. False where it would be too long.
+/// Extends the chain to the next node. Returns false if it would be too long.
 pub(crate) fn extend(chain: &mut ChainEdges, seek_record: SeekRecord) -> bool
     ensures more { result ≡ true → chain.new.items ≡ chain_onto seek_record chain.old.items }
     ensures short { result ≡ true → length chain.new.items < chain_bound }

@@ -1,4 +1,4 @@
-//! Where a walk stands that has come by unmarked edges alone.
+//! The position of a walk that has come by unmarked edges only.
 ghost use Rattle.std.specs.Prelude.{◌≡◌, ◌<◌, ◌^◌, ◌||◌, false};
 ghost use Rattle.nm_walks.specs.Walks.{begin, onto};
 
@@ -6,9 +6,9 @@ use crate::seek_record::{SeekRecord, is_marked};
 use nm_edge::{Edge, EdgePlace, Side};
 use std::marker::Model;
 
-/// The seek_record of a walk that has come by unmarked edges alone, so that its successor is its parent.
-/// Where the edge stands that it read last, and the one above, is a word each, so that a walk moves
-/// few words a node.
+/// The seek record of a walk that has come by unmarked edges only, so that its successor is its
+/// parent. The place of the edge that it read last, and that of the edge above it, is one word
+/// each, so a walk moves few words per node.
 #[derive(Clone, Copy)]
 pub(crate) struct UnmarkedSeek {
     above: EdgePlace,
@@ -34,7 +34,7 @@ impl Model for UnmarkedSeek {
 }
 
 impl UnmarkedSeek {
-    /// At the left edge of slot 2.
+    /// Returns the position at the left edge of slot 2.
     pub(crate) fn first(edge: Edge) -> UnmarkedSeek
         ensures { result ≡ begin edge }
     {
@@ -45,16 +45,16 @@ impl UnmarkedSeek {
         }
     }
 
-    /// Whether the edge has a mark.
+    /// Returns whether the edge has a mark.
     pub(crate) fn is_marked(self) -> bool
         ensures { result ≡ (self.edge.flag || self.edge.tag) }
     {
         is_marked(self.edge)
     }
 
-    /// The slot of the node that the edge leads to; a tree has fewer than 2^30. The lower half of
-    /// the word is enough for that; and where the edge is known to have no mark, a compiler finds
-    /// four times the slot, by which the node's words are numbered, in that half as it stands.
+    /// Returns the slot of the node that the edge leads to; a tree has fewer than 2^30. The lower
+    /// half of the word is enough for that. If the edge is known to have no mark, that half is four
+    /// times the slot, by which the node's words are numbered, so a compiler need not compute it.
     pub(crate) fn slot(self) -> u32
         requires { self.edge.slot < 2 ^ 30 }
         ensures { result ≡ self.edge.slot }
@@ -62,7 +62,8 @@ impl UnmarkedSeek {
         self.edge.pack() as u32 / 4
     }
 
-    /// One node further: the edge has no mark, and the node is left on `side` by the edge `next`.
+    /// Returns the position one node further: the edge has no mark, and the walk leaves the node on
+    /// `side` by the edge `next`.
     pub(crate) fn further(self, side: Side, next: Edge) -> UnmarkedSeek
         requires slot { self.edge.slot < 2 ^ 30 }
         requires flag { self.edge.flag ≡ false }
@@ -77,7 +78,7 @@ impl UnmarkedSeek {
         }
     }
 
-    /// The seek_record as such.
+    /// Returns the same position as a full seek record.
     pub(crate) fn seek_record(self) -> SeekRecord
         ensures { result ≡ self }
     {

@@ -15,10 +15,12 @@ use crate::unmarked_seek::UnmarkedSeek;
 use nm_edge::{Layout, Side, covers};
 use nm_steps::{Pass, Shared};
 
-/// How many nodes a walk of a radix tree looks at, at most: slot 2, 64 internal nodes, and a leaf.
+/// The largest number of nodes that a walk of a radix tree looks at: slot 2, 64 internal nodes, and
+/// a leaf.
 const RADIX_REACH: u32 = 66;
 
-/// How many nodes a walk may look at. No walk of a radix tree would look at more.
+/// Returns the largest number of nodes that a walk may look at. No walk of a radix tree would look
+/// at more.
 pub fn reach(layout: Layout) -> u32
     ensures reach { result ≡ reach layout }
     ensures some { 1 < result }
@@ -31,9 +33,9 @@ pub fn reach(layout: Layout) -> u32
     }
 }
 
-/// The key of the leaf at the end of the walk for a key, which remembers nothing else. At most three
-/// steps a node. `None`: the walk had looked at as many nodes as there are, as none of a radix tree
-/// does.
+/// Walks for a key, and returns the key of the leaf at the end. It remembers nothing else of the
+/// walk. `None`: the walk had looked at as many nodes as the tree has; this cannot occur in a radix
+/// tree. Cost: at most three steps per node.
 #[inline(always)]
 pub fn find(shared: &Shared, pass: &mut Pass, key: u64) -> Option<u64>
     requires pinned { IsPinnedIn shared.now pass.old }
@@ -64,11 +66,11 @@ pub fn find(shared: &Shared, pass: &mut Pass, key: u64) -> Option<u64>
     None
 }
 
-/// The seek_record at the end of the walk for a key, with its leaf's key; the chain has the internal nodes
-/// from its successor down to above its parent. At most three steps a node. `None`: the walk had
-/// looked at as many nodes as there are, or the chain would hold 65 nodes with the parent; in a
-/// radix tree neither is ever so. (The seek of Natarajan and Mittal, section 3.2, which here
-/// remembers the whole chain.)
+/// Walks for a key, and returns the seek record at the end, with the leaf's key. The chain then has
+/// the internal nodes from the successor down to the last one above the parent. `None`: the walk
+/// had looked at as many nodes as the tree has, or the chain would have 65 nodes with the parent;
+/// neither can occur in a radix tree. Cost: at most three steps per node. (The seek of Natarajan
+/// and Mittal, section 3.2, which here remembers the whole chain.)
 #[inline(always)]
 pub fn seek(shared: &Shared, pass: &mut Pass, key: u64, chain: &mut ChainEdges) -> Option<WalkEnd>
     requires pinned { IsPinnedIn shared.now pass.old }
@@ -104,9 +106,9 @@ pub fn seek(shared: &Shared, pass: &mut Pass, key: u64, chain: &mut ChainEdges) 
     None
 }
 
-/// The walk for a key as far as it goes by unmarked edges, which is nearly always to its leaf: so
-/// long its chain is empty, its successor is its parent, and the word of an edge leads to the node
-/// with no mark to be taken away.
+/// Does the first part of the walk for a key, by unmarked edges only, which usually leads to its
+/// leaf. On this part the chain is empty, the successor is the parent, and no mark must be removed
+/// from an edge's word.
 #[inline(always)]
 fn descend(shared: &Shared, pass: &mut Pass, key: u64) -> Descent
     requires pinned { IsPinnedIn shared.now pass.old }
@@ -134,8 +136,9 @@ fn descend(shared: &Shared, pass: &mut Pass, key: u64) -> Descent
     Descent::Stopped(unmarked_seek.seek_record(), most)
 }
 
-/// Where a walk for a key comes to in a radix tree that is to put the key there: the seek_record at whose
-/// edge's end is a leaf, or an internal node without the key in its range.
+/// Walks for a key that is to be inserted in a radix tree. It returns the seek record at the end,
+/// whose edge leads to a leaf or to an internal node without the key in its range. It never returns
+/// `None`, because no walk of a radix tree is too long.
 #[inline(always)]
 pub fn place(shared: &Shared, pass: &mut Pass, key: u64, chain: &mut ChainEdges) -> Option<WalkEnd>
     requires pinned { IsPinnedIn shared.now pass.old }
@@ -171,7 +174,8 @@ pub fn place(shared: &Shared, pass: &mut Pass, key: u64, chain: &mut ChainEdges)
     None
 }
 
-/// The walk of `place` as far as it goes by unmarked edges, as `descend` of a look-up.
+/// Does the first part of the walk of `place`, by unmarked edges only, as `descend` does for a
+/// look-up.
 #[inline(always)]
 fn descend_to_place(shared: &Shared, pass: &mut Pass, key: u64) -> Descent
     requires pinned { IsPinnedIn shared.now pass.old }
@@ -200,8 +204,8 @@ fn descend_to_place(shared: &Shared, pass: &mut Pass, key: u64) -> Descent
     Descent::Stopped(unmarked_seek.seek_record(), most)
 }
 
-/// Whether the insert of a key stops at a node of a radix tree that was read so: at a leaf, or where
-/// the key is not in the node's range.
+/// Returns whether the insert of a key stops at this node of a radix tree: at a leaf, or if the key
+/// is not in the node's range.
 fn stops(on: &Onward, key: u64) -> bool
     ensures yes { result ≡ true → IsStop true key on.now }
     ensures no { result ≡ false → (on.now.next.slot ≢ 0) × (covers on.now.found key ≡ true) }

@@ -1,34 +1,34 @@
-//! What a worker's calls work with.
+//! The workspace of a worker's calls.
 ghost use Rattle.std.specs.Prelude.{◌≡◌};
 
 use crate::seek_record::ChainEdges;
 use arrayvec::ArrayVec;
 use nm_edge::{NodeId, Placement};
 
-/// How many nodes a splice cuts off at most: `CHAIN_BOUND` internal ones, and the flagged leaf
-/// beside each.
+/// The largest number of nodes that a splice cuts off: `CHAIN_BOUND` internal ones, and the flagged
+/// leaf beside each.
 pub const CUT_BOUND: usize = 128;
 
 /// The nodes that a splice cuts off.
 pub type CutNodes = ArrayVec<NodeId, CUT_BOUND>;
 
-/// What a worker's calls work with, beside its pass: where it looks for free slots, and the room of
-/// its walks and cleanups, which is made once, since filling it costs more than a walk.
+/// What a worker's calls use besides its pass: where it looks for free slots, and the buffers of
+/// its walks and cleanups. The buffers are made once, because filling them costs more than a walk.
 ///
-/// `insert`, `delete` and `finish` look at neither the chain nor the nodes that stand there before;
-/// `cleanup` takes the chain of the walk from it.
+/// `insert`, `delete` and `finish` do not use the previous contents of the chain and of the nodes;
+/// `cleanup` uses the chain of the last walk.
 #[derive(Drop)]
 pub struct Workspace {
-    /// Where the worker looks for free slots.
+    /// The slots at which the worker looks for a free one.
     pub placement: Placement,
     /// The chain that the last walk remembers.
     pub chain: ChainEdges,
-    /// The nodes that the last cleanup was to cut off.
+    /// The nodes that the last cleanup tried to cut off.
     pub nodes: CutNodes,
 }
 
 impl Workspace {
-    /// That of a worker that looks for free slots there.
+    /// Makes the workspace of a worker with this placement.
     pub fn new(placement: Placement) -> Self
         ensures fit { result.placement ≡ placement }
     {

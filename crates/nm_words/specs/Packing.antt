@@ -16,7 +16,7 @@ use Rattle.nm_model.specs.Knowledge.{Knowledge, read}
 use Rattle.nm_model.specs.Step.{kept, last_number}
 use Rattle.nm_model.specs.Runs.{State, of, start, next, after, refused}
 
--- its lists are as long as the layout says, slot 0 counted
+-- the memory's lists are as long as the layout says, slot 0 counted
 pub record Fits (L : Layout) (m : Memory) : Type 0 where
   pub announcements : length m.announcements ≡ L.workers
   pub nodes : length m.nodes ≡ L.nodes + 1
@@ -24,7 +24,7 @@ pub record Fits (L : Layout) (m : Memory) : Type 0 where
 
 -- ---- packing
 
--- the word of an announcement: 0 of an idle worker, else the epoch that it announces and one more
+-- the word of an announcement: 0 for an idle worker, else the announced epoch plus 1
 abbrev pub announcement_word : Option ℕ → ℕ
 announcement_word None = 0
 announcement_word (Some e) = e + 1
@@ -33,19 +33,18 @@ announcement_word (Some e) = e + 1
 abbrev pub node_words : Node → List ℕ
 node_words n = n.key ∷ word_of n.left ∷ word_of n.right ∷ n.birth ∷ []
 
--- the number that these bits are, the lowest first
+-- the number with these bits, the lowest first
 abbrev pub number_of : List Bool → ℕ
 number_of [] = 0
 number_of (b ∷ bs) = number_of bs * 2 + (if b then 1 else 0)
 
--- the word of a row of the pool: slots 64 * r + 1 to 64 * r + 64, as far as there are such
+-- the word of a row of the pool: slots 64 * r + 1 to 64 * r + 64, as far as they exist
 abbrev pub row_word : Memory → ℕ → ℕ
 row_word m r = number_of (take 64 (drop (64 * r + 1) m.pool))
 
--- all words of a memory in one list: the epoch; the announcements, 0 of an idle worker, else its
--- epoch and 1, each with its gap of zeros behind it, and zeros before the first where there are
--- gaps; of each slot from 1 on its key, its two edges and its birth; and the pool in rows of 64
--- slots
+-- all words of a memory in one list. First are the epoch, and zeros if there are gaps. Then there
+-- are the announcements, each with its gap of zeros after it. For each slot from 1 on, its key, its
+-- two edges and its birth follow. The pool is last, in rows of 64 slots
 abbrev pub words_of : Layout → Memory → List ℕ
 words_of L m = m.epoch ∷ ((replicate (L.gap - 2) 0 ++ flat_map (λ o. announcement_word o ∷ replicate L.gap 0) m.announcements) ++ (flat_map node_words (drop 1 m.nodes) ++ map (row_word m) (range_with_len 0 (rows L))))
 
@@ -60,7 +59,7 @@ field_word m (at_row r) = row_word m r
 
 -- ---- reading: laws
 
--- and in the list, at the number that the layout gives the field
+-- the word of one field, in the list, at the number that the layout gives the field
 abbrev pub word_at : Layout → Memory → Field → ℕ
 word_at L m f = slice_index (words_of L m) (word L f)
 
@@ -77,7 +76,7 @@ abbrev pub EachWordIsItsField : Type 0
 EachWordIsItsField = (L : Layout) (m : Memory) (f : Field) → Fits L m → IsField L f
     → word_at L m f ≡ field_word m f
 
--- a slot's bit is set exactly where the slot is in the pool
+-- a slot's bit is set exactly if the slot is in the pool
 abbrev pub EachBitIsItsSlot : Type 0
 EachBitIsItsSlot = (L : Layout) (m : Memory) (s : ℕ) → Fits L m → IsSlot L s
     → bit_and (pool_word_at L m s) (pool_place L s).mask
@@ -93,18 +92,18 @@ SpareBitsAreZero = (L : Layout) (m : Memory) (r i : ℕ) → Fits L m → r < ro
 abbrev pub StateFits : State → Type 0
 StateFits s = Fits s.layout s.memory
 
--- the five fixed slots are never in the pool
+-- the bits of the five fixed slots are 0
 abbrev pub FixedBitsAreZero : State → Type 0
 FixedBitsAreZero s = (x : ℕ) → 1 ≤ x → x ≤ 5
     → bit_and (pool_word_at s.layout s.memory x) (pool_place s.layout x).mask ≡ 0
 
 -- ---- writing: laws
 
--- the words with another one for a field
+-- the words with the word of a field replaced
 abbrev pub with_word : Layout → Memory → Field → ℕ → List ℕ
 with_word L m f n = slice_set (words_of L m) (word L f) n
 
--- the words with another one for a slot's place in the pool
+-- the words with the word of a slot's place in the pool replaced
 abbrev pub with_pool_word : Layout → Memory → ℕ → ℕ → List ℕ
 with_pool_word L m s n = slice_set (words_of L m) (pool_place L s).word n
 
@@ -139,7 +138,7 @@ TakingClearsABit = (L : Layout) (m : Memory) (s : ℕ) → Fits L m → IsSlot L
     → words_of L (record m { pool = slice_set m.pool s false })
     ≡ with_pool_word L m s (bit_and (pool_word_at L m s) (2 ^ 64 - 1 - (pool_place L s).mask))
 
--- a slot that comes to the pool sets its bit
+-- a slot that enters the pool sets its bit
 abbrev pub GivingSetsABit : Type 0
 GivingSetsABit = (L : Layout) (m : Memory) (s : ℕ) → Fits L m → IsSlot L s
     → words_of L (record m { pool = slice_set m.pool s true })
@@ -156,8 +155,7 @@ field_of s Birth = at_birth s
 abbrev pub row_of : ℕ → Field
 row_of s = at_row ((s - 1) / 64)
 
--- the field whose word an event reads or writes. (A join touches none, and the epoch stands for
--- it.)
+-- the field whose word an event reads or writes. (A join touches none; the epoch is given for it.)
 abbrev pub touched_field : ℕ → Event → Field
 touched_field w Sight = at_epoch
 touched_field w (SightFor op key) = at_epoch
@@ -176,13 +174,13 @@ touched_field w (Tag p side) = at_edge p side
 touched_field w (Splice a side s p keep) = at_edge a side
 touched_field w (Join v) = at_epoch
 
--- a field of a node is filled with a number, an edge with the unmarked one to a slot
+-- the word that a fill stores: a number, or for an edge the unmarked edge to a slot
 abbrev pub filling : NodeField → ℕ → ℕ
 filling (EdgeOn side) v = 4 * v
 filling _ v = v
 
--- the word that an event leaves, by what its worker knows and the word n that it finds: a store, an
--- exchange where the word is four times a slot, a bit joined, or a bit cleared (Fraser, section
+-- the word that an event leaves, by what its worker knows and the word n that it finds. The event
+-- is a store, an exchange if n is four times a slot, or it sets or clears a bit (Fraser, section
 -- 5.2.3; Natarajan and Mittal, section 3.2)
 abbrev pub left_word : Layout → Knowledge → Event → ℕ → ℕ
 left_word L k Announce n = unwrap_or k.brief.seen 0 + 1
@@ -198,7 +196,7 @@ left_word L k (Tag p side) n = bit_or n 2
 left_word L k (Splice a side s p keep) n = if n == 4 * s then word_of (kept (read k p keep)) else n
 left_word L k _ n = n
 
--- an event that is allowed touches one word of all, and leaves that one as it says
+-- an allowed event touches only one of the words, and leaves it as `left_word` says
 abbrev pub EventsTouchOneWord : State → Type 0
 EventsTouchOneWord s = (w : ℕ) (e : Event) → refused s w e ≡ None
     → IsField s.layout (touched_field w e)
@@ -206,26 +204,26 @@ EventsTouchOneWord s = (w : ℕ) (e : Event) → refused s w e ≡ None
     ≡ with_word s.layout s.memory (touched_field w e)
     (left_word s.layout (of s w) e (word_at s.layout s.memory (touched_field w e))))
 
--- one list is the other, or it differs from it in one element
+-- the two lists are equal, or differ in one element
 abbrev pub AtMostOne : List ℕ → List ℕ → Type 0
 AtMostOne ns ms = (ms ≡ ns) ⊎ ((i : ℕ) × (n : ℕ) × (i < length ns) × (ms ≡ slice_set ns i n))
 
--- no turn, refused ones and joins too, changes more than one word
+-- no turn, including refused ones and joins, changes more than one word
 abbrev pub AtMostOneWordChanges : State → Type 0
 AtMostOneWordChanges s = (turn : ℕ × Event)
     → AtMostOne (words_of s.layout s.memory) (words_of s.layout (next s turn).memory)
 
 -- ---- sizes
 
--- the numbers of a memory are those that its words have room for: epoch, announcements and births
--- are at most 2^62, and edges lead to slots of the layout
+-- the numbers of a memory fit their words: epoch, announcements and births are at most 2^62, and
+-- edges lead to slots of the layout
 pub record InRange (L : Layout) (m : Memory) : Type 0 where
   pub epoch : m.epoch ≤ last_number
   pub announcements : (w e : ℕ) → announcement m w ≡ Some e → e ≤ last_number
   pub births : (s : ℕ) → (node m s).birth ≤ last_number
   pub edges : (s : ℕ) (side : Side) → (edge m s side).slot ≤ L.nodes
 
--- where the keys are below 2^64, each word is
+-- if the keys are below 2^64, so is each word
 abbrev pub WordsAreBelow : Type 0
 WordsAreBelow = (L : Layout) (m : Memory) (f : Field) → Fits L m → InRange L m → L.nodes < 2 ^ 32
     → ((s : ℕ) → (node m s).key < 2 ^ 64)
@@ -235,7 +233,7 @@ WordsAreBelow = (L : Layout) (m : Memory) (f : Field) → Fits L m → InRange L
 abbrev pub StateIsInRange : State → Type 0
 StateIsInRange s = InRange s.layout s.memory
 
--- no null edge has a mark, so that each edge is found again in its word (Natarajan and Mittal,
+-- no null edge has a mark, so each edge can be read back from its word (Natarajan and Mittal,
 -- section 3.1)
 abbrev pub NullEdgesAreUnmarked : State → Type 0
 NullEdgesAreUnmarked s = (x : ℕ) (side : Side) → IsEdge (edge s.memory x side)
@@ -245,7 +243,7 @@ abbrev pub StoresAWord : Event → Type 0
 StoresAWord (Fill s Key v) = v < 2 ^ 64
 StoresAWord _ = Unit {0}
 
--- in every run of events whose stored keys are below 2^64
+-- in every run of events whose stored keys are below 2^64, each word is below 2^64
 abbrev pub WordsStayBelow : Type 0
 WordsStayBelow = (L : Layout) → 5 ≤ L.nodes → L.nodes < 2 ^ 32 → (turns : List (ℕ × Event))
     → All (λ t. StoresAWord t.1) turns

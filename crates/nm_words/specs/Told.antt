@@ -1,5 +1,5 @@
--- The reply of an event, told by what its worker knows, the births that are known, and the one word
--- that it finds.
+-- The reply to an event, by what its worker knows, the births that are known, and the one word that
+-- it finds.
 use Rattle.std.specs.Prelude.{◌≡◌, ℕ, ◌+◌, ◌-◌, ◌*◌, ◌==◌, map, bit_and, if◌then◌else◌, Option, Some, None, IsSome, unwrap_or, [], All}
 use Rattle.nm_edge.specs.Edges.{edge_in}
 use Rattle.nm_edge.specs.Layouts.{Layout}
@@ -19,23 +19,23 @@ use Rattle.nm_model.specs.Step.{reply_sight, reply_scan, node_of, node_linked}
 use Rattle.nm_model.specs.Runs.{State, of, refused, reply_of}
 use Rattle.nm_words.specs.Packing.{word_at, touched_field}
 
--- what an announcement's word says
+-- the announcement in a word
 abbrev pub announced_in : ℕ → Option ℕ
 announced_in n = if n == 0 then None else Some (n - 1)
 
--- the births that are known, by slot: however their worker came to know them
+-- the births that are known, by slot, from any source
 abbrev pub Births : Type 0
 Births = ℕ → Option ℕ
 
--- each that is known stands in its slot
+-- each birth that is known is the one in its slot
 abbrev pub BirthsAreIn : Memory → Births → Type 0
 BirthsAreIn m births = (x b : ℕ) → births x ≡ Some b → (node m x).birth ≡ b
 
--- a node by the birth that is known of its slot
+-- a node with the birth that is known of its slot
 abbrev pub known_as : Births → ℕ → NodeId
 known_as births s = record { slot = s; birth = unwrap_or (births s) 0 }
 
--- a flag and a splice are answered by nodes, whose births are to be known (Fraser, section 5.2.3;
+-- the reply to a flag or a splice has nodes, whose births must be known (Fraser, section 5.2.3;
 -- Natarajan and Mittal, section 3.2)
 abbrev pub BirthsAreKnown : Layout → Knowledge → Births → Event → Type 0
 BirthsAreKnown L k births (Flag p side leaf) = IsSome (births leaf)
@@ -49,9 +49,9 @@ told_look Key n = KeyIs n
 told_look (EdgeOn side) n = EdgeIs (edge_in n)
 told_look Birth n = BirthIs n
 
--- the reply of an event, by what its worker knows, the births that are known, and the word n that
--- it finds. (A join's is told by the leaver.) (Fraser, section 5.2.3; Natarajan and Mittal, section
--- 3.2)
+-- the reply to an event, by what its worker knows, the births that are known, and the word n that
+-- it finds. (The reply to a join depends on the leaver.) (Fraser, section 5.2.3; Natarajan and
+-- Mittal, section 3.2)
 abbrev pub told : Layout → Knowledge → Births → Event → ℕ → Reply
 told L k births Sight n = reply_sight k n
 told L k births (SightFor op key) n = reply_sight k n
@@ -75,7 +75,7 @@ told L k births (Splice a side s p keep) n =
     (cut_by k s (unwrap_or (way L.nodes k s p) []) keep)) else Lost (edge_in n)
 told L k births (Join v) n = Joined []
 
--- an event that is allowed is answered so, by the word that it touches, for any births that stand
+-- the reply to an allowed event is this one, by the word that it touches, for all births that are
 -- in memory
 abbrev pub RepliesAreTold : State → Type 0
 RepliesAreTold s = (w : ℕ) (e : Event) (births : Births) → BirthsAreIn s.memory births

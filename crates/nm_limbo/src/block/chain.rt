@@ -27,7 +27,7 @@ impl<T, A: Allocator> Model for Chain<T, A> {
 
 unsafe impl<T: Send, A: Allocator + Send> Send for Chain<T, A> {}
 
-// A `&` to it reaches the items alone.
+// A `&` to it reaches only the items.
 unsafe impl<T: Sync, A: Allocator> Sync for Chain<T, A> {}
 
 impl<T, A: Allocator> Chain<T, A> {
@@ -37,14 +37,14 @@ impl<T, A: Allocator> Chain<T, A> {
         Chain { mark: PhantomData }
     }
 
-    /// Ends a chain of no block. No other code can let one go, so none forgets a block.
+    /// Ends a chain of no block. No other code can drop a chain, so no block is forgotten.
     pub(crate) fn destroy_empty(self)
         requires { self.blocks ≡ [] }
     {
         let Chain { mark: _ } = self;
     }
 
-    /// Makes the block the only one, and returns where it lies.
+    /// Makes the block the only one, and returns its address.
     pub(crate) fn link_first(&mut self, room: Room<T>, deed: Deed<T, A>) -> BlockPtr<T>
         requires { (self.old.blocks ≡ []) × (deed.at ≡ room.ptr) × (deed.alloc ≡ self.old.alloc) }
         ensures { (result.ptr ≡ room.ptr) × (self.new.blocks ≡ room.ptr ∷ [])
@@ -58,7 +58,7 @@ impl<T, A: Allocator> Chain<T, A> {
         BlockPtr { ptr }
     }
 
-    /// Links the block in after the last, and returns where it lies.
+    /// Links the block in after the last, and returns its address.
     pub(crate) fn link_last(
         &mut self,
         last: BlockPtr<T>,
@@ -82,7 +82,8 @@ impl<T, A: Allocator> Chain<T, A> {
         BlockPtr { ptr }
     }
 
-    /// Takes the first block out, and returns it with the pointer to the one that is first then.
+    /// Takes the first block out, and returns it with the address of the block that is then the
+    /// first.
     pub(crate) fn unlink_first(&mut self, first: BlockPtr<T>) -> (Room<T>, Deed<T, A>, BlockPtr<T>)
         requires { IsFirst self.old.blocks first.ptr
             × (take 32 self.old.slots ≡ replicate 32 None) }
@@ -114,7 +115,7 @@ impl<T, A: Allocator> Chain<T, A> {
         }
     }
 
-    /// Empties the place at `index` of the first block.
+    /// Empties the place at `index` of the first block, and returns its item.
     pub(crate) fn read(&mut self, first: BlockPtr<T>, index: usize) -> T
         requires { IsFirst self.old.blocks first.ptr × (index < 32)
             × IsFilled self.old.slots index }
@@ -129,7 +130,7 @@ impl<T, A: Allocator> Chain<T, A> {
         }
     }
 
-    /// The item in the place at `index` of the first block.
+    /// Returns the item in the place at `index` of the first block.
     pub(crate) fn get(&self, first: BlockPtr<T>, index: usize) -> &T
         requires { IsFirst self.now.blocks first.ptr × (index < 32)
             × IsFilled self.now.slots index }

@@ -1,5 +1,6 @@
-//! The operations on one word, each for any event that leaves that word so, and a look at a row of
-//! the pool. No other file reaches the table's words.
+//! The operations on one word, each for any event that changes that word in this way, and a look at
+//! a row of the pool. The other files below `pass` use the table only to make it, to split and join
+//! seats, to read the epoch's word, and to end it.
 ghost use Rattle.std.specs.Prelude.{◌≡◌, ◌==◌, bit_and, bit_or};
 ghost use prog.Atomic.{either};
 ghost use Rattle.nm_steps.specs.Steps.{IsReadyFor, IsDone, Changes, IsBlind};
@@ -11,7 +12,7 @@ use nm_model::Event;
 use std::marker::Brand;
 
 impl Shared {
-    /// Reads the word.
+    /// Reads the word, as a step for `event`.
     pub(crate) fn load(&self, seat: &mut WorkerSeat, word: usize, event: Event) -> u64
         requires ready { IsReadyFor self.now seat.old event word }
         requires changes { Changes event seat.old.me.0 (λ n. n) }
@@ -20,7 +21,7 @@ impl Shared {
         load_as::<Brand>(&self.table.shared, seat, word, &event)
     }
 
-    /// Stores the word.
+    /// Stores `new` in the word, as a step for `event`.
     pub(crate) fn store(&self, seat: &mut WorkerSeat, word: usize, new: u64, event: Event)
         requires ready { IsReadyFor self.now seat.old event word }
         requires changes { Changes event seat.old.me.0 (λ n. new) }
@@ -30,7 +31,7 @@ impl Shared {
         store_as::<Brand>(&self.table.shared, seat, word, new, &event);
     }
 
-    /// Sets bits of the word; the word before.
+    /// Sets the bits of the mask in the word; returns the word before.
     pub(crate) fn mark(&self, seat: &mut WorkerSeat, word: usize, mask: u64, event: Event) -> u64
         requires ready { IsReadyFor self.now seat.old event word }
         requires changes { Changes event seat.old.me.0 (λ n. bit_or n mask) }
@@ -39,7 +40,7 @@ impl Shared {
         mark_as::<Brand>(&self.table.shared, seat, word, mask, &event)
     }
 
-    /// Keeps the bits of the mask alone; the word before.
+    /// Clears all bits of the word that are not in the mask; returns the word before.
     pub(crate) fn clear(&self, seat: &mut WorkerSeat, word: usize, mask: u64, event: Event) -> u64
         requires ready { IsReadyFor self.now seat.old event word }
         requires changes { Changes event seat.old.me.0 (λ n. bit_and n mask) }
@@ -48,7 +49,7 @@ impl Shared {
         clear_as::<Brand>(&self.table.shared, seat, word, mask, &event)
     }
 
-    /// Puts the new word in the place of the old one, if that stands there; the word before.
+    /// Replaces the word by `new` if it is `old`; returns the word before.
     pub(crate) fn exchange(
         &self,
         seat: &mut WorkerSeat,
@@ -64,8 +65,8 @@ impl Shared {
         exchange_as::<Brand>(&self.table.shared, seat, word, old, new, &event)
     }
 
-    /// Reads the word of a row of the pool, as a lost claim of each slot of so many, from a first
-    /// one on, before the first that it shows to be there.
+    /// Reads the word of a row of the pool. It counts as a lost claim of each slot before the first
+    /// that the word shows as free, among `most` slots from `from` on.
     pub(crate) fn look_at_row(
         &self,
         seat: &mut WorkerSeat,

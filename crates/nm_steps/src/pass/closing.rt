@@ -1,4 +1,4 @@
-//! How a table ends.
+//! The end of a table.
 ghost use Rattle.std.specs.Prelude.{◌≡◌, ◌<◌, length, slice_index};
 ghost use Rattle.nm_edge.specs.Words.{words};
 ghost use Rattle.nm_steps.specs.Steps.{IsOf, Ends};
@@ -8,7 +8,7 @@ use atomic_table::Closed;
 use std::alloc::Global;
 use std::marker::Model;
 
-/// The words of a tree that no worker shares any more.
+/// The words of a tree that is no longer shared.
 pub struct Words {
     closed: Closed<(), Global>,
 }
@@ -25,8 +25,9 @@ impl Model for Words {
 }
 
 impl Shared {
-    /// Ends the table. The words are those at the end of some run, of which the logs of the pass
-    /// are parts. It takes the table, so that no pass can step any more.
+    /// Ends the table and returns its words. They are those at the end of some run, which extends
+    /// what the pass has seen, and the logs of the pass are parts of that run. The call consumes
+    /// the table, so no pass can take a step after it.
     pub fn close(self, pass: Pass) -> Words
         requires { IsOf self pass }
         ensures ends { Ends self.layout result pass.view }
@@ -46,7 +47,7 @@ impl Shared {
 }
 
 impl Words {
-    /// The word of that number.
+    /// Returns the word of that index.
     pub fn word(&self, index: usize) -> u64
         requires { index < length self.now }
         ensures { result ≡ slice_index self.now index }

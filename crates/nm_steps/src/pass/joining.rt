@@ -1,4 +1,4 @@
-//! How two passes become one.
+//! The join of two passes into one.
 ghost use Rattle.nm_steps.specs.Rules.{knowledge};
 ghost use Rattle.nm_steps.specs.Steps.{IsOf, HasEmptyHands, HasJoined, HasSeenAllOf};
 ghost use Rattle.nm_steps.specs.Ties.{StandsInRun};
@@ -7,7 +7,7 @@ use crate::pass::{Pass, Shared};
 use crate::view::{Ties, View};
 use atomic_table::Join;
 
-/// The first view stands for both, and the join is in both logs.
+/// The first view represents the workers of both, and the join is in both logs.
 pub(crate) struct Unite;
 
 impl Join<View> for Unite {
@@ -19,11 +19,11 @@ impl Join<View> for Unite {
 }
 
 impl Shared {
-    /// The first pass stands for both, and takes over the ledgers that the second one's worker
-    /// holds. That worker resigns; it must have no private slot and no unlabelled cut. One step,
-    /// which is in both logs. It reads the epoch's word and changes no word. What it has seen goes
-    /// on from what both had seen. No number stands twice in the pass, so that no worker's ledger
-    /// was held by both.
+    /// Joins two passes, in one step that is in both logs. The first pass represents the workers of
+    /// both, and takes over the ledgers that the second one's worker holds. That worker resigns; it
+    /// must have no private slot and no cut without a label. The step reads the epoch's word and
+    /// changes no word. What the result has seen extends what both had seen. Each worker's number
+    /// is in the result at most once, so no ledger was held by both passes.
     pub fn join(&self, pass: Pass, other: Pass) -> Pass
         requires first { IsOf self.now pass }
         requires second { IsOf self.now other }

@@ -1,4 +1,4 @@
-//! How a table is made: the words of the empty tree, and a pass for each worker.
+//! The making of a table: the words of the empty tree, and a pass for each worker.
 ghost use Rattle.std.specs.Prelude.{◌≡◌, length, IfOk, IfErr};
 ghost use Rattle.nm_edge.specs.Words.{IsSlot, words};
 ghost use Rattle.nm_model.specs.Memory.{fork, opening};
@@ -13,7 +13,7 @@ use nm_edge::{Edge, FIRST_SLOT, INFINITY_0, INFINITY_1, INFINITY_2, Layout, Side
 use nm_model::{Brief, NewError};
 use std::alloc::{AllocError, Global};
 
-/// The own log goes to a seat of its own.
+/// Moves a worker's own log to a seat of its own.
 struct Deal;
 
 impl Split<View> for Deal {
@@ -25,8 +25,8 @@ impl Split<View> for Deal {
 }
 
 impl Shared {
-    /// The empty tree, and a pass for each worker, in the order of their numbers. No worker has
-    /// done anything yet. The only error is `NoMemory`.
+    /// Makes the empty tree, and a pass for each worker, in the order of their numbers. No worker
+    /// has taken a step. Errors: only `NoMemory`.
     pub fn new(alloc: Global, layout: Layout) -> Result<(Shared, Vec<Pass>), NewError>
         ensures layout { IfOk result (λ r. r.0.layout ≡ layout) }
         ensures count { IfOk result (λ r. length r.1.items ≡ layout.workers) }
@@ -37,7 +37,7 @@ impl Shared {
     }
 }
 
-/// The table, and its first seat cut into one for each worker.
+/// Makes the table, and splits its first seat into one for each worker.
 fn made(alloc: Global, layout: Layout) -> Result<(Shared, Vec<Pass>), AllocError>
     ensures layout { IfOk result (λ r. r.0.layout ≡ layout) }
     ensures count { IfOk result (λ r. length r.1.items ≡ layout.workers) }
@@ -64,7 +64,7 @@ fn made(alloc: Global, layout: Layout) -> Result<(Shared, Vec<Pass>), AllocError
     Ok((Shared { table, layout }, passes))
 }
 
-/// The words of the empty tree, with every slot above 5 in the pool.
+/// Returns the words of the empty tree, with every slot above 5 in the pool.
 fn opening_words(alloc: Global, layout: Layout) -> Result<Vec<u64>, AllocError>
     ensures { IfOk result (λ tree. tree.items ≡ words_of layout (opening layout)) }
 {

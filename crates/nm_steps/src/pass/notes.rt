@@ -1,4 +1,4 @@
-//! How one worker tells another what it has seen.
+//! Notes, by which one worker shows another what it has seen.
 ghost use Rattle.std.specs.Prelude.{◌≡◌};
 ghost use Rattle.nm_steps.specs.Rules.{Extends};
 ghost use Rattle.nm_steps.specs.Steps.{IsOf, HasHeard, HasSeenAllOf, IsNoteOf};
@@ -8,8 +8,8 @@ use crate::view::{Ties, View, WorkerSeat};
 use atomic_table::{Join, Split};
 use std::marker::Model;
 
-/// What a pass had seen when the note was made. It may go to another thread, and it does nothing
-/// where it is dropped.
+/// What a pass had seen when the note was made (a happens-before stamp). It may be sent to another
+/// thread. Dropping it does nothing.
 #[derive(Drop)]
 pub struct Note {
     seat: WorkerSeat,
@@ -26,7 +26,7 @@ impl Model for Note {
     ghost invariant = { λ n. (n.seat.me.0.resigned ≡ true) × (n.seat.me.1 ≡ []) };
 }
 
-/// A view stays as it is, and one that stands for nobody has seen what it has.
+/// A view stays as it is, and a view without a worker has seen what it has seen.
 pub(crate) struct WriteDown;
 
 impl Split<View> for WriteDown {
@@ -49,7 +49,7 @@ impl Join<View> for Hear {
 }
 
 impl Shared {
-    /// A note of what the pass has seen. It is no step, and no log tells of it.
+    /// Makes a note of what the pass has seen. It is no step, and no log records it.
     pub fn note(&self, pass: &mut Pass) -> Note
         requires { IsOf self.now pass.old }
         ensures same { pass.new ≡ pass.old }
@@ -60,9 +60,10 @@ impl Shared {
         }
     }
 
-    /// The pass hears a note: what it has seen goes on from then on from what the note tells, and
-    /// from what it had seen itself. So all that it does comes, in the one run, behind all that the
-    /// note's pass had done. It is no step, and no log tells of it.
+    /// Lets the pass hear a note: from now on, what it has seen extends what the note has seen and
+    /// what the pass itself had seen. So in the one run, all later turns of the pass come after all
+    /// turns that the note's pass had seen. It reads the epoch's word once; it is no step, and no
+    /// log records it.
     pub fn hear(&self, pass: &mut Pass, note: Note)
         requires own { IsOf self.now pass.old }
         requires table { note.table ≡ self.now.table }

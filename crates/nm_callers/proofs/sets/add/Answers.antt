@@ -12,7 +12,7 @@ returns-in-Ok-true-clause-added c told =
     let w = c.args.member.now.worker in
     let z = c.try_insert.new.self.worker in
     let did = c.in-Ok-true.ensures.did.1 in
-    let none = capped_none (won_flags w.pass.view.log) (ap (λ (l : List Entry). capped (won_flags l)) (sym (own_log w.pass.view)) ∙ (sym c.stats.ensures.flags ∙ c.if-ledger-ne0.false)) in
+    let none = capped_none (won_flags w.pass.view.log) (ap (λ (l : List Entry). capped (won_flags l)) (sym (own_log w.pass.view)) ∙ (sym c.stats.ensures.flags ∙ c.if-stats-ne0.false)) in
     let won = did.says.won.flags in
     record {
       key = search rules;
