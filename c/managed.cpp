@@ -49,7 +49,8 @@ void keys_are_kept(Of &of) {
     CHECK(of.empty());
 }
 
-// What stands from one key on and below another one, the greatest key too.
+// A range has the keys that are not below one key and are below another, including the greatest
+// key.
 template <typename Of>
 void ranges_are_told(Of &of) {
     auto part = [&](std::uint64_t from, std::uint64_t below) {
@@ -76,7 +77,7 @@ void ranges_are_told(Of &of) {
     of.clear();
 }
 
-// An iterator goes on where its key is removed before the step.
+// An iterator goes on if its key is removed before the step.
 void a_walk_goes_on() {
     nm::Set set(64, nm::keys, {1u, 2u, 3u, 4u});
     Numbers told;
@@ -253,7 +254,7 @@ void idle_workers_collect() {
     CHECK(set.insert(5u) && idle.queue_len() == 0);
 }
 
-// A call finds a worker also where threads have all of them, and this thread is one.
+// A call finds a worker even if threads have attached all of them, and this thread is one.
 void threads_have_each_worker() {
     nm::Options options;
     options.workers = 2;

@@ -147,7 +147,7 @@ static void answers(void) {
           nm_drop(&worker) == NM_DONE);
 }
 
-/* Calls that tend the set, where two slots are free: a delete that has begun is finished first, a
+/* Managed calls, if two slots are free: a remove that has begun is finished first, a
  * full set is collected, and nothing is made again that might have no try. */
 static void tended(void) {
     const nm_options *usual = &nm_default_options, none = {0, 0, 64};
@@ -194,7 +194,7 @@ static void tended(void) {
           nm_drop(&set) == NM_DONE);
 }
 
-/* Each remove first frees what waits, where that is the options. */
+/* Each remove first frees what waits, if the options say so. */
 static void collected(void) {
     const nm_options often = {TRIES, TRIES, 8};
     nm_handle set = NM_CLOSED_HANDLE, worker = NM_CLOSED_HANDLE;

@@ -208,7 +208,7 @@ void const_owners_tell() {
           report.queue_len(1) == 2 && report.slots().reached == 2);
 }
 
-// A pin ends with its guard, also where an exception unwinds.
+// A pin ends with its guard, including when an exception unwinds.
 void pins_end() {
     nm::Set set = unbalanced_set(64, 1);
     nm::Worker worker = set.attach();

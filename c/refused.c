@@ -57,8 +57,8 @@ static nm_outcome remove_key(nm_handle *worker, uint64_t key) {
     return told;
 }
 
-/* A worker whose calls tend the set: nine of ten of its keys are removed, each behind a collection
- * where enough nodes wait. */
+/* A worker with managed calls: nine of ten of its keys are removed, each after a collection if
+ * enough nodes wait. */
 static void tend(nm_handle *worker) {
     for (uint64_t key = KEYS; key < KEYS + TENDED; key++) CHECK(add(worker, key) == NM_YES);
     for (uint64_t key = KEYS; key < KEYS + TENDED; key++)

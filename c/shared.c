@@ -36,7 +36,7 @@ static void *attach(void *given) {
     return NULL;
 }
 
-/* What a call by the shared handle tells. */
+/* Counts the outcome of a call by the shared handle. */
 static void count(nm_outcome told, atomic_uint_fast64_t *won) {
     if (told == NM_IN_USE) atomic_fetch_add(&refused, 1);
     else if (told == NM_YES) atomic_fetch_add(won, 1);

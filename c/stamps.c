@@ -34,8 +34,8 @@ static uint64_t read_inserted(nm_handle *worker, uint32_t number) {
     return inserted;
 }
 
-/* The keys of a thread, in the order in which it inserts them: scattered, since keys in their order
- * would make a long path. */
+/* The keys of a thread, in the order in which it inserts them: scattered, because keys in their
+ * order would make a long path. */
 static uint64_t key_of(uint64_t thread, uint64_t index) {
     return (index * THREADS + thread) * 7919 % 100003;
 }

@@ -126,7 +126,7 @@ static void compare_keys(nm_handle *report, const part *parts) {
     CHECK(index == count && nm_report_key(report, index, &key) == NM_NUMBER);
 }
 
-/* How many nodes wait in all queues, each of which is as long as it tells. */
+/* Returns how many nodes wait in all queues, and checks that each is as long as reported. */
 static uint64_t take_waiting(nm_handle *report) {
     uint64_t all = 0, nodes, label;
     for (uint32_t worker = 0; worker < THREADS * APART; worker++) {
