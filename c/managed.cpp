@@ -155,12 +155,13 @@ void borrowed_workers_have_nothing_pending() {
 
 // A thread whose worker is borrowed meets no pending key of the threads that borrow it, although
 // removes beside two more workers are often unfinished by one attempt. It may meet one of those
-// that the bounds of the options left unfinished, and seldom does.
+// that the bounds of the options left unfinished: 0 to 2 in 200,000 removes were seen. If a borrower
+// did not finish its remove, the owner would meet hundreds.
 void owners_meet_no_pending_key() {
     constexpr std::uint64_t removes = 200'000;
     nm::Set set(8192, {3, nm::Shape::radix, 1, 0});
     nm::Worker worker = set.attach(), second = set.attach(), third = set.attach();
-    std::atomic<std::uint64_t> borrowed{0}, unfinished{0}, met{0};
+    std::atomic<std::uint64_t> borrowed{0}, met{0};
     std::vector<std::thread> threads;
     for (nm::Worker *own : {&second, &third})
         threads.emplace_back([&, own] {
@@ -174,12 +175,12 @@ void owners_meet_no_pending_key() {
         threads.emplace_back([&] {
             for (std::uint64_t each = 0; borrowed++ < removes; each++) {
                 (void)set.try_insert(each % 2);
-                unfinished += set.try_remove(each % 2) == NM_UNFINISHED;
+                (void)set.try_remove(each % 2);
             }
         });
     while (borrowed < removes) met += worker.try_contains(77u) == NM_PENDING;
     for (std::thread &thread : threads) thread.join();
-    CHECK(met * 10 <= unfinished);
+    CHECK(met <= 50);
 }
 
 // The calls of a set that begin with try_ return outcomes, and wait for no worker.
