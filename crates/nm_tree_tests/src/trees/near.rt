@@ -51,7 +51,7 @@ fn each_worker_looks_from_a_cursor_of_its_own(rt: HostRuntime) -> Result<(), Fai
     Ok(())
 }
 
-/// Worker 1 deletes, frees both nodes, and claims their slots again, in the row from 65 on.
+/// Worker 1 deletes, frees both nodes, and claims their slots again: the one freed last is first.
 #[test]
 fn slots_that_were_freed_are_taken_first(rt: HostRuntime) -> Result<(), Fail> {
     let (tree, first, mut second) = near_of(&rt, 200)?;
@@ -64,7 +64,7 @@ fn slots_that_were_freed_are_taken_first(rt: HostRuntime) -> Result<(), Fail> {
     step(&rt, &tree, &mut second, Call::Insert(6), Answer::Is(true));
     step(&rt, &tree, &mut second, Call::Delete(6), Answer::Is(true));
     let mut report = report_of(&rt, tree, both(rt.alloc(), first, second)?);
-    assert_eq!(rt; waiting(&mut report, 1), (2, [(65, 2, 2), (66, 2, 2)]));
+    assert_eq!(rt; waiting(&mut report, 1), (2, [(66, 2, 2), (65, 2, 2)]));
     assert_eq!(rt; (report.free, report.reached), (193, 0));
     Ok(())
 }
