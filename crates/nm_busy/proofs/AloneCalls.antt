@@ -77,7 +77,7 @@ use Rattle.nm_busy.proofs.InterferedTries.{IsLostInsert, IsLostFlag, insert_long
 use Rattle.nm_busy.proofs.InterferedCalls.{moved}
 use Rattle.nm_busy.proofs.Parts.{Longer, longer_these, longer_then, longer_none, plain_longer, reads_longer, help_longer, returns_longer}
 use Rattle.nm_busy.proofs.WalkReads.{WalkRead, walk_read, onto_parent}
-use Rattle.nm_busy.proofs.Astray.{SplitPart, split_part, walk_plain, OnPath, walk_path, not_too_long}
+use Rattle.nm_busy.proofs.WalkInterference.{SplitPart, split_part, walk_plain, OnPath, walk_path, not_too_long}
 
 -- ---- turns of one worker alone
 

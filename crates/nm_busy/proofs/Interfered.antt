@@ -35,8 +35,8 @@ use Rattle.nm_progress.proofs.MoreTries.{Plain}
 use Rattle.nm_progress.proofs.Reshapes.{is_reshape}
 use Rattle.nm_progress.proofs.Covers.{one_if}
 use Rattle.nm_busy.specs.Lost.{Interference}
-use Rattle.nm_busy.proofs.Astray.{SplitPart, split_part, by_others, one_astray, long_astray}
-use Rattle.nm_busy.proofs.DeepAstray.{deep_plain, not_too_deep}
+use Rattle.nm_busy.proofs.WalkInterference.{SplitPart, split_part, by_others, one_interference, long_interference}
+use Rattle.nm_busy.proofs.DeepInterference.{deep_plain, not_too_deep}
 use Rattle.nm_busy.proofs.LostPins.{part-append, turns_between, keys_seen, part_added}
 use Rattle.nm_busy.proofs.Parts.{Longer}
 use Rattle.nm_busy.proofs.Steady.{IsFor}
@@ -142,12 +142,12 @@ module _ (L : Layout) (enough : 5 ≤ L.nodes) (w : ℕ) where
           itself false is x y = absurd (true≢false (sym is))
 
   -- by a walk as long as there are slots
-  pub of_astray : (k : ℕ) (old new : List Entry) → Longer old new → IsTooLong L k old new → Interferes old new 1
-  of_astray k old new l long = record {
+  pub of_interference : (k : ℕ) (old new : List Entry) → Longer old new → IsTooLong L k old new → Interferes old new 1
+  of_interference k old new l long = record {
     entries = l.entries;
     are = l.are;
     counted = λ c o knowing ran ts keys is. (
-        let led = one_astray L enough w c o ts keys old new (long_astray L enough w k old new long) (ap (λ (xs : List Entry). old ++ xs) is ∙ sym l.are) in
+        let led = one_interference L enough w c o ts keys old new (long_interference L enough w k old new long) (ap (λ (xs : List Entry). old ++ xs) is ∙ sym l.are) in
         let few = shapes_interfere w (trace_in c ts) in
         omega (arith, led, few)
         );

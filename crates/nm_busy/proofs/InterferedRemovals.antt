@@ -30,7 +30,7 @@ use Rattle.nm_walks.specs.Walks.{begin, onto, after_looks, edge_on, Reads, Walks
 use Rattle.nm_walks.specs.Bounds.{chain_bound}
 use Rattle.nm_calls.specs.Deletes.{LostRemovals, RemovesNothing}
 use Rattle.nm_progress.proofs.MoreTries.{Plain, plain_then, quiet_pins, log_prefix}
-use Rattle.nm_busy.proofs.Astray.{walk_plain}
+use Rattle.nm_busy.proofs.WalkInterference.{walk_plain}
 use Rattle.nm_busy.proofs.Interfered.{Interferes, of_longer}
 use Rattle.nm_busy.proofs.InterferedTries.{cleanup_steady, broken_plain, one_more, broken_interferes}
 use Rattle.nm_busy.proofs.MarkedReads.{marks_last, cleanup_interferes}

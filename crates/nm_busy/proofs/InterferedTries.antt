@@ -28,9 +28,9 @@ use Rattle.nm_progress.specs.Changes.{is_bare, Expects}
 use Rattle.nm_progress.specs.Changes.Expects.{ToLink, ToFlag}
 use Rattle.nm_progress.specs.Tries.{losing}
 use Rattle.nm_progress.proofs.MoreTries.{is_loud, Plain, plain_these, plain_then, quiet_pins, log_prefix}
-use Rattle.nm_busy.proofs.Astray.{walk_plain}
-use Rattle.nm_busy.proofs.DeepAstray.{deep_plain}
-use Rattle.nm_busy.proofs.Interfered.{Interferes, of_longer, interferes_then, of_astray, of_deep}
+use Rattle.nm_busy.proofs.WalkInterference.{walk_plain}
+use Rattle.nm_busy.proofs.DeepInterference.{deep_plain}
+use Rattle.nm_busy.proofs.Interfered.{Interferes, of_longer, interferes_then, of_interference, of_deep}
 use Rattle.nm_busy.proofs.MarkedReads.{IsMarked, StillMarked, marks_last, lost_behind, seek_marked, seek_read, lost_link_marked, lost_flag_marked, cleanup_interferes, chooses_plain, freezes_plain}
 use Rattle.nm_busy.proofs.Parts.{Longer, longer_these, longer_then, longer_none, plain_longer, reads_plain, walk_longer, broken_longer, help_longer, readies_plain}
 use Rattle.nm_busy.proofs.Steady.{Steady, steady_these, steady_then, plain_steady, IsFor, for_on}
@@ -169,7 +169,7 @@ module _ (L : Layout) (enough : 5 ≤ L.nodes) (w k : ℕ) where
 module _ (L : Layout) (enough : 5 ≤ L.nodes) (w k : ℕ) (here : w < L.workers) (crew : L.workers ≤ chain_bound) where
   -- a walk that was broken off
   pub broken_interferes : (old new : List Entry) → IsFor k old → IsBroken L k old new → Interferes L enough w old new 1
-  broken_interferes old new for (inl long) = of_astray L enough w k old new (broken_longer L k old new (inl long)) long
+  broken_interferes old new for (inl long) = of_interference L enough w k old new (broken_longer L k old new (inl long)) long
   broken_interferes old new for (inr deep) = of_deep L enough w here crew k old new for deep
 
   -- a lost try of an insert

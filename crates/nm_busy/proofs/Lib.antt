@@ -1,13 +1,13 @@
 pub mod LostPins
 pub mod Parts
 pub mod WalkReads
-pub mod Astray
+pub mod WalkInterference
 pub mod Steady
-pub mod DeepAstray
+pub mod DeepInterference
 pub mod LostLookups
-pub mod TurnsAstray
+pub mod TurnInterference
 pub mod Between
-pub mod NearAstray
+pub mod NearInterference
 pub mod LostWalked
 pub mod Interfered
 pub mod MarkedReads

@@ -22,7 +22,7 @@ use Rattle.nm_progress.proofs.SplitTurns.{ordered_after, number-append}
 use Rattle.nm_busy.specs.Lookups.{WasReshaped, BusyLookupsMetInterference}
 use Rattle.nm_busy.proofs.LostPins.{turns_between, lost_pins_were_moved_past, keys_seen, part_added}
 use Rattle.nm_busy.proofs.Parts.{Longer, pin_longer}
-use Rattle.nm_busy.proofs.Astray.{SplitPart, split_part, Strays, strays_longer, all_astray, lost_strays}
+use Rattle.nm_busy.proofs.WalkInterference.{SplitPart, split_part, Strays, strays_longer, all_interference, lost_strays}
 
 -- between the begin and the end of a call of which such parts of the log are, as many as others have
 -- linked or cut off nodes
@@ -56,7 +56,7 @@ was_reshaped t p q seen_p seen_q enough same on pinned walked begun strays leave
         inner r =
             let o = ordered_after p.view.number p.view.layout enough s.before (first_keys s.before s.since more_keys) (after_in (ordered p.view.layout) (events_of p.view.past)) (each_ordered p.view.layout enough (events_of p.view.past) (first_keys (events_of p.view.past) (events_of on.goes_on.more) keys)) in
             let since_keys = subst (λ (l : List (ℕ × Event)). All (λ t. HasKey t.1) l) r.is_run (later_keys s.before s.since more_keys) in
-            let all = all_astray p.view.layout enough p.view.number t (after_in (after_in (ordered p.view.layout) (events_of p.view.past)) s.before) o r.before (first_keys r.before r.since since_keys) pinned walked strays (ap (λ (l : List Entry). pinned ++ l) r.is_before ∙ sym walking.are) in
+            let all = all_interference p.view.layout enough p.view.number t (after_in (after_in (ordered p.view.layout) (events_of p.view.past)) s.before) o r.before (first_keys r.before r.since since_keys) pinned walked strays (ap (λ (l : List Entry). pinned ++ l) r.is_before ∙ sym walking.are) in
             let run = ap (λ (l : List (ℕ × Event)). number_of (reshapes_of_others p.view.number) (trace_in (after_in (ordered p.view.layout) (events_of p.view.past)) l)) s.is_run in
             let parts = ap (number_of (reshapes_of_others p.view.number)) (trace_in-append (after_in (ordered p.view.layout) (events_of p.view.past)) s.before s.since) ∙ number-append (reshapes_of_others p.view.number) (trace_in (after_in (ordered p.view.layout) (events_of p.view.past)) s.before) (trace_in (after_in (after_in (ordered p.view.layout) (events_of p.view.past)) s.before) s.since) in
             let run' = ap (λ (l : List (ℕ × Event)). number_of (reshapes_of_others p.view.number) (trace_in (after_in (after_in (ordered p.view.layout) (events_of p.view.past)) s.before) l)) r.is_run in

@@ -6,12 +6,12 @@ use Rattle.nm_model.specs.Walks.{Entry}
 use Rattle.nm_steps.specs.Steps.{PassView, IsSamePass, HasSeen, HasSeenAllOf}
 use Rattle.nm_walks.specs.Walks.{IsTooLong}
 use Rattle.nm_busy.specs.Walked.{NearWasBusy, BusyManyMetInterference, BusyNextsMetInterference, BusyPrevsMetInterference}
-use Rattle.nm_busy.proofs.Astray.{Strays, long_astray, strays_longer}
+use Rattle.nm_busy.proofs.WalkInterference.{Strays, long_interference, strays_longer}
 use Rattle.nm_busy.proofs.LostLookups.{was_reshaped}
 use Rattle.nm_busy.proofs.LostPins.{lost_pins_were_moved_past}
-use Rattle.nm_busy.proofs.NearAstray.{nexts_astray, prevs_astray}
+use Rattle.nm_busy.proofs.NearInterference.{nexts_interference, prevs_interference}
 use Rattle.nm_busy.proofs.Parts.{Longer, longer_none, pin_longer}
-use Rattle.nm_busy.proofs.TurnsAstray.{pinned_since, turns_astray}
+use Rattle.nm_busy.proofs.TurnInterference.{pinned_since, turns_interference}
 
 pub busy_many_met_interference : BusyManyMetInterference
 busy_many_met_interference ks zero p q seen_p seen_q enough same on missed = inl refl
@@ -19,7 +19,7 @@ busy_many_met_interference ks (suc t) p q seen_p seen_q enough same on (inl move
 busy_many_met_interference ks (suc t) p q seen_p seen_q enough same on (inr (pinned, walked, epoch, pin, gives, leaves)) = inr (inr (
   gives.1,
   was_reshaped 1 p q seen_p seen_q enough same on pinned walked (pin_longer Sight (suc t) p.view.log pinned epoch pin)
-      (pinned, longer_none pinned pinned refl, turns_astray p.view.layout enough p.view.number ks pinned walked (pinned_since (suc t) p.view.log pinned epoch pin) gives) leaves,
+      (pinned, longer_none pinned pinned refl, turns_interference p.view.layout enough p.view.number ks pinned walked (pinned_since (suc t) p.view.log pinned epoch pin) gives) leaves,
 ))
 
 -- ---- the nearest key
@@ -32,23 +32,23 @@ module _ (tries : ℕ) (p q : PassView) (seen_p : HasSeen p.view) (seen_q : HasS
 
   -- or fewer, and then one was too long
   of_long : (k : ℕ) (mid : List Entry) → Longer pinned mid → IsTooLong p.view.layout k mid walked → NearWasBusy p q tries
-  of_long k mid first long = inl (inr (inr (long.0, was_reshaped 1 p q seen_p seen_q enough same on pinned walked begun (mid, first, long_astray p.view.layout enough p.view.number k mid walked long) leaves)))
+  of_long k mid first long = inl (inr (inr (long.0, was_reshaped 1 p q seen_p seen_q enough same on pinned walked begun (mid, first, long_interference p.view.layout enough p.view.number k mid walked long) leaves)))
 
 pub busy_nexts_met_interference : BusyNextsMetInterference
 busy_nexts_met_interference k zero p q seen_p seen_q enough same on missed = inl (inl refl)
 busy_nexts_met_interference k (suc t) p q seen_p seen_q enough same on (inl moved) = inl (inr (inl (lost_pins_were_moved_past p q seen_p seen_q enough same on Sight refl t moved)))
 busy_nexts_met_interference k (suc t) p q seen_p seen_q enough same on (inr (pinned, walked, epoch, pin, (to, is_key, inl all), leaves)) =
-    of_twos (suc t) p q seen_p seen_q enough same on pinned walked (pin_longer Sight (suc t) p.view.log pinned epoch pin) leaves (nexts_astray p.view.layout enough p.view.number (suc t) k to (omega (arith, is_key)) pinned walked all)
+    of_twos (suc t) p q seen_p seen_q enough same on pinned walked (pin_longer Sight (suc t) p.view.log pinned epoch pin) leaves (nexts_interference p.view.layout enough p.view.number (suc t) k to (omega (arith, is_key)) pinned walked all)
 busy_nexts_met_interference k (suc t) p q seen_p seen_q enough same on (inr (pinned, walked, epoch, pin, (to, is_key, inr (n, mid, few, first, long)), leaves)) =
-    let strays = nexts_astray p.view.layout enough p.view.number n k to (omega (arith, is_key)) pinned mid first in
+    let strays = nexts_interference p.view.layout enough p.view.number n k to (omega (arith, is_key)) pinned mid first in
     of_long (suc t) p q seen_p seen_q enough same on pinned walked (pin_longer Sight (suc t) p.view.log pinned epoch pin) leaves to mid (strays_longer p.view.layout enough p.view.number strays.0 pinned mid strays.2) long
 
 pub busy_prevs_met_interference : BusyPrevsMetInterference
 busy_prevs_met_interference k zero p q seen_p seen_q enough same on missed = inl (inl refl)
 busy_prevs_met_interference k (suc t) p q seen_p seen_q enough same on (inl moved) = inl (inr (inl (lost_pins_were_moved_past p q seen_p seen_q enough same on Sight refl t moved)))
 busy_prevs_met_interference k (suc t) p q seen_p seen_q enough same on (inr (pinned, walked, epoch, pin, (to, is_key, inl all), leaves)) =
-    let strays = prevs_astray p.view.layout enough p.view.number (suc t) k (to + 1) (omega (arith, is_key)) pinned walked all in
+    let strays = prevs_interference p.view.layout enough p.view.number (suc t) k (to + 1) (omega (arith, is_key)) pinned walked all in
     of_twos (suc t) p q seen_p seen_q enough same on pinned walked (pin_longer Sight (suc t) p.view.log pinned epoch pin) leaves (strays.0, strays.1, strays.3)
 busy_prevs_met_interference k (suc t) p q seen_p seen_q enough same on (inr (pinned, walked, epoch, pin, (to, is_key, inr (n, mid, few, first, long)), leaves)) =
-    let strays = prevs_astray p.view.layout enough p.view.number n k (to + 1) (omega (arith, is_key)) pinned mid first in
+    let strays = prevs_interference p.view.layout enough p.view.number n k (to + 1) (omega (arith, is_key)) pinned mid first in
     of_long (suc t) p q seen_p seen_q enough same on pinned walked (pin_longer Sight (suc t) p.view.log pinned epoch pin) leaves to mid (strays_longer p.view.layout enough p.view.number strays.0 pinned mid strays.3) long

@@ -1,4 +1,4 @@
--- A walk that comes by 64 tagged edges, one behind the other, was led astray: in a tree that stays
+-- A walk that comes by 64 tagged edges, one behind the other, met interference: in a tree that stays
 -- so many deletes of other workers would be pending.
 use Rattle.std.proofs.Common.{◌≡◌, ◌≢◌, ℕ, zero, suc, ◌<◌, ◌≤◌, Bool, true, false, cond, List, length, [], ◌∷◌, ◌++◌, append_assoc, refl, sym, ap, subst, ◌∙◌, arith}
 use Rattle.std.specs.Prelude.{Option, Some, All, unwrap_or}
@@ -52,7 +52,7 @@ use Rattle.nm_progress.specs.Moves.{number_of}
 use Rattle.nm_progress.proofs.MoreTries.{Plain, plain_then}
 use Rattle.nm_progress.proofs.Reshapes.{is_reshape, StaysThere, calm_turns, look_there, tag_there}
 use Rattle.nm_progress.proofs.SplitTurns.{ordered_after}
-use Rattle.nm_busy.proofs.Astray.{OnPath, IsRead, walk_path, walk_plain, behind_read, read_there}
+use Rattle.nm_busy.proofs.WalkInterference.{OnPath, IsRead, walk_path, walk_plain, behind_read, read_there}
 use Rattle.nm_busy.proofs.LostPins.{part-append}
 use Rattle.nm_busy.proofs.Parts.{walk_longer, reads_plain}
 use Rattle.nm_busy.proofs.Steady.{IsFor, for_on, plain_steady}

@@ -24,7 +24,7 @@ use Rattle.nm_progress.proofs.LostTries.{later_keys}
 use Rattle.nm_progress.proofs.MoreTries.{Plain, plain_then}
 use Rattle.nm_progress.proofs.Reshapes.{is_reshape, StaysThere, calm_turns}
 use Rattle.nm_progress.proofs.SplitTurns.{ordered_after, number-append}
-use Rattle.nm_busy.proofs.Astray.{SplitPart, split_part, IsAstray, Strays, OnPath, IsRead, walk_path, walk_plain, behind_read, read_there}
+use Rattle.nm_busy.proofs.WalkInterference.{SplitPart, split_part, HasInterference, Strays, OnPath, IsRead, walk_path, walk_plain, behind_read, read_there}
 use Rattle.nm_busy.proofs.Between.{Comes, Ends, Passes, both_null, passes, at_key, none_from, none_up_to}
 use Rattle.nm_busy.proofs.Parts.{Longer, longer_none, longer_then, plain_longer, reads_plain, walk_longer}
 
@@ -131,8 +131,8 @@ module _ (L : Layout) (enough : 5 ≤ L.nodes) (w : ℕ) where
 
   module _ (a b d : ℕ) (low : b ≤ infinity_1) (old mid new : List Entry) where
     -- upwards
-    next_astray : HasNone L d a a old mid → HasNone L a b b mid new → IsAstray L enough w old new
-    next_astray one two = record { plain = plain_then old mid new first last; never = λ c o ts keys calm whole. led c (second d a small old mid new (one.2 d (omega arith) one.0) first last c o ts keys calm whole) }
+    next_interference : HasNone L d a a old mid → HasNone L a b b mid new → HasInterference L enough w old new
+    next_interference one two = record { plain = plain_then old mid new first last; never = λ c o ts keys calm whole. led c (second d a small old mid new (one.2 d (omega arith) one.0) first last c o ts keys calm whole) }
       where
         first : Plain old mid
         first = walk_is_plain L d a a old mid one
@@ -149,8 +149,8 @@ module _ (L : Layout) (enough : 5 ≤ L.nodes) (w : ℕ) where
             none_from L enough s.now s.is_ordered a b s.node q.0 two.0 (none_there L enough w s.now s.is_ordered s.events s.keys s.calm a b b low mid new two [] s.whole) (key s.now.state.memory s.node) s.passes s.key_is q.1 q.2
 
     -- downwards
-    prev_astray : d ≤ infinity_1 → HasNone L b d b old mid → HasNone L a b a mid new → IsAstray L enough w old new
-    prev_astray small one two = record { plain = plain_then old mid new first last; never = λ c o ts keys calm whole. led c (second b b (let less = one.0 in omega (arith, small, less)) old mid new (one.2 b (omega arith) one.0) first last c o ts keys calm whole) }
+    prev_interference : d ≤ infinity_1 → HasNone L b d b old mid → HasNone L a b a mid new → HasInterference L enough w old new
+    prev_interference small one two = record { plain = plain_then old mid new first last; never = λ c o ts keys calm whole. led c (second b b (let less = one.0 in omega (arith, small, less)) old mid new (one.2 b (omega arith) one.0) first last c o ts keys calm whole) }
       where
         first : Plain old mid
         first = walk_is_plain L b d b old mid one
@@ -170,23 +170,23 @@ module _ (L : Layout) (enough : 5 ≤ L.nodes) (w : ℕ) where
   none_longer a b router old new has = plain_longer old new (walk_is_plain L a b router old new has)
 
   -- of each two of them
-  pub nexts_astray : (n k to : ℕ) → to ≤ infinity_1 → (old new : List Entry) → HaveNone L n k to old new → (m : ℕ) × (n ≤ 2 * m + 1) × Strays L enough w m old new
-  nexts_astray zero k to low old new h = (0, omega arith, longer_none old new h.1)
-  nexts_astray (suc zero) k to low old new h = (0, omega arith, longer_then old h.0 new (longer_none old h.0 h.2.1) (none_longer h.1 to to h.0 new h.3))
-  nexts_astray (suc (suc n)) k to low old new (mid, from, (first, before, earlier, one), two) = more (nexts_astray n k before (let less = one.0 in let wide = two.0 in omega (arith, low, less, wide)) old first earlier)
+  pub nexts_interference : (n k to : ℕ) → to ≤ infinity_1 → (old new : List Entry) → HaveNone L n k to old new → (m : ℕ) × (n ≤ 2 * m + 1) × Strays L enough w m old new
+  nexts_interference zero k to low old new h = (0, omega arith, longer_none old new h.1)
+  nexts_interference (suc zero) k to low old new h = (0, omega arith, longer_then old h.0 new (longer_none old h.0 h.2.1) (none_longer h.1 to to h.0 new h.3))
+  nexts_interference (suc (suc n)) k to low old new (mid, from, (first, before, earlier, one), two) = more (nexts_interference n k before (let less = one.0 in let wide = two.0 in omega (arith, low, less, wide)) old first earlier)
     where
       more : (m : ℕ) × (n ≤ 2 * m + 1) × Strays L enough w m old first → (m : ℕ) × (suc (suc n) ≤ 2 * m + 1) × Strays L enough w m old new
-      more (m, half, strays) = (suc m, omega (arith, half), (first, strays, next_astray from to before low first mid new one two))
+      more (m, half, strays) = (suc m, omega (arith, half), (first, strays, next_interference from to before low first mid new one two))
 
-  pub prevs_astray : (n k to : ℕ) → k + 1 ≤ infinity_1 → (old new : List Entry) → HaveNoneBack L n k to old new → (m : ℕ) × (n ≤ 2 * m + 1) × (to ≤ k + 1) × Strays L enough w m old new
-  prevs_astray zero k to low old new h = (0, omega arith, (let is = h.0 in omega (arith, is)), longer_none old new h.1)
-  prevs_astray (suc zero) k to low old new h = (0, omega arith, (let is = h.2.0 in let less = h.3.0 in omega (arith, is, less)), longer_then old h.0 new (longer_none old h.0 h.2.1) (none_longer to h.1 to h.0 new h.3))
-  prevs_astray (suc (suc n)) k to low old new (mid, from, (first, before, earlier, one), two) = more (prevs_astray n k before low old first earlier)
+  pub prevs_interference : (n k to : ℕ) → k + 1 ≤ infinity_1 → (old new : List Entry) → HaveNoneBack L n k to old new → (m : ℕ) × (n ≤ 2 * m + 1) × (to ≤ k + 1) × Strays L enough w m old new
+  prevs_interference zero k to low old new h = (0, omega arith, (let is = h.0 in omega (arith, is)), longer_none old new h.1)
+  prevs_interference (suc zero) k to low old new h = (0, omega arith, (let is = h.2.0 in let less = h.3.0 in omega (arith, is, less)), longer_then old h.0 new (longer_none old h.0 h.2.1) (none_longer to h.1 to h.0 new h.3))
+  prevs_interference (suc (suc n)) k to low old new (mid, from, (first, before, earlier, one), two) = more (prevs_interference n k before low old first earlier)
     where
       more : (m : ℕ) × (n ≤ 2 * m + 1) × (before ≤ k + 1) × Strays L enough w m old first → (m : ℕ) × (suc (suc n) ≤ 2 * m + 1) × (to ≤ k + 1) × Strays L enough w m old new
       more (m, half, high, strays) = (
         suc m,
         omega (arith, half),
         (let less = one.0 in let wide = two.0 in omega (arith, high, less, wide)),
-        (first, strays, prev_astray to from before (let less = one.0 in omega (arith, low, high, less)) first mid new (omega (arith, low, high)) one two),
+        (first, strays, prev_interference to from before (let less = one.0 in omega (arith, low, high, less)) first mid new (omega (arith, low, high)) one two),
       )

@@ -1,4 +1,4 @@
--- A walk among walks that go on in turns, as long as there are slots, was led astray.
+-- A walk among walks that go on in turns, as long as there are slots, met interference.
 use Rattle.std.proofs.Common.{◌≡◌, ◌≢◌, ℕ, suc, ◌+◌, ◌*◌, ◌≤◌, true, false, List, length, [], ◌∷◌, ◌++◌, append_assoc, refl, sym, ap, subst, ◌∙◌, arith, true≢false}
 use Rattle.std.specs.Prelude.{All}
 use Rattle.std.specs.List.{list_all, list_any}
@@ -30,7 +30,7 @@ use Rattle.nm_walks.specs.AddedLooks.{is_look}
 use Rattle.nm_progress.specs.Moves.{number_of}
 use Rattle.nm_progress.proofs.MoreTries.{is_loud}
 use Rattle.nm_progress.proofs.Reshapes.{is_reshape, look_there, long_path}
-use Rattle.nm_busy.proofs.Astray.{IsAstray}
+use Rattle.nm_busy.proofs.WalkInterference.{HasInterference}
 
 -- ---- an entry of a part is one of the whole
 
@@ -130,8 +130,8 @@ module _ (L : Layout) (enough : 5 ≤ L.nodes) (w : ℕ) (c : Configuration) (o 
 
 -- ---- where they give up
 
-pub turns_astray : (L : Layout) (enough : 5 ≤ L.nodes) (w : ℕ) (ks : List ℕ) (old new : List Entry) → since_pin [] old ≡ [] → GiveUp L ks old new → IsAstray L enough w old new
-turns_astray L enough w ks old new none (added, plain, k, slot, n, among, passed, all) = record {
+pub turns_interference : (L : Layout) (enough : 5 ≤ L.nodes) (w : ℕ) (ks : List ℕ) (old new : List Entry) → since_pin [] old ≡ [] → GiveUp L ks old new → HasInterference L enough w old new
+turns_interference L enough w ks old new none (added, plain, k, slot, n, among, passed, all) = record {
   plain = record { entries = added.looks; are = added.grown; quiet = quiet_looks added.looks added.only };
   never = λ c o ts keys calm whole. not_so_long L enough w c o ts keys calm k n slot passed.2.looks passed.0 passed.1 passed.2.leads
       (subst (IsPart passed.2.looks) (ap (since_pin []) added.grown ∙ (since_pin-append [] old added.looks ∙ (ap (λ (l : List Entry). since_pin l added.looks) none ∙ (looks_since [] added.looks added.only ∙ append_cancel_left old _ _ (sym added.grown ∙ sym whole))))) passed.2.is_part) passed.3 all;

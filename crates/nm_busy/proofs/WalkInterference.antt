@@ -1,4 +1,4 @@
--- A walk that is as long as there are slots was led astray by a link or a splice of another worker.
+-- A walk that is as long as there are slots met interference by a link or a splice of another worker.
 use Rattle.std.proofs.Common.{◌≡◌, ◌≢◌, ℕ, zero, suc, ◌+◌, ◌<◌, ◌≤◌, Bool, true, false, ◌||◌, List, length, [], ◌∷◌, ◌++◌, append_assoc, refl, sym, ap, subst, ◌∙◌, arith}
 use Rattle.std.specs.Prelude.{Ok, All}
 use Rattle.std.specs.List.{list_any}
@@ -194,14 +194,14 @@ lost_longer M k (suc t) old new h = longer_then old h.0 new (lost_longer M k t o
 module _ (L : Layout) (enough : 5 ≤ L.nodes) (w : ℕ) where
   -- entries that change no edge, as the worker can add them only where somebody links or cuts off a
   -- node meanwhile
-  pub record IsAstray (old new : List Entry) : Type 0 where
+  pub record HasInterference (old new : List Entry) : Type 0 where
     pub plain : Plain old new
     pub never : (c : Configuration) → IsOrdered L c → (ts : List (ℕ × Event)) → All (λ t. HasKey t.1) ts → number_of is_reshape (trace_in c ts) ≡ 0 → old ++ part_of w (trace_in c ts) ≡ new → ⊥
 
   -- so many such parts, one behind the other
   abbrev pub Strays : ℕ → List Entry → List Entry → Type 0
   Strays zero old new = Longer old new
-  Strays (suc t) old new = (mid : List Entry) × Strays t old mid × IsAstray mid new
+  Strays (suc t) old new = (mid : List Entry) × Strays t old mid × HasInterference mid new
 
   pub strays_longer : (t : ℕ) (old new : List Entry) → Strays t old new → Longer old new
   strays_longer zero old new h = h
@@ -218,12 +218,12 @@ module _ (L : Layout) (enough : 5 ≤ L.nodes) (w : ℕ) where
       by zero none = absurd (never (nobody w (trace_in c ts) (none_of_log w (λ (e : Entry). reshapes e.0 (Ok e.1)) (trace_in c ts) (quiet_shape (part_of w (trace_in c ts)) quiet)) ∙ none))
       by (suc n) some = omega (arith, some)
 
-  pub one_astray : (c : Configuration) (o : IsOrdered L c) (ts : List (ℕ × Event)) (keys : All (λ t. HasKey t.1) ts) (old new : List Entry) → IsAstray old new → old ++ part_of w (trace_in c ts) ≡ new → 1 ≤ number_of (reshapes_of_others w) (trace_in c ts)
-  one_astray c o ts keys old new astray whole = by_others c ts old new astray.plain (λ calm. astray.never c o ts keys calm whole) whole
+  pub one_interference : (c : Configuration) (o : IsOrdered L c) (ts : List (ℕ × Event)) (keys : All (λ t. HasKey t.1) ts) (old new : List Entry) → HasInterference old new → old ++ part_of w (trace_in c ts) ≡ new → 1 ≤ number_of (reshapes_of_others w) (trace_in c ts)
+  one_interference c o ts keys old new interference whole = by_others c ts old new interference.plain (λ calm. interference.never c o ts keys calm whole) whole
 
-  pub all_astray : (t : ℕ) (c : Configuration) → IsOrdered L c → (ts : List (ℕ × Event)) → All (λ t. HasKey t.1) ts → (old new : List Entry) → Strays t old new → old ++ part_of w (trace_in c ts) ≡ new → t ≤ number_of (reshapes_of_others w) (trace_in c ts)
-  all_astray zero c o ts keys old new strays whole = omega arith
-  all_astray (suc t) c o ts keys old new (mid, strays, last) whole = counted (split_part w before.entries c ts last.plain.entries part) (all_astray t c o)
+  pub all_interference : (t : ℕ) (c : Configuration) → IsOrdered L c → (ts : List (ℕ × Event)) → All (λ t. HasKey t.1) ts → (old new : List Entry) → Strays t old new → old ++ part_of w (trace_in c ts) ≡ new → t ≤ number_of (reshapes_of_others w) (trace_in c ts)
+  all_interference zero c o ts keys old new strays whole = omega arith
+  all_interference (suc t) c o ts keys old new (mid, strays, last) whole = counted (split_part w before.entries c ts last.plain.entries part) (all_interference t c o)
     where
       before : Longer old mid
       before = strays_longer t old mid strays
@@ -239,15 +239,15 @@ module _ (L : Layout) (enough : 5 ≤ L.nodes) (w : ℕ) where
           let first = first_keys s.before s.since all in
           let later = later_keys s.before s.since all in
           let most = rest s.before first old mid strays (ap (λ (l : List Entry). old ++ l) s.is_before ∙ sym before.are) in
-          let one = one_astray (after_in c s.before) (ordered_after w L enough s.before first c o) s.since later mid new last (ap (λ (l : List Entry). mid ++ l) s.is_since ∙ sym last.plain.are) in
+          let one = one_interference (after_in c s.before) (ordered_after w L enough s.before first c o) s.since later mid new last (ap (λ (l : List Entry). mid ++ l) s.is_since ∙ sym last.plain.are) in
           let run = ap (λ (l : List (ℕ × Event)). number_of (reshapes_of_others w) (trace_in c l)) s.is_run in
           let parts = ap (number_of (reshapes_of_others w)) (trace_in-append c s.before s.since) ∙ number-append (reshapes_of_others w) (trace_in c s.before) (trace_in (after_in c s.before) s.since) in
           omega (arith, most, one, run, parts)
 
   -- a walk that is too long is such a part
-  pub long_astray : (k : ℕ) (old new : List Entry) → IsTooLong L k old new → IsAstray old new
-  long_astray k old new long = record { plain = walk_plain k long.1 old new long.2 long.3 long.4; never = λ c o ts keys calm whole. not_too_long L enough w c o ts keys calm k old new long whole }
+  pub long_interference : (k : ℕ) (old new : List Entry) → IsTooLong L k old new → HasInterference old new
+  long_interference k old new long = record { plain = walk_plain k long.1 old new long.2 long.3 long.4; never = λ c o ts keys calm whole. not_too_long L enough w c o ts keys calm k old new long whole }
 
   pub lost_strays : (k t : ℕ) (old new : List Entry) → LostWalks L k t old new → Strays t old new
   lost_strays k zero old new is = lost_longer L k zero old new is
-  lost_strays k (suc t) old new h = (h.0, lost_strays k t old h.0 h.1, long_astray k h.0 new h.2)
+  lost_strays k (suc t) old new h = (h.0, lost_strays k t old h.0 h.1, long_interference k h.0 new h.2)
