@@ -16,7 +16,7 @@ enum { THREADS = 4, APART = 8, WORKERS = THREADS * APART, KEYS = 5000, NODES = 6
 static nm_handle set = NM_CLOSED_HANDLE;
 static atomic_uint_fast64_t left[THREADS], started, busy;
 
-/* A thread that finds another one at the mailbox calls again. */
+/* A thread that finds another one at the stamp calls again. */
 static void post(nm_handle *worker, uint64_t wanted) {
     uint64_t inserted = 0, removed = 0;
     nm_outcome told;

@@ -6,7 +6,7 @@ use thiserror::Error;
 pub enum Fault {
     /// The caller has pinned the worker, and has not unpinned it. Nothing has changed, and no step
     /// was made.
-    #[error("the worker is held")]
+    #[error("the worker is pinned: unpin it first")]
     Pinned,
     /// The tree's call failed.
     #[error("{0}")]
@@ -56,7 +56,7 @@ fn whoever(behind: &Option<u32>) -> Holder {
 #[derive(Clone, Copy, Debug, Error, PartialEq, Eq)]
 pub enum PinFault {
     /// The caller has pinned the worker already. Nothing has changed, and no step was made.
-    #[error("the worker is held")]
+    #[error("the worker is pinned: unpin it first")]
     Pinned,
     /// The tree's call did not pin it.
     #[error("{0}")]
@@ -65,7 +65,7 @@ pub enum PinFault {
 
 /// The caller has not pinned the worker. Nothing has changed, and no step was made.
 #[derive(Clone, Copy, Debug, Error, PartialEq, Eq)]
-#[error("the worker is not held")]
+#[error("the worker is not pinned")]
 pub struct NotPinned;
 
 /// Why a set gave out no member.
@@ -95,7 +95,7 @@ pub enum ObserveFault {
     #[error("there is no worker of that number")]
     Number,
     /// Another member is publishing or observing that stamp at this moment.
-    #[error("another member is at the mailbox")]
+    #[error("another member is publishing or observing that stamp")]
     Busy,
 }
 
@@ -106,7 +106,7 @@ pub enum ResignReason {
     #[error("there is no worker of that number")]
     Number,
     /// A member has that worker (the heir itself or another one), or the worker has resigned.
-    #[error("the worker is taken")]
+    #[error("the worker is attached")]
     Attached,
     /// The worker was returned with a pending key.
     #[error("the leaver has a pending key")]
@@ -120,7 +120,7 @@ pub enum CloseReason {
     #[error("a member is not closed")]
     Attached,
     /// Fewer workers were returned than the tree has. Workers that resigned count with their heirs.
-    #[error("{given} of {made} workers are at home")]
+    #[error("{given} of {made} workers were returned")]
     NotAll { given: u32, made: u32 },
     /// A growth was refused.
     #[error("there is no memory for the report")]
