@@ -29,7 +29,7 @@ use Rattle.nm_model.specs.Histories.{AnswerStands, Called, IsHistory, call_begun
 use Rattle.nm_theorem.proofs.HistoriesOfRuns.{called_is}
 use Rattle.nm_theorem.proofs.Runs.{enough_of}
 use Rattle.nm_steps.specs.Rules.{Extends}
-use Rattle.nm_busy.specs.Pending.{leaf_after}
+use Rattle.nm_progress.specs.Pending.{leaf_after}
 use Rattle.nm_tree.proofs.JoinsAlone.{told_in_part}
 use Rattle.nm_tree.proofs.Taking.{no_shorter}
 use Rattle.nm_set.specs.Posts.{HasHeardAll, HasWonNothing}

@@ -10,16 +10,16 @@ use Rattle.nm_steps.specs.Rules.{Extends}
 use Rattle.nm_steps.specs.Steps.{TreeView, PassView, HasSeen}
 use Rattle.nm_steps.proofs.Growing.{goes_on_through}
 use Rattle.nm_walks.specs.WonCounts.{won_links, won_flags}
-use Rattle.nm_busy.specs.Pending.{leaf_after}
+use Rattle.nm_progress.specs.Pending.{leaf_after}
 use Rattle.nm_tree.specs.Running.{HasSeenTurns}
 use Rattle.nm_tree.specs.Workers.{WorkerView, IsBetweenCalls}
 use Rattle.nm_tree.proofs.FlaggedSeen.{none_seen}
-use Rattle.nm_set.specs.declared.fault.Fault.TheVariants as fault
+use Rattle.nm_calls.specs.declared.fault.CallFault.TheVariants as fault
 use Rattle.nm_set.specs.declared.posting.Stamp.{Stamp}
-use Rattle.nm_set.specs.declared.tended.Options.{Options}
+use Rattle.nm_set.specs.declared.managed.Options.{Options}
 use Rattle.nm_set.specs.Posts.{HasHeardAll, HasTally, IsTallyOf, LettersAreInOrder}
-use Rattle.nm_set.specs.Tended.{SaysTended}
-use Rattle.nm_set.proofs.Tending.{is_no_fault}
+use Rattle.nm_set.specs.Managed.{SaysManaged}
+use Rattle.nm_set.proofs.Managing.{is_no_fault}
 use Rattle.nm_callers.specs.Letters.{HasLookedBehind, HasWritten}
 use Rattle.nm_callers.specs.Meanwhile.{NoneDeleted}
 use Rattle.nm_callers.proofs.InsertMoments.{at_link, heard_of}
@@ -27,14 +27,14 @@ use Rattle.nm_callers.proofs.TwoAnswers.{inserted_before_found}
 
 -- ---- the writer
 
-pub has_written : (b : TreeView) (h : Options) (k : ℕ) (w z : WorkerView) (r : Option Stamp) → SaysTended Insert b h k w z (Ok true) → HasSeen z.pass.view → IsBetweenCalls z → IfSome r (IsTallyOf z) → IfSome r (HasWritten k w z)
+pub has_written : (b : TreeView) (h : Options) (k : ℕ) (w z : WorkerView) (r : Option Stamp) → SaysManaged Insert b h k w z (Ok true) → HasSeen z.pass.view → IsBetweenCalls z → IfSome r (IsTallyOf z) → IfSome r (HasWritten k w z)
 has_written b h k w z None did seen between tally = tt
 has_written b h k w z (Some p) (inl (held, is, same)) seen between tally = is_no_fault true fault.Pinned is
 has_written b h k w z (Some p) (inr (free, t)) seen between tally = record {
-  same = t.on.same;
-  moment = t.moment;
-  won = t.won;
-  rests = none_seen z.pass z.pending z.held seen between.stands t.left;
+  same = t.answers.on.same;
+  moment = t.answers.moment;
+  won = t.answers.won;
+  rests = none_seen z.pass z.pending z.held seen between.stands t.answers.left;
   tally = tally;
 }
 

@@ -21,9 +21,9 @@ use Rattle.nm_tree.specs.Running.{HasSeenTurns, wins}
 use Rattle.nm_tree.specs.Workers.{WorkerView}
 use Rattle.nm_tree.proofs.TurnTotals.{wins_links}
 use Rattle.nm_set.specs.Seats.{IsNewMember, IsOwn, MemberView}
-use Rattle.nm_set.specs.declared.fault.Fault.{Fault}
-use Rattle.nm_set.specs.declared.tended.Options.{Options}
-use Rattle.nm_set.specs.Tended.{SaysTended}
+use Rattle.nm_calls.specs.declared.fault.CallFault.{CallFault}
+use Rattle.nm_set.specs.declared.managed.Options.{Options}
+use Rattle.nm_set.specs.Managed.{SaysManaged}
 use Rattle.nm_callers.specs.Meanwhile.{NoneInserted}
 use Rattle.nm_callers.proofs.Answered.{each_ok}
 use Rattle.nm_callers.proofs.TwoAnswers.{never_inserted_then_missed}
@@ -55,12 +55,12 @@ finds_nothing p z k seen one links answer look =
     never_inserted_then_missed v.layout p.view.past v.past v.past v.number k answer look (goes_on_itself v.past) look.history missing
 
 -- the only member of a set, which had done nothing, has looked a key up
-pub only_finds_nothing : (b d : TreeView) (h : Options) (k : ℕ) (m : MemberView) (z : WorkerView) (r : Result Bool Fault) → (n : ℕ) × IsNewMember m.tree m.worker.fit n m → m.tree.layout.workers ≡ 1 → d ≡ m.tree → IsOwn d z → HasSeenTurns z.pass.view
-    → SaysTended Has b h k m.worker z r → IfOk r (λ answer. answer ≡ false)
-only_finds_nothing b d h k m z r new one same own seen (inl (held, is, still)) = subst (λ (q : Result Bool Fault). IfOk q (λ answer. answer ≡ false)) (sym is) tt
+pub only_finds_nothing : (b d : TreeView) (h : Options) (k : ℕ) (m : MemberView) (z : WorkerView) (r : Result Bool CallFault) → (n : ℕ) × IsNewMember m.tree m.worker.fit n m → m.tree.layout.workers ≡ 1 → d ≡ m.tree → IsOwn d z → HasSeenTurns z.pass.view
+    → SaysManaged Has b h k m.worker z r → IfOk r (λ answer. answer ≡ false)
+only_finds_nothing b d h k m z r new one same own seen (inl (held, is, still)) = subst (λ (q : Result Bool CallFault). IfOk q (λ answer. answer ≡ false)) (sym is) tt
 only_finds_nothing b d h k m z r new one same own seen (inr (free, t)) =
     let no_links = ap (λ (v : View). won_links v.log) new.1.new.1 in
-    let links = t.won.links in
+    let links = t.answers.won.links in
     let workers : z.pass.view.layout.workers ≡ 1 = ap (λ (l : Layout). l.workers) own.own.layout ∙ (ap (λ (c : TreeView). c.layout.workers) same ∙ one) in
     each_ok r (AnswerHasMoment m.worker.pass z.pass Has k) (λ (answer : Bool). answer ≡ false)
-    (finds_nothing m.worker.pass z.pass k seen workers (omega (arith, links, no_links))) t.moment
+    (finds_nothing m.worker.pass z.pass k seen workers (omega (arith, links, no_links))) t.answers.moment

@@ -8,8 +8,8 @@ use Rattle.nm_model.specs.Walks.{Entry}
 use Rattle.nm_epoch.specs.Tries.{IsMoved}
 use Rattle.nm_calls.specs.Bounds.{IsWithinBound}
 use Rattle.nm_calls.specs.Calls.{HasMissed}
-use Rattle.nm_tree.specs.declared.fault.CallFault.{CallFault}
-use Rattle.nm_tree.specs.declared.fault.CallFault.TheVariants as fault
+use Rattle.nm_calls.specs.declared.fault.CallFault.{CallFault}
+use Rattle.nm_calls.specs.declared.fault.CallFault.TheVariants as fault
 use Rattle.nm_tree.specs.Answers.{HasAnswered}
 use Rattle.nm_tree.specs.Workers.{WorkerView}
 

@@ -8,17 +8,17 @@ use Rattle.nm_steps.specs.Steps.{TreeView}
 use Rattle.nm_walks.specs.WonCounts.{won_flags, won_links}
 use Rattle.nm_calls.specs.Won.{HasWon}
 use Rattle.nm_tree.specs.Workers.{WorkerView}
-use Rattle.nm_set.specs.declared.fault.Fault.{Fault}
-use Rattle.nm_set.specs.declared.fault.Fault.TheVariants as fault
-use Rattle.nm_set.specs.declared.tended.Options.{Options}
+use Rattle.nm_calls.specs.declared.fault.CallFault.{CallFault}
+use Rattle.nm_calls.specs.declared.fault.CallFault.TheVariants as fault
+use Rattle.nm_set.specs.declared.managed.Options.{Options}
 use Rattle.nm_set.specs.Seats.{IsNewMember, MemberView}
-use Rattle.nm_set.specs.Popping.{SaysPopTended}
-use Rattle.nm_set.specs.Tended.{GoesOnTended, SaysTended}
-use Rattle.nm_set.proofs.Tending.{follows_then, is_no_fault}
+use Rattle.nm_set.specs.Popping.{SaysManagedPop}
+use Rattle.nm_set.specs.Managed.{GoesOn, SaysManaged}
+use Rattle.nm_set.proofs.Managing.{follows_then, is_no_fault}
 use Rattle.nm_callers.specs.Queues.{HasWorked}
 
 -- one call more
-works_on : (w x z : WorkerView) (n t m d most : ℕ) → HasWorked w x n t → GoesOnTended most x z → HasWon x.pass.view.log z.pass.view.log m d → z.pending ≡ None → HasWorked w z (n + m) (t + d)
+works_on : (w x z : WorkerView) (n t m d most : ℕ) → HasWorked w x n t → GoesOn most x z → HasWon x.pass.view.log z.pass.view.log m d → z.pending ≡ None → HasWorked w z (n + m) (t + d)
 works_on w x z n t m d most done on won settled =
     let both = follows_then w.pass x.pass z.pass (record { same = done.same; past = done.past }) (record { same = on.same; past = on.past }) in
     let links = done.won.links in
@@ -32,25 +32,25 @@ works_on w x z n t m d most done on won settled =
       rest = record { free = on.held; settled = settled };
     }
 
-pub adds_one : (b : TreeView) (h : Options) (k : ℕ) (w x z : WorkerView) (n : ℕ) → HasWorked w x n 0 → SaysTended Insert b h k x z (Ok true) → HasWorked w z (n + 1) 0
+pub adds_one : (b : TreeView) (h : Options) (k : ℕ) (w x z : WorkerView) (n : ℕ) → HasWorked w x n 0 → SaysManaged Insert b h k x z (Ok true) → HasWorked w z (n + 1) 0
 adds_one b h k w x z n done (inl held) = is_no_fault true fault.Pinned held.1
-adds_one b h k w x z n done (inr did) = works_on w x z n 0 1 0 _ done did.1.on did.1.won did.1.left
+adds_one b h k w x z n done (inr did) = works_on w x z n 0 1 0 _ done did.1.answers.on did.1.answers.won did.1.answers.left
 
-pub adds_none : (b : TreeView) (h : Options) (k : ℕ) (w x z : WorkerView) (n : ℕ) → HasWorked w x n 0 → SaysTended Insert b h k x z (Ok false) → HasWorked w z n 0
+pub adds_none : (b : TreeView) (h : Options) (k : ℕ) (w x z : WorkerView) (n : ℕ) → HasWorked w x n 0 → SaysManaged Insert b h k x z (Ok false) → HasWorked w z n 0
 adds_none b h k w x z n done (inl held) = is_no_fault false fault.Pinned held.1
 adds_none b h k w x z n done (inr did) =
-    let more = works_on w x z n 0 0 0 _ done did.1.on did.1.won did.1.left in
+    let more = works_on w x z n 0 0 0 _ done did.1.answers.on did.1.answers.won did.1.answers.left in
     let links = more.won.links in
     record { same = more.same; past = more.past; won = record { links = omega (arith, links); flags = more.won.flags }; rest = more.rest }
 
-told_held : {B : Type 0} (found : Option ℕ) → ◌≡◌ {A = Result (Option ℕ) Fault} (Ok found) (Err fault.Pinned) → B
-told_held found is = absurd (true≢false (ap (λ (r : Result (Option ℕ) Fault). is_ok r) is))
+told_held : {B : Type 0} (found : Option ℕ) → ◌≡◌ {A = Result (Option ℕ) CallFault} (Ok found) (Err fault.Pinned) → B
+told_held found is = absurd (true≢false (ap (λ (r : Result (Option ℕ) CallFault). is_ok r) is))
 
-pub takes_one : (b : TreeView) (h : Options) (k : ℕ) (w x z : WorkerView) (n : ℕ) → HasWorked w x 0 n → SaysPopTended ◌<◌ b h x z (Ok (Some k)) → HasWorked w z 0 (n + 1)
+pub takes_one : (b : TreeView) (h : Options) (k : ℕ) (w x z : WorkerView) (n : ℕ) → HasWorked w x 0 n → SaysManagedPop ◌<◌ b h x z (Ok (Some k)) → HasWorked w z 0 (n + 1)
 takes_one b h k w x z n done (inl held) = told_held (Some k) held.1
 takes_one b h k w x z n done (inr did) = works_on w x z 0 n 0 1 _ done did.1.on did.1.won did.1.left
 
-pub takes_none : (b : TreeView) (h : Options) (w x z : WorkerView) (n : ℕ) → HasWorked w x 0 n → SaysPopTended ◌<◌ b h x z (Ok None) → HasWorked w z 0 n
+pub takes_none : (b : TreeView) (h : Options) (w x z : WorkerView) (n : ℕ) → HasWorked w x 0 n → SaysManagedPop ◌<◌ b h x z (Ok None) → HasWorked w z 0 n
 takes_none b h w x z n done (inl held) = told_held None held.1
 takes_none b h w x z n done (inr did) =
     let more = works_on w x z 0 n 0 0 _ done did.1.on did.1.won did.1.left in

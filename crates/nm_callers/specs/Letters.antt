@@ -3,7 +3,7 @@
 use Rattle.std.specs.Prelude.{◌≡◌, ℕ, ◌≤◌, Bool, true, None}
 use Rattle.nm_model.specs.declared.event.Op.TheVariants.{Has, Insert}
 use Rattle.nm_steps.specs.Steps.{PassView, IsSamePass, HasSeenAllOf}
-use Rattle.nm_busy.specs.Pending.{leaf_after}
+use Rattle.nm_progress.specs.Pending.{leaf_after}
 use Rattle.nm_calls.specs.Moments.{AnswerHasMoment}
 use Rattle.nm_calls.specs.Won.{HasWon}
 use Rattle.nm_set.specs.declared.posting.Stamp.{Stamp}

@@ -1,8 +1,8 @@
 //! Calls of a worker during which no other worker makes a transition, proved from the clauses of
 //! `nm_tree` alone.
 ghost use Rattle.std.specs.Prelude.{◌≤◌, IsErrOf};
-ghost use Rattle.nm_busy.specs.Alone.{IsAlone};
-ghost use Rattle.nm_busy.specs.Pending.{NonePends};
+ghost use Rattle.nm_progress.specs.Alone.{IsAlone};
+ghost use Rattle.nm_progress.specs.Pending.{NonePends};
 ghost use Rattle.nm_tree.specs.Calls.{MayCall};
 
 use nm_edge::Key;

@@ -1,8 +1,9 @@
 //! Calls of a tree under contention: if one is busy, others made progress meanwhile.
 ghost use Rattle.std.specs.Prelude.{◌≡◌, true, IsErrOf};
+ghost use Rattle.nm_model.specs.declared.event.Op.TheVariants.{Has};
 ghost use Rattle.nm_tree.specs.Calls.{MayCall};
-ghost use Rattle.nm_set.specs.Tended.{LookupInterference};
-ghost use Rattle.nm_callers.specs.Beside.{GotOn, LookupInterferenceByHalf};
+ghost use Rattle.nm_set.specs.Managed.{MetInterference};
+ghost use Rattle.nm_callers.specs.Beside.{GotOn, MetInterferenceByHalf};
 
 use nm_edge::Key;
 use nm_tree::{CallFault, Query, Tree, Worker};
@@ -36,7 +37,7 @@ pub fn delete_beside(
 }
 
 /// Looks up several keys in a radix tree. Proved: it is busy only if others interfered
-/// (`LookupInterference`) at least as often as the call had tries.
+/// (`MetInterference`) at least as often as the call had tries.
 pub fn look_many_beside(
     tree: &Tree,
     worker: &mut Worker,
@@ -45,13 +46,13 @@ pub fn look_many_beside(
 ) -> Result<(), CallFault>
     requires may { MayCall tree.now worker.old }
     requires radix { tree.now.layout.radix ≡ true }
-    ensures { IsErrOf result CallFault.Busy → LookupInterference worker.old.pass worker.new.pass tries }
+    ensures { IsErrOf result CallFault.Busy → MetInterference Has worker.old.pass worker.new.pass tries }
 {
     tree.has_many(worker, queries, tries)
 }
 
 /// Finds the next key in a radix tree. Proved: it is busy only if others interfered
-/// (`LookupInterference`) at least half as often as the call had tries.
+/// (`MetInterference`) at least half as often as the call had tries.
 pub fn next_beside(
     tree: &Tree,
     worker: &mut Worker,
@@ -61,13 +62,13 @@ pub fn next_beside(
     requires may { MayCall tree.now worker.old }
     requires radix { tree.now.layout.radix ≡ true }
     ensures { IsErrOf result CallFault.Busy
-        → LookupInterferenceByHalf worker.old.pass worker.new.pass tries }
+        → MetInterferenceByHalf worker.old.pass worker.new.pass tries }
 {
     tree.next(worker, key, tries)
 }
 
 /// Finds the previous key in a radix tree. Proved: it is busy only if others interfered
-/// (`LookupInterference`) at least half as often as the call had tries.
+/// (`MetInterference`) at least half as often as the call had tries.
 pub fn prev_beside(
     tree: &Tree,
     worker: &mut Worker,
@@ -77,7 +78,7 @@ pub fn prev_beside(
     requires may { MayCall tree.now worker.old }
     requires radix { tree.now.layout.radix ≡ true }
     ensures { IsErrOf result CallFault.Busy
-        → LookupInterferenceByHalf worker.old.pass worker.new.pass tries }
+        → MetInterferenceByHalf worker.old.pass worker.new.pass tries }
 {
     tree.prev(worker, key, tries)
 }

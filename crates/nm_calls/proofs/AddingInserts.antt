@@ -11,8 +11,8 @@ use Rattle.nm_model.specs.Walks.{Entry}
 use Rattle.nm_epoch.specs.Tries.{IsPinnedBy}
 use Rattle.nm_edge.specs.declared.placement.Fit.{Fit}
 use Rattle.nm_walks.specs.declared.making.NewNodes.{NewNodes}
-use Rattle.nm_calls.specs.declared.inserting.NotInserted.{NotInserted}
-use Rattle.nm_calls.specs.declared.inserting.NotInserted.TheVariants as fault
+use Rattle.nm_calls.specs.declared.fault.CallFault.{CallFault}
+use Rattle.nm_calls.specs.declared.fault.CallFault.TheVariants as fault
 use Rattle.nm_calls.specs.declared.inserting.Attempt.{Attempt}
 use Rattle.nm_calls.specs.declared.inserting.Attempt.TheVariants as attempt
 use Rattle.nm_walks.specs.declared.seek_record.ChainEdge.{ChainEdge}
@@ -141,7 +141,7 @@ ends_add fit L tries k g a old new h =
     let most_of = mul_below h.0 tries (most (reach L)) h.3 in
     (above.0 + here.0, omega (arith, x, y, most_of), (above.2.0 + here.2.0, adds_after old h.2 new above.2.1 here.2.1))
 
-pub finishes_add : (fit : Fit) (L : Layout) (tries k : ℕ) (old new : List Entry) (r : Result Bool NotInserted) → Finishes fit L tries k old new r → AddsLinks (links_of_insert r) (tries * most (reach L) + (6 * L.nodes + 4)) old new
+pub finishes_add : (fit : Fit) (L : Layout) (tries k : ℕ) (old new : List Entry) (r : Result Bool CallFault) → Finishes fit L tries k old new r → AddsLinks (links_of_insert r) (tries * most (reach L) + (6 * L.nodes + 4)) old new
 finishes_add fit L tries k old new (Ok true) h =
     let part = ends_add fit L tries k None attempt.Linked old h.0 h.1 in
     let few = part.1 in
@@ -163,14 +163,20 @@ finishes_add fit L tries k old new (Err fault.NoMemory) h =
     let few = paid_most L.nodes h.1 part.0 (h.0 * most (reach L)) part.1 in
     let most_of = mul_below h.0 tries (most (reach L)) h.5 in
     (part.2.0 + 0, adds_in _ old new (omega (arith, few, most_of)) (adds_then old h.2 new part.2.1 (adds_then h.2 h.3 new (back_adds h.1 h.2 h.3 h.7) (adds_these _ h.3 new h.8))))
+finishes_add fit L tries k old new (Err fault.Pending) h = absurd h
+finishes_add fit L tries k old new (Err fault.Pinned) h = absurd h
+finishes_add fit L tries k old new (Err fault.Unfinished) h = absurd h
 
-pub insert_did : (fit : Fit) (L : Layout) (tries k : ℕ) (old new : List Entry) (r : Result Bool NotInserted) → PinsThen fit L tries k old new r → InsertDid fit L tries k old new r
+pub insert_did : (fit : Fit) (L : Layout) (tries k : ℕ) (old new : List Entry) (r : Result Bool CallFault) → PinsThen fit L tries k old new r → InsertDid fit L tries k old new r
 insert_did fit L tries k old new (Ok b) h = h
 insert_did fit L tries k old new (Err fault.Busy) h = inr (inr h)
 insert_did fit L tries k old new (Err fault.NoMemory) h = inr h
 insert_did fit L tries k old new (Err fault.Full) h = h
+insert_did fit L tries k old new (Err fault.Pending) h = h
+insert_did fit L tries k old new (Err fault.Pinned) h = h
+insert_did fit L tries k old new (Err fault.Unfinished) h = h
 
-module _ (fit : Fit) (L : Layout) (tries k : ℕ) (old pinned new : List Entry) (e : ℕ) (pin : IsPinnedBy (SightFor Insert k) tries old pinned e) (r : Result Bool NotInserted) (h : Finishes fit L tries k pinned new r) where
+module _ (fit : Fit) (L : Layout) (tries k : ℕ) (old pinned new : List Entry) (e : ℕ) (pin : IsPinnedBy (SightFor Insert k) tries old pinned e) (r : Result Bool CallFault) (h : Finishes fit L tries k pinned new r) where
   all : AddsLinks (links_of_insert r) (2 * tries + 1 + (tries * most (reach L) + (6 * L.nodes + 4))) old new
   all = let part = finishes_add fit L tries k pinned new r h in (0 + part.0, adds_after old pinned new (pin_adds Insert k tries old pinned e pin) part.1)
 

@@ -13,5 +13,4 @@ pub mod Waiting
 pub mod Rooms
 pub mod PlainLooks
 pub mod InTurnsLooks
-pub mod NextLooks
-pub mod PrevLooks
+pub mod NearLooks

@@ -41,8 +41,9 @@ use Rattle.nm_epoch.specs.Tries.{IsPinnedBy, IsMoved}
 use Rattle.nm_walks.specs.declared.looking.Onward.{Onward}
 use Rattle.nm_walks.specs.AddedLooks.{is_look, AddsLooks}
 use Rattle.nm_calls.specs.PlainWalks.{HasPassed, HasEndedSo, LooksUnderPin, PlainMissed, WasSo, events_of, most_looks}
-use Rattle.nm_calls.specs.NextKeys.{AfterNear}
-use Rattle.nm_calls.specs.declared.lookup.Busy.{Busy}
+use Rattle.nm_calls.specs.NearKeys.{AfterNear, GiveUp, WasNear}
+use Rattle.nm_calls.specs.declared.fault.CallFault.{CallFault}
+use Rattle.nm_calls.specs.declared.fault.CallFault.TheVariants as fault
 use Rattle.nm_walks.specs.Bounds.{reach}
 use Rattle.nm_walks.specs.Telling.{GoesOn, OnlyLooks}
 use Rattle.nm_walks.specs.Walks.{Reads}
@@ -212,16 +213,17 @@ walks_missed gives_up zero old a z new epoch pin gives leaves = let few = pin.3 
 walks_missed gives_up (suc t) old a z new epoch pin gives leaves = inr (a, z, epoch, pin, gives, leaves)
 
 -- a call for the nearest key that has lost each try of its pin
-pub after_no_pin : (Was : PassView → PassView → Option ℕ → Type 0) (gives_up : List Entry → List Entry → Type 0) (L : Layout) (tries : ℕ) (o a : PassView) (e : Busy) → tries ≢ 0
-    → Continues o a → IsMoved Sight tries o.view.log a.view.log → IsResting a → KeepsHands o a → AfterNear Was gives_up L tries o a (Err e)
-after_no_pin Was gives_up L tries o a e some pinning moved rests kept =
+pub after_no_pin : (side : Side) (L : Layout) (tries k : ℕ) (o a : PassView) → tries ≢ 0
+    → Continues o a → IsMoved Sight tries o.view.log a.view.log → IsResting a → KeepsHands o a → AfterNear side L tries k o a (Err fault.Busy)
+after_no_pin side L tries k o a some pinning moved rests kept =
     let added = plain_moved_adds tries o.view.log a.view.log moved in
     record {
       same = pinning.same;
       past = pinning.past;
       did = tt;
       moment = tt;
-      missed = pin_missed gives_up tries o.view.log a.view.log some moved;
+      busy = refl;
+      missed = pin_missed (GiveUp side L tries k) tries o.view.log a.view.log some moved;
       won = has_won _ _ added;
       uncut = cuts_none _ _ added;
       steps = (let few = added.steps in omega (arith, few));
@@ -230,12 +232,12 @@ after_no_pin Was gives_up L tries o a e some pinning moved rests kept =
     }
 
 -- and one that pins at a, has walked at p, and has left at q
-pub after_walks : (Was : PassView → PassView → Option ℕ → Type 0) (gives_up : List Entry → List Entry → Type 0) (L : Layout) (tries epoch : ℕ) (o a p q : PassView) (r : Result (Option ℕ) Busy)
+pub after_walks : (side : Side) (L : Layout) (tries k epoch : ℕ) (o a p q : PassView) (r : Result (Option ℕ) CallFault)
     → Continues o a → IsPinnedBy Sight tries o.view.log a.view.log epoch → KeepsHands o a
     → GoesOn a p → OnlyLooks a p → AddsLooks (tries * most_looks (reach L) 1) a.view.log p.view.log
     → TakesStep p q Leave Departed → IsResting q → KeepsHands p q
-    → IfOk r (Was o q) → IfErr r (λ e. gives_up a.view.log p.view.log) → AfterNear Was gives_up L tries o q r
-after_walks Was gives_up L tries epoch o a p q r pinning pinned hands walked only looks leaves rests kept moment given_up =
+    → IfOk r (WasNear side o q k) → IfErr r (λ e. GiveUp side L tries k a.view.log p.view.log) → IfErr r (λ e. e ≡ fault.Busy) → AfterNear side L tries k o q r
+after_walks side L tries k epoch o a p q r pinning pinned hands walked only looks leaves rests kept moment given_up busy =
     let did : LooksUnderPin tries (tries * most_looks (reach L) 1) o.view.log q.view.log = record { pinned = a.view.log; epoch = epoch; pin = pinned; looked = p.view.log; looks = looks; leaves = ap (λ (s : PassView). s.view.log) leaves.step } in
     let added = call_adds tries (tries * most_looks (reach L) 1) o.view.log q.view.log did in
     record {
@@ -243,7 +245,8 @@ after_walks Was gives_up L tries epoch o a p q r pinning pinned hands walked onl
       past = seen_through o p q (seen_through o a p pinning.past walked.past) (seen_by_turn p q Leave Departed leaves.past);
       did = any_ok r did;
       moment = moment;
-      missed = IfErr-weaker r _ _ (λ e gives. walks_missed gives_up tries o.view.log a.view.log p.view.log q.view.log epoch pinned gives did.leaves) given_up;
+      busy = busy;
+      missed = IfErr-weaker r _ _ (λ e gives. walks_missed (GiveUp side L tries k) tries o.view.log a.view.log p.view.log q.view.log epoch pinned gives did.leaves) given_up;
       won = has_won _ _ added;
       uncut = cuts_none _ _ added;
       steps = (let few = added.steps in omega (arith, few));
@@ -251,7 +254,7 @@ after_walks Was gives_up L tries epoch o a p q r pinning pinned hands walked onl
       hands = kept_on o p q (kept_on o a p hands looks_keep) kept;
     }
   where
-    any_ok : {P : Type 0} (x : Result (Option ℕ) Busy) → P → IfOk x (λ found. P)
+    any_ok : {P : Type 0} (x : Result (Option ℕ) CallFault) → P → IfOk x (λ found. P)
     any_ok (Ok found) did = did
     any_ok (Err e) did = tt
 

@@ -8,7 +8,8 @@ use Rattle.nm_model.specs.Walks.{Entry}
 use Rattle.nm_steps.specs.Steps.{PassView, IsSamePass, HasSeenAllOf}
 use Rattle.nm_epoch.specs.Resting.{IsResting, KeepsHands}
 use Rattle.nm_epoch.specs.Tries.{IsPinnedBy, IsMoved}
-use Rattle.nm_calls.specs.declared.lookup.Busy.{Busy}
+use Rattle.nm_calls.specs.declared.fault.CallFault.{CallFault}
+use Rattle.nm_calls.specs.declared.fault.CallFault.TheVariants as fault
 use Rattle.nm_walks.specs.declared.seek_record.ChainEdge.{ChainEdge}
 use Rattle.nm_walks.specs.declared.seek_record.SeekRecord.{SeekRecord}
 use Rattle.nm_calls.specs.Bounds.{IsWithinBound}
@@ -54,11 +55,12 @@ HasMissed L (suc t) k old new =
 -- had seen. The record says what was done, or why not. An answer was right at a moment
 -- (linearization point) of the call. No exchange was won, and the log has a bound. The worker
 -- rests, and holds what it held
-pub record AfterHas (L : Layout) (tries k : ℕ) (p q : PassView) (r : Result Bool Busy) : Type 0 where
+pub record AfterHas (L : Layout) (tries k : ℕ) (p q : PassView) (r : Result Bool CallFault) : Type 0 where
   pub same : IsSamePass p q
   pub past : HasSeenAllOf q p
   pub did : IfOk r (HasDid L tries k p.view.log q.view.log)
   pub moment : IfOk r (AnswerHasMoment p q Has k)
+  pub busy : IfErr r (λ e. e ≡ fault.Busy)
   pub missed : IfErr r (λ e. HasMissed L tries k p.view.log q.view.log)
   pub won : HasWon p.view.log q.view.log 0 0
   pub uncut : won_splices q.view.log ≡ won_splices p.view.log

@@ -6,7 +6,8 @@ use Rattle.nm_model.specs.Walks.{Entry}
 use Rattle.nm_order.specs.Facts.Fact.{KnowsSlot}
 use Rattle.nm_steps.specs.Steps.{PassView, IsSamePass, HasSeenAllOf}
 use Rattle.nm_epoch.specs.Resting.{IsResting, KeepsHands}
-use Rattle.nm_calls.specs.declared.lookup.Busy.{Busy}
+use Rattle.nm_calls.specs.declared.fault.CallFault.{CallFault}
+use Rattle.nm_calls.specs.declared.fault.CallFault.TheVariants as fault
 use Rattle.nm_walks.specs.declared.looking.Onward.{Onward}
 use Rattle.nm_calls.specs.declared.many.Query.{Query}
 use Rattle.nm_walks.specs.Bounds.{reach}
@@ -46,13 +47,14 @@ GiveUp L keys old new = AddsLooks (most_looks (reach L) (length keys)) old new �
 -- answer. It is as for a look-up of one key, but each answer was right at a moment (linearization
 -- point) of the call, and the keys are unchanged
 pub record AfterHasMany (L : Layout) (tries : ℕ) (old new : List Query) (p q : PassView)
-    (r : Result (Unit {0}) Busy) : Type 0 where
+    (r : Result (Unit {0}) CallFault) : Type 0 where
   pub same : IsSamePass p q
   pub past : HasSeenAllOf q p
   pub did : IfOk r
       (λ u. LooksUnderPin tries (most_looks (reach L) (length old)) p.view.log q.view.log)
   pub keys : map key_of new ≡ map key_of old
   pub moment : IfOk r (λ u. All (λ query. WasSo p q query.key query.found) new)
+  pub busy : IfErr r (λ e. e ≡ fault.Busy)
   pub missed : IfErr r (λ e. PlainMissed (GiveUp L (map key_of old)) tries p.view.log q.view.log)
   pub won : HasWon p.view.log q.view.log 0 0
   pub uncut : won_splices q.view.log ≡ won_splices p.view.log

@@ -15,8 +15,8 @@ use Rattle.nm_steps.specs.Steps.{PassView, IsSamePass, HasSeenAllOf, IsInRun}
 use Rattle.nm_epoch.specs.Resting.{epochs, search, IsResting}
 use Rattle.nm_walks.specs.declared.making.NewNodes.{NewNodes}
 use Rattle.nm_epoch.specs.Tries.{IsPinnedBy, IsMoved}
-use Rattle.nm_calls.specs.declared.inserting.NotInserted.{NotInserted}
-use Rattle.nm_calls.specs.declared.inserting.NotInserted.TheVariants as fault
+use Rattle.nm_calls.specs.declared.fault.CallFault.{CallFault}
+use Rattle.nm_calls.specs.declared.fault.CallFault.TheVariants as fault
 use Rattle.nm_calls.specs.declared.inserting.Attempt.{Attempt}
 use Rattle.nm_calls.specs.declared.inserting.Attempt.TheVariants as attempt
 use Rattle.nm_walks.specs.declared.seek_record.ChainEdge.{ChainEdge}
@@ -116,7 +116,7 @@ EndsBy fit L tries k g a old new =
 
 -- an insert from its pin on, by its answer. `NoMemory`: the room of a try after the first was
 -- refused, because that of the first one was made before the pin
-abbrev pub Finishes : Fit → Layout → ℕ → ℕ → List Entry → List Entry → Result Bool NotInserted → Type 0
+abbrev pub Finishes : Fit → Layout → ℕ → ℕ → List Entry → List Entry → Result Bool CallFault → Type 0
 Finishes fit L tries k old new (Ok true) =
     (mid : List Entry) × EndsBy fit L tries k None attempt.Linked old mid
     × (new ≡ mid ++ (LeaveWith true, Departed) ∷ [])
@@ -133,9 +133,10 @@ Finishes fit L tries k old new (Err fault.NoMemory) =
     (n : ℕ) × (f : Option NewNodes) × (mid back : List Entry) × (0 < n) × (n < tries)
     × LostInserts fit L k n f old mid × Returns f mid back
     × (new ≡ back ++ (Leave, Departed) ∷ [])
+Finishes fit L tries k old new (Err _) = ⊥
 
 -- a pin for the insert, and then the rest of it
-abbrev pub PinsThen : Fit → Layout → ℕ → ℕ → List Entry → List Entry → Result Bool NotInserted → Type 0
+abbrev pub PinsThen : Fit → Layout → ℕ → ℕ → List Entry → List Entry → Result Bool CallFault → Type 0
 PinsThen fit L tries k old new r =
     (pinned : List Entry) × (epoch : ℕ) × IsPinnedBy (SightFor Insert k) tries old pinned epoch
     × Finishes fit L tries k pinned new r
@@ -144,7 +145,7 @@ PinsThen fit L tries k old new r =
 -- the pin was lost; or each try of the call was lost. `NoMemory`: the room of the first try was
 -- refused, and there was no step; or the room of a later one was refused (Natarajan and Mittal,
 -- section 3.2, insert)
-abbrev pub InsertDid : Fit → Layout → ℕ → ℕ → List Entry → List Entry → Result Bool NotInserted → Type 0
+abbrev pub InsertDid : Fit → Layout → ℕ → ℕ → List Entry → List Entry → Result Bool CallFault → Type 0
 InsertDid fit L tries k old new (Err fault.Busy) =
     ((tries ≡ 0) × (new ≡ old)) ⊎ ((tries ≢ 0) × IsMoved (SightFor Insert k) tries old new)
     ⊎ PinsThen fit L tries k old new (Err fault.Busy)
@@ -158,7 +159,7 @@ InsertDid fit L tries k old new r = PinsThen fit L tries k old new r
 -- pass is in a run. The worker rests, with the private slots that it had, and its ledgers are
 -- unchanged except for the nodes that it cut off
 pub record AfterInsert (fit : Fit) (L : Layout) (tries k : ℕ) (p q : PassView)
-    (r : Result Bool NotInserted) : Type 0 where
+    (r : Result Bool CallFault) : Type 0 where
   pub same : IsSamePass p q
   pub past : HasSeenAllOf q p
   pub did : InsertDid fit L tries k p.view.log q.view.log r

@@ -2,8 +2,7 @@ pub mod Bounds
 pub mod Calls
 pub mod PlainWalks
 pub mod InTurns
-pub mod NextKeys
-pub mod PrevKeys
+pub mod NearKeys
 pub mod Won
 pub mod Fresh
 pub mod Leaving

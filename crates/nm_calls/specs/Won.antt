@@ -3,7 +3,7 @@ use Rattle.std.specs.Prelude.{◌≡◌, ℕ, ◌+◌, Bool, true, false, List, 
 use Rattle.nm_model.specs.Walks.{Entry}
 use Rattle.nm_calls.specs.declared.deleting.Missed.{Missed}
 use Rattle.nm_calls.specs.declared.deleting.Missed.TheVariants as missed
-use Rattle.nm_calls.specs.declared.inserting.NotInserted.{NotInserted}
+use Rattle.nm_calls.specs.declared.fault.CallFault.{CallFault}
 use Rattle.nm_walks.specs.WonCounts.{won_flags, won_links}
 
 -- ---- in what a call adds to a log
@@ -14,7 +14,7 @@ pub record HasWon (old new : List Entry) (l f : ℕ) : Type 0 where
   pub flags : won_flags new ≡ won_flags old + f
 
 -- the links that an insert has won, by its answer: one if it returned true, else none
-abbrev pub links_of_insert : Result Bool NotInserted → ℕ
+abbrev pub links_of_insert : Result Bool CallFault → ℕ
 links_of_insert (Ok true) = 1
 links_of_insert (Ok false) = 0
 links_of_insert (Err fault) = 0

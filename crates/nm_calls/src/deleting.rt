@@ -22,7 +22,7 @@ use nm_edge::{Edge, Key, NodeId};
 use nm_epoch::{HeldQueue, pin_for};
 use nm_model::Op;
 use nm_steps::{Pass, Shared};
-use nm_walks::{WalkEnd, Workspace, cleanup, flag, look_birth, seek};
+use nm_walks::{Stop, WalkEnd, Workspace, cleanup, flag, look_birth, seek};
 
 /// The result of a try to flag a leaf.
 #[derive(Clone, Copy)]
@@ -122,7 +122,7 @@ fn try_remove(
     ensures fit { workspace.new.placement ≡ workspace.old.placement }
 {
     let key = pending.key.get();
-    let Some(end) = seek(shared, pass, key, &mut workspace.chain) else {
+    let Some(end) = seek(shared, pass, key, Stop::Leaf, &mut workspace.chain) else {
         return false;
     };
     if !leads_to(&end, pending.leaf.slot) {
@@ -208,7 +208,7 @@ fn try_flag(
     ensures fit { workspace.new.placement ≡ workspace.old.placement }
 {
     let sought = key.get();
-    let Some(end) = seek(shared, pass, sought, &mut workspace.chain) else {
+    let Some(end) = seek(shared, pass, sought, Stop::Leaf, &mut workspace.chain) else {
         return Injected::Lost;
     };
     if end.key != sought {

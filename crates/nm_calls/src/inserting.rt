@@ -17,6 +17,7 @@ ghost use Rattle.nm_calls.specs.Inserts.{IsReadied, IsTry, OnlyTries, ShowsTry, 
 ghost use Rattle.nm_walks.specs.Labelling.{IsPinnedForCall};
 ghost use Rattle.nm_calls.specs.Leaving.{HasChangedNothing};
 
+use crate::fault::CallFault;
 use crate::helping::{help, make_room, make_room_for};
 use crate::leaving::{answer, leave};
 use nm_edge::{Key, Placement};
@@ -24,19 +25,8 @@ use nm_epoch::{HeldQueue, pin_for};
 use nm_model::Op;
 use nm_steps::{Pass, Shared};
 use nm_walks::{
-    ChainEdges, NewNodes, WalkEnd, Workspace, claim_new_nodes, give_back, grow, place, seek,
+    ChainEdges, NewNodes, Stop, WalkEnd, Workspace, claim_new_nodes, give_back, grow, seek,
 };
-
-/// Why an insert has no answer.
-#[derive(Clone, Copy, Debug, PartialEq, Eq)]
-pub enum NotInserted {
-    /// Each try was lost, by the pin or by the call itself, or the call had no try.
-    Busy,
-    /// The call found no two free slots for new nodes.
-    Full,
-    /// There was no memory for the room of a try.
-    NoMemory,
-}
 
 /// The result of a try of an insert.
 #[derive(Clone, Copy)]
@@ -92,9 +82,9 @@ fn stop(shared: &Shared, pass: &mut Pass, key: u64, chain: &mut ChainEdges) -> O
     ensures only { OnlyLooks pass.old pass.new }
 {
     if shared.layout().is_radix() {
-        place(shared, pass, key, chain)
+        seek(shared, pass, key, Stop::Place, chain)
     } else {
-        seek(shared, pass, key, chain)
+        seek(shared, pass, key, Stop::Leaf, chain)
     }
 }
 
@@ -105,7 +95,7 @@ fn try_insert(
     pass: &mut Pass,
     workspace: &mut Workspace,
     held: &mut HeldQueue,
-    key: u64,
+    key: Key,
     new_nodes: &mut Option<NewNodes>,
 ) -> Attempt
     requires pinned { IsPinnedIn shared.now pass.old }
@@ -124,16 +114,17 @@ fn try_insert(
     ensures fills { FillsUp held.old.queue held.new.queue }
     ensures fit { workspace.new.placement ≡ workspace.old.placement }
 {
-    let Some(end) = stop(shared, pass, key, &mut workspace.chain) else {
+    let sought = key.get();
+    let Some(end) = stop(shared, pass, sought, &mut workspace.chain) else {
         return Attempt::Lost;
     };
-    if end.key == key {
+    if end.key == sought {
         return Attempt::Found;
     }
     let Some(made) = ready(shared, pass, &mut workspace.placement, new_nodes) else {
         return Attempt::Full;
     };
-    match grow(shared, pass, key, &end, &made) {
+    match grow(shared, pass, sought, &end, &made) {
         Ok(()) => {
             *new_nodes = None;
             held.counts.links = held.counts.links.saturating_add(1);
@@ -153,9 +144,9 @@ fn insert_pinned(
     pass: &mut Pass,
     workspace: &mut Workspace,
     held: &mut HeldQueue,
-    key: u64,
+    key: Key,
     tries: u32,
-) -> Result<bool, NotInserted>
+) -> Result<bool, CallFault>
     requires pinned { IsPinnedIn shared.now pass.old }
     requires call { IsPinnedForCall Insert key pass.old }
     requires unchanged { HasChangedNothing pass.old }
@@ -164,7 +155,7 @@ fn insert_pinned(
     ensures on { Continues pass.old pass.new }
     ensures part { Finishes workspace.old.placement shared.now.layout tries key
         pass.old.view.log pass.new.view.log result }
-    ensures refused { IsErrOf result NotInserted.NoMemory → held.new.queue.spare < cut_bound }
+    ensures refused { IsErrOf result CallFault.NoMemory → held.new.queue.spare < cut_bound }
     ensures moment { (o : PassView) → HadNoCall o pass.old
         → IfOk result (AnswerHasMoment o pass.new Insert key) }
     ensures rests { IsResting pass.new }
@@ -179,7 +170,7 @@ fn insert_pinned(
         if !make_room_for(&mut held.queue, round) {
             give_back(shared, pass, &mut workspace.placement, &new_nodes);
             leave(shared, pass);
-            return Err(NotInserted::NoMemory);
+            return Err(CallFault::NoMemory);
         }
         match try_insert(shared, pass, workspace, held, key, &mut new_nodes) {
             Attempt::Found => {
@@ -193,14 +184,14 @@ fn insert_pinned(
             }
             Attempt::Full => {
                 leave(shared, pass);
-                return Err(NotInserted::Full);
+                return Err(CallFault::Full);
             }
             Attempt::Lost => {}
         }
     }
     give_back(shared, pass, &mut workspace.placement, &new_nodes);
     leave(shared, pass);
-    Err(NotInserted::Busy)
+    Err(CallFault::Busy)
 }
 
 /// Inserts `key`; returns true if it was absent. The worker must rest, and it rests afterwards,
@@ -212,7 +203,7 @@ fn insert_pinned(
 /// as possible; for the first try it does so before the pin. It takes no other memory. It claims
 /// new nodes in the order of the workspace's placement, which keeps its fit.
 ///
-/// Errors: `Busy`, `Full`, `NoMemory`: see `NotInserted`. The call has changed nothing in the set,
+/// Errors: `Busy`, `Full`, `NoMemory`: see `CallFault`. The call has changed nothing in the set,
 /// but it may have helped other deletes.
 ///
 /// Cost: at most `tries` * (4 `reach` + 512) + 6 `nodes` + 10 steps. A walk's reach is 66 nodes in
@@ -225,13 +216,13 @@ pub fn insert(
     held: &mut HeldQueue,
     key: Key,
     tries: u32,
-) -> Result<bool, NotInserted>
+) -> Result<bool, CallFault>
     requires own { IsOf shared.now pass.old }
     requires rests { IsResting pass.old }
     requires kept { HoldsCuts pass.old held.old }
     ensures after { AfterInsert workspace.old.placement shared.now.layout tries key pass.old
         pass.new result }
-    ensures refused { IsErrOf result NotInserted.NoMemory → held.new.queue.spare < cut_bound }
+    ensures refused { IsErrOf result CallFault.NoMemory → held.new.queue.spare < cut_bound }
     ensures kept { HoldsCuts pass.new held.new }
     ensures few { length held.new.queue.items ≤ shared.now.layout.nodes }
     ensures blocks { TakesRoom held.old.queue held.new.queue }
@@ -239,13 +230,13 @@ pub fn insert(
 {
     pass.know_run();
     if tries == 0 {
-        return Err(NotInserted::Busy);
+        return Err(CallFault::Busy);
     }
     if !make_room(&mut held.queue) {
-        return Err(NotInserted::NoMemory);
+        return Err(CallFault::NoMemory);
     }
     let Ok(_epoch) = pin_for(shared, pass, tries, Op::Insert, key) else {
-        return Err(NotInserted::Busy);
+        return Err(CallFault::Busy);
     };
-    insert_pinned(shared, pass, workspace, held, key.get(), tries)
+    insert_pinned(shared, pass, workspace, held, key, tries)
 }

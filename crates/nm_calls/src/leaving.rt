@@ -4,7 +4,7 @@ ghost use Rattle.nm_model.specs.declared.event.Event.TheVariants.{Leave, LeaveWi
 ghost use Rattle.nm_model.specs.declared.event.Op.{Op};
 ghost use Rattle.nm_model.specs.declared.reply.Reply.TheVariants.{Departed};
 ghost use Rattle.nm_order.specs.Facts.Fact.{CallIs};
-ghost use Rattle.nm_steps.specs.Steps.{PassView, IsOf, MayStep, TakesStep};
+ghost use Rattle.nm_steps.specs.Steps.{PassView, IsOf, TakesStep};
 ghost use Rattle.nm_epoch.specs.Resting.{IsResting, KeepsHands, epochs};
 ghost use Rattle.nm_walks.specs.Telling.{Tells};
 ghost use Rattle.nm_calls.specs.Leaving.{IsItsAnswer, HasChangedNothing};
@@ -24,24 +24,9 @@ pub fn leave(shared: &Shared, pass: &mut Pass)
     unpin(shared, pass);
 }
 
-/// Unpins with an answer that the log allows, in one step. The answer's moment (linearization
-/// point) is in the call: it is later than all that the worker had seen at any earlier time when it
-/// had no call.
-pub(crate) fn leave_with(shared: &Shared, pass: &mut Pass, answer: bool)
-    requires own { IsOf shared.now pass.old }
-    requires may { MayStep pass.old (LeaveWith answer) }
-    ensures took { TakesStep pass.old pass.new (LeaveWith answer) Departed }
-    ensures moment { (o : PassView) (op : Op) (k : ℕ) → HadNoCall o pass.old
-        → Tells pass.old (CallIs op k) → AnswerHasMoment o pass.new op k answer }
-    ensures rests { IsResting pass.new }
-    ensures hands { KeepsHands pass.old pass.new }
-{
-    pass.know_run();
-    unpin_with(shared, pass, answer);
-    pass.know_run();
-}
-
-/// Unpins with the answer of the call, in one step. The log must show that answer.
+/// Unpins with the answer of the call, in one step. The log must show that answer. Its moment
+/// (linearization point) is in the call: it is later than all that the worker had seen at any earlier
+/// time when it had no call.
 pub fn answer(shared: &Shared, pass: &mut Pass, answer: bool)
     requires own { IsOf shared.now pass.old }
     requires labelled { (epochs pass.old).unlabelled ≡ false }
@@ -52,5 +37,7 @@ pub fn answer(shared: &Shared, pass: &mut Pass, answer: bool)
     ensures rests { IsResting pass.new }
     ensures hands { KeepsHands pass.old pass.new }
 {
-    leave_with(shared, pass, answer);
+    pass.know_run();
+    unpin_with(shared, pass, answer);
+    pass.know_run();
 }

@@ -3,18 +3,18 @@
 #![tactic(auto, using(nm_steps::proofs::Seeing::seen_all))]
 
 mod deleting;
+mod fault;
 mod helping;
 mod inserting;
 mod leaving;
 mod lookup;
 mod many;
-mod next_key;
-mod prev_key;
+mod near_key;
 
 pub use deleting::{Missed, Unfinished, delete, finish};
-pub use inserting::{NotInserted, insert};
+pub use fault::CallFault;
+pub use inserting::insert;
 pub use leaving::leave;
-pub use lookup::{Busy, has};
+pub use lookup::has;
 pub use many::{Query, has_many};
-pub use next_key::next;
-pub use prev_key::prev;
+pub use near_key::nearest;

@@ -4,18 +4,13 @@ ghost use Rattle.nm_steps.specs.Steps.{IsOf};
 ghost use Rattle.nm_epoch.specs.Resting.{IsResting};
 ghost use Rattle.nm_calls.specs.Calls.{AfterHas};
 
-use crate::leaving::leave_with;
+use crate::fault::CallFault;
+use crate::leaving::answer;
 use nm_edge::Key;
 use nm_epoch::{pin_for, unpin};
 use nm_model::Op;
 use nm_steps::{Pass, Shared};
 use nm_walks::find;
-use thiserror::Error;
-
-/// Each try was lost, by the pin or by the walks, or the call had no try.
-#[derive(Clone, Copy, Debug, PartialEq, Eq, Error)]
-#[error("each try was lost")]
-pub struct Busy;
 
 /// Returns whether the set has the key: whether the leaf at which the walk for it ends has this
 /// key, flagged or not. The worker must rest, and it rests afterwards.
@@ -30,25 +25,25 @@ pub struct Busy;
 /// Cost: at most `tries` * (4 `reach` + 512) + 10 steps. A walk's reach is 66 nodes in a radix
 /// tree, and the number of nodes otherwise. (The search of Natarajan and Mittal, section 3.2.)
 #[inline(always)]
-pub fn has(shared: &Shared, pass: &mut Pass, key: Key, tries: u32) -> Result<bool, Busy>
+pub fn has(shared: &Shared, pass: &mut Pass, key: Key, tries: u32) -> Result<bool, CallFault>
     requires own { IsOf shared.now pass.old }
     requires rests { IsResting pass.old }
     ensures { AfterHas shared.now.layout tries key pass.old pass.new result }
 {
     if tries == 0 {
-        return Err(Busy);
+        return Err(CallFault::Busy);
     }
     pass.know_run();
     let Ok(_epoch) = pin_for(shared, pass, tries, Op::Has, key) else {
-        return Err(Busy);
+        return Err(CallFault::Busy);
     };
     for _walk in 0..tries {
         if let Some(found) = find(shared, pass, key.get()) {
-            let answer = found == key.get();
-            leave_with(shared, pass, answer);
-            return Ok(answer);
+            let present = found == key.get();
+            answer(shared, pass, present);
+            return Ok(present);
         }
     }
     unpin(shared, pass);
-    Err(Busy)
+    Err(CallFault::Busy)
 }

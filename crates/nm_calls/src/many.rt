@@ -9,7 +9,7 @@ ghost use Rattle.nm_calls.specs.InTurns.{AddsLooks, GiveUp, HasBegun, IsUnderWay
 ghost use Rattle.nm_walks.specs.Bounds.{reach};
 ghost use Rattle.nm_walks.specs.Telling.{Tells, GoesOn, OnlyLooks, IsPinnedIn};
 
-use crate::lookup::Busy;
+use crate::fault::CallFault;
 use nm_edge::{Key, Layout, Side};
 use nm_epoch::{pin, unpin};
 use nm_steps::{Pass, Shared};
@@ -58,23 +58,23 @@ pub fn has_many(
     pass: &mut Pass,
     queries: &mut [Query],
     tries: u32,
-) -> Result<(), Busy>
+) -> Result<(), CallFault>
     requires own { IsOf shared.now pass.old }
     requires rests { IsResting pass.old }
     ensures { AfterHasMany shared.now.layout tries queries.old queries.new pass.old
         pass.new result }
 {
     if tries == 0 {
-        return Err(Busy);
+        return Err(CallFault::Busy);
     }
     pass.know_run();
     let Ok(_epoch) = pin(shared, pass, tries) else {
-        return Err(Busy);
+        return Err(CallFault::Busy);
     };
     let ended = walk_all(shared, pass, queries);
     pass.know_run();
     unpin(shared, pass);
-    if ended { Ok(()) } else { Err(Busy) }
+    if ended { Ok(()) } else { Err(CallFault::Busy) }
 }
 
 /// Walks for each of these keys, in turns, until all walks have ended. Returns false if one of them

@@ -1,4 +1,5 @@
-//! Unpins, and labels a cut: one step each.
+//! Unpins, and labels a cut: one step each. Each function is a step of `Shared` with what callers
+//! want to know after it: that the worker rests, and what it still holds.
 ghost use Rattle.std.specs.Prelude.{◌≡◌, false, true};
 ghost use Rattle.nm_model.specs.declared.event.Event.TheVariants.{Sight, Leave, LeaveWith};
 ghost use Rattle.nm_model.specs.declared.reply.Reply.TheVariants.{Labelled, Departed};

@@ -1,4 +1,5 @@
-//! Pins the epoch.
+//! Pins the epoch. `pin` and `pin_for` are `pin_by` for the two purposes that a pin may have; the
+//! loop is in `pin_by` alone.
 ghost use Rattle.std.specs.Prelude.{◌≡◌, ◌+◌, ◌*◌, ◌≤◌, length, Some, None, IfOk, IfErr};
 ghost use Rattle.nm_model.specs.declared.event.Event.TheVariants.{Sight, SightFor};
 ghost use Rattle.nm_order.specs.Intervals.{HasKey};

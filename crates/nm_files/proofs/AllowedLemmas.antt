@@ -6,13 +6,13 @@ use Rattle.std.specs.List.{AllByRecursion, list_all}
 use Rattle.std.specs.Str.{bytes_eq}
 use Rattle.std.proofs.lemmas.Bool.{cases_Bool, and_parts}
 use Rattle.std.proofs.lemmas.List.Elements.{All-cons, All-nil}
-use Rattle.nm_files.specs.declared.entry.ScriptCall.{ScriptCall}
-use Rattle.nm_files.specs.declared.fault.Reason.{Reason}
-use Rattle.nm_files.specs.declared.fault.Reason.TheVariants as reason
-use Rattle.nm_files.specs.declared.fault.RunFault.{RunFault}
-use Rattle.nm_files.specs.declared.header.Command.{Command}
-use Rattle.nm_files.specs.declared.header.Header.{Header}
-use Rattle.nm_files.specs.declared.kind.Kind.{Kind}
+use Rattle.nm_files.specs.declared.read.entry.ScriptCall.{ScriptCall}
+use Rattle.nm_files.specs.declared.read.fault.Reason.{Reason}
+use Rattle.nm_files.specs.declared.read.fault.Reason.TheVariants as reason
+use Rattle.nm_files.specs.declared.read.fault.RunFault.{RunFault}
+use Rattle.nm_files.specs.declared.read.header.Command.{Command}
+use Rattle.nm_files.specs.declared.read.header.Header.{Header}
+use Rattle.nm_files.specs.declared.read.kind.Kind.{Kind}
 use Rattle.nm_files.specs.Lines.{parts, fields, is_field}
 use Rattle.nm_files.specs.Values.{worker_and_values, values_of, worker_of}
 use Rattle.nm_files.specs.Kinds.{kind_row, kind_word, may_stand, is_named, kind_of, calls, IsAllowed}

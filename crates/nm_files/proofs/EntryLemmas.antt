@@ -3,13 +3,13 @@ use Rattle.std.proofs.Common.{◌≡◌, ℕ, zero, suc, ◌+◌, ◌-◌, ◌<�
 use Rattle.std.specs.Prelude.{◌==◌}
 use Rattle.std.proofs.lemmas.Bool.{ne_eqb}
 use Rattle.std.proofs.lemmas.List.{map_push}
-use Rattle.nm_files.specs.declared.fault.Reason.{Reason}
-use Rattle.nm_files.specs.declared.fault.Reason.TheVariants as reason
-use Rattle.nm_files.specs.declared.header.Command.{Command}
-use Rattle.nm_files.specs.declared.header.Header.{Header}
-use Rattle.nm_files.specs.declared.kind.Kind.{Kind}
-use Rattle.nm_files.specs.declared.value.Argument.{Argument}
-use Rattle.nm_files.specs.declared.value.Value.{Value}
+use Rattle.nm_files.specs.declared.read.fault.Reason.{Reason}
+use Rattle.nm_files.specs.declared.read.fault.Reason.TheVariants as reason
+use Rattle.nm_files.specs.declared.read.header.Command.{Command}
+use Rattle.nm_files.specs.declared.read.header.Header.{Header}
+use Rattle.nm_files.specs.declared.read.kind.Kind.{Kind}
+use Rattle.nm_files.specs.declared.read.value.Argument.{Argument}
+use Rattle.nm_files.specs.declared.read.value.Value.{Value}
 use Rattle.nm_files.specs.Chain.{◌>>=◌}
 use Rattle.nm_files.specs.Values.{both, worker_and_values, values_of, with_view}
 use Rattle.nm_files.specs.Formats.{Format}

@@ -4,9 +4,9 @@ use Rattle.std.specs.Prelude.{◌==◌, nat_lt}
 use Rattle.std.specs.List.{onto_first}
 use Rattle.std.proofs.lemmas.Bool.{cases_Bool, cases_lt, lt-ltb, both_ways, ne_eqb}
 use Rattle.std.proofs.lemmas.List.{length-append, length-take, take-append-drop, take_all}
-use Rattle.nm_files.specs.declared.fault.Reason.TheVariants as reason
+use Rattle.nm_files.specs.declared.read.fault.Reason.TheVariants as reason
 use Rattle.nm_files.specs.Chain.{◌>>=◌}
-use Rattle.nm_files.specs.declared.fault.Reason.{Reason}
+use Rattle.nm_files.specs.declared.read.fault.Reason.{Reason}
 use Rattle.nm_files.specs.Lines.{pieces, parts}
 use Rattle.nm_files.specs.Files.{Fault, is_long, checked, entries_from, file_from}
 use Rattle.nm_files.proofs.FileLemmas.{IsFull, pieces_full, step, opens}

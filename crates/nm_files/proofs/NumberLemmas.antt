@@ -5,7 +5,7 @@ use Rattle.std.specs.List.{list_all}
 use Rattle.std.specs.Char.{is_ascii_digit, digit_value}
 use Rattle.std.specs.Str.Parse.{digits_value}
 use Rattle.std.specs.Prelude.{Err}
-use Rattle.nm_files.specs.declared.fault.Reason.TheVariants as reason
+use Rattle.nm_files.specs.declared.read.fault.Reason.TheVariants as reason
 use Rattle.nm_files.specs.Lines.{number, is_numeral}
 use Rattle.std.proofs.lemmas.Bool.{le-ltb, and_right}
 use Rattle.std.proofs.lemmas.List.Folds.{list_all_more}

@@ -4,17 +4,17 @@ use Rattle.std.specs.Prelude.{◌||◌, ◌==◌, nat_lt, codes, if◌then◌els
 use Rattle.std.specs.Str.{bytes_eq}
 use Rattle.std.specs.List.{AllByRecursion, find, list_all}
 use Rattle.std.proofs.lemmas.Bool.{cases_Bool, le-ltb}
-use Rattle.nm_files.specs.declared.fault.Reason.{Reason}
-use Rattle.nm_files.specs.declared.fault.Reason.TheVariants as reason
-use Rattle.nm_files.specs.declared.fault.Reason.TheVariants.{Fields, Number, Worker, Key}
-use Rattle.nm_files.specs.declared.header.Command.{Command}
-use Rattle.nm_files.specs.declared.header.Command.TheVariants.{Replay, Serial, Stress}
-use Rattle.nm_files.specs.declared.header.Header.{Header}
-use Rattle.nm_files.specs.declared.header.Limits.{Limits}
-use Rattle.nm_files.specs.declared.kind.Kind.{Kind}
-use Rattle.nm_files.specs.declared.value.Argument.{Argument}
-use Rattle.nm_files.specs.declared.value.Argument.TheVariants as a
-use Rattle.nm_files.specs.declared.value.Value.{Value}
+use Rattle.nm_files.specs.declared.read.fault.Reason.{Reason}
+use Rattle.nm_files.specs.declared.read.fault.Reason.TheVariants as reason
+use Rattle.nm_files.specs.declared.read.fault.Reason.TheVariants.{Fields, Number, Worker, Key}
+use Rattle.nm_files.specs.declared.read.header.Command.{Command}
+use Rattle.nm_files.specs.declared.read.header.Command.TheVariants.{Replay, Serial, Stress}
+use Rattle.nm_files.specs.declared.read.header.Header.{Header}
+use Rattle.nm_files.specs.declared.read.header.Limits.{Limits}
+use Rattle.nm_files.specs.declared.read.kind.Kind.{Kind}
+use Rattle.nm_files.specs.declared.read.value.Argument.{Argument}
+use Rattle.nm_files.specs.declared.read.value.Argument.TheVariants as a
+use Rattle.nm_files.specs.declared.read.value.Value.{Value}
 use Rattle.nm_files.specs.Chain.{◌>>=◌}
 use Rattle.nm_files.specs.Lines.{fields, is_field}
 use Rattle.nm_files.specs.Values.{both, worker_and_values, value_of, values_of, with_view, worker_of, is_key, field_words, side_words, op_words, answer_words}

@@ -9,14 +9,14 @@ use Rattle.nm_model.specs.declared.event.Event.TheVariants as event
 use Rattle.nm_model.specs.declared.event.Field.{Field}
 use Rattle.nm_model.specs.declared.event.Op.{Op}
 use Rattle.nm_edge.specs.declared.edge.Side.{Side}
-use Rattle.nm_files.specs.declared.entry.ScriptCall.TheVariants as call
-use Rattle.nm_files.specs.declared.fault.Reason.{Reason}
-use Rattle.nm_files.specs.declared.fault.Reason.TheVariants as reason
-use Rattle.nm_files.specs.declared.kind.Kind.{Kind}
-use Rattle.nm_files.specs.declared.value.Argument.{Argument}
-use Rattle.nm_files.specs.declared.value.Argument.TheVariants as a
-use Rattle.nm_files.specs.declared.value.Value.{Value}
-use Rattle.nm_files.specs.declared.value.Value.TheVariants as value
+use Rattle.nm_files.specs.declared.read.entry.ScriptCall.TheVariants as call
+use Rattle.nm_files.specs.declared.read.fault.Reason.{Reason}
+use Rattle.nm_files.specs.declared.read.fault.Reason.TheVariants as reason
+use Rattle.nm_files.specs.declared.read.kind.Kind.{Kind}
+use Rattle.nm_files.specs.declared.read.value.Argument.{Argument}
+use Rattle.nm_files.specs.declared.read.value.Argument.TheVariants as a
+use Rattle.nm_files.specs.declared.read.value.Value.{Value}
+use Rattle.nm_files.specs.declared.read.value.Value.TheVariants as value
 use Rattle.nm_files.specs.Chain.{◌>>=◌}
 use Rattle.nm_files.specs.Lines.{number, is_numeral, place}
 use Rattle.nm_files.specs.Values.{by_word, field_words, side_words, op_words, answer_words, key_field, worker_of, value_of, values_of, both, with_view}

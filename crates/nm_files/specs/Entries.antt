@@ -4,12 +4,12 @@ use Rattle.nm_files.specs.Chain.{◌>>=◌}
 use Rattle.std.specs.Prelude.{◌<◌, ℕ, List, ◌∷◌, length, ◌==◌, Result, Ok, Err, if◌then◌else◌}
 use Rattle.std.specs.List.{list_all}
 use Rattle.nm_model.specs.declared.event.Event.{Event}
-use Rattle.nm_files.specs.declared.entry.ScriptCall.{ScriptCall}
-use Rattle.nm_files.specs.declared.fault.Reason.{Reason}
-use Rattle.nm_files.specs.declared.fault.Reason.TheVariants as reason
-use Rattle.nm_files.specs.declared.header.Command.{Command}
-use Rattle.nm_files.specs.declared.header.Command.TheVariants.{Replay}
-use Rattle.nm_files.specs.declared.header.Header.{Header}
+use Rattle.nm_files.specs.declared.read.entry.ScriptCall.{ScriptCall}
+use Rattle.nm_files.specs.declared.read.fault.Reason.{Reason}
+use Rattle.nm_files.specs.declared.read.fault.Reason.TheVariants as reason
+use Rattle.nm_files.specs.declared.read.header.Command.{Command}
+use Rattle.nm_files.specs.declared.read.header.Command.TheVariants.{Replay}
+use Rattle.nm_files.specs.declared.read.header.Header.{Header}
 use Rattle.nm_files.specs.Lines.{parts, fields, is_field}
 use Rattle.nm_files.specs.Values.{worker_and_values}
 use Rattle.nm_files.specs.Formats.{Format}

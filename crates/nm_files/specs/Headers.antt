@@ -4,12 +4,12 @@ use Rattle.nm_files.specs.Chain.{◌>>=◌}
 use Rattle.std.specs.Prelude.{◌≡◌, ℕ, List, [], ◌∷◌, codes, Bool, true, false, Result, Ok, Err, if◌then◌else◌}
 use Rattle.std.specs.Str.{bytes_eq}
 use Rattle.nm_edge.specs.Layouts.{Layout, dense, in_radix}
-use Rattle.nm_files.specs.declared.fault.Reason.{Reason}
-use Rattle.nm_files.specs.declared.fault.Reason.TheVariants as reason
-use Rattle.nm_files.specs.declared.header.Command.{Command}
-use Rattle.nm_files.specs.declared.header.Command.TheVariants.{Replay, Serial, Stress}
-use Rattle.nm_files.specs.declared.header.Limits.{Limits}
-use Rattle.nm_files.specs.declared.header.Header.{Header}
+use Rattle.nm_files.specs.declared.read.fault.Reason.{Reason}
+use Rattle.nm_files.specs.declared.read.fault.Reason.TheVariants as reason
+use Rattle.nm_files.specs.declared.read.header.Command.{Command}
+use Rattle.nm_files.specs.declared.read.header.Command.TheVariants.{Replay, Serial, Stress}
+use Rattle.nm_files.specs.declared.read.header.Limits.{Limits}
+use Rattle.nm_files.specs.declared.read.header.Header.{Header}
 use Rattle.nm_files.specs.Lines.{number}
 use Rattle.nm_model.specs.Step.{outside}
 

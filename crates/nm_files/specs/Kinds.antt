@@ -6,16 +6,16 @@ use Rattle.std.specs.Option.{ok_or}
 use Rattle.std.specs.Str.{bytes_eq}
 use Rattle.nm_model.specs.declared.event.Event.{Event}
 use Rattle.nm_model.specs.declared.event.Event.TheVariants as event
-use Rattle.nm_files.specs.declared.entry.ScriptCall.{ScriptCall}
-use Rattle.nm_files.specs.declared.entry.ScriptCall.TheVariants as call
-use Rattle.nm_files.specs.declared.fault.Reason.{Reason}
-use Rattle.nm_files.specs.declared.fault.Reason.TheVariants as reason
-use Rattle.nm_files.specs.declared.kind.Kind.{Kind}
-use Rattle.nm_files.specs.declared.kind.Kind.TheVariants.{SightFor, Sight, Announce, LeaveWith, Leave, Scan, Advance, Claim, Give, Look, Fill, Link, Flag, Tag, Splice, Has, Insert, Delete, Finish, Pin, Unpin, Collect, Resign}
-use Rattle.nm_files.specs.declared.value.Argument.{Argument}
-use Rattle.nm_files.specs.declared.value.Argument.TheVariants as a
-use Rattle.nm_files.specs.declared.value.Value.{Value}
-use Rattle.nm_files.specs.declared.value.Value.TheVariants.{Place, Number, Key, Worker, Field, Side, Op, Answer}
+use Rattle.nm_files.specs.declared.read.entry.ScriptCall.{ScriptCall}
+use Rattle.nm_files.specs.declared.read.entry.ScriptCall.TheVariants as call
+use Rattle.nm_files.specs.declared.read.fault.Reason.{Reason}
+use Rattle.nm_files.specs.declared.read.fault.Reason.TheVariants as reason
+use Rattle.nm_files.specs.declared.read.kind.Kind.{Kind}
+use Rattle.nm_files.specs.declared.read.kind.Kind.TheVariants.{SightFor, Sight, Announce, LeaveWith, Leave, Scan, Advance, Claim, Give, Look, Fill, Link, Flag, Tag, Splice, Has, Insert, Delete, Finish, Pin, Unpin, Collect, Resign}
+use Rattle.nm_files.specs.declared.read.value.Argument.{Argument}
+use Rattle.nm_files.specs.declared.read.value.Argument.TheVariants as a
+use Rattle.nm_files.specs.declared.read.value.Value.{Value}
+use Rattle.nm_files.specs.declared.read.value.Value.TheVariants.{Place, Number, Key, Worker, Field, Side, Op, Answer}
 use Rattle.nm_files.specs.Formats.{Format}
 
 -- the word of each kind

@@ -7,3 +7,5 @@ pub mod Kinds
 pub mod Headers
 pub mod Entries
 pub mod Reasons
+pub mod Replies
+pub mod LastLines

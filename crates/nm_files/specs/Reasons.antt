@@ -1,14 +1,14 @@
 -- When each reason holds of a line, independently of the others.
 use Rattle.std.specs.Prelude.{ℕ, List, [], ◌∷◌, length, drop, slice_index_or, Bool, true, false, not, ◌&&◌, ◌||◌, ◌==◌, nat_lt, Option, Some, None, Result, Ok, Err, is_ok}
 use Rattle.std.specs.List.{list_all}
-use Rattle.nm_files.specs.declared.fault.Reason.{Reason}
-use Rattle.nm_files.specs.declared.fault.Reason.TheVariants.{Long, Header, Nodes, Workers, Tries, Form, Kind, Fields, Number, Worker, Key}
-use Rattle.nm_files.specs.declared.header.Command.{Command as CommandOf}
-use Rattle.nm_files.specs.declared.header.Header.{Header as HeaderOf}
-use Rattle.nm_files.specs.declared.header.Limits.{Limits}
-use Rattle.nm_files.specs.declared.kind.Kind.{Kind as KindOf}
-use Rattle.nm_files.specs.declared.value.Argument.{Argument}
-use Rattle.nm_files.specs.declared.value.Argument.TheVariants as a
+use Rattle.nm_files.specs.declared.read.fault.Reason.{Reason}
+use Rattle.nm_files.specs.declared.read.fault.Reason.TheVariants.{Long, Header, Nodes, Workers, Tries, Form, Kind, Fields, Number, Worker, Key}
+use Rattle.nm_files.specs.declared.read.header.Command.{Command as CommandOf}
+use Rattle.nm_files.specs.declared.read.header.Header.{Header as HeaderOf}
+use Rattle.nm_files.specs.declared.read.header.Limits.{Limits}
+use Rattle.nm_files.specs.declared.read.kind.Kind.{Kind as KindOf}
+use Rattle.nm_files.specs.declared.read.value.Argument.{Argument}
+use Rattle.nm_files.specs.declared.read.value.Argument.TheVariants as a
 use Rattle.nm_files.specs.Lines.{fields, is_field, number, place}
 use Rattle.nm_files.specs.Values.{by_word, field_words, side_words, op_words, answer_words, is_key}
 use Rattle.nm_files.specs.Kinds.{kind_row, kind_of}

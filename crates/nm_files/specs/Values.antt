@@ -8,12 +8,12 @@ use Rattle.nm_model.specs.declared.event.Op.{Op}
 use Rattle.nm_model.specs.declared.event.Op.TheVariants as op
 use Rattle.nm_edge.specs.declared.edge.Side.{Side}
 use Rattle.nm_edge.specs.declared.edge.Side.TheVariants as side
-use Rattle.nm_files.specs.declared.fault.Reason.{Reason}
-use Rattle.nm_files.specs.declared.fault.Reason.TheVariants as reason
-use Rattle.nm_files.specs.declared.value.Argument.{Argument}
-use Rattle.nm_files.specs.declared.value.Argument.TheVariants as a
-use Rattle.nm_files.specs.declared.value.Value.{Value}
-use Rattle.nm_files.specs.declared.value.Value.TheVariants as value
+use Rattle.nm_files.specs.declared.read.fault.Reason.{Reason}
+use Rattle.nm_files.specs.declared.read.fault.Reason.TheVariants as reason
+use Rattle.nm_files.specs.declared.read.value.Argument.{Argument}
+use Rattle.nm_files.specs.declared.read.value.Argument.TheVariants as a
+use Rattle.nm_files.specs.declared.read.value.Value.{Value}
+use Rattle.nm_files.specs.declared.read.value.Value.TheVariants as value
 use Rattle.nm_files.specs.Files.{least}
 use Rattle.nm_files.specs.Lines.{number, place}
 

@@ -1,13 +1,6 @@
-//! Parses a file of events or of calls, or returns its first faulty line.
+//! The files of `nm_stress`: reads events and calls, and writes replies and states.
 #![tactic(auto)]
 
-pub mod entry;
-pub mod fault;
-pub mod field;
-pub mod file;
-pub mod header;
-pub mod kind;
-pub mod line;
-pub mod pieces;
+pub mod read;
 pub mod stream;
-pub mod value;
+pub mod write;

@@ -2,7 +2,7 @@
 ghost use Rattle.std.specs.Prelude.{◌≡◌, ◌<◌, ◌≤◌, ◌⊎◌, length, take, drop, Some, IfOk, IfSome, OnOk, IfErr};
 ghost use Rattle.std.specs.Io.KnownBytes.{Appends, Consumes, IsAtEnd};
 
-use crate::fault::RunFault;
+use crate::read::fault::RunFault;
 use std::alloc::Global;
 use std::io::{Read, Write};
 

@@ -1,6 +1,5 @@
 -- One more event leads on from a state that events lead to.
 use Rattle.std.proofs.Common.{◌≡◌, ℕ, List, [], ◌∷◌, ◌++◌, refl, ap, subst, ◌∙◌, ◌+◌, ◌<◌, length, take, get_or}
-use Rattle.std.proofs.lemmas.List.{take_more}
 use Rattle.std.specs.Prelude.{Option, Some, None}
 use Rattle.nm_edge.specs.Layouts.{Layout, IsLayout}
 use Rattle.nm_model.specs.declared.event.Event.{Event}
@@ -24,10 +23,6 @@ unfolding after trace
 trace-append s [] us = refl
 trace-append s (t ∷ ts) us = ap (λ (rest : List Turn). record { worker = t.0; event = t.1; outcome = outcome s t } ∷ rest) (trace-append (next s t) ts us)
 
-pub reachable_start : (L : Layout) → IsLayout L → IsReachable (start L)
-unfolding after
-reachable_start L fits = record { fits = fits; events = []; leads = refl }
-
 -- each event leaves the layout
 next-layout : (s : State) (t : ℕ × Event) → (next s t).layout ≡ s.layout
 unfolding next applied
@@ -47,13 +42,3 @@ reachable_next s t r =
       events = r.events ++ t ∷ [];
       leads = ap (λ (L : Layout). after (start L) (r.events ++ t ∷ [])) kept ∙ after-append (start s.layout) r.events (t ∷ []) ∙ ap (λ (x : State). next x t) r.leads;
     }
-
--- an event that is allowed
-pub reachable_applied : (s : State) (w : ℕ) (e : Event) → refused s w e ≡ None → IsReachable s → IsReachable (applied s w e)
-unfolding next
-reachable_applied s w e allowed r = subst (λ (o : Option Refused). IsReachable (unless_refused o s (applied s w e))) allowed (reachable_next s (w, e) r)
-
--- the state after one turn more
-pub after-more : (s : State) (ts : List (ℕ × Event)) (i : ℕ) (d : ℕ × Event) → i < length ts → after s (take (i + 1) ts) ≡ next (after s (take i ts)) (get_or ts i d)
-unfolding after
-after-more s ts i d below = ap (after s) (take_more ts i d below) ∙ after-append s (take i ts) (get_or ts i d ∷ [])

@@ -47,10 +47,6 @@ module _ (n m : ℕ) (known : List (ℕ × Seen)) (s p : ℕ) (more : n ≡ m + 
 
 -- ---- the memory
 
-pub remembers_none : (known : List (ℕ × Seen)) → Remembers known []
-unfolding Remembers
-remembers_none known = All-nil (IsRight known)
-
 -- a step that leads nowhere yet
 pub remembers_place : (known : List (ℕ × Seen)) (steps : List ChainStep) (x : ChainStep) → x.next.slot ≡ 0 → Remembers known steps → Remembers known (steps ++ x ∷ [])
 unfolding Remembers

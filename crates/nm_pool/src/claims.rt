@@ -1,4 +1,5 @@
-//! Slots claimed in the order of a worker's placement.
+//! Slots claimed in the order of a worker's placement. `claim_by` chooses the way of its fit; each
+//! way is a function of its own.
 ghost use Rattle.std.specs.Prelude.{◌≡◌, ◌+◌, ◌*◌, ◌≤◌, List, None, length, IfSome};
 ghost use Rattle.nm_model.specs.Walks.{Entry};
 ghost use Rattle.nm_order.specs.Told.{IsNew};

@@ -3,3 +3,11 @@ pub mod Moves
 pub mod Paid
 pub mod Tries
 pub mod Worked
+pub mod Pending
+pub mod Pins
+pub mod Lost
+pub mod Lookups
+pub mod Inserts
+pub mod Deletes
+pub mod Walked
+pub mod Alone

@@ -2,10 +2,10 @@
 use Rattle.std.proofs.Common.{◌≡◌, ℕ, List, take, Ok, Err, refl, sym, ap, ◌∙◌}
 use Rattle.std.specs.Prelude.{Option, Some, None, IfSome, IsOk}
 use Rattle.std.specs.Io.KnownBytes.{Appends}
-use Rattle.nm_files.specs.declared.fault.RunFault.{RunFault}
-use Rattle.nm_files.specs.declared.fault.RunFault.TheVariants as run
+use Rattle.nm_files.specs.declared.read.fault.RunFault.{RunFault}
+use Rattle.nm_files.specs.declared.read.fault.RunFault.TheVariants as run
 use Rattle.nm_files.specs.Files.{Fails, IfLine}
-use Rattle.nm_files.specs.declared.header.Command.TheVariants.{Replay}
+use Rattle.nm_files.specs.declared.read.header.Command.TheVariants.{Replay}
 use Rattle.nm_files.specs.Entries.{line_of, first_line_of}
 use Rattle.nm_files.specs.Kinds.{events}
 use Rattle.nm_replay.specs.Output.{output_of, Writes}

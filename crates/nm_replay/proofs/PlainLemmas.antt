@@ -7,7 +7,7 @@ use Rattle.nm_model.specs.Runs.{start, after, trace}
 use Rattle.nm_model.specs.Ordered.{Configuration, plain, after_in, trace_in}
 use Rattle.nm_model.specs.Reports.{counts}
 use Rattle.nm_laws.proofs.Configurations.{plain_runs}
-use Rattle.nm_print.specs.LastLines.{places_line}
+use Rattle.nm_files.specs.LastLines.{places_line}
 use Rattle.nm_replay.specs.LastState.{last_lines}
 use Rattle.nm_replay.specs.Output.{PlainFilesAreRuns}
 

@@ -3,8 +3,8 @@
 use Rattle.std.specs.Prelude.{ℕ, Bool, true, false, zero, suc, List, [], ◌++◌}
 use Rattle.nm_model.specs.Runs.{State}
 use Rattle.nm_model.specs.Reports.{ledger_of, counts, keys}
-use Rattle.nm_files.specs.declared.header.Header.{Header}
-use Rattle.nm_print.specs.LastLines.{ledger_lines, epoch_line, places_line, keys_line}
+use Rattle.nm_files.specs.declared.read.header.Header.{Header}
+use Rattle.nm_files.specs.LastLines.{ledger_lines, epoch_line, places_line, keys_line}
 
 -- the lines of the workers below this number, in the order of their numbers
 abbrev pub workers_lines : State → ℕ → List ℕ

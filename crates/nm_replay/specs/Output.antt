@@ -8,12 +8,12 @@ use Rattle.nm_model.specs.declared.event.Event.{Event}
 use Rattle.nm_model.specs.Runs.{State, start, after, trace}
 use Rattle.nm_model.specs.Reports.{counts}
 use Rattle.nm_model.specs.Ordered.{Configuration, opening_of, after_in, trace_in}
-use Rattle.nm_files.specs.declared.header.Header.{Header}
+use Rattle.nm_files.specs.declared.read.header.Header.{Header}
 use Rattle.nm_files.specs.Lines.{parts}
 use Rattle.nm_files.specs.Files.{Fault}
 use Rattle.nm_files.specs.Entries.{Schedule, schedule_of}
-use Rattle.nm_print.specs.Replies.{outcome_text}
-use Rattle.nm_print.specs.LastLines.{epoch_line, places_line}
+use Rattle.nm_files.specs.Replies.{outcome_text}
+use Rattle.nm_files.specs.LastLines.{epoch_line, places_line}
 use Rattle.nm_replay.specs.LastState.{workers_lines, last_lines}
 
 -- each line with the outcome of its event

@@ -7,8 +7,8 @@ ghost use Rattle.nm_model.specs.Reports.{ledger_of};
 ghost use Rattle.nm_replay.specs.LastState as spec;
 
 use nm_core::Core;
-use nm_files::header::Header;
-use nm_print::last_lines::{put_epoch, put_keys_line, put_ledger, put_places};
+use nm_files::read::header::Header;
+use nm_files::write::last_lines::{put_epoch, put_keys_line, put_ledger, put_places};
 use std::alloc::AllocError;
 
 /// Appends the lines of each worker, in the order of their numbers.

@@ -1,16 +1,16 @@
 //! The output for a schedule.
 ghost use Rattle.std.specs.Prelude.{◌≡◌, ◌++◌, codes, IfOk, OnOk};
 ghost use Rattle.nm_files.specs.Lines.{parts};
-ghost use Rattle.nm_print.specs.Replies.{outcome_text};
+ghost use Rattle.nm_files.specs.Replies.{outcome_text};
 ghost use Rattle.nm_replay.specs.LastState.{last_lines};
 ghost use Rattle.nm_replay.specs.Output as spec;
 
 use crate::last_state::put_last_lines;
 use nm_core::Core;
-use nm_files::header::Header;
-use nm_files::pieces::cut;
+use nm_files::read::header::Header;
+use nm_files::read::pieces::cut;
+use nm_files::write::reply::put_outcome;
 use nm_model::Turn;
-use nm_print::reply::put_outcome;
 use std::alloc::{AllocError, Global};
 
 /// Appends a line of the file with the outcome of its event.

@@ -5,9 +5,9 @@ ghost use Rattle.nm_replay.specs.Output.{opening_core, output_of, Writes};
 
 use crate::output::text_of;
 use nm_core::Core;
-use nm_files::fault::RunFault;
-use nm_files::file::schedule_of;
-use nm_files::header::Header;
+use nm_files::read::fault::RunFault;
+use nm_files::read::file::schedule_of;
+use nm_files::read::header::Header;
 use nm_files::stream::{LIMIT, input_of, write_text};
 use std::alloc::Global;
 use std::io::{Read, Write};

@@ -3,7 +3,7 @@ use Rattle.std.proofs.Common.{◌≡◌, Bool, inr, sym}
 use Rattle.std.specs.Prelude.{Option, Some, None, IfSome, Result}
 use Rattle.nm_serial.specs.declared.answer.Answer.{Answer}
 use Rattle.nm_serial.specs.Answers.{change_answer}
-use Rattle.nm_tree.specs.declared.fault.CallFault.{CallFault}
+use Rattle.nm_calls.specs.declared.fault.CallFault.{CallFault}
 use Rattle.nm_tree.specs.Workers.{WorkerView}
 use Rattle.nm_serial.specs.Makes.{HasSearched}
 

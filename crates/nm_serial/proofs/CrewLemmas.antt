@@ -7,8 +7,8 @@ use Rattle.std.proofs.lemmas.List.Sums.{sum_by-cons, sum_by-set}
 use Rattle.nm_serial.specs.declared.answer.Answer.{Answer}
 use Rattle.nm_epoch.specs.declared.collecting.HeldQueue.{HeldQueue}
 use Rattle.nm_epoch.specs.Collecting.{HaveLost}
-use Rattle.nm_files.specs.declared.entry.ScriptCall.{ScriptCall}
-use Rattle.nm_files.specs.declared.entry.ScriptCall.TheVariants.{Has, Insert, Delete, Finish, Pin, Unpin, Advance, Collect, Resign}
+use Rattle.nm_files.specs.declared.read.entry.ScriptCall.{ScriptCall}
+use Rattle.nm_files.specs.declared.read.entry.ScriptCall.TheVariants.{Has, Insert, Delete, Finish, Pin, Unpin, Advance, Collect, Resign}
 use Rattle.nm_steps.specs.Steps.{TreeView, IsOf}
 use Rattle.nm_tree.specs.Closing.{given_in}
 use Rattle.nm_tree.specs.Resigning.{merged}

@@ -6,11 +6,11 @@ use Rattle.nm_files.specs.Lines.{parts}
 use Rattle.std.specs.Io.KnownBytes.{Appends}
 use Rattle.std.proofs.lemmas.Bool.{cases_lt}
 use Rattle.std.proofs.lemmas.List.{length-take, take_all}
-use Rattle.nm_files.specs.declared.fault.RunFault.{RunFault}
-use Rattle.nm_files.specs.declared.fault.RunFault.TheVariants as run
+use Rattle.nm_files.specs.declared.read.fault.RunFault.{RunFault}
+use Rattle.nm_files.specs.declared.read.fault.RunFault.TheVariants as run
 use Rattle.nm_files.specs.Files.{Fails, IfLine}
 use Rattle.nm_files.proofs.LimitLemmas.{same_file, within_limit}
-use Rattle.nm_files.specs.declared.header.Command.{Command}
+use Rattle.nm_files.specs.declared.read.header.Command.{Command}
 use Rattle.nm_files.specs.Entries.{Script, first_line_of, line_of, script_of}
 use Rattle.nm_files.specs.Kinds.{calls}
 use Rattle.nm_serial.specs.Playing.{FailsSo, EndsSo, IsOfOneThread}

@@ -2,7 +2,7 @@
 use Rattle.std.proofs.Common.{◌≡◌, ◌≢◌, ◌+◌, ℕ, List, [], ◌∷◌, refl, ap}
 use Rattle.std.proofs.lemmas.Bool.{ne_eqb, eq-eqb}
 use Rattle.nm_serial.specs.declared.answer.Answer.{Answer}
-use Rattle.nm_files.specs.declared.entry.ScriptCall.{ScriptCall}
+use Rattle.nm_files.specs.declared.read.entry.ScriptCall.{ScriptCall}
 use Rattle.nm_steps.specs.Steps.{TreeView}
 use Rattle.nm_tree.specs.Workers.{WorkerView}
 use Rattle.nm_serial.specs.declared.own_lines.Stop.{Stop}

@@ -3,7 +3,7 @@ use Rattle.std.proofs.Common.{◌≡◌, ◌<◌, ◌++◌, ◌∙◌, ℕ, zero
 use Rattle.std.specs.Prelude.{slice_index_or}
 use Rattle.std.proofs.lemmas.List.Elements.{All-map}
 use Rattle.std.proofs.lemmas.List.Sums.{sum_by-cons}
-use Rattle.nm_files.specs.declared.entry.ScriptCall.{ScriptCall}
+use Rattle.nm_files.specs.declared.read.entry.ScriptCall.{ScriptCall}
 use Rattle.nm_steps.specs.Steps.{TreeView, IsOf}
 use Rattle.nm_tree.specs.Closing.{given_in}
 use Rattle.nm_tree.specs.Workers.{WorkerView, AreNew}

@@ -3,7 +3,7 @@
 use Rattle.std.specs.Prelude.{ℕ, List, ◌++◌, codes, decimal, map}
 use Rattle.nm_epoch.specs.declared.collecting.Entry.{Entry}
 use Rattle.nm_epoch.specs.Collecting.{queued}
-use Rattle.nm_print.specs.LastLines.{spaced_entries, queue_text}
+use Rattle.nm_files.specs.LastLines.{spaced_entries, queue_text}
 
 -- each entry after a space
 abbrev pub spaced_waiting : List Entry → List ℕ

@@ -3,8 +3,8 @@ use Rattle.std.specs.Prelude.{◌≡◌, ◌≢◌, ◌⊎◌, ℕ, List, [], �
 use Rattle.nm_serial.specs.declared.answer.Answer.{Answer}
 use Rattle.nm_serial.specs.declared.answer.Answer.TheVariants as answer
 use Rattle.nm_serial.specs.declared.answer.Refusal.TheVariants as refused
-use Rattle.nm_files.specs.declared.entry.ScriptCall.{ScriptCall}
-use Rattle.nm_files.specs.declared.entry.ScriptCall.TheVariants.{Resign}
+use Rattle.nm_files.specs.declared.read.entry.ScriptCall.{ScriptCall}
+use Rattle.nm_files.specs.declared.read.entry.ScriptCall.TheVariants.{Resign}
 use Rattle.nm_steps.specs.Steps.{TreeView, IsOf}
 use Rattle.nm_tree.specs.Resigning.{HasResigned}
 use Rattle.nm_tree.specs.Workers.{WorkerView}

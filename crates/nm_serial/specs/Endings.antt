@@ -2,7 +2,7 @@
 use Rattle.std.specs.Prelude.{◌≡◌, ℕ, List, [], ◌∷◌, ◌++◌}
 use Rattle.nm_serial.specs.ClosedLines.{closed_worker_line, closed_places_line}
 use Rattle.nm_epoch.specs.declared.collecting.HeldQueue.{HeldQueue}
-use Rattle.nm_print.specs.LastLines.{keys_line}
+use Rattle.nm_files.specs.LastLines.{keys_line}
 use Rattle.nm_steps.specs.Steps.{TreeView}
 use Rattle.nm_tree.specs.Closing.{IsClosed}
 use Rattle.nm_tree.specs.Workers.{WorkerView, counts_in, waiting_in}

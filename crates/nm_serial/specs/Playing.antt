@@ -1,8 +1,8 @@
 -- How a run of a script may end, by the bytes of its file.
 use Rattle.std.specs.Prelude.{◌≡◌, ℕ, List, Result, Ok, Err, IsOk}
-use Rattle.nm_files.specs.declared.fault.RunFault.{RunFault}
-use Rattle.nm_files.specs.declared.fault.RunFault.TheVariants as run
-use Rattle.nm_files.specs.declared.header.Command.{Command}
+use Rattle.nm_files.specs.declared.read.fault.RunFault.{RunFault}
+use Rattle.nm_files.specs.declared.read.fault.RunFault.TheVariants as run
+use Rattle.nm_files.specs.declared.read.header.Command.{Command}
 use Rattle.nm_files.specs.Entries.{script_of}
 
 -- the fault of a run: the file alone decides whether a line is faulty, and only a script that is

@@ -1,7 +1,7 @@
 -- Why the workers of a script have not all played their lines.
 use Rattle.std.specs.Prelude.{ℕ}
-use Rattle.nm_files.specs.declared.fault.RunFault.{RunFault}
-use Rattle.nm_files.specs.declared.fault.RunFault.TheVariants as run
+use Rattle.nm_files.specs.declared.read.fault.RunFault.{RunFault}
+use Rattle.nm_files.specs.declared.read.fault.RunFault.TheVariants as run
 
 -- memory or a thread was refused
 abbrev pub IsRefusal : RunFault → Type 0

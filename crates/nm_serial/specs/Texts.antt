@@ -3,10 +3,10 @@ use Rattle.std.specs.Prelude.{◌≡◌, ℕ, List, ◌++◌, length, map, drop,
 use Rattle.std.specs.Io.KnownBytes.{Appends}
 use Rattle.nm_serial.specs.declared.answer.Answer.{Answer}
 use Rattle.nm_serial.specs.AnswerLines.{lines}
-use Rattle.nm_files.specs.declared.fault.RunFault.{RunFault}
-use Rattle.nm_files.specs.declared.fault.RunFault.TheVariants as run
+use Rattle.nm_files.specs.declared.read.fault.RunFault.{RunFault}
+use Rattle.nm_files.specs.declared.read.fault.RunFault.TheVariants as run
 use Rattle.nm_files.specs.Lines.{parts}
-use Rattle.nm_files.specs.declared.header.Command.{Command}
+use Rattle.nm_files.specs.declared.read.header.Command.{Command}
 use Rattle.nm_files.specs.Entries.{Script, script_of}
 use Rattle.nm_steps.specs.Steps.{TreeView}
 use Rattle.nm_edge.specs.declared.placement.Fit.TheVariants.{FirstFit}

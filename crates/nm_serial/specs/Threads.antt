@@ -3,9 +3,9 @@ use Rattle.std.specs.Prelude.{◌≡◌, ◌<◌, ◌==◌, ◌++◌, if◌then�
 use Rattle.std.specs.Global.{Global}
 use Rattle.nm_serial.specs.declared.answer.Answer.{Answer}
 use Rattle.nm_serial.specs.AnswerLines.{lines}
-use Rattle.nm_files.specs.declared.fault.RunFault.{RunFault}
-use Rattle.nm_files.specs.declared.fault.RunFault.TheVariants as run
-use Rattle.nm_files.specs.declared.entry.ScriptCall.{ScriptCall}
+use Rattle.nm_files.specs.declared.read.fault.RunFault.{RunFault}
+use Rattle.nm_files.specs.declared.read.fault.RunFault.TheVariants as run
+use Rattle.nm_files.specs.declared.read.entry.ScriptCall.{ScriptCall}
 use Rattle.nm_steps.specs.Steps.{TreeView, IsOf}
 use Rattle.nm_tree.specs.Workers.{WorkerView}
 use Rattle.nm_serial.specs.declared.own_lines.Stop.{Stop}

@@ -59,6 +59,7 @@ pub fn of_change(changed: Result<bool, CallFault>) -> Option<Answer>
         Err(CallFault::NoMemory) => None,
         Err(CallFault::Unfinished) => Some(Answer::Unfinished),
         Err(CallFault::Pending) => Some(Answer::Pending),
+        Err(CallFault::Pinned) => Some(Answer::Refused(Refusal::Held)),
     }
 }
 
@@ -70,6 +71,7 @@ pub fn of_pin(pinned: Result<u64, PinFault>) -> Answer
         Ok(epoch) => Answer::Pinned(epoch),
         Err(PinFault::Moved { epoch }) => Answer::Moved(epoch),
         Err(PinFault::Pending) => Answer::Pending,
+        Err(PinFault::Pinned) => Answer::Refused(Refusal::Held),
     }
 }
 

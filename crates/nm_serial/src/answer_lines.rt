@@ -4,8 +4,8 @@ ghost use Rattle.nm_files.specs.Lines.{parts};
 ghost use Rattle.nm_serial.specs.AnswerLines as spec;
 
 use crate::answer::{Answer, Refusal};
-use nm_files::pieces::cut;
-use nm_print::reply::put_number;
+use nm_files::read::pieces::cut;
+use nm_files::write::reply::put_number;
 use std::alloc::AllocError;
 
 /// Appends a word and a number, and a second word and number.

@@ -4,10 +4,10 @@ ghost use Rattle.std.specs.Prelude.{◌≡◌, ◌++◌, OnOk};
 ghost use Rattle.nm_serial.specs.ClosedLines as spec;
 
 use nm_epoch::Entry;
+use nm_files::write::last_lines::put_entry;
+use nm_files::write::reply::put_number;
 use nm_limbo::BlockQueue;
 use nm_model::Queued;
-use nm_print::last_lines::put_entry;
-use nm_print::reply::put_number;
 use std::alloc::AllocError;
 
 /// Appends the entries of a queue, each after a space, and takes them out of it.

@@ -6,7 +6,7 @@ ghost use Rattle.nm_steps.specs.Steps.{IsOf};
 
 use crate::answer::{Answer, Refusal};
 use crate::making::make;
-use nm_files::entry::ScriptCall;
+use nm_files::read::entry::ScriptCall;
 use nm_tree::{ResignReason, Tree, Worker};
 
 /// Makes a call that involves no other worker, by the worker at its place, if it has not resigned.

@@ -6,7 +6,7 @@ ghost use Rattle.nm_tree.specs.Answers.{HasAnswered, HasInserted, HasDeleted};
 
 use crate::answer::{Answer, Refusal, of_advance, of_change, of_collection, of_pin};
 use nm_edge::Key;
-use nm_files::entry::ScriptCall;
+use nm_files::read::entry::ScriptCall;
 use nm_tree::{Tree, Worker};
 
 /// Makes a look-up, unless the worker is pinned by its caller.

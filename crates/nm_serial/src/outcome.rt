@@ -9,9 +9,9 @@ ghost use Rattle.nm_serial.specs.Endings.{IsEnding, worker_lines, ending_lines};
 
 use crate::closed_lines::{put_closed_places, put_worker};
 use nm_epoch::HeldQueue;
-use nm_files::fault::RunFault;
-use nm_files::header::Header;
-use nm_print::last_lines::put_keys_line;
+use nm_files::read::fault::RunFault;
+use nm_files::read::header::Header;
+use nm_files::write::last_lines::put_keys_line;
 use nm_tree::{CloseError, CloseReason, Counts, Fit, Report, Tree, Worker};
 use std::alloc::{AllocError, Global};
 

@@ -6,7 +6,7 @@ ghost use Rattle.nm_serial.specs.Makes.{HasMade, HasStopped, IsOwnCall, PlaysOwn
 use crate::answer::Answer;
 use crate::gate::Gate;
 use crate::making::make;
-use nm_files::entry::ScriptCall;
+use nm_files::read::entry::ScriptCall;
 use nm_tree::{Tree, Worker};
 use std::alloc::Global;
 

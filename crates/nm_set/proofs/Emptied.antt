@@ -1,18 +1,17 @@
--- What two moves of the epoch leave to wait: nothing, where no worker held them back.
-use Rattle.std.proofs.Common.{◌≡◌, ◌≢◌, ℕ, zero, suc, ◌+◌, ◌≤◌, ◌⊎◌, inl, inr, Bool, true, cond, List, [], ◌∷◌, ◌++◌, append_assoc, length, refl, sym, ap, subst, ◌∙◌, arith}
-use Rattle.std.specs.Prelude.{Option, Some, None, map, slice_get, option_map, Contains}
-use Rattle.std.specs.List.{prefix_len}
-use Rattle.std.proofs.lemmas.Bool.{cond_both, le-leb}
-use Rattle.std.proofs.lemmas.List.{append-nil, append_cancel_left, drop_all, length-append}
-use Rattle.std.proofs.lemmas.List.Elements.{Contains-append_left, Contains-append_right}
-use Rattle.std.proofs.lemmas.List.Folds.{length-prefix_len}
-use Rattle.std.proofs.lemmas.List.Sums.{sum_by-cons, take_while-cons}
+-- What two moves of the epoch leave to wait: nothing, if no worker held them back.
+use Rattle.std.proofs.Common.{◌≡◌, ◌≢◌, ℕ, zero, suc, ◌+◌, ◌*◌, ◌≤◌, ◌==◌, ◌⊎◌, inl, inr, Bool, true, false, true≢false, cond, List, [], ◌∷◌, ◌++◌, append_assoc, length, refl, sym, ap, subst, ◌∙◌, arith}
+use Rattle.std.specs.Prelude.{Option, Some, None, Result, Ok, Err, map, slice_get, option_map, All, Contains}
+use Rattle.std.proofs.lemmas.Bool.{cond_both, eqb-true, le-leb, or_cases}
+use Rattle.std.proofs.lemmas.List.{append-nil, append_cancel_left}
+use Rattle.std.proofs.lemmas.List.Elements.{All-contains, Contains-append_cases, Contains-append_left, Contains-append_right}
+use Rattle.std.proofs.lemmas.List.Sums.{take_while-cons}
 use Rattle.std.proofs.lemmas.Option.{none-some, same_Some, slice_get-map}
 use Rattle.nm_edge.specs.Layouts.{Layout}
 use Rattle.nm_model.specs.declared.event.Event.{Event}
 use Rattle.nm_model.specs.declared.event.Event.TheVariants as event
 use Rattle.nm_model.specs.declared.reply.Reply.{Reply}
 use Rattle.nm_model.specs.declared.reply.Reply.TheVariants as reply
+use Rattle.nm_model.specs.declared.reply.Refused.{Refused}
 use Rattle.nm_model.specs.declared.ledger.Queued.{Queued}
 use Rattle.nm_model.specs.Knowledge.{Knowledge}
 use Rattle.nm_model.specs.Learning.{learn}
@@ -20,12 +19,13 @@ use Rattle.nm_model.specs.Ledgers.{held, queue_of}
 use Rattle.nm_model.specs.Lawful.{NoLabelIsAboveTheEpoch}
 use Rattle.nm_model.specs.Runs.{State, of, reply_of}
 use Rattle.nm_model.specs.Step.{reply, reply_sight, reply_scan, last_number}
-use Rattle.nm_model.specs.Walks.{Entry as LogEntry}
+use Rattle.nm_model.specs.Headline.{freed_by}
+use Rattle.nm_model.specs.Walks.{Entry as LogEntry, logged_by}
 use Rattle.nm_model.specs.declared.trace.Turn.{Turn}
 use Rattle.nm_laws.proofs.Configurations.{after_in-append}
 use Rattle.nm_model.specs.Ordered.{Configuration, ordered, after_in, trace_in}
 use Rattle.nm_laws.proofs.Labels.{no_label_is_above}
-use Rattle.nm_order.specs.Logs.{part_of, known_by, IsLogOf}
+use Rattle.nm_order.specs.Logs.{part_of, known_by, IsLogOf, is_leaver, takes_part}
 use Rattle.nm_order.specs.Reads.{sight_epoch, HasRead}
 use Rattle.nm_order.proofs.LastEntries.{known_more}
 use Rattle.nm_order.proofs.OrderedLaws.{each_ordered, law_of_state}
@@ -47,11 +47,15 @@ use Rattle.nm_epoch.specs.Scans.{AllLetPass, LooksAt, IsAdvance, SightThenScans}
 use Rattle.nm_epoch.proofs.Fronts.{shown_queue}
 use Rattle.nm_calls.specs.PlainWalks.{events_of}
 use Rattle.nm_calls.proofs.PlainLooks.{as_events, events_go_on}
-use Rattle.nm_busy.proofs.LostPins.{part-append, turns_between}
-use Rattle.nm_tree.specs.Workers.{WorkerView, IsAs, IsBetweenCalls, waiting_in}
+use Rattle.nm_progress.proofs.LostPins.{part-append, turns_between}
+use Rattle.nm_calls.specs.Won.{HasWon}
+use Rattle.nm_tree.specs.Running.{IsFreedInGrace}
+use Rattle.nm_tree.specs.Workers.{WorkerView, IsAs, IsBetweenCalls}
+use Rattle.nm_tree.proofs.Quiet.{Quiet, advanced, collected}
 use Rattle.nm_tree.specs.Calls.{LeavesAdvance, LeavesCollect}
-use Rattle.nm_set.specs.Tended.{IsRelieved, FindsBehind, HasReadSince, WasElsewhere, WasMovedOn, found_behind}
-use Rattle.nm_set.proofs.Tending.{Follows, follows_then}
+use Rattle.nm_set.specs.Managed.{Collects, FindsBehind, GoesOn, HasFoundElsewhere, HasMade, HasSighted, Since}
+use Rattle.nm_set.specs.Rounds.{IsOnward, IsRelieved, found_behind}
+use Rattle.nm_set.proofs.Managing.{Follows, follows_then, goes_advance, goes_collect, goes_then, goes_more, wins_after}
 
 -- ---- what is ripe
 
@@ -72,41 +76,24 @@ all_ripe epoch n [] late are = refl
 all_ripe epoch n (e ∷ es) late are =
     take_while-cons (is_ripe epoch) e es ∙ (ap (λ (b : Bool). cond b (e ∷ ripe_part epoch es) []) (ripe_so epoch n e late are.0) ∙ ap (λ (l : List Entry). e ∷ l) (all_ripe epoch n es late are.1))
 
-none_left : (epoch n : ℕ) (es : List Entry) → n + 2 ≤ epoch → AreLabelledBy n es → rest_of epoch es ≡ []
-none_left epoch n es late are =
-    let front = length-prefix_len (is_ripe epoch) es in
-    let all : length (ripe_part epoch es) ≡ length es = ap (λ (l : List Entry). length l) (all_ripe epoch n es late are) in
-    drop_all (prefix_len (is_ripe epoch) es) es (omega (arith, front, all))
-
-abbrev waits_in : HeldQueue → ℕ
-waits_in h = length h.queue.items
-
--- the queues whose labels are so low are empty behind a collection
+-- the labels of these queues are so low
 AllLabelled : ℕ → List HeldQueue → Type 0
 AllLabelled n [] = Unit {0}
 AllLabelled n (h ∷ hs) = AreLabelledBy n h.queue.items × AllLabelled n hs
 
-emptied : (epoch n : ℕ) (hs gs : List HeldQueue) → n + 2 ≤ epoch → AllLabelled n hs → HaveLost epoch hs gs → waiting_in gs ≡ 0
+-- what waits in them is ripe
+is_ripe_of : (epoch n : ℕ) (hs : List HeldQueue) (h : HeldQueue) (e : Entry) → n + 2 ≤ epoch → AllLabelled n hs → Contains hs h → Contains h.queue.items e → Contains (ripe_of epoch hs) e
 unfolding AllLabelled
-emptied epoch n [] [] late are lost = refl
-emptied epoch n [] (g ∷ gs) late are lost = absurd lost
-emptied epoch n (h ∷ hs) [] late are lost = absurd lost
-emptied epoch n (h ∷ hs) (g ∷ gs) late are lost =
-    let sum = sum_by-cons waits_in g gs in
-    let here : length g.queue.items ≡ 0 = ap (λ (es : List Entry). length es) (lost.0.items ∙ none_left epoch n h.queue.items late are.0) in
-    let rest = emptied epoch n hs gs late are.1 lost.1 in
-    omega (arith, sum, here, rest)
+is_ripe_of epoch n [] h e late are (i, below, at) waits = absurd (omega (arith, below))
+is_ripe_of epoch n (g ∷ hs) h e late are (zero, below, at) waits =
+    Contains-append_left (ripe_part epoch g.queue.items) (ripe_of epoch hs) e
+    (subst (λ (es : List Entry). Contains es e) (sym (all_ripe epoch n g.queue.items late are.0)) (subst (λ (x : HeldQueue). Contains x.queue.items e) (sym at) waits))
+is_ripe_of epoch n (g ∷ hs) h e late are (suc i, below, at) waits =
+    Contains-append_right (ripe_part epoch g.queue.items) (ripe_of epoch hs) e (is_ripe_of epoch n hs h e late are.1 (i, omega (arith, below), at) waits)
 
--- and all of them was freed
-all_of_them : (epoch n : ℕ) (hs : List HeldQueue) → n + 2 ≤ epoch → AllLabelled n hs → length (ripe_of epoch hs) ≡ waiting_in hs
-unfolding AllLabelled
-all_of_them epoch n [] late are = refl
-all_of_them epoch n (h ∷ hs) late are =
-    let parts = length-append (ripe_part epoch h.queue.items) (ripe_of epoch hs) in
-    let here : length (ripe_part epoch h.queue.items) ≡ length h.queue.items = ap (λ (es : List Entry). length es) (all_ripe epoch n h.queue.items late are.0) in
-    let rest = all_of_them epoch n hs late are.1 in
-    let sum = sum_by-cons waits_in h hs in
-    omega (arith, parts, here, rest, sum)
+-- each node of these queues was freed, as the pass has seen
+abbrev AreFreed : List HeldQueue → PassView → Type 0
+AreFreed hs p = (h : HeldQueue) → Contains hs h → (e : Entry) → Contains h.queue.items e → Contains (freed_by p.view.past) e.node
 
 -- ---- the epoch that a pass has seen to stand
 
@@ -308,8 +295,19 @@ advanced_so m w z advance.Spent moved l = absurd moved
 
 -- ---- the whole
 
--- what was seen before each part of it and behind the last
-pub record AreSeen {b : TreeView} {w z : WorkerView} (r : IsRelieved b w z) : Type 0 where
+-- two attempts to advance the epoch, and then a collection
+pub record Relieves (b : TreeView) (w z : WorkerView) : Type 0 where
+  pub moved : Advance
+  pub once : WorkerView
+  pub moves : LeavesAdvance b.layout.workers w once moved
+  pub moved_again : Advance
+  pub twice : WorkerView
+  pub moves_again : LeavesAdvance b.layout.workers once twice moved_again
+  pub collected : Collected
+  pub collects : LeavesCollect b.layout.nodes twice z collected
+
+-- what was seen before each part of it and after the last
+pub record AreSeen {b : TreeView} {w z : WorkerView} (r : Relieves b w z) : Type 0 where
   pub enough : 5 ≤ w.pass.view.layout.nodes
   pub first : HasSeen w.pass.view
   pub second : HasSeen r.once.pass.view
@@ -325,10 +323,10 @@ collect_reads n w z c seen_w seen_z l =
     (l.did.2 ∙ (ap (λ (old : List LogEntry). old ++ map freeing (ripe_of c.epoch w.queues)) sight.2 ∙ append_assoc w.pass.view.log ((event.Sight, sight.0) ∷ []) (map freeing (ripe_of c.epoch w.queues))))
 
 -- the pass goes on
-goes_on : (b : TreeView) (w z : WorkerView) (r : IsRelieved b w z) → Follows w.pass z.pass
+goes_on : (b : TreeView) (w z : WorkerView) (r : Relieves b w z) → Follows w.pass z.pass
 goes_on b w z r = follows_then w.pass r.twice.pass z.pass (follows_then w.pass r.once.pass r.twice.pass (record { same = r.moves.same; past = r.moves.past }) (record { same = r.moves_again.same; past = r.moves_again.past })) (record { same = r.collects.same; past = r.collects.past })
 
-all_freed : (b : TreeView) (w z : WorkerView) (r : IsRelieved b w z) → AreSeen r → HasMoved r.moved → HasMoved r.moved_again → WasMovedOn w.pass z.pass 2 × (r.collected.freed ≡ waiting_in w.queues) × (waiting_in z.queues ≡ 0)
+all_freed : (b : TreeView) (w z : WorkerView) (r : Relieves b w z) → AreSeen r → HasMoved r.moved → HasMoved r.moved_again → Since w.pass z.pass (λ ts. 2 ≤ number_of moves ts) × AreFreed w.queues z.pass
 all_freed b w z r s moved again =
     let m = b.layout.workers in
     let layout : r.once.pass.view.layout ≡ w.pass.view.layout = ap (λ (p : PassView). p.view.layout) r.moves.same in
@@ -338,12 +336,13 @@ all_freed b w z r s moved again =
     let late : epoch_seen w.pass + 2 ≤ r.collected.epoch = omega (arith, one, two, three) in
     let are = all_labelled w.pass w.queues s.enough s.first s.between.queues in
     let queues : r.twice.queues ≡ w.queues = r.moves_again.queues ∙ r.moves.queues in
-    let lost = subst (λ (hs : List HeldQueue). HaveLost r.collected.epoch hs z.queues) queues r.collects.lost in
-    let count : r.collected.freed ≡ length (ripe_of r.collected.epoch w.queues) = subst (λ (hs : List HeldQueue). r.collected.freed ≡ length (ripe_of r.collected.epoch hs)) queues r.collects.freed in
     let on = goes_on b w z r in
     let grown = epoch_between w.pass z.pass s.first s.last on.same on.past.goes_on in
     let later = epoch_between r.twice.pass z.pass s.third s.last r.collects.same r.collects.past.goes_on in
-    (record { turns = on.past.goes_on.more; is = on.past.goes_on.is; moved = omega (arith, one, two, grown, later) }, count ∙ all_of_them r.collected.epoch (epoch_seen w.pass) w.queues late are, emptied r.collected.epoch (epoch_seen w.pass) w.queues z.queues late are lost)
+    let grace = subst (λ (hs : List HeldQueue). All (λ (e : Entry). IsFreedInGrace z.pass.view e.node) (ripe_of r.collected.epoch hs)) queues r.collects.grace in (
+      (on.past.goes_on.more, on.past.goes_on.is, omega (arith, one, two, grown, later)),
+      λ h there e waits. (All-contains (λ (x : Entry). IsFreedInGrace z.pass.view x.node) (ripe_of r.collected.epoch w.queues) e grace (is_ripe_of r.collected.epoch (epoch_seen w.pass) w.queues h e late are there waits)).freed,
+    )
 
 -- by what each of both advances answered
 moved_or : (a : Advance) → ((worker at : ℕ) → a ≢ advance.Held worker at) → (a ≡ advance.Spent) ⊎ HasMoved a
@@ -370,7 +369,44 @@ none_held advance.Spent (advance.Moved f) is = (λ v a h. (cc), λ v a h. (cc))
 none_held advance.Spent (advance.Lost f) is = (λ v a h. (cc), λ v a h. (cc))
 none_held advance.Spent advance.Spent is = (λ v a h. (cc), λ v a h. (cc))
 
+-- ---- nothing is won
+
+quiet_wins : (w z : WorkerView) → Quiet w.pass.view.log z.pass.view.log → HasWon w.pass.view.log z.pass.view.log 0 0
+quiet_wins w z q = let a = q.links in let b = q.flags in record { links = omega (arith, a); flags = omega (arith, b) }
+
+advance_wins : (m : ℕ) (w z : WorkerView) (a : Advance) → LeavesAdvance m w z a → HasWon w.pass.view.log z.pass.view.log 0 0
+advance_wins m w z a l = quiet_wins w z (advanced m w.pass.view.number (epochs w.pass).pin w.pass.view.log z.pass.view.log a l.did)
+
+collect_wins : (n : ℕ) (w z : WorkerView) (c : Collected) → LeavesCollect n w z c → HasWon w.pass.view.log z.pass.view.log 0 0
+collect_wins n w z c l = quiet_wins w z (collected w.pass.view.log l.did.0 z.pass.view.log l.did.1.0 (ripe_of c.epoch w.queues) l.did.1.2 l.did.2)
+
 -- ---- who is held
+
+-- what is in the part of a worker was made by it, except a join
+made_by : (w : ℕ) (e : Event) (r : Reply) (ts : List Turn) → is_leaver w e ≡ false → Contains (part_of w ts) (e, r) → HasMade w ts e r
+made_by w e r [] plain (i, below, at) = absurd (omega (arith, below))
+made_by w e r (t ∷ ts) plain there = elim (Contains-append_cases (cond (takes_part w t.worker t.event) (logged_by t) []) (part_of w ts) (e, r) there) [
+  | inl here ↦ Contains-append_left (t ∷ []) ts (record { worker = w; event = e; outcome = Ok r }) (by t.worker t.event t.outcome (takes_part w t.worker t.event) refl here)
+  | inr rest ↦ Contains-append_right (t ∷ []) ts (record { worker = w; event = e; outcome = Ok r }) (made_by w e r ts plain rest)
+]
+  where
+    by : (v : ℕ) (d : Event) (o : Result Reply Refused) (b : Bool) → takes_part w v d ≡ b → Contains (cond b (logged_by (record { worker = v; event = d; outcome = o })) []) (e, r) → Contains {X = Turn} (record { worker = v; event = d; outcome = o } ∷ []) (record { worker = w; event = e; outcome = Ok r })
+    by v d o false is (i, below, at) = absurd (omega (arith, below))
+    by v d (Err x) true is (i, below, at) = absurd (omega (arith, below))
+    by v d (Ok q) true is (suc i, below, at) = absurd (omega (arith, below))
+    by v d (Ok q) true is (zero, below, at) =
+        let event : d ≡ e = ap (λ (x : LogEntry). x.0) at in
+        let reply : q ≡ r = ap (λ (x : LogEntry). x.1) at in
+        let own : v ≡ w = elim (or_cases (v == w) (is_leaver w d) is) [
+          | inl same ↦ eqb-true v w same
+          | inr joins ↦ absurd (true≢false (sym joins ∙ (ap (is_leaver w) event ∙ plain)))
+        ] in (
+          zero,
+          omega arith,
+          subst (λ (n : ℕ). ◌≡◌ {A = Turn} (record { worker = n; event = d; outcome = Ok q }) (record { worker = w; event = e; outcome = Ok r })) (sym own)
+              (subst (λ (f : Event). ◌≡◌ {A = Turn} (record { worker = w; event = f; outcome = Ok q }) (record { worker = w; event = e; outcome = Ok r })) (sym event)
+              (ap (λ (y : Reply). record { worker = w; event = e; outcome = Ok y }) reply)),
+        )
 
 abbrev Adds : List LogEntry → List LogEntry → Type 0
 Adds old new = (xs : List LogEntry) × (new ≡ old ++ xs)
@@ -405,7 +441,9 @@ record FoundIn (old new : List LogEntry) (i : ℕ) : Type 0 where
   adds : List LogEntry
   is : new ≡ old ++ adds
   epoch : ℕ
-  read : HasRead adds epoch
+  sees : Reply
+  sighted : sight_epoch sees ≡ Some epoch
+  read : Contains adds (event.Sight, sees)
   at : ℕ
   found : Contains adds (event.Scan i, reply.In at)
   apart : at ≢ epoch
@@ -413,7 +451,9 @@ record FoundIn (old new : List LogEntry) (i : ℕ) : Type 0 where
 record ReadIn (old new : List LogEntry) (epoch : ℕ) : Type 0 where
   adds : List LogEntry
   is : new ≡ old ++ adds
-  read : HasRead adds epoch
+  sees : Reply
+  sighted : sight_epoch sees ≡ Some epoch
+  read : Contains adds (event.Sight, sees)
 
 -- what was found so between two logs was so between an earlier one and a later one
 elsewhere_within : (a b c d : List LogEntry) (i : ℕ) → Adds a b → FoundIn b c i → Adds c d → FoundIn a d i
@@ -422,7 +462,9 @@ elsewhere_within a b c d i (xs, first) was (ys, last) = record {
   is = last ∙ (ap (λ (l : List LogEntry). l ++ ys) (was.is ∙ ap (λ (l : List LogEntry). l ++ was.adds) first)
       ∙ (append_assoc (a ++ xs) was.adds ys ∙ append_assoc a xs (was.adds ++ ys)));
   epoch = was.epoch;
-  read = record { entry = was.read.entry; among = among was.read.entry was.read.among; tells = was.read.tells };
+  sees = was.sees;
+  sighted = was.sighted;
+  read = among (event.Sight, was.sees) was.read;
   at = was.at;
   found = among (event.Scan i, reply.In was.at) was.found;
   apart = was.apart;
@@ -437,7 +479,9 @@ read_within a b c d e (xs, first) was (ys, last) = record {
   adds = xs ++ (was.adds ++ ys);
   is = last ∙ (ap (λ (l : List LogEntry). l ++ ys) (was.is ∙ ap (λ (l : List LogEntry). l ++ was.adds) first)
       ∙ (append_assoc (a ++ xs) was.adds ys ∙ append_assoc a xs (was.adds ++ ys)));
-  read = record { entry = was.read.entry; among = Contains-append_right xs (was.adds ++ ys) was.read.entry (Contains-append_left was.adds ys was.read.entry was.read.among); tells = was.read.tells };
+  sees = was.sees;
+  sighted = was.sighted;
+  read = Contains-append_right xs (was.adds ++ ys) (event.Sight, was.sees) (Contains-append_left was.adds ys (event.Sight, was.sees) was.read);
 }
 
 -- an advance that was spent has read the last epoch
@@ -447,10 +491,12 @@ last_read m me pin old new s =
     record {
       adds = (event.Sight, s.1.0) ∷ all.0;
       is = all.1;
-      read = record { entry = (event.Sight, s.1.0); among = (zero, omega arith, refl); tells = s.1.1 };
+      sees = s.1.0;
+      sighted = s.1.1;
+      read = (zero, omega arith, refl);
     }
 
-last_since : (b : TreeView) (w z : WorkerView) (r : IsRelieved b w z) → AreSeen r → (r.moved ≡ advance.Spent) ⊎ (r.moved_again ≡ advance.Spent) → HasReadSince w.pass z.pass last_number
+last_since : (b : TreeView) (w z : WorkerView) (r : Relieves b w z) → AreSeen r → (r.moved ≡ advance.Spent) ⊎ (r.moved_again ≡ advance.Spent) → Since w.pass z.pass (λ ts. HasSighted w.pass.view.number ts last_number)
 last_since b w z r s spent = by (log spent)
   where
     m : ℕ
@@ -466,16 +512,16 @@ last_since b w z r s spent = by (log spent)
         (last_read b.layout.workers r.once.pass.view.number (epochs r.once.pass).pin r.once.pass.view.log r.twice.pass.view.log (subst (λ (a : Advance). IsAdvance b.layout.workers r.once.pass.view.number (epochs r.once.pass).pin r.once.pass.view.log r.twice.pass.view.log a) second r.moves_again.did))
         (collect_adds b.layout.nodes r.twice z r.collected r.collects)
 
-    by : ReadIn w.pass.view.log z.pass.view.log last_number → HasReadSince w.pass z.pass last_number
+    by : ReadIn w.pass.view.log z.pass.view.log last_number → Since w.pass z.pass (λ ts. HasSighted w.pass.view.number ts last_number)
     by l =
         let on = goes_on b w z r in
         let part = part_since w.pass z.pass l.adds s.first s.last on.same on.past.goes_on l.is in
-        record { turns = on.past.goes_on.more; is = on.past.goes_on.is; read = subst (λ (es : List LogEntry). HasRead es last_number) (sym part) l.read }
+        (on.past.goes_on.more, on.past.goes_on.is, (l.sees, l.sighted, made_by w.pass.view.number event.Sight l.sees on.past.goes_on.more refl (subst (λ (es : List LogEntry). Contains es (event.Sight, l.sees)) (sym part) l.read)))
 
-freed_or_last : (b : TreeView) (w z : WorkerView) (r : IsRelieved b w z) → AreSeen r → found_behind r.moved r.moved_again ≡ None → HasReadSince w.pass z.pass last_number ⊎ (WasMovedOn w.pass z.pass 2 × (r.collected.freed ≡ waiting_in w.queues) × (waiting_in z.queues ≡ 0))
+freed_or_last : (b : TreeView) (w z : WorkerView) (r : Relieves b w z) → AreSeen r → found_behind r.moved r.moved_again ≡ None → Since w.pass z.pass (λ ts. HasSighted w.pass.view.number ts last_number) ⊎ (Since w.pass z.pass (λ ts. 2 ≤ number_of moves ts) × AreFreed w.queues z.pass)
 freed_or_last b w z r s none = by (moved_or r.moved (none_held r.moved r.moved_again none).0) (moved_or r.moved_again (none_held r.moved r.moved_again none).1)
   where
-    by : (r.moved ≡ advance.Spent) ⊎ HasMoved r.moved → (r.moved_again ≡ advance.Spent) ⊎ HasMoved r.moved_again → HasReadSince w.pass z.pass last_number ⊎ (WasMovedOn w.pass z.pass 2 × (r.collected.freed ≡ waiting_in w.queues) × (waiting_in z.queues ≡ 0))
+    by : (r.moved ≡ advance.Spent) ⊎ HasMoved r.moved → (r.moved_again ≡ advance.Spent) ⊎ HasMoved r.moved_again → Since w.pass z.pass (λ ts. HasSighted w.pass.view.number ts last_number) ⊎ (Since w.pass z.pass (λ ts. 2 ≤ number_of moves ts) × AreFreed w.queues z.pass)
     by (inl spent) second = inl (last_since b w z r s (inl spent))
     by (inr first) (inl spent) = inl (last_since b w z r s (inr spent))
     by (inr first) (inr second) = inr (all_freed b w z r s first second)
@@ -504,14 +550,16 @@ held_elsewhere m w z worker at unpinned l = by l.did
         is = other.1 ∙ (ap (λ (l : List LogEntry). l ++ (event.Scan worker, reply.In at) ∷ []) (scanned worker w.pass.view.number e (epochs w.pass).pin w.pass.view.log mid scans).1
             ∙ append_assoc w.pass.view.log ((event.Sight, scans.1.0) ∷ (scanned worker w.pass.view.number e (epochs w.pass).pin w.pass.view.log mid scans).0) ((event.Scan worker, reply.In at) ∷ []));
         epoch = e;
-        read = record { entry = (event.Sight, scans.1.0); among = (zero, omega arith, refl); tells = scans.1.1 };
+        sees = scans.1.0;
+        sighted = scans.1.1;
+        read = (zero, omega arith, refl);
         at = at;
         found = Contains-append_right ((event.Sight, scans.1.0) ∷ (scanned worker w.pass.view.number e (epochs w.pass).pin w.pass.view.log mid scans).0) ((event.Scan worker, reply.In at) ∷ []) (event.Scan worker, reply.In at) (zero, omega arith, refl);
         apart = apart;
       },
     )
 
-another : (b : TreeView) (w z : WorkerView) (r : IsRelieved b w z) → AreSeen r → w.pending ≡ None → w.held ≡ None → (i : ℕ) → found_behind r.moved r.moved_again ≡ Some i → (i ≢ w.pass.view.number) × FoundIn w.pass.view.log z.pass.view.log i
+another : (b : TreeView) (w z : WorkerView) (r : Relieves b w z) → AreSeen r → w.pending ≡ None → w.held ≡ None → (i : ℕ) → found_behind r.moved r.moved_again ≡ Some i → (i ≢ w.pass.view.number) × FoundIn w.pass.view.log z.pass.view.log i
 another b w z r s none free i is = by r.moved r.moved_again r.moves r.moves_again is
   where
     number : r.once.pass.view.number ≡ w.pass.view.number
@@ -549,29 +597,56 @@ another b w z r s none free i is = by r.moved r.moved_again r.moves r.moves_agai
     by advance.Spent advance.Spent l k is = absurd (none-some i is)
 
 -- and so by what it has seen
-elsewhere : (b : TreeView) (w z : WorkerView) (r : IsRelieved b w z) → AreSeen r → w.pending ≡ None → w.held ≡ None → (i : ℕ) → found_behind r.moved r.moved_again ≡ Some i → (i ≢ w.pass.view.number) × WasElsewhere w.pass z.pass i
+elsewhere : (b : TreeView) (w z : WorkerView) (r : Relieves b w z) → AreSeen r → w.pending ≡ None → w.held ≡ None → (i : ℕ) → found_behind r.moved r.moved_again ≡ Some i → Since w.pass z.pass (HasFoundElsewhere w.pass.view.number i)
 elsewhere b w z r s none free i is = by (another b w z r s none free i is)
   where
-    by : (i ≢ w.pass.view.number) × FoundIn w.pass.view.log z.pass.view.log i → (i ≢ w.pass.view.number) × WasElsewhere w.pass z.pass i
+    by : (i ≢ w.pass.view.number) × FoundIn w.pass.view.log z.pass.view.log i → Since w.pass z.pass (HasFoundElsewhere w.pass.view.number i)
     by (other, l) =
         let on = goes_on b w z r in
+        let more = on.past.goes_on.more in
         let part = part_since w.pass z.pass l.adds s.first s.last on.same on.past.goes_on l.is in (
-          other,
-          record {
-            turns = on.past.goes_on.more;
-            is = on.past.goes_on.is;
-            epoch = l.epoch;
-            read = subst (λ (es : List LogEntry). HasRead es l.epoch) (sym part) l.read;
-            at = l.at;
-            found = subst (λ (es : List LogEntry). Contains es (event.Scan i, reply.In l.at)) (sym part) l.found;
-            apart = l.apart;
-          },
+          more,
+          on.past.goes_on.is,
+          (
+            other,
+            l.epoch,
+            l.at,
+            l.apart,
+            (l.sees, l.sighted, made_by w.pass.view.number event.Sight l.sees more refl (subst (λ (es : List LogEntry). Contains es (event.Sight, l.sees)) (sym part) l.read)),
+            made_by w.pass.view.number (event.Scan i) (reply.In l.at) more refl (subst (λ (es : List LogEntry). Contains es (event.Scan i, reply.In l.at)) (sym part) l.found),
+          ),
         )
 
-pub finds_behind : (b : TreeView) (w z : WorkerView) (r : IsRelieved b w z) → AreSeen r → FindsBehind b w z (found_behind r.moved r.moved_again)
-finds_behind b w z r s = record {
-  relieved = r;
-  found = refl;
-  other = elsewhere b w z r s;
-  freed = freed_or_last b w z r s;
-}
+module _ (b : TreeView) (w z : WorkerView) (r : Relieves b w z) (s : AreSeen r) (none : w.pending ≡ None) (free : w.held ≡ None) where
+  finds : (behind : Option ℕ) → found_behind r.moved r.moved_again ≡ behind → Since w.pass z.pass (FindsBehind w.pass.view.number behind)
+  finds (Some i) is = elsewhere b w z r s none free i is
+  finds None is = elim (freed_or_last b w z r s is) [
+    | inl last ↦ (last.0, last.1, inl last.2)
+    | inr freed ↦ (freed.0.0, freed.0.1, inr freed.0.2)
+  ]
+
+  frees : (behind : Option ℕ) → found_behind r.moved r.moved_again ≡ behind → Collects w z.pass
+  frees (Some i) is = let found = elsewhere b w z r s none free i is in inl (found.0, found.1, inl (i, found.2))
+  frees None is = elim (freed_or_last b w z r s is) [
+    | inl last ↦ inl (last.0, last.1, inr last.2)
+    | inr freed ↦ inr freed.1
+  ]
+
+  goes : GoesOn (b.layout.nodes + 2 * b.layout.workers + 2) w z
+  goes =
+      let m = b.layout.workers in
+      let first = goes_advance m w r.once free r.moves in
+      let second = goes_advance m r.once r.twice first.held r.moves_again in
+      let third = goes_collect b.layout.nodes r.twice z second.held r.collects in
+      goes_more ((m + 1) + (m + 1) + b.layout.nodes) (b.layout.nodes + 2 * m + 2) w z (omega arith) (goes_then w r.twice z (goes_then w r.once r.twice first second) third)
+
+  pub is_relieved : IsRelieved b.layout w z (found_behind r.moved r.moved_again)
+  is_relieved = record {
+    onward = record {
+      on = goes;
+      none = r.collects.place.0 ∙ (r.moves_again.place.0 ∙ (r.moves.place.0 ∙ none));
+      won = wins_after 0 0 w r.twice z (wins_after 0 0 w r.once r.twice (advance_wins b.layout.workers w r.once r.moved r.moves) (advance_wins b.layout.workers r.once r.twice r.moved_again r.moves_again)) (collect_wins b.layout.nodes r.twice z r.collected r.collects);
+    };
+    finds = finds (found_behind r.moved r.moved_again) refl;
+    collects = frees (found_behind r.moved r.moved_again) refl;
+  }

@@ -23,7 +23,7 @@ use Rattle.nm_steps.proofs.Growing.{goes_on_itself, goes_on_through}
 use Rattle.nm_walks.specs.WonCounts.{won_links, won_flags, won_splices}
 use Rattle.nm_epoch.specs.Collecting.{capped}
 use Rattle.nm_walks.proofs.Adding.{Adds, adds_these}
-use Rattle.nm_busy.specs.Pending.{leaf_after, leaf_by}
+use Rattle.nm_progress.specs.Pending.{leaf_after, leaf_by}
 use Rattle.nm_tree.specs.declared.worker.Counts.{Counts}
 use Rattle.nm_tree.specs.Workers.{WorkerView, IsLedger, log_held_of}
 use Rattle.nm_tree.proofs.OwnQueue.{log_of_own}

@@ -6,7 +6,6 @@ pub mod Letters
 pub mod LettingGo
 pub mod Sending
 pub mod Inside
-pub mod Tending
+pub mod Managing
 pub mod Emptied
-pub mod Interferences
 pub mod PopRounds

@@ -5,5 +5,6 @@ pub mod InTurns
 pub mod NextKeys
 pub mod States
 pub mod Ends
-pub mod Tended
+pub mod Managed
+pub mod Rounds
 pub mod Popping

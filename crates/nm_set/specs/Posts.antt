@@ -4,7 +4,7 @@ use Rattle.nm_model.specs.declared.trace.Turn.{Turn}
 use Rattle.nm_order.specs.Logs.{part_of}
 use Rattle.nm_steps.specs.Rules.{Extends}
 use Rattle.nm_steps.specs.Steps.{TreeView, Notice, HasHeard, HasSeenAllOf}
-use Rattle.nm_busy.specs.Pending.{leaf_after}
+use Rattle.nm_progress.specs.Pending.{leaf_after}
 use Rattle.nm_walks.specs.WonCounts.{won_links, won_flags}
 use Rattle.nm_epoch.specs.Collecting.{capped}
 use Rattle.nm_tree.specs.Workers.{WorkerView}

@@ -1,17 +1,6 @@
 //! The errors of calls on a set and on its members.
+use nm_tree::CallFault;
 use thiserror::Error;
-
-/// Why a call for a key failed.
-#[derive(Clone, Copy, Debug, Error, PartialEq, Eq)]
-pub enum Fault {
-    /// The caller has pinned the worker, and has not unpinned it. Nothing has changed, and no step
-    /// was made.
-    #[error("the worker is pinned: unpin it first")]
-    Pinned,
-    /// The tree's call failed.
-    #[error("{0}")]
-    Call(nm_tree::CallFault),
-}
 
 /// Why a managed insert failed.
 #[derive(Clone, Copy, Debug, Error, PartialEq, Eq)]
@@ -21,7 +10,7 @@ pub enum InsertFault {
     Full(Fullness),
     /// Any other error than `Full` of the tree.
     #[error("{0}")]
-    Other(Fault),
+    Other(CallFault),
 }
 
 /// What a managed insert found when no slot was free: which worker delays reuse.
@@ -31,7 +20,7 @@ pub struct Fullness {
     /// The number of nodes that wait in the queues that the worker holds, when the call returns.
     pub waiting: u64,
     /// The other worker that was found to hold the epoch back, at a moment of the call. `None`: no
-    /// worker was found so, and all nodes that had waited were freed, unless the epoch is the last
+    /// worker was found so. Then the epoch was advanced twice during the call, or it is the last
     /// one.
     pub behind: Option<u32>,
 }
@@ -50,17 +39,6 @@ fn whoever(behind: &Option<u32>) -> Holder {
         Some(worker) => Holder::Worker(*worker),
         None => Holder::Nobody,
     }
-}
-
-/// Why a worker was not pinned.
-#[derive(Clone, Copy, Debug, Error, PartialEq, Eq)]
-pub enum PinFault {
-    /// The caller has pinned the worker already. Nothing has changed, and no step was made.
-    #[error("the worker is pinned: unpin it first")]
-    Pinned,
-    /// The tree's call did not pin it.
-    #[error("{0}")]
-    Call(nm_tree::PinFault),
 }
 
 /// The caller has not pinned the worker. Nothing has changed, and no step was made.

@@ -12,25 +12,24 @@ mod fault;
 mod gathering;
 mod home;
 mod lease;
+mod managed;
 mod member;
 mod opening;
 mod popping;
 mod posting;
 mod seat;
 mod set;
-mod tended;
 
 pub use ending::EndError;
 pub use fault::{
-    CloseReason, Fault, Fullness, InsertFault, MemberFault, NotPinned, ObserveFault, PinFault,
-    ResignReason,
+    CloseReason, Fullness, InsertFault, MemberFault, NotPinned, ObserveFault, ResignReason,
 };
+pub use managed::Options;
 pub use member::{Member, ResignError};
 pub use nm_tree::{
-    Advance, Behind, CallFault, Collected, Counts, Entry, Fit, HeldQueue, NewError,
-    PinFault as CallPinFault, Query, Report, Tally,
+    Advance, Behind, CallFault, Collected, Counts, Entry, Fit, HeldQueue, NewError, PinFault,
+    Query, Report, Tally,
 };
 pub use posting::{Stamp, letters_are_in_order};
 pub use seat::ReturnedWorker;
 pub use set::{CloseError, KeepError, Set};
-pub use tended::Options;

@@ -8,21 +8,21 @@ ghost use Rattle.nm_tree.specs.Resigning.{HasResigned};
 ghost use Rattle.nm_tree.specs.Running.{HasSeenTurns};
 ghost use Rattle.nm_tree.specs.Workers.{WorkerView, IsBetweenCalls, IsLedger, waiting_in, blocks_in, AreFewIn, IsIdle};
 ghost use Rattle.nm_calls.specs.declared.deleting.Unfinished.{Unfinished as Delete};
-ghost use Rattle.nm_tree.specs.Calls.{LeavesHas, SaysHas, LeavesInsert, SaysInsert, LeavesDelete, SaysDelete, LeavesFinish, SaysFinish, LeavesAdvance, LeavesBehind, LeavesCollect};
-ghost use Rattle.nm_set.specs.Asked.{Asked, AskedToPin, AskedToUnpin};
+ghost use Rattle.nm_tree.specs.Calls.{SaysHas, LeavesAdvance, LeavesBehind, LeavesCollect};
+ghost use Rattle.nm_set.specs.Asked.{Asked, AskedToPin, AskedToUnpin, SaysTryInsert, SaysTryRemove, SaysGoOn};
 ghost use Rattle.nm_set.specs.InTurns.{AskedMany};
 ghost use Rattle.nm_set.specs.NextKeys.{AskedNext, AskedPrev};
 ghost use Rattle.nm_set.specs.Posts.{IsTallyOf, ReadsNote};
 ghost use Rattle.nm_set.specs.Seats.{IsLetGo, IsOwn, IsResident, IsStaying, told_absence};
 
-use crate::fault::{Fault, NotPinned, ObserveFault, PinFault, ResignReason};
+use crate::fault::{NotPinned, ObserveFault, ResignReason};
 use crate::home::{Absence, Home};
 use crate::lease::Lease;
 use crate::posting::{Stamp, leave_letter, read_letter};
 use crate::seat::{ReturnedWorker, SealedWorker, Stay, unite};
 use nm_edge::Key;
 use nm_steps::Note;
-use nm_tree::{Advance, Behind, Collected, Counts, Query, Worker};
+use nm_tree::{Advance, Behind, CallFault, Collected, Counts, PinFault, Query, Worker};
 use std::alloc::Global;
 use std::marker::Model;
 use std::sync::Arc;
@@ -101,98 +101,77 @@ impl Member {
     ///
     /// Errors: `Pinned`: the caller has pinned the worker; and those of the tree.
     #[inline(always)]
-    pub fn try_contains(&mut self, key: Key, tries: u32) -> Result<bool, Fault>
+    pub fn try_contains(&mut self, key: Key, tries: u32) -> Result<bool, CallFault>
         ensures tree { self.new.tree ≡ self.old.tree }
         ensures says { Asked (SaysHas self.old.tree.layout tries key) self.old.worker
             self.new.worker result }
-        ensures did { Asked (LeavesHas self.old.tree.layout tries key) self.old.worker
-            self.new.worker result }
     {
         if self.sealed.worker.held().is_some() {
-            return Err(Fault::Pinned);
+            return Err(CallFault::Pinned);
         }
-        match self.home.tree().has(&mut self.sealed.worker, key, tries) {
-            Ok(answer) => Ok(answer),
-            Err(fault) => Err(Fault::Call(fault)),
-        }
+        self.home.tree().has(&mut self.sealed.worker, key, tries)
     }
 
     /// Looks up each of these keys, and writes the answers into their `found`: `Tree::has_many` of
     /// `nm_tree`.
     ///
     /// Errors: `Pinned`: the caller has pinned the worker; and those of the tree.
-    pub fn contains_many(&mut self, queries: &mut [Query], tries: u32) -> Result<(), Fault>
+    pub fn contains_many(&mut self, queries: &mut [Query], tries: u32) -> Result<(), CallFault>
         ensures tree { self.new.tree ≡ self.old.tree }
-        ensures did { AskedMany self.old.tree.layout tries queries.old queries.new
+        ensures says { AskedMany self.old.tree.layout tries queries.old queries.new
             self.old.worker self.new.worker result }
     {
         if self.sealed.worker.held().is_some() {
-            return Err(Fault::Pinned);
+            return Err(CallFault::Pinned);
         }
-        match self
-            .home
+        self.home
             .tree()
             .has_many(&mut self.sealed.worker, queries, tries)
-        {
-            Ok(()) => Ok(()),
-            Err(fault) => Err(Fault::Call(fault)),
-        }
     }
 
     /// Returns the least key of the set that is not below `key`, or `None` if there is none:
     /// `Tree::next` of `nm_tree`.
     ///
     /// Errors: `Pinned`: the caller has pinned the worker; and those of the tree.
-    pub fn next(&mut self, key: Key, tries: u32) -> Result<Option<Key>, Fault>
+    pub fn next(&mut self, key: Key, tries: u32) -> Result<Option<Key>, CallFault>
         ensures tree { self.new.tree ≡ self.old.tree }
-        ensures did { AskedNext self.old.tree.layout tries key self.old.worker self.new.worker
+        ensures says { AskedNext self.old.tree.layout tries key self.old.worker self.new.worker
             result }
     {
         if self.sealed.worker.held().is_some() {
-            return Err(Fault::Pinned);
+            return Err(CallFault::Pinned);
         }
-        match self.home.tree().next(&mut self.sealed.worker, key, tries) {
-            Ok(found) => Ok(found),
-            Err(fault) => Err(Fault::Call(fault)),
-        }
+        self.home.tree().next(&mut self.sealed.worker, key, tries)
     }
 
     /// Returns the greatest key of the set that is not above `key`, or `None` if there is none:
     /// `Tree::prev` of `nm_tree`.
     ///
     /// Errors: `Pinned`: the caller has pinned the worker; and those of the tree.
-    pub fn prev(&mut self, key: Key, tries: u32) -> Result<Option<Key>, Fault>
+    pub fn prev(&mut self, key: Key, tries: u32) -> Result<Option<Key>, CallFault>
         ensures tree { self.new.tree ≡ self.old.tree }
-        ensures did { AskedPrev self.old.tree.layout tries key self.old.worker self.new.worker
+        ensures says { AskedPrev self.old.tree.layout tries key self.old.worker self.new.worker
             result }
     {
         if self.sealed.worker.held().is_some() {
-            return Err(Fault::Pinned);
+            return Err(CallFault::Pinned);
         }
-        match self.home.tree().prev(&mut self.sealed.worker, key, tries) {
-            Ok(found) => Ok(found),
-            Err(fault) => Err(Fault::Call(fault)),
-        }
+        self.home.tree().prev(&mut self.sealed.worker, key, tries)
     }
 
     /// Inserts `key`; returns true if it was absent: `Tree::insert` of `nm_tree`.
     ///
     /// Errors: `Pinned`: the caller has pinned the worker; and those of the tree.
     #[inline(always)]
-    pub fn try_insert(&mut self, key: Key, tries: u32) -> Result<bool, Fault>
+    pub fn try_insert(&mut self, key: Key, tries: u32) -> Result<bool, CallFault>
         ensures tree { self.new.tree ≡ self.old.tree }
-        ensures says { Asked (SaysInsert self.old.tree.layout tries key) self.old.worker
-            self.new.worker result }
-        ensures did { Asked (LeavesInsert self.old.tree.layout tries key) self.old.worker
-            self.new.worker result }
+        ensures says { SaysTryInsert self.old.tree.layout tries key self.old.worker self.new.worker
+            result }
     {
         if self.sealed.worker.held().is_some() {
-            return Err(Fault::Pinned);
+            return Err(CallFault::Pinned);
         }
-        match self.home.tree().insert(&mut self.sealed.worker, key, tries) {
-            Ok(answer) => Ok(answer),
-            Err(fault) => Err(Fault::Call(fault)),
-        }
+        self.home.tree().insert(&mut self.sealed.worker, key, tries)
     }
 
     /// Removes `key`; returns true if it was present: `Tree::delete` of `nm_tree`.
@@ -200,30 +179,23 @@ impl Member {
     /// Errors: `Pinned`: the caller has pinned the worker; and those of the tree. After
     /// `Unfinished` the key is pending, and `finish` goes on.
     #[inline(always)]
-    pub fn try_remove(&mut self, key: Key, tries: u32) -> Result<bool, Fault>
+    pub fn try_remove(&mut self, key: Key, tries: u32) -> Result<bool, CallFault>
         ensures tree { self.new.tree ≡ self.old.tree }
-        ensures says { Asked (SaysDelete self.old.tree.layout tries key) self.old.worker
-            self.new.worker result }
-        ensures did { Asked (LeavesDelete self.old.tree.layout tries key) self.old.worker
-            self.new.worker result }
+        ensures says { SaysTryRemove self.old.tree.layout tries key self.old.worker self.new.worker
+            result }
     {
         if self.sealed.worker.held().is_some() {
-            return Err(Fault::Pinned);
+            return Err(CallFault::Pinned);
         }
-        match self.home.tree().delete(&mut self.sealed.worker, key, tries) {
-            Ok(answer) => Ok(answer),
-            Err(fault) => Err(Fault::Call(fault)),
-        }
+        self.home.tree().delete(&mut self.sealed.worker, key, tries)
     }
 
     /// Goes on with the remove that is pending: `Tree::finish` of `nm_tree`, with its errors.
     /// Returns false, with no step, if none is pending.
     #[inline(always)]
-    pub fn finish(&mut self, tries: u32) -> Result<bool, nm_tree::CallFault>
+    pub fn finish(&mut self, tries: u32) -> Result<bool, CallFault>
         ensures tree { self.new.tree ≡ self.old.tree }
-        ensures says { SaysFinish self.old.tree.layout tries self.old.worker self.new.worker result }
-        ensures did { LeavesFinish self.old.tree.layout tries self.old.worker self.new.worker
-            result }
+        ensures says { SaysGoOn self.old.tree.layout tries self.old.worker self.new.worker result }
     {
         self.home.tree().finish(&mut self.sealed.worker, tries)
     }
@@ -233,15 +205,12 @@ impl Member {
     /// Errors: `Pinned`: the caller has pinned the worker already; and those of the tree.
     pub fn pin(&mut self, tries: u32) -> Result<u64, PinFault>
         ensures tree { self.new.tree ≡ self.old.tree }
-        ensures did { AskedToPin tries self.old.worker self.new.worker result }
+        ensures says { AskedToPin tries self.old.worker self.new.worker result }
     {
         if self.sealed.worker.held().is_some() {
             return Err(PinFault::Pinned);
         }
-        match self.home.tree().pin(&mut self.sealed.worker, tries) {
-            Ok(epoch) => Ok(epoch),
-            Err(fault) => Err(PinFault::Call(fault)),
-        }
+        self.home.tree().pin(&mut self.sealed.worker, tries)
     }
 
     /// Ends the caller's pin, in one step.
@@ -250,7 +219,7 @@ impl Member {
     /// was made.
     pub fn unpin(&mut self) -> Result<(), NotPinned>
         ensures tree { self.new.tree ≡ self.old.tree }
-        ensures did { AskedToUnpin self.old.worker self.new.worker result }
+        ensures says { AskedToUnpin self.old.worker self.new.worker result }
     {
         if self.sealed.worker.held().is_none() {
             return Err(NotPinned);
@@ -262,7 +231,7 @@ impl Member {
     /// Advances the epoch by one, if no worker holds it back: `Tree::advance` of `nm_tree`.
     pub fn advance(&mut self) -> Advance
         ensures tree { self.new.tree ≡ self.old.tree }
-        ensures did { LeavesAdvance self.old.tree.layout.workers self.old.worker self.new.worker
+        ensures says { LeavesAdvance self.old.tree.layout.workers self.old.worker self.new.worker
             result }
     {
         self.home.tree().advance(&mut self.sealed.worker)
@@ -271,7 +240,7 @@ impl Member {
     /// Returns which workers hold the epoch back, this one included: `Tree::behind` of `nm_tree`.
     pub fn behind(&mut self) -> Behind
         ensures tree { self.new.tree ≡ self.old.tree }
-        ensures did { LeavesBehind self.old.tree.layout.workers self.old.worker self.new.worker
+        ensures says { LeavesBehind self.old.tree.layout.workers self.old.worker self.new.worker
             result }
     {
         self.home.tree().behind(&mut self.sealed.worker)
@@ -281,7 +250,7 @@ impl Member {
     /// `Tree::collect` of `nm_tree`.
     pub fn collect(&mut self) -> Collected
         ensures tree { self.new.tree ≡ self.old.tree }
-        ensures did { LeavesCollect self.old.tree.layout.nodes self.old.worker self.new.worker result }
+        ensures says { LeavesCollect self.old.tree.layout.nodes self.old.worker self.new.worker result }
     {
         self.home.tree().collect(&mut self.sealed.worker)
     }

@@ -1,21 +1,20 @@
 //! Managed calls that remove the least or the greatest key.
-ghost use Rattle.std.specs.Prelude.{◌≡◌, ◌≢◌, ◌<◌, true, false};
-ghost use Rattle.nm_tree.specs.declared.popping.End.TheVariants as ends;
-ghost use Rattle.nm_set.specs.Popping.{AskedForEnd, PopsOnce, SaysPopTended, TendsPopOf, pop_busy};
-ghost use Rattle.nm_set.specs.Tended.{IsRetried};
+ghost use Rattle.std.specs.Prelude.{◌≡◌, ◌≢◌, ◌<◌, ◌+◌, ◌*◌, true, false, None, Err};
+ghost use Rattle.nm_calls.specs.declared.fault.CallFault.TheVariants as fault;
+ghost use Rattle.nm_tree.specs.Popping.{Finds, comes_before};
+ghost use Rattle.nm_set.specs.Popping.{Pops, SaysManagedPop, pop_round_bound};
 
-use crate::fault::Fault;
+use crate::managed::Options;
 use crate::member::Member;
-use crate::tended::Options;
 use nm_edge::{Key, MOST_KEY};
 use nm_tree::{CallFault, End};
 
 /// Returns whether a round came to nothing.
-fn is_busy(told: &Result<Option<Key>, Fault>) -> bool
-    ensures yes { result ≡ true → told.now ≡ pop_busy }
-    ensures no { result ≡ false → told.now ≢ pop_busy }
+fn is_busy(told: &Result<Option<Key>, CallFault>) -> bool
+    ensures yes { result ≡ true → told.now ≡ Err fault.Busy }
+    ensures no { result ≡ false → told.now ≢ Err fault.Busy }
 {
-    matches!(told, Err(Fault::Call(CallFault::Busy)))
+    matches!(told, Err(CallFault::Busy))
 }
 
 impl Member {
@@ -35,11 +34,9 @@ impl Member {
     /// because others removed the key that was found, or because a call lost each of its tries.
     /// `Unfinished`: the least key, as above, will be removed by this call, and is pending; the
     /// next managed call finishes it first. (The name is that of Rust's `BTreeSet`.)
-    pub fn pop_first(&mut self, options: &Options) -> Result<Option<Key>, Fault>
+    pub fn pop_first(&mut self, options: &Options) -> Result<Option<Key>, CallFault>
         ensures tree { self.new.tree ≡ self.old.tree }
-        ensures says { SaysPopTended ◌<◌ self.old.tree options.now self.old.worker self.new.worker
-            result }
-        ensures did { TendsPopOf ends.First self.old.tree options.now self.old.worker self.new.worker
+        ensures says { SaysManagedPop ◌<◌ self.old.tree options.now self.old.worker self.new.worker
             result }
     {
         self.pop(End::First, options)
@@ -47,34 +44,36 @@ impl Member {
 
     /// Removes the greatest key of the set, like `pop_first`: for each greater key there was a
     /// moment of this call at which the set did not have it.
-    pub fn pop_last(&mut self, options: &Options) -> Result<Option<Key>, Fault>
+    pub fn pop_last(&mut self, options: &Options) -> Result<Option<Key>, CallFault>
         ensures tree { self.new.tree ≡ self.old.tree }
-        ensures says { SaysPopTended (λ j key. key < j) self.old.tree options.now self.old.worker
+        ensures says { SaysManagedPop (λ j key. key < j) self.old.tree options.now self.old.worker
             self.new.worker result }
-        ensures did { TendsPopOf ends.Last self.old.tree options.now self.old.worker self.new.worker
-            result }
     {
         self.pop(End::Last, options)
     }
 
     /// Removes the key at that end.
-    fn pop(&mut self, end: End, options: &Options) -> Result<Option<Key>, Fault>
+    fn pop(&mut self, end: End, options: &Options) -> Result<Option<Key>, CallFault>
         ensures tree { self.new.tree ≡ self.old.tree }
-        ensures did { TendsPopOf end self.old.tree options.now self.old.worker self.new.worker result }
+        ensures says { SaysManagedPop (comes_before end) self.old.tree options.now self.old.worker
+            self.new.worker result }
     {
         if self.pinned().is_some() {
-            return Err(Fault::Pinned);
+            return Err(CallFault::Pinned);
         }
         let Ok(_done) = self.finish_with_retries(options) else {
-            return Err(Fault::Call(CallFault::Pending));
+            return Err(CallFault::Pending);
         };
         self.pop_with_retries(end, options)
     }
 
     /// Makes rounds until one does not come to nothing: at most `rounds` and one.
-    fn pop_with_retries(&mut self, end: End, options: &Options) -> Result<Option<Key>, Fault>
+    fn pop_with_retries(&mut self, end: End, options: &Options) -> Result<Option<Key>, CallFault>
+        requires free { self.old.worker.held ≡ None }
+        requires none { self.old.worker.pending ≡ None }
         ensures tree { self.new.tree ≡ self.old.tree }
-        ensures did { IsRetried (PopsOnce end self.old.tree options.now) pop_busy options.now.rounds
+        ensures says { Pops (comes_before end)
+            ((options.now.rounds + 1) * pop_round_bound options.now self.old.tree.layout)
             self.old.worker self.new.worker result }
     {
         for _round in 0..options.rounds {
@@ -87,9 +86,12 @@ impl Member {
     }
 
     /// Finds the key at that end, and removes it.
-    fn pop_once(&mut self, end: End, options: &Options) -> Result<Option<Key>, Fault>
+    fn pop_once(&mut self, end: End, options: &Options) -> Result<Option<Key>, CallFault>
+        requires free { self.old.worker.held ≡ None }
+        requires none { self.old.worker.pending ≡ None }
         ensures tree { self.new.tree ≡ self.old.tree }
-        ensures did { PopsOnce end self.old.tree options.now self.old.worker self.new.worker result }
+        ensures says { Pops (comes_before end) (pop_round_bound options.now self.old.tree.layout)
+            self.old.worker self.new.worker result }
     {
         let Some(key) = self.key_at(end, options.tries)? else {
             return Ok(None);
@@ -97,19 +99,20 @@ impl Member {
         if self.remove(key, options)? {
             Ok(Some(key))
         } else {
-            Err(Fault::Call(CallFault::Busy))
+            Err(CallFault::Busy)
         }
     }
 
     /// Returns the key at that end.
-    fn key_at(&mut self, end: End, tries: u32) -> Result<Option<Key>, Fault>
+    fn key_at(&mut self, end: End, tries: u32) -> Result<Option<Key>, CallFault>
+        requires free { self.old.worker.held ≡ None }
         ensures tree { self.new.tree ≡ self.old.tree }
-        ensures did { AskedForEnd end self.old.tree.layout tries self.old.worker self.new.worker
-            result }
+        ensures says { Finds end self.old.tree.layout tries self.old.worker self.new.worker result }
     {
+        let tree = self.home.tree();
         match end {
-            End::First => self.next(Key::new(0).unwrap(), tries),
-            End::Last => self.prev(Key::new(MOST_KEY).unwrap(), tries),
+            End::First => tree.next(&mut self.sealed.worker, Key::new(0).unwrap(), tries),
+            End::Last => tree.prev(&mut self.sealed.worker, Key::new(MOST_KEY).unwrap(), tries),
         }
     }
 }

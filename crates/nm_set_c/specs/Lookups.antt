@@ -4,7 +4,7 @@ use Rattle.std.specs.Prelude.{◌≡◌, ◌⊎◌, ℕ, Bool, true, false, List
 use Rattle.nm_edge.specs.Keys.{IsKey}
 use Rattle.nm_calls.specs.declared.many.Query.{Query}
 use Rattle.nm_calls.specs.InTurns.{key_of}
-use Rattle.nm_set.specs.declared.fault.Fault.{Fault}
+use Rattle.nm_calls.specs.declared.fault.CallFault.{CallFault}
 use Rattle.nm_set.specs.InTurns.{AskedMany}
 use Rattle.nm_set.specs.Seats.{MemberView}
 use Rattle.nm_set_c.specs.Outcomes.{of_fault}
@@ -33,7 +33,7 @@ abbrev pub IsUnasked : List Lookup → Outcome → Type 0
 IsUnasked ls o = (o ≡ outcome.NoMemory) ⊎ ((o ≡ outcome.Key) × (AreKeys ls → ⊥))
 
 -- the outcome of such a call, by its answer
-abbrev pub of_many : Result (Unit {0}) Fault → Outcome
+abbrev pub of_many : Result (Unit {0}) CallFault → Outcome
 of_many (Ok u) = outcome.Done
 of_many (Err f) = of_fault f
 
@@ -43,14 +43,14 @@ pub record LooksUp (tries : ℕ) (old new : List Lookup) (m n : MemberView) (o :
   pub asked : List Query
   pub answered : List Query
   pub keys : map key_of asked ≡ map key_looked_up old
-  pub answer : Result (Unit {0}) Fault
+  pub answer : Result (Unit {0}) CallFault
   pub told : o ≡ of_many answer
   pub tree : n.tree ≡ m.tree
-  pub did : AskedMany m.tree.layout tries asked answered m.worker n.worker answer
+  pub says : AskedMany m.tree.layout tries asked answered m.worker n.worker answer
   pub written : IfOk answer (λ u. new ≡ map lookup_of answered)
   pub kept : IfErr answer (λ f. new ≡ old)
 
 -- no look-up was made, and nothing has changed; or the worker's call was made
-abbrev pub DoesContainsMany : ℕ → List Lookup → List Lookup → MemberView → MemberView → Outcome → Type 0
-DoesContainsMany tries old new m n o =
+abbrev pub TellsContainsMany : ℕ → List Lookup → List Lookup → MemberView → MemberView → Outcome → Type 0
+TellsContainsMany tries old new m n o =
     (IsUnasked old o × (n ≡ m) × (new ≡ old)) ⊎ LooksUp tries old new m n o

@@ -28,8 +28,8 @@ abbrev pub IsTally : Option Stamp → MemberView → Type 0
 IsTally (Some p) m = IsTallyOf m.worker p
 IsTally None m = Unit {0}
 
--- `DoesPublish`, `DoesObserve`: a stamp is published, or observed, and its numbers are written
-pub record DoesPublish (old_inserted inserted old_removed removed : ℕ) (m n : MemberView)
+-- `TellsPublish`, `TellsObserve`: a stamp is published, or observed, and its numbers are written
+pub record TellsPublish (old_inserted inserted old_removed removed : ℕ) (m n : MemberView)
     (o : Outcome) : Type 0 where
   pub left : Option Stamp
   pub told : o ≡ of_publish left
@@ -50,7 +50,7 @@ abbrev pub observed_by : Result (Option Stamp) ObserveFault → Option Stamp
 observed_by (Ok heard) = heard
 observed_by (Err why) = None
 
-pub record DoesObserve (number old_inserted inserted old_removed removed : ℕ) (m n : MemberView)
+pub record TellsObserve (number old_inserted inserted old_removed removed : ℕ) (m n : MemberView)
     (o : Outcome) : Type 0 where
   pub answer : Result (Option Stamp) ObserveFault
   pub told : o ≡ of_observe answer

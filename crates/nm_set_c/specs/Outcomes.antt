@@ -1,11 +1,9 @@
 -- What calls return to C.
 use Rattle.std.specs.Prelude.{◌≡◌, ℤ, pos, negsuc, Bool, true, false, Result, Ok, Err}
-use Rattle.nm_tree.specs.declared.fault.CallFault.{CallFault as Lost}
-use Rattle.nm_tree.specs.declared.fault.CallFault.TheVariants as lost
+use Rattle.nm_calls.specs.declared.fault.CallFault.{CallFault}
+use Rattle.nm_calls.specs.declared.fault.CallFault.TheVariants as fault
 use Rattle.nm_model.specs.declared.new_error.NewError.{NewError}
 use Rattle.nm_model.specs.declared.new_error.NewError.TheVariants as making
-use Rattle.nm_set.specs.declared.fault.Fault.{Fault}
-use Rattle.nm_set.specs.declared.fault.Fault.TheVariants as fault
 use Rattle.nm_set.specs.declared.fault.MemberFault.{MemberFault}
 use Rattle.nm_set.specs.declared.fault.MemberFault.TheVariants as taking
 use Rattle.nm_set.specs.declared.fault.ResignReason.{ResignReason}
@@ -50,30 +48,23 @@ IsCodeOf P n = (o : Outcome) × (n ≡ code_of o) × P o
 
 -- ---- the results of the calls of a set and its workers, as outcomes
 
--- `of_bool`, `of_lost`, `of_fault`, `of_answer`, `of_finished`, `of_new`, `of_taking`,
--- `of_staying`, `of_reason`: the outcome for the result of a call of `nm_set`
+-- `of_bool`, `of_fault`, `of_answer`, `of_new`, `of_taking`, `of_staying`, `of_reason`: the outcome
+-- for the result of a call of `nm_set`
 abbrev pub of_bool : Bool → Outcome
 of_bool true = outcome.Yes
 of_bool false = outcome.No
 
-abbrev pub of_lost : Lost → Outcome
-of_lost lost.Busy = outcome.Busy
-of_lost lost.Full = outcome.Full
-of_lost lost.NoMemory = outcome.NoMemory
-of_lost lost.Unfinished = outcome.Unfinished
-of_lost lost.Pending = outcome.Pending
-
-abbrev pub of_fault : Fault → Outcome
+abbrev pub of_fault : CallFault → Outcome
+of_fault fault.Busy = outcome.Busy
+of_fault fault.Full = outcome.Full
+of_fault fault.NoMemory = outcome.NoMemory
+of_fault fault.Unfinished = outcome.Unfinished
+of_fault fault.Pending = outcome.Pending
 of_fault fault.Pinned = outcome.Pinned
-of_fault (fault.Call f) = of_lost f
 
-abbrev pub of_answer : Result Bool Fault → Outcome
+abbrev pub of_answer : Result Bool CallFault → Outcome
 of_answer (Ok b) = of_bool b
 of_answer (Err f) = of_fault f
-
-abbrev pub of_finished : Result Bool Lost → Outcome
-of_finished (Ok b) = of_bool b
-of_finished (Err f) = of_lost f
 
 abbrev pub of_new : NewError → Outcome
 of_new making.Nodes = outcome.Nodes

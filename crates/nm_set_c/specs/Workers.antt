@@ -3,27 +3,23 @@
 use Rattle.std.specs.Prelude.{◌≡◌, ◌⊎◌, ℕ, Bool, option_map, Option, Some, None, Result, Ok, Err}
 use Rattle.nm_edge.specs.Keys.{IsKey}
 use Rattle.nm_model.specs.declared.event.Op.TheVariants.{Has, Insert, Delete}
-use Rattle.nm_steps.specs.Steps.{TreeView}
 use Rattle.nm_epoch.specs.declared.answers.Advance.{Advance}
 use Rattle.nm_epoch.specs.declared.answers.Advance.TheVariants as advance
-use Rattle.nm_tree.specs.declared.fault.CallFault.{CallFault as Lost}
-use Rattle.nm_tree.specs.declared.fault.PinFault.TheVariants as unpinned
+use Rattle.nm_calls.specs.declared.fault.CallFault.{CallFault}
+use Rattle.nm_tree.specs.declared.fault.PinFault.{PinFault}
+use Rattle.nm_tree.specs.declared.fault.PinFault.TheVariants as pinning
 use Rattle.nm_tree.specs.declared.worker.Counts.{Counts}
 use Rattle.nm_calls.specs.declared.deleting.Unfinished.{Unfinished}
 use Rattle.nm_tree.specs.Resigning.{HasResigned}
 use Rattle.nm_tree.specs.Workers.{WorkerView, IsLedger}
-use Rattle.nm_tree.specs.Calls.{SaysHas, SaysInsert, SaysDelete, SaysFinish, LeavesHas, LeavesInsert, LeavesDelete, LeavesFinish, LeavesAdvance, LeavesBehind, LeavesCollect}
-use Rattle.nm_set.specs.Asked.{Asked, AskedToPin, AskedToUnpin}
-use Rattle.nm_set.specs.declared.fault.Fault.{Fault}
-use Rattle.nm_set.specs.declared.fault.InsertFault.{InsertFault}
+use Rattle.nm_tree.specs.Calls.{SaysHas, LeavesAdvance, LeavesBehind, LeavesCollect}
+use Rattle.nm_set.specs.Asked.{Asked, AskedToPin, AskedToUnpin, SaysTryInsert, SaysTryRemove, SaysGoOn}
 use Rattle.nm_set.specs.declared.fault.NotPinned.{NotPinned}
-use Rattle.nm_set.specs.declared.fault.PinFault.{PinFault}
-use Rattle.nm_set.specs.declared.fault.PinFault.TheVariants as pinning
 use Rattle.nm_set.specs.declared.fault.ResignReason.{ResignReason}
-use Rattle.nm_set.specs.declared.tended.Options.{Options}
+use Rattle.nm_set.specs.declared.managed.Options.{Options}
 use Rattle.nm_set.specs.Seats.{MemberView, IsResident, IsStaying}
-use Rattle.nm_set.specs.Tended.{SaysTended, TendsHas, TendsInsert, TendsDelete, of_insert}
-use Rattle.nm_set_c.specs.Outcomes.{of_answer, of_finished, of_staying}
+use Rattle.nm_set.specs.Managed.{SaysManaged}
+use Rattle.nm_set_c.specs.Outcomes.{of_answer, of_staying}
 use Rattle.nm_set_c.specs.declared.outcome.Outcome.{Outcome}
 use Rattle.nm_set_c.specs.declared.outcome.Outcome.TheVariants as outcome
 use Rattle.nm_set_c.specs.declared.workers.Stats.{Stats}
@@ -31,80 +27,40 @@ use Rattle.nm_set_c.specs.declared.workers.Stats.{Stats}
 -- ---- keys
 
 -- the worker's call is made, and the outcome is that of its answer
-pub record Answers (does : WorkerView → WorkerView → Result Bool Fault → Type 0) (m n : MemberView)
+pub record TellsAnswer (learnt : WorkerView → WorkerView → Result Bool CallFault → Type 0) (m n : MemberView)
     (o : Outcome) : Type 0 where
-  pub answer : Result Bool Fault
+  pub answer : Result Bool CallFault
   pub told : o ≡ of_answer answer
   pub tree : n.tree ≡ m.tree
-  pub did : does m.worker n.worker answer
-
--- the same for a call that goes on with a remove
-pub record Finishes (leaves : WorkerView → WorkerView → Result Bool Lost → Type 0) (m n : MemberView)
-    (o : Outcome) : Type 0 where
-  pub answer : Result Bool Lost
-  pub told : o ≡ of_finished answer
-  pub tree : n.tree ≡ m.tree
-  pub did : leaves m.worker n.worker answer
+  pub says : learnt m.worker n.worker answer
 
 -- if the number is no key, the outcome is `Key`, and the worker is unchanged
 abbrev pub OfKey : ℕ → Type 0 → MemberView → MemberView → Outcome → Type 0
-OfKey k did m n o = (IsKey k × did) ⊎ ((IsKey k → ⊥) × (o ≡ outcome.Key) × (n ≡ m))
+OfKey k says m n o = (IsKey k × says) ⊎ ((IsKey k → ⊥) × (o ≡ outcome.Key) × (n ≡ m))
 
--- `DoesTryContains`, `DoesTryInsert`, `DoesTryRemove`, `DoesFinish`, `DoesPin`, `DoesUnpin`,
--- `DoesAdvance`, `DoesBehind`, `DoesCollect`: a call of a worker: its outcome, what it writes, and
--- all clauses of the member's call
-abbrev pub DoesTryContains : ℕ → ℕ → MemberView → MemberView → Outcome → Type 0
-DoesTryContains tries k m n o = OfKey k (Answers (Asked (LeavesHas m.tree.layout tries k)) m n o) m n o
-
-abbrev pub DoesTryInsert : ℕ → ℕ → MemberView → MemberView → Outcome → Type 0
-DoesTryInsert tries k m n o = OfKey k (Answers (Asked (LeavesInsert m.tree.layout tries k)) m n o) m n o
-
-abbrev pub DoesTryRemove : ℕ → ℕ → MemberView → MemberView → Outcome → Type 0
-DoesTryRemove tries k m n o = OfKey k (Answers (Asked (LeavesDelete m.tree.layout tries k)) m n o) m n o
-
-abbrev pub DoesFinish : ℕ → MemberView → MemberView → Outcome → Type 0
-DoesFinish tries m n o = Finishes (LeavesFinish m.tree.layout tries) m n o
-
--- `TellsTryContains`, `TellsTryInsert`, `TellsTryRemove`, `TellsFinish`: what a caller learns from
--- such a call
+-- `TellsTryContains`, `TellsTryInsert`, `TellsTryRemove`, `TellsFinish`: what a caller learns from a
+-- call of the tree
 abbrev pub TellsTryContains : ℕ → ℕ → MemberView → MemberView → Outcome → Type 0
-TellsTryContains tries k m n o = OfKey k (Answers (Asked (SaysHas m.tree.layout tries k)) m n o) m n o
+TellsTryContains tries k m n o = OfKey k (TellsAnswer (Asked (SaysHas m.tree.layout tries k)) m n o) m n o
 
 abbrev pub TellsTryInsert : ℕ → ℕ → MemberView → MemberView → Outcome → Type 0
-TellsTryInsert tries k m n o = OfKey k (Answers (Asked (SaysInsert m.tree.layout tries k)) m n o) m n o
+TellsTryInsert tries k m n o = OfKey k (TellsAnswer (SaysTryInsert m.tree.layout tries k) m n o) m n o
 
 abbrev pub TellsTryRemove : ℕ → ℕ → MemberView → MemberView → Outcome → Type 0
-TellsTryRemove tries k m n o = OfKey k (Answers (Asked (SaysDelete m.tree.layout tries k)) m n o) m n o
+TellsTryRemove tries k m n o = OfKey k (TellsAnswer (SaysTryRemove m.tree.layout tries k) m n o) m n o
 
 abbrev pub TellsFinish : ℕ → MemberView → MemberView → Outcome → Type 0
-TellsFinish tries m n o = Finishes (SaysFinish m.tree.layout tries) m n o
+TellsFinish tries m n o = TellsAnswer (SaysGoOn m.tree.layout tries) m n o
 
--- ---- keys, by managed calls
-
--- a managed insert, by its result without the worker that holds memory back
-abbrev pub InsertsTelling : TreeView → Options → ℕ → WorkerView → WorkerView → Result Bool Fault → Type 0
-InsertsTelling b h k w z r =
-    (told : Result Bool InsertFault) × (r ≡ of_insert told) × TendsInsert b h k w z told
-
--- `DoesContains`, `DoesInsert`, `DoesRemove`: the same for the member's managed calls
-abbrev pub DoesContains : Options → ℕ → MemberView → MemberView → Outcome → Type 0
-DoesContains h k m n o = OfKey k (Answers (TendsHas m.tree h k) m n o) m n o
-
-abbrev pub DoesInsert : Options → ℕ → MemberView → MemberView → Outcome → Type 0
-DoesInsert h k m n o = OfKey k (Answers (InsertsTelling m.tree h k) m n o) m n o
-
-abbrev pub DoesRemove : Options → ℕ → MemberView → MemberView → Outcome → Type 0
-DoesRemove h k m n o = OfKey k (Answers (TendsDelete m.tree h k) m n o) m n o
-
--- `TellsContains`, `TellsInsert`, `TellsRemove`: what a caller learns from such a call
+-- `TellsContains`, `TellsInsert`, `TellsRemove`: what a caller learns from a managed call
 abbrev pub TellsContains : Options → ℕ → MemberView → MemberView → Outcome → Type 0
-TellsContains h k m n o = OfKey k (Answers (SaysTended Has m.tree h k) m n o) m n o
+TellsContains h k m n o = OfKey k (TellsAnswer (SaysManaged Has m.tree h k) m n o) m n o
 
 abbrev pub TellsInsert : Options → ℕ → MemberView → MemberView → Outcome → Type 0
-TellsInsert h k m n o = OfKey k (Answers (SaysTended Insert m.tree h k) m n o) m n o
+TellsInsert h k m n o = OfKey k (TellsAnswer (SaysManaged Insert m.tree h k) m n o) m n o
 
 abbrev pub TellsRemove : Options → ℕ → MemberView → MemberView → Outcome → Type 0
-TellsRemove h k m n o = OfKey k (Answers (SaysTended Delete m.tree h k) m n o) m n o
+TellsRemove h k m n o = OfKey k (TellsAnswer (SaysManaged Delete m.tree h k) m n o) m n o
 
 -- ---- epochs
 
@@ -112,32 +68,32 @@ TellsRemove h k m n o = OfKey k (Answers (SaysTended Delete m.tree h k) m n o) m
 abbrev pub of_pin : Result ℕ PinFault → Outcome
 of_pin (Ok e) = outcome.Done
 of_pin (Err pinning.Pinned) = outcome.Pinned
-of_pin (Err (pinning.Call (unpinned.Moved e))) = outcome.Busy
-of_pin (Err (pinning.Call unpinned.Pending)) = outcome.Pending
+of_pin (Err (pinning.Moved e)) = outcome.Busy
+of_pin (Err pinning.Pending) = outcome.Pending
 
 -- the epoch that is written, or the value that was there before
 abbrev pub pin_epoch : Result ℕ PinFault → ℕ → ℕ
 pin_epoch (Ok e) old = e
-pin_epoch (Err (pinning.Call (unpinned.Moved e))) old = e
+pin_epoch (Err (pinning.Moved e)) old = e
 pin_epoch (Err pinning.Pinned) old = old
-pin_epoch (Err (pinning.Call unpinned.Pending)) old = old
+pin_epoch (Err pinning.Pending) old = old
 
-pub record DoesPin (tries old epoch : ℕ) (m n : MemberView) (o : Outcome) : Type 0 where
+pub record TellsPin (tries old epoch : ℕ) (m n : MemberView) (o : Outcome) : Type 0 where
   pub answer : Result ℕ PinFault
   pub told : o ≡ of_pin answer
   pub epoch_told : epoch ≡ pin_epoch answer old
   pub tree : n.tree ≡ m.tree
-  pub did : AskedToPin tries m.worker n.worker answer
+  pub says : AskedToPin tries m.worker n.worker answer
 
 abbrev pub of_unpin : Result (Unit {0}) NotPinned → Outcome
 of_unpin (Ok u) = outcome.Done
 of_unpin (Err f) = outcome.NotPinned
 
-pub record DoesUnpin (m n : MemberView) (o : Outcome) : Type 0 where
+pub record TellsUnpin (m n : MemberView) (o : Outcome) : Type 0 where
   pub answer : Result (Unit {0}) NotPinned
   pub told : o ≡ of_unpin answer
   pub tree : n.tree ≡ m.tree
-  pub did : AskedToUnpin m.worker n.worker answer
+  pub says : AskedToUnpin m.worker n.worker answer
 
 abbrev pub of_advance : Advance → Outcome
 of_advance (advance.Moved e) = outcome.Done
@@ -159,25 +115,25 @@ advance_worker (advance.Held w e) old = w
 advance_worker (advance.Lost e) old = old
 advance_worker advance.Spent old = old
 
-pub record DoesAdvance (old_epoch epoch old_worker worker : ℕ) (m n : MemberView)
+pub record TellsAdvance (old_epoch epoch old_worker worker : ℕ) (m n : MemberView)
     (o : Outcome) : Type 0 where
   pub answer : Advance
   pub told : o ≡ of_advance answer
   pub epoch_told : epoch ≡ advance_epoch answer old_epoch
   pub worker_told : worker ≡ advance_worker answer old_worker
   pub tree : n.tree ≡ m.tree
-  pub did : LeavesAdvance m.tree.layout.workers m.worker n.worker answer
+  pub says : LeavesAdvance m.tree.layout.workers m.worker n.worker answer
 
-pub record DoesBehind (epoch mask : ℕ) (m n : MemberView) (o : Outcome) : Type 0 where
+pub record TellsBehind (epoch mask : ℕ) (m n : MemberView) (o : Outcome) : Type 0 where
   pub told : o ≡ outcome.Done
   pub tree : n.tree ≡ m.tree
-  pub did : LeavesBehind m.tree.layout.workers m.worker n.worker
+  pub says : LeavesBehind m.tree.layout.workers m.worker n.worker
       (record { epoch = epoch; mask = mask })
 
-pub record DoesCollect (epoch freed : ℕ) (m n : MemberView) (o : Outcome) : Type 0 where
+pub record TellsCollect (epoch freed : ℕ) (m n : MemberView) (o : Outcome) : Type 0 where
   pub told : o ≡ outcome.Done
   pub tree : n.tree ≡ m.tree
-  pub did : LeavesCollect m.tree.layout.nodes m.worker n.worker
+  pub says : LeavesCollect m.tree.layout.nodes m.worker n.worker
       (record { epoch = epoch; freed = freed })
 
 -- ---- what is read of a worker
@@ -221,8 +177,8 @@ pub record TellsStats (ledger : Stats) (m n : MemberView) (o : Outcome) : Type 0
 
 -- the worker of that number, which was on its seat, has resigned to this one; or it has not, for
 -- the reason in the outcome, and this one is unchanged
-abbrev pub DoesResign : ℕ → MemberView → MemberView → Outcome → Type 0
-DoesResign leaver m n o =
+abbrev pub TellsResign : ℕ → MemberView → MemberView → Outcome → Type 0
+TellsResign leaver m n o =
     ((o ≡ outcome.Done) × (n.tree ≡ m.tree) × (w : WorkerView) × IsResident m.tree m.worker.fit leaver w
     × HasResigned m.worker w n.worker)
     ⊎ ((why : ResignReason) × (o ≡ of_staying why) × IsStaying m leaver why × (n ≡ m))

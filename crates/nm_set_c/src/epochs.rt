@@ -5,11 +5,11 @@ ghost use Rattle.std.specs.Prelude.{◌≡◌, ⊤};
 ghost use Rattle.nm_set_c.specs.Handles.{held_by};
 ghost use Rattle.nm_set_c.specs.Outcomes.{IsCodeOf};
 ghost use Rattle.nm_set_c.specs.Owners.{HasDone, OfWorker};
-ghost use Rattle.nm_set_c.specs.Workers.{DoesPin, DoesUnpin, DoesAdvance, DoesBehind, DoesCollect};
+ghost use Rattle.nm_set_c.specs.Workers.{TellsPin, TellsUnpin, TellsAdvance, TellsBehind, TellsCollect};
 
 use crate::handle::{Handle, by_handle};
 use crate::outcome::Outcome;
-use nm_set::{Advance, CallPinFault, Member, PinFault};
+use nm_set::{Advance, Member, PinFault};
 use std::alloc::Global;
 
 /// Pins the epoch for the caller, until unpin, and writes it: `Member::pin` of `nm_set`. Returns
@@ -24,14 +24,14 @@ pub extern "C" fn nm_worker_pin(
     tries: u32,
     epoch: &mut u64,
 ) -> i32
-    ensures { IsCodeOf (OfWorker (DoesPin tries epoch.old epoch.new) (epoch.new ≡ epoch.old)
+    ensures { IsCodeOf (OfWorker (TellsPin tries epoch.old epoch.new) (epoch.new ≡ epoch.old)
         (held_by worker.old) (held_by worker.new)) result }
 {
     by_handle!(alloc, worker, Worker(member) => pin(member, tries, epoch))
 }
 
 fn pin(member: &mut Member, tries: u32, epoch: &mut u64) -> Outcome
-    ensures { HasDone (DoesPin tries epoch.old epoch.new) member.old member.new result }
+    ensures { HasDone (TellsPin tries epoch.old epoch.new) member.old member.new result }
 {
     match member.pin(tries) {
         Ok(pinned) => {
@@ -39,8 +39,8 @@ fn pin(member: &mut Member, tries: u32, epoch: &mut u64) -> Outcome
             Outcome::Done
         }
         Err(PinFault::Pinned) => Outcome::Pinned,
-        Err(PinFault::Call(CallPinFault::Pending)) => Outcome::Pending,
-        Err(PinFault::Call(CallPinFault::Moved { epoch: found })) => {
+        Err(PinFault::Pending) => Outcome::Pending,
+        Err(PinFault::Moved { epoch: found }) => {
             *epoch = found;
             Outcome::Busy
         }
@@ -51,13 +51,13 @@ fn pin(member: &mut Member, tries: u32, epoch: &mut u64) -> Outcome
 /// `Closed`, `InUse`, `Kind`.
 #[unsafe(no_mangle)]
 pub extern "C" fn nm_worker_unpin(alloc: Global, worker: &mut Handle) -> i32
-    ensures { IsCodeOf (OfWorker (DoesUnpin) ⊤ (held_by worker.old) (held_by worker.new)) result }
+    ensures { IsCodeOf (OfWorker (TellsUnpin) ⊤ (held_by worker.old) (held_by worker.new)) result }
 {
     by_handle!(alloc, worker, Worker(member) => unpin(member))
 }
 
 fn unpin(member: &mut Member) -> Outcome
-    ensures { HasDone DoesUnpin member.old member.new result }
+    ensures { HasDone TellsUnpin member.old member.new result }
 {
     match member.unpin() {
         Ok(()) => Outcome::Done,
@@ -78,7 +78,7 @@ pub extern "C" fn nm_worker_advance(
     epoch: &mut u64,
     behind: &mut u32,
 ) -> i32
-    ensures { IsCodeOf (OfWorker (DoesAdvance epoch.old epoch.new behind.old behind.new)
+    ensures { IsCodeOf (OfWorker (TellsAdvance epoch.old epoch.new behind.old behind.new)
         ((epoch.new ≡ epoch.old) × (behind.new ≡ behind.old)) (held_by worker.old)
         (held_by worker.new)) result }
 {
@@ -86,7 +86,7 @@ pub extern "C" fn nm_worker_advance(
 }
 
 fn advance(member: &mut Member, epoch: &mut u64, behind: &mut u32) -> Outcome
-    ensures { HasDone (DoesAdvance epoch.old epoch.new behind.old behind.new) member.old member.new result }
+    ensures { HasDone (TellsAdvance epoch.old epoch.new behind.old behind.new) member.old member.new result }
 {
     match member.advance() {
         Advance::Moved { epoch: moved } => {
@@ -119,7 +119,7 @@ pub extern "C" fn nm_worker_behind(
     epoch: &mut u64,
     mask: &mut u64,
 ) -> i32
-    ensures { IsCodeOf (OfWorker (DoesBehind epoch.new mask.new)
+    ensures { IsCodeOf (OfWorker (TellsBehind epoch.new mask.new)
         ((epoch.new ≡ epoch.old) × (mask.new ≡ mask.old)) (held_by worker.old) (held_by worker.new))
         result }
 {
@@ -127,7 +127,7 @@ pub extern "C" fn nm_worker_behind(
 }
 
 fn behind(member: &mut Member, epoch: &mut u64, mask: &mut u64) -> Outcome
-    ensures { HasDone (DoesBehind epoch.new mask.new) member.old member.new result }
+    ensures { HasDone (TellsBehind epoch.new mask.new) member.old member.new result }
 {
     let found = member.behind();
     *epoch = found.epoch;
@@ -145,7 +145,7 @@ pub extern "C" fn nm_worker_collect(
     epoch: &mut u64,
     freed: &mut u64,
 ) -> i32
-    ensures { IsCodeOf (OfWorker (DoesCollect epoch.new freed.new)
+    ensures { IsCodeOf (OfWorker (TellsCollect epoch.new freed.new)
         ((epoch.new ≡ epoch.old) × (freed.new ≡ freed.old)) (held_by worker.old)
         (held_by worker.new)) result }
 {
@@ -153,7 +153,7 @@ pub extern "C" fn nm_worker_collect(
 }
 
 fn collect(member: &mut Member, epoch: &mut u64, freed: &mut u64) -> Outcome
-    ensures { HasDone (DoesCollect epoch.new freed.new) member.old member.new result }
+    ensures { HasDone (TellsCollect epoch.new freed.new) member.old member.new result }
 {
     let collected = member.collect();
     *epoch = collected.epoch;

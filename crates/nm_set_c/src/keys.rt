@@ -5,7 +5,7 @@ ghost use Rattle.std.specs.Prelude.{⊤};
 ghost use Rattle.nm_set_c.specs.Handles.{held_by};
 ghost use Rattle.nm_set_c.specs.Outcomes.{IsCodeOf};
 ghost use Rattle.nm_set_c.specs.Owners.{HasDone, OfWorker};
-ghost use Rattle.nm_set_c.specs.Workers.{DoesTryContains, DoesTryInsert, DoesTryRemove, DoesFinish, TellsTryContains, TellsTryInsert, TellsTryRemove, TellsFinish};
+ghost use Rattle.nm_set_c.specs.Workers.{TellsTryContains, TellsTryInsert, TellsTryRemove, TellsFinish};
 
 use crate::handle::{Handle, by_handle};
 use crate::outcome::Outcome;
@@ -23,8 +23,6 @@ pub extern "C" fn nm_worker_try_contains(
 ) -> i32
     ensures tells { IsCodeOf (OfWorker (TellsTryContains tries key) ⊤ (held_by worker.old)
         (held_by worker.new)) result }
-    ensures did { IsCodeOf (OfWorker (DoesTryContains tries key) ⊤ (held_by worker.old) (held_by worker.new))
-        result }
 {
     by_handle!(alloc, worker, Worker(member), key => Outcome::of_answer(member.try_contains(key, tries)))
 }
@@ -40,8 +38,6 @@ pub extern "C" fn nm_worker_try_insert(
 ) -> i32
     ensures tells { IsCodeOf (OfWorker (TellsTryInsert tries key) ⊤ (held_by worker.old)
         (held_by worker.new)) result }
-    ensures did { IsCodeOf (OfWorker (DoesTryInsert tries key) ⊤ (held_by worker.old) (held_by worker.new))
-        result }
 {
     by_handle!(alloc, worker, Worker(member), key => Outcome::of_answer(member.try_insert(key, tries)))
 }
@@ -57,8 +53,6 @@ pub extern "C" fn nm_worker_try_remove(
 ) -> i32
     ensures tells { IsCodeOf (OfWorker (TellsTryRemove tries key) ⊤ (held_by worker.old)
         (held_by worker.new)) result }
-    ensures did { IsCodeOf (OfWorker (DoesTryRemove tries key) ⊤ (held_by worker.old) (held_by worker.new))
-        result }
 {
     by_handle!(alloc, worker, Worker(member), key => Outcome::of_answer(member.try_remove(key, tries)))
 }
@@ -70,8 +64,6 @@ pub extern "C" fn nm_worker_try_remove(
 pub extern "C" fn nm_worker_finish(alloc: Global, worker: &mut Handle, tries: u32) -> i32
     ensures tells { IsCodeOf (OfWorker (TellsFinish tries) ⊤ (held_by worker.old)
         (held_by worker.new)) result }
-    ensures did { IsCodeOf (OfWorker (DoesFinish tries) ⊤ (held_by worker.old) (held_by worker.new))
-        result }
 {
     by_handle!(alloc, worker, Worker(member) => finish(member, tries))
 }
@@ -79,7 +71,6 @@ pub extern "C" fn nm_worker_finish(alloc: Global, worker: &mut Handle, tries: u3
 #[inline(always)]
 fn finish(member: &mut Member, tries: u32) -> Outcome
     ensures tells { HasDone (TellsFinish tries) member.old member.new result }
-    ensures did { HasDone (DoesFinish tries) member.old member.new result }
 {
-    Outcome::of_finished(member.finish(tries))
+    Outcome::of_answer(member.finish(tries))
 }

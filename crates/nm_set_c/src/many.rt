@@ -5,14 +5,14 @@ ghost use Rattle.std.specs.Prelude.{◌≡◌, length, map, IfOk, IfErr};
 ghost use Rattle.nm_calls.specs.InTurns.{key_of};
 ghost use Rattle.nm_set.specs.InTurns.{AskedMany};
 ghost use Rattle.nm_set_c.specs.Handles.{held_by};
-ghost use Rattle.nm_set_c.specs.Lookups.{DoesContainsMany, IsUnasked, lookup_of, key_looked_up};
+ghost use Rattle.nm_set_c.specs.Lookups.{TellsContainsMany, IsUnasked, lookup_of, key_looked_up};
 ghost use Rattle.nm_set_c.specs.Outcomes.{IsCodeOf};
 ghost use Rattle.nm_set_c.specs.Owners.{HasDone, OfWorker};
 
 use crate::handle::{Handle, by_handle};
 use crate::outcome::Outcome;
 use nm_edge::Key;
-use nm_set::{Fault, Member, Query};
+use nm_set::{CallFault, Member, Query};
 use std::alloc::Global;
 
 /// A key that is looked up beside others, and whether it is in the set.
@@ -35,14 +35,14 @@ pub extern "C" fn nm_worker_contains_many(
     lookups: &mut [Lookup],
     tries: u32,
 ) -> i32
-    ensures { IsCodeOf (OfWorker (DoesContainsMany tries lookups.old lookups.new)
+    ensures { IsCodeOf (OfWorker (TellsContainsMany tries lookups.old lookups.new)
         (lookups.new ≡ lookups.old) (held_by worker.old) (held_by worker.new)) result }
 {
     by_handle!(alloc, worker, Worker(member) => contains_many(alloc, member, lookups, tries))
 }
 
 fn contains_many(alloc: Global, member: &mut Member, lookups: &mut [Lookup], tries: u32) -> Outcome
-    ensures { HasDone (DoesContainsMany tries lookups.old lookups.new) member.old member.new result }
+    ensures { HasDone (TellsContainsMany tries lookups.old lookups.new) member.old member.new result }
 {
     let mut queries = match queries_of(alloc, lookups) {
         Ok(queries) => queries,
@@ -58,9 +58,9 @@ fn contains_many(alloc: Global, member: &mut Member, lookups: &mut [Lookup], tri
 }
 
 /// Asks the worker for all of these.
-fn ask(member: &mut Member, queries: &mut Vec<Query>, tries: u32) -> Result<(), Fault>
+fn ask(member: &mut Member, queries: &mut Vec<Query>, tries: u32) -> Result<(), CallFault>
     ensures tree { member.new.tree ≡ member.old.tree }
-    ensures did { AskedMany member.old.tree.layout tries queries.old.items queries.new.items
+    ensures says { AskedMany member.old.tree.layout tries queries.old.items queries.new.items
         member.old.worker member.new.worker result }
 {
     member.contains_many(queries.as_mut_slice(), tries)

@@ -3,14 +3,14 @@
 
 ghost use Rattle.std.specs.Prelude.{◌≡◌};
 ghost use Rattle.nm_set_c.specs.Handles.{held_by};
-ghost use Rattle.nm_set_c.specs.NextKeys.{DoesNext, DoesPrev, found_written, of_found};
+ghost use Rattle.nm_set_c.specs.NextKeys.{TellsNext, TellsPrev, found_written, of_found};
 ghost use Rattle.nm_set_c.specs.Outcomes.{IsCodeOf};
 ghost use Rattle.nm_set_c.specs.Owners.{HasDone, OfWorker};
 
 use crate::handle::{Handle, by_handle};
 use crate::outcome::Outcome;
 use nm_edge::Key;
-use nm_set::{Fault, Member};
+use nm_set::{CallFault, Member};
 use std::alloc::Global;
 
 /// Finds the least key of the set that is not below `key`: `Member::next` of `nm_set`. Returns
@@ -24,14 +24,14 @@ pub extern "C" fn nm_worker_next(
     tries: u32,
     found: &mut u64,
 ) -> i32
-    ensures { IsCodeOf (OfWorker (DoesNext tries key found.old found.new) (found.new ≡ found.old)
+    ensures { IsCodeOf (OfWorker (TellsNext tries key found.old found.new) (found.new ≡ found.old)
         (held_by worker.old) (held_by worker.new)) result }
 {
     by_handle!(alloc, worker, Worker(member) => next(member, key, tries, found))
 }
 
 fn next(member: &mut Member, key: u64, tries: u32, found: &mut u64) -> Outcome
-    ensures { HasDone (DoesNext tries key found.old found.new) member.old member.new result }
+    ensures { HasDone (TellsNext tries key found.old found.new) member.old member.new result }
 {
     let Some(key) = Key::new(key) else {
         return Outcome::Key;
@@ -51,14 +51,14 @@ pub extern "C" fn nm_worker_prev(
     tries: u32,
     found: &mut u64,
 ) -> i32
-    ensures { IsCodeOf (OfWorker (DoesPrev tries key found.old found.new) (found.new ≡ found.old)
+    ensures { IsCodeOf (OfWorker (TellsPrev tries key found.old found.new) (found.new ≡ found.old)
         (held_by worker.old) (held_by worker.new)) result }
 {
     by_handle!(alloc, worker, Worker(member) => prev(member, key, tries, found))
 }
 
 fn prev(member: &mut Member, key: u64, tries: u32, found: &mut u64) -> Outcome
-    ensures { HasDone (DoesPrev tries key found.old found.new) member.old member.new result }
+    ensures { HasDone (TellsPrev tries key found.old found.new) member.old member.new result }
 {
     let Some(key) = Key::new(key) else {
         return Outcome::Key;
@@ -68,7 +68,7 @@ fn prev(member: &mut Member, key: u64, tries: u32, found: &mut u64) -> Outcome
 }
 
 /// Writes the key that was found, if there is one, and returns the outcome.
-pub(crate) fn tell_found(answer: Result<Option<Key>, Fault>, found: &mut u64) -> Outcome
+pub(crate) fn tell_found(answer: Result<Option<Key>, CallFault>, found: &mut u64) -> Outcome
     ensures told { result ≡ of_found answer }
     ensures written { found.new ≡ found_written answer found.old }
 {

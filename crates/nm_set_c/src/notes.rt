@@ -4,7 +4,7 @@
 
 ghost use Rattle.std.specs.Prelude.{◌≡◌};
 ghost use Rattle.nm_set_c.specs.Handles.{held_by};
-ghost use Rattle.nm_set_c.specs.Notes.{DoesPublish, DoesObserve};
+ghost use Rattle.nm_set_c.specs.Notes.{TellsPublish, TellsObserve};
 ghost use Rattle.nm_set_c.specs.Outcomes.{IsCodeOf};
 ghost use Rattle.nm_set_c.specs.Owners.{HasDone, OfWorker};
 
@@ -24,7 +24,7 @@ pub extern "C" fn nm_worker_publish(
     inserted: &mut u64,
     removed: &mut u64,
 ) -> i32
-    ensures { IsCodeOf (OfWorker (DoesPublish inserted.old inserted.new removed.old removed.new)
+    ensures { IsCodeOf (OfWorker (TellsPublish inserted.old inserted.new removed.old removed.new)
         ((inserted.new ≡ inserted.old) × (removed.new ≡ removed.old)) (held_by worker.old)
         (held_by worker.new)) result }
 {
@@ -32,7 +32,7 @@ pub extern "C" fn nm_worker_publish(
 }
 
 fn publish(member: &mut Member, inserted: &mut u64, removed: &mut u64) -> Outcome
-    ensures { HasDone (DoesPublish inserted.old inserted.new removed.old removed.new) member.old member.new result }
+    ensures { HasDone (TellsPublish inserted.old inserted.new removed.old removed.new) member.old member.new result }
 {
     match member.publish() {
         Some(posted) => {
@@ -56,7 +56,7 @@ pub extern "C" fn nm_worker_observe(
     inserted: &mut u64,
     removed: &mut u64,
 ) -> i32
-    ensures { IsCodeOf (OfWorker (DoesObserve number inserted.old inserted.new removed.old removed.new)
+    ensures { IsCodeOf (OfWorker (TellsObserve number inserted.old inserted.new removed.old removed.new)
         ((inserted.new ≡ inserted.old) × (removed.new ≡ removed.old)) (held_by worker.old)
         (held_by worker.new)) result }
 {
@@ -64,7 +64,7 @@ pub extern "C" fn nm_worker_observe(
 }
 
 fn observe(member: &mut Member, number: u32, inserted: &mut u64, removed: &mut u64) -> Outcome
-    ensures { HasDone (DoesObserve number inserted.old inserted.new removed.old removed.new) member.old member.new result }
+    ensures { HasDone (TellsObserve number inserted.old inserted.new removed.old removed.new) member.old member.new result }
 {
     match member.observe(number) {
         Ok(Some(posted)) => {

@@ -1,9 +1,9 @@
 //! What a call returns to C: an answer or an error, as a number.
 ghost use Rattle.std.specs.Prelude.{◌≡◌};
-ghost use Rattle.nm_set.specs.Tended.{of_insert};
-ghost use Rattle.nm_set_c.specs.Outcomes.{code_of, of_bool, of_lost, of_fault, of_answer, of_finished, of_new, of_taking, of_staying, of_reason};
+ghost use Rattle.nm_set.specs.Managed.{of_insert};
+ghost use Rattle.nm_set_c.specs.Outcomes.{code_of, of_bool, of_fault, of_answer, of_new, of_taking, of_staying, of_reason};
 
-use nm_set::{CallFault, CloseReason, Fault, InsertFault, MemberFault, NewError, ResignReason};
+use nm_set::{CallFault, CloseReason, InsertFault, MemberFault, NewError, ResignReason};
 
 /// What came of a call. After an error nothing has changed, unless its own line says more.
 #[derive(Clone, Copy, Debug, PartialEq, Eq)]
@@ -106,9 +106,9 @@ impl Outcome {
         if answer { Outcome::Yes } else { Outcome::No }
     }
 
-    /// Converts the error of a tree's call.
-    pub(crate) fn of_lost(fault: CallFault) -> Outcome
-        ensures { result ≡ of_lost fault }
+    /// Converts the error of a call.
+    pub(crate) fn of_fault(fault: CallFault) -> Outcome
+        ensures { result ≡ of_fault fault }
     {
         match fault {
             CallFault::Busy => Outcome::Busy,
@@ -116,21 +116,12 @@ impl Outcome {
             CallFault::NoMemory => Outcome::NoMemory,
             CallFault::Unfinished => Outcome::Unfinished,
             CallFault::Pending => Outcome::Pending,
-        }
-    }
-
-    /// Converts the error of a worker's call.
-    pub(crate) fn of_fault(fault: Fault) -> Outcome
-        ensures { result ≡ of_fault fault }
-    {
-        match fault {
-            Fault::Pinned => Outcome::Pinned,
-            Fault::Call(lost) => Outcome::of_lost(lost),
+            CallFault::Pinned => Outcome::Pinned,
         }
     }
 
     /// Converts the result of a worker's call for a key.
-    pub(crate) fn of_answer(answer: Result<bool, Fault>) -> Outcome
+    pub(crate) fn of_answer(answer: Result<bool, CallFault>) -> Outcome
         ensures { result ≡ of_answer answer }
     {
         match answer {
@@ -147,16 +138,6 @@ impl Outcome {
             Ok(answer) => Outcome::of(answer),
             Err(InsertFault::Full(_)) => Outcome::Full,
             Err(InsertFault::Other(fault)) => Outcome::of_fault(fault),
-        }
-    }
-
-    /// Converts the result of a call that goes on with a remove.
-    pub(crate) fn of_finished(answer: Result<bool, CallFault>) -> Outcome
-        ensures { result ≡ of_finished answer }
-    {
-        match answer {
-            Ok(answer) => Outcome::of(answer),
-            Err(fault) => Outcome::of_lost(fault),
         }
     }
 

@@ -3,7 +3,7 @@
 
 ghost use Rattle.std.specs.Prelude.{◌≡◌, ◌≢◌, true, false, IfSome};
 ghost use Rattle.nm_set_c.specs.Handles.{held_by};
-ghost use Rattle.nm_set_c.specs.NextKeys.{DoesPopFirst, DoesPopLast, TellsPopFirst, TellsPopLast, found_written, of_found, unfinished};
+ghost use Rattle.nm_set_c.specs.NextKeys.{TellsPopFirst, TellsPopLast, found_written, of_found, unfinished};
 ghost use Rattle.nm_set_c.specs.Outcomes.{IsCodeOf};
 ghost use Rattle.nm_set_c.specs.Owners.{HasDone, OfWorker};
 
@@ -11,7 +11,7 @@ use crate::handle::{Handle, by_handle};
 use crate::next_key::tell_found;
 use crate::outcome::Outcome;
 use nm_edge::Key;
-use nm_set::{CallFault, Fault, Member, Options};
+use nm_set::{CallFault, Member, Options};
 use std::alloc::Global;
 
 /// Removes the least key from the set: `Member::pop_first` of `nm_set`. Returns `Yes` and writes the
@@ -27,15 +27,12 @@ pub extern "C" fn nm_worker_pop_first(
 ) -> i32
     ensures tells { IsCodeOf (OfWorker (TellsPopFirst options.now taken.old taken.new)
         (taken.new ≡ taken.old) (held_by worker.old) (held_by worker.new)) result }
-    ensures did { IsCodeOf (OfWorker (DoesPopFirst options.now taken.old taken.new)
-        (taken.new ≡ taken.old) (held_by worker.old) (held_by worker.new)) result }
 {
     by_handle!(alloc, worker, Worker(member) => pop_first(member, options, taken))
 }
 
 fn pop_first(member: &mut Member, options: &Options, taken: &mut u64) -> Outcome
     ensures tells { HasDone (TellsPopFirst options.now taken.old taken.new) member.old member.new result }
-    ensures did { HasDone (DoesPopFirst options.now taken.old taken.new) member.old member.new result }
 {
     let answer = member.pop_first(options);
     let pending = member.pending();
@@ -53,15 +50,12 @@ pub extern "C" fn nm_worker_pop_last(
 ) -> i32
     ensures tells { IsCodeOf (OfWorker (TellsPopLast options.now taken.old taken.new)
         (taken.new ≡ taken.old) (held_by worker.old) (held_by worker.new)) result }
-    ensures did { IsCodeOf (OfWorker (DoesPopLast options.now taken.old taken.new)
-        (taken.new ≡ taken.old) (held_by worker.old) (held_by worker.new)) result }
 {
     by_handle!(alloc, worker, Worker(member) => pop_last(member, options, taken))
 }
 
 fn pop_last(member: &mut Member, options: &Options, taken: &mut u64) -> Outcome
     ensures tells { HasDone (TellsPopLast options.now taken.old taken.new) member.old member.new result }
-    ensures did { HasDone (DoesPopLast options.now taken.old taken.new) member.old member.new result }
 {
     let answer = member.pop_last(options);
     let pending = member.pending();
@@ -70,7 +64,11 @@ fn pop_last(member: &mut Member, options: &Options, taken: &mut u64) -> Outcome
 
 /// Writes the key that was taken, or the pending one if its remove is unfinished, and returns the
 /// outcome.
-fn tell_taken(answer: Result<Option<Key>, Fault>, pending: Option<Key>, taken: &mut u64) -> Outcome
+fn tell_taken(
+    answer: Result<Option<Key>, CallFault>,
+    pending: Option<Key>,
+    taken: &mut u64,
+) -> Outcome
     ensures told { result ≡ of_found answer }
     ensures going { answer ≡ unfinished → IfSome pending (λ key. taken.new ≡ key) }
     ensures written { answer ≢ unfinished → taken.new ≡ found_written answer taken.old }
@@ -85,9 +83,9 @@ fn tell_taken(answer: Result<Option<Key>, Fault>, pending: Option<Key>, taken: &
 }
 
 /// Returns whether the key was flagged and is not known to be cut off.
-fn is_unfinished(answer: &Result<Option<Key>, Fault>) -> bool
+fn is_unfinished(answer: &Result<Option<Key>, CallFault>) -> bool
     ensures yes { result ≡ true → answer.now ≡ unfinished }
     ensures no { result ≡ false → answer.now ≢ unfinished }
 {
-    matches!(answer, Err(Fault::Call(CallFault::Unfinished)))
+    matches!(answer, Err(CallFault::Unfinished))
 }

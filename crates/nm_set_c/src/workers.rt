@@ -7,7 +7,7 @@ ghost use Rattle.nm_set_c.specs.Handles.{held_by};
 ghost use Rattle.nm_set_c.specs.Outcomes.{IsCodeOf};
 ghost use Rattle.nm_set_c.specs.Handles.Hold.{Open};
 ghost use Rattle.nm_set_c.specs.Owners.{OfWorker, OwnsWorker};
-ghost use Rattle.nm_set_c.specs.Workers.{DoesResign, TellsNumber, TellsOption, TellsStats, pending_key};
+ghost use Rattle.nm_set_c.specs.Workers.{TellsResign, TellsNumber, TellsOption, TellsStats, pending_key};
 
 use crate::handle::{Handle, by_handle};
 use crate::outcome::Outcome;
@@ -131,7 +131,7 @@ pub extern "C" fn nm_worker_stats(alloc: Global, worker: &mut Handle, stats: &mu
 #[tactic(auto, using(crate::proofs::Owners::refused_worker, crate::proofs::Owners::owned_worker))]
 #[unsafe(no_mangle)]
 pub extern "C" fn nm_worker_resign(alloc: Global, worker: &mut Handle, leaver: u32) -> i32
-    ensures { IsCodeOf (OfWorker (DoesResign leaver) ⊤ (held_by worker.old) (held_by worker.new))
+    ensures { IsCodeOf (OfWorker (TellsResign leaver) ⊤ (held_by worker.old) (held_by worker.new))
         result }
 {
     let mut owner = match worker.claim(alloc) {
@@ -146,7 +146,7 @@ pub extern "C" fn nm_worker_resign(alloc: Global, worker: &mut Handle, leaver: u
 
 #[tactic(auto, using(crate::proofs::Owners::does_worker, crate::proofs::Owners::is_no_worker))]
 fn resign(heir: Owner, leaver: u32) -> (Owner, Outcome)
-    ensures { OwnsWorker (DoesResign leaver) ⊤ heir (Open result.0) result.1 }
+    ensures { OwnsWorker (TellsResign leaver) ⊤ heir (Open result.0) result.1 }
 {
     let member = match heir {
         Owner::Worker(member) => member,

@@ -26,11 +26,11 @@ use Rattle.nm_order.specs.Logs.{known_by, IsLogOf}
 use Rattle.nm_order.proofs.HeldSlots.{hands_are_apart}
 use Rattle.nm_order.proofs.PartsOfRuns.{logs_tell}
 use Rattle.nm_order.proofs.OrderedLaws.{IsOrdered, each_ordered}
-use Rattle.nm_words.specs.Packing.{StateIsInRange, word_at, field_of, touched_field}
-use Rattle.nm_words.proofs.PackedReads.{each_word_is_its_field}
+use Rattle.nm_steps.specs.Packing.{StateIsInRange, word_at, field_of, touched_field}
+use Rattle.nm_steps.proofs.PackedReads.{each_word_is_its_field}
 use Rattle.nm_edge.proofs.Packing.{unpacked_word}
 use Rattle.nm_edge.proofs.Words.{places_are_rows}
-use Rattle.nm_words.proofs.PackedSizes.{each_state_in_range}
+use Rattle.nm_steps.proofs.PackedSizes.{each_state_in_range}
 use Rattle.nm_laws.proofs.TreeSteps.{high_from}
 use Rattle.nm_steps.specs.Rules.{is_store, IsFound}
 use Rattle.nm_steps.specs.Steps.{May, IsAsLooked}

@@ -9,7 +9,7 @@ use Rattle.nm_order.specs.Logs.{known_by}
 use Rattle.nm_order.specs.OwnBirths.{births_by}
 use Rattle.nm_order.specs.Told.{IsNew}
 use Rattle.nm_order.proofs.ToldClaims.{claims_are_new}
-use Rattle.nm_words.specs.Told.{told}
+use Rattle.nm_steps.specs.Told.{told}
 use Rattle.nm_steps.specs.Rules.{IsFound}
 use Rattle.nm_steps.specs.Steps.{May}
 use Rattle.nm_steps.proofs.Noting.{log_grows}

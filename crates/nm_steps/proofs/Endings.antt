@@ -7,9 +7,9 @@ use Rattle.nm_model.specs.Ordered.{Configuration, ordered, after_in}
 use Rattle.nm_order.proofs.OrderedLaws.{each_ordered}
 use Rattle.nm_order.proofs.OrderedLaws.{IsOrdered}
 use Rattle.nm_laws.proofs.Reachable.{layout_kept}
-use Rattle.nm_words.specs.Packing.{Fits, StateFits}
-use Rattle.nm_words.proofs.PackedEvents.{each_state_fits}
-use Rattle.nm_words.proofs.PackedReads.{each_field_has_a_word}
+use Rattle.nm_steps.specs.Packing.{Fits, StateFits}
+use Rattle.nm_steps.proofs.PackedEvents.{each_state_fits}
+use Rattle.nm_steps.proofs.PackedReads.{each_field_has_a_word}
 use Rattle.nm_steps.specs.declared.view.View.{View}
 use Rattle.nm_steps.specs.Steps.{Ends}
 

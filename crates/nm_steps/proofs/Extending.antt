@@ -32,10 +32,10 @@ use Rattle.nm_order.proofs.PartsOfRuns.{logs_tell, part_tells_search}
 use Rattle.nm_order.proofs.OrderedLaws.{IsOrdered, each_ordered}
 use Rattle.nm_order.proofs.LastEntries.{at_some}
 use Rattle.nm_order.proofs.WalksOfRuns.{trace_in-append}
-use Rattle.nm_words.specs.Packing.{words_of, word_at, touched_field, left_word, with_word, EventsTouchOneWord}
-use Rattle.nm_words.specs.Told.{BirthsAreIn, told, BirthsAreKnown, RepliesAreTold}
-use Rattle.nm_words.proofs.PackedEvents.{each_event_touches_one_word}
-use Rattle.nm_words.proofs.PackedReplies.{each_reply_is_told}
+use Rattle.nm_steps.specs.Packing.{words_of, word_at, touched_field, left_word, with_word, EventsTouchOneWord}
+use Rattle.nm_steps.specs.Told.{BirthsAreIn, told, BirthsAreKnown, RepliesAreTold}
+use Rattle.nm_steps.proofs.PackedEvents.{each_event_touches_one_word}
+use Rattle.nm_steps.proofs.PackedReplies.{each_reply_is_told}
 use Rattle.nm_steps.specs.Steps.{May, IsAsLooked, HasEmptyHands}
 
 -- ---- traces

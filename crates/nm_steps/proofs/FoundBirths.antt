@@ -12,11 +12,11 @@ use Rattle.nm_model.specs.Walks.{Entry}
 use Rattle.nm_model.specs.Ordered.{ordered, after_in}
 use Rattle.nm_laws.proofs.Reachable.{layout_kept}
 use Rattle.nm_order.proofs.OrderedLaws.{IsOrdered, each_ordered}
-use Rattle.nm_words.specs.Packing.{Fits, InRange, StateFits, StateIsInRange, word_at, touched_field, NullEdgesAreUnmarked}
-use Rattle.nm_words.proofs.PackedEvents.{each_state_fits}
-use Rattle.nm_words.proofs.PackedReads.{each_word_is_its_field}
-use Rattle.nm_words.proofs.PackedSizes.{each_state_in_range}
-use Rattle.nm_words.proofs.MarkedEdges.{each_null_unmarked}
+use Rattle.nm_steps.specs.Packing.{Fits, InRange, StateFits, StateIsInRange, word_at, touched_field, NullEdgesAreUnmarked}
+use Rattle.nm_steps.proofs.PackedEvents.{each_state_fits}
+use Rattle.nm_steps.proofs.PackedReads.{each_word_is_its_field}
+use Rattle.nm_steps.proofs.PackedSizes.{each_state_in_range}
+use Rattle.nm_steps.proofs.MarkedEdges.{each_null_unmarked}
 use Rattle.nm_steps.specs.Rules.{is_store, IsFound}
 
 -- a word that is found was read of a memory that fits the layout, with its numbers in range

@@ -24,8 +24,8 @@ use Rattle.nm_model.specs.Ordered.{ordered, after_in, trace_in}
 use Rattle.nm_order.specs.Logs.{takes_part, is_leaver, part_of, known_by}
 use Rattle.nm_order.specs.OwnBirths.{births_by}
 use Rattle.nm_order.proofs.AnswersSince.{part-append}
-use Rattle.nm_words.specs.Packing.{words_of, word_at, touched_field, left_word}
-use Rattle.nm_words.specs.Told.{told}
+use Rattle.nm_steps.specs.Packing.{words_of, word_at, touched_field, left_word}
+use Rattle.nm_steps.specs.Told.{told}
 use Rattle.nm_steps.specs.declared.view.Held.{Held}
 use Rattle.nm_steps.specs.declared.view.View.{View}
 use Rattle.nm_steps.specs.Rules.{held_log, holdings, knowledge, known_births, stands, once_below, LogsAre, IsShown, LagsBehind, Runs, Kept, answered_turn, logged, is_store, IsFound, Did, Extends}

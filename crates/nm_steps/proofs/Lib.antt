@@ -18,3 +18,12 @@ pub mod ClaimedSlots
 pub mod AfterSteps
 pub mod Tying
 pub mod Rows
+pub mod Blocks
+pub mod NumberBits
+pub mod PackedReads
+pub mod EdgeWords
+pub mod PackedWrites
+pub mod PackedEvents
+pub mod PackedSizes
+pub mod PackedReplies
+pub mod MarkedEdges

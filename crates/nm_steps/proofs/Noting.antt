@@ -22,8 +22,8 @@ use Rattle.nm_order.specs.Hands.{IsPooled}
 use Rattle.nm_order.specs.Logs.{is_leaver, part_of, known_by, IsLogOf}
 use Rattle.nm_order.specs.OwnBirths.{births_by}
 use Rattle.nm_laws.proofs.Learned.{scan_teaches, look_teaches}
-use Rattle.nm_words.specs.Packing.{word_at, touched_field}
-use Rattle.nm_words.specs.Told.{told}
+use Rattle.nm_steps.specs.Packing.{word_at, touched_field}
+use Rattle.nm_steps.specs.Told.{told}
 use Rattle.nm_steps.specs.declared.view.View.{View}
 use Rattle.std.proofs.lemmas.List.{same_from_push}
 use Rattle.nm_steps.specs.Rules.{knowledge, known_births, answered_turn, logged, is_store, IsFound}

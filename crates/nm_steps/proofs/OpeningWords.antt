@@ -12,9 +12,9 @@ use Rattle.nm_edge.proofs.Words.{fields_within, places_are_rows}
 use Rattle.nm_edge.specs.declared.edge.Side.TheVariants.{Left, Right}
 use Rattle.nm_model.specs.declared.memory.Node.{Node}
 use Rattle.nm_model.specs.Memory.{Memory, node, blank, fork, leaf, put_node, put_edge, with_edge, opening, infinity_0, infinity_1, infinity_2}
-use Rattle.nm_words.specs.Packing.{Fits, announcement_word, node_words, number_of, row_word, words_of}
-use Rattle.nm_words.proofs.PackedReads.{announced, each_field_has_a_word}
-use Rattle.nm_words.proofs.PackedWrites.{key_written, edge_written, giving_sets_a_bit}
+use Rattle.nm_steps.specs.Packing.{Fits, announcement_word, node_words, number_of, row_word, words_of}
+use Rattle.nm_steps.proofs.PackedReads.{announced, each_field_has_a_word}
+use Rattle.nm_steps.proofs.PackedWrites.{key_written, edge_written, giving_sets_a_bit}
 use Rattle.nm_steps.specs.Openings.{untouched, planted, Plants}
 
 -- the fixed nodes stand, and the slots from 6 on below s are in the pool

@@ -28,11 +28,11 @@ use Rattle.nm_model.specs.Walks.{Entry}
 use Rattle.nm_model.specs.Ordered.{ordered, trace_in}
 use Rattle.nm_laws.proofs.Learned.{learn_taken}
 use Rattle.nm_order.specs.Hands.{IsPooled}
-use Rattle.nm_words.specs.Packing.{touched_field, left_word}
-use Rattle.nm_words.specs.Told.{told}
+use Rattle.nm_steps.specs.Packing.{touched_field, left_word}
+use Rattle.nm_steps.specs.Told.{told}
 use Rattle.nm_steps.specs.declared.view.View.{View}
 use Rattle.nm_steps.specs.Rules.{knowledge, known_births, Extends, Runs, Kept, answered_turn, logged}
-use Rattle.nm_steps.specs.Steps.{PassView, May, IsDone, HasSeen, Tied, Continues, Stepped, TakesStep}
+use Rattle.nm_steps.specs.Steps.{Laid, PassView, May, IsDone, HasSeen, Tied, Continues, Stepped, TakesStep}
 use Rattle.nm_steps.specs.Rows.{DoneInTurn, FoundTaken, shown_taken, DidClaims, CanPass, HasPassed}
 use Rattle.nm_steps.proofs.Growing.{goes_on_itself}
 use Rattle.nm_steps.proofs.Presence.{known_push}
@@ -191,6 +191,9 @@ module _ (L : Layout) (id i from : ℕ) (v : View) (s : State Unit View) (rule :
       set_read l i = set-get_or l i _
 
 -- what the load of a row asks; the first two are the numbers that the `Play` names
+pub can_by_key : (z : TableId) (key L : Layout) (it : Seat Unit View) (from most i : ℕ) → Laid z key L → CanPass (record { table = z; layout = L }) it from most i → CanPass (record { table = z; layout = key }) it from most i
+can_by_key z key L it from most i laid can = subst (λ (l : Layout). CanPass (record { table = z; layout = l }) it from most i) (sym laid.key_is) can
+
 pub asked_to_pass : (L : Layout) (z : TableId) (slots : ℕ) (it : Seat Unit View) (first many from most i : ℕ) → first ≡ from → many ≡ most → CanPass (record { table = z; layout = L }) it from most i
     → (it.table_id ≡ z) × (i < z.words) × Allows (Kept L) slots it.id it.me i (λ n. n) (λ n after. DidClaims first (shown_taken n first many) it.me n after)
 asked_to_pass L z slots it first many from most i pick pick_many can = (

@@ -15,7 +15,7 @@ use Rattle.nm_model.specs.Step.{last_number, confirmed}
 use Rattle.nm_steps.specs.declared.view.View.{View}
 use Rattle.nm_steps.specs.Steps.{Tied, IsSight, noted_sight, sight_of}
 use Rattle.nm_steps.proofs.Noting.{noted}
-use Rattle.nm_words.specs.Told.{told}
+use Rattle.nm_steps.specs.Told.{told}
 
 seen_confirmed : (b : Brief) (pin announced : Option ℕ) (n : ℕ) → (noted_sight b (confirmed pin announced n)).seen ≡ Some n
 seen_confirmed b (Some p) announced n = refl

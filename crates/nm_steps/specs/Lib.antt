@@ -3,3 +3,5 @@ pub mod Steps
 pub mod Openings
 pub mod Ties
 pub mod Rows
+pub mod Packing
+pub mod Told

@@ -3,7 +3,7 @@ use Rattle.std.specs.Prelude.{◌≡◌, ℕ, ◌+◌, false, List, replicate, N
 use Rattle.nm_edge.specs.Layouts.{Layout}
 use Rattle.nm_model.specs.declared.memory.Node.{Node}
 use Rattle.nm_model.specs.Memory.{Memory, node, blank, put_node, opening}
-use Rattle.nm_words.specs.Packing.{Fits, words_of}
+use Rattle.nm_steps.specs.Packing.{Fits, words_of}
 
 -- a memory of zeros: nothing was written, every slot is blank, and none is in the pool (Natarajan
 -- and Mittal, section 3.1)

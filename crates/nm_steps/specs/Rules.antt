@@ -17,8 +17,8 @@ use Rattle.nm_model.specs.Ordered.{ordered, after_in, trace_in}
 use Rattle.nm_order.specs.Intervals.{HasKey}
 use Rattle.nm_order.specs.Logs.{part_of, known_by}
 use Rattle.nm_order.specs.OwnBirths.{births_by}
-use Rattle.nm_words.specs.Packing.{words_of, word_at, touched_field}
-use Rattle.nm_words.specs.Told.{told}
+use Rattle.nm_steps.specs.Packing.{words_of, word_at, touched_field}
+use Rattle.nm_steps.specs.Told.{told}
 use Rattle.nm_steps.specs.declared.view.Held.{Held}
 use Rattle.nm_steps.specs.declared.view.View.{View}
 

@@ -24,8 +24,8 @@ use Rattle.nm_order.specs.Intervals.{HasKey}
 use Rattle.nm_order.specs.Logs.{part_of, known_by, IsLogOf}
 use Rattle.nm_order.specs.OwnBirths.{births_by}
 use Rattle.nm_order.specs.Hands.{IsPooled}
-use Rattle.nm_words.specs.Packing.{touched_field, left_word, words_of}
-use Rattle.nm_words.specs.Told.{told, known_as, BirthsAreKnown}
+use Rattle.nm_steps.specs.Packing.{touched_field, left_word, words_of}
+use Rattle.nm_steps.specs.Told.{told, known_as, BirthsAreKnown}
 use Rattle.nm_steps.specs.declared.answers.Sighted.{Sighted}
 use Rattle.nm_steps.specs.declared.answers.Sighted.TheVariants as seeing
 use Rattle.nm_steps.specs.declared.tree_steps.FrozenChain.{FrozenChain}

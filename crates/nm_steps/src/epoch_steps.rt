@@ -10,6 +10,7 @@ use crate::answers::Sighted;
 use crate::pass::{Pass, Shared};
 use nm_edge::Key;
 use nm_model::{Brief, Event, Op};
+use std::marker::Brand;
 
 impl Shared {
     /// Reads the global epoch, in one step. If a cut of the worker waits for its label, this labels
@@ -20,7 +21,7 @@ impl Shared {
         ensures reply { IsSight (knowledge pass.old.view).brief (sight_reply result) }
     {
         let word = self.layout.epoch() as usize;
-        let found = self.load(&mut pass.seat, word, Event::Sight);
+        let found = self.load::<Brand>(&mut pass.seat, word, &Event::Sight);
         let reply = sighted(pass.brief, found);
         note_sight(&mut pass.brief, reply);
         reply
@@ -36,7 +37,7 @@ impl Shared {
         ensures { TakesStep pass.old pass.new Sight (Saw result) }
     {
         let word = self.layout.epoch() as usize;
-        let epoch = self.load(&mut pass.seat, word, Event::Sight);
+        let epoch = self.load::<Brand>(&mut pass.seat, word, &Event::Sight);
         pass.brief.seen = Some(epoch);
         epoch
     }
@@ -56,7 +57,7 @@ impl Shared {
     {
         let word = self.layout.epoch() as usize;
         let event = Event::SightFor(op, key);
-        let found = self.load(&mut pass.seat, word, event);
+        let found = self.load::<Brand>(&mut pass.seat, word, &event);
         pass.brief.seen = Some(found);
         if found == announced {
             pass.brief.pin = Some(found);
@@ -77,7 +78,7 @@ impl Shared {
         };
         let _own = self.layout;
         let word = pass.announcement_word as usize;
-        self.store(&mut pass.seat, word, seen + 1, Event::Announce);
+        self.store::<Brand>(&mut pass.seat, word, seen + 1, &Event::Announce);
         pass.brief.announcement = Some(seen);
         seen
     }
@@ -90,7 +91,7 @@ impl Shared {
     {
         let _own = self.layout;
         let word = pass.announcement_word as usize;
-        self.store(&mut pass.seat, word, 0, Event::Leave);
+        self.store::<Brand>(&mut pass.seat, word, 0, &Event::Leave);
         pass.brief.announcement = None;
         pass.brief.pin = None;
     }
@@ -103,7 +104,7 @@ impl Shared {
     {
         let _own = self.layout;
         let word = pass.announcement_word as usize;
-        self.store(&mut pass.seat, word, 0, Event::LeaveWith(answer));
+        self.store::<Brand>(&mut pass.seat, word, 0, &Event::LeaveWith(answer));
         pass.brief.announcement = None;
         pass.brief.pin = None;
     }
@@ -115,7 +116,7 @@ impl Shared {
         ensures { TakesStep pass.old pass.new (Scan worker) (reply_scan result) }
     {
         let word = self.layout.announcement(worker) as usize;
-        let found = self.load(&mut pass.seat, word, Event::Scan(worker));
+        let found = self.load::<Brand>(&mut pass.seat, word, &Event::Scan(worker));
         if found == 0 { None } else { Some(found - 1) }
     }
 
@@ -131,7 +132,7 @@ impl Shared {
             unreachable!()
         };
         let word = self.layout.epoch() as usize;
-        let found = self.exchange(&mut pass.seat, word, seen, seen + 1, Event::Advance);
+        let found = self.exchange::<Brand>(&mut pass.seat, word, seen, seen + 1, &Event::Advance);
         if found == seen {
             pass.brief.seen = Some(seen + 1);
             Ok(seen + 1)

@@ -9,6 +9,7 @@ ghost use Rattle.nm_steps.specs.Steps.{Continues, IsOf, MayStep, TakesStep, clai
 use crate::pass::{Pass, Shared};
 use nm_edge::place_in_row;
 use nm_model::Event;
+use std::marker::Brand;
 
 impl Shared {
     /// Takes a slot out of the pool; returns whether the slot was there. A slot that was taken is
@@ -23,7 +24,7 @@ impl Shared {
         let place = self.layout.pool(slot);
         let word = place.word as usize;
         let event = Event::Claim(slot);
-        let found = self.clear(&mut pass.seat, word, !place.mask, event);
+        let found = self.clear::<Brand>(&mut pass.seat, word, !place.mask, &event);
         found & place.mask != 0
     }
 
@@ -43,7 +44,7 @@ impl Shared {
         ensures learned { knowledge pass.new.view ≡ knowledge pass.old.view }
     {
         let word = self.layout.pool(from).word as usize;
-        let found = self.look_at_row(&mut pass.seat, word, from, most);
+        let found = self.look_at_row::<Brand>(&mut pass.seat, word, from, most);
         from + taken_in_row(found, from, most)
     }
 
@@ -60,7 +61,7 @@ impl Shared {
         ensures learned { knowledge pass.new.view ≡ knowledge pass.old.view }
     {
         let word = self.layout.pool(slot).word as usize;
-        let found = self.look_at_row(&mut pass.seat, word, slot, 0);
+        let found = self.look_at_row::<Brand>(&mut pass.seat, word, slot, 0);
         if found == 0 {
             return None;
         }
@@ -76,7 +77,7 @@ impl Shared {
     {
         let place = self.layout.pool(slot);
         let word = place.word as usize;
-        self.mark(&mut pass.seat, word, place.mask, Event::Give(slot));
+        self.mark::<Brand>(&mut pass.seat, word, place.mask, &Event::Give(slot));
     }
 }
 

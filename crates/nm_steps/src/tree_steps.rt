@@ -13,6 +13,7 @@ ghost use Rattle.nm_steps.specs.Steps.{IsOf, MayStep, TakesStep, link_reply, fla
 use crate::pass::{Pass, Shared};
 use nm_edge::{Edge, Layout, Side};
 use nm_model::{Event, Field};
+use std::marker::Brand;
 
 /// The tag's bit of an edge's word.
 const TAG: u64 = 2;
@@ -41,7 +42,7 @@ impl Shared {
     {
         let _own = self.layout;
         let word = layout.key(slot) as usize;
-        self.load(&mut pass.seat, word, Event::Look(slot, Field::Key))
+        self.load::<Brand>(&mut pass.seat, word, &Event::Look(slot, Field::Key))
     }
 
     /// Reads an edge of a known node, by a copy of the layout, as `look_key` does. The slot to
@@ -55,7 +56,7 @@ impl Shared {
         let _own = self.layout;
         let word = edge_word(layout, slot, side);
         let event = Event::Look(slot, Field::Edge(side));
-        edge_of(self.load(&mut pass.seat, word, event))
+        edge_of(self.load::<Brand>(&mut pass.seat, word, &event))
     }
 
     /// Reads the birth (generation) of a known node or of a private slot; it is at most 2^62.
@@ -66,7 +67,7 @@ impl Shared {
         ensures small { result ≤ last_number }
     {
         let word = self.layout.birth(slot) as usize;
-        self.load(&mut pass.seat, word, Event::Look(slot, Field::Birth))
+        self.load::<Brand>(&mut pass.seat, word, &Event::Look(slot, Field::Birth))
     }
 
     /// Stores the key of a private slot.
@@ -77,7 +78,7 @@ impl Shared {
     {
         let word = self.layout.key(slot) as usize;
         let event = Event::Fill(slot, Field::Key, key);
-        self.store(&mut pass.seat, word, key, event);
+        self.store::<Brand>(&mut pass.seat, word, key, &event);
     }
 
     /// Stores an edge of a private slot, unmarked.
@@ -88,7 +89,7 @@ impl Shared {
     {
         let word = self.layout.edge(slot, side) as usize;
         let event = Event::Fill(slot, Field::Edge(side), u64::from(child));
-        self.store(&mut pass.seat, word, word_to(child), event);
+        self.store::<Brand>(&mut pass.seat, word, word_to(child), &event);
     }
 
     /// Stores the birth of a private slot: the birth that was looked at, plus 1.
@@ -99,7 +100,7 @@ impl Shared {
     {
         let word = self.layout.birth(slot) as usize;
         let event = Event::Fill(slot, Field::Birth, birth);
-        self.store(&mut pass.seat, word, birth, event);
+        self.store::<Brand>(&mut pass.seat, word, birth, &event);
     }
 
     /// Replaces a leaf, or in a radix tree perhaps an internal node, by a private internal node
@@ -120,7 +121,7 @@ impl Shared {
         let word = self.layout.edge(parent, side) as usize;
         let event = Event::Link(parent, side, leaf, new);
         let old = word_to(leaf);
-        let found = self.exchange(&mut pass.seat, word, old, word_to(new), event);
+        let found = self.exchange::<Brand>(&mut pass.seat, word, old, word_to(new), &event);
         if found == old {
             Ok(())
         } else {
@@ -138,7 +139,7 @@ impl Shared {
         let word = self.layout.edge(parent, side) as usize;
         let event = Event::Flag(parent, side, leaf);
         let old = word_to(leaf);
-        let found = self.exchange(&mut pass.seat, word, old, word_flagged(leaf), event);
+        let found = self.exchange::<Brand>(&mut pass.seat, word, old, word_flagged(leaf), &event);
         if found == old {
             Ok(())
         } else {
@@ -154,7 +155,7 @@ impl Shared {
     {
         let word = self.layout.edge(parent, side) as usize;
         let event = Event::Tag(parent, side);
-        edge_of(self.mark(&mut pass.seat, word, TAG, event))
+        edge_of(self.mark::<Brand>(&mut pass.seat, word, TAG, &event))
     }
 
     /// Cuts off the nodes from the successor down to the parent, with the flagged leaf beside each.
@@ -179,7 +180,7 @@ impl Shared {
         let event = Event::Splice(ancestor, side, successor, parent, keep);
         let old = word_to(successor);
         let new = kept.untagged().pack();
-        let found = self.exchange(&mut pass.seat, word, old, new, event);
+        let found = self.exchange::<Brand>(&mut pass.seat, word, old, new, &event);
         if found != old {
             return Err(edge_of(found));
         }

@@ -94,6 +94,4 @@ impl Play<(), View> for Ties {
     ghost then = { TellsItsStanding };
 }
 
-pub(crate) type SharedTable = atomic_table::Shared<(), View, Layout, Law>;
-
 pub(crate) type WorkerSeat = Seat<(), View>;

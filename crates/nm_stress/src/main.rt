@@ -6,7 +6,7 @@ ghost use Rattle.nm_files.specs.Files.{exit_status};
 
 use clap::error::ErrorKind;
 use clap::{Arg, ArgAction, Command};
-use nm_files::fault::RunFault;
+use nm_files::read::fault::RunFault;
 use nm_replay::replay;
 use nm_serial::{Gate, serial, stress};
 use std::alloc::Global;

@@ -1,5 +1,5 @@
 //! Scripts whose workers play in threads of their own, as a gate lets them.
-use nm_files::fault::RunFault;
+use nm_files::read::fault::RunFault;
 use nm_serial::{Gate, stress};
 use std::alloc::Global;
 use std::sync::Wait;

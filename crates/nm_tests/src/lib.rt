@@ -1,5 +1,5 @@
-//! Tests of several calls on members of a set, and on whole scripts. Each test is a function that
-//! is proved before it runs. No other crate depends on this one.
+//! Tests of several calls: over passes, on trees, on members of a set, and on whole scripts. Each
+//! test is a function that is proved before it runs. No other crate depends on this one.
 #![tactic(auto)]
 
 #[cfg(test)]
@@ -9,6 +9,10 @@ mod many;
 #[cfg(test)]
 mod members;
 #[cfg(test)]
+mod passes;
+#[cfg(test)]
 mod streams;
 #[cfg(test)]
 mod together;
+#[cfg(test)]
+mod trees;

@@ -2,8 +2,8 @@
 //! own.
 use nm_edge::Key;
 use nm_set::{
-    CallFault, CloseReason, EndError, Fault, Fit, Fullness, InsertFault, Member, MemberFault,
-    NotPinned, ObserveFault, Options, PinFault, Report, ResignReason, Set, Stamp,
+    CallFault, CloseReason, EndError, Fit, Fullness, InsertFault, Member, MemberFault, NotPinned,
+    ObserveFault, Options, PinFault, Report, ResignReason, Set, Stamp,
 };
 use std::process::Abort;
 use std::test::Fail;
@@ -75,7 +75,7 @@ fn a_member_answers_and_keeps_what_it_holds(rt: HostRuntime) -> Result<(), Fail>
             first.pending(),
             first.try_contains(five, 0)
         ),
-        (2, None, Err(Fault::Call(nm_tree::CallFault::Busy)))
+        (2, None, Err(CallFault::Busy))
     );
     let ledger = first.stats();
     assert_eq!(rt;
@@ -108,10 +108,7 @@ fn a_full_set_tells_who_holds_memory_back(rt: HostRuntime) -> Result<(), Fail> {
         behind: Some(1),
     };
     assert_eq!(rt; first.insert(six, &options), Err(InsertFault::Full(held)));
-    assert_eq!(rt;
-        first.try_insert(six, TRIES),
-        Err(Fault::Call(CallFault::Full))
-    );
+    assert_eq!(rt; first.try_insert(six, TRIES), Err(CallFault::Full));
     assert_eq!(rt;
         format!(in rt.alloc(); "{held}")?.as_str(),
         "no slot is free for a new node; 2 removed nodes wait, and worker 1 holds them back"
@@ -146,14 +143,14 @@ fn a_held_member_is_not_asked(rt: HostRuntime) -> Result<(), Fail> {
             first.try_contains(five, TRIES),
             first.try_insert(five, TRIES)
         ),
-        (Err(Fault::Pinned), Err(Fault::Pinned))
+        (Err(CallFault::Pinned), Err(CallFault::Pinned))
     );
     assert_eq!(rt;
         (
             first.try_remove(five, TRIES),
             second.try_insert(five, TRIES)
         ),
-        (Err(Fault::Pinned), Ok(true))
+        (Err(CallFault::Pinned), Ok(true))
     );
     let _ = second.advance();
     let _ = second.advance();

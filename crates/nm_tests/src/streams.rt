@@ -1,7 +1,7 @@
 //! `replay`, `serial` and `stress` with readers and writers that fail at each call in turn, or give
 //! and take few bytes at a time.
 use super::gates::Open;
-use nm_files::fault::{Reason, RunFault};
+use nm_files::read::fault::{Reason, RunFault};
 use nm_replay::replay;
 use nm_serial::{serial, stress};
 use std::alloc::Global;

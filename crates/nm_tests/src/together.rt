@@ -1,6 +1,6 @@
 //! Look-ups of several keys by one call of a member.
 use nm_edge::Key;
-use nm_set::{CallFault, Fault, Fit, Query, Set};
+use nm_set::{CallFault, Fit, Query, Set};
 use std::process::Abort;
 use std::test::Fail;
 
@@ -41,15 +41,12 @@ fn keys_are_not_looked_up_where_nobody_may_be_asked(rt: HostRuntime) -> Result<(
     let set = Set::unbalanced(rt.alloc(), 64, 1, Fit::NextFit)?;
     let mut member = set.member(0)?;
     let mut queries = [Query::new(key(&rt, 5)), Query::new(key(&rt, 6))];
-    assert_eq!(rt;
-        member.contains_many(&mut queries, 0),
-        Err(Fault::Call(CallFault::Busy))
-    );
+    assert_eq!(rt; member.contains_many(&mut queries, 0), Err(CallFault::Busy));
     assert_eq!(rt; member.contains_many(&mut [], TRIES), Ok(()));
     let _ = member.pin(TRIES)?;
     assert_eq!(rt;
         member.contains_many(&mut queries, TRIES),
-        Err(Fault::Pinned)
+        Err(CallFault::Pinned)
     );
     assert_eq!(rt; member.unpin(), Ok(()));
     assert_eq!(rt; member.contains_many(&mut queries, TRIES), Ok(()));

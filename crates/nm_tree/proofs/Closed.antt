@@ -10,8 +10,8 @@ use Rattle.nm_model.specs.Headline.{words_after}
 use Rattle.nm_model.specs.Memory.{Memory}
 use Rattle.nm_model.specs.Reports.{counts, keys, tree_slots}
 use Rattle.nm_theorem.proofs.WrittenWords.{run_words}
-use Rattle.nm_report.specs.Ended.{IsEndOf, end_of}
-use Rattle.nm_report.proofs.Ends.{layout_is}
+use Rattle.nm_tree.specs.Ended.{IsEndOf, end_of}
+use Rattle.nm_tree.proofs.Ends.{layout_is}
 use Rattle.nm_steps.specs.declared.view.View.{View}
 use Rattle.nm_steps.specs.Rules.{Extends, IsShown, LogsAre, joined, knowledge, stands, once_below}
 use Rattle.nm_steps.specs.Steps.{TreeView, PassView, IsOf, IsInRun, Ends, HasJoined, HasSeen, HasSeenAllOf}

@@ -24,8 +24,8 @@ use Rattle.nm_laws.proofs.Counts.{each_state_adds_up}
 use Rattle.nm_laws.proofs.Lawful.{IsLawful, lawful}
 use Rattle.nm_theorem.proofs.FreedOfRuns.{waits_is}
 use Rattle.nm_theorem.proofs.Hands.{run_hands}
-use Rattle.nm_report.specs.Ended.{IsEndOf, end_of}
-use Rattle.nm_report.proofs.Ends.{holds, layout_is}
+use Rattle.nm_tree.specs.Ended.{IsEndOf, end_of}
+use Rattle.nm_tree.proofs.Ends.{holds, layout_is}
 use Rattle.nm_epoch.specs.declared.collecting.Entry.{Entry}
 use Rattle.nm_epoch.specs.declared.collecting.HeldQueue.{HeldQueue}
 use Rattle.nm_tree.specs.Workers.{waiting_in}

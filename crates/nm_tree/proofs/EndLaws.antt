@@ -11,7 +11,7 @@ use Rattle.nm_model.specs.Acts.{InSet}
 use Rattle.nm_order.specs.Totals.{Agree, links_of}
 use Rattle.nm_order.proofs.OrderedLaws.{each_core_tells_the_set, each_key_ascends}
 use Rattle.nm_order.proofs.TotalsOfRuns.{each_total_is_the_set}
-use Rattle.nm_busy.proofs.PendingTurns.{nothing_is_pending}
+use Rattle.nm_progress.proofs.PendingTurns.{nothing_is_pending}
 use Rattle.nm_tree.specs.Closing.{KeysAreTheTotals, how_often}
 use Rattle.nm_tree.proofs.TurnTotals.{flags_are, links_are}
 

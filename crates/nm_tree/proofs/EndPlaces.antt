@@ -11,7 +11,7 @@ use Rattle.nm_model.specs.Knowledge.{Knowledge, newcomer, is_private}
 use Rattle.nm_model.specs.Maps.{has}
 use Rattle.nm_model.specs.Ordered.{ordered, trace_in}
 use Rattle.nm_model.specs.Runs.{State, of}
-use Rattle.nm_report.specs.Ended.{IsEndOf, end_of}
+use Rattle.nm_tree.specs.Ended.{IsEndOf, end_of}
 use Rattle.nm_steps.specs.declared.view.View.{View}
 use Rattle.nm_steps.specs.Rules.{knowledge, IsShown}
 use Rattle.nm_tree.specs.Closing.{AreFrom}

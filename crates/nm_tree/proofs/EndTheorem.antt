@@ -16,14 +16,14 @@ use Rattle.nm_model.specs.Ordered.{ordered, trace_in}
 use Rattle.nm_model.specs.Reports.{keys}
 use Rattle.nm_model.specs.Runs.{of}
 use Rattle.nm_model.specs.Acts.{InSet}
-use Rattle.nm_words.specs.Packing.{words_of}
+use Rattle.nm_steps.specs.Packing.{words_of}
 use Rattle.nm_model.specs.Headline.{waits_of, has_after}
 use Rattle.nm_theorem.proofs.WrittenWords.{run_words}
 use Rattle.nm_theorem.proofs.FreedOfRuns.{waits_is}
 use Rattle.nm_theorem.proofs.Hands.{run_hands}
 use Rattle.nm_theorem.proofs.HeadlineOfRuns.{headline}
 use Rattle.nm_theorem.proofs.HistoriesOfRuns.{history_of_run}
-use Rattle.nm_report.specs.Ended.{IsEndOf, end_of}
+use Rattle.nm_tree.specs.Ended.{IsEndOf, end_of}
 use Rattle.nm_steps.specs.Rules.{IsShown, knowledge}
 use Rattle.nm_epoch.specs.declared.collecting.Entry.{Entry}
 use Rattle.nm_epoch.specs.declared.collecting.HeldQueue.{HeldQueue}

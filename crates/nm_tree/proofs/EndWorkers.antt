@@ -12,8 +12,8 @@ use Rattle.nm_model.specs.Walks.{Entry as LogEntry}
 use Rattle.nm_laws.proofs.Lawful.{lawful}
 use Rattle.nm_order.specs.Logs.{part_of, known_by}
 use Rattle.nm_order.proofs.PartsOfRuns.{logs_tell}
-use Rattle.nm_report.specs.Ended.{IsEndOf, end_of}
-use Rattle.nm_report.proofs.Ends.{holds, layout_is}
+use Rattle.nm_tree.specs.Ended.{IsEndOf, end_of}
+use Rattle.nm_tree.proofs.Ends.{holds, layout_is}
 use Rattle.nm_steps.specs.declared.view.Held.{Held}
 use Rattle.nm_steps.specs.declared.view.View.{View}
 use Rattle.nm_steps.specs.Rules.{knowledge, LogsAre, IsShown}

@@ -14,8 +14,8 @@ use Rattle.nm_steps.specs.Steps.{HasSeen, PassView}
 use Rattle.nm_epoch.specs.Resting.{search}
 use Rattle.nm_calls.specs.declared.deleting.Unfinished.{Unfinished}
 use Rattle.nm_calls.specs.Deletes.{IsRemoving}
-use Rattle.nm_busy.specs.Pending.{HasDeletePending, leaf_after}
-use Rattle.nm_busy.proofs.PendingTurns.{leaf_is_told}
+use Rattle.nm_progress.specs.Pending.{HasDeletePending, leaf_after}
+use Rattle.nm_progress.proofs.PendingTurns.{leaf_is_told}
 use Rattle.nm_tree.specs.Workers.{IsAs}
 
 leaf_seen : (p : PassView) → HasSeen p.view → leaf_after p.view.number None p.view.past ≡ (search p).flagged

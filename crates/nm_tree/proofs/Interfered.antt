@@ -2,27 +2,27 @@
 use Rattle.std.proofs.Common.{◌≡◌, ◌-◌, ◌≤◌, ℕ, List, sym, ap, subst, ◌∙◌, arith}
 use Rattle.std.specs.Prelude.{Err}
 use Rattle.nm_edge.specs.Layouts.{Layout, IsLayout}
+use Rattle.nm_edge.specs.declared.edge.Side.{Side}
 use Rattle.nm_edge.specs.declared.node.NodeId.{NodeId}
 use Rattle.nm_edge.specs.declared.placement.Fit.{Fit}
 use Rattle.nm_steps.specs.Steps.{TreeView, PassView, IsOf, IsSamePass, HasSeen, HasSeenAllOf}
-use Rattle.nm_calls.specs.declared.inserting.NotInserted.TheVariants as lost
+use Rattle.nm_calls.specs.declared.fault.CallFault.TheVariants as lost
 use Rattle.nm_calls.specs.declared.deleting.Missed.TheVariants as missed
 use Rattle.nm_calls.specs.Calls.{HasMissed}
 use Rattle.nm_calls.specs.InTurns.{GiveUp as GiveUpInTurns}
 use Rattle.nm_calls.specs.Inserts.{InsertDid}
-use Rattle.nm_calls.specs.NextKeys.{GiveUp as GiveUpNext}
+use Rattle.nm_calls.specs.NearKeys.{GiveUp as GiveUpNear}
 use Rattle.nm_calls.specs.PlainWalks.{PlainMissed}
-use Rattle.nm_calls.specs.PrevKeys.{GiveUp as GiveUpPrev}
 use Rattle.nm_calls.specs.Deletes.{DeleteDid, IsRemoving, LosesAfterFlag, LosesEachTry}
-use Rattle.nm_busy.specs.Lookups.{WasBusy}
-use Rattle.nm_busy.specs.Lost.{Interference, ChangeWasBusy}
-use Rattle.nm_busy.specs.Alone.{IsAlone}
-use Rattle.nm_busy.specs.Pending.{NonePends}
-use Rattle.nm_busy.specs.Walked.{ManyWereBusy, NearWasBusy}
-use Rattle.nm_busy.proofs.AloneCalls.{lookups_alone_are_answered, inserts_alone_are_answered, deletes_alone_are_not_busy}
-use Rattle.nm_busy.proofs.LostLookups.{busy_lookups_met_interference}
-use Rattle.nm_busy.proofs.LostWalked.{busy_many_met_interference, busy_nexts_met_interference, busy_prevs_met_interference}
-use Rattle.nm_busy.proofs.InterferedCalls.{busy_inserts_were_lost, busy_deletes_were_lost, unfinished_deletes_were_lost, unfinished_finishes_were_lost}
+use Rattle.nm_progress.specs.Lookups.{WasBusy}
+use Rattle.nm_progress.specs.Lost.{Interference, ChangeWasBusy}
+use Rattle.nm_progress.specs.Alone.{IsAlone}
+use Rattle.nm_progress.specs.Pending.{NonePends}
+use Rattle.nm_progress.specs.Walked.{ManyWereBusy, NearWasBusy}
+use Rattle.nm_progress.proofs.AloneCalls.{lookups_alone_are_answered, inserts_alone_are_answered, deletes_alone_are_not_busy}
+use Rattle.nm_progress.proofs.LostLookups.{busy_lookups_met_interference}
+use Rattle.nm_progress.proofs.LostWalked.{busy_many_met_interference, busy_near_met_interference}
+use Rattle.nm_progress.proofs.InterferedCalls.{busy_inserts_were_lost, busy_deletes_were_lost, unfinished_deletes_were_lost, unfinished_finishes_were_lost}
 
 -- of a tree and a worker whose insides are b and o, a call that ends at q
 module _ (b d : TreeView) (o p q : PassView) (k tries : ℕ) (tree : b ≡ d) (at : o ≡ p) (seen : HasSeen o.view) (after : HasSeen q.view) (fits : IsLayout o.view.layout) (same : IsSamePass o q) (past : HasSeenAllOf q o) where
@@ -69,15 +69,10 @@ module _ (b d : TreeView) (o p q : PassView) (k tries : ℕ) (tree : b ≡ d) (a
       subst (λ (x : PassView). ManyWereBusy x q tries) at
       (busy_many_met_interference keys tries o q seen after enough same past (subst (λ (L : Layout). PlainMissed (GiveUpInTurns L keys) tries o.view.log q.view.log) (sym (layouts own)) missed))
 
-  pub next_interfered : IsOf d p → PlainMissed (GiveUpNext b.layout tries k) tries o.view.log q.view.log → NearWasBusy p q tries
-  next_interfered own missed =
+  pub near_interfered : IsOf d p → (side : Side) → PlainMissed (GiveUpNear side b.layout tries k) tries o.view.log q.view.log → NearWasBusy p q tries
+  near_interfered own side missed =
       subst (λ (x : PassView). NearWasBusy x q tries) at
-      (busy_nexts_met_interference k tries o q seen after enough same past (subst (λ (L : Layout). PlainMissed (GiveUpNext L tries k) tries o.view.log q.view.log) (sym (layouts own)) missed))
-
-  pub prev_interfered : IsOf d p → PlainMissed (GiveUpPrev b.layout tries k) tries o.view.log q.view.log → NearWasBusy p q tries
-  prev_interfered own missed =
-      subst (λ (x : PassView). NearWasBusy x q tries) at
-      (busy_prevs_met_interference k tries o q seen after enough same past (subst (λ (L : Layout). PlainMissed (GiveUpPrev L tries k) tries o.view.log q.view.log) (sym (layouts own)) missed))
+      (busy_near_met_interference side k tries o q seen after enough same past (subst (λ (L : Layout). PlainMissed (GiveUpNear side L tries k) tries o.view.log q.view.log) (sym (layouts own)) missed))
 
   -- ---- alone
 

@@ -29,3 +29,7 @@ pub mod EndCounts
 pub mod OfClosed
 pub mod Taking
 pub mod WorkedPending
+pub mod Ends
+pub mod Pools
+pub mod Parts
+pub mod Answered

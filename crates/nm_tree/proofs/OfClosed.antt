@@ -22,8 +22,8 @@ use Rattle.nm_model.specs.Memory.{Memory, infinity_0, opening}
 use Rattle.nm_model.specs.Ordered.{ordered, after_in, trace_in}
 use Rattle.nm_model.specs.Reports.{counts, keys, tree_slots}
 use Rattle.nm_theorem.proofs.WrittenWords.{run_words}
-use Rattle.nm_report.specs.Ended.{IsEndOf, end_of}
-use Rattle.nm_report.proofs.Ends.{layout_is}
+use Rattle.nm_tree.specs.Ended.{IsEndOf, end_of}
+use Rattle.nm_tree.proofs.Ends.{layout_is}
 use Rattle.nm_epoch.specs.declared.collecting.Entry.{Entry}
 use Rattle.nm_epoch.specs.declared.collecting.HeldQueue.{HeldQueue}
 use Rattle.nm_steps.specs.Steps.{TreeView}

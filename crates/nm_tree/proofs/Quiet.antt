@@ -15,7 +15,7 @@ use Rattle.nm_epoch.specs.Collecting.{freeing}
 use Rattle.nm_epoch.specs.Scans.{LooksAt, AllLetPass, SightThenScans, IsAdvance}
 use Rattle.nm_epoch.specs.Tries.{LostTries, IsPinnedBy, IsMoved}
 use Rattle.nm_epoch.specs.Watches.{AllWatched, SightThenWatch}
-use Rattle.nm_calls.specs.declared.lookup.Busy.{Busy}
+use Rattle.nm_calls.specs.declared.fault.CallFault.{CallFault}
 use Rattle.nm_calls.specs.Calls.{HasDid, HasMissed}
 use Rattle.nm_walks.specs.WonCounts.{won_links, won_flags, won_splices}
 use Rattle.nm_calls.specs.Won.{HasWon}
@@ -64,7 +64,7 @@ missed L (suc t) k old new (inr m) =
     quiet_then old m.0 new (quiet old m.0 (pin_adds Has k (suc t) old m.0 m.2 m.3))
     (quiet_then m.0 m.1 new (quiet m.0 m.1 (lost_walks_add L k (suc t) m.0 m.1 m.4)) (quiet m.1 new (adds_these _ m.1 new m.5)))
 
-pub has_quiet : (L : Layout) (tries k : ℕ) (old new : List Entry) (r : Result Bool Busy) → IfOk r (λ b. HasDid L tries k old new b) → IfErr r (λ e. HasMissed L tries k old new) → Quiet old new
+pub has_quiet : (L : Layout) (tries k : ℕ) (old new : List Entry) (r : Result Bool CallFault) → IfOk r (λ b. HasDid L tries k old new b) → IfErr r (λ e. HasMissed L tries k old new) → Quiet old new
 has_quiet L tries k old new (Ok b) did none' = looked_up L tries k old new b did
 has_quiet L tries k old new (Err e) did none' = missed L tries k old new none'
 

@@ -22,7 +22,7 @@ use Rattle.nm_model.specs.Headline.{Headline, nodes_freed_of, freed_by}
 use Rattle.nm_model.specs.Histories.{HasHistory}
 use Rattle.nm_theorem.proofs.LeftSince.{readers_have_left}
 use Rattle.nm_model.specs.Ordered.{ordered, trace_in}
-use Rattle.nm_words.specs.Packing.{words_of}
+use Rattle.nm_steps.specs.Packing.{words_of}
 use Rattle.nm_theorem.proofs.WrittenWords.{run_words}
 use Rattle.nm_theorem.proofs.HeadlineOfRuns.{headline}
 use Rattle.nm_theorem.proofs.HistoriesOfRuns.{history_of_run}

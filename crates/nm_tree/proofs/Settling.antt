@@ -12,13 +12,13 @@ use Rattle.nm_model.specs.Searches.{Search, idle, searched}
 use Rattle.nm_model.specs.Walks.{Entry, search_after}
 use Rattle.nm_order.specs.Logs.{part_of}
 use Rattle.nm_order.proofs.LastEntries.{search_more}
-use Rattle.nm_report.specs.Ended.{IsEndOf}
+use Rattle.nm_tree.specs.Ended.{IsEndOf}
 use Rattle.nm_steps.specs.declared.view.Held.{Held}
 use Rattle.nm_steps.specs.declared.view.View.{View}
 use Rattle.nm_steps.specs.Rules.{IsShown, LogsAre, answered_turn, held_log, joined, passing}
 use Rattle.nm_steps.specs.Steps.{PassView}
-use Rattle.nm_busy.specs.Pending.{NonePends, leaf_after, leaf_by}
-use Rattle.nm_busy.proofs.PendingTurns.{leaf_is_told, leaf_own}
+use Rattle.nm_progress.specs.Pending.{NonePends, leaf_after, leaf_by}
+use Rattle.nm_progress.proofs.PendingTurns.{leaf_is_told, leaf_own}
 use Rattle.nm_tree.specs.Closing.{AreFrom, StandsForAll, all_joined}
 use Rattle.nm_tree.specs.Settled.{TellNoFlag, HasNothingPending, HaveNothingPending, HeirsHaveNothingPending, RestingWorkersHaveNothingPending, turns_of}
 use Rattle.nm_tree.specs.Workers.{WorkerView, IsWorker, HasNumber}

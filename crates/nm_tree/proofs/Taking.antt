@@ -5,6 +5,7 @@ use Rattle.std.proofs.Math.Nat.{suc-mul, mul-add, mul_assoc, mul_comm}
 use Rattle.std.proofs.lemmas.List.{length-append}
 use Rattle.nm_edge.specs.Keys.{IsKey}
 use Rattle.nm_edge.specs.Layouts.{Layout}
+use Rattle.nm_edge.specs.declared.edge.Side.TheVariants.{Left, Right}
 use Rattle.nm_model.specs.declared.event.Op.{Op}
 use Rattle.nm_model.specs.declared.event.Op.TheVariants.{Delete}
 use Rattle.nm_model.specs.declared.trace.Turn.{Turn}
@@ -16,15 +17,14 @@ use Rattle.nm_epoch.specs.declared.collecting.HeldQueue.{HeldQueue}
 use Rattle.nm_model.specs.Histories.{call_begun, answer_turn, WasSoBehind}
 use Rattle.nm_walks.specs.Bounds.{reach, chain_bound}
 use Rattle.nm_calls.specs.Moments.{AnswerHasMoment}
-use Rattle.nm_calls.specs.NextKeys.{WasNext, GiveUp as GiveUpNext}
-use Rattle.nm_calls.specs.PrevKeys.{WasPrev, GiveUp as GiveUpPrev}
+use Rattle.nm_calls.specs.NearKeys.{WasNear, GiveUp}
 use Rattle.nm_calls.specs.PlainWalks.{WasSo, most_looks}
 use Rattle.nm_calls.specs.Won.{HasWon}
 use Rattle.nm_calls.specs.declared.deleting.Unfinished.{Unfinished}
 use Rattle.nm_calls.proofs.Adding.{mul_below}
 use Rattle.nm_calls.proofs.Rooms.{takes_then}
-use Rattle.nm_tree.specs.declared.fault.CallFault.{CallFault}
-use Rattle.nm_tree.specs.declared.fault.CallFault.TheVariants as fault
+use Rattle.nm_calls.specs.declared.fault.CallFault.{CallFault}
+use Rattle.nm_calls.specs.declared.fault.CallFault.TheVariants as fault
 use Rattle.nm_tree.specs.declared.popping.End.{End}
 use Rattle.nm_tree.specs.declared.popping.End.TheVariants.{First, Last}
 use Rattle.nm_tree.specs.Answers.{flags_won}
@@ -156,13 +156,13 @@ goes_more m n flags w z le a = let few = a.steps in record { same = a.same; past
 
 -- what is told of the key at that end
 abbrev pub told_at : End → PassView → PassView → Option ℕ → Type 0
-told_at First p q = WasNext p q 0
-told_at Last p q = WasPrev p q 18446744073709551612
+told_at First p q = WasNear Right p q 0
+told_at Last p q = WasNear Left p q 18446744073709551612
 
 -- and how its walks end without an answer
 abbrev pub gives_up_at : End → Layout → ℕ → List Entry → List Entry → Type 0
-gives_up_at First L tries = GiveUpNext L tries 0
-gives_up_at Last L tries = GiveUpPrev L tries 18446744073709551612
+gives_up_at First L tries = GiveUp Right L tries 0
+gives_up_at Last L tries = GiveUp Left L tries 18446744073709551612
 
 pub found_by : (end : End) (L : Layout) (tries : ℕ) (w z : WorkerView) (r : Result (Option ℕ) CallFault) → Finds end L tries w z r → LeavesNear (told_at end) (gives_up_at end L tries) L tries w z r
 found_by First L tries w z r l = l
@@ -176,11 +176,11 @@ pub record WasFound (end : End) (p q : PassView) (key : ℕ) : Type 0 where
 
 pub key_found : (end : End) (p q : PassView) (key : ℕ) → told_at end p q (Some key) → WasFound end p q key
 key_found First p q key n = record { is_key = n.1; was = n.2; missing = λ j is less. n.3 j (omega arith) less }
-key_found Last p q key n = record { is_key = n.1; was = n.2; missing = λ j is above. n.3 j above is }
+key_found Last p q key n = record { is_key = n.1; was = n.2; missing = λ j is above. n.3 j is above }
 
 pub none_found : (end : End) (p q : PassView) → told_at end p q None → (j : ℕ) → IsKey j → WasSo p q j false
 none_found First p q n j is = n j (omega arith) is
-none_found Last p q n j is = n j is
+none_found Last p q n j is = n j is is
 
 -- of a longer call
 pub found_in : (end : End) (o p q z : PassView) (key : ℕ) → HasSeenAllOf p o → IsSamePass q z → HasSeenAllOf z q → WasFound end p q key → WasFound end o z key
@@ -361,6 +361,7 @@ module _ (end : End) (L : Layout) (tries : ℕ) (w : WorkerView) (none : w.pendi
       by fault.Full found l = absurd l.did
       by fault.NoMemory found l = absurd l.did
       by fault.Unfinished found l = absurd l.did
+      by fault.Pinned found l = absurd l.did
 
   -- the delete was not
   by_delete : (n : ℕ) (x y z : WorkerView) (key : ℕ) (f : CallFault) → n < tries → HaveGone L tries n w x → Finds end L tries x y (Ok (Some key)) → LeavesDelete L tries key y z (Err f) → Says z (Err f)
@@ -393,6 +394,7 @@ module _ (end : End) (L : Layout) (tries : ℕ) (w : WorkerView) (none : w.pendi
           }
       by fault.Pending did = not_pending y l.did.0.1 did.says.told.0
       by fault.Full did = absurd did.says.told
+      by fault.Pinned did = absurd did.says.told
 
   -- all rounds came too late
   by_all : (z : WorkerView) → HaveGone L tries tries w z → Says z (Err fault.Busy)

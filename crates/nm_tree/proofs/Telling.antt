@@ -2,7 +2,7 @@
 use Rattle.std.proofs.Common.{◌≡◌, ℕ, sym, subst}
 use Rattle.std.specs.Prelude.{Bool, Result}
 use Rattle.nm_steps.specs.Steps.{TreeView}
-use Rattle.nm_tree.specs.declared.fault.CallFault.{CallFault}
+use Rattle.nm_calls.specs.declared.fault.CallFault.{CallFault}
 use Rattle.nm_tree.specs.Answers.{HasInserted, HasDeleted, HasFinished}
 use Rattle.nm_tree.specs.Workers.{WorkerView}
 

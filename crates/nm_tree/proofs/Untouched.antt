@@ -6,7 +6,7 @@ use Rattle.nm_edge.specs.Layouts.{Layout}
 use Rattle.nm_model.specs.Walks.{Entry}
 use Rattle.nm_steps.proofs.Seeing.{seen_itself}
 use Rattle.nm_calls.specs.Won.{HasWon}
-use Rattle.nm_tree.specs.declared.fault.CallFault.TheVariants as fault
+use Rattle.nm_calls.specs.declared.fault.CallFault.TheVariants as fault
 use Rattle.nm_tree.specs.Workers.{WorkerView}
 use Rattle.nm_tree.specs.Calls.{LeavesHas, LeavesInsert, LeavesDelete, LeavesFinish}
 use Rattle.nm_tree.proofs.QueueLists.{others_stay, room_stays}

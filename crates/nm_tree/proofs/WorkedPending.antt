@@ -4,7 +4,7 @@ use Rattle.nm_edge.specs.declared.edge.Side.TheVariants.{Left}
 use Rattle.nm_model.specs.Headline.{words_after}
 use Rattle.nm_model.specs.Acts.{InSet}
 use Rattle.nm_theorem.specs.Worked.{layout, before, worked_turns}
-use Rattle.nm_busy.specs.Pending.{NonePends}
+use Rattle.nm_progress.specs.Pending.{NonePends}
 use Rattle.nm_tree.specs.Worked.{PendsOnWorkedTurns, TotalsWantThatNonePends}
 
 none_pends : NonePends layout worked_turns

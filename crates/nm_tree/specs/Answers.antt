@@ -3,7 +3,6 @@ use Rattle.std.specs.Prelude.{◌≡◌, ◌⊎◌, ℕ, ◌-◌, Bool, true, fa
 use Rattle.nm_edge.specs.Layouts.{Layout}
 use Rattle.nm_edge.specs.declared.node.NodeId.{NodeId}
 use Rattle.nm_calls.specs.declared.deleting.Missed.TheVariants as missed
-use Rattle.nm_calls.specs.declared.inserting.NotInserted.TheVariants as lost
 use Rattle.nm_calls.specs.Calls.{HasDid, HasMissed}
 use Rattle.nm_calls.specs.Deletes.{DeleteDid, FinishDid, LosesEachTry, LosesAfterFlag}
 use Rattle.nm_calls.specs.Inserts.{InsertDid}
@@ -12,11 +11,11 @@ use Rattle.nm_calls.specs.Won.{links_of_insert, flags_of_delete}
 use Rattle.nm_epoch.specs.Tries.{IsPinnedBy as PinsSo, IsMoved}
 use Rattle.nm_model.specs.declared.event.Event.TheVariants.{Sight}
 use Rattle.nm_model.specs.declared.event.Op.TheVariants.{Delete}
-use Rattle.nm_busy.specs.Lost.{Interference}
+use Rattle.nm_progress.specs.Lost.{Interference}
 use Rattle.nm_tree.specs.declared.fault.PinFault.{PinFault}
 use Rattle.nm_tree.specs.declared.fault.PinFault.TheVariants as pinning
-use Rattle.nm_tree.specs.declared.fault.CallFault.{CallFault}
-use Rattle.nm_tree.specs.declared.fault.CallFault.TheVariants as fault
+use Rattle.nm_calls.specs.declared.fault.CallFault.{CallFault}
+use Rattle.nm_calls.specs.declared.fault.CallFault.TheVariants as fault
 use Rattle.nm_calls.specs.declared.deleting.Unfinished.{Unfinished}
 use Rattle.nm_tree.specs.Workers.{WorkerView, HasLittleRoom}
 use Rattle.nm_epoch.specs.Resting.{epochs}
@@ -50,6 +49,7 @@ InsertTold w z (Err fault.Full) = IsFree w z
 InsertTold w z (Err fault.NoMemory) = IsFree w z × LacksRoom z
 InsertTold w z (Err fault.Pending) = IsPendingStill w z
 InsertTold w z (Err fault.Unfinished) = ⊥
+InsertTold w z (Err fault.Pinned) = ⊥
 
 -- a delete of key k, in the same way; after `Unfinished` the key is pending, with the leaf that the
 -- worker has flagged
@@ -61,6 +61,7 @@ DeleteTold k w z (Err fault.Unfinished) =
     (w.pending ≡ None) × (leaf : NodeId) × (z.pending ≡ Some (record { key = k; leaf = leaf }))
 DeleteTold k w z (Err fault.Pending) = IsPendingStill w z
 DeleteTold k w z (Err fault.Full) = ⊥
+DeleteTold k w z (Err fault.Pinned) = ⊥
 
 -- a call that goes on with a delete: nothing was pending, and nothing has changed; or a key was
 -- pending, and none is now; or it is still pending
@@ -86,13 +87,14 @@ abbrev pub HasInserted : Layout → ℕ → ℕ → WorkerView → WorkerView �
 HasInserted L tries k w z (Ok b) =
     IsFree w z × InsertDid w.fit L tries k w.pass.view.log z.pass.view.log (Ok b)
 HasInserted L tries k w z (Err fault.Busy) =
-    IsFree w z × InsertDid w.fit L tries k w.pass.view.log z.pass.view.log (Err lost.Busy)
+    IsFree w z × InsertDid w.fit L tries k w.pass.view.log z.pass.view.log (Err fault.Busy)
 HasInserted L tries k w z (Err fault.Full) =
-    IsFree w z × InsertDid w.fit L tries k w.pass.view.log z.pass.view.log (Err lost.Full)
+    IsFree w z × InsertDid w.fit L tries k w.pass.view.log z.pass.view.log (Err fault.Full)
 HasInserted L tries k w z (Err fault.NoMemory) =
-    IsFree w z × InsertDid w.fit L tries k w.pass.view.log z.pass.view.log (Err lost.NoMemory)
+    IsFree w z × InsertDid w.fit L tries k w.pass.view.log z.pass.view.log (Err fault.NoMemory)
 HasInserted L tries k w z (Err fault.Pending) = IsPendingStill w z
 HasInserted L tries k w z (Err fault.Unfinished) = ⊥
+HasInserted L tries k w z (Err fault.Pinned) = ⊥
 
 -- what a delete leaves of its worker and its log, by its answer (Natarajan and Mittal, section 3.2)
 abbrev pub HasDeleted : Layout → ℕ → ℕ → WorkerView → WorkerView → Result Bool CallFault → Type 0
@@ -107,6 +109,7 @@ HasDeleted L tries k w z (Err fault.Unfinished) =
     × DeleteDid L tries k w.pass.view.log z.pass.view.log (Err (missed.Unfinished leaf))
 HasDeleted L tries k w z (Err fault.Pending) = IsPendingStill w z
 HasDeleted L tries k w z (Err fault.Full) = ⊥
+HasDeleted L tries k w z (Err fault.Pinned) = ⊥
 
 -- what a call that goes on with a delete leaves of its worker and its log, by its answer (Natarajan
 -- and Mittal, section 3.2)
@@ -177,6 +180,7 @@ HasPinned tries w z (Err (pinning.Moved epoch)) =
     IsFree w z × (z.held ≡ None) × ((epochs z.pass).seen ≡ Some epoch)
     × IsMoved Sight tries w.pass.view.log z.pass.view.log
 HasPinned tries w z (Err pinning.Pending) = IsPendingStill w z
+HasPinned tries w z (Err pinning.Pinned) = ⊥
 
 -- what is pending, and the caller's pin, are unchanged
 abbrev pub KeepsPlace : WorkerView → WorkerView → Type 0

@@ -2,6 +2,8 @@
 -- record.
 use Rattle.std.specs.Prelude.{◌≡◌, ◌+◌, ◌*◌, ◌≤◌, ℕ, Bool, List, length, map, Option, None, Result, IfOk, IfErr, IsErrOf, All}
 use Rattle.nm_edge.specs.Layouts.{Layout}
+use Rattle.nm_edge.specs.declared.edge.Side.{Side}
+use Rattle.nm_edge.specs.declared.edge.Side.TheVariants.{Left, Right}
 use Rattle.nm_model.specs.declared.event.Event.TheVariants.{Leave}
 use Rattle.nm_model.specs.declared.event.Op.TheVariants.{Has, Insert, Delete}
 use Rattle.nm_model.specs.declared.reply.Reply.TheVariants.{Departed}
@@ -21,16 +23,15 @@ use Rattle.nm_walks.specs.Bounds.{reach}
 use Rattle.nm_calls.specs.Bounds.{IsWithinBound, IsWithinClaims}
 use Rattle.nm_calls.specs.InTurns.{WasSo, key_of}
 use Rattle.nm_calls.specs.Moments.{AnswerHasMoment}
-use Rattle.nm_calls.specs.NextKeys.{WasNext, GiveUp as GiveUpNext}
-use Rattle.nm_calls.specs.PrevKeys.{WasPrev, GiveUp as GiveUpPrev}
+use Rattle.nm_calls.specs.NearKeys.{WasNear, GiveUp}
 use Rattle.nm_calls.specs.PlainWalks.{most_looks}
 use Rattle.nm_calls.specs.Won.{HasWon}
-use Rattle.nm_busy.specs.Alone.{IsAlone}
-use Rattle.nm_busy.specs.Lookups.{WasBusy}
-use Rattle.nm_busy.specs.Lost.{ChangeWasBusy}
-use Rattle.nm_busy.specs.Walked.{ManyWereBusy, NearWasBusy}
-use Rattle.nm_tree.specs.declared.fault.CallFault.{CallFault}
-use Rattle.nm_tree.specs.declared.fault.CallFault.TheVariants as fault
+use Rattle.nm_progress.specs.Alone.{IsAlone}
+use Rattle.nm_progress.specs.Lookups.{WasBusy}
+use Rattle.nm_progress.specs.Lost.{ChangeWasBusy}
+use Rattle.nm_progress.specs.Walked.{ManyWereBusy, NearWasBusy}
+use Rattle.nm_calls.specs.declared.fault.CallFault.{CallFault}
+use Rattle.nm_calls.specs.declared.fault.CallFault.TheVariants as fault
 use Rattle.nm_tree.specs.declared.fault.PinFault.{PinFault}
 use Rattle.nm_tree.specs.Answers.{HasAnswered, HasInserted, HasDeleted, HasFinished, FinishHasMoment, HasTold, InsertTold, DeleteTold, FinishTold, DeleteLacks, FinishLacks, HasPinned, KeepsPlace, links_won, flags_won, DeleteWasLost, FinishWasLost}
 use Rattle.nm_tree.specs.InTurns.{HasAnsweredMany}
@@ -142,8 +143,9 @@ pub record LeavesHasMany (L : Layout) (tries : ℕ) (old new : List Query) (w z 
 
 -- `LeavesNear`: the same for a call for the key nearest to a given one. `Was` is what its answer
 -- says of the set, and `GivesUp` is how its walks end without an answer. A call that has two tries
--- is not busy if no other worker makes a transition during it (`alone`). `LeavesNext`,
--- `LeavesPrev`: for the least key that is not below k, and for the greatest key that is not above k
+-- is not busy if no other worker makes a transition during it (`alone`). `LeavesNearest`: on that
+-- side of k. `LeavesNext`, `LeavesPrev`: for the least key that is not below k, and for the greatest
+-- key that is not above k
 pub record LeavesNear (Was : PassView → PassView → Option ℕ → Type 0)
     (GivesUp : List LogEntry → List LogEntry → Type 0) (L : Layout) (tries : ℕ) (w z : WorkerView)
     (r : Result (Option ℕ) CallFault) : Type 0 where
@@ -160,11 +162,14 @@ pub record LeavesNear (Was : PassView → PassView → Option ℕ → Type 0)
   pub held : z.held ≡ None
   pub fit : z.fit ≡ w.fit
 
+abbrev pub LeavesNearest : Side → Layout → ℕ → ℕ → WorkerView → WorkerView → Result (Option ℕ) CallFault → Type 0
+LeavesNearest side L tries k = LeavesNear (λ p q. WasNear side p q k) (GiveUp side L tries k) L tries
+
 abbrev pub LeavesNext : Layout → ℕ → ℕ → WorkerView → WorkerView → Result (Option ℕ) CallFault → Type 0
-LeavesNext L tries k = LeavesNear (λ p q. WasNext p q k) (GiveUpNext L tries k) L tries
+LeavesNext L tries k = LeavesNear (λ p q. WasNear Right p q k) (GiveUp Right L tries k) L tries
 
 abbrev pub LeavesPrev : Layout → ℕ → ℕ → WorkerView → WorkerView → Result (Option ℕ) CallFault → Type 0
-LeavesPrev L tries k = LeavesNear (λ p q. WasPrev p q k) (GiveUpPrev L tries k) L tries
+LeavesPrev L tries k = LeavesNear (λ p q. WasNear Left p q k) (GiveUp Left L tries k) L tries
 
 -- `LeavesPin`, `LeavesUnpin`, `LeavesAdvance`, `LeavesBehind`, `LeavesCollect`: the same for a call
 -- that pins or unpins, advances or reads the epoch, or collects

@@ -16,7 +16,7 @@ use Rattle.nm_model.specs.Reports.{counts, keys, tree_slots}
 use Rattle.nm_model.specs.Acts.{InSet}
 use Rattle.nm_order.specs.Totals.{Agree}
 use Rattle.nm_steps.specs.declared.view.View.{View}
-use Rattle.nm_words.specs.Packing.{words_of}
+use Rattle.nm_steps.specs.Packing.{words_of}
 use Rattle.nm_model.specs.Headline.{Headline, words_after, cuts_of, freed_of, waits_of, has_after}
 use Rattle.nm_model.specs.Histories.{Called, HasHistory, call_begun}
 use Rattle.nm_steps.specs.Rules.{Extends, knowledge, joined, nobody}
@@ -26,7 +26,7 @@ use Rattle.nm_epoch.specs.declared.collecting.HeldQueue.{HeldQueue}
 use Rattle.nm_epoch.specs.Collecting.{AreHeld}
 use Rattle.nm_tree.specs.declared.closing.CloseReason.{CloseReason}
 use Rattle.nm_tree.specs.declared.closing.CloseReason.TheVariants as because
-use Rattle.nm_busy.specs.Pending.{NonePends}
+use Rattle.nm_progress.specs.Pending.{NonePends}
 use Rattle.nm_tree.specs.Resigning.{merged}
 use Rattle.nm_tree.specs.Running.{AreOfWorkers, wins}
 use Rattle.nm_tree.specs.Settled.{HaveNothingPending}

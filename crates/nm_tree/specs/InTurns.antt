@@ -4,7 +4,7 @@ use Rattle.nm_edge.specs.Layouts.{Layout}
 use Rattle.nm_calls.specs.declared.many.Query.{Query}
 use Rattle.nm_walks.specs.Bounds.{reach}
 use Rattle.nm_calls.specs.InTurns.{GiveUp, key_of, most_looks}
-use Rattle.nm_tree.specs.declared.fault.CallFault.{CallFault}
+use Rattle.nm_calls.specs.declared.fault.CallFault.{CallFault}
 use Rattle.nm_tree.specs.Looked.{HasLooked}
 use Rattle.nm_tree.specs.Workers.{WorkerView}
 

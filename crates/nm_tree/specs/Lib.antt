@@ -10,3 +10,4 @@ pub mod Closing
 pub mod Running
 pub mod Worked
 pub mod Trees
+pub mod Ended

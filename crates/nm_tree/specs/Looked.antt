@@ -2,8 +2,8 @@
 use Rattle.std.specs.Prelude.{ℕ, List, Result, Ok, Err}
 use Rattle.nm_model.specs.Walks.{Entry}
 use Rattle.nm_calls.specs.PlainWalks.{LooksUnderPin, PlainMissed}
-use Rattle.nm_tree.specs.declared.fault.CallFault.{CallFault}
-use Rattle.nm_tree.specs.declared.fault.CallFault.TheVariants as fault
+use Rattle.nm_calls.specs.declared.fault.CallFault.{CallFault}
+use Rattle.nm_calls.specs.declared.fault.CallFault.TheVariants as fault
 use Rattle.nm_tree.specs.Answers.{IsPendingStill, IsFree}
 use Rattle.nm_tree.specs.Workers.{WorkerView}
 

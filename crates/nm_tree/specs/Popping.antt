@@ -9,8 +9,8 @@ use Rattle.nm_calls.specs.Moments.{AnswerHasMoment}
 use Rattle.nm_calls.specs.PlainWalks.{WasSo}
 use Rattle.nm_calls.specs.Won.{HasWon}
 use Rattle.nm_calls.specs.declared.deleting.Unfinished.{Unfinished}
-use Rattle.nm_tree.specs.declared.fault.CallFault.{CallFault}
-use Rattle.nm_tree.specs.declared.fault.CallFault.TheVariants as fault
+use Rattle.nm_calls.specs.declared.fault.CallFault.{CallFault}
+use Rattle.nm_calls.specs.declared.fault.CallFault.TheVariants as fault
 use Rattle.nm_tree.specs.declared.popping.End.{End}
 use Rattle.nm_tree.specs.declared.popping.End.TheVariants.{First, Last}
 use Rattle.nm_tree.specs.Answers.{IsPendingStill, IsFree, LacksRoom}
@@ -48,6 +48,7 @@ PopTold Before w z (Err fault.Unfinished) =
     × WasSo w.pass z.pass n.key true × WereMissing Before w.pass z.pass n.key
 PopTold Before w z (Err fault.Pending) = IsPendingStill w z
 PopTold Before w z (Err fault.Full) = ⊥
+PopTold Before w z (Err fault.Pinned) = ⊥
 
 -- the flags that a pop has won, by its answer: one if it returned a key or `Unfinished`
 abbrev pub flags_popped : Result (Option ℕ) CallFault → ℕ

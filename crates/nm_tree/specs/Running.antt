@@ -15,7 +15,7 @@ use Rattle.nm_model.specs.declared.reply.Reply.TheVariants.{Linked, Flagged}
 use Rattle.nm_model.specs.declared.reply.Refused.{Refused}
 use Rattle.nm_model.specs.declared.trace.Turn.{Turn}
 use Rattle.nm_order.specs.Logs.{part_of}
-use Rattle.nm_words.specs.Packing.{words_of}
+use Rattle.nm_steps.specs.Packing.{words_of}
 use Rattle.nm_theorem.specs.EachRun.{ReadersHaveLeft}
 use Rattle.nm_model.specs.Headline.{Headline, words_after, freed_by}
 use Rattle.nm_model.specs.Histories.{Called, HasHistory, answer_turn, call_begun}

@@ -3,7 +3,7 @@ use Rattle.std.specs.Prelude.{◌≡◌, ◌∷◌, List, None, All, map}
 use Rattle.nm_model.specs.declared.trace.Turn.{Turn}
 use Rattle.nm_steps.specs.declared.view.Held.{Held}
 use Rattle.nm_steps.specs.Rules.{answered_turn}
-use Rattle.nm_busy.specs.Pending.{leaf_after}
+use Rattle.nm_progress.specs.Pending.{leaf_after}
 use Rattle.nm_tree.specs.Resigning.{HasResigned}
 use Rattle.nm_tree.specs.Running.{HasSeenTurns}
 use Rattle.nm_tree.specs.Workers.{WorkerView}

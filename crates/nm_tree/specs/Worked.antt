@@ -6,7 +6,7 @@ use Rattle.nm_model.specs.Shorthands.{n}
 use Rattle.nm_model.specs.Acts.{InSet}
 use Rattle.nm_order.specs.Totals.{Agree}
 use Rattle.nm_theorem.specs.Worked.{layout, before, worked_turns}
-use Rattle.nm_busy.specs.Pending.{HasDeletePending, NonePends}
+use Rattle.nm_progress.specs.Pending.{HasDeletePending, NonePends}
 use Rattle.nm_tree.specs.Closing.{how_often}
 
 -- before the cut the delete of 10 is pending, with node 7, and after all turns no delete is; calls

@@ -1,14 +1,13 @@
 //! Inserts, deletes, and the completion of a pending delete.
 ghost use Rattle.std.specs.Prelude.{◌≡◌, IsErrOf};
 ghost use Rattle.nm_steps.specs.Steps.{IsOf};
-ghost use Rattle.nm_busy.specs.Alone.{IsAlone};
-ghost use Rattle.nm_busy.specs.Pending.{NonePends};
+ghost use Rattle.nm_progress.specs.Alone.{IsAlone};
+ghost use Rattle.nm_progress.specs.Pending.{NonePends};
 ghost use Rattle.nm_tree.specs.Calls.{MayCall, LeavesInsert, SaysInsert, LeavesDelete, SaysDelete, LeavesFinish, SaysFinish};
 
-use crate::fault::CallFault;
 use crate::tree::Tree;
 use crate::worker::{Standing, Worker};
-use nm_calls::{Missed, NotInserted as Lost, Unfinished, delete, finish, insert};
+use nm_calls::{CallFault, Missed, Unfinished, delete, finish, insert};
 use nm_edge::Key;
 
 impl Tree {
@@ -41,22 +40,16 @@ impl Tree {
         }
         let own = &mut worker.queues[worker.home];
         worker.pass.know_run();
-        match insert(
+        let answer = insert(
             &self.shared,
             &mut worker.pass,
             &mut worker.workspace,
             own,
             key,
             tries,
-        ) {
-            Ok(answer) => Ok(answer),
-            Err(Lost::Busy) => {
-                worker.pass.know_run();
-                Err(CallFault::Busy)
-            }
-            Err(Lost::Full) => Err(CallFault::Full),
-            Err(Lost::NoMemory) => Err(CallFault::NoMemory),
-        }
+        );
+        worker.pass.know_run();
+        answer
     }
 
     /// Deletes `key`; returns true if it was present. The leaf with the key is then known to be cut

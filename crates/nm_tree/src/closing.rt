@@ -8,12 +8,12 @@ ghost use Rattle.nm_tree.specs.Closing.{AllWereGiven, AreAllOf, EachReportIsACor
 ghost use Rattle.nm_tree.specs.Closing.{OfEachClosed, OfEachClosedRun, QueuesAreTheRest, StandsForAll, all_merged, given_in};
 ghost use Rattle.nm_tree.specs.Workers.{WorkerView};
 
+use crate::reporting::{Found, ReportRoom, read};
 use crate::resigning::unite;
 use crate::tree::Tree;
 use crate::worker::Worker;
 use nm_edge::Key;
 use nm_epoch::HeldQueue;
-use nm_report::{Found, ReportRoom, read};
 use nm_steps::Shared;
 use thiserror::Error;
 

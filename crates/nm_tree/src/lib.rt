@@ -12,10 +12,10 @@ mod epochs;
 mod fault;
 mod lookup;
 mod many;
-mod next_key;
+mod near_key;
 mod notes;
 mod popping;
-mod prev_key;
+pub mod reporting;
 mod resigning;
 mod running;
 mod tree;
@@ -24,8 +24,8 @@ mod worker;
 pub use closing::{
     CloseError, CloseReason, Report, closed_trees_are_accounted_for, runs_of_closed_trees_are_runs,
 };
-pub use fault::{CallFault, PinFault};
-pub use nm_calls::Query;
+pub use fault::PinFault;
+pub use nm_calls::{CallFault, Query};
 pub use nm_edge::Fit;
 pub use nm_epoch::{Advance, Behind, Collected, Entry, HeldQueue, Tally};
 pub use nm_model::NewError;

@@ -1,12 +1,11 @@
 //! Look-ups of one key.
 ghost use Rattle.std.specs.Prelude.{◌≡◌, IsErrOf};
-ghost use Rattle.nm_busy.specs.Alone.{IsAlone};
+ghost use Rattle.nm_progress.specs.Alone.{IsAlone};
 ghost use Rattle.nm_tree.specs.Calls.{MayCall, LeavesHas, SaysHas};
 
-use crate::fault::CallFault;
 use crate::tree::Tree;
 use crate::worker::{Standing, Worker};
-use nm_calls::{Busy, has};
+use nm_calls::{CallFault, has};
 use nm_edge::Key;
 
 impl Tree {
@@ -38,12 +37,8 @@ impl Tree {
             return Err(CallFault::Pending);
         }
         worker.pass.know_run();
-        match has(&self.shared, &mut worker.pass, key, tries) {
-            Ok(answer) => Ok(answer),
-            Err(Busy) => {
-                worker.pass.know_run();
-                Err(CallFault::Busy)
-            }
-        }
+        let answer = has(&self.shared, &mut worker.pass, key, tries);
+        worker.pass.know_run();
+        answer
     }
 }

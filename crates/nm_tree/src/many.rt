@@ -1,10 +1,9 @@
 //! Look-ups of several keys under one pin.
 ghost use Rattle.nm_tree.specs.Calls.{MayCall, LeavesHasMany};
 
-use crate::fault::CallFault;
 use crate::tree::Tree;
 use crate::worker::{Standing, Worker};
-use nm_calls::{Busy, Query, has_many};
+use nm_calls::{CallFault, Query, has_many};
 
 impl Tree {
     /// Looks up each of these keys, and writes the answers into their `found`. It walks for all
@@ -42,12 +41,8 @@ impl Tree {
             return Err(CallFault::Pending);
         }
         worker.pass.know_run();
-        match has_many(&self.shared, &mut worker.pass, queries, tries) {
-            Ok(()) => Ok(()),
-            Err(Busy) => {
-                worker.pass.know_run();
-                Err(CallFault::Busy)
-            }
-        }
+        let answer = has_many(&self.shared, &mut worker.pass, queries, tries);
+        worker.pass.know_run();
+        answer
     }
 }

@@ -3,9 +3,9 @@ ghost use Rattle.std.specs.Prelude.{◌<◌, None};
 ghost use Rattle.nm_tree.specs.Calls.{MayCall};
 ghost use Rattle.nm_tree.specs.Popping.{Finds, GoesInRounds, LeavesPop, LeavesPopFirst, LeavesPopLast, SaysPop};
 
-use crate::fault::CallFault;
 use crate::tree::Tree;
 use crate::worker::Worker;
+use nm_calls::CallFault;
 use nm_edge::{Key, MOST_KEY};
 
 /// An end of a set: the end of its least key, or that of its greatest.

@@ -3,7 +3,7 @@ ghost use Rattle.std.specs.Prelude.{◌≡◌, ◌<◌, length, option_map, IfSo
 ghost use Rattle.nm_edge.specs.Layouts.{IsLayout};
 ghost use Rattle.nm_steps.specs.Steps.{HasSeen, IsOfRun};
 ghost use Rattle.nm_calls.specs.declared.deleting.Unfinished.{Unfinished as Delete};
-ghost use Rattle.nm_busy.specs.Pending.{HasDeletePending, leaf_after};
+ghost use Rattle.nm_progress.specs.Pending.{HasDeletePending, leaf_after};
 ghost use Rattle.nm_epoch.specs.Collecting.{NoneHas};
 ghost use Rattle.nm_tree.specs.Running.{HasSeenTurns};
 ghost use Rattle.nm_tree.specs.Workers.{waiting_in, blocks_in, AreFewIn, counts_among, counts_in, IsLedger, HasOrigin, IsBetweenCalls, IsIdle};

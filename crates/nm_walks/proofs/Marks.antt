@@ -28,7 +28,7 @@ use Rattle.nm_order.proofs.LinkedBirths.{looked_birth}
 use Rattle.nm_order.proofs.ArrivalsOfLooks.{any_there, same_side}
 use Rattle.nm_order.proofs.TaughtFacts.{edges_are_learned, flags_are_learned, tags_are_learned, tags_freeze}
 use Rattle.nm_order.proofs.ToldLaws.{edges_stay_inside, flagged_lead_high, flagged_stand_high, tags_lead, twins_are_told}
-use Rattle.nm_words.specs.Told.{known_as}
+use Rattle.nm_steps.specs.Told.{known_as}
 use Rattle.nm_steps.specs.Rules.{knowledge, known_births}
 use Rattle.nm_steps.specs.Steps.{PassView, MayStep, Stepped, flag_reply}
 use Rattle.nm_steps.proofs.AfterSteps.{TellsRun, is_join}

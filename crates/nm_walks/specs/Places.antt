@@ -18,7 +18,9 @@ use Rattle.nm_walks.specs.declared.seek_record.WalkEnd.{WalkEnd}
 use Rattle.nm_walks.specs.declared.seek_record.SeekRecord.{SeekRecord}
 use Rattle.nm_walks.specs.Bounds.{chain_bound, reach}
 use Rattle.nm_walks.specs.Telling.{Tells}
-use Rattle.nm_walks.specs.Walks.{Walks, Reads, IsBroken, IsAt, HasFound, IsWalking}
+use Rattle.nm_walks.specs.declared.walking.Stop.{Stop}
+use Rattle.nm_walks.specs.declared.walking.Stop.TheVariants.{Leaf, Place}
+use Rattle.nm_walks.specs.Walks.{Walks, Reads, IsBroken, IsAt, HasFound, IsWalking, HasWalked, Seeks}
 
 -- ---- the log of such a walk
 
@@ -81,8 +83,35 @@ abbrev pub HasPlace : Bool → PassView → PassView → ℕ → WalkEnd → Typ
 HasPlace false o p k r = HasEndedPlain o p k r
 HasPlace true o p k r = HasNarrowed o p k r
 
--- the first part of the walk, by unmarked edges only
-abbrev pub HasSunk : Layout → ℕ → PassView → PassView → Descent → Type 0
-HasSunk L k o p (Ended r) = HasStopped L k o p [] r × HasNarrowed o p k r
-HasSunk L k o p (Stopped s n) = IsWalking L k n o p s []
-    × IsNarrowed o p k s.parent s.side × (n + 1 ≤ reach L)
+-- ---- a walk by what it stops at
+
+abbrev pub IsStopOf : Stop → ℕ → Onward → Type 0
+IsStopOf Leaf = IsStop false
+IsStopOf Place = IsStop true
+
+-- the key of a node by which such a walk goes on
+abbrev pub GoesBy : Stop → ℕ → ℕ → Type 0
+GoesBy Leaf v k = Unit {0}
+GoesBy Place v k = covers v k ≡ true
+
+-- its result
+abbrev pub SeeksTo : Stop → Layout → ℕ → List Entry → List Entry → List ChainEdge → Option WalkEnd → Type 0
+SeeksTo Leaf = Seeks
+SeeksTo Place = Stops
+
+-- it has come to its end, with what is known of it
+abbrev pub HasCome : Stop → Layout → ℕ → PassView → PassView → List ChainEdge → WalkEnd → Type 0
+HasCome Leaf L k o p c r = HasWalked L k o p c r
+HasCome Place L k o p c r = HasStopped L k o p c r × HasNarrowed o p k r
+
+-- what is known of the edge at which it is
+abbrev pub IsNarrowedBy : Stop → PassView → PassView → ℕ → ℕ → Side → Type 0
+IsNarrowedBy Leaf o p k parent side = Unit {0}
+IsNarrowedBy Place o p k parent side = IsNarrowed o p k parent side
+
+-- the first part of it, by unmarked edges only, so that its chain is empty: it has ended, or is at
+-- s after n nodes, which are fewer than its reach
+abbrev pub HasRemembered : Stop → Layout → ℕ → PassView → PassView → Descent → Type 0
+HasRemembered stop L k o p (Ended r) = HasCome stop L k o p [] r
+HasRemembered stop L k o p (Stopped s n) = IsWalking L k n o p s []
+    × IsNarrowedBy stop o p k s.parent s.side × (n + 1 ≤ reach L)

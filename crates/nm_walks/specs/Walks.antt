@@ -209,9 +209,3 @@ pub record HasWalked (L : Layout) (k : ℕ) (o p : PassView) (c : List ChainEdge
   pub few : length c < chain_bound
   pub high : r.key < infinity_0 → 6 ≤ r.seek_record.edge.slot
   pub found : HasFound o p k r.seek_record.edge.slot r.seek_record.parent r.seek_record.side r.key
-
--- the first part of it, by unmarked edges only, so that its chain is empty: it has ended, or is at
--- s after n nodes, which are fewer than its reach
-abbrev pub HasRemembered : Layout → ℕ → PassView → PassView → Descent → Type 0
-HasRemembered L k o p (Ended r) = HasWalked L k o p [] r
-HasRemembered L k o p (Stopped s n) = IsWalking L k n o p s [] × (n + 1 ≤ reach L)

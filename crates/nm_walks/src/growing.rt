@@ -5,8 +5,8 @@ ghost use Rattle.nm_walks.specs.Telling.{GoesOn, IsPinnedIn};
 ghost use Rattle.nm_walks.specs.Making.{IsRouter, OnlyMakes};
 ghost use Rattle.nm_walks.specs.Growing.{ClaimsNewNodes, HasNewNodes, IfReady, Returns, inner_of, MayGrow, KeepsCall, HasGrown, HasNotGrown};
 
-use crate::making::{Contents, NewNodes, claim, fill, give, link};
-use crate::seek_record::WalkEnd;
+use crate::making::{Contents, NewNodes, claim, fill, give};
+use crate::seek_record::{SeekRecord, WalkEnd};
 use nm_edge::{Edge, Placement, parting};
 use nm_steps::{Pass, Shared};
 
@@ -60,8 +60,12 @@ fn node_over(radix: bool, key: u64, other: u64, leaf: u32, fresh: u32) -> Conten
     }
 }
 
-/// Fills both new nodes, and links them in place of the node at which the walk ended. `Err`: the
+/// Fills both new nodes, and replaces the node at which the walk ended by the new internal node, over
+/// that node and the new leaf. It is a leaf or, in a radix tree, perhaps an internal node. `Err`: the
 /// link was lost; this edge was found instead.
+///
+/// Only a call to insert the key of the new leaf may do this, and only once. The edge must be the
+/// one by which a walk of the call came to the node and stopped there.
 pub fn grow(
     shared: &Shared,
     pass: &mut Pass,
@@ -88,7 +92,11 @@ pub fn grow(
         right: 0,
     };
     fill(shared, pass, new_nodes.leaf.slot, &alone);
-    link(shared, pass, &end.seek_record, new_nodes)
+    pass.know_pooled_slots();
+    let SeekRecord { parent, side, .. } = end.seek_record;
+    let linked = shared.link(pass, parent, side, leaf, new_nodes.internal.slot);
+    pass.know_run();
+    linked
 }
 
 /// Gives both nodes back to the pool, the internal one first. The placement remembers their slots.

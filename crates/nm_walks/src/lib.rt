@@ -23,5 +23,5 @@ pub use marking::{flag, tag};
 pub use seek_record::{
     CHAIN_BOUND, ChainEdge, ChainEdges, SeekRecord, WalkEnd, is_marked, is_null,
 };
-pub use walking::{find, place, reach, seek};
+pub use walking::{Stop, find, reach, seek};
 pub use workspace::{CUT_BOUND, CutNodes, Workspace};

@@ -1,4 +1,8 @@
 //! Looks at known nodes, if the worker's own log allows them; each adds to what the log shows.
+//!
+//! Each function here is one step of `Shared`, said in facts of the log that later steps keep. The
+//! step itself says only what was added to the log. `know_run` after it gives the laws of runs, by
+//! which these facts follow; it does nothing at run time.
 ghost use Rattle.std.specs.Prelude.{◌≡◌, ◌≤◌};
 ghost use Rattle.nm_model.specs.declared.event.Event.TheVariants.{Look};
 ghost use Rattle.nm_model.specs.declared.event.Field.TheVariants.{Key as KeyOf, Edge as EdgeOn, Birth};

@@ -1,4 +1,7 @@
-//! New nodes: they are filled in private slots, and linked into the tree.
+//! New nodes: they are claimed, filled in private slots, and given back.
+//!
+//! `claim` and `give` are those of `nm_pool`, said in facts of the log that later steps keep, as in
+//! `looking`.
 ghost use Rattle.std.specs.Prelude.{◌≡◌, ◌+◌, ◌*◌, ◌≤◌, false, length, Some, IsSome, IfSome, IfOk, IfErr};
 ghost use Rattle.nm_model.specs.declared.event.Event.TheVariants.{Give};
 ghost use Rattle.nm_model.specs.declared.reply.Reply.TheVariants.{Returned};
@@ -92,40 +95,4 @@ pub(crate) fn fill(shared: &Shared, pass: &mut Pass, slot: u32, node: &Contents)
     shared.fill_key(pass, slot, node.key);
     shared.fill_edge(pass, slot, Side::Left, node.left);
     shared.fill_edge(pass, slot, Side::Right, node.right);
-}
-
-/// Replaces the node to which the edge of this seek record leads by the new internal node, over
-/// that node and the new leaf. It is a leaf or, in a radix tree, perhaps an internal node. `Err`:
-/// the link was lost; this edge was found instead.
-///
-/// Only a call to insert the key of the new leaf may do this, and only once. The edge must be the
-/// one by which a walk of the call came to the node and stopped there.
-pub(crate) fn link(
-    shared: &Shared,
-    pass: &mut Pass,
-    seek_record: &SeekRecord,
-    new_nodes: &NewNodes,
-) -> Result<(), Edge>
-    requires pinned { IsPinnedIn shared.now pass.old }
-    requires parent { Tells pass.old (KnowsSlot seek_record.now.parent) }
-    requires known { Tells pass.old (KnowsSlot seek_record.now.edge.slot) }
-    requires inserts { IsInserting pass.old seek_record.now.parent seek_record.now.side seek_record.now.edge.slot
-        new_nodes.now.internal.slot new_nodes.now.leaf.slot }
-    ensures on { GoesOn pass.old pass.new }
-    ensures won { IfOk result (λ _. HasLinked pass.old pass.new seek_record.now.parent seek_record.now.side
-        seek_record.now.edge.slot new_nodes.now.internal.slot new_nodes.now.leaf.slot) }
-    ensures lost { IfErr result (HasLost pass.old pass.new seek_record.now.parent seek_record.now.side
-        seek_record.now.edge.slot new_nodes.now.internal.slot) }
-{
-    pass.know_pooled_slots();
-    let leaf = seek_record.edge.slot();
-    let linked = shared.link(
-        pass,
-        seek_record.parent,
-        seek_record.side,
-        leaf,
-        new_nodes.internal.slot,
-    );
-    pass.know_run();
-    linked
 }

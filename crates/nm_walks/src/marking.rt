@@ -1,5 +1,6 @@
 //! Marks and cuts: tags and flags of edges, and splices that cut off frozen chains, if the worker's
-//! own log allows them.
+//! own log allows them. Each function is one step of `Shared`, said in facts of the log that later
+//! steps keep, as in `looking`.
 ghost use Rattle.std.specs.Prelude.{ℕ, List, IfOk, IfErr};
 ghost use Rattle.nm_edge.specs.Edges.{other};
 ghost use Rattle.nm_edge.specs.declared.node.NodeId.{NodeId};

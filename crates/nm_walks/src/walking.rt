@@ -5,15 +5,24 @@ ghost use Rattle.nm_edge.specs.declared.edge.Side.{Side as SideOf};
 ghost use Rattle.nm_order.specs.Facts.Fact.{KnowsSlot};
 ghost use Rattle.nm_walks.specs.Telling.{Tells, GoesOn, OnlyLooks, IsPinnedIn};
 ghost use Rattle.nm_walks.specs.Bounds.{reach};
-ghost use Rattle.nm_walks.specs.Places.{HasNarrowed, HasStopped, HasSunk, IsStop, Stops};
-ghost use Rattle.nm_edge.specs.Ranges.{covers};
-ghost use Rattle.nm_walks.specs.Walks.{Finds, Seeks, HasDescended, HasFound, HasRemembered, HasWalked};
+ghost use Rattle.nm_walks.specs.Places.{GoesBy, HasCome, HasRemembered, IsStopOf, SeeksTo};
+ghost use Rattle.nm_walks.specs.Walks.{Finds, HasDescended, HasFound};
 
 use crate::looking::{Onward, look_edge, read_node};
 use crate::seek_record::{ChainEdges, Descent, WalkEnd, end_at, extend, further, is_null};
 use crate::unmarked_seek::UnmarkedSeek;
 use nm_edge::{Layout, Side, covers};
 use nm_steps::{Pass, Shared};
+
+/// What a walk stops at.
+#[derive(Clone, Copy, Debug)]
+pub enum Stop {
+    /// A leaf.
+    Leaf,
+    /// A leaf, or an internal node of a radix tree without the key in its range: the place where an
+    /// insert puts the key.
+    Place,
+}
 
 /// The largest number of nodes that a walk of a radix tree looks at: slot 2, 64 internal nodes, and
 /// a leaf.
@@ -50,7 +59,7 @@ pub fn find(shared: &Shared, pass: &mut Pass, key: u64) -> Option<u64>
         (λ v. (leaf parent : ℕ) × (side : SideOf)
         × HasFound pass.old pass.new key leaf parent side v) }
 {
-    let (mut seek_record, below) = match descend(shared, pass, key) {
+    let (mut seek_record, below) = match descend(shared, pass, key, Stop::Leaf) {
         Descent::Ended(end) => return Some(end.key),
         Descent::Stopped(seek_record, below) => (seek_record, below),
     };
@@ -66,28 +75,35 @@ pub fn find(shared: &Shared, pass: &mut Pass, key: u64) -> Option<u64>
     None
 }
 
-/// Walks for a key, and returns the seek record at the end, with the leaf's key. The chain then has
-/// the internal nodes from the successor down to the last one above the parent. `None`: the walk
-/// had looked at as many nodes as the tree has, or the chain would have 65 nodes with the parent;
-/// neither can occur in a radix tree. Cost: at most three steps per node. (The seek of Natarajan
-/// and Mittal, section 3.2, which here remembers the whole chain.)
+/// Walks for a key to what it stops at, and returns the seek record at the end, with the key of the
+/// node there. The chain then has the internal nodes from the successor down to the last one above
+/// the parent. `None`: the walk had looked at as many nodes as the tree has, or the chain would have
+/// 65 nodes with the parent; neither can occur in a radix tree. Cost: at most three steps per node.
+/// (The seek of Natarajan and Mittal, section 3.2, which here remembers the whole chain.)
 #[inline(always)]
-pub fn seek(shared: &Shared, pass: &mut Pass, key: u64, chain: &mut ChainEdges) -> Option<WalkEnd>
+pub fn seek(
+    shared: &Shared,
+    pass: &mut Pass,
+    key: u64,
+    stop: Stop,
+    chain: &mut ChainEdges,
+) -> Option<WalkEnd>
     requires pinned { IsPinnedIn shared.now pass.old }
     requires root { Tells pass.old (KnowsSlot 1) }
     requires known { Tells pass.old (KnowsSlot 2) }
     requires key { IsKey key }
-    ensures walk { Seeks shared.now.layout key pass.old.view.log pass.new.view.log
+    requires radix { stop ≡ Stop.Place → shared.now.layout.radix ≡ true }
+    ensures walk { SeeksTo stop shared.now.layout key pass.old.view.log pass.new.view.log
         chain.new.items result }
     ensures came { IfSome result
-        (HasWalked shared.now.layout key pass.old pass.new chain.new.items) }
+        (HasCome stop shared.now.layout key pass.old pass.new chain.new.items) }
     ensures steps { length pass.new.view.log
         ≤ length pass.old.view.log + 3 * reach shared.now.layout }
     ensures on { GoesOn pass.old pass.new }
     ensures only { OnlyLooks pass.old pass.new }
 {
     chain.clear();
-    let (mut seek_record, below) = match descend(shared, pass, key) {
+    let (mut seek_record, below) = match descend(shared, pass, key, stop) {
         Descent::Ended(end) => return Some(end),
         Descent::Stopped(seek_record, below) => (seek_record, below),
     };
@@ -95,7 +111,7 @@ pub fn seek(shared: &Shared, pass: &mut Pass, key: u64, chain: &mut ChainEdges) 
     for _below in below..reach(layout) - 1 {
         let node = seek_record.edge.slot();
         let on = read_node(shared, layout, pass, node, key);
-        if is_null(on.next) {
+        if stops(stop, &on, key) {
             return Some(end_at(&seek_record, on.found));
         }
         if !extend(chain, seek_record) {
@@ -107,15 +123,17 @@ pub fn seek(shared: &Shared, pass: &mut Pass, key: u64, chain: &mut ChainEdges) 
 }
 
 /// Does the first part of the walk for a key, by unmarked edges only, which usually leads to its
-/// leaf. On this part the chain is empty, the successor is the parent, and no mark must be removed
+/// end. On this part the chain is empty, the successor is the parent, and no mark must be removed
 /// from an edge's word.
 #[inline(always)]
-fn descend(shared: &Shared, pass: &mut Pass, key: u64) -> Descent
+fn descend(shared: &Shared, pass: &mut Pass, key: u64, stop: Stop) -> Descent
     requires pinned { IsPinnedIn shared.now pass.old }
     requires known { Tells pass.old (KnowsSlot 2) }
-    ensures came { HasDescended shared.now.layout key pass.old pass.new result }
+    requires key { IsKey key }
+    requires radix { stop ≡ Stop.Place → shared.now.layout.radix ≡ true }
+    ensures came { stop ≡ Stop.Leaf → HasDescended shared.now.layout key pass.old pass.new result }
     ensures remembers { Tells pass.old (KnowsSlot 1)
-        → HasRemembered shared.now.layout key pass.old pass.new result }
+        → HasRemembered stop shared.now.layout key pass.old pass.new result }
     ensures on { GoesOn pass.old pass.new }
     ensures only { OnlyLooks pass.old pass.new }
 {
@@ -128,7 +146,7 @@ fn descend(shared: &Shared, pass: &mut Pass, key: u64) -> Descent
         }
         let node = unmarked_seek.slot();
         let on = read_node(shared, layout, pass, node, key);
-        if is_null(on.next) {
+        if stops(stop, &on, key) {
             return Descent::Ended(end_at(&unmarked_seek.seek_record(), on.found));
         }
         unmarked_seek = unmarked_seek.further(on.side, on.next);
@@ -136,79 +154,14 @@ fn descend(shared: &Shared, pass: &mut Pass, key: u64) -> Descent
     Descent::Stopped(unmarked_seek.seek_record(), most)
 }
 
-/// Walks for a key that is to be inserted in a radix tree. It returns the seek record at the end,
-/// whose edge leads to a leaf or to an internal node without the key in its range. It never returns
-/// `None`, because no walk of a radix tree is too long.
+/// Returns whether a walk for a key stops at this node.
 #[inline(always)]
-pub fn place(shared: &Shared, pass: &mut Pass, key: u64, chain: &mut ChainEdges) -> Option<WalkEnd>
-    requires pinned { IsPinnedIn shared.now pass.old }
-    requires root { Tells pass.old (KnowsSlot 1) }
-    requires known { Tells pass.old (KnowsSlot 2) }
-    requires key { IsKey key }
-    requires radix { shared.now.layout.radix ≡ true }
-    ensures walk { Stops shared.now.layout key pass.old.view.log pass.new.view.log
-        chain.new.items result }
-    ensures came { IfSome result
-        (HasStopped shared.now.layout key pass.old pass.new chain.new.items) }
-    ensures narrowed { IfSome result (HasNarrowed pass.old pass.new key) }
-    ensures on { GoesOn pass.old pass.new }
-    ensures only { OnlyLooks pass.old pass.new }
+fn stops(stop: Stop, on: &Onward, key: u64) -> bool
+    ensures yes { result ≡ true → IsStopOf stop key on.now }
+    ensures no { result ≡ false → (on.now.next.slot ≢ 0) × GoesBy stop on.now.found key }
 {
-    chain.clear();
-    let (mut seek_record, below) = match descend_to_place(shared, pass, key) {
-        Descent::Ended(end) => return Some(end),
-        Descent::Stopped(seek_record, below) => (seek_record, below),
-    };
-    let layout = shared.layout();
-    for _below in below..reach(layout) - 1 {
-        let node = seek_record.edge.slot();
-        let on = read_node(shared, layout, pass, node, key);
-        if stops(&on, key) {
-            return Some(end_at(&seek_record, on.found));
-        }
-        if !extend(chain, seek_record) {
-            return None;
-        }
-        seek_record = further(seek_record, on.side, on.next);
+    match stop {
+        Stop::Leaf => is_null(on.next),
+        Stop::Place => is_null(on.next) || !covers(on.found, key),
     }
-    None
-}
-
-/// Does the first part of the walk of `place`, by unmarked edges only, as `descend` does for a
-/// look-up.
-#[inline(always)]
-fn descend_to_place(shared: &Shared, pass: &mut Pass, key: u64) -> Descent
-    requires pinned { IsPinnedIn shared.now pass.old }
-    requires root { Tells pass.old (KnowsSlot 1) }
-    requires known { Tells pass.old (KnowsSlot 2) }
-    requires key { IsKey key }
-    requires radix { shared.now.layout.radix ≡ true }
-    ensures came { HasSunk shared.now.layout key pass.old pass.new result }
-    ensures on { GoesOn pass.old pass.new }
-    ensures only { OnlyLooks pass.old pass.new }
-{
-    let layout = shared.layout();
-    let mut unmarked_seek = UnmarkedSeek::first(look_edge(shared, layout, pass, 2, Side::Left));
-    let most = reach(layout) - 1;
-    for below in 0..most {
-        if unmarked_seek.is_marked() {
-            return Descent::Stopped(unmarked_seek.seek_record(), below);
-        }
-        let node = unmarked_seek.slot();
-        let on = read_node(shared, layout, pass, node, key);
-        if stops(&on, key) {
-            return Descent::Ended(end_at(&unmarked_seek.seek_record(), on.found));
-        }
-        unmarked_seek = unmarked_seek.further(on.side, on.next);
-    }
-    Descent::Stopped(unmarked_seek.seek_record(), most)
-}
-
-/// Returns whether the insert of a key stops at this node of a radix tree: at a leaf, or if the key
-/// is not in the node's range.
-fn stops(on: &Onward, key: u64) -> bool
-    ensures yes { result ≡ true → IsStop true key on.now }
-    ensures no { result ≡ false → (on.now.next.slot ≢ 0) × (covers on.now.found key ≡ true) }
-{
-    is_null(on.next) || !covers(on.found, key)
 }

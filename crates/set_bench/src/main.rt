@@ -1,8 +1,10 @@
 //! Measures look-ups and mixed calls on three sets: a tree that claims the lowest free slot, a tree
 //! that claims by next fit, and a `BTreeSet` in a `Mutex`. At the end it checks that each set has
-//! as many keys as its inserts and deletes leave.
+//! as many keys as its inserts and deletes leave. Before that it measures a `BlockQueue` and a
+//! `VecDeque`.
 //!
 //! The arguments are these numbers, in this order:
+//! - the number of items that pass through each queue (0 measures no queue);
 //! - the number of rounds;
 //! - the number of keys in the sets at first;
 //! - the number of nodes for which the trees have room;
@@ -22,6 +24,7 @@ mod grown;
 mod habits;
 mod load;
 mod locked;
+mod queues;
 mod trees;
 
 use crate::grown::{Grown, Sizes};
@@ -180,8 +183,8 @@ fn parts_of(alloc: Global, numbers: &[u64], keys: u64) -> Result<Vec<Part>> {
 
 fn main(rt: HostRuntime) -> Result<()> {
     let numbers = numbers(&rt)?;
-    let [rounds, keys, nodes, apart, tend, rest @ ..] = numbers.as_slice() else {
-        bail!("the numbers of rounds, keys and nodes and the habits are wanted");
+    let [items, rounds, keys, nodes, apart, tend, rest @ ..] = numbers.as_slice() else {
+        bail!("the numbers of items, rounds, keys and nodes and the habits are wanted");
     };
     let sizes = Sizes {
         nodes: u32::try_from(*nodes).context("a number of nodes")?,
@@ -189,5 +192,6 @@ fn main(rt: HostRuntime) -> Result<()> {
     };
     let habits = habits_of(*apart, *tend)?;
     let parts = parts_of(rt.alloc(), rest, keys.saturating_mul(2))?;
+    queues::compare(&rt, *items)?;
     compare(&rt, sizes, habits, parts.as_slice(), *rounds)
 }

@@ -78,7 +78,7 @@ fn make(tree: &Tree, worker: &mut Worker, call: SetCall) -> Done
             tend(tree, worker);
             Done::Nothing
         }
-        Ok(false) | Err(CallFault::Busy | CallFault::NoMemory) => Done::Nothing,
+        Ok(false) | Err(CallFault::Pinned | CallFault::Busy | CallFault::NoMemory) => Done::Nothing,
     }
 }
 

@@ -2,7 +2,7 @@
 ghost use Rattle.std.specs.Prelude.{◌≡◌, length, IfOk, IfErr};
 ghost use Rattle.nm_edge.specs.Words.{IsSlot, words};
 ghost use Rattle.nm_model.specs.Memory.{fork, opening};
-ghost use Rattle.nm_words.specs.Packing.{words_of};
+ghost use Rattle.nm_steps.specs.Packing.{words_of};
 ghost use Rattle.nm_steps.specs.Openings.{untouched, planted, Plants};
 ghost use Rattle.nm_steps.specs.Steps.{AreFresh};
 

@@ -1,7 +1,7 @@
 use Rattle.std.proofs.Common.{◌≡◌, Bool, true, subst}
 use Rattle.std.specs.Prelude.{Ok}
 use Rattle.nm_model.specs.declared.event.Op.TheVariants.{Insert}
-use Rattle.nm_set.specs.Tended.{SaysTended, of_insert}
+use Rattle.nm_set.specs.Managed.{SaysManaged, of_insert}
 use Rattle.nm_callers.proofs.Answered.{if_answered}
 use Rattle.nm_callers.proofs.ToldMembers.{looks_then, seen_behind, seen_both}
 use Rattle.nm_callers.specs.Meanwhile.{NoneDeleted}
@@ -15,7 +15,7 @@ returns-in-Ok-true-clause-found c none =
     let k = c.args.key in
     let w = c.args.member.now.worker in
     let x = c.insert.new.self.worker in
-    let added = subst (λ (answer : Bool). SaysTended Insert b h k w x (Ok answer)) c.in-Ok-true.field-0-test c.in-Ok-true.ensures.says in
+    let added = subst (λ (answer : Bool). SaysManaged Insert b h k w x (Ok answer)) c.in-Ok-true.field-0-test c.in-Ok-true.ensures.says in
     if_answered c.contains.result c.ok.result (λ answer. answer ≡ true) c.ok.ensures.value
     (looks_then NoneDeleted Insert true inserted_then_found b c.insert.new.self.tree h k w x c.contains.new.self.worker c.contains.result added c.contains.ensures.says none)
 

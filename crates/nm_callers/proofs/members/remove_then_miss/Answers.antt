@@ -1,7 +1,7 @@
 use Rattle.std.proofs.Common.{◌≡◌, Bool, false, subst}
 use Rattle.std.specs.Prelude.{Ok}
 use Rattle.nm_model.specs.declared.event.Op.TheVariants.{Delete}
-use Rattle.nm_set.specs.Tended.{SaysTended}
+use Rattle.nm_set.specs.Managed.{SaysManaged}
 use Rattle.nm_callers.proofs.Answered.{if_answered}
 use Rattle.nm_callers.proofs.ToldMembers.{looks_then, seen_behind, seen_both}
 use Rattle.nm_callers.specs.Meanwhile.{NoneInserted}
@@ -15,7 +15,7 @@ returns-in-Ok-true-clause-missed c none =
     let k = c.args.key in
     let w = c.args.member.now.worker in
     let x = c.remove.new.self.worker in
-    let removed = subst (λ (answer : Bool). SaysTended Delete b h k w x (Ok answer)) c.in-Ok-true.field-0-test c.in-Ok-true.ensures.says in
+    let removed = subst (λ (answer : Bool). SaysManaged Delete b h k w x (Ok answer)) c.in-Ok-true.field-0-test c.in-Ok-true.ensures.says in
     if_answered c.contains.result c.ok.result (λ answer. answer ≡ false) c.ok.ensures.value
     (looks_then NoneInserted Delete false deleted_then_missed b c.remove.new.self.tree h k w x c.contains.new.self.worker c.contains.result removed c.contains.ensures.says none)
 

@@ -4,7 +4,7 @@ use Rattle.nm_model.specs.declared.event.Op.TheVariants.{Delete}
 use Rattle.nm_steps.specs.Rules.{Extends}
 use Rattle.nm_steps.specs.Steps.{TreeView, HasSeenAllOf}
 use Rattle.nm_set.specs.Seats.{IsOwn, MemberView}
-use Rattle.nm_set.specs.Tended.{SaysTended}
+use Rattle.nm_set.specs.Managed.{SaysManaged}
 use Rattle.nm_callers.proofs.Answered.{if_answered}
 use Rattle.nm_callers.proofs.ToldMembers.{takes_once}
 use Rattle.nm_callers.proofs.members.take_once.Goals as goal
@@ -20,7 +20,7 @@ returns c =
     let x = first.worker in
     let y = c.hear.new.self.worker in
     let z = c.remove-taken.new.self.worker in
-    let took = subst (λ (answer : Bool). SaysTended Delete b h k w x (Ok answer)) c.in-Ok-true.field-0-test c.in-Ok-true.ensures.says in
+    let took = subst (λ (answer : Bool). SaysManaged Delete b h k w x (Ok answer)) c.in-Ok-true.field-0-test c.in-Ok-true.ensures.says in
     let told : HasSeenAllOf y.pass x.pass = record { goes_on = subst (Extends y.pass.view.past) (ap (λ n. n.past) c.note-note.ensures.note) c.hear.ensures.heard } in
     let own : IsOwn first.tree x = subst (λ (m : MemberView). IsOwn m.tree m.worker) c.note-note.ensures.same c.know_run.ensures.own in
     let tree = c.remove.ensures.tree ∙ (c.requires.same ∙ (sym c.hear.ensures.tree ∙ sym c.remove-taken.ensures.tree)) in

@@ -6,7 +6,7 @@ use Rattle.nm_steps.specs.Steps.{TreeView, HasSeenAllOf}
 use Rattle.nm_steps.proofs.Growing.{goes_on_itself, goes_on_through}
 use Rattle.nm_steps.proofs.Seeing.{seen_through}
 use Rattle.nm_tree.proofs.Taking.{no_shorter}
-use Rattle.nm_set.specs.Popping.{SaysPopTended}
+use Rattle.nm_set.specs.Popping.{SaysManagedPop}
 use Rattle.nm_set.specs.Seats.{IsOwn, MemberView}
 use Rattle.nm_callers.specs.Taking.{StandsThroughout}
 use Rattle.nm_callers.proofs.Schedulers.{passes_none, takes_apart}
@@ -21,8 +21,8 @@ returns-clause-apart c =
     let x = first.worker in
     let y = c.hear.new.self.worker in
     let z = c.pop_first-2.new.self.worker in
-    let took = has_popped c.args.one.now.tree h c.in-Ok-Some.first w x (subst (λ (o : Option ℕ). SaysPopTended ◌<◌ c.args.one.now.tree h w x (Ok o)) c.in-Ok-Some.field-0-is c.in-Ok-Some.ensures.says) in
-    let takes = has_popped c.hear.new.self.tree h c.in-Ok-Some-pop_first.second y z (subst (λ (o : Option ℕ). SaysPopTended ◌<◌ c.hear.new.self.tree h y z (Ok o)) c.in-Ok-Some-pop_first.field-0-is c.in-Ok-Some-pop_first.ensures.says) in
+    let took = has_popped c.args.one.now.tree h c.in-Ok-Some.first w x (subst (λ (o : Option ℕ). SaysManagedPop ◌<◌ c.args.one.now.tree h w x (Ok o)) c.in-Ok-Some.field-0-is c.in-Ok-Some.ensures.says) in
+    let takes = has_popped c.hear.new.self.tree h c.in-Ok-Some-pop_first.second y z (subst (λ (o : Option ℕ). SaysManagedPop ◌<◌ c.hear.new.self.tree h y z (Ok o)) c.in-Ok-Some-pop_first.field-0-is c.in-Ok-Some-pop_first.ensures.says) in
     let told : HasSeenAllOf y.pass x.pass = record { goes_on = subst (Extends y.pass.view.past) (ap (λ n. n.past) c.note-note.ensures.note) c.hear.ensures.heard } in
     let own : IsOwn first.tree first.worker = subst (λ (m : MemberView). IsOwn m.tree m.worker) c.note-note.ensures.same c.know_run.ensures.own in
     let tree = c.pop_first.ensures.tree ∙ (c.requires.same ∙ (sym c.hear.ensures.tree ∙ sym c.pop_first-2.ensures.tree)) in
@@ -37,8 +37,8 @@ returns-clause-passed c k is stands =
     let x = first.worker in
     let y = c.hear.new.self.worker in
     let z = c.pop_first-2.new.self.worker in
-    let took = has_popped c.args.one.now.tree h c.in-Ok-Some.first w x (subst (λ (o : Option ℕ). SaysPopTended ◌<◌ c.args.one.now.tree h w x (Ok o)) c.in-Ok-Some.field-0-is c.in-Ok-Some.ensures.says) in
-    let takes = has_popped c.hear.new.self.tree h c.in-Ok-Some-pop_first.second y z (subst (λ (o : Option ℕ). SaysPopTended ◌<◌ c.hear.new.self.tree h y z (Ok o)) c.in-Ok-Some-pop_first.field-0-is c.in-Ok-Some-pop_first.ensures.says) in
+    let took = has_popped c.args.one.now.tree h c.in-Ok-Some.first w x (subst (λ (o : Option ℕ). SaysManagedPop ◌<◌ c.args.one.now.tree h w x (Ok o)) c.in-Ok-Some.field-0-is c.in-Ok-Some.ensures.says) in
+    let takes = has_popped c.hear.new.self.tree h c.in-Ok-Some-pop_first.second y z (subst (λ (o : Option ℕ). SaysManagedPop ◌<◌ c.hear.new.self.tree h y z (Ok o)) c.in-Ok-Some-pop_first.field-0-is c.in-Ok-Some-pop_first.ensures.says) in
     let told : HasSeenAllOf y.pass x.pass = record { goes_on = subst (Extends y.pass.view.past) (ap (λ n. n.past) c.note-note.ensures.note) c.hear.ensures.heard } in
     let own : IsOwn first.tree first.worker = subst (λ (m : MemberView). IsOwn m.tree m.worker) c.note-note.ensures.same c.know_run.ensures.own in
     let tree = c.pop_first.ensures.tree ∙ (c.requires.same ∙ (sym c.hear.ensures.tree ∙ sym c.pop_first-2.ensures.tree)) in

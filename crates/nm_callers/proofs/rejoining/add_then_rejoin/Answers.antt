@@ -4,7 +4,7 @@ use Rattle.nm_model.specs.declared.event.Op.TheVariants.{Has, Insert}
 use Rattle.nm_steps.specs.Rules.{Extends}
 use Rattle.nm_steps.specs.Steps.{TreeView, HasSeenAllOf}
 use Rattle.nm_steps.proofs.Seeing.{seen_through}
-use Rattle.nm_set.specs.Tended.{SaysTended}
+use Rattle.nm_set.specs.Managed.{SaysManaged}
 use Rattle.nm_tree.proofs.Taking.{moment_since}
 use Rattle.nm_callers.specs.Meanwhile.{NoneDeleted}
 use Rattle.nm_callers.proofs.ToldMembers.{moment_of, seen_behind}
@@ -23,8 +23,8 @@ returns-clause-found c none =
     let y = c.hear.new.self.worker in
     let z = c.contains.new.self.worker in
     let there = c.in-Ok-contains.there in
-    let added = subst (λ (answer : Bool). SaysTended Insert b h k w x (Ok answer)) c.in-Ok-true.field-0-test c.in-Ok-true.ensures.says in
-    let looked : SaysTended Has d h k y z (Ok there) = c.in-Ok-contains.ensures.says in
+    let added = subst (λ (answer : Bool). SaysManaged Insert b h k w x (Ok answer)) c.in-Ok-true.field-0-test c.in-Ok-true.ensures.says in
+    let looked : SaysManaged Has d h k y z (Ok there) = c.in-Ok-contains.ensures.says in
     let told : HasSeenAllOf y.pass x.pass = record { goes_on = subst (Extends y.pass.view.past) (ap (λ n. n.past) c.note-note.ensures.note) c.hear.ensures.heard } in
     let seen = seen_through x.pass y.pass z.pass told (seen_behind Has d h k y z (Ok there) looked) in
     let trees : c.contains.new.self.tree ≡ c.insert.new.self.tree = c.contains.ensures.tree ∙ (c.hear.ensures.tree ∙ (c.in-Ok.ensures.member.0 ∙ (sym c.requires.own ∙ sym c.insert.ensures.tree))) in

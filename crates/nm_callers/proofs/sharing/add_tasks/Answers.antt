@@ -2,7 +2,7 @@ use Rattle.std.proofs.Common.{rules, ◌≡◌, ◌+◌, ◌∙◌, Bool, true, 
 use Rattle.std.specs.Prelude.{Ok}
 use Rattle.nm_model.specs.declared.event.Op.TheVariants.{Insert}
 use Rattle.nm_tree.specs.Workers.{WorkerView}
-use Rattle.nm_set.specs.Tended.{SaysTended}
+use Rattle.nm_set.specs.Managed.{SaysManaged}
 use Rattle.nm_callers.specs.Queues.{HasWorked}
 use Rattle.nm_callers.proofs.Working.{adds_none, adds_one}
 use Rattle.nm_callers.proofs.sharing.add_tasks.Goals as goal
@@ -24,14 +24,14 @@ loop-task-preserved c =
           let more : c.if-new.added ≡ n + 1 = search (rules, t.added-is) in
           record {
             tree = tree;
-            did = subst (λ (m : ℕ). HasWorked w z m 0) (sym more) (adds_one b h k w x z n c.loop-task.invariant.did (subst (λ (a : Bool). SaysTended Insert b h k x z (Ok a)) yes c.in-Ok.ensures.says));
+            did = subst (λ (m : ℕ). HasWorked w z m 0) (sym more) (adds_one b h k w x z n c.loop-task.invariant.did (subst (λ (a : Bool). SaysManaged Insert b h k x z (Ok a)) yes c.in-Ok.ensures.says));
             few = omega (arith, few, more);
           }
       | else-new t ↦ let no' : c.in-Ok.new ≡ false = search (rules, t.if-new) in
           let same : c.if-new.added ≡ n = search (rules, t.added-is) in
           record {
             tree = tree;
-            did = subst (λ (m : ℕ). HasWorked w z m 0) (sym same) (adds_none b h k w x z n c.loop-task.invariant.did (subst (λ (a : Bool). SaysTended Insert b h k x z (Ok a)) no' c.in-Ok.ensures.says));
+            did = subst (λ (m : ℕ). HasWorked w z m 0) (sym same) (adds_none b h k w x z n c.loop-task.invariant.did (subst (λ (a : Bool). SaysManaged Insert b h k x z (Ok a)) no' c.in-Ok.ensures.says));
             few = omega (arith, few, same);
           }
     ]

@@ -1,7 +1,7 @@
 use Rattle.std.proofs.Common.{◌≡◌, ◌<◌, ◌+◌, ◌∙◌, ℕ, List, [], ◌∷◌, length, length-append, sym, ap, subst, arith}
 use Rattle.std.specs.Prelude.{Option, Ok}
 use Rattle.nm_tree.specs.Workers.{WorkerView}
-use Rattle.nm_set.specs.Popping.{SaysPopTended}
+use Rattle.nm_set.specs.Popping.{SaysManagedPop}
 use Rattle.nm_callers.specs.Queues.{HasWorked}
 use Rattle.nm_callers.proofs.Working.{takes_one}
 use Rattle.nm_callers.proofs.sharing.take_tasks.Goals as goal
@@ -15,7 +15,7 @@ loop-turn-preserved c =
     let x : WorkerView = c.loop-turn.member.worker in
     let z : WorkerView = c.pop_first.new.self.worker in
     let before : List ℕ = c.loop-turn.taken.items in
-    let says = subst (λ (o : Option ℕ). SaysPopTended ◌<◌ b h x z (Ok o)) c.in-Ok-Some.field-0-is c.in-Ok-Some.ensures.says in
+    let says = subst (λ (o : Option ℕ). SaysManagedPop ◌<◌ b h x z (Ok o)) c.in-Ok-Some.field-0-is c.in-Ok-Some.ensures.says in
     let size : length c.push_reserved.new.self.items ≡ length before + 1 = ap (λ (ks : List ℕ). length ks) c.push_reserved.ensures.items ∙ length-append before (k ∷ []) in
     let few = c.loop-turn.invariant.few in
     let room = c.loop-turn.invariant.room in

@@ -74,3 +74,6 @@ returns-in-Ok-clause-part c = record {
   same = rw c.get-sought.ensures.number at c.if-end-sought.false;
   entries = c.in-Ok.ensures.won.part;
 }
+
+pub returns-then-end-sought-clause-part : goal.returns-then-end-sought-clause-part
+returns-then-end-sought-clause-part c = (c.in-Some.end, (rw c.get-sought.ensures.number at c.in-Some.ensures.walk), (rw c.get-sought.ensures.number at c.if-end-sought.true))

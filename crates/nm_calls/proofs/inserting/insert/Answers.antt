@@ -20,14 +20,14 @@ returns-clause-after c =
     let old = c.args.pass.now.view.log in
     let a = c.pin_for.new.pass.view.log in
     let new = c.insert_pinned.new.pass.view.log in
-    let part = subst (λ k. Finishes c.args.workspace.now.placement L c.args.tries k a new c.insert_pinned.result) c.get.ensures.number c.insert_pinned.ensures.part in
+    let part = c.insert_pinned.ensures.part in
     record {
       same = search rules;
       past = search (rules, seen_all);
       did = insert_did c.args.workspace.now.placement L c.args.tries c.args.key old new c.insert_pinned.result (a, c.in-Ok._epoch, c.in-Ok.ensures.pinned, part);
       moment = (
           let pinned : HadNoCall c.args.pass.now c.pin_for.new.pass = record { same = c.pin_for.ensures.on.same; past = c.pin_for.ensures.on.past; call = none_begun c.args.pass.now c.know_run.ensures.seen c.know_run.ensures.fits (ap (λ (s : Search). s.call) c.requires.rests.idle) } in
-          subst (λ k. IfOk c.insert_pinned.result (AnswerHasMoment c.args.pass.now c.insert_pinned.new.pass Insert k)) c.get.ensures.number (c.insert_pinned.ensures.moment c.args.pass.now pinned)
+          c.insert_pinned.ensures.moment c.args.pass.now pinned
           );
       won = insert_wins c.args.workspace.now.placement L c.args.tries c.args.key old a new c.in-Ok._epoch c.in-Ok.ensures.pinned c.insert_pinned.result part;
       steps = insert_steps c.args.workspace.now.placement L c.args.tries c.args.key old a new c.in-Ok._epoch c.in-Ok.ensures.pinned c.insert_pinned.result part;

@@ -1,4 +1,4 @@
-use Rattle.std.proofs.Common.{rules, inr, refl, sym, subst}
+use Rattle.std.proofs.Common.{rules, inl, inr, refl, sym, subst}
 use Rattle.nm_model.specs.declared.event.Op.TheVariants.{Insert}
 use Rattle.nm_order.specs.Facts.Since.{ThePin}
 use Rattle.nm_order.specs.Facts.Fact.{EndedAt}
@@ -13,11 +13,11 @@ use Rattle.nm_walks.proofs.KeptLedgers.{holds_on, holds_so}
 use Rattle.nm_calls.proofs.AddingInserts.{readied_adds, grows_won, grows_lost}
 use Rattle.nm_calls.proofs.inserting.try_insert.Goals as goal
 
-pub returns-then-end-key-clause-shows : goal.returns-then-end-key-clause-shows
-returns-then-end-key-clause-shows c =
+pub returns-then-end-sought-clause-shows : goal.returns-then-end-sought-clause-shows
+returns-then-end-sought-clause-shows c =
     let e = c.in-Some.end in
-    let ended = c.in-Some.ensures.came.found c.if-end-key.true ThePin (Insert, c.requires.call.call) in
-    ((e.seek_record.edge.slot, (e.seek_record.parent, e.seek_record.side, subst (λ n. Tells c.stop.new.pass (EndedAt ThePin c.args.key e.seek_record.edge.slot e.seek_record.parent e.seek_record.side n)) c.if-end-key.true ended)), c.stop.ensures.only.linked)
+    let ended = (rw c.get-sought.ensures.number at c.in-Some.ensures.came).found (rw c.get-sought.ensures.number at c.if-end-sought.true) ThePin (Insert, c.requires.call.call) in
+    ((e.seek_record.edge.slot, (e.seek_record.parent, e.seek_record.side, subst (λ n. Tells c.stop.new.pass (EndedAt ThePin c.args.key e.seek_record.edge.slot e.seek_record.parent e.seek_record.side n)) (rw c.get-sought.ensures.number at c.if-end-sought.true) ended)), c.stop.ensures.only.linked)
 
 pub returns-in_default-ready-clause-has : goal.returns-in_default-ready-clause-has
 returns-in_default-ready-clause-has c = λ o has. c.ready.ensures.has o (kept_fork o c.args.pass.now c.stop.new.pass c.args.new_nodes.now c.stop.ensures.on.same c.stop.ensures.only.private has)
@@ -27,8 +27,8 @@ grow-requires-clause-may c =
     let o = c.requires.new_nodes.0 in
     let has = c.ready.ensures.has o (kept_fork o c.args.pass.now c.stop.new.pass c.args.new_nodes.now c.stop.ensures.on.same c.stop.ensures.only.private c.requires.new_nodes.1) in
     let made = held_fork o c.ready.new.pass c.ready.new.new_nodes c.in-Some-ready.made c.in-Some-ready.ensures.part.0 has in
-    may_grow c.args.shared.now c.args.pass.now c.stop.new.pass c.ready.new.pass c.args.key c.in-Some.end c.stop.new.chain.items c.in-Some-ready.made (search rules) c.requires.call.call c.requires.unlinked
-    c.stop.ensures.on c.stop.ensures.only c.in-Some.ensures.came c.in-Some.ensures.place c.if-end-key.false c.ready.ensures.on c.ready.ensures.only made.ready
+    rw c.get-sought.ensures.number (may_grow c.args.shared.now c.args.pass.now c.stop.new.pass c.ready.new.pass c.args.key c.in-Some.end c.stop.new.chain.items c.in-Some-ready.made (search rules) c.requires.call.call c.requires.unlinked
+    c.stop.ensures.on c.stop.ensures.only (rw c.get-sought.ensures.number at c.in-Some.ensures.came) (rw c.get-sought.ensures.number at c.in-Some.ensures.place) (rw c.get-sought.ensures.number at c.if-end-sought.false) c.ready.ensures.on c.ready.ensures.only made.ready)
 
 pub help-requires-clause-at : goal.help-requires-clause-at
 help-requires-clause-at c =
@@ -49,41 +49,41 @@ returns-in-Err-clause-on c =
 pub returns-in-Ok-clause-has : goal.returns-in-Ok-clause-has
 returns-in-Ok-clause-has c = λ o has.
     let there = c.ready.ensures.has o (kept_fork o c.args.pass.now c.stop.new.pass c.args.new_nodes.now c.stop.ensures.on.same c.stop.ensures.only.private has) in
-    linked_fork c.args.shared.now.layout.radix o c.ready.new.pass c.grow.new.pass c.args.key c.in-Some.end c.in-Some-ready.made (held_fork o c.ready.new.pass c.ready.new.new_nodes c.in-Some-ready.made c.in-Some-ready.ensures.part.0 there) c.in-Ok.ensures.won
+    linked_fork c.args.shared.now.layout.radix o c.ready.new.pass c.grow.new.pass c.args.key c.in-Some.end c.in-Some-ready.made (held_fork o c.ready.new.pass c.ready.new.new_nodes c.in-Some-ready.made c.in-Some-ready.ensures.part.0 there) (rw c.get-sought.ensures.number at c.in-Ok.ensures.won)
 
 pub returns-in-Err-clause-has : goal.returns-in-Err-clause-has
 returns-in-Err-clause-has c = λ o has.
     let there = c.ready.ensures.has o (kept_fork o c.args.pass.now c.stop.new.pass c.args.new_nodes.now c.stop.ensures.on.same c.stop.ensures.only.private has) in
     let is = c.in-Some-ready.ensures.part.0 in
     let now : HoldsNewNodes o c.grow.new.pass c.in-Some-ready.made =
-    lost_fork c.args.shared.now.layout.radix o c.ready.new.pass c.grow.new.pass c.args.key c.in-Some.end c.in-Some-ready.made c.in-Err.found (held_fork o c.ready.new.pass c.ready.new.new_nodes c.in-Some-ready.made is there) c.in-Err.ensures.lost in
+    lost_fork c.args.shared.now.layout.radix o c.ready.new.pass c.grow.new.pass c.args.key c.in-Some.end c.in-Some-ready.made c.in-Err.found (held_fork o c.ready.new.pass c.ready.new.new_nodes c.in-Some-ready.made is there) (rw c.get-sought.ensures.number at c.in-Err.ensures.lost) in
     kept_fork o c.grow.new.pass c.help.new.pass c.ready.new.new_nodes c.help.ensures.on.same c.help.ensures.only.private (subst (λ f. HasNewNodes o c.grow.new.pass f) (sym is) now)
 
 pub returns-in_default-clause-kept : goal.returns-in_default-clause-kept
-returns-in_default-clause-kept c = holds_on _ _ _ c.stop.ensures.on.same c.stop.ensures.only.ledgers (stops_adds c.args.shared.now.layout c.args.key c.args.pass.now.view.log c.stop.new.pass.view.log c.stop.new.chain.items c.stop.result c.stop.ensures.walk) c.requires.kept
+returns-in_default-clause-kept c = holds_on _ _ _ c.stop.ensures.on.same c.stop.ensures.only.ledgers (stops_adds c.args.shared.now.layout c.args.key c.args.pass.now.view.log c.stop.new.pass.view.log c.stop.new.chain.items c.stop.result (rw c.get-sought.ensures.number at c.stop.ensures.walk)) c.requires.kept
 
-pub returns-then-end-key-clause-kept : goal.returns-then-end-key-clause-kept
-returns-then-end-key-clause-kept c = holds_on _ _ _ c.stop.ensures.on.same c.stop.ensures.only.ledgers (stops_adds c.args.shared.now.layout c.args.key c.args.pass.now.view.log c.stop.new.pass.view.log c.stop.new.chain.items c.stop.result c.stop.ensures.walk) c.requires.kept
+pub returns-then-end-sought-clause-kept : goal.returns-then-end-sought-clause-kept
+returns-then-end-sought-clause-kept c = holds_on _ _ _ c.stop.ensures.on.same c.stop.ensures.only.ledgers (stops_adds c.args.shared.now.layout c.args.key c.args.pass.now.view.log c.stop.new.pass.view.log c.stop.new.chain.items c.stop.result (rw c.get-sought.ensures.number at c.stop.ensures.walk)) c.requires.kept
 
 pub returns-in_default-ready-clause-kept : goal.returns-in_default-ready-clause-kept
 returns-in_default-ready-clause-kept c =
     holds_on c.stop.new.pass c.ready.new.pass _ c.ready.ensures.on.same c.ready.ensures.only.ledgers (readied_adds c.args.workspace.now.placement c.args.shared.now.layout.nodes c.args.new_nodes.now c.ready.new.new_nodes c.ready.result c.stop.new.pass.view.log c.ready.new.pass.view.log c.ready.ensures.part)
-    (holds_on _ _ _ c.stop.ensures.on.same c.stop.ensures.only.ledgers (stops_adds c.args.shared.now.layout c.args.key c.args.pass.now.view.log c.stop.new.pass.view.log c.stop.new.chain.items c.stop.result c.stop.ensures.walk) c.requires.kept)
+    (holds_on _ _ _ c.stop.ensures.on.same c.stop.ensures.only.ledgers (stops_adds c.args.shared.now.layout c.args.key c.args.pass.now.view.log c.stop.new.pass.view.log c.stop.new.chain.items c.stop.result (rw c.get-sought.ensures.number at c.stop.ensures.walk)) c.requires.kept)
 
 pub help-requires-clause-kept : goal.help-requires-clause-kept
 help-requires-clause-kept c =
     holds_on c.ready.new.pass c.grow.new.pass _ c.grow.ensures.on.same c.grow.ensures.call.ledgers
-    (grows_lost c.args.shared.now.layout.radix c.args.key c.in-Some.end c.in-Some-ready.made c.in-Err.found c.ready.new.pass.view.log c.grow.new.pass.view.log c.in-Err.ensures.lost.part)
+    (grows_lost c.args.shared.now.layout.radix c.args.key c.in-Some.end c.in-Some-ready.made c.in-Err.found c.ready.new.pass.view.log c.grow.new.pass.view.log (rw c.get-sought.ensures.number at c.in-Err.ensures.lost).part)
     (holds_on c.stop.new.pass c.ready.new.pass _ c.ready.ensures.on.same c.ready.ensures.only.ledgers (readied_adds c.args.workspace.now.placement c.args.shared.now.layout.nodes c.args.new_nodes.now c.ready.new.new_nodes c.ready.result c.stop.new.pass.view.log c.ready.new.pass.view.log c.ready.ensures.part)
-    (holds_on _ _ _ c.stop.ensures.on.same c.stop.ensures.only.ledgers (stops_adds c.args.shared.now.layout c.args.key c.args.pass.now.view.log c.stop.new.pass.view.log c.stop.new.chain.items c.stop.result c.stop.ensures.walk) c.requires.kept))
+    (holds_on _ _ _ c.stop.ensures.on.same c.stop.ensures.only.ledgers (stops_adds c.args.shared.now.layout c.args.key c.args.pass.now.view.log c.stop.new.pass.view.log c.stop.new.chain.items c.stop.result (rw c.get-sought.ensures.number at c.stop.ensures.walk)) c.requires.kept))
 
 pub returns-in-Ok-clause-kept : goal.returns-in-Ok-clause-kept
 returns-in-Ok-clause-kept c =
     let p = c.ready.new.pass in
     let q = c.grow.new.pass in
-    let grown = grows_won c.args.shared.now.layout.radix c.args.key c.in-Some.end c.in-Some-ready.made p.view.log q.view.log c.in-Ok.ensures.won.part in
+    let grown = grows_won c.args.shared.now.layout.radix c.args.key c.in-Some.end c.in-Some-ready.made p.view.log q.view.log (rw c.get-sought.ensures.number at c.in-Ok.ensures.won).part in
     let was = holds_on c.stop.new.pass p c.args.held.now c.ready.ensures.on.same c.ready.ensures.only.ledgers (readied_adds c.args.workspace.now.placement c.args.shared.now.layout.nodes c.args.new_nodes.now c.ready.new.new_nodes c.ready.result c.stop.new.pass.view.log c.ready.new.pass.view.log c.ready.ensures.part)
-    (holds_on _ _ _ c.stop.ensures.on.same c.stop.ensures.only.ledgers (stops_adds c.args.shared.now.layout c.args.key c.args.pass.now.view.log c.stop.new.pass.view.log c.stop.new.chain.items c.stop.result c.stop.ensures.walk) c.requires.kept) in
+    (holds_on _ _ _ c.stop.ensures.on.same c.stop.ensures.only.ledgers (stops_adds c.args.shared.now.layout c.args.key c.args.pass.now.view.log c.stop.new.pass.view.log c.stop.new.chain.items c.stop.result (rw c.get-sought.ensures.number at c.stop.ensures.walk)) c.requires.kept) in
     holds_so p q c.args.held.now _ c.grow.ensures.on.same c.grow.ensures.call.ledgers (link_counts _ _ p.view.log q.view.log grown c.saturating_add-held.ensures was.counted) refl was
 
 pub returns-in-Err-clause-part : goal.returns-in-Err-clause-part
@@ -96,10 +96,13 @@ returns-in-Err-clause-part c =
       c.stop.new.chain.items,
       c.in-Err.found,
       c.grow.new.pass.view.log,
-      record { ended = c.stop.new.pass.view.log; walk = c.in-Some.ensures.walk; other = c.if-end-key.false; claimed = c.ready.new.pass.view.log; readies = ready.1; grows = c.in-Err.ensures.lost.part },
+      record { ended = c.stop.new.pass.view.log; walk = (rw c.get-sought.ensures.number at c.in-Some.ensures.walk); other = (rw c.get-sought.ensures.number at c.if-end-sought.false); claimed = c.ready.new.pass.view.log; readies = ready.1; grows = (rw c.get-sought.ensures.number at c.in-Err.ensures.lost).part },
       ready.0,
       c.help.ensures.part,
     )
 
 pub stop-requires-clause-key : goal.stop-requires-clause-key
-stop-requires-clause-key c = key_of_call c.args.pass.now c.requires.pinned.run Insert c.args.key c.requires.call.call
+stop-requires-clause-key c = rw c.get-sought.ensures.number (key_of_call c.args.pass.now c.requires.pinned.run Insert c.args.key c.requires.call.call)
+
+pub returns-in_default-clause-part : goal.returns-in_default-clause-part
+returns-in_default-clause-part c = inl (c.stop.new.chain.items, (rw c.get-sought.ensures.number at c.in_default.ensures.walk), refl)

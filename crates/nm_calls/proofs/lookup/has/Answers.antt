@@ -10,7 +10,7 @@ use Rattle.nm_steps.specs.Steps.{PassView}
 use Rattle.nm_epoch.proofs.Allowed.{may_leave}
 use Rattle.nm_steps.proofs.Seeing.{seen_all}
 use Rattle.nm_walks.proofs.GoingOn.{only_then, pinned_in_still}
-use Rattle.nm_calls.proofs.LookUps.{is_pinned, knows_second, call_is, may_answer, missed}
+use Rattle.nm_calls.proofs.LookUps.{is_pinned, knows_second, call_is, shows_found, missed}
 use Rattle.nm_walks.proofs.Adding.{adds_then, adds_these}
 use Rattle.nm_calls.proofs.Adding.{most, has_won, cuts_none, within_call, mul_below, pin_adds, moved_adds, lost_walks_add, finds_adds}
 use Rattle.nm_walks.specs.Bounds.{reach}
@@ -26,16 +26,16 @@ find-requires-clause-pinned c = pinned_in_still c.args.shared.now c.pin_for.new.
 pub find-requires-clause-known : goal.find-requires-clause-known
 find-requires-clause-known c = c.loop-walk.invariant.on.keeps (KnowsSlot 2) (knows_second c.pin_for.new.pass c.in-Ok._epoch Has c.args.key c.in-Ok.ensures.at)
 
-pub leave_with-requires-clause-may : goal.leave_with-requires-clause-may
-leave_with-requires-clause-may c =
-    let a = c.pin_for.new.pass in
-    let p = c.loop-walk.pass in
-    let q = c.find.new.pass in
-    let at = c.in-Ok.ensures.at in
-    let only = only_then a p q c.loop-walk.invariant.only c.in-Some.ensures.only in
+pub answer-requires-clause-labelled : goal.answer-requires-clause-labelled
+answer-requires-clause-labelled c =
+    let only = only_then c.pin_for.new.pass c.loop-walk.pass c.find.new.pass c.loop-walk.invariant.only c.in-Some.ensures.only in
+    ap (λ (b : Brief). b.unlabelled) only.epochs ∙ c.in-Ok.ensures.at.labelled
+
+pub answer-requires-clause-shown : goal.answer-requires-clause-shown
+answer-requires-clause-shown c =
     let found = c.in-Some.ensures.found in
-    let ended = found.3 ThePin (Has, rw c.get.ensures.number (c.loop-walk.invariant.on.keeps (CallIs Has c.args.key) (call_is a c.in-Ok._epoch Has c.args.key at))) in
-    may_answer q c.args.key c.in-Some.found found.0 found.1 found.2 _ (ap (λ (b : Brief). b.unlabelled) only.epochs ∙ at.labelled) (only.call ∙ ap (λ (s : Search). s.call) at.begun) (rw (← c.get.ensures.number) ended) (rw c.get-in-Some.ensures.number refl)
+    let call = c.loop-walk.invariant.on.keeps (CallIs Has c.args.key) (call_is c.pin_for.new.pass c.in-Ok._epoch Has c.args.key c.in-Ok.ensures.at) in
+    shows_found c.find.new.pass c.args.key c.in-Some.found found.0 found.1 found.2 _ (c.in-Some.ensures.on.keeps (CallIs Has c.args.key) call) (rw (← c.get.ensures.number) (found.3 ThePin (Has, rw c.get.ensures.number call))) (rw c.get-in-Some.ensures.number refl)
 
 pub unpin-requires-clause-may : goal.unpin-requires-clause-may
 unpin-requires-clause-may c =
@@ -61,6 +61,7 @@ returns c =
       past = search (rules, seen_all);
       did = search rules;
       moment = search rules;
+      busy = search rules;
       missed = (
           let past = c.loop-walk-test.false in
           let within = c.loop-walk.auto._walk-end in
@@ -88,6 +89,7 @@ returns-in_default c =
       past = search (rules, seen_all);
       did = search rules;
       moment = search rules;
+      busy = search rules;
       missed = search rules;
       won = has_won _ _ added;
       uncut = cuts_none _ _ added;
@@ -104,9 +106,9 @@ returns-in-Some c =
     let a = c.pin_for.new.pass.view.log in
     let p = c.loop-walk.pass.view.log in
     let q = c.find.new.pass.view.log in
-    let new = c.leave_with.new.pass.view.log in
+    let new = c.answer.new.pass.view.log in
     let found = c.in-Some.found in
-    let left = ap (λ (s : PassView). s.view.log) c.leave_with.ensures.took.step in
+    let left = ap (λ (s : PassView). s.view.log) c.answer.ensures.took.step in
     let pin = pin_adds Has c.args.key tries old a c.in-Ok._epoch c.in-Ok.ensures.pinned in
     let lost = lost_walks_add L c.args.key c.loop-walk._walk a p c.loop-walk.invariant.lost in
     let last = adds_these _ q new left in
@@ -140,8 +142,9 @@ returns-in-Some c =
           let call = call_is begun c.in-Ok._epoch Has c.args.key c.in-Ok.ensures.at in
           let pinned : HadNoCall o begun = record { same = c.pin_for.ensures.on.same; past = c.pin_for.ensures.on.past; call = none_begun o c.know_run.ensures.seen c.know_run.ensures.fits (ap (λ (s : Search). s.call) c.requires.rests.idle) } in
           let walked = no_call_on o c.loop-walk.pass c.find.new.pass (no_call_on o begun c.loop-walk.pass pinned c.loop-walk.invariant.on.same c.loop-walk.invariant.on.past) c.find.ensures.on.same c.find.ensures.on.past in
-          c.leave_with.ensures.moment o Has c.args.key walked (c.in-Some.ensures.on.keeps (CallIs Has c.args.key) (c.loop-walk.invariant.on.keeps (CallIs Has c.args.key) call))
+          c.answer.ensures.moment o Has c.args.key walked (c.in-Some.ensures.on.keeps (CallIs Has c.args.key) (c.loop-walk.invariant.on.keeps (CallIs Has c.args.key) call))
           );
+      busy = search rules;
       missed = search rules;
       won = has_won old new added;
       uncut = cuts_none old new added;

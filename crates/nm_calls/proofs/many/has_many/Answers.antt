@@ -16,6 +16,7 @@ returns-in_default c = record {
   did = search rules;
   keys = search rules;
   moment = search rules;
+  busy = search rules;
   missed = pin_missed (GiveUp c.args.shared.now.layout (map key_of c.args.queries.now)) c.args.tries c.args.pass.now.view.log c.pin.new.pass.view.log c.if-tries-eq0.false c.in_default.ensures.moved;
   won = has_won _ _ (plain_moved_adds c.args.tries c.args.pass.now.view.log c.pin.new.pass.view.log c.in_default.ensures.moved);
   uncut = cuts_none _ _ (plain_moved_adds c.args.tries c.args.pass.now.view.log c.pin.new.pass.view.log c.in_default.ensures.moved);
@@ -46,6 +47,7 @@ returns-then-ended c =
           let walked = c.walk_all-ended.ensures in
           all_were_so p (WasSo o q) (was_so o c.pin.new.pass p q c.know_run.ensures.seen c.know_run.ensures.fits c.requires.rests.unpinned c.pin.ensures.on walked.on c.know_run-2.ensures.seen c.unpin.ensures.took) c.walk_all-ended.new.queries walked.under_way (walked.ended c.if-ended.true)
           );
+      busy = search rules;
       missed = search rules;
       won = has_won _ _ added;
       uncut = cuts_none _ _ added;
@@ -67,6 +69,7 @@ returns-else-ended c =
       did = search rules;
       keys = search rules;
       moment = search rules;
+      busy = search rules;
       missed = walks_missed (GiveUp c.args.shared.now.layout (map key_of c.args.queries.now)) c.args.tries old c.pin.new.pass.view.log c.walk_all-ended.new.pass.view.log new c.in-Ok._epoch c.in-Ok.ensures.pinned (c.walk_all-ended.ensures.given_up c.if-ended.false) did.leaves;
       won = has_won _ _ added;
       uncut = cuts_none _ _ added;

@@ -1,5 +1,5 @@
 use Rattle.std.proofs.lemmas.Result.{err_from_is_err_and}
-use Rattle.nm_files.specs.declared.header.Command.TheVariants.{Stress}
+use Rattle.nm_files.specs.declared.read.header.Command.TheVariants.{Stress}
 use Rattle.nm_serial.specs.Texts.{IsGateStop, IsStressText}
 use Rattle.nm_serial.proofs.EndingLemmas.{tells_line, tells_right, tells_text, tells_gate, ok_always}
 use Rattle.nm_files.proofs.ResultLemmas.{ok_then, err_always}

@@ -1,5 +1,5 @@
 use Rattle.std.proofs.lemmas.Result.{err_from_is_err_and}
-use Rattle.nm_files.specs.declared.header.Command.TheVariants.{Serial}
+use Rattle.nm_files.specs.declared.read.header.Command.TheVariants.{Serial}
 use Rattle.nm_serial.proofs.EndingLemmas.{alone_by_fault, ends_by_fault, ends_played, text_of_script}
 use Rattle.nm_serial.specs.Texts.{IsSerialText}
 use Rattle.nm_serial.proofs.one_thread.output.Goals as goal

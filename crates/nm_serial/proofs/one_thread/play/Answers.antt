@@ -1,6 +1,6 @@
 use Rattle.std.proofs.Common.{◌≡◌, ◌+◌, ◌++◌, ◌∷◌, [], ◌∙◌, append_assoc, drop, rules, sym, refl, ap, ℕ}
 use Rattle.std.proofs.lemmas.List.{drop_more, drop_all, append-nil}
-use Rattle.nm_files.specs.declared.entry.ScriptCall.{ScriptCall}
+use Rattle.nm_files.specs.declared.read.entry.ScriptCall.{ScriptCall}
 use Rattle.nm_serial.specs.Crews.{PlaysAll}
 use Rattle.nm_serial.proofs.CrewLemmas.{line_first}
 use Rattle.nm_serial.proofs.one_thread.play.Goals as goal

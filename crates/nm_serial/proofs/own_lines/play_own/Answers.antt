@@ -1,7 +1,7 @@
 use Rattle.std.proofs.Common.{◌≡◌, ◌+◌, ◌++◌, ◌∷◌, [], append_assoc, drop, rules, sym, ◌∙◌, arith, refl, ap, subst, ℕ}
 use Rattle.std.proofs.lemmas.List.{drop_more, drop_all, append-nil}
 use Rattle.std.proofs.lemmas.Result.{err_from_is_err_and}
-use Rattle.nm_files.specs.declared.entry.ScriptCall.{ScriptCall}
+use Rattle.nm_files.specs.declared.read.entry.ScriptCall.{ScriptCall}
 use Rattle.nm_serial.specs.Makes.{HasStopped, PlaysOwn, StopsOwn}
 use Rattle.nm_serial.proofs.PlayLemmas.{own_line, other_line, stops_behind_own, stops_behind_other, stops_here}
 use Rattle.nm_serial.proofs.own_lines.play_own.Goals as goal

@@ -13,7 +13,7 @@ returns-in-Ok-ask c = inr (record {
   answer = Ok c.in-Ok-ask.field-0;
   told = refl;
   tree = c.ask.ensures.tree;
-  did = c.in-Ok-ask.ensures.did;
+  says = c.in-Ok-ask.ensures.says;
   written = c.write_found.ensures ∙ ap (map lookup_of) (search rules);
   kept = tt;
 })

@@ -1,7 +1,7 @@
 use Rattle.std.proofs.Common.{◌≡◌, ap, sym, ◌∙◌, subst}
 use Rattle.nm_edge.specs.Layouts.{Layout}
 use Rattle.nm_model.specs.Reports.{counts, keys}
-use Rattle.nm_report.specs.Ended.{IsEndOf, end_of}
+use Rattle.nm_tree.specs.Ended.{IsEndOf, end_of}
 use Rattle.nm_steps.specs.Steps.{TreeView, Ends}
 use Rattle.nm_steps.specs.declared.view.View.{View}
 use Rattle.nm_tree.specs.Closing.{GoesOnFromAll, StandsForAll}

@@ -1,4 +1,4 @@
-use Rattle.std.proofs.Common.{ap, subst, arith}
+use Rattle.std.proofs.Common.{refl, ap, subst, arith}
 use Rattle.nm_walks.specs.Bounds.{reach}
 use Rattle.nm_walks.specs.Telling.{OnwardTold}
 use Rattle.nm_walks.specs.Walks.{Reads}
@@ -54,7 +54,7 @@ returns-then-is_null c =
 
 pub returns-in-Ended : goal.returns-in-Ended
 returns-in-Ended c =
-    let came = c.in-Ended.ensures.came in
+    let came = c.in-Ended.ensures.came refl in
     record {
       walk = came.0;
       steps = (end_adds c.args.shared.now.layout c.args.key c.args.pass.now.view.log c.descend.new.pass.view.log came.0.0 came.0.1 c.in-Ended.end.key came.0.2).steps;

@@ -1,19 +1,50 @@
-use Rattle.std.proofs.Common.{refl, arith}
-use Rattle.nm_set.specs.Asked.{Asked}
-use Rattle.nm_set.specs.Tended.{Leaves, busy}
-use Rattle.nm_set.proofs.Tending.{retried_till}
+use Rattle.std.proofs.Common.{◌≡◌, ◌∙◌, ◌+◌, refl, subst, arith, Bool}
+use Rattle.std.specs.Prelude.{Result}
+use Rattle.nm_steps.specs.Steps.{TreeView}
+use Rattle.nm_calls.specs.declared.fault.CallFault.{CallFault}
+use Rattle.nm_set.specs.Managed.{Answers, round_bound}
+use Rattle.nm_set.proofs.Managing.{answers_last, busy_again, not_yet_busy}
 use Rattle.nm_set.proofs.member.Member.ask_with_retries.Goals as goal
 
-pub returns-then-not-is_busy-clause-did : goal.returns-then-not-is_busy-clause-did
-returns-then-not-is_busy-clause-did c =
-    let at = c.loop-round in
-    retried_till (λ b. Asked (Leaves c.args.op b.layout c.args.options.now.tries c.args.key)) c.args.self.now.tree at.self.tree busy c.args.options.now.rounds at._round c.args.self.now.worker at.self.worker c.ask-told.new.self.worker c.ask-told.result
-    at.invariant.each at.invariant.tree c.ask-told.ensures.did (omega (arith, c.loop-round-test.true)) (λ told. absurd (c.if-not-is_busy.ensures.no refl told))
+pub ask-told-requires-clause-free : goal.ask-told-requires-clause-free
+ask-told-requires-clause-free c = c.loop-round.invariant.busy.onward.on.held
 
-pub returns-clause-did : goal.returns-clause-did
-returns-clause-did c =
+pub ask-told-requires-clause-none : goal.ask-told-requires-clause-none
+ask-told-requires-clause-none c = c.loop-round.invariant.busy.onward.none
+
+pub ask-requires-clause-free : goal.ask-requires-clause-free
+ask-requires-clause-free c = c.loop-round.invariant.busy.onward.on.held
+
+pub ask-requires-clause-none : goal.ask-requires-clause-none
+ask-requires-clause-none c = c.loop-round.invariant.busy.onward.none
+
+pub loop-round-init : goal.loop-round-init
+loop-round-init c = record { tree = refl; busy = not_yet_busy c.args.self.now.tree c.args.options.now c.args.op c.args.self.now.worker c.requires.none c.requires.free }
+
+pub loop-round-preserved : goal.loop-round-preserved
+loop-round-preserved c =
     let at = c.loop-round in
+    let h = c.args.options.now in
+    let P : TreeView → Type 0 = λ b. Answers c.args.op c.args.key (round_bound h.tries b.layout) h.tries at.self.worker c.ask-told.new.self.worker c.ask-told.result in
+    let R : Result Bool CallFault → Type 0 = λ r. Answers c.args.op c.args.key (round_bound h.tries c.args.self.now.tree.layout) h.tries at.self.worker c.ask-told.new.self.worker r in
+    let last = subst R (c.if-not-is_busy.ensures.yes refl) (subst P at.invariant.tree c.ask-told.ensures.says) in
+    record {
+      tree = c.ask-told.ensures.tree ∙ at.invariant.tree;
+      busy = busy_again c.args.self.now.tree h c.args.op c.args.key at._round c.args.self.now.worker at.self.worker c.ask-told.new.self.worker at.invariant.busy last;
+    }
+
+pub returns-then-not-is_busy-clause-says : goal.returns-then-not-is_busy-clause-says
+returns-then-not-is_busy-clause-says c =
+    let at = c.loop-round in
+    let h = c.args.options.now in
+    let P : TreeView → Type 0 = λ b. Answers c.args.op c.args.key (round_bound h.tries b.layout) h.tries at.self.worker c.ask-told.new.self.worker c.ask-told.result in
+    answers_last c.args.self.now.tree h c.args.op c.args.key at._round (h.rounds + 1) c.args.self.now.worker at.self.worker c.ask-told.new.self.worker c.ask-told.result (omega (arith, c.loop-round-test.true)) (λ is. absurd (c.if-not-is_busy.ensures.no refl is)) at.invariant.busy (subst P at.invariant.tree c.ask-told.ensures.says)
+
+pub returns-clause-says : goal.returns-clause-says
+returns-clause-says c =
+    let at = c.loop-round in
+    let h = c.args.options.now in
     let past = c.loop-round-test.false in
     let within = at.auto._round-end in
-    retried_till (λ b. Asked (Leaves c.args.op b.layout c.args.options.now.tries c.args.key)) c.args.self.now.tree at.self.tree busy c.args.options.now.rounds at._round c.args.self.now.worker at.self.worker c.ask.new.self.worker c.ask.result
-    at.invariant.each at.invariant.tree c.ask.ensures.did within (λ told. omega (arith, past, within))
+    let P : TreeView → Type 0 = λ b. Answers c.args.op c.args.key (round_bound h.tries b.layout) h.tries at.self.worker c.ask.new.self.worker c.ask.result in
+    answers_last c.args.self.now.tree h c.args.op c.args.key at._round (h.rounds + 1) c.args.self.now.worker at.self.worker c.ask.new.self.worker c.ask.result (omega (arith, within)) (λ is. omega (arith, past, within)) at.invariant.busy (subst P at.invariant.tree c.ask.ensures.says)

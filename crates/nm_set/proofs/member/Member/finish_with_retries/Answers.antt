@@ -1,16 +1,23 @@
-use Rattle.std.proofs.Common.{◌-◌, refl, subst, arith}
-use Rattle.std.specs.Prelude.{Result, Bool, Err}
+use Rattle.std.proofs.Common.{◌≡◌, ◌-◌, ◌+◌, ℕ, Bool, refl, subst, arith}
+use Rattle.std.specs.Prelude.{Result, Err}
 use Rattle.nm_steps.specs.Steps.{TreeView}
-use Rattle.nm_tree.specs.declared.fault.CallFault.{CallFault as Lost}
-use Rattle.nm_tree.specs.declared.fault.CallFault.TheVariants.{Unfinished}
-use Rattle.nm_tree.specs.Calls.{LeavesFinish}
-use Rattle.nm_set.specs.declared.tended.Options.{Options}
-use Rattle.nm_set.specs.Tended.{FinishesPending}
-use Rattle.nm_set.proofs.Tending.{retried_more}
+use Rattle.nm_calls.specs.declared.fault.CallFault.{CallFault}
+use Rattle.nm_calls.specs.declared.fault.CallFault.TheVariants.{Unfinished}
+use Rattle.nm_set.specs.declared.managed.Options.{Options}
+use Rattle.nm_set.specs.Rounds.{FinishesIn}
+use Rattle.nm_set.proofs.Managing.{finishes_again, finishes_more, finishes_once}
 use Rattle.nm_set.proofs.member.Member.finish_with_retries.Goals as goal
 
-pub returns-clause-did : goal.returns-clause-did
-returns-clause-did c =
+pub returns-then-not-is_unfinished-clause-says : goal.returns-then-not-is_unfinished-clause-says
+returns-then-not-is_unfinished-clause-says c =
+    let b = c.args.self.now.tree in
+    let h = c.args.options.now in
+    let w = c.args.self.now.worker in
+    let z = c.finish-told.new.self.worker in
+    finishes_more b h 1 (h.rounds + 1) w z c.finish-told.result (omega arith) (finishes_once b h w z c.finish-told.result c.requires.free c.finish-told.ensures.says.says)
+
+pub returns-clause-says : goal.returns-clause-says
+returns-clause-says c =
     let b = c.args.self.now.tree in
     let h = c.args.options.now in
     let w = c.args.self.now.worker in
@@ -18,7 +25,9 @@ returns-clause-did c =
     let z = c.retry_finish.new.self.worker in
     let r = c.retry_finish.result in
     let some = c.if-options-eq0.false in
-    let first = subst (λ (t : Result Bool Lost). LeavesFinish b.layout h.tries w m t) (c.if-not-is_lost.ensures.yes refl) c.finish-told.ensures.did in
-    let rest : FinishesPending b (record h { rounds = h.rounds - 1 }) m z r =
-    subst (λ (g : Options). FinishesPending b g m z r) c.without_one.ensures (subst (λ (d : TreeView). FinishesPending d c.without_one.result m z r) c.finish-told.ensures.tree c.retry_finish.ensures.did) in
-    retried_more (LeavesFinish b.layout h.tries) (Err Unfinished) h.rounds w m z r (omega (arith, some)) first rest
+    let once = finishes_once b h w m c.finish-told.result c.requires.free c.finish-told.ensures.says.says in
+    let first = subst (λ (q : Result Bool CallFault). FinishesIn b h 1 w m q) (c.if-not-is_unfinished.ensures.yes refl) once in
+    let rest =
+    subst (λ (g : Options). FinishesIn b g (g.rounds + 1) m z r) c.without_one.ensures (subst (λ (d : TreeView). FinishesIn d c.without_one.result (c.without_one.result.rounds + 1) m z r) c.finish-told.ensures.tree c.retry_finish.ensures.says) in
+    let same : FinishesIn b h ((h.rounds - 1) + 1) m z r = record { on = rest.on; told = rest.told; moment = rest.moment; won = rest.won } in
+    subst (λ (n : ℕ). FinishesIn b h n w z r) (omega (arith, some)) (finishes_again b h 1 ((h.rounds - 1) + 1) w m z r first same)

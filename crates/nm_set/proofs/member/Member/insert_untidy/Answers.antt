@@ -1,41 +1,36 @@
-use Rattle.std.proofs.Common.{◌∙◌, inl, ap, subst}
-use Rattle.std.specs.Prelude.{Ok, Err}
+use Rattle.std.proofs.Common.{◌≡◌, ◌∙◌, ◌+◌, Bool, subst, arith}
+use Rattle.std.specs.Prelude.{Result, Ok, Err}
 use Rattle.nm_model.specs.declared.event.Op.TheVariants.{Insert}
 use Rattle.nm_steps.specs.Steps.{TreeView}
-use Rattle.nm_tree.specs.Calls.{LeavesInsert}
-use Rattle.nm_set.specs.declared.fault.Fault.{Fault}
-use Rattle.nm_set.specs.declared.fault.InsertFault.TheVariants as inserting
-use Rattle.nm_set.specs.Asked.{Asked}
-use Rattle.nm_set.specs.Tended.{InsertsTended, RetriesInsert}
-use Rattle.nm_set.proofs.Tending.{not_tidied, insert_answered, inserts_tend}
+use Rattle.nm_tree.specs.Workers.{WorkerView}
+use Rattle.nm_set.specs.Managed.{Answers, round_bound}
+use Rattle.nm_set.specs.Rounds.{Inserts}
+use Rattle.nm_set.proofs.Managing.{inserts_at_once, inserts_manage}
 use Rattle.nm_set.proofs.member.Member.insert_untidy.Goals as goal
 
-pub returns-in-Err-clause-did : goal.returns-in-Err-clause-did
-returns-in-Err-clause-did c =
+pub returns-in-Ok-clause-says : goal.returns-in-Ok-clause-says
+returns-in-Ok-clause-says c =
     let b = c.args.self.now.tree in
     let h = c.args.options.now in
     let k = c.args.key in
-    not_tidied (λ x y told. InsertsTended b h k x y (Err (inserting.Other c.in-Err.fault))) b h Insert k c.args.self.now.worker c.make_tidy.new.self.worker c.in-Err.fault (λ pending is. inl (pending, ap (λ (f : Fault). Err f) is)) c.in-Err.ensures.did
-
-pub returns-in-Ok-clause-did : goal.returns-in-Ok-clause-did
-returns-in-Ok-clause-did c =
-    let b = c.args.self.now.tree in
-    let h = c.args.options.now in
-    let k = c.args.key in
+    let w = c.args.self.now.worker in
     let y = c.make_tidy.new.self.worker in
-    let z = c.try_insert.new.self.worker in
-    let did = subst (λ (d : TreeView). Asked (LeavesInsert d.layout h.tries k) y z (Ok c.in-Ok.answer)) c.make_tidy.ensures.tree c.in-Ok.ensures.did in
-    inserts_tend b h k c.args.self.now.worker y z (Ok c.in-Ok.answer) c.in_default.ensures.did (insert_answered b h k y z c.in-Ok.answer did)
+    let z = c.ask.new.self.worker in
+    let ready = c.in_default.ensures.ready in
+    let a = subst (λ (d : TreeView). Answers Insert k (round_bound h.tries d.layout) h.tries y z (Ok c.in-Ok.answer)) c.make_tidy.ensures.tree c.in-Ok.ensures.says in
+    inserts_manage b h k (h.rounds + 2) w y z (Ok c.in-Ok.answer) (omega arith) ready.onward (ready.prepares Insert) (inserts_at_once b h k y z c.in-Ok.answer a)
 
-pub returns-in-Err-try_insert-clause-did : goal.returns-in-Err-try_insert-clause-did
-returns-in-Err-try_insert-clause-did c =
+pub returns-in-Err-ask-clause-says : goal.returns-in-Err-ask-clause-says
+returns-in-Err-ask-clause-says c =
     let b = c.args.self.now.tree in
     let h = c.args.options.now in
     let k = c.args.key in
+    let w = c.args.self.now.worker in
     let y = c.make_tidy.new.self.worker in
-    let m = c.try_insert.new.self.worker in
+    let x = c.ask.new.self.worker in
     let z = c.retry_insert.new.self.worker in
-    let same = c.make_tidy.ensures.tree in
-    let P : TreeView → Type 0 = λ d. Asked (LeavesInsert d.layout h.tries k) y m (Err c.in-Err-try_insert.fault) → RetriesInsert d h k y z c.retry_insert.result in
-    let first = subst (λ (d : TreeView). Asked (LeavesInsert d.layout h.tries k) y m (Err c.in-Err-try_insert.fault)) same c.in-Err-try_insert.ensures.did in
-    inserts_tend b h k c.args.self.now.worker y z c.retry_insert.result c.in_default.ensures.did (subst P (c.try_insert.ensures.tree ∙ same) (c.retry_insert.ensures.did y) first)
+    let r = c.retry_insert.result in
+    let ready = c.in_default.ensures.ready in
+    let P : TreeView → Type 0 = λ d. (v : WorkerView) → Answers Insert k (round_bound h.tries d.layout) h.tries v x (Err c.in-Err-ask.fault) → Inserts d h k v z r in
+    let a = subst (λ (d : TreeView). Answers Insert k (round_bound h.tries d.layout) h.tries y x (Err c.in-Err-ask.fault)) c.make_tidy.ensures.tree c.in-Err-ask.ensures.says in
+    inserts_manage b h k (h.rounds + 2) w y z r (omega arith) ready.onward (ready.prepares Insert) (subst P (c.ask.ensures.tree ∙ c.make_tidy.ensures.tree) c.retry_insert.ensures.says y a)

@@ -1,35 +1,52 @@
-use Rattle.std.proofs.Common.{inr, ℕ, Bool, refl, subst}
-use Rattle.std.specs.Prelude.{Option, Ok, Err}
+use Rattle.std.proofs.Common.{ℕ, Bool, subst}
+use Rattle.std.specs.Prelude.{Option, Some, None, Ok, Err}
 use Rattle.std.proofs.lemmas.Result.{err_from_is_err_and}
+use Rattle.nm_model.specs.declared.event.Op.TheVariants.{Delete}
 use Rattle.nm_steps.specs.Steps.{TreeView}
-use Rattle.nm_set.specs.Popping.{AskedForEnd}
-use Rattle.nm_set.specs.Tended.{TendsDelete}
+use Rattle.nm_tree.specs.Popping.{Finds}
+use Rattle.nm_set.specs.Managed.{SaysManaged}
+use Rattle.nm_set.proofs.PopRounds.{pops_key, pops_late, pops_none, pops_not_found, pops_not_removed}
 use Rattle.nm_set.proofs.member.Member.pop_once.Goals as goal
 
-pub returns-in_err-remove-clause-did : goal.returns-in_err-remove-clause-did
-returns-in_err-remove-clause-did c =
+pub returns-in_err-key-clause-says : goal.returns-in_err-key-clause-says
+returns-in_err-key-clause-says c =
+    let p = err_from_is_err_and c.from_residual.result c.from_residual.ensures.1 in
+    rw (p.1, p.2) (pops_not_found c.args.end c.args.self.now.tree c.args.options.now c.args.self.now.worker c.requires.none c.key_at.new.self.worker c.in_err-key.field-0.0 c.in_err-key.ensures.says)
+
+pub returns-in_default-clause-says : goal.returns-in_default-clause-says
+returns-in_default-clause-says c =
     let w = c.args.self.now.worker in
     let x = c.key_at.new.self.worker in
+    let found = subst (λ (f : Option ℕ). Finds c.args.end c.args.self.now.tree.layout c.args.options.now.tries w x (Ok f)) c.in_default.is c.in_ok-key.ensures.says in
+    pops_none c.args.end c.args.self.now.tree c.args.options.now w c.requires.none x found
+
+pub returns-in_err-remove-clause-says : goal.returns-in_err-remove-clause-says
+returns-in_err-remove-clause-says c =
+    let w = c.args.self.now.worker in
+    let x = c.key_at.new.self.worker in
+    let z = c.remove.new.self.worker in
     let h = c.args.options.now in
-    let found = subst (λ (f : Option ℕ). AskedForEnd c.args.end c.args.self.now.tree.layout h.tries w x (Ok f)) c.in-Some.is c.in_ok-key.ensures.did in
-    let did = subst (λ (b : TreeView). TendsDelete b h c.in-Some.key x c.remove.new.self.worker (Err c.in_err-remove.field-0.0)) c.key_at.ensures.tree c.in_err-remove.ensures.did in
+    let found = subst (λ (f : Option ℕ). Finds c.args.end c.args.self.now.tree.layout h.tries w x (Ok f)) c.in-Some.is c.in_ok-key.ensures.says in
+    let did = subst (λ (b : TreeView). SaysManaged Delete b h c.in-Some.key x z (Err c.in_err-remove.field-0.0)) c.key_at.ensures.tree c.in_err-remove.ensures.says in
     let p = err_from_is_err_and c.from_residual-in_err-remove.result c.from_residual-in_err-remove.ensures.1 in
-    rw (p.1, p.2) (inr (x, c.in-Some.key, Err c.in_err-remove.field-0.0, found, did, refl))
+    rw (p.1, p.2) (pops_not_removed c.args.end c.args.self.now.tree h w c.requires.none x z c.in-Some.key found c.in_err-remove.field-0.0 did)
 
-pub returns-then-branch-clause-did : goal.returns-then-branch-clause-did
-returns-then-branch-clause-did c =
+pub returns-then-branch-clause-says : goal.returns-then-branch-clause-says
+returns-then-branch-clause-says c =
     let w = c.args.self.now.worker in
     let x = c.key_at.new.self.worker in
+    let z = c.remove.new.self.worker in
     let h = c.args.options.now in
-    let found = subst (λ (f : Option ℕ). AskedForEnd c.args.end c.args.self.now.tree.layout h.tries w x (Ok f)) c.in-Some.is c.in_ok-key.ensures.did in
-    let told = subst (λ (answer : Bool). TendsDelete c.key_at.new.self.tree h c.in-Some.key x c.remove.new.self.worker (Ok answer)) c.if-branch.true c.in_ok-remove.ensures.did in
-    (x, found, subst (λ (b : TreeView). TendsDelete b h c.in-Some.key x c.remove.new.self.worker _) c.key_at.ensures.tree told)
+    let found = subst (λ (f : Option ℕ). Finds c.args.end c.args.self.now.tree.layout h.tries w x (Ok f)) c.in-Some.is c.in_ok-key.ensures.says in
+    let told = subst (λ (answer : Bool). SaysManaged Delete c.key_at.new.self.tree h c.in-Some.key x z (Ok answer)) c.if-branch.true c.in_ok-remove.ensures.says in
+    pops_key c.args.end c.args.self.now.tree h w c.requires.none x z c.in-Some.key found (subst (λ (b : TreeView). SaysManaged Delete b h c.in-Some.key x z _) c.key_at.ensures.tree told)
 
-pub returns-else-branch-clause-did : goal.returns-else-branch-clause-did
-returns-else-branch-clause-did c =
+pub returns-else-branch-clause-says : goal.returns-else-branch-clause-says
+returns-else-branch-clause-says c =
     let w = c.args.self.now.worker in
     let x = c.key_at.new.self.worker in
+    let z = c.remove.new.self.worker in
     let h = c.args.options.now in
-    let found = subst (λ (f : Option ℕ). AskedForEnd c.args.end c.args.self.now.tree.layout h.tries w x (Ok f)) c.in-Some.is c.in_ok-key.ensures.did in
-    let told = subst (λ (answer : Bool). TendsDelete c.key_at.new.self.tree h c.in-Some.key x c.remove.new.self.worker (Ok answer)) c.if-branch.false c.in_ok-remove.ensures.did in
-    inr (x, c.in-Some.key, _, found, subst (λ (b : TreeView). TendsDelete b h c.in-Some.key x c.remove.new.self.worker _) c.key_at.ensures.tree told, refl)
+    let found = subst (λ (f : Option ℕ). Finds c.args.end c.args.self.now.tree.layout h.tries w x (Ok f)) c.in-Some.is c.in_ok-key.ensures.says in
+    let told = subst (λ (answer : Bool). SaysManaged Delete c.key_at.new.self.tree h c.in-Some.key x z (Ok answer)) c.if-branch.false c.in_ok-remove.ensures.says in
+    pops_late c.args.end c.args.self.now.tree h w c.requires.none x z c.in-Some.key found (subst (λ (b : TreeView). SaysManaged Delete b h c.in-Some.key x z _) c.key_at.ensures.tree told)

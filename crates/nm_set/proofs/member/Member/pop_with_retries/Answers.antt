@@ -1,36 +1,58 @@
-use Rattle.std.proofs.Common.{◌≡◌, ◌∙◌, ◌+◌, ℕ, suc, refl, subst, arith}
+use Rattle.std.proofs.Common.{◌≡◌, ◌∙◌, ◌+◌, ◌*◌, ℕ, refl, subst, arith}
 use Rattle.std.specs.Prelude.{Option, Result}
 use Rattle.nm_steps.specs.Steps.{TreeView}
-use Rattle.nm_set.specs.declared.fault.Fault.{Fault}
-use Rattle.nm_tree.specs.Workers.{WorkerView}
-use Rattle.nm_set.specs.Popping.{PopsOnce, pop_busy}
-use Rattle.nm_set.specs.Tended.{InARow}
-use Rattle.nm_set.proofs.Tending.{retried_till}
+use Rattle.nm_calls.specs.declared.fault.CallFault.{CallFault}
+use Rattle.nm_tree.specs.Popping.{comes_before}
+use Rattle.nm_set.specs.Popping.{Pops, pop_round_bound}
+use Rattle.nm_set.proofs.PopRounds.{last_round, no_round_yet, one_round_more}
 use Rattle.nm_set.proofs.member.Member.pop_with_retries.Goals as goal
+
+pub pop_once-told-requires-clause-free : goal.pop_once-told-requires-clause-free
+pop_once-told-requires-clause-free c = c.loop-round.invariant.onward.on.held
+
+pub pop_once-told-requires-clause-none : goal.pop_once-told-requires-clause-none
+pop_once-told-requires-clause-none c = c.loop-round.invariant.onward.none
+
+pub pop_once-requires-clause-free : goal.pop_once-requires-clause-free
+pop_once-requires-clause-free c = c.loop-round.invariant.onward.on.held
+
+pub pop_once-requires-clause-none : goal.pop_once-requires-clause-none
+pop_once-requires-clause-none c = c.loop-round.invariant.onward.none
+
+pub loop-round-init : goal.loop-round-init
+loop-round-init c = record { tree = refl; onward = no_round_yet (comes_before c.args.end) (pop_round_bound c.args.options.now c.args.self.now.tree.layout) c.args.self.now.worker c.requires.none c.requires.free }
 
 pub loop-round-preserved : goal.loop-round-preserved
 loop-round-preserved c =
-    let P : TreeView → Type 0 = λ b. PopsOnce c.args.end b c.args.options.now c.loop-round.self.worker c.pop_once-told.new.self.worker c.pop_once-told.result in
-    let R : Result (Option ℕ) Fault → Type 0 = λ r. PopsOnce c.args.end c.args.self.now.tree c.args.options.now c.loop-round.self.worker c.pop_once-told.new.self.worker r in
-    let step : WorkerView → WorkerView → Type 0 = λ x y. PopsOnce c.args.end c.args.self.now.tree c.args.options.now x y pop_busy in
-    let did = subst R (c.if-not-is_busy.ensures.yes refl) (subst P c.loop-round.invariant.tree c.pop_once-told.ensures.did) in
-    let row : InARow step (suc c.loop-round._round) c.args.self.now.worker c.pop_once-told.new.self.worker = (c.loop-round.self.worker, c.loop-round.invariant.each, did) in
-    let more : suc c.loop-round._round ≡ c.loop-round._round + 1 = omega arith in
+    let at = c.loop-round in
+    let h = c.args.options.now in
+    let Before = comes_before c.args.end in
+    let most = pop_round_bound h c.args.self.now.tree.layout in
+    let P : TreeView → Type 0 = λ b. Pops Before (pop_round_bound h b.layout) at.self.worker c.pop_once-told.new.self.worker c.pop_once-told.result in
+    let R : Result (Option ℕ) CallFault → Type 0 = λ r. Pops Before most at.self.worker c.pop_once-told.new.self.worker r in
+    let last = subst R (c.if-not-is_busy.ensures.yes refl) (subst P at.invariant.tree c.pop_once-told.ensures.says) in
     record {
-      tree = c.pop_once-told.ensures.tree ∙ c.loop-round.invariant.tree;
-      each = subst (λ (n : ℕ). InARow step n c.args.self.now.worker c.pop_once-told.new.self.worker) more row;
+      tree = c.pop_once-told.ensures.tree ∙ at.invariant.tree;
+      onward = one_round_more Before most at._round c.args.self.now.worker at.self.worker c.pop_once-told.new.self.worker at.invariant.onward last;
     }
 
-pub returns-then-not-is_busy-clause-did : goal.returns-then-not-is_busy-clause-did
-returns-then-not-is_busy-clause-did c =
+pub returns-then-not-is_busy-clause-says : goal.returns-then-not-is_busy-clause-says
+returns-then-not-is_busy-clause-says c =
     let at = c.loop-round in
-    retried_till (λ b. PopsOnce c.args.end b c.args.options.now) c.args.self.now.tree at.self.tree pop_busy c.args.options.now.rounds at._round c.args.self.now.worker at.self.worker c.pop_once-told.new.self.worker c.pop_once-told.result
-    at.invariant.each at.invariant.tree c.pop_once-told.ensures.did (omega (arith, c.loop-round-test.true)) (λ told. absurd (c.if-not-is_busy.ensures.no refl told))
+    let h = c.args.options.now in
+    let Before = comes_before c.args.end in
+    let z = c.pop_once-told.new.self.worker in
+    let r = c.pop_once-told.result in
+    let P : TreeView → Type 0 = λ b. Pops Before (pop_round_bound h b.layout) at.self.worker z r in
+    last_round Before (pop_round_bound h c.args.self.now.tree.layout) at._round (h.rounds + 1) c.args.self.now.worker at.self.worker z r (omega (arith, c.loop-round-test.true)) at.invariant.onward (subst P at.invariant.tree c.pop_once-told.ensures.says)
 
-pub returns-clause-did : goal.returns-clause-did
-returns-clause-did c =
+pub returns-clause-says : goal.returns-clause-says
+returns-clause-says c =
     let at = c.loop-round in
-    let past = c.loop-round-test.false in
+    let h = c.args.options.now in
     let within = at.auto._round-end in
-    retried_till (λ b. PopsOnce c.args.end b c.args.options.now) c.args.self.now.tree at.self.tree pop_busy c.args.options.now.rounds at._round c.args.self.now.worker at.self.worker c.pop_once.new.self.worker c.pop_once.result
-    at.invariant.each at.invariant.tree c.pop_once.ensures.did within (λ told. omega (arith, past, within))
+    let Before = comes_before c.args.end in
+    let z = c.pop_once.new.self.worker in
+    let r = c.pop_once.result in
+    let P : TreeView → Type 0 = λ b. Pops Before (pop_round_bound h b.layout) at.self.worker z r in
+    last_round Before (pop_round_bound h c.args.self.now.tree.layout) at._round (h.rounds + 1) c.args.self.now.worker at.self.worker z r (omega (arith, within)) at.invariant.onward (subst P at.invariant.tree c.pop_once.ensures.says)

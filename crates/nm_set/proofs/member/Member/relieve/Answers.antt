@@ -2,8 +2,8 @@ use Rattle.std.proofs.Common.{◌∙◌, subst, sym, arith}
 use Rattle.std.specs.Prelude.{Option, ℕ}
 use Rattle.nm_steps.specs.Steps.{TreeView}
 use Rattle.nm_tree.specs.Calls.{LeavesAdvance, LeavesCollect}
-use Rattle.nm_set.specs.Tended.{FindsBehind, IsRelieved}
-use Rattle.nm_set.proofs.Emptied.{AreSeen, finds_behind}
+use Rattle.nm_set.specs.Rounds.{IsRelieved}
+use Rattle.nm_set.proofs.Emptied.{AreSeen, Relieves, is_relieved}
 use Rattle.nm_set.proofs.member.Member.relieve.Goals as goal
 
 pub returns-clause-did : goal.returns-clause-did
@@ -13,12 +13,12 @@ returns-clause-did c =
     let once = c.advance-first.new.self.worker in
     let twice = c.advance-second.new.self.worker in
     let z = c.collect.new.self.worker in
-    let again = subst (λ (d : TreeView). LeavesAdvance d.layout.workers once twice c.advance-second.result) c.advance-first.ensures.tree c.advance-second.ensures.did in
-    let collects = subst (λ (d : TreeView). LeavesCollect d.layout.nodes twice z c.collect.result) (c.advance-second.ensures.tree ∙ c.advance-first.ensures.tree) c.collect.ensures.did in
-    let r : IsRelieved b w z = record {
+    let again = subst (λ (d : TreeView). LeavesAdvance d.layout.workers once twice c.advance-second.result) c.advance-first.ensures.tree c.advance-second.ensures.says in
+    let collects = subst (λ (d : TreeView). LeavesCollect d.layout.nodes twice z c.collect.result) (c.advance-second.ensures.tree ∙ c.advance-first.ensures.tree) c.collect.ensures.says in
+    let r : Relieves b w z = record {
       moved = c.advance-first.result;
       once = once;
-      moves = c.advance-first.ensures.did;
+      moves = c.advance-first.ensures.says;
       moved_again = c.advance-second.result;
       twice = twice;
       moves_again = again;
@@ -34,4 +34,4 @@ returns-clause-did c =
       between = c.know_run.ensures.between;
       between_again = c.know_run-2.ensures.between;
     } in
-    subst (λ (behind : Option ℕ). FindsBehind b w z behind) (sym c.behind_of.ensures) (finds_behind b w z r seen)
+    subst (λ (behind : Option ℕ). IsRelieved b.layout w z behind) (sym c.behind_of.ensures) (is_relieved b w z r seen c.requires.none c.requires.free)

@@ -1,43 +1,35 @@
-use Rattle.std.proofs.Common.{◌∙◌, inl, ap, subst}
-use Rattle.std.specs.Prelude.{Ok, Err}
-use Rattle.std.proofs.lemmas.Result.{err_from_is_err_and}
+use Rattle.std.proofs.Common.{◌≡◌, ◌∙◌, ◌+◌, ◌*◌, Bool, subst, arith}
+use Rattle.std.specs.Prelude.{None, Result, Ok, Err}
 use Rattle.nm_model.specs.declared.event.Op.TheVariants.{Delete}
 use Rattle.nm_steps.specs.Steps.{TreeView}
-use Rattle.nm_tree.specs.Calls.{LeavesDelete}
-use Rattle.nm_set.specs.declared.fault.Fault.{Fault}
-use Rattle.nm_set.specs.Asked.{Asked}
-use Rattle.nm_set.specs.Tended.{RemovesTended, RetriesDelete}
-use Rattle.nm_set.proofs.Tending.{not_tidied, delete_answered, deletes_tend}
+use Rattle.nm_tree.specs.Workers.{IsIdle, WorkerView}
+use Rattle.nm_set.specs.Managed.{Answers, round_bound}
+use Rattle.nm_set.specs.Rounds.{rounds_bound}
+use Rattle.nm_set.proofs.Managing.{answered, removes_after, removes_plain}
 use Rattle.nm_set.proofs.member.Member.remove_untidy.Goals as goal
 
-pub returns-in_err-make_tidy-clause-did : goal.returns-in_err-make_tidy-clause-did
-returns-in_err-make_tidy-clause-did c =
+pub returns-in-Ok-clause-says : goal.returns-in-Ok-clause-says
+returns-in-Ok-clause-says c =
     let b = c.args.self.now.tree in
     let h = c.args.options.now in
     let k = c.args.key in
-    let why = c.in_err-make_tidy.field-0.0 in
-    let p = err_from_is_err_and c.from_residual.result c.from_residual.ensures.1 in
-    rw (p.1, p.2) (not_tidied (RemovesTended b h k) b h Delete k c.args.self.now.worker c.make_tidy.new.self.worker why (λ pending is. inl (pending, ap (λ (f : Fault). Err f) is)) c.in_err-make_tidy.ensures.did)
-
-pub returns-in-Ok-clause-did : goal.returns-in-Ok-clause-did
-returns-in-Ok-clause-did c =
-    let b = c.args.self.now.tree in
-    let h = c.args.options.now in
-    let k = c.args.key in
+    let w = c.args.self.now.worker in
     let y = c.make_tidy.new.self.worker in
-    let z = c.try_remove.new.self.worker in
-    let did = subst (λ (d : TreeView). Asked (LeavesDelete d.layout h.tries k) y z (Ok c.in-Ok.answer)) c.make_tidy.ensures.tree c.in-Ok.ensures.did in
-    deletes_tend b h k c.args.self.now.worker y z (Ok c.in-Ok.answer) c.in_ok-make_tidy.ensures.did c.know_run.ensures.idle (delete_answered b h k y z c.in-Ok.answer did)
+    let z = c.ask.new.self.worker in
+    let a = subst (λ (d : TreeView). Answers Delete k (round_bound h.tries d.layout) h.tries y z (Ok c.in-Ok.answer)) c.make_tidy.ensures.tree c.in-Ok.ensures.says in
+    removes_after b h k w y z (Ok c.in-Ok.answer) c.in_ok-make_tidy.ensures.ready (removes_plain b h k y z (Ok c.in-Ok.answer) (answered b h Delete k y z c.in-Ok.answer a))
 
-pub returns-in-Err-clause-did : goal.returns-in-Err-clause-did
-returns-in-Err-clause-did c =
+pub returns-in-Err-clause-says : goal.returns-in-Err-clause-says
+returns-in-Err-clause-says c =
     let b = c.args.self.now.tree in
     let h = c.args.options.now in
     let k = c.args.key in
+    let w = c.args.self.now.worker in
     let y = c.make_tidy.new.self.worker in
-    let m = c.try_remove.new.self.worker in
+    let x = c.ask.new.self.worker in
     let z = c.retry_remove.new.self.worker in
-    let same = c.make_tidy.ensures.tree in
-    let P : TreeView → Type 0 = λ d. Asked (LeavesDelete d.layout h.tries k) y m (Err c.in-Err.fault) → RetriesDelete d h k y z c.retry_remove.result in
-    let first = subst (λ (d : TreeView). Asked (LeavesDelete d.layout h.tries k) y m (Err c.in-Err.fault)) same c.in-Err.ensures.did in
-    deletes_tend b h k c.args.self.now.worker y z c.retry_remove.result c.in_ok-make_tidy.ensures.did c.know_run.ensures.idle (subst P (c.try_remove.ensures.tree ∙ same) (c.retry_remove.ensures.did y) first)
+    let r = c.retry_remove.result in
+    let ready = c.in_ok-make_tidy.ensures.ready in
+    let P : TreeView → Type 0 = λ d. (v : WorkerView) → IsIdle v → v.pending ≡ None → Answers Delete k (round_bound h.tries d.layout) h.tries v x (Err c.in-Err.fault) → Answers Delete k (rounds_bound d h (2 * h.rounds + 2)) ((h.rounds + 1) * h.tries) v z r in
+    let a = subst (λ (d : TreeView). Answers Delete k (round_bound h.tries d.layout) h.tries y x (Err c.in-Err.fault)) c.make_tidy.ensures.tree c.in-Err.ensures.says in
+    removes_after b h k w y z r ready (subst P (c.ask.ensures.tree ∙ c.make_tidy.ensures.tree) c.retry_remove.ensures.says y c.know_run.ensures.idle ready.onward.none a)

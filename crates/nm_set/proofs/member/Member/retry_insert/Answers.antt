@@ -1,12 +1,22 @@
-use Rattle.std.proofs.Common.{◌∙◌, inl, inr, refl, subst}
-use Rattle.std.specs.Prelude.{◌≡◌, ℕ}
+use Rattle.std.proofs.Common.{◌≡◌, ◌∙◌, ◌+◌, ℕ, Bool, refl, sym, subst}
+use Rattle.std.specs.Prelude.{Result, Err}
+use Rattle.nm_model.specs.declared.event.Op.TheVariants.{Insert}
 use Rattle.nm_steps.specs.Steps.{TreeView}
-use Rattle.nm_tree.specs.Calls.{LeavesInsert}
-use Rattle.nm_set.specs.Tended.{FindsBehind, Retries, with_fullness}
+use Rattle.nm_calls.specs.declared.fault.CallFault.{CallFault}
+use Rattle.nm_set.specs.declared.fault.InsertFault.{InsertFault}
+use Rattle.nm_set.specs.Rounds.{AnswersIn, Inserts, IsRelieved, with_fullness}
+use Rattle.nm_set.proofs.Managing.{inserts_again, inserts_plain}
 use Rattle.nm_set.proofs.member.Member.retry_insert.Goals as goal
 
-pub returns-clause-did : goal.returns-clause-did
-returns-clause-did c =
+pub returns-then-not-is_full-clause-says : goal.returns-then-not-is_full-clause-says
+returns-then-not-is_full-clause-says c = λ w first.
+    let b = c.args.self.now.tree in
+    let h = c.args.options.now in
+    let z = c.retry-told.new.self.worker in
+    subst (Inserts b h c.args.key w z) (sym c.plain.ensures) (inserts_plain b h c.args.key w z c.retry-told.result (c.if-not-is_full.ensures.no refl) (c.retry-told.ensures.says w first))
+
+pub returns-clause-says : goal.returns-clause-says
+returns-clause-says c = λ w first.
     let b = c.args.self.now.tree in
     let h = c.args.options.now in
     let k = c.args.key in
@@ -16,10 +26,8 @@ returns-clause-did c =
     let behind = c.relieve-behind.result in
     let told = c.ask_with_retries-told.result in
     let same : c.retry-told.new.self.tree ≡ b = c.retry-told.ensures.tree in
-    let found = subst (λ (d : TreeView). FindsBehind d x y behind) same c.relieve-behind.ensures.did in
-    let once_more = subst (λ (d : TreeView). Retries LeavesInsert d h k y z told) (c.relieve-behind.ensures.tree ∙ same) c.ask_with_retries-told.ensures.did in
+    let full = subst (λ (r : Result Bool CallFault). AnswersIn b h Insert k (h.rounds + 1) w x r) (c.if-not-is_full.ensures.yes refl) (c.retry-told.ensures.says w first) in
+    let relieved = subst (λ (d : TreeView). IsRelieved d.layout x y behind) same c.relieve-behind.ensures.did in
+    let last = subst (λ (d : TreeView). AnswersIn d h Insert k (h.rounds + 1) y z told) (c.relieve-behind.ensures.tree ∙ same) c.ask_with_retries-told.ensures.says in
     let is = subst (λ (n : ℕ). c.with_fullness.result ≡ with_fullness behind n told) c.queue_len.ensures c.with_fullness.ensures in
-    λ w first. inr (x, y, behind, told, subst (Retries LeavesInsert b h k w x) (c.if-not-is_full.ensures.yes refl) (c.retry-told.ensures.did w first), found, once_more, is)
-
-pub returns-then-not-is_full-clause-did : goal.returns-then-not-is_full-clause-did
-returns-then-not-is_full-clause-did c = λ w first. inl (c.retry-told.result, c.retry-told.ensures.did w first, c.if-not-is_full.ensures.no refl, c.plain.ensures)
+    subst (Inserts b h k w z) (sym is) (inserts_again b h k w x y z behind told full relieved last)

@@ -1,22 +1,23 @@
-use Rattle.std.proofs.Common.{inr, refl, subst}
-use Rattle.std.specs.Prelude.{Ok, Err}
+use Rattle.std.proofs.Common.{◌≡◌, ◌+◌, Bool, refl, subst}
+use Rattle.std.specs.Prelude.{Result, Err}
+use Rattle.nm_model.specs.declared.event.Op.TheVariants.{Delete}
 use Rattle.nm_steps.specs.Steps.{TreeView}
-use Rattle.nm_tree.specs.Calls.{LeavesDelete}
-use Rattle.nm_set.specs.Tended.{FinishesPending, Retries}
+use Rattle.nm_calls.specs.declared.fault.CallFault.{CallFault}
+use Rattle.nm_set.specs.Rounds.{AnswersIn, FinishesIn}
+use Rattle.nm_set.proofs.Managing.{removes_at_last, removes_plain}
 use Rattle.nm_set.proofs.member.Member.retry_remove.Goals as goal
 
-pub returns-in-Ok-clause-did : goal.returns-in-Ok-clause-did
-returns-in-Ok-clause-did c =
-    let h = c.args.options.now in
-    let x = c.retry-told.new.self.worker in
-    let z = c.finish_with_retries.new.self.worker in
-    let rest = subst (λ (d : TreeView). FinishesPending d h x z (Ok c.in-Ok.answer)) c.retry-told.ensures.tree c.in-Ok.ensures.did in
-    λ w first. inr (x, Ok c.in-Ok.answer, subst (Retries LeavesDelete c.args.self.now.tree h c.args.key w x) (c.if-not-is_unfinished.ensures.yes refl) (c.retry-told.ensures.did w first), rest, refl)
+pub returns-then-not-is_unfinished-clause-says : goal.returns-then-not-is_unfinished-clause-says
+returns-then-not-is_unfinished-clause-says c = λ w idle none first.
+    removes_plain c.args.self.now.tree c.args.options.now c.args.key w c.retry-told.new.self.worker c.retry-told.result (c.retry-told.ensures.says w first)
 
-pub returns-in-Err-clause-did : goal.returns-in-Err-clause-did
-returns-in-Err-clause-did c =
+pub returns-clause-says : goal.returns-clause-says
+returns-clause-says c = λ w idle none first.
+    let b = c.args.self.now.tree in
     let h = c.args.options.now in
+    let k = c.args.key in
     let x = c.retry-told.new.self.worker in
     let z = c.finish_with_retries.new.self.worker in
-    let rest = subst (λ (d : TreeView). FinishesPending d h x z (Err c.in-Err.fault)) c.retry-told.ensures.tree c.in-Err.ensures.did in
-    λ w first. inr (x, Err c.in-Err.fault, subst (Retries LeavesDelete c.args.self.now.tree h c.args.key w x) (c.if-not-is_unfinished.ensures.yes refl) (c.retry-told.ensures.did w first), rest, refl)
+    let r = c.finish_with_retries.result in
+    let flagged = subst (λ (q : Result Bool CallFault). AnswersIn b h Delete k (h.rounds + 1) w x q) (c.if-not-is_unfinished.ensures.yes refl) (c.retry-told.ensures.says w first) in
+    removes_at_last b h k w x z idle none flagged r (subst (λ (d : TreeView). FinishesIn d h (h.rounds + 1) x z r) c.retry-told.ensures.tree c.finish_with_retries.ensures.says)

@@ -1,6 +1,6 @@
 use Rattle.std.proofs.Common.{◌≡◌, ◌+◌}
 use Rattle.nm_edge.specs.Layouts.{IsLayout}
-use Rattle.nm_words.specs.Packing.{words_of}
+use Rattle.nm_steps.specs.Packing.{words_of}
 use Rattle.nm_steps.proofs.OpeningWords.{given_below}
 use Rattle.nm_steps.proofs.pass.making.fill_pool.Given as goal
 

@@ -9,7 +9,7 @@ use Rattle.nm_tree.proofs.Interfered.{delete_interfered, delete_lost, delete_alo
 use Rattle.nm_tree.proofs.Changing.{kept_there, changed, others_kept}
 use Rattle.nm_calls.specs.declared.deleting.Missed.{Missed}
 use Rattle.nm_calls.specs.Deletes.{DeleteDid, LacksRoomOr, LosesAfterFlag}
-use Rattle.nm_tree.specs.declared.fault.CallFault.TheVariants as fault
+use Rattle.nm_calls.specs.declared.fault.CallFault.TheVariants as fault
 use Rattle.nm_tree.proofs.Telling.{deleted_so}
 use Rattle.nm_tree.proofs.Untouched.{delete_pending}
 use Rattle.nm_tree.proofs.tree.Tree.delete.Goals as goal

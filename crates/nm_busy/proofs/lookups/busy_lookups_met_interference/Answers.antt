@@ -1,5 +1,0 @@
-use Rattle.nm_busy.proofs.LostLookups.{busy_lookups_met_interference as proof}
-use Rattle.nm_busy.proofs.lookups.busy_lookups_met_interference.Goals as goal
-
-pub returns : goal.returns
-returns c = proof

@@ -1,5 +1,0 @@
-use Rattle.nm_files.proofs.SpellingLemmas.{number_is_decimal}
-use Rattle.nm_files.proofs.field.one_spelling.Goals as goal
-
-pub returns : goal.returns
-returns c = number_is_decimal

@@ -1,5 +1,0 @@
-use Rattle.nm_pass_tests.specs.Plays.{IsAtRest}
-use Rattle.nm_pass_tests.proofs.reports.inserted.Given as goal
-
-abbrev pub invariant-loop-number : goal.invariant-loop-number
-invariant-loop-number g l = IsAtRest l.fn.shared l.one.pass l.one.held

@@ -1,6 +1,0 @@
-use Rattle.std.proofs.Common.{◌≡◌, ◌++◌, drop}
-use Rattle.nm_print.specs.Replies.{spaced_nodes}
-use Rattle.nm_print.proofs.reply.put_spaced_nodes.Given as goal
-
-abbrev pub invariant-loop-node : goal.invariant-loop-node
-invariant-loop-node l = l.out.items ++ spaced_nodes (drop l.node-index l.nodes) ≡ l.fn.out.items ++ spaced_nodes l.nodes

@@ -1,5 +1,0 @@
-//! Writes replies and states as text.
-#![tactic(auto)]
-
-pub mod last_lines;
-pub mod reply;

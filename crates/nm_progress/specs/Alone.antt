@@ -1,0 +1,56 @@
+-- Calls during which no other worker makes a turn.
+use Rattle.std.specs.Prelude.{◌≡◌, ℕ, ◌≤◌, List, ◌++◌, All, Err}
+use Rattle.nm_model.specs.declared.trace.Turn.{Turn}
+use Rattle.nm_edge.specs.declared.edge.Side.{Side}
+use Rattle.nm_edge.specs.declared.placement.Fit.{Fit}
+use Rattle.nm_steps.specs.Steps.{PassView, IsSamePass, HasSeenAllOf, HasSeen}
+use Rattle.nm_calls.specs.declared.fault.CallFault.TheVariants as fault
+use Rattle.nm_calls.specs.declared.deleting.Missed.TheVariants as missed
+use Rattle.nm_calls.specs.Calls.{HasMissed}
+use Rattle.nm_calls.specs.Deletes.{DeleteDid}
+use Rattle.nm_calls.specs.InTurns.{GiveUp as GiveUpInTurns}
+use Rattle.nm_calls.specs.Inserts.{InsertDid}
+use Rattle.nm_calls.specs.NearKeys.{GiveUp as GiveUpNear}
+use Rattle.nm_progress.specs.Pending.{NonePends}
+use Rattle.nm_progress.specs.Walked.{OfEachWalked}
+
+-- the turns that q has seen after those of p are all of its own worker
+pub record IsAlone (p q : PassView) : Type 0 where
+  pub turns : List Turn
+  pub is : q.view.past ≡ p.view.past ++ turns
+  pub own : All (λ t. t.worker ≡ p.view.number) turns
+
+-- a look-up that runs alone and may make a try is answered
+abbrev pub LookupsAloneAreAnswered : Type 0
+LookupsAloneAreAnswered = (k tries : ℕ) (p q : PassView) → HasSeen p.view → HasSeen q.view
+    → 5 ≤ p.view.layout.nodes → IsSamePass p q → HasSeenAllOf q p → IsAlone p q
+    → HasMissed p.view.layout tries k p.view.log q.view.log → tries ≡ 0
+
+-- an insert that runs alone and may make a try is not busy, if no delete was pending before it
+abbrev pub InsertsAloneAreAnswered : Type 0
+InsertsAloneAreAnswered = (fit : Fit) (k tries : ℕ) (p q : PassView) → HasSeen p.view
+    → HasSeen q.view → 5 ≤ p.view.layout.nodes → IsSamePass p q → HasSeenAllOf q p → IsAlone p q
+    → NonePends p.view.layout p.view.past
+    → InsertDid fit p.view.layout tries k p.view.log q.view.log (Err fault.Busy)
+    → tries ≡ 0
+
+-- a delete that runs alone and may make a try is not busy, if no delete was pending before it: it
+-- is answered, or it has flagged its leaf
+abbrev pub DeletesAloneAreNotBusy : Type 0
+DeletesAloneAreNotBusy = (k tries : ℕ) (p q : PassView) → HasSeen p.view
+    → HasSeen q.view → 5 ≤ p.view.layout.nodes → IsSamePass p q → HasSeenAllOf q p → IsAlone p q
+    → NonePends p.view.layout p.view.past
+    → DeleteDid p.view.layout tries k p.view.log q.view.log (Err missed.Busy)
+    → tries ≡ 0
+
+-- a look-up of several keys that runs alone and may make a try is answered, and so is a call for
+-- the next or the previous key that may make two tries
+abbrev pub ManyAloneAreAnswered : Type 0
+ManyAloneAreAnswered = (keys : List ℕ)
+    → OfEachWalked (λ p tries. GiveUpInTurns p.view.layout keys)
+    (λ p q tries. IsAlone p q → tries ≡ 0)
+
+abbrev pub NearAloneAreAnswered : Type 0
+NearAloneAreAnswered = (side : Side) (k : ℕ)
+    → OfEachWalked (λ p tries. GiveUpNear side p.view.layout tries k)
+    (λ p q tries. IsAlone p q → tries ≤ 1)

@@ -1,0 +1,30 @@
+//! Laws of calls that run alone.
+ghost use Rattle.nm_progress.specs.Alone.{DeletesAloneAreNotBusy, InsertsAloneAreAnswered, LookupsAloneAreAnswered, ManyAloneAreAnswered, NearAloneAreAnswered};
+
+/// Law: for every look-up that may make a try, it does not return `Busy` if no other worker makes a
+/// turn (transition) between its begin and its end. (Obstruction freedom: Herlihy, Luchangco and
+/// Moir.)
+pub fn lookups_alone_are_answered()
+    ensures { LookupsAloneAreAnswered }
+{}
+
+/// Law: for every look-up of several keys that may make a try, it does not return `Busy` if no
+/// other worker makes a turn between its begin and its end. The same holds of every call for the
+/// next or the previous key that may make two tries.
+pub fn walks_alone_are_answered()
+    ensures many { ManyAloneAreAnswered }
+    ensures near { NearAloneAreAnswered }
+{}
+
+/// Law: for every insert that may make a try, it does not return `Busy` if no other worker makes a
+/// turn between its begin and its end, and no delete was pending when it began.
+pub fn inserts_alone_are_answered()
+    ensures { InsertsAloneAreAnswered }
+{}
+
+/// Law: for every delete that may make a try, it does not return `Busy` if no other worker makes a
+/// turn between its begin and its end, and no delete was pending when it began. It is answered, or
+/// it has flagged its leaf.
+pub fn deletes_alone_are_not_busy()
+    ensures { DeletesAloneAreNotBusy }
+{}

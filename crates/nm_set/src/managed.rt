@@ -1,0 +1,539 @@
+//! Managed calls: a call that lost its tries is retried, a remove that has begun is finished, and
+//! retired nodes are collected.
+ghost use Rattle.std.specs.Prelude.{◌≡◌, ◌≢◌, ◌≤◌, ◌<◌, ◌+◌, ◌-◌, ◌*◌, true, false, None, IfOk, IfErr, Err};
+ghost use Rattle.nm_model.specs.declared.event.Op.TheVariants.{Has, Insert, Delete};
+ghost use Rattle.nm_calls.specs.declared.fault.CallFault.TheVariants as call;
+ghost use Rattle.nm_tree.specs.Calls.{LeavesHas, LeavesInsert, LeavesDelete};
+ghost use Rattle.nm_tree.specs.Workers.{IsIdle, WorkerView, waiting_in};
+ghost use Rattle.nm_set.specs.declared.fault.Fullness.{Fullness};
+ghost use Rattle.nm_set.specs.Managed.{Answers, Manages, SaysManaged, WasFull, of_insert, round_bound};
+ghost use Rattle.nm_set.specs.Rounds.{AnswersIn, FinishesIn, Inserts, IsReady, IsRelieved, ManagesInsert, found_behind, plain, rounds_bound, with_fullness};
+
+use crate::fault::{Fullness, InsertFault};
+use crate::member::Member;
+use nm_edge::Key;
+use nm_model::Op;
+use nm_tree::{Advance, CallFault};
+
+/// What a managed call may spend, and when it collects. Cost: at most 3 `rounds` + 5 rounds, each
+/// of at most `tries` * (4 `reach` + 512) + 7 `nodes` + 2 `workers` + 12 steps. A walk's reach is
+/// 66 nodes in a radix tree, and the number of nodes otherwise.
+#[repr(C)]
+#[derive(Clone, Copy, Debug, PartialEq, Eq)]
+pub struct Options {
+    /// The tries of each call of the tree. With fewer than 2 no remove returns true at once.
+    pub tries: u32,
+    /// How often a call that lost each of its tries is retried, and how often a remove that has
+    /// begun is continued.
+    pub rounds: u32,
+    /// The number of waiting nodes from which an insert or a remove first advances the epoch and
+    /// collects. While another worker stays pinned, each such call tries it again.
+    pub collect_after: u32,
+}
+
+/// 64 tries, 64 rounds, and a collection from 64 nodes on.
+impl Default for Options {
+    fn default() -> Self {
+        Options {
+            tries: 64,
+            rounds: 64,
+            collect_after: 64,
+        }
+    }
+}
+
+/// Returns whether a call lost each of its tries.
+fn is_busy(told: &Result<bool, CallFault>) -> bool
+    ensures yes { result ≡ true → told.now ≡ Err call.Busy }
+    ensures no { result ≡ false → told.now ≢ Err call.Busy }
+{
+    matches!(told, Err(CallFault::Busy))
+}
+
+/// Returns whether the remove of an earlier call is pending, so that nothing was done.
+fn is_pending(fault: CallFault) -> bool
+    ensures yes { result ≡ true → fault ≡ call.Pending }
+    ensures no { result ≡ false → fault ≢ call.Pending }
+{
+    matches!(fault, CallFault::Pending)
+}
+
+/// Returns whether an insert found no free slot.
+fn is_full(told: &Result<bool, CallFault>) -> bool
+    ensures yes { result ≡ true → told.now ≡ Err call.Full }
+    ensures no { result ≡ false → told.now ≢ Err call.Full }
+{
+    matches!(told, Err(CallFault::Full))
+}
+
+/// Returns whether a remove has flagged its leaf and is not finished.
+fn is_unfinished(told: &Result<bool, CallFault>) -> bool
+    ensures yes { result ≡ true → told.now ≡ Err call.Unfinished }
+    ensures no { result ≡ false → told.now ≢ Err call.Unfinished }
+{
+    matches!(told, Err(CallFault::Unfinished))
+}
+
+/// Returns the worker that was found to hold the epoch back: by the second of two advances, or else
+/// by the first.
+fn behind_of(first: &Advance, second: &Advance) -> Option<u32>
+    ensures { result ≡ found_behind first.now second.now }
+{
+    match (second, first) {
+        (Advance::Held { worker, .. }, _) => Some(*worker),
+        (_, Advance::Held { worker, .. }) => Some(*worker),
+        _ => None,
+    }
+}
+
+/// Converts the result of an insert that is not full.
+fn plain(told: Result<bool, CallFault>) -> Result<bool, InsertFault>
+    ensures { result ≡ plain told }
+{
+    match told {
+        Ok(answer) => Ok(answer),
+        Err(fault) => Err(InsertFault::Other(fault)),
+    }
+}
+
+/// Converts the result of an insert, with what it found if no slot is free.
+fn with_fullness(
+    behind: Option<u32>,
+    waiting: u64,
+    told: Result<bool, CallFault>,
+) -> Result<bool, InsertFault>
+    ensures { result ≡ with_fullness behind waiting told }
+{
+    match told {
+        Ok(answer) => Ok(answer),
+        Err(CallFault::Full) => Err(InsertFault::Full(Fullness { waiting, behind })),
+        Err(fault) => Err(InsertFault::Other(fault)),
+    }
+}
+
+/// Returns the options with one round less.
+fn without_one(options: &Options) -> Options
+    requires { 1 ≤ options.now.rounds }
+    ensures { result ≡ record options.now { rounds = options.now.rounds - 1 } }
+{
+    Options {
+        rounds: options.rounds - 1,
+        ..*options
+    }
+}
+
+impl Member {
+    /// Returns whether the set has the key.
+    ///
+    /// It retries a look-up that lost each of its tries, at most `rounds` times. If the remove of
+    /// an earlier call is pending, it finishes that one first, by at most `rounds` and one calls of
+    /// `finish`. So nothing is pending after an answer, and after `Busy`.
+    ///
+    /// Errors: `Pinned`: the caller has pinned the worker; nothing has changed. `Pending`: the
+    /// earlier remove is not finished, and this call has done nothing else. `Busy`: each look-up
+    /// lost each of its tries, or the options allow none; other workers have advanced the epoch, or
+    /// linked or cut off nodes, at least that often meanwhile.
+    #[inline(always)]
+    pub fn contains(&mut self, key: Key, options: &Options) -> Result<bool, CallFault>
+        ensures tree { self.new.tree ≡ self.old.tree }
+        ensures says { SaysManaged Has self.old.tree options.now key self.old.worker
+            self.new.worker result }
+    {
+        if self.pinned().is_some() {
+            return Err(CallFault::Pinned);
+        }
+        match self
+            .home
+            .tree()
+            .has(&mut self.sealed.worker, key, options.tries)
+        {
+            Ok(answer) => Ok(answer),
+            Err(fault) => self.contains_after(key, options, fault),
+        }
+    }
+
+    /// Inserts `key`; returns true if it was absent.
+    ///
+    /// Like `contains`, it finishes the remove of an earlier call first, and retries an insert that
+    /// lost each of its tries. If `collect_after` nodes or more wait in the queues that the worker
+    /// holds, it first tries twice to advance the epoch, and collects. It does the same if no slot
+    /// was free, and then tries the insert once more. Nothing is pending after an answer, `Busy`,
+    /// `Full` and `NoMemory`.
+    ///
+    /// Errors: `Pinned`, `Pending`, `Busy`: as of `contains`. `Full`: no slot was free for a new
+    /// node, even after the collection. It names the worker that was found to hold the epoch back,
+    /// or says that none was found; then the epoch was advanced twice during the call, or it is the
+    /// last one. It also says how many removed nodes wait when the call ends. (The tree's own `Full`
+    /// is not returned.) `NoMemory`: the memory for a try was refused; of the insert nothing remains
+    /// but help given to others.
+    #[inline(always)]
+    pub fn insert(&mut self, key: Key, options: &Options) -> Result<bool, InsertFault>
+        ensures tree { self.new.tree ≡ self.old.tree }
+        ensures says { SaysManaged Insert self.old.tree options.now key self.old.worker
+            self.new.worker (of_insert result) }
+        ensures full { (f : Fullness) → result ≡ Err (InsertFault.Full f)
+            → WasFull self.old.worker self.new.worker f }
+    {
+        if self.pinned().is_some() {
+            return Err(InsertFault::Other(CallFault::Pinned));
+        }
+        if self.has_many_waiting(options) {
+            return self.insert_untidy(key, options);
+        }
+        match self
+            .home
+            .tree()
+            .insert(&mut self.sealed.worker, key, options.tries)
+        {
+            Ok(answer) => Ok(answer),
+            Err(fault) => self.insert_after(key, options, fault),
+        }
+    }
+
+    /// Removes `key`; returns true if it was present, after the leaf with the key was cut off.
+    ///
+    /// Like `contains`, it finishes the remove of an earlier call first, and retries a remove that
+    /// lost each of its tries. One that has flagged its leaf goes on by at most `rounds` and one
+    /// calls of `finish`. It collects first when `insert` does. Nothing is pending after an answer,
+    /// `Busy` and `NoMemory`.
+    ///
+    /// Errors: `Pinned`, `Pending`, `Busy`: as of `contains`. `NoMemory`: the memory for a try was
+    /// refused before the leaf was flagged. `Unfinished`: the leaf is flagged and not known to be
+    /// cut off. The key will be removed, and no other remove of it returns true. It is pending, and
+    /// the next managed call finishes it first.
+    #[inline(always)]
+    pub fn remove(&mut self, key: Key, options: &Options) -> Result<bool, CallFault>
+        ensures tree { self.new.tree ≡ self.old.tree }
+        ensures says { SaysManaged Delete self.old.tree options.now key self.old.worker
+            self.new.worker result }
+    {
+        if self.pinned().is_some() {
+            return Err(CallFault::Pinned);
+        }
+        if self.has_many_waiting(options) {
+            return self.remove_untidy(key, options);
+        }
+        self.know_run();
+        match self
+            .home
+            .tree()
+            .delete(&mut self.sealed.worker, key, options.tries)
+        {
+            Ok(answer) => Ok(answer),
+            Err(fault) => self.remove_after(key, options, fault),
+        }
+    }
+
+    /// Returns whether so many nodes wait that an insert or a remove first collects.
+    #[inline(always)]
+    fn has_many_waiting(&self, options: &Options) -> bool
+        ensures yes { result ≡ true → options.now.collect_after ≤ waiting_in self.now.worker.queues }
+        ensures no { result ≡ false → waiting_in self.now.worker.queues < options.now.collect_after }
+    {
+        self.queue_len() >= u64::from(options.collect_after)
+    }
+
+    /// Goes on after a look-up that failed with this error. If the remove of an earlier call is
+    /// pending, it finishes that one, and then looks up.
+    #[cold]
+    #[inline(never)]
+    fn contains_after(
+        &mut self,
+        key: Key,
+        options: &Options,
+        fault: CallFault,
+    ) -> Result<bool, CallFault>
+        requires begun { (w : WorkerView) × LeavesHas self.old.tree.layout options.now.tries key w
+            self.old.worker (Err fault) }
+        ensures tree { self.new.tree ≡ self.old.tree }
+        ensures says { (w : WorkerView) → w.held ≡ None
+            → LeavesHas self.old.tree.layout options.now.tries key w self.old.worker (Err fault)
+            → Manages self.old.tree options.now Has key w self.new.worker result }
+    {
+        if !is_pending(fault) {
+            return self.retry(Op::Has, key, options, fault);
+        }
+        let Ok(_done) = self.finish_with_retries(options) else {
+            return Err(CallFault::Pending);
+        };
+        self.ask_with_retries(Op::Has, key, options)
+    }
+
+    /// Goes on after an insert that failed with this error.
+    #[cold]
+    #[inline(never)]
+    fn insert_after(
+        &mut self,
+        key: Key,
+        options: &Options,
+        fault: CallFault,
+    ) -> Result<bool, InsertFault>
+        requires begun { (w : WorkerView) × LeavesInsert self.old.tree.layout options.now.tries key
+            w self.old.worker (Err fault) }
+        ensures tree { self.new.tree ≡ self.old.tree }
+        ensures says { (w : WorkerView) → w.held ≡ None
+            → waiting_in w.queues < options.now.collect_after
+            → LeavesInsert self.old.tree.layout options.now.tries key w self.old.worker (Err fault)
+            → ManagesInsert self.old.tree options.now key w self.new.worker result }
+    {
+        if is_pending(fault) {
+            self.insert_untidy(key, options)
+        } else {
+            self.retry_insert(key, options, fault)
+        }
+    }
+
+    /// Goes on after a remove that failed with this error.
+    #[cold]
+    #[inline(never)]
+    fn remove_after(
+        &mut self,
+        key: Key,
+        options: &Options,
+        fault: CallFault,
+    ) -> Result<bool, CallFault>
+        requires begun { (w : WorkerView) × LeavesDelete self.old.tree.layout options.now.tries key
+            w self.old.worker (Err fault) }
+        ensures tree { self.new.tree ≡ self.old.tree }
+        ensures says { (w : WorkerView) → w.held ≡ None → IsIdle w
+            → waiting_in w.queues < options.now.collect_after
+            → LeavesDelete self.old.tree.layout options.now.tries key w self.old.worker (Err fault)
+            → Manages self.old.tree options.now Delete key w self.new.worker result }
+    {
+        if is_pending(fault) {
+            self.remove_untidy(key, options)
+        } else {
+            self.retry_remove(key, options, fault)
+        }
+    }
+
+    /// Does `insert` if something is to be done first, apart from the code of the many calls that
+    /// have nothing to do first.
+    #[cold]
+    #[inline(never)]
+    fn insert_untidy(&mut self, key: Key, options: &Options) -> Result<bool, InsertFault>
+        requires free { self.old.worker.held ≡ None }
+        ensures tree { self.new.tree ≡ self.old.tree }
+        ensures says { ManagesInsert self.old.tree options.now key self.old.worker self.new.worker
+            result }
+    {
+        if let Err(fault) = self.make_tidy(options) {
+            return Err(InsertFault::Other(fault));
+        }
+        match self.ask(Op::Insert, key, options.tries) {
+            Ok(answer) => Ok(answer),
+            Err(fault) => self.retry_insert(key, options, fault),
+        }
+    }
+
+    /// Does `remove` if something is to be done first, apart from the code of the many calls that
+    /// have nothing to do first.
+    #[cold]
+    #[inline(never)]
+    fn remove_untidy(&mut self, key: Key, options: &Options) -> Result<bool, CallFault>
+        requires free { self.old.worker.held ≡ None }
+        ensures tree { self.new.tree ≡ self.old.tree }
+        ensures says { Manages self.old.tree options.now Delete key self.old.worker
+            self.new.worker result }
+    {
+        self.make_tidy(options)?;
+        self.know_run();
+        match self.ask(Op::Delete, key, options.tries) {
+            Ok(answer) => Ok(answer),
+            Err(fault) => self.retry_remove(key, options, fault),
+        }
+    }
+
+    /// Finishes the remove of an earlier call if one is pending, and collects if many nodes wait.
+    ///
+    /// Errors: `Pending`: that remove is not finished, and nothing else is done.
+    fn make_tidy(&mut self, options: &Options) -> Result<(), CallFault>
+        requires free { self.old.worker.held ≡ None }
+        ensures tree { self.new.tree ≡ self.old.tree }
+        ensures ready { IfOk result (λ u. IsReady self.old.tree options.now self.old.worker
+            self.new.worker) }
+        ensures fault { IfErr result (λ f. f ≡ call.Pending) }
+        ensures pending { IfErr result (λ f. FinishesIn self.old.tree options.now
+            (options.now.rounds + 1) self.old.worker self.new.worker (Err call.Unfinished)) }
+    {
+        let Ok(_done) = self.finish_with_retries(options) else {
+            return Err(CallFault::Pending);
+        };
+        if self.has_many_waiting(options) {
+            self.relieve();
+        }
+        Ok(())
+    }
+
+    /// Retries an insert after a first one that failed with this error. If no slot was free, it
+    /// collects and then inserts once more, with retries.
+    #[cold]
+    #[inline(never)]
+    fn retry_insert(
+        &mut self,
+        key: Key,
+        options: &Options,
+        fault: CallFault,
+    ) -> Result<bool, InsertFault>
+        requires begun { (w : WorkerView) × Answers Insert key
+            (round_bound options.now.tries self.old.tree.layout) options.now.tries w
+            self.old.worker (Err fault) }
+        ensures tree { self.new.tree ≡ self.old.tree }
+        ensures says { (w : WorkerView) → Answers Insert key
+            (round_bound options.now.tries self.old.tree.layout) options.now.tries w
+            self.old.worker (Err fault)
+            → Inserts self.old.tree options.now key w self.new.worker result }
+    {
+        let told = self.retry(Op::Insert, key, options, fault);
+        if !is_full(&told) {
+            return plain(told);
+        }
+        let behind = self.relieve();
+        let told = self.ask_with_retries(Op::Insert, key, options);
+        with_fullness(behind, self.queue_len(), told)
+    }
+
+    /// Retries a remove after a first one that failed with this error, and finishes it if its leaf
+    /// is flagged.
+    #[cold]
+    #[inline(never)]
+    fn retry_remove(
+        &mut self,
+        key: Key,
+        options: &Options,
+        fault: CallFault,
+    ) -> Result<bool, CallFault>
+        requires begun { (w : WorkerView) × Answers Delete key
+            (round_bound options.now.tries self.old.tree.layout) options.now.tries w
+            self.old.worker (Err fault) }
+        ensures tree { self.new.tree ≡ self.old.tree }
+        ensures says { (w : WorkerView) → IsIdle w → w.pending ≡ None → Answers Delete key
+            (round_bound options.now.tries self.old.tree.layout) options.now.tries w
+            self.old.worker (Err fault)
+            → Answers Delete key (rounds_bound self.old.tree options.now (2 * options.now.rounds + 2))
+            ((options.now.rounds + 1) * options.now.tries) w self.new.worker result }
+    {
+        let told = self.retry(Op::Delete, key, options, fault);
+        if !is_unfinished(&told) {
+            return told;
+        }
+        self.finish_with_retries(options)
+    }
+
+    /// Tries twice to advance the epoch, and collects. Returns the worker that was found to hold
+    /// the epoch back.
+    #[cold]
+    #[inline(never)]
+    fn relieve(&mut self) -> Option<u32>
+        requires free { self.old.worker.held ≡ None }
+        requires none { self.old.worker.pending ≡ None }
+        ensures tree { self.new.tree ≡ self.old.tree }
+        ensures did { IsRelieved self.old.tree.layout self.old.worker self.new.worker result }
+    {
+        self.know_run();
+        let first = self.advance();
+        self.know_run();
+        let second = self.advance();
+        self.know_run();
+        self.collect();
+        self.know_run();
+        behind_of(&first, &second)
+    }
+
+    /// Retries a call after a first one that failed with this error. It makes what
+    /// `ask_with_retries` keeps in memory, apart from the code of a call that answers.
+    #[inline(always)]
+    fn retry(
+        &mut self,
+        op: Op,
+        key: Key,
+        options: &Options,
+        fault: CallFault,
+    ) -> Result<bool, CallFault>
+        requires begun { (w : WorkerView) × Answers op key
+            (round_bound options.now.tries self.old.tree.layout) options.now.tries w
+            self.old.worker (Err fault) }
+        ensures tree { self.new.tree ≡ self.old.tree }
+        ensures says { (w : WorkerView) → Answers op key
+            (round_bound options.now.tries self.old.tree.layout) options.now.tries w
+            self.old.worker (Err fault)
+            → AnswersIn self.old.tree options.now op key (options.now.rounds + 1) w
+            self.new.worker result }
+    {
+        let told = Err(fault);
+        if !is_busy(&told) || options.rounds == 0 {
+            return told;
+        }
+        self.ask_with_retries(op, key, &without_one(options))
+    }
+
+    /// Makes the call of that operation until one does not lose each of its tries: at most `rounds`
+    /// and one times.
+    #[cold]
+    #[inline(never)]
+    fn ask_with_retries(&mut self, op: Op, key: Key, options: &Options) -> Result<bool, CallFault>
+        requires free { self.old.worker.held ≡ None }
+        requires none { self.old.worker.pending ≡ None }
+        ensures tree { self.new.tree ≡ self.old.tree }
+        ensures says { AnswersIn self.old.tree options.now op key (options.now.rounds + 1)
+            self.old.worker self.new.worker result }
+    {
+        for _round in 0..options.rounds {
+            let told = self.ask(op, key, options.tries);
+            if !is_busy(&told) {
+                return told;
+            }
+        }
+        self.ask(op, key, options.tries)
+    }
+
+    /// Makes the call of that operation.
+    #[cold]
+    #[inline(never)]
+    fn ask(&mut self, op: Op, key: Key, tries: u32) -> Result<bool, CallFault>
+        requires free { self.old.worker.held ≡ None }
+        requires none { self.old.worker.pending ≡ None }
+        ensures tree { self.new.tree ≡ self.old.tree }
+        ensures says { Answers op key (round_bound tries self.old.tree.layout) tries
+            self.old.worker self.new.worker result }
+    {
+        let tree = self.home.tree();
+        match op {
+            Op::Has => tree.has(&mut self.sealed.worker, key, tries),
+            Op::Insert => tree.insert(&mut self.sealed.worker, key, tries),
+            Op::Delete => tree.delete(&mut self.sealed.worker, key, tries),
+        }
+    }
+
+    /// Finishes the remove that is pending, with retries. Nearly always there is none.
+    #[inline(always)]
+    pub(crate) fn finish_with_retries(&mut self, options: &Options) -> Result<bool, CallFault>
+        requires free { self.old.worker.held ≡ None }
+        ensures tree { self.new.tree ≡ self.old.tree }
+        ensures says { FinishesIn self.old.tree options.now (options.now.rounds + 1)
+            self.old.worker self.new.worker result }
+    {
+        let told = self.finish(options.tries);
+        if !is_unfinished(&told) || options.rounds == 0 {
+            return told;
+        }
+        self.retry_finish(&without_one(options))
+    }
+
+    /// Finishes the remove that is pending: at most `rounds` and one tries.
+    #[cold]
+    #[inline(never)]
+    fn retry_finish(&mut self, options: &Options) -> Result<bool, CallFault>
+        requires free { self.old.worker.held ≡ None }
+        ensures tree { self.new.tree ≡ self.old.tree }
+        ensures says { FinishesIn self.old.tree options.now (options.now.rounds + 1)
+            self.old.worker self.new.worker result }
+    {
+        for _round in 0..options.rounds {
+            if let Ok(answer) = self.finish(options.tries) {
+                return Ok(answer);
+            }
+        }
+        self.finish(options.tries)
+    }
+}

@@ -1,0 +1,4 @@
+use Rattle.nm_steps.proofs.pass.Shared.announce.Given as goal
+
+abbrev pub ghosts-store : goal.ghosts-store
+ghosts-store a = record { event = a.event.now }

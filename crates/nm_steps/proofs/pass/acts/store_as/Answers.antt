@@ -1,8 +1,0 @@
-use Rattle.nm_steps.proofs.Keeping.{asked_blind, is_done}
-use Rattle.nm_steps.proofs.pass.acts.store_as.Goals as goal
-
-pub store-requires : goal.store-requires
-store-requires g c = asked_blind _ _ _ _ _ _ _ _ c.requires.pick c.requires.ready c.requires.changes c.requires.blind
-
-pub returns : goal.returns
-returns g c = is_done c.args.seat.now c.store.new.seat _ c.args.event.now c.args.new c.requires.pick c.store.ensures.0 c.store.ensures.1 c.store.ensures.2

@@ -1,0 +1,11 @@
+use Rattle.std.proofs.Common.{◌≤◌}
+use Rattle.nm_epoch.specs.Resting.{IsResting}
+use Rattle.nm_steps.specs.Steps.{IsSamePass}
+use Rattle.nm_tests.proofs.passes.calls.rounds.Given as goal
+
+abbrev pub invariant-loop-round : goal.invariant-loop-round
+invariant-loop-round l = record {
+  same : IsSamePass l.fn.pass l.pass;
+  rests : IsResting l.pass;
+  few : l.times ≤ l._round;
+}

@@ -1,0 +1,5 @@
+use Rattle.nm_tree.specs.Calls.{MayCall}
+use Rattle.nm_tests.proofs.trees.blocks.blocks_go_back_behind_a_stall.Given as goal
+
+abbrev pub invariant-loop-turn : goal.invariant-loop-turn
+invariant-loop-turn g l = MayCall l.tree-inside.shared l.first

@@ -1,0 +1,49 @@
+-- What a call of the tree shows of its worker, by the answer of the function below it.
+use Rattle.std.proofs.Common.{◌≡◌, ◌+◌, ◌*◌, ℕ, Bool, List, refl, sym, subst}
+use Rattle.std.specs.Prelude.{Result, Ok, Err, IfOk, IfErr, IsErrOf}
+use Rattle.nm_edge.specs.Layouts.{Layout}
+use Rattle.nm_model.specs.Walks.{Entry}
+use Rattle.nm_calls.specs.declared.fault.CallFault.{CallFault}
+use Rattle.nm_calls.specs.declared.fault.CallFault.TheVariants as fault
+use Rattle.nm_calls.specs.Calls.{HasDid, HasMissed}
+use Rattle.nm_calls.specs.Inserts.{InsertDid}
+use Rattle.nm_calls.specs.PlainWalks.{LooksUnderPin, PlainMissed}
+use Rattle.nm_tree.specs.Answers.{IsFree, LacksRoom, HasTold, HasAnswered, InsertTold, HasInserted}
+use Rattle.nm_tree.specs.Looked.{HasLooked}
+use Rattle.nm_tree.specs.Workers.{WorkerView}
+
+-- what holds of each error holds where there is this one
+pub of_error : {X P : Type 0} (r : Result X CallFault) (f : CallFault) → IsErrOf r f → IfErr r (λ e. P) → P
+of_error {X} {P} r f is holds = subst (λ (s : Result X CallFault). IfErr s (λ e. P)) is holds
+
+module _ (L : Layout) (tries k : ℕ) (w z : WorkerView) (free : IsFree w z) where
+  pub has_told : (r : Result Bool CallFault) → IfErr r (λ e. e ≡ fault.Busy) → HasTold w z r
+  has_told (Ok b) busy = free
+  has_told (Err e) busy = subst (λ (f : CallFault). HasTold w z (Err f)) (sym busy) free
+
+  pub has_answered : (r : Result Bool CallFault) → IfOk r (HasDid L tries k w.pass.view.log z.pass.view.log) → IfErr r (λ e. HasMissed L tries k w.pass.view.log z.pass.view.log) → IfErr r (λ e. e ≡ fault.Busy) → HasAnswered L tries k w z r
+  has_answered (Ok b) did missed busy = (free, did)
+  has_answered (Err e) did missed busy = subst (λ (f : CallFault). HasAnswered L tries k w z (Err f)) (sym busy) (free, missed)
+
+  pub insert_told : (r : Result Bool CallFault) → (IsErrOf r fault.NoMemory → LacksRoom z) → InsertDid w.fit L tries k w.pass.view.log z.pass.view.log r → InsertTold w z r
+  insert_told (Ok b) lacks did = free
+  insert_told (Err fault.Busy) lacks did = free
+  insert_told (Err fault.Full) lacks did = free
+  insert_told (Err fault.NoMemory) lacks did = (free, lacks refl)
+  insert_told (Err fault.Pending) lacks did = absurd did.3
+  insert_told (Err fault.Pinned) lacks did = absurd did.3
+  insert_told (Err fault.Unfinished) lacks did = absurd did.3
+
+  pub has_inserted : (r : Result Bool CallFault) → InsertDid w.fit L tries k w.pass.view.log z.pass.view.log r → HasInserted L tries k w z r
+  has_inserted (Ok b) did = (free, did)
+  has_inserted (Err fault.Busy) did = (free, did)
+  has_inserted (Err fault.Full) did = (free, did)
+  has_inserted (Err fault.NoMemory) did = (free, did)
+  has_inserted (Err fault.Pending) did = absurd did.3
+  has_inserted (Err fault.Pinned) did = absurd did.3
+  has_inserted (Err fault.Unfinished) did = absurd did.3
+
+pub has_looked : {X : Type 0} (GivesUp : List Entry → List Entry → Type 0) (tries most : ℕ) (w z : WorkerView) → IsFree w z → (r : Result X CallFault) → IfOk r (λ x. LooksUnderPin tries most w.pass.view.log z.pass.view.log) → IfErr r (λ e. PlainMissed GivesUp tries w.pass.view.log z.pass.view.log) → IfErr r (λ e. e ≡ fault.Busy)
+    → HasLooked GivesUp tries most w z r
+has_looked GivesUp tries most w z free (Ok x) did missed busy = (free, did)
+has_looked {X} GivesUp tries most w z free (Err e) did missed busy = subst (λ (f : CallFault). HasLooked {X = X} GivesUp tries most w z (Err f)) (sym busy) (free, missed)

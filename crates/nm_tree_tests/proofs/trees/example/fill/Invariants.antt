@@ -1,5 +1,0 @@
-use Rattle.nm_tree.specs.Calls.{MayCall}
-use Rattle.nm_tree_tests.proofs.trees.example.fill.Given as goal
-
-abbrev pub invariant-loop-number : goal.invariant-loop-number
-invariant-loop-number l = MayCall l.fn.tree l.worker

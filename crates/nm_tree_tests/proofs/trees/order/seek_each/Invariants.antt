@@ -1,5 +1,0 @@
-use Rattle.nm_steps.specs.Steps.{IsOf}
-use Rattle.nm_tree_tests.proofs.trees.order.seek_each.Given as goal
-
-abbrev pub invariant-loop-call : goal.invariant-loop-call
-invariant-loop-call g l = IsOf l.fn.tree l.worker.pass
