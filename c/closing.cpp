@@ -52,6 +52,7 @@ nm::Report closed(nm::Set &set) {
 void round(std::uint64_t number, std::uint64_t callers) {
     nm::Options options;
     options.workers = static_cast<std::uint32_t>(number % 2 == 0 ? callers : 3);
+    options.timeout_ms = 60'000;  // a busy machine keeps a thread waiting, and a sanitizer does
     nm::Set set(8192, options);
     Told told;
     std::vector<std::thread> threads;

@@ -1,6 +1,7 @@
 // crowd [SECONDS]: more threads than processors call a set with room for 65,536 nodes and about 500
 // keys. They do so for SECONDS by calls of the set, and for SECONDS each by a worker of its own. No
-// insert throws NM_FULL. And 200 threads attach workers, work and end.
+// insert throws NM_FULL: one waits while threads that cannot run hold memory back. And 200 threads
+// attach workers, work and end.
 #include "thrown.hpp"
 
 #include <algorithm>
@@ -67,7 +68,9 @@ Told work(Of &of, std::uint64_t seed, const std::atomic<bool> &is_over) {
 
 // So many threads work for some time, by the set or each by a worker of its own.
 void crowd(std::uint64_t count, bool is_attached, double seconds) {
-    nm::Set set(nodes);
+    nm::Options options;
+    options.timeout_ms = 60'000;  // other programs keep a thread in the middle of a call waiting
+    nm::Set set(nodes, options);
     std::atomic<bool> is_over{false};
     std::mutex lock;
     Told all;

@@ -83,8 +83,9 @@ void a_thread_is_lost() {
               taken <= milliseconds(timeout_ms) + margin);
         CHECK(told.text == "the set is full: its 1 keys take 7 of its 900 nodes, and " +
                                std::to_string(queued) +
-                               " wait to be freed; what worker 0 has waiting is not known: it is"
-                               " in a call; worker 0 is in their way, by a pin or in a call");
+                               " wait to be freed; worker 0 is in their way, by a pin or in a call;"
+                               " worker 0 is in a call, so what waits there is counted as last"
+                               " seen");
     }
     CHECK(time_of([&] {
               CHECK(set.size() == 1 && set.waiting() == queued && set.free() == free &&
@@ -124,7 +125,7 @@ void a_call_of_the_set_is_lost() {
     milliseconds taken = time_of([&] { told = fault_of([&] { set.close(); }); });
     std::printf("a close beside a lost call took %lld ms: %s\n",
                 static_cast<long long>(taken.count()), told.text.c_str());
-    CHECK(told.outcome == NM_ATTACHED &&
+    CHECK(told.outcome == NM_IN_USE &&
           told.text == "worker 0 is in a call that has not ended in 10 seconds: close again" &&
           taken <= milliseconds(10'000) + 2 * margin);
     CHECK(set.is_open() && set.contains(5u));
@@ -134,34 +135,41 @@ void a_call_of_the_set_is_lost() {
     CHECK(set.close().size() == 1);
 }
 
-// The same if the thread is lost while it collects with a worker that no call of the set has. The
-// seat is used again after the close that failed.
+// The same if the thread is lost while it collects with a worker that no call of the pool has. The
+// worker is used again after the close that failed.
 void a_collection_is_lost() {
-    using nm::detail::Gain;
-    nm::detail::Seats seats(nodes, {1});
-    auto insert = [&](nm_handle *worker) {
-        return nm_worker_insert(worker, 5, &seats.call_options());
-    };
-    CHECK(seats.visit(Gain::inserts, insert) == NM_YES);
+    nm_pool *pool = nullptr;
+    nm_pool_options options = nm_pool_defaults;
+    options.workers = 1;
+    nm_handle report = NM_CLOSED_HANDLE;
+    std::uint64_t missing = 0, keys = 0;
+    CHECK(nm_pool_new(&pool, nodes, &options) == NM_DONE &&
+          nm_pool_insert(pool, NM_ANY, 5, 0) == NM_YES);
     std::atomic<bool> is_over{false};
     std::thread thread([&] {
-        while (!is_over) seats.collect(seats.handle(0));
+        std::uint64_t freed = 0;
+        while (!is_over) nm_pool_collect(pool, &freed);
     });
-    std::uint32_t number = 0;
+    std::uint32_t turn = 0;
     do {
-        if (number != 0) CHECK(sem_post(&resumed) == 0);
-        std::this_thread::sleep_for(std::chrono::microseconds(100 * ++number));
+        if (turn != 0) CHECK(sem_post(&resumed) == 0);
+        std::this_thread::sleep_for(std::chrono::microseconds(100 * ++turn));
         CHECK(pthread_kill(thread.native_handle(), SIGUSR1) == 0);
         while (sem_wait(&stopped) != 0) {}
-    } while (seats.visit(Gain::inserts, insert) != NM_NO_WORKER);
-    CHECK(thrown([&] { seats.end(); }) == NM_ATTACHED && !seats.is_closing());
+    } while (nm_pool_insert(pool, NM_ANY, 5, 0) != NM_NO_WORKER);
+    CHECK(time_of([&] {
+              CHECK(nm_pool_insert(pool, NM_ANY, 5, timeout_ms) == NM_NO_WORKER &&
+                    nm_pool_close(pool, timeout_ms, &report, &missing) == NM_IN_USE &&
+                    missing == 1);
+          }) <= milliseconds(2 * timeout_ms) + margin);
     CHECK(sem_post(&resumed) == 0);
     is_over = true;
     thread.join();
-    CHECK(seats.visit(Gain::inserts, insert) == NM_NO && seats.keys() == 1);
-    nm_handle report = seats.end();
-    std::uint64_t count = 0;
-    CHECK(nm_report_keys(&report, &count) == NM_DONE && count == 1 && nm_drop(&report) == NM_DONE);
+    CHECK(nm_pool_insert(pool, NM_ANY, 5, timeout_ms) == NM_NO &&
+          nm_pool_size(pool, &keys) == NM_DONE && keys == 1);
+    CHECK(nm_pool_close(pool, timeout_ms, &report, &missing) == NM_DONE);
+    CHECK(nm_report_keys(&report, &keys) == NM_DONE && keys == 1 && nm_drop(&report) == NM_DONE);
+    nm_pool_free(pool);
 }
 
 }  // namespace

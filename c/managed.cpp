@@ -3,6 +3,7 @@
 #include "thrown.hpp"
 
 #include <algorithm>
+#include <atomic>
 #include <cstdio>
 #include <iterator>
 #include <list>

@@ -13,8 +13,9 @@
 // What a thread wrote before it inserted a key is visible to each thread that finds or removes that
 // key: so a key may hand over a payload. This header informs ThreadSanitizer of it.
 //
-// The library is proved. What this header adds is tested by `c/check`, and not proved: how a call
-// finds a worker, how it waits, the size, and the calls that are made of several calls.
+// The library is proved. What is added to it is tested by `c/check`, and not proved: the pool of
+// nm_pool.h, which finds a worker for a call, waits and counts the keys; and in this header the
+// calls that are made of several calls.
 #ifndef NM_SET_HPP
 #define NM_SET_HPP
 
@@ -25,22 +26,18 @@
 #error "nm_set.hpp needs exceptions: compile without -fno-exceptions, or use nm_set.h"
 #endif
 
-#include "nm_set.h"
+#include "nm_pool.h"
 
 #include <algorithm>
-#include <atomic>
 #include <chrono>
 #include <cstddef>
 #include <cstdint>
 #include <initializer_list>
 #include <iterator>
-#include <memory>
-#include <mutex>
 #include <new>
 #include <optional>
 #include <stdexcept>
 #include <string>
-#include <thread>
 #include <type_traits>
 #include <utility>
 #include <vector>
@@ -147,69 +144,21 @@ struct Options {
     // collects. If it is not given: nodes / (8 * workers), at least 8 and at most 64. So the
     // workers of a small set collect when an eighth of its nodes wait.
     std::optional<std::uint32_t> collect_after{};
-    std::uint32_t timeout_ms = 1'000; // the longest time that an insert waits for nodes that are to
-                                      // be freed, in milliseconds
+    std::uint32_t timeout_ms = 1'000; // the longest time that a call waits, in milliseconds: for a
+                                      // worker, and an insert for nodes that are to be freed
 };
 
 namespace detail {
 
-using Clock = std::chrono::steady_clock;
+// The time that a close, and the end of a worker, wait for other threads' calls, in milliseconds.
+inline constexpr std::uint32_t longest_ms = 10'000;
 
-// The time that a call waits for another thread's call, if its comment names no other time.
-inline constexpr std::chrono::seconds longest{10};
-
-// The number of times that a call tries a handle in use before it pauses.
-inline constexpr std::uint32_t asks = 256;
-
-// One wait. It yields to other threads, as often as `turns` says. Then it sleeps, from 20
-// microseconds up to a millisecond, twice as long each time.
-class Wait {
-public:
-    explicit Wait(std::chrono::nanoseconds most, std::uint32_t turns = 4)
-        : most_(most), begun_(Clock::now()), turns_(turns) {}
-
-    // Pauses and returns true; returns false if the time is over.
-    bool pause() {
-        std::chrono::nanoseconds left = most_ - (Clock::now() - begun_);
-        if (left <= left.zero()) return false;
-        if (turns_ > 0) {
-            turns_--;
-            std::this_thread::yield();
-        } else {
-            std::this_thread::sleep_for(std::min(left, pause_));
-            pause_ = std::min(2 * pause_, longest_pause);
-        }
-        return true;
-    }
-
-private:
-    static constexpr std::chrono::nanoseconds longest_pause = std::chrono::milliseconds(1);
-
-    const std::chrono::nanoseconds most_;
-    const Clock::time_point begun_;
-    std::chrono::nanoseconds pause_ = std::chrono::microseconds(20);
-    std::uint32_t turns_;
+// Where a call goes: a pool, the number of a worker there or NM_ANY, and how long it waits.
+struct Place {
+    nm_pool *pool = nullptr;
+    std::uint32_t worker = NM_ANY;
+    std::uint32_t timeout_ms = 0;
 };
-
-// A wait that has no end.
-inline Wait endless() { return Wait(std::chrono::nanoseconds::max()); }
-
-// Makes a call, and repeats it at once while another call has the handle. Returns the last outcome.
-template <typename Call>
-nm_outcome ask_at_once(Call call) {
-    nm_outcome outcome = call();
-    for (std::uint32_t ask = 1; outcome == NM_IN_USE && ask < asks; ask++) outcome = call();
-    return outcome;
-}
-
-// Makes a call, and repeats it while another call has the handle. Returns NM_IN_USE if the wait is
-// over, and else the outcome of the call.
-template <typename Call>
-nm_outcome soon(Wait &wait, Call call) {
-    nm_outcome outcome = ask_at_once(call);
-    while (outcome == NM_IN_USE && wait.pause()) outcome = ask_at_once(call);
-    return outcome;
-}
 
 // Informs ThreadSanitizer that what a thread did before a call is visible after a later call by
 // another thread. Without ThreadSanitizer it does nothing.
@@ -226,34 +175,18 @@ private:
 #endif
 };
 
+// Returns the workers of a mask as the subject of a sentence, with its verb.
+inline std::string those(std::uint64_t mask) {
+    char text[256];
+    return nm_mask_words(mask, text, sizeof text) +
+           std::string((mask & (mask - 1)) == 0 ? " is" : " are");
+}
+
 // Returns a number as text: 65,536.
 inline std::string grouped(std::uint64_t number) {
     std::string text = std::to_string(number);
     for (std::size_t at = text.size(); at > 3; at -= 3) text.insert(at - 3, 1, ',');
     return text;
-}
-
-// Returns the bit of a worker in a mask.
-inline std::uint64_t bit_of(std::uint32_t number) { return std::uint64_t{1} << number; }
-
-inline bool is_one(std::uint64_t mask) { return (mask & (mask - 1)) == 0; }
-
-// Returns the workers of a mask as text: "workers 2 and 5".
-inline std::string named(std::uint64_t mask) {
-    std::string text = is_one(mask) ? "worker " : "workers ";
-    const char *between = "";
-    for (std::uint32_t number = 0; number < 64; number++) {
-        if ((mask & bit_of(number)) == 0) continue;
-        mask &= ~bit_of(number);
-        text += between + std::to_string(number);
-        between = mask == 0 || !is_one(mask) ? ", " : " and ";
-    }
-    return text;
-}
-
-// Returns the workers of a mask as the subject of a sentence, with its verb.
-inline std::string those(std::uint64_t mask) {
-    return named(mask) + (is_one(mask) ? " is" : " are");
 }
 
 // Returns the text of an outcome for a caller of this header.
@@ -267,8 +200,9 @@ inline Literal words(nm_outcome outcome) {
     case NM_PINNED: return {"the worker is pinned: end its pin first"};
     case NM_NOT_PINNED: return {"the worker is not pinned"};
     case NM_IN_USE:
-        return {"another thread is in a call by the worker, and has stayed in it for 10 seconds"};
-    default: return {nm_outcome_text(outcome)};
+        return {"another thread is in a call by the worker, and has not ended it within "
+                "the timeout"};
+    default: return {nm_pool_text(outcome)};
     }
 }
 
@@ -299,486 +233,46 @@ inline bool answered(nm_outcome outcome) {
     return outcome != NM_NO;
 }
 
-// Does so for a call with a key, which the text of NM_KEY names.
-inline bool answered(nm_outcome outcome, std::uint64_t key) {
+// Throws the fault of a call of a pool that failed, with the numbers that it concerns.
+[[noreturn]] inline void fail_at(const Place &at, nm_outcome outcome, std::uint64_t key) {
+    if (outcome == NM_CLOSED && at.worker == NM_ANY)
+        throw Fault(outcome, Literal{"the set is closed"});
     if (outcome == NM_KEY)
         fail(outcome, [=] {
             return "the key " + std::to_string(key) + " is not 0 to " + std::to_string(most_key) +
                    " (2^64 - 4)";
         });
-    return answered(outcome);
-}
-
-// Advances the epoch as far as waiting nodes need, by a worker. Returns the last outcome.
-inline nm_outcome advance_by(nm_handle *worker) {
-    constexpr int moves = 3;
-    std::uint64_t epoch = 0;
-    std::uint32_t behind = 0;
-    nm_outcome outcome = NM_DONE;
-    for (int move = 0; move < moves && (outcome == NM_DONE || outcome == NM_LOST); move++)
-        outcome = ask_at_once([&] { return nm_worker_advance(worker, &epoch, &behind); });
-    return outcome;
-}
-
-// What a call that returns NM_YES does to the number of keys.
-enum class Gain { none, inserts, removes };
-
-// What uses a seat: nothing, a call of the set, or a `Worker`; or its set was closed.
-enum class Use { free, call, lent, closed };
-
-// One worker of a set with its handle, in a cache line of its own.
-struct alignas(64) Seat {
-    std::atomic<Use> use{Use::free};
-    bool is_open = false;  // whether its handle owns the worker; only the seat's user reads it
-    nm_handle handle{};
-    // The keys that calls by this worker inserted, less those that they removed, modulo 2^64.
-    std::atomic<std::uint64_t> keys{0};
-    // The nodes that waited in its queue when it was last asked.
-    std::atomic<std::uint64_t> waiting{0};
-    // How many calls of the set have borrowed this worker from a thread, and how many of these have
-    // ended.
-    std::atomic<std::uint32_t> arrivals{0}, departures{0};
-
-    bool take(Use by) noexcept {
-        Use wanted = Use::free;
-        return use.compare_exchange_strong(wanted, by, std::memory_order_acquire,
-                                           std::memory_order_relaxed);
-    }
-
-    // Takes the seat, and waits while a call of the set has it. Returns whether it took the seat.
-    bool take_soon(Use by, Wait &wait) {
-        bool is_taken = take(by);
-        while (!is_taken && use == Use::call && wait.pause()) is_taken = take(by);
-        return is_taken;
-    }
-
-    void free() noexcept { use.store(Use::free, std::memory_order_release); }
-
-    // Counts the key that a call by this worker inserted or removed. An unfinished remove counts at
-    // once, because its key will be removed by this call and no other. Its later end counts
-    // nothing.
-    void count(Gain gain, nm_outcome outcome) noexcept {
-        if (gain == Gain::inserts && outcome == NM_YES)
-            keys.fetch_add(1, std::memory_order_relaxed);
-        if (gain == Gain::removes && (outcome == NM_YES || outcome == NM_UNFINISHED))
-            keys.fetch_sub(1, std::memory_order_relaxed);
-    }
-};
-
-// Returns the seat at which this thread looks first, so that threads seldom meet at one seat.
-inline std::uint32_t &place() noexcept {
-    static std::atomic<std::uint32_t> threads{0};
-    thread_local std::uint32_t place = threads.fetch_add(1, std::memory_order_relaxed);
-    return place;
-}
-
-// The nodes that wait to be freed.
-struct Queues {
-    std::uint64_t asked = 0;    // with the workers that answered
-    std::uint64_t seen = 0;     // with the workers in calls, when they were last asked
-    std::uint64_t in_call = 0;  // a bit for each of these
-};
-
-// Returns the number of waiting nodes from which a worker of a set collects.
-inline std::uint32_t collect_after(std::uint64_t nodes, const Options &options) {
-    std::uint64_t workers = std::max<std::uint64_t>(options.workers, 1);
-    std::uint64_t share = std::clamp<std::uint64_t>(nodes / (8 * workers), 8, 64);
-    return options.collect_after.value_or(static_cast<std::uint32_t>(share));
-}
-
-// What a set and its workers share: the handle of the set, and a seat for each worker. Only the
-// user of a seat makes calls for keys by its handle. There is one exception: `borrow` makes a call
-// by the seat of a thread that is in no call. `queues` and `collect` ask each handle; a call by the
-// same handle at that time returns NM_IN_USE, and is repeated.
-class Seats {
-public:
-    Seats(std::uint64_t nodes, const Options &options)
-        : options_(options),
-          call_options_{options.tries, options.rounds, collect_after(nodes, options)},
-          nodes_(nodes),
-          seats_(options.workers < 1 || options.workers > 64 ? 0 : options.workers) {
-        nm_outcome outcome = nodes > UINT32_MAX ? NM_NODES : make();
-        if (outcome == NM_NODES || outcome == NM_WORKERS)
-            fail(outcome, [&] {
-                return std::string(nm_outcome_text(outcome)) + ": " +
-                       grouped(outcome == NM_NODES ? nodes : options.workers);
-            });
-        answered(outcome);
-    }
-
-    Seats(const Seats &) = delete;
-    Seats &operator=(const Seats &) = delete;
-
-    ~Seats() {
-        for (Seat &seat : seats_) nm_drop(&seat.handle);
-        nm_drop(&set_);
-    }
-
-    [[nodiscard]] const nm_options &call_options() const noexcept { return call_options_; }
-    [[nodiscard]] std::uint64_t nodes() const noexcept { return nodes_; }
-    [[nodiscard]] std::uint32_t count() const noexcept {
-        return static_cast<std::uint32_t>(seats_.size());
-    }
-    [[nodiscard]] bool is_closing() const noexcept { return is_closing_; }
-
-    // Returns how long an insert waits for nodes.
-    [[nodiscard]] std::chrono::milliseconds timeout() const noexcept {
-        return std::chrono::milliseconds(options_.timeout_ms);
-    }
-
-    // ---- calls ----
-
-    // Makes a call by a free seat, or else by a worker that is attached and in no call. Returns
-    // NM_NO_WORKER if there is no such seat, and NM_IN_USE if another thread is attaching a worker.
-    template <typename Call>
-    nm_outcome visit(Gain gain, Call call) noexcept {
-        Ordered ordered(this);
-        std::uint32_t number = place() % count();
-        for (std::uint32_t step = 0; step < count(); step++, number = (number + 1) % count()) {
-            Seat &seat = seats_[number];
-            if (!seat.take(Use::call)) continue;
-            nm_outcome outcome = open(number);
-            bool is_opened = outcome == NM_DONE;
-            if (is_opened) outcome = call_by(seat, gain, call);
-            seat.free();
-            if (outcome == NM_ATTACHED || (is_opened && outcome == NM_IN_USE)) continue;
-            place() = number;
-            return outcome;
-        }
-        return borrow(gain, call);
-    }
-
-    // Makes a call by the worker of a number, which the caller has attached. It waits for another
-    // thread's call by this worker, for 10 seconds at most: NM_IN_USE.
-    template <typename Call>
-    nm_outcome by(std::uint32_t number, Gain gain, Call call) noexcept {
-        Ordered ordered(this);
-        Seat &seat = seats_[number];
-        nm_outcome outcome = call(&seat.handle);
-        if (outcome == NM_IN_USE || outcome == NM_PENDING) outcome = by_at_last(seat, call);
-        seat.count(gain, outcome);
-        return outcome;
-    }
-
-    // ---- seats for workers ----
-
-    // Lends a free seat, the least number first, and returns NM_DONE. Errors: NM_NO_WORKER,
-    // NM_CLOSED, NM_NO_MEMORY.
-    nm_outcome lend_any(std::uint32_t &number) noexcept {
-        if (is_closing_) return NM_CLOSED;
-        std::lock_guard<std::mutex> lock(door_);
-        if (is_closing_) return NM_CLOSED;
-        for (number = 0; number < count(); number++) {
-            nm_outcome outcome = seats_[number].take(Use::lent) ? ready(number) : NM_NO_WORKER;
-            bool is_used = outcome == NM_NO_WORKER || outcome == NM_ATTACHED;
-            if (!is_used && outcome != NM_IN_USE) return outcome;
-        }
-        return NM_NO_WORKER;
-    }
-
-    // Lends the seat of a number, and returns NM_DONE. Errors: NM_ATTACHED: a `Worker` has it.
-    // NM_IN_USE: a call has it. NM_NUMBER, NM_CLOSED, NM_NO_MEMORY.
-    nm_outcome lend(std::uint32_t number) noexcept {
-        if (number >= count()) return NM_NUMBER;
-        if (is_closing_) return NM_CLOSED;
-        std::lock_guard<std::mutex> lock(door_);
-        if (is_closing_) return NM_CLOSED;
-        if (seats_[number].take(Use::lent)) return ready(number);
-        return seats_[number].use == Use::lent ? NM_ATTACHED : NM_IN_USE;
-    }
-
-    // Takes a seat back. If the set has ended, it gives up the seat's worker. It waits for another
-    // thread's call by this worker, for 10 seconds at most.
-    void give_back(std::uint32_t number) noexcept {
-        Wait wait(longest);
-        settle(number, wait);
-        std::lock_guard<std::mutex> lock(door_);
-        if (is_closing_)
-            shut(number, wait);
-        else
-            seats_[number].free();
-    }
-
-    // ---- room for an insert ----
-
-    // Frees nodes for an insert that returned NM_FULL. The first call returns at once if it freed
-    // nodes. Otherwise it pauses, and frees again. Throws NM_FULL if the keys take all nodes, or
-    // the wait is over. A worker passes its own handle.
-    void make_room(Wait &wait, bool is_first, nm_handle *own) {
-        if (is_first && collect(own) != 0) return;
-        if (is_brimful() || !wait.pause()) fail_full(own);
-        collect(own);
-    }
-
-    // Advances the epoch as far as possible, and frees what has waited long enough in the queue of
-    // each worker that is in no call. Returns the number of freed nodes.
-    std::uint64_t collect(nm_handle *own) noexcept {
-        constexpr int asks_of_each = 4;
-        std::uint64_t freed = 0;
-        if (own == nullptr)
-            visit(Gain::none, advance_by);
-        else
-            advance_by(own);
-        for (Seat &seat : seats_) {
-            std::uint64_t epoch = 0, nodes = 0;
-            nm_outcome outcome = NM_IN_USE;
-            for (int ask = 0; outcome == NM_IN_USE && ask < asks_of_each; ask++)
-                outcome = nm_worker_collect(&seat.handle, &epoch, &nodes);
-            freed += nodes;
-        }
-        return freed;
-    }
-
-    // Returns the number of keys, by the answers of all calls that have ended.
-    [[nodiscard]] std::uint64_t keys() const noexcept {
-        std::uint64_t keys = 0;
-        for (const Seat &seat : seats_) keys += seat.keys.load(std::memory_order_relaxed);
-        return keys > UINT64_MAX / 2 ? 0 : keys;
-    }
-
-    // Returns the nodes that wait to be freed. It asks each worker and waits for none.
-    [[nodiscard]] Queues queues() noexcept {
-        Queues all;
-        for (std::uint32_t number = 0; number < count(); number++) {
-            Seat &seat = seats_[number];
-            std::uint64_t nodes = 0;
-            if (ask_at_once([&] { return nm_worker_queue_len(&seat.handle, &nodes); }) ==
-                NM_IN_USE) {
-                all.seen += seat.waiting.load(std::memory_order_relaxed);
-                all.in_call |= bit_of(number);
-            } else {
-                seat.waiting.store(nodes, std::memory_order_relaxed);
-                all.asked += nodes;
-            }
-        }
-        return all;
-    }
-
-    // ---- the end ----
-
-    // Ends the set, and returns the handle that owns its report. Each later call returns NM_CLOSED,
-    // and so does each call that waits.
-    nm_handle end() {
-        std::lock_guard<std::mutex> lock(door_);
-        if (is_ended_) throw Fault(NM_CLOSED, Literal{"the set is closed"});
-        if (!is_closing_) fail_lent();
-        is_closing_ = true;
-        Wait wait(longest);
-        shut_all(wait);
-        answered(soon(wait, [this] { return nm_set_close(&set_); }));
-        is_ended_ = true;
-        return std::exchange(set_, nm_handle{});
-    }
-
-    // Leaves the set to the workers that are lent. The last of these ends it.
-    void leave() noexcept {
-        std::lock_guard<std::mutex> lock(door_);
-        is_closing_ = true;
-        Wait wait(longest);
-        for (std::uint32_t number = 0; number < count(); number++)
-            if (seats_[number].take_soon(Use::closed, wait)) shut(number, wait);
-        soon(wait, [this] { return nm_drop(&set_); });
-    }
-
-    // Ends the set by a worker, after the set was left and its other workers were returned. If an
-    // earlier end was refused after it had gathered the workers, the handle owns the set: then
-    // nm_worker_end returns NM_KIND, and this function closes the set.
-    nm_outcome end_by(std::uint32_t number, nm_handle &report) noexcept {
-        Seat &seat = seats_[number];
-        Wait wait(longest);
-        nm_outcome outcome = soon(wait, [&] { return nm_worker_end(&seat.handle); });
-        if (outcome == NM_KIND) outcome = nm_set_close(&seat.handle);
-        if (outcome == NM_DONE) report = std::exchange(seat.handle, nm_handle{});
-        return outcome;
-    }
-
-    [[nodiscard]] nm_handle *handle(std::uint32_t number) noexcept {
-        return &seats_[number].handle;
-    }
-
-private:
-    // Makes a call by a worker for which the caller has no `Worker`. It first finishes an earlier
-    // remove that is pending, and then the remove of this call, within the bounds of the options.
-    template <typename Call>
-    nm_outcome call_by(Seat &seat, Gain gain, Call call) noexcept {
-        nm_outcome outcome = call(&seat.handle);
-        if (outcome == NM_PENDING && finish(&seat.handle) != NM_UNFINISHED)
-            outcome = call(&seat.handle);
-        if (outcome == NM_UNFINISHED) {
-            nm_outcome end = finish(&seat.handle);
-            if (end == NM_YES || end == NM_NO) outcome = NM_YES;  // NM_NO: another call finished it
-        }
-        seat.count(gain, outcome);
-        return outcome;
-    }
-
-    // Makes a call by a worker that is attached to a thread, and that is in no call. If the thread
-    // calls by it at the same time, the library refuses one of the two calls, and this header
-    // repeats the thread's own call. So no call waits for a worker that its own thread has.
-    template <typename Call>
-    nm_outcome borrow(Gain gain, Call call) noexcept {
-        for (Seat &seat : seats_) {
-            if (seat.use != Use::lent) continue;
-            seat.arrivals++;
-            nm_outcome outcome = call_by(seat, gain, call);
-            seat.departures++;
-            if (outcome != NM_IN_USE && outcome != NM_PINNED && outcome != NM_CLOSED)
-                return outcome;
-        }
-        return NM_NO_WORKER;
-    }
-
-    // Repeats the call of a thread by its worker while another call has the handle. It also repeats
-    // it after NM_PENDING, if the pending remove is of a call of the set that has borrowed this
-    // worker and has not ended.
-    template <typename Call>
-    nm_outcome by_at_last(Seat &seat, Call call) noexcept {
-        Wait wait(longest);
-        for (;;) {
-            std::uint32_t ended = seat.departures;
-            nm_outcome outcome = ask_at_once([&] { return call(&seat.handle); });
-            bool is_for_another =
-                outcome == NM_IN_USE || (outcome == NM_PENDING && seat.arrivals != ended);
-            if (!is_for_another || !wait.pause()) return outcome;
-        }
-    }
-
-    // Goes on with a pending remove, at most 1 + `rounds` times. Returns NM_YES if it is finished,
-    // NM_NO if none is pending, NM_UNFINISHED, or NM_IN_USE if another call has the handle.
-    nm_outcome finish(nm_handle *worker) noexcept {
-        nm_outcome outcome = NM_UNFINISHED;
-        std::uint64_t rounds = call_options_.rounds;
-        for (std::uint64_t round = 0; outcome == NM_UNFINISHED && round <= rounds; round++)
-            outcome = ask_at_once([&] { return nm_worker_finish(worker, call_options_.tries); });
-        return outcome;
-    }
-
-    nm_outcome make() {
-        std::uint32_t nodes = static_cast<std::uint32_t>(nodes_);
-        switch (options_.shape) {
-        case Shape::unbalanced: return nm_set_new_unbalanced(&set_, nodes, options_.workers);
-        case Shape::radix: break;
-        }
-        return nm_set_new(&set_, nodes, options_.workers);
-    }
-
-    // Attaches the worker of a seat that the caller uses, if it is not attached yet. Returns
-    // NM_IN_USE if another call has that handle, or has the handle of the set for longer than the
-    // library looks again.
-    nm_outcome open(std::uint32_t number) noexcept {
-        Seat &seat = seats_[number];
-        if (seat.is_open) return NM_DONE;
-        nm_outcome outcome = nm_set_worker(&set_, &seat.handle, number);
-        seat.is_open = outcome == NM_DONE;
-        return outcome;
-    }
-
-    // Opens a seat that was taken for a `Worker`, or frees the seat again. It waits for no call.
-    nm_outcome ready(std::uint32_t number) noexcept {
-        Wait none(std::chrono::nanoseconds::zero());
-        nm_outcome outcome = open(number);
-        if (outcome == NM_DONE && settle(number, none) == NM_IN_USE) outcome = NM_IN_USE;
-        if (outcome != NM_DONE) seats_[number].free();
-        return outcome;
-    }
-
-    // Unpins a worker, and finishes its remove if the bounds allow. Returns NM_IN_USE if another
-    // call has its handle and the wait is over.
-    nm_outcome settle(std::uint32_t number, Wait &wait) noexcept {
-        nm_handle *worker = &seats_[number].handle;
-        nm_outcome outcome = soon(wait, [=] { return nm_worker_unpin(worker); });
-        return outcome == NM_IN_USE ? outcome : finish(worker);
-    }
-
-    // Gives up the worker of a seat. Returns false if a call has the worker until the wait is over.
-    bool shut(std::uint32_t number, Wait &wait) noexcept {
-        settle(number, wait);
-        Seat &seat = seats_[number];
-        bool is_shut = soon(wait, [&] { return nm_drop(&seat.handle); }) != NM_IN_USE;
-        if (is_shut) seat.is_open = false;
-        seat.use = Use::closed;
-        return is_shut;
-    }
-
-    // Shuts each seat, after the calls of other threads. If a call does not end, it throws
-    // NM_ATTACHED, and the set goes on.
-    void shut_all(Wait &wait) {
-        for (std::uint32_t number = 0; number < count(); number++) {
-            if (seats_[number].use == Use::closed) continue;
-            if (seats_[number].take_soon(Use::closed, wait) && shut(number, wait)) continue;
-            reopen();
-            fail(NM_ATTACHED, [=] {
-                return those(bit_of(number)) + " in a call that has not ended in " +
-                       std::to_string(longest.count()) + " seconds: close again";
-            });
-        }
-    }
-
-    void reopen() noexcept {
-        for (Seat &seat : seats_)
-            if (seat.use == Use::closed) seat.use = Use::free;
-        is_closing_ = false;
-    }
-
-    // Throws NM_ATTACHED if a `Worker` is open.
-    void fail_lent() const {
-        std::uint64_t lent = 0;
-        for (std::uint32_t number = 0; number < count(); number++)
-            if (seats_[number].use == Use::lent) lent |= bit_of(number);
-        if (lent != 0)
-            fail(NM_ATTACHED, [=] {
-                return those(lent) + " attached to a thread: close what attach gave first";
-            });
-    }
-
-    // Returns whether the keys leave no nodes for one more key, and no node waits.
-    bool is_brimful() noexcept {
-        if (2 * keys() + 7 <= nodes_) return false;
-        Queues waiting = queues();
-        return waiting.asked == 0 && waiting.in_call == 0;
-    }
-
-    // Throws NM_FULL, with what is known at this moment. It waits for no call.
-    [[noreturn]] void fail_full(nm_handle *own) {
-        fail(NM_FULL, [this, own] {
-            if (is_closing_) return std::string(nm_outcome_text(NM_FULL));
-            std::uint64_t now = keys(), behind = behind_of(own);
-            Queues waiting = queues();
-            std::string text = "the set is full: its " + grouped(now) + " keys take " +
-                               grouped(2 * now + 5) + " of its " + grouped(nodes_) +
-                               " nodes, and " + grouped(waiting.asked) + " wait to be freed";
-            if (waiting.in_call != 0) {
-                bool is_alone = is_one(waiting.in_call);
-                text += "; what " + named(waiting.in_call) +
-                        (is_alone ? " has waiting is not known: it is in a call"
-                                  : " have waiting is not known: they are in calls");
-            }
-            if (behind != 0)
-                text += "; " + those(behind) + " in their way, by a pin or in a call";
-            return text;
+    if (outcome == NM_NO_WORKER)
+        fail(outcome, [&] {
+            return "each of the " + std::to_string(nm_pool_workers(at.pool)) +
+                   " workers of the set (64 at most) is attached or in a call";
         });
-    }
+    nm_fullness fullness{};
+    if (outcome == NM_FULL && nm_pool_fullness(at.pool, &fullness) == NM_DONE)
+        fail(outcome, [&] {
+            char text[640];
+            return std::string(nm_full_words(&fullness, text, sizeof text));
+        });
+    throw Fault(outcome, words(outcome));
+}
 
-    // Returns the workers that hold the epoch back at this moment, as a mask.
-    std::uint64_t behind_of(nm_handle *own) noexcept {
-        std::uint64_t epoch = 0, mask = 0;
-        auto look = [&](nm_handle *worker) { return nm_worker_behind(worker, &epoch, &mask); };
-        if (own == nullptr)
-            visit(Gain::none, look);
-        else
-            ask_at_once([&] { return look(own); });
-        return mask;
-    }
-
-    const Options options_;
-    const nm_options call_options_;
-    const std::uint64_t nodes_;
-    nm_handle set_{};
-    std::vector<Seat> seats_;
-    std::mutex door_;  // locked to lend a seat to a `Worker`, to take one back, and to end the set
-    std::atomic<bool> is_closing_{false};
-    bool is_ended_ = false;
-};
+// Makes the pool of a set. Throws NM_NODES, NM_WORKERS, NM_NO_MEMORY. (If it is inlined, GCC 12
+// says of the default options that one is not initialized.)
+[[gnu::noinline]] inline nm_pool *pool_of(std::uint64_t nodes, const Options &options) {
+    nm_pool_options asked{options.workers,
+                          options.shape == Shape::unbalanced ? NM_UNBALANCED : NM_RADIX,
+                          options.tries, options.rounds, NM_AN_EIGHTH};
+    if (options.collect_after) asked.collect_after = *options.collect_after;
+    nm_pool *pool = nullptr;
+    nm_outcome outcome = nm_pool_new(&pool, nodes, &asked);
+    if (outcome == NM_NODES || outcome == NM_WORKERS)
+        fail(outcome, [&] {
+            return std::string(nm_outcome_text(outcome)) + ": " +
+                   grouped(outcome == NM_NODES ? nodes : options.workers);
+        });
+    answered(outcome);
+    return pool;
+}
 
 }  // namespace detail
 
@@ -865,10 +359,10 @@ private:
 // point) at which its answer was right. A call for several keys takes no snapshot: while others
 // insert and remove, each key has a moment of its own.
 //
-// How long a call waits. A call of a set waits while each worker is in a call or pinned; that wait
-// ends with another thread's call, and has no other bound. A call of a worker waits for another
-// thread's call by the same worker, for 10 seconds at most: NM_IN_USE. Besides, an insert waits for
-// nodes, and no other call does.
+// How long a call waits: for `timeout_ms` of the options, in all. A call of a set waits while each
+// worker is in a call or pinned: NM_NO_WORKER. A call of a worker waits for another thread's call
+// by the same worker: NM_IN_USE. Besides, an insert waits for nodes, and no other call does:
+// NM_FULL.
 //
 // Each call throws NM_KEY if the key is above 2^64 - 4; NM_BUSY if the bound of the call was
 // reached, and then the set is unchanged; NM_NO_MEMORY; and NM_CLOSED. A call of a pinned worker
@@ -886,35 +380,17 @@ public:
     // ---- one key ----
 
     // Inserts the key; returns whether it was absent. If no nodes are free, it frees nodes that
-    // wait. If none can be freed, it waits until some can, for at most `timeout_ms` of the options,
-    // and then throws NM_FULL, with the numbers in the text. If the keys take all nodes and no node
+    // wait. If none can be freed, it waits until some can, and after its time it throws NM_FULL,
+    // with the numbers in the text. If the keys take all nodes and no node
     // waits, it throws NM_FULL at once.
-    bool insert(Key key) {
-        nm_outcome outcome = insert_once(key);
-        if (outcome == NM_FULL) {
-            detail::Wait wait(self().seats_->timeout(), 0);
-            for (bool is_first = true; outcome == NM_FULL; is_first = false) {
-                self().make_room(wait, is_first);
-                outcome = insert_once(key);
-            }
-        }
-        return detail::answered(outcome, key);
-    }
+    bool insert(Key key) { return done(nm_pool_insert, key); }
 
     // Removes the key; returns whether it was present. NM_UNFINISHED: the key will be removed by
     // this call and no other, and the next call by this worker goes on with it.
-    bool remove(Key key) {
-        return detail::answered(self().ask(detail::Gain::removes, [&](nm_handle *worker) {
-            return nm_worker_remove(worker, key, &self().seats_->call_options());
-        }), key);
-    }
+    bool remove(Key key) { return done(nm_pool_remove, key); }
 
     // Returns whether the set has the key.
-    [[nodiscard]] bool contains(Key key) const {
-        return detail::answered(self().ask(detail::Gain::none, [&](nm_handle *worker) {
-            return nm_worker_contains(worker, key, &self().seats_->call_options());
-        }), key);
-    }
+    [[nodiscard]] bool contains(Key key) const { return done(nm_pool_contains, key); }
 
     // Returns an iterator at the least key that is not below this one, or end().
     [[nodiscard]] iterator lower_bound(Key key) const { return ascending(key, UINT64_MAX); }
@@ -948,10 +424,10 @@ public:
     // during the whole call. If the bound of the call is reached before the key is cut off
     // (NM_UNFINISHED in C), it returns the key: this call removes it and no other does. The next
     // call by the same worker finishes the remove; until then other calls may find the key.
-    std::optional<std::uint64_t> pop_first() { return pop(nm_worker_pop_first); }
+    std::optional<std::uint64_t> pop_first() { return pop(nm_pool_pop_first); }
 
     // Removes the greatest key and returns it, in the same way.
-    std::optional<std::uint64_t> pop_last() { return pop(nm_worker_pop_last); }
+    std::optional<std::uint64_t> pop_last() { return pop(nm_pool_pop_last); }
 
     [[nodiscard]] bool empty() const { return !first(); }
 
@@ -960,11 +436,10 @@ public:
     // Writes for each lookup whether the set has its key. Each answer was right at a moment of the
     // call. 8 to 64 keys a call are fastest.
     void contains_many(std::vector<nm_lookup> &lookups) const {
-        nm_lookup none{};
-        nm_lookup *at = lookups.empty() ? &none : lookups.data();
-        detail::answered(look([&](nm_handle *worker, std::uint32_t tries) {
-            return nm_worker_contains_many(worker, at, lookups.size(), tries);
-        }));
+        done([&](const detail::Place &to) {
+            return nm_pool_contains_many(to.pool, to.worker, lookups.data(), lookups.size(),
+                                         to.timeout_ms);
+        });
     }
 
     // Inserts these keys, one by one; returns how many were absent. It waits for each key like
@@ -995,6 +470,16 @@ public:
 protected:
     Keys() = default;
 
+    // Makes a call of the pool; returns its outcome. It throws nothing, but a thread may be
+    // cancelled while it waits.
+    template <typename Call>
+    nm_outcome ask(Call call) const {
+        detail::Place to = self().place();
+        if (to.pool == nullptr) return NM_CLOSED;
+        detail::Ordered ordered(to.pool);
+        return call(to);
+    }
+
 private:
     template <typename, Order>
     friend class Iterator;
@@ -1004,28 +489,38 @@ private:
     Of &self() noexcept { return static_cast<Of &>(*this); }
     const Of &self() const noexcept { return static_cast<const Of &>(*this); }
 
-    nm_outcome insert_once(std::uint64_t key) {
-        return self().ask(detail::Gain::inserts, [&](nm_handle *worker) {
-            return nm_worker_insert(worker, key, &self().seats_->call_options());
-        });
+    // Makes a call of the pool; returns whether its answer is not NM_NO.
+    template <typename Call>
+    bool done(Call call, std::uint64_t key = 0) const {
+        nm_outcome outcome = ask(call);
+        if (outcome < 0) detail::fail_at(self().place(), outcome, key);
+        return outcome != NM_NO;
+    }
+
+    // Makes a call of the pool for one key.
+    bool done(nm_outcome (*call)(nm_pool *, std::uint32_t, std::uint64_t, std::uint32_t),
+              std::uint64_t key) const {
+        return done([=](const detail::Place &to) {
+            return call(to.pool, to.worker, key, to.timeout_ms);
+        }, key);
     }
 
     // Returns the least key that is not below `from` and is below `below`.
     std::optional<std::uint64_t> next(std::uint64_t from, std::uint64_t below) const {
         std::uint64_t found = 0;
         if (from > most_key) return std::nullopt;
-        bool is_found = detail::answered(look([&](nm_handle *worker, std::uint32_t tries) {
-            return nm_worker_next(worker, from, tries, &found);
-        }));
+        bool is_found = done([&](const detail::Place &to) {
+            return nm_pool_next(to.pool, to.worker, from, &found, to.timeout_ms);
+        });
         return is_found && found < below ? std::optional<std::uint64_t>(found) : std::nullopt;
     }
 
     // Returns the greatest key that is not above `to` and not below `from`.
     std::optional<std::uint64_t> prev(std::uint64_t to, std::uint64_t from) const {
         std::uint64_t found = 0, key = to < most_key ? to : most_key;
-        bool is_found = detail::answered(look([&](nm_handle *worker, std::uint32_t tries) {
-            return nm_worker_prev(worker, key, tries, &found);
-        }));
+        bool is_found = done([&](const detail::Place &at) {
+            return nm_pool_prev(at.pool, at.worker, key, &found, at.timeout_ms);
+        });
         return is_found && found >= from ? std::optional<std::uint64_t>(found) : std::nullopt;
     }
 
@@ -1046,33 +541,16 @@ private:
         return reverse_iterator(self(), below == 0 ? std::nullopt : prev(below - 1, from), from);
     }
 
-    // Removes a key by a call of the library, and returns it. After NM_UNFINISHED it returns the
-    // key too, because this call and no other removes it.
+    // Removes a key by a call of the pool, and returns it. After NM_UNFINISHED it returns the key
+    // too, because this call and no other removes it.
     template <typename Call>
     std::optional<std::uint64_t> pop(Call call) {
         std::uint64_t taken = 0;
-        nm_outcome outcome = self().ask(detail::Gain::removes, [&](nm_handle *worker) {
-            return call(worker, &self().seats_->call_options(), &taken);
+        bool is_taken = done([&](const detail::Place &to) {
+            nm_outcome outcome = call(to.pool, to.worker, &taken, to.timeout_ms);
+            return outcome == NM_UNFINISHED ? NM_YES : outcome;
         });
-        if (outcome == NM_UNFINISHED) return taken;
-        return detail::answered(outcome) ? std::optional<std::uint64_t>(taken) : std::nullopt;
-    }
-
-    // Makes a call that changes no key, after the remove that is pending. It retries the call if
-    // each try was lost, at most `rounds` times.
-    template <typename Call>
-    nm_outcome look(Call call) const {
-        nm_outcome outcome = NM_BUSY;
-        std::uint64_t rounds = self().is_open() ? self().seats_->call_options().rounds : 0;
-        for (std::uint64_t round = 0; outcome == NM_BUSY && round <= rounds; round++)
-            outcome = self().ask(detail::Gain::none, [&](nm_handle *worker) {
-                std::uint32_t tries = self().seats_->call_options().tries;
-                nm_outcome answer = call(worker, tries);
-                if (answer != NM_PENDING) return answer;
-                nm_worker_finish(worker, tries);
-                return call(worker, tries);
-            });
-        return outcome;
+        return is_taken ? std::optional<std::uint64_t>(taken) : std::nullopt;
     }
 };
 
@@ -1222,24 +700,24 @@ private:
 // exception unwinds. They end its pin, and finish its remove if the bounds of the options allow. A
 // set that ends before its workers is left to them, and the last of them ends the tree.
 //
-// Each call waits for another thread's call by this worker, for 10 seconds at most: NM_IN_USE. Such
-// a call is another thread's call by this object, or a `collect`, `waiting` or `free` of the set.
-// If all workers are attached, it may also be any call of the set: then the set borrows a worker
-// that is in no call. Before that call ends, it finishes its remove, within the bounds of the
-// options. So `try_remove` here does not meet NM_PENDING for another thread's key. `stats` and
-// `queue_len` include what calls of the set did by this worker, and so does `pending` during such a
-// call.
+// Each call waits for another thread's call by this worker, for `timeout_ms` of the options at
+// most: NM_IN_USE. Such a call is another thread's call by this object, or a `collect`, `waiting`
+// or `free` of the set. The end of the worker waits for 10 seconds at most; if such a call has not
+// ended then, the worker remains attached. If all workers are attached, it may also be any call of
+// the set: then the set borrows a worker that is in no call. Before that call ends, it finishes its
+// remove, within the bounds of the options. So `try_remove` here does not meet NM_PENDING for
+// another thread's key. `stats` and `queue_len` include what calls of the set did by this worker,
+// and so does `pending` during such a call.
 class Worker : public Keys<Worker> {
 public:
     // Makes a closed worker.
     Worker() = default;
 
-    Worker(Worker &&from) noexcept : seats_(std::move(from.seats_)), number_(from.number_) {}
+    Worker(Worker &&from) noexcept : place_(std::exchange(from.place_, detail::Place{})) {}
 
     Worker &operator=(Worker &&from) noexcept {
         Worker moved(std::move(from));
-        std::swap(seats_, moved.seats_);
-        std::swap(number_, moved.number_);
+        std::swap(place_, moved.place_);
         return *this;
     }
 
@@ -1247,24 +725,24 @@ public:
 
     // Returns the worker to the set. A closed worker is unchanged.
     void close() noexcept {
-        if (seats_ == nullptr) return;
-        seats_->give_back(number_);
-        seats_.reset();
+        if (!is_open()) return;
+        (void)nm_pool_detach(place_.pool, &place_.worker, detail::longest_ms);
+        place_ = detail::Place{};
     }
 
-    [[nodiscard]] bool is_open() const noexcept { return seats_ != nullptr; }
+    [[nodiscard]] bool is_open() const noexcept { return place_.pool != nullptr; }
 
     // ---- a key, by the calls of the tree alone in nm_set.h ----
 
     [[nodiscard]] nm_outcome try_insert(Key key, std::uint32_t tries = usual_tries) noexcept {
-        return ask(detail::Gain::inserts, [=](nm_handle *worker) {
-            return nm_worker_try_insert(worker, key, tries);
+        return Keys::ask([=](const detail::Place &to) {
+            return nm_pool_try_insert(to.pool, to.worker, key, tries, to.timeout_ms);
         });
     }
 
     [[nodiscard]] nm_outcome try_remove(Key key, std::uint32_t tries = usual_tries) noexcept {
-        return ask(detail::Gain::removes, [=](nm_handle *worker) {
-            return nm_worker_try_remove(worker, key, tries);
+        return Keys::ask([=](const detail::Place &to) {
+            return nm_pool_try_remove(to.pool, to.worker, key, tries, to.timeout_ms);
         });
     }
 
@@ -1353,7 +831,7 @@ public:
 
     [[nodiscard]] std::uint32_t number() const {
         if (!is_open()) detail::answered(NM_CLOSED);
-        return number_;
+        return place_.worker;
     }
 
     // Returns the number of nodes that wait in its queue.
@@ -1407,8 +885,10 @@ public:
     // `close_set` goes on. nm_worker_end says what is proved of the report.
     Report close_set() {
         Report report;
-        detail::answered(is_open() ? seats_->end_by(number_, report.handle_) : NM_CLOSED);
-        seats_.reset();
+        detail::answered(Keys::ask([&](const detail::Place &to) {
+            return nm_pool_end(to.pool, &place_.worker, &report.handle_, detail::longest_ms);
+        }));
+        place_ = detail::Place{};
         return report;
     }
 
@@ -1416,17 +896,22 @@ private:
     friend class Set;
     friend class Keys<Worker>;
 
-    Worker(std::shared_ptr<detail::Seats> seats, std::uint32_t number) noexcept
-        : seats_(std::move(seats)), number_(number) {}
+    explicit Worker(const detail::Place &place) noexcept : place_(place) {}
 
-    template <typename Call>
-    nm_outcome ask(detail::Gain gain, Call call) const noexcept {
-        return seats_ == nullptr ? NM_CLOSED : seats_->by(number_, gain, call);
-    }
+    [[nodiscard]] const detail::Place &place() const noexcept { return place_; }
 
+    // Makes a call of nm_set.h that changes no key, and repeats it while another thread's call has
+    // the worker.
     template <typename Call>
-    nm_outcome ask(Call call) const noexcept {
-        return ask(detail::Gain::none, call);
+    nm_outcome ask(Call call) const {
+        return Keys::ask([&](const detail::Place &to) {
+            nm_pool_wait wait{};
+            nm_outcome outcome;
+            do outcome = call(nm_pool_handle(to.pool, to.worker));
+            while (nm_pool_again(to.pool, to.worker, &wait, outcome, to.timeout_ms));
+            // In a forked child the handle is closed, and a call of the pool returns NM_FORKED.
+            return outcome == NM_CLOSED ? nm_pool_contains(to.pool, to.worker, 0, 0) : outcome;
+        });
     }
 
     // Returns what a function of C writes if it returns NM_YES, or nothing.
@@ -1437,12 +922,7 @@ private:
         return is_found ? std::optional<std::uint64_t>(found) : std::nullopt;
     }
 
-    void make_room(detail::Wait &wait, bool is_first) {
-        seats_->make_room(wait, is_first, seats_->handle(number_));
-    }
-
-    std::shared_ptr<detail::Seats> seats_;
-    std::uint32_t number_ = 0;
+    detail::Place place_;
 };
 
 inline void Pin::unpin() noexcept {
@@ -1459,9 +939,7 @@ public:
     // five more, and those that were removed and wait to be freed. Throws NM_NODES, NM_WORKERS,
     // NM_NO_MEMORY.
     explicit Set(std::uint64_t nodes, const Options &options = {})
-        : seats_(detail::in_memory([&] {
-              return std::make_shared<detail::Seats>(nodes, options);
-          })) {}
+        : place_{detail::pool_of(nodes, options), NM_ANY, options.timeout_ms} {}
 
     // Makes the set of these keys: `nm::Set(64, nm::keys, {1u, 2u})`. It also throws NM_KEY,
     // NM_FULL.
@@ -1474,28 +952,27 @@ public:
         insert(first, last);
     }
 
-    Set(Set &&from) noexcept = default;
+    Set(Set &&from) noexcept : place_(std::exchange(from.place_, detail::Place{})) {}
 
     Set &operator=(Set &&from) noexcept {
         Set moved(std::move(from));
-        std::swap(seats_, moved.seats_);
+        std::swap(place_, moved.place_);
         return *this;
     }
 
-    ~Set() {
-        if (seats_ != nullptr) seats_->leave();
-    }
+    ~Set() { nm_pool_free(place_.pool); }
 
     // ---- a key, with nothing thrown ----
     // These make the managed calls of nm_set.h, with the bounds of the options. They wait for no
     // worker and for no nodes. NM_NO_WORKER: each worker is in a call or pinned. If another thread
-    // is stopped while it attaches a worker for the first time, they take some tenths of a second.
+    // is stopped while it makes the first call by a worker, they take some tenths of a second.
 
     // Inserts the key; returns NM_YES if it was absent, and else NM_NO. Errors: NM_FULL: no nodes
-    // are free; `collect`, and call again. NM_KEY, NM_BUSY, NM_NO_MEMORY, NM_NO_WORKER, NM_CLOSED.
+    // are free, and a collection freed none. NM_KEY, NM_BUSY, NM_NO_MEMORY, NM_NO_WORKER,
+    // NM_CLOSED.
     [[nodiscard]] nm_outcome try_insert(Key key) noexcept {
-        return once(detail::Gain::inserts, [&](nm_handle *worker) {
-            return nm_worker_insert(worker, key, &seats_->call_options());
+        return ask([=](const detail::Place &to) {
+            return nm_pool_insert(to.pool, NM_ANY, key, 0);
         });
     }
 
@@ -1503,16 +980,16 @@ public:
     // key will be removed by this call and no other. NM_KEY, NM_BUSY, NM_NO_MEMORY, NM_NO_WORKER,
     // NM_CLOSED.
     [[nodiscard]] nm_outcome try_remove(Key key) noexcept {
-        return once(detail::Gain::removes, [&](nm_handle *worker) {
-            return nm_worker_remove(worker, key, &seats_->call_options());
+        return ask([=](const detail::Place &to) {
+            return nm_pool_remove(to.pool, NM_ANY, key, 0);
         });
     }
 
     // Returns NM_YES if the set has the key, and else NM_NO. Errors: NM_KEY, NM_BUSY, NM_NO_WORKER,
     // NM_CLOSED.
     [[nodiscard]] nm_outcome try_contains(Key key) const noexcept {
-        return once(detail::Gain::none, [&](nm_handle *worker) {
-            return nm_worker_contains(worker, key, &seats_->call_options());
+        return ask([=](const detail::Place &to) {
+            return nm_pool_contains(to.pool, NM_ANY, key, 0);
         });
     }
 
@@ -1520,50 +997,45 @@ public:
 
     // Attaches a worker to this thread, the least number first. While each worker is attached or in
     // a call it waits, for `most` at most, and then throws NM_NO_WORKER. If no time is given, it
-    // waits without end; so it does if this thread itself has all workers.
-    [[nodiscard]] Worker attach(
-        std::chrono::milliseconds most = std::chrono::milliseconds::max()) {
+    // waits for `timeout_ms` of the options.
+    [[nodiscard]] Worker attach(std::chrono::milliseconds most) {
         Worker taken;
-        nm_outcome outcome = try_attach(taken);
-        if (outcome == NM_NO_WORKER) {
-            detail::Wait wait = waits(most);
-            while (outcome == NM_NO_WORKER && wait.pause()) outcome = try_attach(taken);
-        }
-        if (outcome == NM_NO_WORKER)
-            detail::fail(outcome, [this] {
-                return "each of the " + std::to_string(workers()) +
-                       " workers of the set (64 at most) is attached or in a call";
-            });
-        succeed(outcome);
+        bound(lend(taken, [=](nm_pool *pool, std::uint32_t *number) {
+            return nm_pool_attach(pool, number, millis(most));
+        }));
         return taken;
     }
 
+    [[nodiscard]] Worker attach() { return attach(std::chrono::milliseconds(place_.timeout_ms)); }
+
     // Attaches a worker into a closed one, and waits for no worker. Returns NM_DONE. Errors:
     // NM_NO_WORKER: each worker is attached or in a call. NM_OPEN, NM_CLOSED, NM_NO_MEMORY. If
-    // another thread is stopped while it attaches a worker, this takes some tenths of a second
-    // (nm_set_worker). If that thread has the lock of the set, it takes as long as that thread is
-    // stopped.
+    // another thread is stopped while it makes the first call by a worker, this takes some tenths
+    // of a second (nm_set_worker).
     [[nodiscard]] nm_outcome try_attach(Worker &into) noexcept {
-        return try_lend(into, [this](std::uint32_t &number) { return seats_->lend_any(number); });
+        return lend(into, [](nm_pool *pool, std::uint32_t *number) {
+            return nm_pool_attach(pool, number, 0);
+        });
     }
 
     // Attaches the worker of a number to this thread. It waits while a call of the set has that
-    // worker, for 10 seconds at most: NM_IN_USE. NM_ATTACHED: the worker is attached. NM_NUMBER.
+    // worker, for `timeout_ms` of the options: NM_IN_USE. NM_ATTACHED: the worker is attached.
+    // NM_NUMBER.
     [[nodiscard]] Worker worker(std::uint32_t number) {
         Worker taken;
-        detail::Wait wait(detail::longest);
-        nm_outcome outcome = try_worker(taken, number);
-        while (outcome == NM_IN_USE && wait.pause()) outcome = try_worker(taken, number);
+        nm_outcome outcome = lend(taken, [&](nm_pool *pool, std::uint32_t *into) {
+            return nm_pool_attach_number(pool, number, into, place_.timeout_ms);
+        });
         if (outcome == NM_ATTACHED)
             detail::fail(outcome, [=] {
-                return detail::those(detail::bit_of(number)) + " attached to a thread";
+                return detail::those(std::uint64_t{1} << number) + " attached to a thread";
             });
         if (outcome == NM_NUMBER)
             detail::fail(outcome, [&] {
                 return "the set has workers 0 to " + std::to_string(workers() - 1) +
                        ", and none " + std::to_string(number);
             });
-        succeed(outcome);
+        bound(outcome);
         return taken;
     }
 
@@ -1571,7 +1043,9 @@ public:
     // Errors: NM_ATTACHED: the worker is attached. NM_IN_USE: it is in a call. NM_NUMBER, NM_OPEN,
     // NM_CLOSED, NM_NO_MEMORY. It takes as long as `try_attach`.
     [[nodiscard]] nm_outcome try_worker(Worker &into, std::uint32_t number) noexcept {
-        return try_lend(into, [&](std::uint32_t &wanted) { return seats_->lend(wanted = number); });
+        return lend(into, [=](nm_pool *pool, std::uint32_t *taken) {
+            return nm_pool_attach_number(pool, number, taken, 0);
+        });
     }
 
     // ---- how full it is ----
@@ -1579,112 +1053,111 @@ public:
     // Returns the number of keys: it adds up one count for each worker, and waits for nothing. It
     // is exact if no call is in progress; otherwise it may miss the calls in progress. An
     // unfinished remove counts as done.
-    [[nodiscard]] std::uint64_t size() const { return open_seats().keys(); }
+    [[nodiscard]] std::uint64_t size() const {
+        std::uint64_t count = 0;
+        bound(ask([&](const detail::Place &to) { return nm_pool_size(to.pool, &count); }));
+        return count;
+    }
 
     // Returns the number of removed nodes that wait to be freed. It asks each worker, and waits for
     // none. For a worker that is in a call it takes the number of an earlier time, when `waiting`,
     // `free` or an insert into the full set last asked it. So it is exact if no call is in
     // progress.
-    [[nodiscard]] std::uint64_t waiting() const {
-        detail::Queues now = open_seats().queues();
-        (void)open_seats();  // a worker that was given back for a close has not answered
-        return now.asked + now.seen;
-    }
+    [[nodiscard]] std::uint64_t waiting() const { return fullness().waiting; }
 
     // Returns the number of free nodes, computed from `size` and `waiting`. An insert takes two.
-    [[nodiscard]] std::uint64_t free() const {
-        std::uint64_t taken = 5 + 2 * size() + waiting();
-        return taken < nodes() ? nodes() - taken : 0;
-    }
+    [[nodiscard]] std::uint64_t free() const { return fullness().free; }
 
     // Returns the number of nodes for which it has room.
-    [[nodiscard]] std::uint64_t nodes() const { return open_seats().nodes(); }
+    [[nodiscard]] std::uint64_t nodes() const { return nm_pool_nodes(open_pool()); }
 
     // Returns how many keys it can have if no removed node waits.
     [[nodiscard]] std::uint64_t capacity() const { return (nodes() - 5) / 2; }
 
     // Returns how many workers it has.
-    [[nodiscard]] std::uint32_t workers() const { return open_seats().count(); }
+    [[nodiscard]] std::uint32_t workers() const { return nm_pool_workers(open_pool()); }
 
     // Advances the epoch as far as possible, and frees what has waited long enough with each worker
     // that is in no call. It waits for no worker. Returns the number of freed nodes.
-    std::uint64_t collect() { return open_seats().collect(nullptr); }
+    std::uint64_t collect() {
+        std::uint64_t freed = 0;
+        bound(ask([&](const detail::Place &to) { return nm_pool_collect(to.pool, &freed); }));
+        return freed;
+    }
 
     // ---- the end ----
 
-    // Returns whether it was not closed, and no thread is in its close.
+    // Returns whether it was not closed.
     [[nodiscard]] bool is_open() const noexcept {
-        return seats_ != nullptr && !seats_->is_closing();
+        std::uint64_t count = 0;
+        return place_.pool != nullptr && nm_pool_size(place_.pool, &count) == NM_DONE;
     }
 
     // Ends the set, and returns the report of what it had. It waits for the calls of other threads,
-    // for 10 seconds at most, and for another thread's `close` as long as that takes. Each later
-    // call throws NM_CLOSED, and so does each call that waits. NM_ATTACHED: a `Worker` is open, or
-    // a call has not ended in 10 seconds; the text names the worker, and the set goes on.
-    // NM_NO_MEMORY: only another close goes on.
+    // and for another thread's `close`, for 10 seconds at most. Calls that begin meanwhile wait for
+    // its end. Each later call throws NM_CLOSED, and so does each call that waits. NM_ATTACHED: a
+    // `Worker` is open. NM_IN_USE: a call has not ended in 10 seconds. After these two the set goes
+    // on, and the text names the workers. NM_NO_MEMORY: only another close goes on.
     Report close() {
-        if (seats_ == nullptr) succeed(NM_CLOSED);
-        return Report(seats_->end());
+        Report report;
+        std::uint64_t missing = 0;
+        nm_outcome outcome = ask([&](const detail::Place &to) {
+            return nm_pool_close(to.pool, detail::longest_ms, &report.handle_, &missing);
+        });
+        if (outcome == NM_ATTACHED)
+            detail::fail(outcome, [=] {
+                return detail::those(missing) +
+                       " attached to a thread: close what attach gave first";
+            });
+        if (outcome == NM_IN_USE && missing != 0)
+            detail::fail(outcome, [=] {
+                return detail::those(missing) +
+                       " in a call that has not ended in 10 seconds: close again";
+            });
+        bound(outcome);
+        return report;
     }
 
 private:
     friend class Keys<Set>;
 
-    // Returns what the set and its workers share. Throws NM_CLOSED if the set is closed.
-    detail::Seats &open_seats() const {
-        if (!is_open()) succeed(NM_CLOSED);
-        return *seats_;
+    [[nodiscard]] const detail::Place &place() const noexcept { return place_; }
+
+    // Throws the fault of a call that failed.
+    void bound(nm_outcome outcome) const {
+        if (outcome < 0) detail::fail_at(place_, outcome, 0);
     }
 
-    static void succeed(nm_outcome outcome) {
-        if (outcome == NM_CLOSED) throw Fault(outcome, detail::Literal{"the set is closed"});
-        detail::answered(outcome);
+    // Returns the pool. Throws NM_CLOSED if the set is closed.
+    nm_pool *open_pool() const {
+        if (!is_open()) bound(NM_CLOSED);
+        return place_.pool;
     }
 
-    // Returns a wait for a time, and one without end if the time is too long for a clock.
-    static detail::Wait waits(std::chrono::milliseconds most) {
-        constexpr std::chrono::milliseconds years = std::chrono::hours(24 * 365 * 100);
-        return most < years ? detail::Wait(most) : detail::endless();
+    [[nodiscard]] nm_fullness fullness() const {
+        nm_fullness now{};
+        bound(ask([&](const detail::Place &to) { return nm_pool_fullness(to.pool, &now); }));
+        return now;
     }
 
+    // Returns a time in milliseconds, at most the longest time of a call of the pool.
+    static std::uint32_t millis(std::chrono::milliseconds most) noexcept {
+        constexpr std::chrono::milliseconds::rep longest = UINT32_MAX;
+        return static_cast<std::uint32_t>(std::clamp(most.count(), decltype(longest){0}, longest));
+    }
+
+    // Attaches a worker into a closed one, by a call that writes its number.
     template <typename Call>
-    nm_outcome try_lend(Worker &into, Call call) noexcept {
+    nm_outcome lend(Worker &into, Call call) {
         if (into.is_open()) return NM_OPEN;
-        if (!is_open()) return NM_CLOSED;
-        std::uint32_t number = 0;
-        nm_outcome outcome = call(number);
-        if (outcome == NM_DONE) into = Worker(seats_, number);
+        detail::Place taken = place_;
+        nm_outcome outcome =
+            ask([&](const detail::Place &to) { return call(to.pool, &taken.worker); });
+        if (outcome == NM_DONE) into = Worker(taken);
         return outcome;
     }
 
-    // Makes a call by a worker that is in no call, and waits without end until there is one.
-    template <typename Call>
-    nm_outcome ask(detail::Gain gain, Call call) const {
-        nm_outcome outcome = open_seats().visit(gain, call);
-        if (outcome == NM_NO_WORKER || outcome == NM_IN_USE) {
-            detail::Wait wait = detail::endless();
-            do {
-                wait.pause();
-                outcome = open_seats().visit(gain, call);
-            } while (outcome == NM_NO_WORKER || outcome == NM_IN_USE);
-        }
-        return outcome;
-    }
-
-    // Makes a call by a worker that is in no call. Returns NM_NO_WORKER if there is none.
-    template <typename Call>
-    nm_outcome once(detail::Gain gain, Call call) const noexcept {
-        if (!is_open()) return NM_CLOSED;
-        nm_outcome outcome = seats_->visit(gain, call);
-        if (outcome != NM_NO_WORKER && outcome != NM_IN_USE) return outcome;
-        return is_open() ? NM_NO_WORKER : NM_CLOSED;
-    }
-
-    void make_room(detail::Wait &wait, bool is_first) {
-        open_seats().make_room(wait, is_first, nullptr);
-    }
-
-    std::shared_ptr<detail::Seats> seats_;
+    detail::Place place_;
 };
 
 // A version of the library.

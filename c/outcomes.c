@@ -22,7 +22,7 @@ static void each_tells(nm_handle *worker, uint64_t key, nm_outcome wanted) {
 }
 
 /* Checks that each managed call for a key returns the wanted outcome. */
-static void each_tending_tells(nm_handle *worker, uint64_t key, nm_outcome wanted) {
+static void each_managed_call_tells(nm_handle *worker, uint64_t key, nm_outcome wanted) {
     CHECK(nm_worker_contains(worker, key, &nm_default_options) == wanted);
     CHECK(nm_worker_insert(worker, key, &nm_default_options) == wanted);
     CHECK(nm_worker_remove(worker, key, &nm_default_options) == wanted);
@@ -43,7 +43,7 @@ static void is_refused(nm_handle *handle, nm_outcome worker, nm_outcome report) 
     nm_waiting waiting = {NOT_WRITTEN, 0, 0};
     if (worker != NM_DONE) {
         each_tells(handle, 5, worker);
-        each_tending_tells(handle, 5, worker);
+        each_managed_call_tells(handle, 5, worker);
         each_pop_tells(handle, &nm_default_options, worker);
         CHECK(nm_worker_finish(handle, TRIES) == worker);
         CHECK(nm_worker_pin(handle, TRIES, &wide) == worker && nm_worker_unpin(handle) == worker);
@@ -98,7 +98,7 @@ static void kinds(void) {
     is_refused(&set, NM_KIND, NM_KIND);
     is_refused(&worker, NM_DONE, NM_KIND);
     each_tells(&worker, UINT64_MAX - 2, NM_KEY);
-    each_tending_tells(&worker, UINT64_MAX - 2, NM_KEY);
+    each_managed_call_tells(&worker, UINT64_MAX - 2, NM_KEY);
     CHECK(nm_worker_try_insert(&worker, UINT64_MAX - 3, TRIES) == NM_YES);
     CHECK(nm_drop(&worker) == NM_DONE && nm_set_close(&set) == NM_DONE);
     is_refused(&set, NM_KIND, NM_DONE);
@@ -149,7 +149,7 @@ static void answers(void) {
 
 /* Managed calls, if two slots are free: a remove that has begun is finished first, a
  * full set is collected, and nothing is made again that might have no try. */
-static void tended(void) {
+static void managed(void) {
     const nm_options *usual = &nm_default_options, none = {0, 0, 64};
     nm_handle set = NM_CLOSED_HANDLE, worker = NM_CLOSED_HANDLE, reader = NM_CLOSED_HANDLE;
     uint64_t told = NOT_WRITTEN;
@@ -161,7 +161,7 @@ static void tended(void) {
           nm_worker_insert(&worker, 5, usual) == NM_NO);
     CHECK(nm_worker_contains(&worker, 5, usual) == NM_YES &&
           nm_worker_insert(&worker, 6, usual) == NM_FULL);
-    each_tending_tells(&worker, UINT64_MAX - 2, NM_KEY);
+    each_managed_call_tells(&worker, UINT64_MAX - 2, NM_KEY);
     CHECK(nm_worker_contains(&worker, 5, &none) == NM_BUSY &&
           nm_worker_insert(&worker, 6, &none) == NM_BUSY);
     CHECK(nm_worker_remove(&worker, 5, &none) == NM_BUSY &&
@@ -224,7 +224,7 @@ static void epochs(void) {
     CHECK(nm_worker_pin(&reader, TRIES, &epoch) == NM_DONE &&
           nm_worker_pin(&reader, TRIES, &epoch) == NM_PINNED);
     each_tells(&reader, 5, NM_PINNED);
-    each_tending_tells(&reader, 5, NM_PINNED);
+    each_managed_call_tells(&reader, 5, NM_PINNED);
     each_pop_tells(&reader, &nm_default_options, NM_PINNED);
     CHECK(nm_worker_try_insert(&writer, 5, TRIES) == NM_YES &&
           nm_worker_try_remove(&writer, 5, TRIES) == NM_YES);
@@ -464,7 +464,7 @@ int main(void) {
     sizes();
     kinds();
     answers();
-    tended();
+    managed();
     collected();
     epochs();
     ends();

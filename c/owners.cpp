@@ -99,7 +99,8 @@ void a_worker_outlives_its_set() {
         left.push_back(set.worker(0));
     }
     CHECK(left.back().insert(7u) && left.back().contains(7u) &&
-          fault_of([&] { left.back().insert(8u); }).text == nm_outcome_text(NM_FULL));
+          fault_of([&] { left.back().insert(8u); }).text ==
+              "the set is full: its 1 keys take 7 of its 7 nodes, and 0 wait to be freed");
 }
 
 void faults_are_told() {

@@ -6,7 +6,7 @@
 #include <inttypes.h>
 #include <stdio.h>
 
-enum { NODES = 1024, KEYS = 150, TENDED = 100, TRIES = 64 };
+enum { NODES = 1024, KEYS = 150, MANAGED = 100, TRIES = 64 };
 
 /* A refused set leaves its handle closed. */
 static void make(nm_handle *set) {
@@ -39,7 +39,7 @@ static nm_outcome delete(nm_handle *worker, uint64_t key) {
     return told;
 }
 
-/* The same by calls that tend the set: a refused one has left the key as it was, and nothing
+/* The same by managed calls: a refused one has left the key as it was, and nothing
  * pending. */
 static nm_outcome add(nm_handle *worker, uint64_t key) {
     nm_outcome told;
@@ -59,13 +59,13 @@ static nm_outcome remove_key(nm_handle *worker, uint64_t key) {
 
 /* A worker with managed calls: nine of ten of its keys are removed, each after a collection if
  * enough nodes wait. */
-static void tend(nm_handle *worker) {
-    for (uint64_t key = KEYS; key < KEYS + TENDED; key++) CHECK(add(worker, key) == NM_YES);
-    for (uint64_t key = KEYS; key < KEYS + TENDED; key++)
+static void insert_and_remove(nm_handle *worker) {
+    for (uint64_t key = KEYS; key < KEYS + MANAGED; key++) CHECK(add(worker, key) == NM_YES);
+    for (uint64_t key = KEYS; key < KEYS + MANAGED; key++)
         if (key % 10 != 0) CHECK(remove_key(worker, key) == NM_YES);
 }
 
-/* Behind a close that was refused memory, the workers are gathered, so that nothing but close goes
+/* After a close that was refused memory, the workers are gathered, so that nothing but close goes
  * on. */
 static void end(nm_handle *set) {
     nm_outcome told;
@@ -116,7 +116,7 @@ int main(void) {
     for (uint64_t key = 0; key < KEYS; key++) CHECK(insert(&first, key * 37 % KEYS) == NM_YES);
     for (uint64_t key = 0; key < KEYS; key++)
         if (key % 16 != 0) CHECK(delete(key % 3 == 0 ? &second : &first, key) == NM_YES);
-    tend(&third);
+    insert_and_remove(&third);
     CHECK(nm_drop(&first) == NM_DONE && nm_drop(&second) == NM_DONE && nm_drop(&third) == NM_DONE);
     end(&set);
     tell(&set);

@@ -17,12 +17,12 @@ enum {
     KEYS = 256,
     CALLS = 100000,
     TRIES = 64,
-    TEND_EVERY = 64
+    COLLECT_EVERY = 64
 };
 
 typedef struct part {
     nm_handle worker;
-    int tends; /* whether its calls tend the set */
+    int is_managed; /* whether it makes managed calls */
     uint64_t seed;
     int balance[KEYS]; /* of each key, how many of its inserts answered yes, less such deletes */
     uint64_t inserted, deleted, found;
@@ -36,7 +36,7 @@ static uint64_t draw(uint64_t *seed) {
 }
 
 /* Moves the epoch on if it can, and frees what has waited long enough. */
-static void tend(part *own) {
+static void collect(part *own) {
     uint64_t epoch, freed;
     uint32_t behind;
     nm_outcome moved = nm_worker_advance(&own->worker, &epoch, &behind);
@@ -45,17 +45,17 @@ static void tend(part *own) {
 }
 
 static nm_outcome try_insert(part *own, uint64_t key) {
-    return own->tends ? nm_worker_insert(&own->worker, key, &nm_default_options)
+    return own->is_managed ? nm_worker_insert(&own->worker, key, &nm_default_options)
                       : nm_worker_try_insert(&own->worker, key, TRIES);
 }
 
 static nm_outcome try_delete(part *own, uint64_t key) {
-    return own->tends ? nm_worker_remove(&own->worker, key, &nm_default_options)
+    return own->is_managed ? nm_worker_remove(&own->worker, key, &nm_default_options)
                       : nm_worker_try_remove(&own->worker, key, TRIES);
 }
 
 static nm_outcome try_has(part *own, uint64_t key) {
-    return own->tends ? nm_worker_contains(&own->worker, key, &nm_default_options)
+    return own->is_managed ? nm_worker_contains(&own->worker, key, &nm_default_options)
                       : nm_worker_try_contains(&own->worker, key, TRIES);
 }
 
@@ -64,7 +64,7 @@ static int insert(part *own, uint64_t key) {
     nm_outcome told;
     while ((told = try_insert(own, key)) < 0) {
         CHECK(told == NM_BUSY || told == NM_FULL);
-        tend(own);
+        collect(own);
     }
     return told == NM_YES;
 }
@@ -97,7 +97,7 @@ static void *work(void *given) {
             break;
         default: own->found += has(own, key);
         }
-        if (!own->tends && call % TEND_EVERY == 0) tend(own);
+        if (!own->is_managed && call % COLLECT_EVERY == 0) collect(own);
     }
     return NULL;
 }
@@ -151,7 +151,7 @@ int main(void) {
     CHECK(nm_set_new(&set, NODES, THREADS * APART) == NM_DONE);
     for (uint32_t i = 0; i < THREADS; i++) {
         parts[i].seed = 88172645463325252u + i;
-        parts[i].tends = i % 2 == 1;
+        parts[i].is_managed = i % 2 == 1;
         CHECK(nm_set_worker(&set, &parts[i].worker, i * APART) == NM_DONE);
         CHECK(pthread_create(&threads[i], NULL, work, &parts[i]) == 0);
     }

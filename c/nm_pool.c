@@ -1,0 +1,1044 @@
+/* The pool of nm_pool.h. Each worker has a seat, and a call takes a seat by an atomic exchange. No
+ * function has a lock, so a thread that is lost inside one keeps at most the seat that it has. */
+#define _GNU_SOURCE
+#include "nm_pool.h"
+
+#include <inttypes.h>
+#include <pthread.h>
+#include <sched.h>
+#include <stdalign.h>
+#include <stdarg.h>
+#include <stdatomic.h>
+#include <stdbool.h>
+#include <stdio.h>
+#include <stdlib.h>
+#include <string.h>
+#include <time.h>
+
+#define LINE 64          /* the bytes of a cache line */
+#define PROCESSORS 64    /* the places of processors; two processors may have one place */
+#define LOOKS 256        /* how often a call looks at a handle in use before it pauses */
+#define YIELDS 4         /* how often a wait yields before it sleeps */
+#define FIRST_SLEEP 20000     /* nanoseconds */
+#define LONGEST_SLEEP 1000000 /* nanoseconds */
+#define MOVES 3          /* the most advances before a collection; waiting nodes need two */
+#define COLLECT_LOOKS 4  /* how often a collection looks at a worker in use */
+#define ROOM_TURNS 8     /* how often an insert yields for nodes before it sleeps */
+#define ROOM_LOOKS 20000 /* nanoseconds: how long it looks for nodes after each yield */
+#define BACK_TURNS 16    /* how often a call yields back to an insert */
+#define END_MS 10000     /* how long nm_pool_free waits for calls */
+#define WORKERS 64       /* the most workers of a set */
+
+/* What uses a seat: nothing, a call by NM_ANY, or a thread that attached its worker. Or no call may
+ * use it, because the set is closed. */
+enum use { FREE, CALL, LENT, CLOSED };
+
+/* OPEN: calls are made. CLOSING: they wait for the end of a close. GATHERED: a close was refused
+ * memory, after it had taken all workers. ENDED: the report was given out. LEFT: the pool was given
+ * up, and attached workers go on. */
+enum phase { OPEN, CLOSING, GATHERED, ENDED, LEFT };
+
+/* What a call that returns NM_YES does to the number of keys. */
+enum gain { NONE, INSERTS, REMOVES };
+
+/* One worker with its handle, in a cache line of its own. */
+struct seat {
+    alignas(LINE) atomic_int use;
+    bool is_open;          /* whether the handle owns the worker; its user reads and writes it */
+    nm_handle handle;
+    _Atomic uint64_t keys; /* inserted less removed by calls by NM_ANY, which have the seat alone */
+    _Atomic uint64_t shared_keys; /* the same by attached workers and by those that borrow them */
+    _Atomic uint32_t waiting;     /* the nodes in its queue when it was last asked */
+    _Atomic uint32_t arrivals, departures; /* the calls that have begun and ended to borrow it */
+};
+
+struct nm_pool {
+    nm_options options;
+    uint32_t count;
+    uint64_t nodes;
+    unsigned long forks;
+    void *block;              /* what malloc returned */
+    atomic_int phase;
+    atomic_uint opened;       /* above the number of each seat that was ever open */
+    atomic_uint inserts;      /* how many inserts have yielded their processors */
+    alignas(LINE) nm_handle set;
+    nm_handle closed;         /* the handle of each worker in a forked child */
+    atomic_bool is_closing;   /* whether a thread is in nm_pool_close */
+    atomic_uint references;   /* 1 until nm_pool_free, and 1 for each attached worker */
+    atomic_uint inserts_at[PROCESSORS]; /* the same by the place of the processor */
+    struct seat seats[];
+};
+
+/* What a call needs besides its worker. */
+struct request {
+    uint64_t key;
+    uint64_t *found;
+    nm_lookup *lookups;
+    size_t count;
+    uint64_t *end; /* of an insert: when its waits end, and 0 before the first one */
+};
+
+typedef nm_outcome (*call_of)(const nm_pool *, nm_handle *, const struct request *);
+
+#define INLINE static inline __attribute__((always_inline))
+#define COLD static __attribute__((noinline, cold))
+
+/* ---- forks ---- */
+
+/* The number of forks between the start of the program and this process. */
+static atomic_ulong forks;
+static pthread_once_t forks_once = PTHREAD_ONCE_INIT;
+
+static void count_fork(void) { atomic_fetch_add(&forks, 1); }
+static void count_forks(void) { (void)pthread_atfork(NULL, NULL, count_fork); }
+
+INLINE bool is_forked(const nm_pool *pool) {
+    return pool->forks != atomic_load_explicit(&forks, memory_order_relaxed);
+}
+
+/* ---- waits ---- */
+
+static uint64_t now(void) {
+    struct timespec time = {0, 0};
+    (void)clock_gettime(CLOCK_MONOTONIC, &time);
+    return (uint64_t)time.tv_sec * 1000000000u + (uint64_t)time.tv_nsec;
+}
+
+/* Returns a wait of a call, which goes on with an earlier wait of the same call. */
+static nm_pool_wait wait_of(const struct request *request) {
+    return (nm_pool_wait){request->end != NULL ? *request->end : 0, 0, 0, 0};
+}
+
+static void keep_wait(const struct request *request, const nm_pool_wait *wait) {
+    if (request->end != NULL) *request->end = wait->end;
+}
+
+static void begin(nm_pool_wait *wait, uint32_t timeout_ms) {
+    if (wait->end == 0) wait->end = now() + (uint64_t)timeout_ms * 1000000u;
+}
+
+static bool is_over(const nm_pool_wait *wait) { return now() >= wait->end; }
+
+/* Yields, or sleeps after some yields, and returns true. Returns false if the time is over. */
+static bool pause_until(nm_pool_wait *wait, uint32_t timeout_ms) {
+    if (timeout_ms == 0) return false;
+    begin(wait, timeout_ms);
+    uint64_t at = now();
+    if (at >= wait->end) return false;
+    if (wait->pause < YIELDS) {
+        wait->pause++;
+        (void)sched_yield();
+        return true;
+    }
+    uint64_t sleep = wait->pause < FIRST_SLEEP ? FIRST_SLEEP : wait->pause;
+    wait->pause = sleep < LONGEST_SLEEP / 2 ? (uint32_t)(2 * sleep) : LONGEST_SLEEP;
+    if (sleep > wait->end - at) sleep = wait->end - at;
+    struct timespec time = {0, (long)sleep};
+    (void)nanosleep(&time, NULL);
+    return true;
+}
+
+/* Looks again at once some times, and then pauses. Returns false if the time is over. */
+static bool look_again(nm_pool_wait *wait, uint32_t timeout_ms) {
+    if (++wait->looks < LOOKS) return true;
+    wait->looks = 0;
+    return pause_until(wait, timeout_ms);
+}
+
+/* ---- processors ----
+ * A thread that was preempted inside a call keeps nodes from being freed until it goes on. So an
+ * insert that waits yields its processor to the threads there, and each of them yields it back
+ * after the call that it was in. If they did not, the insert would wait until the kernel takes the
+ * processor from each of them. */
+
+static unsigned processor(void) {
+    int number = sched_getcpu();
+    return number < 0 ? 0 : (unsigned)number % PROCESSORS;
+}
+
+static void yield_for_nodes(nm_pool *pool) {
+    atomic_uint *here = &pool->inserts_at[processor()];
+    atomic_fetch_add_explicit(here, 1, memory_order_relaxed);
+    atomic_fetch_add_explicit(&pool->inserts, 1, memory_order_relaxed);
+    (void)sched_yield();
+    atomic_fetch_sub_explicit(&pool->inserts, 1, memory_order_relaxed);
+    atomic_fetch_sub_explicit(here, 1, memory_order_relaxed);
+}
+
+/* A thread that has waited for long may be chosen several times before the insert. */
+COLD void yield_back_here(nm_pool *pool) {
+    for (int turn = 0; turn < BACK_TURNS; turn++) {
+        if (atomic_load_explicit(&pool->inserts_at[processor()], memory_order_relaxed) == 0) return;
+        (void)sched_yield();
+    }
+}
+
+/* Yields the processor back, after a call, if an insert has yielded it. */
+INLINE void yield_back(nm_pool *pool) {
+    if (atomic_load_explicit(&pool->inserts, memory_order_relaxed) != 0) yield_back_here(pool);
+}
+
+/* ---- seats ---- */
+
+/* The seat at which this thread looks first: the one that it used last. */
+static _Thread_local uint32_t last_seat = UINT32_MAX;
+
+static uint32_t first_seat(const nm_pool *pool) {
+    static atomic_uint threads;
+    if (last_seat == UINT32_MAX)
+        last_seat = atomic_fetch_add_explicit(&threads, 1, memory_order_relaxed) % WORKERS;
+    return last_seat % pool->count;
+}
+
+INLINE bool take(struct seat *seat, int by) {
+    int wanted = FREE;
+    return atomic_compare_exchange_strong_explicit(&seat->use, &wanted, by, memory_order_seq_cst,
+                                                   memory_order_relaxed);
+}
+
+INLINE void set_use(struct seat *seat, int use) {
+    atomic_store_explicit(&seat->use, use, memory_order_release);
+}
+
+INLINE int use_of(const struct seat *seat) {
+    return atomic_load_explicit(&((struct seat *)seat)->use, memory_order_acquire);
+}
+
+/* Takes a seat, and waits while a call by NM_ANY has it. Returns whether it took the seat. */
+static bool take_soon(struct seat *seat, int by, nm_pool_wait *wait, uint32_t timeout_ms) {
+    for (;;) {
+        if (take(seat, by)) return true;
+        int use = use_of(seat);
+        if (use != FREE && (use != CALL || !pause_until(wait, timeout_ms))) return false;
+    }
+}
+
+/* Returns the seat of an attached worker, or NULL. */
+static struct seat *lent_seat(nm_pool *pool, uint32_t number) {
+    if (number >= pool->count || use_of(&pool->seats[number]) != LENT) return NULL;
+    return &pool->seats[number];
+}
+
+static int phase_of(const nm_pool *pool) { return atomic_load(&((nm_pool *)pool)->phase); }
+
+static bool is_ended(const nm_pool *pool) { return phase_of(pool) >= GATHERED; }
+
+static uint32_t opened(const nm_pool *pool) {
+    return atomic_load_explicit(&((nm_pool *)pool)->opened, memory_order_acquire);
+}
+
+/* Attaches the worker of a seat that the caller uses, unless it is open. Returns NM_IN_USE if
+ * another call has that handle, or has the handle of the set for longer than the library looks. */
+static nm_outcome open_seat(nm_pool *pool, uint32_t number) {
+    struct seat *seat = &pool->seats[number];
+    if (seat->is_open) return NM_DONE;
+    nm_outcome outcome = nm_set_worker(&pool->set, &seat->handle, number);
+    seat->is_open = outcome == NM_DONE;
+    unsigned most = atomic_load(&pool->opened);
+    while (seat->is_open && most <= number &&
+           !atomic_compare_exchange_weak(&pool->opened, &most, number + 1)) {}
+    return outcome;
+}
+
+/* Returns what a call adds to the number of keys. An unfinished remove counts at once, because its
+ * key will be removed by this call and no other. Its later end counts nothing. */
+INLINE uint64_t change_of(enum gain gain, nm_outcome outcome) {
+    if (gain == INSERTS) return outcome == NM_YES;
+    if (gain == REMOVES) return -(uint64_t)(outcome == NM_YES || outcome == NM_UNFINISHED);
+    return 0;
+}
+
+/* Counts for a seat that the caller has alone, and so needs no atomic addition. */
+INLINE void count_alone(struct seat *seat, enum gain gain, nm_outcome outcome) {
+    uint64_t change = change_of(gain, outcome);
+    if (change == 0) return;
+    uint64_t keys = atomic_load_explicit(&seat->keys, memory_order_relaxed);
+    atomic_store_explicit(&seat->keys, keys + change, memory_order_relaxed);
+}
+
+INLINE void count_shared(struct seat *seat, enum gain gain, nm_outcome outcome) {
+    uint64_t change = change_of(gain, outcome);
+    if (change != 0) atomic_fetch_add_explicit(&seat->shared_keys, change, memory_order_relaxed);
+}
+
+/* Goes on with a pending remove, at most 1 + rounds times. Returns NM_YES if it is finished, NM_NO
+ * if none is pending, NM_UNFINISHED, or NM_IN_USE if another call has the handle. */
+static nm_outcome finish(const nm_pool *pool, nm_handle *worker) {
+    nm_outcome outcome = NM_UNFINISHED;
+    unsigned looks = 0;
+    for (uint64_t round = 0; outcome == NM_UNFINISHED && round <= pool->options.rounds;) {
+        outcome = nm_worker_finish(worker, pool->options.tries);
+        if (outcome == NM_IN_USE && ++looks < LOOKS)
+            outcome = NM_UNFINISHED;
+        else
+            round++;
+    }
+    return outcome;
+}
+
+/* Unpins a worker, and finishes its remove if the bounds allow. Returns NM_IN_USE if another call
+ * has it until the wait is over. */
+static nm_outcome settle(nm_pool *pool, struct seat *seat, nm_pool_wait *wait,
+                         uint32_t timeout_ms) {
+    nm_outcome outcome;
+    do outcome = nm_worker_unpin(&seat->handle);
+    while (outcome == NM_IN_USE && look_again(wait, timeout_ms));
+    return outcome == NM_IN_USE ? outcome : finish(pool, &seat->handle);
+}
+
+/* Gives up the worker of a seat. Returns false if another call has it until the wait is over. */
+static bool shut(nm_pool *pool, struct seat *seat, nm_pool_wait *wait, uint32_t timeout_ms) {
+    nm_outcome outcome;
+    (void)settle(pool, seat, wait, timeout_ms);
+    do outcome = nm_drop(&seat->handle);
+    while (outcome == NM_IN_USE && look_again(wait, timeout_ms));
+    if (outcome != NM_IN_USE) seat->is_open = false;
+    return outcome != NM_IN_USE;
+}
+
+/* ---- a call by a worker ---- */
+
+/* Ends a call by a worker that its caller did not attach, after an outcome other than an answer. It
+ * finishes an earlier remove that is pending and repeats the call; then it finishes the remove of
+ * this call. */
+COLD nm_outcome end_call(nm_pool *pool, struct seat *seat, call_of call,
+                         const struct request *request, nm_outcome outcome) {
+    if (outcome == NM_PENDING && finish(pool, &seat->handle) != NM_UNFINISHED)
+        outcome = call(pool, &seat->handle, request);
+    if (outcome == NM_UNFINISHED) {
+        nm_outcome end = finish(pool, &seat->handle);
+        if (end == NM_YES || end == NM_NO) outcome = NM_YES; /* NM_NO: another call finished it */
+    }
+    return outcome;
+}
+
+/* Makes a call by a worker that is attached to a thread, in no call and not pinned. If its thread
+ * makes a call by it at the same time, the library refuses one of the two, and the thread repeats
+ * its own. */
+static nm_outcome borrow(nm_pool *pool, call_of call, enum gain gain,
+                         const struct request *request) {
+    for (uint32_t number = 0; number < opened(pool); number++) {
+        struct seat *seat = &pool->seats[number];
+        if (use_of(seat) != LENT) continue;
+        atomic_fetch_add(&seat->arrivals, 1);
+        nm_outcome outcome = call(pool, &seat->handle, request);
+        if (outcome < 0) outcome = end_call(pool, seat, call, request, outcome);
+        count_shared(seat, gain, outcome);
+        atomic_fetch_add(&seat->departures, 1);
+        if (outcome != NM_IN_USE && outcome != NM_PINNED && outcome != NM_CLOSED) return outcome;
+    }
+    return NM_NO_WORKER;
+}
+
+/* Makes a call by the first free seat, from the one on that this thread used last, or else by a
+ * borrowed worker. Returns NM_NO_WORKER if there is none. */
+COLD nm_outcome search(nm_pool *pool, call_of call, enum gain gain, const struct request *request) {
+    uint32_t first = first_seat(pool);
+    for (uint32_t step = 0; step < pool->count; step++) {
+        uint32_t number = (first + step) % pool->count;
+        struct seat *seat = &pool->seats[number];
+        if (!take(seat, CALL)) continue;
+        nm_outcome outcome = open_seat(pool, number);
+        bool is_open = outcome == NM_DONE;
+        if (is_open) {
+            outcome = call(pool, &seat->handle, request);
+            if (outcome < 0) outcome = end_call(pool, seat, call, request, outcome);
+            count_alone(seat, gain, outcome);
+        }
+        set_use(seat, FREE);
+        if (outcome == NM_IN_USE || (!is_open && outcome == NM_ATTACHED)) continue;
+        last_seat = number;
+        return outcome;
+    }
+    return borrow(pool, call, gain, request);
+}
+
+/* Searches for a worker until there is one, or the time is over. */
+COLD nm_outcome search_until(nm_pool *pool, call_of call, enum gain gain,
+                             const struct request *request, uint32_t timeout_ms) {
+    nm_pool_wait wait = wait_of(request);
+    nm_outcome outcome;
+    do {
+        if (is_ended(pool)) return NM_CLOSED;
+        outcome = NM_NO_WORKER;
+        if (phase_of(pool) == OPEN) outcome = search(pool, call, gain, request);
+    } while (outcome == NM_NO_WORKER && pause_until(&wait, timeout_ms));
+    keep_wait(request, &wait);
+    return outcome == NM_NO_WORKER && is_ended(pool) ? NM_CLOSED : outcome;
+}
+
+/* Makes a call by the seat that this thread used last, or else by another one. */
+INLINE nm_outcome by_any(nm_pool *pool, call_of call, enum gain gain, const struct request *request,
+                         uint32_t timeout_ms) {
+    uint32_t number = last_seat;
+    int phase = atomic_load_explicit(&pool->phase, memory_order_relaxed);
+    if (phase == OPEN && number < pool->count) {
+        struct seat *seat = &pool->seats[number];
+        if (take(seat, CALL)) {
+            nm_outcome outcome = NM_IN_USE;
+            if (seat->is_open) {
+                outcome = call(pool, &seat->handle, request);
+                if (outcome < 0) outcome = end_call(pool, seat, call, request, outcome);
+                count_alone(seat, gain, outcome);
+            }
+            set_use(seat, FREE);
+            if (outcome != NM_IN_USE) return outcome;
+        }
+    }
+    return search_until(pool, call, gain, request, timeout_ms);
+}
+
+/* Returns whether a call by an attached worker is to be repeated: another call has its handle, or
+ * the pending remove is of a call that has borrowed the worker and has not ended. */
+static bool is_for_another(const struct seat *seat, nm_pool_wait *wait, nm_outcome outcome) {
+    uint32_t ended = wait->ended;
+    wait->ended = atomic_load(&((struct seat *)seat)->departures);
+    return outcome == NM_IN_USE ||
+           (outcome == NM_PENDING && atomic_load(&((struct seat *)seat)->arrivals) != ended);
+}
+
+COLD nm_outcome repeat(nm_pool *pool, struct seat *seat, call_of call,
+                       const struct request *request, uint32_t timeout_ms) {
+    nm_pool_wait wait = wait_of(request);
+    nm_outcome outcome;
+    do outcome = call(pool, &seat->handle, request);
+    while (is_for_another(seat, &wait, outcome) && look_again(&wait, timeout_ms));
+    keep_wait(request, &wait);
+    return outcome;
+}
+
+/* Makes a call by the worker of a number, which the caller has attached. */
+INLINE nm_outcome by_number(nm_pool *pool, uint32_t number, call_of call, enum gain gain,
+                            const struct request *request, uint32_t timeout_ms) {
+    if (number >= pool->count) return number == NM_NONE ? NM_CLOSED : NM_NUMBER;
+    struct seat *seat = &pool->seats[number];
+    if (use_of(seat) != LENT) return NM_CLOSED;
+    nm_outcome outcome = call(pool, &seat->handle, request);
+    if (outcome == NM_IN_USE || outcome == NM_PENDING)
+        outcome = repeat(pool, seat, call, request, timeout_ms);
+    count_shared(seat, gain, outcome);
+    return outcome;
+}
+
+INLINE nm_outcome make(nm_pool *pool, uint32_t worker, call_of call, enum gain gain,
+                       const struct request *request, uint32_t timeout_ms) {
+    if (is_forked(pool)) return NM_FORKED;
+    nm_outcome outcome = worker == NM_ANY
+                             ? by_any(pool, call, gain, request, timeout_ms)
+                             : by_number(pool, worker, call, gain, request, timeout_ms);
+    yield_back(pool);
+    return outcome;
+}
+
+/* ---- room for an insert ---- */
+
+/* Advances the epoch by a worker as often as waiting nodes need. Returns whether it could, and
+ * false if another call has the worker or it is not open. */
+static bool has_advanced(nm_handle *worker) {
+    uint64_t epoch = 0;
+    uint32_t behind = 0;
+    nm_outcome outcome = NM_DONE;
+    for (int move = 0; move < MOVES && (outcome == NM_DONE || outcome == NM_LOST); move++)
+        outcome = nm_worker_advance(worker, &epoch, &behind);
+    return outcome != NM_IN_USE && outcome != NM_CLOSED;
+}
+
+/* Advances the epoch by the caller's own worker, or the one that it used last, or another one. */
+static void advance(nm_pool *pool, uint32_t own) {
+    uint32_t most = opened(pool), first = own != NM_ANY ? own : last_seat;
+    if (first >= most) first = 0;
+    for (uint32_t step = 0; step < most; step++)
+        if (has_advanced(&pool->seats[(first + step) % most].handle)) return;
+}
+
+/* Advances the epoch, and frees what has waited long enough with each worker that is in no call. */
+static uint64_t collect(nm_pool *pool, uint32_t own) {
+    uint64_t freed = 0;
+    advance(pool, own);
+    for (uint32_t number = 0; number < opened(pool); number++) {
+        uint64_t epoch = 0, nodes = 0;
+        nm_outcome outcome = NM_IN_USE;
+        for (int look = 0; outcome == NM_IN_USE && look < COLLECT_LOOKS; look++)
+            outcome = nm_worker_collect(&pool->seats[number].handle, &epoch, &nodes);
+        freed += nodes;
+    }
+    return freed;
+}
+
+/* Collects for some microseconds, in which threads on other processors may end their calls. */
+static uint64_t collect_soon(nm_pool *pool, uint32_t own) {
+    uint64_t begun = now(), freed = collect(pool, own);
+    while (freed == 0 && now() - begun < ROOM_LOOKS) freed = collect(pool, own);
+    return freed;
+}
+
+static uint64_t keys_of(const nm_pool *pool) {
+    uint64_t keys = 0;
+    for (uint32_t number = 0; number < opened(pool); number++) {
+        struct seat *seat = &((nm_pool *)pool)->seats[number];
+        keys += atomic_load_explicit(&seat->keys, memory_order_relaxed);
+        keys += atomic_load_explicit(&seat->shared_keys, memory_order_relaxed);
+    }
+    return keys > UINT64_MAX / 2 ? 0 : keys;
+}
+
+/* Asks each worker once how many nodes wait in its queue. */
+static void ask_queues(nm_pool *pool, nm_fullness *fullness) {
+    for (uint32_t number = 0; number < opened(pool); number++) {
+        struct seat *seat = &pool->seats[number];
+        uint64_t nodes = 0;
+        nm_outcome outcome = NM_IN_USE;
+        for (int look = 0; outcome == NM_IN_USE && look < LOOKS; look++)
+            outcome = nm_worker_queue_len(&seat->handle, &nodes);
+        if (outcome == NM_IN_USE) {
+            nodes = atomic_load_explicit(&seat->waiting, memory_order_relaxed);
+            fullness->unasked |= (uint64_t)1 << number;
+        }
+        atomic_store_explicit(&seat->waiting, (uint32_t)nodes, memory_order_relaxed);
+        fullness->waiting += nodes;
+    }
+}
+
+/* Asks the first worker that is in no call which workers hold the epoch back. */
+static uint64_t behind_of(nm_pool *pool) {
+    uint64_t epoch = 0, mask = 0;
+    for (uint32_t number = 0; number < opened(pool); number++)
+        if (nm_worker_behind(&pool->seats[number].handle, &epoch, &mask) == NM_DONE) break;
+    return mask;
+}
+
+/* Returns whether the keys leave no nodes for one more key, and no node waits. */
+static bool is_brimful(nm_pool *pool) {
+    if (2 * keys_of(pool) + 7 <= pool->nodes) return false;
+    nm_fullness fullness = {0, 0, 0, 0, 0, 0};
+    ask_queues(pool, &fullness);
+    return fullness.waiting == 0 && fullness.unasked == 0;
+}
+
+/* Yields the processor to threads that may have been preempted inside a call, and collects, some
+ * times. Returns whether nodes were freed. */
+static bool has_yielded_for_nodes(nm_pool *pool, uint32_t own, const nm_pool_wait *wait) {
+    for (int turn = 0; turn < ROOM_TURNS && !is_over(wait); turn++) {
+        yield_for_nodes(pool);
+        if (collect_soon(pool, own) != 0) return true;
+    }
+    return false;
+}
+
+/* Frees nodes for an insert. Returns false if the keys take all nodes, or the time is over. */
+static bool makes_room(nm_pool *pool, uint32_t own, nm_pool_wait *wait, bool is_first,
+                       uint32_t timeout_ms) {
+    if (is_first && collect(pool, own) != 0) return true;
+    if (is_brimful(pool)) return false;
+    if (is_first && has_yielded_for_nodes(pool, own, wait)) return true;
+    wait->pause = wait->pause < YIELDS ? YIELDS : wait->pause;
+    if (!pause_until(wait, timeout_ms)) return false;
+    (void)collect(pool, own);
+    return true;
+}
+
+static nm_outcome insert(const nm_pool *pool, nm_handle *worker, const struct request *request) {
+    return nm_worker_insert(worker, request->key, &pool->options);
+}
+
+COLD nm_outcome insert_later(nm_pool *pool, uint32_t worker, const struct request *request,
+                             uint32_t timeout_ms) {
+    nm_pool_wait wait = wait_of(request);
+    nm_outcome outcome = NM_FULL;
+    begin(&wait, timeout_ms);
+    keep_wait(request, &wait);
+    for (bool is_first = true; outcome == NM_FULL; is_first = false) {
+        if (!makes_room(pool, worker, &wait, is_first, timeout_ms)) break;
+        outcome = make(pool, worker, insert, INSERTS, request, timeout_ms);
+    }
+    return outcome == NM_FULL && is_ended(pool) && phase_of(pool) != LEFT ? NM_CLOSED : outcome;
+}
+
+/* ---- keys ---- */
+
+static nm_outcome contains(const nm_pool *pool, nm_handle *worker, const struct request *request) {
+    return nm_worker_contains(worker, request->key, &pool->options);
+}
+
+static nm_outcome remove_key(const nm_pool *pool, nm_handle *worker,
+                             const struct request *request) {
+    return nm_worker_remove(worker, request->key, &pool->options);
+}
+
+static nm_outcome pop_first(const nm_pool *pool, nm_handle *worker, const struct request *request) {
+    return nm_worker_pop_first(worker, &pool->options, request->found);
+}
+
+static nm_outcome pop_last(const nm_pool *pool, nm_handle *worker, const struct request *request) {
+    return nm_worker_pop_last(worker, &pool->options, request->found);
+}
+
+/* Calls of the library that look for keys, each with a number of tries. */
+typedef nm_outcome (*look_of)(nm_handle *, const struct request *, uint32_t tries);
+
+static nm_outcome next(nm_handle *worker, const struct request *request, uint32_t tries) {
+    return nm_worker_next(worker, request->key, tries, request->found);
+}
+
+static nm_outcome prev(nm_handle *worker, const struct request *request, uint32_t tries) {
+    return nm_worker_prev(worker, request->key, tries, request->found);
+}
+
+static nm_outcome many(nm_handle *worker, const struct request *request, uint32_t tries) {
+    return nm_worker_contains_many(worker, request->lookups, request->count, tries);
+}
+
+/* Makes such a call after the remove that is pending, and repeats it if each try was lost, at most
+ * `rounds` times. */
+INLINE nm_outcome look(const nm_pool *pool, nm_handle *worker, look_of call,
+                       const struct request *request) {
+    uint32_t tries = pool->options.tries;
+    nm_outcome outcome = call(worker, request, tries);
+    for (uint32_t round = 0; round < pool->options.rounds; round++) {
+        if (outcome == NM_PENDING) {
+            if (nm_worker_finish(worker, tries) == NM_IN_USE) return NM_IN_USE;
+        } else if (outcome != NM_BUSY) {
+            break;
+        }
+        outcome = call(worker, request, tries);
+    }
+    return outcome;
+}
+
+static nm_outcome look_next(const nm_pool *pool, nm_handle *worker, const struct request *request) {
+    return look(pool, worker, next, request);
+}
+
+static nm_outcome look_prev(const nm_pool *pool, nm_handle *worker, const struct request *request) {
+    return look(pool, worker, prev, request);
+}
+
+static nm_outcome look_many(const nm_pool *pool, nm_handle *worker, const struct request *request) {
+    return look(pool, worker, many, request);
+}
+
+nm_outcome nm_pool_contains(nm_pool *pool, uint32_t worker, uint64_t key, uint32_t timeout_ms) {
+    const struct request request = {.key = key};
+    return make(pool, worker, contains, NONE, &request, timeout_ms);
+}
+
+nm_outcome nm_pool_insert(nm_pool *pool, uint32_t worker, uint64_t key, uint32_t timeout_ms) {
+    uint64_t end = 0;
+    const struct request request = {.key = key, .end = &end};
+    nm_outcome outcome = make(pool, worker, insert, INSERTS, &request, timeout_ms);
+    return outcome == NM_FULL ? insert_later(pool, worker, &request, timeout_ms) : outcome;
+}
+
+nm_outcome nm_pool_remove(nm_pool *pool, uint32_t worker, uint64_t key, uint32_t timeout_ms) {
+    const struct request request = {.key = key};
+    return make(pool, worker, remove_key, REMOVES, &request, timeout_ms);
+}
+
+nm_outcome nm_pool_pop_first(nm_pool *pool, uint32_t worker, uint64_t *taken, uint32_t timeout_ms) {
+    const struct request request = {.found = taken};
+    return make(pool, worker, pop_first, REMOVES, &request, timeout_ms);
+}
+
+nm_outcome nm_pool_pop_last(nm_pool *pool, uint32_t worker, uint64_t *taken, uint32_t timeout_ms) {
+    const struct request request = {.found = taken};
+    return make(pool, worker, pop_last, REMOVES, &request, timeout_ms);
+}
+
+nm_outcome nm_pool_next(nm_pool *pool, uint32_t worker, uint64_t key, uint64_t *found,
+                        uint32_t timeout_ms) {
+    const struct request request = {.key = key, .found = found};
+    return make(pool, worker, look_next, NONE, &request, timeout_ms);
+}
+
+nm_outcome nm_pool_prev(nm_pool *pool, uint32_t worker, uint64_t key, uint64_t *found,
+                        uint32_t timeout_ms) {
+    const struct request request = {.key = key, .found = found};
+    return make(pool, worker, look_prev, NONE, &request, timeout_ms);
+}
+
+nm_outcome nm_pool_contains_many(nm_pool *pool, uint32_t worker, nm_lookup *lookups, size_t count,
+                                 uint32_t timeout_ms) {
+    nm_lookup none = {0, 0};
+    const struct request request = {.lookups = count == 0 ? &none : lookups, .count = count};
+    return make(pool, worker, look_many, NONE, &request, timeout_ms);
+}
+
+/* ---- a number of tries, and other calls by an attached worker ---- */
+
+static nm_outcome try_insert(const nm_pool *pool, nm_handle *worker,
+                             const struct request *request) {
+    (void)pool;
+    return nm_worker_try_insert(worker, request->key, (uint32_t)request->count);
+}
+
+static nm_outcome try_remove(const nm_pool *pool, nm_handle *worker,
+                             const struct request *request) {
+    (void)pool;
+    return nm_worker_try_remove(worker, request->key, (uint32_t)request->count);
+}
+
+nm_outcome nm_pool_try_insert(nm_pool *pool, uint32_t worker, uint64_t key, uint32_t tries,
+                              uint32_t timeout_ms) {
+    const struct request request = {.key = key, .count = tries};
+    if (worker == NM_ANY) return NM_NUMBER;
+    return make(pool, worker, try_insert, INSERTS, &request, timeout_ms);
+}
+
+nm_outcome nm_pool_try_remove(nm_pool *pool, uint32_t worker, uint64_t key, uint32_t tries,
+                              uint32_t timeout_ms) {
+    const struct request request = {.key = key, .count = tries};
+    if (worker == NM_ANY) return NM_NUMBER;
+    return make(pool, worker, try_remove, REMOVES, &request, timeout_ms);
+}
+
+nm_handle *nm_pool_handle(nm_pool *pool, uint32_t worker) {
+    bool is_there = !is_forked(pool) && lent_seat(pool, worker) != NULL;
+    return is_there ? &pool->seats[worker].handle : &pool->closed;
+}
+
+int nm_pool_again(nm_pool *pool, uint32_t worker, nm_pool_wait *wait, nm_outcome outcome,
+                  uint32_t timeout_ms) {
+    return worker < pool->count && is_for_another(&pool->seats[worker], wait, outcome) &&
+           look_again(wait, timeout_ms);
+}
+
+/* ---- how full it is ---- */
+
+/* Returns NM_DONE, or why no question about the set is answered. */
+static nm_outcome is_there(const nm_pool *pool) {
+    if (is_forked(pool)) return NM_FORKED;
+    return is_ended(pool) && phase_of(pool) != LEFT ? NM_CLOSED : NM_DONE;
+}
+
+nm_outcome nm_pool_size(nm_pool *pool, uint64_t *keys) {
+    nm_outcome outcome = is_there(pool);
+    if (outcome == NM_DONE) *keys = keys_of(pool);
+    return outcome;
+}
+
+nm_outcome nm_pool_fullness(nm_pool *pool, nm_fullness *fullness) {
+    nm_outcome outcome = is_there(pool);
+    if (outcome != NM_DONE) return outcome;
+    nm_fullness all = {pool->nodes, keys_of(pool), 0, 0, 0, behind_of(pool)};
+    ask_queues(pool, &all);
+    uint64_t taken = 2 * all.keys + 5, rest = taken < all.nodes ? all.nodes - taken : 0;
+    if (all.waiting > rest) all.waiting = rest;
+    all.free = rest - all.waiting;
+    outcome = is_there(pool); /* a worker that was gathered for a close has not answered */
+    if (outcome == NM_DONE) *fullness = all;
+    return outcome;
+}
+
+nm_outcome nm_pool_collect(nm_pool *pool, uint64_t *freed) {
+    nm_outcome outcome = is_there(pool);
+    if (outcome == NM_DONE) *freed = collect(pool, NM_ANY);
+    return outcome;
+}
+
+uint64_t nm_pool_nodes(const nm_pool *pool) { return pool->nodes; }
+uint32_t nm_pool_workers(const nm_pool *pool) { return pool->count; }
+const nm_options *nm_pool_call_options(const nm_pool *pool) { return &pool->options; }
+
+uint64_t nm_pool_attached(const nm_pool *pool) {
+    uint64_t mask = 0;
+    if (is_forked(pool)) return 0;
+    for (uint32_t number = 0; number < opened(pool); number++)
+        if (use_of(&pool->seats[number]) == LENT) mask |= (uint64_t)1 << number;
+    return mask;
+}
+
+/* ---- words ---- */
+
+const char *nm_pool_text(nm_outcome outcome) {
+    if ((int)outcome == (int)NM_FORKED)
+        return "the set was made before this process was forked: only the parent can use it";
+    return nm_outcome_text(outcome);
+}
+
+/* A text that is written from its begin on, and cut off at its end. */
+struct writer {
+    char *text;
+    size_t size, used;
+};
+
+__attribute__((format(printf, 2, 3))) static void write_words(struct writer *to, const char *format,
+                                                              ...) {
+    va_list words;
+    if (to->used >= to->size) return;
+    va_start(words, format);
+    int written = vsnprintf(to->text + to->used, to->size - to->used, format, words);
+    va_end(words);
+    if (written > 0) to->used += (size_t)written;
+}
+
+/* Writes a number in groups of three digits: 65,536. */
+static void write_number(struct writer *to, uint64_t number) {
+    if (number < 1000) {
+        write_words(to, "%" PRIu64, number);
+        return;
+    }
+    write_number(to, number / 1000);
+    write_words(to, ",%03" PRIu64, number % 1000);
+}
+
+static bool is_one(uint64_t mask) { return (mask & (mask - 1)) == 0; }
+
+static void write_mask(struct writer *to, uint64_t mask) {
+    const char *between = is_one(mask) ? "worker " : "workers ";
+    for (uint32_t number = 0; number < WORKERS; number++) {
+        if ((mask >> number & 1) == 0) continue;
+        mask &= ~((uint64_t)1 << number);
+        write_words(to, "%s%" PRIu32, between, number);
+        between = is_one(mask) ? " and " : ", ";
+    }
+}
+
+const char *nm_mask_words(uint64_t mask, char *text, size_t size) {
+    struct writer to = {text, size, 0};
+    write_mask(&to, mask);
+    return text;
+}
+
+const char *nm_full_words(const nm_fullness *fullness, char *text, size_t size) {
+    struct writer to = {text, size, 0};
+    write_words(&to, "the set is full: its ");
+    write_number(&to, fullness->keys);
+    write_words(&to, " keys take ");
+    write_number(&to, 2 * fullness->keys + 5);
+    write_words(&to, " of its ");
+    write_number(&to, fullness->nodes);
+    write_words(&to, " nodes, and ");
+    write_number(&to, fullness->waiting);
+    write_words(&to, " wait to be freed");
+    if (fullness->behind != 0) {
+        write_words(&to, "; ");
+        write_mask(&to, fullness->behind);
+        write_words(&to, " %s in their way, by a pin or in a call",
+                    is_one(fullness->behind) ? "is" : "are");
+    }
+    if (fullness->unasked != 0) {
+        write_words(&to, "; ");
+        write_mask(&to, fullness->unasked);
+        write_words(&to, " %s in a call, so what waits there is counted as last seen",
+                    is_one(fullness->unasked) ? "is" : "are");
+    }
+    return text;
+}
+
+/* ---- the pool ---- */
+
+static nm_options options_of(uint64_t nodes, const nm_pool_options *options) {
+    nm_options made = {options->tries, options->rounds, options->collect_after};
+    if (options->collect_after == NM_AN_EIGHTH) {
+        uint64_t share = nodes / (8 * (uint64_t)options->workers);
+        made.collect_after = share < 8 ? 8 : share > 64 ? 64 : (uint32_t)share;
+    }
+    return made;
+}
+
+/* Allocates a pool whose seats begin with cache lines; returns NULL if memory was refused. */
+static nm_pool *allocate(uint32_t workers) {
+    size_t size = sizeof(nm_pool) + workers * sizeof(struct seat);
+    char *block = malloc(size + LINE);
+    if (block == NULL) return NULL;
+    nm_pool *pool = (nm_pool *)(block + (LINE - (uintptr_t)block % LINE));
+    memset(pool, 0, size);
+    pool->block = block;
+    return pool;
+}
+
+nm_outcome nm_pool_new(nm_pool **pool, uint64_t nodes, const nm_pool_options *options) {
+    if (options == NULL) options = &nm_pool_defaults;
+    if (nodes > UINT32_MAX) return NM_NODES;
+    if (options->workers < 1 || options->workers > WORKERS) return NM_WORKERS;
+    (void)pthread_once(&forks_once, count_forks);
+    nm_pool *made = allocate(options->workers);
+    if (made == NULL) return NM_NO_MEMORY;
+    made->options = options_of(nodes, options);
+    made->count = options->workers;
+    made->nodes = nodes;
+    made->forks = atomic_load(&forks);
+    atomic_init(&made->references, 1);
+    nm_outcome outcome =
+        options->shape == NM_UNBALANCED
+            ? nm_set_new_unbalanced(&made->set, (uint32_t)nodes, options->workers)
+            : nm_set_new(&made->set, (uint32_t)nodes, options->workers);
+    if (outcome == NM_DONE)
+        *pool = made;
+    else
+        free(made->block);
+    return outcome;
+}
+
+/* Gives up one reference; the last one frees the memory. */
+static void release(nm_pool *pool) {
+    if (atomic_fetch_sub(&pool->references, 1) == 1) free(pool->block);
+}
+
+static void reopen(nm_pool *pool) {
+    atomic_store(&pool->phase, OPEN);
+    for (uint32_t number = 0; number < pool->count; number++)
+        if (use_of(&pool->seats[number]) == CLOSED) set_use(&pool->seats[number], FREE);
+}
+
+/* Returns a bit for each attached worker. No worker is attached from now on, and threads that are
+ * just returning theirs have a moment to do so. */
+static uint64_t attached_for_long(nm_pool *pool) {
+    uint64_t mask = nm_pool_attached(pool);
+    for (int look = 0; mask != 0 && look < LOOKS + YIELDS; look++) {
+        if (look >= LOOKS) (void)sched_yield();
+        mask = nm_pool_attached(pool);
+    }
+    return mask;
+}
+
+/* Takes all workers for a close, after the calls in progress. Returns NM_ATTACHED or NM_IN_USE, and
+ * a bit for each worker that is missing, and gives the others back. */
+static nm_outcome gather(nm_pool *pool, nm_pool_wait *wait, uint32_t timeout_ms,
+                         uint64_t *missing) {
+    atomic_store(&pool->phase, CLOSING);
+    uint64_t lent = attached_for_long(pool), in_call = 0;
+    for (uint32_t number = 0; lent == 0 && number < pool->count; number++) {
+        struct seat *seat = &pool->seats[number];
+        bool is_taken = take_soon(seat, CLOSED, wait, timeout_ms);
+        uint64_t bit = (uint64_t)1 << number;
+        if (!is_taken && use_of(seat) == LENT)
+            lent |= bit;
+        else if (!is_taken || !shut(pool, seat, wait, timeout_ms))
+            in_call |= bit;
+    }
+    *missing = lent | in_call;
+    if (*missing == 0) {
+        atomic_store(&pool->phase, GATHERED);
+        return NM_DONE;
+    }
+    reopen(pool);
+    return lent != 0 ? NM_ATTACHED : NM_IN_USE;
+}
+
+static nm_outcome close_set(nm_pool *pool, nm_handle *report, nm_pool_wait *wait,
+                            uint32_t timeout_ms) {
+    nm_outcome outcome;
+    do outcome = nm_set_close(&pool->set);
+    while (outcome == NM_IN_USE && look_again(wait, timeout_ms));
+    if (outcome == NM_DONE) {
+        *report = pool->set;
+        pool->set = (nm_handle)NM_CLOSED_HANDLE;
+        atomic_store(&pool->phase, ENDED);
+    }
+    return outcome;
+}
+
+nm_outcome nm_pool_close(nm_pool *pool, uint32_t timeout_ms, nm_handle *report, uint64_t *missing) {
+    nm_pool_wait wait = {0, 0, 0, 0};
+    uint64_t none = 0, keys = 0;
+    if (is_forked(pool)) return NM_FORKED;
+    if (nm_report_keys(report, &keys) != NM_CLOSED) return NM_OPEN;
+    while (atomic_exchange(&pool->is_closing, true))
+        if (!pause_until(&wait, timeout_ms)) return NM_IN_USE;
+    nm_outcome outcome = phase_of(pool) > GATHERED ? NM_CLOSED : NM_DONE;
+    if (phase_of(pool) == OPEN)
+        outcome = gather(pool, &wait, timeout_ms, missing != NULL ? missing : &none);
+    if (outcome == NM_DONE) outcome = close_set(pool, report, &wait, timeout_ms);
+    atomic_store(&pool->is_closing, false);
+    return outcome;
+}
+
+/* Takes a free seat of a pool that was given up, and gives up its worker. Returns false if a call
+ * has the seat or the worker until the wait is over. */
+static bool leave_seat(nm_pool *pool, struct seat *seat, nm_pool_wait *wait) {
+    if (take_soon(seat, CLOSED, wait, END_MS)) return shut(pool, seat, wait, END_MS);
+    return use_of(seat) != CALL; /* an attached worker leaves later */
+}
+
+void nm_pool_free(nm_pool *pool) {
+    nm_pool_wait wait = {0, 0, 0, 0};
+    bool is_left = true;
+    if (pool == NULL || is_forked(pool)) return;
+    atomic_store(&pool->phase, LEFT);
+    for (uint32_t number = 0; number < pool->count; number++)
+        is_left &= leave_seat(pool, &pool->seats[number], &wait);
+    while (nm_drop(&pool->set) == NM_IN_USE && look_again(&wait, END_MS)) {}
+    if (is_left) release(pool); /* if a call has not ended, its memory stays taken */
+}
+
+/* ---- workers of threads ---- */
+
+/* Attaches the worker of a free seat, if the seat can be taken. Returns NM_NO_WORKER if not. */
+static nm_outcome lend(nm_pool *pool, uint32_t number) {
+    struct seat *seat = &pool->seats[number];
+    if (phase_of(pool) != OPEN || !take(seat, LENT)) return NM_NO_WORKER;
+    nm_pool_wait wait = {0, 0, 0, 0};
+    nm_outcome outcome = phase_of(pool) == OPEN ? open_seat(pool, number) : NM_NO_WORKER;
+    if (outcome == NM_DONE && settle(pool, seat, &wait, 0) == NM_IN_USE) outcome = NM_IN_USE;
+    if (outcome == NM_DONE)
+        atomic_fetch_add(&pool->references, 1);
+    else
+        set_use(seat, FREE);
+    return outcome == NM_ATTACHED || outcome == NM_IN_USE ? NM_NO_WORKER : outcome;
+}
+
+static nm_outcome lend_any(nm_pool *pool, uint32_t *worker) {
+    nm_outcome outcome = NM_NO_WORKER;
+    for (uint32_t number = 0; outcome == NM_NO_WORKER && number < pool->count; number++)
+        if ((outcome = lend(pool, number)) == NM_DONE) *worker = number;
+    return outcome;
+}
+
+nm_outcome nm_pool_attach(nm_pool *pool, uint32_t *worker, uint32_t timeout_ms) {
+    nm_pool_wait wait = {0, 0, 0, 0};
+    nm_outcome outcome;
+    if (is_forked(pool)) return NM_FORKED;
+    do {
+        if (is_ended(pool)) return NM_CLOSED;
+        outcome = lend_any(pool, worker);
+    } while (outcome == NM_NO_WORKER && pause_until(&wait, timeout_ms));
+    return outcome == NM_NO_WORKER && is_ended(pool) ? NM_CLOSED : outcome;
+}
+
+nm_outcome nm_pool_attach_number(nm_pool *pool, uint32_t number, uint32_t *worker,
+                                 uint32_t timeout_ms) {
+    nm_pool_wait wait = {0, 0, 0, 0};
+    nm_outcome outcome;
+    if (is_forked(pool)) return NM_FORKED;
+    if (number >= pool->count) return NM_NUMBER;
+    do {
+        if (is_ended(pool)) return NM_CLOSED;
+        if (use_of(&pool->seats[number]) == LENT) return NM_ATTACHED;
+        outcome = lend(pool, number);
+    } while (outcome == NM_NO_WORKER && pause_until(&wait, timeout_ms));
+    if (outcome == NM_DONE) *worker = number;
+    return outcome == NM_NO_WORKER ? NM_IN_USE : outcome;
+}
+
+nm_outcome nm_pool_detach(nm_pool *pool, uint32_t *worker, uint32_t timeout_ms) {
+    nm_pool_wait wait = {0, 0, 0, 0};
+    if (is_forked(pool)) return NM_FORKED;
+    struct seat *seat = lent_seat(pool, *worker);
+    if (seat == NULL) return NM_CLOSED;
+    if (settle(pool, seat, &wait, timeout_ms) == NM_IN_USE) return NM_IN_USE;
+    *worker = NM_NONE;
+    atomic_store(&seat->use, FREE);
+    if (phase_of(pool) == LEFT) (void)leave_seat(pool, seat, &wait);
+    release(pool);
+    return NM_DONE;
+}
+
+nm_outcome nm_pool_end(nm_pool *pool, uint32_t *worker, nm_handle *report, uint32_t timeout_ms) {
+    nm_pool_wait wait = {0, 0, 0, 0};
+    nm_outcome outcome;
+    if (is_forked(pool)) return NM_FORKED;
+    struct seat *seat = lent_seat(pool, *worker);
+    if (seat == NULL) return NM_CLOSED;
+    do outcome = nm_worker_end(&seat->handle);
+    while (outcome == NM_IN_USE && look_again(&wait, timeout_ms));
+    /* An earlier end was refused memory after it had gathered the workers. */
+    if (outcome == NM_KIND) outcome = nm_set_close(&seat->handle);
+    if (outcome != NM_DONE) return outcome;
+    *report = seat->handle;
+    seat->handle = (nm_handle)NM_CLOSED_HANDLE;
+    *worker = NM_NONE;
+    set_use(seat, CLOSED);
+    release(pool);
+    return outcome;
+}

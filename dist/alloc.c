@@ -1,0 +1,51 @@
+/* The memory of the library, over the C library: the three functions that the proved code calls.
+ * They are trusted, like the C library, and not proved. What the code relies on is at each of them.
+ */
+#include <stddef.h>
+#include <stdint.h>
+#include <stdlib.h>
+
+_Static_assert(_Alignof(max_align_t) >= 16, "malloc aligns each block as the proved code needs it");
+
+/* What a request returns: whether there is memory, and where it is. Both words are whole registers
+ * for the caller. */
+typedef struct {
+    uint64_t is_given;
+    void *at;
+} nm_memory;
+
+/* Where a refusal points to, so that no pointer of the proved code is null. Nothing is read or
+ * written there. */
+static char nowhere;
+
+#define HIDDEN __attribute__((visibility("hidden")))
+
+HIDDEN nm_memory nm_host_alloc(size_t size, size_t alignment);
+HIDDEN nm_memory nm_host_realloc(void *block, size_t kept, size_t size, size_t alignment);
+HIDDEN void nm_host_dealloc(void *block);
+
+static nm_memory given(void *block) {
+    nm_memory memory = {block != NULL, block != NULL ? block : &nowhere};
+    return memory;
+}
+
+/* The C library returns null for a size of 0, or not: a block has at least one byte here. */
+static size_t at_least_one(size_t size) { return size != 0 ? size : 1; }
+
+/* Returns a new block of `size` bytes, less than 2^63. The alignment divides 16, which is that of
+ * malloc on x86-64. */
+nm_memory nm_host_alloc(size_t size, size_t alignment) {
+    (void)alignment;
+    return given(malloc(at_least_one(size)));
+}
+
+/* Gives a block another size. Its first `kept` bytes remain, and it may move. A block that was
+ * refused another size is as it was. */
+nm_memory nm_host_realloc(void *block, size_t kept, size_t size, size_t alignment) {
+    (void)kept;
+    (void)alignment;
+    return given(realloc(block, at_least_one(size)));
+}
+
+/* Frees a block that one of the two functions above returned. */
+void nm_host_dealloc(void *block) { free(block); }
