@@ -1,16 +1,20 @@
-"""Builds the wheel of nm_set by PEP 517 and PEP 660, with the standard library alone: it needs no
-network and no package.
+"""Builds the wheel and the sdist of nm_set by PEP 517 and PEP 660, with the standard library alone:
+it needs no network and no package.
 
-It compiles the calls for keys if there are a compiler, the headers of Python, and nm_set.h, in this
-checkout or by pkg-config. From Python 3.11 on it compiles them for the limited API, and before for
-the running Python alone. Otherwise, or with NM_SET_PURE in the environment, the wheel is for each
-Python, and makes those calls by ctypes.
+A C compiler makes the library for C of its proved code, which is assembly text, and puts it beside
+the modules. It also compiles the calls for keys, if there are the headers of Python. From Python
+3.11 on it compiles them for the limited API, and before for the running Python alone. Otherwise, or
+with NM_SET_PURE in the environment, the wheel is for each Python, and makes those calls by ctypes.
+Without a compiler the wheel has no library, and the module looks for one that c/install has
+installed.
 """
 
 from __future__ import annotations
 
 import base64
+import gzip
 import hashlib
+import io
 import os
 import re
 import shlex
@@ -18,14 +22,18 @@ import shutil
 import subprocess
 import sys
 import sysconfig
+import tarfile
 import tempfile
 import zipfile
+from collections.abc import Iterator
 from pathlib import Path
 from typing import Optional
 
 HERE = Path(__file__).resolve().parent
+NATIVE = HERE / "native"  # in an sdist: the library's files, as the repository has them
 TIME = (1980, 1, 1, 0, 0, 0)
 LIMITED = (3, 11)  # the first Python whose limited API has buffers
+LIST = "dist/files.txt"
 
 
 def _value(name: str) -> str:
@@ -52,12 +60,26 @@ def _metadata() -> str:
     return "\n".join(lines) + "\n\n" + readme
 
 
-# ---- the calls in C ----
+# ---- what is compiled ----
+
+
+def _top() -> Path:
+    """The folder from which the list of files counts, in the sdist or in the checkout."""
+    return NATIVE if NATIVE.is_dir() else HERE.parent.parent
+
+
+def _listed(kind: str) -> list[str]:
+    """The places of the library's files of a kind."""
+    file = _top() / LIST
+    if not file.is_file():
+        return []
+    lines = file.read_text(encoding="utf-8").splitlines()
+    return [place for word, _, place in (line.partition(" ") for line in lines) if word == kind]
 
 
 def _header() -> list[str]:
     """The words by which the compiler finds nm_set.h."""
-    own = HERE.parent.parent / "c"
+    own = _top() / "c"
     if (own / "nm_set.h").is_file():
         return [f"-I{own}"]
     if shutil.which("pkg-config") is None:
@@ -75,44 +97,83 @@ def _native_name() -> str:
     return f"_native{'.abi3.so' if _is_limited() else sysconfig.get_config_var('EXT_SUFFIX')}"
 
 
-def _tag() -> str:
-    """For which Pythons the calls in C are."""
-    python = "cp" + "".join(map(str, LIMITED if _is_limited() else sys.version_info[:2]))
+def _library_name() -> str:
+    """The soname of the library, which before 1.0.0 has two numbers."""
+    major, minor, _ = _value("version").split(".")
+    return f"libnm_set.so.{f'0.{minor}' if major == '0' else major}"
+
+
+def _tag(files: list[str]) -> str:
+    """For which Pythons and machines a wheel with these compiled files is."""
     platform = re.sub(r"[-.]", "_", sysconfig.get_platform())
+    if not files:
+        return "py3-none-any"
+    if _native_name() not in files:
+        return f"py3-none-{platform}"
+    python = "cp" + "".join(map(str, LIMITED if _is_limited() else sys.version_info[:2]))
     return f"{python}-{'abi3' if _is_limited() else python}-{platform}"
 
 
-def _compile(folder: Path) -> Optional[Path]:
-    """The calls in C, compiled into a folder, or None where they cannot be."""
-    if os.environ.get("NM_SET_PURE"):
-        return None
-    made = folder / _native_name()
+def _run(what: str, made: Path, *words: str) -> Optional[Path]:
+    """Makes a shared object by the compiler, or returns None after it has printed why it cannot."""
     compiler = os.environ.get("CC") or sysconfig.get_config_var("CC") or "cc"
-    limited = "".join(f"{number:02x}" for number in LIMITED)
-    words = [*shlex.split(compiler), "-O2", "-fPIC", "-shared", "-pthread"]
-    words += [f"-DPy_LIMITED_API=0x{limited}0000"] if _is_limited() else []
-    words += [f"-I{sysconfig.get_path(name)}" for name in ("include", "platinclude")]
-    words += [*_header(), str(HERE / "nm_set" / "_native.c"), "-o", str(made)]
+    command = [*shlex.split(compiler), "-O2", "-fPIC", "-shared", "-pthread", *words]
     try:
-        told = subprocess.run(words, capture_output=True, text=True, check=False)
+        told = subprocess.run(
+            [*command, "-o", str(made)], capture_output=True, text=True, check=False
+        )
         fault = told.stderr.strip() if told.returncode else ""
     except OSError as error:
         fault = str(error)
     if fault or not made.is_file():
-        print(f"nm_set: the calls are those by ctypes, since C was not compiled: {fault}")
+        print(f"nm_set: {what} not compiled: {fault}", file=sys.stderr)
         return None
     return made
+
+
+def _compile_library(folder: Path) -> Optional[Path]:
+    """The library, made of its listed sources, or None if it cannot be made."""
+    sources = [str(_top() / place) for place in _listed("source")]
+    missing = [source for source in sources if not Path(source).is_file()]
+    if missing or not sources:
+        print(f"nm_set: the library was not compiled: no {missing or LIST}", file=sys.stderr)
+        return None
+    name = _library_name()
+    words = ["-std=gnu11", f"-I{_top() / 'c'}", *sources, f"-Wl,-soname,{name}"]
+    words += ["-Wl,-z,defs", "-Wl,-z,relro", "-Wl,-z,now"]
+    return _run("the library was", folder / name, *words)
+
+
+def _compile_calls(folder: Path) -> Optional[Path]:
+    """The calls in C, or None if they cannot be compiled."""
+    if os.environ.get("NM_SET_PURE"):
+        return None
+    limited = "".join(f"{number:02x}" for number in LIMITED)
+    words = [f"-DPy_LIMITED_API=0x{limited}0000"] if _is_limited() else []
+    words += [f"-I{sysconfig.get_path(name)}" for name in ("include", "platinclude")]
+    words += [*_header(), str(HERE / "nm_set" / "_native.c")]
+    return _run("the calls are those by ctypes, because C was", folder / _native_name(), *words)
+
+
+def _compiled(folder: Path) -> list[Path]:
+    """What can be compiled, in this folder."""
+    made = [_compile_library(folder), _compile_calls(folder)]
+    return [file for file in made if file is not None]
 
 
 # ---- the wheel ----
 
 
+def _licence() -> Iterator[bytes]:
+    for folder in (HERE, HERE.parent.parent):
+        if (folder / "LICENSE").is_file():
+            yield (folder / "LICENSE").read_bytes()
+            return
+
+
 def _described(stem: str, tag: str) -> dict[str, bytes]:
     """What a wheel has beside its modules."""
-    files = {}
-    licence = HERE.parent.parent / "LICENSE"
-    if licence.is_file():
-        files[f"{stem}.dist-info/LICENSE"] = licence.read_bytes()
+    files = {f"{stem}.dist-info/LICENSE": text for text in _licence()}
     pure = "true" if tag.endswith("any") else "false"
     wheel = f"Wheel-Version: 1.0\nGenerator: nm_set\nRoot-Is-Purelib: {pure}\nTag: {tag}\n"
     files[f"{stem}.dist-info/METADATA"] = _metadata().encode()
@@ -125,8 +186,12 @@ def _row(name: str, content: bytes) -> str:
     return f"{name},sha256={digest},{len(content)}\n"
 
 
+def _is_program(path: str) -> bool:
+    return ".so" in Path(path).suffixes
+
+
 def _write(folder: str, modules: dict[str, bytes], tag: str) -> str:
-    """Writes a wheel with these files into a folder, and tells its name."""
+    """Writes a wheel with these files into a folder, and returns its name."""
     stem = f"{_value('name')}-{_value('version')}"
     files = {**modules, **_described(stem, tag)}
     record = f"{stem}.dist-info/RECORD"
@@ -135,7 +200,7 @@ def _write(folder: str, modules: dict[str, bytes], tag: str) -> str:
     with zipfile.ZipFile(Path(folder) / name, "w", zipfile.ZIP_DEFLATED) as wheel:
         for path, content in [*files.items(), (record, rows.encode())]:
             it = zipfile.ZipInfo(path, TIME)
-            it.external_attr = (0o755 if path.endswith(".so") else 0o644) << 16
+            it.external_attr = (0o755 if _is_program(path) else 0o644) << 16
             wheel.writestr(it, content)
     return name
 
@@ -145,15 +210,13 @@ def build_wheel(
     config_settings: object = None,
     metadata_directory: object = None,
 ) -> str:
-    """Writes the wheel into a folder, and tells its name."""
+    """Writes the wheel into a folder, and returns its name."""
     sources = sorted((HERE / "nm_set").glob("*.py")) + [HERE / "nm_set" / "py.typed"]
     files = {f"nm_set/{path.name}": path.read_bytes() for path in sources}
     with tempfile.TemporaryDirectory() as room:
-        made = _compile(Path(room))
-        if made is None:
-            return _write(wheel_directory, files, "py3-none-any")
-        files[f"nm_set/{made.name}"] = made.read_bytes()
-        return _write(wheel_directory, files, _tag())
+        made = _compiled(Path(room))
+        files.update({f"nm_set/{path.name}": path.read_bytes() for path in made})
+    return _write(wheel_directory, files, _tag([path.name for path in made]))
 
 
 def build_editable(
@@ -161,11 +224,42 @@ def build_editable(
     config_settings: object = None,
     metadata_directory: object = None,
 ) -> str:
-    """Writes a wheel by which Python finds the module where it stands, for which the calls in C are
-    compiled there."""
-    _compile(HERE / "nm_set")
+    """Writes a wheel by which Python finds the module in its place, and compiles there what the
+    module needs. Returns its name."""
+    _compiled(HERE / "nm_set")
     path = f"{HERE}\n".encode()
     return _write(wheel_directory, {"nm_set.pth": path}, "py3-none-any")
+
+
+# ---- the sdist ----
+
+
+def _sources() -> dict[str, bytes]:
+    """The files of the sdist: those of this folder, and in `native` those of the library."""
+    names = ["backend.py", "pyproject.toml", "README.md"]
+    for folder, kinds in (("nm_set", ("*.py", "*.c", "py.typed")), ("tests", ("*.py",))):
+        names += [str(it.relative_to(HERE)) for kind in kinds for it in (HERE / folder).glob(kind)]
+    files = {name: (HERE / name).read_bytes() for name in names}
+    for place in [LIST, *_listed("source"), *_listed("header")]:
+        files[f"native/{place}"] = (_top() / place).read_bytes()
+    files.update({"LICENSE": text for text in _licence()})
+    files["PKG-INFO"] = _metadata().encode()
+    return files
+
+
+def build_sdist(sdist_directory: str, config_settings: object = None) -> str:
+    """Writes the sdist into a folder, always with the same bytes, and returns its name. It has the
+    library's code, so that a wheel can be built of it alone."""
+    stem = f"{_value('name')}-{_value('version')}"
+    whole = io.BytesIO()
+    with tarfile.open(fileobj=whole, mode="w", format=tarfile.PAX_FORMAT) as archive:
+        for name, content in sorted(_sources().items()):
+            entry = tarfile.TarInfo(f"{stem}/{name}")
+            entry.size, entry.mode = len(content), 0o644
+            archive.addfile(entry, io.BytesIO(content))
+    name = f"{stem}.tar.gz"
+    (Path(sdist_directory) / name).write_bytes(gzip.compress(whole.getvalue(), mtime=0))
+    return name
 
 
 def get_requires_for_build_wheel(config_settings: object = None) -> list[str]:
@@ -174,3 +268,4 @@ def get_requires_for_build_wheel(config_settings: object = None) -> list[str]:
 
 
 get_requires_for_build_editable = get_requires_for_build_wheel
+get_requires_for_build_sdist = get_requires_for_build_wheel

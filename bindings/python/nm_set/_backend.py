@@ -7,26 +7,26 @@ import os
 from typing import TYPE_CHECKING
 
 from . import _library as c
-from ._faults import fault, forked, key_fault
+from ._faults import fault_at, key_fault
 
 # The functions that those in C call, in the order in which `bind` takes them.
 _IN_C = ("contains", "insert", "remove", "pop_first", "pop_last", "next", "prev")
-_IN_C += ("contains_many", "finish", "stats")
+_IN_C += ("contains_many", "size")
 
 if TYPE_CHECKING or os.environ.get("NM_SET_PURE"):
-    from ._calls import Calls, Count, answers, first_wrong
+    from ._calls import Calls, answers, first_wrong
 
     is_native = False
 else:
     try:
-        from ._native import Calls, Count, answers, bind, first_wrong
+        from ._native import Calls, answers, bind, first_wrong
     except ImportError:
-        from ._calls import Calls, Count, answers, first_wrong
+        from ._calls import Calls, answers, first_wrong
 
         is_native = False
     else:
-        addresses = tuple(c.address(f"nm_worker_{name}") for name in _IN_C)
-        bind(*addresses, fault, key_fault, forked)
+        addresses = tuple(c.address(f"nm_pool_{name}") for name in _IN_C)
+        bind(*addresses, fault_at, key_fault)
         is_native = True
 
-__all__ = ["Calls", "Count", "answers", "first_wrong", "is_native"]
+__all__ = ["Calls", "answers", "first_wrong", "is_native"]

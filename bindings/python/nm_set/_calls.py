@@ -1,27 +1,42 @@
 """The calls for keys by ctypes; `_native` has the same calls in C.
 
-Each place has a handle. A call uses the first handle that is open and that no other call has, as
-the library decides. So a call takes nothing here, and gives nothing back after it: an exception at
-any moment does no harm.
+The pool of the library finds a worker for each call. A call here first makes it without a wait, in
+which other threads of Python wait. If its time is needed, it makes the call in parts, in which other
+threads run, so that the handlers of signals run between two parts.
 """
 
 from __future__ import annotations
 
-import ctypes
 import operator
-import os
-from collections import Counter
+import time
 from collections.abc import Callable
-from ctypes import c_uint64
-from itertools import tee
+from ctypes import c_uint32, c_uint64, c_void_p
 from typing import Any, Optional, SupportsIndex
 
 from . import _library as c
-from ._faults import MOST_KEY, Closed, InUse, answered, fault, forked, key_fault
+from ._faults import MOST_KEY, fault_at, key_fault
 
 _SEVERAL = 64  # the number of keys that one call of the library looks up
 SOME = 256
 """The most keys of one call of a method named `.._some`."""
+_PART = 20  # milliseconds: the longest part of a wait
+
+
+def waited(call: Callable[[Any, int], int], timeout_ms: int) -> int:
+    """Makes a call by a library, for at most some milliseconds; returns its last outcome. The first
+    call does not wait, and other threads of Python wait meanwhile. The next ones are parts of the
+    wait, in which they run. A part that ends before its time has its final outcome: the keys of a
+    full set take all nodes."""
+    outcome = call(c.quick, 0)
+    begun = time.monotonic()
+    end = begun + timeout_ms / 1_000
+    while outcome in c.WAITED and begun < end:
+        part = min(max(int((end - begun) * 1_000), 1), _PART)
+        outcome = call(c.exports, part)
+        if time.monotonic() - begun < part / 1_000:
+            break
+        begun = time.monotonic()
+    return outcome
 
 
 def _number(key: SupportsIndex) -> int:
@@ -31,107 +46,56 @@ def _number(key: SupportsIndex) -> int:
     return number
 
 
-class Count:
-    """How often calls that add a key returned each outcome, and calls that remove a key."""
-
-    def __init__(self) -> None:
-        self.added: Counter[int] = Counter()
-        self.removed: Counter[int] = Counter()
-
-    def keys(self) -> int:
-        """Returns how many keys calls have added, less those that they have removed. An unfinished
-        discard counts when it begins: no other call will remove the key."""
-        return self.added[c.YES] - self.removed[c.YES] - self.removed[c.UNFINISHED]
-
-
-def _counted(outcomes: Counter[int], call: Callable[..., int]) -> Callable[..., int]:
-    """Returns a call that also counts its outcome. The call and the count are one step of Python,
-    so that no exception can separate them."""
-
-    def made(handle: c.Handle, second: Any, third: Any) -> int:
-        counted, outcome = tee(map(call, (handle,), (second,), (third,)))
-        outcomes.update(counted)
-        return next(outcome)
-
-    return made
-
-
 class Calls:
-    """The calls for keys by the first of some places whose handle is open and in no other call.
-    They raise `Closed` or `InUse` if there is no such place; then nothing has changed."""
+    """The calls for keys by a pool and the number of a worker there, or `c.ANY`."""
 
-    def __init__(
-        self, places: ctypes.Array[c.Place], options: c.OptionsWords, count: Count, line: int
-    ) -> None:
-        self._handles = tuple(place.handle for place in places)
-        self._call_options = options
-        self._process = os.getpid()
-        self._insert = _counted(count.added, c.quick.nm_worker_insert)
-        self._remove = _counted(count.removed, c.quick.nm_worker_remove)
-        self._pop_first = _counted(count.removed, c.quick.nm_worker_pop_first)
-        self._pop_last = _counted(count.removed, c.quick.nm_worker_pop_last)
-        self.reach = 0
-        """The number of places that a call tries."""
+    def __init__(self, pool: c_void_p, worker: c_uint32, timeout_ms: int) -> None:
+        self._pool, self._worker, self._timeout_ms = pool, worker, timeout_ms
 
-    def _asked(self, call: Callable[..., int], *arguments: Any) -> int:
-        if os.getpid() != self._process:
-            raise forked(self._process)
-        outcome = c.CLOSED
-        for handle in self._handles[: self.reach]:
-            outcome = call(handle, *arguments)
-            if outcome != c.IN_USE and outcome != c.CLOSED:
-                return outcome
-        raise fault(outcome)
+    def _outcome(self, name: str, *arguments: Any) -> int:
+        """Makes a call of the pool, and waits if it must."""
 
-    def _looked(self, call: Callable[[c.Handle], int]) -> bool:
-        """Makes a call of the library that changes no key, after the discard that is pending. It
-        retries the call if each of its tries was lost, at most `rounds` times."""
+        def call(library: Any, part: int) -> int:
+            return int(getattr(library, name)(self._pool, self._worker, *arguments, part))
 
-        def look(handle: c.Handle) -> int:
-            outcome = call(handle)
-            if outcome != c.PENDING:
-                return outcome
-            c.quick.nm_worker_finish(handle, self._call_options.tries)
-            return call(handle)
+        return waited(call, self._timeout_ms)
 
-        for _ in range(self._call_options.rounds):
-            outcome = self._asked(look)
-            if outcome != c.BUSY:
-                return answered(outcome)
-        return answered(self._asked(look))
+    def _answered(self, outcome: int) -> bool:
+        if outcome < 0:
+            raise fault_at(outcome, self._pool, self._worker.value)
+        return outcome != c.NO
 
     def contains(self, key: SupportsIndex) -> bool:
-        return answered(self._asked(c.quick.nm_worker_contains, _number(key), self._call_options))
+        return self._answered(self._outcome("nm_pool_contains", _number(key)))
 
     def add(self, key: SupportsIndex) -> bool:
-        return answered(self._asked(self._insert, _number(key), self._call_options))
+        return self._answered(self._outcome("nm_pool_insert", _number(key)))
 
     def remove(self, key: SupportsIndex) -> bool:
-        return answered(self._asked(self._remove, _number(key), self._call_options))
+        return self._answered(self._outcome("nm_pool_remove", _number(key)))
 
-    def _nearest(self, call: Callable[..., int], key: SupportsIndex) -> Optional[int]:
-        number, found, tries = _number(key), c_uint64(), self._call_options.tries
-        is_found = self._looked(lambda to: int(call(to, number, tries, found)))
-        return found.value if is_found else None
+    def _nearest(self, name: str, key: SupportsIndex) -> Optional[int]:
+        number, found = _number(key), c_uint64()
+        return found.value if self._answered(self._outcome(name, number, found)) else None
 
     def at_least(self, key: SupportsIndex) -> Optional[int]:
-        return self._nearest(c.quick.nm_worker_next, key)
+        return self._nearest("nm_pool_next", key)
 
     def at_most(self, key: SupportsIndex) -> Optional[int]:
-        return self._nearest(c.quick.nm_worker_prev, key)
+        return self._nearest("nm_pool_prev", key)
 
-    def _taken(self, call: Callable[..., int]) -> Optional[int]:
-        """Removes a key by a call of the library, and returns it. It returns a key whose discard is
+    def _taken(self, name: str) -> Optional[int]:
+        """Removes a key by a call of the pool, and returns it. It returns a key whose discard is
         unfinished too: this call will remove it, and no other call will."""
         taken = c_uint64()
-        outcome = self._asked(call, self._call_options, taken)
-        return taken.value if outcome == c.UNFINISHED or answered(outcome) else None
+        outcome = self._outcome(name, taken)
+        return taken.value if outcome == c.UNFINISHED or self._answered(outcome) else None
 
     def pop_first(self) -> Optional[int]:
-        return self._taken(self._pop_first)
+        return self._taken("nm_pool_pop_first")
 
     def pop_last(self) -> Optional[int]:
-        return self._taken(self._pop_last)
+        return self._taken("nm_pool_pop_last")
 
     def contains_some(self, keys: memoryview, first: int, found: memoryview) -> int:
         """Looks up some of these keys, from an index on, and writes 1 or 0 for each. Returns how
@@ -139,25 +103,17 @@ class Calls:
         wanted = keys[first : first + _SEVERAL]
         asked: Any = ((key, 0) for key in wanted)
         lookups = (c.LookupWords * max(len(wanted), 1))(*asked)
-        many, tries = c.exports.nm_worker_contains_many, self._call_options.tries
-        self._looked(lambda to: int(many(to, lookups, len(wanted), tries)))
+        self._answered(self._outcome("nm_pool_contains_many", lookups, len(wanted)))
         for at in range(len(wanted)):
             found[first + at] = lookups[at].found
         return len(wanted)
 
     def _some(
-        self,
-        call: Callable[..., int],
-        keys: memoryview,
-        first: int,
-        answers: Optional[memoryview],
+        self, name: str, keys: memoryview, first: int, answers: Optional[memoryview]
     ) -> tuple[int, int, int]:
         changed, last = 0, min(first + SOME, len(keys))
         for at in range(first, last):
-            try:
-                outcome = self._asked(call, keys[at], self._call_options)
-            except (Closed, InUse) as error:
-                outcome = error.outcome or c.CLOSED
+            outcome = self._outcome(name, keys[at])
             if answers is not None:
                 answers[at] = outcome in (c.YES, c.UNFINISHED)
             if outcome < 0:
@@ -171,26 +127,20 @@ class Calls:
         """Adds some of these keys, from an index on, and writes 1 for each that was absent, if
         there is room for answers. Returns how many keys it tried, how many of them were absent, and
         the outcome of the next key, if that is below 0."""
-        return self._some(self._insert, keys, first, answers)
+        return self._some("nm_pool_insert", keys, first, answers)
 
     def remove_some(
         self, keys: memoryview, first: int, answers: Optional[memoryview]
     ) -> tuple[int, int, int]:
         """Removes some of these keys, in the way of `add_some`. It counts the keys that were
         present."""
-        return self._some(self._remove, keys, first, answers)
+        return self._some("nm_pool_remove", keys, first, answers)
 
-    def waiting(self) -> tuple[int, int]:
-        """Returns how many nodes wait with the workers of the places, and how many places were in
-        use. It leaves out the nodes of places in use."""
-        waiting = missed = 0
-        words = c.StatsWords()
-        for handle in self._handles[: self.reach]:
-            outcome = c.quick.nm_worker_stats(handle, words)
-            if outcome == c.DONE:
-                waiting += words.queued
-            missed += outcome == c.IN_USE
-        return waiting, missed
+    def keys(self) -> int:
+        """Returns how many keys the set has."""
+        keys = c_uint64()
+        self._answered(c.quick.nm_pool_size(self._pool, keys))
+        return keys.value
 
 
 def first_wrong(keys: memoryview, is_signed: bool) -> int:

@@ -3,6 +3,7 @@
 from __future__ import annotations
 
 from collections.abc import Sequence
+from ctypes import c_void_p, create_string_buffer
 
 from . import _library as c
 
@@ -50,9 +51,8 @@ class Unfinished(Fault):
 
 
 class NoWorker(Fault):
-    """Each worker is attached or in a call, and `attach` was not to wait, or its timeout has
-    passed. Or this thread itself has attached all workers, so that an `attach` would never end; if
-    it has pinned each, a call of the set would never end either."""
+    """Within the time of the call each worker was in a call, or attached and pinned; for an
+    `attach`: in a call or attached. It makes no difference which threads have attached them."""
 
     outcome = c.NO_WORKER
 
@@ -77,8 +77,8 @@ class Pinned(Fault):
 
 
 class InUse(Fault):
-    """Another thread is in a call by the worker for longer than this call waits. Nothing has
-    changed."""
+    """Other threads are in calls by the worker, or by workers that keep the set from being closed,
+    for longer than this call waits. Nothing has changed."""
 
     outcome = c.IN_USE
 
@@ -86,6 +86,8 @@ class InUse(Fault):
 class Forked(Fault, RuntimeError):
     """The set was made by the process from which this process was forked. Nothing has changed, and
     the set of that process goes on."""
+
+    outcome = c.FORKED
 
 
 class OutOfRange(Fault, ValueError):
@@ -107,8 +109,10 @@ _TEXTS = {
     c.PINNED: "the worker is pinned: unpin it first",
     c.NOT_PINNED: "the worker is not pinned",
     c.ATTACHED: "a worker is attached to a thread",
-    c.NO_WORKER: f"each worker of the set is attached ({MOST_WORKERS} at most)",
+    c.NO_WORKER: f"each worker of the set is attached or in a call ({MOST_WORKERS} at most)",
     c.CLOSED: "the worker is closed",
+    c.FORKED: "the set was made before this process was forked: no other process would see what it"
+    " adds; make a set in this process",
     c.CLOSING: "the set is closed",
     c.IN_USE: "another thread is in a call by the worker",
 }
@@ -130,6 +134,7 @@ _KINDS: dict[int, type[Fault]] = {
     c.CLOSED: Closed,
     c.CLOSING: Closed,
     c.IN_USE: InUse,
+    c.FORKED: Forked,
 }
 
 
@@ -167,12 +172,21 @@ def closed() -> Fault:
     return fault(c.CLOSED, "the set is closed")
 
 
-def forked(process: int) -> Fault:
-    """Returns the exception of a call in another process than the one that made the set."""
-    return Forked(
-        f"the set was made by process {process}, from which this process was forked: no other"
-        " process would see what it adds; make a set in this process"
-    )
+def fault_at(outcome: int, pool: c_void_p, worker: int) -> Fault:
+    """Returns the exception of a call of a pool, with the numbers that are known."""
+    words, text = c.FullnessWords(), create_string_buffer(640)
+    if outcome == c.CLOSED and worker == c.ANY:
+        return closed()
+    if outcome == c.FULL and c.quick.nm_pool_fullness(pool, words) == c.DONE:
+        return fault(outcome, c.quick.nm_full_words(words, text, len(text)).decode())
+    if outcome == c.NO_WORKER:
+        count = c.quick.nm_pool_workers(pool)
+        return fault(
+            outcome,
+            f"each of the {count} workers of the set ({MOST_WORKERS} at most) is attached or in a"
+            " call",
+        )
+    return fault(outcome)
 
 
 def shortened(keys: Sequence[int], count: int) -> str:
@@ -182,9 +196,8 @@ def shortened(keys: Sequence[int], count: int) -> str:
     return f"[{first}]" if len(keys) <= SHOWN else f"[{first}, ...], {count} keys"
 
 
-def those(numbers: Sequence[int]) -> str:
-    """Returns workers as the subject of a sentence, with its verb."""
-    if len(numbers) == 1:
-        return f"worker {numbers[0]} is"
-    first = ", ".join(str(number) for number in numbers[:-1])
-    return f"workers {first} and {numbers[-1]} are"
+def those(mask: int) -> str:
+    """Returns the workers of a mask as the subject of a sentence, with its verb."""
+    text = create_string_buffer(256)
+    words: str = c.quick.nm_mask_words(mask, text, len(text)).decode()
+    return f"{words} {'are' if mask & (mask - 1) else 'is'}"

@@ -14,7 +14,7 @@ from typing import Any, NoReturn, Optional, SupportsIndex, TypeVar, overload
 
 from . import _library as c
 from ._backend import Calls, answers, first_wrong
-from ._faults import MOST_KEY, SHOWN, Closed, Full, InUse, fault, key_fault, shortened
+from ._faults import MOST_KEY, SHOWN, Closed, fault, key_fault, shortened
 
 _T = TypeVar("_T")
 _Out = TypeVar("_Out", bound=Sized)  # a buffer, for which Python has a type only from 3.12 on
@@ -97,19 +97,17 @@ class Keys(MutableSet):  # type: ignore[type-arg]
 
     _calls: Calls
 
-    def _again(self, name: str, *arguments: object) -> Any:
-        """Repeats a call of `Calls` that found no worker or no nodes free."""
-        raise NotImplementedError
-
     # ---- one key ----
 
     def __contains__(self, key: object) -> bool:
         """Returns whether the set has a key. A value that is no key is in no set."""
         try:
             return self._calls.contains(key)  # type: ignore[arg-type]
-        except (TypeError, ValueError, InUse):
+        except Closed:
+            raise
+        except (TypeError, ValueError):
             number = _number(key)
-        return number is not None and bool(self._again("contains", number))
+        return number is not None and self._calls.contains(number)
 
     def contains(self, key: object) -> bool:
         """Returns whether the set has a key, like `key in numbers`."""
@@ -117,21 +115,19 @@ class Keys(MutableSet):  # type: ignore[type-arg]
 
     def add(self, key: SupportsIndex) -> bool:  # type: ignore[override]
         """Adds a key, 0 to 2^64 - 4; returns True if it was absent. If the set is full it waits for
-        nodes, for at most the `timeout_ms` of `Options`, and for no other thread's call. Raises
-        `OutOfRange` or `TypeError` for a value that is no key, and `Full`."""
-        try:
-            return self._calls.add(key)
-        except (Closed, InUse, Full):
-            pass
-        return bool(self._again("add", key))
+        nodes, for at most the `timeout_ms` of `Options`. Raises `OutOfRange` or `TypeError` for a
+        value that is no key, and `Full`."""
+        return self._calls.add(key)
 
     def discard(self, key: object) -> bool:  # type: ignore[override]
         """Removes a key; returns True if it was present."""
         try:
             return self._calls.remove(key)  # type: ignore[arg-type]
-        except (TypeError, ValueError, InUse):
+        except Closed:
+            raise
+        except (TypeError, ValueError):
             number = _number(key)
-        return number is not None and bool(self._again("remove", number))
+        return number is not None and self._calls.remove(number)
 
     def remove(self, key: object) -> None:
         """Removes a key. Raises KeyError if it was absent."""
@@ -142,22 +138,12 @@ class Keys(MutableSet):  # type: ignore[type-arg]
         """Returns the least key of the set that is not below this one, or None if there is none. At
         a moment of the call the set had the key. For each key that was passed over there was a
         moment of the call at which the set did not have it. The moments of two keys may differ."""
-        try:
-            return self._calls.at_least(key)
-        except (Closed, InUse):
-            pass
-        found: Optional[int] = self._again("at_least", key)
-        return found
+        return self._calls.at_least(key)
 
     def at_most(self, key: SupportsIndex) -> Optional[int]:
         """Returns the greatest key of the set that is not above this one, or None if there is none,
         in the way of `at_least`."""
-        try:
-            return self._calls.at_most(key)
-        except (Closed, InUse):
-            pass
-        found: Optional[int] = self._again("at_most", key)
-        return found
+        return self._calls.at_most(key)
 
     # ---- several keys ----
 
@@ -175,10 +161,7 @@ class Keys(MutableSet):  # type: ignore[type-arg]
         found = _answers_of(bytearray(len(words)) if out is None else out, len(words))
         at = 0
         while at < len(words):
-            try:
-                at += self._calls.contains_some(words, at, found)
-            except (Closed, InUse):
-                at += self._again("contains_some", words, at, found)
+            at += self._calls.contains_some(words, at, found)
         return answers(found) if out is None else out
 
     def _change_many(self, keys: Iterable[SupportsIndex], name: str, out: Any = None) -> int:
@@ -186,12 +169,12 @@ class Keys(MutableSet):  # type: ignore[type-arg]
         found = None if out is None else _answers_of(out, len(words))
         if found is not None:
             found[:] = bytes(len(found))
-        some = getattr(self._calls, f"{name}_some")
+        some, single = getattr(self._calls, f"{name}_some"), getattr(self._calls, name)
         while at < len(words):
             done, count, outcome = some(words, at, found)
             at, changed = at + done, changed + count
-            if outcome in (c.CLOSED, c.IN_USE, c.FULL):
-                is_changed = self._again(name, words[at])
+            if outcome in c.WAITED or outcome in (c.CLOSED, c.FORKED):
+                is_changed = single(words[at])  # it waits, or raises the fault with its numbers
                 if found is not None:
                     found[at] = is_changed
                 at, changed = at + 1, changed + is_changed
@@ -258,10 +241,7 @@ class Keys(MutableSet):  # type: ignore[type-arg]
         return self.at_most(MOST_KEY)
 
     def _pop(self, name: str) -> int:
-        try:
-            key = getattr(self._calls, name)()
-        except (Closed, InUse):
-            key = self._again(name)
+        key = getattr(self._calls, name)()
         if key is None:
             raise KeyError("pop from an empty set")
         return int(key)

@@ -1,9 +1,9 @@
-"""The functions of nm_set.h, by ctypes.
+"""The functions of nm_pool.h and nm_set.h, by ctypes.
 
-A handle is two words of memory that this process owns. If two calls have one handle at the same
-time, the library refuses the second, which then touches nothing. So no handle needs a lock here.
-Other threads run during a call of a function of `exports`. They wait during a call of a function of
-`quick`: such a call ends within some hundred steps, so waiting costs less than switching threads.
+The pool finds a worker for each call and refuses calls in a forked child; several threads may call
+it at the same time. So nothing needs a lock here. Other threads run during a call of a function of
+`exports`. They wait during a call of a function of `quick`: such a call ends within some hundred
+steps, if its time is 0, so waiting costs less than switching threads.
 """
 
 from __future__ import annotations
@@ -12,7 +12,7 @@ import ctypes
 import os
 import shutil
 from collections.abc import Iterator
-from ctypes import POINTER, c_int, c_int64, c_size_t, c_uint32, c_uint64, c_void_p
+from ctypes import POINTER, c_char_p, c_int, c_int64, c_size_t, c_uint32, c_uint64, c_void_p
 from pathlib import Path
 from typing import Any, Final, TypeVar
 
@@ -44,12 +44,6 @@ class Handle(ctypes.Structure):
     _fields_ = [("at", c_void_p), ("in_use", c_uint64)]
 
 
-class Place(ctypes.Structure):
-    """A handle in a cache line of its own, because each call writes its handle."""
-
-    _fields_ = [("handle", Handle), ("unused", c_uint64 * 6)]
-
-
 class StatsWords(ctypes.Structure):
     """nm_stats."""
 
@@ -64,6 +58,28 @@ class OptionsWords(ctypes.Structure):
     _fields_ = [(name, c_uint32) for name in ("tries", "rounds", "collect_after")]
 
 
+class PoolOptionsWords(ctypes.Structure):
+    """nm_pool_options."""
+
+    _fields_ = [
+        (name, c_uint32) for name in ("workers", "shape", "tries", "rounds", "collect_after")
+    ]
+
+
+class FullnessWords(ctypes.Structure):
+    """nm_fullness."""
+
+    _fields_ = [
+        (name, c_uint64) for name in ("nodes", "keys", "waiting", "free", "unasked", "behind")
+    ]
+
+
+class WaitWords(ctypes.Structure):
+    """nm_pool_wait."""
+
+    _fields_ = [("end", c_uint64)] + [(name, c_uint32) for name in ("pause", "looks", "ended")]
+
+
 class LookupWords(ctypes.Structure):
     """nm_lookup."""
 
@@ -76,33 +92,40 @@ class WaitingWords(ctypes.Structure):
     _fields_ = [(name, c_uint64) for name in ("slot", "generation", "label")]
 
 
-_H, _U32, _U64 = POINTER(Handle), POINTER(c_uint32), POINTER(c_uint64)
+_H, _U32, _U64, _POOL = POINTER(Handle), POINTER(c_uint32), POINTER(c_uint64), c_void_p
 
 # Each function that this module calls, with its parameters.
 FUNCTIONS: dict[str, list[Any]] = {
     "nm_set_version": [_U32, _U32, _U32],
-    "nm_set_new_unbalanced": [_H, c_uint32, c_uint32],
-    "nm_set_new": [_H, c_uint32, c_uint32],
-    "nm_set_worker": [_H, _H, c_uint32],
-    "nm_set_attach": [_H, _H],
-    "nm_set_close": [_H],
-    "nm_set_attached": [_H, c_uint32],
     "nm_drop": [_H],
-    "nm_worker_contains": [_H, c_uint64, POINTER(OptionsWords)],
-    "nm_worker_contains_many": [_H, POINTER(LookupWords), c_size_t, c_uint32],
-    "nm_worker_next": [_H, c_uint64, c_uint32, _U64],
-    "nm_worker_prev": [_H, c_uint64, c_uint32, _U64],
-    "nm_worker_insert": [_H, c_uint64, POINTER(OptionsWords)],
-    "nm_worker_remove": [_H, c_uint64, POINTER(OptionsWords)],
-    "nm_worker_pop_first": [_H, POINTER(OptionsWords), _U64],
-    "nm_worker_pop_last": [_H, POINTER(OptionsWords), _U64],
-    "nm_worker_finish": [_H, c_uint32],
+    "nm_pool_new": [POINTER(_POOL), c_uint64, POINTER(PoolOptionsWords)],
+    "nm_pool_close": [_POOL, c_uint32, _H, _U64],
+    "nm_pool_free": [_POOL],
+    "nm_pool_contains": [_POOL, c_uint32, c_uint64, c_uint32],
+    "nm_pool_insert": [_POOL, c_uint32, c_uint64, c_uint32],
+    "nm_pool_remove": [_POOL, c_uint32, c_uint64, c_uint32],
+    "nm_pool_pop_first": [_POOL, c_uint32, _U64, c_uint32],
+    "nm_pool_pop_last": [_POOL, c_uint32, _U64, c_uint32],
+    "nm_pool_next": [_POOL, c_uint32, c_uint64, _U64, c_uint32],
+    "nm_pool_prev": [_POOL, c_uint32, c_uint64, _U64, c_uint32],
+    "nm_pool_contains_many": [_POOL, c_uint32, POINTER(LookupWords), c_size_t, c_uint32],
+    "nm_pool_size": [_POOL, _U64],
+    "nm_pool_fullness": [_POOL, POINTER(FullnessWords)],
+    "nm_pool_collect": [_POOL, _U64],
+    "nm_pool_workers": [_POOL],
+    "nm_pool_call_options": [_POOL],
+    "nm_pool_attached": [_POOL],
+    "nm_pool_attach": [_POOL, _U32, c_uint32],
+    "nm_pool_attach_number": [_POOL, c_uint32, _U32, c_uint32],
+    "nm_pool_detach": [_POOL, _U32, c_uint32],
+    "nm_pool_handle": [_POOL, c_uint32],
+    "nm_pool_again": [_POOL, c_uint32, POINTER(WaitWords), c_int, c_uint32],
+    "nm_full_words": [POINTER(FullnessWords), c_char_p, c_size_t],
+    "nm_mask_words": [c_uint64, c_char_p, c_size_t],
     "nm_worker_pin": [_H, c_uint32, _U64],
     "nm_worker_unpin": [_H],
     "nm_worker_advance": [_H, _U64, _U32],
-    "nm_worker_behind": [_H, _U64, _U64],
     "nm_worker_collect": [_H, _U64, _U64],
-    "nm_worker_number": [_H, _U32],
     "nm_worker_pending": [_H, _U64],
     "nm_worker_stats": [_H, POINTER(StatsWords)],
     "nm_worker_publish": [_H, _U64, _U64],
@@ -113,6 +136,23 @@ FUNCTIONS: dict[str, list[Any]] = {
     "nm_report_queue": [_H, c_uint32, _U64],
     "nm_report_waiting": [_H, c_uint32, POINTER(WaitingWords)],
 }
+
+# What those functions return that return no outcome.
+_RESULTS: dict[str, Any] = {
+    "nm_pool_free": None,
+    "nm_pool_workers": c_uint32,
+    "nm_pool_attached": c_uint64,
+    "nm_pool_call_options": POINTER(OptionsWords),
+    "nm_pool_handle": _H,
+    "nm_full_words": c_char_p,
+    "nm_mask_words": c_char_p,
+}
+
+# In place of the number of a worker: any worker, and none. In place of `collect_after`: an eighth of
+# the nodes.
+ANY: Final = 2**32 - 1
+NONE: Final = 2**32 - 2
+AN_EIGHTH: Final = 2**32 - 1
 
 # The outcomes that this module knows.
 NO: Final = 0
@@ -137,6 +177,10 @@ ATTACHED: Final = -18
 CLOSING: Final = -19
 IN_USE: Final = -22
 NO_WORKER: Final = -23
+FORKED: Final = -30
+
+# The outcomes of a call whose time was over.
+WAITED: Final = frozenset((FULL, IN_USE, NO_WORKER))
 
 _FILE = "libnm_set.so.0.1"
 
@@ -197,7 +241,7 @@ def _typed(library: _Library, name: str) -> _Library:
                 name="nm_set",
                 path=name,
             ) from None
-        found.argtypes, found.restype = parameters, c_int
+        found.argtypes, found.restype = parameters, _RESULTS.get(function, c_int)
     return library
 
 
@@ -226,3 +270,9 @@ exports, quick = _load()
 def address(function: str) -> int:
     """Returns the address of a function of the library."""
     return ctypes.cast(getattr(exports, function), c_void_p).value or 0
+
+
+# nm_pool_detach, which waits for ten seconds at most if no time is given.
+detach = ctypes.CFUNCTYPE(c_int, _POOL, _U32, c_uint32)(
+    ("nm_pool_detach", exports), ((1, "pool"), (1, "worker"), (1, "timeout_ms", 10_000))
+)

@@ -3,9 +3,8 @@
 from __future__ import annotations
 
 import operator
-import time
 from bisect import bisect_left
-from collections.abc import Callable, Iterator
+from collections.abc import Iterator
 from ctypes import c_uint32, c_uint64
 from dataclasses import dataclass
 from typing import SupportsIndex
@@ -57,17 +56,6 @@ class Report:
         return place < len(self.keys) and self.keys[place] == number
 
 
-def _read(call: Callable[..., int], *arguments: object) -> None:
-    """Makes a call by the handle of a report, and repeats it while another thread has the handle.
-    Such a thread tried to attach a worker of the set, which was closed meanwhile."""
-    outcome = c.IN_USE
-    while outcome == c.IN_USE:
-        outcome = call(*arguments)
-        if outcome == c.IN_USE:
-            time.sleep(0)
-    answered(outcome)
-
-
 class Reader:
     """Reads the report that a handle owns. The library returns each waiting node once, so it is
     written to memory that this object keeps. If a read is interrupted, another call goes on from
@@ -79,29 +67,29 @@ class Reader:
 
     def _nodes(self, worker: int) -> tuple[Waiting, ...]:
         left = c_uint64()
-        _read(c.exports.nm_report_queue, self._handle, worker, left)
+        answered(c.exports.nm_report_queue(self._handle, worker, left))
         if worker not in self._waiting:
             room = (c.WaitingWords * max(left.value, 1))()
             self._waiting.setdefault(worker, (left.value, room))
         count, nodes = self._waiting[worker]
         while left.value:
             at = count - left.value
-            _read(c.exports.nm_report_waiting, self._handle, worker, nodes[at])  # type: ignore
-            _read(c.exports.nm_report_queue, self._handle, worker, left)
+            answered(c.exports.nm_report_waiting(self._handle, worker, nodes[at]))  # type: ignore
+            answered(c.exports.nm_report_queue(self._handle, worker, left))
         words = nodes[:count]  # type: ignore[index]
         return tuple(Waiting(node.slot, node.generation, node.label) for node in words)
 
     def _keys(self) -> tuple[int, ...]:
         count, key = c_uint64(), c_uint64()
-        _read(c.exports.nm_report_keys, self._handle, count)
+        answered(c.exports.nm_report_keys(self._handle, count))
         keys = []
         for index in range(count.value):
-            _read(c.quick.nm_report_key, self._handle, index, key)
+            answered(c.quick.nm_report_key(self._handle, index, key))
             keys.append(key.value)
         return tuple(keys)
 
     def read(self) -> Report:
         free, reached = c_uint32(), c_uint32()
-        _read(c.exports.nm_report_slots, self._handle, free, reached)
+        answered(c.exports.nm_report_slots(self._handle, free, reached))
         waiting = tuple(self._nodes(worker) for worker in range(self._workers))
         return Report(self._keys(), free.value, reached.value, waiting)

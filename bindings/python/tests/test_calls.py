@@ -19,12 +19,19 @@ from nm_set import MOST_KEY, Set, Options
 HUGE = 10**5_000  # Python refuses to write all of its digits
 
 
+def handle_of(worker: nm_set.Worker) -> typing.Any:
+    """Returns a pointer to the handle of a worker."""
+    from nm_set import _library
+
+    return _library.quick.nm_pool_handle(worker._pool, worker._cell)
+
+
 def unfinished(worker: nm_set.Worker, key: int) -> typing.Optional[int]:
     """Leaves the discard of a key unfinished, and returns the key that is pending."""
     from nm_set import _library
 
     remove = ctypes.CDLL(_library.exports._name).nm_worker_try_remove
-    assert remove(ctypes.byref(worker._handle), ctypes.c_uint64(key), 1) == _library.UNFINISHED
+    assert remove(handle_of(worker), ctypes.c_uint64(key), 1) == _library.UNFINISHED
     return worker.pending()
 
 
@@ -251,15 +258,15 @@ class Workers(unittest.TestCase):
         self.assertTrue(5 in numbers and numbers.add(6))
         self.assertEqual(len(numbers.close()), 2)
 
-    @mock.patch("nm_set._set._LOOKS", 20)
     def test_one_thread_at_a_time_uses_a_worker(self) -> None:
-        with Set(64).attach() as worker:
-            worker._handle.in_use = 1
+        with Set(64, options=Options(timeout_ms=30)).attach() as worker:
+            handle = handle_of(worker)
+            handle.contents.in_use = 1
             for call in (lambda: worker.add(5), lambda: worker.add_many([5]), worker.close):
                 with self.assertRaises(nm_set.InUse) as raised:
                     call()
                 self.assertEqual(raised.exception.outcome, -22)
-            worker._handle.in_use = 0
+            handle.contents.in_use = 0
             self.assertTrue(worker.add(5))
 
     def test_the_least_number_comes_first(self) -> None:
@@ -362,6 +369,8 @@ class Tended(unittest.TestCase):
                 self.assertTrue(numbers.add(6))
 
     def test_nodes_are_collected_when_an_eighth_of_them_wait(self) -> None:
+        from nm_set import _library
+
         for nodes, workers, after, usual in (
             (7, 1, None, 8),
             (1_024, 64, None, 8),
@@ -372,7 +381,8 @@ class Tended(unittest.TestCase):
         ):
             options = Options(collect_after=after)
             with Set(nodes, workers=workers, options=options) as numbers:
-                self.assertEqual(numbers._call_options.collect_after, usual)
+                made = _library.quick.nm_pool_call_options(numbers._pool).contents
+                self.assertEqual(made.collect_after, usual)
 
     def test_a_full_set_is_told_in_time_beside_a_thread_that_has_stopped(self) -> None:
         """A thread that stopped in the middle of a call has the handle of its worker in use."""
@@ -381,10 +391,10 @@ class Tended(unittest.TestCase):
                 with numbers.attach() as stopped, numbers.attach() as other:
                     self.assertEqual((stopped.add_many([4, 5]), stopped.discard(4)), (2, True))
                     self.assertEqual((numbers.waiting(), numbers.free()), (2, 0))
-                    stopped._handle.in_use = 1
+                    handle_of(stopped).contents.in_use = 1
                     begun = time.monotonic()
                     told = len(numbers), numbers.waiting(), numbers.free(), repr(numbers)
-                    self.assertEqual(told, (1, 0, 2, "Set([5])"))
+                    self.assertEqual(told, (1, 2, 0, "Set([5])"))
                     self.assertLess(time.monotonic() - begun, 0.2)
                     for own in (numbers, other):
                         begun = time.monotonic()
@@ -395,11 +405,11 @@ class Tended(unittest.TestCase):
                         self.assertLess(took, timeout_ms / 1_000 + 0.2)
                         self.assertEqual(
                             str(raised.exception),
-                            "the set is full: its 1 keys take 7 of its 9 nodes, and 0 wait to be"
-                            " freed; 1 in a call could not be asked, so what waits there is not"
-                            " counted",
+                            "the set is full: its 1 keys take 7 of its 9 nodes, and 2 wait to be"
+                            " freed; worker 0 is in a call, so what waits there is counted as last"
+                            " seen",
                         )
-                    stopped._handle.in_use = 0
+                    handle_of(stopped).contents.in_use = 0
                     self.assertTrue(other.add(6))
 
     def test_a_call_borrows_a_worker_that_is_attached_and_not_pinned(self) -> None:

@@ -46,20 +46,22 @@ pub enum Fault {
     /// The worker is pinned, because the guard of its pin was forgotten
     /// ([`forget`](std::mem::forget)). If the worker is dropped, its pin ends.
     Pinned,
-    /// Each worker is attached or in a call, and the call was not to wait, or its timeout has
-    /// passed. Or this thread itself has attached all workers, so that an `attach` would never end;
-    /// if this thread has pinned each, a call of the set would never end either.
+    /// Within the time of the call each worker was in a call, or attached and pinned; for an
+    /// `attach`: in a call or attached. It makes no difference which threads have attached them.
     NoWorker {
         /// How many workers the set has.
         workers: u32,
-        /// How many of them this thread itself has attached.
-        own: u32,
     },
+    /// Other threads were in calls by these workers, and did not end them within the time of this
+    /// call: the worker of a call, or the workers that keep the set from being closed.
+    InUse(Numbers),
     /// These workers are attached to threads: the worker of the given number, or the workers that
     /// keep the set from being closed.
     Attached(Numbers),
     /// The set is closed.
     Closed,
+    /// The set was made before this process was forked: only the parent can use it.
+    Forked,
     /// An outcome of the library that this crate does not know. It has the number in `nm_set.h`.
     Other(i32),
 }
@@ -92,6 +94,8 @@ impl Fault {
             -11 => Fault::Unfinished,
             -12 => Fault::Pending,
             -13 => Fault::Pinned,
+            -22 => Fault::InUse(Numbers::default()),
+            -30 => Fault::Forked,
             other => Fault::Other(other),
         }
     }
@@ -163,16 +167,19 @@ impl fmt::Display for Fault {
                 )
             }
             Fault::Full(full) => return full.fmt(f),
-            Fault::NoWorker { workers, own } => {
-                let why = if own == workers {
-                    "this thread itself has attached each"
-                } else {
-                    "each is attached or in a call"
-                };
+            Fault::NoWorker { workers } => {
                 return write!(
                     f,
-                    "no worker is free: the set has {workers} (64 at most), and {why}"
-                );
+                    "no worker is free: the set has {workers} (64 at most), and each is attached \
+                     or in a call"
+                )
+            }
+            Fault::InUse(numbers) => {
+                return write!(
+                    f,
+                    "{} in a call of another thread, which has not ended in time: call again",
+                    numbers.are()
+                )
             }
             Fault::Attached(numbers) => return write!(f, "{} attached to a thread", numbers.are()),
             Fault::Other(number) => return write!(f, "the library returned outcome {number}"),
@@ -189,6 +196,9 @@ impl fmt::Display for Fault {
             Fault::Pending => "an earlier remove has begun and is not finished: finish it first",
             Fault::Pinned => "the worker is pinned, and the guard of its pin was forgotten",
             Fault::Closed => "the set is closed",
+            Fault::Forked => {
+                "the set was made before this process was forked: only the parent can use it"
+            }
         })
     }
 }

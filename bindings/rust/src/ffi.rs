@@ -1,38 +1,69 @@
-//! The functions of `nm_set.h`, and the one place with `unsafe`: a [`Handle`], which meets the
-//! conditions that the header asks of its callers.
+//! The functions of `nm_pool.h` and `nm_set.h`, and the one place with `unsafe`: a [`Pool`] and a
+//! [`ReportHandle`], which meet the conditions that the headers ask of their callers.
 //!
-//! What the header asks, and why it holds here:
+//! What the headers ask, and why it holds here:
 //!
-//! - *A handle is all zero before its first use, and only the library writes it.* It begins as
-//!   null, and its field is private to this module.
-//! - *It may be moved.* Rust moves values by copying their bytes and never uses the old place, and
-//!   a handle is not `Copy` or `Clone`.
-//! - *That it is all zero happens before another thread's first call.* It was made before it was
-//!   shared, and Rust lets it be shared only in the ways that the header names.
+//! - *A pool is not used after its `nm_pool_free`.* Only the drop of a [`Pool`] calls that.
+//! - *A handle is all zero before its first use, and only the library writes it.* The handles of
+//!   workers are in the pool. That of a report begins as null, and its field is private.
 //! - *Pointers are to places of their type that no other call is using, and two parameters are at
-//!   different places.* They are made from `&mut`, and from `&` if the library only reads. Two
-//!   handles of one call are two values.
-//! - *An open handle is not lost.* A dropped `Handle` gives up what it owns.
+//!   different places.* They are made from `&mut`, and from `&` if the library only reads.
+//! - *An open handle is not lost.* A dropped `ReportHandle` gives up what it owns.
 //!
-//! If two calls have one handle at the same time, the library refuses the second one, which then
-//! touches nothing. Some calls are repeated here until they are not refused. The others, which are
-//! listed as made at once, return that outcome to their caller.
+//! If two calls have one worker at the same time, the library refuses the second one, which then
+//! touches nothing. The pool, or [`Pool::by`] here, repeats it.
 
-use crate::wait::{at_once, waited_out};
-use std::cell::UnsafeCell;
 use std::ffi::c_int;
 use std::panic::{RefUnwindSafe, UnwindSafe};
-use std::ptr::null_mut;
-use std::sync::atomic::AtomicU64;
-#[cfg(test)]
-use std::sync::atomic::Ordering;
+use std::ptr::{null_mut, NonNull};
+
+/// In place of the number of a worker: any worker that can make the call.
+pub(crate) const ANY: u32 = u32::MAX;
 
 /// `nm_handle`: a pointer that is null or owns a set, a worker or a report, and whether a call has
 /// the handle.
 #[repr(C)]
-struct Word {
+pub(crate) struct Word {
     at: *mut u8,
-    in_use: AtomicU64,
+    in_use: u64,
+}
+
+/// `nm_pool`, of which only the library knows the fields.
+#[repr(C)]
+struct RawPool {
+    _private: [u8; 0],
+}
+
+/// How a pool is made: `nm_pool_options`.
+#[repr(C)]
+pub(crate) struct PoolOptions {
+    pub workers: u32,
+    pub shape: u32,
+    pub tries: u32,
+    pub rounds: u32,
+    pub collect_after: u32,
+}
+
+/// How full a set is: `nm_fullness`.
+#[repr(C)]
+#[derive(Clone, Copy, Default)]
+pub(crate) struct Fullness {
+    pub nodes: u64,
+    pub keys: u64,
+    pub waiting: u64,
+    pub free: u64,
+    pub unasked: u64,
+    pub behind: u64,
+}
+
+/// One wait of `nm_pool_again`, all zero before it begins: `nm_pool_wait`.
+#[repr(C)]
+#[derive(Default)]
+struct PoolWait {
+    end: u64,
+    pause: u32,
+    looks: u32,
+    ended: u32,
 }
 
 /// What a worker has won, and what became of the nodes that it cut off: `nm_stats`.
@@ -53,17 +84,12 @@ pub struct Stats {
     pub queued: u64,
 }
 
-/// What a managed call may spend, and when it collects: `nm_options`.
+/// What a managed call may spend: `nm_options`.
 #[repr(C)]
 #[derive(Clone, Copy)]
 pub(crate) struct CallOptions {
-    /// The tries of each call of the tree.
     pub tries: u32,
-    /// How often a call that lost each of its tries is retried, and how often a remove that has
-    /// begun is continued.
     pub rounds: u32,
-    /// The number of waiting nodes from which an insert or a remove first advances the epoch and
-    /// collects.
     pub collect_after: u32,
 }
 
@@ -89,10 +115,46 @@ pub struct Waiting {
 }
 
 extern "C" {
-    fn nm_set_new(set: *mut Word, nodes: u32, workers: u32) -> c_int;
-    fn nm_set_new_unbalanced(set: *mut Word, nodes: u32, workers: u32) -> c_int;
-    fn nm_set_worker(set: *mut Word, worker: *mut Word, number: u32) -> c_int;
-    fn nm_set_close(set: *mut Word) -> c_int;
+    fn nm_pool_new(pool: *mut *mut RawPool, nodes: u64, options: *const PoolOptions) -> c_int;
+    fn nm_pool_close(
+        pool: *mut RawPool,
+        timeout_ms: u32,
+        report: *mut Word,
+        missing: *mut u64,
+    ) -> c_int;
+    fn nm_pool_free(pool: *mut RawPool);
+    fn nm_pool_contains(pool: *mut RawPool, worker: u32, key: u64, timeout_ms: u32) -> c_int;
+    fn nm_pool_insert(pool: *mut RawPool, worker: u32, key: u64, timeout_ms: u32) -> c_int;
+    fn nm_pool_remove(pool: *mut RawPool, worker: u32, key: u64, timeout_ms: u32) -> c_int;
+    fn nm_pool_pop_first(pool: *mut RawPool, worker: u32, taken: *mut u64, ms: u32) -> c_int;
+    fn nm_pool_pop_last(pool: *mut RawPool, worker: u32, taken: *mut u64, ms: u32) -> c_int;
+    fn nm_pool_next(pool: *mut RawPool, worker: u32, key: u64, found: *mut u64, ms: u32) -> c_int;
+    fn nm_pool_prev(pool: *mut RawPool, worker: u32, key: u64, found: *mut u64, ms: u32) -> c_int;
+    fn nm_pool_contains_many(
+        pool: *mut RawPool,
+        worker: u32,
+        lookups: *mut Lookup,
+        count: usize,
+        timeout_ms: u32,
+    ) -> c_int;
+    fn nm_pool_try_insert(pool: *mut RawPool, worker: u32, key: u64, tries: u32, ms: u32) -> c_int;
+    fn nm_pool_try_remove(pool: *mut RawPool, worker: u32, key: u64, tries: u32, ms: u32) -> c_int;
+    fn nm_pool_size(pool: *mut RawPool, keys: *mut u64) -> c_int;
+    fn nm_pool_fullness(pool: *mut RawPool, fullness: *mut Fullness) -> c_int;
+    fn nm_pool_collect(pool: *mut RawPool, freed: *mut u64) -> c_int;
+    fn nm_pool_workers(pool: *const RawPool) -> u32;
+    fn nm_pool_call_options(pool: *const RawPool) -> *const CallOptions;
+    fn nm_pool_attach(pool: *mut RawPool, worker: *mut u32, timeout_ms: u32) -> c_int;
+    fn nm_pool_attach_number(pool: *mut RawPool, number: u32, worker: *mut u32, ms: u32) -> c_int;
+    fn nm_pool_detach(pool: *mut RawPool, worker: *mut u32, timeout_ms: u32) -> c_int;
+    fn nm_pool_handle(pool: *mut RawPool, worker: u32) -> *mut Word;
+    fn nm_pool_again(
+        pool: *mut RawPool,
+        worker: u32,
+        wait: *mut PoolWait,
+        outcome: c_int,
+        timeout_ms: u32,
+    ) -> c_int;
     fn nm_drop(handle: *mut Word) -> c_int;
     fn nm_worker_try_contains(worker: *mut Word, key: u64, tries: u32) -> c_int;
     fn nm_worker_contains_many(
@@ -103,19 +165,7 @@ extern "C" {
     ) -> c_int;
     fn nm_worker_next(worker: *mut Word, key: u64, tries: u32, found: *mut u64) -> c_int;
     fn nm_worker_prev(worker: *mut Word, key: u64, tries: u32, found: *mut u64) -> c_int;
-    fn nm_worker_try_insert(worker: *mut Word, key: u64, tries: u32) -> c_int;
-    fn nm_worker_try_remove(worker: *mut Word, key: u64, tries: u32) -> c_int;
     fn nm_worker_finish(worker: *mut Word, tries: u32) -> c_int;
-    fn nm_worker_contains(worker: *mut Word, key: u64, options: *const CallOptions) -> c_int;
-    fn nm_worker_insert(worker: *mut Word, key: u64, options: *const CallOptions) -> c_int;
-    fn nm_worker_remove(worker: *mut Word, key: u64, options: *const CallOptions) -> c_int;
-    fn nm_worker_pop_first(
-        worker: *mut Word,
-        options: *const CallOptions,
-        taken: *mut u64,
-    ) -> c_int;
-    fn nm_worker_pop_last(worker: *mut Word, options: *const CallOptions, taken: *mut u64)
-        -> c_int;
     fn nm_worker_pin(worker: *mut Word, tries: u32, epoch: *mut u64) -> c_int;
     fn nm_worker_unpin(worker: *mut Word) -> c_int;
     fn nm_worker_advance(worker: *mut Word, epoch: *mut u64, behind: *mut u32) -> c_int;
@@ -139,57 +189,75 @@ extern "C" {
 /// The outcome of a call, a number of `nm_outcome`: an answer, 0 or above, or an error, below 0.
 pub(crate) type Outcome = c_int;
 
-/// A handle that threads share: it owns a set, the report of a closed set, or a worker. It gives up
-/// what it owns when it is dropped.
-pub(crate) struct Handle(UnsafeCell<Word>);
+/// A pool that threads share. Its set ends when it is dropped.
+pub(crate) struct Pool(NonNull<RawPool>);
 
-// SAFETY: the header allows a handle to be used by one thread after another, if what the first
-// thread did happens before the second's call. A `Handle` that was sent to a thread meets this.
-unsafe impl Send for Handle {}
-
-// SAFETY: only the library's functions get a shared handle. If two calls have one handle at the
-// same time, the library refuses the second, which touches nothing: each call takes the handle by
-// an atomic exchange before it reads what the handle owns.
-unsafe impl Sync for Handle {}
+// SAFETY: each function of a pool may be called by any thread, and by several at the same time. Only
+// the drop calls `nm_pool_free`, when no other thread has the pool.
+unsafe impl Send for Pool {}
+// SAFETY: as above.
+unsafe impl Sync for Pool {}
 
 // No call of the library unwinds, so that a panic never comes in the middle of one.
-impl UnwindSafe for Handle {}
-impl RefUnwindSafe for Handle {}
+impl UnwindSafe for Pool {}
+impl RefUnwindSafe for Pool {}
 
-/// Makes safe methods that each call a function with this handle, by a function of `wait`.
-macro_rules! calls {
-    ($made:ident: $($name:ident = $function:ident($($parameter:ident: $type:ty),*);)*) => {
+/// Makes safe methods that each call a function of the pool.
+macro_rules! pool_calls {
+    ($($name:ident = $function:ident($($parameter:ident: $type:ty),*);)*) => {
         $(pub(crate) fn $name(&self, $($parameter: $type),*) -> Outcome {
-            // SAFETY: the handle is in a cell that only the library writes, even if several
-            // threads call it (see `Sync` above). Each place to write is borrowed for this call
-            // alone, so it is valid and apart from the others.
-            $made(|| unsafe { $function(self.0.get(), $($parameter),*) })
+            // SAFETY: the pool exists as long as `self`. Each place to write is borrowed for this
+            // call alone, so it is valid and apart from the others.
+            unsafe { $function(self.0.as_ptr(), $($parameter),*) }
         })*
     };
 }
 
-impl Handle {
-    /// Returns a closed handle.
-    pub(crate) fn closed() -> Handle {
-        Handle(UnsafeCell::new(Word {
-            at: null_mut(),
-            in_use: AtomicU64::new(0),
-        }))
+/// Makes safe methods that each call a function with the handle of an attached worker, and repeat it
+/// while another call has the worker, for at most `timeout_ms` milliseconds.
+macro_rules! worker_calls {
+    ($($name:ident = $function:ident($($parameter:ident: $type:ty),*);)*) => {
+        $(pub(crate) fn $name(&self, worker: u32, $($parameter: $type,)* timeout_ms: u32) -> Outcome {
+            // SAFETY: the handle is that of a worker of this pool, or a closed one. If another call
+            // has it, the library touches nothing. Each place to write is borrowed for this call.
+            self.by(worker, timeout_ms, |handle| unsafe { $function(handle, $($parameter),*) })
+        })*
+    };
+}
+
+impl Pool {
+    /// Makes a pool, or returns the outcome of an error.
+    pub(crate) fn new(nodes: u32, options: &PoolOptions) -> Result<Pool, Outcome> {
+        let mut pool = null_mut();
+        // SAFETY: both places are borrowed for this call.
+        let outcome = unsafe { nm_pool_new(&mut pool, nodes.into(), options) };
+        NonNull::new(pool).map(Pool).ok_or(outcome)
     }
 
-    calls! { waited_out:
-        close = nm_drop();
+    pool_calls! {
+        contains = nm_pool_contains(worker: u32, key: u64, timeout_ms: u32);
+        insert = nm_pool_insert(worker: u32, key: u64, timeout_ms: u32);
+        remove = nm_pool_remove(worker: u32, key: u64, timeout_ms: u32);
+        pop_first = nm_pool_pop_first(worker: u32, taken: &mut u64, timeout_ms: u32);
+        pop_last = nm_pool_pop_last(worker: u32, taken: &mut u64, timeout_ms: u32);
+        next = nm_pool_next(worker: u32, key: u64, found: &mut u64, timeout_ms: u32);
+        prev = nm_pool_prev(worker: u32, key: u64, found: &mut u64, timeout_ms: u32);
+        try_insert = nm_pool_try_insert(worker: u32, key: u64, tries: u32, timeout_ms: u32);
+        try_remove = nm_pool_try_remove(worker: u32, key: u64, tries: u32, timeout_ms: u32);
+        size = nm_pool_size(keys: &mut u64);
+        fullness = nm_pool_fullness(fullness: &mut Fullness);
+        collect_all = nm_pool_collect(freed: &mut u64);
+        attach = nm_pool_attach(worker: &mut u32, timeout_ms: u32);
+        attach_number = nm_pool_attach_number(number: u32, worker: &mut u32, timeout_ms: u32);
+        detach = nm_pool_detach(worker: &mut u32, timeout_ms: u32);
+    }
 
-        open = nm_set_new(nodes: u32, workers: u32);
-        open_unbalanced = nm_set_new_unbalanced(nodes: u32, workers: u32);
-        end = nm_set_close();
-
+    worker_calls! {
         try_contains = nm_worker_try_contains(key: u64, tries: u32);
-        try_insert = nm_worker_try_insert(key: u64, tries: u32);
-        try_remove = nm_worker_try_remove(key: u64, tries: u32);
         try_next = nm_worker_next(key: u64, tries: u32, found: &mut u64);
         try_prev = nm_worker_prev(key: u64, tries: u32, found: &mut u64);
         finish = nm_worker_finish(tries: u32);
+        pin = nm_worker_pin(tries: u32, epoch: &mut u64);
         unpin = nm_worker_unpin();
         advance = nm_worker_advance(epoch: &mut u64, behind: &mut u32);
         behind = nm_worker_behind(epoch: &mut u64, mask: &mut u64);
@@ -198,59 +266,161 @@ impl Handle {
         stats = nm_worker_stats(stats: &mut Stats);
         publish = nm_worker_publish(inserted: &mut u64, removed: &mut u64);
         observe = nm_worker_observe(number: u32, inserted: &mut u64, removed: &mut u64);
+    }
 
+    /// Makes a call by the handle of an attached worker, and repeats it while another call has the
+    /// worker.
+    fn by(
+        &self,
+        worker: u32,
+        timeout_ms: u32,
+        mut call: impl FnMut(*mut Word) -> Outcome,
+    ) -> Outcome {
+        let (pool, mut wait) = (self.0.as_ptr(), PoolWait::default());
+        loop {
+            // SAFETY: the pool exists as long as `self`.
+            let outcome = call(unsafe { nm_pool_handle(pool, worker) });
+            // SAFETY: as above; the wait is borrowed for this call.
+            if unsafe { nm_pool_again(pool, worker, &mut wait, outcome, timeout_ms) } == 0 {
+                return outcome;
+            }
+        }
+    }
+
+    /// Looks up several keys.
+    pub(crate) fn contains_many(&self, worker: u32, lookups: &mut [Lookup], ms: u32) -> Outcome {
+        let (first, count) = (lookups.as_mut_ptr(), lookups.len());
+        // SAFETY: the slice is borrowed for this call alone.
+        unsafe { nm_pool_contains_many(self.0.as_ptr(), worker, first, count, ms) }
+    }
+
+    /// Looks up several keys by an attached worker, with a number of tries.
+    pub(crate) fn try_contains_many(
+        &self,
+        worker: u32,
+        lookups: &mut [Lookup],
+        tries: u32,
+        timeout_ms: u32,
+    ) -> Outcome {
+        let (first, count) = (lookups.as_mut_ptr(), lookups.len());
+        // SAFETY: see `worker_calls`. The slice is borrowed for this call alone, and its pointer is
+        // not null, even if the slice is empty.
+        let call = |handle| unsafe { nm_worker_contains_many(handle, first, count, tries) };
+        self.by(worker, timeout_ms, call)
+    }
+
+    /// Ends the set. Returns the outcome, and which workers are missing.
+    pub(crate) fn close(&self, timeout_ms: u32, report: &mut ReportHandle) -> (Outcome, u64) {
+        let mut missing = 0;
+        // SAFETY: both places are borrowed for this call.
+        let outcome =
+            unsafe { nm_pool_close(self.0.as_ptr(), timeout_ms, &mut report.0, &mut missing) };
+        (outcome, missing)
+    }
+
+    /// Returns how many workers the set has.
+    pub(crate) fn workers(&self) -> u32 {
+        // SAFETY: the pool exists as long as `self`.
+        unsafe { nm_pool_workers(self.0.as_ptr()) }
+    }
+
+    /// Returns the bounds of managed calls.
+    pub(crate) fn call_options(&self) -> CallOptions {
+        // SAFETY: the options are a part of the pool, which never writes them again.
+        unsafe { *nm_pool_call_options(self.0.as_ptr()) }
+    }
+
+    /// Makes a worker look as if a thread stopped in the middle of a call by it, or as if that call
+    /// ended.
+    #[cfg(test)]
+    pub(crate) fn set_in_use(&self, worker: u32, is_in_use: bool) {
+        use std::sync::atomic::{AtomicU64, Ordering};
+        // SAFETY: the word exists as long as the pool, and all threads change it by atomic steps.
+        let in_use = unsafe {
+            let handle = nm_pool_handle(self.0.as_ptr(), worker);
+            &*std::ptr::addr_of_mut!((*handle).in_use).cast::<AtomicU64>()
+        };
+        in_use.store(is_in_use.into(), Ordering::SeqCst);
+    }
+}
+
+impl Drop for Pool {
+    fn drop(&mut self) {
+        // SAFETY: no other thread has the pool, and no worker of it is used later: each has the
+        // pool.
+        unsafe { nm_pool_free(self.0.as_ptr()) }
+    }
+}
+
+/// The handle of a report, which gives up the report when it is dropped.
+pub(crate) struct ReportHandle(Word);
+
+/// Makes safe methods that each call a function with the handle of a report.
+macro_rules! report_calls {
+    ($($name:ident = $function:ident($($parameter:ident: $type:ty),*);)*) => {
+        $(pub(crate) fn $name(&mut self, $($parameter: $type),*) -> Outcome {
+            // SAFETY: the handle and each place to write are borrowed for this call alone.
+            unsafe { $function(&mut self.0, $($parameter),*) }
+        })*
+    };
+}
+
+impl ReportHandle {
+    /// Returns a closed handle.
+    pub(crate) fn closed() -> ReportHandle {
+        ReportHandle(Word {
+            at: null_mut(),
+            in_use: 0,
+        })
+    }
+
+    report_calls! {
         slots = nm_report_slots(free: &mut u32, reached: &mut u32);
         keys = nm_report_keys(count: &mut u64);
         key = nm_report_key(index: u64, key: &mut u64);
         waiting = nm_report_waiting(worker: u32, waiting: &mut Waiting);
     }
+}
 
-    calls! { at_once:
-        contains = nm_worker_contains(key: u64, options: &CallOptions);
-        insert = nm_worker_insert(key: u64, options: &CallOptions);
-        remove = nm_worker_remove(key: u64, options: &CallOptions);
-        pop_first = nm_worker_pop_first(options: &CallOptions, taken: &mut u64);
-        pop_last = nm_worker_pop_last(options: &CallOptions, taken: &mut u64);
-        next = nm_worker_next(key: u64, tries: u32, found: &mut u64);
-        prev = nm_worker_prev(key: u64, tries: u32, found: &mut u64);
-        pin = nm_worker_pin(tries: u32, epoch: &mut u64);
-        finish_at_once = nm_worker_finish(tries: u32);
-        advance_at_once = nm_worker_advance(epoch: &mut u64, behind: &mut u32);
-        behind_at_once = nm_worker_behind(epoch: &mut u64, mask: &mut u64);
-        collect_at_once = nm_worker_collect(epoch: &mut u64, freed: &mut u64);
-        stats_at_once = nm_worker_stats(stats: &mut Stats);
-    }
-
-    /// Looks up several keys; the call is made at once.
-    pub(crate) fn contains_many(&self, lookups: &mut [Lookup], tries: u32) -> Outcome {
-        let (first, count) = (lookups.as_mut_ptr(), lookups.len());
-        // SAFETY: see the calls above. The slice is borrowed for this call alone, and its pointer
-        // is not null, even if the slice is empty.
-        at_once(|| unsafe { nm_worker_contains_many(self.0.get(), first, count, tries) })
-    }
-
-    /// Makes the handle look as if a thread stopped in the middle of a call by it, or as if that
-    /// call ended.
-    #[cfg(test)]
-    pub(crate) fn set_in_use(&self, is_in_use: bool) {
-        // SAFETY: the word exists as long as the handle, and all threads change it by atomic steps.
-        let in_use = unsafe { &(*self.0.get()).in_use };
-        in_use.store(is_in_use.into(), Ordering::SeqCst);
-    }
-
-    /// Attaches the worker of a number to a closed handle, which is not this one.
-    pub(crate) fn take(&self, worker: &Handle, number: u32) -> Outcome {
-        assert!(
-            !std::ptr::eq(self, worker),
-            "the handle of a set and of a worker are the same"
-        );
-        // SAFETY: see the calls above, for each of the two handles.
-        waited_out(|| unsafe { nm_set_worker(self.0.get(), worker.0.get(), number) })
+impl Drop for ReportHandle {
+    fn drop(&mut self) {
+        // SAFETY: the handle is borrowed for this call alone.
+        unsafe { nm_drop(&mut self.0) };
     }
 }
 
-impl Drop for Handle {
-    fn drop(&mut self) {
-        self.close();
+#[cfg(test)]
+mod tests {
+    use crate::{Fault, Set};
+    use std::ffi::c_int;
+
+    extern "C" {
+        fn fork() -> c_int;
+        fn waitpid(child: c_int, status: *mut c_int, options: c_int) -> c_int;
+        fn _exit(status: c_int) -> !;
+    }
+
+    #[test]
+    fn each_call_in_a_forked_child_is_refused() {
+        let set = Set::from([5, 7]);
+        let mut worker = set.attach().unwrap();
+        // SAFETY: the child only makes calls that are refused, and ends.
+        let child = unsafe { fork() };
+        if child == 0 {
+            let is_refused = set.contains(5) == Err(Fault::Forked)
+                && worker.insert(6) == Err(Fault::Forked)
+                && set.len() == Err(Fault::Forked)
+                && worker.stats() == Err(Fault::Forked)
+                && set.close().err() == Some(Fault::Forked);
+            drop(worker);
+            drop(set);
+            // SAFETY: the child has nothing left to do.
+            unsafe { _exit(c_int::from(!is_refused)) }
+        }
+        let mut status = -1;
+        // SAFETY: the place is borrowed for this call.
+        assert_eq!(unsafe { waitpid(child, &mut status, 0) }, child);
+        assert_eq!(status, 0);
+        assert_eq!((worker.insert(6), set.len()), (Ok(true), Ok(3)));
     }
 }

@@ -1,6 +1,5 @@
 #![doc = include_str!("../README.md")]
 
-mod calls;
 mod convert;
 mod fault;
 #[allow(unsafe_code)]
@@ -9,19 +8,17 @@ mod key;
 mod numbers;
 mod options;
 mod order;
-mod pool;
+mod place;
 mod report;
-mod room;
 mod set;
-mod wait;
 mod worker;
 
-pub use calls::Advance;
 pub use fault::{Fault, Full};
 pub use ffi::{Stats, Waiting};
 pub use numbers::Numbers;
 pub use options::{Options, Shape};
 pub use order::Range;
+pub use place::Advance;
 pub use report::Report;
 pub use set::Set;
 pub use worker::{Behind, PinGuard, Stamp, Worker};

@@ -1,16 +1,19 @@
 //! How a set is made.
 
-use crate::ffi::CallOptions;
+use crate::ffi::PoolOptions;
+
+/// In place of `collect_after`: the library computes it from the nodes and the workers.
+const AN_EIGHTH: u32 = u32::MAX;
 
 /// The shape of the tree.
 #[derive(Clone, Copy, Debug, Default, PartialEq, Eq)]
 pub enum Shape {
     /// A radix tree: no call passes more than 66 nodes, in whatever order the keys come.
     #[default]
-    Radix,
+    Radix = 0,
     /// The tree of Natarajan and Mittal, in which keys that come in order make one long path: then
     /// each call takes a step for each key of the set.
-    Unbalanced,
+    Unbalanced = 1,
 }
 
 /// How a set is made, and what its managed calls may spend.
@@ -41,21 +44,24 @@ pub struct Options {
     /// collects. None, the default, is nodes / (8 * workers), at least 8 and at most 64. So all
     /// workers together leave at most an eighth of the nodes uncollected, unless each has 8.
     pub collect_after: Option<u32>,
-    /// The longest time, in milliseconds, that an insert waits for removed nodes to be freed before
-    /// it returns [`Fault::Full`](crate::Fault::Full). It sleeps and tries again; the sleeps begin
-    /// with 20 microseconds and double up to a millisecond. With 0 the insert never sleeps, which
-    /// an asynchronous program needs. 1,000 by default.
+    /// The longest time, in milliseconds, that a call waits: for a worker
+    /// ([`Fault::NoWorker`](crate::Fault::NoWorker)), for another thread's call by the same worker
+    /// ([`Fault::InUse`](crate::Fault::InUse)), and an insert for removed nodes to be freed
+    /// ([`Fault::Full`](crate::Fault::Full)). It yields, and then sleeps; the sleeps begin with 20
+    /// microseconds and double up to a millisecond. With 0 no call sleeps, which an asynchronous
+    /// program needs. 1,000 by default.
     pub timeout_ms: u32,
 }
 
 impl Options {
-    /// Returns what a managed call may spend in a set of this many nodes and at least one worker.
-    pub(crate) fn for_calls(&self, nodes: u32) -> CallOptions {
-        let share = nodes / (8 * self.workers);
-        CallOptions {
+    /// Returns the options as the library takes them.
+    pub(crate) fn of_pool(&self) -> PoolOptions {
+        PoolOptions {
+            workers: self.workers,
+            shape: self.shape as u32,
             tries: self.tries,
             rounds: self.rounds,
-            collect_after: self.collect_after.unwrap_or(share.clamp(8, 64)),
+            collect_after: self.collect_after.unwrap_or(AN_EIGHTH),
         }
     }
 }
@@ -76,6 +82,7 @@ impl Default for Options {
 #[cfg(test)]
 mod tests {
     use super::Options;
+    use crate::ffi::Pool;
 
     #[test]
     fn nodes_are_collected_when_an_eighth_of_them_wait() {
@@ -85,7 +92,8 @@ mod tests {
                 collect_after,
                 ..Options::default()
             };
-            options.for_calls(nodes).collect_after
+            let pool = Pool::new(nodes, &options.of_pool()).map_err(drop).unwrap();
+            pool.call_options().collect_after
         };
         assert_eq!((after(7, 1, None), after(1_024, 64, None)), (8, 8));
         assert_eq!((after(1_024, 4, None), after(16_384, 64, None)), (32, 32));

@@ -1,6 +1,6 @@
 //! The report that a set was closed with.
 
-use crate::ffi::{Handle, Waiting};
+use crate::ffi::{ReportHandle, Waiting};
 
 /// The report that a set was closed with.
 #[derive(Clone, Debug, Default, PartialEq, Eq)]
@@ -13,7 +13,7 @@ pub struct Report {
 
 impl Report {
     /// Reads the report that a handle owns, of a set with this number of workers.
-    pub(crate) fn of(handle: &Handle, workers: u32) -> Report {
+    pub(crate) fn of(mut handle: ReportHandle, workers: u32) -> Report {
         let mut report = Report::default();
         let mut count = 0;
         handle.slots(&mut report.free, &mut report.reached);
@@ -23,7 +23,9 @@ impl Report {
             handle.key(index, &mut key);
             report.keys.push(key);
         }
-        report.waiting = (0..workers).map(|worker| taken(handle, worker)).collect();
+        report.waiting = (0..workers)
+            .map(|worker| taken(&mut handle, worker))
+            .collect();
         report
     }
 
@@ -75,7 +77,7 @@ impl IntoIterator for Report {
 }
 
 /// Takes all nodes out of a worker's queue, and returns them.
-fn taken(handle: &Handle, worker: u32) -> Vec<Waiting> {
+fn taken(handle: &mut ReportHandle, worker: u32) -> Vec<Waiting> {
     let mut nodes = Vec::new();
     let mut node = Waiting::default();
     while handle.waiting(worker, &mut node) > 0 {

@@ -1,18 +1,17 @@
 //! The set that threads share.
 
-use crate::calls::Seat;
-use crate::fault::Fault;
+use crate::fault::{answer, Fault};
 use crate::key::checked;
 use crate::options::Options;
 use crate::order::{self, Range};
-use crate::pool::Pool;
+use crate::place::{Place, Shared};
 use crate::report::Report;
 use crate::worker::Worker;
 use crate::MOST_KEY;
 use std::collections::BTreeSet;
 use std::ops::RangeBounds;
 use std::sync::Arc;
-use std::time::{Duration, Instant};
+use std::time::Duration;
 
 /// The number of keys that one call looks up together.
 const TOGETHER: usize = 64;
@@ -23,9 +22,9 @@ const TOGETHER: usize = 64;
 /// Any thread may call it. Each call uses one of the set's workers that no thread uses at that
 /// moment, usually the one that the thread used before. If there is none, the call borrows a worker
 /// that is attached to a thread, if it is in no call and not pinned. If each worker is in a call or
-/// pinned, the call **waits** until one is not: it sleeps a millisecond and looks again, with no
-/// bound. It also waits with no bound while another thread closes the set. A thread that makes many
-/// calls may take a [`Worker`] of its own by [`attach`](Set::attach).
+/// pinned, or another thread is closing the set, the call **waits**, for at most
+/// [`timeout_ms`](Options::timeout_ms), and then returns [`Fault::NoWorker`]. A thread that makes
+/// many calls may take a [`Worker`] of its own by [`attach`](Set::attach).
 ///
 /// [`contains`](Set::contains), [`insert`](Set::insert) and [`remove`](Set::remove) are **managed
 /// calls**. A call that lost its tries to other threads is retried, at most
@@ -35,18 +34,17 @@ const TOGETHER: usize = 64;
 /// or [`Fault::Unfinished`] for a remove that has begun. The library does all of this within a
 /// bound of steps, which is **proved**.
 ///
-/// This crate finds a worker for each call. It lets an insert wait for removed nodes to be freed,
-/// for at most [`timeout_ms`](Options::timeout_ms), before the insert returns [`Fault::Full`]. This
-/// part is **tested, not proved**.
+/// A pool around the library finds a worker for each call. It lets an insert wait for removed nodes
+/// to be freed, for at most [`timeout_ms`](Options::timeout_ms), before the insert returns
+/// [`Fault::Full`]. This part is **tested, not proved**.
 ///
 /// A call that passes over several keys takes **no snapshot**: the answer for each key was right at
 /// a moment of the call, and two keys may have different moments. This holds for iteration,
 /// `retain`, `clear`, `extend` and the comparisons with a `BTreeSet`.
 ///
-/// Besides the faults that its line names, each call returns `Closed` beside or after a
-/// [`close`](Set::close). A call that uses a worker for the first time returns `NoMemory` if memory
-/// is refused. It returns `NoWorker` if this thread itself has attached all workers and has pinned
-/// each. A managed call returns `Contention`.
+/// Besides the faults that its line names, each call returns `Closed` after a
+/// [`close`](Set::close), and `Forked` in a forked child. A call that uses a worker for the first
+/// time returns `NoMemory` if memory is refused. A managed call returns `NoWorker` and `Contention`.
 ///
 /// ```
 /// # fn main() -> Result<(), nm_set::Fault> {
@@ -67,7 +65,7 @@ const TOGETHER: usize = 64;
 /// # }
 /// ```
 #[derive(Clone)]
-pub struct Set(Arc<Pool>);
+pub struct Set(Arc<Shared>);
 
 impl Set {
     /// Makes the empty set with room for 7 to 268,435,456 nodes, by [`Options::default`]. n keys
@@ -83,21 +81,21 @@ impl Set {
     ///
     /// Errors: `Nodes`, `Workers`, `NoMemory`.
     pub fn with_options(nodes: u32, options: Options) -> Result<Set, Fault> {
-        let pool = Pool::new(nodes, &options)?;
-        Ok(Set(Arc::new(pool)))
+        let shared = Shared::new(nodes, &options)?;
+        Ok(Set(Arc::new(shared)))
     }
 
-    pub(crate) fn of(pool: Arc<Pool>) -> Set {
-        Set(pool)
+    pub(crate) fn of(shared: Arc<Shared>) -> Set {
+        Set(shared)
+    }
+
+    fn place(&self) -> Place<'_> {
+        self.0.any()
     }
 
     #[cfg(test)]
-    pub(crate) fn pool(&self) -> &Pool {
+    pub(crate) fn shared(&self) -> &Shared {
         &self.0
-    }
-
-    fn with_any<T>(&self, call: impl Fn(Seat) -> Result<T, Fault>) -> Result<T, Fault> {
-        self.0.with_any(call)
     }
 
     // ---- a key ----
@@ -107,7 +105,7 @@ impl Set {
     /// Errors: `Key`.
     pub fn contains(&self, key: u64) -> Result<bool, Fault> {
         let key = checked(key)?;
-        self.with_any(|seat| seat.contains(key))
+        self.place().contains(key)
     }
 
     /// Returns for each of these keys, in their order, whether the set has it. One call of the
@@ -125,7 +123,7 @@ impl Set {
     /// ```
     pub fn contains_many(&self, keys: &[u64]) -> Result<Vec<bool>, Fault> {
         keys.iter().try_for_each(|&key| checked(key).map(drop))?;
-        self.with_any(|seat| seat.contains_many(keys))
+        self.place().contains_many(keys)
     }
 
     /// Inserts a key; returns true if it was absent. If the set is full it waits for nodes, for at
@@ -134,7 +132,7 @@ impl Set {
     /// Errors: `Key`, `Full`, `NoMemory`.
     pub fn insert(&self, key: u64) -> Result<bool, Fault> {
         let key = checked(key)?;
-        self.0.insert(|| self.with_any(|seat| seat.insert(key)))
+        self.place().insert(key)
     }
 
     /// Removes a key; returns true if it was present.
@@ -142,7 +140,7 @@ impl Set {
     /// Errors: `Key`, `NoMemory`, `Unfinished` (the key will be removed by this call and no other).
     pub fn remove(&self, key: u64) -> Result<bool, Fault> {
         let key = checked(key)?;
-        self.with_any(|seat| seat.remove(key))
+        self.place().remove(key)
     }
 
     // ---- keys in order ----
@@ -154,7 +152,7 @@ impl Set {
     /// Errors: `Key`.
     pub fn at_least(&self, key: u64) -> Result<Option<u64>, Fault> {
         let key = checked(key)?;
-        self.with_any(|seat| seat.at_least(key))
+        self.place().at_least(key)
     }
 
     /// Returns the greatest key of the set that is not above this one, or None if there is none, in
@@ -163,7 +161,7 @@ impl Set {
     /// Errors: `Key`.
     pub fn at_most(&self, key: u64) -> Result<Option<u64>, Fault> {
         let key = checked(key)?;
-        self.with_any(|seat| seat.at_most(key))
+        self.place().at_most(key)
     }
 
     /// Returns the least key, or None if the set is empty.
@@ -189,13 +187,13 @@ impl Set {
     /// # }
     /// ```
     pub fn pop_first(&self) -> Result<Option<u64>, Fault> {
-        self.with_any(|seat| seat.pop_first())
+        self.place().pop_first()
     }
 
     /// Removes the greatest key and returns it, or None if the set is empty, in the way of
     /// [`pop_first`](Set::pop_first).
     pub fn pop_last(&self) -> Result<Option<u64>, Fault> {
-        self.with_any(|seat| seat.pop_last())
+        self.place().pop_last()
     }
 
     /// Returns an iterator over the keys of a range, while the set is in use. It finds each
@@ -286,8 +284,9 @@ impl Set {
     /// otherwise it is off by at most the keys that calls insert and remove meanwhile. It never
     /// waits and uses no worker: it adds up one count for each worker.
     pub fn len(&self) -> Result<usize, Fault> {
-        self.0.need_open()?;
-        Ok(usize::try_from(self.0.keys()).unwrap_or(usize::MAX))
+        let mut keys = 0;
+        answer(self.0.pool.size(&mut keys))?;
+        Ok(usize::try_from(keys).unwrap_or(usize::MAX))
     }
 
     /// Returns whether the set has no key, by one search for the least key.
@@ -299,15 +298,13 @@ impl Set {
     /// For a worker that is in a call it takes the number of an earlier time, when `waiting`,
     /// `free` or an insert into a full set last asked it.
     pub fn waiting(&self) -> Result<u64, Fault> {
-        self.0.need_open()?;
-        Ok(self.0.tally().waiting)
+        Ok(self.0.fullness()?.waiting)
     }
 
     /// Returns how many nodes are free, computed from [`len`](Set::len) and
     /// [`waiting`](Set::waiting). A new key takes two. It never waits.
     pub fn free(&self) -> Result<u64, Fault> {
-        self.0.need_open()?;
-        Ok(self.0.tally().free)
+        Ok(self.0.fullness()?.free)
     }
 
     /// Returns the number of nodes for which the set has room.
@@ -323,67 +320,69 @@ impl Set {
 
     /// Returns how many workers the set has.
     pub fn workers(&self) -> u32 {
-        self.0.workers()
+        self.0.pool.workers()
     }
 
     /// Advances the epoch as far as possible, and frees what has waited long enough with each
     /// worker that is in no call at this moment. Returns the number of freed nodes. It waits for no
     /// other call, but a call by a worker waits while the worker's nodes are collected.
     pub fn collect(&self) -> Result<u64, Fault> {
-        self.0.need_open()?;
-        Ok(self.0.relieve())
+        let mut freed = 0;
+        answer(self.0.pool.collect_all(&mut freed))?;
+        Ok(freed)
     }
 
     // ---- workers for threads ----
 
     /// Attaches a worker to this thread, the least number first. It **waits** while each worker is
-    /// attached or in a call, with no bound.
+    /// attached or in a call, for at most [`timeout_ms`](Options::timeout_ms).
     ///
-    /// Errors: `NoWorker`: for a quarter of a second this thread itself has had all workers, which
-    /// it attached or used last.
+    /// Errors: `NoWorker`: no worker was free in that time.
     ///
     /// An attached worker is not exclusive: while all workers are attached, calls of the set borrow
     /// those that are in no call. See [`Worker`].
     pub fn attach(&self) -> Result<Worker, Fault> {
-        self.attach_until(None)
+        self.attach_within(self.0.timeout_ms)
     }
 
     /// Attaches a worker to this thread, the least number first, and does not wait.
     ///
     /// Errors: `NoWorker`: no worker is free at this moment.
     pub fn try_attach(&self) -> Result<Worker, Fault> {
-        self.attach_timeout(Duration::ZERO)
+        self.attach_within(0)
     }
 
     /// Attaches a worker to this thread, the least number first, and waits for at most `timeout`.
     ///
     /// Errors: `NoWorker`: no worker was free in that time.
     pub fn attach_timeout(&self, timeout: Duration) -> Result<Worker, Fault> {
-        self.attach_until(Instant::now().checked_add(timeout))
+        self.attach_within(u32::try_from(timeout.as_millis()).unwrap_or(u32::MAX))
     }
 
-    fn attach_until(&self, until: Option<Instant>) -> Result<Worker, Fault> {
-        let number = self.0.lend(until)?;
+    fn attach_within(&self, timeout_ms: u32) -> Result<Worker, Fault> {
+        let number = self.0.attach(timeout_ms)?;
         Ok(Worker::of(Arc::clone(&self.0), number))
     }
 
     /// Attaches the worker of a number to this thread. It waits for the call of the set that
-    /// another thread makes by this worker at this moment, as long as that call takes.
+    /// another thread makes by this worker at this moment, for at most
+    /// [`timeout_ms`](Options::timeout_ms).
     ///
-    /// Errors: `Number`, `Attached` (the worker is attached).
+    /// Errors: `Number`, `Attached` (the worker is attached), `InUse` (that call has not ended).
     pub fn worker(&self, number: u32) -> Result<Worker, Fault> {
-        let number = self.0.lend_number(number)?;
+        let number = self.0.attach_number(number)?;
         Ok(Worker::of(Arc::clone(&self.0), number))
     }
 
     // ---- the end ----
 
     /// Ends the set, and returns the report with the keys that it had. It waits for calls that
-    /// other threads make of the set at this moment, as long as they take. Each call that waits
+    /// other threads make of the set at this moment, for ten seconds at most. Each call that waits
     /// returns `Closed`, and so does each later call.
     ///
-    /// Errors: `Attached`: a [`Worker`] was not dropped, and the set goes on. `NoMemory`: only
-    /// `close` goes on. `Closed`: the set was closed before.
+    /// Errors: `Attached`: a [`Worker`] was not dropped. `InUse`: a call has not ended in ten
+    /// seconds. After these two the set goes on. `NoMemory`: only `close` goes on. `Closed`: the
+    /// set was closed before.
     pub fn close(&self) -> Result<Report, Fault> {
         self.0.end()
     }

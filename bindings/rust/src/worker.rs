@@ -1,14 +1,12 @@
 //! A worker, by which one thread at a time makes calls.
 
-use crate::calls::{found, lookups_of, Advance, Seat};
 use crate::fault::{answer, Fault};
-use crate::ffi::{Handle, Stats};
+use crate::ffi::{Outcome, Pool, Stats};
 use crate::key::checked;
 use crate::numbers::Numbers;
 use crate::order::{self, Range};
-use crate::pool::{this_thread, Entry, Pool};
+use crate::place::{found, lookups_of, Advance, Place, Shared};
 use crate::set::Set;
-use crate::wait::settled;
 use crate::MOST_KEY;
 use std::fmt;
 use std::ops::RangeBounds;
@@ -24,7 +22,8 @@ use std::sync::Arc;
 /// Its calls up to [`clear`](Worker::clear) are those of [`Set`]. They return the same answers, and
 /// the same faults except `NoWorker` and `Closed`, which they do not meet. The other calls are
 /// those of the library, and do what its contract says. Those that begin with `try_` make at most
-/// the given number of tries, and leave it to the caller to retry.
+/// the given number of tries, and leave it to the caller to retry. Each call may return `InUse`, and
+/// in a forked child `Forked`.
 ///
 /// If all workers of the set are attached, calls of the set **borrow** one that is in no call and
 /// not pinned. So [`stats`](Worker::stats), [`waiting`](Worker::waiting) and
@@ -32,9 +31,11 @@ use std::sync::Arc;
 /// call gives the worker back, it finishes the remove that is pending, whichever call began it.
 /// Then [`try_finish`](Worker::try_finish) returns false. A pin keeps a worker from being borrowed.
 ///
-/// A call by the worker waits, with no bound, for a call that another thread makes by it at this
-/// moment: a borrowed call, or one that collects its nodes or asks how many there are. Each of
-/// these ends within a bound of steps, but takes longer if its thread is preempted.
+/// A call by the worker waits for a call that another thread makes by it at this moment: a borrowed
+/// call, or one that collects its nodes or asks how many there are. Each of these ends within a
+/// bound of steps, but takes longer if its thread is preempted. After
+/// [`timeout_ms`](crate::Options::timeout_ms) the call returns [`Fault::InUse`]. A drop waits for ten
+/// seconds at most; if the other call has not ended then, the worker remains attached.
 ///
 /// ```
 /// # fn main() -> Result<(), nm_set::Fault> {
@@ -62,10 +63,8 @@ use std::sync::Arc;
 /// # }
 /// ```
 pub struct Worker {
-    pool: Arc<Pool>,
+    shared: Arc<Shared>,
     number: u32,
-    /// The thread that made the latest call by it.
-    thread: u64,
 }
 
 /// The epoch, and which workers hold it back.
@@ -103,44 +102,28 @@ impl PinGuard<'_> {
 
 impl Drop for PinGuard<'_> {
     fn drop(&mut self) {
-        self.worker.handle().unpin();
+        let _ = self.worker.by(|pool, worker, ms| pool.unpin(worker, ms));
     }
 }
 
 impl Worker {
-    pub(crate) fn of(pool: Arc<Pool>, number: u32) -> Worker {
-        let thread = this_thread();
-        Worker {
-            pool,
-            number,
-            thread,
+    pub(crate) fn of(shared: Arc<Shared>, number: u32) -> Worker {
+        Worker { shared, number }
+    }
+
+    fn place(&mut self) -> Place<'_> {
+        self.shared.by(self.number)
+    }
+
+    /// Makes a call of the library by this worker, for at most the timeout of the options.
+    fn by(&mut self, call: impl FnOnce(&Pool, u32, u32) -> Outcome) -> Result<bool, Fault> {
+        let outcome = call(&self.shared.pool, self.number, self.shared.timeout_ms);
+        match answer(outcome) {
+            Err(Fault::InUse(_)) => Err(Fault::InUse([self.number].into_iter().collect())),
+            // In a forked child the handle is closed, and a call of the pool returns `Forked`.
+            Err(Fault::Closed) => self.place().contains(0),
+            result => result,
         }
-    }
-
-    /// Returns its entry, for a call of this thread.
-    fn entry(&mut self) -> &Entry {
-        let thread = this_thread();
-        if self.thread != thread {
-            self.thread = thread;
-            self.pool.set_holder(self.number, thread);
-        }
-        self.pool.entry(self.number)
-    }
-
-    fn handle(&mut self) -> &Handle {
-        &self.entry().handle
-    }
-
-    /// Makes a managed call, and repeats it while another call has the worker.
-    fn managed<T>(&mut self, call: impl Fn(Seat) -> Result<T, Fault>) -> Result<T, Fault> {
-        let seat = self.seat();
-        settled(|| call(seat))
-    }
-
-    /// Returns the worker for a call of this thread.
-    fn seat(&mut self) -> Seat<'_> {
-        self.entry();
-        self.pool.seat(self.pool.entry(self.number))
     }
 
     /// Returns its number, which is below the number of workers.
@@ -150,7 +133,7 @@ impl Worker {
 
     /// Returns its set, for the calls that a worker does not have.
     pub fn set(&self) -> Set {
-        Set::of(Arc::clone(&self.pool))
+        Set::of(Arc::clone(&self.shared))
     }
 
     // ---- the calls of a set ----
@@ -158,39 +141,37 @@ impl Worker {
     /// Returns whether the set has the key: see [`Set::contains`].
     pub fn contains(&mut self, key: u64) -> Result<bool, Fault> {
         let key = checked(key)?;
-        self.managed(|seat| seat.contains(key))
+        self.place().contains(key)
     }
 
     /// Returns for each of these keys whether the set has it: see [`Set::contains_many`].
     pub fn contains_many(&mut self, keys: &[u64]) -> Result<Vec<bool>, Fault> {
         keys.iter().try_for_each(|&key| checked(key).map(drop))?;
-        self.managed(|seat| seat.contains_many(keys))
+        self.place().contains_many(keys)
     }
 
     /// Inserts a key; returns true if it was absent: see [`Set::insert`].
     pub fn insert(&mut self, key: u64) -> Result<bool, Fault> {
         let key = checked(key)?;
-        self.entry();
-        let seat = self.pool.seat(self.pool.entry(self.number));
-        self.pool.insert(|| settled(|| seat.insert(key)))
+        self.place().insert(key)
     }
 
     /// Removes a key; returns true if it was present: see [`Set::remove`].
     pub fn remove(&mut self, key: u64) -> Result<bool, Fault> {
         let key = checked(key)?;
-        self.managed(|seat| seat.remove(key))
+        self.place().remove(key)
     }
 
     /// Returns the least key that is not below this one: see [`Set::at_least`].
     pub fn at_least(&mut self, key: u64) -> Result<Option<u64>, Fault> {
         let key = checked(key)?;
-        self.managed(|seat| seat.at_least(key))
+        self.place().at_least(key)
     }
 
     /// Returns the greatest key that is not above this one: see [`Set::at_most`].
     pub fn at_most(&mut self, key: u64) -> Result<Option<u64>, Fault> {
         let key = checked(key)?;
-        self.managed(|seat| seat.at_most(key))
+        self.place().at_most(key)
     }
 
     /// Returns the least key: see [`Set::first`].
@@ -205,12 +186,12 @@ impl Worker {
 
     /// Removes the least key and returns it: see [`Set::pop_first`].
     pub fn pop_first(&mut self) -> Result<Option<u64>, Fault> {
-        self.managed(|seat| seat.pop_first())
+        self.place().pop_first()
     }
 
     /// Removes the greatest key and returns it: see [`Set::pop_last`].
     pub fn pop_last(&mut self) -> Result<Option<u64>, Fault> {
-        self.managed(|seat| seat.pop_last())
+        self.place().pop_last()
     }
 
     /// Returns an iterator over the keys of a range, in both directions: see [`Set::range`].
@@ -248,7 +229,8 @@ impl Worker {
     ///
     /// Errors: `Key`, `Busy`, `Pending`.
     pub fn try_contains(&mut self, key: u64, tries: u32) -> Result<bool, Fault> {
-        answer(self.handle().try_contains(checked(key)?, tries))
+        let key = checked(key)?;
+        self.by(|pool, worker, ms| pool.try_contains(worker, key, tries, ms))
     }
 
     /// Returns for each of these keys whether the set has it, with at most `tries` tries.
@@ -257,8 +239,7 @@ impl Worker {
     pub fn try_contains_many(&mut self, keys: &[u64], tries: u32) -> Result<Vec<bool>, Fault> {
         keys.iter().try_for_each(|&key| checked(key).map(drop))?;
         let mut lookups = lookups_of(keys);
-        let handle = self.handle();
-        settled(|| answer(handle.contains_many(&mut lookups, tries)))?;
+        self.by(|pool, worker, ms| pool.try_contains_many(worker, &mut lookups, tries, ms))?;
         Ok(found(&lookups))
     }
 
@@ -268,7 +249,8 @@ impl Worker {
     /// Errors: `Key`, `Busy`, `Pending`.
     pub fn try_at_least(&mut self, key: u64, tries: u32) -> Result<Option<u64>, Fault> {
         let (key, mut found) = (checked(key)?, 0);
-        let is_found = answer(self.handle().try_next(key, tries, &mut found))?;
+        let is_found =
+            self.by(|pool, worker, ms| pool.try_next(worker, key, tries, &mut found, ms))?;
         Ok(is_found.then_some(found))
     }
 
@@ -277,7 +259,8 @@ impl Worker {
     /// Errors: `Key`, `Busy`, `Pending`.
     pub fn try_at_most(&mut self, key: u64, tries: u32) -> Result<Option<u64>, Fault> {
         let (key, mut found) = (checked(key)?, 0);
-        let is_found = answer(self.handle().try_prev(key, tries, &mut found))?;
+        let is_found =
+            self.by(|pool, worker, ms| pool.try_prev(worker, key, tries, &mut found, ms))?;
         Ok(is_found.then_some(found))
     }
 
@@ -285,8 +268,8 @@ impl Worker {
     ///
     /// Errors: `Key`, `Busy`, `NoNodes`, `Pending`, `NoMemory`.
     pub fn try_insert(&mut self, key: u64, tries: u32) -> Result<bool, Fault> {
-        let (key, seat) = (checked(key)?, self.seat());
-        answer(seat.count_insert(seat.entry.handle.try_insert(key, tries)))
+        let key = checked(key)?;
+        self.by(|pool, worker, ms| pool.try_insert(worker, key, tries, ms))
     }
 
     /// Removes a key with at most `tries` tries; returns true if it was present, which takes at
@@ -294,8 +277,8 @@ impl Worker {
     ///
     /// Errors: `Key`, `Busy`, `Unfinished`, `Pending`, `NoMemory`.
     pub fn try_remove(&mut self, key: u64, tries: u32) -> Result<bool, Fault> {
-        let (key, seat) = (checked(key)?, self.seat());
-        answer(seat.count_remove(seat.entry.handle.try_remove(key, tries)))
+        let key = checked(key)?;
+        self.by(|pool, worker, ms| pool.try_remove(worker, key, tries, ms))
     }
 
     /// Goes on with the remove that is pending, with at most `tries` tries. Returns true if it is
@@ -304,7 +287,7 @@ impl Worker {
     ///
     /// Errors: `Unfinished`.
     pub fn try_finish(&mut self, tries: u32) -> Result<bool, Fault> {
-        answer(self.handle().finish(tries))
+        self.by(|pool, worker, ms| pool.finish(worker, tries, ms))
     }
 
     // ---- on the epoch ----
@@ -319,15 +302,15 @@ impl Worker {
     /// let set = nm_set::Set::new(1_024)?;
     /// let (mut reader, mut other) = (set.attach()?, set.attach()?);
     /// let guard = reader.pin()?;
-    /// other.advance();
-    /// assert_eq!(other.behind().workers.to_string(), "0");
+    /// other.advance()?;
+    /// assert_eq!(other.behind()?.workers.to_string(), "0");
     /// drop(guard);
-    /// assert!(other.behind().workers.is_empty());
+    /// assert!(other.behind()?.workers.is_empty());
     /// # Ok(())
     /// # }
     /// ```
     pub fn pin(&mut self) -> Result<PinGuard<'_>, Fault> {
-        let epoch = self.managed(|seat| seat.pin())?;
+        let epoch = self.place().pin()?;
         Ok(PinGuard {
             worker: self,
             epoch,
@@ -335,42 +318,45 @@ impl Worker {
     }
 
     /// Advances the epoch by one, if no worker holds it back.
-    pub fn advance(&mut self) -> Advance {
-        self.handle().advance_once()
+    pub fn advance(&mut self) -> Result<Advance, Fault> {
+        self.place().advance()
     }
 
     /// Returns which workers hold the epoch back.
-    pub fn behind(&mut self) -> Behind {
+    pub fn behind(&mut self) -> Result<Behind, Fault> {
         let (mut epoch, mut mask) = (0, 0);
-        self.handle().behind(&mut epoch, &mut mask);
+        self.by(|pool, worker, ms| pool.behind(worker, &mut epoch, &mut mask, ms))?;
         let workers = Numbers::of(mask);
-        Behind { epoch, workers }
+        Ok(Behind { epoch, workers })
     }
 
     /// Frees what has waited long enough in its own queue; returns the number of freed nodes.
-    pub fn collect(&mut self) -> u64 {
-        self.handle().free_old()
+    pub fn collect(&mut self) -> Result<u64, Fault> {
+        let (mut epoch, mut freed) = (0, 0);
+        self.by(|pool, worker, ms| pool.collect(worker, &mut epoch, &mut freed, ms))?;
+        Ok(freed)
     }
 
     // ---- of itself ----
 
     /// Returns how many nodes wait in its queue, including those that borrowed calls removed.
-    pub fn waiting(&mut self) -> u64 {
-        self.stats().queued
+    pub fn waiting(&mut self) -> Result<u64, Fault> {
+        Ok(self.stats()?.queued)
     }
 
     /// Returns the key of a remove that has begun and is not finished, or None.
-    pub fn pending(&mut self) -> Option<u64> {
+    pub fn pending(&mut self) -> Result<Option<u64>, Fault> {
         let mut key = 0;
-        (self.handle().pending(&mut key) > 0).then_some(key)
+        let is_pending = self.by(|pool, worker, ms| pool.pending(worker, &mut key, ms))?;
+        Ok(is_pending.then_some(key))
     }
 
     /// Returns what calls by it have won, including borrowed ones, and what became of the nodes
     /// that they cut off.
-    pub fn stats(&mut self) -> Stats {
+    pub fn stats(&mut self) -> Result<Stats, Fault> {
         let mut stats = Stats::default();
-        self.handle().stats(&mut stats);
-        stats
+        self.by(|pool, worker, ms| pool.stats(worker, &mut stats, ms))?;
+        Ok(stats)
     }
 
     // ---- stamps between workers ----
@@ -382,7 +368,7 @@ impl Worker {
     /// Errors: `Busy` (another worker is observing the earlier stamp at this moment).
     pub fn publish(&mut self) -> Result<Stamp, Fault> {
         let (mut inserted, mut removed) = (0, 0);
-        answer(self.handle().publish(&mut inserted, &mut removed))?;
+        self.by(|pool, worker, ms| pool.publish(worker, &mut inserted, &mut removed, ms))?;
         Ok(Stamp { inserted, removed })
     }
 
@@ -392,19 +378,20 @@ impl Worker {
     ///
     /// Errors: `Number`, `Busy` (another worker is at that stamp at this moment).
     pub fn observe(&mut self, number: u32) -> Result<Option<Stamp>, Fault> {
-        let workers = self.pool.workers();
+        let workers = self.shared.pool.workers();
         if number >= workers {
             return Err(Fault::Number { number, workers });
         }
         let (mut inserted, mut removed) = (0, 0);
-        let is_published = answer(self.handle().observe(number, &mut inserted, &mut removed))?;
+        let is_published = self
+            .by(|pool, worker, ms| pool.observe(worker, number, &mut inserted, &mut removed, ms))?;
         Ok(is_published.then_some(Stamp { inserted, removed }))
     }
 }
 
 impl Drop for Worker {
     fn drop(&mut self) {
-        self.pool.receive(self.number);
+        self.shared.detach(self.number);
     }
 }
 

@@ -132,7 +132,7 @@ fn a_worker_has_the_calls_of_the_library() {
         (Ok(true), Err(Fault::NoNodes))
     );
     assert_eq!(
-        (worker.try_remove(5, 1), worker.pending()),
+        (worker.try_remove(5, 1), worker.pending().unwrap()),
         (Err(Fault::Unfinished), Some(5))
     );
     assert_eq!(
@@ -143,7 +143,7 @@ fn a_worker_has_the_calls_of_the_library() {
         (
             worker.try_finish(64),
             worker.try_finish(64),
-            worker.pending()
+            worker.pending().unwrap()
         ),
         (Ok(true), Ok(false), None)
     );
@@ -151,7 +151,7 @@ fn a_worker_has_the_calls_of_the_library() {
     assert_eq!(guard.epoch(), 0);
     let mut other = set.worker(0).unwrap();
     assert_eq!(
-        (other.advance(), other.advance()),
+        (other.advance().unwrap(), other.advance().unwrap()),
         (
             Advance::Moved { epoch: 1 },
             Advance::Held {
@@ -160,18 +160,22 @@ fn a_worker_has_the_calls_of_the_library() {
             }
         )
     );
-    let behind = other.behind();
+    let behind = other.behind().unwrap();
     assert_eq!((behind.epoch, behind.workers.to_string()), (1, "1".into()));
     drop(guard);
     assert_eq!(
-        (worker.collect(), other.advance()),
+        (worker.collect().unwrap(), other.advance().unwrap()),
         (0, Advance::Moved { epoch: 2 })
     );
     assert_eq!(
-        (worker.waiting(), worker.collect(), worker.waiting()),
+        (
+            worker.waiting().unwrap(),
+            worker.collect().unwrap(),
+            worker.waiting().unwrap()
+        ),
         (2, 2, 0)
     );
-    let stats = worker.stats();
+    let stats = worker.stats().unwrap();
     assert_eq!((stats.links, stats.flags, stats.splices), (1, 1, 1));
     assert_eq!((stats.retired, stats.freed, stats.queued), (2, 2, 0));
 }
@@ -190,7 +194,7 @@ fn several_keys_are_looked_up_in_a_call() {
     );
     assert_eq!(worker.try_remove(5, 1), Err(Fault::Unfinished));
     assert_eq!(
-        (worker.contains_many(&[5, 6]), worker.pending()),
+        (worker.contains_many(&[5, 6]), worker.pending().unwrap()),
         (Ok(vec![false, false]), None)
     );
     assert_eq!(worker.insert(5), Ok(true));
@@ -270,16 +274,19 @@ fn workers_are_given_out_once() {
 
 #[test]
 fn a_thread_that_has_all_workers_itself_gets_no_worker() {
-    let set = small(2);
+    let options = Options {
+        workers: 2,
+        timeout_ms: 50,
+        ..Options::default()
+    };
+    let set = Set::with_options(64, options).unwrap();
     let (mut first, mut second) = (set.attach().unwrap(), set.attach().unwrap());
-    let own = Fault::NoWorker { workers: 2, own: 2 };
+    let own = Fault::NoWorker { workers: 2 };
     assert_eq!(
         (set.try_attach().err(), set.attach().err()),
         (Some(own), Some(own))
     );
-    let text =
-        "no worker is free: the set has 2 (64 at most), and this thread itself has attached \
-                each";
+    let text = "no worker is free: the set has 2 (64 at most), and each is attached or in a call";
     assert_eq!(own.to_string(), text);
     let pins = (first.pin().unwrap(), second.pin().unwrap());
     assert_eq!((set.contains(5), set.insert(5)), (Err(own), Err(own)));
@@ -301,15 +308,24 @@ fn a_call_borrows_a_worker_that_is_attached_and_not_pinned() {
     assert_eq!((set.insert(5), set.insert(6)), (Ok(true), Ok(true)));
     assert_eq!(set.contains_many(&[5, 7]), Ok(vec![true, false]));
     assert_eq!(
-        (second.stats().links, second.publish().unwrap().inserted),
+        (
+            second.stats().unwrap().links,
+            second.publish().unwrap().inserted
+        ),
         (2, 2)
     );
-    assert_eq!((set.remove(5), second.pending()), (Ok(true), None));
+    assert_eq!((set.remove(5), second.pending().unwrap()), (Ok(true), None));
     assert_eq!(second.try_remove(6, 1), Err(Fault::Unfinished));
-    assert_eq!((set.pop_first(), second.pending()), (Ok(None), None));
-    assert_eq!((second.stats().flags, second.waiting()), (2, 4));
+    assert_eq!(
+        (set.pop_first(), second.pending().unwrap()),
+        (Ok(None), None)
+    );
+    assert_eq!(
+        (second.stats().unwrap().flags, second.waiting().unwrap()),
+        (2, 4)
+    );
     drop(pin);
-    assert_eq!(first.stats().links, 0);
+    assert_eq!(first.stats().unwrap().links, 0);
     assert_eq!((set.len(), set.is_empty()), (Ok(0), Ok(true)));
 }
 
@@ -391,7 +407,7 @@ fn a_worker_goes_back_without_its_pending_key() {
     drop(worker);
     let mut worker = set.attach().unwrap();
     assert_eq!(
-        (worker.pending(), worker.try_contains(5, 64)),
+        (worker.pending().unwrap(), worker.try_contains(5, 64)),
         (None, Ok(false))
     );
 }

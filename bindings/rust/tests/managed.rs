@@ -27,7 +27,7 @@ fn a_remove_that_has_begun_is_finished() {
             (
                 worker.insert(key),
                 worker.remove(key),
-                worker.pending(),
+                worker.pending().unwrap(),
                 worker.contains(key)
             ),
             (Ok(true), Ok(true), None, Ok(false))
@@ -43,7 +43,10 @@ fn a_remove_of_before_is_finished_first() {
             (worker.insert(key), worker.try_remove(key, 1)),
             (Ok(true), Err(Fault::Unfinished))
         );
-        assert_eq!((worker.contains(key), worker.pending()), (Ok(false), None));
+        assert_eq!(
+            (worker.contains(key), worker.pending().unwrap()),
+            (Ok(false), None)
+        );
     }
 }
 
@@ -60,7 +63,11 @@ fn contention_is_returned_at_the_bound() {
         (Ok(true), Err(Fault::Unfinished))
     );
     assert_eq!(
-        (worker.contains(6), worker.pending(), worker.try_finish(64)),
+        (
+            worker.contains(6),
+            worker.pending().unwrap(),
+            worker.try_finish(64)
+        ),
         (Err(Fault::Contention), Some(5), Ok(true))
     );
     drop(worker);
@@ -80,7 +87,11 @@ fn full_is_returned_only_after_a_collection() {
     let mut worker = set.attach().unwrap();
     for key in 0..100 {
         assert_eq!(
-            (worker.insert(key), worker.remove(key), worker.waiting()),
+            (
+                worker.insert(key),
+                worker.remove(key),
+                worker.waiting().unwrap()
+            ),
             (Ok(true), Ok(true), 2)
         );
         assert_eq!(worker.try_insert(key + 1, 64), Err(Fault::NoNodes));
@@ -93,10 +104,10 @@ fn what_waits_with_an_attached_worker_that_makes_no_call_is_collected_too() {
     let set = small(2);
     let (mut idle, mut other) = (set.attach().unwrap(), set.attach().unwrap());
     assert_eq!(
-        (idle.insert(5), idle.remove(5), idle.waiting()),
+        (idle.insert(5), idle.remove(5), idle.waiting().unwrap()),
         (Ok(true), Ok(true), 2)
     );
-    assert_eq!((other.insert(6), idle.waiting()), (Ok(true), 0));
+    assert_eq!((other.insert(6), idle.waiting().unwrap()), (Ok(true), 0));
     assert_eq!(idle.contains(6), Ok(true));
 }
 
@@ -126,7 +137,11 @@ fn what_waits_with_workers_that_nobody_uses_is_collected_too() {
     let set = small(3);
     let mut worker = set.worker(0).unwrap();
     assert_eq!(
-        (worker.insert(5), worker.remove(5), worker.waiting()),
+        (
+            worker.insert(5),
+            worker.remove(5),
+            worker.waiting().unwrap()
+        ),
         (Ok(true), Ok(true), 2)
     );
     drop(worker);
@@ -217,9 +232,13 @@ fn retired_nodes_are_collected_as_they_come_due() {
             (worker.insert(key), worker.remove(key)),
             (Ok(true), Ok(true))
         );
-        assert!(worker.waiting() <= 32, "{} nodes wait", worker.waiting());
+        assert!(
+            worker.waiting().unwrap() <= 32,
+            "{} nodes wait",
+            worker.waiting().unwrap()
+        );
     }
-    assert!(worker.stats().freed >= 1_900);
+    assert!(worker.stats().unwrap().freed >= 1_900);
 }
 
 #[test]

@@ -226,7 +226,7 @@ fn an_attach_waits_for_another_thread_and_no_longer_than_its_timeout() {
             (at_once, later, begin.elapsed())
         });
         let (at_once, later, took) = result.join().unwrap();
-        let none = Fault::NoWorker { workers: 1, own: 0 };
+        let none = Fault::NoWorker { workers: 1 };
         assert_eq!((at_once, later), (none, none));
         let text =
             "no worker is free: the set has 1 (64 at most), and each is attached or in a call";
@@ -299,10 +299,10 @@ fn a_worker_goes_back_with_a_thread_that_panics() {
     let result = thread::spawn(move || {
         assert_eq!((worker.insert(5), worker.insert(6)), (Ok(true), Ok(true)));
         assert_eq!(worker.try_remove(6, 1), Err(Fault::Unfinished));
-        assert_eq!(worker.pending(), None, "as it should");
+        assert_eq!(worker.pending().unwrap(), None, "as it should");
     });
     assert!(result.join().is_err());
-    assert_eq!(set.attach().unwrap().pending(), None);
+    assert_eq!(set.attach().unwrap().pending().unwrap(), None);
     assert_eq!((set.contains(5), set.contains(6)), (Ok(true), Ok(false)));
     assert_eq!(set.close().unwrap().keys(), [5]);
 }
