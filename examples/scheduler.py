@@ -1,0 +1,87 @@
+"""A scheduler: threads queue tasks for a time and cancel some of them, workers run those that are
+due, and a shutdown returns how many are left.
+
+A key is the microsecond at which a task is due, with the task's number in the low bits. So the
+least key is the task that is due next. The thread that removes a key owns its task, and runs or
+cancels it. A set keeps no values with its keys: the tasks are in a dictionary, by their keys.
+"""
+
+import itertools
+import threading
+import time
+from collections.abc import Callable
+from concurrent.futures import ThreadPoolExecutor
+
+import nm_set
+
+NUMBER_BITS = 20
+
+
+def now() -> int:
+    return time.monotonic_ns() // 1_000
+
+
+class Scheduler:
+    def __init__(self, tasks: int) -> None:
+        self._due = nm_set.Set(4 * tasks)
+        self._tasks: dict[int, Callable[[], None]] = {}
+        self._numbers = itertools.count()
+        self._is_closing = threading.Event()
+
+    def run_in(self, seconds: float, task: Callable[[], None]) -> int:
+        """Queues a task, and returns its key."""
+        number = next(self._numbers) % (1 << NUMBER_BITS)
+        key = now() + int(seconds * 1e6) << NUMBER_BITS | number
+        self._tasks[key] = task  # the thread that discards the key finds this
+        self._due.add(key)
+        return key
+
+    def cancel(self, key: int) -> bool:
+        """Returns False if the task has begun or ended; otherwise it will not run."""
+        return self._take(key) is not None
+
+    def work(self) -> int:
+        """Runs tasks that are due, until the shutdown, and returns how many. Several threads may
+        call it."""
+        ran = 0
+        while not self._is_closing.is_set():
+            first = self._due.first()
+            if first is None or first >> NUMBER_BITS > now():
+                self._is_closing.wait(0.001)
+            elif task := self._take(first):  # otherwise another thread has taken it
+                task()
+                ran += 1
+        return ran
+
+    def shut_down(self) -> None:
+        self._is_closing.set()
+
+    def close(self) -> int:
+        """Ends the set of due tasks, and returns how many are left."""
+        return len(self._due.close())
+
+    def _take(self, key: int) -> "Callable[[], None] | None":
+        return self._tasks.pop(key) if self._due.discard(key) else None
+
+
+def produce(scheduler: Scheduler, count: int) -> int:
+    """Queues some tasks, and cancels every fourth. Returns how many did not run because of that."""
+    cancelled = 0
+    for number in range(count):
+        seconds = 3_600 if number % 10 == 9 else number * 37 % 20 / 1_000
+        key = scheduler.run_in(seconds, lambda: None)
+        cancelled += number % 4 == 0 and scheduler.cancel(key)
+    return cancelled
+
+
+scheduler = Scheduler(10_000)
+with ThreadPoolExecutor() as threads:
+    workers = [threads.submit(scheduler.work) for _ in range(2)]
+    producers = [threads.submit(produce, scheduler, 1_000) for _ in range(3)]
+    cancelled = sum(producer.result() for producer in producers)
+    time.sleep(0.1)
+    scheduler.shut_down()
+    ran = sum(worker.result() for worker in workers)
+left = scheduler.close()
+print(f"3000 tasks: {ran} ran, {cancelled} cancelled, {left} left")
+assert ran + cancelled + left == 3_000 and left >= 300
