@@ -1,5 +1,5 @@
 #!/bin/sh
-# Runs each test of nm_limbo, and limbo_bench with 5,000 items, under valgrind. Fails if valgrind
+# Runs each test of nm_limbo, and set_bench with 5,000 items and no round, under valgrind. Fails if valgrind
 # reports a wrong read or write, or a block that was not given back.
 set -eu
 cd "$(dirname "$0")/../crates"
@@ -18,9 +18,9 @@ watch() {
 }
 
 build nm_limbo test
-build limbo_bench run -- 5000
+build set_bench run -- 5000 0 1 16 1 1
 runs=1
-watch limbo_bench/out/limbo_bench 5000
+watch set_bench/out/set_bench 5000 0 1 16 1 1
 for name in $(nm_limbo/out/nm_limbo_tests --list | sed -n 's/: test$//p'); do
     watch nm_limbo/out/nm_limbo_tests "$name"
     runs=$((runs + 1))

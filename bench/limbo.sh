@@ -4,6 +4,6 @@
 # if the queue took more than twice the deque's time.
 set -e
 cd "$(dirname "$0")"
-./program limbo_bench "${1:-10000000}" 2>&1 | awk '
+./program set_bench "${1:-10000000}" 0 1 16 1 1 2>&1 | awk '
     / percent$/ { print; percent = $(NF - 1); if (least == "" || percent < least) least = percent }
     END { if (least == "") { print "no time was printed"; exit 1 } exit least > 200 }'

@@ -26,12 +26,11 @@ WHERE = ("What is proved of it: [PROMISES](../../docs/PROMISES.md); what is open
          "[OPEN](../../docs/OPEN.md#what-is-open).")
 # Each crate is of one kind.
 KINDS = {
-    "runs in a program": "nm_edge nm_limbo nm_model nm_steps nm_report nm_pool nm_epoch nm_walks "
-                         "nm_calls nm_tree nm_set nm_set_c",
-    "proofs alone": "nm_laws nm_order nm_theorem nm_progress nm_words nm_busy",
-    "tools": "nm_machine nm_core nm_files nm_print nm_replay nm_serial nm_stress",
-    "tests, callers and benches": "nm_callers nm_pass_tests nm_tree_tests nm_tests in_a_program "
-                                  "limbo_bench refused_growths refused_runs set_bench",
+    "runs in a program": "nm_edge nm_limbo nm_model nm_steps nm_pool nm_epoch nm_walks nm_calls "
+                         "nm_tree nm_set nm_set_c",
+    "proofs alone": "nm_laws nm_order nm_theorem nm_progress",
+    "tools": "nm_machine nm_core nm_files nm_replay nm_serial nm_stress",
+    "tests, callers and benches": "nm_callers nm_tests refused_growths set_bench",
 }
 NO_CODE = re.compile(r"\s*(?:(?:pub )?(?:ghost )?use |(?:pub )?mod |#!?\[|;?$)")
 CONTRACT = re.compile(r"\b(?:(?:requires|ensures|invariant)(?: \w+)?|decreases|ghost [^{;]*) ?\{")

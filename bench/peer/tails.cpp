@@ -3,14 +3,16 @@
 // mutex, by turns in each round. Of 100 calls LOOKUPS are look-ups, and the rest are as many
 // inserts as removes, of a range of twice KEYS. Prints a line for each set and kind of call: its
 // name, the kind, the number of calls, the percentiles 50, 99, 99.9 and 99.99, the longest, in
-// nanoseconds, how many calls slept, and how many were left out. A call is left out if the kernel
-// took the processor from its thread meanwhile, and it did not sleep: its time says nothing about
-// the set.
+// nanoseconds, how many calls gave up the processor (slept, or yielded), and how many were left
+// out. A call is left out if the kernel took the processor from its thread before the call gave it
+// up: its time says nothing about the set.
 #include "nm_set.hpp"
 
 #include <x86intrin.h>
 
 #include <sys/resource.h>
+#include <sys/syscall.h>
+#include <unistd.h>
 
 #include <algorithm>
 #include <array>
@@ -58,7 +60,7 @@ public:
         for (std::size_t step = 0; step < counts_.size(); step++)
             counts_[step] += other.counts_[step];
         calls += other.calls;
-        slept += other.slept;
+        gave_up += other.gave_up;
         left_out += other.left_out;
         longest = std::max(longest, other.longest);
     }
@@ -71,7 +73,7 @@ public:
         return static_cast<double>(longest);
     }
 
-    std::uint64_t calls = 0, slept = 0, left_out = 0, longest = 0;
+    std::uint64_t calls = 0, gave_up = 0, left_out = 0, longest = 0;
 
 private:
     static std::size_t step_of(std::uint64_t ticks) {
@@ -109,6 +111,11 @@ struct Switches {
         return {used.ru_nvcsw, used.ru_nivcsw};
     }
 };
+
+// Whether the call of this thread has yielded, and whether the kernel had taken the processor from
+// it before.
+thread_local Switches begin_of_call;
+thread_local bool has_yielded = false, had_lost = false;
 
 struct BySet {
     nm::Set set;
@@ -195,16 +202,18 @@ void work(Set &set, const Asked &asked, unsigned number, unsigned round, double 
     while (phase == 0) std::this_thread::yield();
     const auto slow = static_cast<std::uint64_t>(3000 * nano);
     Switches before = Switches::now();
+    begin_of_call = before;
     std::uint64_t ended = __rdtsc(), answers = 0;
     while (phase == 1) {
         std::uint64_t drawn = next();
         Key key = key_of(drawn % (2 * asked.keys));
         unsigned part = (drawn >> 40) % 200;
         Kind kind = part < 2 * asked.lookups ? contains : part % 2 == 1 ? insert : remove_;
+        has_yielded = false;
         _mm_lfence();
         std::uint64_t begun = __rdtsc();
         if (begun - ended > slow) {
-            before = Switches::now();
+            before = begin_of_call = Switches::now();
             begun = __rdtsc();
         }
         try {
@@ -218,12 +227,13 @@ void work(Set &set, const Asked &asked, unsigned number, unsigned round, double 
         std::uint64_t taken = ended - begun;
         if (taken > slow) {
             Switches after = Switches::now();
-            bool has_slept = after.slept != before.slept, has_lost = after.lost != before.lost;
-            before = after;
+            bool is_lost = has_yielded ? had_lost
+                                       : after.lost != before.lost && after.slept == before.slept;
+            times.gave_up += !is_lost && (has_yielded || after.slept != before.slept);
+            times.left_out += is_lost;
+            before = begin_of_call = after;
             ended = __rdtsc();
-            times.slept += has_slept;
-            times.left_out += has_lost && !has_slept;
-            if (has_lost && !has_slept) continue;
+            if (is_lost) continue;
         }
         times.add(taken);
     }
@@ -251,6 +261,13 @@ void round_of(const Asked &asked, unsigned round, double nano, All &into) {
 
 }  // namespace
 
+// The yield of the C library, which the set calls too.
+extern "C" int sched_yield() noexcept {
+    if (!has_yielded) had_lost = Switches::now().lost != begin_of_call.lost;
+    has_yielded = true;
+    return static_cast<int>(syscall(SYS_sched_yield));
+}
+
 int main(int count, char **words) {
     if (count != 7) {
         std::fputs("usage: tails THREADS KEYS NODES_A_KEY LOOKUPS ROUNDS MILLIS\n", stderr);
@@ -277,7 +294,7 @@ int main(int count, char **words) {
             for (double part : {0.5, 0.99, 0.999, 0.9999})
                 std::printf(" %.0f", times.percentile(part) / nano);
             std::printf(" %.0f %llu %llu\n", static_cast<double>(times.longest) / nano,
-                        static_cast<unsigned long long>(times.slept),
+                        static_cast<unsigned long long>(times.gave_up),
                         static_cast<unsigned long long>(times.left_out));
         }
     for (int set = 0; set < 3; set++)
