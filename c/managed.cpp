@@ -8,6 +8,7 @@
 #include <iterator>
 #include <list>
 #include <numeric>
+#include <optional>
 #include <thread>
 #include <vector>
 
@@ -138,8 +139,8 @@ void unfinished_removes_count_once() {
     CHECK(set.close().size() == 1);
 }
 
-// By one attempt no remove is finished; a call of the set that has a thread's worker finishes it
-// after that, so that the thread meets no key of another's.
+// A call of the set that has borrowed a thread's worker leaves no remove pending, so that the thread
+// meets no key of another's.
 void borrowed_workers_have_nothing_pending() {
     nm::Options options;
     options.workers = 1;
@@ -154,34 +155,31 @@ void borrowed_workers_have_nothing_pending() {
     }
 }
 
-// A thread whose worker is borrowed meets no pending key of the threads that borrow it, although
-// removes beside two more workers are often unfinished by one attempt. It may meet one of those
-// that the bounds of the options left unfinished: 0 to 2 in 200,000 removes were seen. If a borrower
-// did not finish its remove, the owner would meet hundreds.
-void owners_meet_no_pending_key() {
-    constexpr std::uint64_t removes = 200'000;
+// Removes beside two more workers are sometimes unfinished by one attempt. A call of the set that
+// has borrowed a thread's worker returns NM_YES only if its remove is finished: the worker has a
+// pending key after NM_UNFINISHED alone, and it is the key of that call.
+void borrowers_say_what_is_pending() {
     nm::Set set(8192, {3, nm::Shape::radix, 1, 0});
     nm::Worker worker = set.attach(), second = set.attach(), third = set.attach();
-    std::atomic<std::uint64_t> borrowed{0}, met{0};
+    std::atomic<bool> is_over{false};
     std::vector<std::thread> threads;
     for (nm::Worker *own : {&second, &third})
         threads.emplace_back([&, own] {
-            for (std::uint64_t each = 0; borrowed < removes; each++) {
+            for (std::uint64_t each = 0; !is_over; each++) {
                 (void)own->try_insert(each % 2);
                 (void)own->try_remove(each % 2);
                 (void)own->try_finish();
             }
         });
-    for (int number = 0; number < 3; number++)
-        threads.emplace_back([&] {
-            for (std::uint64_t each = 0; borrowed++ < removes; each++) {
-                (void)set.try_insert(each % 2);
-                (void)set.try_remove(each % 2);
-            }
-        });
-    while (borrowed < removes) met += worker.try_contains(77u) == NM_PENDING;
+    for (std::uint64_t each = 0; each < 100'000; each++) {
+        (void)set.try_insert(each % 2);
+        nm_outcome outcome = set.try_remove(each % 2);
+        std::optional<std::uint64_t> pending = worker.pending();
+        CHECK(!pending || (outcome == NM_UNFINISHED && *pending == each % 2));
+        while (worker.try_finish() == NM_UNFINISHED) {}
+    }
+    is_over = true;
     for (std::thread &thread : threads) thread.join();
-    CHECK(met <= 50);
 }
 
 // The calls of a set that begin with try_ return outcomes, and wait for no worker.
@@ -319,7 +317,7 @@ int main() {
     sizes_are_counted();
     unfinished_removes_count_once();
     borrowed_workers_have_nothing_pending();
-    owners_meet_no_pending_key();
+    borrowers_say_what_is_pending();
     calls_throw_nothing();
     a_full_set_says_why();
     an_insert_waits();
