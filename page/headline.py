@@ -80,16 +80,18 @@ def words_after(layout: Layout, turns: Turns) -> Memory:
 
 def tells_the_epoch(m: Memory, worker: int, reply: Outcome) -> Fault | None:
     """The reply to a sight (epoch read) names the epoch in memory. If it confirms a pin, the worker
-    announces that epoch."""
+    announces that epoch, and if it fails to, the worker does not."""
     name = "TellsTheEpoch"
     match reply:
         case Saw(epoch) | Labelled(epoch) | Pinned(epoch) | Missed(epoch):
             announced = announcement(m, worker)
+            what = "nothing" if announced is None else announced
             if epoch != m.epoch:
                 return Fault(name, f"by the turns so far the epoch is {m.epoch}, and not {epoch}")
             if isinstance(reply, Pinned) and announced != epoch:
-                return Fault(name, f"worker {worker} is pinned at {epoch}, and announces"
-                             f" {'nothing' if announced is None else announced}")
+                return Fault(name, f"worker {worker} is pinned at {epoch}, and announces {what}")
+            if isinstance(reply, Missed) and announced == epoch:
+                return Fault(name, f"worker {worker} is not pinned at {epoch}, which it announces")
             return None
     return Fault(name, "it is no reply to a sight")
 
@@ -687,7 +689,7 @@ def spelled(it: object) -> str:
         case EdgeIs(found):
             return f"edge {spelled(found)}"
         case bool():
-            return "in the pool" if it else "not in the pool"
+            return "in the pool" if it else "elsewhere"
         case Idle():
             return "idle"
         case In(epoch):

@@ -230,6 +230,10 @@ READS = {
                           lines(0, """sight = saw 0
                               announce = announced 0
                               sight = lost 1""")),
+    "missed-its-own": Run("reads", "a sight does not confirm the pin at the epoch that its worker"
+                          " announces", lines(0, """sight = saw 0
+                              announce = announced 0
+                              sight = lost 0""")),
     "label-lies": Run("reads", "cut nodes get another epoch as their label",
                       turned(GONE, ("label 0", "label 40"))),
     "announces-another": Run("reads", "a worker is pinned at the epoch, and announces another one",

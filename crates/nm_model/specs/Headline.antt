@@ -55,12 +55,12 @@ words_after L turns = words_from (opening L) turns
 -- ---- reads
 
 -- the reply to a sight (epoch read) names the epoch in memory. If it confirms a pin, the worker
--- announces that epoch (Fraser, section 5.2.3)
+-- announces that epoch, and if it fails to, the worker does not (Fraser, section 5.2.3)
 abbrev pub TellsTheEpoch : Memory → ℕ → Reply → Type 0
 TellsTheEpoch m w (Saw e) = e ≡ m.epoch
 TellsTheEpoch m w (Labelled e) = e ≡ m.epoch
 TellsTheEpoch m w (Pinned e) = (e ≡ m.epoch) × (announcement m w ≡ Some e)
-TellsTheEpoch m w (Missed e) = e ≡ m.epoch
+TellsTheEpoch m w (Missed e) = (e ≡ m.epoch) × (announcement m w ≡ Some e → ⊥)
 TellsTheEpoch m w _ = ⊥
 
 -- the reply to a look is the word in memory, that to a scan is the announcement, and that to a

@@ -1,8 +1,9 @@
 -- What is read is what the turns have written: each reply is of the memory, which is that of the
 -- words.
-use Rattle.std.proofs.Common.{◌≡◌, ℕ, ◌+◌, inl, inr, ◌==◌, Bool, true, cond, not, ◌||◌, ◌&&◌, List, ◌∷◌, ◌++◌, refl, sym, ap, subst, ◌∙◌}
+use Rattle.std.proofs.Common.{◌≡◌, ℕ, ◌+◌, inl, inr, ◌==◌, Bool, true, cond, not, ◌||◌, ◌&&◌, List, ◌∷◌, ◌++◌, refl, sym, ap, subst, ◌∙◌, true≢false}
 use Rattle.std.specs.Prelude.{Option, Some, None, is_some, nat_lt, Result, Ok, Err}
-use Rattle.std.proofs.lemmas.Bool.{cond_both, or_parts, not-false, eqb-true}
+use Rattle.std.proofs.lemmas.Bool.{cond_both, or_parts, not-false, eqb-true, eq-eqb}
+use Rattle.std.proofs.lemmas.Option.{same_Some}
 use Rattle.nm_edge.specs.Edges.{Edge, is_to}
 use Rattle.nm_edge.specs.Layouts.{Layout, IsLayout}
 use Rattle.nm_model.specs.declared.event.Event.{Event}
@@ -42,7 +43,7 @@ sight_tells m w k announced = cond_both k.brief.unlabelled (Labelled m.epoch) (c
     by : (p a : Option ℕ) → announcement m w ≡ a → TellsTheEpoch m w (confirmed p a m.epoch)
     by (Some p) a is = refl
     by None None is = refl
-    by None (Some a) is = cond_both (a == m.epoch) (Pinned m.epoch) (Missed m.epoch) (TellsTheEpoch m w) (λ here. (refl, is ∙ ap Some (eqb-true a m.epoch here))) (λ _. refl)
+    by None (Some a) is = cond_both (a == m.epoch) (Pinned m.epoch) (Missed m.epoch) (TellsTheEpoch m w) (λ here. (refl, is ∙ ap Some (eqb-true a m.epoch here))) (λ away. (refl, λ same. true≢false (sym (eq-eqb a m.epoch (same_Some a m.epoch (sym is ∙ same))) ∙ away)))
 
 scan_tells : (m : Memory) (w u : ℕ) → TellsWhatStands m w (Scan u) (reply_scan (announcement m u))
 scan_tells m w u = go (announcement m u) refl
