@@ -1,9 +1,8 @@
 -- The slots to which paths go on from a known slot: what holds of each of them outlasts an event,
 -- where it holds of each slot that a path from the root reaches now.
-use Rattle.std.proofs.Common.{◌≡◌, ◌≢◌, ℕ, true, List, [], ◌∷◌, ◌++◌, refl, sym, ap, subst, ◌∙◌}
+use Rattle.std.proofs.Common.{◌≡◌, ◌≢◌, ℕ, true, List, ◌∷◌, ◌++◌, refl, sym, ap, subst, ◌∙◌}
 use Rattle.std.specs.Prelude.{Option, Some, None}
 use mathlib.Core.Path.{fun_ext}
-use Rattle.nm_edge.specs.Edges.{Edge}
 use Rattle.nm_edge.specs.declared.edge.Side.{Side}
 use Rattle.nm_edge.specs.declared.edge.Side.TheVariants.{Left}
 use Rattle.nm_model.specs.declared.event.Event.{Event}
@@ -18,7 +17,7 @@ use Rattle.nm_laws.proofs.Splices.{live_on_path, unmarked_not_queued}
 use Rattle.nm_laws.proofs.Views.{picture}
 use Rattle.nm_laws.proofs.TreeSteps.{Lawful}
 use Rattle.nm_order.specs.Intervals.{key}
-use Rattle.nm_order.proofs.Searching.{Apart, apart_follow}
+use Rattle.nm_order.proofs.Searching.{apart_follow}
 use Rattle.nm_order.proofs.OnwardSlots.{straight_to}
 use Rattle.nm_order.proofs.TreeChanges.{TreeChange}
 use Rattle.nm_order.proofs.TreeChanges.TreeChange.{Kept, Filled, Linked, Spliced}

@@ -24,7 +24,7 @@ use Rattle.nm_model.specs.Walks.{Entry, IsPart, Leads, WalkComes, WalkReads, Wal
 use Rattle.nm_model.specs.Walks.Leads.{begins, leads_on}
 use Rattle.nm_model.specs.Ordered.{search_of, disorder}
 use Rattle.nm_order.specs.Intervals.{key}
-use Rattle.nm_order.specs.Ranges.{IsNested, StandsFor, WalkPasses}
+use Rattle.nm_order.specs.Ranges.{StandsFor, WalkPasses}
 use Rattle.nm_order.specs.RadixPaths.{InRanges}
 use Rattle.nm_laws.proofs.Steps.{Allowed}
 use Rattle.nm_laws.proofs.TreeSteps.{Lawful}

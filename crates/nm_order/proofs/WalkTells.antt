@@ -11,7 +11,7 @@ use Rattle.nm_model.specs.declared.event.Event.TheVariants.{Look}
 use Rattle.nm_model.specs.declared.event.Field.TheVariants.{Key, Edge as EdgeOn}
 use Rattle.nm_model.specs.declared.event.Op.TheVariants.{Has}
 use Rattle.nm_model.specs.declared.reply.Reply.TheVariants.{KeyIs, EdgeIs}
-use Rattle.nm_model.specs.Memory.{Memory, node, child, is_leaf, infinity_1}
+use Rattle.nm_model.specs.Memory.{node, child, is_leaf, infinity_1}
 use Rattle.nm_model.specs.Searches.{side_of}
 use Rattle.nm_model.specs.Walks.{Entry, IsPart, WalkComes, WalkReads, WalkEnds}
 use Rattle.nm_model.specs.Ordered.{ordered, after_in}

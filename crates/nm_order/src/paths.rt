@@ -21,13 +21,13 @@ pub fn stale_paths_do_no_harm()
     ensures keys { OfEachOrderedRun AnyWalkReadsKeys }
 {}
 
-/// Law: in every ordered run, a walk in a worker's log after its pin is not harmed by stale edges in
-/// a radix tree either, for any key below that of slot 2, with or without a call. In a tree of
-/// either shape, each slot to which the walk came was reached at some moment after the pin was
-/// confirmed, and still has the same node. As long as the key is in the range of each node that the
-/// walk has passed, the search for the key came to the slot at such a moment. So it did at the first
-/// node without the key in its range from which the walk went on; and at that moment the key was
-/// not in the set. A walk that has passed such a node ends at a leaf with another key.
+/// Law: in every ordered run, a walk in a worker's log after its pin comes only to slots that were
+/// reached at some moment after the pin was confirmed, and that still have the same node. This holds
+/// in a tree of either shape. In a radix tree, for any key below that of slot 2, with or without a
+/// call: as long as the key is in the range of each node that the walk has passed, the search for
+/// the key came to the slot at such a moment. So it did at the first node without the key in its
+/// range from which the walk went on; and at that moment the key was not in the set. A walk that has
+/// passed such a node ends at a leaf with another key.
 ///
 /// The leaf at the end of such a walk need not have been reached with the key in its interval: the
 /// schedule `stale-radix` of the examples shows it. (The hindsight of O'Hearn, Rinetzky, Vechev,

@@ -15,7 +15,7 @@ use Rattle.nm_model.specs.declared.trace.Turn.{Turn}
 use Rattle.nm_model.specs.Memory.{Memory}
 use Rattle.nm_model.specs.Knowledge.{Knowledge}
 use Rattle.nm_model.specs.Step.{confirmed, reply_sight, reply}
-use Rattle.nm_model.specs.Runs.{State, of, next, outcome, reply_of}
+use Rattle.nm_model.specs.Runs.{State, of, outcome, reply_of}
 use Rattle.nm_model.specs.Laws.{PinsAreNear}
 use Rattle.nm_model.specs.Ordered.{Configuration, opening_of, refused_in, next_in, outcome_in, after_in, trace_in}
 use Rattle.nm_laws.proofs.Configurations.{refused_next, refused_outcome, allowed_outcome, allowed_state, state_outcome, after_in-append}
@@ -23,7 +23,7 @@ use Rattle.nm_laws.proofs.Lawful.{IsLawful}
 use Rattle.nm_laws.proofs.Pins.{pins_stay_near}
 use Rattle.nm_order.specs.Pinned.{pinned_by, pinned_after}
 use Rattle.nm_order.proofs.PinsOfLogs.{own_entry, pin_step}
-use Rattle.nm_model.specs.Headline.{confirms, departs, leaves, IsPinned, EpochStaysNear, words_after}
+use Rattle.nm_model.specs.Headline.{confirms, departs, leaves, IsPinned, EpochStaysNear}
 use Rattle.nm_theorem.proofs.Runs.{Parts, parts_of, Head, head_of, told_in, lawful_opening, lawful_next, lawful_after, of_state_after}
 use Rattle.nm_theorem.proofs.FreedOfRuns.{state_says}
 use Rattle.nm_theorem.proofs.WrittenWords.{run_words}
