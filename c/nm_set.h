@@ -101,9 +101,9 @@ typedef enum nm_outcome {
                              still attached */
     NM_CLOSING = -19,     /* a close was refused after all workers had been gathered: only
                              nm_set_close goes on */
-    NM_NOT_ALL = -20,     /* fewer workers were returned than the set has. No calls meet it: if a
-                             worker is lost, they return NM_ATTACHED */
-    NM_UNCOUNTED = -21,   /* there are as many handles as can be counted. No calls meet it: a set
+    NM_NOT_ALL = -20,     /* fewer workers were returned than the set has. No test has met it: if a
+                             worker is lost, the calls return NM_ATTACHED */
+    NM_UNCOUNTED = -21,   /* there are as many handles as can be counted. No test has met it: a set
                              has 64 workers at most */
     NM_IN_USE = -22,      /* another call has the handle at this moment */
     NM_NO_WORKER = -23    /* each worker of the set is attached */

@@ -12,11 +12,11 @@ import itertools
 from dataclasses import dataclass, replace
 from typing import Callable, Iterable, Iterator, NamedTuple
 
-from turns import (Advance, Announce, Announced, BirthIs, Claim, Claimed, Cut, Departed, EdgeIs,
-                   Event, Fault, Field, Fill, Filled, Flag, Flagged, Freed, Give, Idle, In, KeyIs,
-                   Leave, LeaveWith, Link, Linked, Look, Lost, Moved, Outcome, Pinned, Refused,
-                   Returned, Scan, Sight, SightFor, Splice, Tag, Turn, Turns, Was, kept, moments,
-                   splits, workers_of)
+from turns import (Advance, Announce, Announced, Behind, BirthIs, Claim, Claimed, Cut, Departed,
+                   EdgeIs, Event, Fault, Field, Fill, Filled, Flag, Flagged, Freed, Give, Idle, In,
+                   KeyIs, Labelled, Leave, LeaveWith, Link, Linked, Look, Lost, Missed, Moved,
+                   Outcome, Pinned, Refused, Returned, Saw, Scan, Sight, SightFor, Splice, Tag,
+                   Taken, Turn, Turns, Was, kept, moments, splits, workers_of)
 from words import (Edge, Layout, Memory, NodeId, Side, at, child, edge, in_pool, is_cut, named,
                    node, announcement, opening, other, put_edge, put_node, reached, slice_set, tagged, to,
                    untagged)
@@ -78,40 +78,74 @@ def words_after(layout: Layout, turns: Turns) -> Memory:
 # ---- reads
 
 
-def tells_what_stands(m: Memory, event: Event, reply: Outcome) -> Fault | None:
-    """The reply to a look is the word in memory, and that to a scan is the announcement. A lost
-    exchange, and a tag, return the edge in memory. A won link or flag has found the unmarked edge
-    that it names. A birth that is stored is one more than the one before it."""
-    told: object = reply
-    stands: object = reply
+def tells_the_epoch(m: Memory, worker: int, reply: Outcome) -> Fault | None:
+    """The reply to a sight (epoch read) names the epoch in memory. If it confirms a pin, the worker
+    announces that epoch, and if it fails to, the worker does not."""
+    name = "TellsTheEpoch"
+    match reply:
+        case Saw(epoch) | Labelled(epoch) | Pinned(epoch) | Missed(epoch):
+            announced = announcement(m, worker)
+            what = "nothing" if announced is None else announced
+            if epoch != m.epoch:
+                return Fault(name, f"by the turns so far the epoch is {m.epoch}, and not {epoch}")
+            if isinstance(reply, Pinned) and announced != epoch:
+                return Fault(name, f"worker {worker} is pinned at {epoch}, and announces {what}")
+            if isinstance(reply, Missed) and announced == epoch:
+                return Fault(name, f"worker {worker} is not pinned at {epoch}, which it announces")
+            return None
+    return Fault(name, "it is no reply to a sight")
+
+
+def told_and_stands(m: Memory, event: Event, reply: Outcome) -> list[tuple[object, object]]:
+    """What a reply returns, or an event stores, and beside each what it must be by the memory."""
     match event, reply:
-        case Look(slot, Field.KEY), _:
-            stands = KeyIs(node(m, slot).key)
-        case Look(slot, Side() as side), _:
-            stands = EdgeIs(edge(m, slot, side))
-        case Look(slot, Field.BIRTH), _:
-            stands = BirthIs(node(m, slot).birth)
         case Scan(worker), _:
             epoch = announcement(m, worker)
-            stands = Idle() if epoch is None else In(epoch)
+            return [(reply, Idle() if epoch is None else In(epoch))]
+        case Advance(), Moved(epoch):
+            return [(epoch, m.epoch + 1)]
+        case Advance(), Behind(epoch):
+            return [(epoch, m.epoch)]
+        case Claim(slot), Claimed(taken):
+            return [(taken, slot), (True, in_pool(m, slot))]
+        case Claim(slot), Taken():
+            return [(False, in_pool(m, slot))]
+        case Give(slot), Returned(given):
+            return [(given, slot)]
+        case Look(slot, Field.KEY), _:
+            return [(reply, KeyIs(node(m, slot).key))]
+        case Look(slot, Side() as side), _:
+            return [(reply, EdgeIs(edge(m, slot, side)))]
+        case Look(slot, Field.BIRTH), _:
+            return [(reply, BirthIs(node(m, slot).birth))]
         case Fill(slot, Field.BIRTH, value), _:
-            told, stands = value, node(m, slot).birth + 1
-        case Link(parent, side, leaf, _), Linked(_):
-            told, stands = to(leaf), edge(m, parent, side)
-        case Flag(parent, side, leaf), Flagged(_):
-            told, stands = to(leaf), edge(m, parent, side)
-        case Link(parent, side, _, _), Lost(found):
-            told, stands = found, edge(m, parent, side)
-        case Flag(parent, side, _), Lost(found):
-            told, stands = found, edge(m, parent, side)
+            return [(value, node(m, slot).birth + 1)]
+        case Link(parent, side, leaf, new), Linked(it):
+            return [(to(leaf), edge(m, parent, side)), (it, named(m, new))]
+        case Flag(parent, side, leaf), Flagged(it):
+            return [(to(leaf), edge(m, parent, side)), (it, named(m, leaf))]
+        case (Link(parent, side, _, _) | Flag(parent, side, _)), Lost(found):
+            return [(found, edge(m, parent, side))]
         case Tag(parent, side), Was(found):
-            told, stands = found, edge(m, parent, side)
+            return [(found, edge(m, parent, side))]
         case Splice(ancestor, side, _, _, _), Lost(found):
-            told, stands = found, edge(m, ancestor, side)
-    if told == stands:
-        return None
-    found, wanted = spelled(told), spelled(stands)
-    return Fault("TellsWhatStands", f"by the turns so far it is {wanted}, and not {found}")
+            return [(found, edge(m, ancestor, side))]
+    return []
+
+
+def tells_what_stands(m: Memory, worker: int, event: Event, reply: Outcome) -> Fault | None:
+    """The reply to a look is the word in memory, that to a scan is the announcement, and that to a
+    sight names the epoch. A won advance moves the epoch on by one, and a lost one returns it. A
+    claim is won exactly if the slot is in the pool. A lost exchange, and a tag, return the edge in
+    memory. A won link or flag has found the unmarked edge that it names, and returns the node named
+    with the birth in memory. A birth that is stored is one more than the one before it."""
+    if isinstance(event, (Sight, SightFor)):
+        return tells_the_epoch(m, worker, reply)
+    for told, stands in told_and_stands(m, event, reply):
+        if told != stands:
+            return Fault("TellsWhatStands", f"by the turns so far it is {spelled(stands)}, and not"
+                         f" {spelled(told)}")
+    return None
 
 
 # ---- cuts
@@ -275,6 +309,29 @@ def is_pinned(worker: int, turns: Turns) -> bool:
     if turns.last.worker == worker and confirms(turns.last.event, turns.last.outcome):
         return True
     return is_pinned(worker, turns.before) and not has_left(worker, [turns.last])
+
+
+@kept
+def pinned_at(worker: int, turns: Turns) -> frozenset[int]:
+    """The epochs that a worker's sights have named, by which it is pinned after these turns."""
+    if turns.before is None or turns.last is None or has_left(worker, [turns.last]):
+        return frozenset()
+    epochs = pinned_at(worker, turns.before)
+    match turns.last:
+        case Turn(by, event, Pinned(epoch) as outcome) if by == worker and confirms(event, outcome):
+            return epochs | {epoch}
+    return epochs
+
+
+def epoch_stays_near(layout: Layout, turns: Turns) -> Fault | None:
+    """While a worker is pinned at an epoch, the epoch in memory is that one or the next."""
+    epoch = words_after(layout, turns).epoch
+    for worker in sorted(workers_of(turns)):
+        far = [it for it in pinned_at(worker, turns) if epoch not in (it, it + 1)]
+        if far:
+            return Fault("EpochStaysNear", f"worker {worker} is pinned at {far[0]}, and the epoch"
+                         f" is {epoch}")
+    return None
 
 
 def grace(turns: Turns) -> Fault | None:
@@ -543,7 +600,7 @@ def reads(layout: Layout, before: Turns, turn: Turn) -> Fault | None:
     """What is read is what the turns have written."""
     if isinstance(turn.outcome, Refused):
         return None
-    return tells_what_stands(words_after(layout, before), turn.event, turn.outcome)
+    return tells_what_stands(words_after(layout, before), turn.worker, turn.event, turn.outcome)
 
 
 def cuts(layout: Layout, before: Turns, turn: Turn) -> Fault | None:
@@ -591,6 +648,7 @@ def fields() -> dict[str, Sentence]:
         "reads": of_last(reads),
         "cuts": of_last(cuts),
         "queues": lambda layout, so_far: are_freed_in_turn(so_far),
+        "near": epoch_stays_near,
         "grace": lambda layout, so_far: grace(so_far),
         "told": of_last(only_what_was_told_is_touched),
         "stays": what_was_told_stays,
@@ -630,6 +688,8 @@ def spelled(it: object) -> str:
             return f"birth {word}"
         case EdgeIs(found):
             return f"edge {spelled(found)}"
+        case bool():
+            return "in the pool" if it else "elsewhere"
         case Idle():
             return "idle"
         case In(epoch):

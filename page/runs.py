@@ -98,6 +98,10 @@ GONE = SIX + delete(10, 1, 0)
 OLD = GONE + advance(0) + FREED
 AGAIN = insert(20, 2, 2)
 HONEST = OLD + AGAIN
+EMPTY = lines(0, f"""look 2 left = edge 3
+    look 3 key = key {infinity_0()}
+    look 3 left = edge 0
+    leave false = left""")
 LOOK = ["1 look 2 left = edge 6"]
 LATE = lines(1, f"""look 6 key = key {infinity_0()}
     look 6 left = edge 7
@@ -146,7 +150,7 @@ LED = TWENTY + pin(1, 0) + lines(1, """look 2 left = edge 6
 LOST = lines(1, """flag 6 left 7 = lost 8
     look 8 left = edge 7
     leave true = left""")
-HELD = turned(OLD, ("scan 1 = idle", "scan 1 = in 0"))[len(SIX):]
+HELD = GONE[len(SIX):] + FREED
 
 RIGHT = {
     "honest": Run("", "a key is inserted and deleted, the two nodes are freed, and their slots used"
@@ -219,6 +223,53 @@ READS = {
                         turned(GONE, ("was 3", "was 3f"))),
     "lost-splice": Run("reads", "a splice that is lost tells another edge",
                        GONE[:-3] + ["0 splice 2 left 6 6 right = lost 3"] + GONE[-3:]),
+    "another-epoch": Run("near reads", "a worker reads an epoch, announces it and is pinned at it, and"
+                         " another one is in memory", pin(0, 7, " has 10") + EMPTY),
+    "saw-another": Run("reads", "a sight returns another epoch", ["0 sight = saw 7"]),
+    "missed-another": Run("reads", "a sight that does not confirm the pin returns another epoch",
+                          lines(0, """sight = saw 0
+                              announce = announced 0
+                              sight = lost 1""")),
+    "missed-its-own": Run("reads", "a sight does not confirm the pin at the epoch that its worker"
+                          " announces", lines(0, """sight = saw 0
+                              announce = announced 0
+                              sight = lost 0""")),
+    "label-lies": Run("reads", "cut nodes get another epoch as their label",
+                      turned(GONE, ("label 0", "label 40"))),
+    "announces-another": Run("reads", "a worker is pinned at the epoch, and announces another one",
+                             lines(0, """sight = saw 0
+                                 announce = announced 3
+                                 sight has 10 = pinned 0""") + EMPTY),
+    "pinned-unannounced": Run("reads", "a worker is pinned, and announces nothing",
+                              ["0 sight has 10 = pinned 0"] + EMPTY),
+    "epoch-jumps": Run("reads", "the epoch is moved from 0 to 9, and back to 2",
+                       lines(0, """sight = saw 0
+                           advance = moved 9
+                           advance = moved 2""")),
+    "advance-lost-to-nobody": Run("reads", "an advance is lost to an epoch that is not in memory",
+                                  lines(0, """sight = saw 0
+                                      advance = lost 4""")),
+    "claim-lies": Run("reads", "a worker loses the claim of each slot of a full pool",
+                      lines(0, "\n".join(f"claim {it} = lost" for it in range(6, 17)))),
+    "full-of-an-empty-pool": Run("reads", "an insert loses the claim of each slot of a full pool,"
+                                 " and leaves", pin(0, 0, " insert 10") + EMPTY[:-1]
+                                 + lines(0, "\n".join(f"claim {it} = lost" for it in range(6, 17)))
+                                 + ["0 leave = left"]),
+    "won-twice": Run("reads", "the worker that has a slot wins the claim of it again",
+                     2 * ["0 claim 6 = claimed 6"]),
+    "claim-names-another": Run("reads", "a won claim returns another slot",
+                               turned(SIX, ("claim 6 = claimed 6", "claim 6 = claimed 9"))),
+    "given-names-another": Run("reads", "a slot is given back, and another one returned",
+                               ["0 claim 8 = claimed 8", "0 give 8 = returned 9"]),
+    "link-names-another": Run("reads", "a won link returns another node",
+                              turned(SIX, ("linked 6.1", "linked 9.4"))),
+    "link-names-another-birth": Run("reads", "a won link returns its node with another birth",
+                                    turned(SIX, ("linked 6.1", "linked 6.2"))),
+    "flag-names-another-birth": Run("reads; answered cuts moments replays", "a won flag returns its"
+                                    " leaf with another birth",
+                                    turned(GONE, ("flagged 7.1", "flagged 7.2"))),
+    "flag-names-another": Run("reads; answered cuts moments replays", "a won flag returns another"
+                              " node", turned(GONE, ("flagged 7.1", "flagged 6.1"))),
 }
 
 # Slots that a pinned worker names and was never told of, one for each that an exchange may name.
@@ -245,7 +296,7 @@ WRONG = {
                         " last pin", SIX + pin(1, 0) + LOOK + ["1 leave = left"] + OLD[len(SIX):]
                         + AGAIN + pin(1, 2) + LATE),
     "held": Run("grace stays", "a reader goes on by an edge to a node that was freed and used"
-                " again, pinned all along", SIX + pin(1, 0) + LOOK + HELD + AGAIN + LATE),
+                " again, pinned all along", SIX + pin(1, 0) + LOOK + HELD + insert(20, 2, 0) + LATE),
     "touches-no-more": Run("grace stays", "a node is freed under a pinned reader that was told of"
                            " it and touches it no more", SIX + pin(1, 0) + LOOK + HELD),
     "overwritten": Run("stores; moments replays", "the key of a leaf in the tree is overwritten",
@@ -255,13 +306,20 @@ WRONG = {
     "old-birth": Run("reads younger", "a slot is used again with the birth that it had",
                      OLD + turned(AGAIN, ("6 birth 2", "6 birth 1"), ("6.2", "6.1"))),
     "no-birth": Run("younger", "a slot is used again, and no birth is stored",
-                    OLD + without(AGAIN, "6 birth")),
+                    OLD + turned(without(AGAIN, "6 birth"), ("6.2", "6.1"))),
     "nobody-pins": Run("told; cuts links moments replays", "the honest run, with each pin left out",
                        without(HONEST, "pinned", "announce")),
     "at-once": Run("told; cuts links moments", "nodes are freed at once, where nobody has confirmed"
                    " a pin", without(GONE, "pinned", "announce") + FREED),
-    "two-winners": Run("places", "two workers win one slot",
+    "two-winners": Run("places reads", "two workers win one slot",
                        ["0 claim 6 = claimed 6", "1 claim 6 = claimed 6"]),
+    "given-by-another": Run("places", "a slot is given back by a worker that does not have it",
+                            ["0 claim 6 = claimed 6", "1 give 6 = returned 6"]),
+    "past-a-pin": Run("near", "the epoch is moved on three times beside a pinned worker",
+                      pin(1, 0) + lines(0, """sight = saw 0
+                          advance = moved 1
+                          advance = moved 2
+                          advance = moved 3""")),
     "pooled": Run("told", "a worker that is not pinned looks at a slot in the pool",
                   ["0 look 6 key = key 0"]),
     "guessed": Run("told", "a pinned reader looks at a slot of which nobody told it",
@@ -280,7 +338,7 @@ WRONG = {
     "uncut": Run("queues", "a slot of the pool is freed, which nobody cut",
                  SIX + ["0 give 9 = freed 9.0"]),
     "cut-again": Run("places queues younger", "a node comes back as it was, and is cut again",
-                     OLD + without(AGAIN, "birth") + delete(20, 1, 2)),
+                     OLD + turned(without(AGAIN, "birth"), ("6.2", "6.1")) + delete(20, 1, 2)),
     "leaf-lost": Run("cuts", "a link drops the leaf in whose place it comes",
                      turned(SIX, ("6 right 3", "6 right 0"))),
     "untagged": Run("cuts", "a splice, where no edge is tagged", without(GONE, "tag")),

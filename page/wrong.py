@@ -75,6 +75,7 @@ WRONG: dict[tuple[str, str], tuple[Callable[..., Any], str]] = {
     ("Headline", "after_turn"): (same, "honest"),
     ("Headline", "words_from"): (same, "honest"),
     ("Headline", "words_after"): (lambda layout, turns: words.opening(layout), "honest"),
+    ("Headline", "tells_the_epoch"): (holds, "another-epoch"),
     ("Headline", "tells_what_stands"): (holds, "told-wrong"),
     ("Headline", "nodes_cut_of"): (none, "honest"),
     ("Headline", "nodes_freed_of"): (none, "uncut"),
@@ -95,6 +96,7 @@ WRONG: dict[tuple[str, str], tuple[Callable[..., Any], str]] = {
     ("Headline", "leaves"): (no, "over-a-leave"),
     ("Headline", "has_left"): (no, "moved"),
     ("Headline", "is_pinned"): (yes, "no-pin"),
+    ("Headline", "epoch_stays_near"): (holds, "past-a-pin"),
     ("Headline", "grace"): (holds, "unseen"),
     ("Headline", "takes"): (no, "honest"),
     ("Headline", "lets_go"): (no, "returned"),
@@ -151,12 +153,11 @@ class Row(NamedTuple):
         return wrong
 
 
-# The row of an advance is not here: of the epoch no sentence of the page speaks. The last states
-# that are stored do.
 ROWS = [
     Row("written", t.Announce, t.Announced, "unseen"),
     Row("written", t.Leave, t.Departed, "moved"),
     Row("written", t.LeaveWith, t.Departed, "lost-the-splice"),
+    Row("written", t.Advance, t.Moved, "honest"),
     Row("written", t.Claim, t.Claimed, "honest"),
     Row("written", t.Give, t.Returned, "returned"),
     Row("written", t.Give, t.Freed, "honest"),

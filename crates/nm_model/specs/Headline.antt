@@ -13,7 +13,7 @@ use Rattle.nm_model.specs.declared.event.Event.{Event}
 use Rattle.nm_model.specs.declared.event.Event.TheVariants.{Sight, SightFor, Announce, Leave, LeaveWith, Scan, Advance, Claim, Give, Look, Fill, Link, Flag, Tag, Splice}
 use Rattle.nm_model.specs.declared.event.Field.TheVariants.{Key, Edge as EdgeOn, Birth}
 use Rattle.nm_model.specs.declared.reply.Reply.{Reply}
-use Rattle.nm_model.specs.declared.reply.Reply.TheVariants.{Announced, Departed, Idle, In, Moved, Claimed, Returned, Freed, KeyIs, BirthIs, EdgeIs, Filled, Linked, Flagged, Was, Cut, Lost, Pinned}
+use Rattle.nm_model.specs.declared.reply.Reply.TheVariants.{Saw, Labelled, Pinned, Missed, Announced, Departed, Idle, In, Moved, Behind, Claimed, Taken, Returned, Freed, KeyIs, BirthIs, EdgeIs, Filled, Linked, Flagged, Was, Cut, Lost}
 use Rattle.nm_model.specs.declared.reply.Refused.{Refused}
 use Rattle.nm_model.specs.declared.trace.Turn.{Turn}
 use Rattle.nm_model.specs.Memory.{Memory, node, edge, announcement, child, named, in_pool, put_node, put_edge, opening}
@@ -54,22 +54,40 @@ words_after L turns = words_from (opening L) turns
 
 -- ---- reads
 
--- the reply to a look is the word in memory, and that to a scan is the announcement. A lost
--- exchange, and a tag, return the edge in memory. A won link or flag has found the unmarked edge
--- that it names. A birth that is stored is one more than the one before it
-abbrev pub TellsWhatStands : Memory → Event → Reply → Type 0
-TellsWhatStands m (Look s Key) r = r ≡ KeyIs (node m s).key
-TellsWhatStands m (Look s (EdgeOn side)) r = r ≡ EdgeIs (edge m s side)
-TellsWhatStands m (Look s Birth) r = r ≡ BirthIs (node m s).birth
-TellsWhatStands m (Scan u) r = (r ≡ Idle) × (announcement m u ≡ None) ⊎ (e : ℕ) × (r ≡ In e) × (announcement m u ≡ Some e)
-TellsWhatStands m (Fill s Birth v) r = v ≡ (node m s).birth + 1
-TellsWhatStands m (Link p side leaf new) (Linked n) = edge m p side ≡ to leaf
-TellsWhatStands m (Link p side leaf new) (Lost e) = e ≡ edge m p side
-TellsWhatStands m (Flag p side leaf) (Flagged n) = edge m p side ≡ to leaf
-TellsWhatStands m (Flag p side leaf) (Lost e) = e ≡ edge m p side
-TellsWhatStands m (Tag p side) (Was e) = e ≡ edge m p side
-TellsWhatStands m (Splice a side s p keep) (Lost e) = e ≡ edge m a side
-TellsWhatStands m _ r = Unit {0}
+-- the reply to a sight (epoch read) names the epoch in memory. If it confirms a pin, the worker
+-- announces that epoch, and if it fails to, the worker does not (Fraser, section 5.2.3)
+abbrev pub TellsTheEpoch : Memory → ℕ → Reply → Type 0
+TellsTheEpoch m w (Saw e) = e ≡ m.epoch
+TellsTheEpoch m w (Labelled e) = e ≡ m.epoch
+TellsTheEpoch m w (Pinned e) = (e ≡ m.epoch) × (announcement m w ≡ Some e)
+TellsTheEpoch m w (Missed e) = (e ≡ m.epoch) × (announcement m w ≡ Some e → ⊥)
+TellsTheEpoch m w _ = ⊥
+
+-- the reply to a look is the word in memory, that to a scan is the announcement, and that to a
+-- sight names the epoch. A won advance moves the epoch on by one, and a lost one returns it. A claim
+-- is won exactly if the slot is in the pool. A lost exchange, and a tag, return the edge in memory.
+-- A won link or flag has found the unmarked edge that it names, and returns the node named with the
+-- birth in memory. A birth that is stored is one more than the one before it
+abbrev pub TellsWhatStands : Memory → ℕ → Event → Reply → Type 0
+TellsWhatStands m w Sight r = TellsTheEpoch m w r
+TellsWhatStands m w (SightFor op key) r = TellsTheEpoch m w r
+TellsWhatStands m w (Scan u) r = (r ≡ Idle) × (announcement m u ≡ None) ⊎ (e : ℕ) × (r ≡ In e) × (announcement m u ≡ Some e)
+TellsWhatStands m w Advance (Moved e) = e ≡ m.epoch + 1
+TellsWhatStands m w Advance (Behind e) = e ≡ m.epoch
+TellsWhatStands m w (Claim s) (Claimed t) = (t ≡ s) × (in_pool m s ≡ true)
+TellsWhatStands m w (Claim s) Taken = in_pool m s ≡ false
+TellsWhatStands m w (Give s) (Returned t) = t ≡ s
+TellsWhatStands m w (Look s Key) r = r ≡ KeyIs (node m s).key
+TellsWhatStands m w (Look s (EdgeOn side)) r = r ≡ EdgeIs (edge m s side)
+TellsWhatStands m w (Look s Birth) r = r ≡ BirthIs (node m s).birth
+TellsWhatStands m w (Fill s Birth v) r = v ≡ (node m s).birth + 1
+TellsWhatStands m w (Link p side leaf new) (Linked n) = (edge m p side ≡ to leaf) × (n ≡ named m new)
+TellsWhatStands m w (Link p side leaf new) (Lost e) = e ≡ edge m p side
+TellsWhatStands m w (Flag p side leaf) (Flagged n) = (edge m p side ≡ to leaf) × (n ≡ named m leaf)
+TellsWhatStands m w (Flag p side leaf) (Lost e) = e ≡ edge m p side
+TellsWhatStands m w (Tag p side) (Was e) = e ≡ edge m p side
+TellsWhatStands m w (Splice a side s p keep) (Lost e) = e ≡ edge m a side
+TellsWhatStands m w _ r = Unit {0}
 
 -- ---- cuts
 
@@ -189,6 +207,11 @@ pub record IsPinned (w : ℕ) (turns : List Turn) : Type 0 where
   pub pins : confirms sight.event sight.outcome ≡ true
   pub stays : HasLeft w since → ⊥
 
+-- while a worker is pinned at an epoch, the epoch in memory is that one or the next (Fraser, section
+-- 5.2.3)
+abbrev pub EpochStaysNear : Layout → List Turn → Type 0
+EpochStaysNear L turns = (w e : ℕ) (pin : IsPinned w turns) → pin.sight.outcome ≡ Ok (Pinned e) → ((words_after L turns).epoch ≡ e) ⊎ ((words_after L turns).epoch ≡ e + 1)
+
 -- if a node is cut by one turn and freed by a later one, each worker that was pinned at the cut,
 -- including the remover, has left between the two (Fraser, section 5.2.3)
 abbrev pub Grace : List Turn → Type 0
@@ -307,12 +330,14 @@ WhatWasToldStays L turns = (w x : ℕ) (o : WasTold L w x turns) → IsStill L o
 -- the theorem, for the turns of a run
 pub record Headline (L : Layout) (turns : List Turn) : Type 0 where
   -- what is read is what the turns have written
-  pub reads : (before rest : List Turn) (t : Turn) (r : Reply) → turns ≡ before ++ t ∷ rest → t.outcome ≡ Ok r → TellsWhatStands (words_after L before) t.event r
+  pub reads : (before rest : List Turn) (t : Turn) (r : Reply) → turns ≡ before ++ t ∷ rest → t.outcome ≡ Ok r → TellsWhatStands (words_after L before) t.worker t.event r
   -- each turn cuts exactly the nodes that its reply names as cut
   pub cuts : (before rest : List Turn) (t : Turn) → turns ≡ before ++ t ∷ rest → CutsItsNodes (words_after L before) t
   -- at each moment each worker's freed nodes followed by those that wait are its cuts, in their
   -- order, and no node is cut twice
   pub queues : (so_far rest : List Turn) → turns ≡ so_far ++ rest → AreFreedInTurn so_far
+  -- at each moment the epoch is that of each pin, or the next one
+  pub near : (so_far rest : List Turn) → turns ≡ so_far ++ rest → EpochStaysNear L so_far
   -- no node is freed before each worker that was pinned at its cut has left
   pub grace : Grace turns
   -- a worker touches only slots that it has learned of under its pin, apart from slots 1 and 2 and

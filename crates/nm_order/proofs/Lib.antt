@@ -24,6 +24,7 @@ pub mod FlagsOfEvents
 pub mod FlagsOfRuns
 pub mod OnwardSlots
 pub mod OrderedMoments
+pub mod BelowSlots
 pub mod RunMoments
 pub mod OwnTurns
 pub mod OwnExchanges

@@ -40,7 +40,7 @@ same_pin pin (LeaveWith answer) Departed none = absurd (true≢false none)
 same_pin pin e r none = refl
 
 module _ (s : State) (lawful : IsLawful s) (t : ℕ × Event) (u : ℕ) where
-  abbrev own_entry : Result Reply Refused → List Entry
+  abbrev pub own_entry : Result Reply Refused → List Entry
   own_entry (Ok r) = (t.1, r) ∷ []
   own_entry (Err x) = []
 
@@ -48,7 +48,7 @@ module _ (s : State) (lawful : IsLawful s) (t : ℕ × Event) (u : ℕ) where
   own_pin ok true anew = anew_pin t.0 (of s t.0) t.1 (reply_of s t.0 t.1) anew
   own_pin ok false none = (learned_stays s.memory (of s t.0) t.0 t.1 (reply_of s t.0 t.1) (answers s lawful.holder lawful.law t.0 t.1 ok) none).pin ∙ sym (same_pin (of s t.0).brief.pin t.1 (reply_of s t.0 t.1) none)
 
-  pin_step : (of (next s t) u).brief.pin ≡ pinned_after (of s u).brief.pin (cond (t.0 == u) (own_entry (outcome s t)) [])
+  pub pin_step : (of (next s t) u).brief.pin ≡ pinned_after (of s u).brief.pin (cond (t.0 == u) (own_entry (outcome s t)) [])
   unfolding next outcome
   pin_step = go (refused s t.0 t.1) refl
     where

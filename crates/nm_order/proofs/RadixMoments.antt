@@ -104,7 +104,7 @@ module _ (s : State) (h : ℕ → ℕ) (law : Lawful s h) (w : ℕ) (r : Rooted 
         k small W W' grows z lasts_on (subst (λ (n : Keys). EachNow (child m) n (lasting m) k W') (fun_ext keys) now) each)
 
     -- what the slot does not stand for it did not stand for
-    stood : TreeChange s h w e m → StandsFor (child m) (key m) z k → StandsFor (child s.memory) (key s.memory) z k
+    pub stood : TreeChange s h w e m → StandsFor (child m) (key m) z k → StandsFor (child s.memory) (key s.memory) z k
     stood (Kept children keys) stands = subst (λ (d : Children). StandsFor d (key s.memory) z k) (fun_ext (λ x. fun_ext (λ d. children x d))) (subst (λ (n : Keys). StandsFor (child m) n z k) (fun_ext keys) stands)
     stood (Filled x own apart) stands = stands_apart (child s.memory) (child m) (key s.memory) (key m) x apart z k (off_known s h law u z w x known own []) stands
     stood (Linked p d leaf new is unmarked l link exchanged keys) stands =

@@ -2,13 +2,16 @@
 -- worker's log since its pin was reached since the pin, with the walk's key in its interval, and
 -- keeps it there while it is an internal node that is reached.
 use Rattle.std.proofs.Common.{◌≡◌, ◌≢◌, ℕ, ◌<◌, ◌≤◌, ◌==◌, inl, inr, ◌⊎◌, Bool, true, false, cond, ◌||◌, List, [], ◌∷◌, ◌++◌, append_assoc, refl, sym, ap, subst, ◌∙◌, arith}
-use Rattle.std.specs.Prelude.{Option, Some, None, All}
+use Rattle.std.specs.Prelude.{Option, Some, None, All, Contains}
 use Rattle.std.specs.List.{list_any}
 use Rattle.std.proofs.lemmas.List.{append-nil}
 use Rattle.std.proofs.lemmas.Bool.{eqb-true, eqb-false, and_parts}
 use Rattle.nm_edge.specs.Layouts.{Layout}
 use Rattle.nm_edge.specs.declared.edge.Side.{Side}
 use Rattle.nm_model.specs.declared.event.Event.{Event}
+use Rattle.nm_model.specs.declared.event.Event.TheVariants.{Look}
+use Rattle.nm_model.specs.declared.event.Field.TheVariants.{Key}
+use Rattle.nm_model.specs.declared.reply.Reply.TheVariants.{KeyIs}
 use Rattle.nm_model.specs.declared.reply.Reply.{Reply}
 use Rattle.nm_model.specs.declared.reply.Refused.{Refused}
 use Rattle.nm_model.specs.Memory.{node, child, is_leaf, infinity_1}
@@ -22,13 +25,16 @@ use Rattle.nm_model.specs.Walks.{Entry, log_of, begins_anew, since_pin, WalkCome
 use Rattle.nm_model.specs.Ordered.{Configuration, ordered, search_of, disorder, disorder_among, disorder_in, refused_in, applied_in, next_in, after_in, trace_in}
 use Rattle.nm_order.specs.Intervals.{HasKey, InInterval, key}
 use Rattle.nm_order.specs.Moments.{OfEachOrderedRun, PinStands}
-use Rattle.nm_order.specs.Ranges.{StandsFor, AnyWalkIsShort, AnyWalkPassesRouters}
+use Rattle.nm_order.specs.Ranges.{StandsFor, WalkPasses, AnyWalkIsShort, AnyWalkPassesRouters}
+use Rattle.nm_model.specs.Acts.{InSet}
 use Rattle.nm_order.specs.WalkAnswers.{WasSoUnderPin}
+use Rattle.nm_order.specs.RadixPaths.{InRanges, AnyWalkWasInTree, WasInTreeSince, AnyWalkInRangeWasReached, AnyWalkOutOfRangeWasRight}
 use Rattle.nm_order.specs.StalePaths.{HasPin, log_under_pin, WasReachedSince, AnyWalkWasReached, AnyWalkStaysInOrder, AnyWalkReadsKeys}
 use Rattle.nm_laws.proofs.Steps.{Allowed, allowed}
 use Rattle.nm_laws.proofs.TreeSteps.{Lawful}
 use Rattle.nm_laws.proofs.Retired.{layout_after}
 use Rattle.nm_laws.proofs.Configurations.{refused_next, refused_outcome, allowed_next, allowed_outcome, after_in-append}
+use Rattle.nm_order.proofs.BelowSlots.{EachBelow}
 use Rattle.nm_order.proofs.OnwardSlots.{EachNow}
 use Rattle.nm_order.proofs.OrderedMoments.{Lasting, lasting}
 use Rattle.nm_order.proofs.OrderedLaws.{IsOrdered, neither, ordered_next, each_ordered, law_of_state, has_child, lies_onward}
@@ -39,7 +45,7 @@ use Rattle.nm_order.proofs.RunMoments.{entries, stands_longer, refused_entries, 
 use Rattle.nm_order.proofs.WalksOfRuns.{since_pin-append, one_turn, all_before, all_behind, over_turns}
 use Rattle.nm_order.proofs.KnowledgeStays.{Stays, learned_stays, answers}
 use Rattle.nm_order.proofs.CallWalks.{others_stay, own_knows}
-use Rattle.nm_order.proofs.StaleWalks.{IsOnWay, HoldsOfWalks, of_no_walks, weaker, walks_outlast, own_walks}
+use Rattle.nm_order.proofs.StaleWalks.{IsOnWay, HoldsOfWalks, passed, read_there, of_no_walks, weaker, walks_outlast, own_walks}
 
 module _ (L : Layout) (u k : ℕ) where
   -- at a moment of a run, under a pin that stands since, the slot was reached and in the interval,
@@ -55,6 +61,16 @@ module _ (L : Layout) (u k : ℕ) where
     lasts : lasting (after_in (ordered L) before).state.memory x ≡ n
     is_ordered : IsOrdered L (after_in (ordered L) before)
 
+  -- at a moment of a run, under a pin that stands since, the slot was reached, and that lasts of it
+  record WasIn (ts : List (ℕ × Event)) (x : ℕ) (n : Lasting) : Type 0 where
+    before : List (ℕ × Event)
+    since : List (ℕ × Event)
+    is_run : ts ≡ before ++ since
+    pinned : HasPin (after_in (ordered L) before) u
+    stands : PinStands u (trace_in (after_in (ordered L) before) since)
+    reached : Reached (after_in (ordered L) before).state.memory x
+    lasts : lasting (after_in (ordered L) before).state.memory x ≡ n
+
   -- at such a moment no leaf had k
   abbrev NotThen : List (ℕ × Event) → Type 0
   NotThen ts = WasSoUnderPin L ts u k false
@@ -64,7 +80,7 @@ module _ (L : Layout) (u k : ℕ) where
 
   -- what holds of the walks for k after a run
   abbrev Held : List (ℕ × Event) → Type 0
-  Held ts = HoldsOfWalks (after_in (ordered L) ts).state u k (WasAt ts) (NotThen ts) (since_pin [] (log_after ts))
+  Held ts = HoldsOfWalks (after_in (ordered L) ts).state u k (WasAt ts) (WasIn ts) (NotThen ts) (since_pin [] (log_after ts))
 
   was_longer : (ts : List (ℕ × Event)) (t : ℕ × Event) → list_any begins_anew (entries u (after_in (ordered L) ts) t) ≡ false → (x : ℕ) (n : Lasting) → WasAt ts x n → WasAt (ts ++ t ∷ []) x n
   was_longer ts t none x n was = record {
@@ -77,6 +93,17 @@ module _ (L : Layout) (u k : ℕ) where
     lies = was.lies;
     lasts = was.lasts;
     is_ordered = was.is_ordered;
+  }
+
+  in_longer : (ts : List (ℕ × Event)) (t : ℕ × Event) → list_any begins_anew (entries u (after_in (ordered L) ts) t) ≡ false → (x : ℕ) (n : Lasting) → WasIn ts x n → WasIn (ts ++ t ∷ []) x n
+  in_longer ts t none x n was = record {
+    before = was.before;
+    since = was.since ++ t ∷ [];
+    is_run = ap (λ (l : List (ℕ × Event)). l ++ t ∷ []) was.is_run ∙ append_assoc was.before was.since (t ∷ []);
+    pinned = was.pinned;
+    stands = stands_longer u (after_in (ordered L) was.before) (after_in (ordered L) ts) was.since t (sym (after_in-append (ordered L) was.before was.since) ∙ ap (after_in (ordered L)) (sym was.is_run)) was.stands none;
+    reached = was.reached;
+    lasts = was.lasts;
   }
 
   not_longer : (ts : List (ℕ × Event)) (t : ℕ × Event) → list_any begins_anew (entries u (after_in (ordered L) ts) t) ≡ false → NotThen ts → NotThen (ts ++ t ∷ [])
@@ -105,18 +132,25 @@ module _ (L : Layout) (u k : ℕ) where
       is_ordered = subst (IsOrdered L) (sym is) o;
     }
 
+    -- what a path comes to now was reached
+    in_now : (ts : List (ℕ × Event)) (d : Configuration) → after_in (ordered L) ts ≡ d → IsOrdered L d → (x : ℕ) → knows (of d.state u) x ≡ true → EachBelow (child d.state.memory) (lasting d.state.memory) (WasIn ts) 1
+    unfolding trace_in
+    in_now ts d is o x known q some = record {
+      before = ts;
+      since = [];
+      is_run = sym (append-nil ts);
+      pinned = subst (λ (c : Configuration). HasPin c u) (sym is) ((law_of_state L enough d o).1.known u x known);
+      stands = refl;
+      reached = subst (λ (c : Configuration). Reached c.state.memory (follow (child d.state.memory) 1 q)) (sym is) (record { path = q; ends = refl; is_slot = some });
+      lasts = ap (λ (c : Configuration). lasting c.state.memory (follow (child d.state.memory) 1 q)) is;
+    }
+
     -- in a radix tree: where k is not in the range of an internal node to which its search came, no
     -- leaf had it
-    out_of_range : L.radix ≡ true → k < infinity_1 → (ts : List (ℕ × Event)) (x : ℕ) (n : Lasting) → WasAt ts x n → n.leaf ≡ false → 6 ≤ x → covers n.key k ≡ false → NotThen ts
-    out_of_range radix small ts x n was inner up out = record {
-      before = was.before;
-      since = was.since;
-      is_run = was.is_run;
-      pinned = was.pinned;
-      stands = was.stands;
-      gives = λ s. none_has (child d.state.memory) (key d.state.memory) root k was.lies.path was.lies.goes (rw was.lies.ends was.reached.is_slot) (rw was.lies.ends up) under.0 (rw was.lies.ends under.1)
-          (rw was.lies.ends (ap (λ (t : Lasting). covers t.key k) was.lasts ∙ out)) s.reached.path (rw s.reached.ends s.reached.is_slot) (rw s.reached.ends (null_of s.slot s.leaf)) (ap (key d.state.memory) s.reached.ends ∙ s.has_key);
-    }
+    none_then : L.radix ≡ true → k < infinity_1 → (ts : List (ℕ × Event)) (x : ℕ) (n : Lasting) (was : WasAt ts x n) → n.leaf ≡ false → 6 ≤ x → covers n.key k ≡ false → InSet (after_in (ordered L) was.before).state.memory k → ⊥
+    none_then radix small ts x n was inner up out s =
+        none_has (child d.state.memory) (key d.state.memory) root k was.lies.path was.lies.goes (rw was.lies.ends was.reached.is_slot) (rw was.lies.ends up) under.0 (rw was.lies.ends under.1)
+        (rw was.lies.ends (ap (λ (t : Lasting). covers t.key k) was.lasts ∙ out)) s.reached.path (rw s.reached.ends s.reached.is_slot) (rw s.reached.ends (null_of s.slot s.leaf)) (ap (key d.state.memory) s.reached.ends ∙ s.has_key)
       where
         d : Configuration
         d = after_in (ordered L) was.before
@@ -140,6 +174,16 @@ module _ (L : Layout) (u k : ℕ) where
             by Left both = eqb-true (node (after_in (ordered L) was.before).state.memory y).left.slot 0 both.0
             by Right both = eqb-true (node (after_in (ordered L) was.before).state.memory y).right.slot 0 both.1
 
+    out_of_range : L.radix ≡ true → k < infinity_1 → (ts : List (ℕ × Event)) (x : ℕ) (n : Lasting) → WasAt ts x n → n.leaf ≡ false → 6 ≤ x → covers n.key k ≡ false → NotThen ts
+    out_of_range radix small ts x n was inner up out = record {
+      before = was.before;
+      since = was.since;
+      is_run = was.is_run;
+      pinned = was.pinned;
+      stands = was.stands;
+      gives = none_then radix small ts x n was inner up out;
+    }
+
     module _ (ts : List (ℕ × Event)) (t : ℕ × Event) (o : IsOrdered L (after_in (ordered L) ts)) (has : HasKey t.1) (held : Held ts) where
       abbrev c : Configuration
       c = after_in (ordered L) ts
@@ -158,6 +202,9 @@ module _ (L : Layout) (u k : ℕ) where
       quiet : (x : ℕ) (n : Lasting) → entries u (after_in (ordered L) ts) t ≡ [] → WasAt ts x n → WasAt (ts ++ t ∷ []) x n
       quiet x n none was = was_longer ts t (ap (list_any begins_anew) none) x n was
 
+      quiet_in : (x : ℕ) (n : Lasting) → entries u (after_in (ordered L) ts) t ≡ [] → WasIn ts x n → WasIn (ts ++ t ∷ []) x n
+      quiet_in x n none was = in_longer ts t (ap (list_any begins_anew) none) x n was
+
       quiet_not : entries u (after_in (ordered L) ts) t ≡ [] → NotThen ts → NotThen (ts ++ t ∷ [])
       quiet_not none was = not_longer ts t (ap (list_any begins_anew) none) was
 
@@ -166,14 +213,14 @@ module _ (L : Layout) (u k : ℕ) where
       at_refused r why =
           let none : entries u (after_in (ordered L) ts) t ≡ [] = refused_entries u c t r (refused_outcome c t r why) in
           let same : after_in (ordered L) (ts ++ t ∷ []) ≡ after_in (ordered L) ts = next_is ∙ refused_next c t r why in
-          subst (λ (d : Configuration). HoldsOfWalks d.state u k (WasAt (ts ++ t ∷ [])) (NotThen (ts ++ t ∷ [])) (since_pin [] (log_after (ts ++ t ∷ [])))) (sym same)
-          (subst (HoldsOfWalks (after_in (ordered L) ts).state u k (WasAt (ts ++ t ∷ [])) (NotThen (ts ++ t ∷ []))) (sym (quiet_log none))
-          (weaker (after_in (ordered L) ts).state u k (WasAt ts) (WasAt (ts ++ t ∷ [])) (NotThen ts) (NotThen (ts ++ t ∷ [])) (λ x n. quiet x n none) (quiet_not none) (since_pin [] (log_after ts)) held))
+          subst (λ (d : Configuration). HoldsOfWalks d.state u k (WasAt (ts ++ t ∷ [])) (WasIn (ts ++ t ∷ [])) (NotThen (ts ++ t ∷ [])) (since_pin [] (log_after (ts ++ t ∷ [])))) (sym same)
+          (subst (HoldsOfWalks (after_in (ordered L) ts).state u k (WasAt (ts ++ t ∷ [])) (WasIn (ts ++ t ∷ [])) (NotThen (ts ++ t ∷ []))) (sym (quiet_log none))
+          (weaker (after_in (ordered L) ts).state u k (WasAt ts) (WasAt (ts ++ t ∷ [])) (WasIn ts) (WasIn (ts ++ t ∷ [])) (NotThen ts) (NotThen (ts ++ t ∷ [])) (λ x n. quiet x n none) (λ x n. quiet_in x n none) (quiet_not none) (since_pin [] (log_after ts)) held))
 
       -- the turn is allowed
       at_allowed : refused_in (after_in (ordered L) ts) t.0 t.1 ≡ None → Held (ts ++ t ∷ [])
       unfolding applied_in refused_in
-      at_allowed why = subst (λ (d : Configuration). HoldsOfWalks d.state u k (WasAt (ts ++ t ∷ [])) (NotThen (ts ++ t ∷ [])) (since_pin [] (log_after (ts ++ t ∷ [])))) (sym same) (by (t.0 == u) refl)
+      at_allowed why = subst (λ (d : Configuration). HoldsOfWalks d.state u k (WasAt (ts ++ t ∷ [])) (WasIn (ts ++ t ∷ [])) (NotThen (ts ++ t ∷ [])) (since_pin [] (log_after (ts ++ t ∷ [])))) (sym same) (by (t.0 == u) refl)
         where
           same : after_in (ordered L) (ts ++ t ∷ []) ≡ applied_in (after_in (ordered L) ts) t.0 t.1
           same = next_is ∙ allowed_next c t why
@@ -209,6 +256,9 @@ module _ (L : Layout) (u k : ℕ) where
               → EachNow (child (applied (after_in (ordered L) ts).state t.0 t.1).memory) (key (applied (after_in (ordered L) ts).state t.0 t.1).memory) (lasting (applied (after_in (ordered L) ts).state t.0 t.1).memory) k (WasAt (ts ++ t ∷ []))
           now = so_now (ts ++ t ∷ []) (applied_in c t.0 t.1) same then
 
+          below : (x : ℕ) → knows (of (applied (after_in (ordered L) ts).state t.0 t.1) u) x ≡ true → EachBelow (child (applied (after_in (ordered L) ts).state t.0 t.1).memory) (lasting (applied (after_in (ordered L) ts).state t.0 t.1).memory) (WasIn (ts ++ t ∷ [])) 1
+          below = in_now (ts ++ t ∷ []) (applied_in c t.0 t.1) same then
+
           shaped : (applied (after_in (ordered L) ts).state t.0 t.1).layout.radix ≡ true → L.radix ≡ true
           shaped radix = sym (ap (λ (s : State). s.layout.radix) then.leads ∙ ap (λ (K : Layout). K.radix) (layout_after L then.events)) ∙ radix
 
@@ -219,27 +269,29 @@ module _ (L : Layout) (u k : ℕ) where
           told b is = allowed_entries u c t (reply_of c.state t.0 t.1) (allowed_outcome c t why) ∙ ap (λ (b : Bool). cond b ((t.1, reply_of c.state t.0 t.1) ∷ []) []) is
 
           -- by another worker
-          by_other : u ≢ t.0 → entries u (after_in (ordered L) ts) t ≡ [] → HoldsOfWalks (applied (after_in (ordered L) ts).state t.0 t.1) u k (WasAt (ts ++ t ∷ [])) (NotThen (ts ++ t ∷ [])) (since_pin [] (log_after (ts ++ t ∷ [])))
-          by_other ne none = subst (HoldsOfWalks (applied c.state t.0 t.1) u k (WasAt (ts ++ t ∷ [])) (NotThen (ts ++ t ∷ []))) (sym (quiet_log none))
-              (walks_outlast c.state h law t.0 births o.searches o.law t.1 ok in_order u k (others_stay c.state h law t.0 t.1 ok u ne) (WasAt ts) (WasAt (ts ++ t ∷ [])) (NotThen ts) (NotThen (ts ++ t ∷ [])) (λ x n. quiet x n none) (quiet_not none) now (since_pin [] (log_after ts)) held)
+          by_other : u ≢ t.0 → entries u (after_in (ordered L) ts) t ≡ [] → HoldsOfWalks (applied (after_in (ordered L) ts).state t.0 t.1) u k (WasAt (ts ++ t ∷ [])) (WasIn (ts ++ t ∷ [])) (NotThen (ts ++ t ∷ [])) (since_pin [] (log_after (ts ++ t ∷ [])))
+          by_other ne none = subst (HoldsOfWalks (applied c.state t.0 t.1) u k (WasAt (ts ++ t ∷ [])) (WasIn (ts ++ t ∷ [])) (NotThen (ts ++ t ∷ []))) (sym (quiet_log none))
+              (walks_outlast c.state h law t.0 births o.searches o.law t.1 ok in_order u k (others_stay c.state h law t.0 t.1 ok u ne) (WasAt ts) (WasAt (ts ++ t ∷ [])) (WasIn ts) (WasIn (ts ++ t ∷ [])) (NotThen ts) (NotThen (ts ++ t ∷ [])) (λ x n. quiet x n none) (λ x n. quiet_in x n none) (quiet_not none) now below (since_pin [] (log_after ts)) held)
 
           -- by the worker itself
-          by_itself : u ≡ t.0 → entries u (after_in (ordered L) ts) t ≡ e ∷ [] → (b : Bool) → begins_anew e ≡ b → HoldsOfWalks (applied (after_in (ordered L) ts).state t.0 t.1) u k (WasAt (ts ++ t ∷ [])) (NotThen (ts ++ t ∷ [])) (cond b [] (since_pin [] (log_after ts) ++ e ∷ []))
-          by_itself own one true anew = of_no_walks (applied c.state t.0 t.1) u k (WasAt (ts ++ t ∷ [])) (NotThen (ts ++ t ∷ []))
+          by_itself : u ≡ t.0 → entries u (after_in (ordered L) ts) t ≡ e ∷ [] → (b : Bool) → begins_anew e ≡ b → HoldsOfWalks (applied (after_in (ordered L) ts).state t.0 t.1) u k (WasAt (ts ++ t ∷ [])) (WasIn (ts ++ t ∷ [])) (NotThen (ts ++ t ∷ [])) (cond b [] (since_pin [] (log_after ts) ++ e ∷ []))
+          by_itself own one true anew = of_no_walks (applied c.state t.0 t.1) u k (WasAt (ts ++ t ∷ [])) (WasIn (ts ++ t ∷ [])) (NotThen (ts ++ t ∷ []))
           by_itself own one false stands =
-              subst (λ (v : ℕ). HoldsOfWalks (applied c.state t.0 t.1) v k (WasAt (ts ++ t ∷ [])) (NotThen (ts ++ t ∷ [])) (since_pin [] (log_after ts) ++ e ∷ [])) (sym own)
+              subst (λ (v : ℕ). HoldsOfWalks (applied c.state t.0 t.1) v k (WasAt (ts ++ t ∷ [])) (WasIn (ts ++ t ∷ [])) (NotThen (ts ++ t ∷ [])) (since_pin [] (log_after ts) ++ e ∷ [])) (sym own)
               (own_walks c.state h law t.0 births o.searches o.law t.1 ok in_order g after then.law.fixed then.law.order then.law.nested k
               (subst (Stays c.state.memory (of c.state t.0)) (sym (own_knows c.state h law t.0 t.1 ok)) (learned_stays c.state.memory (of c.state t.0) t.0 t.1 r (answers c.state h law t.0 t.1 ok) stands))
-              (WasAt ts) (WasAt (ts ++ t ∷ [])) (NotThen ts) (NotThen (ts ++ t ∷ [])) (λ x n. was_longer ts t (ap (list_any begins_anew) one ∙ ap (λ (b : Bool). b || false) stands) x n)
+              (WasAt ts) (WasAt (ts ++ t ∷ [])) (WasIn ts) (WasIn (ts ++ t ∷ [])) (NotThen ts) (NotThen (ts ++ t ∷ [])) (λ x n. was_longer ts t (ap (list_any begins_anew) one ∙ ap (λ (b : Bool). b || false) stands) x n)
+              (λ x n. in_longer ts t (ap (list_any begins_anew) one ∙ ap (λ (b : Bool). b || false) stands) x n)
               (not_longer ts t (ap (list_any begins_anew) one ∙ ap (λ (b : Bool). b || false) stands)) (λ radix small. out_of_range (shaped radix) small (ts ++ t ∷ []))
               (subst (λ (v : ℕ). (x : ℕ) → knows (of (applied c.state t.0 t.1) v) x ≡ true → EachNow (child (applied c.state t.0 t.1).memory) (key (applied c.state t.0 t.1).memory) (lasting (applied c.state t.0 t.1).memory) k (WasAt (ts ++ t ∷ []))) own now)
-              (since_pin [] (log_after ts)) (subst (λ (v : ℕ). HoldsOfWalks c.state v k (WasAt ts) (NotThen ts) (since_pin [] (log_after ts))) own held))
+              (subst (λ (v : ℕ). (x : ℕ) → knows (of (applied c.state t.0 t.1) v) x ≡ true → EachBelow (child (applied c.state t.0 t.1).memory) (lasting (applied c.state t.0 t.1).memory) (WasIn (ts ++ t ∷ [])) 1) own below)
+              (since_pin [] (log_after ts)) (subst (λ (v : ℕ). HoldsOfWalks c.state v k (WasAt ts) (WasIn ts) (NotThen ts) (since_pin [] (log_after ts))) own held))
 
           own_log : entries u (after_in (ordered L) ts) t ≡ e ∷ [] → since_pin [] (log_after (ts ++ t ∷ [])) ≡ cond (begins_anew e) [] (since_pin [] (log_after ts) ++ e ∷ [])
           own_log one = ap (since_pin []) (one_turn u (ordered L) ts t ∙ ap (λ (es : List Entry). log_after ts ++ (es ++ [])) one) ∙ since_pin-append [] (log_after ts) (e ∷ [])
 
-          by : (b : Bool) → (t.0 == u) ≡ b → HoldsOfWalks (applied (after_in (ordered L) ts).state t.0 t.1) u k (WasAt (ts ++ t ∷ [])) (NotThen (ts ++ t ∷ [])) (since_pin [] (log_after (ts ++ t ∷ [])))
-          by true here = subst (HoldsOfWalks (applied c.state t.0 t.1) u k (WasAt (ts ++ t ∷ [])) (NotThen (ts ++ t ∷ []))) (sym (own_log (told true here))) (by_itself (sym (eqb-true t.0 u here)) (told true here) (begins_anew e) refl)
+          by : (b : Bool) → (t.0 == u) ≡ b → HoldsOfWalks (applied (after_in (ordered L) ts).state t.0 t.1) u k (WasAt (ts ++ t ∷ [])) (WasIn (ts ++ t ∷ [])) (NotThen (ts ++ t ∷ [])) (since_pin [] (log_after (ts ++ t ∷ [])))
+          by true here = subst (HoldsOfWalks (applied c.state t.0 t.1) u k (WasAt (ts ++ t ∷ [])) (WasIn (ts ++ t ∷ [])) (NotThen (ts ++ t ∷ []))) (sym (own_log (told true here))) (by_itself (sym (eqb-true t.0 u here)) (told true here) (begins_anew e) refl)
           by false other = by_other (λ z. eqb-false t.0 u other (sym z)) (told false other)
 
       held_longer : Held (ts ++ t ∷ [])
@@ -251,7 +303,7 @@ module _ (L : Layout) (u k : ℕ) where
 
     held_after : (turns : List (ℕ × Event)) → All (λ t. HasKey t.1) turns → Held turns
     unfolding after_in trace_in
-    held_after = over_turns Held (of_no_walks (ordered L).state u k (WasAt []) (NotThen []))
+    held_after = over_turns Held (of_no_walks (ordered L).state u k (WasAt []) (WasIn []) (NotThen []))
         (λ ts t keys held. held_longer ts t (each_ordered L enough ts (all_before (λ t. HasKey t.1) ts (t ∷ []) keys)) (all_behind (λ t. HasKey t.1) ts (t ∷ []) keys 0 t (omega arith)) held)
 
 -- ---- the laws
@@ -261,7 +313,7 @@ pub layout_is : (L : Layout) → 5 ≤ L.nodes → (turns : List (ℕ × Event))
 layout_is L enough turns keys = let o = each_ordered L enough turns keys in ap (λ (s : State). s.layout) o.leads ∙ layout_after L o.events
 
 -- a slot that was at its place since the pin was reached there
-reached_since : (L : Layout) (u k : ℕ) (turns : List (ℕ × Event)) (slot : ℕ) → WasAt L u k turns slot (lasting (after_in (ordered L) turns).state.memory slot) → WasReachedSince (ordered L) turns u k slot
+abbrev reached_since : (L : Layout) (u k : ℕ) (turns : List (ℕ × Event)) (slot : ℕ) → WasAt L u k turns slot (lasting (after_in (ordered L) turns).state.memory slot) → WasReachedSince (ordered L) turns u k slot
 reached_since L u k turns slot was = record {
   before = was.before;
   since = was.since;
@@ -278,7 +330,7 @@ reached_since L u k turns slot was = record {
 pub any_walk_was_reached : OfEachOrderedRun AnyWalkWasReached
 any_walk_was_reached L enough turns keys search u k slot parent side small walk = by ((held_after L u k enough turns keys).comes slot parent side walk)
   where
-    by : IsOnWay (after_in (ordered L) turns).state u k (WasAt L u k turns) (NotThen L u k turns) slot → WasReachedSince (ordered L) turns u k slot
+    by : IsOnWay (after_in (ordered L) turns).state u k (WasAt L u k turns) (WasIn L u k turns) (NotThen L u k turns) slot → WasReachedSince (ordered L) turns u k slot
     by way = reached_since L u k turns slot (way.each shape small [] tt some)
       where
         shape : (after_in (ordered L) turns).state.layout.radix ≡ false
@@ -293,7 +345,7 @@ pub radix_walk : (L : Layout) → 5 ≤ L.nodes → (turns : List (ℕ × Event)
     → WasReachedSince (ordered L) turns u k slot ⊎ (WasSoUnderPin L turns u k false × (StandsFor (child (after_in (ordered L) turns).state.memory) (key (after_in (ordered L) turns).state.memory) slot k → ⊥))
 radix_walk L enough turns keys radix u k slot parent side small walk = by ((held_after L u k enough turns keys).comes slot parent side walk)
   where
-    by : IsOnWay (after_in (ordered L) turns).state u k (WasAt L u k turns) (NotThen L u k turns) slot
+    by : IsOnWay (after_in (ordered L) turns).state u k (WasAt L u k turns) (WasIn L u k turns) (NotThen L u k turns) slot
         → WasReachedSince (ordered L) turns u k slot ⊎ (WasSoUnderPin L turns u k false × (StandsFor (child (after_in (ordered L) turns).state.memory) (key (after_in (ordered L) turns).state.memory) slot k → ⊥))
     by way = elim (way.radix (ap (λ (K : Layout). K.radix) (layout_is L enough turns keys) ∙ radix) small).inside [ inl each ↦ inl (reached_since L u k turns slot (each [] tt tt some)) | inr out ↦ inr out ]
       where
@@ -306,7 +358,76 @@ any_walk_is_short L enough turns keys radix u k slot parent side small walk = ((
 
 -- and each goes on from routers alone
 pub any_walk_passes_routers : OfEachOrderedRun AnyWalkPassesRouters
-any_walk_passes_routers L enough turns keys radix u k slot parent side v small walk = (held_after L u k enough turns keys).passes (ap (λ (K : Layout). K.radix) (layout_is L enough turns keys) ∙ radix) small slot parent side v walk
+any_walk_passes_routers L enough turns keys radix u k slot parent side v small walk =
+    let passes = (held_after L u k enough turns keys).passes (ap (λ (K : Layout). K.radix) (layout_is L enough turns keys) ∙ radix) small slot parent side v walk in
+    (passes.0, passes.1)
+
+-- ---- the laws of a radix tree
+
+-- in either shape, a slot to which a walk came was reached since the pin
+pub any_walk_was_in_tree : OfEachOrderedRun AnyWalkWasInTree
+any_walk_was_in_tree L enough turns keys u k slot parent side walk = in_since ((held_after L u k enough turns keys).comes slot parent side walk)
+  where
+    in_since : IsOnWay (after_in (ordered L) turns).state u k (WasAt L u k turns) (WasIn L u k turns) (NotThen L u k turns) slot → WasInTreeSince (ordered L) turns u slot
+    in_since way = record {
+      before = was.before;
+      since = was.since;
+      is_run = was.is_run;
+      pinned = was.pinned;
+      stands = was.stands;
+      reached = was.reached;
+      same_birth = ap (λ (n : Lasting). n.birth) was.lasts;
+      same_key = ap (λ (n : Lasting). n.key) was.lasts;
+      same_kind = ap (λ (n : Lasting). n.leaf) was.lasts;
+    }
+      where
+        some : slot ≢ 0
+        some z = let r = (law_of_state L enough (after_in (ordered L) turns) (each_ordered L enough turns keys)).1.tree.known u slot way.known in absurd (omega arith)
+
+        was : WasIn L u k turns slot (lasting (after_in (ordered L) turns).state.memory slot)
+        was = way.below [] some
+
+module _ (L : Layout) (enough : 5 ≤ L.nodes) (turns : List (ℕ × Event)) (keys : All (λ t. HasKey t.1) turns) (radix : L.radix ≡ true) (u k : ℕ) (small : k < infinity_1) where
+  shape : (after_in (ordered L) turns).state.layout.radix ≡ true
+  shape = ap (λ (K : Layout). K.radix) (layout_is L enough turns keys) ∙ radix
+
+  -- by nodes in whose range the key is, its search came there
+  in_range : (slot parent : ℕ) (side : Side) (walk : WalkComes k (log_under_pin L turns u) slot parent side) → InRanges k walk.looks → WasAt L u k turns slot (lasting (after_in (ordered L) turns).state.memory slot)
+  in_range slot parent side walk has = (held_after L u k enough turns keys).ranges shape small slot parent side walk has [] tt tt some
+    where
+      some : slot ≢ 0
+      some z = let r = (law_of_state L enough (after_in (ordered L) turns) (each_ordered L enough turns keys)).1.tree.known u slot ((held_after L u k enough turns keys).comes slot parent side walk).known in absurd (omega arith)
+
+pub any_walk_in_range : OfEachOrderedRun AnyWalkInRangeWasReached
+any_walk_in_range L enough turns keys radix u k slot parent side small walk has = reached_since L u k turns slot (in_range L enough turns keys radix u k small slot parent side walk has)
+
+-- where its search came to an internal node without the key in its range, no leaf had the key
+was_right : (L : Layout) (u k : ℕ) → 5 ≤ L.nodes → L.radix ≡ true → k < infinity_1 → (turns : List (ℕ × Event)) (slot : ℕ) → WasAt L u k turns slot (lasting (after_in (ordered L) turns).state.memory slot)
+    → is_leaf (node (after_in (ordered L) turns).state.memory slot) ≡ false → 6 ≤ slot → covers (key (after_in (ordered L) turns).state.memory slot) k ≡ false
+    → (was : WasReachedSince (ordered L) turns u k slot) × (InSet (after_in (ordered L) was.before).state.memory k → ⊥)
+was_right L u k enough radix small turns slot was inner up out = (reached_since L u k turns slot was, none_then L u k enough radix small turns slot (lasting (after_in (ordered L) turns).state.memory slot) was inner up out)
+
+-- as a walk has come there by nodes in whose range the key is, and went on
+right_there : (L : Layout) (u k : ℕ) → 5 ≤ L.nodes → (turns : List (ℕ × Event)) (slot parent : ℕ) (side : Side) (v : ℕ) → L.radix ≡ true → k < infinity_1 → (after_in (ordered L) turns).state.layout.radix ≡ true
+    → HoldsOfWalks (after_in (ordered L) turns).state u k (WasAt L u k turns) (WasIn L u k turns) (NotThen L u k turns) (log_under_pin L turns u) → (walk : WalkPasses k (log_under_pin L turns u) slot parent side v) → slot ≢ 0
+    → InRanges k walk.looks → covers v k ≡ false → (was : WasReachedSince (ordered L) turns u k slot) × (InSet (after_in (ordered L) was.before).state.memory k → ⊥)
+right_there L u k enough turns slot parent side v radix small shape held walk some has out =
+    let at = held.passes shape small slot parent side v walk in
+    let is : key (after_in (ordered L) turns).state.memory slot ≡ v = held.reads slot parent side v (read_there k (log_under_pin L turns u) slot parent side v walk) in
+    was_right L u k enough radix small turns slot (held.ranges shape small slot parent side (passed k (log_under_pin L turns u) slot parent side v walk) has [] tt tt some) at.2 at.0 (ap (λ (n : ℕ). covers n k) is ∙ out)
+
+pub any_walk_out_of_range : OfEachOrderedRun AnyWalkOutOfRangeWasRight
+any_walk_out_of_range L enough turns keys radix u k slot parent side v small walk has out =
+    right_there L u k enough turns slot parent side v radix small (ap (λ (K : Layout). K.radix) (layout_is L enough turns keys) ∙ radix) (held_after L u k enough turns keys) walk some has out
+  where
+    some : slot ≢ 0
+    some z = let r = (law_of_state L enough (after_in (ordered L) turns) (each_ordered L enough turns keys)).1.tree.known u slot ((held_after L u k enough turns keys).comes slot parent side (passed k (log_under_pin L turns u) slot parent side v walk)).known in absurd (omega arith)
+
+-- where a walk for a key comes behind a node without the key in its range, the slot does not stand for it
+pub any_walk_apart : (L : Layout) → 5 ≤ L.nodes → (turns : List (ℕ × Event)) → All (λ t. HasKey t.1) turns → L.radix ≡ true → (u k slot parent : ℕ) (side : Side) → k < infinity_1
+    → (walk : WalkComes k (log_under_pin L turns u) slot parent side) → (x n : ℕ) → Contains walk.looks (Look x Key, KeyIs n) → covers n k ≡ false
+    → StandsFor (child (after_in (ordered L) turns).state.memory) (key (after_in (ordered L) turns).state.memory) slot k → ⊥
+any_walk_apart L enough turns keys radix u k slot parent side small walk = (held_after L u k enough turns keys).apart (shape L enough turns keys radix u k small) small slot parent side walk
 
 pub any_walk_stays : OfEachOrderedRun AnyWalkStaysInOrder
 any_walk_stays L enough turns keys search u k slot parent side small walk reached inner =

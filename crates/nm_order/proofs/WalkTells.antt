@@ -11,7 +11,7 @@ use Rattle.nm_model.specs.declared.event.Event.TheVariants.{Look}
 use Rattle.nm_model.specs.declared.event.Field.TheVariants.{Key, Edge as EdgeOn}
 use Rattle.nm_model.specs.declared.event.Op.TheVariants.{Has}
 use Rattle.nm_model.specs.declared.reply.Reply.TheVariants.{KeyIs, EdgeIs}
-use Rattle.nm_model.specs.Memory.{Memory, node, child, is_leaf, infinity_1}
+use Rattle.nm_model.specs.Memory.{node, child, is_leaf, infinity_1}
 use Rattle.nm_model.specs.Searches.{side_of}
 use Rattle.nm_model.specs.Walks.{Entry, IsPart, WalkComes, WalkReads, WalkEnds}
 use Rattle.nm_model.specs.Ordered.{ordered, after_in}
@@ -20,12 +20,13 @@ use Rattle.nm_order.specs.Intervals.{HasKey, InInterval, key}
 use Rattle.nm_order.specs.Moments.{OfEachOrderedRun}
 use Rattle.nm_order.specs.Ranges.{StandsFor}
 use Rattle.nm_order.specs.StalePaths.{log_under_pin, WasReachedSince}
+use Rattle.nm_order.specs.RadixPaths.{AnyWalkOutOfRangeEndsElsewhere}
 use Rattle.nm_order.specs.WalkAnswers.{WasSoUnderPin, AnyWalkTells}
 use Rattle.nm_order.proofs.FactLaws.{leaf_is}
 use Rattle.nm_order.proofs.LogParts.{part_grows, part_itself, part_within}
 use Rattle.nm_order.proofs.OrderedLaws.{IsOrdered, each_ordered, keys_lie, one_leaf_for}
 use Rattle.nm_order.proofs.RunExchanges.{first_keys}
-use Rattle.nm_order.proofs.StaleRuns.{any_walk_was_reached, any_walk_reads, any_walk_knows_leaf, radix_walk}
+use Rattle.nm_order.proofs.StaleRuns.{any_walk_was_reached, any_walk_reads, any_walk_knows_leaf, radix_walk, any_walk_apart}
 
 -- a walk that has ended came to its leaf
 came : (k : ℕ) (log : List Entry) (slot parent : ℕ) (side : Side) (v : ℕ) → WalkEnds k log slot parent side v → WalkComes k log slot parent side
@@ -69,27 +70,30 @@ module _ (L : Layout) (enough : 5 ≤ L.nodes) (turns : List (ℕ × Event)) (ke
   tells : WasSoUnderPin L turns u k (v == k)
   tells = record { before = was.before; since = was.since; is_run = was.is_run; pinned = was.pinned; stands = was.stands; gives = gives (v == k) refl }
 
+-- a walk has ended at a leaf, which has no edge
+module _ (L : Layout) (enough : 5 ≤ L.nodes) (turns : List (ℕ × Event)) (keys : All (λ t. HasKey t.1) turns) (u k slot parent : ℕ) (side : Side) (v : ℕ) (walk : WalkEnds k (log_under_pin L turns u) slot parent side v) where
+  null : (f : Side) → child (after_in (ordered L) turns).state.memory slot f ≡ 0
+  null f = go f (and_parts ((node (after_in (ordered L) turns).state.memory slot).left.slot == 0) ((node (after_in (ordered L) turns).state.memory slot).right.slot == 0)
+      (leaf_is L enough (after_in (ordered L) turns) (each_ordered L enough turns keys) u slot (any_walk_knows_leaf L enough turns keys u k slot parent side v walk)))
+    where
+      go : (f : Side) → (((node (after_in (ordered L) turns).state.memory slot).left.slot == 0) ≡ true) × (((node (after_in (ordered L) turns).state.memory slot).right.slot == 0) ≡ true) → child (after_in (ordered L) turns).state.memory slot f ≡ 0
+      go Left both = eqb-true (node (after_in (ordered L) turns).state.memory slot).left.slot 0 both.0
+      go Right both = eqb-true (node (after_in (ordered L) turns).state.memory slot).right.slot 0 both.1
+
+  -- so it stands for its own key
+  stands : v ≡ k → StandsFor (child (after_in (ordered L) turns).state.memory) (key (after_in (ordered L) turns).state.memory) slot k
+  stands same = inl (null, any_walk_reads L enough turns keys u k slot parent side v (read k (log_under_pin L turns u) slot parent side v walk) ∙ same)
+
 pub any_walk_tells : OfEachOrderedRun AnyWalkTells
 any_walk_tells L enough turns keys u k slot parent side v small walk = by L.radix refl
   where
     comes : WalkComes k (log_under_pin L turns u) slot parent side
     comes = came k (log_under_pin L turns u) slot parent side v walk
 
-    m : Memory
-    m = (after_in (ordered L) turns).state.memory
-
-    null : (f : Side) → child (after_in (ordered L) turns).state.memory slot f ≡ 0
-    null f = go f (and_parts ((node (after_in (ordered L) turns).state.memory slot).left.slot == 0) ((node (after_in (ordered L) turns).state.memory slot).right.slot == 0)
-        (leaf_is L enough (after_in (ordered L) turns) (each_ordered L enough turns keys) u slot (any_walk_knows_leaf L enough turns keys u k slot parent side v walk)))
-      where
-        go : (f : Side) → (((node (after_in (ordered L) turns).state.memory slot).left.slot == 0) ≡ true) × (((node (after_in (ordered L) turns).state.memory slot).right.slot == 0) ≡ true) → child (after_in (ordered L) turns).state.memory slot f ≡ 0
-        go Left both = eqb-true (node (after_in (ordered L) turns).state.memory slot).left.slot 0 both.0
-        go Right both = eqb-true (node (after_in (ordered L) turns).state.memory slot).right.slot 0 both.1
-
     -- behind a node without k in its range the leaf has another key
     other : (StandsFor (child (after_in (ordered L) turns).state.memory) (key (after_in (ordered L) turns).state.memory) slot k → ⊥) → WasSoUnderPin L turns u k false → (b : Bool) → (v == k) ≡ b → WasSoUnderPin L turns u k b
     other none n false is = n
-    other none n true is = absurd (none (inl (null, any_walk_reads L enough turns keys u k slot parent side v (read k (log_under_pin L turns u) slot parent side v walk) ∙ eqb-true v k is)))
+    other none n true is = absurd (none (stands L enough turns keys u k slot parent side v walk (eqb-true v k is)))
 
     by : (shape : Bool) → L.radix ≡ shape → WasSoUnderPin L turns u k (v == k)
     by false search = tells L enough turns keys u k slot parent side v small walk (any_walk_was_reached L enough turns keys search u k slot parent side small comes)
@@ -97,3 +101,11 @@ any_walk_tells L enough turns keys u k slot parent side v small walk = by L.radi
       | inl was ↦ tells L enough turns keys u k slot parent side v small walk was
       | inr out ↦ other out.1 out.0 (v == k) refl
     ]
+
+-- in a radix tree, behind a node without the key in its range the leaf has another key
+pub any_walk_ends_elsewhere : OfEachOrderedRun AnyWalkOutOfRangeEndsElsewhere
+unfolding came
+any_walk_ends_elsewhere L enough turns keys radix u k slot parent side v small walk x n there out same = apart (stands L enough turns keys u k slot parent side v walk same)
+  where
+    apart : StandsFor (child (after_in (ordered L) turns).state.memory) (key (after_in (ordered L) turns).state.memory) slot k → ⊥
+    apart = any_walk_apart L enough turns keys radix u k slot parent side small (came k (log_under_pin L turns u) slot parent side v walk) x n there out

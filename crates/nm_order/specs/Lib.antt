@@ -4,6 +4,7 @@ pub mod FlagsOfCalls
 pub mod Moments
 pub mod StalePaths
 pub mod Ranges
+pub mod RadixPaths
 pub mod Legal
 pub mod Exchanges
 pub mod Removals

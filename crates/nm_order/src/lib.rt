@@ -26,7 +26,7 @@ pub use logs::logs_tell_what_is_known;
 pub use order::{
     flags_mark_leaves, keys_are_the_set, links_insert, links_name_new_nodes, trees_are_in_order,
 };
-pub use paths::{stale_paths_do_no_harm, walks_tell_of_the_set};
+pub use paths::{radix_walks_do_no_harm, stale_paths_do_no_harm, walks_tell_of_the_set};
 pub use radix::{radix_walks_are_short, radix_walks_pass_routers, ranges_nest};
 pub use reads::{epochs_are_read_in_order, pins_are_told};
 pub use taught::{entries_teach_facts, looks_take_walks_on};

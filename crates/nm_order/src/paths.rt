@@ -1,5 +1,6 @@
 //! Laws of the paths that walks in the logs of an ordered core take, for any key and under any pin.
 ghost use Rattle.nm_order.specs.Moments.{OfEachOrderedRun};
+ghost use Rattle.nm_order.specs.RadixPaths.{AnyWalkInRangeWasReached, AnyWalkOutOfRangeEndsElsewhere, AnyWalkOutOfRangeWasRight, AnyWalkWasInTree};
 ghost use Rattle.nm_order.specs.StalePaths.{AnyWalkReadsKeys, AnyWalkStaysInOrder, AnyWalkWasReached};
 ghost use Rattle.nm_order.specs.WalkAnswers.{AnyWalkTells, WalksTellOfTheirPin};
 
@@ -18,6 +19,24 @@ pub fn stale_paths_do_no_harm()
     ensures reached { OfEachOrderedRun AnyWalkWasReached }
     ensures intervals { OfEachOrderedRun AnyWalkStaysInOrder }
     ensures keys { OfEachOrderedRun AnyWalkReadsKeys }
+{}
+
+/// Law: in every ordered run, a walk in a worker's log after its pin comes only to slots that were
+/// reached at some moment after the pin was confirmed, and that still have the same node. This holds
+/// in a tree of either shape. In a radix tree, for any key below that of slot 2, with or without a
+/// call: as long as the key is in the range of each node that the walk has passed, the search for
+/// the key came to the slot at such a moment. So it did at the first node without the key in its
+/// range from which the walk went on; and at that moment the key was not in the set. A walk that has
+/// passed such a node ends at a leaf with another key.
+///
+/// The leaf at the end of such a walk need not have been reached with the key in its interval: the
+/// schedule `stale-radix` of the examples shows it. (The hindsight of O'Hearn, Rinetzky, Vechev,
+/// Vafeiadis and Yorsh; the argument for radix trees is ours.)
+pub fn radix_walks_do_no_harm()
+    ensures reached { OfEachOrderedRun AnyWalkWasInTree }
+    ensures in_range { OfEachOrderedRun AnyWalkInRangeWasReached }
+    ensures out_of_range { OfEachOrderedRun AnyWalkOutOfRangeWasRight }
+    ensures ends { OfEachOrderedRun AnyWalkOutOfRangeEndsElsewhere }
 {}
 
 /// Law: in every ordered run, the leaf at which a walk in a worker's log after its pin has ended

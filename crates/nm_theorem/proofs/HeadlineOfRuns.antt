@@ -7,11 +7,12 @@ use Rattle.nm_edge.specs.Layouts.{Layout, IsLayout}
 use Rattle.nm_model.specs.declared.event.Event.{Event}
 use Rattle.nm_model.specs.declared.trace.Turn.{Turn}
 use Rattle.nm_model.specs.Ordered.{HasKey, opening_of, trace_in}
-use Rattle.nm_model.specs.Headline.{AreFreedInTurn, OnePlace, WhatIsReachedIsYounger, IsStill, WhatWasToldStays, Headline}
+use Rattle.nm_model.specs.Headline.{AreFreedInTurn, OnePlace, WhatIsReachedIsYounger, IsStill, EpochStaysNear, WhatWasToldStays, Headline}
 use Rattle.nm_theorem.specs.EachRun.{OfEachRun}
 use Rattle.nm_theorem.proofs.Runs.{Parts, parts_of}
 use Rattle.nm_theorem.proofs.ReadsOfRuns.{reads_tell}
 use Rattle.nm_theorem.proofs.GraceOfRuns.{grace_of_run}
+use Rattle.nm_theorem.proofs.EpochsOfRuns.{epoch_stays_near}
 use Rattle.nm_theorem.proofs.FreedOfRuns.{freed_in_turn}
 use Rattle.nm_theorem.proofs.YoungerOfRuns.{reached_are_younger}
 use Rattle.nm_theorem.proofs.FixedOfRuns.{fixed_stay}
@@ -45,6 +46,7 @@ module _ (L : Layout) (fits : IsLayout L) (b : Bool) (events : List (ℕ × Even
     reads = reads_tell L fits b events;
     cuts = turns_cut_just_their_nodes L fits b events keys;
     queues = each_part AreFreedInTurn (freed_in_turn L fits b);
+    near = each_part (EpochStaysNear L) (epoch_stays_near L fits b);
     grace = grace_of_run L fits b events;
     told = touched_was_told L fits b events keys;
     stays = stay keys;

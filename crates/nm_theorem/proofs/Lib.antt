@@ -2,6 +2,7 @@ pub mod Runs
 pub mod WrittenWords
 pub mod ReadsOfRuns
 pub mod GraceOfRuns
+pub mod EpochsOfRuns
 pub mod FreedOfRuns
 pub mod CutsOfRuns
 pub mod Hands

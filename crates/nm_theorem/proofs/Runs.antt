@@ -1,15 +1,17 @@
 -- Runs of any core from its opening, and their parts: a part of the turns of a run is the turns of
 -- a part of its events.
-use Rattle.std.proofs.Common.{◌≡◌, ℕ, suc, ◌≤◌, Bool, true, false, List, [], ◌∷◌, ◌++◌, length, take, refl, sym, ap, subst, ◌∙◌, arith}
+use Rattle.std.proofs.Common.{◌≡◌, ℕ, suc, ◌≤◌, Bool, true, false, List, [], ◌∷◌, ◌++◌, length, map, take, refl, sym, ap, subst, ◌∙◌, arith}
 use Rattle.std.specs.Prelude.{Option, Some, None}
 use Rattle.nm_edge.specs.Layouts.{Layout, IsLayout}
 use Rattle.nm_model.specs.declared.event.Event.{Event}
 use Rattle.nm_model.specs.declared.reply.Refused.{Refused}
 use Rattle.nm_model.specs.declared.trace.Turn.{Turn}
-use Rattle.nm_model.specs.Ordered.{Configuration, IsReached, opening_of, refused_in, applied_in, next_in, outcome_in, after_in, trace_in}
+use Rattle.nm_model.specs.Laws.{OfEachState}
+use Rattle.nm_model.specs.Ordered.{Configuration, IsReached, opening_of, refused_in, applied_in, next_in, outcome_in, after_in, trace_in, accepted, turn_of}
+use Rattle.nm_model.specs.Runs.{State, start, after}
 use Rattle.nm_laws.proofs.Steps.{allowed}
 use Rattle.nm_laws.proofs.Lawful.{IsLawful, lawful_start, lawful_step}
-use Rattle.nm_laws.proofs.Configurations.{refused_next, allowed_next, reached_plain, reached_ordered, opening_state, allowed_by_state, same_layout}
+use Rattle.nm_laws.proofs.Configurations.{refused_next, allowed_next, reached_plain, reached_ordered, opening_state, ordered_runs, allowed_by_state, same_layout}
 use Rattle.nm_laws.proofs.LawfulRuns.{same_head, no_turn, take_first as first_of}
 
 -- a turn as the trace tells it
@@ -78,6 +80,14 @@ pub lawful_after : (ts : List (ℕ × Event)) (c : Configuration) → IsLawful c
 unfolding after_in
 lawful_after [] c lawful = lawful
 lawful_after (t ∷ ts) c lawful = lawful_after ts (next_in c t) (lawful_next c t lawful)
+
+-- a run of a configuration ends in a state of a run
+state_after : (L : Layout) (b : Bool) (ts : List (ℕ × Event)) → (after_in (opening_of L b) ts).state ≡ after (start L) (map turn_of (accepted (trace_in (opening_of L b) ts)))
+state_after L b ts = (ordered_runs (opening_of L b) ts).0 ∙ ap (λ (s : State). after s (map turn_of (accepted (trace_in (opening_of L b) ts)))) (opening_state L b)
+
+-- so each law of the states of runs holds of its state
+pub of_state_after : (P : State → Type 0) → OfEachState P → (L : Layout) → IsLayout L → (b : Bool) (ts : List (ℕ × Event)) → P (after_in (opening_of L b) ts).state
+of_state_after P law L fits b ts = subst P (sym (state_after L b ts)) (law L (enough_of L fits) (map turn_of (accepted (trace_in (opening_of L b) ts))))
 
 -- ---- the layout
 

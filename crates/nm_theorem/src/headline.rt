@@ -5,6 +5,10 @@ ghost use Rattle.nm_model.specs.Headline.{Headline};
 /// Law: every run of a plain or an ordered core, for all events in every order, ends with the words
 /// that its turns have written. It also has the headline, of which these are parts:
 ///
+/// - Each reply agrees with the words at its moment: what is read, the epochs that sights and
+///   advances return, whether a claim finds its slot in the pool, and the node that a link or a flag
+///   returns.
+/// - While a worker is pinned at an epoch, the epoch is that one or the next.
 /// - Each turn cuts off exactly the nodes that its reply names as cut, and only a won splice names
 ///   any.
 /// - The nodes that each worker cut are freed in cut order, no other node is freed, and no node is

@@ -33,6 +33,7 @@ pub each_moment_is_of_turns : EachMomentIsOfTurns
 each_moment_is_of_turns L s r = record {
   turns = trace_in (ordered L) r.turns;
   shown = r.shown;
+  lags = λ i v e. (r.lags i v e).past;
   written = r.words_are ∙ ap (words_of L) (sym (run_words L r.fits true r.turns));
   headline = headline L r.fits true r.turns r.keys;
   plain_set = history_of_run L r.fits r.turns r.keys;

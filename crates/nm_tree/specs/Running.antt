@@ -20,7 +20,7 @@ use Rattle.nm_theorem.specs.EachRun.{ReadersHaveLeft}
 use Rattle.nm_model.specs.Headline.{Headline, words_after, freed_by}
 use Rattle.nm_model.specs.Histories.{Called, HasHistory, answer_turn, call_begun}
 use Rattle.nm_steps.specs.declared.view.View.{View}
-use Rattle.nm_steps.specs.Rules.{IsShown, Kept}
+use Rattle.nm_steps.specs.Rules.{Extends, IsShown, Kept}
 
 -- ---- turns of a tree
 
@@ -46,11 +46,13 @@ TrueAnswersHaveWon turns = (before since : List Turn) (w : ℕ) (c : Called)
     → turns ≡ before ++ answer_turn w true ∷ since → call_begun w before ≡ Some c
     → (c.op ≡ Has) ⊎ WinsIn c.op w before
 
--- the logs in the views of all seats are the parts of these turns; the turns lead from the words of
--- the empty tree to these words, have the headline, and are a history of one plain set
+-- the logs in the views of all seats are the parts of these turns, and what each seat has seen is a
+-- beginning of them; the turns lead from the words of the empty tree to these words, have the
+-- headline, and are a history of one plain set
 pub record IsOfTurnsSoFar (L : Layout) (s : State Unit View) : Type 0 where
   pub turns : List Turn
   pub shown : (i : ℕ) (v : View) → get_elem? s.views i ≡ some v → IsShown L turns v
+  pub lags : (i : ℕ) (v : View) → get_elem? s.views i ≡ some v → Extends turns v.past
   pub written : s.words ≡ words_of L (words_after L turns)
   pub headline : Headline L turns
   pub plain_set : HasHistory L turns

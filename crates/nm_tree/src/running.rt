@@ -4,9 +4,9 @@ ghost use Rattle.nm_tree.specs.Settled.{HeirsHaveNothingPending, RestingWorkersH
 ghost use Rattle.nm_tree.specs.Worked.{PendsOnWorkedTurns, TotalsWantThatNonePends};
 
 /// Law: at every moment, whatever the threads have done, the words of the tree come from those of
-/// the empty tree by turns, and the workers' logs are the parts of these turns. The turns have the
-/// headline and a history. The law assumes only the rule of the table, which each atomic operation
-/// keeps.
+/// the empty tree by turns, and the workers' logs are the parts of these turns. What each worker has
+/// seen, of which its calls speak, is a beginning of these turns. The turns have the headline and a
+/// history. The law assumes only the rule of the table, which each atomic operation keeps.
 pub fn each_moment_is_of_turns()
     ensures { EachMomentIsOfTurns }
 {}
