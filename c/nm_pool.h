@@ -154,6 +154,24 @@ nm_outcome nm_pool_next(nm_pool *pool, uint32_t worker, uint64_t key, uint64_t *
 nm_outcome nm_pool_prev(nm_pool *pool, uint32_t worker, uint64_t key, uint64_t *found,
                         uint32_t timeout_ms);
 
+/* Reads keys of the set in ascending order: those that are not below `from` and are below `below`,
+ * at most `room` of them. Writes them to keys, and their number to count. Returns NM_NO if they are
+ * all of them. Returns NM_YES if there may be more, and writes to next from which key on: the next
+ * call goes on there. See nm_worker_scan for what the keys mean while others change the set. */
+nm_outcome nm_pool_scan(nm_pool *pool, uint32_t worker, uint64_t from, uint64_t below,
+                        uint64_t *keys, size_t room, size_t *count, uint64_t *next,
+                        uint32_t timeout_ms);
+
+/* Reads the same keys in descending order. After NM_YES the next call goes on below next. */
+nm_outcome nm_pool_scan_back(nm_pool *pool, uint32_t worker, uint64_t from, uint64_t below,
+                             uint64_t *keys, size_t room, size_t *count, uint64_t *next,
+                             uint32_t timeout_ms);
+
+/* Writes how many keys of the set are not below `from` and below `below`, by scans of 512 keys.
+ * Returns NM_DONE. While others change the set, each key is counted as a scan finds it. */
+nm_outcome nm_pool_count(nm_pool *pool, uint32_t worker, uint64_t from, uint64_t below,
+                         uint64_t *count, uint32_t timeout_ms);
+
 /* Looks up count keys and writes the found of each, as nm_worker_contains_many does. NM_DONE. */
 nm_outcome nm_pool_contains_many(nm_pool *pool, uint32_t worker, nm_lookup *lookups, size_t count,
                                  uint32_t timeout_ms);
