@@ -89,7 +89,7 @@ impl Set {
         Set(shared)
     }
 
-    fn place(&self) -> Place<'_> {
+    pub(crate) fn place(&self) -> Place<'_> {
         self.0.any()
     }
 
@@ -196,10 +196,10 @@ impl Set {
         self.place().pop_last()
     }
 
-    /// Returns an iterator over the keys of a range, while the set is in use. It finds each
-    /// ascending key by [`at_least`](Set::at_least), and each descending key by
-    /// [`at_most`](Set::at_most). It may return or skip a key that is inserted or removed
-    /// meanwhile. A range whose start is above its end has no keys; with a `BTreeSet` it panics.
+    /// Returns an iterator over the keys of a range, while the set is in use. It reads keys ahead,
+    /// in blocks of 1, 8, 64 and 512, each by one call. It may return or skip a key that is
+    /// inserted or removed meanwhile. It returns no key that was removed before its block was
+    /// read. A range whose start is above its end has no keys; with a `BTreeSet` it panics.
     ///
     /// ```
     /// # fn main() -> Result<(), nm_set::Fault> {
@@ -218,6 +218,20 @@ impl Set {
     /// Returns an iterator over all keys, in the way of [`range`](Set::range).
     pub fn iter(&self) -> Range<&Set> {
         self.range(..)
+    }
+
+    /// Returns how many keys of a range the set has. While others change the set, it counts each
+    /// key as it finds it.
+    ///
+    /// ```
+    /// # fn main() -> Result<(), nm_set::Fault> {
+    /// let set = nm_set::Set::from([5, 7, 9]);
+    /// assert_eq!((set.count(6..)?, set.count(..=7)?), (2, 2));
+    /// # Ok(())
+    /// # }
+    /// ```
+    pub fn count(&self, bounds: impl RangeBounds<u64>) -> Result<u64, Fault> {
+        order::ends_of(bounds).map_or(Ok(0), |ends| self.place().count(ends))
     }
 
     // ---- several keys ----

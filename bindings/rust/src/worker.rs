@@ -111,7 +111,7 @@ impl Worker {
         Worker { shared, number }
     }
 
-    fn place(&mut self) -> Place<'_> {
+    pub(crate) fn place(&mut self) -> Place<'_> {
         self.shared.by(self.number)
     }
 
@@ -202,6 +202,11 @@ impl Worker {
     /// Returns an iterator over all keys: see [`Set::range`].
     pub fn iter(&mut self) -> Range<&mut Worker> {
         self.range(..)
+    }
+
+    /// Returns how many keys of a range the set has: see [`Set::count`].
+    pub fn count(&mut self, bounds: impl RangeBounds<u64>) -> Result<u64, Fault> {
+        order::ends_of(bounds).map_or(Ok(0), |ends| self.place().count(ends))
     }
 
     /// Inserts these keys; returns how many were absent: see [`Set::extend`].
