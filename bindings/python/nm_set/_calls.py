@@ -10,7 +10,7 @@ from __future__ import annotations
 import operator
 import time
 from collections.abc import Callable
-from ctypes import c_uint32, c_uint64, c_void_p
+from ctypes import c_size_t, c_uint32, c_uint64, c_void_p
 from typing import Any, Optional, SupportsIndex
 
 from . import _library as c
@@ -83,6 +83,24 @@ class Calls:
 
     def at_most(self, key: SupportsIndex) -> Optional[int]:
         return self._nearest("nm_pool_prev", key)
+
+    def scan(
+        self, first: int, below: int, room: int, is_back: bool
+    ) -> tuple[list[int], Optional[int]]:
+        """Reads keys that are not below `first` and are below another number, at most `room` of
+        them: ascending, or descending if it goes back. Returns the keys, and where the next scan
+        goes on: from that number on, or below it if it goes back. None: these are all the keys."""
+        keys, count, rest = (c_uint64 * room)(), c_size_t(), c_uint64()
+        name = "nm_pool_scan_back" if is_back else "nm_pool_scan"
+        outcome = self._outcome(name, first, below, keys, room, count, rest)
+        has_more = self._answered(outcome)
+        return list(keys[: count.value]), rest.value if has_more else None
+
+    def count(self, first: int, below: int) -> int:
+        """Returns how many keys are not below `first` and are below another number."""
+        count = c_uint64()
+        self._answered(self._outcome("nm_pool_count", first, below, count))
+        return count.value
 
     def _taken(self, name: str) -> Optional[int]:
         """Removes a key by a call of the pool, and returns it. It returns a key whose discard is
