@@ -29,6 +29,7 @@
 #define END_MS 10000     /* how long nm_pool_free waits for calls */
 #define WORKERS 64       /* the most workers of a set */
 #define SCANNED 512      /* how many keys a count reads in one call */
+#define SOUGHT 64        /* how many keys a call for many looks up together */
 
 /* What uses a seat: nothing, a call by NM_ANY, or a thread that attached its worker. Or no call may
  * use it, because the set is closed. */
@@ -720,6 +721,60 @@ nm_outcome nm_pool_contains_many(nm_pool *pool, uint32_t worker, nm_lookup *look
     nm_lookup none = {0, 0};
     const struct request request = {.lookups = count == 0 ? &none : lookups, .count = count};
     return make(pool, worker, look_many, NONE, &request, timeout_ms);
+}
+
+/* A call that inserts or removes one key. */
+typedef nm_outcome (*change_of_key)(nm_pool *, uint32_t, uint64_t, uint32_t);
+
+/* Keys that a call for many changes, what it has answered, and for how many of them. */
+struct changes {
+    change_of_key call;
+    bool is_insert;
+    const uint64_t *keys;
+    size_t count, done;
+    unsigned char *answers;
+};
+
+/* Inserts or removes the next keys, at most SOUGHT, one by one, after a look-up of all of them. Its
+ * searches are interleaved, so that they wait for memory together. A key whose answer is no by that
+ * look-up needs no call. If the look-up fails, the calls find out why. Returns NM_DONE, or the
+ * outcome of a key that was not changed. */
+static nm_outcome change_group(nm_pool *pool, uint32_t worker, struct changes *changes,
+                               uint32_t timeout_ms) {
+    nm_lookup lookups[SOUGHT];
+    size_t left = changes->count - changes->done, count = left < SOUGHT ? left : SOUGHT;
+    for (size_t at = 0; at < count; at++)
+        lookups[at] = (nm_lookup){changes->keys[changes->done + at], 0};
+    bool is_known = nm_pool_contains_many(pool, worker, lookups, count, timeout_ms) == NM_DONE;
+    for (size_t at = 0; at < count; at++, changes->done++) {
+        nm_outcome outcome = NM_NO;
+        if (!is_known || (lookups[at].found != 0) != changes->is_insert)
+            outcome = changes->call(pool, worker, lookups[at].key, timeout_ms);
+        if (outcome < 0 && outcome != NM_UNFINISHED) return outcome;
+        changes->answers[changes->done] = outcome != NM_NO;
+    }
+    return NM_DONE;
+}
+
+static nm_outcome change_many(nm_pool *pool, uint32_t worker, struct changes changes, size_t *done,
+                              uint32_t timeout_ms) {
+    nm_outcome outcome = NM_DONE;
+    while (outcome == NM_DONE && changes.done < changes.count)
+        outcome = change_group(pool, worker, &changes, timeout_ms);
+    *done = changes.done;
+    return outcome;
+}
+
+nm_outcome nm_pool_insert_many(nm_pool *pool, uint32_t worker, const uint64_t *keys, size_t count,
+                               unsigned char *answers, size_t *done, uint32_t timeout_ms) {
+    struct changes changes = {nm_pool_insert, true, keys, count, 0, answers};
+    return change_many(pool, worker, changes, done, timeout_ms);
+}
+
+nm_outcome nm_pool_remove_many(nm_pool *pool, uint32_t worker, const uint64_t *keys, size_t count,
+                               unsigned char *answers, size_t *done, uint32_t timeout_ms) {
+    struct changes changes = {nm_pool_remove, false, keys, count, 0, answers};
+    return change_many(pool, worker, changes, done, timeout_ms);
 }
 
 /* ---- a number of tries, and other calls by an attached worker ---- */

@@ -176,6 +176,17 @@ nm_outcome nm_pool_count(nm_pool *pool, uint32_t worker, uint64_t from, uint64_t
 nm_outcome nm_pool_contains_many(nm_pool *pool, uint32_t worker, nm_lookup *lookups, size_t count,
                                  uint32_t timeout_ms);
 
+/* Inserts count keys, one by one, and writes 1 to answers for each that it inserted, else 0. It
+ * looks up 64 of them together before it inserts them, which brings what they need from memory.
+ * Returns NM_DONE. After an error `done` has how many keys have their answers, and the other keys
+ * are not inserted. The time counts for each key. */
+nm_outcome nm_pool_insert_many(nm_pool *pool, uint32_t worker, const uint64_t *keys, size_t count,
+                               unsigned char *answers, size_t *done, uint32_t timeout_ms);
+
+/* Removes count keys in the same way, and writes 1 for each that it removed. */
+nm_outcome nm_pool_remove_many(nm_pool *pool, uint32_t worker, const uint64_t *keys, size_t count,
+                               unsigned char *answers, size_t *done, uint32_t timeout_ms);
+
 /* ---- how full it is ----
  * These wait for nothing. They return NM_CLOSED if the set is closed. */
 

@@ -478,6 +478,18 @@ public:
         });
     }
 
+    // Inserts these keys, one by one, and appends to `answers` whether each was absent. A look-up of
+    // 64 of them at a time comes first: it is faster than single calls if the set is larger than
+    // the caches of the processor. If it throws a fault, the keys that have answers are inserted.
+    void insert_many(const std::vector<std::uint64_t> &keys, std::vector<bool> &answers) {
+        change_many(nm_pool_insert_many, keys, answers);
+    }
+
+    // Removes these keys in the same way, and appends whether each was present.
+    void remove_many(const std::vector<std::uint64_t> &keys, std::vector<bool> &answers) {
+        change_many(nm_pool_remove_many, keys, answers);
+    }
+
     // Inserts these keys, one by one; returns how many were absent. It waits for each key like
     // `insert`. If it throws a fault, the keys before that one are inserted.
     template <typename Input, typename = typename std::iterator_traits<Input>::iterator_category>
@@ -539,6 +551,22 @@ private:
         return done([=](const detail::Place &to) {
             return call(to.pool, to.worker, key, to.timeout_ms);
         }, key);
+    }
+
+    // Changes keys by a call of the pool, and appends its answers.
+    template <typename Call>
+    void change_many(Call call, const std::vector<std::uint64_t> &keys,
+                     std::vector<bool> &answers) {
+        std::vector<unsigned char> bytes(keys.size());
+        std::size_t count = 0;
+        nm_outcome outcome = ask([&](const detail::Place &to) {
+            return call(to.pool, to.worker, keys.data(), keys.size(), bytes.data(), &count,
+                        to.timeout_ms);
+        });
+        auto end = bytes.begin() + static_cast<std::ptrdiff_t>(count);
+        std::transform(bytes.begin(), end, std::back_inserter(answers),
+                       [](unsigned char byte) { return byte != 0; });
+        if (outcome < 0) detail::fail_at(self().place(), outcome, keys[count]);
     }
 
     // Returns the least key that is not below `from` and is below `below`.
