@@ -10,7 +10,7 @@ from __future__ import annotations
 import operator
 import time
 from collections.abc import Callable
-from ctypes import c_size_t, c_uint32, c_uint64, c_void_p
+from ctypes import c_size_t, c_ubyte, c_uint32, c_uint64, c_void_p
 from typing import Any, Optional, SupportsIndex
 
 from . import _library as c
@@ -129,15 +129,13 @@ class Calls:
     def _some(
         self, name: str, keys: memoryview, first: int, answers: Optional[memoryview]
     ) -> tuple[int, int, int]:
-        changed, last = 0, min(first + SOME, len(keys))
-        for at in range(first, last):
-            outcome = self._outcome(name, keys[at])
-            if answers is not None:
-                answers[at] = outcome in (c.YES, c.UNFINISHED)
-            if outcome < 0:
-                return at - first, changed, outcome
-            changed += outcome
-        return last - first, changed, c.DONE
+        wanted, done = keys[first : first + SOME], c_size_t()
+        words, told = (c_uint64 * len(wanted))(*wanted), (c_ubyte * len(wanted))()
+        call = getattr(c.exports, name)
+        outcome = call(self._pool, self._worker, words, len(wanted), told, done, 0)
+        if answers is not None:
+            answers[first : first + done.value] = bytes(told[: done.value])
+        return done.value, sum(told[: done.value]), outcome
 
     def add_some(
         self, keys: memoryview, first: int, answers: Optional[memoryview]
@@ -145,14 +143,14 @@ class Calls:
         """Adds some of these keys, from an index on, and writes 1 for each that was absent, if
         there is room for answers. Returns how many keys it tried, how many of them were absent, and
         the outcome of the next key, if that is below 0."""
-        return self._some("nm_pool_insert", keys, first, answers)
+        return self._some("nm_pool_insert_many", keys, first, answers)
 
     def remove_some(
         self, keys: memoryview, first: int, answers: Optional[memoryview]
     ) -> tuple[int, int, int]:
         """Removes some of these keys, in the way of `add_some`. It counts the keys that were
         present."""
-        return self._some("nm_pool_remove", keys, first, answers)
+        return self._some("nm_pool_remove_many", keys, first, answers)
 
     def keys(self) -> int:
         """Returns how many keys the set has."""

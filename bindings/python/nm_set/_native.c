@@ -26,6 +26,8 @@ typedef nm_outcome (*scan_call)(nm_pool *, uint32_t, uint64_t, uint64_t, uint64_
                                 size_t *, uint64_t *, uint32_t);
 typedef nm_outcome (*count_call)(nm_pool *, uint32_t, uint64_t, uint64_t, uint64_t *, uint32_t);
 typedef nm_outcome (*many_call)(nm_pool *, uint32_t, nm_lookup *, size_t, uint32_t);
+typedef nm_outcome (*change_call)(nm_pool *, uint32_t, const uint64_t *, size_t, unsigned char *,
+                                  size_t *, uint32_t);
 typedef nm_outcome (*size_call)(nm_pool *, uint64_t *);
 
 static key_call contains_of, insert_of, remove_of;
@@ -34,6 +36,7 @@ static near_call next_of, prev_of;
 static scan_call scan_of, scan_back_of;
 static count_call count_of;
 static many_call contains_many_of;
+static change_call insert_many_of, remove_many_of;
 static size_call size_of;
 
 /* The functions of _faults.py that make the exceptions. */
@@ -328,11 +331,9 @@ static int keys_of(PyObject *object, Py_ssize_t first, Keys *keys) {
     return 0;
 }
 
-/* What a thread does while other threads go on: it looks keys up, or adds or removes each by a
- * call. It writes its answer for each key to `answers`, unless that is NULL. */
+/* What a thread does with keys while other threads go on. It writes its answer for each key to
+ * `answers`. */
 typedef struct {
-    key_call call; /* NULL to look keys up */
-    int is_to_add;
     unsigned char *answers;
     Py_ssize_t done, changed;
     nm_outcome outcome;
@@ -372,39 +373,6 @@ static void look_up_each(Calls *self, const Keys *keys, Work *work, uint32_t tim
     } while (work->done < keys->count);
 }
 
-/* Adds or removes the keys of a group one by one, after a look-up of all of them. The look-up
- * interleaves its searches, so that they wait for memory together. A key that is already present
- * when it is to be added, or absent when it is to be removed, needs no change. If the look-up
- * fails, the changes find out why. Returns whether each change was made. */
-static int change_group(Calls *self, const Keys *keys, Work *work) {
-    Group group;
-    int is_known = look_up(self, keys, work->done, &group, 0) >= 0;
-    for (Py_ssize_t at = 0; at < group.count; at++, work->done++) {
-        if (is_known && (group.each[at].found != 0) == work->is_to_add) {
-            continue;
-        }
-        work->outcome = work->call(pool_of(self), worker_of(self), group.each[at].key, 0);
-        if (work->answers) {
-            work->answers[work->done] =
-                work->outcome == NM_YES || work->outcome == NM_UNFINISHED;
-        }
-        if (work->outcome < 0) {
-            return 0;
-        }
-        work->changed += work->outcome;
-    }
-    return 1;
-}
-
-static void change_each(Calls *self, const Keys *keys, Work *work) {
-    while (work->done < keys->count) {
-        if (!change_group(self, keys, work)) {
-            return;
-        }
-    }
-    work->outcome = NM_DONE;
-}
-
 /* Gets the buffer of answers, which must have room for the answers of these keys. Returns -1 after
  * an exception, else 0. */
 static int answers_of(PyObject *object, const Keys *keys, Py_buffer *answers) {
@@ -419,37 +387,51 @@ static int answers_of(PyObject *object, const Keys *keys, Py_buffer *answers) {
     return 0;
 }
 
-static PyObject *change_some(Calls *self, PyObject *args, key_call call, int is_to_add) {
+/* Adds or removes some of these keys while other threads run, without a wait. */
+static void change_each(Calls *self, const Keys *keys, change_call call, Work *work) {
+    size_t done = 0;
+    Py_BEGIN_ALLOW_THREADS
+    work->outcome = call(pool_of(self), worker_of(self), keys->from, (size_t)keys->count,
+                         work->answers, &done, 0);
+    Py_END_ALLOW_THREADS
+    work->done = (Py_ssize_t)done;
+    for (Py_ssize_t at = 0; at < work->done; at++) {
+        work->changed += work->answers[at];
+    }
+}
+
+static PyObject *change_some(Calls *self, PyObject *args, change_call call) {
     PyObject *object, *out;
     Py_ssize_t first;
     Keys keys;
     Py_buffer answers;
-    Work work = {.call = call, .is_to_add = is_to_add};
+    unsigned char own[SOME];
+    Work work = {.answers = own};
     if (!PyArg_ParseTuple(args, "OnO", &object, &first, &out) ||
         keys_of(object, first, &keys) < 0) {
         return NULL;
     }
-    if (out != Py_None && answers_of(out, &keys, &answers) < 0) {
-        PyBuffer_Release(&keys.buffer);
-        return NULL;
+    if (out != Py_None) {
+        if (answers_of(out, &keys, &answers) < 0) {
+            PyBuffer_Release(&keys.buffer);
+            return NULL;
+        }
+        work.answers = (unsigned char *)answers.buf + first;
     }
-    work.answers = out != Py_None ? (unsigned char *)answers.buf + first : NULL;
-    Py_BEGIN_ALLOW_THREADS
-    change_each(self, &keys, &work);
-    Py_END_ALLOW_THREADS
+    change_each(self, &keys, call, &work);
     PyBuffer_Release(&keys.buffer);
-    if (work.answers) {
+    if (out != Py_None) {
         PyBuffer_Release(&answers);
     }
     return Py_BuildValue("nni", work.done, work.changed, (int)work.outcome);
 }
 
 static PyObject *calls_add_some(PyObject *self, PyObject *args) {
-    return change_some((Calls *)self, args, insert_of, 1);
+    return change_some((Calls *)self, args, insert_many_of);
 }
 
 static PyObject *calls_remove_some(PyObject *self, PyObject *args) {
-    return change_some((Calls *)self, args, remove_of, 0);
+    return change_some((Calls *)self, args, remove_many_of);
 }
 
 /* Looks keys up while other threads run. If no worker is free, it waits in parts, as a call for one
@@ -614,11 +596,11 @@ static PyObject *answers(PyObject *module, PyObject *object) {
 /* Stores the addresses of the library's functions, and the functions that make the exceptions. */
 static PyObject *bind(PyObject *module, PyObject *args) {
     unsigned long long contains, insert, remove, pop_first, pop_last, next, prev;
-    unsigned long long scan, scan_back, count, many, size;
+    unsigned long long scan, scan_back, count, many, insert_many, remove_many, size;
     (void)module;
-    if (!PyArg_ParseTuple(args, "KKKKKKKKKKKKOO", &contains, &insert, &remove, &pop_first,
-                          &pop_last, &next, &prev, &scan, &scan_back, &count, &many, &size,
-                          &fault_of, &key_fault_of)) {
+    if (!PyArg_ParseTuple(args, "KKKKKKKKKKKKKKOO", &contains, &insert, &remove, &pop_first,
+                          &pop_last, &next, &prev, &scan, &scan_back, &count, &many,
+                          &insert_many, &remove_many, &size, &fault_of, &key_fault_of)) {
         return NULL;
     }
     contains_of = (key_call)(uintptr_t)contains;
@@ -632,6 +614,8 @@ static PyObject *bind(PyObject *module, PyObject *args) {
     scan_back_of = (scan_call)(uintptr_t)scan_back;
     count_of = (count_call)(uintptr_t)count;
     contains_many_of = (many_call)(uintptr_t)many;
+    insert_many_of = (change_call)(uintptr_t)insert_many;
+    remove_many_of = (change_call)(uintptr_t)remove_many;
     size_of = (size_call)(uintptr_t)size;
     Py_INCREF(fault_of);
     Py_INCREF(key_fault_of);

@@ -167,6 +167,24 @@ extern "C" {
         count: *mut u64,
         timeout_ms: u32,
     ) -> c_int;
+    fn nm_pool_insert_many(
+        pool: *mut RawPool,
+        worker: u32,
+        keys: *const u64,
+        count: usize,
+        answers: *mut u8,
+        done: *mut usize,
+        timeout_ms: u32,
+    ) -> c_int;
+    fn nm_pool_remove_many(
+        pool: *mut RawPool,
+        worker: u32,
+        keys: *const u64,
+        count: usize,
+        answers: *mut u8,
+        done: *mut usize,
+        timeout_ms: u32,
+    ) -> c_int;
     fn nm_pool_try_insert(pool: *mut RawPool, worker: u32, key: u64, tries: u32, ms: u32) -> c_int;
     fn nm_pool_try_remove(pool: *mut RawPool, worker: u32, key: u64, tries: u32, ms: u32) -> c_int;
     fn nm_pool_size(pool: *mut RawPool, keys: *mut u64) -> c_int;
@@ -231,6 +249,13 @@ pub(crate) struct Block {
     pub keys: Vec<u64>,
     pub count: usize,
     pub next: u64,
+}
+
+/// What a call does with each of several keys.
+#[derive(Clone, Copy, Debug, PartialEq, Eq)]
+pub(crate) enum Change {
+    Insert,
+    Remove,
 }
 
 /// A pool that threads share. Its set ends when it is dropped.
@@ -363,6 +388,38 @@ impl Pool {
         let (first, count) = (lookups.as_mut_ptr(), lookups.len());
         // SAFETY: the slice is borrowed for this call alone.
         unsafe { nm_pool_contains_many(self.0.as_ptr(), worker, first, count, ms) }
+    }
+
+    /// Inserts or removes several keys. Returns the outcome, and 1 or 0 for each key that it
+    /// changed.
+    pub(crate) fn change_many(
+        &self,
+        worker: u32,
+        change: Change,
+        keys: &[u64],
+        timeout_ms: u32,
+    ) -> (Outcome, Vec<u8>) {
+        let (mut answers, mut done) = (vec![0; keys.len()], 0);
+        let call = match change {
+            Change::Insert => nm_pool_insert_many,
+            Change::Remove => nm_pool_remove_many,
+        };
+        let (first, bytes, count) = (keys.as_ptr(), answers.as_mut_ptr(), keys.len());
+        // SAFETY: the pool exists as long as `self`. There is a byte for each key, and all of it is
+        // borrowed for this call alone.
+        let outcome = unsafe {
+            call(
+                self.0.as_ptr(),
+                worker,
+                first,
+                count,
+                bytes,
+                &mut done,
+                timeout_ms,
+            )
+        };
+        answers.truncate(done);
+        (outcome, answers)
     }
 
     /// Looks up several keys by an attached worker, with a number of tries.

@@ -1,7 +1,9 @@
 //! The place of a call: the library's pool, and the number of a worker there or any worker.
 
 use crate::fault::{answer, Fault, Full};
-use crate::ffi::{Block, CallOptions, Fullness, Lookup, Order, Outcome, Pool, ReportHandle, ANY};
+use crate::ffi::{
+    Block, CallOptions, Change, Fullness, Lookup, Order, Outcome, Pool, ReportHandle, ANY,
+};
 use crate::numbers::Numbers;
 use crate::options::Options;
 use crate::report::Report;
@@ -221,6 +223,21 @@ impl Place<'_> {
         } = self.shared;
         self.answer(pool.contains_many(self.worker, &mut lookups, *timeout_ms))?;
         Ok(found(&lookups))
+    }
+
+    /// Inserts or removes these keys, one by one, and appends the answer of each.
+    pub fn change_many(
+        &self,
+        change: Change,
+        keys: &[u64],
+        answers: &mut Vec<bool>,
+    ) -> Result<(), Fault> {
+        let Shared {
+            pool, timeout_ms, ..
+        } = self.shared;
+        let (outcome, bytes) = pool.change_many(self.worker, change, keys, *timeout_ms);
+        answers.extend(bytes.iter().map(|&byte| byte != 0));
+        self.answer(outcome).map(drop)
     }
 
     pub fn at_least(&self, key: u64) -> Result<Option<u64>, Fault> {

@@ -1,6 +1,7 @@
 //! The set that threads share.
 
 use crate::fault::{answer, Fault};
+use crate::ffi::Change;
 use crate::key::checked;
 use crate::options::Options;
 use crate::order::{self, Range};
@@ -246,6 +247,34 @@ impl Set {
             added += usize::from(self.insert(key)?);
         }
         Ok(added)
+    }
+
+    /// Inserts these keys, one by one, and appends to `answers` whether each was absent. A look-up
+    /// of 64 of them at a time comes first: it is faster than single calls if the set is larger
+    /// than the caches of the processor. After a fault the keys that have answers are inserted.
+    ///
+    /// ```
+    /// # fn main() -> Result<(), nm_set::Fault> {
+    /// let set = nm_set::Set::from([5, 7]);
+    /// let mut answers = Vec::new();
+    /// set.insert_many(&[5, 6], &mut answers)?;
+    /// set.remove_many(&[7, 8], &mut answers)?;
+    /// assert_eq!(answers, [false, true, true, false]);
+    /// # Ok(())
+    /// # }
+    /// ```
+    ///
+    /// Errors: `Key`, before any key is inserted; `Full`, `NoMemory`.
+    pub fn insert_many(&self, keys: &[u64], answers: &mut Vec<bool>) -> Result<(), Fault> {
+        keys.iter().try_for_each(|&key| checked(key).map(drop))?;
+        self.place().change_many(Change::Insert, keys, answers)
+    }
+
+    /// Removes these keys, one by one, and appends to `answers` whether each was present, in the
+    /// way of [`insert_many`](Set::insert_many).
+    pub fn remove_many(&self, keys: &[u64], answers: &mut Vec<bool>) -> Result<(), Fault> {
+        keys.iter().try_for_each(|&key| checked(key).map(drop))?;
+        self.place().change_many(Change::Remove, keys, answers)
     }
 
     /// Removes each key for which `stays` returns false. A key that is inserted meanwhile may
