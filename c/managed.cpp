@@ -122,6 +122,31 @@ void sizes_are_counted() {
     CHECK(set.collect() == 20 && set.waiting() == 0 && set.free() == 1019 - 20);
 }
 
+// Many keys are inserted and removed with an answer each, and twice in one call too. After a fault
+// the answers say which keys were inserted.
+void many_keys_have_answers() {
+    nm::Set set(4096, nm::keys, {3u, 500u});
+    std::vector<std::uint64_t> keys(300);
+    std::iota(keys.begin(), keys.end(), 0);
+    keys.insert(keys.end(), {7, 500});
+    std::vector<bool> inserted, removed, again;
+    set.insert_many(keys, inserted);
+    CHECK(inserted.size() == 302 && !inserted[3] && !inserted[300] && !inserted[301]);
+    CHECK(std::count(inserted.begin(), inserted.end(), true) == 299 && set.size() == 301);
+    nm::Worker worker = set.attach();
+    worker.remove_many(keys, removed);
+    CHECK(removed.size() == 302 && removed[7] && !removed[300] && removed[301]);
+    worker.remove_many({}, removed);
+    CHECK(removed.size() == 302 && set.empty());
+    nm::Options options;
+    options.timeout_ms = 0;
+    nm::Set small(15, options);
+    Thrown told = fault_of([&] { small.insert_many({1, 2, 3, 4, 5, 6, 7}, again); });
+    CHECK(told.outcome == NM_FULL && again == std::vector<bool>(5, true) && small.size() == 5);
+    told = fault_of([&] { small.remove_many({1, UINT64_MAX, 2}, again); });
+    CHECK(told.outcome == NM_KEY && again.size() == 6 && small.contains(2u));
+}
+
 // A remove that is unfinished counts as soon as it has begun, and never again: by a worker, and by
 // a call of the set, which finishes it before it gives the worker back.
 void unfinished_removes_count_once() {
@@ -315,6 +340,7 @@ int main() {
     a_walk_goes_on();
     sets_are_made_of_keys();
     sizes_are_counted();
+    many_keys_have_answers();
     unfinished_removes_count_once();
     borrowed_workers_have_nothing_pending();
     borrowers_say_what_is_pending();

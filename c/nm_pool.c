@@ -28,6 +28,8 @@
 #define BACK_TURNS 16    /* how often a call yields back to an insert */
 #define END_MS 10000     /* how long nm_pool_free waits for calls */
 #define WORKERS 64       /* the most workers of a set */
+#define SCANNED 512      /* how many keys a count reads in one call */
+#define SOUGHT 64        /* how many keys a call for many looks up together */
 
 /* What uses a seat: nothing, a call by NM_ANY, or a thread that attached its worker. Or no call may
  * use it, because the set is closed. */
@@ -72,10 +74,13 @@ struct nm_pool {
 /* What a call needs besides its worker. */
 struct request {
     uint64_t key;
+    uint64_t below; /* of a scan: its range ends before this key */
     uint64_t *found;
     nm_lookup *lookups;
     size_t count;
-    uint64_t *end; /* of an insert: when its waits end, and 0 before the first one */
+    size_t *written; /* of a scan: how many keys it has written */
+    uint64_t *next;  /* of a scan: where the next one goes on */
+    uint64_t *end;   /* of an insert: when its waits end, and 0 before the first one */
 };
 
 typedef nm_outcome (*call_of)(const nm_pool *, nm_handle *, const struct request *);
@@ -584,6 +589,16 @@ static nm_outcome prev(nm_handle *worker, const struct request *request, uint32_
     return nm_worker_prev(worker, request->key, tries, request->found);
 }
 
+static nm_outcome scan(nm_handle *worker, const struct request *request, uint32_t tries) {
+    return nm_worker_scan(worker, request->key, request->below, tries, request->found,
+                          request->count, request->written, request->next);
+}
+
+static nm_outcome scan_back(nm_handle *worker, const struct request *request, uint32_t tries) {
+    return nm_worker_scan_back(worker, request->key, request->below, tries, request->found,
+                               request->count, request->written, request->next);
+}
+
 static nm_outcome many(nm_handle *worker, const struct request *request, uint32_t tries) {
     return nm_worker_contains_many(worker, request->lookups, request->count, tries);
 }
@@ -611,6 +626,14 @@ static nm_outcome look_next(const nm_pool *pool, nm_handle *worker, const struct
 
 static nm_outcome look_prev(const nm_pool *pool, nm_handle *worker, const struct request *request) {
     return look(pool, worker, prev, request);
+}
+
+static nm_outcome look_on(const nm_pool *pool, nm_handle *worker, const struct request *request) {
+    return look(pool, worker, scan, request);
+}
+
+static nm_outcome look_back(const nm_pool *pool, nm_handle *worker, const struct request *request) {
+    return look(pool, worker, scan_back, request);
 }
 
 static nm_outcome look_many(const nm_pool *pool, nm_handle *worker, const struct request *request) {
@@ -656,11 +679,102 @@ nm_outcome nm_pool_prev(nm_pool *pool, uint32_t worker, uint64_t key, uint64_t *
     return make(pool, worker, look_prev, NONE, &request, timeout_ms);
 }
 
+nm_outcome nm_pool_scan(nm_pool *pool, uint32_t worker, uint64_t from, uint64_t below,
+                        uint64_t *keys, size_t room, size_t *count, uint64_t *next,
+                        uint32_t timeout_ms) {
+    const struct request request = {.key = from,
+                                    .below = below,
+                                    .found = keys,
+                                    .count = room,
+                                    .written = count,
+                                    .next = next};
+    return make(pool, worker, look_on, NONE, &request, timeout_ms);
+}
+
+nm_outcome nm_pool_scan_back(nm_pool *pool, uint32_t worker, uint64_t from, uint64_t below,
+                             uint64_t *keys, size_t room, size_t *count, uint64_t *next,
+                             uint32_t timeout_ms) {
+    const struct request request = {.key = from,
+                                    .below = below,
+                                    .found = keys,
+                                    .count = room,
+                                    .written = count,
+                                    .next = next};
+    return make(pool, worker, look_back, NONE, &request, timeout_ms);
+}
+
+nm_outcome nm_pool_count(nm_pool *pool, uint32_t worker, uint64_t from, uint64_t below,
+                         uint64_t *count, uint32_t timeout_ms) {
+    uint64_t keys[SCANNED], total = 0;
+    nm_outcome outcome = NM_YES;
+    while (outcome == NM_YES) {
+        size_t some = 0;
+        outcome = nm_pool_scan(pool, worker, from, below, keys, SCANNED, &some, &from, timeout_ms);
+        if (outcome >= 0) total += some;
+    }
+    if (outcome == NM_NO) *count = total;
+    return outcome == NM_NO ? NM_DONE : outcome;
+}
+
 nm_outcome nm_pool_contains_many(nm_pool *pool, uint32_t worker, nm_lookup *lookups, size_t count,
                                  uint32_t timeout_ms) {
     nm_lookup none = {0, 0};
     const struct request request = {.lookups = count == 0 ? &none : lookups, .count = count};
     return make(pool, worker, look_many, NONE, &request, timeout_ms);
+}
+
+/* A call that inserts or removes one key. */
+typedef nm_outcome (*change_of_key)(nm_pool *, uint32_t, uint64_t, uint32_t);
+
+/* Keys that a call for many changes, what it has answered, and for how many of them. */
+struct changes {
+    change_of_key call;
+    bool is_insert;
+    const uint64_t *keys;
+    size_t count, done;
+    unsigned char *answers;
+};
+
+/* Inserts or removes the next keys, at most SOUGHT, one by one, after a look-up of all of them. Its
+ * searches are interleaved, so that they wait for memory together. A key whose answer is no by that
+ * look-up needs no call. If the look-up fails, the calls find out why. Returns NM_DONE, or the
+ * outcome of a key that was not changed. */
+static nm_outcome change_group(nm_pool *pool, uint32_t worker, struct changes *changes,
+                               uint32_t timeout_ms) {
+    nm_lookup lookups[SOUGHT];
+    size_t left = changes->count - changes->done, count = left < SOUGHT ? left : SOUGHT;
+    for (size_t at = 0; at < count; at++)
+        lookups[at] = (nm_lookup){changes->keys[changes->done + at], 0};
+    bool is_known = nm_pool_contains_many(pool, worker, lookups, count, timeout_ms) == NM_DONE;
+    for (size_t at = 0; at < count; at++, changes->done++) {
+        nm_outcome outcome = NM_NO;
+        if (!is_known || (lookups[at].found != 0) != changes->is_insert)
+            outcome = changes->call(pool, worker, lookups[at].key, timeout_ms);
+        if (outcome < 0 && outcome != NM_UNFINISHED) return outcome;
+        changes->answers[changes->done] = outcome != NM_NO;
+    }
+    return NM_DONE;
+}
+
+static nm_outcome change_many(nm_pool *pool, uint32_t worker, struct changes changes, size_t *done,
+                              uint32_t timeout_ms) {
+    nm_outcome outcome = NM_DONE;
+    while (outcome == NM_DONE && changes.done < changes.count)
+        outcome = change_group(pool, worker, &changes, timeout_ms);
+    *done = changes.done;
+    return outcome;
+}
+
+nm_outcome nm_pool_insert_many(nm_pool *pool, uint32_t worker, const uint64_t *keys, size_t count,
+                               unsigned char *answers, size_t *done, uint32_t timeout_ms) {
+    struct changes changes = {nm_pool_insert, true, keys, count, 0, answers};
+    return change_many(pool, worker, changes, done, timeout_ms);
+}
+
+nm_outcome nm_pool_remove_many(nm_pool *pool, uint32_t worker, const uint64_t *keys, size_t count,
+                               unsigned char *answers, size_t *done, uint32_t timeout_ms) {
+    struct changes changes = {nm_pool_remove, false, keys, count, 0, answers};
+    return change_many(pool, worker, changes, done, timeout_ms);
 }
 
 /* ---- a number of tries, and other calls by an attached worker ---- */

@@ -154,9 +154,38 @@ nm_outcome nm_pool_next(nm_pool *pool, uint32_t worker, uint64_t key, uint64_t *
 nm_outcome nm_pool_prev(nm_pool *pool, uint32_t worker, uint64_t key, uint64_t *found,
                         uint32_t timeout_ms);
 
+/* Reads keys of the set in ascending order: those that are not below `from` and are below `below`,
+ * at most `room` of them. Writes them to keys, and their number to count. Returns NM_NO if they are
+ * all of them. Returns NM_YES if there may be more, and writes to next from which key on: the next
+ * call goes on there. See nm_worker_scan for what the keys mean while others change the set. */
+nm_outcome nm_pool_scan(nm_pool *pool, uint32_t worker, uint64_t from, uint64_t below,
+                        uint64_t *keys, size_t room, size_t *count, uint64_t *next,
+                        uint32_t timeout_ms);
+
+/* Reads the same keys in descending order. After NM_YES the next call goes on below next. */
+nm_outcome nm_pool_scan_back(nm_pool *pool, uint32_t worker, uint64_t from, uint64_t below,
+                             uint64_t *keys, size_t room, size_t *count, uint64_t *next,
+                             uint32_t timeout_ms);
+
+/* Writes how many keys of the set are not below `from` and below `below`, by scans of 512 keys.
+ * Returns NM_DONE. While others change the set, each key is counted as a scan finds it. */
+nm_outcome nm_pool_count(nm_pool *pool, uint32_t worker, uint64_t from, uint64_t below,
+                         uint64_t *count, uint32_t timeout_ms);
+
 /* Looks up count keys and writes the found of each, as nm_worker_contains_many does. NM_DONE. */
 nm_outcome nm_pool_contains_many(nm_pool *pool, uint32_t worker, nm_lookup *lookups, size_t count,
                                  uint32_t timeout_ms);
+
+/* Inserts count keys, one by one, and writes 1 to answers for each that it inserted, else 0. It
+ * looks up 64 of them together before it inserts them, which brings what they need from memory.
+ * Returns NM_DONE. After an error `done` has how many keys have their answers, and the other keys
+ * are not inserted. The time counts for each key. */
+nm_outcome nm_pool_insert_many(nm_pool *pool, uint32_t worker, const uint64_t *keys, size_t count,
+                               unsigned char *answers, size_t *done, uint32_t timeout_ms);
+
+/* Removes count keys in the same way, and writes 1 for each that it removed. */
+nm_outcome nm_pool_remove_many(nm_pool *pool, uint32_t worker, const uint64_t *keys, size_t count,
+                               unsigned char *answers, size_t *done, uint32_t timeout_ms);
 
 /* ---- how full it is ----
  * These wait for nothing. They return NM_CLOSED if the set is closed. */

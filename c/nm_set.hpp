@@ -34,6 +34,7 @@
 #include <cstdint>
 #include <initializer_list>
 #include <iterator>
+#include <memory>
 #include <new>
 #include <optional>
 #include <stdexcept>
@@ -279,10 +280,23 @@ inline bool answered(nm_outcome outcome) {
 // The order in which an iterator passes keys.
 enum class Order { ascending, descending };
 
+namespace detail {
+
+// Keys that an iterator has read ahead, in its order. The last block of a range may be empty.
+struct Block {
+    std::size_t room;  // for how many keys it was asked
+    std::vector<std::uint64_t> keys;
+    std::uint64_t next;  // where the next block begins
+    bool is_last;
+};
+
+}  // namespace detail
+
 // An input iterator over the keys of a set that may be in use. The keys may change between two
-// passes. A step is one call, and waits like a call. The iterator may return or skip a key that is
-// inserted or removed meanwhile. It does not return a key that was removed before the step. It must
-// end before its set or its worker.
+// passes. The iterator finds its first key by one call, and then reads keys ahead, in blocks of 8,
+// 64 and 512, each by one call that waits like any call. It may return or skip a key that is
+// inserted or removed meanwhile. It does not return a key that was removed before its block was
+// read. It must end before its set or its worker.
 template <typename Of, Order order = Order::ascending>
 class Iterator {
 public:
@@ -298,7 +312,8 @@ public:
     [[nodiscard]] reference operator*() const { return *key_; }
 
     Iterator &operator++() {
-        key_ = of_->template beyond<order>(*key_, bound_);
+        if (block_ == nullptr || ++at_ == block_->keys.size()) read();
+        key_ = at_ < block_->keys.size() ? std::optional(block_->keys[at_]) : std::nullopt;
         return *this;
     }
 
@@ -327,9 +342,20 @@ private:
     Iterator(const Of &of, std::optional<std::uint64_t> key, std::uint64_t bound)
         : of_(&of), bound_(bound), key_(key) {}
 
+    // Reads the block after the last key.
+    void read() {
+        std::uint64_t rest = order == Order::ascending ? *key_ + 1 : *key_;
+        block_ = std::make_shared<const detail::Block>(
+            block_ == nullptr ? of_->template block<order>(8, rest, bound_)
+                              : of_->template block_after<order>(*block_, bound_));
+        at_ = 0;
+    }
+
     const Of *of_ = nullptr;
     std::uint64_t bound_ = 0;
     std::optional<std::uint64_t> key_;
+    std::shared_ptr<const detail::Block> block_;  // none before the second key
+    std::size_t at_ = 0;
 };
 
 // A range of keys: those that are not below `from` and are below `below`.
@@ -431,6 +457,16 @@ public:
 
     [[nodiscard]] bool empty() const { return !first(); }
 
+    // Returns how many keys are not below `from` and are below `below`. While others change the
+    // set, it counts each key as it finds it.
+    [[nodiscard]] std::uint64_t count(Key from, Key below) const {
+        std::uint64_t found = 0;
+        done([&](const detail::Place &to) {
+            return nm_pool_count(to.pool, to.worker, from, below, &found, to.timeout_ms);
+        });
+        return found;
+    }
+
     // ---- several keys ----
 
     // Writes for each lookup whether the set has its key. Each answer was right at a moment of the
@@ -440,6 +476,18 @@ public:
             return nm_pool_contains_many(to.pool, to.worker, lookups.data(), lookups.size(),
                                          to.timeout_ms);
         });
+    }
+
+    // Inserts these keys, one by one, and appends to `answers` whether each was absent. A look-up of
+    // 64 of them at a time comes first: it is faster than single calls if the set is larger than
+    // the caches of the processor. If it throws a fault, the keys that have answers are inserted.
+    void insert_many(const std::vector<std::uint64_t> &keys, std::vector<bool> &answers) {
+        change_many(nm_pool_insert_many, keys, answers);
+    }
+
+    // Removes these keys in the same way, and appends whether each was present.
+    void remove_many(const std::vector<std::uint64_t> &keys, std::vector<bool> &answers) {
+        change_many(nm_pool_remove_many, keys, answers);
     }
 
     // Inserts these keys, one by one; returns how many were absent. It waits for each key like
@@ -505,6 +553,22 @@ private:
         }, key);
     }
 
+    // Changes keys by a call of the pool, and appends its answers.
+    template <typename Call>
+    void change_many(Call call, const std::vector<std::uint64_t> &keys,
+                     std::vector<bool> &answers) {
+        std::vector<unsigned char> bytes(keys.size());
+        std::size_t count = 0;
+        nm_outcome outcome = ask([&](const detail::Place &to) {
+            return call(to.pool, to.worker, keys.data(), keys.size(), bytes.data(), &count,
+                        to.timeout_ms);
+        });
+        auto end = bytes.begin() + static_cast<std::ptrdiff_t>(count);
+        std::transform(bytes.begin(), end, std::back_inserter(answers),
+                       [](unsigned char byte) { return byte != 0; });
+        if (outcome < 0) detail::fail_at(self().place(), outcome, keys[count]);
+    }
+
     // Returns the least key that is not below `from` and is below `below`.
     std::optional<std::uint64_t> next(std::uint64_t from, std::uint64_t below) const {
         std::uint64_t found = 0;
@@ -524,13 +588,35 @@ private:
         return is_found && found >= from ? std::optional<std::uint64_t>(found) : std::nullopt;
     }
 
-    // Returns the next key in an order.
+    // Returns at most `room` keys from `next` on (ascending) or below it (descending), up to the
+    // bound of the range in that order. It returns no keys only for the last block.
     template <Order order>
-    std::optional<std::uint64_t> beyond(std::uint64_t key, std::uint64_t bound) const {
-        if constexpr (order == Order::ascending)
-            return next(key + 1, bound);
-        else
-            return key == 0 ? std::nullopt : prev(key - 1, bound);
+    detail::Block block(std::size_t room, std::uint64_t next, std::uint64_t bound) const {
+        detail::Block read{room, std::vector<std::uint64_t>(room), next, false};
+        std::size_t count = 0;
+        while (count == 0 && !read.is_last) read.is_last = !fill<order>(read, bound, count);
+        read.keys.resize(count);
+        return read;
+    }
+
+    // Fills a block from its `next` on; returns whether there may be more keys.
+    template <Order order>
+    bool fill(detail::Block &block, std::uint64_t bound, std::size_t &count) const {
+        constexpr bool is_up = order == Order::ascending;
+        constexpr auto scan = is_up ? nm_pool_scan : nm_pool_scan_back;
+        std::uint64_t from = is_up ? block.next : bound, below = is_up ? bound : block.next;
+        return from < below && from <= most_key && done([&](const detail::Place &to) {
+            return scan(to.pool, to.worker, from, below, block.keys.data(), block.room, &count,
+                        &block.next, to.timeout_ms);
+        });
+    }
+
+    // Returns the block after this one, with more room.
+    template <Order order>
+    detail::Block block_after(const detail::Block &before, std::uint64_t bound) const {
+        std::size_t room = before.room < 512 ? 8 * before.room : 512;
+        if (before.is_last) return {room, {}, before.next, true};
+        return block<order>(room, before.next, bound);
     }
 
     iterator ascending(std::uint64_t from, std::uint64_t below) const {

@@ -121,6 +121,30 @@ public:
         return found;
     }
 
+    // Writes the keys from `from` on, ascending, at most `room`; returns how many. It keeps the
+    // nodes at which it went left, at most 64 in a radix tree.
+    std::size_t scan(std::uint64_t from, std::uint64_t *keys, std::size_t room) {
+        static_assert(shape == Shape::radix, "the other shape can be deeper");
+        std::uint64_t passed[66], slot = 2;
+        std::size_t height = 0, count = 0;
+        pin();
+        for (;;) {
+            Node &node = set_.nodes_[slot];
+            std::uint64_t left = node.left.load(), found = node.key.load();
+            if (left >= Edge::to(1)) {
+                bool is_left = from < found;
+                if (is_left) passed[height++] = slot;
+                slot = Edge::slot(is_left ? left : node.right.load());
+                continue;
+            }
+            if (found >= from && found < infinity_0) keys[count++] = found;
+            if (count == room || height == 0 || found >= infinity_0) break;
+            slot = Edge::slot(set_.nodes_[passed[--height]].right.load());
+        }
+        leave();
+        return count;
+    }
+
     // Whether the key was not in the set. False too where no slots were free.
     bool add(std::uint64_t key) {
         tend();
@@ -296,6 +320,10 @@ public:
     bool remove(std::uint64_t key) { return take() && give(worker_.remove(key)); }
 
     std::uint64_t pop_first() { return take() ? give(worker_.pop_first()) : infinity_0; }
+
+    std::size_t scan(std::uint64_t from, std::uint64_t *keys, std::size_t room) {
+        return take() ? give(worker_.scan(from, keys, room)) : 0;
+    }
 
 private:
     bool take() { return in_use_.exchange(1) == 0; }

@@ -10,7 +10,7 @@ from __future__ import annotations
 import operator
 import time
 from collections.abc import Callable
-from ctypes import c_uint32, c_uint64, c_void_p
+from ctypes import c_size_t, c_ubyte, c_uint32, c_uint64, c_void_p
 from typing import Any, Optional, SupportsIndex
 
 from . import _library as c
@@ -84,6 +84,24 @@ class Calls:
     def at_most(self, key: SupportsIndex) -> Optional[int]:
         return self._nearest("nm_pool_prev", key)
 
+    def scan(
+        self, first: int, below: int, room: int, is_back: bool
+    ) -> tuple[list[int], Optional[int]]:
+        """Reads keys that are not below `first` and are below another number, at most `room` of
+        them: ascending, or descending if it goes back. Returns the keys, and where the next scan
+        goes on: from that number on, or below it if it goes back. None: these are all the keys."""
+        keys, count, rest = (c_uint64 * room)(), c_size_t(), c_uint64()
+        name = "nm_pool_scan_back" if is_back else "nm_pool_scan"
+        outcome = self._outcome(name, first, below, keys, room, count, rest)
+        has_more = self._answered(outcome)
+        return list(keys[: count.value]), rest.value if has_more else None
+
+    def count(self, first: int, below: int) -> int:
+        """Returns how many keys are not below `first` and are below another number."""
+        count = c_uint64()
+        self._answered(self._outcome("nm_pool_count", first, below, count))
+        return count.value
+
     def _taken(self, name: str) -> Optional[int]:
         """Removes a key by a call of the pool, and returns it. It returns a key whose discard is
         unfinished too: this call will remove it, and no other call will."""
@@ -111,15 +129,13 @@ class Calls:
     def _some(
         self, name: str, keys: memoryview, first: int, answers: Optional[memoryview]
     ) -> tuple[int, int, int]:
-        changed, last = 0, min(first + SOME, len(keys))
-        for at in range(first, last):
-            outcome = self._outcome(name, keys[at])
-            if answers is not None:
-                answers[at] = outcome in (c.YES, c.UNFINISHED)
-            if outcome < 0:
-                return at - first, changed, outcome
-            changed += outcome
-        return last - first, changed, c.DONE
+        wanted, done = keys[first : first + SOME], c_size_t()
+        words, told = (c_uint64 * len(wanted))(*wanted), (c_ubyte * len(wanted))()
+        call = getattr(c.exports, name)
+        outcome = call(self._pool, self._worker, words, len(wanted), told, done, 0)
+        if answers is not None:
+            answers[first : first + done.value] = bytes(told[: done.value])
+        return done.value, sum(told[: done.value]), outcome
 
     def add_some(
         self, keys: memoryview, first: int, answers: Optional[memoryview]
@@ -127,14 +143,14 @@ class Calls:
         """Adds some of these keys, from an index on, and writes 1 for each that was absent, if
         there is room for answers. Returns how many keys it tried, how many of them were absent, and
         the outcome of the next key, if that is below 0."""
-        return self._some("nm_pool_insert", keys, first, answers)
+        return self._some("nm_pool_insert_many", keys, first, answers)
 
     def remove_some(
         self, keys: memoryview, first: int, answers: Optional[memoryview]
     ) -> tuple[int, int, int]:
         """Removes some of these keys, in the way of `add_some`. It counts the keys that were
         present."""
-        return self._some("nm_pool_remove", keys, first, answers)
+        return self._some("nm_pool_remove_many", keys, first, answers)
 
     def keys(self) -> int:
         """Returns how many keys the set has."""

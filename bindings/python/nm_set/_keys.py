@@ -19,6 +19,7 @@ from ._faults import MOST_KEY, SHOWN, Closed, fault, key_fault, shortened
 _T = TypeVar("_T")
 _Out = TypeVar("_Out", bound=Sized)  # a buffer, for which Python has a type only from 3.12 on
 _UNSIGNED, _SIGNED = frozenset("QLN"), frozenset("qln")  # the formats of words of 64 bits
+_FIRST_ROOM, _MOST_ROOM = 8, 512  # how many keys the first scan and the last scans of a loop read
 
 
 def _number(key: object) -> Optional[int]:
@@ -80,6 +81,15 @@ def _copied(keys: Iterable[SupportsIndex]) -> memoryview:
             yield number
 
     return memoryview(array("Q", each()))
+
+
+def _ends(
+    minimum: Optional[SupportsIndex], maximum: Optional[SupportsIndex], inclusive: tuple[bool, bool]
+) -> tuple[int, int]:
+    """Returns the least key of a range, and the number below which its keys are."""
+    first = 0 if minimum is None else operator.index(minimum) + (not inclusive[0])
+    last = MOST_KEY if maximum is None else operator.index(maximum) - (not inclusive[1])
+    return max(first, 0), min(last, MOST_KEY) + 1
 
 
 def _as_set(other: Iterable[Any]) -> AbstractSet[Any]:
@@ -197,9 +207,10 @@ class Keys(MutableSet):  # type: ignore[type-arg]
     # ---- in order ----
 
     def __iter__(self) -> Iterator[int]:
-        """Returns an iterator over the keys, ascending, while the set is in use. It calls
-        `at_least` for each key. It may return or skip a key that is added or removed meanwhile. It
-        does not return a key that was removed before that step."""
+        """Returns an iterator over the keys, ascending, while the set is in use. It reads keys
+        ahead, in blocks of 8, 64 and 512, each by one call, in which other threads run. It may
+        return or skip a key that is added or removed meanwhile. It returns no key that was removed
+        before its block was read."""
         return self.irange()
 
     def irange(
@@ -209,28 +220,35 @@ class Keys(MutableSet):  # type: ignore[type-arg]
         inclusive: tuple[bool, bool] = (True, True),
         reverse: bool = False,
     ) -> Iterator[int]:
-        """Returns an iterator over the keys from `minimum` to `maximum`, ascending like `__iter__`.
-        If `reverse`, they are descending, and it calls `at_most` for each."""
-        first = 0 if minimum is None else operator.index(minimum) + (not inclusive[0])
-        last = MOST_KEY if maximum is None else operator.index(maximum) - (not inclusive[1])
-        go = self._descending if reverse else self._ascending
-        return go(max(first, 0), min(last, MOST_KEY))
+        """Returns an iterator over the keys from `minimum` to `maximum`, in the way of `__iter__`:
+        ascending, or descending if `reverse`."""
+        first, below = _ends(minimum, maximum, inclusive)
+        return self._descending(first, below) if reverse else self._ascending(first, below)
 
-    def _ascending(self, first: int, last: int) -> Iterator[int]:
-        while first <= last:
-            key = self.at_least(first)
-            if key is None or key > last:
-                return
-            yield key
-            first = key + 1
+    def _ascending(self, first: Optional[int], below: int) -> Iterator[int]:
+        room = _FIRST_ROOM
+        while first is not None and first < below:
+            keys, first = self._calls.scan(first, below, room, False)
+            yield from keys
+            room = min(8 * room, _MOST_ROOM)
 
-    def _descending(self, first: int, last: int) -> Iterator[int]:
-        while first <= last:
-            key = self.at_most(last)
-            if key is None or key < first:
-                return
-            yield key
-            last = key - 1
+    def _descending(self, first: int, below: Optional[int]) -> Iterator[int]:
+        room = _FIRST_ROOM
+        while below is not None and first < below:
+            keys, below = self._calls.scan(first, below, room, True)
+            yield from keys
+            room = min(8 * room, _MOST_ROOM)
+
+    def count_range(
+        self,
+        minimum: Optional[SupportsIndex] = None,
+        maximum: Optional[SupportsIndex] = None,
+        inclusive: tuple[bool, bool] = (True, True),
+    ) -> int:
+        """Returns how many keys there are from `minimum` to `maximum`. While others change the set,
+        it counts each key as it finds it."""
+        first, below = _ends(minimum, maximum, inclusive)
+        return self._calls.count(first, below) if first < below else 0
 
     def first(self) -> Optional[int]:
         """Returns the least key, or None if the set is empty."""

@@ -12,7 +12,8 @@ import ctypes
 import os
 import shutil
 from collections.abc import Iterator
-from ctypes import POINTER, c_char_p, c_int, c_int64, c_size_t, c_uint32, c_uint64, c_void_p
+from ctypes import POINTER, c_char_p, c_int, c_int64, c_size_t, c_ubyte, c_uint32, c_uint64
+from ctypes import c_void_p
 from pathlib import Path
 from typing import Any, Final, TypeVar
 
@@ -93,6 +94,7 @@ class WaitingWords(ctypes.Structure):
 
 
 _H, _U32, _U64, _POOL = POINTER(Handle), POINTER(c_uint32), POINTER(c_uint64), c_void_p
+_SIZE, _BYTES = POINTER(c_size_t), POINTER(c_ubyte)
 
 # Each function that this module calls, with its parameters.
 FUNCTIONS: dict[str, list[Any]] = {
@@ -108,7 +110,14 @@ FUNCTIONS: dict[str, list[Any]] = {
     "nm_pool_pop_last": [_POOL, c_uint32, _U64, c_uint32],
     "nm_pool_next": [_POOL, c_uint32, c_uint64, _U64, c_uint32],
     "nm_pool_prev": [_POOL, c_uint32, c_uint64, _U64, c_uint32],
+    "nm_pool_scan": [_POOL, c_uint32, c_uint64, c_uint64, _U64, c_size_t, _SIZE, _U64, c_uint32],
+    "nm_pool_scan_back": [
+        _POOL, c_uint32, c_uint64, c_uint64, _U64, c_size_t, _SIZE, _U64, c_uint32
+    ],
+    "nm_pool_count": [_POOL, c_uint32, c_uint64, c_uint64, _U64, c_uint32],
     "nm_pool_contains_many": [_POOL, c_uint32, POINTER(LookupWords), c_size_t, c_uint32],
+    "nm_pool_insert_many": [_POOL, c_uint32, _U64, c_size_t, _BYTES, _SIZE, c_uint32],
+    "nm_pool_remove_many": [_POOL, c_uint32, _U64, c_size_t, _BYTES, _SIZE, c_uint32],
     "nm_pool_size": [_POOL, _U64],
     "nm_pool_fullness": [_POOL, POINTER(FullnessWords)],
     "nm_pool_collect": [_POOL, _U64],

@@ -16,18 +16,27 @@
 #define MOST_KEY (UINT64_MAX - 3)
 #define SEVERAL 64   /* the number of keys that one call of the library looks up */
 #define SOME 4096    /* the most keys of one call of a method named `.._some` */
+#define SCANNED 512  /* the most keys of one scan */
 #define PART 20u     /* milliseconds: the longest part of a wait */
 
 typedef nm_outcome (*key_call)(nm_pool *, uint32_t, uint64_t, uint32_t);
 typedef nm_outcome (*pop_call)(nm_pool *, uint32_t, uint64_t *, uint32_t);
 typedef nm_outcome (*near_call)(nm_pool *, uint32_t, uint64_t, uint64_t *, uint32_t);
+typedef nm_outcome (*scan_call)(nm_pool *, uint32_t, uint64_t, uint64_t, uint64_t *, size_t,
+                                size_t *, uint64_t *, uint32_t);
+typedef nm_outcome (*count_call)(nm_pool *, uint32_t, uint64_t, uint64_t, uint64_t *, uint32_t);
 typedef nm_outcome (*many_call)(nm_pool *, uint32_t, nm_lookup *, size_t, uint32_t);
+typedef nm_outcome (*change_call)(nm_pool *, uint32_t, const uint64_t *, size_t, unsigned char *,
+                                  size_t *, uint32_t);
 typedef nm_outcome (*size_call)(nm_pool *, uint64_t *);
 
 static key_call contains_of, insert_of, remove_of;
 static pop_call pop_first_of, pop_last_of;
 static near_call next_of, prev_of;
+static scan_call scan_of, scan_back_of;
+static count_call count_of;
 static many_call contains_many_of;
+static change_call insert_many_of, remove_many_of;
 static size_call size_of;
 
 /* The functions of _faults.py that make the exceptions. */
@@ -98,7 +107,11 @@ typedef struct {
     key_call by_key;
     near_call near;
     pop_call pop;
-    uint64_t key, found;
+    scan_call scan;
+    count_call count;
+    uint64_t key, below, found;
+    uint64_t *keys;
+    size_t room, written;
 } Call;
 
 static nm_outcome make(Calls *self, Call *call, uint32_t timeout_ms) {
@@ -107,6 +120,14 @@ static nm_outcome make(Calls *self, Call *call, uint32_t timeout_ms) {
     }
     if (call->near) {
         return call->near(pool_of(self), worker_of(self), call->key, &call->found, timeout_ms);
+    }
+    if (call->scan) {
+        return call->scan(pool_of(self), worker_of(self), call->key, call->below, call->keys,
+                          call->room, &call->written, &call->found, timeout_ms);
+    }
+    if (call->count) {
+        return call->count(pool_of(self), worker_of(self), call->key, call->below, &call->found,
+                           timeout_ms);
     }
     return call->pop(pool_of(self), worker_of(self), &call->found, timeout_ms);
 }
@@ -151,6 +172,14 @@ static int make_later(Calls *self, Call *call, nm_outcome *outcome) {
 /* Makes a call, and writes its outcome. Returns -1 after an exception, else 0. */
 static int made(Calls *self, Call *call, nm_outcome *outcome) {
     *outcome = make(self, call, 0);
+    return is_to_wait(*outcome) ? make_later(self, call, outcome) : 0;
+}
+
+/* Makes a call for several keys, in which other threads run from the beginning. */
+static int made_apart(Calls *self, Call *call, nm_outcome *outcome) {
+    Py_BEGIN_ALLOW_THREADS
+    *outcome = make(self, call, 0);
+    Py_END_ALLOW_THREADS
     return is_to_wait(*outcome) ? make_later(self, call, outcome) : 0;
 }
 
@@ -225,6 +254,60 @@ static PyObject *calls_keys(PyObject *object, PyObject *unused) {
 
 /* ---- several keys ---- */
 
+/* Returns a list of the keys that a scan has written, or NULL after an exception. */
+static PyObject *list_of(const Call *call) {
+    PyObject *list = PyList_New((Py_ssize_t)call->written);
+    for (size_t at = 0; list && at < call->written; at++) {
+        PyObject *key = PyLong_FromUnsignedLongLong(call->keys[at]);
+        if (!key || PyList_SetItem(list, (Py_ssize_t)at, key) < 0) {
+            Py_DECREF(list);
+            return NULL;
+        }
+    }
+    return list;
+}
+
+static PyObject *calls_scan(PyObject *object, PyObject *args) {
+    Calls *self = (Calls *)object;
+    unsigned long long first, below;
+    Py_ssize_t room;
+    int is_back;
+    nm_outcome outcome;
+    uint64_t keys[SCANNED];
+    if (!PyArg_ParseTuple(args, "KKnp", &first, &below, &room, &is_back)) {
+        return NULL;
+    }
+    Call call = {.scan = is_back ? scan_back_of : scan_of, .key = first, .below = below};
+    call.keys = keys;
+    call.room = room > 0 && room < SCANNED ? (size_t)room : SCANNED;
+    if (made_apart(self, &call, &outcome) < 0) {
+        return NULL;
+    }
+    if (outcome < 0) {
+        return raise_fault(self, outcome);
+    }
+    PyObject *list = list_of(&call);
+    if (!list) {
+        return NULL;
+    }
+    return outcome == NM_YES ? Py_BuildValue("NK", list, (unsigned long long)call.found)
+                             : Py_BuildValue("NO", list, Py_None);
+}
+
+static PyObject *calls_count(PyObject *object, PyObject *args) {
+    Calls *self = (Calls *)object;
+    unsigned long long first, below;
+    nm_outcome outcome;
+    if (!PyArg_ParseTuple(args, "KK", &first, &below)) {
+        return NULL;
+    }
+    Call call = {.count = count_of, .key = first, .below = below};
+    if (made_apart(self, &call, &outcome) < 0) {
+        return NULL;
+    }
+    return outcome < 0 ? raise_fault(self, outcome) : PyLong_FromUnsignedLongLong(call.found);
+}
+
 /* Keys in a buffer, from an index on, and how many there are. */
 typedef struct {
     Py_buffer buffer;
@@ -248,11 +331,9 @@ static int keys_of(PyObject *object, Py_ssize_t first, Keys *keys) {
     return 0;
 }
 
-/* What a thread does while other threads go on: it looks keys up, or adds or removes each by a
- * call. It writes its answer for each key to `answers`, unless that is NULL. */
+/* What a thread does with keys while other threads go on. It writes its answer for each key to
+ * `answers`. */
 typedef struct {
-    key_call call; /* NULL to look keys up */
-    int is_to_add;
     unsigned char *answers;
     Py_ssize_t done, changed;
     nm_outcome outcome;
@@ -292,39 +373,6 @@ static void look_up_each(Calls *self, const Keys *keys, Work *work, uint32_t tim
     } while (work->done < keys->count);
 }
 
-/* Adds or removes the keys of a group one by one, after a look-up of all of them. The look-up
- * interleaves its searches, so that they wait for memory together. A key that is already present
- * when it is to be added, or absent when it is to be removed, needs no change. If the look-up
- * fails, the changes find out why. Returns whether each change was made. */
-static int change_group(Calls *self, const Keys *keys, Work *work) {
-    Group group;
-    int is_known = look_up(self, keys, work->done, &group, 0) >= 0;
-    for (Py_ssize_t at = 0; at < group.count; at++, work->done++) {
-        if (is_known && (group.each[at].found != 0) == work->is_to_add) {
-            continue;
-        }
-        work->outcome = work->call(pool_of(self), worker_of(self), group.each[at].key, 0);
-        if (work->answers) {
-            work->answers[work->done] =
-                work->outcome == NM_YES || work->outcome == NM_UNFINISHED;
-        }
-        if (work->outcome < 0) {
-            return 0;
-        }
-        work->changed += work->outcome;
-    }
-    return 1;
-}
-
-static void change_each(Calls *self, const Keys *keys, Work *work) {
-    while (work->done < keys->count) {
-        if (!change_group(self, keys, work)) {
-            return;
-        }
-    }
-    work->outcome = NM_DONE;
-}
-
 /* Gets the buffer of answers, which must have room for the answers of these keys. Returns -1 after
  * an exception, else 0. */
 static int answers_of(PyObject *object, const Keys *keys, Py_buffer *answers) {
@@ -339,37 +387,51 @@ static int answers_of(PyObject *object, const Keys *keys, Py_buffer *answers) {
     return 0;
 }
 
-static PyObject *change_some(Calls *self, PyObject *args, key_call call, int is_to_add) {
+/* Adds or removes some of these keys while other threads run, without a wait. */
+static void change_each(Calls *self, const Keys *keys, change_call call, Work *work) {
+    size_t done = 0;
+    Py_BEGIN_ALLOW_THREADS
+    work->outcome = call(pool_of(self), worker_of(self), keys->from, (size_t)keys->count,
+                         work->answers, &done, 0);
+    Py_END_ALLOW_THREADS
+    work->done = (Py_ssize_t)done;
+    for (Py_ssize_t at = 0; at < work->done; at++) {
+        work->changed += work->answers[at];
+    }
+}
+
+static PyObject *change_some(Calls *self, PyObject *args, change_call call) {
     PyObject *object, *out;
     Py_ssize_t first;
     Keys keys;
     Py_buffer answers;
-    Work work = {.call = call, .is_to_add = is_to_add};
+    unsigned char own[SOME];
+    Work work = {.answers = own};
     if (!PyArg_ParseTuple(args, "OnO", &object, &first, &out) ||
         keys_of(object, first, &keys) < 0) {
         return NULL;
     }
-    if (out != Py_None && answers_of(out, &keys, &answers) < 0) {
-        PyBuffer_Release(&keys.buffer);
-        return NULL;
+    if (out != Py_None) {
+        if (answers_of(out, &keys, &answers) < 0) {
+            PyBuffer_Release(&keys.buffer);
+            return NULL;
+        }
+        work.answers = (unsigned char *)answers.buf + first;
     }
-    work.answers = out != Py_None ? (unsigned char *)answers.buf + first : NULL;
-    Py_BEGIN_ALLOW_THREADS
-    change_each(self, &keys, &work);
-    Py_END_ALLOW_THREADS
+    change_each(self, &keys, call, &work);
     PyBuffer_Release(&keys.buffer);
-    if (work.answers) {
+    if (out != Py_None) {
         PyBuffer_Release(&answers);
     }
     return Py_BuildValue("nni", work.done, work.changed, (int)work.outcome);
 }
 
 static PyObject *calls_add_some(PyObject *self, PyObject *args) {
-    return change_some((Calls *)self, args, insert_of, 1);
+    return change_some((Calls *)self, args, insert_many_of);
 }
 
 static PyObject *calls_remove_some(PyObject *self, PyObject *args) {
-    return change_some((Calls *)self, args, remove_of, 0);
+    return change_some((Calls *)self, args, remove_many_of);
 }
 
 /* Looks keys up while other threads run. If no worker is free, it waits in parts, as a call for one
@@ -478,6 +540,8 @@ static PyMethodDef calls_methods[] = {
     {"at_most", calls_at_most, METH_O, NULL},
     {"pop_first", calls_pop_first, METH_NOARGS, NULL},
     {"pop_last", calls_pop_last, METH_NOARGS, NULL},
+    {"scan", calls_scan, METH_VARARGS, NULL},
+    {"count", calls_count, METH_VARARGS, NULL},
     {"contains_some", calls_contains_some, METH_VARARGS, NULL},
     {"add_some", calls_add_some, METH_VARARGS, NULL},
     {"remove_some", calls_remove_some, METH_VARARGS, NULL},
@@ -531,10 +595,12 @@ static PyObject *answers(PyObject *module, PyObject *object) {
 
 /* Stores the addresses of the library's functions, and the functions that make the exceptions. */
 static PyObject *bind(PyObject *module, PyObject *args) {
-    unsigned long long contains, insert, remove, pop_first, pop_last, next, prev, many, size;
+    unsigned long long contains, insert, remove, pop_first, pop_last, next, prev;
+    unsigned long long scan, scan_back, count, many, insert_many, remove_many, size;
     (void)module;
-    if (!PyArg_ParseTuple(args, "KKKKKKKKKOO", &contains, &insert, &remove, &pop_first, &pop_last,
-                          &next, &prev, &many, &size, &fault_of, &key_fault_of)) {
+    if (!PyArg_ParseTuple(args, "KKKKKKKKKKKKKKOO", &contains, &insert, &remove, &pop_first,
+                          &pop_last, &next, &prev, &scan, &scan_back, &count, &many,
+                          &insert_many, &remove_many, &size, &fault_of, &key_fault_of)) {
         return NULL;
     }
     contains_of = (key_call)(uintptr_t)contains;
@@ -544,7 +610,12 @@ static PyObject *bind(PyObject *module, PyObject *args) {
     pop_last_of = (pop_call)(uintptr_t)pop_last;
     next_of = (near_call)(uintptr_t)next;
     prev_of = (near_call)(uintptr_t)prev;
+    scan_of = (scan_call)(uintptr_t)scan;
+    scan_back_of = (scan_call)(uintptr_t)scan_back;
+    count_of = (count_call)(uintptr_t)count;
     contains_many_of = (many_call)(uintptr_t)many;
+    insert_many_of = (change_call)(uintptr_t)insert_many;
+    remove_many_of = (change_call)(uintptr_t)remove_many;
     size_of = (size_call)(uintptr_t)size;
     Py_INCREF(fault_of);
     Py_INCREF(key_fault_of);

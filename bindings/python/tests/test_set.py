@@ -141,25 +141,28 @@ class InOrder(unittest.TestCase):
             with self.assertRaises(KeyError):
                 numbers.pop_last()
 
-    def test_a_list_is_one_walk(self) -> None:
-        with Set(range(100), nodes=512) as numbers:
-            asked = []
-            with mock.patch.object(
-                Set, "at_least", autospec=True, side_effect=Set.at_least
-            ) as counted:
-                list(numbers)
-                asked.append(counted.call_count)
-                len(numbers)
-                asked.append(counted.call_count)
-            self.assertEqual(asked, [101, 101])
+    def test_a_list_is_read_in_blocks(self) -> None:
+        for count, blocks in ((0, 1), (7, 1), (9, 2), (73, 3), (100, 3), (1_000, 4)):
+            with Set(range(count), nodes=4_096) as numbers:
+                calls = mock.Mock(wraps=numbers._calls)
+                with mock.patch.object(numbers, "_calls", calls):
+                    self.assertEqual(list(numbers), list(range(count)))
+                    self.assertEqual(list(reversed(numbers)), list(range(count))[::-1])
+                self.assertEqual(calls.scan.call_count, 2 * blocks, count)
 
-    def test_a_key_that_has_gone_is_not_told(self) -> None:
-        with Set(range(10), nodes=64) as numbers:
-            told = []
-            for key in numbers:
-                told.append(key)
-                numbers.discard(key + 1)
-            self.assertEqual(told, [0, 2, 4, 6, 8])
+    def test_a_key_that_has_gone_before_its_block_is_read_is_not_returned(self) -> None:
+        with Set(range(30), nodes=128) as numbers:
+            keys = iter(numbers)
+            self.assertEqual(next(keys), 0)
+            numbers.difference_update((3, 20))
+            self.assertEqual(list(keys), [*range(1, 20), *range(21, 30)])
+
+    def test_ranges_are_counted(self) -> None:
+        with Set(range(0, 2_000, 2), nodes=4_096) as numbers:
+            for least, most in ((None, None), (0, 0), (1, 1), (7, 1_501), (5, 4), (1_998, MOST_KEY)):
+                wanted = len(list(numbers.irange(least, most)))
+                self.assertEqual(numbers.count_range(least, most), wanted)
+            self.assertEqual(numbers.count_range(10, 20, inclusive=(False, False)), 4)
 
 
 class Counts(unittest.TestCase):

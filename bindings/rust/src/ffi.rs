@@ -137,6 +137,54 @@ extern "C" {
         count: usize,
         timeout_ms: u32,
     ) -> c_int;
+    fn nm_pool_scan(
+        pool: *mut RawPool,
+        worker: u32,
+        from: u64,
+        below: u64,
+        keys: *mut u64,
+        room: usize,
+        count: *mut usize,
+        next: *mut u64,
+        timeout_ms: u32,
+    ) -> c_int;
+    fn nm_pool_scan_back(
+        pool: *mut RawPool,
+        worker: u32,
+        from: u64,
+        below: u64,
+        keys: *mut u64,
+        room: usize,
+        count: *mut usize,
+        next: *mut u64,
+        timeout_ms: u32,
+    ) -> c_int;
+    fn nm_pool_count(
+        pool: *mut RawPool,
+        worker: u32,
+        from: u64,
+        below: u64,
+        count: *mut u64,
+        timeout_ms: u32,
+    ) -> c_int;
+    fn nm_pool_insert_many(
+        pool: *mut RawPool,
+        worker: u32,
+        keys: *const u64,
+        count: usize,
+        answers: *mut u8,
+        done: *mut usize,
+        timeout_ms: u32,
+    ) -> c_int;
+    fn nm_pool_remove_many(
+        pool: *mut RawPool,
+        worker: u32,
+        keys: *const u64,
+        count: usize,
+        answers: *mut u8,
+        done: *mut usize,
+        timeout_ms: u32,
+    ) -> c_int;
     fn nm_pool_try_insert(pool: *mut RawPool, worker: u32, key: u64, tries: u32, ms: u32) -> c_int;
     fn nm_pool_try_remove(pool: *mut RawPool, worker: u32, key: u64, tries: u32, ms: u32) -> c_int;
     fn nm_pool_size(pool: *mut RawPool, keys: *mut u64) -> c_int;
@@ -188,6 +236,27 @@ extern "C" {
 
 /// The outcome of a call, a number of `nm_outcome`: an answer, 0 or above, or an error, below 0.
 pub(crate) type Outcome = c_int;
+
+/// The order in which a scan reads keys.
+#[derive(Clone, Copy, Debug, PartialEq, Eq)]
+pub(crate) enum Order {
+    Ascending,
+    Descending,
+}
+
+/// Where a scan writes: keys, how many it wrote, and where the next scan goes on.
+pub(crate) struct Block {
+    pub keys: Vec<u64>,
+    pub count: usize,
+    pub next: u64,
+}
+
+/// What a call does with each of several keys.
+#[derive(Clone, Copy, Debug, PartialEq, Eq)]
+pub(crate) enum Change {
+    Insert,
+    Remove,
+}
 
 /// A pool that threads share. Its set ends when it is dropped.
 pub(crate) struct Pool(NonNull<RawPool>);
@@ -244,6 +313,9 @@ impl Pool {
         prev = nm_pool_prev(worker: u32, key: u64, found: &mut u64, timeout_ms: u32);
         try_insert = nm_pool_try_insert(worker: u32, key: u64, tries: u32, timeout_ms: u32);
         try_remove = nm_pool_try_remove(worker: u32, key: u64, tries: u32, timeout_ms: u32);
+        count = nm_pool_count(
+            worker: u32, from: u64, below: u64, count: &mut u64, timeout_ms: u32
+        );
         size = nm_pool_size(keys: &mut u64);
         fullness = nm_pool_fullness(fullness: &mut Fullness);
         collect_all = nm_pool_collect(freed: &mut u64);
@@ -287,11 +359,67 @@ impl Pool {
         }
     }
 
+    /// Reads keys in an order into a block, from its `next` on, up to the other end of the range.
+    pub(crate) fn scan(
+        &self,
+        worker: u32,
+        order: Order,
+        (from, below): (u64, u64),
+        block: &mut Block,
+        timeout_ms: u32,
+    ) -> Outcome {
+        let Block { keys, count, next } = block;
+        let (pool, first, room) = (self.0.as_ptr(), keys.as_mut_ptr(), keys.len());
+        let scan = match order {
+            Order::Ascending => nm_pool_scan,
+            Order::Descending => nm_pool_scan_back,
+        };
+        // SAFETY: the pool exists as long as `self`. The block is borrowed for this call alone, and
+        // `first` is not null, even if there is no room.
+        unsafe {
+            scan(
+                pool, worker, from, below, first, room, count, next, timeout_ms,
+            )
+        }
+    }
+
     /// Looks up several keys.
     pub(crate) fn contains_many(&self, worker: u32, lookups: &mut [Lookup], ms: u32) -> Outcome {
         let (first, count) = (lookups.as_mut_ptr(), lookups.len());
         // SAFETY: the slice is borrowed for this call alone.
         unsafe { nm_pool_contains_many(self.0.as_ptr(), worker, first, count, ms) }
+    }
+
+    /// Inserts or removes several keys. Returns the outcome, and 1 or 0 for each key that it
+    /// changed.
+    pub(crate) fn change_many(
+        &self,
+        worker: u32,
+        change: Change,
+        keys: &[u64],
+        timeout_ms: u32,
+    ) -> (Outcome, Vec<u8>) {
+        let (mut answers, mut done) = (vec![0; keys.len()], 0);
+        let call = match change {
+            Change::Insert => nm_pool_insert_many,
+            Change::Remove => nm_pool_remove_many,
+        };
+        let (first, bytes, count) = (keys.as_ptr(), answers.as_mut_ptr(), keys.len());
+        // SAFETY: the pool exists as long as `self`. There is a byte for each key, and all of it is
+        // borrowed for this call alone.
+        let outcome = unsafe {
+            call(
+                self.0.as_ptr(),
+                worker,
+                first,
+                count,
+                bytes,
+                &mut done,
+                timeout_ms,
+            )
+        };
+        answers.truncate(done);
+        (outcome, answers)
     }
 
     /// Looks up several keys by an attached worker, with a number of tries.

@@ -1,33 +1,42 @@
 //! The keys in order, and the calls that are made of several calls for single keys.
 
 use crate::fault::Fault;
+use crate::ffi::Order;
 use crate::set::Set;
 use crate::worker::Worker;
 use crate::MOST_KEY;
+use std::collections::VecDeque;
 use std::fmt;
 use std::iter::FusedIterator;
 use std::ops::{Bound, RangeBounds};
 
+/// The most keys that a range reads in one call.
+const MOST_ROOM: usize = 512;
+
+/// Keys in the order of a scan, and where the next scan goes on, or None if they are all.
+type Scanned = (Vec<u64>, Option<u64>);
+
 /// What makes the calls: a set, or a worker of a set.
 pub trait Calls {
-    /// Returns the least key that is not below this one.
-    fn least_from(&mut self, key: u64) -> Result<Option<u64>, Fault>;
-    /// Returns the greatest key that is not above this one.
-    fn greatest_to(&mut self, key: u64) -> Result<Option<u64>, Fault>;
+    /// Returns keys of a range, ascending, at most `room` of them. The next scan goes on at a key.
+    fn scan(&mut self, range: (u64, u64), room: usize) -> Result<Scanned, Fault>;
+    /// Returns keys of a range, descending, at most `room` of them. The next scan goes on below a
+    /// key.
+    fn scan_back(&mut self, range: (u64, u64), room: usize) -> Result<Scanned, Fault>;
     /// Removes a key; returns whether it was present.
     fn take(&mut self, key: u64) -> Result<bool, Fault>;
 }
 
-/// Implements `Calls` by the public calls, which have the same names for a set and for a worker.
+/// Implements `Calls` by the calls that have the same names for a set and for a worker.
 macro_rules! calls_of {
     ($($whose:ty),*) => {$(
         impl Calls for $whose {
-            fn least_from(&mut self, key: u64) -> Result<Option<u64>, Fault> {
-                self.at_least(key)
+            fn scan(&mut self, range: (u64, u64), room: usize) -> Result<Scanned, Fault> {
+                self.place().scan(Order::Ascending, range, room)
             }
 
-            fn greatest_to(&mut self, key: u64) -> Result<Option<u64>, Fault> {
-                self.at_most(key)
+            fn scan_back(&mut self, range: (u64, u64), room: usize) -> Result<Scanned, Fault> {
+                self.place().scan(Order::Descending, range, room)
             }
 
             fn take(&mut self, key: u64) -> Result<bool, Fault> {
@@ -54,15 +63,30 @@ pub(crate) fn retain(
 ) -> Result<(), Fault> {
     let mut rest = Some(0);
     while let Some(from) = rest {
-        let Some(key) = calls.least_from(from)? else {
-            break;
-        };
-        if !stays(key) {
-            take(&mut calls, key)?;
+        let (keys, next) = calls.scan((from, MOST_KEY), MOST_ROOM)?;
+        for key in keys {
+            if !stays(key) {
+                take(&mut calls, key)?;
+            }
         }
-        rest = (key < MOST_KEY).then(|| key + 1);
+        rest = next.filter(|&next| next <= MOST_KEY);
     }
     Ok(())
+}
+
+/// Returns the least and the greatest key of these bounds, or None if they have no key.
+pub(crate) fn ends_of(bounds: impl RangeBounds<u64>) -> Option<(u64, u64)> {
+    let low = match bounds.start_bound() {
+        Bound::Included(&key) => Some(key),
+        Bound::Excluded(&key) => key.checked_add(1),
+        Bound::Unbounded => Some(0),
+    };
+    let high = match bounds.end_bound() {
+        Bound::Included(&key) => Some(key.min(MOST_KEY)),
+        Bound::Excluded(&key) => key.checked_sub(1).map(|key| key.min(MOST_KEY)),
+        Bound::Unbounded => Some(MOST_KEY),
+    };
+    low.zip(high).filter(|(low, high)| low <= high)
 }
 
 /// The keys of a range, ascending by [`next`](Iterator::next) and descending by
@@ -70,24 +94,64 @@ pub(crate) fn retain(
 /// [`Set::range`](crate::Set::range). It ends after the first fault.
 pub struct Range<C> {
     calls: C,
-    /// The least and the greatest key that it may still return; None after its end.
+    /// The least and the greatest key that it may still read; None after the last scan.
     rest: Option<(u64, u64)>,
+    /// The keys below `rest` that were read and not returned, ascending.
+    low: VecDeque<u64>,
+    /// The keys above `rest` that were read and not returned, ascending.
+    high: VecDeque<u64>,
+    /// How many keys the next scan reads.
+    room: usize,
 }
 
 impl<C> Range<C> {
     pub(crate) fn of(calls: C, bounds: impl RangeBounds<u64>) -> Range<C> {
-        let low = match bounds.start_bound() {
-            Bound::Included(&key) => Some(key),
-            Bound::Excluded(&key) => key.checked_add(1),
-            Bound::Unbounded => Some(0),
-        };
-        let high = match bounds.end_bound() {
-            Bound::Included(&key) => Some(key.min(MOST_KEY)),
-            Bound::Excluded(&key) => key.checked_sub(1).map(|key| key.min(MOST_KEY)),
-            Bound::Unbounded => Some(MOST_KEY),
-        };
-        let rest = low.zip(high).filter(|(low, high)| low <= high);
-        Range { calls, rest }
+        Range {
+            calls,
+            rest: ends_of(bounds),
+            low: VecDeque::new(),
+            high: VecDeque::new(),
+            room: 1,
+        }
+    }
+
+    /// Returns the room of a scan; the next one has more.
+    fn take_room(&mut self) -> usize {
+        let room = self.room;
+        self.room = MOST_ROOM.min(8 * room);
+        room
+    }
+
+    /// Ends the range after a fault.
+    fn end(&mut self, fault: Fault) -> Option<Result<u64, Fault>> {
+        self.rest = None;
+        self.low.clear();
+        self.high.clear();
+        Some(Err(fault))
+    }
+}
+
+impl<C: Calls> Range<C> {
+    /// Reads the next keys upward, until there is one or no key is left to read.
+    fn read(&mut self) -> Result<(), Fault> {
+        while let (true, Some((low, high))) = (self.low.is_empty(), self.rest) {
+            let room = self.take_room();
+            let (keys, next) = self.calls.scan((low, high), room)?;
+            self.low.extend(keys);
+            self.rest = next.filter(|&next| next <= high).map(|next| (next, high));
+        }
+        Ok(())
+    }
+
+    /// Reads the next keys downward, in the same way.
+    fn read_back(&mut self) -> Result<(), Fault> {
+        while let (true, Some((low, high))) = (self.high.is_empty(), self.rest) {
+            let room = self.take_room();
+            let (keys, next) = self.calls.scan_back((low, high), room)?;
+            self.high.extend(keys.into_iter().rev());
+            self.rest = next.filter(|&next| next > low).map(|next| (low, next - 1));
+        }
+        Ok(())
     }
 }
 
@@ -95,15 +159,13 @@ impl<C: Calls> Iterator for Range<C> {
     type Item = Result<u64, Fault>;
 
     fn next(&mut self) -> Option<Result<u64, Fault>> {
-        let (low, high) = self.rest.take()?;
-        let found = self.calls.least_from(low).transpose()?;
-        if found.as_ref().is_ok_and(|&key| key > high) {
-            return None;
+        if let Err(fault) = self.read() {
+            return self.end(fault);
         }
-        if let Ok(key) = found {
-            self.rest = (key < high).then(|| (key + 1, high));
-        }
-        Some(found)
+        self.low
+            .pop_front()
+            .or_else(|| self.high.pop_front())
+            .map(Ok)
     }
 
     fn last(mut self) -> Option<Result<u64, Fault>> {
@@ -113,15 +175,10 @@ impl<C: Calls> Iterator for Range<C> {
 
 impl<C: Calls> DoubleEndedIterator for Range<C> {
     fn next_back(&mut self) -> Option<Result<u64, Fault>> {
-        let (low, high) = self.rest.take()?;
-        let found = self.calls.greatest_to(high).transpose()?;
-        if found.as_ref().is_ok_and(|&key| key < low) {
-            return None;
+        if let Err(fault) = self.read_back() {
+            return self.end(fault);
         }
-        if let Ok(key) = found {
-            self.rest = (key > low).then(|| (low, key - 1));
-        }
-        Some(found)
+        self.high.pop_back().or_else(|| self.low.pop_back()).map(Ok)
     }
 }
 
@@ -137,19 +194,24 @@ impl<C> fmt::Debug for Range<C> {
 
 #[cfg(test)]
 mod tests {
-    use super::{retain, Calls, Fault, Range};
+    use super::{retain, Calls, Fault, Range, Scanned};
     use std::collections::BTreeSet;
 
     /// A set in which each remove returns `Unfinished`.
     struct Unfinished(BTreeSet<u64>);
 
     impl Calls for &mut Unfinished {
-        fn least_from(&mut self, key: u64) -> Result<Option<u64>, Fault> {
-            Ok(self.0.range(key..).next().copied())
+        fn scan(&mut self, (low, high): (u64, u64), room: usize) -> Result<Scanned, Fault> {
+            let keys: Vec<u64> = self.0.range(low..=high).take(room).copied().collect();
+            let next = (keys.len() == room).then(|| keys[room - 1] + 1);
+            Ok((keys, next))
         }
 
-        fn greatest_to(&mut self, key: u64) -> Result<Option<u64>, Fault> {
-            Ok(self.0.range(..=key).next_back().copied())
+        fn scan_back(&mut self, (low, high): (u64, u64), room: usize) -> Result<Scanned, Fault> {
+            let down = self.0.range(low..=high).rev();
+            let keys: Vec<u64> = down.take(room).copied().collect();
+            let next = (keys.len() == room).then(|| keys[room - 1]);
+            Ok((keys, next))
         }
 
         fn take(&mut self, key: u64) -> Result<bool, Fault> {
@@ -172,5 +234,17 @@ mod tests {
         assert_eq!(keys.next_back(), Some(Ok(6)));
         assert_eq!(keys.next(), Some(Ok(5)));
         assert_eq!((keys.next(), keys.next_back()), (None, None));
+    }
+
+    #[test]
+    fn two_ends_share_what_either_has_read() {
+        for (taken, count) in [(1, 3000), (9, 3000), (600, 601), (1, 2), (40, 50)] {
+            let mut set = Unfinished((0..count).collect());
+            let mut keys = Range::of(&mut set, ..);
+            let up: Vec<_> = keys.by_ref().take(taken).collect();
+            let mut down: Vec<_> = keys.rev().collect();
+            down.reverse();
+            assert_eq!([up, down].concat(), (0..count).map(Ok).collect::<Vec<_>>());
+        }
     }
 }

@@ -1,7 +1,9 @@
 //! The place of a call: the library's pool, and the number of a worker there or any worker.
 
 use crate::fault::{answer, Fault, Full};
-use crate::ffi::{CallOptions, Fullness, Lookup, Outcome, Pool, ReportHandle, ANY};
+use crate::ffi::{
+    Block, CallOptions, Change, Fullness, Lookup, Order, Outcome, Pool, ReportHandle, ANY,
+};
 use crate::numbers::Numbers;
 use crate::options::Options;
 use crate::report::Report;
@@ -223,6 +225,21 @@ impl Place<'_> {
         Ok(found(&lookups))
     }
 
+    /// Inserts or removes these keys, one by one, and appends the answer of each.
+    pub fn change_many(
+        &self,
+        change: Change,
+        keys: &[u64],
+        answers: &mut Vec<bool>,
+    ) -> Result<(), Fault> {
+        let Shared {
+            pool, timeout_ms, ..
+        } = self.shared;
+        let (outcome, bytes) = pool.change_many(self.worker, change, keys, *timeout_ms);
+        answers.extend(bytes.iter().map(|&byte| byte != 0));
+        self.answer(outcome).map(drop)
+    }
+
     pub fn at_least(&self, key: u64) -> Result<Option<u64>, Fault> {
         self.nearest(key, Pool::next)
     }
@@ -247,6 +264,38 @@ impl Place<'_> {
             shared.timeout_ms,
         );
         self.key(outcome, found)
+    }
+
+    /// Returns keys from `low` to `high` in an order, at most `room` of them, and where the next
+    /// scan goes on, or None if they are all of them.
+    pub fn scan(
+        &self,
+        order: Order,
+        (low, high): (u64, u64),
+        room: usize,
+    ) -> Result<(Vec<u64>, Option<u64>), Fault> {
+        let mut block = Block {
+            keys: vec![0; room],
+            count: 0,
+            next: low,
+        };
+        let Shared {
+            pool, timeout_ms, ..
+        } = self.shared;
+        let outcome = pool.scan(self.worker, order, (low, high + 1), &mut block, *timeout_ms);
+        let has_more = self.answer(outcome)?;
+        block.keys.truncate(block.count);
+        Ok((block.keys, has_more.then_some(block.next)))
+    }
+
+    /// Returns how many keys the set has from `low` to `high`.
+    pub fn count(&self, (low, high): (u64, u64)) -> Result<u64, Fault> {
+        let mut count = 0;
+        let Shared {
+            pool, timeout_ms, ..
+        } = self.shared;
+        self.answer(pool.count(self.worker, low, high + 1, &mut count, *timeout_ms))?;
+        Ok(count)
     }
 
     /// Pins the epoch by an attached worker, after the remove that is pending; returns the epoch.

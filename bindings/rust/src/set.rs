@@ -1,6 +1,7 @@
 //! The set that threads share.
 
 use crate::fault::{answer, Fault};
+use crate::ffi::Change;
 use crate::key::checked;
 use crate::options::Options;
 use crate::order::{self, Range};
@@ -89,7 +90,7 @@ impl Set {
         Set(shared)
     }
 
-    fn place(&self) -> Place<'_> {
+    pub(crate) fn place(&self) -> Place<'_> {
         self.0.any()
     }
 
@@ -196,10 +197,10 @@ impl Set {
         self.place().pop_last()
     }
 
-    /// Returns an iterator over the keys of a range, while the set is in use. It finds each
-    /// ascending key by [`at_least`](Set::at_least), and each descending key by
-    /// [`at_most`](Set::at_most). It may return or skip a key that is inserted or removed
-    /// meanwhile. A range whose start is above its end has no keys; with a `BTreeSet` it panics.
+    /// Returns an iterator over the keys of a range, while the set is in use. It reads keys ahead,
+    /// in blocks of 1, 8, 64 and 512, each by one call. It may return or skip a key that is
+    /// inserted or removed meanwhile. It returns no key that was removed before its block was
+    /// read. A range whose start is above its end has no keys; with a `BTreeSet` it panics.
     ///
     /// ```
     /// # fn main() -> Result<(), nm_set::Fault> {
@@ -220,6 +221,20 @@ impl Set {
         self.range(..)
     }
 
+    /// Returns how many keys of a range the set has. While others change the set, it counts each
+    /// key as it finds it.
+    ///
+    /// ```
+    /// # fn main() -> Result<(), nm_set::Fault> {
+    /// let set = nm_set::Set::from([5, 7, 9]);
+    /// assert_eq!((set.count(6..)?, set.count(..=7)?), (2, 2));
+    /// # Ok(())
+    /// # }
+    /// ```
+    pub fn count(&self, bounds: impl RangeBounds<u64>) -> Result<u64, Fault> {
+        order::ends_of(bounds).map_or(Ok(0), |ends| self.place().count(ends))
+    }
+
     // ---- several keys ----
 
     /// Inserts these keys, one by one; returns how many were absent. After a fault the keys before
@@ -232,6 +247,34 @@ impl Set {
             added += usize::from(self.insert(key)?);
         }
         Ok(added)
+    }
+
+    /// Inserts these keys, one by one, and appends to `answers` whether each was absent. A look-up
+    /// of 64 of them at a time comes first: it is faster than single calls if the set is larger
+    /// than the caches of the processor. After a fault the keys that have answers are inserted.
+    ///
+    /// ```
+    /// # fn main() -> Result<(), nm_set::Fault> {
+    /// let set = nm_set::Set::from([5, 7]);
+    /// let mut answers = Vec::new();
+    /// set.insert_many(&[5, 6], &mut answers)?;
+    /// set.remove_many(&[7, 8], &mut answers)?;
+    /// assert_eq!(answers, [false, true, true, false]);
+    /// # Ok(())
+    /// # }
+    /// ```
+    ///
+    /// Errors: `Key`, before any key is inserted; `Full`, `NoMemory`.
+    pub fn insert_many(&self, keys: &[u64], answers: &mut Vec<bool>) -> Result<(), Fault> {
+        keys.iter().try_for_each(|&key| checked(key).map(drop))?;
+        self.place().change_many(Change::Insert, keys, answers)
+    }
+
+    /// Removes these keys, one by one, and appends to `answers` whether each was present, in the
+    /// way of [`insert_many`](Set::insert_many).
+    pub fn remove_many(&self, keys: &[u64], answers: &mut Vec<bool>) -> Result<(), Fault> {
+        keys.iter().try_for_each(|&key| checked(key).map(drop))?;
+        self.place().change_many(Change::Remove, keys, answers)
     }
 
     /// Removes each key for which `stays` returns false. A key that is inserted meanwhile may

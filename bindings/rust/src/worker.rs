@@ -1,7 +1,7 @@
 //! A worker, by which one thread at a time makes calls.
 
 use crate::fault::{answer, Fault};
-use crate::ffi::{Outcome, Pool, Stats};
+use crate::ffi::{Change, Outcome, Pool, Stats};
 use crate::key::checked;
 use crate::numbers::Numbers;
 use crate::order::{self, Range};
@@ -111,7 +111,7 @@ impl Worker {
         Worker { shared, number }
     }
 
-    fn place(&mut self) -> Place<'_> {
+    pub(crate) fn place(&mut self) -> Place<'_> {
         self.shared.by(self.number)
     }
 
@@ -202,6 +202,23 @@ impl Worker {
     /// Returns an iterator over all keys: see [`Set::range`].
     pub fn iter(&mut self) -> Range<&mut Worker> {
         self.range(..)
+    }
+
+    /// Returns how many keys of a range the set has: see [`Set::count`].
+    pub fn count(&mut self, bounds: impl RangeBounds<u64>) -> Result<u64, Fault> {
+        order::ends_of(bounds).map_or(Ok(0), |ends| self.place().count(ends))
+    }
+
+    /// Inserts these keys, and appends the answer of each: see [`Set::insert_many`].
+    pub fn insert_many(&mut self, keys: &[u64], answers: &mut Vec<bool>) -> Result<(), Fault> {
+        keys.iter().try_for_each(|&key| checked(key).map(drop))?;
+        self.place().change_many(Change::Insert, keys, answers)
+    }
+
+    /// Removes these keys, and appends the answer of each: see [`Set::remove_many`].
+    pub fn remove_many(&mut self, keys: &[u64], answers: &mut Vec<bool>) -> Result<(), Fault> {
+        keys.iter().try_for_each(|&key| checked(key).map(drop))?;
+        self.place().change_many(Change::Remove, keys, answers)
     }
 
     /// Inserts these keys; returns how many were absent: see [`Set::extend`].
