@@ -3,7 +3,10 @@
 #define _GNU_SOURCE
 #include "nm_pool.h"
 
+#include <errno.h>
 #include <inttypes.h>
+#include <limits.h>
+#include <linux/futex.h>
 #include <pthread.h>
 #include <sched.h>
 #include <stdalign.h>
@@ -13,7 +16,9 @@
 #include <stdio.h>
 #include <stdlib.h>
 #include <string.h>
+#include <sys/syscall.h>
 #include <time.h>
+#include <unistd.h>
 
 #define LINE 64          /* the bytes of a cache line */
 #define PROCESSORS 64    /* the places of processors; two processors may have one place */
@@ -70,12 +75,14 @@ struct nm_pool {
     void *block;              /* what malloc returned */
     atomic_int phase;
     atomic_uint opened;       /* above the number of each seat that was ever open */
-    atomic_uint inserts;      /* how many inserts have yielded their processors */
+    atomic_uint awaited;      /* how many inserts have yielded their processors, and how many pops
+                                 wait for a key */
+    atomic_uint added;        /* changes when a key is inserted while a pop waits for one */
     alignas(LINE) nm_handle set;
     nm_handle closed;         /* the handle of each worker in a forked child */
     atomic_bool is_closing;   /* whether a thread closes the set or changes its size */
     atomic_uint references;   /* 1 until nm_pool_free, and 1 for each attached worker */
-    atomic_uint inserts_at[PROCESSORS]; /* the same by the place of the processor */
+    atomic_uint inserts_at[PROCESSORS]; /* the inserts among them by the place of the processor */
     struct seat seats[];
 };
 
@@ -193,23 +200,51 @@ static unsigned processor(void) {
 static void yield_for_nodes(nm_pool *pool) {
     atomic_uint *here = &pool->inserts_at[processor()];
     atomic_fetch_add_explicit(here, 1, memory_order_relaxed);
-    atomic_fetch_add_explicit(&pool->inserts, 1, memory_order_relaxed);
+    atomic_fetch_add_explicit(&pool->awaited, 1, memory_order_relaxed);
     (void)sched_yield();
-    atomic_fetch_sub_explicit(&pool->inserts, 1, memory_order_relaxed);
+    atomic_fetch_sub_explicit(&pool->awaited, 1, memory_order_relaxed);
     atomic_fetch_sub_explicit(here, 1, memory_order_relaxed);
 }
 
-/* A thread that has waited for long may be chosen several times before the insert. */
-COLD void yield_back_here(nm_pool *pool) {
+/* Yields the processor back if an insert has yielded it. A thread that has waited for long may be
+ * chosen several times before the insert. */
+static void yield_back(nm_pool *pool) {
     for (int turn = 0; turn < BACK_TURNS; turn++) {
         if (atomic_load_explicit(&pool->inserts_at[processor()], memory_order_relaxed) == 0) return;
         (void)sched_yield();
     }
 }
 
-/* Yields the processor back, after a call, if an insert has yielded it. */
-INLINE void yield_back(nm_pool *pool) {
-    if (atomic_load_explicit(&pool->inserts, memory_order_relaxed) != 0) yield_back_here(pool);
+/* ---- pops that wait for a key ----
+ * A pop counts itself, looks for a key, and sleeps if there is none. An insert counts the waiting
+ * pops after its call. The exchanges of both are sequentially consistent: so the pop finds the key,
+ * or the insert finds the pop. */
+
+static long futex(atomic_uint *word, int what, unsigned number, const struct timespec *most) {
+    return syscall(SYS_futex, word, what, number, most, NULL, 0);
+}
+
+/* Wakes some pops that wait. */
+static void wake_pops(nm_pool *pool, unsigned most) {
+    atomic_fetch_add(&pool->added, 1);
+    (void)futex(&pool->added, FUTEX_WAKE_PRIVATE, most, NULL);
+}
+
+/* Sleeps until a key was inserted after `added` was read, or until some time. Returns false if the
+ * time is over. */
+static bool sleep_for_key(nm_pool *pool, unsigned added, uint64_t end) {
+    uint64_t at = now();
+    if (at >= end) return false;
+    struct timespec most = {(time_t)((end - at) / 1000000000u), (long)((end - at) % 1000000000u)};
+    return futex(&pool->added, FUTEX_WAIT_PRIVATE, added, &most) == 0 || errno != ETIMEDOUT;
+}
+
+static void no_longer_awaited(void *pool) { atomic_fetch_sub(&((nm_pool *)pool)->awaited, 1); }
+
+/* After a call: wakes a pop if the call has inserted a key, and yields the processor back. */
+COLD void serve(nm_pool *pool, bool is_inserted) {
+    if (is_inserted) wake_pops(pool, 1);
+    yield_back(pool);
 }
 
 /* ---- seats ---- */
@@ -456,7 +491,8 @@ INLINE nm_outcome make(nm_pool *pool, uint32_t worker, call_of call, enum gain g
     nm_outcome outcome = worker == NM_ANY
                              ? by_any(pool, call, gain, request, timeout_ms)
                              : by_number(pool, worker, call, gain, request, timeout_ms);
-    yield_back(pool);
+    if (atomic_load_explicit(&pool->awaited, memory_order_relaxed) != 0)
+        serve(pool, gain == INSERTS && outcome == NM_YES);
     return outcome;
 }
 
@@ -967,6 +1003,21 @@ nm_outcome nm_pool_pop_last(nm_pool *pool, uint32_t worker, uint64_t *taken, uin
     return make(pool, worker, pop_last, REMOVES, &request, timeout_ms);
 }
 
+nm_outcome nm_pool_wait_pop(nm_pool *pool, uint32_t worker, uint64_t *taken, uint32_t timeout_ms) {
+    uint64_t end = now() + (uint64_t)timeout_ms * 1000000u;
+    nm_outcome outcome = nm_pool_pop_first(pool, worker, taken, timeout_ms);
+    if (outcome != NM_NO || timeout_ms == 0) return outcome;
+    atomic_fetch_add(&pool->awaited, 1);
+    pthread_cleanup_push(no_longer_awaited, pool);
+    unsigned added;
+    do {
+        added = atomic_load(&pool->added);
+        outcome = nm_pool_pop_first(pool, worker, taken, timeout_ms);
+    } while (outcome == NM_NO && sleep_for_key(pool, added, end));
+    pthread_cleanup_pop(1);
+    return outcome;
+}
+
 nm_outcome nm_pool_next(nm_pool *pool, uint32_t worker, uint64_t key, uint64_t *found,
                         uint32_t timeout_ms) {
     const struct request request = {.key = key, .found = found};
@@ -1257,6 +1308,7 @@ static nm_outcome close_set(nm_pool *pool, nm_handle *report, nm_pool_wait *wait
         *report = pool->set;
         pool->set = (nm_handle)NM_CLOSED_HANDLE;
         atomic_store(&pool->phase, ENDED);
+        wake_pops(pool, INT_MAX);
     }
     return outcome;
 }

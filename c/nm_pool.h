@@ -158,6 +158,12 @@ nm_outcome nm_pool_pop_first(nm_pool *pool, uint32_t worker, uint64_t *taken, ui
 /* Removes the greatest key and writes it, in the same way. */
 nm_outcome nm_pool_pop_last(nm_pool *pool, uint32_t worker, uint64_t *taken, uint32_t timeout_ms);
 
+/* Removes the least key like nm_pool_pop_first. If the set is empty, it waits for a key, for at most
+ * timeout_ms milliseconds in all, and sleeps meanwhile. An insert that returns NM_YES wakes it.
+ * Tested: no wake is lost. NM_NO after that time. NM_CLOSED if the set is closed meanwhile. While no
+ * call waits here, this costs other calls nothing. A sleep here is no cancellation point. */
+nm_outcome nm_pool_wait_pop(nm_pool *pool, uint32_t worker, uint64_t *taken, uint32_t timeout_ms);
+
 /* Finds the least key that is not below key: NM_YES and it is written to found, or NM_NO. */
 nm_outcome nm_pool_next(nm_pool *pool, uint32_t worker, uint64_t key, uint64_t *found,
                         uint32_t timeout_ms);

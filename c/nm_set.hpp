@@ -160,6 +160,12 @@ struct Place {
     std::uint32_t timeout_ms = 0;
 };
 
+// Returns a time in milliseconds, at most the longest time of a call of the pool.
+inline std::uint32_t millis(std::chrono::milliseconds most) noexcept {
+    constexpr std::chrono::milliseconds::rep longest = UINT32_MAX;
+    return static_cast<std::uint32_t>(std::clamp(most.count(), decltype(longest){0}, longest));
+}
+
 // Informs ThreadSanitizer that what a thread did before a call is visible after a later call by
 // another thread. Without ThreadSanitizer it does nothing.
 class Ordered {
@@ -428,6 +434,16 @@ public:
 
     // Removes the greatest key and returns it, in the same way.
     std::optional<std::uint64_t> pop_last() { return pop(nm_pool_pop_last); }
+
+    // Removes the least key and returns it, like `pop_first`. If the set is empty it waits for a key,
+    // for `most` at most, and sleeps meanwhile: an insert wakes it. Returns nothing after that time.
+    // Throws NM_CLOSED if the set is closed meanwhile.
+    std::optional<std::uint64_t> wait_pop(std::chrono::milliseconds most) {
+        std::uint32_t timeout_ms = detail::millis(most);
+        return pop([=](nm_pool *pool, std::uint32_t worker, std::uint64_t *taken, std::uint32_t) {
+            return nm_pool_wait_pop(pool, worker, taken, timeout_ms);
+        });
+    }
 
     [[nodiscard]] bool empty() const { return !first(); }
 
@@ -1010,7 +1026,7 @@ public:
     [[nodiscard]] Worker attach(std::chrono::milliseconds most) {
         Worker taken;
         bound(lend(taken, [=](nm_pool *pool, std::uint32_t *number) {
-            return nm_pool_attach(pool, number, millis(most));
+            return nm_pool_attach(pool, number, detail::millis(most));
         }));
         return taken;
     }
@@ -1181,12 +1197,6 @@ private:
         nm_fullness now{};
         bound(ask([&](const detail::Place &to) { return nm_pool_fullness(to.pool, &now); }));
         return now;
-    }
-
-    // Returns a time in milliseconds, at most the longest time of a call of the pool.
-    static std::uint32_t millis(std::chrono::milliseconds most) noexcept {
-        constexpr std::chrono::milliseconds::rep longest = UINT32_MAX;
-        return static_cast<std::uint32_t>(std::clamp(most.count(), decltype(longest){0}, longest));
     }
 
     // Attaches a worker into a closed one, by a call that writes its number.
