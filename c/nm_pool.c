@@ -834,6 +834,7 @@ static nm_outcome size_alone(nm_pool *pool, const struct wish *wish, nm_pool_wai
                              uint32_t timeout_ms, uint64_t *missing) {
     nm_outcome outcome = NM_CLOSED;
     int cancel;
+    *missing = 0;
     while (atomic_exchange(&pool->is_closing, true))
         if (!pause_at(pool, wait, timeout_ms)) return NM_IN_USE;
     (void)pthread_setcancelstate(PTHREAD_CANCEL_DISABLE, &cancel);

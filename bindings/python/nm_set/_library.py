@@ -70,7 +70,8 @@ class FullnessWords(ctypes.Structure):
     """nm_fullness."""
 
     _fields_ = [
-        (name, c_uint64) for name in ("nodes", "keys", "waiting", "free", "unasked", "behind")
+        (name, c_uint64)
+        for name in ("nodes", "keys", "waiting", "free", "unasked", "behind", "hindering")
     ]
 
 
@@ -106,12 +107,16 @@ FUNCTIONS: dict[str, list[Any]] = {
     "nm_pool_remove": [_POOL, c_uint32, c_uint64, c_uint32],
     "nm_pool_pop_first": [_POOL, c_uint32, _U64, c_uint32],
     "nm_pool_pop_last": [_POOL, c_uint32, _U64, c_uint32],
+    "nm_pool_wait_pop": [_POOL, c_uint32, _U64, c_uint32],
     "nm_pool_next": [_POOL, c_uint32, c_uint64, _U64, c_uint32],
     "nm_pool_prev": [_POOL, c_uint32, c_uint64, _U64, c_uint32],
     "nm_pool_contains_many": [_POOL, c_uint32, POINTER(LookupWords), c_size_t, c_uint32],
     "nm_pool_size": [_POOL, _U64],
     "nm_pool_fullness": [_POOL, POINTER(FullnessWords)],
     "nm_pool_collect": [_POOL, _U64],
+    "nm_pool_reserve": [_POOL, c_uint64, c_uint32, _U64],
+    "nm_pool_shrink_to_fit": [_POOL, c_uint32, _U64],
+    "nm_pool_nodes": [_POOL],
     "nm_pool_workers": [_POOL],
     "nm_pool_call_options": [_POOL],
     "nm_pool_attached": [_POOL],
@@ -140,6 +145,7 @@ FUNCTIONS: dict[str, list[Any]] = {
 # What those functions return that return no outcome.
 _RESULTS: dict[str, Any] = {
     "nm_pool_free": None,
+    "nm_pool_nodes": c_uint64,
     "nm_pool_workers": c_uint32,
     "nm_pool_attached": c_uint64,
     "nm_pool_call_options": POINTER(OptionsWords),
@@ -149,10 +155,11 @@ _RESULTS: dict[str, Any] = {
 }
 
 # In place of the number of a worker: any worker, and none. In place of `collect_after`: an eighth of
-# the nodes.
+# the nodes. In place of the number of nodes: the set grows.
 ANY: Final = 2**32 - 1
 NONE: Final = 2**32 - 2
 AN_EIGHTH: Final = 2**32 - 1
+GROWS: Final = 2**64 - 1
 
 # The outcomes that this module knows.
 NO: Final = 0
