@@ -3,7 +3,10 @@
 #define _GNU_SOURCE
 #include "nm_pool.h"
 
+#include <errno.h>
 #include <inttypes.h>
+#include <limits.h>
+#include <linux/futex.h>
 #include <pthread.h>
 #include <sched.h>
 #include <stdalign.h>
@@ -13,7 +16,9 @@
 #include <stdio.h>
 #include <stdlib.h>
 #include <string.h>
+#include <sys/syscall.h>
 #include <time.h>
+#include <unistd.h>
 
 #define LINE 64          /* the bytes of a cache line */
 #define PROCESSORS 64    /* the places of processors; two processors may have one place */
@@ -30,15 +35,21 @@
 #define WORKERS 64       /* the most workers of a set */
 #define SCANNED 512      /* how many keys a count reads in one call */
 #define SOUGHT 64        /* how many keys a call for many looks up together */
+#define FIRST_NODES 20005     /* of a set that grows: room for 10,000 keys */
+#define MOST_NODES 268435456u /* the most nodes of a set */
+#define GROWTH 4         /* how many times the nodes a set has after it grew */
+#define CROWDED 8        /* a set grows without a collection if its keys leave less than an eighth */
+#define FINISHES 1000    /* how often a remove that is pending is continued before a new size */
 
 /* What uses a seat: nothing, a call by NM_ANY, or a thread that attached its worker. Or no call may
  * use it, because the set is closed. */
 enum use { FREE, CALL, LENT, CLOSED };
 
-/* OPEN: calls are made. CLOSING: they wait for the end of a close. GATHERED: a close was refused
- * memory, after it had taken all workers. ENDED: the report was given out. LEFT: the pool was given
- * up, and attached workers go on. */
-enum phase { OPEN, CLOSING, GATHERED, ENDED, LEFT };
+/* OPEN: calls are made. SIZING: they wait until the set has its new size. CLOSING: they wait for
+ * the end of a close. GATHERED: a close, or a change of the size, was refused memory after it had
+ * taken all workers. ENDED: the report was given out. LEFT: the pool was given up, and attached
+ * workers go on. */
+enum phase { OPEN, SIZING, CLOSING, GATHERED, ENDED, LEFT };
 
 /* What a call that returns NM_YES does to the number of keys. */
 enum gain { NONE, INSERTS, REMOVES };
@@ -57,17 +68,23 @@ struct seat {
 struct nm_pool {
     nm_options options;
     uint32_t count;
-    uint64_t nodes;
+    uint32_t shape;
+    bool grows;
+    _Atomic uint64_t nodes;
+    _Atomic uint64_t hindering; /* a bit for each worker that prevented the last change of the size */
+    atomic_uint sizes;        /* how often the size has changed */
     unsigned long forks;
     void *block;              /* what malloc returned */
     atomic_int phase;
     atomic_uint opened;       /* above the number of each seat that was ever open */
-    atomic_uint inserts;      /* how many inserts have yielded their processors */
+    atomic_uint awaited;      /* how many inserts have yielded their processors, and how many pops
+                                 wait for a key */
+    atomic_uint added;        /* changes when a key is inserted while a pop waits for one */
     alignas(LINE) nm_handle set;
     nm_handle closed;         /* the handle of each worker in a forked child */
-    atomic_bool is_closing;   /* whether a thread is in nm_pool_close */
+    atomic_bool is_closing;   /* whether a thread closes the set or changes its size */
     atomic_uint references;   /* 1 until nm_pool_free, and 1 for each attached worker */
-    atomic_uint inserts_at[PROCESSORS]; /* the same by the place of the processor */
+    atomic_uint inserts_at[PROCESSORS]; /* the inserts among them by the place of the processor */
     struct seat seats[];
 };
 
@@ -99,6 +116,14 @@ static void count_forks(void) { (void)pthread_atfork(NULL, NULL, count_fork); }
 
 INLINE bool is_forked(const nm_pool *pool) {
     return pool->forks != atomic_load_explicit(&forks, memory_order_relaxed);
+}
+
+static int phase_of(const nm_pool *pool) { return atomic_load(&((nm_pool *)pool)->phase); }
+
+static bool is_ended(const nm_pool *pool) { return phase_of(pool) >= GATHERED; }
+
+static uint64_t nodes_of(const nm_pool *pool) {
+    return atomic_load_explicit(&((nm_pool *)pool)->nodes, memory_order_relaxed);
 }
 
 /* ---- waits ---- */
@@ -143,11 +168,27 @@ static bool pause_until(nm_pool_wait *wait, uint32_t timeout_ms) {
     return true;
 }
 
+/* Waits while the set gets a new size, however long that takes; the wait ends later by as much.
+ * Returns false at once if the set does not, or the caller waits for nothing. */
+static bool wait_for_size(const nm_pool *pool, nm_pool_wait *wait, uint32_t timeout_ms) {
+    if (timeout_ms == 0 || phase_of(pool) != SIZING) return false;
+    nm_pool_wait sleeps = {UINT64_MAX, 0, 0, 0};
+    uint64_t begun = now();
+    while (phase_of(pool) == SIZING) (void)pause_until(&sleeps, timeout_ms);
+    if (wait->end != 0) wait->end += now() - begun;
+    return true;
+}
+
+/* Pauses, or waits for the new size of the set. Returns false if the time is over. */
+static bool pause_at(const nm_pool *pool, nm_pool_wait *wait, uint32_t timeout_ms) {
+    return wait_for_size(pool, wait, timeout_ms) || pause_until(wait, timeout_ms);
+}
+
 /* Looks again at once some times, and then pauses. Returns false if the time is over. */
-static bool look_again(nm_pool_wait *wait, uint32_t timeout_ms) {
+static bool look_again(const nm_pool *pool, nm_pool_wait *wait, uint32_t timeout_ms) {
     if (++wait->looks < LOOKS) return true;
     wait->looks = 0;
-    return pause_until(wait, timeout_ms);
+    return pause_at(pool, wait, timeout_ms);
 }
 
 /* ---- processors ----
@@ -164,23 +205,51 @@ static unsigned processor(void) {
 static void yield_for_nodes(nm_pool *pool) {
     atomic_uint *here = &pool->inserts_at[processor()];
     atomic_fetch_add_explicit(here, 1, memory_order_relaxed);
-    atomic_fetch_add_explicit(&pool->inserts, 1, memory_order_relaxed);
+    atomic_fetch_add_explicit(&pool->awaited, 1, memory_order_relaxed);
     (void)sched_yield();
-    atomic_fetch_sub_explicit(&pool->inserts, 1, memory_order_relaxed);
+    atomic_fetch_sub_explicit(&pool->awaited, 1, memory_order_relaxed);
     atomic_fetch_sub_explicit(here, 1, memory_order_relaxed);
 }
 
-/* A thread that has waited for long may be chosen several times before the insert. */
-COLD void yield_back_here(nm_pool *pool) {
+/* Yields the processor back if an insert has yielded it. A thread that has waited for long may be
+ * chosen several times before the insert. */
+static void yield_back(nm_pool *pool) {
     for (int turn = 0; turn < BACK_TURNS; turn++) {
         if (atomic_load_explicit(&pool->inserts_at[processor()], memory_order_relaxed) == 0) return;
         (void)sched_yield();
     }
 }
 
-/* Yields the processor back, after a call, if an insert has yielded it. */
-INLINE void yield_back(nm_pool *pool) {
-    if (atomic_load_explicit(&pool->inserts, memory_order_relaxed) != 0) yield_back_here(pool);
+/* ---- pops that wait for a key ----
+ * A pop counts itself, looks for a key, and sleeps if there is none. An insert counts the waiting
+ * pops after its call. The exchanges of both are sequentially consistent: so the pop finds the key,
+ * or the insert finds the pop. */
+
+static long futex(atomic_uint *word, int what, unsigned number, const struct timespec *most) {
+    return syscall(SYS_futex, word, what, number, most, NULL, 0);
+}
+
+/* Wakes some pops that wait. */
+static void wake_pops(nm_pool *pool, unsigned most) {
+    atomic_fetch_add(&pool->added, 1);
+    (void)futex(&pool->added, FUTEX_WAKE_PRIVATE, most, NULL);
+}
+
+/* Sleeps until a key was inserted after `added` was read, or until some time. Returns false if the
+ * time is over. */
+static bool sleep_for_key(nm_pool *pool, unsigned added, uint64_t end) {
+    uint64_t at = now();
+    if (at >= end) return false;
+    struct timespec most = {(time_t)((end - at) / 1000000000u), (long)((end - at) % 1000000000u)};
+    return futex(&pool->added, FUTEX_WAIT_PRIVATE, added, &most) == 0 || errno != ETIMEDOUT;
+}
+
+static void no_longer_awaited(void *pool) { atomic_fetch_sub(&((nm_pool *)pool)->awaited, 1); }
+
+/* After a call: wakes a pop if the call has inserted a key, and yields the processor back. */
+COLD void serve(nm_pool *pool, bool is_inserted) {
+    if (is_inserted) wake_pops(pool, 1);
+    yield_back(pool);
 }
 
 /* ---- seats ---- */
@@ -223,10 +292,6 @@ static struct seat *lent_seat(nm_pool *pool, uint32_t number) {
     if (number >= pool->count || use_of(&pool->seats[number]) != LENT) return NULL;
     return &pool->seats[number];
 }
-
-static int phase_of(const nm_pool *pool) { return atomic_load(&((nm_pool *)pool)->phase); }
-
-static bool is_ended(const nm_pool *pool) { return phase_of(pool) >= GATHERED; }
 
 static uint32_t opened(const nm_pool *pool) {
     return atomic_load_explicit(&((nm_pool *)pool)->opened, memory_order_acquire);
@@ -287,7 +352,7 @@ static nm_outcome settle(nm_pool *pool, struct seat *seat, nm_pool_wait *wait,
                          uint32_t timeout_ms) {
     nm_outcome outcome;
     do outcome = nm_worker_unpin(&seat->handle);
-    while (outcome == NM_IN_USE && look_again(wait, timeout_ms));
+    while (outcome == NM_IN_USE && look_again(pool, wait, timeout_ms));
     return outcome == NM_IN_USE ? outcome : finish(pool, &seat->handle);
 }
 
@@ -296,7 +361,7 @@ static bool shut(nm_pool *pool, struct seat *seat, nm_pool_wait *wait, uint32_t 
     nm_outcome outcome;
     (void)settle(pool, seat, wait, timeout_ms);
     do outcome = nm_drop(&seat->handle);
-    while (outcome == NM_IN_USE && look_again(wait, timeout_ms));
+    while (outcome == NM_IN_USE && look_again(pool, wait, timeout_ms));
     if (outcome != NM_IN_USE) seat->is_open = false;
     return outcome != NM_IN_USE;
 }
@@ -367,7 +432,7 @@ COLD nm_outcome search_until(nm_pool *pool, call_of call, enum gain gain,
         if (is_ended(pool)) return NM_CLOSED;
         outcome = NM_NO_WORKER;
         if (phase_of(pool) == OPEN) outcome = search(pool, call, gain, request);
-    } while (outcome == NM_NO_WORKER && pause_until(&wait, timeout_ms));
+    } while (outcome == NM_NO_WORKER && pause_at(pool, &wait, timeout_ms));
     keep_wait(request, &wait);
     return outcome == NM_NO_WORKER && is_ended(pool) ? NM_CLOSED : outcome;
 }
@@ -407,7 +472,7 @@ COLD nm_outcome repeat(nm_pool *pool, struct seat *seat, call_of call,
     nm_pool_wait wait = wait_of(request);
     nm_outcome outcome;
     do outcome = call(pool, &seat->handle, request);
-    while (is_for_another(seat, &wait, outcome) && look_again(&wait, timeout_ms));
+    while (is_for_another(seat, &wait, outcome) && look_again(pool, &wait, timeout_ms));
     keep_wait(request, &wait);
     return outcome;
 }
@@ -431,7 +496,8 @@ INLINE nm_outcome make(nm_pool *pool, uint32_t worker, call_of call, enum gain g
     nm_outcome outcome = worker == NM_ANY
                              ? by_any(pool, call, gain, request, timeout_ms)
                              : by_number(pool, worker, call, gain, request, timeout_ms);
-    yield_back(pool);
+    if (atomic_load_explicit(&pool->awaited, memory_order_relaxed) != 0)
+        serve(pool, gain == INSERTS && outcome == NM_YES);
     return outcome;
 }
 
@@ -514,8 +580,8 @@ static uint64_t behind_of(nm_pool *pool) {
 
 /* Returns whether the keys leave no nodes for one more key, and no node waits. */
 static bool is_brimful(nm_pool *pool) {
-    if (2 * keys_of(pool) + 7 <= pool->nodes) return false;
-    nm_fullness fullness = {0, 0, 0, 0, 0, 0};
+    if (2 * keys_of(pool) + 7 <= nodes_of(pool)) return false;
+    nm_fullness fullness = {0, 0, 0, 0, 0, 0, 0};
     ask_queues(pool, &fullness);
     return fullness.waiting == 0 && fullness.unasked == 0;
 }
@@ -546,17 +612,311 @@ static nm_outcome insert(const nm_pool *pool, nm_handle *worker, const struct re
     return nm_worker_insert(worker, request->key, &pool->options);
 }
 
+/* ---- a new size ----
+ * A set gets a new size while no call is in it: all workers are taken, each between two calls. Then
+ * the set is closed, and the keys of its report are inserted into a new set in their order. Each
+ * worker that was open is attached again at its place. */
+
+/* Why a set gets a new size: an insert found it full, or a caller asks for room or for no more room
+ * than needed. `number` is how often the size had changed before that insert, or the keys for which
+ * there is to be room. */
+struct wish {
+    enum { GROW, RESERVE, SHRINK } kind;
+    uint64_t number;
+};
+
+/* A set, or the report of one, and its workers, while no call has their handles. */
+struct held_set {
+    nm_handle set;
+    nm_handle workers[WORKERS];
+};
+
+/* A change of the size: from the old set to the new one. */
+struct change {
+    nm_pool *pool;
+    uint64_t taken, open; /* a bit for each worker whose handle was taken, and if it was open */
+    bool has_set;         /* whether the handle of the set was taken */
+    struct held_set old, new;
+};
+
+static bool has(uint64_t mask, uint32_t number) { return (mask >> number & 1) != 0; }
+
+/* Takes what a handle owns by the exchange that each call makes on it. Until it is given back, each
+ * call with the handle returns NM_IN_USE. Returns false if a call has it. */
+static bool take_handle(nm_handle *handle, nm_handle *into) {
+    if (__atomic_exchange_n(&handle->in_use, 1, __ATOMIC_SEQ_CST) != 0) return false;
+    *into = (nm_handle){handle->at, 0};
+    return true;
+}
+
+static void give_handle(nm_handle *handle, const nm_handle *from) {
+    handle->at = from->at;
+    __atomic_store_n(&handle->in_use, 0, __ATOMIC_SEQ_CST);
+}
+
+static bool take_handle_soon(nm_handle *handle, nm_handle *into, nm_pool_wait *wait,
+                             uint32_t timeout_ms) {
+    bool is_taken = take_handle(handle, into);
+    while (!is_taken && (++wait->looks % LOOKS != 0 || pause_until(wait, timeout_ms)))
+        is_taken = take_handle(handle, into);
+    return is_taken;
+}
+
+/* Finishes a remove that is pending, beside no other call. Returns NM_PINNED if the worker is
+ * pinned, and NM_BUSY if the remove is not finished. */
+static nm_outcome quiet(nm_handle *worker) {
+    uint64_t epoch = 0;
+    nm_outcome outcome = nm_worker_pinned(worker, &epoch);
+    if (outcome == NM_CLOSED) return NM_DONE;
+    if (outcome != NM_NO) return NM_PINNED;
+    for (int turn = 0; turn < FINISHES; turn++)
+        if (nm_worker_finish(worker, nm_default_options.tries) != NM_UNFINISHED) return NM_DONE;
+    return NM_BUSY;
+}
+
+/* Takes the handles of all workers and that of the set. Returns NM_PINNED or NM_IN_USE and a bit
+ * for each worker that prevents it; then the caller gives back what was taken. */
+static nm_outcome take_handles(struct change *change, nm_pool_wait *wait, uint32_t timeout_ms,
+                               uint64_t *missing) {
+    nm_outcome outcome = NM_DONE;
+    for (uint32_t number = 0; number < change->pool->count; number++) {
+        nm_handle *worker = &change->old.workers[number];
+        uint64_t bit = (uint64_t)1 << number;
+        nm_outcome is_quiet = NM_IN_USE;
+        if (take_handle_soon(&change->pool->seats[number].handle, worker, wait, timeout_ms)) {
+            change->taken |= bit;
+            change->open |= worker->at != NULL ? bit : 0;
+            is_quiet = quiet(worker);
+        }
+        if (is_quiet == NM_DONE) continue;
+        *missing |= bit;
+        outcome = is_quiet;
+    }
+    if (outcome != NM_DONE) return outcome;
+    /* A thread that attaches a worker has this handle besides, and only for that moment. */
+    change->has_set = take_handle_soon(&change->pool->set, &change->old.set, wait, timeout_ms);
+    return change->has_set ? NM_DONE : NM_IN_USE;
+}
+
+/* Gives back the handles that were taken, with what the places of the old set have now. */
+static void give_handles(struct change *change) {
+    for (uint32_t number = 0; number < change->pool->count; number++)
+        if (has(change->taken, number))
+            give_handle(&change->pool->seats[number].handle, &change->old.workers[number]);
+    if (change->has_set) give_handle(&change->pool->set, &change->old.set);
+}
+
+static void drop_workers(struct change *change, struct held_set *of) {
+    for (uint32_t number = 0; number < change->pool->count; number++)
+        (void)nm_drop(&of->workers[number]);
+}
+
+static void drop_new(struct change *change) {
+    drop_workers(change, &change->new);
+    (void)nm_drop(&change->new.set);
+}
+
+static nm_outcome new_set(nm_handle *set, uint64_t nodes, uint32_t workers, uint32_t shape) {
+    return shape == NM_UNBALANCED ? nm_set_new_unbalanced(set, (uint32_t)nodes, workers)
+                                  : nm_set_new(set, (uint32_t)nodes, workers);
+}
+
+/* Makes the empty set with the workers that were open. After an error nothing is left of it. */
+static nm_outcome make_new(struct change *change, uint64_t nodes) {
+    nm_pool *pool = change->pool;
+    nm_outcome outcome = new_set(&change->new.set, nodes, pool->count, pool->shape);
+    for (uint32_t number = 0; outcome == NM_DONE && number < pool->count; number++)
+        if (has(change->open, number))
+            outcome = nm_set_worker(&change->new.set, &change->new.workers[number], number);
+    if (outcome != NM_DONE) drop_new(change);
+    return outcome;
+}
+
+/* Inserts the keys of a report from one index to another, the middle one first, so that an
+ * unbalanced tree has no long path. Returns NM_YES, or the outcome of the insert that failed. */
+static nm_outcome insert_halves(nm_handle *report, nm_handle *worker, uint64_t from,
+                                uint64_t below) {
+    uint64_t key = 0, middle = from + (below - from) / 2;
+    if (from == below) return NM_YES;
+    (void)nm_report_key(report, middle, &key);
+    nm_outcome outcome = nm_worker_insert(worker, key, &nm_default_options);
+    if (outcome == NM_YES) outcome = insert_halves(report, worker, from, middle);
+    return outcome == NM_YES ? insert_halves(report, worker, middle + 1, below) : outcome;
+}
+
+/* Inserts the keys of the report in their order. */
+static nm_outcome insert_in_order(nm_handle *report, nm_handle *worker, uint64_t count) {
+    nm_outcome outcome = NM_YES;
+    for (uint64_t index = 0, key = 0; outcome == NM_YES && index < count; index++) {
+        (void)nm_report_key(report, index, &key);
+        outcome = nm_worker_insert(worker, key, &nm_default_options);
+    }
+    return outcome;
+}
+
+/* Inserts the keys of the report into the new set. If no worker was open, there are none. */
+static nm_outcome fill_new(struct change *change) {
+    uint64_t count = 0;
+    uint32_t number = 0;
+    nm_outcome outcome = nm_report_keys(&change->old.set, &count);
+    if (outcome != NM_DONE || count == 0) return outcome;
+    while (!has(change->open, number)) number++;
+    nm_handle *worker = &change->new.workers[number];
+    outcome = change->pool->shape == NM_UNBALANCED
+                  ? insert_halves(&change->old.set, worker, 0, count)
+                  : insert_in_order(&change->old.set, worker, count);
+    return outcome == NM_YES ? NM_DONE : outcome;
+}
+
+/* Ends the old set, and moves its keys to the new one. If memory is refused, the new set is given
+ * up for it, and the keys move to a set of the old size. NM_NO_MEMORY: the old set has ended, and
+ * its handle has the report, or can be closed. */
+static nm_outcome move_keys(struct change *change, uint64_t nodes) {
+    drop_workers(change, &change->old);
+    nm_outcome outcome = nm_set_close(&change->old.set);
+    if (outcome == NM_NO_MEMORY) {
+        drop_new(change);
+        nodes = nodes_of(change->pool);
+        outcome = nm_set_close(&change->old.set);
+        if (outcome == NM_DONE) outcome = make_new(change, nodes);
+    }
+    if (outcome == NM_DONE) outcome = fill_new(change);
+    if (outcome == NM_DONE) atomic_store(&change->pool->nodes, nodes);
+    return outcome;
+}
+
+/* Puts a set of that size in place of the old one. If a set of the new size is refused, the old one
+ * is unchanged. If memory is refused later, the phase is GATHERED, unless the old size was left. */
+static nm_outcome replace_set(struct change *change, uint64_t nodes) {
+    nm_outcome outcome = make_new(change, nodes);
+    if (outcome != NM_DONE) return outcome;
+    outcome = move_keys(change, nodes);
+    if (outcome == NM_DONE) {
+        (void)nm_drop(&change->old.set);
+        change->old = change->new;
+        atomic_fetch_add(&change->pool->sizes, 1);
+        return nodes_of(change->pool) == nodes ? NM_DONE : NM_NO_MEMORY;
+    }
+    drop_new(change);
+    atomic_store(&change->pool->phase, GATHERED);
+    return outcome;
+}
+
+/* Returns how many nodes the set gets: as many as it has if it stays, and 0 if there cannot be as
+ * many. After a shrink there is room for one more key for each worker. */
+static uint64_t nodes_for(nm_pool *pool, const struct wish *wish) {
+    uint64_t nodes = nodes_of(pool), least = 2 * (keys_of(pool) + pool->count) + 5;
+    switch (wish->kind) {
+    case GROW:
+        if (wish->number != atomic_load(&pool->sizes)) return nodes;
+        if (nodes == MOST_NODES) return 0;
+        return nodes < MOST_NODES / GROWTH ? GROWTH * nodes : MOST_NODES;
+    case RESERVE:
+        if (wish->number > (MOST_NODES - 5) / 2) return 0;
+        return 2 * wish->number + 5 > nodes ? 2 * wish->number + 5 : nodes;
+    default: return least < nodes ? least : nodes;
+    }
+}
+
+/* Gives the set a new size, after the calls in progress. */
+static nm_outcome change_size(nm_pool *pool, const struct wish *wish, nm_pool_wait *wait,
+                              uint32_t timeout_ms, uint64_t *missing) {
+    struct change change = {.pool = pool};
+    atomic_store(&pool->phase, SIZING);
+    nm_outcome outcome = take_handles(&change, wait, timeout_ms, missing);
+    if (outcome == NM_DONE) {
+        uint64_t nodes = nodes_for(pool, wish);
+        if (nodes != nodes_of(pool)) outcome = nodes == 0 ? NM_NODES : replace_set(&change, nodes);
+    }
+    give_handles(&change);
+    if (phase_of(pool) == SIZING) atomic_store(&pool->phase, OPEN);
+    return outcome;
+}
+
+/* Gives the set a new size, unless another thread closes it or changes its size until the wait is
+ * over: NM_IN_USE. A thread that is cancelled meanwhile ends later. */
+static nm_outcome size_alone(nm_pool *pool, const struct wish *wish, nm_pool_wait *wait,
+                             uint32_t timeout_ms, uint64_t *missing) {
+    nm_outcome outcome = NM_CLOSED;
+    int cancel;
+    *missing = 0;
+    while (atomic_exchange(&pool->is_closing, true))
+        if (!pause_at(pool, wait, timeout_ms)) return NM_IN_USE;
+    (void)pthread_setcancelstate(PTHREAD_CANCEL_DISABLE, &cancel);
+    if (phase_of(pool) == OPEN) outcome = change_size(pool, wish, wait, timeout_ms, missing);
+    atomic_store(&pool->is_closing, false);
+    (void)pthread_setcancelstate(cancel, &cancel);
+    return outcome;
+}
+
+/* Lets a set grow, and waits for workers that are pinned. After NM_DONE the wait begins anew. */
+static nm_outcome grow(nm_pool *pool, const struct wish *wish, nm_pool_wait *wait,
+                       uint32_t timeout_ms) {
+    nm_outcome outcome;
+    do {
+        uint64_t missing = 0;
+        outcome = size_alone(pool, wish, wait, timeout_ms, &missing);
+        atomic_store(&pool->hindering, missing);
+    } while ((outcome == NM_PINNED || outcome == NM_IN_USE) && pause_at(pool, wait, timeout_ms));
+    if (outcome == NM_DONE) wait->end = 0;
+    begin(wait, timeout_ms);
+    return outcome;
+}
+
+/* Frees nodes, unless the keys take nearly all. Returns whether some were freed. */
+static bool has_freed(nm_pool *pool, uint32_t own, const nm_pool_wait *wait) {
+    uint64_t nodes = nodes_of(pool), taken = 2 * keys_of(pool) + 5;
+    if (taken > nodes - nodes / CROWDED || is_over(wait)) return false;
+    return collect(pool, own) != 0 || has_yielded_for_nodes(pool, own, wait);
+}
+
+/* Inserts into a set that grows, after NM_FULL. The set grows if no nodes could be freed, and the
+ * insert then fails again. NM_FULL: it cannot grow. */
+COLD nm_outcome insert_growing(nm_pool *pool, uint32_t worker, const struct request *request,
+                               nm_pool_wait *wait, uint32_t timeout_ms) {
+    nm_outcome outcome = NM_FULL, grown = NM_DONE;
+    while (outcome == NM_FULL && grown == NM_DONE) {
+        struct wish wish = {GROW, atomic_load(&pool->sizes)};
+        bool is_freed = has_freed(pool, worker, wait);
+        outcome = make(pool, worker, insert, INSERTS, request, timeout_ms);
+        if (outcome == NM_FULL && !is_freed) grown = grow(pool, &wish, wait, timeout_ms);
+        keep_wait(request, wait);
+    }
+    return outcome == NM_FULL && grown == NM_NO_MEMORY ? grown : outcome;
+}
+
+/* Inserts after NM_FULL: the set grows, or the insert waits for nodes. */
 COLD nm_outcome insert_later(nm_pool *pool, uint32_t worker, const struct request *request,
                              uint32_t timeout_ms) {
     nm_pool_wait wait = wait_of(request);
     nm_outcome outcome = NM_FULL;
     begin(&wait, timeout_ms);
     keep_wait(request, &wait);
+    if (pool->grows && timeout_ms != 0)
+        outcome = insert_growing(pool, worker, request, &wait, timeout_ms);
     for (bool is_first = true; outcome == NM_FULL; is_first = false) {
         if (!makes_room(pool, worker, &wait, is_first, timeout_ms)) break;
         outcome = make(pool, worker, insert, INSERTS, request, timeout_ms);
     }
     return outcome == NM_FULL && is_ended(pool) && phase_of(pool) != LEFT ? NM_CLOSED : outcome;
+}
+
+static nm_outcome size_by(nm_pool *pool, const struct wish *wish, uint32_t timeout_ms,
+                          uint64_t *missing) {
+    nm_pool_wait wait = {0, 0, 0, 0};
+    uint64_t none = 0;
+    if (is_forked(pool)) return NM_FORKED;
+    return size_alone(pool, wish, &wait, timeout_ms, missing != NULL ? missing : &none);
+}
+
+nm_outcome nm_pool_reserve(nm_pool *pool, uint64_t keys, uint32_t timeout_ms, uint64_t *missing) {
+    const struct wish wish = {RESERVE, keys};
+    return size_by(pool, &wish, timeout_ms, missing);
+}
+
+nm_outcome nm_pool_shrink_to_fit(nm_pool *pool, uint32_t timeout_ms, uint64_t *missing) {
+    const struct wish wish = {SHRINK, 0};
+    return size_by(pool, &wish, timeout_ms, missing);
 }
 
 /* ---- keys ---- */
@@ -665,6 +1025,21 @@ nm_outcome nm_pool_pop_first(nm_pool *pool, uint32_t worker, uint64_t *taken, ui
 nm_outcome nm_pool_pop_last(nm_pool *pool, uint32_t worker, uint64_t *taken, uint32_t timeout_ms) {
     const struct request request = {.found = taken};
     return make(pool, worker, pop_last, REMOVES, &request, timeout_ms);
+}
+
+nm_outcome nm_pool_wait_pop(nm_pool *pool, uint32_t worker, uint64_t *taken, uint32_t timeout_ms) {
+    uint64_t end = now() + (uint64_t)timeout_ms * 1000000u;
+    nm_outcome outcome = nm_pool_pop_first(pool, worker, taken, timeout_ms);
+    if (outcome != NM_NO || timeout_ms == 0) return outcome;
+    atomic_fetch_add(&pool->awaited, 1);
+    pthread_cleanup_push(no_longer_awaited, pool);
+    unsigned added;
+    do {
+        added = atomic_load(&pool->added);
+        outcome = nm_pool_pop_first(pool, worker, taken, timeout_ms);
+    } while (outcome == NM_NO && sleep_for_key(pool, added, end));
+    pthread_cleanup_pop(1);
+    return outcome;
 }
 
 nm_outcome nm_pool_next(nm_pool *pool, uint32_t worker, uint64_t key, uint64_t *found,
@@ -813,7 +1188,7 @@ nm_handle *nm_pool_handle(nm_pool *pool, uint32_t worker) {
 int nm_pool_again(nm_pool *pool, uint32_t worker, nm_pool_wait *wait, nm_outcome outcome,
                   uint32_t timeout_ms) {
     return worker < pool->count && is_for_another(&pool->seats[worker], wait, outcome) &&
-           look_again(wait, timeout_ms);
+           look_again(pool, wait, timeout_ms);
 }
 
 /* ---- how full it is ---- */
@@ -833,7 +1208,8 @@ nm_outcome nm_pool_size(nm_pool *pool, uint64_t *keys) {
 nm_outcome nm_pool_fullness(nm_pool *pool, nm_fullness *fullness) {
     nm_outcome outcome = is_there(pool);
     if (outcome != NM_DONE) return outcome;
-    nm_fullness all = {pool->nodes, keys_of(pool), 0, 0, 0, behind_of(pool)};
+    uint64_t hindering = atomic_load_explicit(&pool->hindering, memory_order_relaxed);
+    nm_fullness all = {nodes_of(pool), keys_of(pool), 0, 0, 0, behind_of(pool), hindering};
     ask_queues(pool, &all);
     uint64_t taken = 2 * all.keys + 5, rest = taken < all.nodes ? all.nodes - taken : 0;
     if (all.waiting > rest) all.waiting = rest;
@@ -849,7 +1225,7 @@ nm_outcome nm_pool_collect(nm_pool *pool, uint64_t *freed) {
     return outcome;
 }
 
-uint64_t nm_pool_nodes(const nm_pool *pool) { return pool->nodes; }
+uint64_t nm_pool_nodes(const nm_pool *pool) { return nodes_of(pool); }
 uint32_t nm_pool_workers(const nm_pool *pool) { return pool->count; }
 const nm_options *nm_pool_call_options(const nm_pool *pool) { return &pool->options; }
 
@@ -936,6 +1312,11 @@ const char *nm_full_words(const nm_fullness *fullness, char *text, size_t size) 
         write_words(&to, " %s in a call, so what waits there is counted as last seen",
                     is_one(fullness->unasked) ? "is" : "are");
     }
+    if (fullness->hindering != 0) {
+        write_words(&to, "; the set cannot grow while ");
+        write_mask(&to, fullness->hindering);
+        write_words(&to, " %s pinned or in a call", is_one(fullness->hindering) ? "is" : "are");
+    }
     return text;
 }
 
@@ -963,6 +1344,8 @@ static nm_pool *allocate(uint32_t workers) {
 
 nm_outcome nm_pool_new(nm_pool **pool, uint64_t nodes, const nm_pool_options *options) {
     if (options == NULL) options = &nm_pool_defaults;
+    bool grows = nodes == NM_GROWS;
+    if (grows) nodes = FIRST_NODES;
     if (nodes > UINT32_MAX) return NM_NODES;
     if (options->workers < 1 || options->workers > WORKERS) return NM_WORKERS;
     (void)pthread_once(&forks_once, count_forks);
@@ -970,13 +1353,12 @@ nm_outcome nm_pool_new(nm_pool **pool, uint64_t nodes, const nm_pool_options *op
     if (made == NULL) return NM_NO_MEMORY;
     made->options = options_of(nodes, options);
     made->count = options->workers;
-    made->nodes = nodes;
+    made->shape = options->shape;
+    made->grows = grows;
+    atomic_init(&made->nodes, nodes);
     made->forks = atomic_load(&forks);
     atomic_init(&made->references, 1);
-    nm_outcome outcome =
-        options->shape == NM_UNBALANCED
-            ? nm_set_new_unbalanced(&made->set, (uint32_t)nodes, options->workers)
-            : nm_set_new(&made->set, (uint32_t)nodes, options->workers);
+    nm_outcome outcome = new_set(&made->set, nodes, options->workers, options->shape);
     if (outcome == NM_DONE)
         *pool = made;
     else
@@ -1034,11 +1416,14 @@ static nm_outcome close_set(nm_pool *pool, nm_handle *report, nm_pool_wait *wait
                             uint32_t timeout_ms) {
     nm_outcome outcome;
     do outcome = nm_set_close(&pool->set);
-    while (outcome == NM_IN_USE && look_again(wait, timeout_ms));
+    while (outcome == NM_IN_USE && look_again(pool, wait, timeout_ms));
+    /* A change of the size was refused memory after it had closed the set. */
+    if (outcome == NM_KIND) outcome = NM_DONE;
     if (outcome == NM_DONE) {
         *report = pool->set;
         pool->set = (nm_handle)NM_CLOSED_HANDLE;
         atomic_store(&pool->phase, ENDED);
+        wake_pops(pool, INT_MAX);
     }
     return outcome;
 }
@@ -1049,7 +1434,7 @@ nm_outcome nm_pool_close(nm_pool *pool, uint32_t timeout_ms, nm_handle *report, 
     if (is_forked(pool)) return NM_FORKED;
     if (nm_report_keys(report, &keys) != NM_CLOSED) return NM_OPEN;
     while (atomic_exchange(&pool->is_closing, true))
-        if (!pause_until(&wait, timeout_ms)) return NM_IN_USE;
+        if (!pause_at(pool, &wait, timeout_ms)) return NM_IN_USE;
     nm_outcome outcome = phase_of(pool) > GATHERED ? NM_CLOSED : NM_DONE;
     if (phase_of(pool) == OPEN)
         outcome = gather(pool, &wait, timeout_ms, missing != NULL ? missing : &none);
@@ -1066,13 +1451,15 @@ static bool leave_seat(nm_pool *pool, struct seat *seat, nm_pool_wait *wait) {
 }
 
 void nm_pool_free(nm_pool *pool) {
-    nm_pool_wait wait = {0, 0, 0, 0};
+    nm_pool_wait wait = {0, 0, 0, 0}, turn = {UINT64_MAX, 0, 0, 0};
     bool is_left = true;
     if (pool == NULL || is_forked(pool)) return;
+    while (atomic_exchange(&pool->is_closing, true)) (void)pause_until(&turn, END_MS);
     atomic_store(&pool->phase, LEFT);
+    atomic_store(&pool->is_closing, false);
     for (uint32_t number = 0; number < pool->count; number++)
         is_left &= leave_seat(pool, &pool->seats[number], &wait);
-    while (nm_drop(&pool->set) == NM_IN_USE && look_again(&wait, END_MS)) {}
+    while (nm_drop(&pool->set) == NM_IN_USE && look_again(pool, &wait, END_MS)) {}
     if (is_left) release(pool); /* if a call has not ended, its memory stays taken */
 }
 
@@ -1106,7 +1493,7 @@ nm_outcome nm_pool_attach(nm_pool *pool, uint32_t *worker, uint32_t timeout_ms) 
     do {
         if (is_ended(pool)) return NM_CLOSED;
         outcome = lend_any(pool, worker);
-    } while (outcome == NM_NO_WORKER && pause_until(&wait, timeout_ms));
+    } while (outcome == NM_NO_WORKER && pause_at(pool, &wait, timeout_ms));
     return outcome == NM_NO_WORKER && is_ended(pool) ? NM_CLOSED : outcome;
 }
 
@@ -1120,7 +1507,7 @@ nm_outcome nm_pool_attach_number(nm_pool *pool, uint32_t number, uint32_t *worke
         if (is_ended(pool)) return NM_CLOSED;
         if (use_of(&pool->seats[number]) == LENT) return NM_ATTACHED;
         outcome = lend(pool, number);
-    } while (outcome == NM_NO_WORKER && pause_until(&wait, timeout_ms));
+    } while (outcome == NM_NO_WORKER && pause_at(pool, &wait, timeout_ms));
     if (outcome == NM_DONE) *worker = number;
     return outcome == NM_NO_WORKER ? NM_IN_USE : outcome;
 }
@@ -1130,7 +1517,8 @@ nm_outcome nm_pool_detach(nm_pool *pool, uint32_t *worker, uint32_t timeout_ms) 
     if (is_forked(pool)) return NM_FORKED;
     struct seat *seat = lent_seat(pool, *worker);
     if (seat == NULL) return NM_CLOSED;
-    if (settle(pool, seat, &wait, timeout_ms) == NM_IN_USE) return NM_IN_USE;
+    while (settle(pool, seat, &wait, timeout_ms) == NM_IN_USE)
+        if (!wait_for_size(pool, &wait, timeout_ms)) return NM_IN_USE;
     *worker = NM_NONE;
     atomic_store(&seat->use, FREE);
     if (phase_of(pool) == LEFT) (void)leave_seat(pool, seat, &wait);
@@ -1145,7 +1533,7 @@ nm_outcome nm_pool_end(nm_pool *pool, uint32_t *worker, nm_handle *report, uint3
     struct seat *seat = lent_seat(pool, *worker);
     if (seat == NULL) return NM_CLOSED;
     do outcome = nm_worker_end(&seat->handle);
-    while (outcome == NM_IN_USE && look_again(&wait, timeout_ms));
+    while (outcome == NM_IN_USE && look_again(pool, &wait, timeout_ms));
     /* An earlier end was refused memory after it had gathered the workers. */
     if (outcome == NM_KIND) outcome = nm_set_close(&seat->handle);
     if (outcome != NM_DONE) return outcome;

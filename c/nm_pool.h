@@ -31,6 +31,12 @@
  * - NM_IN_USE: another thread is in a call by the attached worker.
  * - NM_FULL: no nodes were free for an insert. An insert does not wait if the keys take all nodes.
  *
+ * **A set that grows**, by NM_GROWS in place of the nodes: if an insert finds no free nodes, and
+ * none can be freed, the set gets four times the nodes (see "a new size" below). The insert waits
+ * for the calls of all workers, for at most its timeout. A worker that is pinned prevents it: then
+ * the insert returns NM_FULL, and nm_full_words names the worker. With a timeout of 0 an insert
+ * lets no set grow.
+ *
  * **A close** waits for calls in progress. Calls that begin meanwhile wait for its end: they go on
  * if it fails, and return NM_CLOSED if it succeeds.
  *
@@ -70,6 +76,9 @@ typedef struct nm_pool nm_pool;
 #define NM_RADIX 0u
 #define NM_UNBALANCED 1u
 
+/* In place of the number of nodes: the set has room for 10,000 keys at first, and grows. */
+#define NM_GROWS UINT64_MAX
+
 /* In place of collect_after: an eighth of the nodes, divided by the number of workers, at least 8
  * and at most 64. */
 #define NM_AN_EIGHTH UINT32_MAX
@@ -95,6 +104,8 @@ typedef struct nm_fullness {
     uint64_t unasked; /* a bit for each worker that was in a call: in place of its waiting nodes,
                          `waiting` has how many there were when it was last asked */
     uint64_t behind;  /* a bit for each worker that holds the epoch back, by a pin or in a call */
+    uint64_t hindering; /* a bit for each worker that was pinned or in a call when the set was last
+                           to grow, and so prevented it */
 } nm_fullness;
 
 /* Returns an outcome in words, including NM_FORKED. */
@@ -102,7 +113,8 @@ const char *nm_pool_text(nm_outcome outcome);
 
 /* ---- the pool ---- */
 
-/* Makes the empty set and its pool, with room for 7 to 268,435,456 nodes; options may be NULL.
+/* Makes the empty set and its pool, with room for 7 to 268,435,456 nodes, or NM_GROWS; options may
+ * be NULL. A set with a number of nodes never grows by itself.
  * Returns NM_DONE and writes the pool. Errors: NM_NODES, NM_WORKERS, NM_NO_MEMORY. See nm_set_new
  * for how many nodes a set needs. A pool takes 64 bytes for each worker, and 512. */
 nm_outcome nm_pool_new(nm_pool **pool, uint64_t nodes, const nm_pool_options *options);
@@ -145,6 +157,12 @@ nm_outcome nm_pool_pop_first(nm_pool *pool, uint32_t worker, uint64_t *taken, ui
 
 /* Removes the greatest key and writes it, in the same way. */
 nm_outcome nm_pool_pop_last(nm_pool *pool, uint32_t worker, uint64_t *taken, uint32_t timeout_ms);
+
+/* Removes the least key like nm_pool_pop_first. If the set is empty, it waits for a key, for at most
+ * timeout_ms milliseconds in all, and sleeps meanwhile. An insert that returns NM_YES wakes it.
+ * Tested: no wake is lost. NM_NO after that time. NM_CLOSED if the set is closed meanwhile. While no
+ * call waits here, this costs other calls nothing. A sleep here is no cancellation point. */
+nm_outcome nm_pool_wait_pop(nm_pool *pool, uint32_t worker, uint64_t *taken, uint32_t timeout_ms);
 
 /* Finds the least key that is not below key: NM_YES and it is written to found, or NM_NO. */
 nm_outcome nm_pool_next(nm_pool *pool, uint32_t worker, uint64_t key, uint64_t *found,
@@ -215,6 +233,24 @@ uint64_t nm_pool_nodes(const nm_pool *pool);
 uint32_t nm_pool_workers(const nm_pool *pool);
 const nm_options *nm_pool_call_options(const nm_pool *pool);
 uint64_t nm_pool_attached(const nm_pool *pool);
+
+/* ---- a new size ----
+ * A set gets a new size while no call is in it: each worker is taken between two of its calls, then
+ * the keys are moved to a new set, and calls that begin meanwhile wait for the end, even if that is
+ * longer than their timeout. A call with a timeout of 0 returns NM_NO_WORKER or NM_IN_USE at once.
+ * Workers stay attached, by the same number and handle. Their statistics and stamps begin anew. */
+
+/* Makes room for that many keys, so that inserts alone need no more nodes; it never makes a set
+ * smaller. Returns NM_DONE. Errors, after which the set goes on unchanged: NM_PINNED: workers are
+ * pinned. NM_IN_USE: calls by workers have not ended. After these two, `missing` has a bit for each
+ * of those workers, unless it is NULL. NM_NODES: there cannot be that many keys. NM_NO_MEMORY (see
+ * below). NM_CLOSED. */
+nm_outcome nm_pool_reserve(nm_pool *pool, uint64_t keys, uint32_t timeout_ms, uint64_t *missing);
+
+/* Gives back memory: the set has room for its keys, and for one more key for each worker. Returns
+ * like nm_pool_reserve. NM_NO_MEMORY: memory was refused, and the set has its old size. If memory
+ * was refused even for that, no key is lost, but only nm_pool_close goes on. */
+nm_outcome nm_pool_shrink_to_fit(nm_pool *pool, uint32_t timeout_ms, uint64_t *missing);
 
 /* ---- workers of threads ---- */
 

@@ -1,6 +1,6 @@
 // The concurrent ordered set of nm_set.h for C++17. Any thread may call an `nm::Set`:
 //
-//     nm::Set set(65536);           // room for 65,536 nodes: two a key, and those that wait
+//     nm::Set set;                  // it grows; nm::Set set(65536) has room for 65,536 nodes
 //     set.insert(5u);               // true: the key was absent
 //     set.contains(5u);             // true
 //     set.remove(5u);               // true: the key was present
@@ -160,6 +160,12 @@ struct Place {
     std::uint32_t worker = NM_ANY;
     std::uint32_t timeout_ms = 0;
 };
+
+// Returns a time in milliseconds, at most the longest time of a call of the pool.
+inline std::uint32_t millis(std::chrono::milliseconds most) noexcept {
+    constexpr std::chrono::milliseconds::rep longest = UINT32_MAX;
+    return static_cast<std::uint32_t>(std::clamp(most.count(), decltype(longest){0}, longest));
+}
 
 // Informs ThreadSanitizer that what a thread did before a call is visible after a later call by
 // another thread. Without ThreadSanitizer it does nothing.
@@ -454,6 +460,16 @@ public:
 
     // Removes the greatest key and returns it, in the same way.
     std::optional<std::uint64_t> pop_last() { return pop(nm_pool_pop_last); }
+
+    // Removes the least key and returns it, like `pop_first`. If the set is empty it waits for a key,
+    // for `most` at most, and sleeps meanwhile: an insert wakes it. Returns nothing after that time.
+    // Throws NM_CLOSED if the set is closed meanwhile.
+    std::optional<std::uint64_t> wait_pop(std::chrono::milliseconds most) {
+        std::uint32_t timeout_ms = detail::millis(most);
+        return pop([=](nm_pool *pool, std::uint32_t worker, std::uint64_t *taken, std::uint32_t) {
+            return nm_pool_wait_pop(pool, worker, taken, timeout_ms);
+        });
+    }
 
     [[nodiscard]] bool empty() const { return !first(); }
 
@@ -1021,11 +1037,20 @@ inline void Pin::unpin() noexcept {
 // closed. The destructor waits for calls that have not ended, for 10 seconds at most.
 class Set : public Keys<Set> {
 public:
-    // Makes the empty set, with room for 7 to 268,435,456 nodes. It needs two nodes for each key,
-    // five more, and those that were removed and wait to be freed. Throws NM_NODES, NM_WORKERS,
-    // NM_NO_MEMORY.
+    // Makes the empty set, which grows. It has room for 10,000 keys at first. If an insert finds no
+    // free nodes, and none can be freed, the set gets four times the nodes: all calls wait while
+    // its keys move (docs/USING.md has for how long). Throws NM_WORKERS, NM_NO_MEMORY.
+    Set() : Set(Options{}) {}
+
+    explicit Set(const Options &options)
+        : place_{detail::pool_of(NM_GROWS, options), NM_ANY, options.timeout_ms} {}
+
+    // Makes the empty set, with room for 7 to 268,435,456 nodes; it never grows by itself. It needs
+    // two nodes for each key, five more, and those that were removed and wait to be freed. Throws
+    // NM_NODES, NM_WORKERS, NM_NO_MEMORY.
     explicit Set(std::uint64_t nodes, const Options &options = {})
-        : place_{detail::pool_of(nodes, options), NM_ANY, options.timeout_ms} {}
+        : place_{detail::pool_of(std::min(nodes, NM_GROWS - 1), options), NM_ANY,
+                 options.timeout_ms} {}
 
     // Makes the set of these keys: `nm::Set(64, nm::keys, {1u, 2u})`. It also throws NM_KEY,
     // NM_FULL.
@@ -1087,7 +1112,7 @@ public:
     [[nodiscard]] Worker attach(std::chrono::milliseconds most) {
         Worker taken;
         bound(lend(taken, [=](nm_pool *pool, std::uint32_t *number) {
-            return nm_pool_attach(pool, number, millis(most));
+            return nm_pool_attach(pool, number, detail::millis(most));
         }));
         return taken;
     }
@@ -1171,6 +1196,26 @@ public:
         return freed;
     }
 
+    // ---- a new size ----
+    // These wait for the calls of all workers, for `timeout_ms` of the options at most: NM_IN_USE.
+    // NM_PINNED: workers are pinned. After both the text names the workers. While the keys move,
+    // other calls wait, and workers stay attached. What `stats` and stamps have begins anew.
+
+    // Makes room for that many keys, if none waits; it never makes the set smaller. NM_NODES: there
+    // cannot be so many. NM_NO_MEMORY.
+    void reserve(std::uint64_t keys) {
+        sized([=](const detail::Place &to, std::uint64_t *missing) {
+            return nm_pool_reserve(to.pool, keys, to.timeout_ms, missing);
+        });
+    }
+
+    // Gives back memory: room is left for its keys, and for one more for each worker. NM_NO_MEMORY.
+    void shrink_to_fit() {
+        sized([](const detail::Place &to, std::uint64_t *missing) {
+            return nm_pool_shrink_to_fit(to.pool, to.timeout_ms, missing);
+        });
+    }
+
     // ---- the end ----
 
     // Returns whether it was not closed.
@@ -1214,6 +1259,20 @@ private:
         if (outcome < 0) detail::fail_at(place_, outcome, 0);
     }
 
+    // Changes the size by a call of the pool, which writes the workers that prevent it.
+    template <typename Call>
+    void sized(Call call) {
+        std::uint64_t missing = 0;
+        nm_outcome outcome =
+            ask([&](const detail::Place &to) { return call(to, &missing); });
+        if (missing != 0)
+            detail::fail(outcome, [=] {
+                return "the set gets no new size: " + detail::those(missing) +
+                       (outcome == NM_PINNED ? " pinned" : " in a call that has not ended");
+            });
+        bound(outcome);
+    }
+
     // Returns the pool. Throws NM_CLOSED if the set is closed.
     nm_pool *open_pool() const {
         if (!is_open()) bound(NM_CLOSED);
@@ -1224,12 +1283,6 @@ private:
         nm_fullness now{};
         bound(ask([&](const detail::Place &to) { return nm_pool_fullness(to.pool, &now); }));
         return now;
-    }
-
-    // Returns a time in milliseconds, at most the longest time of a call of the pool.
-    static std::uint32_t millis(std::chrono::milliseconds most) noexcept {
-        constexpr std::chrono::milliseconds::rep longest = UINT32_MAX;
-        return static_cast<std::uint32_t>(std::clamp(most.count(), decltype(longest){0}, longest));
     }
 
     // Attaches a worker into a closed one, by a call that writes its number.

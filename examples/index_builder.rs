@@ -32,7 +32,7 @@ struct Index {
 impl Index {
     fn new(pairs: u32) -> Result<Index, Fault> {
         Ok(Index {
-            pairs: Set::new(2 * pairs + 5)?,
+            pairs: Set::with_nodes(2 * pairs + 5)?,
         })
     }
 

@@ -22,7 +22,7 @@ impl Scheduler {
     fn new(tasks: u32) -> Result<Scheduler, Fault> {
         Ok(Scheduler {
             begun: Instant::now(),
-            due: Set::new(4 * tasks)?,
+            due: Set::with_nodes(4 * tasks)?,
             is_closing: AtomicBool::new(false),
         })
     }

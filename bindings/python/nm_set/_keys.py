@@ -3,17 +3,21 @@ which are made of them."""
 
 from __future__ import annotations
 
+import math
 import operator
+import time
 from array import array
 from collections.abc import Iterable, Iterator, MutableSet, Sized
 from collections.abc import Set as AbstractSet
 from contextlib import suppress
+from ctypes import c_uint32, c_void_p
 from itertools import islice
 from numbers import Number
 from typing import Any, NoReturn, Optional, SupportsIndex, TypeVar, overload
 
 from . import _library as c
 from ._backend import Calls, answers, first_wrong
+from ._calls import popped_within
 from ._faults import MOST_KEY, SHOWN, Closed, fault, key_fault, shortened
 
 _T = TypeVar("_T")
@@ -106,6 +110,8 @@ class Keys(MutableSet):  # type: ignore[type-arg]
     """
 
     _calls: Calls
+    _pool: c_void_p
+    _cell: c_uint32
 
     # ---- one key ----
 
@@ -273,6 +279,19 @@ class Keys(MutableSet):  # type: ignore[type-arg]
     def pop_last(self) -> int:
         """Removes the greatest key and returns it, in the way of `pop_first`."""
         return self._pop("pop_last")
+
+    def wait_pop(self, timeout: Optional[float] = None) -> int:
+        """Removes the least key and returns it. If the set is empty it waits for a key: for
+        `timeout` seconds, or without an end if no time is given. An add wakes it. Other threads run
+        meanwhile, and the handlers of signals every 20 milliseconds. Raises KeyError after that
+        time, and `Closed` if the set is closed meanwhile."""
+        key = self._calls.pop_first()
+        if key is None:
+            end = math.inf if timeout is None else time.monotonic() + timeout
+            key = popped_within(self._pool, self._cell, end)
+        if key is None:
+            raise KeyError("no key was added in time")
+        return int(key)
 
     def pop(self) -> int:
         """Removes the least key and returns it, like `pop_first`."""

@@ -71,7 +71,8 @@ class FullnessWords(ctypes.Structure):
     """nm_fullness."""
 
     _fields_ = [
-        (name, c_uint64) for name in ("nodes", "keys", "waiting", "free", "unasked", "behind")
+        (name, c_uint64)
+        for name in ("nodes", "keys", "waiting", "free", "unasked", "behind", "hindering")
     ]
 
 
@@ -108,6 +109,7 @@ FUNCTIONS: dict[str, list[Any]] = {
     "nm_pool_remove": [_POOL, c_uint32, c_uint64, c_uint32],
     "nm_pool_pop_first": [_POOL, c_uint32, _U64, c_uint32],
     "nm_pool_pop_last": [_POOL, c_uint32, _U64, c_uint32],
+    "nm_pool_wait_pop": [_POOL, c_uint32, _U64, c_uint32],
     "nm_pool_next": [_POOL, c_uint32, c_uint64, _U64, c_uint32],
     "nm_pool_prev": [_POOL, c_uint32, c_uint64, _U64, c_uint32],
     "nm_pool_scan": [_POOL, c_uint32, c_uint64, c_uint64, _U64, c_size_t, _SIZE, _U64, c_uint32],
@@ -121,6 +123,9 @@ FUNCTIONS: dict[str, list[Any]] = {
     "nm_pool_size": [_POOL, _U64],
     "nm_pool_fullness": [_POOL, POINTER(FullnessWords)],
     "nm_pool_collect": [_POOL, _U64],
+    "nm_pool_reserve": [_POOL, c_uint64, c_uint32, _U64],
+    "nm_pool_shrink_to_fit": [_POOL, c_uint32, _U64],
+    "nm_pool_nodes": [_POOL],
     "nm_pool_workers": [_POOL],
     "nm_pool_call_options": [_POOL],
     "nm_pool_attached": [_POOL],
@@ -149,6 +154,7 @@ FUNCTIONS: dict[str, list[Any]] = {
 # What those functions return that return no outcome.
 _RESULTS: dict[str, Any] = {
     "nm_pool_free": None,
+    "nm_pool_nodes": c_uint64,
     "nm_pool_workers": c_uint32,
     "nm_pool_attached": c_uint64,
     "nm_pool_call_options": POINTER(OptionsWords),
@@ -158,10 +164,11 @@ _RESULTS: dict[str, Any] = {
 }
 
 # In place of the number of a worker: any worker, and none. In place of `collect_after`: an eighth of
-# the nodes.
+# the nodes. In place of the number of nodes: the set grows.
 ANY: Final = 2**32 - 1
 NONE: Final = 2**32 - 2
 AN_EIGHTH: Final = 2**32 - 1
+GROWS: Final = 2**64 - 1
 
 # The outcomes that this module knows.
 NO: Final = 0

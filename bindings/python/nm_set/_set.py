@@ -33,7 +33,7 @@ from ._keys import Keys, words_of
 from ._leases import Owner, detach_with, free_with
 from ._report import Reader, Report
 
-_NODES = 65_536  # the nodes of a set for which no number is given
+_KEYS = 10_000  # the keys for which a set has room at first if no number of nodes is given
 _ADVANCES = 3  # the most advances of the epoch before a collection
 _LONGEST = 10_000  # milliseconds: how long a close waits for calls in progress
 
@@ -133,10 +133,12 @@ class Set(Keys):
         shape: Shape = "radix",
         options: Options = Options(),
     ) -> None:
-        """Makes the set of these keys, or the empty set, with room for 7 to 268,435,456 nodes, for
-        1 to 64 workers. `Set(65_536)` and `Set(nodes=65_536)` have 65,536 nodes. If no number of
-        nodes is given, it is four for each given key, and at least 65,536. n keys take 2 n + 5
-        nodes, and the removed nodes that wait to be freed take theirs.
+        """Makes the set of these keys, or the empty set, for 1 to 64 workers. If no number of nodes
+        is given, the set grows: it has room for 10,000 keys at first, or for the given ones. If an
+        add finds no free nodes, and none can be freed, the set gets four times the nodes, and all
+        calls wait while its keys move. `Set(65_536)` and `Set(nodes=65_536)` have 65,536 nodes, of
+        7 to 268,435,456, and never grow by themselves. n keys take 2 n + 5 nodes, and the removed
+        nodes that wait to be freed take theirs.
 
         With the shape "radix" no call passes more than 66 nodes, in whatever order the keys come.
         "unbalanced" is the tree of Natarajan and Mittal, in which ascending keys make one long
@@ -147,32 +149,35 @@ class Set(Keys):
             keys, nodes = words_of(()), operator.index(iterable)
         else:
             raise TypeError("the number of nodes is given twice")
-        room = max(_NODES, 4 * len(keys)) if nodes is None else nodes
-        self._nodes, self._options = _narrow(room, "nodes", 7, MOST_NODES), options
+        room = c.GROWS if nodes is None else _narrow(nodes, "nodes", 7, MOST_NODES)
+        self._options = options
         seats = _narrow(workers, "workers", 1, MOST_WORKERS)
         if shape not in SHAPES:
             raise ValueError(f'the shape is not "radix" or "unbalanced": {shape!r}')
         self._pool, self._handle, self._seats = c_void_p(), c.Handle(), seats
+        self._cell = c_uint32(c.ANY)
         self._owner = Owner()
         free_with(self._owner, self._pool, self._handle)
         self._taken: dict[int, weakref.ref[Worker]] = {}
         self._closer = threading.RLock()
         self._report: Optional[Report] = None
         words = options._words(seats, SHAPES[shape])
-        answered(c.exports.nm_pool_new(byref(self._pool), self._nodes, words))
-        self._calls = Calls(self._pool, c_uint32(c.ANY), options.timeout_ms)
+        answered(c.exports.nm_pool_new(byref(self._pool), room, words))
+        self._calls = Calls(self._pool, self._cell, options.timeout_ms)
         self._reader = Reader(self._handle, seats)
+        if nodes is None and len(keys) > _KEYS:
+            self.reserve(len(keys))
         self.add_many(keys)
 
     @property
     def nodes(self) -> int:
         """The number of nodes for which it has room."""
-        return self._nodes
+        return int(c.quick.nm_pool_nodes(self._pool))
 
     @property
     def capacity(self) -> int:
         """How many keys it can have if no removed node waits to be freed: (nodes - 5) / 2."""
-        return (self._nodes - 5) // 2
+        return (self.nodes - 5) // 2
 
     @property
     def workers(self) -> int:
@@ -219,6 +224,37 @@ class Set(Keys):
         freed = c_uint64()
         self._succeed(c.exports.nm_pool_collect(self._pool, freed))
         return freed.value
+
+    # ---- a new size ----
+
+    def _sized(self, call: Callable[[int, c_uint64], int]) -> None:
+        """Changes the size by a call, which writes the workers that prevent it."""
+        missing = c_uint64()
+        outcome = waited(lambda _, part: call(part, missing), self._options.timeout_ms)
+        if missing.value:
+            how = "pinned" if outcome == c.PINNED else "in a call that has not ended"
+            raise fault(outcome, f"the set gets no new size: {those(missing.value)} {how}")
+        self._succeed(outcome)
+
+    def reserve(self, keys: SupportsIndex) -> None:
+        """Makes room for this many keys, if no removed node waits; it never makes the set smaller.
+        It waits for the calls of all workers, for at most the `timeout_ms` of `Options`, and then
+        raises `InUse`. Raises `Pinned` if workers are pinned, `OutOfRange` if there cannot be so
+        many keys, and `NoMemory`. While the keys move, other calls wait. Each `Worker` stays
+        attached; its `stats` and stamps begin anew."""
+        count = operator.index(keys)
+        if not 0 <= count <= (MOST_NODES - 5) // 2:
+            raise OutOfRange(f"there cannot be so many keys: {shown(count)}")
+        self._sized(
+            lambda part, missing: int(c.exports.nm_pool_reserve(self._pool, count, part, missing))
+        )
+
+    def shrink_to_fit(self) -> None:
+        """Gives back memory: room is left for the keys, and for one more for each worker. It waits
+        and raises like `reserve`."""
+        self._sized(
+            lambda part, missing: int(c.exports.nm_pool_shrink_to_fit(self._pool, part, missing))
+        )
 
     # ---- workers for threads ----
 

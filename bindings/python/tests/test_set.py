@@ -25,15 +25,15 @@ class AsASet(unittest.TestCase):
     def test_it_is_made_of_keys(self) -> None:
         for keys in ([3, 1, 2, 3], iter([3, 1, 2]), {1, 2, 3}, range(1, 4), array("Q", [2, 1, 3])):
             with Set(keys) as numbers:
-                self.assertEqual((list(numbers), numbers.nodes), ([1, 2, 3], 65_536))
+                self.assertEqual((list(numbers), numbers.capacity), ([1, 2, 3], 10_000))
         with Set(range(40_000)) as numbers:
-            self.assertEqual((len(numbers), numbers.nodes), (40_000, 160_000))
+            self.assertEqual((len(numbers), numbers.capacity), (40_000, 40_000))
         with Set([1, 2, 3], nodes=11, workers=2) as numbers:
             self.assertEqual((numbers.nodes, numbers.workers, numbers.free()), (11, 2, 0))
         with self.assertRaises(nm_set.Full):
             Set([1, 2, 3, 4], nodes=11)
         with Set() as numbers:
-            self.assertEqual((list(numbers), numbers.nodes), ([], 65_536))
+            self.assertEqual((list(numbers), numbers.nodes), ([], 20_005))
         for wrong in (None, 5.0, ["5"], [[]], "5"):
             with self.assertRaises(TypeError):
                 Set(wrong)  # type: ignore[arg-type]

@@ -5,22 +5,13 @@ use crate::order::Range;
 use crate::set::Set;
 use std::fmt;
 
-/// The least number of nodes of a set that is made of keys.
-const NODES: usize = 65_536;
-const MOST_NODES: usize = 268_435_456;
-/// The nodes for each key of a set that is made of keys.
-const NODES_A_KEY: usize = 4;
-
 /// The number of keys that `Debug` writes.
 const SHOWN: usize = 10;
 
-/// Returns a set of these keys, with room for as many more.
+/// Returns a set of these keys, which grows.
 fn made_of(keys: &[u64]) -> Result<Set, Fault> {
-    let nodes = keys
-        .len()
-        .saturating_mul(NODES_A_KEY)
-        .clamp(NODES, MOST_NODES);
-    let set = Set::new(nodes as u32)?;
+    let set = Set::new()?;
+    set.reserve(keys.len())?;
     set.extend(keys.iter().copied())?;
     Ok(set)
 }
@@ -31,7 +22,7 @@ fn or_panic<T>(result: Result<T, Fault>) -> T {
 }
 
 impl FromIterator<u64> for Set {
-    /// Returns a set of these keys, with four nodes for each key, and at least 65,536.
+    /// Returns a set of these keys, which grows.
     ///
     /// # Panics
     ///
@@ -44,7 +35,7 @@ impl FromIterator<u64> for Set {
 }
 
 impl<const N: usize> From<[u64; N]> for Set {
-    /// Returns a set of these keys, with four nodes for each key, and at least 65,536.
+    /// Returns a set of these keys, which grows.
     ///
     /// # Panics
     ///

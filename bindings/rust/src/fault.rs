@@ -12,7 +12,7 @@ pub enum Fault {
     /// This key is above 2^64 - 4 ([`MOST_KEY`](crate::MOST_KEY)).
     Key(u64),
     /// This number of nodes is not 7 to 268,435,456.
-    Nodes(u32),
+    Nodes(u64),
     /// This number of workers is not 1 to 64.
     Workers(u32),
     /// There is no worker of that number.
@@ -46,6 +46,8 @@ pub enum Fault {
     /// The worker is pinned, because the guard of its pin was forgotten
     /// ([`forget`](std::mem::forget)). If the worker is dropped, its pin ends.
     Pinned,
+    /// These workers are pinned, so that the set gets no new size.
+    PinnedWorkers(Numbers),
     /// Within the time of the call each worker was in a call, or attached and pinned; for an
     /// `attach`: in a call or attached. It makes no difference which threads have attached them.
     NoWorker {
@@ -71,7 +73,7 @@ pub enum Fault {
 #[derive(Clone, Copy, Debug, Default, PartialEq, Eq, Hash)]
 pub struct Full {
     /// The number of nodes for which the set has room.
-    pub nodes: u32,
+    pub nodes: u64,
     /// How many keys it had; n keys take 2 n + 5 nodes.
     pub keys: u64,
     /// How many removed nodes waited to be freed.
@@ -81,6 +83,8 @@ pub struct Full {
     pub unasked: Numbers,
     /// Which workers held the epoch back, by a pin or in a call, so that nodes were not freed.
     pub behind: Numbers,
+    /// Which workers were pinned or in a call when the set was last to grow, and so prevented it.
+    pub hindering: Numbers,
 }
 
 impl Fault {
@@ -130,7 +134,7 @@ impl fmt::Display for Full {
             "the set is full: its {} keys take {} of its {} nodes, and {} wait to be freed",
             grouped(self.keys),
             grouped(self.keys.saturating_mul(2).saturating_add(5)),
-            grouped(self.nodes.into()),
+            grouped(self.nodes),
             grouped(self.waiting)
         )?;
         if !self.behind.is_empty() {
@@ -142,6 +146,13 @@ impl fmt::Display for Full {
             write!(
                 f,
                 "; {unasked} in a call, so what waits there is counted as last seen"
+            )?;
+        }
+        if !self.hindering.is_empty() {
+            let hindering = self.hindering.are();
+            write!(
+                f,
+                "; the set cannot grow while {hindering} pinned or in a call"
             )?;
         }
         Ok(())
@@ -182,6 +193,9 @@ impl fmt::Display for Fault {
                 )
             }
             Fault::Attached(numbers) => return write!(f, "{} attached to a thread", numbers.are()),
+            Fault::PinnedWorkers(numbers) => {
+                return write!(f, "the set gets no new size: {} pinned", numbers.are())
+            }
             Fault::Other(number) => return write!(f, "the library returned outcome {number}"),
             Fault::NoMemory => "memory was refused",
             Fault::NoNodes => "no nodes are free for the new key: collect and call again",
@@ -239,6 +253,10 @@ mod tests {
         full.behind = Numbers::of(0b1010);
         let text = format!("{text}; workers 1 and 3 are in their way, by a pin or in a call");
         assert_eq!(Fault::Full(full).to_string(), text);
+        full.hindering = Numbers::of(0b100);
+        let grown = format!("{text}; the set cannot grow while worker 2 is pinned or in a call");
+        assert_eq!(Fault::Full(full).to_string(), grown);
+        full.hindering = Numbers::default();
         full.unasked = Numbers::of(0b1000);
         let text =
             format!("{text}; worker 3 is in a call, so what waits there is counted as last seen");

@@ -20,6 +20,9 @@ use std::ptr::{null_mut, NonNull};
 /// In place of the number of a worker: any worker that can make the call.
 pub(crate) const ANY: u32 = u32::MAX;
 
+/// In place of the number of nodes: the set grows.
+pub(crate) const GROWS: u64 = u64::MAX;
+
 /// `nm_handle`: a pointer that is null or owns a set, a worker or a report, and whether a call has
 /// the handle.
 #[repr(C)]
@@ -54,6 +57,7 @@ pub(crate) struct Fullness {
     pub free: u64,
     pub unasked: u64,
     pub behind: u64,
+    pub hindering: u64,
 }
 
 /// One wait of `nm_pool_again`, all zero before it begins: `nm_pool_wait`.
@@ -128,6 +132,7 @@ extern "C" {
     fn nm_pool_remove(pool: *mut RawPool, worker: u32, key: u64, timeout_ms: u32) -> c_int;
     fn nm_pool_pop_first(pool: *mut RawPool, worker: u32, taken: *mut u64, ms: u32) -> c_int;
     fn nm_pool_pop_last(pool: *mut RawPool, worker: u32, taken: *mut u64, ms: u32) -> c_int;
+    fn nm_pool_wait_pop(pool: *mut RawPool, worker: u32, taken: *mut u64, ms: u32) -> c_int;
     fn nm_pool_next(pool: *mut RawPool, worker: u32, key: u64, found: *mut u64, ms: u32) -> c_int;
     fn nm_pool_prev(pool: *mut RawPool, worker: u32, key: u64, found: *mut u64, ms: u32) -> c_int;
     fn nm_pool_contains_many(
@@ -190,6 +195,9 @@ extern "C" {
     fn nm_pool_size(pool: *mut RawPool, keys: *mut u64) -> c_int;
     fn nm_pool_fullness(pool: *mut RawPool, fullness: *mut Fullness) -> c_int;
     fn nm_pool_collect(pool: *mut RawPool, freed: *mut u64) -> c_int;
+    fn nm_pool_reserve(pool: *mut RawPool, keys: u64, ms: u32, missing: *mut u64) -> c_int;
+    fn nm_pool_shrink_to_fit(pool: *mut RawPool, ms: u32, missing: *mut u64) -> c_int;
+    fn nm_pool_nodes(pool: *const RawPool) -> u64;
     fn nm_pool_workers(pool: *const RawPool) -> u32;
     fn nm_pool_call_options(pool: *const RawPool) -> *const CallOptions;
     fn nm_pool_attach(pool: *mut RawPool, worker: *mut u32, timeout_ms: u32) -> c_int;
@@ -295,11 +303,11 @@ macro_rules! worker_calls {
 }
 
 impl Pool {
-    /// Makes a pool, or returns the outcome of an error.
-    pub(crate) fn new(nodes: u32, options: &PoolOptions) -> Result<Pool, Outcome> {
+    /// Makes a pool with room for this many nodes, or [`GROWS`]. Returns the outcome of an error.
+    pub(crate) fn new(nodes: u64, options: &PoolOptions) -> Result<Pool, Outcome> {
         let mut pool = null_mut();
         // SAFETY: both places are borrowed for this call.
-        let outcome = unsafe { nm_pool_new(&mut pool, nodes.into(), options) };
+        let outcome = unsafe { nm_pool_new(&mut pool, nodes, options) };
         NonNull::new(pool).map(Pool).ok_or(outcome)
     }
 
@@ -309,6 +317,9 @@ impl Pool {
         remove = nm_pool_remove(worker: u32, key: u64, timeout_ms: u32);
         pop_first = nm_pool_pop_first(worker: u32, taken: &mut u64, timeout_ms: u32);
         pop_last = nm_pool_pop_last(worker: u32, taken: &mut u64, timeout_ms: u32);
+        wait_pop = nm_pool_wait_pop(worker: u32, taken: &mut u64, timeout_ms: u32);
+        reserve = nm_pool_reserve(keys: u64, timeout_ms: u32, missing: &mut u64);
+        shrink_to_fit = nm_pool_shrink_to_fit(timeout_ms: u32, missing: &mut u64);
         next = nm_pool_next(worker: u32, key: u64, found: &mut u64, timeout_ms: u32);
         prev = nm_pool_prev(worker: u32, key: u64, found: &mut u64, timeout_ms: u32);
         try_insert = nm_pool_try_insert(worker: u32, key: u64, tries: u32, timeout_ms: u32);
@@ -444,6 +455,12 @@ impl Pool {
         let outcome =
             unsafe { nm_pool_close(self.0.as_ptr(), timeout_ms, &mut report.0, &mut missing) };
         (outcome, missing)
+    }
+
+    /// Returns the number of nodes for which the set has room.
+    pub(crate) fn nodes(&self) -> u64 {
+        // SAFETY: the pool exists as long as `self`.
+        unsafe { nm_pool_nodes(self.0.as_ptr()) }
     }
 
     /// Returns how many workers the set has.

@@ -6,7 +6,7 @@ use std::fmt;
 ///
 /// ```
 /// # fn main() -> Result<(), nm_set::Fault> {
-/// let set = nm_set::Set::new(1_024)?;
+/// let set = nm_set::Set::with_nodes(1_024)?;
 /// let (_first, _second) = (set.attach()?, set.attach()?);
 /// let Err(nm_set::Fault::Attached(numbers)) = set.close() else { panic!("two are attached") };
 /// assert_eq!(numbers.iter().collect::<Vec<_>>(), [0, 1]);

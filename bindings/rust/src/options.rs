@@ -86,7 +86,7 @@ mod tests {
 
     #[test]
     fn nodes_are_collected_when_an_eighth_of_them_wait() {
-        let after = |nodes, workers, collect_after| {
+        let after = |nodes: u64, workers, collect_after| {
             let options = Options {
                 workers,
                 collect_after,

@@ -2,15 +2,18 @@
 
 use crate::fault::{answer, Fault, Full};
 use crate::ffi::{
-    Block, CallOptions, Change, Fullness, Lookup, Order, Outcome, Pool, ReportHandle, ANY,
+    Block, CallOptions, Change, Fullness, Lookup, Order, Outcome, Pool, ReportHandle, ANY, GROWS,
 };
 use crate::numbers::Numbers;
 use crate::options::Options;
 use crate::report::Report;
+use std::time::Duration;
 
 /// The outcomes of a pool that concern its workers.
+const NODES: Outcome = -6;
 const FULL: Outcome = -10;
 const UNFINISHED: Outcome = -11;
+const PINNED: Outcome = -13;
 const ATTACHED: Outcome = -18;
 const IN_USE: Outcome = -22;
 const NO_WORKER: Outcome = -23;
@@ -28,7 +31,11 @@ pub(crate) struct Shared {
     pub pool: Pool,
     pub options: CallOptions,
     pub timeout_ms: u32,
-    pub nodes: u32,
+}
+
+/// Returns a time in milliseconds, at most the longest time of a call of the library.
+pub(crate) fn millis(timeout: Duration) -> u32 {
+    u32::try_from(timeout.as_millis()).unwrap_or(u32::MAX)
 }
 
 /// The pool of a set, and the number of a worker there, or [`ANY`].
@@ -49,10 +56,11 @@ pub(crate) fn found(lookups: &[Lookup]) -> Vec<bool> {
 }
 
 impl Shared {
-    /// Makes what the clones of a new set share.
-    pub fn new(nodes: u32, options: &Options) -> Result<Shared, Fault> {
-        let pool = Pool::new(nodes, &options.of_pool()).map_err(|outcome| match outcome {
-            -6 => Fault::Nodes(nodes),
+    /// Makes what the clones of a new set share. Without a number of nodes the set grows.
+    pub fn new(nodes: Option<u32>, options: &Options) -> Result<Shared, Fault> {
+        let asked = nodes.map_or(GROWS, u64::from);
+        let pool = Pool::new(asked, &options.of_pool()).map_err(|outcome| match outcome {
+            NODES => Fault::Nodes(asked),
             -7 => Fault::Workers(options.workers),
             _ => Fault::of(outcome),
         })?;
@@ -60,7 +68,6 @@ impl Shared {
             options: pool.call_options(),
             pool,
             timeout_ms: options.timeout_ms,
-            nodes,
         })
     }
 
@@ -89,11 +96,12 @@ impl Shared {
             |fault| fault,
             |fullness| {
                 Fault::Full(Full {
-                    nodes: self.nodes,
+                    nodes: fullness.nodes,
                     keys: fullness.keys,
                     waiting: fullness.waiting,
                     unasked: Numbers::of(fullness.unasked),
                     behind: Numbers::of(fullness.behind),
+                    hindering: Numbers::of(fullness.hindering),
                 })
             },
         )
@@ -133,6 +141,31 @@ impl Shared {
     /// Returns a worker to the pool.
     pub fn detach(&self, mut worker: u32) {
         self.pool.detach(&mut worker, LONGEST);
+    }
+
+    /// Returns the answer of a call that changes the size, with the workers that prevented it.
+    fn sized(&self, outcome: Outcome, missing: u64) -> Result<(), Fault> {
+        match outcome {
+            PINNED => Err(Fault::PinnedWorkers(Numbers::of(missing))),
+            IN_USE => Err(Fault::InUse(Numbers::of(missing))),
+            outcome => answer(outcome).map(drop),
+        }
+    }
+
+    /// Makes room for this many keys.
+    pub fn reserve(&self, keys: u64) -> Result<(), Fault> {
+        let mut missing = 0;
+        match self.pool.reserve(keys, self.timeout_ms, &mut missing) {
+            NODES => Err(Fault::Nodes(keys.saturating_mul(2).saturating_add(5))),
+            outcome => self.sized(outcome, missing),
+        }
+    }
+
+    /// Leaves room for the keys, and for one more for each worker.
+    pub fn shrink_to_fit(&self) -> Result<(), Fault> {
+        let mut missing = 0;
+        let outcome = self.pool.shrink_to_fit(self.timeout_ms, &mut missing);
+        self.sized(outcome, missing)
     }
 
     /// Ends the set, and returns its report.
@@ -200,6 +233,11 @@ impl Place<'_> {
 
     pub fn pop_last(&self) -> Result<Option<u64>, Fault> {
         self.taken(Pool::pop_last)
+    }
+
+    pub fn wait_pop(&self, timeout: Duration) -> Result<Option<u64>, Fault> {
+        let most = millis(timeout);
+        self.taken(|pool, worker, taken, _| pool.wait_pop(worker, taken, most))
     }
 
     /// Removes a key, and returns it. It returns a key whose remove is unfinished too, because this
@@ -400,7 +438,7 @@ mod tests {
             keys: 1,
             waiting: 2,
             unasked: Numbers::of(1),
-            behind: Numbers::default(),
+            ..Full::default()
         });
         for call in [&mut || set.insert(6), &mut || other.insert(6)] as [&mut dyn FnMut() -> _; 2] {
             let begin = Instant::now();

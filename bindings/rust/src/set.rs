@@ -5,7 +5,7 @@ use crate::ffi::Change;
 use crate::key::checked;
 use crate::options::Options;
 use crate::order::{self, Range};
-use crate::place::{Place, Shared};
+use crate::place::{millis, Place, Shared};
 use crate::report::Report;
 use crate::worker::Worker;
 use crate::MOST_KEY;
@@ -49,7 +49,7 @@ const TOGETHER: usize = 64;
 ///
 /// ```
 /// # fn main() -> Result<(), nm_set::Fault> {
-/// let set = nm_set::Set::new(65_536)?;
+/// let set = nm_set::Set::new()?;
 /// std::thread::scope(|scope| {
 ///     for first in 0..4 {
 ///         let set = &set;
@@ -69,21 +69,37 @@ const TOGETHER: usize = 64;
 pub struct Set(Arc<Shared>);
 
 impl Set {
-    /// Makes the empty set with room for 7 to 268,435,456 nodes, by [`Options::default`]. n keys
-    /// take 2 n + 5 nodes, and the removed nodes that wait to be freed take theirs: give the set
-    /// four for each key.
+    /// Makes the empty set, which grows, by [`Options::default`]. It has room for 10,000 keys at
+    /// first. If an insert finds no free nodes, and none can be freed, the set gets four times the
+    /// nodes: all calls wait while its keys move.
+    ///
+    /// Errors: `NoMemory`.
+    pub fn new() -> Result<Set, Fault> {
+        Set::growing(Options::default())
+    }
+
+    /// Makes the empty set, which grows like that of [`new`](Set::new), by these options.
+    ///
+    /// Errors: `Workers`, `NoMemory`.
+    pub fn growing(options: Options) -> Result<Set, Fault> {
+        Ok(Set(Arc::new(Shared::new(None, &options)?)))
+    }
+
+    /// Makes the empty set with room for 7 to 268,435,456 nodes, by [`Options::default`]. It never
+    /// grows by itself. n keys take 2 n + 5 nodes, and the removed nodes that wait to be freed take
+    /// theirs: give the set four for each key.
     ///
     /// Errors: `Nodes`, `NoMemory`.
-    pub fn new(nodes: u32) -> Result<Set, Fault> {
+    pub fn with_nodes(nodes: u32) -> Result<Set, Fault> {
         Set::with_options(nodes, Options::default())
     }
 
-    /// Makes the empty set with room for 7 to 268,435,456 nodes, by these options.
+    /// Makes the empty set with room for 7 to 268,435,456 nodes, by these options. It never grows by
+    /// itself.
     ///
     /// Errors: `Nodes`, `Workers`, `NoMemory`.
     pub fn with_options(nodes: u32, options: Options) -> Result<Set, Fault> {
-        let shared = Shared::new(nodes, &options)?;
-        Ok(Set(Arc::new(shared)))
+        Ok(Set(Arc::new(Shared::new(Some(nodes), &options)?)))
     }
 
     pub(crate) fn of(shared: Arc<Shared>) -> Set {
@@ -195,6 +211,28 @@ impl Set {
     /// [`pop_first`](Set::pop_first).
     pub fn pop_last(&self) -> Result<Option<u64>, Fault> {
         self.place().pop_last()
+    }
+
+    /// Removes the least key and returns it, like [`pop_first`](Set::pop_first). If the set is empty
+    /// it waits for a key, for at most `timeout`, and sleeps meanwhile: an insert wakes it. Returns
+    /// None after that time. If the set is closed meanwhile, it returns `Closed`.
+    ///
+    /// ```
+    /// # fn main() -> Result<(), nm_set::Fault> {
+    /// use std::time::Duration;
+    /// let set = nm_set::Set::new()?;
+    /// let key = std::thread::scope(|scope| {
+    ///     let taker = scope.spawn(|| set.wait_pop(Duration::from_secs(60)));
+    ///     set.insert(7)?;
+    ///     taker.join().unwrap()
+    /// });
+    /// assert_eq!(key?, Some(7));
+    /// assert_eq!(set.wait_pop(Duration::from_millis(1))?, None);
+    /// # Ok(())
+    /// # }
+    /// ```
+    pub fn wait_pop(&self, timeout: Duration) -> Result<Option<u64>, Fault> {
+        self.place().wait_pop(timeout)
     }
 
     /// Returns an iterator over the keys of a range, while the set is in use. It reads keys ahead,
@@ -351,14 +389,41 @@ impl Set {
     }
 
     /// Returns the number of nodes for which the set has room.
-    pub fn nodes(&self) -> u32 {
-        self.0.nodes
+    pub fn nodes(&self) -> u64 {
+        self.0.pool.nodes()
     }
 
     /// Returns how many keys the set can have if no removed node waits to be freed: (nodes - 5) /
     /// 2.
     pub fn capacity(&self) -> usize {
         (self.nodes() as usize - 5) / 2
+    }
+
+    /// Makes room for this many keys, if no removed node waits; it never makes the set smaller. It
+    /// waits for the calls of all workers, for at most [`timeout_ms`](Options::timeout_ms). While
+    /// the keys move, other calls wait. Workers stay attached; their [`stats`](Worker::stats) and
+    /// stamps begin anew.
+    ///
+    /// Errors: `PinnedWorkers`, `InUse` (a call has not ended in that time), `Nodes` (there cannot
+    /// be so many keys), `NoMemory`. The set goes on unchanged.
+    ///
+    /// ```
+    /// # fn main() -> Result<(), nm_set::Fault> {
+    /// let set = nm_set::Set::with_nodes(64)?;
+    /// set.reserve(1_000)?;
+    /// set.extend(0..1_000)?;
+    /// assert_eq!((set.len()?, set.capacity()), (1_000, 1_000));
+    /// # Ok(())
+    /// # }
+    /// ```
+    pub fn reserve(&self, keys: usize) -> Result<(), Fault> {
+        self.0.reserve(keys as u64)
+    }
+
+    /// Gives back memory: room is left for the keys, and for one more for each worker. It waits like
+    /// [`reserve`](Set::reserve), and returns its errors.
+    pub fn shrink_to_fit(&self) -> Result<(), Fault> {
+        self.0.shrink_to_fit()
     }
 
     /// Returns how many workers the set has.
@@ -399,7 +464,7 @@ impl Set {
     ///
     /// Errors: `NoWorker`: no worker was free in that time.
     pub fn attach_timeout(&self, timeout: Duration) -> Result<Worker, Fault> {
-        self.attach_within(u32::try_from(timeout.as_millis()).unwrap_or(u32::MAX))
+        self.attach_within(millis(timeout))
     }
 
     fn attach_within(&self, timeout_ms: u32) -> Result<Worker, Fault> {

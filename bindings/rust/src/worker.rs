@@ -11,6 +11,7 @@ use crate::MOST_KEY;
 use std::fmt;
 use std::ops::RangeBounds;
 use std::sync::Arc;
+use std::time::Duration;
 
 /// One worker of a [`Set`], for one thread at a time. Each call takes it by `&mut`, and it may be
 /// sent to another thread between two calls.
@@ -39,7 +40,7 @@ use std::sync::Arc;
 ///
 /// ```
 /// # fn main() -> Result<(), nm_set::Fault> {
-/// let set = nm_set::Set::new(1_024)?;
+/// let set = nm_set::Set::with_nodes(1_024)?;
 /// let mut worker = set.attach()?;
 /// assert!(worker.insert(5)?);
 /// assert!(worker.contains(5)?);
@@ -53,7 +54,7 @@ use std::sync::Arc;
 ///
 /// ```compile_fail,E0499
 /// # fn main() -> Result<(), nm_set::Fault> {
-/// let set = nm_set::Set::new(1_024)?;
+/// let set = nm_set::Set::with_nodes(1_024)?;
 /// let mut worker = set.attach()?;
 /// std::thread::scope(|scope| {
 ///     scope.spawn(|| worker.insert(5));
@@ -194,6 +195,12 @@ impl Worker {
         self.place().pop_last()
     }
 
+    /// Removes the least key and returns it, after a wait for one of at most `timeout`: see
+    /// [`Set::wait_pop`].
+    pub fn wait_pop(&mut self, timeout: Duration) -> Result<Option<u64>, Fault> {
+        self.place().wait_pop(timeout)
+    }
+
     /// Returns an iterator over the keys of a range, in both directions: see [`Set::range`].
     pub fn range(&mut self, bounds: impl RangeBounds<u64>) -> Range<&mut Worker> {
         Range::of(self, bounds)
@@ -316,7 +323,7 @@ impl Worker {
     ///
     /// ```
     /// # fn main() -> Result<(), nm_set::Fault> {
-    /// let set = nm_set::Set::new(1_024)?;
+    /// let set = nm_set::Set::with_nodes(1_024)?;
     /// let (mut reader, mut other) = (set.attach()?, set.attach()?);
     /// let guard = reader.pin()?;
     /// other.advance()?;

@@ -41,7 +41,7 @@ fn refused(nodes: u32, workers: u32) -> Option<String> {
 
 #[test]
 fn wrong_sizes_return_faults() {
-    assert_eq!(Set::new(6).err(), Some(Fault::Nodes(6)));
+    assert_eq!(Set::with_nodes(6).err(), Some(Fault::Nodes(6)));
     let result = refused(268_435_457, 64).unwrap();
     assert_eq!(
         result,
@@ -332,16 +332,16 @@ fn a_call_borrows_a_worker_that_is_attached_and_not_pinned() {
 #[test]
 fn a_set_tells_how_many_keys_it_can_have() {
     for (nodes, capacity) in [(7, 1), (8, 1), (9, 2), (65_536, 32_765)] {
-        assert_eq!(Set::new(nodes).unwrap().capacity(), capacity);
+        assert_eq!(Set::with_nodes(nodes).unwrap().capacity(), capacity);
     }
-    let set = Set::new(25).unwrap();
+    let set = Set::with_nodes(25).unwrap();
     assert_eq!(set.extend(0..10), Ok(set.capacity()));
     assert!(matches!(set.insert(10), Err(Fault::Full(_))));
 }
 
 #[test]
 fn keys_are_counted_by_each_kind_of_call() {
-    let set = Set::new(1_024).unwrap();
+    let set = Set::with_nodes(1_024).unwrap();
     let mut worker = set.attach().unwrap();
     assert_eq!((set.extend(0..10), set.len()), (Ok(10), Ok(10)));
     assert_eq!((worker.extend(5..15), set.len()), (Ok(5), Ok(15)));
@@ -361,7 +361,7 @@ fn keys_are_counted_by_each_kind_of_call() {
 
 #[test]
 fn a_set_is_closed_once_no_worker_is_out() {
-    let set = Set::new(64).unwrap();
+    let set = Set::with_nodes(64).unwrap();
     let clone = set.clone();
     let mut worker = clone.attach().unwrap();
     assert_eq!((worker.insert(5), clone.insert(6)), (Ok(true), Ok(true)));
@@ -392,7 +392,7 @@ fn a_set_is_closed_once_no_worker_is_out() {
 
 #[test]
 fn a_worker_outlives_its_set() {
-    let mut worker = Set::new(64).unwrap().attach().unwrap();
+    let mut worker = Set::with_nodes(64).unwrap().attach().unwrap();
     assert_eq!((worker.insert(5), worker.contains(5)), (Ok(true), Ok(true)));
 }
 

@@ -37,7 +37,7 @@ fn a_remove_that_has_begun_is_finished() {
 
 #[test]
 fn a_remove_of_before_is_finished_first() {
-    let mut worker = Set::new(64).unwrap().attach().unwrap();
+    let mut worker = Set::with_nodes(64).unwrap().attach().unwrap();
     for key in 0..10 {
         assert_eq!(
             (worker.insert(key), worker.try_remove(key, 1)),
@@ -243,7 +243,7 @@ fn retired_nodes_are_collected_as_they_come_due() {
 
 #[test]
 fn a_collection_frees_what_all_have_left() {
-    let set = Set::new(64).unwrap();
+    let set = Set::with_nodes(64).unwrap();
     assert_eq!(
         (set.insert(5), set.remove(5), set.collect(), set.collect()),
         (Ok(true), Ok(true), Ok(2), Ok(0))

@@ -136,14 +136,14 @@ fn a_walk_goes_on_from_both_ends_and_ends_where_they_meet() {
 #[test]
 fn sets_are_made_of_keys_and_take_more() {
     let mut set = Set::from([5, 7, 5]);
-    assert_eq!((all(set.iter()), set.nodes()), (vec![5, 7], 65_536));
+    assert_eq!((all(set.iter()), set.capacity()), (vec![5, 7], 10_000));
     assert_eq!(set.extend([7, 8, 9]), Ok(2));
     assert_eq!(set.attach().unwrap().extend([9, 10]), Ok(1));
     Extend::extend(&mut set, [11_u64]);
     Extend::extend(&mut set, &[12_u64]);
     assert_eq!(all(set.iter()), [5, 7, 8, 9, 10, 11, 12]);
     let big: Set = (0..20_000).collect();
-    assert_eq!((big.nodes(), big.len()), (80_000, Ok(20_000)));
+    assert_eq!((big.capacity(), big.len()), (20_000, Ok(20_000)));
     assert_eq!(set.extend([1, u64::MAX, 2]), Err(Fault::Key(u64::MAX)));
     assert_eq!((set.contains(1), set.contains(2)), (Ok(true), Ok(false)));
 }
@@ -214,7 +214,7 @@ fn a_set_shows_its_first_keys_and_never_waits_to_do_so() {
 
 #[test]
 fn how_full_a_set_is_counts_what_waits() {
-    let set = Set::new(64).unwrap();
+    let set = Set::with_nodes(64).unwrap();
     assert_eq!(
         (set.len(), set.waiting(), set.free()),
         (Ok(0), Ok(0), Ok(59))

@@ -161,7 +161,7 @@ fn threads_without_workers_add_up_where_these_are_fewer_and_room_is_scarce() {
 
 #[test]
 fn threads_attach_themselves_at_once() {
-    let set = Set::new(1_024).unwrap();
+    let set = Set::with_nodes(1_024).unwrap();
     let (numbers, begin) = (Mutex::new(BTreeSet::new()), Barrier::new(THREADS as usize));
     scope(|scope| {
         for _ in 0..THREADS {
@@ -196,7 +196,7 @@ fn more_threads_than_workers_wait_for_one() {
 
 #[test]
 fn two_hundred_threads_attach_work_and_end() {
-    let set = Set::new(65_536).unwrap();
+    let set = Set::with_nodes(65_536).unwrap();
     let begin = Barrier::new(200);
     scope(|scope| {
         for thread in 0..200 {
