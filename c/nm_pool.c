@@ -33,6 +33,7 @@
 #define BACK_TURNS 16    /* how often a call yields back to an insert */
 #define END_MS 10000     /* how long nm_pool_free waits for calls */
 #define WORKERS 64       /* the most workers of a set */
+#define MOST_KEY (UINT64_MAX - 3) /* the greatest key */
 #define SCANNED 512      /* how many keys a count reads in one call */
 #define SOUGHT 64        /* how many keys a call for many looks up together */
 #define FIRST_NODES 20005     /* of a set that grows: room for 10,000 keys */
@@ -91,13 +92,13 @@ struct nm_pool {
 /* What a call needs besides its worker. */
 struct request {
     uint64_t key;
-    uint64_t below; /* of a scan: its range ends before this key */
+    uint64_t bound; /* of a scan: the other end of its range */
     uint64_t *found;
     nm_lookup *lookups;
     size_t count;
-    size_t *written; /* of a scan: how many keys it has written */
-    uint64_t *next;  /* of a scan: where the next one goes on */
-    uint64_t *end;   /* of an insert: when its waits end, and 0 before the first one */
+    uint64_t *written; /* of a scan: how many keys it has written */
+    uint64_t *next;    /* of a scan: where the next one goes on */
+    uint64_t *end;     /* of an insert: when its waits end, and 0 before the first one */
 };
 
 typedef nm_outcome (*call_of)(const nm_pool *, nm_handle *, const struct request *);
@@ -950,13 +951,13 @@ static nm_outcome prev(nm_handle *worker, const struct request *request, uint32_
 }
 
 static nm_outcome scan(nm_handle *worker, const struct request *request, uint32_t tries) {
-    return nm_worker_scan(worker, request->key, request->below, tries, request->found,
-                          request->count, request->written, request->next);
+    return nm_worker_scan(worker, request->key, request->bound, request->found, request->count,
+                          request->written, request->next, tries);
 }
 
 static nm_outcome scan_back(nm_handle *worker, const struct request *request, uint32_t tries) {
-    return nm_worker_scan_back(worker, request->key, request->below, tries, request->found,
-                               request->count, request->written, request->next);
+    return nm_worker_scan_back(worker, request->key, request->bound, request->found, request->count,
+                               request->written, request->next, tries);
 }
 
 static nm_outcome many(nm_handle *worker, const struct request *request, uint32_t tries) {
@@ -1057,25 +1058,36 @@ nm_outcome nm_pool_prev(nm_pool *pool, uint32_t worker, uint64_t key, uint64_t *
 nm_outcome nm_pool_scan(nm_pool *pool, uint32_t worker, uint64_t from, uint64_t below,
                         uint64_t *keys, size_t room, size_t *count, uint64_t *next,
                         uint32_t timeout_ms) {
+    uint64_t none = 0, written = 0;
     const struct request request = {.key = from,
-                                    .below = below,
-                                    .found = keys,
+                                    .bound = below,
+                                    .found = room == 0 ? &none : keys,
                                     .count = room,
-                                    .written = count,
+                                    .written = &written,
                                     .next = next};
-    return make(pool, worker, look_on, NONE, &request, timeout_ms);
+    nm_outcome outcome = NM_NO;
+    if (from < below && from <= MOST_KEY)
+        outcome = make(pool, worker, look_on, NONE, &request, timeout_ms);
+    if (outcome >= 0) *count = written;
+    return outcome;
 }
 
 nm_outcome nm_pool_scan_back(nm_pool *pool, uint32_t worker, uint64_t from, uint64_t below,
                              uint64_t *keys, size_t room, size_t *count, uint64_t *next,
                              uint32_t timeout_ms) {
-    const struct request request = {.key = from,
-                                    .below = below,
-                                    .found = keys,
+    uint64_t none = 0, written = 0, greatest = 0;
+    const struct request request = {.key = below > MOST_KEY ? MOST_KEY : below - 1,
+                                    .bound = from,
+                                    .found = room == 0 ? &none : keys,
                                     .count = room,
-                                    .written = count,
-                                    .next = next};
-    return make(pool, worker, look_back, NONE, &request, timeout_ms);
+                                    .written = &written,
+                                    .next = &greatest};
+    nm_outcome outcome = NM_NO;
+    if (from < below && from <= MOST_KEY)
+        outcome = make(pool, worker, look_back, NONE, &request, timeout_ms);
+    if (outcome >= 0) *count = written;
+    if (outcome == NM_YES) *next = greatest + 1;
+    return outcome;
 }
 
 nm_outcome nm_pool_count(nm_pool *pool, uint32_t worker, uint64_t from, uint64_t below,

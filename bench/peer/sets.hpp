@@ -68,15 +68,15 @@ public:
             if (is_yes(nm_worker_pop_first(worker_, &nm_default_options, &taken))) return taken;
             return std::nullopt;
         }
-        // Reads at most `room` keys from `from` on, ascending; returns how many. Each call of the
-        // library reads at most 1,024.
+        // Reads at most `room` keys from `from` on, ascending; returns how many. A call of the library
+        // reads at most 1,024.
         std::size_t scan(Key from, Key *keys, std::size_t room) {
             std::size_t total = 0;
             nm_outcome told = NM_YES;
             while (total < room && told == NM_YES) {
-                std::size_t some = 0;
-                told = nm_worker_scan(worker_, from, UINT64_MAX, 64, keys + total,
-                                      std::min<std::size_t>(room - total, 1024), &some, &from);
+                std::uint64_t some = 0;
+                told = nm_worker_scan(worker_, from, UINT64_MAX, keys + total, room - total, &some,
+                                      &from, 64);
                 if (told < 0) std::abort();
                 total += some;
             }
