@@ -14,3 +14,4 @@ pub mod Rooms
 pub mod PlainLooks
 pub mod InTurnsLooks
 pub mod NearLooks
+pub mod ScanLooks

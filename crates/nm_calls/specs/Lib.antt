@@ -3,6 +3,7 @@ pub mod Calls
 pub mod PlainWalks
 pub mod InTurns
 pub mod NearKeys
+pub mod Scans
 pub mod Won
 pub mod Fresh
 pub mod Leaving

@@ -10,6 +10,7 @@ mod leaving;
 mod lookup;
 mod many;
 mod near_key;
+mod scanning;
 
 pub use deleting::{Missed, Unfinished, delete, finish};
 pub use fault::CallFault;
@@ -18,3 +19,4 @@ pub use leaving::leave;
 pub use lookup::has;
 pub use many::{Query, has_many};
 pub use near_key::nearest;
+pub use scanning::{Scanned, scan};

@@ -11,9 +11,9 @@ use Rattle.nm_calls.specs.declared.fault.CallFault.{CallFault}
 use Rattle.nm_calls.specs.declared.fault.CallFault.TheVariants as fault
 use Rattle.nm_tree.specs.declared.popping.End.{End}
 use Rattle.nm_tree.specs.Calls.{LeavesNear}
-use Rattle.nm_tree.specs.Popping.{Finds, Takes, comes_before}
+use Rattle.nm_tree.specs.Popping.{Finds, IsOutside, TakesOf, among, comes_before}
 use Rattle.nm_tree.specs.Workers.{WorkerView}
-use Rattle.nm_tree.proofs.Taking.{found_by, found_in, gives_up_at, key_found, moment_since, near_bound, none_found, scaled, told_at, was_so_since}
+use Rattle.nm_tree.proofs.Taking.{found_by, found_in, gives_up_at, key_found, moment_since, near_bound, none_found, none_inside, scaled, told_at, was_so_since}
 use Rattle.nm_set.specs.declared.managed.Options.{Options}
 use Rattle.nm_set.specs.Managed.{Answers, GoesOn, Manages, SaysManaged, round_bound}
 use Rattle.nm_set.specs.Popping.{PopLeft, Pops, flags_told_by_pop, pop_round_bound, pop_rounds_bound}
@@ -50,7 +50,7 @@ module _ (end : End) (b : TreeView) (h : Options) (w : WorkerView) (none : w.pen
   L = b.layout
 
   abbrev Says : WorkerView → Result (Option ℕ) CallFault → Type 0
-  Says z r = Pops (comes_before end) (pop_round_bound h L) w z r
+  Says z r = Pops (among end) (comes_before end) (pop_round_bound h L) w z r
 
   abbrev Near : WorkerView → Result (Option ℕ) CallFault → Type 0
   Near z r = LeavesNear (told_at end) (gives_up_at end L h.tries) L h.tries w z r
@@ -78,7 +78,13 @@ module _ (end : End) (b : TreeView) (h : Options) (w : WorkerView) (none : w.pen
       by fault.Unfinished on l = absurd l.did
       by fault.Pinned on l = absurd l.did
 
-  module _ (x z : WorkerView) (key : ℕ) (found : Finds end L h.tries w x (Ok (Some key))) where
+  -- or one that is not to be popped
+  pub pops_outside : (z : WorkerView) (key : ℕ) → Finds end L h.tries w z (Ok (Some key)) → IsOutside end key → Says z (Ok None)
+  pops_outside z key did outside =
+      let l = found_by end L h.tries w z (Ok (Some key)) did in
+      record { took = none_inside end w.pass z.pass key outside (key_found end w.pass z.pass key l.moment); left = l.did.0.1; won = l.won; on = alone z (goes_found end L h.tries w z (Ok (Some key)) did) }
+
+  module _ (x z : WorkerView) (key : ℕ) (found : Finds end L h.tries w x (Ok (Some key))) (is : among end key) where
     l : Near x (Ok (Some key))
     l = found_by end L h.tries w x (Ok (Some key)) found
 
@@ -96,7 +102,7 @@ module _ (end : End) (b : TreeView) (h : Options) (w : WorkerView) (none : w.pen
     pops_key did =
         let t = removes (Ok true) did in
         let was = found_in end w.pass w.pass x.pass z.pass key (seen_itself w.pass) t.answers.on.same t.answers.on.past (key_found end w.pass x.pass key l.moment) in
-        record { took = (was.is_key, moment_since w.pass x.pass z.pass Delete key true l.past t.answers.moment, was.missing); left = t.answers.left; won = wins_after 0 1 w x z l.won t.answers.won; on = both (Ok true) t }
+        record { took = (is, moment_since w.pass x.pass z.pass Delete key true l.past t.answers.moment, was.missing); left = t.answers.left; won = wins_after 0 1 w x z l.won t.answers.won; on = both (Ok true) t }
 
     -- the remove came too late
     pub pops_late : SaysManaged Delete b h key x z (Ok false) → Says z pop_busy
@@ -118,7 +124,7 @@ module _ (end : End) (b : TreeView) (h : Options) (w : WorkerView) (none : w.pen
             let was = found_in end w.pass w.pass x.pass z.pass key (seen_itself w.pass) t.answers.on.same t.answers.on.past (key_found end w.pass x.pass key l.moment) in
             record {
               took = tt;
-              left = (record { key = key; leaf = t.answers.left.1 }, t.answers.left.2, was.is_key, was.was, was.missing);
+              left = (record { key = key; leaf = t.answers.left.1 }, t.answers.left.2, is, was.was, was.missing);
               won = wins_after 0 1 w x z l.won t.answers.won;
               on = both (Err fault.Unfinished) t;
             }
@@ -126,63 +132,63 @@ module _ (end : End) (b : TreeView) (h : Options) (w : WorkerView) (none : w.pen
 -- ---- all rounds
 
 -- what was so in the last round was so in the whole call
-takes_since : (Before : ℕ → ℕ → Type 0) (o p q : PassView) (taken : Option ℕ) → HasSeenAllOf p o → Takes Before p q taken → Takes Before o q taken
-takes_since Before o p q (Some key) past t = (t.0, moment_since o p q Delete key true past t.1, λ j is before. was_so_since o p q j false past (t.2 j is before))
-takes_since Before o p q None past t = λ j is. was_so_since o p q j false past (t j is)
+takes_since : (Among : ℕ → Type 0) (Before : ℕ → ℕ → Type 0) (o p q : PassView) (taken : Option ℕ) → HasSeenAllOf p o → TakesOf Among Before p q taken → TakesOf Among Before o q taken
+takes_since Among Before o p q (Some key) past t = (t.0, moment_since o p q Delete key true past t.1, λ j is before. was_so_since o p q j false past (t.2 j is before))
+takes_since Among Before o p q None past t = λ j is. was_so_since o p q j false past (t j is)
 
-took_since : (Before : ℕ → ℕ → Type 0) (o p q : PassView) (r : Result (Option ℕ) CallFault) → HasSeenAllOf p o → IfOk r (Takes Before p q) → IfOk r (Takes Before o q)
-took_since Before o p q (Ok taken) past t = takes_since Before o p q taken past t
-took_since Before o p q (Err f) past t = tt
+took_since : (Among : ℕ → Type 0) (Before : ℕ → ℕ → Type 0) (o p q : PassView) (r : Result (Option ℕ) CallFault) → HasSeenAllOf p o → IfOk r (TakesOf Among Before p q) → IfOk r (TakesOf Among Before o q)
+took_since Among Before o p q (Ok taken) past t = takes_since Among Before o p q taken past t
+took_since Among Before o p q (Err f) past t = tt
 
-left_since : (Before : ℕ → ℕ → Type 0) (o w z : WorkerView) (r : Result (Option ℕ) CallFault) → HasSeenAllOf w.pass o.pass → w.pending ≡ None → PopLeft Before w z r → PopLeft Before o z r
-left_since Before o w z (Ok taken) past none left = left
-left_since Before o w z (Err fault.Pinned) past none left = left
-left_since Before o w z (Err fault.Busy) past none left = left
-left_since Before o w z (Err fault.Full) past none left = left
-left_since Before o w z (Err fault.NoMemory) past none left = left
-left_since Before o w z (Err fault.Pending) past none left = none_there w.pending none left.0
-left_since Before o w z (Err fault.Unfinished) past none (n, is, key, was, missing) =
+left_since : (Among : ℕ → Type 0) (Before : ℕ → ℕ → Type 0) (o w z : WorkerView) (r : Result (Option ℕ) CallFault) → HasSeenAllOf w.pass o.pass → w.pending ≡ None → PopLeft Among Before w z r → PopLeft Among Before o z r
+left_since Among Before o w z (Ok taken) past none left = left
+left_since Among Before o w z (Err fault.Pinned) past none left = left
+left_since Among Before o w z (Err fault.Busy) past none left = left
+left_since Among Before o w z (Err fault.Full) past none left = left
+left_since Among Before o w z (Err fault.NoMemory) past none left = left
+left_since Among Before o w z (Err fault.Pending) past none left = none_there w.pending none left.0
+left_since Among Before o w z (Err fault.Unfinished) past none (n, is, key, was, missing) =
     (n, is, key, was_so_since o.pass w.pass z.pass n.key true past was, λ j is_key before. was_so_since o.pass w.pass z.pass j false past (missing j is_key before))
 
-module _ (Before : ℕ → ℕ → Type 0) where
-  pub pops_since : (m n : ℕ) (w x z : WorkerView) (r : Result (Option ℕ) CallFault) → IsOnward m w x → Pops Before n x z r → Pops Before (m + n) w z r
+module _ (Among : ℕ → Type 0) (Before : ℕ → ℕ → Type 0) where
+  pub pops_since : (m n : ℕ) (w x z : WorkerView) (r : Result (Option ℕ) CallFault) → IsOnward m w x → Pops Among Before n x z r → Pops Among Before (m + n) w z r
   pops_since m n w x z r first last = record {
-    took = took_since Before w.pass x.pass z.pass r first.on.past last.took;
-    left = left_since Before w x z r first.on.past first.none last.left;
+    took = took_since Among Before w.pass x.pass z.pass r first.on.past last.took;
+    left = left_since Among Before w x z r first.on.past first.none last.left;
     won = wins_after 0 (flags_told_by_pop r) w x z first.won last.won;
     on = goes_then w x z first.on last.on;
   }
 
-  pub pops_more : (m n : ℕ) (w z : WorkerView) (r : Result (Option ℕ) CallFault) → m ≤ n → Pops Before m w z r → Pops Before n w z r
+  pub pops_more : (m n : ℕ) (w z : WorkerView) (r : Result (Option ℕ) CallFault) → m ≤ n → Pops Among Before m w z r → Pops Among Before n w z r
   pops_more m n w z r le a = record { took = a.took; left = a.left; won = a.won; on = goes_more m n w z le a.on }
 
   -- n rounds in a row came to nothing
   pub no_round_yet : (most : ℕ) (w : WorkerView) → w.pending ≡ None → w.held ≡ None → IsOnward (0 * most) w w
   no_round_yet most w none free = onward_more 0 (0 * most) w w (omega arith) (onward_itself w none free)
 
-  pub one_round_more : (most n : ℕ) (w x z : WorkerView) → IsOnward (n * most) w x → Pops Before most x z pop_busy → IsOnward ((n + 1) * most) w z
+  pub one_round_more : (most n : ℕ) (w x z : WorkerView) → IsOnward (n * most) w x → Pops Among Before most x z pop_busy → IsOnward ((n + 1) * most) w z
   one_round_more most n w x z first last =
       let whole = add-mul n 1 most in
       onward_more (n * most + most) ((n + 1) * most) w z (omega (arith, whole)) (onward_then (n * most) most w x z first (record { on = last.on; none = last.left; won = last.won }))
 
-  pub last_round : (most n rounds : ℕ) (w x z : WorkerView) (r : Result (Option ℕ) CallFault) → suc n ≤ rounds → IsOnward (n * most) w x → Pops Before most x z r → Pops Before (rounds * most) w z r
+  pub last_round : (most n rounds : ℕ) (w x z : WorkerView) (r : Result (Option ℕ) CallFault) → suc n ≤ rounds → IsOnward (n * most) w x → Pops Among Before most x z r → Pops Among Before (rounds * most) w z r
   last_round most n rounds w x z r few first last =
       let whole = suc-mul n most in
       let le = mul-le-mul_right most few in
       pops_more (n * most + most) (rounds * most) w z r (omega (arith, whole, le)) (pops_since (n * most) most w x z r first last)
 
 -- what was finished first, and then popped
-pub pops_after : (Before : ℕ → ℕ → Type 0) (b : TreeView) (h : Options) (w x z : WorkerView) (answer : Bool) (r : Result (Option ℕ) CallFault) → FinishesIn b h (h.rounds + 1) w x (Ok answer)
-    → Pops Before ((h.rounds + 1) * pop_round_bound h b.layout) x z r → Pops Before (pop_rounds_bound h b.layout) w z r
-pops_after Before b h w x z answer r f last =
+pub pops_after : (Among : ℕ → Type 0) (Before : ℕ → ℕ → Type 0) (b : TreeView) (h : Options) (w x z : WorkerView) (answer : Bool) (r : Result (Option ℕ) CallFault) → FinishesIn b h (h.rounds + 1) w x (Ok answer)
+    → Pops Among Before ((h.rounds + 1) * pop_round_bound h b.layout) x z r → Pops Among Before (pop_rounds_bound h b.layout) w z r
+pops_after Among Before b h w x z answer r f last =
     let most = round_bound h.tries b.layout in
     let sum = mul-add (h.rounds + 1) most (pop_round_bound h b.layout) in
-    pops_more Before ((h.rounds + 1) * most + (h.rounds + 1) * pop_round_bound h b.layout) (pop_rounds_bound h b.layout) w z r (omega (arith, sum))
-    (pops_since Before ((h.rounds + 1) * most) ((h.rounds + 1) * pop_round_bound h b.layout) w x z r (finished b h (h.rounds + 1) w x answer f) last)
+    pops_more Among Before ((h.rounds + 1) * most + (h.rounds + 1) * pop_round_bound h b.layout) (pop_rounds_bound h b.layout) w z r (omega (arith, sum))
+    (pops_since Among Before ((h.rounds + 1) * most) ((h.rounds + 1) * pop_round_bound h b.layout) w x z r (finished b h (h.rounds + 1) w x answer f) last)
 
 -- where the remove of an earlier call is not finished, nothing else is done
-pub pending_pops : (Before : ℕ → ℕ → Type 0) (b : TreeView) (h : Options) (w z : WorkerView) → FinishesIn b h (h.rounds + 1) w z (Err fault.Unfinished) → Pops Before (pop_rounds_bound h b.layout) w z (Err fault.Pending)
-pending_pops Before b h w z f =
+pub pending_pops : (Among : ℕ → Type 0) (Before : ℕ → ℕ → Type 0) (b : TreeView) (h : Options) (w z : WorkerView) → FinishesIn b h (h.rounds + 1) w z (Err fault.Unfinished) → Pops Among Before (pop_rounds_bound h b.layout) w z (Err fault.Pending)
+pending_pops Among Before b h w z f =
     let most = round_bound h.tries b.layout in
     let sum = mul-add (h.rounds + 1) most (pop_round_bound h b.layout) in
     record { took = tt; left = f.told; won = f.won; on = goes_more ((h.rounds + 1) * most) (pop_rounds_bound h b.layout) w z (omega (arith, sum)) f.on }

@@ -3,6 +3,7 @@ pub mod Posts
 pub mod Asked
 pub mod InTurns
 pub mod NextKeys
+pub mod Scanning
 pub mod States
 pub mod Ends
 pub mod Managed

@@ -1,4 +1,4 @@
--- Managed pops of the least and of the greatest key.
+-- Managed pops of the least and of the greatest key, of all keys or of those up to a bound.
 use Rattle.std.specs.Prelude.{◌≡◌, ◌+◌, ◌*◌, ℕ, true, Option, Some, None, IsSome, Result, Ok, Err, IfOk}
 use Rattle.nm_edge.specs.Keys.{IsKey}
 use Rattle.nm_edge.specs.Layouts.{Layout}
@@ -8,21 +8,22 @@ use Rattle.nm_calls.specs.Won.{HasWon}
 use Rattle.nm_calls.specs.declared.deleting.Unfinished.{Unfinished}
 use Rattle.nm_calls.specs.declared.fault.CallFault.{CallFault}
 use Rattle.nm_calls.specs.declared.fault.CallFault.TheVariants as fault
-use Rattle.nm_tree.specs.Popping.{Takes, WereMissing}
+use Rattle.nm_tree.specs.Popping.{TakesOf, WereMissing}
 use Rattle.nm_tree.specs.Workers.{WorkerView}
 use Rattle.nm_set.specs.Asked.{UnlessPinned}
 use Rattle.nm_set.specs.declared.managed.Options.{Options}
 use Rattle.nm_set.specs.Managed.{GoesOn, round_bound}
 
--- nothing is pending, except after `Unfinished` and `Pending`: after `Unfinished` a key is pending
--- that was in the set at a moment (linearization point) of the call, and each key before it was
--- absent at a moment of its own; after `Pending` the same key is pending as before
-abbrev pub PopLeft : (ℕ → ℕ → Type 0) → WorkerView → WorkerView → Result (Option ℕ) CallFault → Type 0
-PopLeft Before w z (Err fault.Unfinished) =
-    (n : Unfinished) × (z.pending ≡ Some n) × IsKey n.key × WasSo w.pass z.pass n.key true
+-- nothing is pending, except after `Unfinished` and `Pending`: after `Unfinished` one of these keys
+-- is pending that was in the set at a moment (linearization point) of the call, and each key before
+-- it was absent at a moment of its own; after `Pending` the same key is pending as before
+abbrev pub PopLeft : (ℕ → Type 0) → (ℕ → ℕ → Type 0) → WorkerView → WorkerView
+    → Result (Option ℕ) CallFault → Type 0
+PopLeft Among Before w z (Err fault.Unfinished) =
+    (n : Unfinished) × (z.pending ≡ Some n) × Among n.key × WasSo w.pass z.pass n.key true
     × WereMissing Before w.pass z.pass n.key
-PopLeft Before w z (Err fault.Pending) = IsSome w.pending × (z.pending ≡ w.pending)
-PopLeft Before w z _ = z.pending ≡ None
+PopLeft Among Before w z (Err fault.Pending) = IsSome w.pending × (z.pending ≡ w.pending)
+PopLeft Among Before w z _ = z.pending ≡ None
 
 -- the flags that a pop has won, by its result
 abbrev pub flags_told_by_pop : Result (Option ℕ) CallFault → ℕ
@@ -38,17 +39,23 @@ pop_round_bound h L = (3 * h.rounds + 6) * round_bound h.tries L
 abbrev pub pop_rounds_bound : Options → Layout → ℕ
 pop_rounds_bound h L = (h.rounds + 1) * (round_bound h.tries L + pop_round_bound h L)
 
--- a key was popped, or there was none; the pop has won the flags that its result implies and no
+-- one of these keys was popped, or there was none; the pop has won the flags that its result implies and no
 -- more, and has made at most `most` steps
-pub record Pops (Before : ℕ → ℕ → Type 0) (most : ℕ) (w z : WorkerView)
+pub record Pops (Among : ℕ → Type 0) (Before : ℕ → ℕ → Type 0) (most : ℕ) (w z : WorkerView)
     (r : Result (Option ℕ) CallFault) : Type 0 where
-  pub took : IfOk r (Takes Before w.pass z.pass)
-  pub left : PopLeft Before w z r
+  pub took : IfOk r (TakesOf Among Before w.pass z.pass)
+  pub left : PopLeft Among Before w z r
   pub won : HasWon w.pass.view.log z.pass.view.log 0 (flags_told_by_pop r)
   pub on : GoesOn most w z
 
--- what a caller learns from a managed pop, for the order in which keys are popped
+-- what a caller learns from a managed pop of one of these keys, for the order in which keys are
+-- popped
+abbrev pub SaysManagedPopOf : (ℕ → Type 0) → (ℕ → ℕ → Type 0) → TreeView → Options → WorkerView
+    → WorkerView → Result (Option ℕ) CallFault → Type 0
+SaysManagedPopOf Among Before b h w z r =
+    UnlessPinned (Pops Among Before (pop_rounds_bound h b.layout) w z r) w z r
+
+-- the same of all keys
 abbrev pub SaysManagedPop : (ℕ → ℕ → Type 0) → TreeView → Options → WorkerView → WorkerView
     → Result (Option ℕ) CallFault → Type 0
-SaysManagedPop Before b h w z r =
-    UnlessPinned (Pops Before (pop_rounds_bound h b.layout) w z r) w z r
+SaysManagedPop = SaysManagedPopOf IsKey

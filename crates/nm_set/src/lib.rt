@@ -17,6 +17,7 @@ mod member;
 mod opening;
 mod popping;
 mod posting;
+mod scanning;
 mod seat;
 mod set;
 
@@ -28,7 +29,7 @@ pub use managed::Options;
 pub use member::{Member, ResignError};
 pub use nm_tree::{
     Advance, Behind, CallFault, Collected, Counts, Entry, Fit, HeldQueue, NewError, PinFault,
-    Query, Report, Tally,
+    Query, Report, Scanned, Tally,
 };
 pub use posting::{Stamp, letters_are_in_order};
 pub use seat::ReturnedWorker;

@@ -1,8 +1,9 @@
-//! Managed calls that remove the least or the greatest key.
-ghost use Rattle.std.specs.Prelude.{◌≡◌, ◌≢◌, ◌<◌, ◌+◌, ◌*◌, true, false, None, Err};
+//! Managed calls that remove the least or the greatest key, of all keys or of those up to a bound.
+ghost use Rattle.std.specs.Prelude.{◌≡◌, ◌≢◌, ◌<◌, ◌≤◌, ◌+◌, ◌*◌, true, false, None, Err};
+ghost use Rattle.nm_edge.specs.Keys.{IsKey};
 ghost use Rattle.nm_calls.specs.declared.fault.CallFault.TheVariants as fault;
-ghost use Rattle.nm_tree.specs.Popping.{Finds, comes_before};
-ghost use Rattle.nm_set.specs.Popping.{Pops, SaysManagedPop, pop_round_bound};
+ghost use Rattle.nm_tree.specs.Popping.{Finds, among, comes_before};
+ghost use Rattle.nm_set.specs.Popping.{Pops, SaysManagedPop, SaysManagedPopOf, pop_round_bound};
 
 use crate::managed::Options;
 use crate::member::Member;
@@ -52,11 +53,37 @@ impl Member {
         self.pop(End::Last, options)
     }
 
+    /// Removes the least key of the set, if it is below `below`. It is like `pop_first`, but `None`
+    /// says of each key below the bound alone that the set did not have it, at a moment of this
+    /// call. A key that is not below the bound stays.
+    pub fn pop_first_below(
+        &mut self,
+        below: u64,
+        options: &Options,
+    ) -> Result<Option<Key>, CallFault>
+        ensures tree { self.new.tree ≡ self.old.tree }
+        ensures says { SaysManagedPopOf (λ j. IsKey j × (j < below)) ◌<◌ self.old.tree options.now
+            self.old.worker self.new.worker result }
+    {
+        self.pop(End::FirstBelow(below), options)
+    }
+
+    /// Removes the greatest key of the set, if it is not below `from`. It is like `pop_last`, but
+    /// `None` says of each key from the bound on alone that the set did not have it, at a moment of
+    /// this call. A key below the bound stays.
+    pub fn pop_last_from(&mut self, from: u64, options: &Options) -> Result<Option<Key>, CallFault>
+        ensures tree { self.new.tree ≡ self.old.tree }
+        ensures says { SaysManagedPopOf (λ j. IsKey j × (from ≤ j)) (λ j key. key < j) self.old.tree
+            options.now self.old.worker self.new.worker result }
+    {
+        self.pop(End::LastFrom(from), options)
+    }
+
     /// Removes the key at that end.
     fn pop(&mut self, end: End, options: &Options) -> Result<Option<Key>, CallFault>
         ensures tree { self.new.tree ≡ self.old.tree }
-        ensures says { SaysManagedPop (comes_before end) self.old.tree options.now self.old.worker
-            self.new.worker result }
+        ensures says { SaysManagedPopOf (among end) (comes_before end) self.old.tree options.now
+            self.old.worker self.new.worker result }
     {
         if self.pinned().is_some() {
             return Err(CallFault::Pinned);
@@ -72,7 +99,7 @@ impl Member {
         requires free { self.old.worker.held ≡ None }
         requires none { self.old.worker.pending ≡ None }
         ensures tree { self.new.tree ≡ self.old.tree }
-        ensures says { Pops (comes_before end)
+        ensures says { Pops (among end) (comes_before end)
             ((options.now.rounds + 1) * pop_round_bound options.now self.old.tree.layout)
             self.old.worker self.new.worker result }
     {
@@ -85,17 +112,20 @@ impl Member {
         self.pop_once(end, options)
     }
 
-    /// Finds the key at that end, and removes it.
+    /// Finds the key at that end, and removes it if it may.
     fn pop_once(&mut self, end: End, options: &Options) -> Result<Option<Key>, CallFault>
         requires free { self.old.worker.held ≡ None }
         requires none { self.old.worker.pending ≡ None }
         ensures tree { self.new.tree ≡ self.old.tree }
-        ensures says { Pops (comes_before end) (pop_round_bound options.now self.old.tree.layout)
+        ensures says { Pops (among end) (comes_before end) (pop_round_bound options.now self.old.tree.layout)
             self.old.worker self.new.worker result }
     {
         let Some(key) = self.key_at(end, options.tries)? else {
             return Ok(None);
         };
+        if !end.has(key) {
+            return Ok(None);
+        }
         if self.remove(key, options)? {
             Ok(Some(key))
         } else {
@@ -111,8 +141,12 @@ impl Member {
     {
         let tree = self.home.tree();
         match end {
-            End::First => tree.next(&mut self.sealed.worker, Key::new(0).unwrap(), tries),
-            End::Last => tree.prev(&mut self.sealed.worker, Key::new(MOST_KEY).unwrap(), tries),
+            End::First | End::FirstBelow(_) => {
+                tree.next(&mut self.sealed.worker, Key::new(0).unwrap(), tries)
+            }
+            End::Last | End::LastFrom(_) => {
+                tree.prev(&mut self.sealed.worker, Key::new(MOST_KEY).unwrap(), tries)
+            }
         }
     }
 }

@@ -26,10 +26,10 @@ use Rattle.nm_calls.proofs.Rooms.{takes_then}
 use Rattle.nm_calls.specs.declared.fault.CallFault.{CallFault}
 use Rattle.nm_calls.specs.declared.fault.CallFault.TheVariants as fault
 use Rattle.nm_tree.specs.declared.popping.End.{End}
-use Rattle.nm_tree.specs.declared.popping.End.TheVariants.{First, Last}
+use Rattle.nm_tree.specs.declared.popping.End.TheVariants.{First, FirstBelow, Last, LastFrom}
 use Rattle.nm_tree.specs.Answers.{flags_won}
-use Rattle.nm_tree.specs.Calls.{MayCall, LeavesNear, LeavesDelete}
-use Rattle.nm_tree.specs.Popping.{comes_before, WereMissing, pop_bound, SaysPop, Finds, LosesRounds, EndsRound, HasPopped, LeavesPop}
+use Rattle.nm_tree.specs.Calls.{MayCall, LeavesNear, LeavesNext, LeavesPrev, LeavesDelete}
+use Rattle.nm_tree.specs.Popping.{among, comes_before, IsOutside, WereMissing, pop_bound, SaysPopOf, Finds, LosesRounds, EndsRound, HasPopped, LeavesPop}
 use Rattle.nm_tree.specs.Workers.{WorkerView, KeepsOtherQueues, TakeRoom}
 use Rattle.nm_tree.proofs.QueueLists.{others_stay, room_stays}
 
@@ -157,16 +157,31 @@ goes_more m n flags w z le a = let few = a.steps in record { same = a.same; past
 -- what is told of the key at that end
 abbrev pub told_at : End → PassView → PassView → Option ℕ → Type 0
 told_at First p q = WasNear Right p q 0
+told_at (FirstBelow below) p q = WasNear Right p q 0
 told_at Last p q = WasNear Left p q 18446744073709551612
+told_at (LastFrom from) p q = WasNear Left p q 18446744073709551612
 
 -- and how its walks end without an answer
 abbrev pub gives_up_at : End → Layout → ℕ → List Entry → List Entry → Type 0
 gives_up_at First L tries = GiveUp Right L tries 0
+gives_up_at (FirstBelow below) L tries = GiveUp Right L tries 0
 gives_up_at Last L tries = GiveUp Left L tries 18446744073709551612
+gives_up_at (LastFrom from) L tries = GiveUp Left L tries 18446744073709551612
 
 pub found_by : (end : End) (L : Layout) (tries : ℕ) (w z : WorkerView) (r : Result (Option ℕ) CallFault) → Finds end L tries w z r → LeavesNear (told_at end) (gives_up_at end L tries) L tries w z r
 found_by First L tries w z r l = l
+found_by (FirstBelow below) L tries w z r l = l
 found_by Last L tries w z r l = l
+found_by (LastFrom from) L tries w z r l = l
+
+-- the call that finds the key at that end
+pub finds_first : (end : End) (L : Layout) (tries : ℕ) (w z : WorkerView) (r : Result (Option ℕ) CallFault) → (end ≡ First) ⊎ ((below : ℕ) × (end ≡ FirstBelow below)) → LeavesNext L tries 0 w z r → Finds end L tries w z r
+finds_first end L tries w z r (inl is) l = subst (λ (e : End). Finds e L tries w z r) (sym is) l
+finds_first end L tries w z r (inr (below, is)) l = subst (λ (e : End). Finds e L tries w z r) (sym is) l
+
+pub finds_last : (end : End) (L : Layout) (tries : ℕ) (w z : WorkerView) (r : Result (Option ℕ) CallFault) → (end ≡ Last) ⊎ ((from : ℕ) × (end ≡ LastFrom from)) → LeavesPrev L tries 18446744073709551612 w z r → Finds end L tries w z r
+finds_last end L tries w z r (inl is) l = subst (λ (e : End). Finds e L tries w z r) (sym is) l
+finds_last end L tries w z r (inr (from, is)) l = subst (λ (e : End). Finds e L tries w z r) (sym is) l
 
 -- of a key that was found
 pub record WasFound (end : End) (p q : PassView) (key : ℕ) : Type 0 where
@@ -176,11 +191,22 @@ pub record WasFound (end : End) (p q : PassView) (key : ℕ) : Type 0 where
 
 pub key_found : (end : End) (p q : PassView) (key : ℕ) → told_at end p q (Some key) → WasFound end p q key
 key_found First p q key n = record { is_key = n.1; was = n.2; missing = λ j is less. n.3 j (omega arith) less }
+key_found (FirstBelow below) p q key n = record { is_key = n.1; was = n.2; missing = λ j is less. n.3 j (omega arith) less }
 key_found Last p q key n = record { is_key = n.1; was = n.2; missing = λ j is above. n.3 j is above }
+key_found (LastFrom from) p q key n = record { is_key = n.1; was = n.2; missing = λ j is above. n.3 j is above }
 
-pub none_found : (end : End) (p q : PassView) → told_at end p q None → (j : ℕ) → IsKey j → WasSo p q j false
+pub none_found : (end : End) (p q : PassView) → told_at end p q None → (j : ℕ) → among end j → WasSo p q j false
 none_found First p q n j is = n j (omega arith) is
+none_found (FirstBelow below) p q n j is = n j (omega arith) is.0
 none_found Last p q n j is = n j is is
+none_found (LastFrom from) p q n j is = n j is.0 is.0
+
+-- and where the key that was found is none of these, there is none of them
+pub none_inside : (end : End) (p q : PassView) (key : ℕ) → IsOutside end key → WasFound end p q key → (j : ℕ) → among end j → WasSo p q j false
+none_inside First p q key outside f j is = absurd outside
+none_inside (FirstBelow below) p q key outside f j is = f.missing j is.0 (let less = is.1 in omega (arith, less, outside))
+none_inside Last p q key outside f j is = absurd outside
+none_inside (LastFrom from) p q key outside f j is = f.missing j is.0 (let le = is.1 in omega (arith, le, outside))
 
 -- of a longer call
 pub found_in : (end : End) (o p q z : PassView) (key : ℕ) → HasSeenAllOf p o → IsSamePass q z → HasSeenAllOf z q → WasFound end p q key → WasFound end o z key
@@ -295,7 +321,7 @@ pends_not w told is none = by w.pending (sym none ∙ ap is_some is)
 
 module _ (end : End) (L : Layout) (tries : ℕ) (w : WorkerView) (none : w.pending ≡ None) (free : w.held ≡ None) where
   abbrev Says : WorkerView → Result (Option ℕ) CallFault → Type 0
-  Says z r = SaysPop (comes_before end) L tries w z r
+  Says z r = SaysPopOf (among end) (comes_before end) L tries w z r
 
   -- a key is not pending
   not_pending : {B : Type 0} (x : WorkerView) → x.pending ≡ None → IsSome x.pending → B
@@ -327,12 +353,30 @@ module _ (end : End) (L : Layout) (tries : ℕ) (w : WorkerView) (none : w.pendi
         fit = on.fit;
       }
 
+  -- one that finds a key which is not to be popped
+  by_outside : (n : ℕ) (x z : WorkerView) (key : ℕ) → n < tries → HaveGone L tries n w x → Finds end L tries x z (Ok (Some key)) → IsOutside end key → Says z (Ok None)
+  by_outside n x z key less gone found outside =
+      let on = so_far n 0 x z less gone (half_round x z (Ok (Some key)) found) in
+      let l = found_by end L tries x z (Ok (Some key)) found in
+      record {
+        same = on.same;
+        past = on.past;
+        told = (none, l.did.0.1);
+        took = λ j is. was_so_since w.pass x.pass z.pass j false gone.on.past (none_inside end x.pass z.pass key outside (key_found end x.pass z.pass key l.moment) j is);
+        won = on.won;
+        steps = on.steps;
+        queues = on.queues;
+        blocks = on.blocks;
+        held = on.held;
+        fit = on.fit;
+      }
+
   -- the key that was found, in the whole call
   found_so : (x y z : WorkerView) (key : ℕ) → HasSeenAllOf x.pass w.pass → Finds end L tries x y (Ok (Some key)) → (r : Result Bool CallFault) → LeavesDelete L tries key y z r → WasFound end w.pass z.pass key
   found_so x y z key past found r did = found_in end w.pass x.pass y.pass z.pass key past did.says.same did.says.past (key_found end x.pass y.pass key (found_by end L tries x y (Ok (Some key)) found).moment)
 
-  by_key : (n : ℕ) (x y z : WorkerView) (key : ℕ) → n < tries → HaveGone L tries n w x → Finds end L tries x y (Ok (Some key)) → LeavesDelete L tries key y z (Ok true) → Says z (Ok (Some key))
-  by_key n x y z key less gone found did =
+  by_key : (n : ℕ) (x y z : WorkerView) (key : ℕ) → n < tries → HaveGone L tries n w x → Finds end L tries x y (Ok (Some key)) → among end key → LeavesDelete L tries key y z (Ok true) → Says z (Ok (Some key))
+  by_key n x y z key less gone found is did =
       let on = so_far n 1 x z less gone (goes_round end L tries key x y z (Ok true) found did) in
       let was = found_so x y z key gone.on.past found (Ok true) did in
       let seen = (found_by end L tries x y (Ok (Some key)) found).past in
@@ -340,7 +384,7 @@ module _ (end : End) (L : Layout) (tries : ℕ) (w : WorkerView) (none : w.pendi
         same = on.same;
         past = on.past;
         told = (none, did.says.told.1);
-        took = (was.is_key, moment_since w.pass y.pass z.pass Delete key true (seen_through w.pass x.pass y.pass gone.on.past seen) did.says.moment, was.missing);
+        took = (is, moment_since w.pass y.pass z.pass Delete key true (seen_through w.pass x.pass y.pass gone.on.past seen) did.says.moment, was.missing);
         won = on.won;
         steps = on.steps;
         queues = on.queues;
@@ -364,8 +408,8 @@ module _ (end : End) (L : Layout) (tries : ℕ) (w : WorkerView) (none : w.pendi
       by fault.Pinned found l = absurd l.did
 
   -- the delete was not
-  by_delete : (n : ℕ) (x y z : WorkerView) (key : ℕ) (f : CallFault) → n < tries → HaveGone L tries n w x → Finds end L tries x y (Ok (Some key)) → LeavesDelete L tries key y z (Err f) → Says z (Err f)
-  by_delete n x y z key f less gone found did = by f did
+  by_delete : (n : ℕ) (x y z : WorkerView) (key : ℕ) (f : CallFault) → n < tries → HaveGone L tries n w x → Finds end L tries x y (Ok (Some key)) → among end key → LeavesDelete L tries key y z (Err f) → Says z (Err f)
+  by_delete n x y z key f less gone found is did = by f did
     where
       l : LeavesNear (told_at end) (gives_up_at end L tries) L tries x y (Ok (Some key))
       l = found_by end L tries x y (Ok (Some key)) found
@@ -383,7 +427,7 @@ module _ (end : End) (L : Layout) (tries : ℕ) (w : WorkerView) (none : w.pendi
           record {
             same = on.same;
             past = on.past;
-            told = (none, record { key = key; leaf = did.says.told.1 }, did.says.told.2, was.is_key, was.was, was.missing);
+            told = (none, record { key = key; leaf = did.says.told.1 }, did.says.told.2, is, was.was, was.missing);
             took = tt;
             won = on.won;
             steps = on.steps;
@@ -403,21 +447,22 @@ module _ (end : End) (L : Layout) (tries : ℕ) (w : WorkerView) (none : w.pendi
       record { same = on.same; past = on.past; told = (none, gone.free); took = tt; won = on.won; steps = on.steps; queues = on.queues; blocks = on.blocks; held = on.held; fit = on.fit }
 
   by_round : (n : ℕ) (x z : WorkerView) (r : Result (Option ℕ) CallFault) → n < tries → HaveGone L tries n w x → EndsRound end L tries x z r → Says z r
-  by_round n x z (Ok None) less gone e = by_none n x z less gone e
-  by_round n x z (Ok (Some key)) less gone (y, found, did) = by_key n x y z key less gone found did
+  by_round n x z (Ok None) less gone (inl found) = by_none n x z less gone found
+  by_round n x z (Ok None) less gone (inr (key, found, outside)) = by_outside n x z key less gone found outside
+  by_round n x z (Ok (Some key)) less gone (y, found, is, did) = by_key n x y z key less gone found is did
   by_round n x z (Err f) less gone (inl found) = by_near n x z f less gone found
-  by_round n x z (Err f) less gone (inr (y, key, found, did)) = by_delete n x y z key f less gone found did
+  by_round n x z (Err f) less gone (inr (y, key, found, is, did)) = by_delete n x y z key f less gone found is did
 
 -- the worker was not asked, since a key is pending
-by_pending : (end : End) (L : Layout) (tries : ℕ) (w : WorkerView) → w.held ≡ None → IsSome w.pending → SaysPop (comes_before end) L tries w w (Err fault.Pending)
+by_pending : (end : End) (L : Layout) (tries : ℕ) (w : WorkerView) → w.held ≡ None → IsSome w.pending → SaysPopOf (among end) (comes_before end) L tries w w (Err fault.Pending)
 by_pending end L tries w free some =
     let on = goes_more 0 (pop_bound L tries) 0 w w (omega arith) (goes_nowhere w free) in
     record { same = on.same; past = on.past; told = (some, refl); took = tt; won = on.won; steps = on.steps; queues = on.queues; blocks = on.blocks; held = on.held; fit = on.fit }
 
-pops_so : (end : End) (L : Layout) (tries : ℕ) (w z : WorkerView) (r : Result (Option ℕ) CallFault) → w.held ≡ None → HasPopped end L tries w z r → SaysPop (comes_before end) L tries w z r
-pops_so end L tries w z r free (inl (still, is)) = subst (SaysPop (comes_before end) L tries w z) (sym is) (subst (λ (x : WorkerView). SaysPop (comes_before end) L tries w x (Err fault.Pending)) (sym still.1) (by_pending end L tries w free still.0))
+pops_so : (end : End) (L : Layout) (tries : ℕ) (w z : WorkerView) (r : Result (Option ℕ) CallFault) → w.held ≡ None → HasPopped end L tries w z r → SaysPopOf (among end) (comes_before end) L tries w z r
+pops_so end L tries w z r free (inl (still, is)) = subst (SaysPopOf (among end) (comes_before end) L tries w z) (sym is) (subst (λ (x : WorkerView). SaysPopOf (among end) (comes_before end) L tries w x (Err fault.Pending)) (sym still.1) (by_pending end L tries w free still.0))
 pops_so end L tries w z r free (inr (none, inl (n, x, less, lost, ends))) = by_round end L tries w none free n x z r less (have_gone end L tries n w x none free lost) ends
-pops_so end L tries w z r free (inr (none, inr (lost, is))) = subst (SaysPop (comes_before end) L tries w z) (sym is) (by_all end L tries w none free z (have_gone end L tries tries w z none free lost))
+pops_so end L tries w z r free (inr (none, inr (lost, is))) = subst (SaysPopOf (among end) (comes_before end) L tries w z) (sym is) (by_all end L tries w none free z (have_gone end L tries tries w z none free lost))
 
 pub leaves_so : (end : End) (L : Layout) (tries : ℕ) (w z : WorkerView) (r : Result (Option ℕ) CallFault) → w.held ≡ None → HasPopped end L tries w z r → LeavesPop end L tries w z r
 leaves_so end L tries w z r free did = record { says = pops_so end L tries w z r free did; did = did }

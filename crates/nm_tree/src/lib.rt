@@ -18,6 +18,7 @@ mod popping;
 pub mod reporting;
 mod resigning;
 mod running;
+mod scanning;
 mod tree;
 mod worker;
 
@@ -25,7 +26,7 @@ pub use closing::{
     CloseError, CloseReason, Report, closed_trees_are_accounted_for, runs_of_closed_trees_are_runs,
 };
 pub use fault::PinFault;
-pub use nm_calls::{CallFault, Query};
+pub use nm_calls::{CallFault, Query, Scanned};
 pub use nm_edge::Fit;
 pub use nm_epoch::{Advance, Behind, Collected, Entry, HeldQueue, Tally};
 pub use nm_model::NewError;

@@ -1,18 +1,42 @@
-//! Pops of the least and of the greatest key.
-ghost use Rattle.std.specs.Prelude.{◌<◌, None};
+//! Pops of the least and of the greatest key, of all keys or of those up to a bound.
+ghost use Rattle.std.specs.Prelude.{◌≡◌, ◌<◌, ◌≤◌, true, false, None};
+ghost use Rattle.nm_edge.specs.Keys.{IsKey};
 ghost use Rattle.nm_tree.specs.Calls.{MayCall};
-ghost use Rattle.nm_tree.specs.Popping.{Finds, GoesInRounds, LeavesPop, LeavesPopFirst, LeavesPopLast, SaysPop};
+ghost use Rattle.nm_tree.specs.Popping.{Finds, GoesInRounds, IsOutside, LeavesPop, LeavesPopFirst, LeavesPopFirstBelow, LeavesPopLast, LeavesPopLastFrom, SaysPop, SaysPopOf, among};
 
 use crate::tree::Tree;
 use crate::worker::Worker;
 use nm_calls::CallFault;
 use nm_edge::{Key, MOST_KEY};
 
-/// An end of a set: the end of its least key, or that of its greatest.
+/// An end of a set, or of a part of it: the key that a pop takes.
 #[derive(Clone, Copy, Debug)]
 pub enum End {
+    /// The least key.
     First,
+    /// The least key, if it is below this bound.
+    FirstBelow(u64),
+    /// The greatest key.
     Last,
+    /// The greatest key, if it is not below this bound.
+    LastFrom(u64),
+}
+
+impl End {
+    /// Returns whether a pop at this end may take the key.
+    pub fn has(self, key: Key) -> bool
+        ensures yes { result ≡ true → among self key }
+        ensures no { result ≡ false → IsOutside self key }
+    {
+        match self {
+            End::First | End::Last => {
+                let _key = key.get();
+                true
+            }
+            End::FirstBelow(below) => key.get() < below,
+            End::LastFrom(from) => from <= key.get(),
+        }
+    }
 }
 
 impl Tree {
@@ -55,6 +79,41 @@ impl Tree {
         self.pop(worker, End::Last, tries)
     }
 
+    /// Removes the least key, if it is below `below`, and returns it. It is like `pop_first`, but
+    /// `None` says of each key below the bound alone that the set did not have it, at a moment of
+    /// this call. A key that is not below the bound stays.
+    pub fn pop_first_below(
+        &self,
+        worker: &mut Worker,
+        below: u64,
+        tries: u32,
+    ) -> Result<Option<Key>, CallFault>
+        requires { MayCall self.now worker.old }
+        ensures says { SaysPopOf (λ j. IsKey j × (j < below)) ◌<◌ self.now.layout tries worker.old
+            worker.new result }
+        ensures leaves { LeavesPopFirstBelow below self.now.layout tries worker.old worker.new
+            result }
+    {
+        self.pop(worker, End::FirstBelow(below), tries)
+    }
+
+    /// Removes the greatest key, if it is not below `from`, and returns it. It is like `pop_last`,
+    /// but `None` says of each key from the bound on alone that the set did not have it, at a moment
+    /// of this call. A key below the bound stays.
+    pub fn pop_last_from(
+        &self,
+        worker: &mut Worker,
+        from: u64,
+        tries: u32,
+    ) -> Result<Option<Key>, CallFault>
+        requires { MayCall self.now worker.old }
+        ensures says { SaysPopOf (λ j. IsKey j × (from ≤ j)) (λ j key. key < j) self.now.layout tries
+            worker.old worker.new result }
+        ensures leaves { LeavesPopLastFrom from self.now.layout tries worker.old worker.new result }
+    {
+        self.pop(worker, End::LastFrom(from), tries)
+    }
+
     /// Pops the key at that end, if no key is pending.
     fn pop(&self, worker: &mut Worker, end: End, tries: u32) -> Result<Option<Key>, CallFault>
         requires { MayCall self.now worker.old }
@@ -66,7 +125,8 @@ impl Tree {
         self.pop_in_rounds(worker, end, tries)
     }
 
-    /// Finds the key at that end and deletes it, in rounds, until this call has deleted one.
+    /// Finds the key at that end and deletes it, in rounds, until this call has deleted one, or
+    /// finds none that it may take.
     fn pop_in_rounds(
         &self,
         worker: &mut Worker,
@@ -80,6 +140,9 @@ impl Tree {
             let Some(key) = self.key_at(worker, end, tries)? else {
                 return Ok(None);
             };
+            if !end.has(key) {
+                return Ok(None);
+            }
             if self.delete(worker, key, tries)? {
                 return Ok(Some(key));
             }
@@ -93,8 +156,8 @@ impl Tree {
         ensures { Finds end self.now.layout tries worker.old worker.new result }
     {
         match end {
-            End::First => self.next(worker, Key::new(0).unwrap(), tries),
-            End::Last => self.prev(worker, Key::new(MOST_KEY).unwrap(), tries),
+            End::First | End::FirstBelow(_) => self.next(worker, Key::new(0).unwrap(), tries),
+            End::Last | End::LastFrom(_) => self.prev(worker, Key::new(MOST_KEY).unwrap(), tries),
         }
     }
 }

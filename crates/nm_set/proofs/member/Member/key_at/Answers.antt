@@ -1,7 +1,6 @@
-use Rattle.std.proofs.Common.{rules, ◌≡◌, ℕ, sym, subst}
-use Rattle.nm_tree.specs.declared.popping.End.{End}
+use Rattle.std.proofs.Common.{rules, ◌≡◌, ℕ, subst}
 use Rattle.nm_tree.specs.Calls.{LeavesNext, LeavesPrev}
-use Rattle.nm_tree.specs.Popping.{Finds}
+use Rattle.nm_tree.proofs.Taking.{finds_first, finds_last}
 use Rattle.nm_set.proofs.Inside.{of_member}
 use Rattle.nm_set.proofs.member.Member.key_at.Goals as goal
 
@@ -13,7 +12,7 @@ returns-in-First-clause-says c =
     let r = c.next.result in
     let did = of_member (λ b v. LeavesNext b.layout c.args.tries c.unwrap.result v z r) _ _ _ c.self.view_is c.tree-tree.ensures c.next.ensures in
     let least : c.unwrap.result ≡ 0 = search rules in
-    subst (λ (end : End). Finds end L c.args.tries w z r) (sym c.in-First.is) (subst (λ (k : ℕ). LeavesNext L c.args.tries k w z r) least did)
+    finds_first c.args.end L c.args.tries w z r c.in-First.is (subst (λ (k : ℕ). LeavesNext L c.args.tries k w z r) least did)
 
 pub returns-in-Last-clause-says : goal.returns-in-Last-clause-says
 returns-in-Last-clause-says c =
@@ -23,4 +22,4 @@ returns-in-Last-clause-says c =
     let r = c.prev.result in
     let did = of_member (λ b v. LeavesPrev b.layout c.args.tries c.unwrap-in-Last.result v z r) _ _ _ c.self.view_is c.tree-tree.ensures c.prev.ensures in
     let greatest : c.unwrap-in-Last.result ≡ 18446744073709551612 = search rules in
-    subst (λ (end : End). Finds end L c.args.tries w z r) (sym c.in-Last.is) (subst (λ (k : ℕ). LeavesPrev L c.args.tries k w z r) greatest did)
+    finds_last c.args.end L c.args.tries w z r c.in-Last.is (subst (λ (k : ℕ). LeavesPrev L c.args.tries k w z r) greatest did)

@@ -1,7 +1,7 @@
 use Rattle.std.proofs.Common.{rules, ◌≡◌, ◌+◌, ◌*◌, inr, subst}
 use Rattle.std.specs.Prelude.{None}
 use Rattle.nm_steps.specs.Steps.{TreeView}
-use Rattle.nm_tree.specs.Popping.{comes_before}
+use Rattle.nm_tree.specs.Popping.{among, comes_before}
 use Rattle.nm_set.specs.Popping.{Pops, pop_round_bound}
 use Rattle.nm_set.proofs.PopRounds.{pops_after}
 use Rattle.nm_set.proofs.member.Member.pop.Goals as goal
@@ -14,5 +14,5 @@ returns-clause-says c =
     let z = c.pop_with_retries.new.self.worker in
     let r = c.pop_with_retries.result in
     let free : w.held ≡ None = search rules in
-    let P : TreeView → Type 0 = λ b. Pops (comes_before c.args.end) ((h.rounds + 1) * pop_round_bound h b.layout) x z r in
-    inr (free, pops_after (comes_before c.args.end) c.args.self.now.tree h w x z c.in-Ok._done r c.in-Ok.ensures.says (subst P c.finish_with_retries.ensures.tree c.pop_with_retries.ensures.says))
+    let P : TreeView → Type 0 = λ b. Pops (among c.args.end) (comes_before c.args.end) ((h.rounds + 1) * pop_round_bound h b.layout) x z r in
+    inr (free, pops_after (among c.args.end) (comes_before c.args.end) c.args.self.now.tree h w x z c.in-Ok._done r c.in-Ok.ensures.says (subst P c.finish_with_retries.ensures.tree c.pop_with_retries.ensures.says))

@@ -5,7 +5,7 @@ use Rattle.nm_model.specs.declared.event.Op.TheVariants.{Delete}
 use Rattle.nm_steps.specs.Steps.{TreeView}
 use Rattle.nm_tree.specs.Popping.{Finds}
 use Rattle.nm_set.specs.Managed.{SaysManaged}
-use Rattle.nm_set.proofs.PopRounds.{pops_key, pops_late, pops_none, pops_not_found, pops_not_removed}
+use Rattle.nm_set.proofs.PopRounds.{pops_key, pops_late, pops_none, pops_not_found, pops_not_removed, pops_outside}
 use Rattle.nm_set.proofs.member.Member.pop_once.Goals as goal
 
 pub returns-in_err-key-clause-says : goal.returns-in_err-key-clause-says
@@ -29,7 +29,7 @@ returns-in_err-remove-clause-says c =
     let found = subst (λ (f : Option ℕ). Finds c.args.end c.args.self.now.tree.layout h.tries w x (Ok f)) c.in-Some.is c.in_ok-key.ensures.says in
     let did = subst (λ (b : TreeView). SaysManaged Delete b h c.in-Some.key x z (Err c.in_err-remove.field-0.0)) c.key_at.ensures.tree c.in_err-remove.ensures.says in
     let p = err_from_is_err_and c.from_residual-in_err-remove.result c.from_residual-in_err-remove.ensures.1 in
-    rw (p.1, p.2) (pops_not_removed c.args.end c.args.self.now.tree h w c.requires.none x z c.in-Some.key found c.in_err-remove.field-0.0 did)
+    rw (p.1, p.2) (pops_not_removed c.args.end c.args.self.now.tree h w c.requires.none x z c.in-Some.key found (c.has.ensures.yes c.if-not-has.false) c.in_err-remove.field-0.0 did)
 
 pub returns-then-branch-clause-says : goal.returns-then-branch-clause-says
 returns-then-branch-clause-says c =
@@ -39,7 +39,7 @@ returns-then-branch-clause-says c =
     let h = c.args.options.now in
     let found = subst (λ (f : Option ℕ). Finds c.args.end c.args.self.now.tree.layout h.tries w x (Ok f)) c.in-Some.is c.in_ok-key.ensures.says in
     let told = subst (λ (answer : Bool). SaysManaged Delete c.key_at.new.self.tree h c.in-Some.key x z (Ok answer)) c.if-branch.true c.in_ok-remove.ensures.says in
-    pops_key c.args.end c.args.self.now.tree h w c.requires.none x z c.in-Some.key found (subst (λ (b : TreeView). SaysManaged Delete b h c.in-Some.key x z _) c.key_at.ensures.tree told)
+    pops_key c.args.end c.args.self.now.tree h w c.requires.none x z c.in-Some.key found (c.has.ensures.yes c.if-not-has.false) (subst (λ (b : TreeView). SaysManaged Delete b h c.in-Some.key x z _) c.key_at.ensures.tree told)
 
 pub returns-else-branch-clause-says : goal.returns-else-branch-clause-says
 returns-else-branch-clause-says c =
@@ -49,4 +49,11 @@ returns-else-branch-clause-says c =
     let h = c.args.options.now in
     let found = subst (λ (f : Option ℕ). Finds c.args.end c.args.self.now.tree.layout h.tries w x (Ok f)) c.in-Some.is c.in_ok-key.ensures.says in
     let told = subst (λ (answer : Bool). SaysManaged Delete c.key_at.new.self.tree h c.in-Some.key x z (Ok answer)) c.if-branch.false c.in_ok-remove.ensures.says in
-    pops_late c.args.end c.args.self.now.tree h w c.requires.none x z c.in-Some.key found (subst (λ (b : TreeView). SaysManaged Delete b h c.in-Some.key x z _) c.key_at.ensures.tree told)
+    pops_late c.args.end c.args.self.now.tree h w c.requires.none x z c.in-Some.key found (c.has.ensures.yes c.if-not-has.false) (subst (λ (b : TreeView). SaysManaged Delete b h c.in-Some.key x z _) c.key_at.ensures.tree told)
+
+pub returns-then-not-has-clause-says : goal.returns-then-not-has-clause-says
+returns-then-not-has-clause-says c =
+    let w = c.args.self.now.worker in
+    let x = c.key_at.new.self.worker in
+    let found = subst (λ (f : Option ℕ). Finds c.args.end c.args.self.now.tree.layout c.args.options.now.tries w x (Ok f)) c.in-Some.is c.in_ok-key.ensures.says in
+    pops_outside c.args.end c.args.self.now.tree c.args.options.now w c.requires.none x c.in-Some.key found (c.has.ensures.no c.if-not-has.true)
