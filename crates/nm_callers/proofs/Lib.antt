@@ -7,6 +7,7 @@ pub mod Unmade
 pub mod Answered
 pub mod ToldWorkers
 pub mod ToldMembers
+pub mod ClosedMembers
 pub mod FirstLooks
 pub mod Pairs
 pub mod OnlyWorkers

@@ -13,9 +13,9 @@ pub struct Rejoined {
     pub there: bool,
 }
 
-/// Inserts a key by a member, makes a note of all that the member has seen, and closes it. Then it
-/// attaches a worker of that set, which may be the same or another one. This worker hears the note
-/// and looks up the key. `None`: a call returned an error, the key was in the set before, or no
+/// Inserts a key by a member, and closes it, which leaves a note of all that the member has seen.
+/// Then it attaches a worker of that set, which may be the same or another one. This worker hears
+/// the note and looks up the key. `None`: a call returned an error, the key was in the set before, or no
 /// worker was free. Proved: otherwise the key is found, unless a remove of it took effect after all
 /// that the first member had seen before.
 pub fn add_then_rejoin(set: &Set, member: Member, key: Key, options: &Options) -> Option<Rejoined>
@@ -29,8 +29,7 @@ pub fn add_then_rejoin(set: &Set, member: Member, key: Key, options: &Options) -
         return None;
     };
     member.know_run();
-    let note = member.note();
-    member.close();
+    let note = member.close().into_note();
     let Ok(mut other) = set.attach() else {
         return None;
     };

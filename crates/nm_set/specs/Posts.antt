@@ -3,7 +3,7 @@ use Rattle.std.specs.Prelude.{◌≡◌, ◌⊎◌, ◌<◌, ◌≤◌, ◌+◌,
 use Rattle.nm_model.specs.declared.trace.Turn.{Turn}
 use Rattle.nm_order.specs.Logs.{part_of}
 use Rattle.nm_steps.specs.Rules.{Extends}
-use Rattle.nm_steps.specs.Steps.{TreeView, Notice, HasHeard, HasSeenAllOf}
+use Rattle.nm_steps.specs.Steps.{TreeView, Notice, HasHeard, HasSeenAllOf, IsNoteOf}
 use Rattle.nm_progress.specs.Pending.{leaf_after}
 use Rattle.nm_walks.specs.WonCounts.{won_links, won_flags}
 use Rattle.nm_epoch.specs.Collecting.{capped}
@@ -25,6 +25,18 @@ pub record HasTally (i : ℕ) (p : Stamp) (turns : List Turn) : Type 0 where
 -- the stamp has what this worker has done so far
 abbrev pub IsTallyOf : WorkerView → Stamp → Type 0
 IsTallyOf w p = HasTally w.pass.view.number p w.pass.view.past
+
+-- what clauses see of a returned worker: what it had done, and a note of all that it had seen
+pub record ReturnedView : Type 0 where
+  pub done : Stamp
+  pub note : Notice
+
+-- the worker was returned as it is here, with what it has done, and with a note of what it has seen,
+-- of which its log is its part
+pub record IsReturned (w : WorkerView) (r : ReturnedView) : Type 0 where
+  pub tally : IsTallyOf w r.done
+  pub note : IsNoteOf w.pass r.note
+  pub own : part_of w.pass.view.number r.note.past ≡ w.pass.view.log
 
 -- what was seen extends what worker i had seen when it had inserted and removed the numbers of keys
 -- in the stamp

@@ -1,7 +1,7 @@
 //! The home of a tree's workers: one seat for each worker, which keeps it while no member has it.
 ghost use Rattle.std.specs.Prelude.{◌≡◌, ◌<◌, ◌≤◌, ◌+◌, ◌^◌, ◌↔◌, ◌∷◌, [], length, None, IfNone, IfOk, IfSome, IsErrOf, vec_capacity};
 ghost use Rattle.nm_tree.specs.Workers.{AreNew, HaveFit};
-ghost use Rattle.nm_set.specs.Posts.{IsTallyOf};
+ghost use Rattle.nm_set.specs.Posts.{IsReturned};
 ghost use Rattle.nm_set.specs.Seats.{AreOwn, AreSeats, BeginsWith, HasRoom, IsOwn, IsResident};
 
 use crate::posting::Mailbox;
@@ -118,12 +118,12 @@ impl Home {
         requires own { IsOwn self.now.tree sealed.worker }
         requires fit { sealed.worker.fit ≡ self.now.fit }
         requires free { sealed.worker.held ≡ None }
-        ensures { IsTallyOf sealed.worker result }
+        ensures { IsReturned sealed.worker result }
     {
         let Some(seat) = self.seats.get(sealed.worker.number() as usize) else {
             unreachable!()
         };
-        sealed.sit_down(seat)
+        sealed.sit_down(&self.site.tree, seat)
     }
 
     /// Notes that a worker that was taken from its seat does not come back to it.

@@ -1,7 +1,7 @@
 //! What a member has of its home: the tree for its calls, and the way back to its seat.
 ghost use Rattle.std.specs.Prelude.{◌≡◌, ◌<◌, ◌≤◌, ◌↔◌, List, ◌∷◌, [], None, IfErr, IfNone, IfOk, IfSome, IsErrOf};
 ghost use Rattle.std.specs.Arc.{arc_value};
-ghost use Rattle.nm_set.specs.Posts.{IsTallyOf};
+ghost use Rattle.nm_set.specs.Posts.{IsReturned};
 ghost use Rattle.nm_set.specs.Seats.{BeginsWith, IsOwn, IsResident};
 ghost use Rattle.nm_set.specs.States.{closing_set};
 ghost use Rattle.nm_tree.specs.Workers.{WorkerView};
@@ -62,7 +62,7 @@ impl Lease {
         requires own { IsOwn self.now.tree sealed.worker }
         requires fit { sealed.worker.fit ≡ self.now.fit }
         requires free { sealed.worker.held ≡ None }
-        ensures { IsTallyOf sealed.worker result }
+        ensures { IsReturned sealed.worker result }
     {
         self.home.receive(sealed)
     }

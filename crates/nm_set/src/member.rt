@@ -12,7 +12,7 @@ ghost use Rattle.nm_tree.specs.Calls.{SaysHas, LeavesAdvance, LeavesBehind, Leav
 ghost use Rattle.nm_set.specs.Asked.{Asked, AskedToPin, AskedToUnpin, SaysTryInsert, SaysTryRemove, SaysGoOn};
 ghost use Rattle.nm_set.specs.InTurns.{AskedMany};
 ghost use Rattle.nm_set.specs.NextKeys.{AskedNext, AskedPrev};
-ghost use Rattle.nm_set.specs.Posts.{IsTallyOf, ReadsNote};
+ghost use Rattle.nm_set.specs.Posts.{IsReturned, IsTallyOf, ReadsNote};
 ghost use Rattle.nm_set.specs.Seats.{IsLetGo, IsOwn, IsResident, IsStaying, told_absence};
 
 use crate::fault::{NotPinned, ObserveFault, ResignReason};
@@ -362,10 +362,11 @@ impl Member {
     }
 
     /// Returns the worker, with all that it holds or has pending; `Set::member` can take it again.
-    /// A pin of the caller ends as by `unpin`. Nothing else of its tree changes: what the worker
-    /// has done when it is returned is what it had done before.
+    /// A pin of the caller ends as by `unpin`. The worker takes no other step on its way, and has
+    /// inserted and removed what it had before.
     pub fn close(self) -> ReturnedWorker
-        ensures { IsTallyOf self.worker result }
+        ensures did { (z : WorkerView) × IsLetGo self.worker z × IsReturned z result }
+        ensures tally { IsTallyOf self.worker result.done }
     {
         let mut member = self;
         member.know_run();

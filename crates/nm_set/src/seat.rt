@@ -1,14 +1,15 @@
 //! The seats of a tree's workers, each with the mailbox of its worker, and workers that are on no
 //! seat.
 ghost use Rattle.std.specs.Prelude.{◌≡◌, ◌<◌, ◌∷◌, [], ◌++◌, length, vec_capacity, option_map, None, IfOk, IfErr, IfSome, IsSome};
-ghost use Rattle.nm_steps.specs.Steps.{IsOf};
+ghost use Rattle.nm_steps.specs.Steps.{IsNoteOf, IsOf};
 ghost use Rattle.nm_tree.specs.Resigning.{HasResigned};
-ghost use Rattle.nm_set.specs.Posts.{IsTallyOf};
+ghost use Rattle.nm_set.specs.Posts.{IsReturned};
 ghost use Rattle.nm_set.specs.Seats.{IsResident};
 
 use crate::home::Site;
 use crate::posting::{Mailbox, Stamp, empty_mailbox, tally_of};
 use counted_slot::{Counted, FREE, Fits, MARKED, PRESENT, TAKEN};
+use nm_steps::Note;
 use nm_tree::{Tree, Worker};
 use std::marker::Model;
 
@@ -55,7 +56,7 @@ impl Seat {
         };
         // The seat is empty, so only its word changes.
         if let Some(sealed) = stand_up(&seat) {
-            sealed.sit_down(&seat);
+            sealed.sit_down(&place.0.tree, &seat);
         }
         seat
     }
@@ -86,27 +87,36 @@ pub(crate) struct SealedWorker {
 /// Keeps a sealed worker whole, and does nothing else.
 struct Seal {}
 
-/// Evidence that a worker was returned, with what it had done by then. It is made at the return,
-/// and nowhere else.
+/// Evidence that a worker was returned, with what it had done and seen by then. It is made at the
+/// return, and nowhere else.
 #[derive(Drop)]
 pub struct ReturnedWorker {
     done: Stamp,
+    note: Note,
 }
 
 impl Model for ReturnedWorker {
-    ghost use Rattle.nm_set.specs.declared.posting.Stamp.{Stamp};
+    ghost use Rattle.nm_set.specs.Posts.{ReturnedView};
 
-    ghost Value = { Stamp };
+    ghost Value = { ReturnedView };
 
-    ghost view = { λ a. a.done };
+    ghost view = { λ a. record { done = a.done; note = a.note } };
 }
 
 impl ReturnedWorker {
     /// Returns what the worker had done when it was returned.
     pub fn done(&self) -> Stamp
-        ensures { result ≡ self.now }
+        ensures { result ≡ self.now.done }
     {
         self.done
+    }
+
+    /// Returns a note of all that the worker had seen when it was returned.
+    pub fn into_note(self) -> Note
+        ensures { result ≡ self.note }
+    {
+        let ReturnedWorker { done: _, note } = self;
+        note
     }
 }
 
@@ -137,17 +147,33 @@ impl SealedWorker {
         worker
     }
 
-    /// Puts the worker on its seat, with what it has done so far. Only the worker of a seat leaves
-    /// it empty, so the seat is empty when that worker comes back. No clause can say so of a seat;
-    /// if it were not empty, the worker would end here.
-    pub(crate) fn sit_down(self, seat: &Seat) -> ReturnedWorker
-        requires { IsResident seat.now.0.tree seat.now.0.fit seat.now.1 self.worker }
-        ensures { IsTallyOf self.worker result }
+    /// Makes a note of all that the worker has seen.
+    fn noted(self, tree: &Tree) -> (SealedWorker, Note)
+        requires { IsOf tree.now self.worker.pass }
+        ensures same { result.0.worker ≡ self.worker }
+        ensures note { IsNoteOf self.worker.pass result.1 }
     {
+        let SealedWorker { worker, seal } = self;
+        let mut worker = worker;
+        let note = tree.note(&mut worker);
+        (SealedWorker { worker, seal }, note)
+    }
+
+    /// Puts the worker on its seat, with what it has done and seen so far. Only the worker of a seat
+    /// leaves it empty, so the seat is empty when that worker comes back. No clause can say so of a
+    /// seat; if it were not empty, the worker would end here.
+    pub(crate) fn sit_down(self, tree: &Tree, seat: &Seat) -> ReturnedWorker
+        requires own { IsOf tree.now self.worker.pass }
+        requires resident { IsResident seat.now.0.tree seat.now.0.fit seat.now.1 self.worker }
+        ensures { IsReturned self.worker result }
+    {
+        self.worker.know_run();
+        let (sealed, note) = self.noted(tree);
         let returned = ReturnedWorker {
-            done: tally_of(&self.worker),
+            done: tally_of(&sealed.worker),
+            note,
         };
-        let resident = self.returned();
+        let resident = sealed.returned();
         let (found, claim) = seat.worker.turn(PRESENT, TAKEN);
         if found != PRESENT {
             claim.done();

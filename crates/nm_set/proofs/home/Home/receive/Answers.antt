@@ -4,8 +4,8 @@ use Rattle.nm_set.specs.declared.home.Site.{Site}
 use Rattle.nm_set.proofs.SeatLists.{seat_of}
 use Rattle.nm_set.proofs.home.Home.receive.Goals as goal
 
-pub sit_down-requires : goal.sit_down-requires
-sit_down-requires c =
+pub sit_down-requires-clause-resident : goal.sit_down-requires-clause-resident
+sit_down-requires-clause-resident c =
     let found = c.in-Some.ensures.lookup in
     let P : List (Site × ℕ) → Type 0 = λ ss. c.number.result < length ss in
     let R : Site × ℕ → Type 0 = λ s. IsResident s.0.tree s.0.fit s.1 c.args.sealed.worker in
