@@ -21,14 +21,12 @@ mod seat;
 mod set;
 
 pub use ending::EndError;
-pub use fault::{
-    CloseReason, Fullness, InsertFault, MemberFault, NotPinned, ObserveFault, ResignReason,
-};
+pub use fault::{Fullness, InsertFault, MemberFault, NotPinned, ObserveFault};
 pub use managed::Options;
 pub use member::{Member, ResignError};
 pub use nm_tree::{
-    Advance, Behind, CallFault, Collected, Counts, Entry, Fit, HeldQueue, NewError, PinFault,
-    Query, Report, Tally,
+    Advance, Behind, CallFault, CloseReason, Collected, Counts, Entry, Fit, HeldQueue, NewError,
+    PinFault, Query, Report, ResignReason, Tally,
 };
 pub use posting::{Stamp, letters_are_in_order};
 pub use seat::ReturnedWorker;
