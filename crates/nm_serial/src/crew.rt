@@ -46,6 +46,7 @@ pub(crate) fn leave(tree: &Tree, heir: Worker, leaver: Worker) -> (Worker, Optio
             let answer = match fault.reason {
                 ResignReason::Held => Answer::Refused(Refusal::Held),
                 ResignReason::Pending => Answer::Pending,
+                ResignReason::Number | ResignReason::Attached => unreachable!(),
             };
             (fault.heir, Some(fault.leaver), answer)
         }

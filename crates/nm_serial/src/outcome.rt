@@ -90,7 +90,7 @@ pub(crate) fn put_end(out: &mut Vec<u8>, tree: Tree, workers: Vec<Worker>) -> Re
         ) => return Err(RunFault::NoMemory),
         Err(
             CloseError {
-                reason: CloseReason::NotAll { .. },
+                reason: CloseReason::NotAll { .. } | CloseReason::Attached,
                 ..
             },
         ) => unreachable!(),

@@ -50,3 +50,5 @@ done_before p w z seen sees between stands (inr (held, left)) t =
 pub has_pending : (w : WorkerView) (why : Reason) → w.held ≡ None → IsReason w why → IsSome w.pending
 has_pending w tree.Held free held = absurd (true≢false (sym (subst IsSome free held)))
 has_pending w tree.Pending free is = is.1
+has_pending w tree.Number free is = absurd is
+has_pending w tree.Attached free is = absurd is

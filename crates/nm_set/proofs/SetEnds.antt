@@ -3,19 +3,17 @@ use Rattle.std.proofs.Common.{◌≡◌, ◌∙◌, ◌+◌, ◌≤◌, ℕ, fal
 use Rattle.std.specs.Prelude.{Result, Ok, Err, IfOk, IfErr}
 use Rattle.nm_edge.specs.declared.placement.Fit.{Fit}
 use Rattle.nm_steps.specs.Steps.{TreeView}
-use Rattle.nm_tree.specs.declared.closing.CloseReason.{CloseReason as Reason}
-use Rattle.nm_tree.specs.declared.closing.CloseReason.TheVariants as tree
+use Rattle.nm_tree.specs.declared.closing.CloseReason.{CloseReason}
+use Rattle.nm_tree.specs.declared.closing.CloseReason.TheVariants as because
 use Rattle.nm_tree.specs.declared.closing.Report.{Report}
 use Rattle.nm_tree.specs.Closing.{AreAllOf, IsClosed, IsCloseReason}
 use Rattle.nm_tree.specs.Workers.{WorkerView}
-use Rattle.nm_set.specs.declared.fault.CloseReason.{CloseReason}
-use Rattle.nm_set.specs.declared.fault.CloseReason.TheVariants as because
 use Rattle.nm_set.specs.declared.home.Site.{Site}
 use Rattle.nm_set.specs.declared.set.CloseError.{CloseError}
 use Rattle.nm_set.specs.declared.set.State.{State}
 use Rattle.nm_set.specs.declared.set.State.TheVariants.{Open, Closing}
 use Rattle.nm_set.specs.Seats.{AreOwn, BeginsWith, IsOwn, MemberView, SetView}
-use Rattle.nm_set.specs.Ends.{EndsSet, HasGathered, IsLeftOpen, IsTreesReason, SaysEnded, set_of}
+use Rattle.nm_set.specs.Ends.{EndsSet, HasGathered, IsLeftOpen, SaysEnded, set_of}
 use Rattle.nm_set.specs.States.{MayGather, closing_set, open_set, room_for_one, site_of, standing_of}
 
 -- ---- workers of a tree
@@ -62,7 +60,7 @@ pub says_ended : (s : SetView) (r : Report) → EndsSet s r → SaysEnded s r
 says_ended s r e = record { home = e.home; none = e.none; says = e.closed.says }
 
 -- it keeps them, where its tree was not closed
-pub kept_all : (s : SetView) (site : Site) (all : List WorkerView) → Gathers s site all → (t : SetView) → t ≡ closing_set site all → (x : Reason) → IsCloseReason site.tree all x → HasGathered s x t
+pub kept_all : (s : SetView) (site : Site) (all : List WorkerView) → Gathers s site all → (t : SetView) → t ≡ closing_set site all → (x : CloseReason) → IsCloseReason site.tree all x → HasGathered s x t
 kept_all s site all g t is x so =
     let tree : t.tree ≡ site.tree = ap (λ (u : SetView). u.tree) is in
     let kept : t.kept ≡ all = ap (λ (u : SetView). u.kept) is in
@@ -78,12 +76,10 @@ kept_all s site all g t is x so =
       reason = subst P (sym tree) (subst Q (sym kept) so);
     }
 
-pub left : (s : SetView) (site : Site) (all : List WorkerView) → Gathers s site all → (t : SetView) → t ≡ closing_set site all → (why : CloseReason) → IsTreesReason site.tree all why → IsLeftOpen s why t
-left s site all g t is why (of_tree, told, reason) = subst (λ (w : CloseReason). IsLeftOpen s w t) (sym told) (by of_tree reason)
-  where
-    by : (x : Reason) → IsCloseReason site.tree all x → IsLeftOpen s (Rattle.nm_set.specs.Ends.told_reason x) t
-    by (tree.NotAll given made) so = kept_all s site all g t is (tree.NotAll given made) so
-    by tree.NoMemory so = kept_all s site all g t is tree.NoMemory so
+pub left : (s : SetView) (site : Site) (all : List WorkerView) → Gathers s site all → (t : SetView) → t ≡ closing_set site all → (why : CloseReason) → IsCloseReason site.tree all why → IsLeftOpen s why t
+left s site all g t is because.Attached reason = absurd reason
+left s site all g t is (because.NotAll given made) reason = kept_all s site all g t is (because.NotAll given made) reason
+left s site all g t is because.NoMemory reason = kept_all s site all g t is because.NoMemory reason
 
 -- of a set whose workers had been gathered before
 pub had_gathered : (s : SetView) (site : Site) (kept : List WorkerView) → closing_set site kept ≡ s → AreOwn site.tree kept → Gathers s site kept
@@ -141,7 +137,7 @@ module _ (s : SetView) (site : Site) (all : List WorkerView) (g : Gathers s site
   pub closes : IfOk told (λ r. IsClosed site.tree all r.queues.items r.keys.items r.free r.reached) → IfOk told (EndsSet s)
   closes closed = if_ok (λ (r : Report). IsClosed site.tree all r.queues.items r.keys.items r.free r.reached) (EndsSet s) told closed (ended s site all g)
 
-  pub refuses : IfErr told (λ e. e.set ≡ closing_set site all) → IfErr told (λ e. IsTreesReason site.tree all e.reason) → IfErr told (λ e. IsLeftOpen s e.reason e.set)
+  pub refuses : IfErr told (λ e. e.set ≡ closing_set site all) → IfErr told (λ e. IsCloseReason site.tree all e.reason) → IfErr told (λ e. IsLeftOpen s e.reason e.set)
   refuses refused reason =
-      if_err (λ (e : CloseError). e.set ≡ closing_set site all) (λ (e : CloseError). IsTreesReason site.tree all e.reason) (λ (e : CloseError). IsLeftOpen s e.reason e.set) told refused reason
+      if_err (λ (e : CloseError). e.set ≡ closing_set site all) (λ (e : CloseError). IsCloseReason site.tree all e.reason) (λ (e : CloseError). IsLeftOpen s e.reason e.set) told refused reason
       (λ e is why. left s site all g e.set is e.reason why)

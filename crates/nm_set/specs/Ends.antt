@@ -1,15 +1,12 @@
 -- The close of a set: what its report accounts for, and what an error leaves.
 use Rattle.std.specs.Prelude.{◌≡◌, List, [], ◌∷◌, ◌++◌, true, false}
-use Rattle.nm_steps.specs.Steps.{TreeView}
-use Rattle.nm_tree.specs.declared.closing.CloseReason.{CloseReason as Reason}
-use Rattle.nm_tree.specs.declared.closing.CloseReason.TheVariants as tree
+use Rattle.nm_tree.specs.declared.closing.CloseReason.{CloseReason}
+use Rattle.nm_tree.specs.declared.closing.CloseReason.TheVariants as because
 use Rattle.nm_tree.specs.declared.closing.Report.{Report}
 use Rattle.nm_tree.specs.Closing.{IsClosed, IsCloseReason, SaysClosed}
 use Rattle.nm_tree.specs.Workers.{WorkerView}
 use Rattle.nm_set.specs.declared.ending.EndError.{EndError}
 use Rattle.nm_set.specs.declared.ending.EndError.TheVariants.{Attached, Gathered}
-use Rattle.nm_set.specs.declared.fault.CloseReason.{CloseReason}
-use Rattle.nm_set.specs.declared.fault.CloseReason.TheVariants as because
 use Rattle.nm_set.specs.Seats.{AreOwn, MemberView, SetView}
 
 -- What a caller learns from a closed set. Its tree was closed with the workers that the set kept,
@@ -27,19 +24,9 @@ pub record EndsSet (s : SetView) (r : Report) : Type 0 where
   pub none : s.closing ≡ true → home ≡ []
   pub closed : IsClosed s.tree (s.kept ++ home) r.queues.items r.keys.items r.free r.reached
 
--- the reasons of the tree, by the names that the set has for them
-abbrev pub told_reason : Reason → CloseReason
-told_reason (tree.NotAll given made) = because.NotAll given made
-told_reason tree.NoMemory = because.NoMemory
-
--- a tree that has these workers was not closed for that reason, which is one of the tree's
-abbrev pub IsTreesReason : TreeView → List WorkerView → CloseReason → Type 0
-IsTreesReason b ws why = (of_tree : Reason) × (why ≡ told_reason of_tree)
-    × IsCloseReason b ws of_tree
-
 -- a set whose workers were gathered keeps those that it kept, and then those that had been
 -- returned; with them its tree was not closed, for that reason
-pub record HasGathered (s : SetView) (why : Reason) (t : SetView) : Type 0 where
+pub record HasGathered (s : SetView) (why : CloseReason) (t : SetView) : Type 0 where
   pub tree : t.tree ≡ s.tree
   pub fit : t.fit ≡ s.fit
   pub closing : t.closing ≡ true
@@ -55,8 +42,7 @@ IsAsBefore s t = (s.closing ≡ false) × (t ≡ s)
 -- why a set was not closed, and what the set is then
 abbrev pub IsLeftOpen : SetView → CloseReason → SetView → Type 0
 IsLeftOpen s because.Attached t = IsAsBefore s t
-IsLeftOpen s (because.NotAll given made) t = HasGathered s (tree.NotAll given made) t
-IsLeftOpen s because.NoMemory t = HasGathered s tree.NoMemory t
+IsLeftOpen s why t = HasGathered s why t
 
 -- ---- the close by the last member
 
@@ -74,5 +60,4 @@ EndsMember m r = EndsSet (set_of m) r
 -- its tree was not closed for that reason
 abbrev pub IsNotEnded : MemberView → EndError → Type 0
 IsNotEnded m (Attached n) = n ≡ m
-IsNotEnded m (Gathered e) = (why : Reason) × (e.reason ≡ told_reason why)
-    × HasGathered (set_of m) why e.set
+IsNotEnded m (Gathered e) = HasGathered (set_of m) e.reason e.set

@@ -165,8 +165,8 @@ pub record WasFull (w z : WorkerView) (f : Fullness) : Type 0 where
   pub waiting : f.waiting ≡ waiting_in z.queues
 
 -- a managed call, of at most 3 `rounds` + 5 rounds: its answer, and what came before its operation,
--- which is not made if an earlier remove stays pending. It is `Busy` only after `rounds` + 1 calls
--- of the tree, each of which has lost `tries` tries
+-- which is not made if an earlier remove stays pending. If it is `Busy`, the epoch was advanced or
+-- turns have interfered with it at least (`rounds` + 1) * `tries` times
 pub record Manages (b : TreeView) (h : Options) (op : Op) (k : ℕ) (w z : WorkerView)
     (r : Result Bool CallFault) : Type 0 where
   pub answers : Answers op k ((3 * h.rounds + 5) * round_bound h.tries b.layout)

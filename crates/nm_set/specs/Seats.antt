@@ -6,8 +6,8 @@ use Rattle.nm_tree.specs.Calls.{LeavesUnpin}
 use Rattle.nm_tree.specs.Workers.{AreNew, WorkerView}
 use Rattle.nm_set.specs.declared.fault.MemberFault.{MemberFault}
 use Rattle.nm_set.specs.declared.fault.MemberFault.TheVariants as taking
-use Rattle.nm_set.specs.declared.fault.ResignReason.{ResignReason}
-use Rattle.nm_set.specs.declared.fault.ResignReason.TheVariants as because
+use Rattle.nm_tree.specs.declared.resigning.ResignReason.{ResignReason}
+use Rattle.nm_tree.specs.declared.resigning.ResignReason.TheVariants as because
 use Rattle.nm_set.specs.declared.home.Absence.{Absence}
 use Rattle.nm_set.specs.declared.home.Absence.TheVariants as absence
 use Rattle.nm_set.specs.declared.home.Site.{Site}
@@ -92,6 +92,7 @@ IsStaying m i because.Number = m.tree.layout.workers ≤ i
 IsStaying m i because.Attached = i < m.tree.layout.workers
 IsStaying m i because.Pending = (i < m.tree.layout.workers) × (w : WorkerView)
     × IsResident m.tree m.worker.fit i w × IsSome w.pending
+IsStaying m i because.Held = ⊥
 
 -- which answers `is_attached` gives: a boolean only for an open set and a number of its tree, else
 -- an error; no clause says that the boolean is right

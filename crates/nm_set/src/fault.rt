@@ -76,31 +76,3 @@ pub enum ObserveFault {
     #[error("another member is publishing or observing that stamp")]
     Busy,
 }
-
-/// Why a member did not take over a worker.
-#[derive(Clone, Copy, Debug, Error, PartialEq, Eq)]
-pub enum ResignReason {
-    /// The tree has no worker of that number.
-    #[error("there is no worker of that number")]
-    Number,
-    /// A member has that worker (the heir itself or another one), or the worker has resigned.
-    #[error("the worker is attached")]
-    Attached,
-    /// The worker was returned with a pending key.
-    #[error("the leaver has a pending key")]
-    Pending,
-}
-
-/// Why a set was not closed.
-#[derive(Clone, Copy, Debug, Error, PartialEq, Eq)]
-pub enum CloseReason {
-    /// A member is not closed yet, or is being closed at this moment.
-    #[error("a member is not closed")]
-    Attached,
-    /// Fewer workers were returned than the tree has. Workers that resigned count with their heirs.
-    #[error("{given} of {made} workers were returned")]
-    NotAll { given: u32, made: u32 },
-    /// A growth was refused.
-    #[error("there is no memory for the report")]
-    NoMemory,
-}

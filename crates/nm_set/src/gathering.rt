@@ -1,7 +1,6 @@
 //! A tree together with the workers that were gathered for its end.
 ghost use Rattle.std.specs.Prelude.{◌≡◌, IfErr, IfOk};
-ghost use Rattle.nm_tree.specs.Closing.{IsClosed};
-ghost use Rattle.nm_set.specs.Ends.{IsTreesReason};
+ghost use Rattle.nm_tree.specs.Closing.{IsClosed, IsCloseReason};
 ghost use Rattle.nm_set.specs.Seats.{AreOwn};
 ghost use Rattle.nm_set.specs.States.{closing_set};
 
@@ -42,7 +41,7 @@ impl Gathered {
         ensures closed { IfOk result
             (λ r. IsClosed self.tree self.kept r.queues.items r.keys.items r.free r.reached) }
         ensures refused { IfErr result (λ e. e.set ≡ self) }
-        ensures reason { IfErr result (λ e. IsTreesReason self.tree self.kept e.reason) }
+        ensures reason { IfErr result (λ e. IsCloseReason self.tree self.kept e.reason) }
     {
         let Self { site, workers } = self;
         end(site, workers)

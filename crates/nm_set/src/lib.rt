@@ -22,14 +22,12 @@ mod seat;
 mod set;
 
 pub use ending::EndError;
-pub use fault::{
-    CloseReason, Fullness, InsertFault, MemberFault, NotPinned, ObserveFault, ResignReason,
-};
+pub use fault::{Fullness, InsertFault, MemberFault, NotPinned, ObserveFault};
 pub use managed::Options;
 pub use member::{Member, ResignError};
 pub use nm_tree::{
-    Advance, Behind, CallFault, Collected, Counts, Entry, Fit, HeldQueue, NewError, PinFault,
-    Query, Report, Scanned, Tally,
+    Advance, Behind, CallFault, CloseReason, Collected, Counts, Entry, Fit, HeldQueue, NewError,
+    PinFault, Query, Report, ResignReason, Scanned, Tally,
 };
 pub use posting::{Stamp, letters_are_in_order};
 pub use seat::ReturnedWorker;

@@ -161,7 +161,7 @@ impl Member {
     /// `Full` and `NoMemory`.
     ///
     /// Errors: `Pinned`, `Pending`, `Busy`: as of `contains`. `Full`: no slot was free for a new
-    /// node, even after the collection. It names the worker that was found to hold the epoch back,
+    /// node, before a collection and after it. It names the worker that was found to hold the epoch back,
     /// or says that none was found; then the epoch was advanced twice during the call, or it is the
     /// last one. It also says how many removed nodes wait when the call ends. (The tree's own `Full`
     /// is not returned.) `NoMemory`: the memory for a try was refused; of the insert nothing remains

@@ -15,14 +15,16 @@ ghost use Rattle.nm_set.specs.NextKeys.{AskedNext, AskedPrev};
 ghost use Rattle.nm_set.specs.Posts.{IsReturned, IsTallyOf, ReadsNote};
 ghost use Rattle.nm_set.specs.Seats.{IsLetGo, IsOwn, IsResident, IsStaying, told_absence};
 
-use crate::fault::{NotPinned, ObserveFault, ResignReason};
+use crate::fault::{NotPinned, ObserveFault};
 use crate::home::{Absence, Home};
 use crate::lease::Lease;
 use crate::posting::{Stamp, leave_letter, read_letter};
 use crate::seat::{ReturnedWorker, SealedWorker, Stay, unite};
 use nm_edge::Key;
 use nm_steps::Note;
-use nm_tree::{Advance, Behind, CallFault, Collected, Counts, PinFault, Query, Worker};
+use nm_tree::{
+    Advance, Behind, CallFault, Collected, Counts, PinFault, Query, ResignReason, Worker,
+};
 use std::alloc::Global;
 use std::marker::Model;
 use std::sync::Arc;

@@ -3,18 +3,18 @@
 ghost use Rattle.std.specs.Prelude.{◌≡◌, ◌≤◌, ◌↔◌, ◌++◌, ◌∷◌, [], true, false, IfOk, IfErr, IsErrOf, OnOk, OnErr, vec_capacity};
 ghost use Rattle.std.specs.Arc.{arc_value};
 ghost use Rattle.nm_edge.specs.Layouts.{IsLayoutFault, in_radix, spaced};
-ghost use Rattle.nm_tree.specs.Closing.{IsClosed};
+ghost use Rattle.nm_tree.specs.Closing.{IsClosed, IsCloseReason};
 ghost use Rattle.nm_tree.specs.Workers.{AreNew, HaveFit};
 ghost use Rattle.nm_set.specs.Seats.{AreOwn, HasRoom, IsResident, IsAnyResident, TellsAttached};
-ghost use Rattle.nm_set.specs.Ends.{EndsSet, IsLeftOpen, IsTreesReason, SaysEnded, told_reason};
+ghost use Rattle.nm_set.specs.Ends.{EndsSet, IsLeftOpen, SaysEnded};
 ghost use Rattle.nm_set.specs.States.{IsNewSet, open_set, closing_set, room_for_one};
 
 use crate::attach::take_any;
-use crate::fault::{CloseReason, MemberFault};
+use crate::fault::MemberFault;
 use crate::home::{Absence, Home, Site};
 use crate::member::Member;
 use nm_edge::{Layout, LayoutError, MOST_SPACED_NODES};
-use nm_tree::{Fit, NewError, Report, Tree, Worker};
+use nm_tree::{CloseReason, Fit, NewError, Report, Tree, Worker};
 use std::alloc::Global;
 use std::marker::Model;
 use std::sync::Arc;
@@ -294,13 +294,13 @@ pub(crate) fn end(site: Site, workers: Vec<Worker>) -> Result<Report, CloseError
     ensures closed { IfOk result
         (λ r. IsClosed site.tree workers.items r.queues.items r.keys.items r.free r.reached) }
     ensures refused { IfErr result (λ e. e.set ≡ closing_set site workers.items) }
-    ensures reason { IfErr result (λ e. IsTreesReason site.tree workers.items e.reason) }
+    ensures reason { IfErr result (λ e. IsCloseReason site.tree workers.items e.reason) }
 {
     let Site { tree, fit } = site;
     match tree.close(workers) {
         Ok(report) => Ok(report),
         Err(error) => Err(CloseError {
-            reason: reason_of(error.reason),
+            reason: error.reason,
             set: Set {
                 state: State::Closing(Site {
                     tree: error.tree,
@@ -309,15 +309,5 @@ pub(crate) fn end(site: Site, workers: Vec<Worker>) -> Result<Report, CloseError
                 kept: error.workers,
             },
         }),
-    }
-}
-
-/// Converts the tree's reason.
-fn reason_of(reason: nm_tree::CloseReason) -> CloseReason
-    ensures { result ≡ told_reason reason }
-{
-    match reason {
-        nm_tree::CloseReason::NotAll { given, made } => CloseReason::NotAll { given, made },
-        nm_tree::CloseReason::NoMemory => CloseReason::NoMemory,
     }
 }

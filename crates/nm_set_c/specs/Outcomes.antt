@@ -6,10 +6,10 @@ use Rattle.nm_model.specs.declared.new_error.NewError.{NewError}
 use Rattle.nm_model.specs.declared.new_error.NewError.TheVariants as making
 use Rattle.nm_set.specs.declared.fault.MemberFault.{MemberFault}
 use Rattle.nm_set.specs.declared.fault.MemberFault.TheVariants as taking
-use Rattle.nm_set.specs.declared.fault.ResignReason.{ResignReason}
-use Rattle.nm_set.specs.declared.fault.ResignReason.TheVariants as staying
-use Rattle.nm_set.specs.declared.fault.CloseReason.{CloseReason}
-use Rattle.nm_set.specs.declared.fault.CloseReason.TheVariants as because
+use Rattle.nm_tree.specs.declared.resigning.ResignReason.{ResignReason}
+use Rattle.nm_tree.specs.declared.resigning.ResignReason.TheVariants as staying
+use Rattle.nm_tree.specs.declared.closing.CloseReason.{CloseReason}
+use Rattle.nm_tree.specs.declared.closing.CloseReason.TheVariants as because
 use Rattle.nm_set_c.specs.declared.outcome.Outcome.{Outcome}
 use Rattle.nm_set_c.specs.declared.outcome.Outcome.TheVariants as outcome
 
@@ -82,6 +82,7 @@ abbrev pub of_staying : ResignReason → Outcome
 of_staying staying.Number = outcome.Number
 of_staying staying.Attached = outcome.Attached
 of_staying staying.Pending = outcome.Pending
+of_staying staying.Held = outcome.Pinned
 
 abbrev pub of_reason : CloseReason → Outcome
 of_reason because.Attached = outcome.Attached

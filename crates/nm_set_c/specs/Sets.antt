@@ -2,13 +2,12 @@
 use Rattle.std.specs.Prelude.{◌≡◌, ◌≤◌, ◌⊎◌, ◌↔◌, ℕ, Bool, true, false, [], Result, Ok, Err}
 use Rattle.nm_edge.specs.Layouts.{Layout}
 use Rattle.nm_edge.specs.declared.placement.Fit.{Fit}
-use Rattle.nm_set.specs.declared.fault.CloseReason.{CloseReason}
 use Rattle.nm_set.specs.declared.fault.MemberFault.{MemberFault}
 use Rattle.nm_set.specs.declared.fault.MemberFault.TheVariants as taking
-use Rattle.nm_set.specs.Ends.{EndsMember, EndsSet, HasGathered, IsLeftOpen, set_of, told_reason}
+use Rattle.nm_set.specs.Ends.{EndsMember, EndsSet, HasGathered, IsLeftOpen, set_of}
 use Rattle.nm_set.specs.Seats.{SetView, MemberView, IsResident, IsAnyResident, TellsAttached}
 use Rattle.nm_tree.specs.Workers.{WorkerView}
-use Rattle.nm_tree.specs.declared.closing.CloseReason.{CloseReason as Reason}
+use Rattle.nm_tree.specs.declared.closing.CloseReason.{CloseReason}
 use Rattle.nm_tree.specs.declared.closing.Report.{Report}
 use Rattle.nm_set_c.specs.Outcomes.{of_bool, of_taking, of_reason}
 use Rattle.nm_set_c.specs.Handles.{Hold, Closed, Open, IsRefused, CannotOpen}
@@ -154,7 +153,7 @@ abbrev pub IsEndedBy : MemberView → Owner → Outcome → Type 0
 IsEndedBy m new o =
     ((o ≡ outcome.Done) × (r : Report) × (new ≡ Ended r) × EndsMember m r)
     ⊎ (((o ≡ outcome.Attached) × (new ≡ Worker m))
-    ⊎ ((why : Reason) × (o ≡ of_reason (told_reason why)) × (t : SetView) × (new ≡ Set t)
+    ⊎ ((why : CloseReason) × (o ≡ of_reason why) × (t : SetView) × (new ≡ Set t)
     × HasGathered (set_of m) why t))
 
 -- `EndsByOwner`, `EndsByHandle`: the handle of a set's last worker owns what is left afterwards, by

@@ -15,7 +15,7 @@ use Rattle.nm_tree.specs.Workers.{WorkerView, IsLedger}
 use Rattle.nm_tree.specs.Calls.{SaysHas, LeavesAdvance, LeavesBehind, LeavesCollect}
 use Rattle.nm_set.specs.Asked.{Asked, AskedToPin, AskedToUnpin, SaysTryInsert, SaysTryRemove, SaysGoOn}
 use Rattle.nm_set.specs.declared.fault.NotPinned.{NotPinned}
-use Rattle.nm_set.specs.declared.fault.ResignReason.{ResignReason}
+use Rattle.nm_tree.specs.declared.resigning.ResignReason.{ResignReason}
 use Rattle.nm_set.specs.declared.managed.Options.{Options}
 use Rattle.nm_set.specs.Seats.{MemberView, IsResident, IsStaying}
 use Rattle.nm_set.specs.Managed.{SaysManaged}

@@ -173,6 +173,7 @@ impl Outcome {
             ResignReason::Number => Outcome::Number,
             ResignReason::Attached => Outcome::Attached,
             ResignReason::Pending => Outcome::Pending,
+            ResignReason::Held => Outcome::Pinned,
         }
     }
 

@@ -177,6 +177,7 @@ abbrev pub IsCloseReason : TreeView → List WorkerView → CloseReason → Type
 IsCloseReason b ws (because.NotAll given made) =
     (given ≡ given_in ws) × (made ≡ b.layout.workers) × (given < made)
 IsCloseReason b ws because.NoMemory = b.layout.workers ≤ given_in ws
+IsCloseReason b ws because.Attached = ⊥
 
 -- ---- for those who change this project: the run of a closed tree
 

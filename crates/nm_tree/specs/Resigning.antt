@@ -41,3 +41,5 @@ pub record HasResigned (heir leaver z : WorkerView) : Type 0 where
 abbrev pub IsReason : WorkerView → ResignReason → Type 0
 IsReason leaver because.Held = IsSome leaver.held
 IsReason leaver because.Pending = (leaver.held ≡ None) × IsSome leaver.pending
+IsReason leaver because.Number = ⊥
+IsReason leaver because.Attached = ⊥

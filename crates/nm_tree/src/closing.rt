@@ -17,7 +17,7 @@ use nm_epoch::HeldQueue;
 use nm_steps::Shared;
 use thiserror::Error;
 
-/// Why a tree was not closed.
+/// Why a tree or a set was not closed.
 #[derive(Clone, Copy, Debug, Error, PartialEq, Eq)]
 pub enum CloseReason {
     /// Fewer workers were given than the tree has. Those that resigned count with their heirs.
@@ -26,6 +26,10 @@ pub enum CloseReason {
     /// The room of the report was refused.
     #[error("there is no memory for the report")]
     NoMemory,
+    /// A member of the set is not closed yet, or is being closed at this moment. Only the close of
+    /// a set returns this.
+    #[error("a member is not closed")]
+    Attached,
 }
 
 /// A tree was not closed. The tree and the workers that were given are unchanged.

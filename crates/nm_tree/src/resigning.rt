@@ -21,6 +21,14 @@ pub enum ResignReason {
     /// returns true.
     #[error("the leaver has a pending key")]
     Pending,
+    /// The tree has no worker of that number. Only members, which name the leaver by its number,
+    /// return this.
+    #[error("there is no worker of that number")]
+    Number,
+    /// A member has that worker (the heir itself or another one), or the worker has resigned. Only
+    /// members return this.
+    #[error("the worker is attached")]
+    Attached,
 }
 
 /// A worker has not resigned. Both workers are unchanged, and there was no step.

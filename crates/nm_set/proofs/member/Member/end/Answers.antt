@@ -1,10 +1,10 @@
 use Rattle.std.proofs.Common.{◌∙◌, List, subst}
 use Rattle.nm_tree.specs.declared.closing.Report.{Report}
-use Rattle.nm_tree.specs.Closing.{IsClosed}
+use Rattle.nm_tree.specs.Closing.{IsClosed, IsCloseReason}
 use Rattle.nm_tree.specs.Workers.{WorkerView}
 use Rattle.nm_set.specs.declared.home.Site.{Site}
 use Rattle.nm_set.specs.Seats.{MemberView, SetView}
-use Rattle.nm_set.specs.Ends.{IsTreesReason, set_of}
+use Rattle.nm_set.specs.Ends.{set_of}
 use Rattle.nm_set.proofs.SetEnds.{Gathers, ended, gathered_with, kept_all, says_ended}
 use Rattle.nm_set.proofs.member.Member.end.Goals as goal
 
@@ -29,5 +29,6 @@ returns-in-Err-close-clause-refused c =
     let all : List WorkerView = told.0 in
     let g : Gathers (set_of m) site all = gathered_with m site _ all _ c.apart-home.ensures.tree c.apart-home.ensures.fit c.apart-home.ensures.worker told.2 told.1 c.close.ensures.own in
     let t : SetView = c.in-Err-close.error.set in
-    let why = subst (λ (s : SetView). IsTreesReason s.tree s.kept c.in-Err-close.error.reason) told.1 c.in-Err-close.ensures.reason in
-    (why.0, why.1, kept_all (set_of m) site all g t (c.in-Err-close.ensures.refused ∙ told.1) why.0 why.2)
+    let why = c.in-Err-close.error.reason in
+    let is = subst (λ (s : SetView). IsCloseReason s.tree s.kept why) told.1 c.in-Err-close.ensures.reason in
+    kept_all (set_of m) site all g t (c.in-Err-close.ensures.refused ∙ told.1) why is
