@@ -1,5 +1,5 @@
-// growing [CHANGES]: 16 threads call a set while its size changes CHANGES times, half of them by
-// attached workers. No key is lost or doubled: by key, the answers add up to the report. And a set
+// growing [CHANGES]: 16 threads call a set while its size changes CHANGES (1,000) times, half of
+// them by attached workers. No key is lost or doubled: by key, the answers add up to the report. And a set
 // without a size grows by itself; pins prevent that, and closes and cancelled threads do not.
 #include "thrown.hpp"
 
@@ -16,6 +16,13 @@
 namespace {
 
 constexpr std::uint64_t keys = 2000;
+
+// ThreadSanitizer takes ten times as long.
+#ifdef __SANITIZE_THREAD__
+constexpr std::uint64_t usual_changes = 20;
+#else
+constexpr std::uint64_t usual_changes = 1000;
+#endif
 
 // By key, how often a thread inserted it less how often it removed it.
 using Tally = std::vector<std::int64_t>;
@@ -158,8 +165,10 @@ void pending_removes_are_finished() {
 
 // A close beside threads whose inserts let the set grow: the report has what they inserted.
 void closes_beside_growth() {
+    nm::Options options;
+    options.timeout_ms = 60000;
     for (int round = 0; round < 20; round++) {
-        nm::Set set;
+        nm::Set set(options);
         std::atomic<std::uint64_t> inserted{0};
         std::vector<std::thread> threads;
         for (std::uint64_t first = 0; first < 4; first++)
@@ -208,7 +217,7 @@ void threads_are_cancelled_beside_growth() {}
 }  // namespace
 
 int main(int count, char **words) {
-    sizes_change_beside_threads(count > 1 ? std::strtoull(words[1], nullptr, 10) : 1000);
+    sizes_change_beside_threads(count > 1 ? std::strtoull(words[1], nullptr, 10) : usual_changes);
     sets_grow(nm::Shape::radix, 50000);
     sets_grow(nm::Shape::unbalanced, 10000);
     pins_prevent_a_new_size();

@@ -1203,9 +1203,9 @@ public:
 
     // Makes room for that many keys, if none waits; it never makes the set smaller. NM_NODES: there
     // cannot be so many. NM_NO_MEMORY.
-    void reserve(std::uint64_t keys) {
+    void reserve(std::uint64_t count) {
         sized([=](const detail::Place &to, std::uint64_t *missing) {
-            return nm_pool_reserve(to.pool, keys, to.timeout_ms, missing);
+            return nm_pool_reserve(to.pool, count, to.timeout_ms, missing);
         });
     }
 

@@ -1,0 +1,329 @@
+// Sets whose keys are of another type than std::uint64_t, over nm_set.hpp:
+//
+//     nm::SetOf<std::int64_t> numbers;                       // negative numbers too
+//     numbers.insert(-5);
+//     nm::SetOf<std::pair<nm::Bits<40>, nm::Bits<24>>> due;  // a time, and a number at that time
+//     due.insert({1700000000, 7});
+//
+// `nm::Set` is the set of std::uint64_t. A name of C++ is either a class or a template, so this one
+// is `nm::SetOf`. `nm::KeyOf<T>` maps the values of a type to keys and back, and keeps their order.
+// It is there for integers, enums, std::chrono durations and time points, `nm::Bits`, and pairs of
+// these that have 64 bits together at most. A specialization of `nm::KeyOf` adds a type. Three keys
+// are no keys, 2^64 - 3 and above: so of a type with 64 bits the three greatest values cannot be
+// inserted (NM_KEY), such as INT64_MAX - 2.
+//
+// The mappings are tested by `c/check`, and not proved. At compile time each mapping is checked for
+// some values: they ascend as their keys do, and each comes back.
+#ifndef NM_KEYS_HPP
+#define NM_KEYS_HPP
+
+#include "nm_set.hpp"
+
+#include <array>
+#include <limits>
+
+namespace nm {
+
+// Maps a type T to keys. A specialization has:
+//     static constexpr unsigned bits;                             // keys are below 2^bits
+//     static constexpr std::uint64_t key(const T &) noexcept;     // ascends with the values
+//     static constexpr T value(std::uint64_t) noexcept;           // value(key(x)) == x
+//     static constexpr std::array<T, N> samples;                  // ascending, for the check
+template <typename T, typename = void>
+struct KeyOf;
+
+// A number below 2^bits. Throws NM_KEY for a greater one; in a constant it does not compile.
+template <unsigned bits_>
+class Bits {
+public:
+    static_assert(bits_ >= 1 && bits_ <= 64, "a key has 1 to 64 bits");
+
+    constexpr Bits() noexcept = default;
+
+    template <typename Number, std::enable_if_t<std::is_integral_v<Number>, int> = 0>
+    constexpr Bits(Number number) : number_(static_cast<std::uint64_t>(number)) {
+        if (number < 0 || (bits_ < 64 && number_ >> (bits_ % 64) != 0))
+            throw Fault(NM_KEY, detail::Literal{"the number has more bits than its type"});
+    }
+
+    constexpr operator std::uint64_t() const noexcept { return number_; }
+
+private:
+    std::uint64_t number_ = 0;
+};
+
+namespace detail {
+
+// 2^bits - 1.
+constexpr std::uint64_t mask_of(unsigned bits) noexcept {
+    return bits >= 64 ? UINT64_MAX : (std::uint64_t{1} << bits) - 1;
+}
+
+// Returns whether the samples of a mapping ascend as their keys do, and come back.
+template <typename T>
+constexpr bool keeps_order() {
+    using Map = KeyOf<T>;
+    const auto &samples = Map::samples;
+    for (std::size_t at = 0; at < samples.size(); at++) {
+        std::uint64_t key = Map::key(samples[at]);
+        if (key > mask_of(Map::bits) || !(Map::value(key) == samples[at])) return false;
+        if (at > 0 && !(samples[at - 1] < samples[at] && Map::key(samples[at - 1]) < key))
+            return false;
+    }
+    return samples.size() >= 2;
+}
+
+template <typename T>
+inline constexpr bool is_number = std::is_integral_v<T> && !std::is_same_v<T, bool>;
+
+}  // namespace detail
+
+template <typename T>
+struct KeyOf<T, std::enable_if_t<detail::is_number<T> && std::is_unsigned_v<T>>> {
+    static constexpr unsigned bits = std::numeric_limits<T>::digits;
+    static constexpr std::uint64_t key(T value) noexcept { return value; }
+    static constexpr T value(std::uint64_t key) noexcept { return static_cast<T>(key); }
+    static constexpr std::array<T, 3> samples{0, 1, std::numeric_limits<T>::max()};
+};
+
+// The sign bit is turned: the least number is key 0.
+template <typename T>
+struct KeyOf<T, std::enable_if_t<detail::is_number<T> && std::is_signed_v<T>>> {
+    using Unsigned = std::make_unsigned_t<T>;
+    static constexpr unsigned bits = std::numeric_limits<T>::digits + 1;
+    static constexpr Unsigned sign = static_cast<Unsigned>(Unsigned{1} << (bits - 1));
+    static constexpr std::uint64_t key(T value) noexcept {
+        return static_cast<Unsigned>(static_cast<Unsigned>(value) ^ sign);
+    }
+    static constexpr T value(std::uint64_t key) noexcept {
+        return static_cast<T>(static_cast<Unsigned>(static_cast<Unsigned>(key) ^ sign));
+    }
+    static constexpr std::array<T, 5> samples{std::numeric_limits<T>::min(), -1, 0, 1,
+                                              std::numeric_limits<T>::max()};
+};
+
+template <unsigned bits_>
+struct KeyOf<Bits<bits_>> {
+    static constexpr unsigned bits = bits_;
+    static constexpr std::uint64_t key(Bits<bits_> value) noexcept { return value; }
+    static constexpr Bits<bits_> value(std::uint64_t key) noexcept { return Bits<bits_>(key); }
+    static constexpr std::array<Bits<bits_>, 2> samples{Bits<bits_>(0),
+                                                        Bits<bits_>(detail::mask_of(bits_))};
+};
+
+template <typename T>
+struct KeyOf<T, std::enable_if_t<std::is_enum_v<T>>> {
+    using Number = std::underlying_type_t<T>;
+    using Map = KeyOf<Number>;
+    static constexpr unsigned bits = Map::bits;
+    static constexpr std::uint64_t key(T value) noexcept {
+        return Map::key(static_cast<Number>(value));
+    }
+    static constexpr T value(std::uint64_t key) noexcept {
+        return static_cast<T>(Map::value(key));
+    }
+    static constexpr std::array<T, 2> samples{static_cast<T>(std::numeric_limits<Number>::min()),
+                                              static_cast<T>(std::numeric_limits<Number>::max())};
+};
+
+template <typename Rep, typename Period>
+struct KeyOf<std::chrono::duration<Rep, Period>, std::enable_if_t<detail::is_number<Rep>>> {
+    using T = std::chrono::duration<Rep, Period>;
+    static constexpr unsigned bits = KeyOf<Rep>::bits;
+    static constexpr std::uint64_t key(T value) noexcept { return KeyOf<Rep>::key(value.count()); }
+    static constexpr T value(std::uint64_t key) noexcept { return T(KeyOf<Rep>::value(key)); }
+    static constexpr std::array<T, 3> samples{T::min(), T(1), T::max()};
+};
+
+template <typename Clock, typename Span>
+struct KeyOf<std::chrono::time_point<Clock, Span>, std::void_t<decltype(KeyOf<Span>::bits)>> {
+    using T = std::chrono::time_point<Clock, Span>;
+    static constexpr unsigned bits = KeyOf<Span>::bits;
+    static constexpr std::uint64_t key(T value) noexcept {
+        return KeyOf<Span>::key(value.time_since_epoch());
+    }
+    static constexpr T value(std::uint64_t key) noexcept { return T(KeyOf<Span>::value(key)); }
+    static constexpr std::array<T, 3> samples{T::min(), T(Span(1)), T::max()};
+};
+
+// The first one decides, and then the second one.
+template <typename First, typename Second>
+struct KeyOf<std::pair<First, Second>,
+             std::void_t<decltype(KeyOf<First>::bits + KeyOf<Second>::bits)>> {
+    using T = std::pair<First, Second>;
+    static constexpr unsigned low = KeyOf<Second>::bits;
+    static constexpr unsigned bits = KeyOf<First>::bits + low;
+    static_assert(bits <= 64, "the two types of the pair have more than 64 bits together: "
+                              "nm::Bits<40> is a number of 40 bits");
+    static constexpr std::uint64_t key(const T &value) noexcept {
+        return KeyOf<First>::key(value.first) << low | KeyOf<Second>::key(value.second);
+    }
+    static constexpr T value(std::uint64_t key) noexcept {
+        return {KeyOf<First>::value(key >> low), KeyOf<Second>::value(key & detail::mask_of(low))};
+    }
+    static constexpr T sample(bool first, bool second) noexcept {
+        const auto &one = KeyOf<First>::samples;
+        const auto &two = KeyOf<Second>::samples;
+        return {first ? one.back() : one.front(), second ? two.back() : two.front()};
+    }
+    static constexpr std::array<T, 4> samples{sample(false, false), sample(false, true),
+                                              sample(true, false), sample(true, true)};
+};
+
+// The calls of a set and of a worker for values of a type. Each makes the call of the same name of
+// nm_set.hpp for the key of the value, and throws what that one throws.
+template <typename Of, typename T>
+class ValuesOf {
+public:
+    using Map = KeyOf<T>;
+    using key_type = T;
+    using value_type = T;
+
+    static_assert(detail::keeps_order<T>(), "the mapping of the type does not keep its order");
+
+    // An input iterator over values: see nm::Iterator.
+    template <typename Base>
+    class IteratorOf {
+    public:
+        using iterator_category = std::input_iterator_tag;
+        using value_type = T;
+        using difference_type = std::ptrdiff_t;
+        using pointer = const T *;
+        using reference = T;
+
+        IteratorOf() = default;
+        explicit IteratorOf(Base base) : base_(std::move(base)) {}
+
+        [[nodiscard]] T operator*() const { return Map::value(*base_); }
+        IteratorOf &operator++() {
+            ++base_;
+            return *this;
+        }
+        IteratorOf operator++(int) {
+            IteratorOf before = *this;
+            ++base_;
+            return before;
+        }
+        [[nodiscard]] friend bool operator==(const IteratorOf &one, const IteratorOf &other) {
+            return one.base_ == other.base_;
+        }
+        [[nodiscard]] friend bool operator!=(const IteratorOf &one, const IteratorOf &other) {
+            return !(one == other);
+        }
+
+    private:
+        Base base_;
+    };
+
+    using iterator = IteratorOf<Iterator<Of>>;
+    using reverse_iterator = IteratorOf<Iterator<Of, Order::descending>>;
+
+    bool insert(const T &value) { return of_.insert(Map::key(value)); }
+    bool remove(const T &value) { return of_.remove(Map::key(value)); }
+    [[nodiscard]] bool contains(const T &value) const {
+        std::uint64_t key = Map::key(value);
+        return key <= most_key && of_.contains(key);
+    }
+
+    template <typename Input, typename = typename std::iterator_traits<Input>::iterator_category>
+    std::uint64_t insert(Input first, Input last) {
+        std::uint64_t inserted = 0;
+        for (; first != last; ++first) inserted += insert(*first);
+        return inserted;
+    }
+
+    std::uint64_t insert(std::initializer_list<T> list) {
+        return insert(list.begin(), list.end());
+    }
+
+    [[nodiscard]] iterator lower_bound(const T &value) const {
+        std::uint64_t key = Map::key(value);
+        return key > most_key ? end() : iterator(of_.lower_bound(key));
+    }
+    [[nodiscard]] std::optional<T> at_most(const T &value) const {
+        return value_of(of_.at_most(std::min(Map::key(value), most_key)));
+    }
+
+    [[nodiscard]] iterator begin() const { return iterator(of_.begin()); }
+    [[nodiscard]] iterator end() const noexcept { return iterator(); }
+    [[nodiscard]] reverse_iterator rbegin() const { return reverse_iterator(of_.rbegin()); }
+    [[nodiscard]] reverse_iterator rend() const noexcept { return reverse_iterator(); }
+
+    // Returns the values that are not below `from` and are below `below`, for a range-based `for`.
+    [[nodiscard]] auto range(const T &from, const T &below) const {
+        struct Values {
+            Range<Of> keys;
+            [[nodiscard]] iterator begin() const { return iterator(keys.begin()); }
+            [[nodiscard]] iterator end() const noexcept { return iterator(); }
+            [[nodiscard]] reverse_iterator rbegin() const {
+                return reverse_iterator(keys.rbegin());
+            }
+            [[nodiscard]] reverse_iterator rend() const noexcept { return reverse_iterator(); }
+        };
+        return Values{of_.range(std::min(Map::key(from), most_key), Map::key(below))};
+    }
+
+    [[nodiscard]] std::optional<T> first() const { return value_of(of_.first()); }
+    [[nodiscard]] std::optional<T> last() const { return value_of(of_.last()); }
+    std::optional<T> pop_first() { return value_of(of_.pop_first()); }
+    std::optional<T> pop_last() { return value_of(of_.pop_last()); }
+    std::optional<T> wait_pop(std::chrono::milliseconds most) {
+        return value_of(of_.wait_pop(most));
+    }
+
+    [[nodiscard]] bool empty() const { return of_.empty(); }
+    void clear() { of_.clear(); }
+
+    // Returns the set or the worker of keys, for all other calls.
+    [[nodiscard]] Of &keys() noexcept { return of_; }
+    [[nodiscard]] const Of &keys() const noexcept { return of_; }
+
+    // Returns the value of a key.
+    [[nodiscard]] static std::optional<T> value_of(std::optional<std::uint64_t> key) {
+        return key ? std::optional<T>(Map::value(*key)) : std::nullopt;
+    }
+
+protected:
+    explicit ValuesOf(Of of) : of_(std::move(of)) {}
+
+    Of of_;
+};
+
+// A worker of a set of values.
+template <typename T>
+class WorkerOf : public ValuesOf<Worker, T> {
+public:
+    explicit WorkerOf(Worker worker) : ValuesOf<Worker, T>(std::move(worker)) {}
+    void close() noexcept { this->of_.close(); }
+};
+
+// A set of values: nm::Set with the values of a type. `keys()` has all other calls.
+template <typename T>
+class SetOf : public ValuesOf<Set, T> {
+public:
+    // Makes the empty set, which grows.
+    SetOf() : ValuesOf<Set, T>(Set()) {}
+    explicit SetOf(const Options &options) : ValuesOf<Set, T>(Set(options)) {}
+
+    // Makes the empty set with that many nodes.
+    explicit SetOf(std::uint64_t nodes, const Options &options = {})
+        : ValuesOf<Set, T>(Set(nodes, options)) {}
+
+    [[nodiscard]] WorkerOf<T> attach() { return WorkerOf<T>(this->of_.attach()); }
+    [[nodiscard]] std::uint64_t size() const { return this->of_.size(); }
+    [[nodiscard]] std::uint64_t capacity() const { return this->of_.capacity(); }
+    void reserve(std::uint64_t values) { this->of_.reserve(values); }
+    void shrink_to_fit() { this->of_.shrink_to_fit(); }
+
+    // Ends the set, and returns the values that it had, ascending. Throws what nm::Set::close does.
+    std::vector<T> close() {
+        std::vector<T> values;
+        for (std::uint64_t key : this->of_.close().keys())
+            values.push_back(KeyOf<T>::value(key));
+        return values;
+    }
+};
+
+}  // namespace nm
+
+#endif

@@ -1,0 +1,101 @@
+// Sets of other types than std::uint64_t: each answers like a std::set of that type, and values that
+// are no keys are refused.
+#include "thrown.hpp"
+
+#include "nm_keys.hpp"
+
+#include <cstdio>
+#include <set>
+
+namespace {
+
+enum class Level : std::int8_t { low = -1, middle = 0, high = 1 };
+
+struct Release {
+    std::uint16_t major, minor;
+    friend constexpr bool operator<(Release one, Release other) {
+        return one.major != other.major ? one.major < other.major : one.minor < other.minor;
+    }
+    friend constexpr bool operator==(Release one, Release other) {
+        return one.major == other.major && one.minor == other.minor;
+    }
+};
+
+}  // namespace
+
+// A type of the program's own.
+template <>
+struct nm::KeyOf<Release> {
+    static constexpr unsigned bits = 32;
+    static constexpr std::uint64_t key(Release version) noexcept {
+        return std::uint64_t{version.major} << 16 | version.minor;
+    }
+    static constexpr Release value(std::uint64_t key) noexcept {
+        return {static_cast<std::uint16_t>(key >> 16), static_cast<std::uint16_t>(key)};
+    }
+    static constexpr std::array<Release, 3> samples{Release{0, 9}, Release{1, 0}, Release{1, 2}};
+};
+
+namespace {
+
+// A set of values, and a worker of it, answer like a set of the standard library.
+template <typename T>
+void answers_like(std::initializer_list<T> values) {
+    nm::SetOf<T> set;
+    std::set<T> peer;
+    nm::WorkerOf<T> worker = set.attach();
+    for (const T &value : values) {
+        CHECK(worker.insert(value) == peer.insert(value).second && !set.insert(value));
+        CHECK(set.contains(value) && set.at_most(value) == value);
+        CHECK(*set.lower_bound(value) == value && set.size() == peer.size());
+    }
+    CHECK(std::vector<T>(set.begin(), set.end()) == std::vector<T>(peer.begin(), peer.end()));
+    CHECK(std::vector<T>(set.rbegin(), set.rend()) == std::vector<T>(peer.rbegin(), peer.rend()));
+    for (const T &from : values)
+        for (const T &below : values) {
+            std::vector<T> want, got;
+            for (const T &value : peer)
+                if (!(value < from) && value < below) want.push_back(value);
+            for (T value : set.range(from, below)) got.push_back(value);
+            CHECK(got == want);
+        }
+    CHECK(set.first() == *peer.begin() && set.last() == *peer.rbegin());
+    CHECK(set.pop_first() == *peer.begin() && set.insert(*peer.begin()));
+    CHECK(worker.wait_pop(std::chrono::milliseconds(1)) == *peer.begin());
+    CHECK(worker.pop_last() == *peer.rbegin() && set.remove(*std::next(peer.begin())));
+    worker.close();
+    CHECK(set.close().size() == peer.size() - 3);
+}
+
+void values_that_are_no_keys() {
+    nm::SetOf<std::int64_t> set;
+    CHECK(set.insert({INT64_MIN, -5, 5, INT64_MAX - 3}) == 4);
+    CHECK(thrown([&] { set.insert(INT64_MAX); }) == NM_KEY && !set.contains(INT64_MAX));
+    CHECK(set.at_most(INT64_MAX) == INT64_MAX - 3 && set.lower_bound(INT64_MAX) == set.end());
+    CHECK(thrown([] { nm::Bits<4> more(16); }) == NM_KEY);
+    CHECK(thrown([] { nm::Bits<4> less(-1); }) == NM_KEY && nm::Bits<4>(15) == 15);
+    CHECK(set.keys().contains(0u) && set.keys().waiting() == 0);
+}
+
+}  // namespace
+
+int main() {
+    using Seconds = std::chrono::seconds;
+    using Clock = std::chrono::steady_clock;
+    answers_like<std::int64_t>({5, -7, 0, INT64_MIN, INT64_MAX - 3, -1});
+    answers_like<std::uint64_t>({5, 7, 0, UINT64_MAX - 3, 6, 1u << 31});
+    answers_like<std::int8_t>({5, -7, 0, -128, 127, -1});
+    answers_like<std::uint16_t>({5, 7, 0, 65535, 6});
+    answers_like<std::pair<std::uint32_t, std::uint32_t>>({{1, 2}, {1, 0}, {0, 9}, {7, 0}, {1, 1}});
+    answers_like<std::pair<std::int16_t, std::int8_t>>({{1, -2}, {-1, 0}, {-1, -9}, {7, 0}, {1, 1}});
+    answers_like<std::pair<nm::Bits<40>, nm::Bits<24>>>(
+        {{1700000000, 7}, {1700000000, 6}, {1699999999, 9}, {1800000000, 0}, {5, 1}});
+    answers_like<Level>({Level::middle, Level::high, Level::low, Level(5), Level(-7)});
+    answers_like<Seconds>({Seconds(5), Seconds(-5), Seconds(0), Seconds(77), Seconds(6)});
+    Clock::time_point at(Seconds(100));
+    answers_like<Clock::time_point>(
+        {at, at + Seconds(1), at - Seconds(5), at - Seconds(500), at + Seconds(9)});
+    answers_like<Release>({{1, 2}, {1, 0}, {0, 9}, {7, 0}, {1, 1}});
+    values_that_are_no_keys();
+    std::puts("a set of values answers like std::set");
+}
