@@ -8,4 +8,5 @@ pub mod Workers
 pub mod Notes
 pub mod Lookups
 pub mod NextKeys
+pub mod Scanning
 pub mod Reports

@@ -1,12 +1,12 @@
 -- What a call that finds a key in the order of keys, or pops one, returns and leaves: m is the
 -- worker before the call, n the worker after it, and o the outcome.
-use Rattle.std.specs.Prelude.{◌≡◌, ◌≢◌, ◌<◌, ◌⊎◌, ℕ, Option, Some, None, Result, Ok, Err}
+use Rattle.std.specs.Prelude.{◌≡◌, ◌≢◌, ◌<◌, ◌≤◌, ◌⊎◌, ℕ, Option, Some, None, Result, Ok, Err}
 use Rattle.nm_edge.specs.Keys.{IsKey}
 use Rattle.nm_steps.specs.Steps.{TreeView}
 use Rattle.nm_tree.specs.Workers.{WorkerView}
 use Rattle.nm_set.specs.declared.managed.Options.{Options}
 use Rattle.nm_set.specs.NextKeys.{AskedNext, AskedPrev}
-use Rattle.nm_set.specs.Popping.{SaysManagedPop}
+use Rattle.nm_set.specs.Popping.{SaysManagedPop, SaysManagedPopOf}
 use Rattle.nm_set.specs.Seats.{MemberView}
 use Rattle.nm_calls.specs.declared.fault.CallFault.{CallFault}
 use Rattle.nm_calls.specs.declared.fault.CallFault.TheVariants as fault
@@ -68,9 +68,17 @@ pub record TellsTaken (asked : TreeView → WorkerView → WorkerView → Result
   pub tree : n.tree ≡ m.tree
   pub says : asked m.tree m.worker n.worker answer
 
--- `TellsPopFirst`, `TellsPopLast`: what a caller learns from such a call
+-- `TellsPopFirst`, `TellsPopLast`, `TellsPopFirstBelow`, `TellsPopLastFrom`: what a caller learns from
+-- such a call, of all keys or of those up to a bound
 abbrev pub TellsPopFirst : Options → ℕ → ℕ → MemberView → MemberView → Outcome → Type 0
 TellsPopFirst h = TellsTaken (λ b. SaysManagedPop ◌<◌ b h)
 
 abbrev pub TellsPopLast : Options → ℕ → ℕ → MemberView → MemberView → Outcome → Type 0
 TellsPopLast h = TellsTaken (λ b. SaysManagedPop (λ j key. key < j) b h)
+
+abbrev pub TellsPopFirstBelow : ℕ → Options → ℕ → ℕ → MemberView → MemberView → Outcome → Type 0
+TellsPopFirstBelow below h = TellsTaken (λ b. SaysManagedPopOf (λ j. IsKey j × (j < below)) ◌<◌ b h)
+
+abbrev pub TellsPopLastFrom : ℕ → Options → ℕ → ℕ → MemberView → MemberView → Outcome → Type 0
+TellsPopLastFrom from h =
+    TellsTaken (λ b. SaysManagedPopOf (λ j. IsKey j × (from ≤ j)) (λ j key. key < j) b h)

@@ -25,6 +25,7 @@ mod owner;
 mod place;
 mod popping;
 mod reports;
+mod scanning;
 mod sets;
 mod version;
 mod word;

@@ -11,6 +11,8 @@ mod members;
 #[cfg(test)]
 mod passes;
 #[cfg(test)]
+mod ranges;
+#[cfg(test)]
 mod streams;
 #[cfg(test)]
 mod together;
