@@ -308,10 +308,6 @@ nm_outcome nm_worker_try_contains(nm_handle *worker, uint64_t key, uint32_t trie
  * keys a call are fastest. lookups is not null, even if count is 0. Errors: NM_KEY: one of the
  * numbers is no key. NM_BUSY, NM_PENDING, NM_PINNED, NM_NO_MEMORY. After an error no found is
  * written. */
-nm_outcome nm_worker_scan(nm_handle *worker, uint64_t from, uint64_t below, uint64_t *keys,
-                          size_t room, uint64_t *count, uint64_t *next, uint32_t tries);
-nm_outcome nm_worker_scan_back(nm_handle *worker, uint64_t from, uint64_t least, uint64_t *keys,
-                               size_t room, uint64_t *count, uint64_t *next, uint32_t tries);
 nm_outcome nm_worker_contains_many(nm_handle *worker, nm_lookup *lookups, size_t count,
                                    uint32_t tries);
 
