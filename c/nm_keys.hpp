@@ -267,8 +267,13 @@ public:
     [[nodiscard]] std::optional<T> last() const { return value_of(of_.last()); }
     std::optional<T> pop_first() { return value_of(of_.pop_first()); }
     std::optional<T> pop_last() { return value_of(of_.pop_last()); }
+    std::optional<T> pop_first(const T &below) { return value_of(of_.pop_first(Map::key(below))); }
+    std::optional<T> pop_last(const T &from) { return value_of(of_.pop_last(Map::key(from))); }
     std::optional<T> wait_pop(std::chrono::milliseconds most) {
         return value_of(of_.wait_pop(most));
+    }
+    std::optional<T> wait_pop(const T &below, std::chrono::milliseconds most) {
+        return value_of(of_.wait_pop(Map::key(below), most));
     }
 
     [[nodiscard]] bool empty() const { return of_.empty(); }

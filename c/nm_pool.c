@@ -80,6 +80,7 @@ struct nm_pool {
     atomic_uint opened;       /* above the number of each seat that was ever open */
     atomic_uint awaited;      /* how many inserts have yielded their processors, and how many pops
                                  wait for a key */
+    atomic_uint bounded;      /* how many of these pops wait for a key below a bound */
     atomic_uint added;        /* changes when a key is inserted while a pop waits for one */
     alignas(LINE) nm_handle set;
     nm_handle closed;         /* the handle of each worker in a forked child */
@@ -92,7 +93,7 @@ struct nm_pool {
 /* What a call needs besides its worker. */
 struct request {
     uint64_t key;
-    uint64_t bound; /* of a scan: the other end of its range */
+    uint64_t bound; /* of a scan: the other end of its range; of a pop: the bound of its key */
     uint64_t *found;
     nm_lookup *lookups;
     size_t count;
@@ -245,11 +246,19 @@ static bool sleep_for_key(nm_pool *pool, unsigned added, uint64_t end) {
     return futex(&pool->added, FUTEX_WAIT_PRIVATE, added, &most) == 0 || errno != ETIMEDOUT;
 }
 
+static bool is_bound(uint64_t below) { return below <= MOST_KEY; }
+
 static void no_longer_awaited(void *pool) { atomic_fetch_sub(&((nm_pool *)pool)->awaited, 1); }
+
+static void no_longer_bounded(void *pool) {
+    atomic_fetch_sub(&((nm_pool *)pool)->bounded, 1);
+    no_longer_awaited(pool);
+}
 
 /* After a call: wakes a pop if the call has inserted a key, and yields the processor back. */
 COLD void serve(nm_pool *pool, bool is_inserted) {
-    if (is_inserted) wake_pops(pool, 1);
+    /* A pop that has a bound may not want the key, and then another one may. */
+    if (is_inserted) wake_pops(pool, atomic_load(&pool->bounded) != 0 ? INT_MAX : 1);
     yield_back(pool);
 }
 
@@ -939,6 +948,16 @@ static nm_outcome pop_last(const nm_pool *pool, nm_handle *worker, const struct 
     return nm_worker_pop_last(worker, &pool->options, request->found);
 }
 
+static nm_outcome pop_first_below(const nm_pool *pool, nm_handle *worker,
+                                  const struct request *request) {
+    return nm_worker_pop_first_below(worker, request->bound, &pool->options, request->found);
+}
+
+static nm_outcome pop_last_from(const nm_pool *pool, nm_handle *worker,
+                                const struct request *request) {
+    return nm_worker_pop_last_from(worker, request->bound, &pool->options, request->found);
+}
+
 /* Calls of the library that look for keys, each with a number of tries. */
 typedef nm_outcome (*look_of)(nm_handle *, const struct request *, uint32_t tries);
 
@@ -1028,16 +1047,42 @@ nm_outcome nm_pool_pop_last(nm_pool *pool, uint32_t worker, uint64_t *taken, uin
     return make(pool, worker, pop_last, REMOVES, &request, timeout_ms);
 }
 
-nm_outcome nm_pool_wait_pop(nm_pool *pool, uint32_t worker, uint64_t *taken, uint32_t timeout_ms) {
+nm_outcome nm_pool_pop_first_below(nm_pool *pool, uint32_t worker, uint64_t below,
+                                   uint64_t *taken, uint32_t timeout_ms) {
+    const struct request request = {.bound = below, .found = taken};
+    return make(pool, worker, pop_first_below, REMOVES, &request, timeout_ms);
+}
+
+nm_outcome nm_pool_pop_last_from(nm_pool *pool, uint32_t worker, uint64_t from, uint64_t *taken,
+                                 uint32_t timeout_ms) {
+    const struct request request = {.bound = from, .found = taken};
+    return make(pool, worker, pop_last_from, REMOVES, &request, timeout_ms);
+}
+
+nm_outcome nm_pool_pop_first_many(nm_pool *pool, uint32_t worker, uint64_t below, uint64_t *keys,
+                                  size_t room, size_t *count, uint32_t timeout_ms) {
+    size_t taken = 0;
+    nm_outcome outcome = NM_YES;
+    while (outcome == NM_YES && taken < room) {
+        outcome = nm_pool_pop_first_below(pool, worker, below, &keys[taken], timeout_ms);
+        taken += outcome == NM_YES || outcome == NM_UNFINISHED;
+    }
+    *count = taken;
+    return taken != 0 || outcome >= 0 ? NM_DONE : outcome;
+}
+
+nm_outcome nm_pool_wait_pop(nm_pool *pool, uint32_t worker, uint64_t below, uint64_t *taken,
+                            uint32_t timeout_ms) {
     uint64_t end = now() + (uint64_t)timeout_ms * 1000000u;
-    nm_outcome outcome = nm_pool_pop_first(pool, worker, taken, timeout_ms);
+    nm_outcome outcome = nm_pool_pop_first_below(pool, worker, below, taken, timeout_ms);
     if (outcome != NM_NO || timeout_ms == 0) return outcome;
     atomic_fetch_add(&pool->awaited, 1);
-    pthread_cleanup_push(no_longer_awaited, pool);
+    atomic_fetch_add(&pool->bounded, is_bound(below));
+    pthread_cleanup_push(is_bound(below) ? no_longer_bounded : no_longer_awaited, pool);
     unsigned added;
     do {
         added = atomic_load(&pool->added);
-        outcome = nm_pool_pop_first(pool, worker, taken, timeout_ms);
+        outcome = nm_pool_pop_first_below(pool, worker, below, taken, timeout_ms);
     } while (outcome == NM_NO && sleep_for_key(pool, added, end));
     pthread_cleanup_pop(1);
     return outcome;

@@ -158,11 +158,27 @@ nm_outcome nm_pool_pop_first(nm_pool *pool, uint32_t worker, uint64_t *taken, ui
 /* Removes the greatest key and writes it, in the same way. */
 nm_outcome nm_pool_pop_last(nm_pool *pool, uint32_t worker, uint64_t *taken, uint32_t timeout_ms);
 
-/* Removes the least key like nm_pool_pop_first. If the set is empty, it waits for a key, for at most
- * timeout_ms milliseconds in all, and sleeps meanwhile. An insert that returns NM_YES wakes it.
- * Tested: no wake is lost. NM_NO after that time. NM_CLOSED if the set is closed meanwhile. While no
- * call waits here, this costs other calls nothing. A sleep here is no cancellation point. */
-nm_outcome nm_pool_wait_pop(nm_pool *pool, uint32_t worker, uint64_t *taken, uint32_t timeout_ms);
+/* Removes the least key if it is below a bound, and writes it. NM_NO: no key is below the bound. */
+nm_outcome nm_pool_pop_first_below(nm_pool *pool, uint32_t worker, uint64_t below,
+                                   uint64_t *taken, uint32_t timeout_ms);
+
+/* Removes the greatest key if it is not below a bound, and writes it. */
+nm_outcome nm_pool_pop_last_from(nm_pool *pool, uint32_t worker, uint64_t from, uint64_t *taken,
+                                 uint32_t timeout_ms);
+
+/* Removes the least keys that are below a bound, one by one and at most `room`, and writes them to
+ * keys and their number to count. NM_DONE, also if no key is below the bound. It returns an error
+ * only if it has removed no key. */
+nm_outcome nm_pool_pop_first_many(nm_pool *pool, uint32_t worker, uint64_t below, uint64_t *keys,
+                                  size_t room, size_t *count, uint32_t timeout_ms);
+
+/* Removes the least key like nm_pool_pop_first_below; a bound of UINT64_MAX is none. If no key is
+ * below the bound, it waits for one, for at most timeout_ms milliseconds in all, and sleeps
+ * meanwhile. An insert that returns NM_YES wakes it. Tested: no wake is lost. NM_NO after that time.
+ * NM_CLOSED if the set is closed meanwhile. While no call waits here, this costs other calls
+ * nothing. A sleep here is no cancellation point. */
+nm_outcome nm_pool_wait_pop(nm_pool *pool, uint32_t worker, uint64_t below, uint64_t *taken,
+                            uint32_t timeout_ms);
 
 /* Finds the least key that is not below key: NM_YES and it is written to found, or NM_NO. */
 nm_outcome nm_pool_next(nm_pool *pool, uint32_t worker, uint64_t key, uint64_t *found,

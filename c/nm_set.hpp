@@ -461,13 +461,48 @@ public:
     // Removes the greatest key and returns it, in the same way.
     std::optional<std::uint64_t> pop_last() { return pop(nm_pool_pop_last); }
 
+    // Removes the least key if it is below a bound, and returns it, or nothing if none is.
+    std::optional<std::uint64_t> pop_first(Key below) {
+        std::uint64_t bound = below;
+        return pop([=](nm_pool *pool, std::uint32_t worker, std::uint64_t *taken, std::uint32_t ms) {
+            return nm_pool_pop_first_below(pool, worker, bound, taken, ms);
+        });
+    }
+
+    // Removes the greatest key if it is not below a bound, and returns it, or nothing if each is.
+    std::optional<std::uint64_t> pop_last(Key from) {
+        std::uint64_t bound = from;
+        return pop([=](nm_pool *pool, std::uint32_t worker, std::uint64_t *taken, std::uint32_t ms) {
+            return nm_pool_pop_last_from(pool, worker, bound, taken, ms);
+        });
+    }
+
+    // Removes the least keys that are below a bound, one by one and at most `room`, and returns them.
+    // It throws a fault only if it has removed no key.
+    std::vector<std::uint64_t> pop_first_many(Key below, std::size_t room) {
+        std::vector<std::uint64_t> keys(room);
+        std::size_t count = 0;
+        done([&](const detail::Place &to) {
+            return nm_pool_pop_first_many(to.pool, to.worker, below, keys.data(), room, &count,
+                                          to.timeout_ms);
+        });
+        keys.resize(count);
+        return keys;
+    }
+
     // Removes the least key and returns it, like `pop_first`. If the set is empty it waits for a key,
     // for `most` at most, and sleeps meanwhile: an insert wakes it. Returns nothing after that time.
     // Throws NM_CLOSED if the set is closed meanwhile.
     std::optional<std::uint64_t> wait_pop(std::chrono::milliseconds most) {
+        return wait_pop(UINT64_MAX, most);
+    }
+
+    // Does the same with the least key below a bound.
+    std::optional<std::uint64_t> wait_pop(Key below, std::chrono::milliseconds most) {
+        std::uint64_t bound = below;
         std::uint32_t timeout_ms = detail::millis(most);
         return pop([=](nm_pool *pool, std::uint32_t worker, std::uint64_t *taken, std::uint32_t) {
-            return nm_pool_wait_pop(pool, worker, taken, timeout_ms);
+            return nm_pool_wait_pop(pool, worker, bound, taken, timeout_ms);
         });
     }
 

@@ -28,6 +28,34 @@ void a_wait_ends_after_its_time() {
     CHECK(set.wait_pop(long_time) == 5 && set.wait_pop(milliseconds(0)) == 7);
 }
 
+// A pop takes a key below its bound alone, and a wait ends by such a key alone. While one thread
+// waits for any key and another one for a lesser one, each key wakes the thread that wants it.
+void bounds_are_kept() {
+    nm::Set set;
+    set.insert({10u, 20u, 30u, 40u});
+    CHECK(!set.pop_first(10u) && set.pop_first(11u) == 10 && !set.pop_last(41u));
+    CHECK(set.pop_last(40u) == 40 && !set.wait_pop(20u, milliseconds(20)));
+    CHECK(set.pop_first_many(30u, 5) == std::vector<std::uint64_t>{20});
+    CHECK(set.pop_first_many(31u, 0).empty() && set.pop_first_many(31u, 5).size() == 1);
+    for (std::uint64_t round = 0; round < 500; round++) {
+        std::optional<std::uint64_t> lesser;
+        std::thread small([&] { lesser = set.wait_pop(100u, long_time); });
+        std::thread large([&] { CHECK(set.wait_pop(long_time) == (round % 2 ? 700 : 7)); });
+        if (round % 2) {
+            set.insert(700u);
+            large.join();
+            set.insert(7u);
+        } else {
+            set.insert(7u);
+            while (!set.empty()) std::this_thread::yield();
+            set.insert(7u);
+            large.join();
+        }
+        small.join();
+        CHECK(lesser == 7);
+    }
+}
+
 // One thread inserts keys, one by one, each after the last one was taken: each wakes the other.
 template <typename Of>
 void no_wake_is_lost(nm::Set &set, Of &taker) {
@@ -92,6 +120,7 @@ void waits_go_on_across_a_new_size() {
 
 int main() {
     a_wait_ends_after_its_time();
+    bounds_are_kept();
     nm::Set set(64);
     no_wake_is_lost(set, set);
     nm::Worker worker = set.attach();

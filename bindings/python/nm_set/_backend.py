@@ -11,6 +11,7 @@ from ._faults import fault_at, key_fault
 
 # The functions that those in C call, in the order in which `bind` takes them.
 _IN_C = ("contains", "insert", "remove", "pop_first", "pop_last", "next", "prev")
+_IN_C += ("pop_first_below", "pop_last_from", "pop_first_many")
 _IN_C += ("scan", "scan_back", "count", "contains_many", "insert_many", "remove_many", "size")
 
 if TYPE_CHECKING or os.environ.get("NM_SET_PURE"):

@@ -39,8 +39,8 @@ def waited(call: Callable[[Any, int], int], timeout_ms: int) -> int:
     return outcome
 
 
-def popped_within(pool: c_void_p, worker: c_uint32, end: float) -> Optional[int]:
-    """Removes the least key and returns it, or None if no key comes until some time of
+def popped_within(pool: c_void_p, worker: c_uint32, below: int, end: float) -> Optional[int]:
+    """Removes the least key below a bound and returns it, or None if none comes until some time of
     `time.monotonic`. It waits in parts, in which other threads of Python run."""
     taken, outcome = c_uint64(), c.NO
     while outcome == c.NO or outcome in c.WAITED:
@@ -48,7 +48,7 @@ def popped_within(pool: c_void_p, worker: c_uint32, end: float) -> Optional[int]
         if left <= 0:
             break
         part = _PART if left * 1_000 >= _PART else int(left * 1_000) + 1
-        outcome = c.exports.nm_pool_wait_pop(pool, worker, taken, part)
+        outcome = c.exports.nm_pool_wait_pop(pool, worker, below, taken, part)
     if outcome < 0 and outcome != c.UNFINISHED:
         raise fault_at(outcome, pool, worker.value)
     return None if outcome == c.NO else taken.value
@@ -117,11 +117,11 @@ class Calls:
         self._answered(self._outcome("nm_pool_count", first, below, count))
         return count.value
 
-    def _taken(self, name: str) -> Optional[int]:
+    def _taken(self, name: str, *bounds: int) -> Optional[int]:
         """Removes a key by a call of the pool, and returns it. It returns a key whose discard is
         unfinished too: this call will remove it, and no other call will."""
         taken = c_uint64()
-        outcome = self._outcome(name, taken)
+        outcome = self._outcome(name, *bounds, taken)
         return taken.value if outcome == c.UNFINISHED or self._answered(outcome) else None
 
     def pop_first(self) -> Optional[int]:
@@ -129,6 +129,18 @@ class Calls:
 
     def pop_last(self) -> Optional[int]:
         return self._taken("nm_pool_pop_last")
+
+    def pop_first_below(self, below: int) -> Optional[int]:
+        return self._taken("nm_pool_pop_first_below", below)
+
+    def pop_last_from(self, least: int) -> Optional[int]:
+        return self._taken("nm_pool_pop_last_from", least)
+
+    def pop_some(self, below: int, room: int) -> list[int]:
+        """Removes the least keys below a bound, at most `room`, and returns them."""
+        keys, count = (c_uint64 * room)(), c_size_t()
+        self._answered(self._outcome("nm_pool_pop_first_many", below, keys, room, count))
+        return list(keys[: count.value])
 
     def contains_some(self, keys: memoryview, first: int, found: memoryview) -> int:
         """Looks up some of these keys, from an index on, and writes 1 or 0 for each. Returns how

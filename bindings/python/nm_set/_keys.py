@@ -23,6 +23,7 @@ from ._faults import MOST_KEY, SHOWN, Closed, fault, key_fault, shortened
 _T = TypeVar("_T")
 _Out = TypeVar("_Out", bound=Sized)  # a buffer, for which Python has a type only from 3.12 on
 _UNSIGNED, _SIGNED = frozenset("QLN"), frozenset("qln")  # the formats of words of 64 bits
+_NO_BOUND = 2**64 - 1  # above each key
 _FIRST_ROOM, _MOST_ROOM = 8, 512  # how many keys the first scan and the last scans of a loop read
 
 
@@ -85,6 +86,17 @@ def _copied(keys: Iterable[SupportsIndex]) -> memoryview:
             yield number
 
     return memoryview(array("Q", each()))
+
+
+def _bound(number: SupportsIndex) -> int:
+    """Returns a bound of keys as the library takes it."""
+    return min(max(operator.index(number), 0), _NO_BOUND)
+
+
+def _popped(key: Optional[int]) -> int:
+    if key is None:
+        raise KeyError("there is no key to pop")
+    return int(key)
 
 
 def _ends(
@@ -264,31 +276,40 @@ class Keys(MutableSet):  # type: ignore[type-arg]
         """Returns the greatest key, or None if the set is empty."""
         return self.at_most(MOST_KEY)
 
-    def _pop(self, name: str) -> int:
-        key = getattr(self._calls, name)()
-        if key is None:
-            raise KeyError("pop from an empty set")
-        return int(key)
+    def pop_first(self, below: Optional[SupportsIndex] = None) -> int:
+        """Removes the least key and returns it: of all keys, or of those below a bound. Raises
+        KeyError if there is none. No two calls return one key, unless it was added again in
+        between. No call passes over a key that was in the set during the whole call."""
+        if below is None:
+            return _popped(self._calls.pop_first())
+        return _popped(self._calls.pop_first_below(_bound(below)))
 
-    def pop_first(self) -> int:
-        """Removes the least key and returns it. Raises KeyError if the set is empty. No two calls
-        return one key, unless it was added again in between. No call passes over a key that was in
-        the set during the whole call."""
-        return self._pop("pop_first")
+    def pop_last(self, minimum: Optional[SupportsIndex] = None) -> int:
+        """Removes the greatest key and returns it, in the way of `pop_first`: of all keys, or of
+        those that are not below `minimum`."""
+        if minimum is None:
+            return _popped(self._calls.pop_last())
+        return _popped(self._calls.pop_last_from(_bound(minimum)))
 
-    def pop_last(self) -> int:
-        """Removes the greatest key and returns it, in the way of `pop_first`."""
-        return self._pop("pop_last")
+    def pop_first_many(self, count: int, below: Optional[SupportsIndex] = None) -> list[int]:
+        """Removes the least keys one by one, at most `count` and 512, and returns them: of all
+        keys, or of those below a bound. It raises only if it has removed no key."""
+        bound = _bound(below) if below is not None else _NO_BOUND
+        return self._calls.pop_some(bound, min(count, _MOST_ROOM)) if count > 0 else []
 
-    def wait_pop(self, timeout: Optional[float] = None) -> int:
-        """Removes the least key and returns it. If the set is empty it waits for a key: for
-        `timeout` seconds, or without an end if no time is given. An add wakes it. Other threads run
-        meanwhile, and the handlers of signals every 20 milliseconds. Raises KeyError after that
-        time, and `Closed` if the set is closed meanwhile."""
-        key = self._calls.pop_first()
+    def wait_pop(
+        self, timeout: Optional[float] = None, below: Optional[SupportsIndex] = None
+    ) -> int:
+        """Removes the least key and returns it: of all keys, or of those below a bound. If there is
+        none it waits for a key: for `timeout` seconds, or without an end if no time is given. An
+        add wakes it. Other threads run meanwhile, and the handlers of signals every 20
+        milliseconds. Raises KeyError after that time, and `Closed` if the set is closed meanwhile.
+        """
+        bound = _bound(below) if below is not None else _NO_BOUND
+        key = self._calls.pop_first_below(bound)
         if key is None:
             end = math.inf if timeout is None else time.monotonic() + timeout
-            key = popped_within(self._pool, self._cell, end)
+            key = popped_within(self._pool, self._cell, bound, end)
         if key is None:
             raise KeyError("no key was added in time")
         return int(key)

@@ -21,6 +21,8 @@
 
 typedef nm_outcome (*key_call)(nm_pool *, uint32_t, uint64_t, uint32_t);
 typedef nm_outcome (*pop_call)(nm_pool *, uint32_t, uint64_t *, uint32_t);
+typedef nm_outcome (*pop_many_call)(nm_pool *, uint32_t, uint64_t, uint64_t *, size_t, size_t *,
+                                    uint32_t);
 typedef nm_outcome (*near_call)(nm_pool *, uint32_t, uint64_t, uint64_t *, uint32_t);
 typedef nm_outcome (*scan_call)(nm_pool *, uint32_t, uint64_t, uint64_t, uint64_t *, size_t,
                                 size_t *, uint64_t *, uint32_t);
@@ -32,7 +34,8 @@ typedef nm_outcome (*size_call)(nm_pool *, uint64_t *);
 
 static key_call contains_of, insert_of, remove_of;
 static pop_call pop_first_of, pop_last_of;
-static near_call next_of, prev_of;
+static near_call next_of, prev_of, pop_first_below_of, pop_last_from_of;
+static pop_many_call pop_first_many_of;
 static scan_call scan_of, scan_back_of;
 static count_call count_of;
 static many_call contains_many_of;
@@ -109,6 +112,7 @@ typedef struct {
     pop_call pop;
     scan_call scan;
     count_call count;
+    pop_many_call pop_many;
     uint64_t key, below, found;
     uint64_t *keys;
     size_t room, written;
@@ -124,6 +128,10 @@ static nm_outcome make(Calls *self, Call *call, uint32_t timeout_ms) {
     if (call->scan) {
         return call->scan(pool_of(self), worker_of(self), call->key, call->below, call->keys,
                           call->room, &call->written, &call->found, timeout_ms);
+    }
+    if (call->pop_many) {
+        return call->pop_many(pool_of(self), worker_of(self), call->below, call->keys, call->room,
+                              &call->written, timeout_ms);
     }
     if (call->count) {
         return call->count(pool_of(self), worker_of(self), call->key, call->below, &call->found,
@@ -244,6 +252,20 @@ static PyObject *calls_pop_last(PyObject *self, PyObject *unused) {
     return found_by((Calls *)self, &call);
 }
 
+/* Makes a call that removes a key on one side of a bound, which is a number below 2^64. */
+static PyObject *pop_by(PyObject *self, PyObject *bound, near_call pop) {
+    Call call = {.near = pop, .key = PyLong_AsUnsignedLongLong(bound)};
+    return PyErr_Occurred() ? NULL : found_by((Calls *)self, &call);
+}
+
+static PyObject *calls_pop_first_below(PyObject *self, PyObject *below) {
+    return pop_by(self, below, pop_first_below_of);
+}
+
+static PyObject *calls_pop_last_from(PyObject *self, PyObject *least) {
+    return pop_by(self, least, pop_last_from_of);
+}
+
 static PyObject *calls_keys(PyObject *object, PyObject *unused) {
     Calls *self = (Calls *)object;
     uint64_t keys = 0;
@@ -292,6 +314,23 @@ static PyObject *calls_scan(PyObject *object, PyObject *args) {
     }
     return outcome == NM_YES ? Py_BuildValue("NK", list, (unsigned long long)call.found)
                              : Py_BuildValue("NO", list, Py_None);
+}
+
+static PyObject *calls_pop_some(PyObject *object, PyObject *args) {
+    Calls *self = (Calls *)object;
+    unsigned long long below;
+    Py_ssize_t room;
+    nm_outcome outcome;
+    uint64_t keys[SCANNED];
+    if (!PyArg_ParseTuple(args, "Kn", &below, &room)) {
+        return NULL;
+    }
+    Call call = {.pop_many = pop_first_many_of, .below = below, .keys = keys};
+    call.room = room > 0 && room < SCANNED ? (size_t)room : SCANNED;
+    if (made_apart(self, &call, &outcome) < 0) {
+        return NULL;
+    }
+    return outcome < 0 ? raise_fault(self, outcome) : list_of(&call);
 }
 
 static PyObject *calls_count(PyObject *object, PyObject *args) {
@@ -540,6 +579,9 @@ static PyMethodDef calls_methods[] = {
     {"at_most", calls_at_most, METH_O, NULL},
     {"pop_first", calls_pop_first, METH_NOARGS, NULL},
     {"pop_last", calls_pop_last, METH_NOARGS, NULL},
+    {"pop_first_below", calls_pop_first_below, METH_O, NULL},
+    {"pop_last_from", calls_pop_last_from, METH_O, NULL},
+    {"pop_some", calls_pop_some, METH_VARARGS, NULL},
     {"scan", calls_scan, METH_VARARGS, NULL},
     {"count", calls_count, METH_VARARGS, NULL},
     {"contains_some", calls_contains_some, METH_VARARGS, NULL},
@@ -596,10 +638,12 @@ static PyObject *answers(PyObject *module, PyObject *object) {
 /* Stores the addresses of the library's functions, and the functions that make the exceptions. */
 static PyObject *bind(PyObject *module, PyObject *args) {
     unsigned long long contains, insert, remove, pop_first, pop_last, next, prev;
+    unsigned long long pop_first_below, pop_last_from, pop_first_many;
     unsigned long long scan, scan_back, count, many, insert_many, remove_many, size;
     (void)module;
-    if (!PyArg_ParseTuple(args, "KKKKKKKKKKKKKKOO", &contains, &insert, &remove, &pop_first,
-                          &pop_last, &next, &prev, &scan, &scan_back, &count, &many,
+    if (!PyArg_ParseTuple(args, "KKKKKKKKKKKKKKKKKOO", &contains, &insert, &remove, &pop_first,
+                          &pop_last, &next, &prev, &pop_first_below, &pop_last_from,
+                          &pop_first_many, &scan, &scan_back, &count, &many,
                           &insert_many, &remove_many, &size, &fault_of, &key_fault_of)) {
         return NULL;
     }
@@ -610,6 +654,9 @@ static PyObject *bind(PyObject *module, PyObject *args) {
     pop_last_of = (pop_call)(uintptr_t)pop_last;
     next_of = (near_call)(uintptr_t)next;
     prev_of = (near_call)(uintptr_t)prev;
+    pop_first_below_of = (near_call)(uintptr_t)pop_first_below;
+    pop_last_from_of = (near_call)(uintptr_t)pop_last_from;
+    pop_first_many_of = (pop_many_call)(uintptr_t)pop_first_many;
     scan_of = (scan_call)(uintptr_t)scan;
     scan_back_of = (scan_call)(uintptr_t)scan_back;
     count_of = (count_call)(uintptr_t)count;

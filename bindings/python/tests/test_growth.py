@@ -96,6 +96,13 @@ class Waits(unittest.TestCase):
     def test_a_take_waits_for_its_time(self) -> None:
         with Set([7, 5]) as numbers, numbers.attach() as worker:
             self.assertEqual((numbers.wait_pop(0), worker.wait_pop()), (5, 7))
+            numbers.update((10, 20, 30, 40))
+            self.assertEqual((numbers.pop_first(below=11), worker.pop_last(minimum=40)), (10, 40))
+            self.assertEqual(numbers.pop_first_many(9, below=30), [20])
+            self.assertEqual((worker.pop_first_many(0), worker.wait_pop(0, below=31)), ([], 30))
+            for call in (numbers.pop_first, numbers.pop_last):
+                self.assertRaises(KeyError, call, 5)
+            self.assertRaises(KeyError, numbers.wait_pop, 0.01, below=3)
             for own in (numbers, worker):
                 begun = time.monotonic()
                 with self.assertRaisesRegex(KeyError, "no key was added in time"):

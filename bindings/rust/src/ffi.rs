@@ -132,7 +132,36 @@ extern "C" {
     fn nm_pool_remove(pool: *mut RawPool, worker: u32, key: u64, timeout_ms: u32) -> c_int;
     fn nm_pool_pop_first(pool: *mut RawPool, worker: u32, taken: *mut u64, ms: u32) -> c_int;
     fn nm_pool_pop_last(pool: *mut RawPool, worker: u32, taken: *mut u64, ms: u32) -> c_int;
-    fn nm_pool_wait_pop(pool: *mut RawPool, worker: u32, taken: *mut u64, ms: u32) -> c_int;
+    fn nm_pool_pop_first_below(
+        pool: *mut RawPool,
+        worker: u32,
+        below: u64,
+        taken: *mut u64,
+        timeout_ms: u32,
+    ) -> c_int;
+    fn nm_pool_pop_last_from(
+        pool: *mut RawPool,
+        worker: u32,
+        from: u64,
+        taken: *mut u64,
+        timeout_ms: u32,
+    ) -> c_int;
+    fn nm_pool_pop_first_many(
+        pool: *mut RawPool,
+        worker: u32,
+        below: u64,
+        keys: *mut u64,
+        room: usize,
+        count: *mut usize,
+        timeout_ms: u32,
+    ) -> c_int;
+    fn nm_pool_wait_pop(
+        pool: *mut RawPool,
+        worker: u32,
+        below: u64,
+        taken: *mut u64,
+        timeout_ms: u32,
+    ) -> c_int;
     fn nm_pool_next(pool: *mut RawPool, worker: u32, key: u64, found: *mut u64, ms: u32) -> c_int;
     fn nm_pool_prev(pool: *mut RawPool, worker: u32, key: u64, found: *mut u64, ms: u32) -> c_int;
     fn nm_pool_contains_many(
@@ -317,7 +346,13 @@ impl Pool {
         remove = nm_pool_remove(worker: u32, key: u64, timeout_ms: u32);
         pop_first = nm_pool_pop_first(worker: u32, taken: &mut u64, timeout_ms: u32);
         pop_last = nm_pool_pop_last(worker: u32, taken: &mut u64, timeout_ms: u32);
-        wait_pop = nm_pool_wait_pop(worker: u32, taken: &mut u64, timeout_ms: u32);
+        pop_first_below = nm_pool_pop_first_below(
+            worker: u32, below: u64, taken: &mut u64, timeout_ms: u32
+        );
+        pop_last_from = nm_pool_pop_last_from(
+            worker: u32, from: u64, taken: &mut u64, timeout_ms: u32
+        );
+        wait_pop = nm_pool_wait_pop(worker: u32, below: u64, taken: &mut u64, timeout_ms: u32);
         reserve = nm_pool_reserve(keys: u64, timeout_ms: u32, missing: &mut u64);
         shrink_to_fit = nm_pool_shrink_to_fit(timeout_ms: u32, missing: &mut u64);
         next = nm_pool_next(worker: u32, key: u64, found: &mut u64, timeout_ms: u32);
@@ -392,6 +427,24 @@ impl Pool {
                 pool, worker, from, below, first, room, count, next, timeout_ms,
             )
         }
+    }
+
+    /// Removes the least keys below a bound, as many as there is room for. Returns the outcome, and
+    /// the number of keys.
+    pub(crate) fn pop_first_many(
+        &self,
+        worker: u32,
+        below: u64,
+        keys: &mut [u64],
+        timeout_ms: u32,
+    ) -> (Outcome, usize) {
+        let (first, room, mut count) = (keys.as_mut_ptr(), keys.len(), 0);
+        let pool = self.0.as_ptr();
+        // SAFETY: the pool exists as long as `self`. The slice is borrowed for this call alone.
+        let outcome = unsafe {
+            nm_pool_pop_first_many(pool, worker, below, first, room, &mut count, timeout_ms)
+        };
+        (outcome, count)
     }
 
     /// Looks up several keys.

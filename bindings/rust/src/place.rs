@@ -235,9 +235,27 @@ impl Place<'_> {
         self.taken(Pool::pop_last)
     }
 
-    pub fn wait_pop(&self, timeout: Duration) -> Result<Option<u64>, Fault> {
+    pub fn pop_first_below(&self, below: u64) -> Result<Option<u64>, Fault> {
+        self.taken(|pool, worker, taken, ms| pool.pop_first_below(worker, below, taken, ms))
+    }
+
+    pub fn pop_last_from(&self, from: u64) -> Result<Option<u64>, Fault> {
+        self.taken(|pool, worker, taken, ms| pool.pop_last_from(worker, from, taken, ms))
+    }
+
+    pub fn pop_first_many(&self, below: u64, room: usize) -> Result<Vec<u64>, Fault> {
+        let mut keys = vec![0; room];
+        let Shared {
+            pool, timeout_ms, ..
+        } = self.shared;
+        let (outcome, count) = pool.pop_first_many(self.worker, below, &mut keys, *timeout_ms);
+        keys.truncate(count);
+        self.answer(outcome).map(|_| keys)
+    }
+
+    pub fn wait_pop(&self, below: u64, timeout: Duration) -> Result<Option<u64>, Fault> {
         let most = millis(timeout);
-        self.taken(|pool, worker, taken, _| pool.wait_pop(worker, taken, most))
+        self.taken(|pool, worker, taken, _| pool.wait_pop(worker, below, taken, most))
     }
 
     /// Removes a key, and returns it. It returns a key whose remove is unfinished too, because this

@@ -232,7 +232,38 @@ impl Set {
     /// # }
     /// ```
     pub fn wait_pop(&self, timeout: Duration) -> Result<Option<u64>, Fault> {
-        self.place().wait_pop(timeout)
+        self.place().wait_pop(u64::MAX, timeout)
+    }
+
+    /// Does the same as [`wait_pop`](Set::wait_pop), with the least key that is below a bound.
+    pub fn wait_pop_below(&self, below: u64, timeout: Duration) -> Result<Option<u64>, Fault> {
+        self.place().wait_pop(below, timeout)
+    }
+
+    /// Removes the least key if it is below a bound, and returns it, or None if none is.
+    ///
+    /// ```
+    /// # fn main() -> Result<(), nm_set::Fault> {
+    /// let due = nm_set::Set::from([10, 20, 30]);
+    /// assert_eq!(due.pop_first_below(15)?, Some(10));
+    /// assert_eq!(due.pop_first_below(15)?, None);
+    /// assert_eq!(due.pop_first_many(100, 64)?, [20, 30]);
+    /// # Ok(())
+    /// # }
+    /// ```
+    pub fn pop_first_below(&self, below: u64) -> Result<Option<u64>, Fault> {
+        self.place().pop_first_below(below)
+    }
+
+    /// Removes the greatest key if it is not below a bound, and returns it, or None if each is.
+    pub fn pop_last_from(&self, from: u64) -> Result<Option<u64>, Fault> {
+        self.place().pop_last_from(from)
+    }
+
+    /// Removes the least keys that are below a bound, one by one and at most `room`, and returns
+    /// them. It returns a fault only if it has removed no key.
+    pub fn pop_first_many(&self, below: u64, room: usize) -> Result<Vec<u64>, Fault> {
+        self.place().pop_first_many(below, room)
     }
 
     /// Returns an iterator over the keys of a range, while the set is in use. It reads keys ahead,

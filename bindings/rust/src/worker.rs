@@ -198,7 +198,27 @@ impl Worker {
     /// Removes the least key and returns it, after a wait for one of at most `timeout`: see
     /// [`Set::wait_pop`].
     pub fn wait_pop(&mut self, timeout: Duration) -> Result<Option<u64>, Fault> {
-        self.place().wait_pop(timeout)
+        self.place().wait_pop(u64::MAX, timeout)
+    }
+
+    /// Waits for a key below a bound: see [`Set::wait_pop_below`].
+    pub fn wait_pop_below(&mut self, below: u64, timeout: Duration) -> Result<Option<u64>, Fault> {
+        self.place().wait_pop(below, timeout)
+    }
+
+    /// Removes the least key if it is below a bound: see [`Set::pop_first_below`].
+    pub fn pop_first_below(&mut self, below: u64) -> Result<Option<u64>, Fault> {
+        self.place().pop_first_below(below)
+    }
+
+    /// Removes the greatest key if it is not below a bound: see [`Set::pop_last_from`].
+    pub fn pop_last_from(&mut self, from: u64) -> Result<Option<u64>, Fault> {
+        self.place().pop_last_from(from)
+    }
+
+    /// Removes the least keys that are below a bound: see [`Set::pop_first_many`].
+    pub fn pop_first_many(&mut self, below: u64, room: usize) -> Result<Vec<u64>, Fault> {
+        self.place().pop_first_many(below, room)
     }
 
     /// Returns an iterator over the keys of a range, in both directions: see [`Set::range`].
