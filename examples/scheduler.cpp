@@ -28,16 +28,15 @@ class Scheduler {
     }
 
     // Returns false if the task has begun or ended; otherwise it will not run.
-    bool cancel(std::uint64_t key) { return take(key) != nullptr; }
+    bool cancel(std::uint64_t key) { return due_.remove(key) && task_of(key) != nullptr; }
 
     // Runs tasks that are due, until the shutdown. Several threads may call this.
     void work() {
         while (!is_closing_) {
-            auto first = due_.first();
-            if (!first || *first >> number_bits > now())
+            if (auto key = due_.pop_first((now() + 1) << number_bits))
+                task_of(*key)();
+            else
                 std::this_thread::sleep_for(std::chrono::microseconds(200));
-            else if (Task task = take(*first))
-                task();  // otherwise another worker has taken it, or it was cancelled
         }
     }
 
@@ -56,9 +55,8 @@ class Scheduler {
         return std::uint64_t(time / std::chrono::microseconds(1));
     }
 
-    // Removes a key, and returns its task if it was this thread that removed it.
-    Task take(std::uint64_t key) {
-        if (!due_.remove(key)) return nullptr;
+    // Takes the task of a key that this thread has removed.
+    Task task_of(std::uint64_t key) {
         return std::exchange(tasks_[key % (std::uint64_t(1) << number_bits)], nullptr);
     }
 

@@ -38,18 +38,19 @@ class Scheduler:
 
     def cancel(self, key: int) -> bool:
         """Returns False if the task has begun or ended; otherwise it will not run."""
-        return self._take(key) is not None
+        return self._due.discard(key) and self._tasks.pop(key) is not None
 
     def work(self) -> int:
         """Runs tasks that are due, until the shutdown, and returns how many. Several threads may
         call it."""
         ran = 0
         while not self._is_closing.is_set():
-            first = self._due.first()
-            if first is None or first >> NUMBER_BITS > now():
+            try:
+                key = self._due.pop_first(below=now() + 1 << NUMBER_BITS)
+            except KeyError:  # no task is due
                 self._is_closing.wait(0.001)
-            elif task := self._take(first):  # otherwise another thread has taken it
-                task()
+            else:
+                self._tasks.pop(key)()
                 ran += 1
         return ran
 
@@ -59,9 +60,6 @@ class Scheduler:
     def close(self) -> int:
         """Ends the set of due tasks, and returns how many are left."""
         return len(self._due.close())
-
-    def _take(self, key: int) -> "Callable[[], None] | None":
-        return self._tasks.pop(key) if self._due.discard(key) else None
 
 
 def produce(scheduler: Scheduler, count: int) -> int:

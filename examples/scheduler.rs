@@ -47,14 +47,12 @@ impl Scheduler {
     fn work(&self, run: impl Fn(u64)) -> Result<u64, Fault> {
         let mut ran = 0;
         while !self.is_closing.load(SeqCst) {
-            match self.due.first()? {
-                Some(key) if key >> NUMBER_BITS <= self.now() => {
-                    if self.due.remove(key)? {
-                        run(key % (1 << NUMBER_BITS));
-                        ran += 1;
-                    }
+            match self.due.pop_first_below((self.now() + 1) << NUMBER_BITS)? {
+                Some(key) => {
+                    run(key % (1 << NUMBER_BITS));
+                    ran += 1;
                 }
-                _ => sleep(Duration::from_micros(200)),
+                None => sleep(Duration::from_micros(200)),
             }
         }
         Ok(ran)
