@@ -293,6 +293,18 @@ nm_outcome nm_worker_pop_first(nm_handle *worker, const nm_options *options, uin
 /* Removes the greatest key of the set and writes it, in the same way. */
 nm_outcome nm_worker_pop_last(nm_handle *worker, const nm_options *options, uint64_t *taken);
 
+/* Removes the least key of the set if it is below a bound, and writes it: NM_YES; NM_NO if no key is
+ * below the bound. It is like nm_worker_pop_first, but after NM_NO there was a moment of this call
+ * for each key below the bound alone at which the set did not have it. A key that is not below the
+ * bound stays. */
+nm_outcome nm_worker_pop_first_below(nm_handle *worker, uint64_t below, const nm_options *options,
+                                     uint64_t *taken);
+
+/* Removes the greatest key of the set if it is not below from, in the same way: after NM_NO there
+ * was a moment of this call for each key from the bound on at which the set did not have it. */
+nm_outcome nm_worker_pop_last_from(nm_handle *worker, uint64_t from, const nm_options *options,
+                                   uint64_t *taken);
+
 /* ---- a worker, for a key: calls of the tree alone ----
  * These return NM_BUSY after the given number of tries; 32 to 64 are usually enough, and otherwise
  * call again. The program decides what to do after NM_BUSY, NM_FULL and NM_UNFINISHED, and when to
@@ -315,14 +327,34 @@ nm_outcome nm_worker_contains_many(nm_handle *worker, nm_lookup *lookups, size_t
  * NM_NO if there is none. The set had found at a moment of this call. For each key from key on and
  * below found there was a moment of this call at which the set did not have it; after NM_NO the
  * same holds for each key from key on. The moments of two keys may differ. To read the keys of a
- * set in use, ask for 0, and then for found + 1 until NM_NO, or until NM_KEY after the greatest
- * key. A try is one try to pin or one search: give two or more. It takes no memory. Errors: NM_KEY,
+ * set in use, use nm_worker_scan, which keeps its place. A try is one try to pin or one search: give two or more. It takes no memory. Errors: NM_KEY,
  * NM_BUSY, NM_PENDING, NM_PINNED; found is not written. */
 nm_outcome nm_worker_next(nm_handle *worker, uint64_t key, uint32_t tries, uint64_t *found);
 
 /* Finds the greatest key of the set that is not above key, in the same way. Returns NM_YES and
  * writes it to found, or NM_NO if there is none. */
 nm_outcome nm_worker_prev(nm_handle *worker, uint64_t key, uint32_t tries, uint64_t *found);
+
+/* Writes the keys of the set from from on that are below below, in ascending order, into keys, which
+ * has room for that many, and how many it wrote to count: at most 1,024. Returns NM_YES and writes
+ * the key at which to continue to next, or NM_NO if the range is finished. So to read a range, call
+ * again with next as from until NM_NO; next may be the place of from. Any below above 2^64 - 4 is no
+ * bound.
+ *
+ * The set had each key that it wrote at a moment of this call. For each other key of the range from
+ * from on, and below next after NM_YES, there was a moment of this call at which the set did not
+ * have it. The moments of two keys may differ. So no call passes over a key that was in the set
+ * during the whole call. next is above from if room is not 0. The call is one walk over the range,
+ * for which its worker is pinned, and takes no memory. A try is one try to pin or one search that
+ * finds no key: give three or more. keys is not null, even if room is 0. Errors: NM_KEY: from is no
+ * key. NM_BUSY, NM_PENDING, NM_PINNED. After an error nothing is written. */
+nm_outcome nm_worker_scan(nm_handle *worker, uint64_t from, uint64_t below, uint64_t *keys,
+                          size_t room, uint64_t *count, uint64_t *next, uint32_t tries);
+
+/* Writes the keys of the set from from down that are not below least, in descending order, in the
+ * same way: next is below from. */
+nm_outcome nm_worker_scan_back(nm_handle *worker, uint64_t from, uint64_t least, uint64_t *keys,
+                               size_t room, uint64_t *count, uint64_t *next, uint32_t tries);
 
 /* Inserts a key; returns NM_YES if it was absent, and else NM_NO. Errors: NM_KEY, NM_BUSY, NM_FULL,
  * NM_PENDING, NM_PINNED, NM_NO_MEMORY. */
