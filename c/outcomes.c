@@ -8,6 +8,15 @@
 
 enum { TRIES = 64, NOT_WRITTEN = 77 };
 
+/* Checks the outcome of a scan from this key, and that it writes nothing. */
+static void each_scan_tells(nm_handle *worker, uint64_t from, nm_outcome wanted) {
+    uint64_t keys[2] = {NOT_WRITTEN, NOT_WRITTEN}, count = NOT_WRITTEN, next = NOT_WRITTEN;
+    CHECK(nm_worker_scan(worker, from, UINT64_MAX, keys, 2, &count, &next, TRIES) == wanted);
+    CHECK(nm_worker_scan_back(worker, from, 0, keys, 2, &count, &next, TRIES) == wanted);
+    CHECK(keys[0] == NOT_WRITTEN && keys[1] == NOT_WRITTEN && count == NOT_WRITTEN &&
+          next == NOT_WRITTEN);
+}
+
 /* Checks that each call for a key returns the wanted outcome. */
 static void each_tells(nm_handle *worker, uint64_t key, nm_outcome wanted) {
     nm_lookup lookup = {key, NOT_WRITTEN};
@@ -19,6 +28,7 @@ static void each_tells(nm_handle *worker, uint64_t key, nm_outcome wanted) {
     CHECK(nm_worker_prev(worker, key, TRIES, &found) == wanted && found == NOT_WRITTEN);
     CHECK(nm_worker_try_insert(worker, key, TRIES) == wanted);
     CHECK(nm_worker_try_remove(worker, key, TRIES) == wanted);
+    each_scan_tells(worker, key, wanted);
 }
 
 /* Checks that each managed call for a key returns the wanted outcome. */
@@ -33,6 +43,8 @@ static void each_pop_tells(nm_handle *worker, const nm_options *options, nm_outc
     uint64_t taken = NOT_WRITTEN;
     CHECK(nm_worker_pop_first(worker, options, &taken) == wanted && taken == NOT_WRITTEN);
     CHECK(nm_worker_pop_last(worker, options, &taken) == wanted && taken == NOT_WRITTEN);
+    CHECK(nm_worker_pop_first_below(worker, UINT64_MAX, options, &taken) == wanted &&
+          nm_worker_pop_last_from(worker, 0, options, &taken) == wanted && taken == NOT_WRITTEN);
 }
 
 /* A handle that owns no worker, or no report, returns that outcome, and the call writes nothing. */
@@ -135,6 +147,16 @@ static void answers(void) {
     CHECK(nm_worker_prev(&worker, UINT64_MAX - 3, TRIES, &key) == NM_YES && key == 5 &&
           nm_worker_prev(&worker, 5, TRIES, &key) == NM_YES && key == 5);
     key = NOT_WRITTEN;
+    uint64_t keys[2] = {NOT_WRITTEN, NOT_WRITTEN}, count = NOT_WRITTEN;
+    CHECK(nm_worker_scan(&worker, 0, UINT64_MAX, keys, 2, &count, &key, 0) == NM_BUSY &&
+          count == NOT_WRITTEN && keys[0] == NOT_WRITTEN);
+    CHECK(nm_worker_scan(&worker, 0, UINT64_MAX, keys, 2, &count, &key, TRIES) == NM_NO &&
+          count == 1 && keys[0] == 5 && keys[1] == NOT_WRITTEN && key == NOT_WRITTEN);
+    CHECK(nm_worker_scan_back(&worker, 9, 6, keys, 2, &count, &key, TRIES) == NM_NO &&
+          count == 0 && key == NOT_WRITTEN);
+    CHECK(nm_worker_scan(&worker, 0, 9, keys, 0, &count, &key, TRIES) == NM_YES && count == 0 &&
+          key <= 5);
+    key = NOT_WRITTEN;
     CHECK(nm_worker_pending(&worker, &key) == NM_NO && key == NOT_WRITTEN);
     CHECK(nm_worker_try_remove(&worker, 5, 1) == NM_UNFINISHED &&
           nm_worker_finish(&worker, 0) == NM_UNFINISHED);
@@ -172,6 +194,13 @@ static void managed(void) {
     each_pop_tells(&worker, &none, NM_BUSY);
     CHECK(nm_worker_pop_last(&worker, usual, &told) == NM_YES && told == 5 &&
           nm_worker_pop_last(&worker, usual, &told) == NM_NO && told == 5);
+    told = NOT_WRITTEN;
+    CHECK(nm_worker_insert(&worker, 5, usual) == NM_YES &&
+          nm_worker_pop_first_below(&worker, 5, usual, &told) == NM_NO &&
+          nm_worker_pop_last_from(&worker, 6, usual, &told) == NM_NO && told == NOT_WRITTEN);
+    CHECK(nm_worker_pop_first_below(&worker, 6, usual, &told) == NM_YES && told == 5);
+    CHECK(nm_worker_insert(&worker, 5, usual) == NM_YES &&
+          nm_worker_pop_last_from(&worker, 5, usual, &told) == NM_YES && told == 5);
     CHECK(nm_worker_insert(&worker, 5, usual) == NM_YES &&
           nm_worker_pop_first(&worker, usual, &told) == NM_YES && told == 5);
     CHECK(nm_worker_pop_first(&worker, usual, &told) == NM_NO &&

@@ -42,6 +42,11 @@ static void many(void) {
     for (uint64_t key = 0; key < 64; key++) lookups[key].key = key;
     CHECK(nm_worker_contains_many(&worker, lookups, 64, 64) == NM_DONE);
 }
+static void scan(void) {
+    uint64_t keys[64], count, next;
+    CHECK(nm_worker_scan(&worker, 0, UINT64_MAX, keys, 64, &count, &next, 64) == NM_YES &&
+          nm_worker_scan_back(&worker, 299, 0, keys, 64, &count, &next, 64) == NM_YES);
+}
 static void take_keys(void) {
     for (uint64_t key = 0; key < 100; key++) {
         CHECK(nm_worker_remove(&worker, 100 + key, &nm_default_options) == NM_YES);
@@ -70,6 +75,7 @@ static const call calls[] = {
     {"nm_set_attached", away, OF_SETS},           {"nm_worker_insert", insert, OF_KEYS},
     {"nm_worker_contains", contains, OF_KEYS}, {"nm_worker_next", next, OF_KEYS},
     {"nm_worker_prev", prev, OF_KEYS},        {"nm_worker_contains_many", many, OF_KEYS},
+    {"scans", scan, OF_KEYS},
     {"removes and pops", take_keys, OF_KEYS}, {"calls on the epoch", move, OF_KEYS},
     {"nm_worker_resign", resign, OF_SETS},    {"nm_drop of a worker", drop, OF_SETS},
     {"nm_set_attach again", attach, OF_SETS}, {"nm_drop of the other", drop_other, OF_SETS},

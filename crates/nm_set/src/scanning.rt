@@ -9,7 +9,7 @@ use nm_tree::{CallFault, Scanned};
 
 impl Member {
     /// Writes the keys of the set from `from` on that are below `below` into `out`, in ascending
-    /// order, and returns how many and where to continue: `Tree::scan` of `nm_tree`.
+    /// order, and returns how many, and the key at which to continue: `Tree::scan` of `nm_tree`.
     ///
     /// Errors: `Pinned`: the caller has pinned the worker; and those of the tree. After an error
     /// `out` is unchanged.
@@ -33,7 +33,7 @@ impl Member {
     }
 
     /// Writes the keys of the set from `from` down that are not below `least` into `out`, in
-    /// descending order, and returns how many and where to continue: `Tree::scan_back` of `nm_tree`.
+    /// descending order, and returns how many, and the key at which to continue: `Tree::scan_back` of `nm_tree`.
     ///
     /// Errors: `Pinned`: the caller has pinned the worker; and those of the tree. After an error
     /// `out` is unchanged.
