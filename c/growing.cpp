@@ -21,11 +21,11 @@ constexpr std::uint64_t keys = 2000;
 #ifdef __SANITIZE_THREAD__
 constexpr std::uint64_t usual_changes = 4;
 constexpr int closes = 1;
-constexpr std::uint64_t each = 4000;
+constexpr std::uint64_t most = 4000;
 #else
 constexpr std::uint64_t usual_changes = 1000;
 constexpr int closes = 20;
-constexpr std::uint64_t each = 50000;
+constexpr std::uint64_t most = 50000;
 #endif
 
 // By key, how often a thread inserted it less how often it removed it.
@@ -86,7 +86,7 @@ void sizes_change_beside_threads(std::uint64_t changes) {
 }
 
 // Threads insert into a set without a size, `each` its own keys, by calls of the set and by workers.
-void sets_grow(nm::Shape shape) {
+void sets_grow(nm::Shape shape, std::uint64_t each) {
     nm::Options options;
     options.shape = shape;
     options.timeout_ms = 60000;
@@ -222,8 +222,8 @@ void threads_are_cancelled_beside_growth() {}
 
 int main(int count, char **words) {
     sizes_change_beside_threads(count > 1 ? std::strtoull(words[1], nullptr, 10) : usual_changes);
-    sets_grow(nm::Shape::radix);
-    sets_grow(nm::Shape::unbalanced);
+    sets_grow(nm::Shape::radix, most);
+    sets_grow(nm::Shape::unbalanced, 3000);
     pins_prevent_a_new_size();
     sets_with_a_size_stay();
     pending_removes_are_finished();
