@@ -9,6 +9,7 @@
 mod attach;
 mod ending;
 mod fault;
+mod filling;
 mod gathering;
 mod home;
 mod lease;
@@ -24,6 +25,7 @@ pub use ending::EndError;
 pub use fault::{
     CloseReason, Fullness, InsertFault, MemberFault, NotPinned, ObserveFault, ResignReason,
 };
+pub use filling::{OfKeysError, SetOfKeys};
 pub use managed::Options;
 pub use member::{Member, ResignError};
 pub use nm_tree::{
