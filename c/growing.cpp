@@ -17,11 +17,15 @@ namespace {
 
 constexpr std::uint64_t keys = 2000;
 
-// ThreadSanitizer takes ten times as long.
+// ThreadSanitizer takes a second for each set that ends.
 #ifdef __SANITIZE_THREAD__
-constexpr std::uint64_t usual_changes = 20;
+constexpr std::uint64_t usual_changes = 4;
+constexpr int closes = 1;
+constexpr std::uint64_t most = 4000;
 #else
 constexpr std::uint64_t usual_changes = 1000;
+constexpr int closes = 20;
+constexpr std::uint64_t most = 50000;
 #endif
 
 // By key, how often a thread inserted it less how often it removed it.
@@ -81,7 +85,7 @@ void sizes_change_beside_threads(std::uint64_t changes) {
     adds_up(set, tallies);
 }
 
-// Threads insert into a set without a size, each its own keys, by calls of the set and by workers.
+// Threads insert into a set without a size, `each` its own keys, by calls of the set and by workers.
 void sets_grow(nm::Shape shape, std::uint64_t each) {
     nm::Options options;
     options.shape = shape;
@@ -167,7 +171,7 @@ void pending_removes_are_finished() {
 void closes_beside_growth() {
     nm::Options options;
     options.timeout_ms = 60000;
-    for (int round = 0; round < 20; round++) {
+    for (int round = 0; round < closes; round++) {
         nm::Set set(options);
         std::atomic<std::uint64_t> inserted{0};
         std::vector<std::thread> threads;
@@ -218,8 +222,8 @@ void threads_are_cancelled_beside_growth() {}
 
 int main(int count, char **words) {
     sizes_change_beside_threads(count > 1 ? std::strtoull(words[1], nullptr, 10) : usual_changes);
-    sets_grow(nm::Shape::radix, 50000);
-    sets_grow(nm::Shape::unbalanced, 10000);
+    sets_grow(nm::Shape::radix, most);
+    sets_grow(nm::Shape::unbalanced, 3000);
     pins_prevent_a_new_size();
     sets_with_a_size_stay();
     pending_removes_are_finished();

@@ -29,6 +29,7 @@ from ._faults import (
 )
 from ._report import Report, Waiting
 from ._set import Options, Set, Stamp, Stats, Worker
+from ._typed import Mapping, SetOf, WorkerOf, pairs, signed, unsigned
 
 __all__ = [
     "MOST_KEY",
@@ -39,6 +40,7 @@ __all__ = [
     "Forked",
     "Full",
     "InUse",
+    "Mapping",
     "NoMemory",
     "NoWorker",
     "Options",
@@ -46,11 +48,16 @@ __all__ = [
     "Pinned",
     "Report",
     "Set",
+    "SetOf",
     "Stamp",
     "Stats",
     "Unfinished",
     "Waiting",
     "Worker",
+    "WorkerOf",
     "__version__",
     "is_native",
+    "pairs",
+    "signed",
+    "unsigned",
 ]

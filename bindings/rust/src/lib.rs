@@ -11,6 +11,7 @@ mod order;
 mod place;
 mod report;
 mod set;
+mod typed;
 mod worker;
 
 pub use fault::{Fault, Full};
@@ -21,6 +22,7 @@ pub use order::Range;
 pub use place::Advance;
 pub use report::Report;
 pub use set::Set;
+pub use typed::{Key, SetOf, Values, WorkerOf};
 pub use worker::{Behind, PinGuard, Stamp, Worker};
 
 /// The greatest key, 2^64 - 4.

@@ -34,7 +34,7 @@ use Rattle.nm_tree.specs.Workers.{WorkerView, IsIdle}
 use Rattle.nm_set.specs.Seats.{SetView}
 use Rattle.nm_set.specs.Ends.{EndsSet}
 use Rattle.nm_callers.specs.Queues.{AddUp}
-use Rattle.nm_callers.proofs.RunSums.{KeysOf, by_workers, flag_keys, link_keys, none_joined, none_pend, own_many, same_length, so_many, times, times-append, times_none, times_once}
+use Rattle.nm_set.proofs.RunSums.{KeysOf, by_workers, flag_keys, link_keys, none_joined, none_pend, own_many, same_length, so_many, times, times-append, times_none, times_once}
 use Rattle.nm_callers.proofs.Unmade.{no_call_then, who_calls}
 
 -- each worker of the tree from number k on, in their order, has nothing pending

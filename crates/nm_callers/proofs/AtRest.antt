@@ -43,8 +43,9 @@ use Rattle.nm_calls.specs.Moments.{AnswerHasMoment}
 use Rattle.nm_walks.specs.WonCounts.{won_links, won_flags}
 use Rattle.nm_tree.proofs.Taking.{no_shorter}
 use Rattle.nm_set.proofs.Letters.{begins}
-use Rattle.nm_callers.proofs.AnswersInRuns.{AnsweredBy, answered_by}
-use Rattle.nm_callers.proofs.Counting.{fewer, flagged_once, linked_once, none_in, no_sum}
+use Rattle.nm_set.proofs.Rests.{at_most, none_first}
+use Rattle.nm_set.proofs.AnswersInRuns.{AnsweredBy, answered_by}
+use Rattle.nm_set.proofs.Counting.{fewer, flagged_once, linked_once, none_in, no_sum}
 
 -- ---- counts
 
@@ -59,29 +60,6 @@ often_few is_such k s (e ∷ es) = go (is_such e) refl (is_for k s.call) refl (o
     go true is false for less = rw (is, for) (omega (arith, less))
     go false is true for less = rw is (omega (arith, less))
     go false is false for less = rw is (omega (arith, less))
-
--- a sum of which one part alone is not 0
-at_most : (f : ℕ → ℕ) (n u b : ℕ) → ((v : ℕ) → v < n → v ≢ u → f v ≡ 0) → f u ≤ b → sum_of f n ≤ b
-at_most f zero u b none few = omega arith
-at_most f (suc n) u b none few = by (at_most f n u b (λ v less. none v (omega (arith, less))) few) (cases_lt n u) (cases_lt u n)
-  where
-    first : sum_of f n ≤ b → ((n ≡ u) → ⊥) → sum_of f (suc n) ≤ b
-    first rest other = let last = none n (omega arith) other in omega (arith, rest, last)
-
-    by : sum_of f n ≤ b → (n < u) ⊎ (u ≤ n) → (u < n) ⊎ (n ≤ u) → sum_of f (suc n) ≤ b
-    by rest (inl low) c = first rest (λ e. omega (arith, low, e))
-    by rest (inr up) (inl high) = first rest (λ e. omega (arith, high, e))
-    by rest (inr up) (inr low) =
-        let same : n ≡ u = omega (arith, up, low) in
-        let nothing = no_sum f n (λ v less. none v (omega (arith, less)) (λ e. omega (arith, less, e, same))) in
-        let last : f n ≤ b = subst (λ (m : ℕ). f m ≤ b) (sym same) few in
-        omega (arith, nothing, last)
-
--- ---- first parts
-
-none_first : {X : Type 0} (xs ys : List X) → xs ++ ys ≡ [] → xs ≡ []
-none_first {X = X} [] ys e = refl
-none_first {X = X} (x ∷ xs) ys e = absurd (let size = ap (λ (zs : List X). length zs) e in omega (arith, size))
 
 -- ---- one worker's call, from p to q, beside which the others have made no turn at all
 
@@ -308,19 +286,3 @@ module _ (p q : PassView) (k : ℕ) (key : IsKey k) (seen : HasSeen q.view) (fit
             let most' = few_links m.before (rest Has true a.is.before a.is.since a.is.is_run a.pinned m) (whole Has true a.is.before a.is.since a.is.is_run a.pinned m) k in
             omega (arith, one', some', most', few)
         by (inr so) = so.1 m.gives
-
--- ---- what was seen earlier
-
--- who has made no turn in later turns has made none in earlier ones
-pub no_turns : (w : ℕ) (later earlier : List Turn) → Extends later earlier → part_of w later ≡ [] → part_of w earlier ≡ []
-no_turns w later earlier on none = none_first (part_of w earlier) (part_of w on.more) (sym (ap (part_of w) on.is ∙ part-append w earlier on.more) ∙ none)
-
--- no other worker has made a turn in what a pass has seen
-abbrev pub OthersRest : PassView → Type 0
-OthersRest p = (w : ℕ) → w < p.view.layout.workers → w ≢ p.view.number → part_of w p.view.past ≡ []
-
-pub rested_before : (p q : PassView) → IsSamePass p q → HasSeenAllOf q p → OthersRest q → OthersRest p
-rested_before p q same on rest w less other =
-    let layout : q.view.layout ≡ p.view.layout = ap (λ (s : PassView). s.view.layout) same in
-    let number : q.view.number ≡ p.view.number = ap (λ (s : PassView). s.view.number) same in
-    no_turns w q.view.past p.view.past on.goes_on (rest w (subst (λ (l : Layout). w < l.workers) (sym layout) less) (λ e. other (e ∙ number)))

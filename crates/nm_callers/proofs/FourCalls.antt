@@ -16,8 +16,10 @@ use Rattle.nm_tree.specs.Workers.{WorkerView}
 use Rattle.nm_calls.specs.declared.fault.CallFault.TheVariants as fault
 use Rattle.nm_set.specs.declared.managed.Options.{Options}
 use Rattle.nm_set.specs.Managed.{SaysManaged, Manages, links_told_by, flags_told_by}
+use Rattle.nm_set.specs.Filling.{OthersRest}
 use Rattle.nm_set.proofs.Managing.{is_no_fault}
-use Rattle.nm_callers.proofs.AtRest.{OthersRest, rested_before, inserts_first, finds_own, deletes_own, misses_own}
+use Rattle.nm_set.proofs.Rests.{rested_before}
+use Rattle.nm_callers.proofs.AtRest.{inserts_first, finds_own, deletes_own, misses_own}
 
 -- a call that was answered was made
 manages : (op : Op) (b : TreeView) (h : Options) (k : ℕ) (w z : WorkerView) (answer : Bool) → SaysManaged op b h k w z (Ok answer) → Manages b h op k w z (Ok answer)
@@ -105,11 +107,3 @@ module _ (h : Options) (k : ℕ) (key : IsKey k) (b1 b2 b3 b4 : TreeView) (y0 y1
   pub is_gone : a4 ≡ false
   is_gone = misses_own y3.pass y4.pass k key seen4 fits4 rest4 y2.pass y3.pass
       (sym (ap (λ (s : PassView). s.view.layout) t4.answers.on.same)) (sym (ap (λ (s : PassView). s.view.number) t4.answers.on.same)) (seen_itself y3.pass) t4.answers.on.past a4 t4.answers.moment removed few
-
--- the only worker with a greater number than those that rest
-pub rests_below : (p : PassView) (n : ℕ) → p.view.number ≡ n → p.view.layout.workers ≡ n + 1 → ((i : ℕ) → i < n → part_of i p.view.past ≡ []) → OthersRest p
-rests_below p n number workers rest w less other = by (cases_lt w n)
-  where
-    by : (w < n) ⊎ (n ≤ w) → part_of w p.view.past ≡ []
-    by (inl low) = rest w low
-    by (inr up) = absurd (other (omega (arith, less, number, workers, up)))

@@ -8,20 +8,17 @@ pub mod Answered
 pub mod ToldWorkers
 pub mod ToldMembers
 pub mod ClosedMembers
-pub mod FirstLooks
 pub mod Pairs
 pub mod OnlyWorkers
 pub mod AtRest
 pub mod FourCalls
 pub mod OneMember
+pub mod FilledReports
 pub mod RadixLookups
 pub mod ReadNodes
 pub mod Schedulers
-pub mod RunSums
 pub mod AddedUp
 pub mod Working
 pub mod InsertMoments
 pub mod LettersRead
 pub mod Blamed
-mod AnswersInRuns
-mod Counting

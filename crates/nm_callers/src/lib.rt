@@ -5,6 +5,7 @@
 
 mod alone;
 mod beside;
+mod filled;
 mod fresh;
 mod full;
 mod least;
@@ -23,6 +24,7 @@ mod trees;
 
 pub use alone::{insert_alone, look_alone, look_many_alone, next_alone};
 pub use beside::{delete_beside, insert_beside, look_many_beside, next_beside, prev_beside};
+pub use filled::keys_then_report;
 pub use fresh::{Looked, look_first, look_in_new, look_in_new_of_one, look_only};
 pub use full::add_or_blame;
 pub use least::{Taken, take_at_once, take_both, take_in_threads};

@@ -9,3 +9,9 @@ pub mod Inside
 pub mod Managing
 pub mod Emptied
 pub mod PopRounds
+pub mod AnswersInRuns
+pub mod Counting
+pub mod RunSums
+pub mod Rests
+pub mod FirstLooks
+pub mod Filled

@@ -9,3 +9,4 @@ pub mod Ends
 pub mod Managed
 pub mod Rounds
 pub mod Popping
+pub mod Filling

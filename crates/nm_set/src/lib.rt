@@ -9,6 +9,7 @@
 mod attach;
 mod ending;
 mod fault;
+mod filling;
 mod gathering;
 mod home;
 mod lease;
@@ -23,6 +24,7 @@ mod set;
 
 pub use ending::EndError;
 pub use fault::{Fullness, InsertFault, MemberFault, NotPinned, ObserveFault};
+pub use filling::{OfKeysError, SetOfKeys};
 pub use managed::Options;
 pub use member::{Member, ResignError};
 pub use nm_tree::{

@@ -1,5 +1,5 @@
 use Rattle.std.proofs.Common.{◌∙◌}
-use Rattle.nm_callers.proofs.FirstLooks.{taken_off, new_itself}
+use Rattle.nm_set.proofs.FirstLooks.{taken_off, new_itself}
 use Rattle.nm_callers.proofs.fresh.look_in_new.Goals as goal
 
 pub look_first-found-requires : goal.look_first-found-requires

@@ -1,7 +1,7 @@
 use Rattle.std.proofs.Common.{◌∙◌, ap}
 use Rattle.nm_edge.specs.Layouts.{Layout}
 use Rattle.nm_steps.specs.Steps.{TreeView}
-use Rattle.nm_callers.proofs.FirstLooks.{taken_off, new_itself}
+use Rattle.nm_set.proofs.FirstLooks.{taken_off, new_itself}
 use Rattle.nm_callers.proofs.fresh.look_in_new_of_one.Goals as goal
 
 pub look_only-requires : goal.look_only-requires

@@ -3,7 +3,7 @@ use Rattle.nm_order.specs.Logs.{part_of}
 use Rattle.nm_steps.specs.declared.view.View.{View}
 use Rattle.nm_steps.specs.Rules.{Extends}
 use Rattle.nm_steps.specs.Steps.{PassView}
-use Rattle.nm_callers.proofs.AtRest.{no_turns}
+use Rattle.nm_set.proofs.Rests.{no_turns}
 use Rattle.nm_callers.proofs.others.hear_and_go.Goals as goal
 
 pub returns-clause-rested : goal.returns-clause-rested

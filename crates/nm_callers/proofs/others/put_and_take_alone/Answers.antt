@@ -6,8 +6,9 @@ use Rattle.nm_steps.specs.declared.view.View.{View}
 use Rattle.nm_steps.specs.Steps.{TreeView}
 use Rattle.nm_walks.specs.WonCounts.{won_links, won_flags}
 use Rattle.nm_tree.specs.Workers.{WorkerView}
-use Rattle.nm_callers.proofs.AtRest.{OthersRest}
-use Rattle.nm_callers.proofs.FourCalls.{is_added, is_there, is_removed, is_gone, rests_below, same_number}
+use Rattle.nm_set.specs.Filling.{OthersRest}
+use Rattle.nm_set.proofs.Rests.{rests_below}
+use Rattle.nm_callers.proofs.FourCalls.{is_added, is_there, is_removed, is_gone, same_number}
 use Rattle.nm_callers.proofs.others.put_and_take_alone.Goals as goal
 
 pub returns-clause-told : goal.returns-clause-told

@@ -2,7 +2,7 @@ use Rattle.std.proofs.Common.{◌≡◌, ◌∙◌, List, [], ◌∷◌, length,
 use Rattle.nm_edge.specs.Layouts.{Layout}
 use Rattle.nm_steps.specs.Steps.{TreeView}
 use Rattle.nm_set.specs.Seats.{MemberView}
-use Rattle.nm_callers.proofs.FirstLooks.{taken_off, last_new, of_tree, others_of}
+use Rattle.nm_set.proofs.FirstLooks.{taken_off, last_new, of_tree, others_of}
 use Rattle.nm_callers.proofs.others.put_and_take_in_new.Goals as goal
 
 pub put_and_take_alone-requires : goal.put_and_take_alone-requires

@@ -40,7 +40,7 @@ use Rattle.nm_theorem.proofs.HistoriesOfRuns.{call_is, with_pin}
 
 -- ---- how often a number is in a list
 
-abbrev one_if : Bool → ℕ
+abbrev pub one_if : Bool → ℕ
 one_if b = cond b 1 0
 
 abbrev pub times : ℕ → List ℕ → ℕ
@@ -48,12 +48,12 @@ times k [] = 0
 times k (x ∷ xs) = one_if (x == k) + times k xs
 
 -- one of them taken out
-record TakenOut (x : ℕ) (xs : List ℕ) : Type 0 where
-  rest : List ℕ
-  each : (k : ℕ) → times k xs ≡ one_if (x == k) + times k rest
-  size : length xs ≡ suc (length rest)
+pub record TakenOut (x : ℕ) (xs : List ℕ) : Type 0 where
+  pub rest : List ℕ
+  pub each : (k : ℕ) → times k xs ≡ one_if (x == k) + times k rest
+  pub size : length xs ≡ suc (length rest)
 
-taken_out : (x : ℕ) (xs : List ℕ) → 1 ≤ times x xs → TakenOut x xs
+pub taken_out : (x : ℕ) (xs : List ℕ) → 1 ≤ times x xs → TakenOut x xs
 taken_out x [] some = absurd (omega (arith, some))
 taken_out x (y ∷ ys) some = by (y == x) refl (taken_out x ys)
   where

@@ -1,0 +1,78 @@
+"""Tests of sets whose keys are of another type: they answer like a sorted list of the values."""
+
+from __future__ import annotations
+
+import unittest
+from datetime import datetime, timedelta, timezone
+from enum import IntEnum
+from typing import Any
+
+import nm_set
+from nm_set import Mapping, SetOf, pairs, signed, unsigned
+
+
+class Level(IntEnum):
+    LOW = 1
+    HIGH = 7
+
+
+FIRST = datetime(2000, 1, 1, tzinfo=timezone.utc)
+TIMES: Mapping[datetime] = Mapping(
+    lambda time: int((time - FIRST) / timedelta(microseconds=1)),
+    lambda key: FIRST + timedelta(microseconds=key),
+)
+
+CASES: list[tuple[Mapping[Any], list[Any]]] = [
+    (signed(), [5, -7, 0, -(2**63), 2**63 - 4, -1]),
+    (signed(8), [5, -7, 0, -128, 127]),
+    (unsigned(), [5, 7, 0, 2**64 - 4]),
+    (pairs(32, 32), [(1, 2), (1, 0), (0, 9), (7, 0), (1, 2**32 - 1)]),
+    (pairs(signed(16), 8, signed(8)), [(-1, 2, 3), (-1, 2, -3), (3, 0, 0), (-5, 255, 127)]),
+    (Mapping(int, Level), [Level.HIGH, Level.LOW]),
+    (TIMES, [FIRST + timedelta(days=days) for days in (5, 1, 9_000, 0)]),
+]
+
+
+class Typed(unittest.TestCase):
+    def test_sets_of_each_type_answer_like_a_list(self) -> None:
+        for mapping, values in CASES:
+            ordered = sorted(values)
+            with SetOf(mapping) as numbers, numbers.attach() as worker:
+                for value in values:
+                    self.assertTrue(worker.add(value))
+                    self.assertFalse(numbers.add(value))
+                    self.assertTrue(value in numbers and value in worker)
+                    self.assertEqual((numbers.at_least(value), numbers.at_most(value)), (value,) * 2)
+                self.assertEqual((list(numbers), len(numbers)), (ordered, len(values)))
+                self.assertEqual(list(reversed(worker)), ordered[::-1])
+                self.assertEqual(list(numbers.irange(ordered[1])), ordered[1:])
+                self.assertEqual((numbers.first(), numbers.last()), (ordered[0], ordered[-1]))
+                self.assertEqual(numbers & set(values[:1]), {values[0]})
+                self.assertEqual(worker.wait_pop(0), ordered[0])
+                self.assertEqual(numbers.pop_last(), ordered[-1])
+                numbers.update([ordered[0]])
+                self.assertTrue(numbers.discard(ordered[0]) and not worker.discard(ordered[0]))
+
+    def test_a_closed_set_has_its_values(self) -> None:
+        self.assertEqual(SetOf(signed(), [3, -3]).close(), [-3, 3])
+        self.assertEqual(SetOf(pairs(8, 8), [(2, 1), (1, 9)], nodes=64).close(), [(1, 9), (2, 1)])
+
+    def test_values_that_are_no_keys_are_refused(self) -> None:
+        with SetOf(signed(), [-5]) as numbers, SetOf(pairs(4, 4)) as two:
+            for wrong in (2**63 - 1, 2**63, -(2**63) - 1):
+                with self.assertRaises(nm_set.OutOfRange):
+                    numbers.add(wrong)
+                self.assertNotIn(wrong, numbers)
+            self.assertNotIn("5", numbers)
+            for value in ((16, 0), (0, -1)):
+                with self.assertRaises(nm_set.OutOfRange):
+                    two.add(value)
+            with self.assertRaisesRegex(ValueError, "a key has 2 parts, and this value 1"):
+                two.add((1,))
+            self.assertEqual((len(two), numbers.at_most(2**63 - 1)), (0, -5))
+        with self.assertRaisesRegex(ValueError, "72 bits together"):
+            pairs(64, 8)
+
+
+if __name__ == "__main__":
+    unittest.main()

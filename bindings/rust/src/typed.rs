@@ -1,0 +1,376 @@
+//! Sets whose keys are of another type than `u64`.
+
+use crate::fault::Fault;
+use crate::key::checked;
+use crate::options::Options;
+use crate::order::Range;
+use crate::set::Set;
+use crate::worker::Worker;
+use crate::MOST_KEY;
+use std::fmt;
+use std::marker::PhantomData;
+use std::ops::{Bound, RangeBounds};
+use std::time::Duration;
+
+/// A type whose values a [`SetOf`] has: it maps them to keys and back, and keeps their order.
+///
+/// It is implemented for the integers of at most 64 bits, and for pairs of these that have 64 bits
+/// together at most. 2^64 - 3 and greater numbers are no keys ([`MOST_KEY`]): so of a type with 64
+/// bits the three greatest values return [`Fault::Key`].
+///
+/// A type of the program's own, here the time of a task and its number:
+///
+/// ```
+/// use nm_set::{Fault, Key, SetOf};
+///
+/// #[derive(Clone, Copy, Debug, PartialEq, Eq, PartialOrd, Ord)]
+/// struct Due {
+///     seconds: u64, // below 2^40
+///     task: u32,    // below 2^24
+/// }
+///
+/// impl Key for Due {
+///     const BITS: u32 = 64;
+///     fn to_key(self) -> u64 {
+///         self.seconds << 24 | u64::from(self.task)
+///     }
+///     fn from_key(key: u64) -> Due {
+///         Due { seconds: key >> 24, task: key as u32 & 0xff_ffff }
+///     }
+/// }
+///
+/// # fn main() -> Result<(), Fault> {
+/// let due = SetOf::<Due>::new()?;
+/// due.insert(Due { seconds: 1_700_000_000, task: 7 })?;
+/// due.insert(Due { seconds: 1_600_000_000, task: 9 })?;
+/// assert_eq!(due.pop_first()?.map(|due| due.task), Some(9));
+/// # Ok(())
+/// # }
+/// ```
+pub trait Key: Copy + Ord {
+    /// The number of bits of the keys: each key is below 2^BITS.
+    const BITS: u32;
+
+    /// Returns the key of a value. A lesser value has a lesser key.
+    fn to_key(self) -> u64;
+
+    /// Returns the value of a key that `to_key` returned.
+    fn from_key(key: u64) -> Self;
+}
+
+macro_rules! unsigned {
+    ($($type:ty),*) => {$(
+        impl Key for $type {
+            const BITS: u32 = <$type>::BITS;
+            fn to_key(self) -> u64 {
+                self as u64
+            }
+            fn from_key(key: u64) -> $type {
+                key as $type
+            }
+        }
+    )*};
+}
+
+/// The sign bit is turned: the least number is key 0.
+macro_rules! signed {
+    ($($type:ty as $unsigned:ty),*) => {$(
+        impl Key for $type {
+            const BITS: u32 = <$type>::BITS;
+            fn to_key(self) -> u64 {
+                ((self as $unsigned) ^ (1 << (<$type>::BITS - 1))) as u64
+            }
+            fn from_key(key: u64) -> $type {
+                (key as $unsigned ^ (1 << (<$type>::BITS - 1))) as $type
+            }
+        }
+    )*};
+}
+
+unsigned!(u8, u16, u32, u64, usize);
+signed!(i8 as u8, i16 as u16, i32 as u32, i64 as u64, isize as usize);
+
+/// The first value decides, and then the second one. A pair of more than 64 bits does not compile.
+impl<A: Key, B: Key> Key for (A, B) {
+    const BITS: u32 = {
+        assert!(
+            A::BITS + B::BITS <= 64,
+            "the two types of the pair have more than 64 bits together"
+        );
+        A::BITS + B::BITS
+    };
+
+    fn to_key(self) -> u64 {
+        debug_assert!(Self::BITS <= 64);
+        self.0.to_key() << B::BITS | self.1.to_key()
+    }
+
+    fn from_key(key: u64) -> (A, B) {
+        let low = key & (u64::MAX >> (64 - B::BITS));
+        (A::from_key(key >> B::BITS), B::from_key(low))
+    }
+}
+
+/// Returns the key of a value, or `Key` if it is none. A mapping whose bits do not fit does not
+/// compile.
+fn key_of<K: Key>(value: K) -> Result<u64, Fault> {
+    let _ = K::BITS;
+    checked(value.to_key())
+}
+
+/// The bounds of the keys of a range of values.
+fn bounds_of<K: Key>(range: impl RangeBounds<K>) -> (Bound<u64>, Bound<u64>) {
+    let key = |bound: Bound<&K>| match bound {
+        Bound::Included(&value) => Bound::Included(value.to_key()),
+        Bound::Excluded(&value) => Bound::Excluded(value.to_key()),
+        Bound::Unbounded => Bound::Unbounded,
+    };
+    (key(range.start_bound()), key(range.end_bound()))
+}
+
+/// A [`Set`] whose keys are values of a type that maps to keys: see [`Key`]. Each call makes the
+/// call of the same name of [`Set`], with its waits and faults. A clone is the same set.
+///
+/// ```
+/// # fn main() -> Result<(), nm_set::Fault> {
+/// use nm_set::SetOf;
+/// let numbers = SetOf::<i64>::new()?;
+/// assert_eq!(numbers.extend([5, -7, 0])?, 3);
+/// assert_eq!(numbers.first()?, Some(-7));
+/// let pairs = SetOf::<(u32, u32)>::new()?;
+/// pairs.extend([(2, 1), (1, 9), (1, 3)])?;
+/// let ones: Result<Vec<_>, _> = pairs.range((1, 0)..(2, 0)).collect();
+/// assert_eq!(ones?, [(1, 3), (1, 9)]);
+/// # Ok(())
+/// # }
+/// ```
+///
+/// A pair of more than 64 bits does not compile:
+///
+/// ```compile_fail
+/// let set = nm_set::SetOf::<(u64, u8)>::new().unwrap();
+/// set.insert((1, 2)).unwrap();
+/// ```
+pub struct SetOf<K> {
+    set: Set,
+    of: PhantomData<fn(K) -> K>,
+}
+
+impl<K> Clone for SetOf<K> {
+    fn clone(&self) -> SetOf<K> {
+        SetOf {
+            set: self.set.clone(),
+            of: PhantomData,
+        }
+    }
+}
+
+impl<K> From<Set> for SetOf<K> {
+    /// Returns the set of values of a set of keys.
+    fn from(set: Set) -> SetOf<K> {
+        SetOf {
+            set,
+            of: PhantomData,
+        }
+    }
+}
+
+impl<K: Key> SetOf<K> {
+    /// Makes the empty set, which grows: see [`Set::new`].
+    pub fn new() -> Result<SetOf<K>, Fault> {
+        Set::new().map(SetOf::from)
+    }
+
+    /// Makes the empty set, which grows, by these options: see [`Set::growing`].
+    pub fn growing(options: Options) -> Result<SetOf<K>, Fault> {
+        Set::growing(options).map(SetOf::from)
+    }
+
+    /// Returns the set of keys, for all other calls.
+    pub fn keys(&self) -> &Set {
+        &self.set
+    }
+
+    /// Returns whether the set has the value.
+    pub fn contains(&self, value: K) -> Result<bool, Fault> {
+        self.set.contains(key_of(value)?)
+    }
+
+    /// Inserts a value; returns true if it was absent.
+    pub fn insert(&self, value: K) -> Result<bool, Fault> {
+        self.set.insert(key_of(value)?)
+    }
+
+    /// Removes a value; returns true if it was present.
+    pub fn remove(&self, value: K) -> Result<bool, Fault> {
+        self.set.remove(key_of(value)?)
+    }
+
+    /// Inserts these values, one by one; returns how many were absent.
+    pub fn extend(&self, values: impl IntoIterator<Item = K>) -> Result<usize, Fault> {
+        let mut added = 0;
+        for value in values {
+            added += usize::from(self.insert(value)?);
+        }
+        Ok(added)
+    }
+
+    /// Returns the least value that is not below this one, or None if there is none.
+    pub fn at_least(&self, value: K) -> Result<Option<K>, Fault> {
+        Ok(self.set.at_least(key_of(value)?)?.map(K::from_key))
+    }
+
+    /// Returns the greatest value that is not above this one, or None if there is none.
+    pub fn at_most(&self, value: K) -> Result<Option<K>, Fault> {
+        let key = value.to_key().min(MOST_KEY);
+        Ok(self.set.at_most(key)?.map(K::from_key))
+    }
+
+    /// Returns the least value, or None if the set is empty.
+    pub fn first(&self) -> Result<Option<K>, Fault> {
+        Ok(self.set.first()?.map(K::from_key))
+    }
+
+    /// Returns the greatest value, or None if the set is empty.
+    pub fn last(&self) -> Result<Option<K>, Fault> {
+        Ok(self.set.last()?.map(K::from_key))
+    }
+
+    /// Removes the least value and returns it, or None if the set is empty: see [`Set::pop_first`].
+    pub fn pop_first(&self) -> Result<Option<K>, Fault> {
+        Ok(self.set.pop_first()?.map(K::from_key))
+    }
+
+    /// Removes the greatest value and returns it, or None if the set is empty.
+    pub fn pop_last(&self) -> Result<Option<K>, Fault> {
+        Ok(self.set.pop_last()?.map(K::from_key))
+    }
+
+    /// Removes the least value and returns it, after a wait for one of at most `timeout`: see
+    /// [`Set::wait_pop`].
+    pub fn wait_pop(&self, timeout: Duration) -> Result<Option<K>, Fault> {
+        Ok(self.set.wait_pop(timeout)?.map(K::from_key))
+    }
+
+    /// Returns an iterator over the values of a range, in both directions: see [`Set::range`].
+    pub fn range(&self, bounds: impl RangeBounds<K>) -> Values<K, Range<&Set>> {
+        Values::of(self.set.range(bounds_of(bounds)))
+    }
+
+    /// Returns an iterator over all values, in the way of [`range`](SetOf::range).
+    pub fn iter(&self) -> Values<K, Range<&Set>> {
+        self.range(..)
+    }
+
+    /// Returns how many values the set has: see [`Set::len`].
+    pub fn len(&self) -> Result<usize, Fault> {
+        self.set.len()
+    }
+
+    /// Returns whether the set has no value.
+    pub fn is_empty(&self) -> Result<bool, Fault> {
+        self.set.is_empty()
+    }
+
+    /// Attaches a worker to this thread: see [`Set::attach`].
+    pub fn attach(&self) -> Result<WorkerOf<K>, Fault> {
+        let worker = self.set.attach()?;
+        Ok(WorkerOf {
+            worker,
+            of: PhantomData,
+        })
+    }
+
+    /// Ends the set, and returns the values that it had, ascending: see [`Set::close`].
+    pub fn close(&self) -> Result<Vec<K>, Fault> {
+        let report = self.set.close()?;
+        Ok(report.keys().iter().map(|&key| K::from_key(key)).collect())
+    }
+}
+
+impl<K: Key + fmt::Debug> fmt::Debug for SetOf<K> {
+    fn fmt(&self, f: &mut fmt::Formatter<'_>) -> fmt::Result {
+        write!(f, "SetOf({:?})", self.set)
+    }
+}
+
+/// A [`Worker`] of a [`SetOf`].
+pub struct WorkerOf<K> {
+    worker: Worker,
+    of: PhantomData<fn(K) -> K>,
+}
+
+impl<K: Key> WorkerOf<K> {
+    /// Returns the worker for keys, for all other calls.
+    pub fn keys(&mut self) -> &mut Worker {
+        &mut self.worker
+    }
+
+    /// Returns whether the set has the value.
+    pub fn contains(&mut self, value: K) -> Result<bool, Fault> {
+        self.worker.contains(key_of(value)?)
+    }
+
+    /// Inserts a value; returns true if it was absent.
+    pub fn insert(&mut self, value: K) -> Result<bool, Fault> {
+        self.worker.insert(key_of(value)?)
+    }
+
+    /// Removes a value; returns true if it was present.
+    pub fn remove(&mut self, value: K) -> Result<bool, Fault> {
+        self.worker.remove(key_of(value)?)
+    }
+
+    /// Removes the least value and returns it, or None if the set is empty.
+    pub fn pop_first(&mut self) -> Result<Option<K>, Fault> {
+        Ok(self.worker.pop_first()?.map(K::from_key))
+    }
+
+    /// Removes the least value and returns it, after a wait for one of at most `timeout`.
+    pub fn wait_pop(&mut self, timeout: Duration) -> Result<Option<K>, Fault> {
+        Ok(self.worker.wait_pop(timeout)?.map(K::from_key))
+    }
+}
+
+impl<K> fmt::Debug for WorkerOf<K> {
+    fn fmt(&self, f: &mut fmt::Formatter<'_>) -> fmt::Result {
+        write!(f, "WorkerOf({:?})", self.worker)
+    }
+}
+
+/// The values of a range: see [`SetOf::range`].
+pub struct Values<K, I> {
+    keys: I,
+    of: PhantomData<fn(K) -> K>,
+}
+
+impl<K, I> Values<K, I> {
+    fn of(keys: I) -> Values<K, I> {
+        Values {
+            keys,
+            of: PhantomData,
+        }
+    }
+}
+
+impl<K, I> fmt::Debug for Values<K, I> {
+    fn fmt(&self, f: &mut fmt::Formatter<'_>) -> fmt::Result {
+        f.debug_struct("Values").finish_non_exhaustive()
+    }
+}
+
+impl<K: Key, I: Iterator<Item = Result<u64, Fault>>> Iterator for Values<K, I> {
+    type Item = Result<K, Fault>;
+
+    fn next(&mut self) -> Option<Result<K, Fault>> {
+        Some(self.keys.next()?.map(K::from_key))
+    }
+}
+
+impl<K: Key, I: DoubleEndedIterator<Item = Result<u64, Fault>>> DoubleEndedIterator
+    for Values<K, I>
+{
+    fn next_back(&mut self) -> Option<Result<K, Fault>> {
+        Some(self.keys.next_back()?.map(K::from_key))
+    }
+}

@@ -1,0 +1,92 @@
+//! Tests sets of other types than `u64`: they answer like a `BTreeSet` of the type.
+
+use nm_set::{Fault, Key, SetOf};
+use std::collections::BTreeSet;
+use std::fmt::Debug;
+use std::time::Duration;
+
+/// Makes calls on a set of values and on a `BTreeSet`, and compares the answers.
+fn answers_like<K: Key + Debug>(values: &[K]) {
+    let set = SetOf::<K>::new().unwrap();
+    let mut peer = BTreeSet::new();
+    let mut worker = set.attach().unwrap();
+    for &value in values {
+        assert_eq!(worker.insert(value), Ok(peer.insert(value)));
+        assert_eq!(
+            (set.insert(value), set.contains(value)),
+            (Ok(false), Ok(true))
+        );
+        assert_eq!(set.at_least(value), Ok(Some(value)));
+        assert_eq!(set.at_most(value), Ok(Some(value)));
+        assert_eq!(K::from_key(value.to_key()), value);
+    }
+    let all: Result<Vec<K>, Fault> = set.iter().collect();
+    assert_eq!(all, Ok(peer.iter().copied().collect()));
+    for &from in &peer {
+        for &to in peer.range(from..) {
+            let got: Result<Vec<K>, Fault> = set.range(from..=to).rev().collect();
+            let want: Vec<K> = peer.range(from..=to).rev().copied().collect();
+            assert_eq!(got, Ok(want));
+        }
+    }
+    assert_eq!(set.first(), Ok(peer.first().copied()));
+    assert_eq!(set.last(), Ok(peer.last().copied()));
+    assert_eq!(worker.wait_pop(Duration::ZERO), Ok(peer.pop_first()));
+    assert_eq!(set.pop_last(), Ok(peer.pop_last()));
+    let least = *peer.first().unwrap();
+    assert_eq!(
+        (worker.remove(least), worker.contains(least)),
+        (Ok(true), Ok(false))
+    );
+    peer.remove(&least);
+    drop(worker);
+    assert_eq!(set.len(), Ok(peer.len()));
+    assert_eq!(set.close(), Ok(peer.into_iter().collect()));
+}
+
+#[test]
+fn sets_of_each_type_answer_like_a_tree() {
+    answers_like(&[5_i64, -7, 0, i64::MIN, i64::MAX - 3, -1]);
+    answers_like(&[5_u64, 7, 0, u64::MAX - 3, 6]);
+    answers_like(&[5_i8, -7, 0, i8::MIN, i8::MAX, -1]);
+    answers_like(&[5_u32, 7, 0, u32::MAX, 6]);
+    answers_like(&[(1_u32, 2_u32), (1, 0), (0, 9), (7, 0), (1, u32::MAX)]);
+    answers_like(&[
+        (-1_i32, 2_u16),
+        (-1, 0),
+        (3, 9),
+        (i32::MIN, 0),
+        (1, u16::MAX),
+    ]);
+    answers_like(&[
+        ((1_u8, -2_i8), 5_u32),
+        ((1, -3), 5),
+        ((0, 0), 1),
+        ((1, -2), 4),
+    ]);
+}
+
+#[test]
+fn each_value_of_a_small_type_keeps_its_order() {
+    let keys: Vec<u64> = (i16::MIN..=i16::MAX).map(Key::to_key).collect();
+    assert!(keys.windows(2).all(|two| two[0] < two[1]));
+    assert_eq!(
+        (keys[0], keys.len(), i16::from_key(0)),
+        (0, 65_536, i16::MIN)
+    );
+    let pairs = (0..=u8::MAX).flat_map(|one| (i8::MIN..=i8::MAX).map(move |two| (one, two)));
+    assert!(pairs.map(Key::to_key).eq(0..65_536));
+}
+
+#[test]
+fn values_that_are_no_keys_are_refused() {
+    let set = SetOf::<i64>::new().unwrap();
+    assert_eq!(set.extend([i64::MIN, -5, i64::MAX - 3]), Ok(3));
+    assert_eq!(set.insert(i64::MAX), Err(Fault::Key(u64::MAX)));
+    assert_eq!(set.at_most(i64::MAX), Ok(Some(i64::MAX - 3)));
+    assert_eq!(set.range(-5..=i64::MAX).count(), 2);
+    assert_eq!(
+        (set.keys().contains(0), set.clone().len()),
+        (Ok(true), Ok(3))
+    );
+}
