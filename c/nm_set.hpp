@@ -971,6 +971,11 @@ public:
     Set(std::uint64_t nodes, keys_t, std::initializer_list<Key> list, const Options &options = {})
         : Set(nodes, list.begin(), list.end(), options) {}
 
+    // Makes the set of these keys, which grows.
+    Set(keys_t, std::initializer_list<Key> list, const Options &options = {}) : Set(options) {
+        insert(list.begin(), list.end());
+    }
+
     template <typename Input, typename = typename std::iterator_traits<Input>::iterator_category>
     Set(std::uint64_t nodes, Input first, Input last, const Options &options = {})
         : Set(nodes, options) {
