@@ -368,7 +368,7 @@ private:
 // How long a call waits: for `timeout_ms` of the options, in all. A call of a set waits while each
 // worker is in a call or pinned: NM_NO_WORKER. A call of a worker waits for another thread's call
 // by the same worker: NM_IN_USE. Besides, an insert waits for nodes, and no other call does:
-// NM_FULL.
+// NM_FULL. While a set gets a new size, each call waits for the end of that, however long it takes.
 //
 // Each call throws NM_KEY if the key is above 2^64 - 4; NM_BUSY if the bound of the call was
 // reached, and then the set is unchanged; NM_NO_MEMORY; and NM_CLOSED. A call of a pinned worker
