@@ -31,6 +31,8 @@
  * - NM_IN_USE: another thread is in a call by the attached worker.
  * - NM_FULL: no nodes were free for an insert. An insert does not wait if the keys take all nodes.
  *
+ * If a set gets a new size meanwhile, a call waits for the end of that besides.
+ *
  * **A set that grows**, by NM_GROWS in place of the nodes: if an insert finds no free nodes, and
  * none can be freed, the set gets four times the nodes (see "a new size" below). The insert waits
  * for the calls of all workers, for at most its timeout. A worker that is pinned prevents it: then

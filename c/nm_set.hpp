@@ -394,7 +394,7 @@ private:
 // How long a call waits: for `timeout_ms` of the options, in all. A call of a set waits while each
 // worker is in a call or pinned: NM_NO_WORKER. A call of a worker waits for another thread's call
 // by the same worker: NM_IN_USE. Besides, an insert waits for nodes, and no other call does:
-// NM_FULL.
+// NM_FULL. While a set gets a new size, each call waits for the end of that, however long it takes.
 //
 // Each call throws NM_KEY if the key is above 2^64 - 4; NM_BUSY if the bound of the call was
 // reached, and then the set is unchanged; NM_NO_MEMORY; and NM_CLOSED. A call of a pinned worker
@@ -1091,6 +1091,11 @@ public:
     // NM_FULL.
     Set(std::uint64_t nodes, keys_t, std::initializer_list<Key> list, const Options &options = {})
         : Set(nodes, list.begin(), list.end(), options) {}
+
+    // Makes the set of these keys, which grows.
+    Set(keys_t, std::initializer_list<Key> list, const Options &options = {}) : Set(options) {
+        insert(list.begin(), list.end());
+    }
 
     template <typename Input, typename = typename std::iterator_traits<Input>::iterator_category>
     Set(std::uint64_t nodes, Input first, Input last, const Options &options = {})

@@ -197,13 +197,18 @@ static void inserts_wait_for_nodes(void) {
 }
 
 static void words_are_right(void) {
-    nm_fullness fullness = {65536, 1200, 63131, 0, 8, 0x20a};
+    nm_fullness fullness = {65536, 1200, 63131, 0, 8, 0x20a, 0};
     char words[640], brief[12];
     CHECK(
         strcmp(nm_full_words(&fullness, words, sizeof words),
                "the set is full: its 1,200 keys take 2,405 of its 65,536 nodes, and 63,131 wait to"
                " be freed; workers 1, 3 and 9 are in their way, by a pin or in a call; worker 3 is"
                " in a call, so what waits there is counted as last seen") == 0);
+    fullness.behind = fullness.unasked = 0;
+    fullness.hindering = 6;
+    CHECK(strcmp(nm_full_words(&fullness, words, sizeof words),
+                 "the set is full: its 1,200 keys take 2,405 of its 65,536 nodes, and 63,131 wait to"
+                 " be freed; the set cannot grow while workers 1 and 2 are pinned or in a call") == 0);
     CHECK(strcmp(nm_mask_words(0x21, words, sizeof words), "workers 0 and 5") == 0);
     CHECK(strcmp(nm_mask_words(3, brief, sizeof brief), "workers 0 a") == 0);
     CHECK(strcmp(nm_pool_text(NM_KEY), nm_outcome_text(NM_KEY)) == 0);

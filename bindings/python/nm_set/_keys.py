@@ -333,8 +333,7 @@ class Keys(MutableSet):  # type: ignore[type-arg]
 
     @classmethod
     def _from_iterable(cls, it: Iterable[Any]) -> set[Any]:
-        """Returns what the operators make: a set of Python, because this class has a fixed size and
-        must be closed."""
+        """Returns what the operators make: a set of Python, because this class must be closed."""
         return set(it)
 
     def copy(self) -> set[int]:

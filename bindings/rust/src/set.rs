@@ -24,8 +24,9 @@ const TOGETHER: usize = 64;
 /// moment, usually the one that the thread used before. If there is none, the call borrows a worker
 /// that is attached to a thread, if it is in no call and not pinned. If each worker is in a call or
 /// pinned, or another thread is closing the set, the call **waits**, for at most
-/// [`timeout_ms`](Options::timeout_ms), and then returns [`Fault::NoWorker`]. A thread that makes
-/// many calls may take a [`Worker`] of its own by [`attach`](Set::attach).
+/// [`timeout_ms`](Options::timeout_ms), and then returns [`Fault::NoWorker`]. While a set gets a new
+/// size, each call waits for the end of that, however long it takes. A thread that makes many calls
+/// may take a [`Worker`] of its own by [`attach`](Set::attach).
 ///
 /// [`contains`](Set::contains), [`insert`](Set::insert) and [`remove`](Set::remove) are **managed
 /// calls**. A call that lost its tries to other threads is retried, at most

@@ -1,5 +1,5 @@
 -- What a worker is answered beside which no other one has made a turn, by counting what it has won.
-use Rattle.std.proofs.Common.{◌≡◌, ◌≢◌, ◌∙◌, ℕ, zero, suc, ◌+◌, ◌<◌, ◌≤◌, inl, inr, ◌⊎◌, Bool, true, false, List, [], ◌∷◌, ◌++◌, append-nil, append_assoc, length, refl, sym, ap, subst, arith}
+use Rattle.std.proofs.Common.{◌≡◌, ◌≢◌, ◌∙◌, ℕ, ◌+◌, ◌<◌, ◌≤◌, inl, inr, ◌⊎◌, Bool, true, false, List, [], ◌∷◌, ◌++◌, append-nil, append_assoc, length, refl, sym, ap, subst, arith}
 use Rattle.std.proofs.lemmas.Bool.{cases_lt}
 use Rattle.std.proofs.lemmas.Option.{same_Some}
 use Rattle.std.specs.Prelude.{All, filter, unwrap_or, Option, Some, None}
@@ -11,7 +11,6 @@ use Rattle.nm_model.specs.declared.event.Op.{Op}
 use Rattle.nm_model.specs.declared.event.Op.TheVariants.{Has, Insert, Delete}
 use Rattle.nm_model.specs.declared.event.Event.{Event}
 use Rattle.nm_model.specs.declared.event.Event.TheVariants.{LeaveWith}
-use Rattle.nm_model.specs.declared.trace.Turn.{Turn}
 use Rattle.nm_model.specs.Searches.{Search, idle, searched}
 use Rattle.nm_model.specs.Walks.{Entry, search_after}
 use Rattle.nm_model.specs.Ordered.{HasKey, ordered, after_in, trace_in, search_of}
@@ -37,7 +36,7 @@ use Rattle.nm_order.proofs.WalksOfRuns.{trace_in-append}
 use Rattle.nm_model.specs.Histories.{AnswerStands}
 use Rattle.nm_theorem.proofs.Runs.{enough_of}
 use Rattle.nm_steps.specs.Rules.{Extends}
-use Rattle.nm_steps.specs.Steps.{PassView, IsSamePass, HasSeen, HasSeenAllOf}
+use Rattle.nm_steps.specs.Steps.{PassView, HasSeen, HasSeenAllOf}
 use Rattle.nm_steps.proofs.Growing.{goes_on_through}
 use Rattle.nm_calls.specs.Moments.{AnswerHasMoment}
 use Rattle.nm_walks.specs.WonCounts.{won_links, won_flags}
@@ -45,7 +44,7 @@ use Rattle.nm_tree.proofs.Taking.{no_shorter}
 use Rattle.nm_set.proofs.Letters.{begins}
 use Rattle.nm_set.proofs.Rests.{at_most, none_first}
 use Rattle.nm_set.proofs.AnswersInRuns.{AnsweredBy, answered_by}
-use Rattle.nm_set.proofs.Counting.{fewer, flagged_once, linked_once, none_in, no_sum}
+use Rattle.nm_set.proofs.Counting.{fewer, flagged_once, linked_once, none_in}
 
 -- ---- counts
 

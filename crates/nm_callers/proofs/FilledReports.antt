@@ -4,13 +4,12 @@ use Rattle.std.proofs.lemmas.List.Elements.{All-head}
 use Rattle.std.specs.Prelude.{Contains, Result, Ok, Err}
 use Rattle.nm_edge.specs.Keys.{IsKey}
 use Rattle.nm_edge.specs.Layouts.{Layout}
-use Rattle.nm_edge.specs.declared.edge.Side.{Side}
 use Rattle.nm_laws.proofs.ListOrders.{In, in_contained, in_right}
 use Rattle.nm_model.specs.Acts.{InSet}
 use Rattle.nm_model.specs.Headline.{after_turn, words_after, words_from, written}
-use Rattle.nm_model.specs.Memory.{Memory, infinity_0, opening}
+use Rattle.nm_model.specs.Memory.{Memory, opening}
 use Rattle.nm_model.specs.declared.event.Event.{Event}
-use Rattle.nm_model.specs.declared.event.Event.TheVariants.{Announce, Leave, LeaveWith, Advance, Claim, Give, Look, Fill, Link, Flag, Tag, Splice, Join}
+use Rattle.nm_model.specs.declared.event.Event.TheVariants.{Announce, Leave, LeaveWith, Advance, Claim, Give, Fill, Link, Flag, Tag, Splice, Join}
 use Rattle.nm_model.specs.declared.event.Field.TheVariants.{Key, Edge as EdgeOn, Birth}
 use Rattle.nm_model.specs.declared.reply.Reply.{Reply}
 use Rattle.nm_model.specs.declared.reply.Refused.{Refused}

@@ -1,12 +1,10 @@
 -- A member that adds a key, asks for it, removes it and asks again, while the others rest.
-use Rattle.std.proofs.Common.{◌≡◌, ◌∙◌, ℕ, ◌+◌, ◌<◌, ◌≤◌, inl, inr, Bool, true, false, [], sym, ap, subst, arith}
-use Rattle.std.proofs.lemmas.Bool.{cases_lt}
-use Rattle.std.specs.Prelude.{Ok, ◌⊎◌}
+use Rattle.std.proofs.Common.{◌≡◌, ◌∙◌, ℕ, ◌≤◌, inl, inr, Bool, true, false, sym, ap, subst, arith}
+use Rattle.std.specs.Prelude.{Ok}
 use Rattle.nm_edge.specs.Layouts.{IsLayout}
 use Rattle.nm_edge.specs.Keys.{IsKey}
 use Rattle.nm_model.specs.declared.event.Op.{Op}
 use Rattle.nm_model.specs.declared.event.Op.TheVariants.{Has, Insert, Delete}
-use Rattle.nm_order.specs.Logs.{part_of}
 use Rattle.nm_steps.specs.Steps.{TreeView, PassView, HasSeen}
 use Rattle.nm_steps.proofs.Seeing.{seen_itself}
 use Rattle.nm_calls.specs.Moments.{AnswerHasMoment}

@@ -1,8 +1,7 @@
 -- What a set has that one worker has filled, beside which no other one has made a turn.
-use Rattle.std.proofs.Common.{◌≡◌, ◌∙◌, ◌↔◌, ◌⊎◌, inl, inr, ℕ, suc, ◌+◌, ◌<◌, ◌≤◌, ◌==◌, Bool, true, false, List, [], ◌∷◌, ◌++◌, length, refl, sym, ap, subst, arith, ne_eqb}
-use Rattle.std.proofs.lemmas.Bool.{cases_lt, eqb-true, eqb-false}
+use Rattle.std.proofs.Common.{◌≡◌, ◌∙◌, ◌⊎◌, inl, inr, ℕ, suc, ◌+◌, ◌<◌, ◌≤◌, ◌==◌, Bool, true, false, List, [], ◌∷◌, length, refl, sym, ap, subst, arith, ne_eqb}
+use Rattle.std.proofs.lemmas.Bool.{eqb-true, eqb-false}
 use Rattle.std.specs.Prelude.{filter, Contains, None, Ok}
-use Rattle.nm_edge.specs.Keys.{IsKey}
 use Rattle.nm_edge.specs.Layouts.{Layout, IsLayout}
 use Rattle.nm_edge.specs.declared.placement.Fit.{Fit}
 use Rattle.nm_laws.proofs.ListOrders.{In, contained_in, in_contained}
@@ -28,7 +27,6 @@ use Rattle.nm_steps.specs.declared.view.View.{View}
 use Rattle.nm_steps.specs.Steps.{TreeView, PassView, HasSeen}
 use Rattle.nm_steps.proofs.Seeing.{seen_itself}
 use Rattle.nm_walks.specs.WonCounts.{won_flags, won_links}
-use Rattle.nm_calls.specs.Won.{HasWon}
 use Rattle.nm_calls.specs.declared.fault.CallFault.TheVariants as fault
 use Rattle.nm_tree.specs.Running.{HasSeenTurns}
 use Rattle.nm_tree.specs.Workers.{WorkerView}

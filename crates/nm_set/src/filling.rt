@@ -15,17 +15,22 @@ use crate::set::Set;
 use nm_edge::Key;
 use nm_tree::{CallFault, Fit, NewError};
 use std::alloc::Global;
+use thiserror::Error;
 
 /// Why a set was not made of keys.
-#[derive(Clone, Copy, Debug, PartialEq, Eq)]
+#[derive(Clone, Copy, Debug, Error, PartialEq, Eq)]
 pub enum OfKeysError {
     /// The number of nodes, or of workers, is not allowed, or memory was refused.
+    #[error("{0}")]
     New(NewError),
     /// A key is not above the one before it.
+    #[error("the keys do not ascend")]
     Order,
     /// No slot was free: n keys take 2 n + 5 nodes.
+    #[error("no slot is free for a key: n keys take 2 n + 5 nodes")]
     Full,
     /// An insert reached the bounds of the options.
+    #[error("an insert reached the bounds of the options")]
     Busy,
 }
 

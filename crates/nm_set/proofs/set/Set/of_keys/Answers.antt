@@ -1,9 +1,9 @@
-use Rattle.std.proofs.Common.{◌≡◌, ◌+◌, ◌<◌, ◌∙◌, ℕ, List, [], ◌∷◌, length, length-append, ap, arith, subst, sym}
+use Rattle.std.proofs.Common.{◌≡◌, ◌<◌, ◌∙◌, ℕ, List, [], ◌∷◌, length, length-append, ap, arith, subst, sym}
 use Rattle.nm_edge.specs.Layouts.{Layout}
 use Rattle.nm_edge.specs.declared.placement.Fit.{Fit}
 use Rattle.nm_order.specs.Logs.{part_of}
 use Rattle.nm_steps.specs.Steps.{TreeView}
-use Rattle.nm_set.specs.Filling.{HasFilled, HasInserted, HaveWatched}
+use Rattle.nm_set.specs.Filling.{HasInserted, HaveWatched}
 use Rattle.nm_set.specs.Seats.{AreNewMembers, IsNewMember, MemberView}
 use Rattle.nm_set.proofs.Filled.{has_filled}
 use Rattle.nm_set.proofs.FirstLooks.{last_new, taken_off}
