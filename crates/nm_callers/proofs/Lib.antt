@@ -16,6 +16,7 @@ pub mod OneMember
 pub mod RadixLookups
 pub mod ReadNodes
 pub mod Schedulers
+pub mod RangesRead
 pub mod RunSums
 pub mod AddedUp
 pub mod Working
