@@ -17,6 +17,7 @@ pub mod FilledReports
 pub mod RadixLookups
 pub mod ReadNodes
 pub mod Schedulers
+pub mod RangesRead
 pub mod AddedUp
 pub mod Working
 pub mod InsertMoments

@@ -1,4 +1,5 @@
--- What a scheduler may rely on that pops the least key of a set which others change.
+-- What a worker may rely on that pops the least key of a set which others change, or reads a range of
+-- it.
 use Rattle.std.specs.Prelude.{ℕ, List, ◌++◌, length, ◌≡◌, ◌<◌}
 use Rattle.nm_edge.specs.Layouts.{Layout}
 use Rattle.nm_model.specs.Headline.{words_after}
@@ -9,3 +10,8 @@ use Rattle.nm_model.specs.Acts.{InSet}
 abbrev pub StandsThroughout : Layout → List Turn → List Turn → ℕ → Type 0
 StandsThroughout L was now k = (so_far rest : List Turn) → now ≡ so_far ++ rest
     → length was < length so_far → InSet (words_after L so_far) k
+
+-- the set did not have the key after any such beginning
+abbrev pub AbsentThroughout : Layout → List Turn → List Turn → ℕ → Type 0
+AbsentThroughout L was now k = (so_far rest : List Turn) → now ≡ so_far ++ rest
+    → length was < length so_far → InSet (words_after L so_far) k → ⊥

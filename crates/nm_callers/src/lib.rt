@@ -15,6 +15,7 @@ mod others;
 mod page;
 mod queue;
 mod radix;
+mod ranges;
 mod reading;
 mod rejoining;
 mod sets;
@@ -37,6 +38,7 @@ pub use page::{
 };
 pub use queue::take_two_tasks;
 pub use radix::look_in_radix;
+pub use ranges::{ReadTwice, read_range, read_range_back, read_twice};
 pub use reading::look_where_told;
 pub use rejoining::{Rejoined, add_then_rejoin};
 pub use sets::{insert_then_end, insert_then_report};
