@@ -3,7 +3,7 @@
 use nm_edge::Key;
 use nm_set::{
     CallFault, CloseReason, EndError, Fit, Fullness, InsertFault, Member, MemberFault, NotPinned,
-    ObserveFault, Options, PinFault, Report, ResignReason, Set, Stamp,
+    ObserveFault, OfKeysError, Options, PinFault, Report, ResignReason, Set, SetOfKeys, Stamp,
 };
 use std::process::Abort;
 use std::test::Fail;
@@ -88,6 +88,46 @@ fn a_member_answers_and_keeps_what_it_holds(rt: HostRuntime) -> Result<(), Fail>
     let _ = again.advance();
     let _ = again.advance();
     assert_eq!(rt; (again.collect().freed, again.queue_len()), (2, 0));
+    Ok(())
+}
+
+/// Returns why no set was made of keys.
+fn not_made(rt: &impl Abort, made: Result<SetOfKeys, OfKeysError>) -> OfKeysError {
+    match made {
+        Ok(_) => panic!(rt; "a set was made"),
+        Err(error) => error,
+    }
+}
+
+#[test]
+fn a_set_is_made_of_keys(rt: HostRuntime) -> Result<(), Fail> {
+    let options = Options::default();
+    let three = [key(&rt, 3), key(&rt, 5), key(&rt, 9)];
+    let SetOfKeys {
+        set,
+        mut others,
+        mut filler,
+    } = Set::of_keys(rt.alloc(), 11, 2, &three, &options)?;
+    let Some(mut other) = others.pop() else {
+        panic!(rt; "a set of two workers has one other member")
+    };
+    assert_eq!(rt;
+        (
+            other.contains(three[1], &options),
+            filler.contains(key(&rt, 4), &options)
+        ),
+        (Ok(true), Ok(false))
+    );
+    assert_eq!(rt; (other.stats().links, filler.stats().links), (0, 3));
+    other.close();
+    filler.close();
+    let (left, slots) = closed(&rt, set);
+    assert_eq!(rt; (left.len(), slots), (3, 6));
+    let full = Set::of_keys(rt.alloc(), 10, 1, &three, &options);
+    assert_eq!(rt; not_made(&rt, full), OfKeysError::Full);
+    let twice = [key(&rt, 3), key(&rt, 3)];
+    let doubled = Set::of_keys(rt.alloc(), 64, 1, &twice, &options);
+    assert_eq!(rt; not_made(&rt, doubled), OfKeysError::Order);
     Ok(())
 }
 
