@@ -480,14 +480,14 @@ public:
     // Removes the least keys that are below a bound, one by one and at most `room`, and returns them.
     // It throws a fault only if it has removed no key.
     std::vector<std::uint64_t> pop_first_many(Key below, std::size_t room) {
-        std::vector<std::uint64_t> keys(room);
+        std::vector<std::uint64_t> popped(room);
         std::size_t count = 0;
         done([&](const detail::Place &to) {
-            return nm_pool_pop_first_many(to.pool, to.worker, below, keys.data(), room, &count,
+            return nm_pool_pop_first_many(to.pool, to.worker, below, popped.data(), room, &count,
                                           to.timeout_ms);
         });
-        keys.resize(count);
-        return keys;
+        popped.resize(count);
+        return popped;
     }
 
     // Removes the least key and returns it, like `pop_first`. If the set is empty it waits for a key,
@@ -532,13 +532,13 @@ public:
     // Inserts these keys, one by one, and appends to `answers` whether each was absent. A look-up of
     // 64 of them at a time comes first: it is faster than single calls if the set is larger than
     // the caches of the processor. If it throws a fault, the keys that have answers are inserted.
-    void insert_many(const std::vector<std::uint64_t> &keys, std::vector<bool> &answers) {
-        change_many(nm_pool_insert_many, keys, answers);
+    void insert_many(const std::vector<std::uint64_t> &wanted, std::vector<bool> &answers) {
+        change_many(nm_pool_insert_many, wanted, answers);
     }
 
     // Removes these keys in the same way, and appends whether each was present.
-    void remove_many(const std::vector<std::uint64_t> &keys, std::vector<bool> &answers) {
-        change_many(nm_pool_remove_many, keys, answers);
+    void remove_many(const std::vector<std::uint64_t> &wanted, std::vector<bool> &answers) {
+        change_many(nm_pool_remove_many, wanted, answers);
     }
 
     // Inserts these keys, one by one; returns how many were absent. It waits for each key like
@@ -606,18 +606,18 @@ private:
 
     // Changes keys by a call of the pool, and appends its answers.
     template <typename Call>
-    void change_many(Call call, const std::vector<std::uint64_t> &keys,
+    void change_many(Call call, const std::vector<std::uint64_t> &wanted,
                      std::vector<bool> &answers) {
-        std::vector<unsigned char> bytes(keys.size());
+        std::vector<unsigned char> bytes(wanted.size());
         std::size_t count = 0;
         nm_outcome outcome = ask([&](const detail::Place &to) {
-            return call(to.pool, to.worker, keys.data(), keys.size(), bytes.data(), &count,
+            return call(to.pool, to.worker, wanted.data(), wanted.size(), bytes.data(), &count,
                         to.timeout_ms);
         });
         auto end = bytes.begin() + static_cast<std::ptrdiff_t>(count);
         std::transform(bytes.begin(), end, std::back_inserter(answers),
                        [](unsigned char byte) { return byte != 0; });
-        if (outcome < 0) detail::fail_at(self().place(), outcome, keys[count]);
+        if (outcome < 0) detail::fail_at(self().place(), outcome, wanted[count]);
     }
 
     // Returns the least key that is not below `from` and is below `below`.
