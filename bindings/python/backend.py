@@ -1,10 +1,10 @@
 """Builds the wheel and the sdist of nm_set by PEP 517 and PEP 660, with the standard library alone:
 it needs no network and no package.
 
-A C compiler makes the library for C of its proved code, which is assembly text, and puts it beside
-the modules. It also compiles the calls for keys, if there are the headers of Python. From Python
-3.11 on it compiles them for the limited API, and before for the running Python alone. Otherwise, or
-with NM_SET_PURE in the environment, the wheel is for each Python, and makes those calls by ctypes.
+A C compiler makes one extension: the calls for keys, and inside it the library for C, whose proved
+code is assembly text. From Python 3.11 on it is compiled for the limited API, and before for the
+running Python alone. Without the headers of Python, or with NM_SET_PURE in the environment, the
+wheel is for each Python: it has the library beside the modules, and makes those calls by ctypes.
 Without a compiler the wheel has no library, and the module looks for one that c/install has
 installed.
 """
@@ -131,34 +131,40 @@ def _run(what: str, made: Path, *words: str) -> Optional[Path]:
     return made
 
 
-def _compile_library(folder: Path) -> Optional[Path]:
-    """The library, made of its listed sources, or None if it cannot be made."""
+def _library_words() -> list[str]:
+    """The words by which the compiler makes the library of its listed sources, or none if it
+    cannot be made."""
     sources = [str(_top() / place) for place in _listed("source")]
     missing = [source for source in sources if not Path(source).is_file()]
     if missing or not sources:
         print(f"nm_set: the library was not compiled: no {missing or LIST}", file=sys.stderr)
-        return None
+        return []
+    return ["-std=gnu11", f"-I{_top() / 'c'}", *sources, "-Wl,-z,relro", "-Wl,-z,now"]
+
+
+def _compile_library(folder: Path, library: list[str]) -> Optional[Path]:
+    """The library as a file of its own, or None if it cannot be made."""
     name = _library_name()
-    words = ["-std=gnu11", f"-I{_top() / 'c'}", *sources, f"-Wl,-soname,{name}"]
-    words += ["-Wl,-z,defs", "-Wl,-z,relro", "-Wl,-z,now"]
-    return _run("the library was", folder / name, *words)
+    words = [*library, f"-Wl,-soname,{name}", "-Wl,-z,defs"]
+    return _run("the library was", folder / name, *words) if library else None
 
 
-def _compile_calls(folder: Path) -> Optional[Path]:
-    """The calls in C, or None if they cannot be compiled."""
+def _compile_extension(folder: Path, library: list[str]) -> Optional[Path]:
+    """The calls in C with the library inside, or None if they cannot be compiled."""
     if os.environ.get("NM_SET_PURE"):
         return None
     limited = "".join(f"{number:02x}" for number in LIMITED)
     words = [f"-DPy_LIMITED_API=0x{limited}0000"] if _is_limited() else []
     words += [f"-I{sysconfig.get_path(name)}" for name in ("include", "platinclude")]
-    words += [*_header(), str(HERE / "nm_set" / "_native.c")]
+    words += [*_header(), str(HERE / "nm_set" / "_native.c"), *library]
     return _run("the calls are those by ctypes, because C was", folder / _native_name(), *words)
 
 
 def _compiled(folder: Path) -> list[Path]:
-    """What can be compiled, in this folder."""
-    made = [_compile_library(folder), _compile_calls(folder)]
-    return [file for file in made if file is not None]
+    """What can be compiled, in this folder: the extension, or else the library."""
+    library = _library_words()
+    made = _compile_extension(folder, library) or _compile_library(folder, library)
+    return [made] if made else []
 
 
 # ---- the wheel ----

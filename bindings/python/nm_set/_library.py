@@ -15,7 +15,7 @@ from collections.abc import Iterator
 from ctypes import POINTER, c_char_p, c_int, c_int64, c_size_t, c_ubyte, c_uint32, c_uint64
 from ctypes import c_void_p
 from pathlib import Path
-from typing import Any, Final, TypeVar
+from typing import Any, Final, Optional, TypeVar
 
 from . import __version__
 
@@ -216,17 +216,37 @@ def _by_pkg_config() -> Iterator[str]:
         yield str(Path(done.stdout.strip()) / _FILE)
 
 
+def _has_library(extension: Path) -> bool:
+    """Returns whether the library is inside an extension. It is not if the extension was compiled
+    where the library's sources were missing. An extension that cannot be loaded is tried again, for
+    its error."""
+    try:
+        return hasattr(ctypes.CDLL(str(extension)), "nm_pool_new")
+    except OSError:
+        return True
+
+
+def own_file() -> Optional[Path]:
+    """Returns the extension beside this module if the library is in it, or else the library beside
+    this module, or None if neither is there."""
+    here = Path(__file__).resolve().parent
+    extensions = [path for path in sorted(here.glob("_native.*so")) if _has_library(path)]
+    return next((path for path in [*extensions, here / _FILE] if path.exists()), None)
+
+
 def _candidates() -> Iterator[str]:
-    """Yields the files that may be the library, in the order in which they are tried. If
-    NM_SET_LIBRARY names a file, it is the only one. Otherwise: the file beside this module, the
-    file that c/build made in this checkout, the file that pkg-config finds, and the file that the
-    linker finds."""
+    """Yields the files that may have the library, in the order in which they are tried. If
+    NM_SET_LIBRARY names a file, it is the only one. Otherwise: the extension beside this module,
+    the library beside it, the file that c/build made in this checkout, the file that pkg-config
+    finds, and the file that the linker finds."""
     named = os.environ.get("NM_SET_LIBRARY")
     if named:
         yield named
         return
+    own = own_file()
+    if own is not None:
+        yield str(own)
     here = Path(__file__).resolve().parent
-    yield from (str(path) for path in [here / _FILE] if path.exists())
     checkout = here.parents[2] if len(here.parents) > 2 else here
     built = checkout / "out" / "c" / "libnm_set.so"
     if (checkout / "c" / "nm_set.h").exists() and built.exists():
