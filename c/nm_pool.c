@@ -248,6 +248,11 @@ static bool sleep_for_key(nm_pool *pool, unsigned added, uint64_t end) {
 
 static bool is_bound(uint64_t below) { return below <= MOST_KEY; }
 
+/* Returns whether other threads interfered with each try of a call. */
+static bool is_interfered(nm_outcome outcome) {
+    return outcome == NM_BUSY || outcome == NM_PENDING;
+}
+
 static void no_longer_awaited(void *pool) { atomic_fetch_sub(&((nm_pool *)pool)->awaited, 1); }
 
 static void no_longer_bounded(void *pool) {
@@ -1075,7 +1080,7 @@ nm_outcome nm_pool_wait_pop(nm_pool *pool, uint32_t worker, uint64_t below, uint
                             uint32_t timeout_ms) {
     uint64_t end = now() + (uint64_t)timeout_ms * 1000000u;
     nm_outcome outcome = nm_pool_pop_first_below(pool, worker, below, taken, timeout_ms);
-    if (outcome != NM_NO || timeout_ms == 0) return outcome;
+    if ((outcome != NM_NO && !is_interfered(outcome)) || timeout_ms == 0) return outcome;
     atomic_fetch_add(&pool->awaited, 1);
     atomic_fetch_add(&pool->bounded, is_bound(below));
     pthread_cleanup_push(is_bound(below) ? no_longer_bounded : no_longer_awaited, pool);
@@ -1083,7 +1088,8 @@ nm_outcome nm_pool_wait_pop(nm_pool *pool, uint32_t worker, uint64_t below, uint
     do {
         added = atomic_load(&pool->added);
         outcome = nm_pool_pop_first_below(pool, worker, below, taken, timeout_ms);
-    } while (outcome == NM_NO && sleep_for_key(pool, added, end));
+    } while ((outcome == NM_NO && sleep_for_key(pool, added, end)) ||
+             (is_interfered(outcome) && now() < end));
     pthread_cleanup_pop(1);
     return outcome;
 }

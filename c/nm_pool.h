@@ -176,7 +176,8 @@ nm_outcome nm_pool_pop_first_many(nm_pool *pool, uint32_t worker, uint64_t below
 
 /* Removes the least key like nm_pool_pop_first_below; a bound of UINT64_MAX is none. If no key is
  * below the bound, it waits for one, for at most timeout_ms milliseconds in all, and sleeps
- * meanwhile. An insert that returns NM_YES wakes it. Tested: no wake is lost. NM_NO after that time.
+ * meanwhile. An insert that returns NM_YES wakes it. Tested: no wake is lost. If other threads
+ * interfere with its pop, it tries again until that time is over. NM_NO after that time.
  * NM_CLOSED if the set is closed meanwhile. While no call waits here, this costs other calls
  * nothing. A sleep here is no cancellation point. */
 nm_outcome nm_pool_wait_pop(nm_pool *pool, uint32_t worker, uint64_t below, uint64_t *taken,
