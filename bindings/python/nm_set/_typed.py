@@ -196,9 +196,10 @@ class SetOf(_Values[T]):
     """A set of the values of a type, by a `Mapping`: `signed()`, `pairs(32, 32)`, or one of the
     program's own. `keys` is the `Set` of their keys, for all other calls."""
 
-    def __init__(self, mapping: Mapping[T], iterable: Iterable[T] = (), **options: Any) -> None:
-        """Makes the set of these values. The options are those of `Set`, such as `nodes`."""
-        super().__init__(Set(map(mapping.to_key, iterable), **options), mapping)
+    def __init__(self, key: Mapping[T], iterable: Iterable[T] = (), **options: Any) -> None:
+        """Makes the set of these values; `key` maps them to keys and back. The options are those of
+        `Set`, such as `nodes`."""
+        super().__init__(Set(map(key.to_key, iterable), **options), key)
 
     def attach(self, blocking: bool = True, timeout: float = -1) -> WorkerOf[T]:
         """Attaches a worker to this thread: see `Set.attach`."""
