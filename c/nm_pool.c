@@ -246,6 +246,12 @@ static bool sleep_for_key(nm_pool *pool, unsigned added, uint64_t end) {
     return futex(&pool->added, FUTEX_WAIT_PRIVATE, added, &most) == 0 || errno != ETIMEDOUT;
 }
 
+/* Returns the milliseconds until some time, rounded up. */
+static uint32_t millis_until(uint64_t end) {
+    uint64_t at = now();
+    return at < end ? (uint32_t)((end - at + 999999u) / 1000000u) : 0;
+}
+
 static bool is_bound(uint64_t below) { return below <= MOST_KEY; }
 
 /* Returns whether other threads interfered with each try of a call. */
@@ -1087,7 +1093,7 @@ nm_outcome nm_pool_wait_pop(nm_pool *pool, uint32_t worker, uint64_t below, uint
     unsigned added;
     do {
         added = atomic_load(&pool->added);
-        outcome = nm_pool_pop_first_below(pool, worker, below, taken, timeout_ms);
+        outcome = nm_pool_pop_first_below(pool, worker, below, taken, millis_until(end));
     } while ((outcome == NM_NO && sleep_for_key(pool, added, end)) ||
              (is_interfered(outcome) && now() < end));
     pthread_cleanup_pop(1);
@@ -1106,6 +1112,19 @@ nm_outcome nm_pool_prev(nm_pool *pool, uint32_t worker, uint64_t key, uint64_t *
     return make(pool, worker, look_prev, NONE, &request, timeout_ms);
 }
 
+/* Makes a scan, unless its range is empty, and writes how many keys it has written. */
+static nm_outcome scan_range(nm_pool *pool, uint32_t worker, call_of call, bool is_empty,
+                             const struct request *request, size_t *count, uint32_t timeout_ms) {
+    nm_outcome outcome =
+        is_empty ? NM_NO : make(pool, worker, call, NONE, request, timeout_ms);
+    if (outcome >= 0) *count = *request->written;
+    return outcome;
+}
+
+static bool is_empty_range(uint64_t from, uint64_t below) {
+    return from >= below || from > MOST_KEY;
+}
+
 nm_outcome nm_pool_scan(nm_pool *pool, uint32_t worker, uint64_t from, uint64_t below,
                         uint64_t *keys, size_t room, size_t *count, uint64_t *next,
                         uint32_t timeout_ms) {
@@ -1116,11 +1135,8 @@ nm_outcome nm_pool_scan(nm_pool *pool, uint32_t worker, uint64_t from, uint64_t 
                                     .count = room,
                                     .written = &written,
                                     .next = next};
-    nm_outcome outcome = NM_NO;
-    if (from < below && from <= MOST_KEY)
-        outcome = make(pool, worker, look_on, NONE, &request, timeout_ms);
-    if (outcome >= 0) *count = written;
-    return outcome;
+    return scan_range(pool, worker, look_on, is_empty_range(from, below), &request, count,
+                      timeout_ms);
 }
 
 nm_outcome nm_pool_scan_back(nm_pool *pool, uint32_t worker, uint64_t from, uint64_t below,
@@ -1133,10 +1149,8 @@ nm_outcome nm_pool_scan_back(nm_pool *pool, uint32_t worker, uint64_t from, uint
                                     .count = room,
                                     .written = &written,
                                     .next = &greatest};
-    nm_outcome outcome = NM_NO;
-    if (from < below && from <= MOST_KEY)
-        outcome = make(pool, worker, look_back, NONE, &request, timeout_ms);
-    if (outcome >= 0) *count = written;
+    nm_outcome outcome = scan_range(pool, worker, look_back, is_empty_range(from, below), &request,
+                                    count, timeout_ms);
     if (outcome == NM_YES) *next = greatest + 1;
     return outcome;
 }

@@ -170,14 +170,14 @@ nm_outcome nm_pool_pop_last_from(nm_pool *pool, uint32_t worker, uint64_t from, 
 
 /* Removes the least keys that are below a bound, one by one and at most `room`, and writes them to
  * keys and their number to count. NM_DONE, also if no key is below the bound. It returns an error
- * only if it has removed no key. */
+ * only if it has removed no key. The time counts for each key. */
 nm_outcome nm_pool_pop_first_many(nm_pool *pool, uint32_t worker, uint64_t below, uint64_t *keys,
                                   size_t room, size_t *count, uint32_t timeout_ms);
 
 /* Removes the least key like nm_pool_pop_first_below; a bound of UINT64_MAX is none. If no key is
  * below the bound, it waits for one, for at most timeout_ms milliseconds in all, and sleeps
- * meanwhile. An insert that returns NM_YES wakes it. Tested: no wake is lost. If other threads
- * interfere with its pop, it tries again until that time is over. NM_NO after that time.
+ * meanwhile. An insert that returns NM_YES wakes it. Tested: no wake is lost. NM_NO after that time.
+ * If other threads interfere with its pop, it tries again: NM_BUSY or NM_PENDING after that time.
  * NM_CLOSED if the set is closed meanwhile. While no call waits here, this costs other calls
  * nothing. A sleep here is no cancellation point. */
 nm_outcome nm_pool_wait_pop(nm_pool *pool, uint32_t worker, uint64_t below, uint64_t *taken,
@@ -204,8 +204,9 @@ nm_outcome nm_pool_scan_back(nm_pool *pool, uint32_t worker, uint64_t from, uint
                              uint64_t *keys, size_t room, size_t *count, uint64_t *next,
                              uint32_t timeout_ms);
 
-/* Writes how many keys of the set are not below `from` and below `below`, by scans of 512 keys.
- * Returns NM_DONE. While others change the set, each key is counted as a scan finds it. */
+/* Writes how many keys of the set are not below `from` and are below `below`, by scans of 512 keys.
+ * Returns NM_DONE. While others change the set, each key is counted as a scan finds it. The time
+ * counts for each scan. */
 nm_outcome nm_pool_count(nm_pool *pool, uint32_t worker, uint64_t from, uint64_t below,
                          uint64_t *count, uint32_t timeout_ms);
 

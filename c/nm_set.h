@@ -327,32 +327,33 @@ nm_outcome nm_worker_contains_many(nm_handle *worker, nm_lookup *lookups, size_t
  * NM_NO if there is none. The set had found at a moment of this call. For each key from key on and
  * below found there was a moment of this call at which the set did not have it; after NM_NO the
  * same holds for each key from key on. The moments of two keys may differ. To read the keys of a
- * set in use, use nm_worker_scan, which keeps its place. A try is one try to pin or one search: give two or more. It takes no memory. Errors: NM_KEY,
- * NM_BUSY, NM_PENDING, NM_PINNED; found is not written. */
+ * set in use, use nm_worker_scan, which keeps its place. A try is one try to pin or one search: give
+ * two or more. It takes no memory. Errors: NM_KEY, NM_BUSY, NM_PENDING, NM_PINNED; found is not
+ * written. */
 nm_outcome nm_worker_next(nm_handle *worker, uint64_t key, uint32_t tries, uint64_t *found);
 
 /* Finds the greatest key of the set that is not above key, in the same way. Returns NM_YES and
  * writes it to found, or NM_NO if there is none. */
 nm_outcome nm_worker_prev(nm_handle *worker, uint64_t key, uint32_t tries, uint64_t *found);
 
-/* Writes the keys of the set from from on that are below below, in ascending order, into keys, which
- * has room for that many, and how many it wrote to count: at most 1,024. Returns NM_YES and writes
- * the key at which to continue to next, or NM_NO if the range is finished. So to read a range, call
- * again with next as from until NM_NO; next may be the place of from. Any below above 2^64 - 4 is no
- * bound.
+/* Writes keys of the set in ascending order into keys: those that are not below `from` and are below
+ * `below`, at most `room` of them and at most 1,024. Writes their number to count. Returns NM_NO if
+ * the range is finished. Returns NM_YES if there may be more, and writes to next the key at which to
+ * continue. So to read a range, call again with next as `from` until NM_NO; next may be the place of
+ * `from`. If `below` is above 2^64 - 4, the range has no upper end.
  *
- * The set had each key that it wrote at a moment of this call. For each other key of the range from
- * from on, and below next after NM_YES, there was a moment of this call at which the set did not
- * have it. The moments of two keys may differ. So no call passes over a key that was in the set
- * during the whole call. next is above from if room is not 0. The call is one walk over the range,
- * for which its worker is pinned, and takes no memory. A try is one try to pin or one search that
- * finds no key: give three or more. keys is not null, even if room is 0. Errors: NM_KEY: from is no
- * key. NM_BUSY, NM_PENDING, NM_PINNED. After an error nothing is written. */
+ * The set had each key that it wrote at a moment of this call. For each other key of the range (after
+ * NM_YES: of its part below next) there was a moment of this call at which the set did not have it.
+ * The moments of two keys may differ. So no call passes over a key that was in the set during the
+ * whole call. After NM_YES, next is above `from` if room is not 0. The call is one walk over the
+ * range, for which its worker is pinned, and takes no memory. A try is one try to pin or one search
+ * that finds no key: give three or more. keys is not null, even if room is 0. Errors: NM_KEY: `from`
+ * is no key. NM_BUSY, NM_PENDING, NM_PINNED. After an error nothing is written. */
 nm_outcome nm_worker_scan(nm_handle *worker, uint64_t from, uint64_t below, uint64_t *keys,
                           size_t room, uint64_t *count, uint64_t *next, uint32_t tries);
 
-/* Writes the keys of the set from from down that are not below least, in descending order, in the
- * same way: next is below from. */
+/* Writes keys of the set in descending order, in the same way: those that are not above `from` and
+ * not below `least`. After NM_YES, next is below `from` if room is not 0. */
 nm_outcome nm_worker_scan_back(nm_handle *worker, uint64_t from, uint64_t least, uint64_t *keys,
                                size_t room, uint64_t *count, uint64_t *next, uint32_t tries);
 

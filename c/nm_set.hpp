@@ -391,10 +391,11 @@ private:
 // point) at which its answer was right. A call for several keys takes no snapshot: while others
 // insert and remove, each key has a moment of its own.
 //
-// How long a call waits: for `timeout_ms` of the options, in all. A call of a set waits while each
-// worker is in a call or pinned: NM_NO_WORKER. A call of a worker waits for another thread's call
-// by the same worker: NM_IN_USE. Besides, an insert waits for nodes, and no other call does:
-// NM_FULL. While a set gets a new size, each call waits for the end of that, however long it takes.
+// How long a call waits: for `timeout_ms` of the options, in all; a call for several keys so long
+// for each key, and one that reads keys for each block. A call of a set waits while each worker is
+// in a call or pinned: NM_NO_WORKER. A call of a worker waits for another thread's call by the same
+// worker: NM_IN_USE. Besides, an insert waits for nodes, and no other call does: NM_FULL. While a
+// set gets a new size, each call waits for the end of that, however long it takes.
 //
 // Each call throws NM_KEY if the key is above 2^64 - 4; NM_BUSY if the bound of the call was
 // reached, and then the set is unchanged; NM_NO_MEMORY; and NM_CLOSED. A call of a pinned worker
@@ -478,7 +479,7 @@ public:
     }
 
     // Removes the least keys that are below a bound, one by one and at most `room`, and returns them.
-    // It throws a fault only if it has removed no key.
+    // It waits for each key like `pop_first`. It throws a fault only if it has removed no key.
     std::vector<std::uint64_t> pop_first_many(Key below, std::size_t room) {
         std::vector<std::uint64_t> popped(room);
         std::size_t count = 0;
@@ -509,7 +510,7 @@ public:
     [[nodiscard]] bool empty() const { return !first(); }
 
     // Returns how many keys are not below `from` and are below `below`. While others change the
-    // set, it counts each key as it finds it.
+    // set, it counts each key as it finds it. It reads 512 keys a call, and waits for each call.
     [[nodiscard]] std::uint64_t count(Key from, Key below) const {
         std::uint64_t found = 0;
         done([&](const detail::Place &to) {
@@ -531,7 +532,8 @@ public:
 
     // Inserts these keys, one by one, and appends to `answers` whether each was absent. A look-up of
     // 64 of them at a time comes first: it is faster than single calls if the set is larger than
-    // the caches of the processor. If it throws a fault, the keys that have answers are inserted.
+    // the caches of the processor. It waits for each key like `insert`. If it throws a fault, the
+    // keys that have answers are inserted.
     void insert_many(const std::vector<std::uint64_t> &wanted, std::vector<bool> &answers) {
         change_many(nm_pool_insert_many, wanted, answers);
     }

@@ -16,6 +16,7 @@ from ._faults import MOST_KEY, OutOfRange, shown
 from ._set import Set, Worker
 
 T = TypeVar("T")
+_V = TypeVar("_V", bound="_Values[Any]")
 
 
 @dataclass(frozen=True)
@@ -86,6 +87,18 @@ class _Values(MutableSet, Generic[T]):  # type: ignore[type-arg]
 
     def _value(self, key: Optional[int]) -> Optional[T]:
         return None if key is None else self._mapping.from_key(key)
+
+    def __enter__(self: _V) -> _V:
+        return self
+
+    def __exit__(
+        self,
+        kind: Optional[type[BaseException]],
+        error: Optional[BaseException],
+        trace: Optional[TracebackType],
+    ) -> None:
+        """Ends the `with` as the set or the worker of keys does."""
+        self.keys.__exit__(kind, error, trace)
 
     def __contains__(self, value: object) -> bool:
         """Returns whether the set has a value. A value that has no key is in no set."""
@@ -180,17 +193,6 @@ class WorkerOf(_Values[T]):
         assert isinstance(self.keys, Worker)
         self.keys.close()
 
-    def __enter__(self) -> WorkerOf[T]:
-        return self
-
-    def __exit__(
-        self,
-        kind: Optional[type[BaseException]],
-        error: Optional[BaseException],
-        trace: Optional[TracebackType],
-    ) -> None:
-        self.close()
-
 
 class SetOf(_Values[T]):
     """A set of the values of a type, by a `Mapping`: `signed()`, `pairs(32, 32)`, or one of the
@@ -210,14 +212,3 @@ class SetOf(_Values[T]):
         """Ends the set, and returns the values that it had, ascending: see `Set.close`."""
         assert isinstance(self.keys, Set)
         return [self._mapping.from_key(key) for key in self.keys.close().keys]
-
-    def __enter__(self) -> SetOf[T]:
-        return self
-
-    def __exit__(
-        self,
-        kind: Optional[type[BaseException]],
-        error: Optional[BaseException],
-        trace: Optional[TracebackType],
-    ) -> None:
-        self.close()

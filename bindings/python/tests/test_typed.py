@@ -57,6 +57,15 @@ class Typed(unittest.TestCase):
         self.assertEqual(SetOf(signed(), [3, -3]).close(), [-3, 3])
         self.assertEqual(SetOf(pairs(8, 8), [(2, 1), (1, 9)], nodes=64).close(), [(1, 9), (2, 1)])
 
+    def test_an_exception_leaves_a_with_although_a_worker_is_attached(self) -> None:
+        with self.assertRaises(ZeroDivisionError):
+            with SetOf(signed(), [-1]) as numbers:
+                worker = numbers.attach()
+                self.assertIn(-1, worker)
+                raise ZeroDivisionError
+        with self.assertRaises(nm_set.Closed):
+            numbers.add(2)
+
     def test_values_that_are_no_keys_are_refused(self) -> None:
         with SetOf(signed(), [-5]) as numbers, SetOf(pairs(4, 4)) as two:
             for wrong in (2**63 - 1, 2**63, -(2**63) - 1):
