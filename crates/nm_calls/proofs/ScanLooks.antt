@@ -74,8 +74,8 @@ stretch_still side end n p q a on d w = record {
   wide = w.wide;
   top = w.top;
   stops = w.stops;
-  comes = λ some j le less. come_still p q a n j d.node (w.comes some j le less);
-  known = λ some. on.keeps (KnowsSlot d.node) (w.known some);
+  comes = λ some j le less. come_still p q a n j d.next.slot (w.comes some j le less);
+  known = λ some. on.keeps (KnowsSlot d.next.slot) (w.known some);
   ends = λ null j le less. ended_still p q a j (d.found == j) (w.ends null j le less);
 }
 
@@ -100,53 +100,53 @@ stops_within Right end d e above below stops = omega (arith, below, stops)
 
 -- ---- a walk begins
 
-over_wide : (side : Side) (at end first : ℕ) → IsPast side at end → (stretch_over side at end first).low < (stretch_over side at end first).high
+over_wide : (side : Side) (at end : ℕ) (first : Edge) → IsPast side at end → (stretch_over side at end first).low < (stretch_over side at end first).high
 over_wide Left at end first past = past
 over_wide Right at end first past = past
 
-over_top : (side : Side) (at end first : ℕ) → at ≤ infinity_0 → end ≤ infinity_0 → (stretch_over side at end first).high ≤ infinity_0
+over_top : (side : Side) (at end : ℕ) (first : Edge) → at ≤ infinity_0 → end ≤ infinity_0 → (stretch_over side at end first).high ≤ infinity_0
 over_top Left at end first one other = one
 over_top Right at end first one other = other
 
-over_stops : (side : Side) (at end first : ℕ) → Lies side (exit_of side (stretch_over side at end first)) end
+over_stops : (side : Side) (at end : ℕ) (first : Edge) → Lies side (exit_of side (stretch_over side at end first)) end
 over_stops Left at end first = omega arith
 over_stops Right at end first = omega arith
 
-over_node : (side : Side) (at end first : ℕ) → (stretch_over side at end first).node ≡ first
-over_node Left at end first = refl
-over_node Right at end first = refl
+over_next : (side : Side) (at end : ℕ) (first : Edge) → (stretch_over side at end first).next ≡ first
+over_next Left at end first = refl
+over_next Right at end first = refl
 
-pub over_entry : (side : Side) (at end first : ℕ) → entry_of side (stretch_over side at end first) ≡ at
+pub over_entry : (side : Side) (at end : ℕ) (first : Edge) → entry_of side (stretch_over side at end first) ≡ at
 over_entry Left at end first = refl
 over_entry Right at end first = refl
 
-pub stretch_begins : (side : Side) (at end : ℕ) (p q : PassView) (e : Edge) → Stepped p q (Look 2 (EdgeOn Left)) (EdgeIs e) → EdgeTold p q 2 Left e → IsPast side at end → at ≤ infinity_0 → end ≤ infinity_0 → IsStretch side end 0 q (stretch_over side at end e.slot)
+pub stretch_begins : (side : Side) (at end : ℕ) (p q : PassView) (e : Edge) → Stepped p q (Look 2 (EdgeOn Left)) (EdgeIs e) → EdgeTold p q 2 Left e → IsPast side at end → at ≤ infinity_0 → end ≤ infinity_0 → IsStretch side end 0 q (stretch_over side at end e)
 stretch_begins side at end p q e step told past one other = record {
-  wide = over_wide side at end e.slot past;
-  top = over_top side at end e.slot one other;
-  stops = over_stops side at end e.slot;
+  wide = over_wide side at end e past;
+  top = over_top side at end e one other;
+  stops = over_stops side at end e;
   comes = λ some j le less. subst (HasPassed 0 q.view.log j) (sym is) (comes_first p q e step (λ null. some (is ∙ null)) j);
   known = λ some. subst (λ (x : ℕ). Tells q (KnowsSlot x)) (sym is) (told.learned.leads (λ null. some (is ∙ null)));
   ends = λ null. absurd (told.root refl refl (sym is ∙ null));
 }
   where
-    is : (stretch_over side at end e.slot).node ≡ e.slot
-    is = over_node side at end e.slot
+    is : (stretch_over side at end e).next.slot ≡ e.slot
+    is = ap (λ (n : Edge). n.slot) (over_next side at end e)
 
 -- ---- and reads a node
 
-module _ (side : Side) (end n : ℕ) (p q : PassView) (d : Stretch) (on : Onward) (r : Reads d.low d.node p.view.log q.view.log on) (told : OnwardTold p q d.low d.node on.found on.side on.next) (w : IsStretch side end n p d) (some : d.node ≢ 0) where
+module _ (side : Side) (end n : ℕ) (p q : PassView) (d : Stretch) (on : Onward) (r : Reads d.low d.next.slot p.view.log q.view.log on) (told : OnwardTold p q d.low d.next.slot on.found on.side on.next) (w : IsStretch side end n p d) (some : d.next.slot ≢ 0) where
   -- keys that turn to the same side there go on with it
   on_with : (j : ℕ) → d.low ≤ j → j < d.high → (d.low < on.found → j < on.found) → on.next.slot ≢ 0 → HasPassed (n + 1) q.view.log j on.next.slot
-  on_with j le less below more = comes_on p q n j d.node on (read_alike d.low j d.node p.view.log q.view.log on (same_side d.low j on.found le below) r) (w.comes some j le less) more
+  on_with j le less below more = comes_on p q n j d.next.slot on (read_alike d.low j d.next.slot p.view.log q.view.log on (same_side d.low j on.found le below) r) (w.comes some j le less) more
 
   -- all of them, or it is a leaf: then a key below the leaf's goes right where the walk goes left, and
   -- each of both edges is null
-  pub stretch_on : IsLeafRead d.node p.view.log q.view.log on → (on.next.slot ≢ 0 → (on.found ≤ d.low) ⊎ (d.high ≤ on.found)) → IsStretch side end (n + 1) q (record { low = d.low; high = d.high; node = on.next.slot; found = on.found })
+  pub stretch_on : IsLeafRead d.next.slot p.view.log q.view.log on → (on.next.slot ≢ 0 → (on.found ≤ d.low) ⊎ (d.high ≤ on.found)) → IsStretch side end (n + 1) q (record { low = d.low; high = d.high; next = on.next; found = on.found })
   stretch_on leaf together = record {
     wide = w.wide;
     top = w.top;
-    stops = stops_within side end d (record { low = d.low; high = d.high; node = on.next.slot; found = on.found }) (omega arith) (omega arith) w.stops;
+    stops = stops_within side end d (record { low = d.low; high = d.high; next = on.next; found = on.found }) (omega arith) (omega arith) w.stops;
     comes = λ more j le less. on_with j le less (λ below. all j le less below (together more)) more;
     known = λ more. told.learned.leads more;
     ends = λ null j le less. by null (cases_lt d.low on.found) j le less;
@@ -165,24 +165,24 @@ module _ (side : Side) (end n : ℕ) (p q : PassView) (d : Stretch) (on : Onward
           let left : on.side ≡ Left = r.3 ∙ ap (λ (b : Bool). cond b Left Right) (lt-ltb d.low on.found below) in
           let both = leaf left null in
           let mine : Onward = record { found = on.found; side = side_of j on.found; next = edge_on (side_of j on.found) both.0 both.1 } in
-          ends_so p q n j d.node mine (both.0, both.1, both.2, refl, refl) (w.comes some j le less) (on_side (side_of j on.found) both.0 both.1 both.3 both.4)
+          ends_so p q n j d.next.slot mine (both.0, both.1, both.2, refl, refl) (w.comes some j le less) (on_side (side_of j on.found) both.0 both.1 both.3 both.4)
       by null (inr above) j le less =
-          ends_so p q n j d.node on (read_alike d.low j d.node p.view.log q.view.log on (same_side d.low j on.found le (λ below. absurd (omega (arith, below, above)))) r) (w.comes some j le less) null
+          ends_so p q n j d.next.slot on (read_alike d.low j d.next.slot p.view.log q.view.log on (same_side d.low j on.found le (λ below. absurd (omega (arith, below, above)))) r) (w.comes some j le less) null
 
   module _ (more : on.next.slot ≢ 0) (above : d.low < on.found) (below : on.found < d.high) where
     -- if they part there, it goes on with the lower ones
-    lower_on : IsStretch side end (n + 1) q (record { low = d.low; high = on.found; node = on.next.slot; found = on.found })
+    lower_on : IsStretch side end (n + 1) q (record { low = d.low; high = on.found; next = on.next; found = on.found })
     lower_on = record {
       wide = above;
       top = let top = w.top in omega (arith, top, below);
-      stops = stops_within side end d (record { low = d.low; high = on.found; node = on.next.slot; found = on.found }) (omega arith) (omega (arith, below)) w.stops;
+      stops = stops_within side end d (record { low = d.low; high = on.found; next = on.next; found = on.found }) (omega arith) (omega (arith, below)) w.stops;
       comes = λ _ j le less. on_with j le (omega (arith, less, below)) (λ _. less) more;
       known = λ _. told.learned.leads more;
       ends = λ null. absurd (more null);
     }
 
     -- and the others have read its key
-    has_read : (j : ℕ) → on.found ≤ j → j < d.high → (parent : ℕ) × (up : Side) × (walk : WalkReads j (since_pin [] q.view.log) d.node parent up on.found) × (1 + 2 * n ≤ length walk.looks)
+    has_read : (j : ℕ) → on.found ≤ j → j < d.high → (parent : ℕ) × (up : Side) × (walk : WalkReads j (since_pin [] q.view.log) d.next.slot parent up on.found) × (1 + 2 * n ≤ length walk.looks)
     has_read j le less =
         let h = w.comes some j (omega (arith, above, le)) less in (
           h.0,
@@ -190,47 +190,47 @@ module _ (side : Side) (end n : ℕ) (p q : PassView) (d : Stretch) (on : Onward
           record {
             looks = h.2.looks;
             leads = h.2.leads;
-            is_part = part_within (looks_longer p.view.log q.view.log d.low d.node on r h.2.looks h.2.is_part) (h.2.looks ++ (Look d.node KeyOf, KeyIs on.found) ∷ [])
-                (but_last h.2.looks (Look d.node KeyOf, KeyIs on.found) (Look d.node (EdgeOn (side_of d.low on.found)), EdgeIs on.next));
+            is_part = part_within (looks_longer p.view.log q.view.log d.low d.next.slot on r h.2.looks h.2.is_part) (h.2.looks ++ (Look d.next.slot KeyOf, KeyIs on.found) ∷ [])
+                (but_last h.2.looks (Look d.next.slot KeyOf, KeyIs on.found) (Look d.next.slot (EdgeOn (side_of d.low on.found)), EdgeIs on.next));
           },
           h.3,
         )
 
     -- so they go on by the right edge
-    module _ (z : PassView) (e : Edge) (step : Stepped q z (Look d.node (EdgeOn Right)) (EdgeIs e)) (on' : GoesOn q z) (told' : EdgeTold q z d.node Right e) where
+    module _ (z : PassView) (e : Edge) (step : Stepped q z (Look d.next.slot (EdgeOn Right)) (EdgeIs e)) (on' : GoesOn q z) (told' : EdgeTold q z d.next.slot Right e) where
       right : (j : ℕ) → on.found ≤ j → side_of j on.found ≡ Right
       right j le = ap (λ (b : Bool). cond b Left Right) (le-ltb j on.found le)
 
-      looks_more : (j : ℕ) → on.found ≤ j → (looks : List Entry) → IsPart (looks ++ (Look d.node KeyOf, KeyIs on.found) ∷ []) (since_pin [] q.view.log) → IsPart (looks ++ (Look d.node KeyOf, KeyIs on.found) ∷ (Look d.node (EdgeOn (side_of j on.found)), EdgeIs e) ∷ []) (since_pin [] z.view.log)
-      looks_more j le looks part = subst (λ (s : Side). IsPart (looks ++ (Look d.node KeyOf, KeyIs on.found) ∷ (Look d.node (EdgeOn s), EdgeIs e) ∷ []) (since_pin [] z.view.log)) (sym (right j le))
-          (subst (IsPart (looks ++ (Look d.node KeyOf, KeyIs on.found) ∷ (Look d.node (EdgeOn Right), EdgeIs e) ∷ [])) (sym (since_grows q.view.log z.view.log (look_added q z d.node Right e step)))
-          (subst (λ (l : List Entry). IsPart l (since_pin [] q.view.log ++ (Look d.node (EdgeOn Right), EdgeIs e) ∷ [])) (append_assoc looks ((Look d.node KeyOf, KeyIs on.found) ∷ []) ((Look d.node (EdgeOn Right), EdgeIs e) ∷ []))
+      looks_more : (j : ℕ) → on.found ≤ j → (looks : List Entry) → IsPart (looks ++ (Look d.next.slot KeyOf, KeyIs on.found) ∷ []) (since_pin [] q.view.log) → IsPart (looks ++ (Look d.next.slot KeyOf, KeyIs on.found) ∷ (Look d.next.slot (EdgeOn (side_of j on.found)), EdgeIs e) ∷ []) (since_pin [] z.view.log)
+      looks_more j le looks part = subst (λ (s : Side). IsPart (looks ++ (Look d.next.slot KeyOf, KeyIs on.found) ∷ (Look d.next.slot (EdgeOn s), EdgeIs e) ∷ []) (since_pin [] z.view.log)) (sym (right j le))
+          (subst (IsPart (looks ++ (Look d.next.slot KeyOf, KeyIs on.found) ∷ (Look d.next.slot (EdgeOn Right), EdgeIs e) ∷ [])) (sym (since_grows q.view.log z.view.log (look_added q z d.next.slot Right e step)))
+          (subst (λ (l : List Entry). IsPart l (since_pin [] q.view.log ++ (Look d.next.slot (EdgeOn Right), EdgeIs e) ∷ [])) (append_assoc looks ((Look d.next.slot KeyOf, KeyIs on.found) ∷ []) ((Look d.next.slot (EdgeOn Right), EdgeIs e) ∷ []))
           (joined part (takes nothing))))
 
       comes_right : e.slot ≢ 0 → (j : ℕ) → on.found ≤ j → j < d.high → HasPassed (n + 1) z.view.log j e.slot
       comes_right there j le less =
           let h = has_read j le less in (
-            d.node,
+            d.next.slot,
             side_of j on.found,
-            record { looks = h.2.looks ++ (Look d.node KeyOf, KeyIs on.found) ∷ (Look d.node (EdgeOn (side_of j on.found)), EdgeIs e) ∷ []; leads = leads_on h.2.leads on.found e there; is_part = looks_more j le h.2.looks h.2.is_part },
-            (let many = h.3 in let more = length-append h.2.looks ((Look d.node KeyOf, KeyIs on.found) ∷ (Look d.node (EdgeOn (side_of j on.found)), EdgeIs e) ∷ []) in omega (arith, many, more)),
+            record { looks = h.2.looks ++ (Look d.next.slot KeyOf, KeyIs on.found) ∷ (Look d.next.slot (EdgeOn (side_of j on.found)), EdgeIs e) ∷ []; leads = leads_on h.2.leads on.found e there; is_part = looks_more j le h.2.looks h.2.is_part },
+            (let many = h.3 in let more = length-append h.2.looks ((Look d.next.slot KeyOf, KeyIs on.found) ∷ (Look d.next.slot (EdgeOn (side_of j on.found)), EdgeIs e) ∷ []) in omega (arith, many, more)),
           )
 
       ends_right : e.slot ≡ 0 → (j : ℕ) → on.found ≤ j → j < d.high → HasEndedSo z j (on.found == j)
-      ends_right null j le less = let h = has_read j le less in (d.node, h.0, on.found, h.1, record { looks = h.2.looks; leads = h.2.leads; null = e; is_null = null; is_part = looks_more j le h.2.looks h.2.is_part }, refl)
+      ends_right null j le less = let h = has_read j le less in (d.next.slot, h.0, on.found, h.1, record { looks = h.2.looks; leads = h.2.leads; null = e; is_null = null; is_part = looks_more j le h.2.looks h.2.is_part }, refl)
 
-      pub upper_on : IsStretch side end (n + 1) z (record { low = on.found; high = d.high; node = e.slot; found = on.found })
+      pub upper_on : IsStretch side end (n + 1) z (record { low = on.found; high = d.high; next = e; found = on.found })
       upper_on = record {
         wide = below;
         top = w.top;
-        stops = stops_within side end d (record { low = on.found; high = d.high; node = e.slot; found = on.found }) (omega (arith, above)) (omega arith) w.stops;
+        stops = stops_within side end d (record { low = on.found; high = d.high; next = e; found = on.found }) (omega (arith, above)) (omega arith) w.stops;
         comes = comes_right;
         known = λ there. told'.learned.leads there;
         ends = ends_right;
       }
 
-      pub lower_still : IsStretch side end (n + 1) z (record { low = d.low; high = on.found; node = on.next.slot; found = on.found })
-      lower_still = stretch_still side end (n + 1) q z (look_added q z d.node Right e step) on' (record { low = d.low; high = on.found; node = on.next.slot; found = on.found }) lower_on
+      pub lower_still : IsStretch side end (n + 1) z (record { low = d.low; high = on.found; next = on.next; found = on.found })
+      lower_still = stretch_still side end (n + 1) q z (look_added q z d.next.slot Right e step) on' (record { low = d.low; high = on.found; next = on.next; found = on.found }) lower_on
 
 -- ---- one of two is kept
 
@@ -252,15 +252,15 @@ no_stretches P new none = All-same P new [] none (All-nil P)
 
 -- ---- a walk that has looked at as many nodes as it may
 
-pub too_far : (b : TreeView) (q : PassView) → IsPinnedIn b q → (side : Side) (end n : ℕ) (d : Stretch) → IsStretch side end n q d → d.node ≢ 0 → suc n ≡ reach b.layout → (k : ℕ) → d.low ≤ k → k < d.high → IsTooFar b.layout k q.view.log
+pub too_far : (b : TreeView) (q : PassView) → IsPinnedIn b q → (side : Side) (end n : ℕ) (d : Stretch) → IsStretch side end n q d → d.next.slot ≢ 0 → suc n ≡ reach b.layout → (k : ℕ) → d.low ≤ k → k < d.high → IsTooFar b.layout k q.view.log
 too_far b q pinned side end n d w some far k le less = by b.layout.radix refl
   where
     by : (radix : Bool) → b.layout.radix ≡ radix → IsTooFar b.layout k q.view.log
-    by false plain = (plain, d.node, n, w.comes some k le less, far ∙ far_of b.layout false plain)
+    by false plain = (plain, d.next.slot, n, w.comes some k le less, far ∙ far_of b.layout false plain)
     by true radix =
         let passed = w.comes some k le less in
         let top = w.top in
-        let short = walks_are_short q.view.layout (enough q.view.layout pinned.run.fits) (ap (λ (L : Layout). L.radix) pinned.own.layout ∙ radix) q.view.number q.view.log pinned.run.run.is_part k d.node passed.0 passed.1 (omega (arith, top, less)) passed.2 in
+        let short = walks_are_short q.view.layout (enough q.view.layout pinned.run.fits) (ap (λ (L : Layout). L.radix) pinned.own.layout ∙ radix) q.view.number q.view.log pinned.run.run.is_part k d.next.slot passed.0 passed.1 (omega (arith, top, less)) passed.2 in
         let all = far ∙ far_of b.layout true radix in
         let many = passed.3 in
         absurd (omega (arith, short, all, many))
@@ -393,7 +393,7 @@ of_stretch : (side : Side) (d : Stretch) (j : ℕ) → d.low ≤ j → j < d.hig
 of_stretch Left d j le less = (le, less)
 of_stretch Right d j le less = (le, less)
 
-module _ (side : Side) (end n : ℕ) (p : PassView) (d : Stretch) (w : IsStretch side end n p d) (null : d.node ≡ 0) where
+module _ (side : Side) (end n : ℕ) (p : PassView) (d : Stretch) (w : IsStretch side end n p d) (null : d.next.slot ≡ 0) where
   other : (j : ℕ) → IsIn side (entry_of side d) (exit_of side d) j → (d.found ≡ j → ⊥) → HasEndedSo p j false
   other j is apart = let within = in_stretch side d j is in subst (HasEndedSo p j) (ne_eqb d.found j apart) (w.ends null j within.0 within.1)
 
@@ -444,7 +444,7 @@ pub only_here : (p : PassView) → OnlyLooks p p
 only_here p = record { epochs = refl; private = refl; ledgers = refl; call = refl; linked = refl; flagged = refl; cut = refl }
 
 -- a stretch that has ended, from the bound up to which the scan has come
-pub shown_so : (side : Side) (end n : ℕ) (p : PassView) (d : Stretch) → IsStretch side end n p d → d.node ≡ 0 → (start at next : ℕ) (old new : List ℕ) → at ≡ entry_of side d → next ≡ exit_of side d → Lies side start at → new ≡ old ++ found_in d → IsRangeBy side (HasEndedSo p) start at old → IsRangeBy side (HasEndedSo p) start next new
+pub shown_so : (side : Side) (end n : ℕ) (p : PassView) (d : Stretch) → IsStretch side end n p d → d.next.slot ≡ 0 → (start at next : ℕ) (old new : List ℕ) → at ≡ entry_of side d → next ≡ exit_of side d → Lies side start at → new ≡ old ++ found_in d → IsRangeBy side (HasEndedSo p) start at old → IsRangeBy side (HasEndedSo p) start next new
 shown_so side end n p d w null start at next old new is leaves lies grown shown =
     subst (λ (x : ℕ). IsRangeBy side (HasEndedSo p) start x new) (sym leaves)
     (shown_more side end n p d w null start old new (subst (Lies side start) is lies) grown (subst (λ (x : ℕ). IsRangeBy side (HasEndedSo p) start x old) is shown))

@@ -1,5 +1,6 @@
 -- The keys of a range, in a set that others change.
 use Rattle.std.specs.Prelude.{◌≡◌, ◌≢◌, ◌⊎◌, ◌<◌, ◌≤◌, ◌==◌, ◌+◌, ◌*◌, ◌&&◌, nat_le, nat_lt, ℕ, suc, Bool, true, false, if◌then◌else◌, List, [], ◌∷◌, ◌++◌, length, take, Option, Some, None, Result, Ok, Err, IfOk, IfErr, IfSome}
+use Rattle.nm_edge.specs.Edges.{Edge}
 use Rattle.nm_edge.specs.Keys.{IsKey}
 use Rattle.nm_edge.specs.Layouts.{Layout}
 use Rattle.nm_edge.specs.declared.edge.Side.{Side}
@@ -73,10 +74,10 @@ abbrev pub exit_of : Side → Stretch → ℕ
 exit_of Left d = d.low
 exit_of Right d = d.high
 
--- the stretch of the keys from one bound to another, which reads this node first
-abbrev pub stretch_over : Side → ℕ → ℕ → ℕ → Stretch
-stretch_over Left from to first = record { low = to; high = from; node = first; found = 0 }
-stretch_over Right from to first = record { low = from; high = to; node = first; found = 0 }
+-- the stretch of the keys from one bound to another, which reads the node at this edge first
+abbrev pub stretch_over : Side → ℕ → ℕ → Edge → Stretch
+stretch_over Left from to first = record { low = to; high = from; next = first; found = 0 }
+stretch_over Right from to first = record { low = from; high = to; next = first; found = 0 }
 
 -- after at least n nodes, a walk for each key of the stretch has reached a known node, which it
 -- reads next; or it has none to read, and has ended at a leaf with the key that was found. The
@@ -85,9 +86,9 @@ pub record IsStretch (side : Side) (end n : ℕ) (p : PassView) (d : Stretch) : 
   pub wide : d.low < d.high
   pub top : d.high ≤ infinity_0
   pub stops : Lies side (exit_of side d) end
-  pub comes : d.node ≢ 0 → (j : ℕ) → d.low ≤ j → j < d.high → HasPassed n p.view.log j d.node
-  pub known : d.node ≢ 0 → Tells p (KnowsSlot d.node)
-  pub ends : d.node ≡ 0 → (j : ℕ) → d.low ≤ j → j < d.high → HasEndedSo p j (d.found == j)
+  pub comes : d.next.slot ≢ 0 → (j : ℕ) → d.low ≤ j → j < d.high → HasPassed n p.view.log j d.next.slot
+  pub known : d.next.slot ≢ 0 → Tells p (KnowsSlot d.next.slot)
+  pub ends : d.next.slot ≡ 0 → (j : ℕ) → d.low ≤ j → j < d.high → HasEndedSo p j (d.found == j)
 
 -- a stretch is kept for later, with all others or alone
 abbrev pub Keeps : List Stretch → List Stretch → Stretch → Type 0

@@ -3,6 +3,9 @@
 //! A walk for many keys goes on to the side of the first ones at each node at which they part, and
 //! keeps the others for later. So the walk for the next key begins at the last of these nodes, and
 //! not at the root.
+//!
+//! Each function is inlined into its caller, up to the calls that name a side. So a scan to either
+//! side has its own code, in which no step asks for the side.
 ghost use Rattle.std.specs.Prelude.{◌≡◌, ◌≢◌, ◌⊎◌, ◌<◌, ◌≤◌, ◌*◌, ◌+◌, ℕ, [], ◌∷◌, ◌++◌, true, false, All, Some, IfOk, IfErr, IfSome, length, take};
 ghost use Rattle.nm_edge.specs.Keys.{IsKey};
 ghost use Rattle.nm_order.specs.Facts.Fact.{KnowsSlot};
@@ -17,7 +20,7 @@ ghost use Rattle.nm_walks.specs.Telling.{Tells, GoesOn, OnlyLooks, IsPinnedIn};
 
 use crate::fault::CallFault;
 use arrayvec::ArrayVec;
-use nm_edge::{INFINITY_0, Key, Layout, Side};
+use nm_edge::{Edge, INFINITY_0, Key, Layout, Side};
 use nm_epoch::{pin, unpin};
 use nm_steps::{Pass, Shared};
 use nm_walks::{is_null, look_edge, reach, read_node};
@@ -34,8 +37,8 @@ const MOST_STRETCHES: usize = 64;
 struct Stretch {
     low: u64,
     high: u64,
-    // The node that it reads next; 0 if there is none.
-    node: u32,
+    // The edge to the node that it reads next; null if there is none.
+    next: Edge,
     // The key of the node that it read last.
     found: u64,
 }
@@ -45,7 +48,7 @@ impl Default for Stretch {
         Stretch {
             low: 0,
             high: 0,
-            node: 0,
+            next: Edge::to(0),
             found: 0,
         }
     }
@@ -106,6 +109,7 @@ pub struct Scanned {
 /// Cost: at most 3 `tries` + 2 steps, and 4 `reach` + 1 steps for each key that it wrote and for
 /// each of `tries` walks. A walk's reach is 66 nodes in a radix tree, and the number of nodes
 /// otherwise. (The search of Natarajan and Mittal, section 3.2.)
+#[inline(always)]
 pub fn scan(
     shared: &Shared,
     pass: &mut Pass,
@@ -134,6 +138,7 @@ pub fn scan(
 }
 
 /// Scans under a pin: walks from the root for the first stretch, and goes on from there.
+#[inline(always)]
 fn scan_pinned(
     shared: &Shared,
     pass: &mut Pass,
@@ -172,7 +177,7 @@ fn scan_pinned(
     let mut stretches = Stretches::new();
     let begun = begin(shared, pass, &plan, start);
     let first = walk_down(shared, pass, &plan, &mut stretches, &begun);
-    if first.node != 0 {
+    if !is_null(first.next) {
         return Err(CallFault::Busy);
     }
     Ok(write_all(shared, pass, &plan, &mut stretches, &first, out, tries))
@@ -257,6 +262,7 @@ fn key_at(plan: &Plan, at: u64) -> Option<Key>
 }
 
 /// Begins a walk from slot 2 for the keys from a bound on to the end of the range. Cost: one look.
+#[inline(always)]
 fn begin(shared: &Shared, pass: &mut Pass, plan: &Plan, at: u64) -> Stretch
     requires pinned { IsPinnedIn shared.now pass.old }
     requires known { Tells pass.old (KnowsSlot 2) }
@@ -269,26 +275,26 @@ fn begin(shared: &Shared, pass: &mut Pass, plan: &Plan, at: u64) -> Stretch
     ensures only { OnlyLooks pass.old pass.new }
 {
     let layout = shared.layout();
-    let first = look_edge(shared, layout, pass, 2, Side::Left).slot();
+    let first = look_edge(shared, layout, pass, 2, Side::Left);
     stretch_to(plan, at, first)
 }
 
-/// Returns the stretch of the keys from a bound on to the end of the range, which reads this node
-/// first.
-fn stretch_to(plan: &Plan, at: u64, node: u32) -> Stretch
-    ensures { result ≡ stretch_over plan.now.side at plan.now.end node }
+/// Returns the stretch of the keys from a bound on to the end of the range, which reads the node at
+/// this edge first.
+fn stretch_to(plan: &Plan, at: u64, first: Edge) -> Stretch
+    ensures { result ≡ stretch_over plan.now.side at plan.now.end first }
 {
     match plan.side {
         Side::Left => Stretch {
             low: plan.end,
             high: at,
-            node,
+            next: first,
             found: 0,
         },
         Side::Right => Stretch {
             low: at,
             high: plan.end,
-            node,
+            next: first,
             found: 0,
         },
     }
@@ -297,6 +303,7 @@ fn stretch_to(plan: &Plan, at: u64, node: u32) -> Stretch
 /// Walks for the first keys of a stretch to the end of their walk, and keeps the other keys for
 /// later. It stops if the walk has looked at as many nodes as there are, which never happens in a
 /// radix tree.
+#[inline(always)]
 fn walk_down(
     shared: &Shared,
     pass: &mut Pass,
@@ -311,7 +318,7 @@ fn walk_down(
     ensures walks { IsStretch plan.now.side plan.now.end 0 pass.new result }
     ensures kept { All (IsStretch plan.now.side plan.now.end 0 pass.new) stretches.new.items }
     ensures entry { entry_of plan.now.side result ≡ entry_of plan.now.side begun.now }
-    ensures long { result.node ≢ 0 → (k : ℕ) → result.low ≤ k → k < result.high
+    ensures long { result.next.slot ≢ 0 → (k : ℕ) → result.low ≤ k → k < result.high
         → IsTooFar shared.now.layout k pass.new.view.log }
     ensures on { GoesOn pass.old pass.new }
     ensures only { OnlyLooks pass.old pass.new }
@@ -319,7 +326,7 @@ fn walk_down(
     let layout = shared.layout();
     let mut stretch = *begun;
     for _node in 0..reach(layout) - 1 {
-        if stretch.node == 0 {
+        if is_null(stretch.next) {
             return stretch;
         }
         let on = read_on(shared, layout, pass, plan.side, stretches, &stretch);
@@ -330,6 +337,7 @@ fn walk_down(
 
 /// Takes the walk for the first keys of a stretch one node further. If they part there from the
 /// others, it keeps the others for later. Cost: at most four looks.
+#[inline(always)]
 fn read_on(
     shared: &Shared,
     layout: Layout,
@@ -340,8 +348,8 @@ fn read_on(
 ) -> Stretch
     requires layout { layout ≡ shared.now.layout }
     requires pinned { IsPinnedIn shared.now pass.old }
-    requires some { stretch.now.node ≢ 0 }
-    requires known { Tells pass.old (KnowsSlot stretch.now.node) }
+    requires some { stretch.now.next.slot ≢ 0 }
+    requires known { Tells pass.old (KnowsSlot stretch.now.next.slot) }
     ensures looks { AddsLooks 4 pass.old.view.log pass.new.view.log }
     ensures walks { (end n : ℕ) → IsStretch side end n pass.old stretch.now
         → All (IsStretch side end 0 pass.old) stretches.old.items
@@ -351,26 +359,27 @@ fn read_on(
     ensures on { GoesOn pass.old pass.new }
     ensures only { OnlyLooks pass.old pass.new }
 {
-    let on = read_node(shared, layout, pass, stretch.node, stretch.low);
+    let node = stretch.next.slot();
+    let on = read_node(shared, layout, pass, node, stretch.low);
     if is_null(on.next) || on.found <= stretch.low || stretch.high <= on.found {
         return Stretch {
             low: stretch.low,
             high: stretch.high,
-            node: on.next.slot(),
+            next: on.next,
             found: on.found,
         };
     }
-    let right = look_edge(shared, layout, pass, stretch.node, Side::Right);
+    let right = look_edge(shared, layout, pass, node, Side::Right);
     let lower = Stretch {
         low: stretch.low,
         high: on.found,
-        node: on.next.slot(),
+        next: on.next,
         found: on.found,
     };
     let upper = Stretch {
         low: on.found,
         high: stretch.high,
-        node: right.slot(),
+        next: right,
         found: on.found,
     };
     choose(side, stretches, &lower, &upper)
@@ -407,6 +416,7 @@ fn keep(stretches: &mut Stretches, stretch: &Stretch)
 
 /// Returns the stretch that begins at a bound: the one that was kept last, or one that begins a
 /// walk from slot 2. Cost: at most one look.
+#[inline(always)]
 fn next_stretch(
     shared: &Shared,
     pass: &mut Pass,
@@ -437,6 +447,7 @@ fn next_stretch(
 
 /// Writes the keys of a range, if the walk for its first stretch has ended. Each turn of its loop
 /// writes a key, or ends a walk with no key.
+#[inline(always)]
 fn write_all(
     shared: &Shared,
     pass: &mut Pass,
@@ -449,7 +460,7 @@ fn write_all(
     requires pinned { IsPinnedIn shared.now pass.old }
     requires known { Tells pass.old (KnowsSlot 2) }
     requires walks { IsStretch plan.now.side plan.now.end 0 pass.old first.now }
-    requires ended { first.now.node ≡ 0 }
+    requires ended { first.now.next.slot ≡ 0 }
     requires kept { All (IsStretch plan.now.side plan.now.end 0 pass.old) stretches.old.items }
     requires top { plan.now.end ≤ INFINITY_0 }
     requires room { (plan.now.room ≤ length out.old) × (plan.now.room ≤ most_keys) }
@@ -493,6 +504,7 @@ fn write_all(
 /// Writes the key that the walk for a stretch has found, and walks for the next stretch. Returns
 /// false if there is no room for the key, or no next stretch, or no walk left, or if that walk has
 /// not ended.
+#[inline(always)]
 fn turn(
     shared: &Shared,
     pass: &mut Pass,
@@ -505,7 +517,7 @@ fn turn(
     requires pinned { IsPinnedIn shared.now pass.old }
     requires known { Tells pass.old (KnowsSlot 2) }
     requires walks { IsStretch plan.now.side plan.now.end 0 pass.old stretch.old }
-    requires ended { stretch.old.node ≡ 0 }
+    requires ended { stretch.old.next.slot ≡ 0 }
     requires at { progress.old.at ≡ entry_of plan.now.side stretch.old }
     requires kept { All (IsStretch plan.now.side plan.now.end 0 pass.old) stretches.old.items }
     requires top { plan.now.end ≤ INFINITY_0 }
@@ -515,7 +527,7 @@ fn turn(
         × (result ≡ true → progress.new.count + progress.old.spare ≡ progress.old.count + progress.new.spare + legs)
         × AddsLooks (legs * leg_looks (reach shared.now.layout)) pass.old.view.log pass.new.view.log }
     ensures walks { result ≡ true → IsStretch plan.now.side plan.now.end 0 pass.new stretch.new
-        × (stretch.new.node ≡ 0) × (progress.new.at ≡ entry_of plan.now.side stretch.new)
+        × (stretch.new.next.slot ≡ 0) × (progress.new.at ≡ entry_of plan.now.side stretch.new)
         × (progress.new.spare ≢ 0) × IsPast plan.now.side progress.old.at progress.new.at }
     ensures kept { All (IsStretch plan.now.side plan.now.end 0 pass.new) stretches.new.items }
     ensures told { (start : ℕ) → Lies plan.now.side start progress.old.at
@@ -536,8 +548,9 @@ fn turn(
     }
     let begun = next_stretch(shared, pass, plan, stretches, progress.at);
     let walked = walk_down(shared, pass, plan, stretches, &begun);
+    let is_ended = is_null(walked.next);
     *stretch = walked;
-    walked.node == 0
+    is_ended
 }
 
 /// Writes the key of the leaf at which a walk has ended, if it is one of its stretch; else one walk

@@ -70,6 +70,7 @@ impl Tree {
     }
 
     /// Scans from `from` on to that side, up to the bound `to`, if no key is pending.
+    #[inline(always)]
     fn scan_to(
         &self,
         worker: &mut Worker,

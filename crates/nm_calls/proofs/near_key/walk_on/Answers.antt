@@ -1,4 +1,4 @@
-use Rattle.std.proofs.Common.{inr, refl}
+use Rattle.std.proofs.Common.{refl}
 use Rattle.nm_order.specs.Facts.Fact.{KnowsSlot}
 use Rattle.nm_walks.specs.Bounds.{reach}
 use Rattle.nm_calls.specs.NearKeys.{IsNearBy}

@@ -14,8 +14,8 @@ use Rattle.nm_calls.proofs.scanning.scan_pinned.Goals as goal
 pub write_all-requires-clause-known : goal.write_all-requires-clause-known
 write_all-requires-clause-known c = c.walk_down-first.ensures.on.keeps (KnowsSlot 2) (c.begin-begun.ensures.on.keeps (KnowsSlot 2) c.requires.known)
 
-pub returns-then-first-ne0-clause-looks : goal.returns-then-first-ne0-clause-looks
-returns-then-first-ne0-clause-looks c =
+pub returns-then-not-is_null-clause-looks : goal.returns-then-not-is_null-clause-looks
+returns-then-not-is_null-clause-looks c =
     let o = c.args.pass.now in
     let p = c.begin-begun.new.pass in
     let q = c.walk_down-first.new.pass in
@@ -24,8 +24,8 @@ returns-then-first-ne0-clause-looks c =
     let few = mul_below 0 c.args.tries most (omega (arith, some)) in
     looks_in ((0 + c.args.tries) * most) o.view.log q.view.log (omega (arith, few)) (looks_then o.view.log p.view.log q.view.log c.begin-begun.ensures.looks c.walk_down-first.ensures.looks)
 
-pub returns-then-first-ne0-clause-given_up : goal.returns-then-first-ne0-clause-given_up
-returns-then-first-ne0-clause-given_up c =
+pub returns-then-not-is_null-clause-given_up : goal.returns-then-not-is_null-clause-given_up
+returns-then-not-is_null-clause-given_up c =
     let o = c.args.pass.now in
     let p = c.begin-begun.new.pass in
     let q = c.walk_down-first.new.pass in
@@ -33,7 +33,7 @@ returns-then-first-ne0-clause-given_up c =
     let did = c.walk_down-first.ensures in
     gives_up c.args.shared.now.layout c.args.side c.args.from first o.view.log q.view.log did.walks.wide
     (subst (λ (side : Side). entry_of side first ≡ bound c.args.side c.args.from) c.plan_of-plan.ensures.side (did.entry ∙ c.begin-begun.ensures.entry ∙ c.start_at-start.ensures))
-    (did.long c.if-first-ne0.true)
+    (did.long (c.is_null.ensures.no c.if-not-is_null.true))
     (looks_in (leg_looks (reach c.args.shared.now.layout)) o.view.log q.view.log (omega arith) (looks_then o.view.log p.view.log q.view.log c.begin-begun.ensures.looks did.looks))
 
 pub returns-clause-looks : goal.returns-clause-looks

@@ -25,7 +25,7 @@ pub read_on-on-requires-clause-pinned : goal.read_on-on-requires-clause-pinned
 read_on-on-requires-clause-pinned c = pinned_in_still c.args.shared.now c.args.pass.now c.loop-node.pass c.loop-node.invariant.on c.requires.pinned
 
 pub read_on-on-requires-clause-known : goal.read_on-on-requires-clause-known
-read_on-on-requires-clause-known c = c.loop-node.invariant.walks.known c.if-stretch-eq0.false
+read_on-on-requires-clause-known c = c.loop-node.invariant.walks.known (c.is_null.ensures.no c.if-is_null.false)
 
 pub loop-node-preserved : goal.loop-node-preserved
 loop-node-preserved c =
@@ -48,14 +48,14 @@ loop-node-preserved c =
       only = only_then o p q held.only did.only;
     }
 
-pub returns-then-stretch-eq0-clause-looks : goal.returns-then-stretch-eq0-clause-looks
-returns-then-stretch-eq0-clause-looks c =
+pub returns-then-is_null-clause-looks : goal.returns-then-is_null-clause-looks
+returns-then-is_null-clause-looks c =
     let held = c.loop-node.invariant in
     let inside = held.inside in
     looks_in (reach c.args.shared.now.layout * 4) c.args.pass.now.view.log c.loop-node.pass.view.log (omega (arith, inside)) held.looks
 
-pub returns-then-stretch-eq0-clause-walks : goal.returns-then-stretch-eq0-clause-walks
-returns-then-stretch-eq0-clause-walks c = stretch_sooner c.args.plan.now.side c.args.plan.now.end c.loop-node._node c.loop-node.pass c.loop-node.stretch c.loop-node.invariant.walks
+pub returns-then-is_null-clause-walks : goal.returns-then-is_null-clause-walks
+returns-then-is_null-clause-walks c = stretch_sooner c.args.plan.now.side c.args.plan.now.end c.loop-node._node c.loop-node.pass c.loop-node.stretch c.loop-node.invariant.walks
 
 pub returns-clause-looks : goal.returns-clause-looks
 returns-clause-looks c =
