@@ -99,7 +99,7 @@ returns-in-Err-Busy-clause-leaves c = record {
   alone = λ runs. (
       let P : Missed → Type 0 = λ m. DeleteDid c.self.inside.shared.layout c.args.tries c.args.key c.worker.inside.pass.view.log c.delete.new.pass.view.log (Err m) in
       delete_alone c.self.inside.shared c.args.self.now c.worker.inside.pass c.args.worker.now.pass c.delete.new.pass c.args.key c.args.tries c.self.view_is (ap (λ (x : WorkerView). x.pass) c.worker.view_is)
-      c.know_run.ensures.seen c.know_run-in-Err-Busy.ensures.seen c.know_run.ensures.fits c.delete.ensures.after.same c.delete.ensures.after.past c.requires.own runs (delete-requires-clause-rests c)
+      c.know_run.ensures.seen c.know_run-in-Err-Busy.ensures.seen c.know_run.ensures.fits c.delete.ensures.after.same c.delete.ensures.after.past c.requires.own runs (rests_in c.worker.inside.pass c.worker.inside.standing (resting_in c.worker.inside.standing (ap (λ (w : WorkerView). w.held) c.worker.view_is ∙ c.requires.free) c.in_default.not-Pending) c.worker.invariant.between.stands)
       (subst P c.in-Err-Busy.field-0-is c.in-Err-Busy.ensures.after.did)
       );
 }
@@ -195,7 +195,7 @@ returns-in-Err-Unfinished-clause-leaves c = record {
         | inl less ↦ inr (lacks_after c.worker.inside.home _ _ c.worker.inside.queues.items c.delete.new.held c.worker.invariant.own c.delete.ensures.kept.own less)
         | inr lost ↦ inl
             (delete_finished c.self.inside.shared c.args.self.now c.worker.inside.pass c.args.worker.now.pass c.delete.new.pass c.args.key c.args.tries c.self.view_is (ap (λ (x : WorkerView). x.pass) c.worker.view_is)
-            c.know_run.ensures.seen c.know_run-in-Err-Unfinished.ensures.seen c.know_run.ensures.fits c.delete.ensures.after.same c.delete.ensures.after.past c.requires.own c.in-Err-Unfinished.leaf runs (delete-requires-clause-rests c) lost)
+            c.know_run.ensures.seen c.know_run-in-Err-Unfinished.ensures.seen c.know_run.ensures.fits c.delete.ensures.after.same c.delete.ensures.after.past c.requires.own c.in-Err-Unfinished.leaf runs (rests_in c.worker.inside.pass c.worker.inside.standing (resting_in c.worker.inside.standing (ap (λ (w : WorkerView). w.held) c.worker.view_is ∙ c.requires.free) c.in_default.not-Pending) c.worker.invariant.between.stands) lost)
       ])
       );
 }

@@ -59,6 +59,6 @@ returns-clause-leaves c = record {
   alone = λ runs. (
       insert_fails c.args.tries _ _ c.insert-answer.result (returns-clause-says c).told
       (λ is. insert_alone c.self.inside.shared c.args.self.now c.worker.inside.pass c.args.worker.now.pass c.insert-answer.new.pass c.args.key c.args.tries c.self.view_is (ap (λ (x : WorkerView). x.pass) c.worker.view_is)
-      c.know_run.ensures.seen c.know_run-2.ensures.seen c.know_run.ensures.fits c.insert-answer.ensures.after.same c.insert-answer.ensures.after.past c.requires.own _ runs (insert-answer-requires-clause-rests c) (subst (λ (r : Result Bool CallFault). InsertDid c.worker.inside.workspace.placement c.self.inside.shared.layout c.args.tries c.args.key c.worker.inside.pass.view.log c.insert-answer.new.pass.view.log r) is c.insert-answer.ensures.after.did))
+      c.know_run.ensures.seen c.know_run-2.ensures.seen c.know_run.ensures.fits c.insert-answer.ensures.after.same c.insert-answer.ensures.after.past c.requires.own _ runs (rests_in c.worker.inside.pass c.worker.inside.standing (resting_in c.worker.inside.standing (ap (λ (w : WorkerView). w.held) c.worker.view_is ∙ c.requires.free) c.in_default.not-Pending) c.worker.invariant.between.stands) (subst (λ (r : Result Bool CallFault). InsertDid c.worker.inside.workspace.placement c.self.inside.shared.layout c.args.tries c.args.key c.worker.inside.pass.view.log c.insert-answer.new.pass.view.log r) is c.insert-answer.ensures.after.did))
       );
 }
