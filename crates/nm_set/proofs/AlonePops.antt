@@ -147,10 +147,7 @@ module _ (p z : PassView) (seen : HasSeen z.view) (fits : IsLayout z.view.layout
 
   -- what the worker added to its log
   added : z.view.log ≡ p.view.log ++ part_of p.view.number runs.alone.turns
-  added = sym (subst (λ (w : ℕ). part_of w z.view.past ≡ z.view.log) number seen_part) ∙ (ap (part_of p.view.number) runs.alone.is ∙ (part-append p.view.number p.view.past runs.alone.turns ∙ ap (λ (l : List Entry). l ++ part_of p.view.number runs.alone.turns) part_p))
-    where
-      seen_part : part_of z.view.number z.view.past ≡ z.view.log
-      seen_part = ap (part_of z.view.number) seen.are ∙ seen.is_part
+  added = sym (subst (λ (w : ℕ). part_of w z.view.past ≡ z.view.log) number seen.is_part) ∙ (ap (part_of p.view.number) runs.alone.is ∙ (part-append p.view.number p.view.past runs.alone.turns ∙ ap (λ (l : List Entry). l ++ part_of p.view.number runs.alone.turns) part_p))
 
   unwon : (is_such : Entry → Bool) → length (filter is_such z.view.log) ≡ length (filter is_such p.view.log) + 0 → such_in is_such runs.alone.turns ≡ 0
   unwon is_such equal = none_of_kind is_such p.view.number runs.alone.turns runs.alone.own (filter_none is_such (part_of p.view.number runs.alone.turns) none)

@@ -1,10 +1,9 @@
 -- A key is taken by managed calls: what each round leaves, and what the call leaves after all of them.
-use Rattle.std.proofs.Common.{◌≡◌, ◌≤◌, inl, inr, ℕ, suc, ◌+◌, ◌*◌, Bool, true, false, length, refl, ap, ◌∙◌, arith}
+use Rattle.std.proofs.Common.{◌≡◌, ◌≤◌, inl, inr, ℕ, suc, ◌+◌, ◌*◌, Bool, true, false, length, refl, arith}
 use Rattle.std.specs.Prelude.{Option, Some, None, Result, Ok, Err, IfOk}
 use Rattle.std.proofs.Math.Nat.{add-mul, suc-mul, mul-add, mul-le-mul_right}
 use Rattle.nm_edge.specs.Layouts.{Layout, IsLayout}
 use Rattle.nm_model.specs.declared.event.Op.TheVariants.{Delete}
-use Rattle.nm_order.specs.Logs.{part_of}
 use Rattle.nm_progress.specs.Alone.{RunsAlone}
 use Rattle.nm_progress.proofs.RunningAlone.{alone_later, runs_later}
 use Rattle.nm_steps.specs.Steps.{TreeView, PassView, HasSeen, HasSeenAllOf}
@@ -131,7 +130,7 @@ module _ (end : End) (b : TreeView) (h : Options) (w : WorkerView) (none : w.pen
           left = t.answers.left;
           won = won;
           on = on;
-          alone = λ runs. absurd (found_is_there w.pass z.pass seen_z fits on.same runs (none_seen w.pass w.pending w.held seen between.stands none) (ap (part_of w.pass.view.number) seen.are ∙ seen.is_part) won x.pass l.same l.past t.answers.on.past key was.is_key was.was t.answers.moment);
+          alone = λ runs. absurd (found_is_there w.pass z.pass seen_z fits on.same runs (none_seen w.pass w.pending w.held seen between.stands none) seen.is_part won x.pass l.same l.past t.answers.on.past key was.is_key was.was t.answers.moment);
           pending = λ mine is. absurd (let no = is in cc);
         }
 
