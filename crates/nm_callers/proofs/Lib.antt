@@ -23,3 +23,4 @@ pub mod Working
 pub mod InsertMoments
 pub mod LettersRead
 pub mod Blamed
+pub mod RunningAlone

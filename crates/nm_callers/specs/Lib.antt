@@ -8,3 +8,4 @@ pub mod Tallies
 pub mod Queues
 pub mod Letters
 pub mod Blame
+pub mod AnsweredAlone

@@ -23,7 +23,10 @@ mod sharing;
 mod threads;
 mod trees;
 
-pub use alone::{insert_alone, look_alone, look_many_alone, next_alone};
+pub use alone::{
+    finish_then_look_alone, insert_alone, insert_then_delete_alone, insert_then_remove_alone,
+    look_alone, look_many_alone, next_alone, pop_alone,
+};
 pub use beside::{delete_beside, insert_beside, look_many_beside, next_beside, prev_beside};
 pub use filled::keys_then_report;
 pub use fresh::{Looked, look_first, look_in_new, look_in_new_of_one, look_only};

@@ -1,15 +1,15 @@
 -- A call alone is answered.
 use Rattle.std.proofs.Common.{◌≡◌, ℕ, zero, suc, ◌+◌, ◌≤◌, inl, inr, ◌==◌, Bool, true, false, cond, not, ◌&&◌, ◌||◌, List, [], ◌∷◌, ◌++◌, append_assoc, refl, sym, ap, subst, ◌∙◌, arith, true≢false}
-use Rattle.std.specs.Prelude.{Option, Result, Ok, Err, All}
+use Rattle.std.specs.Prelude.{Option, None, Result, Ok, Err, All}
 use Rattle.std.specs.List.{list_any}
-use Rattle.std.proofs.lemmas.Bool.{or_parts, eq-eqb, false_from_ne_true, and_from}
+use Rattle.std.proofs.lemmas.Bool.{or_parts, eq-eqb, eqb-true, eqb-false, false_from_ne_true, and_from}
 use Rattle.std.proofs.lemmas.List.{append-nil, append_cancel_left}
 use Rattle.nm_edge.specs.Edges.{Edge, other}
 use Rattle.nm_edge.specs.Layouts.{Layout}
 use Rattle.nm_edge.specs.declared.edge.Side.{Side}
 use Rattle.nm_edge.specs.declared.edge.Side.TheVariants.{Left}
 use Rattle.nm_model.specs.declared.event.Event.{Event}
-use Rattle.nm_model.specs.declared.event.Event.TheVariants.{SightFor, Look, Link, Flag, Tag, Splice}
+use Rattle.nm_model.specs.declared.event.Event.TheVariants.{SightFor, Look, Link, Flag}
 use Rattle.nm_model.specs.declared.event.Field.TheVariants.{Edge as EdgeOn}
 use Rattle.nm_model.specs.declared.event.Op.{Op}
 use Rattle.nm_model.specs.declared.event.Op.TheVariants.{Insert, Delete}
@@ -22,7 +22,8 @@ use Rattle.nm_model.specs.Paths.{Reached}
 use Rattle.nm_model.specs.Knowledge.{Knowledge}
 use Rattle.nm_model.specs.Runs.{State, of, reply_of}
 use Rattle.nm_model.specs.Step.{reply}
-use Rattle.nm_model.specs.Walks.{Entry, logged_by, begins_anew}
+use Rattle.nm_model.specs.Searches.{Search, idle}
+use Rattle.nm_model.specs.Walks.{Entry, logged_by, search_after}
 use Rattle.nm_model.specs.Ordered.{Configuration, ordered, next_in, outcome_in, after_in, trace_in}
 use Rattle.nm_laws.proofs.Pictures.{IsLive, reached_live}
 use Rattle.nm_laws.proofs.TreeSteps.{Lawful}
@@ -39,6 +40,7 @@ use Rattle.nm_steps.specs.Rules.{Extends}
 use Rattle.nm_steps.specs.Steps.{PassView, IsSamePass, HasSeen}
 use Rattle.nm_calls.specs.PlainWalks.{events_of}
 use Rattle.nm_calls.proofs.PlainLooks.{as_events}
+use Rattle.nm_epoch.specs.Resting.{IsResting}
 use Rattle.nm_epoch.specs.Tries.{LostTries, IsPinnedBy}
 use Rattle.nm_walks.specs.declared.making.NewNodes.{NewNodes}
 use Rattle.nm_walks.specs.declared.seek_record.ChainEdge.{ChainEdge}
@@ -53,9 +55,10 @@ use Rattle.nm_progress.specs.Changes.{is_bare, Expects}
 use Rattle.nm_progress.specs.Changes.Expects.{ToLink, ToFlag}
 use Rattle.nm_progress.specs.Moves.{number_of, moves, moves_of_others}
 use Rattle.nm_progress.specs.Paid.{links_on, flags_on, cuts_on, tags_on}
-use Rattle.nm_progress.specs.Tries.{changes_edge, interferes, losing, reshapes_of_others}
+use Rattle.nm_progress.specs.Tries.{changes_edge, losing, reshapes_of_others}
 use Rattle.nm_progress.proofs.LostTries.{later_keys}
-use Rattle.nm_progress.proofs.MoreTries.{is_loud, Plain, plain_these, plain_then, log_prefix, AddsNone, adds_these, adds_then, none_within}
+use Rattle.nm_progress.proofs.LostCleanups.{is_edge_change, quiet_mute, changes_turn, none_refused, interferes_too, calm_too}
+use Rattle.nm_progress.proofs.MoreTries.{is_loud, Plain, plain_these, plain_then, log_prefix, AddsNone, adds_these, adds_then}
 use Rattle.nm_progress.proofs.Reshapes.{is_reshape, calm_turns}
 use Rattle.nm_progress.proofs.SplicesPaid.{FlagOrigin, flag_origin}
 use Rattle.nm_progress.proofs.SplicesPaid.FlagOrigin.{Before, Now}
@@ -63,9 +66,9 @@ use Rattle.nm_progress.proofs.SplitTurns.{SplitTurn, split_turn, ordered_after, 
 use Rattle.nm_progress.proofs.CountedTries.{known_longer}
 use Rattle.nm_progress.proofs.Covers.{one_if}
 use Rattle.nm_order.specs.Totals.{NothingIsPending}
-use Rattle.nm_progress.specs.Pending.{NonePends}
-use Rattle.nm_progress.proofs.PendingTurns.{nothing_is_pending}
-use Rattle.nm_progress.specs.Alone.{IsAlone, LookupsAloneAreAnswered, InsertsAloneAreAnswered, DeletesAloneAreNotBusy, ManyAloneAreAnswered, NearAloneAreAnswered}
+use Rattle.nm_progress.specs.Pending.{NonePends, leaf_after}
+use Rattle.nm_progress.proofs.PendingTurns.{leaf_is_told, nothing_is_pending}
+use Rattle.nm_progress.specs.Alone.{IsAlone, NoOtherPends, LookupsAloneAreAnswered, InsertsAloneAreAnswered, DeletesAloneAreNotBusy, ManyAloneAreAnswered, NearAloneAreAnswered}
 use Rattle.nm_progress.specs.Lookups.{WasBusy, WasReshaped}
 use Rattle.nm_progress.specs.Pins.{WasMovedPast}
 use Rattle.nm_progress.specs.Walked.{ManyWereBusy, NearWasBusy}
@@ -96,7 +99,7 @@ own_none w is_such (t ∷ ts) own =
 same_turns : (past a b run : List Turn) → run ≡ past ++ a → run ≡ past ++ b → a ≡ b
 same_turns past a b run is is' = append_cancel_left past a b (sym is ∙ is')
 
-own_events : (w : ℕ) (ts : List Turn) → All (λ t. t.worker ≡ w) ts → All (λ t. t.0 ≡ w) (events_of ts)
+pub own_events : (w : ℕ) (ts : List Turn) → All (λ t. t.worker ≡ w) ts → All (λ t. t.0 ≡ w) (events_of ts)
 own_events w [] own i d below = absurd (omega (arith, below))
 own_events w (t ∷ ts) own zero d below = own 0 t (omega arith)
 own_events w (t ∷ ts) own (suc i) d below = own_events w ts (λ j e l. own (suc j) e (omega (arith, l))) i d (omega (arith, below))
@@ -143,13 +146,7 @@ near_alone_are_answered side k tries p q seen_p seen_q enough same on missed alo
 
 -- ---- entries that change no edge
 
-abbrev is_edge_change : Entry → Bool
-is_edge_change e = changes_edge e.0 (Ok e.1)
-
-quiet_mute : (es : List Entry) → list_any is_loud es ≡ false → list_any is_edge_change es ≡ false
-quiet_mute = none_within is_loud is_edge_change (λ e quiet. (or_parts (begins_anew e) (changes_edge e.0 (Ok e.1)) quiet).1)
-
-abbrev Mute : List Entry → List Entry → Type 0
+abbrev pub Mute : List Entry → List Entry → Type 0
 Mute = AddsNone is_edge_change
 
 mute_these : (more old new : List Entry) → list_any is_edge_change more ≡ false → new ≡ old ++ more → Mute old new
@@ -162,20 +159,10 @@ pins_mute : (op : Op) (k n : ℕ) (old new : List Entry) → LostTries (SightFor
 pins_mute op k zero old new is = mute_these [] old new refl (is ∙ sym (append-nil old))
 pins_mute op k (suc n) old new h = mute_then old h.0 new (pins_mute op k n old h.0 h.1) (mute_then h.0 _ new (mute_these _ h.0 _ refl refl) (mute_these _ _ new refl h.2.2))
 
-pin_mute : (op : Op) (k tries : ℕ) (old new : List Entry) (epoch : ℕ) → IsPinnedBy (SightFor op k) tries old new epoch → Mute old new
+pub pin_mute : (op : Op) (k tries : ℕ) (old new : List Entry) (epoch : ℕ) → IsPinnedBy (SightFor op k) tries old new epoch → Mute old new
 pin_mute op k tries old new epoch h = mute_then old _ new (mute_these _ old _ refl refl) (mute_then _ h.2 new (pins_mute op k h.1 _ h.2 h.4) (mute_then h.2 _ new (mute_these _ h.2 _ refl refl) (mute_these _ _ new refl h.5.1)))
 
--- ---- turns that change no edge
-
-abbrev changes_turn : Turn → Bool
-changes_turn t = changes_edge t.event t.outcome
-
-none_refused : (e : Event) (x : Refused) → changes_edge e (Err x) ≡ false
-none_refused (Link a b f g) x = refl
-none_refused (Flag a b f) x = refl
-none_refused (Tag a b) x = refl
-none_refused (Splice a b f g h) x = refl
-none_refused e x = refl
+-- ---- turns of one worker alone that change no edge
 
 -- turns of one worker alone whose part changes no edge change none
 mute_turns : (w : ℕ) (c : Configuration) (ts : List (ℕ × Event)) → All (λ t. t.0 ≡ w) ts → list_any is_edge_change (part_of w (trace_in c ts)) ≡ false → number_of changes_turn (trace_in c ts) ≡ 0
@@ -203,38 +190,6 @@ mute_turns w c (t ∷ ts) own mute = go (outcome_in c t) mute (mute_turns w (nex
         skip : (b : Bool) → list_any is_edge_change (cond b [] [] ++ part_of w (trace_in (next_in c t) ts)) ≡ false → list_any is_edge_change (part_of w (trace_in (next_in c t) ts)) ≡ false
         skip true is = is
         skip false is = is
-
--- fewer turns interfere a worker than change an edge
-interferes_too : (w : ℕ) (turns : List Turn) → number_of (interferes w) turns ≤ number_of changes_turn turns
-interferes_too w [] = omega arith
-interferes_too w (t ∷ ts) = by (t.worker == w) (links_on t.event t.outcome) (flags_on t.event t.outcome) (cuts_on t.event t.outcome) (tags_on t.event t.outcome) (interferes_too w ts)
-  where
-    by : (o a b c d : Bool) → number_of (interferes w) ts ≤ number_of changes_turn ts → cond (cond o (c || d) (a || (b || (c || d)))) 1 0 + number_of (interferes w) ts ≤ cond (a || (b || (c || d))) 1 0 + number_of changes_turn ts
-    by false a b c d rest = omega (arith, rest)
-    by true true b c d rest = few (c || d)
-      where
-        few : (x : Bool) → cond x 1 0 + number_of (interferes w) ts ≤ 1 + number_of changes_turn ts
-        few true = omega (arith, rest)
-        few false = omega (arith, rest)
-    by true false true c d rest = few (c || d)
-      where
-        few : (x : Bool) → cond x 1 0 + number_of (interferes w) ts ≤ 1 + number_of changes_turn ts
-        few true = omega (arith, rest)
-        few false = omega (arith, rest)
-    by true false false c d rest = omega (arith, rest)
-
--- fewer turns reshape the tree than change an edge
-calm_too : (turns : List Turn) → number_of is_reshape turns ≤ number_of changes_turn turns
-calm_too [] = omega arith
-calm_too (t ∷ ts) = by (links_on t.event t.outcome) (flags_on t.event t.outcome) (cuts_on t.event t.outcome) (tags_on t.event t.outcome) (calm_too ts)
-  where
-    by : (a b c d : Bool) → number_of is_reshape ts ≤ number_of changes_turn ts → cond (a || c) 1 0 + number_of is_reshape ts ≤ cond (a || (b || (c || d))) 1 0 + number_of changes_turn ts
-    by true b c d rest = omega (arith, rest)
-    by false true true d rest = omega (arith, rest)
-    by false true false d rest = omega (arith, rest)
-    by false false true d rest = omega (arith, rest)
-    by false false false true rest = omega (arith, rest)
-    by false false false false rest = omega (arith, rest)
 
 -- ---- a tree without flags
 
@@ -322,6 +277,20 @@ module _ (L : Layout) (enough : 5 ≤ L.nodes) where
 
                 told : edge (after_in c a.before).state.memory s.parent s.side ≡ s.edge
                 told = look_edge (after_in c a.before).state a.turn.0 s.parent s.side s.edge (ap (reply_of (after_in c a.before).state a.turn.0) (sym (ap (λ (k : Entry). k.0) a.is_entry)) ∙ ap (λ (k : Entry). k.1) a.is_entry)
+
+-- ---- nothing is pending
+
+-- where a worker rests and no other has a delete pending, none is
+pub none_pends : (p : PassView) → HasSeen p.view → IsResting p → NoOtherPends p → NonePends p.view.layout p.view.past
+none_pends p seen resting others u here = by (u == p.view.number) refl
+  where
+    own : leaf_after p.view.number None p.view.past ≡ None
+    own = leaf_is_told p.view.number idle p.view.past
+        ∙ (ap (λ (l : List Entry). (search_after idle l).flagged) (ap (part_of p.view.number) (as_events p.view seen).are ∙ (as_events p.view seen).is_part) ∙ ap (λ (s : Search). s.flagged) resting.idle)
+
+    by : (b : Bool) → (u == p.view.number) ≡ b → leaf_after u None p.view.past ≡ None
+    by true is = subst (λ (v : ℕ). leaf_after v None p.view.past ≡ None) (sym (eqb-true u p.view.number is)) own
+    by false is = others u here (eqb-false u p.view.number is)
 
 -- ---- a call alone, by what p and q have seen
 
@@ -457,7 +426,7 @@ module _ (p q : PassView) (seen_p : HasSeen p.view) (seen_q : HasSeen q.view) (e
           (longer_then _ mid q.view.log (longer_none _ mid link.grows.3) (longer_then mid new q.view.log (help_longer r c e mid new helps) rest))
   none_inserted fit k (suc (suc n)) g begun new pin (f, mid, before, try) rest = absurd (let none = none_inserted fit k (suc n) f begun mid pin before (longer_then mid new q.view.log (insert_longer fit p.view.layout k f g mid new try) rest) in omega (arith, none))
 
-  none_flagged : (k n : ℕ) (begun new : List Entry) → Mute p.view.log begun → LostFlags p.view.layout k n begun new → Longer new q.view.log → n ≡ 0
+  pub none_flagged : (k n : ℕ) (begun new : List Entry) → Mute p.view.log begun → LostFlags p.view.layout k n begun new → Longer new q.view.log → n ≡ 0
   none_flagged k zero begun new pin tried rest = refl
   none_flagged k (suc zero) begun new pin (c, mid, before, try) rest = absurd (one (subst (λ (l : List Entry). IsLostFlag p.view.layout k c l new) before try))
     where
@@ -468,16 +437,28 @@ module _ (p q : PassView) (seen_p : HasSeen p.view) (seen_q : HasSeen q.view) (e
   none_flagged k (suc (suc n)) begun new pin (c, mid, before, try) rest = absurd (let none = none_flagged k (suc n) begun mid pin before (longer_then mid new q.view.log (flag_longer p.view.layout k c mid new try) rest) in omega (arith, none))
 
 pub inserts_alone_are_answered : InsertsAloneAreAnswered
-inserts_alone_are_answered fit k tries p q seen_p seen_q enough same on alone rests did = by did
+inserts_alone_are_answered fit k tries p q seen_p seen_q enough same on runs resting did = by did
   where
+    alone : IsAlone p q
+    alone = runs.alone
+
+    rests : NonePends p.view.layout p.view.past
+    rests = none_pends p seen_p resting runs.rests
+
     by : InsertDid fit p.view.layout tries k p.view.log q.view.log (Err fault.Busy) → tries ≡ 0
     by (inl none) = none.0
     by (inr (inl m)) = none_moved p q tries alone (moved p q seen_p seen_q enough same on (SightFor Insert k) refl tries m.0 m.1)
     by (inr (inr (pinned, epoch, pin, (f, mid, back, tried, returns, leaves)))) = none_inserted p q seen_p seen_q enough same alone rests fit k tries f pinned mid (pin_mute Insert k tries p.view.log pinned epoch pin) tried (longer_then mid back q.view.log (returns_longer f mid back returns) (longer_these _ back q.view.log leaves))
 
 pub deletes_alone_are_not_busy : DeletesAloneAreNotBusy
-deletes_alone_are_not_busy k tries p q seen_p seen_q enough same on alone rests did = by did
+deletes_alone_are_not_busy k tries p q seen_p seen_q enough same on runs resting did = by did
   where
+    alone : IsAlone p q
+    alone = runs.alone
+
+    rests : NonePends p.view.layout p.view.past
+    rests = none_pends p seen_p resting runs.rests
+
     by : DeleteDid p.view.layout tries k p.view.log q.view.log (Err missed.Busy) → tries ≡ 0
     by (inl none) = none.0
     by (inr (inl m)) = none_moved p q tries alone (moved p q seen_p seen_q enough same on (SightFor Delete k) refl tries m.0 m.1)

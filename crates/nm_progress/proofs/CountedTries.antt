@@ -1,5 +1,5 @@
 -- The tries that a worker loses, counted: as many changes of others, which flags and links pay.
-use Rattle.std.proofs.Common.{◌≡◌, ℕ, suc, ◌+◌, ◌≤◌, inl, inr, ◌⊎◌, ◌==◌, Bool, true, false, cond, not, ◌&&◌, ◌||◌, List, [], ◌∷◌, ◌++◌, append_assoc, refl, sym, ap, subst, ◌∙◌, arith, true≢false}
+use Rattle.std.proofs.Common.{◌≡◌, ℕ, suc, ◌+◌, ◌*◌, ◌≤◌, inl, inr, ◌⊎◌, ◌==◌, Bool, true, false, cond, not, ◌&&◌, ◌||◌, List, [], ◌∷◌, ◌++◌, append_assoc, refl, sym, ap, subst, ◌∙◌, arith, true≢false}
 use Rattle.std.specs.Prelude.{None, Result, Ok, All}
 use Rattle.std.specs.List.{list_any}
 use Rattle.std.proofs.lemmas.Bool.{and_parts, and_from, ne_eqb}
@@ -31,7 +31,7 @@ use Rattle.nm_progress.specs.Changes.{is_bare, is_at, changes, is_change, IsChan
 use Rattle.nm_progress.specs.Changes.Expects.{ToLink, ToFlag, ToCut}
 use Rattle.nm_progress.specs.Moves.{number_of}
 use Rattle.nm_progress.specs.Paid.{links_on, flags_on, cuts_on, tags_on, links_in, flags_in, cuts_in, tags_in}
-use Rattle.nm_progress.specs.Tries.{changes_edge, changes_of_others, interferes, HindrancesArePaid, reading, losing, LosesTries, OfEachPart, TriesAreLostToChanges, TriesArePaid, TriesArePaidEver}
+use Rattle.nm_progress.specs.Tries.{changes_edge, changes_of_others, interferes, own_flags, HindrancesArePaid, HindrancesAreByOthers, reading, losing, LosesTries, OfEachPart, TriesAreLostToChanges, TriesArePaid, TriesArePaidEver}
 use Rattle.nm_progress.specs.Tries.LosesTries.{NoTry, OneTry}
 use Rattle.nm_progress.proofs.LostTries.{later_keys, never_lost, look_leaves, stays_or_changed}
 use Rattle.nm_progress.proofs.SplicesPaid.{splices_are_paid, splices_are_paid_since}
@@ -187,12 +187,33 @@ few_interfere w [] = omega arith
 few_interfere w (t ∷ ts) = by (t.worker == w) (links_on t.event t.outcome) (flags_on t.event t.outcome) (cuts_on t.event t.outcome) (tags_on t.event t.outcome) (few_interfere w ts)
   where
     by : (o a b c d : Bool) → number_of (interferes w) ts ≤ links_in ts + (flags_in ts + (cuts_in ts + tags_in ts))
-        → cond (cond o (c || d) (a || (b || (c || d)))) 1 0 + number_of (interferes w) ts ≤ (cond a 1 0 + links_in ts) + ((cond b 1 0 + flags_in ts) + ((cond c 1 0 + cuts_in ts) + (cond d 1 0 + tags_in ts)))
+        → cond (cond o c (a || (b || (c || d)))) 1 0 + number_of (interferes w) ts ≤ (cond a 1 0 + links_in ts) + ((cond b 1 0 + flags_in ts) + ((cond c 1 0 + cuts_in ts) + (cond d 1 0 + tags_in ts)))
     by true a b true d rest = omega (arith, rest)
-    by true a b false true rest = omega (arith, rest)
-    by true a b false false rest = omega (arith, rest)
+    by true a b false d rest = omega (arith, rest)
     by false true b c d rest = omega (arith, rest)
     by false false true c d rest = omega (arith, rest)
+    by false false false true d rest = omega (arith, rest)
+    by false false false false true rest = omega (arith, rest)
+    by false false false false false rest = omega (arith, rest)
+
+-- or a change of another, or an own splice
+few_others : (w : ℕ) (turns : List Turn) → number_of (interferes w) turns + flags_in turns ≤ 2 * number_of (changes_of_others w) turns + own_flags w turns + cuts_in turns
+few_others w [] = omega arith
+few_others w (t ∷ ts) = by (t.worker == w) (links_on t.event t.outcome) (flags_on t.event t.outcome) (cuts_on t.event t.outcome) (tags_on t.event t.outcome) (few_others w ts)
+  where
+    by : (o a b c d : Bool) → number_of (interferes w) ts + flags_in ts ≤ 2 * number_of (changes_of_others w) ts + own_flags w ts + cuts_in ts
+        → (cond (cond o c (a || (b || (c || d)))) 1 0 + number_of (interferes w) ts) + (cond b 1 0 + flags_in ts)
+        ≤ 2 * (cond (not o && (a || (b || (c || d)))) 1 0 + number_of (changes_of_others w) ts) + (cond (o && b) 1 0 + own_flags w ts) + (cond c 1 0 + cuts_in ts)
+    by true a true true d rest = omega (arith, rest)
+    by true a true false d rest = omega (arith, rest)
+    by true a false true d rest = omega (arith, rest)
+    by true a false false d rest = omega (arith, rest)
+    by false true true true d rest = omega (arith, rest)
+    by false true true false d rest = omega (arith, rest)
+    by false true false true d rest = omega (arith, rest)
+    by false true false false d rest = omega (arith, rest)
+    by false false true true d rest = omega (arith, rest)
+    by false false true false d rest = omega (arith, rest)
     by false false false true d rest = omega (arith, rest)
     by false false false false true rest = omega (arith, rest)
     by false false false false false rest = omega (arith, rest)
@@ -203,10 +224,9 @@ others_interfere w [] = omega arith
 others_interfere w (t ∷ ts) = by (t.worker == w) (links_on t.event t.outcome) (flags_on t.event t.outcome) (cuts_on t.event t.outcome) (tags_on t.event t.outcome) (others_interfere w ts)
   where
     by : (o a b c d : Bool) → number_of (changes_of_others w) ts ≤ number_of (interferes w) ts
-        → cond (not o && (a || (b || (c || d)))) 1 0 + number_of (changes_of_others w) ts ≤ cond (cond o (c || d) (a || (b || (c || d)))) 1 0 + number_of (interferes w) ts
+        → cond (not o && (a || (b || (c || d)))) 1 0 + number_of (changes_of_others w) ts ≤ cond (cond o c (a || (b || (c || d)))) 1 0 + number_of (interferes w) ts
     by true a b true d rest = omega (arith, rest)
-    by true a b false true rest = omega (arith, rest)
-    by true a b false false rest = omega (arith, rest)
+    by true a b false d rest = omega (arith, rest)
     by false true b c d rest = omega (arith, rest)
     by false false true c d rest = omega (arith, rest)
     by false false false true d rest = omega (arith, rest)
@@ -239,3 +259,9 @@ hindrances_are_paid L enough w past turns keys =
     let splices = splices_are_paid_since L enough past turns keys in
     let tags = tags_are_paid_since L enough past turns keys in
     omega (arith, kinds, splices, tags)
+
+pub hindrances_are_by_others : HindrancesAreByOthers
+hindrances_are_by_others L enough w past turns keys =
+    let few = few_others w (trace_in (after_in (ordered L) past) turns) in
+    let splices = splices_are_paid_since L enough past turns keys in
+    omega (arith, few, splices)

@@ -27,9 +27,9 @@ use Rattle.nm_walks.specs.Bounds.{chain_bound}
 use Rattle.nm_walks.specs.Walks.{IsTooLong, IsTooDeep}
 use Rattle.nm_progress.specs.Moves.{number_of}
 use Rattle.nm_progress.specs.Paid.{links_on, flags_on, cuts_on, tags_on, links_in, flags_in}
-use Rattle.nm_progress.specs.Tries.{reshapes_of_others, helps_on, interferes, LosesTries}
+use Rattle.nm_progress.specs.Tries.{reshapes_of_others, changes_of_others, interferes, own_flags, LosesTries}
 use Rattle.nm_progress.proofs.LostTries.{later_keys}
-use Rattle.nm_progress.proofs.CountedTries.{known_longer, own_turn, lost_count, hindrances_are_paid, others_interfere}
+use Rattle.nm_progress.proofs.CountedTries.{known_longer, own_turn, lost_count, hindrances_are_by_others, hindrances_are_paid, others_interfere}
 use Rattle.nm_progress.proofs.SplitTurns.{SplitTurn, split_turn, ordered_after, part_teaches, turn_in, number_split, number-append}
 use Rattle.nm_progress.proofs.MoreTries.{Plain}
 use Rattle.nm_progress.proofs.Reshapes.{is_reshape}
@@ -49,10 +49,9 @@ shapes_interfere w [] = omega arith
 shapes_interfere w (t ∷ ts) = by (t.worker == w) (links_on t.event t.outcome) (flags_on t.event t.outcome) (cuts_on t.event t.outcome) (tags_on t.event t.outcome) (shapes_interfere w ts)
   where
     by : (o a b c d : Bool) → number_of (reshapes_of_others w) ts ≤ number_of (interferes w) ts
-        → cond (not o && (a || c)) 1 0 + number_of (reshapes_of_others w) ts ≤ cond (cond o (c || d) (a || (b || (c || d)))) 1 0 + number_of (interferes w) ts
+        → cond (not o && (a || c)) 1 0 + number_of (reshapes_of_others w) ts ≤ cond (cond o c (a || (b || (c || d)))) 1 0 + number_of (interferes w) ts
     by true a b true d rest = omega (arith, rest)
-    by true a b false true rest = omega (arith, rest)
-    by true a b false false rest = omega (arith, rest)
+    by true a b false d rest = omega (arith, rest)
     by false true b c d rest = omega (arith, rest)
     by false false true true d rest = omega (arith, rest)
     by false false true false d rest = omega (arith, rest)
@@ -120,8 +119,8 @@ module _ (L : Layout) (enough : 5 ≤ L.nodes) (w : ℕ) where
         );
   }
 
-  -- by an own entry that helps
-  pub of_help : (old new xs ys : List Entry) (e : Event) (r : Reply) → new ≡ old ++ (xs ++ (e, r) ∷ ys) → ((v : ℕ) → e ≡ Join v → ⊥) → helps_on e (Ok r) ≡ true → Interferes old new 1
+  -- by an own splice
+  pub of_help : (old new xs ys : List Entry) (e : Event) (r : Reply) → new ≡ old ++ (xs ++ (e, r) ∷ ys) → ((v : ℕ) → e ≡ Join v → ⊥) → cuts_on e (Ok r) ≡ true → Interferes old new 1
   of_help old new xs ys e r are alone helps = record {
     entries = xs ++ (e, r) ∷ ys;
     are = are;
@@ -132,7 +131,7 @@ module _ (L : Layout) (enough : 5 ≤ L.nodes) (w : ℕ) where
       one c ts a =
           let own = own_turn w (after_in c a.before) a.turn e r a.takes a.is_entry alone a.is_allowed in
           let turn = ap (λ (t : ℕ × Event). one_if (interferes w (turn_in (after_in c a.before) t))) own.0 in
-          let helped : one_if (interferes w (turn_in (after_in c a.before) (w, e))) ≡ 1 = ap one_if (itself (w == w) (eq-eqb w w refl) _ _ ∙ (ap (helps_on e) own.1 ∙ helps)) in
+          let helped : one_if (interferes w (turn_in (after_in c a.before) (w, e))) ≡ 1 = ap one_if (itself (w == w) (eq-eqb w w refl) _ _ ∙ (ap (cuts_on e) own.1 ∙ helps)) in
           let run = ap (λ (l : List (ℕ × Event)). number_of (interferes w) (trace_in c l)) a.is_run in
           let parts = number_split (interferes w) c a.before a.turn a.since in
           omega (arith, turn, helped, run, parts)
@@ -180,6 +179,8 @@ was_interfered p q n seen_p seen_q enough same on h = record {
   turns = on.goes_on.more;
   is = on.goes_on.is;
   interfered = subst (λ (ts : List Turn). n ≤ number_of (interferes p.view.number) ts) (turns_between p q seen_p seen_q same on.goes_on) count;
+  by_others = subst (λ (ts : List Turn). n ≤ 2 * number_of (changes_of_others p.view.number) ts + own_flags p.view.number ts + p.view.layout.workers) (turns_between p q seen_p seen_q same on.goes_on)
+      (let most = hindrances_are_by_others p.view.layout enough p.view.number (events_of p.view.past) (events_of on.goes_on.more) keys in omega (arith, count, most));
   paid = subst (λ (ts : List Turn). n ≤ links_in ts + 3 * flags_in ts + 2 * p.view.layout.workers) (turns_between p q seen_p seen_q same on.goes_on) (let most = hindrances_are_paid p.view.layout enough p.view.number (events_of p.view.past) (events_of on.goes_on.more) keys in omega (arith, count, most));
 }
   where

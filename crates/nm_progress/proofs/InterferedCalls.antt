@@ -24,7 +24,8 @@ use Rattle.nm_progress.specs.Inserts.{BusyInsertsWereLost}
 use Rattle.nm_progress.specs.Deletes.{BusyDeletesWereLost, UnfinishedDeletesWereLost, UnfinishedFinishesWereLost}
 use Rattle.nm_progress.proofs.Interfered.{Interferes, interferes_then, was_interfered}
 use Rattle.nm_progress.proofs.InterferedTries.{cleanup_steady, within, inserts_interfere, flags_interfere}
-use Rattle.nm_progress.proofs.InterferedRemovals.{Flagging, removals_steady, removals_interfere}
+use Rattle.nm_progress.proofs.InterferedRemovals.{Flagging, flag_needs, removals_steady, removals_changed}
+use Rattle.nm_progress.proofs.LostCleanups.{changed_interferes, changed_once, changed_then, was_changed}
 use Rattle.nm_progress.proofs.Steady.{Steady, steady_call, pinned_for}
 use Rattle.nm_progress.proofs.LostPins.{lost_pins_were_moved_past, part_seen}
 use Rattle.nm_progress.proofs.Parts.{Longer, longer_these, longer_then, longer_none, seeks_longer, pin_longer, returns_longer}
@@ -50,7 +51,7 @@ module _ (p q : PassView) (seen_p : HasSeen p.view) (seen_q : HasSeen q.view) (e
 
   -- fewer tries than were lost
   pub fewer : (m n : ℕ) → n ≤ m → Interference p q m → Interference p q n
-  fewer m n few l = record { turns = l.turns; is = l.is; interfered = (let some = l.interfered in omega (arith, some, few)); paid = (let some = l.paid in omega (arith, some, few)) }
+  fewer m n few l = record { turns = l.turns; is = l.is; interfered = (let some = l.interfered in omega (arith, some, few)); by_others = (let some = l.by_others in omega (arith, some, few)); paid = (let some = l.paid in omega (arith, some, few)) }
 
   -- the call that q shows has flagged its leaf since a log from which on no pin began and no flag was won
   flagging : (k : ℕ) (n : NodeId) (log : List Entry) → IsRemoving q k n → Steady log q.view.log → Flagging k n log
@@ -76,9 +77,8 @@ busy_deletes_were_lost k tries p q seen_p seen_q enough crew same on did = by di
 
 pub unfinished_finishes_were_lost : UnfinishedFinishesWereLost
 unfinished_finishes_were_lost k tries n p q seen_p seen_q enough crew same on removing tried =
-    lost p q seen_p seen_q enough same on tries p.view.log q.view.log (longer_none p.view.log p.view.log refl)
-    (removals_interfere p.view.layout enough p.view.number k seen_p.worker crew n tries p.view.log q.view.log (flagging p q seen_p seen_q enough same on k n p.view.log removing (removals_steady p.view.layout enough p.view.number k n tries p.view.log q.view.log tried)) tried)
-    (longer_none q.view.log q.view.log refl)
+    was_changed p q tries seen_p seen_q enough same on
+    (removals_changed p.view.layout enough p.view.number k seen_p.worker crew n tries p.view.log q.view.log (flagging p q seen_p seen_q enough same on k n p.view.log removing (removals_steady p.view.layout enough p.view.number k n tries p.view.log q.view.log tried)) tried (log_q p q seen_p seen_q enough same on))
 
 pub unfinished_deletes_were_lost : UnfinishedDeletesWereLost
 unfinished_deletes_were_lost k tries n p q seen_p seen_q enough crew same on removing (pinned, epoch, pin, (f, c, mid, leaf, (t, before, count, tried, won), after)) = by after
@@ -90,11 +90,11 @@ unfinished_deletes_were_lost k tries n p q seen_p seen_q enough crew same on rem
     flagged : Longer before mid
     flagged = longer_then before won.ended mid (seeks_longer p.view.layout k before won.ended c f.end won.walk) (longer_then won.ended _ mid (longer_these _ won.ended _ refl) (longer_these _ _ mid won.entries))
 
-    by : ((f.left ≡ 0) × (q.view.log ≡ mid)) ⊎ ((m : ℕ) × (cleaned : List Entry) × (f.left ≡ m + 1) × CleanupLost f.end.seek_record c mid cleaned × LostRemovals p.view.layout k (leaf_of f.end f.birth) m cleaned q.view.log) → Interference p q (tries - 2)
-    by (inl (none, is)) = fewer p q seen_p seen_q enough same on t (tries - 2) (omega (arith, none, count))
+    by : ((f.left ≡ 0) × (q.view.log ≡ mid)) ⊎ ((m : ℕ) × (cleaned : List Entry) × (f.left ≡ m + 1) × CleanupLost f.end.seek_record c mid cleaned × LostRemovals p.view.layout k (leaf_of f.end f.birth) m cleaned q.view.log) → Interference p q (tries - 1)
+    by (inl (none, is)) = fewer p q seen_p seen_q enough same on t (tries - 1) (omega (arith, none, count))
         (lost p q seen_p seen_q enough same on t pinned before begun (flags_interfere p.view.layout enough p.view.number k seen_p.worker crew t pinned before (pinned_for Delete k tries p.view.log pinned epoch pin) tried) (longer_then before mid q.view.log flagged (longer_none mid q.view.log is)))
-    by (inr (m, cleaned, left, cleanup, removals)) = fewer p q seen_p seen_q enough same on (t + m) (tries - 2) (omega (arith, left, count))
-        (lost p q seen_p seen_q enough same on (t + m) pinned q.view.log begun whole (longer_none q.view.log q.view.log refl))
+    by (inr (m, cleaned, left, cleanup, removals)) = fewer p q seen_p seen_q enough same on (t + (1 + m)) (tries - 1) (omega (arith, left, count))
+        (lost p q seen_p seen_q enough same on (t + (1 + m)) pinned q.view.log begun whole (longer_none q.view.log q.view.log refl))
       where
         own : LostRemovals p.view.layout k n m cleaned q.view.log
         own = subst (λ (l : NodeId). LostRemovals p.view.layout k l m cleaned q.view.log) (sym leaf) removals
@@ -105,12 +105,13 @@ unfinished_deletes_were_lost k tries n p q seen_p seen_q enough crew same on rem
         onward : Steady mid cleaned
         onward = cleanup_steady p.view.layout enough p.view.number f.end.seek_record c mid cleaned cleanup
 
-        whole : IsLogOf p.view.layout p.view.number q.view.log → Interferes p.view.layout enough p.view.number pinned q.view.log (t + m)
+        whole : IsLogOf p.view.layout p.view.number q.view.log → Interferes p.view.layout enough p.view.number pinned q.view.log (t + (1 + m))
         whole l =
             let cleaned_log = log_prefix p.view.layout p.view.number cleaned steady.entries (subst (IsLogOf p.view.layout p.view.number) steady.are l) in
             let mid_log = log_prefix p.view.layout p.view.number mid onward.entries (subst (IsLogOf p.view.layout p.view.number) onward.are cleaned_log) in
             let before_log = log_prefix p.view.layout p.view.number before flagged.entries (subst (IsLogOf p.view.layout p.view.number) flagged.are mid_log) in
-            interferes_then p.view.layout enough p.view.number pinned cleaned q.view.log t m
-            (within p.view.layout enough p.view.number t pinned pinned before cleaned (longer_none pinned pinned refl) (flags_interfere p.view.layout enough p.view.number k seen_p.worker crew t pinned before (pinned_for Delete k tries p.view.log pinned epoch pin) tried before_log)
-            (longer_then before mid cleaned flagged (longer_these onward.entries mid cleaned onward.are)))
-            (removals_interfere p.view.layout enough p.view.number k seen_p.worker crew n m cleaned q.view.log (flagging p q seen_p seen_q enough same on k n cleaned removing steady) own l)
+            interferes_then p.view.layout enough p.view.number pinned before q.view.log t (1 + m)
+            (flags_interfere p.view.layout enough p.view.number k seen_p.worker crew t pinned before (pinned_for Delete k tries p.view.log pinned epoch pin) tried before_log)
+            (changed_interferes p.view.layout enough p.view.number before q.view.log (1 + m) (changed_then p.view.layout enough p.view.number before cleaned q.view.log 1 m
+            (changed_once p.view.layout enough p.view.number before cleaned (flag_needs p.view.layout enough p.view.number k f.end c f.birth (leaf_of f.end f.birth) before mid cleaned won cleanup mid_log cleaned_log))
+            (removals_changed p.view.layout enough p.view.number k seen_p.worker crew n m cleaned q.view.log (flagging p q seen_p seen_q enough same on k n cleaned removing steady) own l)))

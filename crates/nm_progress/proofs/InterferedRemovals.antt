@@ -1,5 +1,5 @@
--- Tries to cut a flagged leaf off: in each that is lost its worker was interfered.
-use Rattle.std.proofs.Common.{◌≡◌, ◌≢◌, ℕ, zero, suc, ◌<◌, ◌≤◌, inl, inr, ◌⊎◌, List, [], ◌∷◌, ◌++◌, refl, sym, ap, subst, ◌∙◌}
+-- Tries to cut a flagged leaf off: in each that is lost another worker changed an edge.
+use Rattle.std.proofs.Common.{◌≡◌, ◌≢◌, arith, ℕ, zero, suc, ◌+◌, ◌<◌, ◌≤◌, inl, inr, ◌⊎◌, List, [], ◌∷◌, ◌++◌, refl, sym, ap, subst, ◌∙◌}
 use Rattle.std.specs.Prelude.{Option, Some, None, IsSome}
 use Rattle.std.proofs.lemmas.List.{append-nil}
 use Rattle.nm_edge.specs.Edges.{Edge}
@@ -7,10 +7,10 @@ use Rattle.nm_edge.specs.Layouts.{Layout}
 use Rattle.nm_edge.specs.declared.edge.Side.{Side}
 use Rattle.nm_edge.specs.declared.edge.Side.TheVariants.{Left, Right}
 use Rattle.nm_edge.specs.declared.node.NodeId.{NodeId}
-use Rattle.nm_model.specs.declared.event.Event.TheVariants.{Look}
-use Rattle.nm_model.specs.declared.event.Field.TheVariants.{Key as KeyOf, Edge as EdgeOn}
+use Rattle.nm_model.specs.declared.event.Event.TheVariants.{Look, Flag}
+use Rattle.nm_model.specs.declared.event.Field.TheVariants.{Birth, Key as KeyOf, Edge as EdgeOn}
 use Rattle.nm_model.specs.declared.event.Op.TheVariants.{Delete}
-use Rattle.nm_model.specs.declared.reply.Reply.TheVariants.{KeyIs, EdgeIs}
+use Rattle.nm_model.specs.declared.reply.Reply.TheVariants.{BirthIs, Flagged, KeyIs, EdgeIs}
 use Rattle.nm_model.specs.Searches.{idle, side_of}
 use Rattle.nm_model.specs.Walks.{Entry, search_after}
 use Rattle.nm_order.specs.Logs.{IsLogOf}
@@ -21,6 +21,7 @@ use Rattle.nm_order.specs.Taught.{WalksAreFor}
 use Rattle.nm_order.proofs.FactStays.{facts_stay}
 use Rattle.nm_order.proofs.LastEntries.{log_before}
 use Rattle.nm_order.proofs.LaterFlagLaws.{later_walks_find}
+use Rattle.nm_order.proofs.TaughtFacts.{flags_are_learned}
 use Rattle.nm_order.proofs.TaughtWalks.{walks_begin, walks_go_on, walks_learn_keys}
 use Rattle.nm_walks.specs.declared.looking.Onward.{Onward}
 use Rattle.nm_walks.specs.declared.seek_record.ChainEdge.{ChainEdge}
@@ -28,12 +29,13 @@ use Rattle.nm_walks.specs.declared.seek_record.WalkEnd.{WalkEnd}
 use Rattle.nm_walks.specs.declared.seek_record.SeekRecord.{SeekRecord}
 use Rattle.nm_walks.specs.Walks.{begin, onto, after_looks, edge_on, Reads, Walks}
 use Rattle.nm_walks.specs.Bounds.{chain_bound}
-use Rattle.nm_calls.specs.Deletes.{LostRemovals, RemovesNothing}
-use Rattle.nm_progress.proofs.MoreTries.{Plain, plain_then, quiet_pins, log_prefix}
+use Rattle.nm_walks.specs.Cleanups.{CleanupLost}
+use Rattle.nm_calls.specs.Deletes.{LostRemovals, RemovesNothing, TriesFlag}
+use Rattle.nm_progress.proofs.LostCleanups.{Changed, NeedsOthers, OnlyAt, changed_none, changed_once, changed_then, never_lost, never_plain, only_flag, only_plain, only_then}
+use Rattle.nm_progress.proofs.MoreTries.{Plain, plain_these, plain_then, quiet_pins, log_prefix}
 use Rattle.nm_progress.proofs.WalkInterference.{walk_plain}
-use Rattle.nm_progress.proofs.Interfered.{Interferes, of_longer}
-use Rattle.nm_progress.proofs.InterferedTries.{cleanup_steady, broken_plain, one_more, broken_interferes}
-use Rattle.nm_progress.proofs.MarkedReads.{marks_last, cleanup_interferes}
+use Rattle.nm_progress.proofs.InterferedTries.{cleanup_steady, broken_plain, broken_interferes}
+use Rattle.nm_progress.proofs.MarkedReads.{IsMarked, marks_last}
 use Rattle.nm_progress.proofs.Parts.{longer_none, reads_plain}
 use Rattle.nm_progress.proofs.Steady.{Steady, steady_these, steady_then, plain_steady, steady_call}
 use Rattle.nm_progress.proofs.WalkReads.{onto_parent, onto_side, onto_edge}
@@ -99,7 +101,7 @@ module _ (L : Layout) (enough : 5 ≤ L.nodes) (w k : ℕ) where
 
   -- ---- a lost try
 
-  removal_steady : (n : NodeId) (old new : List Entry) → RemovesNothing L k n old new → Steady old new
+  pub removal_steady : (n : NodeId) (old new : List Entry) → RemovesNothing L k n old new → Steady old new
   removal_steady n old new (inl broken) = plain_steady old new (broken_plain L k old new broken)
   removal_steady n old new (inr (r, c, mid, seeks, same, lost)) =
       steady_then old mid new (plain_steady old mid (plain_then old seeks.0.1 mid (walk_plain k seeks.0.0 old seeks.0.1 r.seek_record c seeks.0.4) (reads_plain k r.seek_record.edge.slot seeks.0.1 mid seeks.0.2 seeks.0.6)))
@@ -116,13 +118,13 @@ module _ (L : Layout) (enough : 5 ≤ L.nodes) (w k : ℕ) where
       some {o = Some m} is = refl
       some {o = None} is = absurd (let none : None ≡ Some n = is in cc)
 
-  removal_interferes : w < L.workers → L.workers ≤ chain_bound → (n : NodeId) (old new : List Entry) → Flagging k n old → RemovesNothing L k n old new → IsLogOf L w new → Interferes L enough w old new 1
-  removal_interferes here crew n old new f (inl broken) l = broken_interferes L enough w k here crew old new (record { call = record { op = Delete; key = k }; is = f.call; has_key = refl }) broken
-  removal_interferes here crew n old new f (inr (r, c, mid, seeks, same, lost)) l =
-      cleanup_interferes L enough w k seeks.0.0 old seeks.0.1 mid new r.seek_record c seeks.0.4 reads
+  pub removal_needs : w < L.workers → L.workers ≤ chain_bound → (n : NodeId) (old new : List Entry) → Flagging k n old → RemovesNothing L k n old new → IsLogOf L w new → NeedsOthers L enough w old new
+  removal_needs here crew n old new f (inl broken) l = never_plain L enough w old new (broken_plain L k old new broken) (broken_interferes L enough w k here crew old new (record { call = record { op = Delete; key = k }; is = f.call; has_key = refl }) broken)
+  removal_needs here crew n old new f (inr (r, c, mid, seeks, same, lost)) l =
+      never_lost L enough w k seeks.0.0 old seeks.0.1 mid new r.seek_record c seeks.0.4 (only_plain r.seek_record.parent seeks.0.1 mid reads)
       (subst (λ (l : List Entry). Holds L w l (IsFlagged r.seek_record.parent r.seek_record.side r.seek_record.edge.slot) ⊎ Holds L w l (IsTagged r.seek_record.parent r.seek_record.side r.seek_record.edge.slot)) (sym reads.are)
       (marks_last L enough w seeks.0.1 reads.entries (subst (IsLogOf L w) reads.are mid_log) (quiet_pins reads.entries reads.quiet) r.seek_record.parent r.seek_record.side r.seek_record.edge.slot (inl (came_flagged n r c seeks.0.0 old seeks.0.1 f seeks.0.4 same walked_log))))
-      (inr lost) l
+      lost mid_log l
     where
       reads : Plain seeks.0.1 mid
       reads = reads_plain k r.seek_record.edge.slot seeks.0.1 mid seeks.0.2 seeks.0.6
@@ -133,13 +135,35 @@ module _ (L : Layout) (enough : 5 ≤ L.nodes) (w k : ℕ) where
       walked_log : IsLogOf L w seeks.0.1
       walked_log = log_prefix L w seeks.0.1 reads.entries (subst (IsLogOf L w) reads.are mid_log)
 
+  -- nor is the cleanup lost otherwise that follows a won flag
+  pub flag_needs : (r : WalkEnd) (c : List ChainEdge) (b : ℕ) (n : NodeId) (old mid new : List Entry) → TriesFlag L k r c b (Flagged n) old mid → CleanupLost r.seek_record c mid new → IsLogOf L w mid → IsLogOf L w new → NeedsOthers L enough w old new
+  flag_needs r c b n old mid new won cleanup mid_log l = never_lost L enough w k won.walk.0.0 old won.walk.0.1 mid new r.seek_record c won.walk.0.4 only marked cleanup mid_log l
+    where
+      looked : List Entry
+      looked = won.ended ++ (Look r.seek_record.edge.slot Birth, BirthIs b) ∷ []
+
+      flag : Entry
+      flag = (Flag r.seek_record.parent r.seek_record.side r.seek_record.edge.slot, Flagged n)
+
+      only : OnlyAt r.seek_record.parent won.walk.0.1 mid
+      only = only_then r.seek_record.parent won.walk.0.1 won.ended mid (only_plain r.seek_record.parent won.walk.0.1 won.ended (reads_plain k r.seek_record.edge.slot won.walk.0.1 won.ended won.walk.0.2 won.walk.0.6))
+          (only_then r.seek_record.parent won.ended _ mid (only_plain r.seek_record.parent won.ended _ (plain_these ((Look r.seek_record.edge.slot Birth, BirthIs b) ∷ []) won.ended _ refl refl))
+          (only_flag r.seek_record.parent r.seek_record.side r.seek_record.edge.slot n _ mid won.entries))
+
+      marked : IsMarked L enough w mid r.seek_record.parent r.seek_record.side r.seek_record.edge.slot
+      marked = inl (subst (λ (l : List Entry). Holds L w l (IsFlagged r.seek_record.parent r.seek_record.side r.seek_record.edge.slot)) (sym won.entries)
+          (flags_are_learned L enough w looked flag (subst (IsLogOf L w) won.entries mid_log) r.seek_record.parent r.seek_record.edge.slot r.seek_record.side n refl))
+
   -- ---- tries behind one another
 
   pub removals_steady : (n : NodeId) (t : ℕ) (old new : List Entry) → LostRemovals L k n t old new → Steady old new
   removals_steady n zero old new h = steady_these [] old new refl (h ∙ sym (append-nil old))
   removals_steady n (suc t) old new (mid, before, try) = steady_then old mid new (removals_steady n t old mid before) (removal_steady n mid new try)
 
-  pub removals_interfere : w < L.workers → L.workers ≤ chain_bound → (n : NodeId) (t : ℕ) (old new : List Entry) → Flagging k n old → LostRemovals L k n t old new → IsLogOf L w new → Interferes L enough w old new t
-  removals_interfere here crew n zero old new f h l = of_longer L enough w old new (longer_none old new h)
-  removals_interfere here crew n (suc t) old new f (mid, before, try) l =
-      one_more L enough w k here crew t old mid new (removals_interfere here crew n t old mid f before) (removal_interferes here crew n mid new (flagging_on k n old mid (removals_steady n t old mid before) f) try l) l
+  pub removals_changed : w < L.workers → L.workers ≤ chain_bound → (n : NodeId) (t : ℕ) (old new : List Entry) → Flagging k n old → LostRemovals L k n t old new → IsLogOf L w new → Changed L enough w old new t
+  removals_changed here crew n zero old new f h l = changed_none L enough w old new (longer_none old new h)
+  removals_changed here crew n (suc t) old new f (mid, before, try) l =
+      let last = removal_steady n mid new try in
+      subst (Changed L enough w old new) (let is : t + 1 ≡ suc t = omega arith in is)
+      (changed_then L enough w old mid new t 1 (removals_changed here crew n t old mid f before (log_prefix L w mid last.entries (subst (IsLogOf L w) last.are l)))
+      (changed_once L enough w mid new (removal_needs here crew n mid new (flagging_on k n old mid (removals_steady n t old mid before) f) try l)))

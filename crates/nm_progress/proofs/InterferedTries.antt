@@ -27,11 +27,12 @@ use Rattle.nm_calls.specs.Deletes.{TriesFlag, LostFlags}
 use Rattle.nm_progress.specs.Changes.{is_bare, Expects}
 use Rattle.nm_progress.specs.Changes.Expects.{ToLink, ToFlag}
 use Rattle.nm_progress.specs.Tries.{losing}
+use Rattle.nm_progress.proofs.LostCleanups.{cleanup_interferes}
 use Rattle.nm_progress.proofs.MoreTries.{is_loud, Plain, plain_these, plain_then, quiet_pins, log_prefix}
 use Rattle.nm_progress.proofs.WalkInterference.{walk_plain}
 use Rattle.nm_progress.proofs.DeepInterference.{deep_plain}
 use Rattle.nm_progress.proofs.Interfered.{Interferes, of_longer, interferes_then, of_interference, of_deep}
-use Rattle.nm_progress.proofs.MarkedReads.{IsMarked, StillMarked, marks_last, lost_behind, seek_marked, seek_read, lost_link_marked, lost_flag_marked, cleanup_interferes, chooses_plain, freezes_plain}
+use Rattle.nm_progress.proofs.MarkedReads.{IsMarked, StillMarked, marks_last, lost_behind, seek_marked, seek_read, lost_link_marked, lost_flag_marked, chooses_plain, freezes_plain}
 use Rattle.nm_progress.proofs.Parts.{Longer, longer_these, longer_then, longer_none, plain_longer, reads_plain, walk_longer, broken_longer, help_longer, readies_plain}
 use Rattle.nm_progress.proofs.Steady.{Steady, steady_these, steady_then, plain_steady, IsFor, for_on}
 use Rattle.nm_progress.proofs.WalkReads.{walk_read}
@@ -113,7 +114,7 @@ inserts_steady : (fit : Fit) (L : Layout) (enough : 5 ≤ L.nodes) (w k n : ℕ)
 inserts_steady fit L enough w k zero f old new h = steady_these [] old new refl (h.1 ∙ sym (append-nil old))
 inserts_steady fit L enough w k (suc n) g old new (f, mid, before, try) = steady_then old mid new (inserts_steady fit L enough w k n f old mid before) (insert_steady fit L enough w k f g mid new try)
 
-flags_steady : (L : Layout) (enough : 5 ≤ L.nodes) (w k n : ℕ) (old new : List Entry) → LostFlags L k n old new → Steady old new
+pub flags_steady : (L : Layout) (enough : 5 ≤ L.nodes) (w k n : ℕ) (old new : List Entry) → LostFlags L k n old new → Steady old new
 flags_steady L enough w k zero old new h = steady_these [] old new refl (h ∙ sym (append-nil old))
 flags_steady L enough w k (suc n) old new (c, mid, before, try) = steady_then old mid new (flags_steady L enough w k n old mid before) (flag_steady L enough w k c mid new try)
 

@@ -23,8 +23,11 @@ pub mod NearInterference
 pub mod LostWalked
 pub mod Interfered
 pub mod MarkedReads
+pub mod LostCleanups
 pub mod InterferedTries
 pub mod InterferedRemovals
 pub mod InterferedCalls
 pub mod PendingTurns
 pub mod AloneCalls
+pub mod RunningAlone
+pub mod AloneRemovals

@@ -11,12 +11,11 @@ use Rattle.nm_edge.specs.Edges.{Edge, other}
 use Rattle.nm_edge.specs.Layouts.{Layout}
 use Rattle.nm_edge.specs.declared.edge.Side.{Side}
 use Rattle.nm_edge.specs.declared.edge.Side.TheVariants.{Left, Right}
-use Rattle.nm_edge.specs.declared.node.NodeId.{NodeId}
 use Rattle.nm_model.specs.declared.event.Event.{Event}
-use Rattle.nm_model.specs.declared.event.Event.TheVariants.{Sight, Look, Link, Flag, Tag, Splice, Join}
+use Rattle.nm_model.specs.declared.event.Event.TheVariants.{Look, Link, Flag, Join}
 use Rattle.nm_model.specs.declared.event.Field.TheVariants.{Key as KeyOf, Edge as EdgeOn}
 use Rattle.nm_model.specs.declared.reply.Reply.{Reply}
-use Rattle.nm_model.specs.declared.reply.Reply.TheVariants.{KeyIs, EdgeIs, Was, Cut, Labelled}
+use Rattle.nm_model.specs.declared.reply.Reply.TheVariants.{KeyIs, EdgeIs}
 use Rattle.nm_model.specs.Memory.{child}
 use Rattle.nm_model.specs.Knowledge.{Knowledge, read}
 use Rattle.nm_model.specs.Learning.{read_edge}
@@ -38,20 +37,20 @@ use Rattle.nm_walks.specs.declared.looking.Onward.{Onward}
 use Rattle.nm_walks.specs.declared.seek_record.ChainEdge.{ChainEdge}
 use Rattle.nm_walks.specs.declared.seek_record.SeekRecord.{SeekRecord}
 use Rattle.nm_walks.specs.Walks.{onto, after_looks, edge_on, Reads, Walks}
-use Rattle.nm_walks.specs.Cleanups.{Chooses, FreezesOne, Freezes, CleanupLost, CleanupWon}
+use Rattle.nm_walks.specs.Cleanups.{Chooses, FreezesOne, Freezes}
 use Rattle.nm_progress.specs.Changes.{is_bare, Expects}
-use Rattle.nm_progress.specs.Changes.Expects.{ToCut}
-use Rattle.nm_progress.specs.Tries.{helps_on, reading, losing}
+use Rattle.nm_progress.specs.Paid.{cuts_on}
+use Rattle.nm_progress.specs.Tries.{reading, losing}
 use Rattle.nm_progress.specs.Tries.LosesTries.{NoTry, OneTry}
 use Rattle.nm_progress.proofs.MoreTries.{is_loud, Plain, plain_these, plain_then, quiet_pins, quiet_edges, log_prefix}
 use Rattle.nm_progress.proofs.TagsPaid.{bare_parts}
 use Rattle.nm_progress.proofs.Interfered.{Interferes, of_tries, of_help}
-use Rattle.nm_progress.proofs.Parts.{Longer, longer_these, longer_then, longer_none, plain_longer, reads_plain, walk_longer, choice_longer, chain_longer, prepared_longer, cleanup_longer}
+use Rattle.nm_progress.proofs.Parts.{Longer, reads_plain}
 use Rattle.nm_progress.proofs.WalkReads.{WalkRead, walk_read}
 
 -- ---- where a walk goes on
 
-onto_beside : (t : SeekRecord) (d : Side) (e : Edge) → t.edge.tag ≡ false → ((onto t d e).ancestor ≡ t.parent) × ((onto t d e).above ≡ t.side) × ((onto t d e).successor ≡ t.edge.slot)
+pub onto_beside : (t : SeekRecord) (d : Side) (e : Edge) → t.edge.tag ≡ false → ((onto t d e).ancestor ≡ t.parent) × ((onto t d e).above ≡ t.side) × ((onto t d e).successor ≡ t.edge.slot)
 onto_beside t d e = by t.edge.tag
   where
     Next : Bool → SeekRecord
@@ -61,7 +60,7 @@ onto_beside t d e = by t.edge.tag
     by true is = absurd (true≢false is)
     by false is = (refl, refl, refl)
 
-onto_along : (t : SeekRecord) (d : Side) (e : Edge) → t.edge.tag ≡ true → ((onto t d e).ancestor ≡ t.ancestor) × ((onto t d e).above ≡ t.above) × ((onto t d e).successor ≡ t.successor)
+pub onto_along : (t : SeekRecord) (d : Side) (e : Edge) → t.edge.tag ≡ true → ((onto t d e).ancestor ≡ t.ancestor) × ((onto t d e).above ≡ t.above) × ((onto t d e).successor ≡ t.successor)
 onto_along t d e = by t.edge.tag
   where
     Next : Bool → SeekRecord
@@ -279,7 +278,7 @@ module _ (L : Layout) (enough : 5 ≤ L.nodes) (w : ℕ) where
   -- ---- a cleanup behind such a walk
 
   -- where the edge by which it came has a mark, there is an edge to keep
-  some_kept : (s : SeekRecord) (start new : List Entry) → IsLogOf L w new → IsMarked start s.parent s.side s.edge.slot → Chooses s start new None → ⊥
+  pub some_kept : (s : SeekRecord) (start new : List Entry) → IsLogOf L w new → IsMarked start s.parent s.side s.edge.slot → Chooses s start new None → ⊥
   some_kept s start new l marked (e, f, are, none) = by marked
     where
       one : List Entry
@@ -316,43 +315,7 @@ module _ (L : Layout) (enough : 5 ≤ L.nodes) (w : ℕ) where
   freezes_plain parent keep [] old new h = freezes_one parent keep old new h
   freezes_plain parent keep (l ∷ c) old new h = plain_then old h.0 new (freezes_one l.slot l.side old h.0 h.1) (freezes_plain parent keep c h.0 new h.2)
 
-  -- an own entry that helps, in the midst of others
-  help_between : (old mid new : List Entry) (e : Event) (r : Reply) → Longer old mid → Longer (mid ++ (e, r) ∷ []) new → ((v : ℕ) → e ≡ Join v → ⊥) → helps_on e (Ok r) ≡ true → Interferes L enough w old new 1
+  -- an own splice, in the midst of others
+  pub help_between : (old mid new : List Entry) (e : Event) (r : Reply) → Longer old mid → Longer (mid ++ (e, r) ∷ []) new → ((v : ℕ) → e ≡ Join v → ⊥) → cuts_on e (Ok r) ≡ true → Interferes L enough w old new 1
   help_between old mid new e r a b alone helps = of_help L enough w old new a.entries b.entries e r
       (b.are ∙ (ap (λ (l : List Entry). (l ++ (e, r) ∷ []) ++ b.entries) a.are ∙ (append_assoc (old ++ a.entries) ((e, r) ∷ []) b.entries ∙ append_assoc old a.entries ((e, r) ∷ b.entries)))) alone helps
-
-  -- so a cleanup interferes its worker, whether it wins its splice or loses it
-  pub cleanup_interferes : (k n : ℕ) (old walked start new : List Entry) (s : SeekRecord) (c : List ChainEdge) → Walks k n old walked s c → Plain walked start → IsMarked start s.parent s.side s.edge.slot
-      → ((ns : List NodeId) × (epoch : ℕ) × CleanupWon s c ns epoch start new) ⊎ CleanupLost s c start new → IsLogOf L w new → Interferes L enough w old new 1
-  cleanup_interferes k n old walked start new s c walk plain marked cleanup l = by cleanup
-    where
-      further : Longer start new
-      further = cleanup_longer s c start new cleanup
-
-      start_log : IsLogOf L w start
-      start_log = log_prefix L w start further.entries (subst (IsLogOf L w) further.are l)
-
-      walked_log : IsLogOf L w walked
-      walked_log = log_prefix L w walked plain.entries (subst (IsLogOf L w) plain.are start_log)
-
-      to_start : Longer old start
-      to_start = longer_then old walked start (walk_longer k n old walked s c walk) (plain_longer walked start plain)
-
-      by : ((ns : List NodeId) × (epoch : ℕ) × CleanupWon s c ns epoch start new) ⊎ CleanupLost s c start new → Interferes L enough w old new 1
-      by (inl (ns, epoch, won)) = help_between old won.1.1 new (Splice s.ancestor s.above s.successor s.parent won.1.0.side) (Cut ns)
-          (longer_then old start won.1.1 to_start (prepared_longer s c won.1.0 start won.1.1 won.1.2)) (longer_these ((Sight, Labelled epoch) ∷ []) _ new (won.2 ∙ ap (λ (l : List Entry). l ++ (Sight, Labelled epoch) ∷ []) won.1.3)) (λ v e. cc) refl
-      by (inr (inl none)) = absurd (some_kept s start new l marked none)
-      by (inr (inr (kept, mid, e, (chosen, was, chooses, freezes), is))) = tagging (is_bare was) refl
-        where
-          tagging : (b : Bool) → is_bare was ≡ b → Interferes L enough w old new 1
-          tagging true bare = help_between old chosen new (Tag s.parent kept.side) (Was was) (longer_then old start chosen to_start (choice_longer s (Some kept) start chosen chooses))
-              (longer_then _ mid new (chain_longer s.parent kept.side c _ mid freezes) (longer_these _ mid new is)) (λ v e. cc) bare
-          tagging false had = read_it (walk_ancestor k n old walked s c walk walked_log)
-            where
-              looks : Plain walked mid
-              looks = plain_then walked start mid plain (plain_then start chosen mid (chooses_plain s (Some kept) start chosen chooses)
-                  (plain_then chosen _ mid (plain_these ((Tag s.parent kept.side, Was was) ∷ []) chosen _ (ap (λ (b : Bool). b || false) had) refl) (freezes_plain s.parent kept.side c _ mid freezes)))
-
-              read_it : AncestorRead old walked s ⊎ (s.parent ≡ 2) → Interferes L enough w old new 1
-              read_it (inl r) = lost_behind s.ancestor s.above s.successor old walked mid new (Splice s.ancestor s.above s.successor s.parent kept.side) e r looks (ToCut s.parent kept.side) (longer_none _ new is)
-              read_it (inr root) = let high = marked_high start s.parent s.side s.edge.slot start_log marked in absurd (omega (arith, high, root))

@@ -39,14 +39,14 @@ reshapes e o = links_on e o || cuts_on e o
 abbrev pub reshapes_of_others : ℕ → Turn → Bool
 reshapes_of_others w t = not (t.worker == w) && reshapes t.event t.outcome
 
--- an event with its outcome helps a delete: a splice that is won, or a tag of an unmarked edge
--- (Natarajan and Mittal, section 3.2, cleanup)
-abbrev pub helps_on : Event → Result Reply Refused → Bool
-helps_on e o = cuts_on e o || tags_on e o
-
--- a turn that interferes with worker w: another worker changes an edge, or w itself helps a delete
+-- a turn that interferes with worker w: another worker changes an edge, or w itself wins a splice. In
+-- a try that is lost, such a splice ends a delete of another worker
 abbrev pub interferes : ℕ → Turn → Bool
-interferes w t = if t.worker == w then helps_on t.event t.outcome else changes_edge t.event t.outcome
+interferes w t = if t.worker == w then cuts_on t.event t.outcome else changes_edge t.event t.outcome
+
+-- the number of flags that worker w wins in these turns
+abbrev pub own_flags : ℕ → List Turn → ℕ
+own_flags w turns = number_of (λ t. (t.worker == w) && flags_on t.event t.outcome) turns
 
 -- ---- lost tries in a log
 
@@ -107,3 +107,12 @@ HindrancesArePaid = (L : Layout) → 5 ≤ L.nodes → (w : ℕ) (past turns : L
     → number_of (interferes w) (trace_in (after_in (ordered L) past) turns)
     ≤ links_in (trace_in (after_in (ordered L) past) turns)
     + 3 * flags_in (trace_in (after_in (ordered L) past) turns) + 2 * L.workers
+
+-- they are also at most twice the changes of edges by other workers, and the flags that the worker
+-- wins itself, and one for each worker, whose delete may have been pending before
+abbrev pub HindrancesAreByOthers : Type 0
+HindrancesAreByOthers = (L : Layout) → 5 ≤ L.nodes → (w : ℕ) (past turns : List (ℕ × Event))
+    → All (λ t. HasKey t.1) (past ++ turns)
+    → number_of (interferes w) (trace_in (after_in (ordered L) past) turns)
+    ≤ 2 * number_of (changes_of_others w) (trace_in (after_in (ordered L) past) turns)
+    + own_flags w (trace_in (after_in (ordered L) past) turns) + L.workers

@@ -8,6 +8,7 @@ pub mod Sending
 pub mod Inside
 pub mod Managing
 pub mod Emptied
+pub mod AlonePops
 pub mod PopRounds
 pub mod AnswersInRuns
 pub mod Counting

@@ -1,8 +1,8 @@
 -- What managed calls leave, by what each part of them leaves.
 use Rattle.std.proofs.Common.{◌≡◌, ◌≢◌, ◌≤◌, ◌<◌, ◌⊎◌, inl, inr, true≢false, ℕ, zero, suc, ◌+◌, ◌-◌, ◌*◌, Bool, true, false, List, [], ◌∷◌, ◌++◌, append-nil, append_assoc, length, refl, sym, ap, subst, ◌∙◌, arith}
-use Rattle.std.specs.Prelude.{drop, Option, Some, None, IsSome, Result, Ok, Err, IfOk, is_ok, Contains}
+use Rattle.std.specs.Prelude.{drop, Option, Some, None, IsSome, Result, Ok, Err, IfOk, IfErr, is_ok, Contains}
 use Rattle.std.specs.List.{prefix_len}
-use Rattle.std.proofs.Math.Nat.{suc-mul, zero-mul, add-mul, mul-le-mul_right}
+use Rattle.std.proofs.Math.Nat.{suc-mul, zero-mul, add-mul, mul-zero, mul-le-mul_right}
 use Rattle.std.proofs.lemmas.List.{drop-drop}
 use Rattle.std.proofs.lemmas.List.Elements.{Contains-append_left, Contains-append_right}
 use Rattle.std.proofs.lemmas.Option.{none-some, same_Some}
@@ -13,9 +13,11 @@ use Rattle.nm_model.specs.declared.event.Op.{Op}
 use Rattle.nm_model.specs.declared.event.Op.TheVariants.{Has, Insert, Delete}
 use Rattle.nm_model.specs.declared.reply.Reply.{Reply}
 use Rattle.nm_model.specs.declared.trace.Turn.{Turn}
+use Rattle.nm_progress.specs.Alone.{IsAlone, RunsAlone}
 use Rattle.nm_progress.specs.Lookups.{WasBusy}
 use Rattle.nm_progress.specs.Lost.{ChangeWasBusy}
 use Rattle.nm_progress.specs.Moves.{number_of, moves, moves_of_others}
+use Rattle.nm_progress.proofs.RunningAlone.{alone_later, runs_later}
 use Rattle.nm_progress.proofs.SplitTurns.{number-append}
 use Rattle.nm_steps.specs.Steps.{TreeView, PassView, IsSamePass, HasSeenAllOf}
 use Rattle.nm_steps.proofs.Seeing.{seen_itself, seen_through}
@@ -28,7 +30,7 @@ use Rattle.nm_calls.specs.Won.{HasWon}
 use Rattle.nm_calls.specs.declared.deleting.Unfinished.{Unfinished}
 use Rattle.nm_calls.specs.declared.fault.CallFault.{CallFault}
 use Rattle.nm_calls.specs.declared.fault.CallFault.TheVariants as fault
-use Rattle.nm_tree.specs.Answers.{FinishHasMoment, FinishTold, links_won, flags_won}
+use Rattle.nm_tree.specs.Answers.{FailsAlone, FinishHasMoment, FinishTold, links_won, flags_won}
 use Rattle.nm_tree.specs.Calls.{LeavesHas, LeavesInsert, LeavesDelete, LeavesAdvance, LeavesCollect, SaysFinish}
 use Rattle.nm_tree.specs.Workers.{WorkerView, IsIdle, KeepsOtherQueues, waiting_in}
 use Rattle.nm_tree.proofs.Taking.{moment_since}
@@ -38,7 +40,7 @@ use Rattle.nm_set.specs.declared.fault.InsertFault.{InsertFault}
 use Rattle.nm_set.specs.declared.fault.InsertFault.TheVariants as inserting
 use Rattle.nm_set.specs.declared.managed.Options.{Options}
 use Rattle.nm_set.specs.Managed.{Answers, Collects, FindsBehind, GoesOn, HasFoundElsewhere, HasMade, HasSighted, IsLeft, Manages, MetInterference, OnlyLoses, OthersOnlyLose, Prepares, Since, WasFull, flags_told_by, interfering, links_told_by, of_insert, round_bound}
-use Rattle.nm_set.specs.Rounds.{AnswersIn, FinishesIn, Inserts, IsOnward, IsReady, IsRelieved, ManagesInsert, WereBusy, plain, rounds_bound, with_fullness}
+use Rattle.nm_set.specs.Rounds.{AnswersIn, FinishesIn, Inserts, IsOnward, IsReady, IsRelieved, ManagesInsert, Removes, WereBusy, plain, rounds_bound, with_fullness}
 
 -- nothing is not there
 pub none_there : {A B : Type 0} (x : Option A) → x ≡ None → IsSome x → B
@@ -284,6 +286,22 @@ insert_met p q times past (inl none) = (past.goes_on.more, past.goes_on.is, omeg
 insert_met p q times past (inr (inl moved)) = (moved.turns, moved.is, let some = moved.moved in omega (arith, some))
 insert_met p q times past (inr (inr lost)) = (lost.turns, lost.is, let some = lost.interfered in omega (arith, some))
 
+-- ---- a worker that runs alone
+
+-- it does so after what came first
+runs_on : {m n : ℕ} (w x z : WorkerView) → GoesOn m w x → GoesOn n x z → RunsAlone w.pass z.pass → RunsAlone x.pass z.pass
+runs_on w x z first last runs = runs_later w.pass x.pass z.pass first.same first.past last.past runs
+
+fails_busy : (first all t : ℕ) (z : WorkerView) (r : Result Bool CallFault) → r ≡ busy → IfErr r (FailsAlone first all t z) → t < first
+fails_busy first all t z r is fails = subst (λ (q : Result Bool CallFault). IfErr q (FailsAlone first all t z)) is fails
+
+none_each : (n t : ℕ) → 1 ≤ n → n * t ≡ 0 → t ≡ 0
+none_each zero t some is = absurd (omega (arith, some))
+none_each (suc n) t some is = let one = suc-mul n t in omega (arith, one, is)
+
+all_none : (n t : ℕ) → t ≡ 0 → n * t ≡ 0
+all_none n t is = ap (λ (x : ℕ). n * x) is ∙ mul-zero n
+
 -- ---- one call of the tree
 
 has_left : (L : Layout) (t k : ℕ) (w z : WorkerView) (r : Result Bool CallFault) → w.pending ≡ None → LeavesHas L t k w z r → IsLeft Has k w z r
@@ -331,6 +349,7 @@ has_answers L t k w z r none l = record {
     fit = l.says.fit;
   };
   busy = λ is. look_met w.pass z.pass t l.says.past (l.says.interfered is);
+  alone = λ runs is. (let none' = fails_busy 1 1 t z r is (l.alone runs.alone) in omega (arith, none'));
 }
 
 pub insert_answers : (L : Layout) (t k : ℕ) (w z : WorkerView) (r : Result Bool CallFault) → w.pending ≡ None → LeavesInsert L t k w z r → AnswersOnce L t Insert k w z r
@@ -347,6 +366,7 @@ insert_answers L t k w z r none l = record {
     fit = l.says.fit;
   };
   busy = λ is. insert_met w.pass z.pass t l.says.past (l.interfered is);
+  alone = λ runs is. (let none' = fails_busy 1 1 t z r is (l.alone runs) in omega (arith, none'));
 }
 
 pub delete_answers : (L : Layout) (t k : ℕ) (w z : WorkerView) (r : Result Bool CallFault) → w.pending ≡ None → LeavesDelete L t k w z r → AnswersOnce L t Delete k w z r
@@ -363,6 +383,7 @@ delete_answers L t k w z r none l = record {
     fit = l.says.fit;
   };
   busy = λ is. insert_met w.pass z.pass t l.says.past (l.interfered is);
+  alone = λ runs is. (let none' = fails_busy 1 2 t z r is (l.alone runs) in omega (arith, none'));
 }
 
 -- unless `Pending` is returned, nothing was pending
@@ -403,6 +424,7 @@ answers_more op k m n s t w z r le all a = record {
   won = a.won;
   on = goes_more m n w z le a.on;
   busy = λ is. subst (MetInterference op w.pass z.pass) (all is) (a.busy is);
+  alone = λ runs is. sym (all is) ∙ a.alone runs is;
 }
 
 moment_if : (o p q : PassView) (op : Op) (k : ℕ) (r : Result Bool CallFault) → HasSeenAllOf p o → IfOk r (AnswerHasMoment p q op k) → IfOk r (AnswerHasMoment o q op k)
@@ -418,18 +440,20 @@ left_since op k w x z (Err fault.Unfinished) none left = left
 left_since op k w x z (Err fault.Pending) none left = none_there x.pending none left.0
 left_since op k w x z (Err fault.Pinned) none left = absurd left
 
-pub answers_since : (op : Op) (k m n s t : ℕ) (w x z : WorkerView) (r : Result Bool CallFault) → IsOnward m w x → (r ≡ busy → MetInterference op w.pass z.pass t) → Answers op k n s x z r → Answers op k (m + n) t w z r
-answers_since op k m n s t w x z r first met a = record {
+pub answers_since : (op : Op) (k m n s t : ℕ) (w x z : WorkerView) (r : Result Bool CallFault) → IsOnward m w x → (r ≡ busy → MetInterference op w.pass z.pass t) → (RunsAlone w.pass z.pass → r ≡ busy → t ≡ 0) → Answers op k n s x z r → Answers op k (m + n) t w z r
+answers_since op k m n s t w x z r first met alone a = record {
   moment = moment_if w.pass x.pass z.pass op k r first.on.past a.moment;
   left = left_since op k w x z r first.none a.left;
   won = wins_after (links_told_by op r) (flags_told_by op r) w x z first.won a.won;
   on = goes_then w x z first.on a.on;
   busy = met;
+  alone = alone;
 }
 
 -- and the same where only the last calls count
 pub answers_after : (op : Op) (k m n t : ℕ) (w x z : WorkerView) (r : Result Bool CallFault) → IsOnward m w x → Answers op k n t x z r → Answers op k (m + n) t w z r
-answers_after op k m n t w x z r first a = answers_since op k m n t t w x z r first (λ is. met_since op t w.pass x.pass z.pass (record { same = first.on.same; past = first.on.past }) (a.busy is)) a
+answers_after op k m n t w x z r first a = answers_since op k m n t t w x z r first (λ is. met_since op t w.pass x.pass z.pass (record { same = first.on.same; past = first.on.past }) (a.busy is))
+    (λ runs is. a.alone (runs_on w x z first.on a.on runs) is) a
 
 pub onward_itself : (w : WorkerView) → w.pending ≡ None → w.held ≡ None → IsOnward 0 w w
 onward_itself w none free = record { on = goes_nowhere w free; none = none; won = wins_nothing w }
@@ -482,13 +506,14 @@ module _ (b : TreeView) (h : Options) (op : Op) where
       }
 
   -- some were busy, and then others were made
-  pub answers_at_last : (k m n : ℕ) (w x z : WorkerView) (r : Result Bool CallFault) → WereBusy b h op m w x → AnswersIn b h op k n x z r → AnswersIn b h op k (m + n) w z r
-  answers_at_last k m n w x z r first a =
+  pub answers_at_last : (k m n : ℕ) (w x z : WorkerView) (r : Result Bool CallFault) → 1 ≤ n → WereBusy b h op m w x → AnswersIn b h op k n x z r → AnswersIn b h op k (m + n) w z r
+  answers_at_last k m n w x z r some first a =
       let steps = add-mul m n (round_bound h.tries b.layout) in
       let tries = add-mul m n h.tries in
       answers_more op k (m * round_bound h.tries b.layout + n * round_bound h.tries b.layout) ((m + n) * round_bound h.tries b.layout) ((m + n) * h.tries) ((m + n) * h.tries) w z r (omega (arith, steps)) (λ _. refl)
       (answers_since op k (m * round_bound h.tries b.layout) (n * round_bound h.tries b.layout) (n * h.tries) ((m + n) * h.tries) w x z r first.onward
-      (λ is. subst (MetInterference op w.pass z.pass) (sym tries) (met_then op (m * h.tries) (n * h.tries) w.pass x.pass z.pass (number_of_pass w.pass x.pass first.onward.on.same) first.met (a.busy is))) a)
+      (λ is. subst (MetInterference op w.pass z.pass) (sym tries) (met_then op (m * h.tries) (n * h.tries) w.pass x.pass z.pass (number_of_pass w.pass x.pass first.onward.on.same) first.met (a.busy is)))
+      (λ runs is. all_none (m + n) h.tries (none_each n h.tries some (a.alone (runs_on w x z first.onward.on a.on runs) is))) a)
 
   pub answers_once : (k : ℕ) (w z : WorkerView) (r : Result Bool CallFault) → AnswersOnce b.layout h.tries op k w z r → AnswersIn b h op k 1 w z r
   answers_once k w z r a =
@@ -502,13 +527,13 @@ module _ (b : TreeView) (h : Options) (op : Op) where
 
   -- the last of at most `rounds` calls, after n that were busy
   pub answers_last : (k n rounds : ℕ) (w x z : WorkerView) (r : Result Bool CallFault) → n + 1 ≤ rounds → (r ≡ busy → n + 1 ≡ rounds) → WereBusy b h op n w x → AnswersOnce b.layout h.tries op k x z r → AnswersIn b h op k rounds w z r
-  answers_last k n rounds w x z r few all first a = answers_fewer k (n + 1) rounds w z r few all (answers_at_last k n 1 w x z r first (answers_once k x z r a))
+  answers_last k n rounds w x z r few all first a = answers_fewer k (n + 1) rounds w z r few all (answers_at_last k n 1 w x z r (omega arith) first (answers_once k x z r a))
 
 -- ---- going on with a remove
 
 module _ (b : TreeView) (h : Options) where
-  pub finishes_once : (w z : WorkerView) (r : Result Bool CallFault) → w.held ≡ None → SaysFinish b.layout h.tries w z r → FinishesIn b h 1 w z r
-  finishes_once w z r free l =
+  pub finishes_once : (w z : WorkerView) (r : Result Bool CallFault) → w.held ≡ None → (IsAlone w.pass z.pass → IfErr r (FailsAlone 1 1 h.tries z)) → SaysFinish b.layout h.tries w z r → FinishesIn b h 1 w z r
+  finishes_once w z r free alone l =
       let one = suc-mul 0 (round_bound h.tries b.layout) in
       record {
         on = goes_more (round_bound h.tries b.layout) (1 * round_bound h.tries b.layout) w z (omega (arith, one)) (record {
@@ -522,10 +547,11 @@ module _ (b : TreeView) (h : Options) where
         told = l.told;
         moment = l.moment;
         won = l.won;
+        alone = alone;
       }
 
   pub finishes_more : (m n : ℕ) (w z : WorkerView) (r : Result Bool CallFault) → m ≤ n → FinishesIn b h m w z r → FinishesIn b h n w z r
-  finishes_more m n w z r few a = record { on = goes_more (m * round_bound h.tries b.layout) (n * round_bound h.tries b.layout) w z (mul-le-mul_right (round_bound h.tries b.layout) few) a.on; told = a.told; moment = a.moment; won = a.won }
+  finishes_more m n w z r few a = record { on = goes_more (m * round_bound h.tries b.layout) (n * round_bound h.tries b.layout) w z (mul-le-mul_right (round_bound h.tries b.layout) few) a.on; told = a.told; moment = a.moment; won = a.won; alone = a.alone }
 
   told_since : (w x z : WorkerView) (r : Result Bool CallFault) → FinishTold w x (Err fault.Unfinished) → FinishTold x z r → FinishTold w z r
   told_since w x z (Ok true) first last = (first.0, last.1)
@@ -553,6 +579,7 @@ module _ (b : TreeView) (h : Options) where
         told = told_since w x z r first.told last.told;
         moment = moment_after w x z r (record { same = first.on.same; past = first.on.past }) first.told.1 last.moment;
         won = wins_after 0 0 w x z first.won last.won;
+        alone = λ alone. last.alone (alone_later w.pass x.pass z.pass first.on.same first.on.past last.on.past alone);
       }
 
   -- n calls so far left it pending: whatever comes after them comes after their rounds
@@ -660,15 +687,29 @@ pending_manages b h op k w z f =
         won = subst (λ (n : ℕ). Wins w z n (flags_told_by op (Err fault.Pending))) (sym none.0) (subst (λ (n : ℕ). Wins w z 0 n) (sym none.1) f.won);
         on = goes_more ((h.rounds + 1) * round_bound h.tries b.layout) ((3 * h.rounds + 5) * round_bound h.tries b.layout) w z (mul-le-mul_right (round_bound h.tries b.layout) (omega arith)) f.on;
         busy = λ is. absurd (let no = is in cc);
+        alone = λ runs is. absurd (let no = is in cc);
       };
       full = λ is. absurd (let no = is in cc);
       begins = λ other. absurd (other refl);
+      alone = λ runs. tt;
+      pending = λ alone is. f.alone alone;
     }
+
+-- why it failed alone
+managed_fails : (h : Options) (op : Op) (k m : ℕ) (y z : WorkerView) (r : Result Bool CallFault) → Answers op k m ((h.rounds + 1) * h.tries) y z r → RunsAlone y.pass z.pass → (r ≡ Err fault.Unfinished → FailsAlone 1 1 h.tries z fault.Unfinished) → IfErr r (FailsAlone 1 1 h.tries z)
+managed_fails h op k m y z (Ok answer) a runs last = tt
+managed_fails h op k m y z (Err fault.Busy) a runs last = let none = none_each (h.rounds + 1) h.tries (omega arith) (a.alone runs refl) in omega (arith, none)
+managed_fails h op k m y z (Err fault.Unfinished) a runs last = last refl
+managed_fails h op k m y z (Err fault.Full) a runs last = tt
+managed_fails h op k m y z (Err fault.NoMemory) a runs last = tt
+managed_fails h op k m y z (Err fault.Pending) a runs last = tt
+managed_fails h op k m y z (Err fault.Pinned) a runs last = tt
 
 -- the operation, after what came before it
 pub manages : (b : TreeView) (h : Options) (op : Op) (k m n : ℕ) (w y z : WorkerView) (r : Result Bool CallFault) → m + n ≤ 3 * h.rounds + 5 → IsOnward (rounds_bound b h m) w y → Prepares h op w y.pass
-    → Answers op k (rounds_bound b h n) ((h.rounds + 1) * h.tries) y z r → (r ≡ Err fault.Full → (f : Fullness) × WasFull w z f) → Manages b h op k w z r
-manages b h op k m n w y z r few on first a full =
+    → Answers op k (rounds_bound b h n) ((h.rounds + 1) * h.tries) y z r → (r ≡ Err fault.Full → (f : Fullness) × WasFull w z f)
+    → (RunsAlone y.pass z.pass → r ≡ Err fault.Unfinished → FailsAlone 1 1 h.tries z fault.Unfinished) → Manages b h op k w z r
+manages b h op k m n w y z r few on first a full last =
     let most = round_bound h.tries b.layout in
     let sum = add-mul m n most in
     let le = mul-le-mul_right most few in
@@ -677,19 +718,26 @@ manages b h op k m n w y z r few on first a full =
           (answers_after op k (m * most) (n * most) ((h.rounds + 1) * h.tries) w y z r on a);
       full = full;
       begins = λ other. (y.pass, first, a.moment);
+      alone = λ runs. (let more = runs_on w y z on.on a.on runs in managed_fails h op k (rounds_bound b h n) y z r a more (last more));
+      pending = λ alone is. none_there y.pending on.none (subst (IsLeft op k y z) is a.left).0;
     }
 
 -- which was the first thing that it did
 pub manages_at_once : (b : TreeView) (h : Options) (op : Op) (k n : ℕ) (w z : WorkerView) (r : Result Bool CallFault) → n ≤ 3 * h.rounds + 5 → w.held ≡ None → w.pending ≡ None → (op ≢ Has → h.collect_after ≤ waiting_in w.queues → ⊥)
-    → Answers op k (rounds_bound b h n) ((h.rounds + 1) * h.tries) w z r → (r ≡ Err fault.Full → (f : Fullness) × WasFull w z f) → Manages b h op k w z r
-manages_at_once b h op k n w z r few free none tidy a full =
+    → Answers op k (rounds_bound b h n) ((h.rounds + 1) * h.tries) w z r → (r ≡ Err fault.Full → (f : Fullness) × WasFull w z f)
+    → (RunsAlone w.pass z.pass → r ≡ Err fault.Unfinished → FailsAlone 1 1 h.tries z fault.Unfinished) → Manages b h op k w z r
+manages_at_once b h op k n w z r few free none tidy a full last =
     let most = round_bound h.tries b.layout in
     let nothing = zero-mul most in
-    manages b h op k 0 n w w z r (omega (arith, few)) (onward_more 0 (0 * most) w w (omega (arith, nothing)) (onward_itself w none free)) (prepares_nothing h op w none tidy) a full
+    manages b h op k 0 n w w z r (omega (arith, few)) (onward_more 0 (0 * most) w w (omega (arith, nothing)) (onward_itself w none free)) (prepares_nothing h op w none tidy) a full last
 
 -- only an insert is full
 pub never_full : {A : Type 0} (op : Op) (k m t : ℕ) (w z : WorkerView) (r : Result Bool CallFault) → op ≢ Insert → Answers op k m t w z r → r ≡ Err fault.Full → A
 never_full op k m t w z r other a is = absurd (other (subst (IsLeft op k w z) is a.left).0)
+
+-- and only a remove is not finished
+pub never_unfinished : {A : Type 0} (op : Op) (k m t : ℕ) (w z : WorkerView) (r : Result Bool CallFault) → op ≢ Delete → Answers op k m t w z r → r ≡ Err fault.Unfinished → A
+never_unfinished op k m t w z r other a is = absurd (other (subst (IsLeft op k w z) is a.left).0)
 
 -- an answer was given by one call
 pub answered : (b : TreeView) (h : Options) (op : Op) (k : ℕ) (w z : WorkerView) (answer : Bool) → AnswersOnce b.layout h.tries op k w z (Ok answer) → AnswersIn b h op k (h.rounds + 1) w z (Ok answer)
@@ -771,7 +819,7 @@ pub inserts_manage : (b : TreeView) (h : Options) (k m : ℕ) (w y z : WorkerVie
     → ManagesInsert b h k w z r
 inserts_manage b h k m w y z r few on first i =
     let full : of_insert r ≡ Err fault.Full → (f : Fullness) × (r ≡ Err (inserting.Full f)) × WasFull w z f = λ is. (let found = i.full is in (found.0, found.1, full_since (rounds_bound b h m) w y z found.0 on.on found.2)) in
-    (manages b h Insert k m (2 * h.rounds + 3) w y z (of_insert r) (omega (arith, few)) on first i.answers (λ is. (let found = full is in (found.0, found.2))), as_full w z r full)
+    (manages b h Insert k m (2 * h.rounds + 3) w y z (of_insert r) (omega (arith, few)) on first i.answers (λ is. (let found = full is in (found.0, found.2))) (λ runs is. never_unfinished Insert k _ _ y z (of_insert r) (λ no. (let which = no in cc)) i.answers is), as_full w z r full)
 
 -- an answer at once
 pub inserts_at_once : (b : TreeView) (h : Options) (k : ℕ) (w z : WorkerView) (answer : Bool) → AnswersOnce b.layout h.tries Insert k w z (Ok answer) → Inserts b h k w z (Ok answer)
@@ -783,8 +831,11 @@ module _ (b : TreeView) (h : Options) (k : ℕ) (w : WorkerView) where
   abbrev round' : ℕ
   round' = round_bound h.tries b.layout
 
-  pub removes_plain : (z : WorkerView) (r : Result Bool CallFault) → AnswersIn b h Delete k (h.rounds + 1) w z r → Answers Delete k (rounds_bound b h (2 * h.rounds + 2)) ((h.rounds + 1) * h.tries) w z r
-  removes_plain z r a = answers_more Delete k ((h.rounds + 1) * round') ((2 * h.rounds + 2) * round') ((h.rounds + 1) * h.tries) ((h.rounds + 1) * h.tries) w z r (mul-le-mul_right round' (omega arith)) (λ _. refl) a
+  removes_so : (z : WorkerView) (r : Result Bool CallFault) → AnswersIn b h Delete k (h.rounds + 1) w z r → Answers Delete k (rounds_bound b h (2 * h.rounds + 2)) ((h.rounds + 1) * h.tries) w z r
+  removes_so z r a = answers_more Delete k ((h.rounds + 1) * round') ((2 * h.rounds + 2) * round') ((h.rounds + 1) * h.tries) ((h.rounds + 1) * h.tries) w z r (mul-le-mul_right round' (omega arith)) (λ _. refl) a
+
+  pub removes_plain : (z : WorkerView) (r : Result Bool CallFault) → r ≢ Err fault.Unfinished → AnswersIn b h Delete k (h.rounds + 1) w z r → Removes b h k w z r
+  removes_plain z r other a = record { answers = removes_so z r a; alone = λ runs is. absurd (other is) }
 
   module _ (x z : WorkerView) (idle : IsIdle w) (none : w.pending ≡ None) (first : AnswersIn b h Delete k (h.rounds + 1) w x (Err fault.Unfinished)) where
     abbrev mine : Unfinished
@@ -799,27 +850,35 @@ module _ (b : TreeView) (h : Options) (k : ℕ) (w : WorkerView) where
     had : HadNoCall w.pass x.pass
     had = record { same = first.on.same; past = first.on.past; call = idle none }
 
-    pub removes_at_last : (r : Result Bool CallFault) → FinishesIn b h (h.rounds + 1) x z r → Answers Delete k (rounds_bound b h (2 * h.rounds + 2)) ((h.rounds + 1) * h.tries) w z r
-    removes_at_last (Ok true) f = record {
+    removes_ended : (r : Result Bool CallFault) → FinishesIn b h (h.rounds + 1) x z r → Answers Delete k (rounds_bound b h (2 * h.rounds + 2)) ((h.rounds + 1) * h.tries) w z r
+    removes_ended (Ok true) f = record {
       moment = finished_earlier b h (h.rounds + 1) x z true f mine first.left.2 w.pass had;
       left = f.told.1;
       won = wins_before 0 1 w x z first.won f.won;
       on = goes (Ok true) f;
       busy = λ is. absurd (let no = is in cc);
+      alone = λ runs is. absurd (let no = is in cc);
     }
-    removes_at_last (Ok false) f = absurd (none-some mine (sym f.told.0 ∙ first.left.2))
-    removes_at_last (Err fault.Unfinished) f = record {
+    removes_ended (Ok false) f = absurd (none-some mine (sym f.told.0 ∙ first.left.2))
+    removes_ended (Err fault.Unfinished) f = record {
       moment = tt;
       left = (refl, first.left.1, f.told.1 ∙ first.left.2);
       won = wins_before 0 1 w x z first.won f.won;
       on = goes (Err fault.Unfinished) f;
       busy = λ is. absurd (let no = is in cc);
+      alone = λ runs is. absurd (let no = is in cc);
     }
-    removes_at_last (Err fault.Busy) f = absurd f.told
-    removes_at_last (Err fault.Full) f = absurd f.told
-    removes_at_last (Err fault.NoMemory) f = absurd f.told
-    removes_at_last (Err fault.Pending) f = absurd f.told
-    removes_at_last (Err fault.Pinned) f = absurd f.told
+    removes_ended (Err fault.Busy) f = absurd f.told
+    removes_ended (Err fault.Full) f = absurd f.told
+    removes_ended (Err fault.NoMemory) f = absurd f.told
+    removes_ended (Err fault.Pending) f = absurd f.told
+    removes_ended (Err fault.Pinned) f = absurd f.told
+
+    pub removes_at_last : (r : Result Bool CallFault) → FinishesIn b h (h.rounds + 1) x z r → Removes b h k w z r
+    removes_at_last r f = record {
+      answers = removes_ended r f;
+      alone = λ runs is. subst (λ (q : Result Bool CallFault). IfErr q (FailsAlone 1 1 h.tries z)) is (f.alone (runs_on w x z first.on f.on runs).alone);
+    }
 
 -- ---- a call that failed at once, and what was done after it
 
@@ -848,7 +907,7 @@ delete_failed L t k w z f other l = let none = had_none_delete L t k w z (Err f)
 -- ---- a call with nothing to do first
 
 pub looks_at_once : (b : TreeView) (h : Options) (k : ℕ) (w z : WorkerView) (r : Result Bool CallFault) → w.held ≡ None → w.pending ≡ None → AnswersIn b h Has k (h.rounds + 1) w z r → Manages b h Has k w z r
-looks_at_once b h k w z r free none a = manages_at_once b h Has k (h.rounds + 1) w z r (omega arith) free none (λ not many. not refl) a (never_full Has k _ _ w z r (λ is. let no = is in cc) a)
+looks_at_once b h k w z r free none a = manages_at_once b h Has k (h.rounds + 1) w z r (omega arith) free none (λ not many. not refl) a (never_full Has k _ _ w z r (λ is. let no = is in cc) a) (λ runs. never_unfinished Has k _ _ w z r (λ is. let no = is in cc) a)
 
 module _ (b : TreeView) (h : Options) (k : ℕ) (w z : WorkerView) (free : w.held ≡ None) (none : w.pending ≡ None) (few : waiting_in w.queues < h.collect_after) where
   tidy : (op : Op) → op ≢ Has → h.collect_after ≤ waiting_in w.queues → ⊥
@@ -859,9 +918,9 @@ module _ (b : TreeView) (h : Options) (k : ℕ) (w z : WorkerView) (free : w.hel
       let most = round_bound h.tries b.layout in
       inserts_manage b h k 0 w w z r (omega arith) (onward_more 0 (0 * most) w w (omega arith) (onward_itself w none free)) (prepares_nothing h Insert w none (tidy Insert)) i
 
-  pub removes_tidy : (r : Result Bool CallFault) → Answers Delete k (rounds_bound b h (2 * h.rounds + 2)) ((h.rounds + 1) * h.tries) w z r → Manages b h Delete k w z r
-  removes_tidy r a = manages_at_once b h Delete k (2 * h.rounds + 2) w z r (omega arith) free none (tidy Delete) a (never_full Delete k _ _ w z r (λ is. let no = is in cc) a)
+  pub removes_tidy : (r : Result Bool CallFault) → Removes b h k w z r → Manages b h Delete k w z r
+  removes_tidy r a = manages_at_once b h Delete k (2 * h.rounds + 2) w z r (omega arith) free none (tidy Delete) a.answers (never_full Delete k _ _ w z r (λ is. let no = is in cc) a.answers) a.alone
 
 -- a remove after what came before it
-pub removes_after : (b : TreeView) (h : Options) (k : ℕ) (w y z : WorkerView) (r : Result Bool CallFault) → IsReady b h w y → Answers Delete k (rounds_bound b h (2 * h.rounds + 2)) ((h.rounds + 1) * h.tries) y z r → Manages b h Delete k w z r
-removes_after b h k w y z r ready a = manages b h Delete k (h.rounds + 2) (2 * h.rounds + 2) w y z r (omega arith) ready.onward (ready.prepares Delete) a (never_full Delete k _ _ y z r (λ is. let no = is in cc) a)
+pub removes_after : (b : TreeView) (h : Options) (k : ℕ) (w y z : WorkerView) (r : Result Bool CallFault) → IsReady b h w y → Removes b h k y z r → Manages b h Delete k w z r
+removes_after b h k w y z r ready a = manages b h Delete k (h.rounds + 2) (2 * h.rounds + 2) w y z r (omega arith) ready.onward (ready.prepares Delete) a.answers (never_full Delete k _ _ y z r (λ is. let no = is in cc) a.answers) a.alone

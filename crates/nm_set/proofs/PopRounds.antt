@@ -1,10 +1,12 @@
 -- A key is taken by managed calls: what each round leaves, and what the call leaves after all of them.
-use Rattle.std.proofs.Common.{◌≡◌, ◌≤◌, inl, inr, ℕ, suc, ◌+◌, ◌*◌, Bool, true, false, length, sym, ap, subst, ◌∙◌, arith}
+use Rattle.std.proofs.Common.{◌≡◌, ◌≤◌, inl, inr, ℕ, suc, ◌+◌, ◌*◌, Bool, true, false, length, refl, arith}
 use Rattle.std.specs.Prelude.{Option, Some, None, Result, Ok, Err, IfOk}
 use Rattle.std.proofs.Math.Nat.{add-mul, suc-mul, mul-add, mul-le-mul_right}
-use Rattle.nm_edge.specs.Layouts.{Layout}
+use Rattle.nm_edge.specs.Layouts.{Layout, IsLayout}
 use Rattle.nm_model.specs.declared.event.Op.TheVariants.{Delete}
-use Rattle.nm_steps.specs.Steps.{TreeView, PassView, HasSeenAllOf}
+use Rattle.nm_progress.specs.Alone.{RunsAlone}
+use Rattle.nm_progress.proofs.RunningAlone.{alone_later, runs_later}
+use Rattle.nm_steps.specs.Steps.{TreeView, PassView, HasSeen, HasSeenAllOf}
 use Rattle.nm_steps.proofs.Seeing.{seen_itself}
 use Rattle.nm_walks.specs.Bounds.{reach}
 use Rattle.nm_calls.specs.declared.fault.CallFault.{CallFault}
@@ -12,12 +14,14 @@ use Rattle.nm_calls.specs.declared.fault.CallFault.TheVariants as fault
 use Rattle.nm_tree.specs.declared.popping.End.{End}
 use Rattle.nm_tree.specs.Calls.{LeavesNear}
 use Rattle.nm_tree.specs.Popping.{Finds, IsOutside, TakesOf, among, comes_before}
-use Rattle.nm_tree.specs.Workers.{WorkerView}
+use Rattle.nm_tree.specs.Workers.{IsBetweenCalls, WorkerView}
+use Rattle.nm_tree.proofs.FlaggedSeen.{none_seen}
 use Rattle.nm_tree.proofs.Taking.{found_by, found_in, gives_up_at, key_found, moment_since, near_bound, none_found, none_inside, scaled, told_at, was_so_since}
 use Rattle.nm_set.specs.declared.managed.Options.{Options}
-use Rattle.nm_set.specs.Managed.{Answers, GoesOn, Manages, SaysManaged, round_bound}
+use Rattle.nm_set.specs.Managed.{GoesOn, Manages, SaysManaged, round_bound}
 use Rattle.nm_set.specs.Popping.{PopLeft, Pops, flags_told_by_pop, pop_round_bound, pop_rounds_bound}
 use Rattle.nm_set.specs.Rounds.{FinishesIn, IsOnward}
+use Rattle.nm_set.proofs.AlonePops.{found_is_there}
 use Rattle.nm_set.proofs.Managing.{finished, goes_more, goes_then, lose_same, none_there, onward_itself, onward_more, onward_then, wins_after}
 
 abbrev pop_busy : Result (Option ℕ) CallFault
@@ -50,7 +54,7 @@ module _ (end : End) (b : TreeView) (h : Options) (w : WorkerView) (none : w.pen
   L = b.layout
 
   abbrev Says : WorkerView → Result (Option ℕ) CallFault → Type 0
-  Says z r = Pops (among end) (comes_before end) (pop_round_bound h L) w z r
+  Says z r = Pops (among end) (comes_before end) (pop_round_bound h L) h.tries w z r
 
   abbrev Near : WorkerView → Result (Option ℕ) CallFault → Type 0
   Near z r = LeavesNear (told_at end) (gives_up_at end L h.tries) L h.tries w z r
@@ -64,14 +68,21 @@ module _ (end : End) (b : TreeView) (h : Options) (w : WorkerView) (none : w.pen
   pub pops_none : (z : WorkerView) → Finds end L h.tries w z (Ok None) → Says z (Ok None)
   pops_none z did =
       let l = found_by end L h.tries w z (Ok None) did in
-      record { took = none_found end w.pass z.pass l.moment; left = l.did.0.1; won = l.won; on = alone z (goes_found end L h.tries w z (Ok None) did) }
+      record { took = none_found end w.pass z.pass l.moment; left = l.did.0.1; won = l.won; on = alone z (goes_found end L h.tries w z (Ok None) did); alone = λ runs. tt; pending = λ mine is. absurd (let no = is in cc) }
 
   -- the call that finds a key was not answered
   pub pops_not_found : (z : WorkerView) (f : CallFault) → Finds end L h.tries w z (Err f) → Says z (Err f)
   pops_not_found z f did = by f (alone z (goes_found end L h.tries w z (Err f) did)) (found_by end L h.tries w z (Err f) did)
     where
       by : (f : CallFault) → GoesOn (pop_round_bound h L) w z → Near z (Err f) → Says z (Err f)
-      by fault.Busy on l = record { took = tt; left = l.did.0.1; won = l.won; on = on }
+      by fault.Busy on l = record {
+        took = tt;
+        left = l.did.0.1;
+        won = l.won;
+        on = on;
+        alone = λ runs. (let few = l.alone runs.alone refl in omega (arith, few));
+        pending = λ mine is. absurd (let no = is in cc);
+      }
       by fault.Pending on l = none_there w.pending none l.did.0
       by fault.Full on l = absurd l.did
       by fault.NoMemory on l = absurd l.did
@@ -82,7 +93,7 @@ module _ (end : End) (b : TreeView) (h : Options) (w : WorkerView) (none : w.pen
   pub pops_outside : (z : WorkerView) (key : ℕ) → Finds end L h.tries w z (Ok (Some key)) → IsOutside end key → Says z (Ok None)
   pops_outside z key did outside =
       let l = found_by end L h.tries w z (Ok (Some key)) did in
-      record { took = none_inside end w.pass z.pass key outside (key_found end w.pass z.pass key l.moment); left = l.did.0.1; won = l.won; on = alone z (goes_found end L h.tries w z (Ok (Some key)) did) }
+      record { took = none_inside end w.pass z.pass key outside (key_found end w.pass z.pass key l.moment); left = l.did.0.1; won = l.won; on = alone z (goes_found end L h.tries w z (Ok (Some key)) did); alone = λ runs. tt; pending = λ mine is. absurd (let no = is in cc) }
 
   module _ (x z : WorkerView) (key : ℕ) (found : Finds end L h.tries w x (Ok (Some key))) (is : among end key) where
     l : Near x (Ok (Some key))
@@ -97,26 +108,46 @@ module _ (end : End) (b : TreeView) (h : Options) (w : WorkerView) (none : w.pen
         let more = suc-mul (3 * h.rounds + 5) (round_bound h.tries L) in
         goes_more (round_bound h.tries L + (3 * h.rounds + 5) * round_bound h.tries L) (pop_round_bound h L) w z (omega (arith, more)) (goes_then w x z (goes_found end L h.tries w x (Ok (Some key)) found) t.answers.on)
 
+    later : {m : ℕ} → GoesOn m x z → RunsAlone w.pass z.pass → RunsAlone x.pass z.pass
+    later on runs = runs_later w.pass x.pass z.pass l.same l.past on.past runs
+
     -- the key was removed
     pub pops_key : SaysManaged Delete b h key x z (Ok true) → Says z (Ok (Some key))
     pops_key did =
         let t = removes (Ok true) did in
         let was = found_in end w.pass w.pass x.pass z.pass key (seen_itself w.pass) t.answers.on.same t.answers.on.past (key_found end w.pass x.pass key l.moment) in
-        record { took = (is, moment_since w.pass x.pass z.pass Delete key true l.past t.answers.moment, was.missing); left = t.answers.left; won = wins_after 0 1 w x z l.won t.answers.won; on = both (Ok true) t }
+        record { took = (is, moment_since w.pass x.pass z.pass Delete key true l.past t.answers.moment, was.missing); left = t.answers.left; won = wins_after 0 1 w x z l.won t.answers.won; on = both (Ok true) t; alone = λ runs. tt; pending = λ mine is. absurd (let no = is in cc) }
 
-    -- the remove came too late
-    pub pops_late : SaysManaged Delete b h key x z (Ok false) → Says z pop_busy
-    pops_late did =
+    -- the remove came too late, which it does not if the worker runs alone
+    pub pops_late : HasSeen w.pass.view → IsBetweenCalls w → HasSeen z.pass.view → IsLayout z.pass.view.layout → SaysManaged Delete b h key x z (Ok false) → Says z pop_busy
+    pops_late seen between seen_z fits did =
         let t = removes (Ok false) did in
-        record { took = tt; left = t.answers.left; won = wins_after 0 0 w x z l.won t.answers.won; on = both (Ok false) t }
+        let won = wins_after 0 0 w x z l.won t.answers.won in
+        let on = both (Ok false) t in
+        let was = key_found end w.pass x.pass key l.moment in
+        record {
+          took = tt;
+          left = t.answers.left;
+          won = won;
+          on = on;
+          alone = λ runs. absurd (found_is_there w.pass z.pass seen_z fits on.same runs (none_seen w.pass w.pending w.held seen between.stands none) seen.is_part won x.pass l.same l.past t.answers.on.past key was.is_key was.was t.answers.moment);
+          pending = λ mine is. absurd (let no = is in cc);
+        }
 
     -- or was not answered
     pub pops_not_removed : (f : CallFault) → SaysManaged Delete b h key x z (Err f) → Says z (Err f)
     pops_not_removed f did = by f (removes (Err f) did)
       where
         by : (f : CallFault) → Manages b h Delete key x z (Err f) → Says z (Err f)
-        by fault.Busy t = record { took = tt; left = t.answers.left; won = wins_after 0 0 w x z l.won t.answers.won; on = both (Err fault.Busy) t }
-        by fault.NoMemory t = record { took = tt; left = t.answers.left.1; won = wins_after 0 0 w x z l.won t.answers.won; on = both (Err fault.NoMemory) t }
+        by fault.Busy t = record {
+          took = tt;
+          left = t.answers.left;
+          won = wins_after 0 0 w x z l.won t.answers.won;
+          on = both (Err fault.Busy) t;
+          alone = λ runs. (let less = t.alone (later t.answers.on runs) in omega (arith, less));
+          pending = λ mine is. absurd (let no = is in cc);
+        }
+        by fault.NoMemory t = record { took = tt; left = t.answers.left.1; won = wins_after 0 0 w x z l.won t.answers.won; on = both (Err fault.NoMemory) t; alone = λ runs. tt; pending = λ mine is. absurd (let no = is in cc) }
         by fault.Full t = absurd (let no = t.answers.left.0 in cc)
         by fault.Pinned t = absurd t.answers.left
         by fault.Pending t = none_there x.pending l.did.0.1 t.answers.left.0
@@ -127,6 +158,8 @@ module _ (end : End) (b : TreeView) (h : Options) (w : WorkerView) (none : w.pen
               left = (record { key = key; leaf = t.answers.left.1 }, t.answers.left.2, is, was.was, was.missing);
               won = wins_after 0 1 w x z l.won t.answers.won;
               on = both (Err fault.Unfinished) t;
+              alone = λ runs. t.alone (later t.answers.on runs);
+              pending = λ mine is. absurd (let no = is in cc);
             }
 
 -- ---- all rounds
@@ -150,28 +183,30 @@ left_since Among Before o w z (Err fault.Pending) past none left = none_there w.
 left_since Among Before o w z (Err fault.Unfinished) past none (n, is, key, was, missing) =
     (n, is, key, was_so_since o.pass w.pass z.pass n.key true past was, λ j is_key before. was_so_since o.pass w.pass z.pass j false past (missing j is_key before))
 
-module _ (Among : ℕ → Type 0) (Before : ℕ → ℕ → Type 0) where
-  pub pops_since : (m n : ℕ) (w x z : WorkerView) (r : Result (Option ℕ) CallFault) → IsOnward m w x → Pops Among Before n x z r → Pops Among Before (m + n) w z r
+module _ (Among : ℕ → Type 0) (Before : ℕ → ℕ → Type 0) (tries : ℕ) where
+  pub pops_since : (m n : ℕ) (w x z : WorkerView) (r : Result (Option ℕ) CallFault) → IsOnward m w x → Pops Among Before n tries x z r → Pops Among Before (m + n) tries w z r
   pops_since m n w x z r first last = record {
     took = took_since Among Before w.pass x.pass z.pass r first.on.past last.took;
     left = left_since Among Before w x z r first.on.past first.none last.left;
     won = wins_after 0 (flags_told_by_pop r) w x z first.won last.won;
     on = goes_then w x z first.on last.on;
+    alone = λ runs. last.alone (runs_later w.pass x.pass z.pass first.on.same first.on.past last.on.past runs);
+    pending = λ mine is. last.pending (alone_later w.pass x.pass z.pass first.on.same first.on.past last.on.past mine) is;
   }
 
-  pub pops_more : (m n : ℕ) (w z : WorkerView) (r : Result (Option ℕ) CallFault) → m ≤ n → Pops Among Before m w z r → Pops Among Before n w z r
-  pops_more m n w z r le a = record { took = a.took; left = a.left; won = a.won; on = goes_more m n w z le a.on }
+  pub pops_more : (m n : ℕ) (w z : WorkerView) (r : Result (Option ℕ) CallFault) → m ≤ n → Pops Among Before m tries w z r → Pops Among Before n tries w z r
+  pops_more m n w z r le a = record { took = a.took; left = a.left; won = a.won; on = goes_more m n w z le a.on; alone = a.alone; pending = a.pending }
 
   -- n rounds in a row came to nothing
   pub no_round_yet : (most : ℕ) (w : WorkerView) → w.pending ≡ None → w.held ≡ None → IsOnward (0 * most) w w
   no_round_yet most w none free = onward_more 0 (0 * most) w w (omega arith) (onward_itself w none free)
 
-  pub one_round_more : (most n : ℕ) (w x z : WorkerView) → IsOnward (n * most) w x → Pops Among Before most x z pop_busy → IsOnward ((n + 1) * most) w z
+  pub one_round_more : (most n : ℕ) (w x z : WorkerView) → IsOnward (n * most) w x → Pops Among Before most tries x z pop_busy → IsOnward ((n + 1) * most) w z
   one_round_more most n w x z first last =
       let whole = add-mul n 1 most in
       onward_more (n * most + most) ((n + 1) * most) w z (omega (arith, whole)) (onward_then (n * most) most w x z first (record { on = last.on; none = last.left; won = last.won }))
 
-  pub last_round : (most n rounds : ℕ) (w x z : WorkerView) (r : Result (Option ℕ) CallFault) → suc n ≤ rounds → IsOnward (n * most) w x → Pops Among Before most x z r → Pops Among Before (rounds * most) w z r
+  pub last_round : (most n rounds : ℕ) (w x z : WorkerView) (r : Result (Option ℕ) CallFault) → suc n ≤ rounds → IsOnward (n * most) w x → Pops Among Before most tries x z r → Pops Among Before (rounds * most) tries w z r
   last_round most n rounds w x z r few first last =
       let whole = suc-mul n most in
       let le = mul-le-mul_right most few in
@@ -179,16 +214,16 @@ module _ (Among : ℕ → Type 0) (Before : ℕ → ℕ → Type 0) where
 
 -- what was finished first, and then popped
 pub pops_after : (Among : ℕ → Type 0) (Before : ℕ → ℕ → Type 0) (b : TreeView) (h : Options) (w x z : WorkerView) (answer : Bool) (r : Result (Option ℕ) CallFault) → FinishesIn b h (h.rounds + 1) w x (Ok answer)
-    → Pops Among Before ((h.rounds + 1) * pop_round_bound h b.layout) x z r → Pops Among Before (pop_rounds_bound h b.layout) w z r
+    → Pops Among Before ((h.rounds + 1) * pop_round_bound h b.layout) h.tries x z r → Pops Among Before (pop_rounds_bound h b.layout) h.tries w z r
 pops_after Among Before b h w x z answer r f last =
     let most = round_bound h.tries b.layout in
     let sum = mul-add (h.rounds + 1) most (pop_round_bound h b.layout) in
-    pops_more Among Before ((h.rounds + 1) * most + (h.rounds + 1) * pop_round_bound h b.layout) (pop_rounds_bound h b.layout) w z r (omega (arith, sum))
-    (pops_since Among Before ((h.rounds + 1) * most) ((h.rounds + 1) * pop_round_bound h b.layout) w x z r (finished b h (h.rounds + 1) w x answer f) last)
+    pops_more Among Before h.tries ((h.rounds + 1) * most + (h.rounds + 1) * pop_round_bound h b.layout) (pop_rounds_bound h b.layout) w z r (omega (arith, sum))
+    (pops_since Among Before h.tries ((h.rounds + 1) * most) ((h.rounds + 1) * pop_round_bound h b.layout) w x z r (finished b h (h.rounds + 1) w x answer f) last)
 
 -- where the remove of an earlier call is not finished, nothing else is done
-pub pending_pops : (Among : ℕ → Type 0) (Before : ℕ → ℕ → Type 0) (b : TreeView) (h : Options) (w z : WorkerView) → FinishesIn b h (h.rounds + 1) w z (Err fault.Unfinished) → Pops Among Before (pop_rounds_bound h b.layout) w z (Err fault.Pending)
+pub pending_pops : (Among : ℕ → Type 0) (Before : ℕ → ℕ → Type 0) (b : TreeView) (h : Options) (w z : WorkerView) → FinishesIn b h (h.rounds + 1) w z (Err fault.Unfinished) → Pops Among Before (pop_rounds_bound h b.layout) h.tries w z (Err fault.Pending)
 pending_pops Among Before b h w z f =
     let most = round_bound h.tries b.layout in
     let sum = mul-add (h.rounds + 1) most (pop_round_bound h b.layout) in
-    record { took = tt; left = f.told; won = f.won; on = goes_more ((h.rounds + 1) * most) (pop_rounds_bound h b.layout) w z (omega (arith, sum)) f.on }
+    record { took = tt; left = f.told; won = f.won; on = goes_more ((h.rounds + 1) * most) (pop_rounds_bound h b.layout) w z (omega (arith, sum)) f.on; alone = λ runs. tt; pending = λ mine is. f.alone mine }

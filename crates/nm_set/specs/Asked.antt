@@ -1,9 +1,10 @@
 -- What each call leaves of its member's worker: what the tree's call of the same name leaves,
 -- unless the caller has pinned the worker.
-use Rattle.std.specs.Prelude.{◌≡◌, ◌⊎◌, ℕ, Bool, None, IsSome, Result, Ok, Err}
+use Rattle.std.specs.Prelude.{◌≡◌, ◌⊎◌, ℕ, Bool, None, IsSome, Result, Ok, Err, IfErr}
 use Rattle.nm_edge.specs.Layouts.{Layout}
+use Rattle.nm_progress.specs.Alone.{IsAlone, RunsAlone}
 use Rattle.nm_progress.specs.Lost.{ChangeWasBusy}
-use Rattle.nm_tree.specs.Answers.{DeleteWasLost, FinishWasLost}
+use Rattle.nm_tree.specs.Answers.{DeleteWasLost, FailsAlone, FinishWasLost}
 use Rattle.nm_calls.specs.declared.fault.CallFault.{CallFault}
 use Rattle.nm_calls.specs.declared.fault.CallFault.TheVariants as fault
 use Rattle.nm_tree.specs.declared.fault.PinFault.{PinFault}
@@ -35,16 +36,19 @@ AskedToUnpin w z (Err _) = (w.held ≡ None) × (z ≡ w)
 
 -- `SaysTryInsert`, `SaysTryRemove`, `SaysGoOn`: what a caller learns from an insert of the tree, and
 -- why it was busy; from a remove, and why it was busy or is not finished; and from a call that goes
--- on with a remove, and why that is not finished
+-- on with a remove, and why that is not finished. `alone` is why the call failed if it ran alone
 pub record SaysTryInsert (L : Layout) (tries k : ℕ) (w z : WorkerView) (r : Result Bool CallFault) : Type 0 where
   pub says : Asked (SaysInsert L tries k) w z r
   pub busy : r ≡ Err fault.Busy → ChangeWasBusy w.pass z.pass tries
+  pub alone : RunsAlone w.pass z.pass → IfErr r (FailsAlone 1 1 tries z)
 
 pub record SaysTryRemove (L : Layout) (tries k : ℕ) (w z : WorkerView) (r : Result Bool CallFault) : Type 0 where
   pub says : Asked (SaysDelete L tries k) w z r
   pub busy : r ≡ Err fault.Busy → ChangeWasBusy w.pass z.pass tries
   pub unfinished : r ≡ Err fault.Unfinished → DeleteWasLost tries w z
+  pub alone : RunsAlone w.pass z.pass → IfErr r (FailsAlone 1 2 tries z)
 
 pub record SaysGoOn (L : Layout) (tries : ℕ) (w z : WorkerView) (r : Result Bool CallFault) : Type 0 where
   pub says : SaysFinish L tries w z r
   pub unfinished : r ≡ Err fault.Unfinished → FinishWasLost tries w z
+  pub alone : IsAlone w.pass z.pass → IfErr r (FailsAlone 1 1 tries z)

@@ -1,6 +1,6 @@
 -- Managed calls: what a caller learns from a call that is retried while it loses its tries, that
 -- finishes a remove which has begun, and that collects waiting nodes.
-use Rattle.std.specs.Prelude.{◌≡◌, ◌≢◌, ◌⊎◌, ◌+◌, ◌*◌, ◌≤◌, ℕ, Bool, true, length, drop, List, [], ◌∷◌, ◌++◌, Option, Some, None, IsSome, Result, Ok, Err, IfOk, Contains}
+use Rattle.std.specs.Prelude.{◌≡◌, ◌≢◌, ◌⊎◌, ◌+◌, ◌*◌, ◌≤◌, ℕ, Bool, true, length, drop, List, [], ◌∷◌, ◌++◌, Option, Some, None, IsSome, Result, Ok, Err, IfOk, IfErr, Contains}
 use Rattle.nm_edge.specs.Layouts.{Layout}
 use Rattle.nm_edge.specs.declared.node.NodeId.{NodeId}
 use Rattle.nm_model.specs.declared.event.Event.{Event}
@@ -13,6 +13,7 @@ use Rattle.nm_model.specs.declared.trace.Turn.{Turn}
 use Rattle.nm_model.specs.Headline.{freed_by}
 use Rattle.nm_model.specs.Step.{last_number}
 use Rattle.nm_order.specs.Reads.{sight_epoch}
+use Rattle.nm_progress.specs.Alone.{IsAlone, RunsAlone}
 use Rattle.nm_progress.specs.Moves.{number_of, moves, moves_of_others}
 use Rattle.nm_progress.specs.Tries.{interferes, reshapes_of_others}
 use Rattle.nm_steps.specs.Steps.{TreeView, PassView, IsSamePass, HasSeenAllOf}
@@ -24,6 +25,7 @@ use Rattle.nm_calls.specs.Won.{HasWon}
 use Rattle.nm_calls.specs.declared.deleting.Unfinished.{Unfinished}
 use Rattle.nm_calls.specs.declared.fault.CallFault.{CallFault}
 use Rattle.nm_calls.specs.declared.fault.CallFault.TheVariants as fault
+use Rattle.nm_tree.specs.Answers.{FailsAlone}
 use Rattle.nm_tree.specs.Workers.{WorkerView, waiting_in}
 use Rattle.nm_set.specs.Asked.{UnlessPinned}
 use Rattle.nm_set.specs.declared.fault.Fullness.{Fullness}
@@ -138,13 +140,14 @@ round_bound tries L = tries * (4 * reach L + 8 * chain_bound) + 7 * L.nodes + 2 
 -- calls of the tree, made until one is answered: the answer has a moment (linearization point) that
 -- is later than all that the worker had seen before. They have won the links and flags that the
 -- result implies and no more, and have made at most `most` steps. If they were busy, they met
--- interference as often as they had tries
+-- interference as often as they had tries; and if the worker ran alone, they had none (`alone`)
 pub record Answers (op : Op) (k most tries : ℕ) (w z : WorkerView) (r : Result Bool CallFault) : Type 0 where
   pub moment : IfOk r (AnswerHasMoment w.pass z.pass op k)
   pub left : IsLeft op k w z r
   pub won : HasWon w.pass.view.log z.pass.view.log (links_told_by op r) (flags_told_by op r)
   pub on : GoesOn most w z
   pub busy : r ≡ Err fault.Busy → MetInterference op w.pass z.pass tries
+  pub alone : RunsAlone w.pass z.pass → r ≡ Err fault.Busy → tries ≡ 0
 
 -- before its operation the call finishes the remove of an earlier call, whose answer true has a
 -- moment of its own. If nothing was pending, and `collect_after` nodes or more waited, an insert or
@@ -166,7 +169,9 @@ pub record WasFull (w z : WorkerView) (f : Fullness) : Type 0 where
 
 -- a managed call, of at most 3 `rounds` + 5 rounds: its answer, and what came before its operation,
 -- which is not made if an earlier remove stays pending. If it is `Busy`, the epoch was advanced or
--- turns have interfered with it at least (`rounds` + 1) * `tries` times
+-- turns have interfered with it at least (`rounds` + 1) * `tries` times. If the worker ran alone, an
+-- error is due to a number of tries that is 0, to a lack of room, or to a full pool (`alone`); an
+-- earlier remove then stays pending for such a reason too, even if others have removes pending
 pub record Manages (b : TreeView) (h : Options) (op : Op) (k : ℕ) (w z : WorkerView)
     (r : Result Bool CallFault) : Type 0 where
   pub answers : Answers op k ((3 * h.rounds + 5) * round_bound h.tries b.layout)
@@ -174,6 +179,9 @@ pub record Manages (b : TreeView) (h : Options) (op : Op) (k : ℕ) (w z : Worke
   pub full : r ≡ Err fault.Full → (f : Fullness) × WasFull w z f
   pub begins : r ≢ Err fault.Pending → (begun : PassView) × Prepares h op w begun
       × IfOk r (AnswerHasMoment begun z.pass op k)
+  pub alone : RunsAlone w.pass z.pass → IfErr r (FailsAlone 1 1 h.tries z)
+  pub pending : IsAlone w.pass z.pass → r ≡ Err fault.Pending
+      → FailsAlone 1 1 h.tries z fault.Unfinished
 
 -- what a caller learns from each of the three managed calls
 abbrev pub SaysManaged : Op → TreeView → Options → ℕ → WorkerView → WorkerView → Result Bool CallFault → Type 0

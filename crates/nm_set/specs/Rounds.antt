@@ -1,15 +1,16 @@
 -- What the parts of a managed call leave, for the contracts inside this crate.
-use Rattle.std.specs.Prelude.{◌≡◌, ◌+◌, ◌*◌, ℕ, Bool, Option, Some, None, Result, Ok, Err}
+use Rattle.std.specs.Prelude.{◌≡◌, ◌+◌, ◌*◌, ℕ, Bool, Option, Some, None, Result, Ok, Err, IfErr}
 use Rattle.nm_edge.specs.Layouts.{Layout}
 use Rattle.nm_model.specs.declared.event.Op.{Op}
-use Rattle.nm_model.specs.declared.event.Op.TheVariants.{Insert}
+use Rattle.nm_model.specs.declared.event.Op.TheVariants.{Delete, Insert}
+use Rattle.nm_progress.specs.Alone.{IsAlone, RunsAlone}
 use Rattle.nm_steps.specs.Steps.{TreeView}
 use Rattle.nm_epoch.specs.declared.answers.Advance.{Advance}
 use Rattle.nm_epoch.specs.declared.answers.Advance.TheVariants as advance
 use Rattle.nm_calls.specs.Won.{HasWon}
 use Rattle.nm_calls.specs.declared.fault.CallFault.{CallFault}
 use Rattle.nm_calls.specs.declared.fault.CallFault.TheVariants as fault
-use Rattle.nm_tree.specs.Answers.{FinishHasMoment, FinishTold}
+use Rattle.nm_tree.specs.Answers.{FailsAlone, FinishHasMoment, FinishTold}
 use Rattle.nm_tree.specs.Workers.{WorkerView}
 use Rattle.nm_set.specs.declared.fault.Fullness.{Fullness}
 use Rattle.nm_set.specs.declared.fault.InsertFault.{InsertFault}
@@ -36,12 +37,14 @@ pub record WereBusy (b : TreeView) (h : Options) (op : Op) (n : ℕ) (w z : Work
 abbrev pub AnswersIn : TreeView → Options → Op → ℕ → ℕ → WorkerView → WorkerView → Result Bool CallFault → Type 0
 AnswersIn b h op k n = Answers op k (rounds_bound b h n) (n * h.tries)
 
--- a call that goes on with a pending remove, in at most n rounds
+-- a call that goes on with a pending remove, in at most n rounds. If the worker ran alone and the
+-- remove is not finished, the number of tries is 0, or the worker lacks room (`alone`)
 pub record FinishesIn (b : TreeView) (h : Options) (n : ℕ) (w z : WorkerView) (r : Result Bool CallFault) : Type 0 where
   pub on : GoesOn (rounds_bound b h n) w z
   pub told : FinishTold w z r
   pub moment : FinishHasMoment w z r
   pub won : HasWon w.pass.view.log z.pass.view.log 0 0
+  pub alone : IsAlone w.pass z.pass → IfErr r (FailsAlone 1 1 h.tries z)
 
 -- the worker that an advance found announcing another epoch than the one that it read; of two
 -- advances the one that the second found, or else the one that the first found
@@ -79,6 +82,13 @@ pub record Inserts (b : TreeView) (h : Options) (k : ℕ) (w z : WorkerView) (r 
   pub answers : Answers Insert k (rounds_bound b h (2 * h.rounds + 3)) ((h.rounds + 1) * h.tries) w z
       (of_insert r)
   pub full : of_insert r ≡ Err fault.Full → (f : Fullness) × (r ≡ Err (inserting.Full f)) × WasFull w z f
+
+-- a remove, with retries, which is finished if it has flagged its leaf. If the worker ran alone and
+-- the remove is not finished, the number of tries is 0, or the worker lacks room (`alone`)
+pub record Removes (b : TreeView) (h : Options) (k : ℕ) (w z : WorkerView) (r : Result Bool CallFault) : Type 0 where
+  pub answers : Answers Delete k (rounds_bound b h (2 * h.rounds + 2)) ((h.rounds + 1) * h.tries) w z r
+  pub alone : RunsAlone w.pass z.pass → r ≡ Err fault.Unfinished
+      → FailsAlone 1 1 h.tries z fault.Unfinished
 
 -- a managed insert, with its two numbers
 abbrev pub ManagesInsert : TreeView → Options → ℕ → WorkerView → WorkerView → Result Bool InsertFault → Type 0

@@ -1,13 +1,13 @@
 //! Managed calls: a call that lost its tries is retried, a remove that has begun is finished, and
 //! retired nodes are collected.
-ghost use Rattle.std.specs.Prelude.{◌≡◌, ◌≢◌, ◌≤◌, ◌<◌, ◌+◌, ◌-◌, ◌*◌, true, false, None, IfOk, IfErr, Err};
+ghost use Rattle.std.specs.Prelude.{◌≡◌, ◌≢◌, ◌≤◌, ◌<◌, ◌+◌, ◌-◌, true, false, None, IfOk, IfErr, Err};
 ghost use Rattle.nm_model.specs.declared.event.Op.TheVariants.{Has, Insert, Delete};
 ghost use Rattle.nm_calls.specs.declared.fault.CallFault.TheVariants as call;
 ghost use Rattle.nm_tree.specs.Calls.{LeavesHas, LeavesInsert, LeavesDelete};
 ghost use Rattle.nm_tree.specs.Workers.{IsIdle, WorkerView, waiting_in};
 ghost use Rattle.nm_set.specs.declared.fault.Fullness.{Fullness};
 ghost use Rattle.nm_set.specs.Managed.{Answers, Manages, SaysManaged, WasFull, of_insert, round_bound};
-ghost use Rattle.nm_set.specs.Rounds.{AnswersIn, FinishesIn, Inserts, IsReady, IsRelieved, ManagesInsert, found_behind, plain, rounds_bound, with_fullness};
+ghost use Rattle.nm_set.specs.Rounds.{AnswersIn, FinishesIn, Inserts, IsReady, IsRelieved, ManagesInsert, Removes, found_behind, plain, with_fullness};
 
 use crate::fault::{Fullness, InsertFault};
 use crate::member::Member;
@@ -132,7 +132,9 @@ impl Member {
     /// Errors: `Pinned`: the caller has pinned the worker; nothing has changed. `Pending`: the
     /// earlier remove is not finished, and this call has done nothing else. `Busy`: each look-up
     /// lost each of its tries, or the options allow none; other workers have advanced the epoch, or
-    /// linked or cut off nodes, at least that often meanwhile.
+    /// linked or cut off nodes, at least that often meanwhile. Proved (`alone`, `pending`): a call
+    /// with at least one try is answered if no other worker has a remove pending before it or makes a
+    /// transition during it. The exception is that the room for the earlier remove is refused.
     #[inline(always)]
     pub fn contains(&mut self, key: Key, options: &Options) -> Result<bool, CallFault>
         ensures tree { self.new.tree ≡ self.old.tree }
@@ -165,7 +167,7 @@ impl Member {
     /// or says that none was found; then the epoch was advanced twice during the call, or it is the
     /// last one. It also says how many removed nodes wait when the call ends. (The tree's own `Full`
     /// is not returned.) `NoMemory`: the memory for a try was refused; of the insert nothing remains
-    /// but help given to others.
+    /// but help given to others. Proved (`alone`, `pending`): no other error, as for `contains`.
     #[inline(always)]
     pub fn insert(&mut self, key: Key, options: &Options) -> Result<bool, InsertFault>
         ensures tree { self.new.tree ≡ self.old.tree }
@@ -200,7 +202,9 @@ impl Member {
     /// Errors: `Pinned`, `Pending`, `Busy`: as of `contains`. `NoMemory`: the memory for a try was
     /// refused before the leaf was flagged. `Unfinished`: the leaf is flagged and not known to be
     /// cut off. The key will be removed, and no other remove of it returns true. It is pending, and
-    /// the next managed call finishes it first.
+    /// the next managed call finishes it first. Proved (`alone`, `pending`): a call with at least one
+    /// try returns an answer or `NoMemory` if no other worker has a remove pending before it or makes
+    /// a transition during it. The exception is that the room of a try is refused later.
     #[inline(always)]
     pub fn remove(&mut self, key: Key, options: &Options) -> Result<bool, CallFault>
         ensures tree { self.new.tree ≡ self.old.tree }
@@ -410,8 +414,7 @@ impl Member {
         ensures says { (w : WorkerView) → IsIdle w → w.pending ≡ None → Answers Delete key
             (round_bound options.now.tries self.old.tree.layout) options.now.tries w
             self.old.worker (Err fault)
-            → Answers Delete key (rounds_bound self.old.tree options.now (2 * options.now.rounds + 2))
-            ((options.now.rounds + 1) * options.now.tries) w self.new.worker result }
+            → Removes self.old.tree options.now key w self.new.worker result }
     {
         let told = self.retry(Op::Delete, key, options, fault);
         if !is_unfinished(&told) {

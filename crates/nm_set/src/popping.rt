@@ -34,7 +34,10 @@ impl Member {
     /// Errors: `Pinned`, `Pending`, `NoMemory`: as of `remove`. `Busy`: each round came to nothing,
     /// because others removed the key that was found, or because a call lost each of its tries.
     /// `Unfinished`: the least key, as above, will be removed by this call, and is pending; the
-    /// next managed call finishes it first. (The name is that of Rust's `BTreeSet`.)
+    /// next managed call finishes it first. Proved (`alone`, `pending`): a call with at least two tries
+    /// returns an answer or `NoMemory` if no other worker has a remove pending before it or makes a
+    /// transition during it. The exception is that the room of a try is refused later. (The name is
+    /// that of Rust's `BTreeSet`.)
     pub fn pop_first(&mut self, options: &Options) -> Result<Option<Key>, CallFault>
         ensures tree { self.new.tree ≡ self.old.tree }
         ensures says { SaysManagedPop ◌<◌ self.old.tree options.now self.old.worker self.new.worker
@@ -101,7 +104,7 @@ impl Member {
         ensures tree { self.new.tree ≡ self.old.tree }
         ensures says { Pops (among end) (comes_before end)
             ((options.now.rounds + 1) * pop_round_bound options.now self.old.tree.layout)
-            self.old.worker self.new.worker result }
+            options.now.tries self.old.worker self.new.worker result }
     {
         for _round in 0..options.rounds {
             let told = self.pop_once(end, options);
@@ -118,8 +121,9 @@ impl Member {
         requires none { self.old.worker.pending ≡ None }
         ensures tree { self.new.tree ≡ self.old.tree }
         ensures says { Pops (among end) (comes_before end) (pop_round_bound options.now self.old.tree.layout)
-            self.old.worker self.new.worker result }
+            options.now.tries self.old.worker self.new.worker result }
     {
+        self.know_run();
         let Some(key) = self.key_at(end, options.tries)? else {
             return Ok(None);
         };
@@ -129,6 +133,7 @@ impl Member {
         if self.remove(key, options)? {
             Ok(Some(key))
         } else {
+            self.know_run();
             Err(CallFault::Busy)
         }
     }

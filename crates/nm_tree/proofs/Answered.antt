@@ -1,5 +1,5 @@
 -- What a call of the tree shows of its worker, by the answer of the function below it.
-use Rattle.std.proofs.Common.{◌≡◌, ◌+◌, ◌*◌, ℕ, Bool, List, refl, sym, subst}
+use Rattle.std.proofs.Common.{◌≡◌, ◌+◌, ◌*◌, arith, ℕ, Bool, List, refl, sym, subst}
 use Rattle.std.specs.Prelude.{Result, Ok, Err, IfOk, IfErr, IsErrOf}
 use Rattle.nm_edge.specs.Layouts.{Layout}
 use Rattle.nm_model.specs.Walks.{Entry}
@@ -10,13 +10,30 @@ use Rattle.nm_calls.specs.Inserts.{InsertDid}
 use Rattle.nm_calls.specs.PlainWalks.{LooksUnderPin, PlainMissed}
 use Rattle.nm_calls.specs.Scans.{count_of}
 use Rattle.nm_calls.specs.declared.scanning.Scanned.{Scanned}
-use Rattle.nm_tree.specs.Answers.{IsFree, LacksRoom, HasTold, HasAnswered, InsertTold, HasInserted}
+use Rattle.nm_tree.specs.Answers.{IsFree, LacksRoom, HasTold, HasAnswered, InsertTold, HasInserted, FailsAlone}
 use Rattle.nm_tree.specs.Looked.{HasLooked}
 use Rattle.nm_tree.specs.Workers.{WorkerView}
 
 -- what holds of each error holds where there is this one
 pub of_error : {X P : Type 0} (r : Result X CallFault) (f : CallFault) → IsErrOf r f → IfErr r (λ e. P) → P
 of_error {X} {P} r f is holds = subst (λ (s : Result X CallFault). IfErr s (λ e. P)) is holds
+
+-- ---- why a call failed that ran alone
+
+pub look_fails : (tries : ℕ) (z : WorkerView) (r : Result Bool CallFault) → IfErr r (λ e. e ≡ fault.Busy) → (IsErrOf r fault.Busy → tries ≡ 0) → IfErr r (FailsAlone 1 1 tries z)
+look_fails tries z (Ok b) busy none = tt
+look_fails tries z (Err e) busy none = subst (FailsAlone 1 1 tries z) (sym busy) (let zero = none (let P : CallFault → Type 0 = λ f. IsErrOf {T = Bool} (Err f) fault.Busy in subst P (sym busy) refl) in omega (arith, zero))
+
+pub insert_fails : (tries : ℕ) (w z : WorkerView) (r : Result Bool CallFault) → InsertTold w z r → (IsErrOf r fault.Busy → tries ≡ 0) → IfErr r (FailsAlone 1 1 tries z)
+insert_fails tries w z (Ok b) told none = tt
+insert_fails tries w z (Err fault.Busy) told none = let zero = none refl in omega (arith, zero)
+insert_fails tries w z (Err fault.Unfinished) told none = absurd told
+insert_fails tries w z (Err fault.Full) told none = tt
+insert_fails tries w z (Err fault.NoMemory) told none = tt
+insert_fails tries w z (Err fault.Pending) told none = tt
+insert_fails tries w z (Err fault.Pinned) told none = tt
+
+-- ---- what a call shows of its worker
 
 module _ (L : Layout) (tries k : ℕ) (w z : WorkerView) (free : IsFree w z) where
   pub has_told : (r : Result Bool CallFault) → IfErr r (λ e. e ≡ fault.Busy) → HasTold w z r

@@ -1,5 +1,5 @@
 -- Why a call was busy: who has interfered it, by the laws of progress.
-use Rattle.std.proofs.Common.{◌≡◌, ◌-◌, ◌≤◌, ℕ, List, sym, ap, subst, ◌∙◌, arith}
+use Rattle.std.proofs.Common.{◌≡◌, ◌-◌, ◌<◌, ◌≤◌, ℕ, List, sym, ap, subst, ◌∙◌, arith}
 use Rattle.std.specs.Prelude.{Err}
 use Rattle.nm_edge.specs.Layouts.{Layout, IsLayout}
 use Rattle.nm_edge.specs.declared.edge.Side.{Side}
@@ -15,11 +15,12 @@ use Rattle.nm_calls.specs.NearKeys.{GiveUp as GiveUpNear}
 use Rattle.nm_calls.specs.PlainWalks.{PlainMissed}
 use Rattle.nm_calls.specs.Deletes.{DeleteDid, IsRemoving, LosesAfterFlag, LosesEachTry}
 use Rattle.nm_progress.specs.Lookups.{WasBusy}
-use Rattle.nm_progress.specs.Lost.{Interference, ChangeWasBusy}
-use Rattle.nm_progress.specs.Alone.{IsAlone}
-use Rattle.nm_progress.specs.Pending.{NonePends}
+use Rattle.nm_progress.specs.Lost.{Interference, WasChanged, ChangeWasBusy}
+use Rattle.nm_epoch.specs.Resting.{IsResting}
+use Rattle.nm_progress.specs.Alone.{IsAlone, RunsAlone}
 use Rattle.nm_progress.specs.Walked.{ManyWereBusy, NearWasBusy}
 use Rattle.nm_progress.proofs.AloneCalls.{lookups_alone_are_answered, inserts_alone_are_answered, deletes_alone_are_not_busy}
+use Rattle.nm_progress.proofs.AloneRemovals.{deletes_alone_are_finished, finishes_alone_are_answered}
 use Rattle.nm_progress.proofs.LostLookups.{busy_lookups_met_interference}
 use Rattle.nm_progress.proofs.LostWalked.{busy_many_met_interference, busy_near_met_interference}
 use Rattle.nm_progress.proofs.InterferedCalls.{busy_inserts_were_lost, busy_deletes_were_lost, unfinished_deletes_were_lost, unfinished_finishes_were_lost}
@@ -31,12 +32,6 @@ module _ (b d : TreeView) (o p q : PassView) (k tries : ℕ) (tree : b ≡ d) (a
 
   layouts : IsOf d p → o.view.layout ≡ b.layout
   layouts own = ap (λ (x : PassView). x.view.layout) at ∙ (own.layout ∙ ap (λ (x : TreeView). x.layout) (sym tree))
-
-  -- nothing was pending by what o had seen
-  rested : IsOf d p → NonePends d.layout p.view.past → NonePends o.view.layout o.view.past
-  rested own none =
-      subst (λ (L : Layout). NonePends L o.view.past) (sym (layouts own ∙ ap (λ (x : TreeView). x.layout) tree))
-      (subst (λ (x : PassView). NonePends d.layout x.view.past) (sym at) none)
 
   pub lookup_interfered : IsOf d p → HasMissed b.layout tries k o.view.log q.view.log → WasBusy p q tries
   lookup_interfered own did =
@@ -54,14 +49,14 @@ module _ (b d : TreeView) (o p q : PassView) (k tries : ℕ) (tree : b ≡ d) (a
       subst (λ (x : PassView). ChangeWasBusy x q tries) at
       (busy_deletes_were_lost k tries o q seen after enough fits.few same past (subst (λ (L : Layout). DeleteDid L tries k o.view.log q.view.log (Err missed.Busy)) (sym (layouts own)) did))
 
-  pub delete_lost : IsOf d p → (n : NodeId) → IsRemoving q k n → LosesAfterFlag b.layout tries k o.view.log q.view.log n → Interference p q (tries - 2)
+  pub delete_lost : IsOf d p → (n : NodeId) → IsRemoving q k n → LosesAfterFlag b.layout tries k o.view.log q.view.log n → Interference p q (tries - 1)
   delete_lost own n removing did =
-      subst (λ (x : PassView). Interference x q (tries - 2)) at
+      subst (λ (x : PassView). Interference x q (tries - 1)) at
       (unfinished_deletes_were_lost k tries n o q seen after enough fits.few same past removing (subst (λ (L : Layout). LosesAfterFlag L tries k o.view.log q.view.log n) (sym (layouts own)) did))
 
-  pub finish_lost : IsOf d p → (n : NodeId) → IsRemoving q k n → LosesEachTry b.layout k n tries o.view.log q.view.log → Interference p q tries
+  pub finish_lost : IsOf d p → (n : NodeId) → IsRemoving q k n → LosesEachTry b.layout k n tries o.view.log q.view.log → WasChanged p q tries
   finish_lost own n removing did =
-      subst (λ (x : PassView). Interference x q tries) at
+      subst (λ (x : PassView). WasChanged x q tries) at
       (unfinished_finishes_were_lost k tries n o q seen after enough fits.few same past removing (subst (λ (L : Layout). LosesEachTry L k n tries o.view.log q.view.log) (sym (layouts own)) did))
 
   pub many_interfered : IsOf d p → (keys : List ℕ) → PlainMissed (GiveUpInTurns b.layout keys) tries o.view.log q.view.log → ManyWereBusy p q tries
@@ -82,16 +77,32 @@ module _ (b d : TreeView) (o p q : PassView) (k tries : ℕ) (tree : b ≡ d) (a
   mine : Alone → IsAlone o q
   mine alone = subst (λ (x : PassView). IsAlone x q) (sym at) alone
 
+  mine_too : RunsAlone p q → RunsAlone o q
+  mine_too runs = subst (λ (x : PassView). RunsAlone x q) (sym at) runs
+
   pub lookup_alone : IsOf d p → Alone → HasMissed b.layout tries k o.view.log q.view.log → tries ≡ 0
   lookup_alone own alone did =
       lookups_alone_are_answered k tries o q seen after enough same past (mine alone) (subst (λ (L : Layout). HasMissed L tries k o.view.log q.view.log) (sym (layouts own)) did)
 
-  pub insert_alone : IsOf d p → (f : Fit) → Alone → NonePends d.layout p.view.past → InsertDid f b.layout tries k o.view.log q.view.log (Err lost.Busy) → tries ≡ 0
-  insert_alone own f alone none did =
-      inserts_alone_are_answered f k tries o q seen after enough same past (mine alone) (rested own none)
+  pub insert_alone : IsOf d p → (f : Fit) → RunsAlone p q → IsResting o → InsertDid f b.layout tries k o.view.log q.view.log (Err lost.Busy) → tries ≡ 0
+  insert_alone own f runs rests did =
+      inserts_alone_are_answered f k tries o q seen after enough same past (mine_too runs) rests
       (subst (λ (L : Layout). InsertDid f L tries k o.view.log q.view.log (Err lost.Busy)) (sym (layouts own)) did)
 
-  pub delete_alone : IsOf d p → Alone → NonePends d.layout p.view.past → DeleteDid b.layout tries k o.view.log q.view.log (Err missed.Busy) → tries ≡ 0
-  delete_alone own alone none did =
-      deletes_alone_are_not_busy k tries o q seen after enough same past (mine alone) (rested own none)
-      (subst (λ (L : Layout). DeleteDid L tries k o.view.log q.view.log (Err missed.Busy)) (sym (layouts own)) did)
+  pub delete_alone : IsOf d p → RunsAlone p q → IsResting o → DeleteDid b.layout tries k o.view.log q.view.log (Err missed.Busy) → tries < 1
+  delete_alone own runs rests did =
+      let none = deletes_alone_are_not_busy k tries o q seen after enough same past (mine_too runs) rests
+      (subst (λ (L : Layout). DeleteDid L tries k o.view.log q.view.log (Err missed.Busy)) (sym (layouts own)) did) in
+      omega (arith, none)
+
+  pub delete_finished : IsOf d p → (n : NodeId) → RunsAlone p q → IsResting o → LosesAfterFlag b.layout tries k o.view.log q.view.log n → tries < 2
+  delete_finished own n runs rests did =
+      let few = deletes_alone_are_finished k tries n o q seen after enough same past (mine_too runs) rests
+      (subst (λ (L : Layout). LosesAfterFlag L tries k o.view.log q.view.log n) (sym (layouts own)) did) in
+      omega (arith, few)
+
+  pub finish_alone : IsOf d p → (n : NodeId) → Alone → IsRemoving q k n → LosesEachTry b.layout k n tries o.view.log q.view.log → tries < 1
+  finish_alone own n alone removing did =
+      let none = finishes_alone_are_answered k tries n o q seen after enough fits.few same past (mine alone) removing
+      (subst (λ (L : Layout). LosesEachTry L k n tries o.view.log q.view.log) (sym (layouts own)) did) in
+      omega (arith, none)

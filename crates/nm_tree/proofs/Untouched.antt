@@ -30,6 +30,7 @@ module _ (L : Layout) (tries k : ℕ) (w : WorkerView) (there : IsSome w.pending
       fit = refl;
     };
     did = (there, refl);
+    alone = λ alone. tt;
   }
 
   pub insert_pending : LeavesInsert L tries k w w (Err fault.Pending)
@@ -48,6 +49,7 @@ module _ (L : Layout) (tries k : ℕ) (w : WorkerView) (there : IsSome w.pending
     };
     did = (there, refl);
     interfered = λ is. absurd (let no = is in cc);
+    alone = λ alone. tt;
   }
 
   pub delete_pending : LeavesDelete L tries k w w (Err fault.Pending)
@@ -68,6 +70,7 @@ module _ (L : Layout) (tries k : ℕ) (w : WorkerView) (there : IsSome w.pending
     lacks = tt;
     interfered = λ is. absurd (let no = is in cc);
     lost = λ is. absurd (let no = is in cc);
+    alone = λ alone. tt;
   }
 
 pub finishes_none : (L : Layout) (tries : ℕ) (w : WorkerView) → w.pending ≡ None → LeavesFinish L tries w w (Ok false)
@@ -87,4 +90,5 @@ finishes_none L tries w none' = record {
   did = (none', refl);
   lacks = tt;
   lost = λ is. absurd (let no = is in cc);
+  alone = λ alone. tt;
 }

@@ -1,5 +1,5 @@
 -- What each call of the set changes in its worker, for each answer.
-use Rattle.std.specs.Prelude.{◌≡◌, ◌⊎◌, ℕ, ◌-◌, Bool, true, false, Some, None, IsSome, Result, Ok, Err}
+use Rattle.std.specs.Prelude.{◌≡◌, ◌⊎◌, ◌<◌, ℕ, ◌-◌, Bool, true, false, Some, None, IsSome, Result, Ok, Err}
 use Rattle.nm_edge.specs.Layouts.{Layout}
 use Rattle.nm_edge.specs.declared.node.NodeId.{NodeId}
 use Rattle.nm_calls.specs.declared.deleting.Missed.TheVariants as missed
@@ -11,7 +11,7 @@ use Rattle.nm_calls.specs.Won.{links_of_insert, flags_of_delete}
 use Rattle.nm_epoch.specs.Tries.{IsPinnedBy as PinsSo, IsMoved}
 use Rattle.nm_model.specs.declared.event.Event.TheVariants.{Sight}
 use Rattle.nm_model.specs.declared.event.Op.TheVariants.{Delete}
-use Rattle.nm_progress.specs.Lost.{Interference}
+use Rattle.nm_progress.specs.Lost.{Interference, WasChanged}
 use Rattle.nm_tree.specs.declared.fault.PinFault.{PinFault}
 use Rattle.nm_tree.specs.declared.fault.PinFault.TheVariants as pinning
 use Rattle.nm_calls.specs.declared.fault.CallFault.{CallFault}
@@ -155,13 +155,21 @@ FinishLacks L tries w z _ =
     × LosesEachTry L n.key n.leaf tries w.pass.view.log z.pass.view.log)
 
 -- `DeleteWasLost`, `FinishWasLost`: room was lacking, or the worker met interference at least as
--- often as the call had tries; of an unfinished delete, two tries are not counted: the one that won
--- the flag, and the cleanup after it
+-- often as the call had tries; of an unfinished delete, the try that won the flag is not counted. A
+-- call that goes on with a delete meets interference by other workers alone
 abbrev pub DeleteWasLost : ℕ → WorkerView → WorkerView → Type 0
-DeleteWasLost tries w z = LacksRoom z ⊎ Interference w.pass z.pass (tries - 2)
+DeleteWasLost tries w z = LacksRoom z ⊎ Interference w.pass z.pass (tries - 1)
 
 abbrev pub FinishWasLost : ℕ → WorkerView → WorkerView → Type 0
-FinishWasLost tries w z = LacksRoom z ⊎ Interference w.pass z.pass tries
+FinishWasLost tries w z = LacksRoom z ⊎ WasChanged w.pass z.pass tries
+
+-- why a call with this number of tries failed although it ran alone: it was `Busy` with fewer tries
+-- than `first`; or a delete is not finished, because there were fewer than `all`, or because the
+-- worker's own queue lacks room (obstruction freedom: Herlihy, Luchangco and Moir)
+abbrev pub FailsAlone : ℕ → ℕ → ℕ → WorkerView → CallFault → Type 0
+FailsAlone first all tries z fault.Busy = tries < first
+FailsAlone first all tries z fault.Unfinished = (tries < all) ⊎ LacksRoom z
+FailsAlone first all tries z _ = Unit {0}
 
 -- if the call has finished the pending delete, the answer true has a moment (linearization point).
 -- It is later than all that the worker had seen at any time when it had no call, as before the call

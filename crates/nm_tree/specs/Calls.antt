@@ -26,14 +26,14 @@ use Rattle.nm_calls.specs.Moments.{AnswerHasMoment}
 use Rattle.nm_calls.specs.NearKeys.{WasNear, GiveUp}
 use Rattle.nm_calls.specs.PlainWalks.{most_looks}
 use Rattle.nm_calls.specs.Won.{HasWon}
-use Rattle.nm_progress.specs.Alone.{IsAlone}
+use Rattle.nm_progress.specs.Alone.{IsAlone, RunsAlone}
 use Rattle.nm_progress.specs.Lookups.{WasBusy}
 use Rattle.nm_progress.specs.Lost.{ChangeWasBusy}
 use Rattle.nm_progress.specs.Walked.{ManyWereBusy, NearWasBusy}
 use Rattle.nm_calls.specs.declared.fault.CallFault.{CallFault}
 use Rattle.nm_calls.specs.declared.fault.CallFault.TheVariants as fault
 use Rattle.nm_tree.specs.declared.fault.PinFault.{PinFault}
-use Rattle.nm_tree.specs.Answers.{HasAnswered, HasInserted, HasDeleted, HasFinished, FinishHasMoment, HasTold, InsertTold, DeleteTold, FinishTold, DeleteLacks, FinishLacks, HasPinned, KeepsPlace, links_won, flags_won, DeleteWasLost, FinishWasLost}
+use Rattle.nm_tree.specs.Answers.{HasAnswered, HasInserted, HasDeleted, HasFinished, FinishHasMoment, HasTold, InsertTold, DeleteTold, FinishTold, DeleteLacks, FinishLacks, HasPinned, KeepsPlace, links_won, flags_won, DeleteWasLost, FinishWasLost, FailsAlone}
 use Rattle.nm_tree.specs.InTurns.{HasAnsweredMany}
 use Rattle.nm_tree.specs.Looked.{HasLooked}
 use Rattle.nm_tree.specs.Running.{IsFreedInGrace}
@@ -52,7 +52,7 @@ pub record MayCall (b : TreeView) (w : WorkerView) : Type 0 where
 -- `queues` and `blocks` are about the queues and their memory. The caller's pin is as before, or
 -- there is none (`held`), and the worker claims as before (`fit`). `LeavesHas` and the others that
 -- begin with `Leaves` have these fields (`says`), and also how the call was done (`did`), and why
--- it gave up (`lacks`, `interfered`, `lost`)
+-- it gave up (`lacks`, `interfered`, `lost`), and why it failed if it ran alone (`alone`)
 pub record SaysHas (L : Layout) (tries k : ℕ) (w z : WorkerView) (r : Result Bool CallFault) : Type 0 where
   pub same : IsSamePass w.pass z.pass
   pub past : HasSeenAllOf z.pass w.pass
@@ -68,6 +68,7 @@ pub record SaysHas (L : Layout) (tries k : ℕ) (w z : WorkerView) (r : Result B
 pub record LeavesHas (L : Layout) (tries k : ℕ) (w z : WorkerView) (r : Result Bool CallFault) : Type 0 where
   pub says : SaysHas L tries k w z r
   pub did : HasAnswered L tries k w z r
+  pub alone : IsAlone w.pass z.pass → IfErr r (FailsAlone 1 1 tries z)
 
 pub record SaysInsert (L : Layout) (tries k : ℕ) (w z : WorkerView) (r : Result Bool CallFault) : Type 0 where
   pub same : IsSamePass w.pass z.pass
@@ -85,6 +86,7 @@ pub record LeavesInsert (L : Layout) (tries k : ℕ) (w z : WorkerView) (r : Res
   pub says : SaysInsert L tries k w z r
   pub did : HasInserted L tries k w z r
   pub interfered : IsErrOf r fault.Busy → ChangeWasBusy w.pass z.pass tries
+  pub alone : RunsAlone w.pass z.pass → IfErr r (FailsAlone 1 1 tries z)
 
 pub record SaysDelete (L : Layout) (tries k : ℕ) (w z : WorkerView) (r : Result Bool CallFault) : Type 0 where
   pub same : IsSamePass w.pass z.pass
@@ -104,6 +106,7 @@ pub record LeavesDelete (L : Layout) (tries k : ℕ) (w z : WorkerView) (r : Res
   pub lacks : IfErr r (DeleteLacks L tries k w z)
   pub interfered : IsErrOf r fault.Busy → ChangeWasBusy w.pass z.pass tries
   pub lost : IsErrOf r fault.Unfinished → DeleteWasLost tries w z
+  pub alone : RunsAlone w.pass z.pass → IfErr r (FailsAlone 1 2 tries z)
 
 pub record SaysFinish (L : Layout) (tries : ℕ) (w z : WorkerView) (r : Result Bool CallFault) : Type 0 where
   pub same : IsSamePass w.pass z.pass
@@ -122,6 +125,7 @@ pub record LeavesFinish (L : Layout) (tries : ℕ) (w z : WorkerView) (r : Resul
   pub did : HasFinished L tries w z r
   pub lacks : IfErr r (FinishLacks L tries w z)
   pub lost : IsErrOf r fault.Unfinished → FinishWasLost tries w z
+  pub alone : IsAlone w.pass z.pass → IfErr r (FailsAlone 1 1 tries z)
 
 -- `LeavesHasMany`: the same for a look-up of several queries, from the old ones to the new ones. A
 -- call that has a try is not busy if no other worker makes a transition during it (`alone`)

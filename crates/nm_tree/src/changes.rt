@@ -1,8 +1,5 @@
 //! Inserts, deletes, and the completion of a pending delete.
-ghost use Rattle.std.specs.Prelude.{◌≡◌, IsErrOf};
 ghost use Rattle.nm_steps.specs.Steps.{IsOf};
-ghost use Rattle.nm_progress.specs.Alone.{IsAlone};
-ghost use Rattle.nm_progress.specs.Pending.{NonePends};
 ghost use Rattle.nm_tree.specs.Calls.{MayCall, LeavesInsert, SaysInsert, LeavesDelete, SaysDelete, LeavesFinish, SaysFinish};
 
 use crate::tree::Tree;
@@ -20,8 +17,8 @@ impl Tree {
     /// worker.
     ///
     /// Errors: `Pending`: a key is pending. `Busy`, `Full`, `NoMemory`: see `CallFault`. Proved
-    /// (`alone`): a call that has at least one try is not `Busy` if no delete was pending before it
-    /// and no other worker makes a transition during it.
+    /// (`alone`): a call that has at least one try is not `Busy` if no other worker has a delete
+    /// pending before it or makes a transition during it.
     ///
     /// Cost: at most `tries` * (4 `reach` + 512) + 6 `nodes` + 10 steps. A walk's reach is 66 nodes
     /// in a radix tree, and the number of nodes otherwise. (The insert of Natarajan and Mittal,
@@ -31,9 +28,6 @@ impl Tree {
         requires { MayCall self.now worker.old }
         ensures says { SaysInsert self.now.layout tries key worker.old worker.new result }
         ensures leaves { LeavesInsert self.now.layout tries key worker.old worker.new result }
-        ensures alone { IsAlone worker.old.pass worker.new.pass
-            → NonePends self.now.layout worker.old.pass.view.past
-            → IsErrOf result CallFault.Busy → tries ≡ 0 }
     {
         if let Standing::Pending(_) = worker.standing {
             return Err(CallFault::Pending);
@@ -64,8 +58,9 @@ impl Tree {
     ///
     /// Errors: `Unfinished`: the leaf is flagged, but all tries were made or the room of one was
     /// refused. The key is then pending, and `finish` goes on. `Pending`, `Busy`, `NoMemory`: see
-    /// `CallFault`. Proved (`alone`): a call that has at least one try is not `Busy` if no delete
-    /// was pending before it and no other worker makes a transition during it.
+    /// `CallFault`. Proved (`alone`), if no other worker has a delete pending before the call or
+    /// makes a transition during it: a call that has at least one try is not `Busy`, and one that
+    /// has at least two is `Unfinished` only if the room of a try was refused.
     ///
     /// Cost: at most `tries` * (4 `reach` + 512) + 10 steps. A walk's reach is 66 nodes in a radix
     /// tree, and the number of nodes otherwise. (The delete of Natarajan and Mittal, section 3.2.)
@@ -73,9 +68,6 @@ impl Tree {
         requires { MayCall self.now worker.old }
         ensures says { SaysDelete self.now.layout tries key worker.old worker.new result }
         ensures leaves { LeavesDelete self.now.layout tries key worker.old worker.new result }
-        ensures alone { IsAlone worker.old.pass worker.new.pass
-            → NonePends self.now.layout worker.old.pass.view.past
-            → IsErrOf result CallFault.Busy → tries ≡ 0 }
     {
         if let Standing::Pending(_) = worker.standing {
             return Err(CallFault::Pending);
@@ -112,6 +104,8 @@ impl Tree {
     /// memory.
     ///
     /// Errors: `Unfinished`: all tries were made, or the room of one was refused. The key is still
+    /// pending. Proved (`alone`): a call that has at least one try is `Unfinished` only if its room
+    /// was refused, if no other worker makes a transition during it. Other workers may have deletes
     /// pending.
     ///
     /// Cost: at most `tries` * (4 `reach` + 512) + 10 steps, as for `delete`. (The cleanup mode of

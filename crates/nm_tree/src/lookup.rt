@@ -1,6 +1,4 @@
 //! Look-ups of one key.
-ghost use Rattle.std.specs.Prelude.{◌≡◌, IsErrOf};
-ghost use Rattle.nm_progress.specs.Alone.{IsAlone};
 ghost use Rattle.nm_tree.specs.Calls.{MayCall, LeavesHas, SaysHas};
 
 use crate::tree::Tree;
@@ -30,8 +28,6 @@ impl Tree {
         requires { MayCall self.now worker.old }
         ensures says { SaysHas self.now.layout tries key worker.old worker.new result }
         ensures leaves { LeavesHas self.now.layout tries key worker.old worker.new result }
-        ensures alone { IsAlone worker.old.pass worker.new.pass → IsErrOf result CallFault.Busy
-            → tries ≡ 0 }
     {
         if let Standing::Pending(_) = worker.standing {
             return Err(CallFault::Pending);

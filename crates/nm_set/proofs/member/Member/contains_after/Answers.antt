@@ -7,7 +7,7 @@ use Rattle.nm_calls.specs.declared.fault.CallFault.TheVariants.{Pending}
 use Rattle.nm_tree.specs.Workers.{WorkerView}
 use Rattle.nm_set.specs.Managed.{Manages}
 use Rattle.nm_set.specs.Rounds.{AnswersIn, FinishesIn}
-use Rattle.nm_set.proofs.Managing.{finish_err, finished, has_failed, looks_at_once, manages, never_full, pending_has, pending_manages, prepares_look}
+use Rattle.nm_set.proofs.Managing.{finish_err, finished, has_failed, looks_at_once, manages, never_full, never_unfinished, pending_has, pending_manages, prepares_look}
 use Rattle.nm_set.proofs.member.Member.contains_after.Goals as goal
 
 pub retry-requires : goal.retry-requires
@@ -47,4 +47,4 @@ returns-clause-says c = λ w free l.
     let f = c.in-Ok.ensures.says in
     let a = subst (λ (d : TreeView). AnswersIn d h Has k (h.rounds + 1) x z r) c.finish_with_retries.ensures.tree c.ask_with_retries.ensures.says in
     subst (λ (v : WorkerView). Manages b h Has k v z r) (pending_has b.layout h.tries k w y c.args.fault (c.if-not-is_pending.ensures.yes refl) l)
-    (manages b h Has k (h.rounds + 1) (h.rounds + 1) y x z r (omega arith) (finished b h (h.rounds + 1) y x c.in-Ok._done f) (prepares_look b h (h.rounds + 1) y x c.in-Ok._done f) a (never_full Has k _ _ x z r (λ is. (let no = is in cc)) a))
+    (manages b h Has k (h.rounds + 1) (h.rounds + 1) y x z r (omega arith) (finished b h (h.rounds + 1) y x c.in-Ok._done f) (prepares_look b h (h.rounds + 1) y x c.in-Ok._done f) a (never_full Has k _ _ x z r (λ is. (let no = is in cc)) a) (λ runs. never_unfinished Has k _ _ x z r (λ is. (let no = is in cc)) a))

@@ -49,7 +49,7 @@ returns-else-branch-clause-says c =
     let h = c.args.options.now in
     let found = subst (λ (f : Option ℕ). Finds c.args.end c.args.self.now.tree.layout h.tries w x (Ok f)) c.in-Some.is c.in_ok-key.ensures.says in
     let told = subst (λ (answer : Bool). SaysManaged Delete c.key_at.new.self.tree h c.in-Some.key x z (Ok answer)) c.if-branch.false c.in_ok-remove.ensures.says in
-    pops_late c.args.end c.args.self.now.tree h w c.requires.none x z c.in-Some.key found (c.has.ensures.yes c.if-not-has.false) (subst (λ (b : TreeView). SaysManaged Delete b h c.in-Some.key x z _) c.key_at.ensures.tree told)
+    pops_late c.args.end c.args.self.now.tree h w c.requires.none x z c.in-Some.key found (c.has.ensures.yes c.if-not-has.false) c.know_run.ensures.seen c.know_run.ensures.between c.know_run-else-branch.ensures.seen c.know_run-else-branch.ensures.fits (subst (λ (b : TreeView). SaysManaged Delete b h c.in-Some.key x z _) c.key_at.ensures.tree told)
 
 pub returns-then-not-has-clause-says : goal.returns-then-not-has-clause-says
 returns-then-not-has-clause-says c =

@@ -20,7 +20,7 @@ pub pop_once-requires-clause-none : goal.pop_once-requires-clause-none
 pop_once-requires-clause-none c = c.loop-round.invariant.onward.none
 
 pub loop-round-init : goal.loop-round-init
-loop-round-init c = record { tree = refl; onward = no_round_yet (among c.args.end) (comes_before c.args.end) (pop_round_bound c.args.options.now c.args.self.now.tree.layout) c.args.self.now.worker c.requires.none c.requires.free }
+loop-round-init c = record { tree = refl; onward = no_round_yet (among c.args.end) (comes_before c.args.end) c.args.options.now.tries (pop_round_bound c.args.options.now c.args.self.now.tree.layout) c.args.self.now.worker c.requires.none c.requires.free }
 
 pub loop-round-preserved : goal.loop-round-preserved
 loop-round-preserved c =
@@ -29,12 +29,12 @@ loop-round-preserved c =
     let Among = among c.args.end in
     let Before = comes_before c.args.end in
     let most = pop_round_bound h c.args.self.now.tree.layout in
-    let P : TreeView → Type 0 = λ b. Pops Among Before (pop_round_bound h b.layout) at.self.worker c.pop_once-told.new.self.worker c.pop_once-told.result in
-    let R : Result (Option ℕ) CallFault → Type 0 = λ r. Pops Among Before most at.self.worker c.pop_once-told.new.self.worker r in
+    let P : TreeView → Type 0 = λ b. Pops Among Before (pop_round_bound h b.layout) h.tries at.self.worker c.pop_once-told.new.self.worker c.pop_once-told.result in
+    let R : Result (Option ℕ) CallFault → Type 0 = λ r. Pops Among Before most h.tries at.self.worker c.pop_once-told.new.self.worker r in
     let last = subst R (c.if-not-is_busy.ensures.yes refl) (subst P at.invariant.tree c.pop_once-told.ensures.says) in
     record {
       tree = c.pop_once-told.ensures.tree ∙ at.invariant.tree;
-      onward = one_round_more Among Before most at._round c.args.self.now.worker at.self.worker c.pop_once-told.new.self.worker at.invariant.onward last;
+      onward = one_round_more Among Before h.tries most at._round c.args.self.now.worker at.self.worker c.pop_once-told.new.self.worker at.invariant.onward last;
     }
 
 pub returns-then-not-is_busy-clause-says : goal.returns-then-not-is_busy-clause-says
@@ -45,8 +45,8 @@ returns-then-not-is_busy-clause-says c =
     let Before = comes_before c.args.end in
     let z = c.pop_once-told.new.self.worker in
     let r = c.pop_once-told.result in
-    let P : TreeView → Type 0 = λ b. Pops Among Before (pop_round_bound h b.layout) at.self.worker z r in
-    last_round Among Before (pop_round_bound h c.args.self.now.tree.layout) at._round (h.rounds + 1) c.args.self.now.worker at.self.worker z r (omega (arith, c.loop-round-test.true)) at.invariant.onward (subst P at.invariant.tree c.pop_once-told.ensures.says)
+    let P : TreeView → Type 0 = λ b. Pops Among Before (pop_round_bound h b.layout) h.tries at.self.worker z r in
+    last_round Among Before h.tries (pop_round_bound h c.args.self.now.tree.layout) at._round (h.rounds + 1) c.args.self.now.worker at.self.worker z r (omega (arith, c.loop-round-test.true)) at.invariant.onward (subst P at.invariant.tree c.pop_once-told.ensures.says)
 
 pub returns-clause-says : goal.returns-clause-says
 returns-clause-says c =
@@ -57,5 +57,5 @@ returns-clause-says c =
     let Before = comes_before c.args.end in
     let z = c.pop_once.new.self.worker in
     let r = c.pop_once.result in
-    let P : TreeView → Type 0 = λ b. Pops Among Before (pop_round_bound h b.layout) at.self.worker z r in
-    last_round Among Before (pop_round_bound h c.args.self.now.tree.layout) at._round (h.rounds + 1) c.args.self.now.worker at.self.worker z r (omega (arith, within)) at.invariant.onward (subst P at.invariant.tree c.pop_once.ensures.says)
+    let P : TreeView → Type 0 = λ b. Pops Among Before (pop_round_bound h b.layout) h.tries at.self.worker z r in
+    last_round Among Before h.tries (pop_round_bound h c.args.self.now.tree.layout) at._round (h.rounds + 1) c.args.self.now.worker at.self.worker z r (omega (arith, within)) at.invariant.onward (subst P at.invariant.tree c.pop_once.ensures.says)

@@ -9,7 +9,7 @@ use Rattle.nm_set.proofs.member.Member.retry_remove.Goals as goal
 
 pub returns-then-not-is_unfinished-clause-says : goal.returns-then-not-is_unfinished-clause-says
 returns-then-not-is_unfinished-clause-says c = λ w idle none first.
-    removes_plain c.args.self.now.tree c.args.options.now c.args.key w c.retry-told.new.self.worker c.retry-told.result (c.retry-told.ensures.says w first)
+    removes_plain c.args.self.now.tree c.args.options.now c.args.key w c.retry-told.new.self.worker c.retry-told.result (c.if-not-is_unfinished.ensures.no refl) (c.retry-told.ensures.says w first)
 
 pub returns-clause-says : goal.returns-clause-says
 returns-clause-says c = λ w idle none first.

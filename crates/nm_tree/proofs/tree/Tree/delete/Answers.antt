@@ -5,7 +5,7 @@ use Rattle.nm_steps.proofs.Seeing.{seen_all}
 use Rattle.nm_tree.specs.Workers.{WorkerView, held_in, pending_in}
 use Rattle.nm_tree.proofs.QueueLists.{lacks_after, stands_within, room_after}
 use Rattle.nm_tree.proofs.Staying.{resting_in, rests_in, rests_as, free_in}
-use Rattle.nm_tree.proofs.Interfered.{delete_interfered, delete_lost, delete_alone}
+use Rattle.nm_tree.proofs.Interfered.{delete_interfered, delete_lost, delete_alone, delete_finished}
 use Rattle.nm_tree.proofs.Changing.{kept_there, changed, others_kept}
 use Rattle.nm_calls.specs.declared.deleting.Missed.{Missed}
 use Rattle.nm_calls.specs.Deletes.{DeleteDid, LacksRoomOr, LosesAfterFlag}
@@ -59,6 +59,7 @@ returns-in-Ok-clause-leaves c = record {
   lacks = search rules;
   interfered = λ is. absurd (let no = is in cc);
   lost = λ is. absurd (let no = is in cc);
+  alone = λ runs. tt;
 }
 
 pub invariant_of-worker-in-Err-Busy : goal.invariant_of-worker-in-Err-Busy
@@ -95,14 +96,13 @@ returns-in-Err-Busy-clause-leaves c = record {
       c.know_run.ensures.seen c.know_run-in-Err-Busy.ensures.seen c.know_run.ensures.fits c.delete.ensures.after.same c.delete.ensures.after.past c.requires.own (subst P c.in-Err-Busy.field-0-is c.in-Err-Busy.ensures.after.did)
       );
   lost = λ is. absurd (let no = is in cc);
+  alone = λ runs. (
+      let P : Missed → Type 0 = λ m. DeleteDid c.self.inside.shared.layout c.args.tries c.args.key c.worker.inside.pass.view.log c.delete.new.pass.view.log (Err m) in
+      delete_alone c.self.inside.shared c.args.self.now c.worker.inside.pass c.args.worker.now.pass c.delete.new.pass c.args.key c.args.tries c.self.view_is (ap (λ (x : WorkerView). x.pass) c.worker.view_is)
+      c.know_run.ensures.seen c.know_run-in-Err-Busy.ensures.seen c.know_run.ensures.fits c.delete.ensures.after.same c.delete.ensures.after.past c.requires.own runs (rests_in c.worker.inside.pass c.worker.inside.standing (resting_in c.worker.inside.standing (ap (λ (w : WorkerView). w.held) c.worker.view_is ∙ c.requires.free) c.in_default.not-Pending) c.worker.invariant.between.stands)
+      (subst P c.in-Err-Busy.field-0-is c.in-Err-Busy.ensures.after.did)
+      );
 }
-
-pub returns-in-Err-Busy-clause-alone : goal.returns-in-Err-Busy-clause-alone
-returns-in-Err-Busy-clause-alone c alone none is =
-    let P : Missed → Type 0 = λ m. DeleteDid c.self.inside.shared.layout c.args.tries c.args.key c.worker.inside.pass.view.log c.delete.new.pass.view.log (Err m) in
-    delete_alone c.self.inside.shared c.args.self.now c.worker.inside.pass c.args.worker.now.pass c.delete.new.pass c.args.key c.args.tries c.self.view_is (ap (λ (x : WorkerView). x.pass) c.worker.view_is)
-    c.know_run.ensures.seen c.know_run-in-Err-Busy.ensures.seen c.know_run.ensures.fits c.delete.ensures.after.same c.delete.ensures.after.past c.requires.own alone none
-    (subst P c.in-Err-Busy.field-0-is c.in-Err-Busy.ensures.after.did)
 
 pub invariant_of-worker-in-Err-NoMemory : goal.invariant_of-worker-in-Err-NoMemory
 invariant_of-worker-in-Err-NoMemory c =
@@ -140,6 +140,7 @@ returns-in-Err-NoMemory-clause-leaves c = record {
       );
   interfered = λ is. absurd (let no = is in cc);
   lost = λ is. absurd (let no = is in cc);
+  alone = λ runs. tt;
 }
 
 pub invariant_of-worker-in-Err-Unfinished : goal.invariant_of-worker-in-Err-Unfinished
@@ -186,6 +187,15 @@ returns-in-Err-Unfinished-clause-leaves c = record {
             (delete_lost c.self.inside.shared c.args.self.now c.worker.inside.pass c.args.worker.now.pass c.delete.new.pass c.args.key c.args.tries c.self.view_is (ap (λ (x : WorkerView). x.pass) c.worker.view_is)
             c.know_run.ensures.seen c.know_run-in-Err-Unfinished.ensures.seen c.know_run.ensures.fits c.delete.ensures.after.same c.delete.ensures.after.past c.requires.own c.in-Err-Unfinished.leaf
             (rw c.in-Err-Unfinished.field-0-is at c.in-Err-Unfinished.ensures.after.stands) lost)
+      ])
+      );
+  alone = λ runs. (
+      let P : Missed → Type 0 = λ m. LacksRoomOr (LosesAfterFlag c.self.inside.shared.layout c.args.tries c.args.key c.worker.inside.pass.view.log c.delete.new.pass.view.log) c.delete.new.held.queue.spare m in
+      (elim (subst P c.in-Err-Unfinished.field-0-is c.in-Err-Unfinished.ensures.refused) [
+        | inl less ↦ inr (lacks_after c.worker.inside.home _ _ c.worker.inside.queues.items c.delete.new.held c.worker.invariant.own c.delete.ensures.kept.own less)
+        | inr lost ↦ inl
+            (delete_finished c.self.inside.shared c.args.self.now c.worker.inside.pass c.args.worker.now.pass c.delete.new.pass c.args.key c.args.tries c.self.view_is (ap (λ (x : WorkerView). x.pass) c.worker.view_is)
+            c.know_run.ensures.seen c.know_run-in-Err-Unfinished.ensures.seen c.know_run.ensures.fits c.delete.ensures.after.same c.delete.ensures.after.past c.requires.own c.in-Err-Unfinished.leaf runs (rests_in c.worker.inside.pass c.worker.inside.standing (resting_in c.worker.inside.standing (ap (λ (w : WorkerView). w.held) c.worker.view_is ∙ c.requires.free) c.in_default.not-Pending) c.worker.invariant.between.stands) lost)
       ])
       );
 }

@@ -10,7 +10,7 @@ use Rattle.nm_tree.proofs.QueueLists.{lacks_after, stands_within, room_after}
 use Rattle.nm_tree.proofs.Changing.{kept_there, changed, others_kept}
 use Rattle.nm_tree.proofs.Staying.{removing_in}
 use Rattle.std.specs.Prelude.{true}
-use Rattle.nm_tree.proofs.Interfered.{finish_lost}
+use Rattle.nm_tree.proofs.Interfered.{finish_alone, finish_lost}
 use Rattle.nm_tree.proofs.Telling.{finished_so}
 use Rattle.nm_tree.proofs.Untouched.{finishes_none}
 use Rattle.nm_tree.proofs.tree.Tree.finish_pending.Goals as goal
@@ -66,6 +66,14 @@ returns-then-not-finish-clause-leaves c = record {
             c.know_run.ensures.seen c.know_run-then-not-finish.ensures.seen c.know_run.ensures.fits c.finish.ensures.after.same c.finish.ensures.after.past c.requires.own c.in-Pending.pending.leaf (c.finish.ensures.after.removing c.if-not-finish.true) lost)
       ])
       );
+  alone = λ alone. (
+      (elim (c.finish.ensures.refused c.if-not-finish.true) [
+        | inl less ↦ inr (lacks_after c.worker.inside.home _ _ c.worker.inside.queues.items c.finish.new.held c.worker.invariant.own c.finish.ensures.kept.own less)
+        | inr lost ↦ inl
+            (finish_alone c.self.inside.shared c.args.self.now c.worker.inside.pass c.args.worker.now.pass c.finish.new.pass c.in-Pending.pending.key c.args.tries c.self.view_is (ap (λ (x : WorkerView). x.pass) c.worker.view_is)
+            c.know_run.ensures.seen c.know_run-then-not-finish.ensures.seen c.know_run.ensures.fits c.finish.ensures.after.same c.finish.ensures.after.past c.requires.own c.in-Pending.pending.leaf alone (c.finish.ensures.after.removing c.if-not-finish.true) lost)
+      ])
+      );
 }
 
 pub invariant_of-worker-2 : goal.invariant_of-worker-2
@@ -101,4 +109,5 @@ returns-clause-leaves c = record {
       );
   lacks = search rules;
   lost = λ is. absurd (let no = is in cc);
+  alone = λ alone. tt;
 }

@@ -5,7 +5,7 @@ use Rattle.nm_tree.specs.Workers.{WorkerView}
 use Rattle.nm_tree.proofs.QueueLists.{lacks_after, stands_within, room_after}
 use Rattle.nm_tree.proofs.Staying.{resting_in, rests_in, rests_as, free_in}
 use Rattle.nm_tree.proofs.Interfered.{insert_interfered, insert_alone}
-use Rattle.nm_tree.proofs.Answered.{insert_told, has_inserted}
+use Rattle.nm_tree.proofs.Answered.{insert_fails, insert_told, has_inserted}
 use Rattle.nm_tree.proofs.Changing.{kept_there, changed, others_kept}
 use Rattle.nm_calls.specs.declared.fault.CallFault.{CallFault}
 use Rattle.nm_calls.specs.Inserts.{InsertDid}
@@ -56,9 +56,9 @@ returns-clause-leaves c = record {
   did = inserted_so _ _ c.args.tries c.args.key _ _ _ c.insert-answer.result _ c.self.view_is c.worker.view_is refl (has_inserted _ c.args.tries c.args.key _ _ (free_in c.worker.inside.standing (resting_in c.worker.inside.standing (ap (λ (w : WorkerView). w.held) c.worker.view_is ∙ c.requires.free) c.in_default.not-Pending)) c.insert-answer.result c.insert-answer.ensures.after.did);
   interfered = λ is. insert_interfered c.self.inside.shared c.args.self.now c.worker.inside.pass c.args.worker.now.pass c.insert-answer.new.pass c.args.key c.args.tries c.self.view_is (ap (λ (x : WorkerView). x.pass) c.worker.view_is)
       c.know_run.ensures.seen c.know_run-2.ensures.seen c.know_run.ensures.fits c.insert-answer.ensures.after.same c.insert-answer.ensures.after.past c.requires.own _ (subst (λ (r : Result Bool CallFault). InsertDid c.worker.inside.workspace.placement c.self.inside.shared.layout c.args.tries c.args.key c.worker.inside.pass.view.log c.insert-answer.new.pass.view.log r) is c.insert-answer.ensures.after.did);
+  alone = λ runs. (
+      insert_fails c.args.tries _ _ c.insert-answer.result (returns-clause-says c).told
+      (λ is. insert_alone c.self.inside.shared c.args.self.now c.worker.inside.pass c.args.worker.now.pass c.insert-answer.new.pass c.args.key c.args.tries c.self.view_is (ap (λ (x : WorkerView). x.pass) c.worker.view_is)
+      c.know_run.ensures.seen c.know_run-2.ensures.seen c.know_run.ensures.fits c.insert-answer.ensures.after.same c.insert-answer.ensures.after.past c.requires.own _ runs (rests_in c.worker.inside.pass c.worker.inside.standing (resting_in c.worker.inside.standing (ap (λ (w : WorkerView). w.held) c.worker.view_is ∙ c.requires.free) c.in_default.not-Pending) c.worker.invariant.between.stands) (subst (λ (r : Result Bool CallFault). InsertDid c.worker.inside.workspace.placement c.self.inside.shared.layout c.args.tries c.args.key c.worker.inside.pass.view.log c.insert-answer.new.pass.view.log r) is c.insert-answer.ensures.after.did))
+      );
 }
-
-pub returns-clause-alone : goal.returns-clause-alone
-returns-clause-alone c alone none is =
-    insert_alone c.self.inside.shared c.args.self.now c.worker.inside.pass c.args.worker.now.pass c.insert-answer.new.pass c.args.key c.args.tries c.self.view_is (ap (λ (x : WorkerView). x.pass) c.worker.view_is)
-    c.know_run.ensures.seen c.know_run-2.ensures.seen c.know_run.ensures.fits c.insert-answer.ensures.after.same c.insert-answer.ensures.after.past c.requires.own _ alone none (subst (λ (r : Result Bool CallFault). InsertDid c.worker.inside.workspace.placement c.self.inside.shared.layout c.args.tries c.args.key c.worker.inside.pass.view.log c.insert-answer.new.pass.view.log r) is c.insert-answer.ensures.after.did)
