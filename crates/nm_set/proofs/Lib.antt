@@ -1,5 +1,6 @@
 -- Lemmas on the seats of a tree, workers that go home, the end of a set and what may cross threads.
-pub mod SeatLists
+pub mod Places
+pub mod Seating
 pub mod NewMembers
 pub mod SetEnds
 pub mod Letters

@@ -12,8 +12,8 @@ use Rattle.nm_epoch.proofs.collecting.HeldQueue.TheSendSync as queue
 use Rattle.nm_tree.specs.contracts.worker.Worker as worker
 use Rattle.nm_tree.proofs.worker.Worker.TheSendSync as worker_crosses
 use Rattle.nm_tree.proofs.tree.Tree.TheSendSync as tree
-use Rattle.nm_set.specs.contracts.seat.Resident as resident
-use Rattle.nm_set.proofs.seat.Resident.TheSendSync as resident_crosses
+use Rattle.nm_seats.proofs.sitting.Seats.TheSendSync as seats
+use Rattle.nm_seats.proofs.sitting.WayBack.TheSendSync as way_back
 use Rattle.nm_set.specs.contracts.posting.Letter as letter
 use Rattle.nm_set.proofs.posting.Letter.TheSendSync as letter_crosses
 use Rattle.nm_set.specs.contracts.home.Home as home
@@ -31,9 +31,6 @@ pass_sync = search (sendable, crosses, seat_sync) depth 20
 worker_sync : IsSync worker.the_row
 worker_sync = search (sendable, crosses, pass_sync, placement.the_sync, queue.the_sync) depth 80
 
-resident_sync : IsSync resident.the_row
-resident_sync = search (sendable, worker_sync) depth 20
-
 note_sync : IsSync note.the_row
 note_sync = search (sendable, crosses, seat_sync) depth 20
 
@@ -41,10 +38,10 @@ letter_sync : IsSync letter.the_row
 letter_sync = search (sendable, crosses, note_sync) depth 20
 
 home_sync : IsSync home.the_row
-home_sync = search (sendable, crosses, tree.the_sync, counted.the_sync, resident_crosses.the_send, resident_sync, letter_crosses.the_send, letter_sync, worker_sync) depth 60
+home_sync = search (sendable, crosses, tree.the_sync, counted.the_sync, seats.the_sync, worker_crosses.the_send, letter_crosses.the_send, letter_sync, worker_sync) depth 60
 
 pub member_send : IsSend member.the_row
-member_send = search (sendable, crosses, home_crosses.the_send, home_sync, worker_crosses.the_send) depth 40
+member_send = search (sendable, crosses, home_crosses.the_send, home_sync, worker_crosses.the_send, way_back.the_send) depth 60
 
 pub set_send : IsSend set.the_row
 set_send = search (sendable, crosses, home_crosses.the_send, home_sync, tree.the_send, worker_crosses.the_send) depth 80

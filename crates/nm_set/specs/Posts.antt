@@ -10,7 +10,10 @@ use Rattle.nm_epoch.specs.Collecting.{capped}
 use Rattle.nm_tree.specs.Workers.{WorkerView}
 use Rattle.nm_set.specs.declared.fault.ObserveFault.{ObserveFault}
 use Rattle.nm_set.specs.declared.fault.ObserveFault.TheVariants as posting
+use Rattle.nm_set.specs.declared.home.Site.{Site}
 use Rattle.nm_set.specs.declared.posting.Stamp.{Stamp}
+use Rattle.nm_set.specs.Seats.{IsTicketOf}
+use Rattle.nm_seats.specs.Views.{SeatsView, TicketView}
 
 -- 1 if a delete of worker i is pending by these turns, else 0
 abbrev pub pending_by : ℕ → List Turn → ℕ
@@ -26,17 +29,29 @@ pub record HasTally (i : ℕ) (p : Stamp) (turns : List Turn) : Type 0 where
 abbrev pub IsTallyOf : WorkerView → Stamp → Type 0
 IsTallyOf w p = HasTally w.pass.view.number p w.pass.view.past
 
--- what clauses see of a returned worker: what it had done, and a note of all that it had seen
+-- what clauses see of a returned worker: its tree; the worker as it was returned; what it had done;
+-- and a note of all that it had seen
 pub record ReturnedView : Type 0 where
+  pub tree : TreeView
+  pub worker : Option WorkerView
   pub done : Stamp
   pub note : Notice
 
--- the worker was returned as it is here, with what it has done, and with a note of what it has seen,
--- of which its log is its part
+-- this very worker was returned, with what it has done, and with a note of what it has seen, of
+-- which its log is its part
 pub record IsReturned (w : WorkerView) (r : ReturnedView) : Type 0 where
+  pub worker : r.worker ≡ Some w
   pub tally : IsTallyOf w r.done
   pub note : IsNoteOf w.pass r.note
   pub own : part_of w.pass.view.number r.note.past ≡ w.pass.view.log
+
+-- the worker sat down on one of these seats, and left this ticket, with what it has done and a note
+-- of what it has seen
+pub record HasSat (s : SeatsView Site) (w : WorkerView) (done : Stamp) (note : Notice) (t : TicketView WorkerView Site) : Type 0 where
+  pub tally : IsTallyOf w done
+  pub noted : IsNoteOf w.pass note
+  pub own : part_of w.pass.view.number note.past ≡ w.pass.view.log
+  pub sat : IsTicketOf s w t
 
 -- what was seen extends what worker i had seen when it had inserted and removed the numbers of keys
 -- in the stamp

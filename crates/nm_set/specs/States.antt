@@ -5,13 +5,13 @@ use Rattle.nm_tree.specs.Workers.{WorkerView}
 use Rattle.nm_set.specs.declared.home.Site.{Site}
 use Rattle.nm_set.specs.declared.set.State.{State}
 use Rattle.nm_set.specs.declared.set.State.TheVariants.{Open, Closing}
-use Rattle.nm_set.specs.Seats.{HasRoom, SetView}
+use Rattle.nm_set.specs.Seats.{HasRoom, SetView, site_in}
 use Rattle.nm_edge.specs.Layouts.{Layout}
 use Rattle.nm_edge.specs.declared.placement.Fit.{Fit}
 
 -- the tree of the set, and its fit
 abbrev pub site_of : State → Site
-site_of (Open home) = arc_value home
+site_of (Open home) = site_in (arc_value home)
 site_of (Closing site) = site
 
 -- `open_set`, `closing_set`: an open set, and a closing one, that keep these workers
@@ -23,7 +23,7 @@ closing_set site kept = record { tree = site.tree; fit = site.fit; closing = tru
 
 -- the set in that state, with these workers kept
 abbrev pub standing_of : State → List WorkerView → SetView
-standing_of (Open home) kept = open_set (arc_value home) kept
+standing_of (Open home) kept = open_set (site_in (arc_value home)) kept
 standing_of (Closing site) kept = closing_set site kept
 
 -- the room for one worker that is kept, and for all that are gathered after it

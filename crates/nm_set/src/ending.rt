@@ -33,11 +33,14 @@ impl Member {
         ensures ended { IfOk result (EndsMember self) }
         ensures refused { IfErr result (IsNotEnded self) }
     {
-        let (home, sealed) = self.apart();
+        let (home, sealed, way_back) = self.apart();
         let gathered = match home.gather(sealed) {
             Ok(gathered) => gathered,
-            Err((home, sealed)) => return Err(EndError::Attached(Member::back(home, sealed))),
+            Err((home, sealed)) => {
+                return Err(EndError::Attached(Member::back(home, sealed, way_back)));
+            }
         };
+        drop(way_back);
         match gathered.close() {
             Ok(report) => Ok(report),
             Err(error) => Err(EndError::Gathered(error)),

@@ -1,11 +1,11 @@
 //! The home of a tree's workers: one seat for each worker, which keeps it while no member has it.
-ghost use Rattle.std.specs.Prelude.{◌≡◌, ◌<◌, ◌≤◌, ◌+◌, ◌^◌, ◌↔◌, ◌∷◌, [], length, None, IfNone, IfOk, IfSome, IsErrOf, vec_capacity};
+ghost use Rattle.std.specs.Prelude.{◌≡◌, ◌<◌, ◌≤◌, ◌+◌, ◌^◌, ◌↔◌, ◌∷◌, [], length, None, IfNone, IfOk, IfErr, IfSome, IsErrOf, Some, vec_capacity};
 ghost use Rattle.nm_tree.specs.Workers.{AreNew, HaveFit};
-ghost use Rattle.nm_set.specs.Posts.{IsReturned};
-ghost use Rattle.nm_set.specs.Seats.{AreOwn, AreSeats, BeginsWith, HasRoom, IsOwn, IsResident};
+ghost use Rattle.nm_set.specs.Posts.{HasSat};
+ghost use Rattle.nm_set.specs.Seats.{AreOnSeats, AreOwn, ArePlaces, BeginsWith, HasRoom, IsOwn, IsResident, IsTicketOf, MayReturn, seats_in, site_in};
 
-use crate::posting::Mailbox;
-use crate::seat::{ReturnedWorker, SealedWorker, Seat, leave, retire, stand_up};
+use crate::posting::{Mailbox, empty_mailbox};
+use crate::seat::{Sat, SealedWorker, Seats, Ticket, WayBack};
 use nm_tree::{Fit, Tree, Worker};
 use std::alloc::{AllocError, Global};
 use std::marker::Model;
@@ -17,31 +17,12 @@ pub(crate) struct Site {
     pub(crate) fit: Fit,
 }
 
-impl Site {
-    /// Appends the workers that are on these seats. There is room for all.
-    fn gather_from(&self, seats: Vec<Seat>, workers: Vec<Worker>) -> Vec<Worker>
-        requires seats { AreSeats self.now 0 seats.items }
-        requires own { AreOwn self.now.tree workers.items }
-        requires room { length workers.items + length seats.items ≤ vec_capacity workers }
-        ensures own { AreOwn self.now.tree result.items }
-        ensures kept { BeginsWith workers.items result.items }
-    {
-        let mut workers = workers;
-        for seat in seats {
-            let Some(sealed) = leave(seat) else {
-                continue;
-            };
-            sealed.stay_with(&mut workers);
-        }
-        workers
-    }
-}
-
-/// A tree, with a seat for each of its workers, in the order of their numbers.
+/// A tree, with a seat and a mailbox for each of its workers, in the order of their numbers.
 #[derive(Drop)]
 pub(crate) struct Home {
     site: Site,
-    seats: Vec<Seat>,
+    seats: Seats,
+    mailboxes: Vec<Mailbox>,
     // Has room for all workers and one more. The end of the set takes this room, so that it asks
     // for no memory.
     room: Vec<Worker>,
@@ -49,16 +30,15 @@ pub(crate) struct Home {
 
 impl Model for Home {
     ghost use Rattle.std.specs.Prelude.{◌≡◌, ◌≤◌, ◌+◌, [], length, vec_capacity};
-    ghost use Rattle.nm_set.specs.Seats.{AreSeats};
-    ghost use Rattle.nm_set.specs.declared.home.Site.{Site};
+    ghost use Rattle.nm_set.specs.Seats.{ArePlaces, HomeView};
 
-    ghost Value = { Site };
+    ghost Value = { HomeView };
 
-    ghost view = { λ h. h.site };
+    ghost view = { λ h. record { tree = h.site.tree; fit = h.site.fit; seats = h.seats.table } };
 
-    ghost invariant = { λ h. AreSeats h.site 0 h.seats.items
-        × (length h.seats.items ≡ h.site.tree.layout.workers) × (h.room.items ≡ [])
-        × (1 + h.site.tree.layout.workers ≤ vec_capacity h.room) };
+    ghost invariant = { λ h. (h.seats.site ≡ h.site) × (h.seats.table.words ≡ h.site.tree.layout.workers)
+        × ArePlaces h.site 0 h.mailboxes.items × (length h.mailboxes.items ≡ h.site.tree.layout.workers)
+        × (h.room.items ≡ []) × (1 + h.site.tree.layout.workers ≤ vec_capacity h.room) };
 }
 
 /// Why a worker is not on its seat.
@@ -70,67 +50,127 @@ pub(crate) enum Absence {
     Attached,
 }
 
+/// Returns these workers, each as what sits on a seat.
+fn seated(
+    alloc: Global,
+    workers: Vec<Worker>,
+    site: &Site,
+) -> Result<Vec<Option<Worker>>, AllocError>
+    requires new { AreNew site.now.tree 0 workers.items }
+    requires fit { HaveFit site.now.fit workers.items }
+    ensures new { IfOk result (λ ws. AreOnSeats site.now 0 ws.items) }
+    ensures count { IfOk result (λ ws. length ws.items ≡ length workers.items) }
+{
+    let mut on_seats = Vec::with_capacity(alloc, workers.len())?;
+    for worker in workers {
+        on_seats.push_reserved(Some(worker));
+    }
+    Ok(on_seats)
+}
+
+/// Makes a mailbox for each worker of a site, and hands the site back.
+fn mailboxes_of(alloc: Global, site: Site, workers: u32) -> Result<(Site, Vec<Mailbox>), AllocError>
+    ensures site { IfOk result (λ r. r.0 ≡ site) }
+    ensures places { IfOk result (λ r. ArePlaces site 0 r.1.items) }
+    ensures count { IfOk result (λ r. length r.1.items ≡ workers) }
+{
+    let mut mailboxes = Vec::with_capacity(alloc, workers as usize)?;
+    let mut place = (site, 0);
+    for number in 0..workers {
+        place.1 = number;
+        mailboxes.push(empty_mailbox(&place))?;
+    }
+    let (site, _) = place;
+    Ok((site, mailboxes))
+}
+
 impl Home {
-    /// Makes the home of a tree with this many workers, all of which are attached.
-    pub(crate) fn vacant(alloc: Global, site: Site, workers: u32) -> Result<Home, AllocError>
-        requires all { site.tree.layout.workers ≡ workers }
-        ensures { IfOk result (λ home. home ≡ site) }
+    /// Makes the home of a new tree, whose workers are all on their seats.
+    pub(crate) fn of(
+        alloc: Global,
+        site: Site,
+        all: Vec<Worker>,
+        workers: u32,
+    ) -> Result<Home, AllocError>
+        requires new { AreNew site.tree 0 all.items }
+        requires fit { HaveFit site.fit all.items }
+        requires count { length all.items ≡ workers }
+        requires each { site.tree.layout.workers ≡ workers }
+        ensures { IfOk result (λ home. site_in home ≡ site) }
     {
         let room = Vec::with_capacity(alloc, 1 + workers as usize)?;
-        let mut seats = Vec::with_capacity(alloc, workers as usize)?;
-        let mut place = (site, 0);
-        for number in 0..workers {
-            place.1 = number;
-            seats.push(Seat::vacant(&place))?;
-        }
-        let (site, _) = place;
-        Ok(Home { site, seats, room })
+        let on_seats = seated(alloc, all, &site)?;
+        let seats = Seats::new(alloc, &site, on_seats)?;
+        let (site, mailboxes) = mailboxes_of(alloc, site, workers)?;
+        Ok(Home {
+            site,
+            seats,
+            mailboxes,
+            room,
+        })
     }
 
-    /// Takes a worker from its seat.
-    pub(crate) fn take(&self, number: u32) -> Result<SealedWorker, Absence>
+    /// Takes a worker from its seat, with its way back. It is new if it was not taken before.
+    pub(crate) fn take(&self, number: u32) -> Result<(SealedWorker, WayBack), Absence>
         ensures taken { IfOk result
-            (λ g. IsResident self.now.tree self.now.fit number g.worker
+            (λ g. IsResident self.now.tree self.now.fit number g.0.worker
             × (number < self.now.tree.layout.workers)) }
+        ensures back { IfOk result (λ g. MayReturn (seats_in self.now) g.0.worker g.1) }
+        ensures first { IfOk result (λ g. g.1.turn ≡ 0 → AreNew self.now.tree number (g.0.worker ∷ [])) }
         ensures number { IsErrOf result Absence.Number ↔ (self.now.tree.layout.workers ≤ number) }
     {
-        let Some(seat) = self.seats.get(number as usize) else {
+        if self.seats.len() <= number as usize {
             return Err(Absence::Number);
-        };
-        match stand_up(seat) {
-            Some(sealed) => Ok(sealed),
+        }
+        match self.seats.stand_up(number) {
+            Some((worker, way_back)) => Ok((SealedWorker::of(worker), way_back)),
             None => Err(Absence::Attached),
         }
     }
 
-    /// Puts the workers of a new tree on their seats.
-    pub(crate) fn receive_all(&self, workers: Vec<Worker>)
-        requires new { AreNew self.now.tree 0 workers.items }
-        requires fit { HaveFit self.now.fit workers.items }
+    /// Takes a worker that was never taken before. Returns `None` if there is none of that number.
+    pub(crate) fn take_first(&self, number: u32) -> Option<(SealedWorker, WayBack)>
+        ensures taken { IfSome result (λ g. IsResident self.now.tree self.now.fit number g.0.worker) }
+        ensures back { IfSome result (λ g. MayReturn (seats_in self.now) g.0.worker g.1) }
+        ensures new { IfSome result (λ g. AreNew self.now.tree number (g.0.worker ∷ [])) }
     {
-        for worker in workers {
-            self.receive(SealedWorker::of(worker));
+        if self.seats.len() <= number as usize {
+            return None;
+        }
+        let (worker, way_back) = self.seats.stand_up_first(number)?;
+        Some((SealedWorker::of(worker), way_back))
+    }
+
+    /// Takes the very worker of a ticket, if nobody has taken it since it sat down.
+    pub(crate) fn take_again(&self, ticket: Ticket) -> Result<(SealedWorker, WayBack), Ticket>
+        requires { (ticket.table ≡ self.now.seats) × (ticket.site ≡ site_in self.now) }
+        ensures same { IfOk result (λ g. ticket.value ≡ Some g.0.worker) }
+        ensures taken { IfOk result (λ g. IsResident self.now.tree self.now.fit ticket.seat g.0.worker) }
+        ensures back { IfOk result (λ g. MayReturn (seats_in self.now) g.0.worker g.1) }
+        ensures refused { IfErr result (λ t. t ≡ ticket) }
+    {
+        match self.seats.stand_up_again(ticket) {
+            Ok((worker, way_back)) => Ok((SealedWorker::of(worker), way_back)),
+            Err(ticket) => Err(ticket),
         }
     }
 
     /// Puts a worker of this tree on its seat. Its caller has not pinned it.
-    pub(crate) fn receive(&self, sealed: SealedWorker) -> ReturnedWorker
+    pub(crate) fn receive(&self, sealed: SealedWorker, way_back: WayBack) -> Sat
         requires own { IsOwn self.now.tree sealed.worker }
         requires fit { sealed.worker.fit ≡ self.now.fit }
         requires free { sealed.worker.held ≡ None }
-        ensures { IsReturned sealed.worker result }
+        requires back { MayReturn (seats_in self.now) sealed.worker way_back }
+        ensures { HasSat (seats_in self.now) sealed.worker result.done result.note result.ticket }
     {
-        let Some(seat) = self.seats.get(sealed.worker.number() as usize) else {
-            unreachable!()
-        };
-        sealed.sit_down(&self.site.tree, seat)
+        sealed.sit_down(&self.site.tree, &self.seats, way_back)
     }
 
     /// Notes that a worker that was taken from its seat does not come back to it.
-    pub(crate) fn retire(&self, number: u32) {
-        if let Some(seat) = self.seats.get(number as usize) {
-            retire(seat);
-        }
+    pub(crate) fn retire(&self, way_back: WayBack)
+        requires { way_back.table ≡ self.now.seats }
+    {
+        self.seats.retire(way_back);
     }
 
     /// Returns whether a member has the worker; `None` if there is no worker of that number.
@@ -138,16 +178,19 @@ impl Home {
         ensures some { IfSome result (λ _. number < self.now.tree.layout.workers) }
         ensures none { IfNone result (self.now.tree.layout.workers ≤ number) }
     {
-        Some(self.seats.get(number as usize)?.is_attached())
+        if self.seats.len() <= number as usize {
+            return None;
+        }
+        Some(self.seats.is_away(number))
     }
 
     /// Returns the mailbox of a worker; `None` if there is no worker of that number.
     pub(crate) fn mailbox_of(&self, number: u32) -> Option<&Mailbox>
         ensures some { IfSome result
-            (λ p. (p.now ≡ (self.now, number)) × (number < self.now.tree.layout.workers)) }
+            (λ p. (p.now ≡ (site_in self.now, number)) × (number < self.now.tree.layout.workers)) }
         ensures none { IfNone result (self.now.tree.layout.workers ≤ number) }
     {
-        Some(self.seats.get(number as usize)?.mailbox())
+        Some(self.mailboxes.get(number as usize)?)
     }
 
     /// Returns the tree, with the workers that were kept, followed by those that are on their
@@ -155,28 +198,36 @@ impl Home {
     pub(crate) fn gather(self, kept: Vec<Worker>) -> (Site, Vec<Worker>)
         requires own { AreOwn self.tree kept.items }
         requires room { HasRoom self.tree kept.items (vec_capacity kept) }
-        ensures site { result.0 ≡ self }
+        ensures site { result.0 ≡ site_in self }
         ensures own { AreOwn self.tree result.1.items }
         ensures kept { BeginsWith kept.items result.1.items }
     {
-        let Home { site, seats, room } = self;
+        let Home {
+            site,
+            seats,
+            mailboxes: _,
+            room,
+        } = self;
         let workers = if kept.is_empty() { room } else { kept };
-        let workers = site.gather_from(seats, workers);
-        (site, workers)
+        (site, seats.gather(workers))
     }
 
     /// Returns the tree, with one attached worker, followed by those that are on their seats.
     pub(crate) fn gather_behind(self, sealed: SealedWorker) -> (Site, Vec<Worker>)
         requires own { IsOwn self.tree sealed.worker }
-        ensures site { result.0 ≡ self }
+        ensures site { result.0 ≡ site_in self }
         ensures own { AreOwn self.tree result.1.items }
         ensures first { BeginsWith (sealed.worker ∷ []) result.1.items }
     {
-        let Home { site, seats, room } = self;
+        let Home {
+            site,
+            seats,
+            mailboxes: _,
+            room,
+        } = self;
         let mut workers = room;
         sealed.stay_with(&mut workers);
-        let workers = site.gather_from(seats, workers);
-        (site, workers)
+        (site, seats.gather(workers))
     }
 
     /// Returns the tree.
@@ -191,6 +242,6 @@ impl Home {
         ensures count { result ≡ self.now.tree.layout.workers }
         ensures few { 1 + result < 2 ^ 64 }
     {
-        self.seats.len()
+        self.mailboxes.len()
     }
 }

@@ -1,15 +1,15 @@
 //! What a member has of its home: the tree for its calls, and the way back to its seat.
-ghost use Rattle.std.specs.Prelude.{◌≡◌, ◌<◌, ◌≤◌, ◌↔◌, List, ◌∷◌, [], None, IfErr, IfNone, IfOk, IfSome, IsErrOf};
+ghost use Rattle.std.specs.Prelude.{◌≡◌, ◌<◌, ◌≤◌, ◌↔◌, List, ◌∷◌, [], Some, None, IfErr, IfNone, IfOk, IfSome, IsErrOf};
 ghost use Rattle.std.specs.Arc.{arc_value};
-ghost use Rattle.nm_set.specs.Posts.{IsReturned};
-ghost use Rattle.nm_set.specs.Seats.{BeginsWith, IsOwn, IsResident};
+ghost use Rattle.nm_set.specs.Posts.{HasSat};
+ghost use Rattle.nm_set.specs.Seats.{BeginsWith, IsOwn, IsResident, MayReturn, seats_in, site_in};
 ghost use Rattle.nm_set.specs.States.{closing_set};
 ghost use Rattle.nm_tree.specs.Workers.{WorkerView};
 
 use crate::gathering::Gathered;
 use crate::home::{Absence, Home};
 use crate::posting::Mailbox;
-use crate::seat::{ReturnedWorker, SealedWorker};
+use crate::seat::{Sat, SealedWorker, Ticket, WayBack};
 use nm_tree::Tree;
 use std::alloc::Global;
 use std::marker::Model;
@@ -26,9 +26,9 @@ pub(crate) struct Lease {
 
 impl Model for Lease {
     ghost use Rattle.std.specs.Arc.{arc_value};
-    ghost use Rattle.nm_set.specs.declared.home.Site.{Site};
+    ghost use Rattle.nm_set.specs.Seats.{HomeView};
 
-    ghost Value = { Site };
+    ghost Value = { HomeView };
 
     ghost view = { λ l. arc_value l.home };
 }
@@ -51,28 +51,46 @@ impl Lease {
     /// Returns the mailbox of a worker; `None` if there is no worker of that number.
     pub(crate) fn mailbox_of(&self, number: u32) -> Option<&Mailbox>
         ensures some { IfSome result
-            (λ p. (p.now ≡ (self.now, number)) × (number < self.now.tree.layout.workers)) }
+            (λ p. (p.now ≡ (site_in self.now, number)) × (number < self.now.tree.layout.workers)) }
         ensures none { IfNone result (self.now.tree.layout.workers ≤ number) }
     {
         self.home.mailbox_of(number)
     }
 
     /// Puts a worker of this tree on its seat. Its caller has not pinned it.
-    pub(crate) fn receive(&self, sealed: SealedWorker) -> ReturnedWorker
+    pub(crate) fn receive(&self, sealed: SealedWorker, way_back: WayBack) -> Sat
         requires own { IsOwn self.now.tree sealed.worker }
         requires fit { sealed.worker.fit ≡ self.now.fit }
         requires free { sealed.worker.held ≡ None }
-        ensures { IsReturned sealed.worker result }
+        requires back { MayReturn (seats_in self.now) sealed.worker way_back }
+        ensures { HasSat (seats_in self.now) sealed.worker result.done result.note result.ticket }
     {
-        self.home.receive(sealed)
+        self.home.receive(sealed, way_back)
+    }
+
+    /// Takes the very worker of a ticket, if nobody has taken it since it sat down.
+    pub(crate) fn take_again(
+        self,
+        ticket: Ticket,
+    ) -> (Lease, Result<(SealedWorker, WayBack), Ticket>)
+        requires { (ticket.table ≡ self.seats) × (ticket.site ≡ site_in self) }
+        ensures lease { result.0 ≡ self }
+        ensures same { IfOk result.1 (λ g. ticket.value ≡ Some g.0.worker) }
+        ensures taken { IfOk result.1 (λ g. IsResident self.tree self.fit ticket.seat g.0.worker) }
+        ensures back { IfOk result.1 (λ g. MayReturn (seats_in self) g.0.worker g.1) }
+        ensures refused { IfErr result.1 (λ t. t ≡ ticket) }
+    {
+        let found = self.home.take_again(ticket);
+        (self, found)
     }
 
     /// Takes a worker from its seat.
-    pub(crate) fn take(self, number: u32) -> (Lease, Result<SealedWorker, Absence>)
+    pub(crate) fn take(self, number: u32) -> (Lease, Result<(SealedWorker, WayBack), Absence>)
         ensures same { result.0 ≡ self }
         ensures taken { IfOk result.1
-            (λ g. IsResident self.tree self.fit number g.worker
+            (λ g. IsResident self.tree self.fit number g.0.worker
             × (number < self.tree.layout.workers)) }
+        ensures back { IfOk result.1 (λ g. MayReturn (seats_in self) g.0.worker g.1) }
         ensures number { IsErrOf result.1 Absence.Number ↔ (self.tree.layout.workers ≤ number) }
     {
         let found = self.home.take(number);
@@ -80,10 +98,11 @@ impl Lease {
     }
 
     /// Notes that a worker that was taken from its seat does not come back to it.
-    pub(crate) fn retire(self, number: u32) -> Lease
+    pub(crate) fn retire(self, way_back: WayBack) -> Lease
+        requires { way_back.table ≡ self.seats }
         ensures { result ≡ self }
     {
-        self.home.retire(number);
+        self.home.retire(way_back);
         self
     }
 
@@ -92,7 +111,7 @@ impl Lease {
     pub(crate) fn gather(self, sealed: SealedWorker) -> Result<Gathered, (Lease, SealedWorker)>
         requires own { IsOwn self.tree sealed.worker }
         ensures gathered { IfOk result
-            (λ g. (ws : List WorkerView) × (g ≡ closing_set self ws)
+            (λ g. (ws : List WorkerView) × (g ≡ closing_set (site_in self) ws)
             × BeginsWith (sealed.worker ∷ []) ws) }
         ensures refused { IfErr result (λ back. (back.0 ≡ self) × (back.1.worker ≡ sealed.worker)) }
     {

@@ -18,6 +18,7 @@ mod member;
 mod opening;
 mod popping;
 mod posting;
+mod returning;
 mod scanning;
 mod seat;
 mod set;
@@ -32,5 +33,5 @@ pub use nm_tree::{
     PinFault, Query, Report, ResignReason, Scanned, Tally,
 };
 pub use posting::{Stamp, letters_are_in_order};
-pub use seat::ReturnedWorker;
+pub use returning::ReturnedWorker;
 pub use set::{CloseError, KeepError, Set};

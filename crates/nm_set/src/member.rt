@@ -13,13 +13,14 @@ ghost use Rattle.nm_set.specs.Asked.{Asked, AskedToPin, AskedToUnpin, SaysTryIns
 ghost use Rattle.nm_set.specs.InTurns.{AskedMany};
 ghost use Rattle.nm_set.specs.NextKeys.{AskedNext, AskedPrev};
 ghost use Rattle.nm_set.specs.Posts.{IsReturned, IsTallyOf, ReadsNote};
-ghost use Rattle.nm_set.specs.Seats.{IsLetGo, IsOwn, IsResident, IsStaying, told_absence};
+ghost use Rattle.nm_set.specs.Seats.{IsLetGo, IsOwn, IsResident, IsStaying, MayReturn, seats_in, told_absence};
 
 use crate::fault::{NotPinned, ObserveFault};
 use crate::home::{Absence, Home};
 use crate::lease::Lease;
 use crate::posting::{Stamp, leave_letter, read_letter};
-use crate::seat::{ReturnedWorker, SealedWorker, Stay, unite};
+use crate::returning::ReturnedWorker;
+use crate::seat::{SealedWorker, Stay, WayBack, unite};
 use nm_edge::Key;
 use nm_steps::Note;
 use nm_tree::{
@@ -35,18 +36,19 @@ use std::sync::Arc;
 pub struct Member {
     pub(crate) home: Lease,
     pub(crate) sealed: SealedWorker,
+    way_back: WayBack,
 }
 
 impl Model for Member {
     ghost use Rattle.std.specs.Prelude.{◌≡◌};
-    ghost use Rattle.nm_set.specs.Seats.{IsOwn, MemberView};
+    ghost use Rattle.nm_set.specs.Seats.{IsOwn, MayReturn, MemberView, seats_in};
 
     ghost Value = { MemberView };
 
-    ghost view = { λ m. record { tree = m.home.tree; worker = m.sealed.worker } };
+    ghost view = { λ m. record { tree = m.home.tree; worker = m.sealed.worker; returns = m.way_back.turn } };
 
-    ghost invariant = { λ m. IsOwn m.home.tree m.sealed.worker
-        × (m.sealed.worker.fit ≡ m.home.fit) };
+    ghost invariant = { λ m. IsOwn m.home.tree m.sealed.worker × (m.sealed.worker.fit ≡ m.home.fit)
+        × MayReturn (seats_in m.home) m.sealed.worker m.way_back };
 }
 
 /// A member did not take over a worker. The member is unchanged.
@@ -57,23 +59,31 @@ pub struct ResignError {
 }
 
 impl Member {
-    pub(crate) fn of(home: Arc<Home, Global>, sealed: SealedWorker) -> Member
+    pub(crate) fn of(home: Arc<Home, Global>, sealed: SealedWorker, way_back: WayBack) -> Member
         requires own { IsOwn (arc_value home).tree sealed.worker }
         requires fit { sealed.worker.fit ≡ (arc_value home).fit }
+        requires back { MayReturn (seats_in (arc_value home)) sealed.worker way_back }
         ensures tree { result.tree ≡ (arc_value home).tree }
         ensures worker { result.worker ≡ sealed.worker }
+        ensures returns { result.returns ≡ way_back.turn }
     {
-        Member::back(Lease::of(home), sealed)
+        Member::back(Lease::of(home), sealed, way_back)
     }
 
     /// Builds the member again that was taken apart.
-    pub(crate) fn back(home: Lease, sealed: SealedWorker) -> Member
+    pub(crate) fn back(home: Lease, sealed: SealedWorker, way_back: WayBack) -> Member
         requires own { IsOwn home.tree sealed.worker }
         requires fit { sealed.worker.fit ≡ home.fit }
+        requires back { MayReturn (seats_in home) sealed.worker way_back }
         ensures tree { result.tree ≡ home.tree }
         ensures worker { result.worker ≡ sealed.worker }
+        ensures returns { result.returns ≡ way_back.turn }
     {
-        Member { home, sealed }
+        Member {
+            home,
+            sealed,
+            way_back,
+        }
     }
 
     /// Returns the worker's number, which is below the number of workers.
@@ -81,6 +91,14 @@ impl Member {
         ensures { result ≡ self.now.worker.pass.view.number }
     {
         self.sealed.worker.number()
+    }
+
+    /// Returns how often the worker had been returned to its seat before this member got it. If it
+    /// never was, the worker has done nothing but what this member has done.
+    pub fn returns(&self) -> u64
+        ensures { result ≡ self.now.returns }
+    {
+        self.way_back.turn()
     }
 
     /// Proof only: establishes what `Worker::know_run` and `Worker::know_between_calls` of `nm_tree`
@@ -363,10 +381,11 @@ impl Member {
         self.sealed.worker.queue_blocks()
     }
 
-    /// Returns the worker, with all that it holds or has pending; `Set::member` can take it again.
-    /// A pin of the caller ends as by `unpin`. The worker takes no other step on its way, and has
-    /// inserted and removed what it had before.
+    /// Returns the worker, with all that it holds or has pending; `Set::member` can take it again,
+    /// and `ReturnedWorker::again` takes it again as it was. A pin of the caller ends as by `unpin`.
+    /// The worker takes no other step on its way, and has inserted and removed what it had before.
     pub fn close(self) -> ReturnedWorker
+        ensures tree { result.tree ≡ self.tree }
         ensures did { (z : WorkerView) × IsLetGo self.worker z × IsReturned z result }
         ensures tally { IsTallyOf self.worker result.done }
     {
@@ -374,8 +393,9 @@ impl Member {
         member.know_run();
         member.let_go();
         member.know_run();
-        let (home, sealed) = member.apart();
-        home.receive(sealed)
+        let (home, sealed, way_back) = member.apart();
+        let sat = home.receive(sealed, way_back);
+        ReturnedWorker::of(home, sat)
     }
 
     /// Ends the caller's pin, if there is one.
@@ -388,15 +408,22 @@ impl Member {
         }
     }
 
-    /// Takes the member apart, into its part in the home and its worker, unchanged.
-    pub(crate) fn apart(self) -> (Lease, SealedWorker)
+    /// Takes the member apart, into its part in the home and its worker, unchanged, with its way
+    /// back.
+    pub(crate) fn apart(self) -> (Lease, SealedWorker, WayBack)
         ensures worker { result.1.worker ≡ self.worker }
         ensures tree { result.0.tree ≡ self.tree }
         ensures own { IsOwn self.tree self.worker }
         ensures fit { self.worker.fit ≡ result.0.fit }
+        ensures back { MayReturn (seats_in result.0) self.worker result.2 }
+        ensures returns { result.2.turn ≡ self.returns }
     {
-        let Self { home, sealed } = self;
-        (home, sealed)
+        let Self {
+            home,
+            sealed,
+            way_back,
+        } = self;
+        (home, sealed, way_back)
     }
 
     /// Keeps the worker with these, unchanged; it does not come back to its seat. There is room for
@@ -407,8 +434,8 @@ impl Member {
         ensures capacity { vec_capacity workers.new ≡ vec_capacity workers.old }
         ensures own { IsOwn self.tree self.worker }
     {
-        let (home, sealed) = self.apart();
-        let _home = home.retire(sealed.worker.number());
+        let (home, sealed, way_back) = self.apart();
+        let _home = home.retire(way_back);
         sealed.stay_with(workers);
     }
 
@@ -425,25 +452,33 @@ impl Member {
         ensures refused { IfErr result (λ e. e.member ≡ self) }
         ensures reason { IfErr result (λ e. IsStaying self leaver e.reason) }
     {
-        let Member { home, sealed } = self;
+        let Member {
+            home,
+            sealed,
+            way_back,
+        } = self;
         let (home, found) = home.take(leaver);
-        let other = match found {
-            Ok(other) => other,
+        let (other, others_way) = match found {
+            Ok(found) => found,
             Err(absence) => {
                 return Err(ResignError {
                     reason: reason_of(absence),
-                    member: Member { home, sealed },
+                    member: Member {
+                        home,
+                        sealed,
+                        way_back,
+                    },
                 });
             }
         };
         match unite(home.tree(), sealed, other) {
-            Ok(heir) => Ok(Member::back(home.retire(leaver), heir)),
+            Ok(heir) => Ok(Member::back(home.retire(others_way), heir, way_back)),
             Err(stay) => {
                 let Stay { heir, leaver } = stay;
-                home.receive(leaver);
+                home.receive(leaver, others_way);
                 Err(ResignError {
                     reason: ResignReason::Pending,
-                    member: Member::back(home, heir),
+                    member: Member::back(home, heir, way_back),
                 })
             }
         }

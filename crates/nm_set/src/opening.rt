@@ -3,12 +3,11 @@ ghost use Rattle.std.specs.Prelude.{◌≡◌, ◌↔◌, [], length, IfErr, IfO
 ghost use Rattle.std.specs.Arc.{arc_value};
 ghost use Rattle.nm_edge.specs.Layouts.{IsLayoutFault, in_radix, spaced};
 ghost use Rattle.nm_tree.specs.Workers.{AreNew, HaveFit};
-ghost use Rattle.nm_set.specs.Seats.{AreNewMembers};
+ghost use Rattle.nm_set.specs.Seats.{AreNewMembers, site_in};
 ghost use Rattle.nm_set.specs.States.{IsNewSet, open_set};
 
 use crate::home::{Home, Site};
 use crate::member::Member;
-use crate::seat::SealedWorker;
 use crate::set::Set;
 use nm_edge::{Layout, LayoutError, MOST_SPACED_NODES};
 use nm_tree::{Fit, NewError, Tree, Worker};
@@ -19,7 +18,7 @@ impl Set {
     /// Makes the empty set that `new` makes, with all its members, in the order of their numbers,
     /// which have done nothing yet. So only code that gets a member from the caller has a worker of
     /// the set, until a member is closed. (Proved: there are as many members as workers, and all
-    /// are new. No clause says that each seat is empty until then.)
+    /// are new.)
     ///
     /// Errors: `Nodes`, `Workers`: as of `new`. `NoMemory`: nothing is kept.
     pub fn with_members(
@@ -62,36 +61,36 @@ fn give_out(
     ensures new { IfOk result (λ r. AreNewMembers site.tree site.fit 0 r.1.items) }
     ensures memory { IfErr result (λ e. e ≡ NewError.NoMemory) }
 {
-    let Ok(home) = Home::vacant(alloc, site, seats) else {
+    let Ok(home) = Home::of(alloc, site, workers, seats) else {
         return Err(NewError::NoMemory);
     };
     let Ok(home) = Arc::new(alloc, home) else {
         return Err(NewError::NoMemory);
     };
-    match members_of(alloc, &home, workers) {
+    match members_of(alloc, &home, seats) {
         Some(members) => Ok((Set::of(alloc, home), members)),
         None => Err(NewError::NoMemory),
     }
 }
 
-/// Makes a member for each of these workers, in their order, after it has asked for the room of
-/// all. Returns `None` if the room was refused, or if the home has as many members as can be
-/// counted, which 64 are not.
-fn members_of(alloc: Global, home: &Arc<Home, Global>, workers: Vec<Worker>) -> Option<Vec<Member>>
-    requires new { AreNew (arc_value home.now).tree 0 workers.items }
-    requires fit { HaveFit (arc_value home.now).fit workers.items }
-    ensures count { IfSome result (λ ms. length ms.items ≡ length workers.items) }
+/// Makes a member for each worker of a new home, in the order of their numbers, after it has asked
+/// for the room of all. Returns `None` if the room was refused, or if the home has as many members
+/// as can be counted, which 64 are not. (No other party has the home, so each worker is on its seat;
+/// no clause says so.)
+fn members_of(alloc: Global, home: &Arc<Home, Global>, workers: u32) -> Option<Vec<Member>>
+    ensures count { IfSome result (λ ms. length ms.items ≡ workers) }
     ensures new { IfSome result
         (λ ms. AreNewMembers (arc_value home.now).tree (arc_value home.now).fit 0 ms.items) }
 {
-    let Ok(mut members) = Vec::with_capacity(alloc, workers.len()) else {
+    let Ok(mut members) = Vec::with_capacity(alloc, workers as usize) else {
         return None;
     };
-    for worker in workers {
+    for number in 0..workers {
         let Ok(home) = Arc::try_clone(home) else {
             return None;
         };
-        members.push_reserved(Member::of(home, SealedWorker::of(worker)));
+        let (sealed, way_back) = home.take_first(number)?;
+        members.push_reserved(Member::of(home, sealed, way_back));
     }
     Some(members)
 }

@@ -1,79 +1,36 @@
-//! The seats of a tree's workers, each with the mailbox of its worker, and workers that are on no
-//! seat.
-ghost use Rattle.std.specs.Prelude.{◌≡◌, ◌<◌, ◌∷◌, [], ◌++◌, length, vec_capacity, option_map, None, IfOk, IfErr, IfSome, IsSome};
+//! The seats of a tree's workers, and workers that are on no seat.
+ghost use Rattle.std.specs.Prelude.{◌≡◌, ◌<◌, ◌∷◌, [], ◌++◌, length, vec_capacity, None, IfOk, IfErr, IsSome};
 ghost use Rattle.nm_steps.specs.Steps.{IsNoteOf, IsOf};
 ghost use Rattle.nm_tree.specs.Resigning.{HasResigned};
-ghost use Rattle.nm_set.specs.Posts.{IsReturned};
-ghost use Rattle.nm_set.specs.Seats.{IsResident};
+ghost use Rattle.nm_set.specs.Posts.{HasSat};
+ghost use Rattle.nm_set.specs.Seats.{IsResident, MayReturn};
 
 use crate::home::Site;
-use crate::posting::{Mailbox, Stamp, empty_mailbox, tally_of};
-use counted_slot::{Counted, FREE, Fits, MARKED, PRESENT, TAKEN};
+use crate::posting::{Stamp, tally_of};
+use nm_seats::SeatRule;
 use nm_steps::Note;
 use nm_tree::{Tree, Worker};
-use std::marker::Model;
 
-/// A worker that is on its seat.
-#[derive(Drop)]
-pub(crate) struct Resident {
-    worker: Worker,
+/// On each seat sits the worker of its number, which claims by the fit of its site and is not
+/// pinned. In the first sitting it has done nothing yet.
+pub(crate) struct Residence;
+
+impl SeatRule<Worker, Site> for Residence {
+    ghost use Rattle.nm_set.specs.Seats.{never_left, sits};
+
+    ghost resident = { sits };
+
+    ghost new = { never_left };
 }
 
-impl Fits for Resident {
-    type Tag = (Site, u32);
+/// The seats of a tree's workers. Each has one word, in which sittings are counted.
+pub(crate) type Seats = nm_seats::Seats<Worker, Site, Residence>;
 
-    ghost fits = { λ place r. IsResident place.0.tree place.0.fit place.1 r.worker };
-}
+/// The right of a worker to come back to its seat. Nobody else sits down there.
+pub(crate) type WayBack = nm_seats::WayBack<Worker, Site>;
 
-/// The place of one worker of one tree. Its word is `FREE` while the worker is on it, `PRESENT`
-/// while the worker is attached, and `MARKED` after it has resigned or is kept by the set, so that
-/// it does not come back.
-#[derive(Drop)]
-pub(crate) struct Seat {
-    worker: Counted<Option<Resident>>,
-    mailbox: Mailbox,
-}
-
-impl Model for Seat {
-    ghost use Rattle.std.specs.Prelude.{◌≡◌, ℕ};
-    ghost use Rattle.nm_set.specs.declared.home.Site.{Site};
-
-    ghost Value = { Site × ℕ };
-
-    ghost view = { λ s. s.worker };
-
-    ghost invariant = { λ s. s.mailbox ≡ s.worker };
-}
-
-impl Seat {
-    /// Makes a seat whose worker is attached, and was never on it.
-    pub(crate) fn vacant(place: &(Site, u32)) -> Seat
-        ensures { result ≡ place.now }
-    {
-        let seat = Seat {
-            worker: Counted::new(None, place),
-            mailbox: empty_mailbox(place),
-        };
-        // The seat is empty, so only its word changes.
-        if let Some(sealed) = stand_up(&seat) {
-            sealed.sit_down(&place.0.tree, &seat);
-        }
-        seat
-    }
-
-    /// Returns the mailbox of this seat's worker.
-    pub(crate) fn mailbox(&self) -> &Mailbox
-        ensures { result.now ≡ self.now }
-    {
-        &self.mailbox
-    }
-
-    /// Returns whether the worker was found attached, so that it may come back.
-    pub(crate) fn is_attached(&self) -> bool {
-        let word = self.worker.load();
-        word == PRESENT || word == TAKEN
-    }
-}
+/// Shows which worker sat on a seat in one of its sittings.
+pub(crate) type Ticket = nm_seats::Ticket<Worker, Site>;
 
 /// A worker that is on no seat: a member has it, or it is on its way from or to a seat. It is not
 /// `Drop`, and neither is its seal, which only this file can name. So code that has it must hand it
@@ -87,37 +44,12 @@ pub(crate) struct SealedWorker {
 /// Keeps a sealed worker whole, and does nothing else.
 struct Seal {}
 
-/// Evidence that a worker was returned, with what it had done and seen by then. It is made at the
-/// return, and nowhere else.
+/// What a worker leaves when it sits down: what it has done and seen by then, and its ticket.
 #[derive(Drop)]
-pub struct ReturnedWorker {
-    done: Stamp,
-    note: Note,
-}
-
-impl Model for ReturnedWorker {
-    ghost use Rattle.nm_set.specs.Posts.{ReturnedView};
-
-    ghost Value = { ReturnedView };
-
-    ghost view = { λ a. record { done = a.done; note = a.note } };
-}
-
-impl ReturnedWorker {
-    /// Returns what the worker had done when it was returned.
-    pub fn done(&self) -> Stamp
-        ensures { result ≡ self.now.done }
-    {
-        self.done
-    }
-
-    /// Returns a note of all that the worker had seen when it was returned.
-    pub fn into_note(self) -> Note
-        ensures { result ≡ self.note }
-    {
-        let ReturnedWorker { done: _, note } = self;
-        note
-    }
+pub(crate) struct Sat {
+    pub(crate) done: Stamp,
+    pub(crate) note: Note,
+    pub(crate) ticket: Ticket,
 }
 
 /// Two workers of which one did not resign to the other, because it has a pending key. Both are
@@ -128,7 +60,7 @@ pub(crate) struct Stay {
 }
 
 impl SealedWorker {
-    /// Seals a worker that comes with its tree.
+    /// Seals a worker.
     pub(crate) fn of(worker: Worker) -> SealedWorker
         ensures { result.worker ≡ worker }
     {
@@ -159,36 +91,21 @@ impl SealedWorker {
         (SealedWorker { worker, seal }, note)
     }
 
-    /// Puts the worker on its seat, with what it has done and seen so far. Only the worker of a seat
-    /// leaves it empty, so the seat is empty when that worker comes back. No clause can say so of a
-    /// seat; if it were not empty, the worker would end here.
-    pub(crate) fn sit_down(self, tree: &Tree, seat: &Seat) -> ReturnedWorker
+    /// Puts the worker on its seat, by one store. It cannot fail, because nobody else has the way
+    /// back to this seat.
+    pub(crate) fn sit_down(self, tree: &Tree, seats: &Seats, way_back: WayBack) -> Sat
         requires own { IsOf tree.now self.worker.pass }
-        requires resident { IsResident seat.now.0.tree seat.now.0.fit seat.now.1 self.worker }
-        ensures { IsReturned self.worker result }
+        requires back { MayReturn seats.now self.worker way_back }
+        requires resident { IsResident seats.now.site.tree seats.now.site.fit way_back.seat self.worker }
+        ensures { HasSat seats.now self.worker result.done result.note result.ticket }
     {
         self.worker.know_run();
         let (sealed, note) = self.noted(tree);
-        let returned = ReturnedWorker {
-            done: tally_of(&sealed.worker),
+        let done = tally_of(&sealed.worker);
+        Sat {
+            done,
             note,
-        };
-        let resident = sealed.returned();
-        let (found, claim) = seat.worker.turn(PRESENT, TAKEN);
-        if found != PRESENT {
-            claim.done();
-            return returned;
-        }
-        claim.put(Some(resident), FREE);
-        returned
-    }
-
-    /// Returns the worker as it is on its seat, which is as it came.
-    fn returned(self) -> Resident
-        ensures { result.worker ≡ self.worker }
-    {
-        Resident {
-            worker: self.apart(),
+            ticket: seats.sit_down(way_back, sealed.apart()),
         }
     }
 
@@ -200,45 +117,6 @@ impl SealedWorker {
     {
         workers.push_reserved(self.apart());
     }
-}
-
-/// Takes what is on a seat.
-pub(crate) fn stand_up(seat: &Seat) -> Option<SealedWorker>
-    ensures { IfSome result (λ g. IsResident seat.now.0.tree seat.now.0.fit seat.now.1 g.worker) }
-{
-    let (found, claim) = seat.worker.turn(FREE, TAKEN);
-    if found != FREE {
-        claim.done();
-        return None;
-    }
-    sealed_of(claim.put(None, PRESENT))
-}
-
-/// Notes that the worker that left a seat does not come back.
-pub(crate) fn retire(seat: &Seat) {
-    let (found, claim) = seat.worker.turn(PRESENT, TAKEN);
-    if found != PRESENT {
-        claim.done();
-        return;
-    }
-    claim.put(None, MARKED);
-}
-
-/// Takes what is on a seat that is no longer needed.
-pub(crate) fn leave(seat: Seat) -> Option<SealedWorker>
-    ensures { IfSome result (λ g. IsResident seat.0.tree seat.0.fit seat.1 g.worker) }
-{
-    let Seat { worker, mailbox: _ } = seat;
-    sealed_of(worker.into_inner())
-}
-
-/// Returns what was on a seat.
-fn sealed_of(found: Option<Resident>) -> Option<SealedWorker>
-    ensures { option_map (λ (g : SealedWorker). g.worker) result
-        ≡ option_map (λ (r : Resident). r.worker) found }
-{
-    let Resident { worker } = found?;
-    Some(SealedWorker::of(worker))
 }
 
 /// Lets one worker resign to another: `Tree::resign` of `nm_tree`. If that is refused, both are

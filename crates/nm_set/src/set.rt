@@ -1,11 +1,11 @@
 //! Sets: a tree that gives out its workers as members, and is closed when all of them are returned,
 //! or kept by the set.
-ghost use Rattle.std.specs.Prelude.{◌≡◌, ◌≤◌, ◌↔◌, ◌++◌, ◌∷◌, [], true, false, IfOk, IfErr, IsErrOf, OnOk, OnErr, vec_capacity};
+ghost use Rattle.std.specs.Prelude.{◌≡◌, ℕ, length, ◌≤◌, ◌↔◌, ◌++◌, ◌∷◌, [], true, false, IfOk, IfErr, IsErrOf, OnOk, OnErr, vec_capacity};
 ghost use Rattle.std.specs.Arc.{arc_value};
 ghost use Rattle.nm_edge.specs.Layouts.{IsLayoutFault, in_radix, spaced};
 ghost use Rattle.nm_tree.specs.Closing.{IsClosed, IsCloseReason};
 ghost use Rattle.nm_tree.specs.Workers.{AreNew, HaveFit};
-ghost use Rattle.nm_set.specs.Seats.{AreOwn, HasRoom, IsResident, IsAnyResident, TellsAttached};
+ghost use Rattle.nm_set.specs.Seats.{AreOwn, HasRoom, IsNewMember, IsResident, IsAnyResident, TellsAttached, site_in};
 ghost use Rattle.nm_set.specs.Ends.{EndsSet, IsLeftOpen, SaysEnded};
 ghost use Rattle.nm_set.specs.States.{IsNewSet, open_set, closing_set, room_for_one};
 
@@ -112,7 +112,7 @@ impl Set {
 
     /// Makes an open set that keeps no workers.
     pub(crate) fn of(alloc: Global, home: Arc<Home, Global>) -> Set
-        ensures { result ≡ open_set (arc_value home) [] }
+        ensures { result ≡ open_set (site_in (arc_value home)) [] }
     {
         Set {
             state: State::Open(home),
@@ -121,7 +121,7 @@ impl Set {
     }
 
     /// Gives out the worker of a number, with all that it held when it was returned. The caller has
-    /// not pinned it.
+    /// not pinned it. If it was never returned (`Member::returns`), it has done nothing yet.
     ///
     /// Errors: `Number`: the tree has no worker of that number. `Attached`: a member has the
     /// worker, or it has resigned.
@@ -129,6 +129,7 @@ impl Set {
         ensures member { IfOk result
             (λ m. (m.tree ≡ self.now.tree)
             × IsResident self.now.tree self.now.fit number m.worker) }
+        ensures first { IfOk result (λ m. m.returns ≡ 0 → IsNewMember self.now.tree self.now.fit number m) }
         ensures number { IsErrOf result MemberFault.Number
             ↔ ((self.now.closing ≡ false) × (self.now.tree.layout.workers ≤ number)) }
         ensures closing { IsErrOf result MemberFault.Closing ↔ (self.now.closing ≡ true) }
@@ -145,14 +146,14 @@ impl Set {
             return Err(MemberFault::Uncounted);
         };
         match home.take(number) {
-            Ok(sealed) => Ok(Member::of(home, sealed)),
+            Ok((sealed, way_back)) => Ok(Member::of(home, sealed, way_back)),
             Err(Absence::Number) => Err(MemberFault::Number),
             Err(Absence::Attached) => Err(MemberFault::Attached),
         }
     }
 
     /// Gives out any worker that is not attached, with all that it held when it was returned. The
-    /// caller has not pinned it. It looks at each seat once, in the order of their numbers, and
+    /// caller has not pinned it. If it was never returned, it has done nothing yet. It looks at each seat once, in the order of their numbers, and
     /// takes the first worker that it finds (tested: which one that is).
     ///
     /// Errors: `NoWorker`: each seat was empty when it was looked at, one after the other. That no
@@ -161,6 +162,8 @@ impl Set {
     pub fn attach(&self) -> Result<Member, MemberFault>
         ensures member { IfOk result
             (λ m. (m.tree ≡ self.now.tree) × IsAnyResident self.now.tree self.now.fit m.worker) }
+        ensures first { IfOk result
+            (λ m. m.returns ≡ 0 → (k : ℕ) × IsNewMember self.now.tree self.now.fit k m) }
         ensures number { IsErrOf result MemberFault.Number → ⊥ }
         ensures any { IsErrOf result MemberFault.Attached → ⊥ }
         ensures closing { IsErrOf result MemberFault.Closing ↔ (self.now.closing ≡ true) }
@@ -172,7 +175,7 @@ impl Set {
             return Err(MemberFault::Uncounted);
         };
         match take_any(&home) {
-            Some(sealed) => Ok(Member::of(home, sealed)),
+            Some((sealed, way_back)) => Ok(Member::of(home, sealed, way_back)),
             None => Err(MemberFault::NoWorker),
         }
     }
@@ -257,15 +260,15 @@ fn made(alloc: Global, layout: Layout, fit: Fit) -> Result<Set, NewError>
 /// Makes a set of a new tree and puts all its workers on their seats.
 fn settle(alloc: Global, site: Site, workers: Vec<Worker>, seats: u32) -> Result<Set, NewError>
     requires new { AreNew site.tree 0 workers.items }
+    requires all { length workers.items ≡ seats }
     requires each { site.tree.layout.workers ≡ seats }
     requires fit { HaveFit site.fit workers.items }
     ensures set { IfOk result (λ s. s ≡ open_set site []) }
     ensures memory { IfErr result (λ e. e ≡ NewError.NoMemory) }
 {
-    let Ok(home) = Home::vacant(alloc, site, seats) else {
+    let Ok(home) = Home::of(alloc, site, workers, seats) else {
         return Err(NewError::NoMemory);
     };
-    home.receive_all(workers);
     match Arc::new(alloc, home) {
         Ok(home) => Ok(Set::of(alloc, home)),
         Err(_) => Err(NewError::NoMemory),
@@ -277,7 +280,7 @@ fn left_open(home: Arc<Home, Global>, kept: Vec<Worker>) -> CloseError
     requires own { AreOwn (arc_value home).tree kept.items }
     requires room { HasRoom (arc_value home).tree kept.items (vec_capacity kept) }
     ensures told { result.reason ≡ CloseReason.Attached }
-    ensures set { result.set ≡ open_set (arc_value home) kept.items }
+    ensures set { result.set ≡ open_set (site_in (arc_value home)) kept.items }
 {
     CloseError {
         reason: CloseReason::Attached,

@@ -3,7 +3,7 @@ use Rattle.nm_tree.specs.declared.closing.Report.{Report}
 use Rattle.nm_tree.specs.Closing.{IsClosed, IsCloseReason}
 use Rattle.nm_tree.specs.Workers.{WorkerView}
 use Rattle.nm_set.specs.declared.home.Site.{Site}
-use Rattle.nm_set.specs.Seats.{MemberView, SetView}
+use Rattle.nm_set.specs.Seats.{MemberView, SetView, site_in}
 use Rattle.nm_set.specs.Ends.{set_of}
 use Rattle.nm_set.proofs.SetEnds.{Gathers, ended, gathered_with, kept_all, says_ended}
 use Rattle.nm_set.proofs.member.Member.end.Goals as goal
@@ -11,7 +11,7 @@ use Rattle.nm_set.proofs.member.Member.end.Goals as goal
 pub returns-in-Ok-close-clause-ended : goal.returns-in-Ok-close-clause-ended
 returns-in-Ok-close-clause-ended c =
     let m : MemberView = c.args.self in
-    let site : Site = c.apart-home.result.0 in
+    let site : Site = site_in c.apart-home.result.0 in
     let told = c.in-Ok.ensures.gathered in
     let all : List WorkerView = told.0 in
     let g : Gathers (set_of m) site all = gathered_with m site _ all _ c.apart-home.ensures.tree c.apart-home.ensures.fit c.apart-home.ensures.worker told.2 told.1 c.close.ensures.own in
@@ -24,7 +24,7 @@ returns-in-Ok-close-clause-says c = says_ended (set_of c.args.self) c.in-Ok-clos
 pub returns-in-Err-close-clause-refused : goal.returns-in-Err-close-clause-refused
 returns-in-Err-close-clause-refused c =
     let m : MemberView = c.args.self in
-    let site : Site = c.apart-home.result.0 in
+    let site : Site = site_in c.apart-home.result.0 in
     let told = c.in-Ok.ensures.gathered in
     let all : List WorkerView = told.0 in
     let g : Gathers (set_of m) site all = gathered_with m site _ all _ c.apart-home.ensures.tree c.apart-home.ensures.fit c.apart-home.ensures.worker told.2 told.1 c.close.ensures.own in

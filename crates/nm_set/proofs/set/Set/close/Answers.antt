@@ -3,7 +3,7 @@ use Rattle.std.specs.Arc.{arc_value}
 use Rattle.nm_tree.specs.Workers.{WorkerView}
 use Rattle.nm_set.specs.declared.home.Site.{Site}
 use Rattle.nm_set.specs.declared.set.State.{State}
-use Rattle.nm_set.specs.Seats.{AreOwn}
+use Rattle.nm_set.specs.Seats.{AreOwn, HomeView, site_in}
 use Rattle.nm_set.specs.Ends.{EndsSet, SaysEnded}
 use Rattle.nm_set.specs.States.{site_of, standing_of, open_set}
 use Rattle.nm_set.proofs.SetEnds.{Gathers, closes, refuses, had_gathered, gathered_now, as_before, if_ok, says_ended}
@@ -31,8 +31,8 @@ gathers c =
     let ws : List WorkerView = c.gather-site.result.1.items in
     let home = arc_value c.in-Open.home in
     let there = subst (λ (x : State). standing_of x kept ≡ s) c.in-Open.is c.self.view_is in
-    let own = subst (λ (x : Site). AreOwn x.tree ws) c.in-Ok.ensures.ok c.gather-site.ensures.own in
-    subst (λ (x : Site). Gathers s x ws) (sym (c.gather-site.ensures.site ∙ c.in-Ok.ensures.ok)) (gathered_now s home kept ws there c.gather-site.ensures.kept own)
+    let own = subst (λ (x : HomeView). AreOwn x.tree ws) c.in-Ok.ensures.ok c.gather-site.ensures.own in
+    subst (λ (x : Site). Gathers s x ws) (sym (c.gather-site.ensures.site ∙ ap site_in c.in-Ok.ensures.ok)) (gathered_now s (site_in home) kept ws there c.gather-site.ensures.kept own)
 
 pub returns-in-Ok-clause-closed : goal.returns-in-Ok-clause-closed
 returns-in-Ok-clause-closed c = closes c.args.self c.gather-site.result.0 c.gather-site.result.1.items (gathers c) c.end-in-Ok.result c.end-in-Ok.ensures.closed
@@ -48,4 +48,4 @@ returns-in-Err-clause-refused c =
     let s = c.args.self in
     let home = arc_value c.in-Open.home in
     let kept : List WorkerView = c.self.inside.kept.items in
-    as_before s c.left_open.result.set home kept (subst (λ (x : State). standing_of x kept ≡ s) c.in-Open.is c.self.view_is) (c.left_open.ensures.set ∙ ap (λ a. open_set (arc_value a) kept) c.in-Err.ensures.err) c.left_open.result.reason c.left_open.ensures.told
+    as_before s c.left_open.result.set (site_in home) kept (subst (λ (x : State). standing_of x kept ≡ s) c.in-Open.is c.self.view_is) (c.left_open.ensures.set ∙ ap (λ a. open_set (site_in (arc_value a)) kept) c.in-Err.ensures.err) c.left_open.result.reason c.left_open.ensures.told
