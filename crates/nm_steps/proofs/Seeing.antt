@@ -20,10 +20,10 @@ seen_by_turn p q e r turn = record {
 }
 
 pub same_then : (p q r : PassView) → IsSamePass p q → IsSamePass q r → IsSamePass p r
-same_then p q r first second = second ∙ ap (λ (z : PassView). record z { view = record z.view { log = r.view.log; past = r.view.past } }) first
+same_then p q r first second = second ∙ ap (λ (z : PassView). record z { view = record z.view { log = r.view.log; past = r.view.past; stores = r.view.stores } }) first
 
 pub same_by_step : (p q : PassView) (e : Event) (r : Reply) → Stepped p q e r → IsSamePass p q
-same_by_step p q e r step = step ∙ ap (λ (log : List Entry). record p { view = record p.view { log = log; past = q.view.past } }) (sym (ap (λ (z : PassView). z.view.log) step))
+same_by_step p q e r step = step ∙ ap (λ (log : List Entry). record p { view = record p.view { log = log; past = q.view.past; stores = q.view.stores } }) (sym (ap (λ (z : PassView). z.view.log) step))
 
 pub continues_then : (p q r : PassView) → Continues p q → Continues q r → Continues p r
 continues_then p q r first second = record {

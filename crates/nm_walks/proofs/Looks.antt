@@ -95,7 +95,7 @@ pub goes_on : (p q : PassView) (e : Event) (r : Reply) → Stepped p q e r → H
 goes_on p q e r step past other stands fits tells =
     let layout : IsLayout p.view.layout = subst (λ (s : PassView). IsLayout s.view.layout) step fits in
     record {
-      same = step ∙ ap (λ (log : List Entry). record p { view = record p.view { log = log; past = q.view.past } }) (sym (ap (λ (s : PassView). s.view.log) step));
+      same = step ∙ ap (λ (log : List Entry). record p { view = record p.view { log = log; past = q.view.past; stores = q.view.stores } }) (sym (ap (λ (s : PassView). s.view.log) step));
       past = past;
       run = record { fits = fits; run = run_after p q e r (ap (λ (s : PassView). s.view.log) step) other tells };
       keeps = λ fact holds. told_after p q e r step fact (facts_stay p.view.layout (enough p.view.layout layout) p.view.number p.view.log (e, r) (grown p q e r step other fits tells) stands fact holds);

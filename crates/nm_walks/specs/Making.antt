@@ -70,7 +70,7 @@ abbrev pub HasFilled : PassView → PassView → ℕ → ℕ → ℕ → ℕ →
 HasFilled p q slot key left right =
     q ≡ record p {
       view = record p.view
-          { log = p.view.log ++ fills slot key left right; past = q.view.past };
+          { log = p.view.log ++ fills slot key left right; past = q.view.past; stores = q.view.stores };
     }
 
 -- ---- linking a new node
