@@ -1,5 +1,5 @@
 -- The rule holds at the start, and where views are cut and joined.
-use Rattle.std.proofs.Common.{◌≡◌, ◌≢◌, ℕ, zero, suc, ◌+◌, ◌-◌, ◌<◌, ◌≤◌, Bool, true, false, cond, eqb, ltb, ◌||◌, true≢false, List, [], ◌∷◌, ◌++◌, length, set, refl, sym, ap, ◌∙◌, subst, ⊎_elim, ne_eqb, eq-eqb, add-zero, arith}
+use Rattle.std.proofs.Common.{inl, ◌≡◌, ◌≢◌, ℕ, zero, suc, ◌+◌, ◌-◌, ◌<◌, ◌≤◌, Bool, true, false, cond, eqb, ltb, ◌||◌, true≢false, List, [], ◌∷◌, ◌++◌, length, set, refl, sym, ap, ◌∙◌, subst, ⊎_elim, ne_eqb, eq-eqb, add-zero, arith}
 use Rattle.std.specs.List.{count_by}
 use Rattle.std.proofs.lemmas.List.Sums.{sum_by-cons, sum_by-append}
 use Rattle.std.proofs.lemmas.Bool.Decides.{nat_tests}
@@ -30,7 +30,7 @@ use Rattle.nm_steps.proofs.Presence.{gone_kept, known_push}
 use Rattle.nm_steps.proofs.Extending.{IsPartOf, words_after_join, trace_after_join}
 use Rattle.nm_steps.proofs.Keeping.{live, stands_live, once_is, part_grows, part_stays, each_set}
 use Rattle.nm_laws.proofs.Configurations.{keys_more}
-use Rattle.nm_steps.proofs.Valuing.{grown_none, rewrap, run_long, stores_from_none, stores_themselves}
+use Rattle.nm_steps.proofs.Valuing.{joined_links, grown_none, rewrap, run_long, stores_from_none, stores_themselves}
 use Rattle.std.proofs.lemmas.List.{append-nil}
 use Rattle.std.proofs.Math.Seq.{take-append_seam}
 use Rattle.std.specs.Prelude.{take}
@@ -73,7 +73,7 @@ opens L words fits e = record {
   long = refl;
   runs = runs;
   stores = [];
-  valued = record { are = λ i below. absurd (omega (arith, below)); held = tt; seen = no_stores };
+  valued = record { are = λ i below. absurd (omega (arith, below)); held = tt; linked = inl refl; seen = no_stores };
 }
   where
     no_values : (hs : List Held) → (viewing L hs).stores ≡ []
@@ -118,6 +118,11 @@ opens L words fits e = record {
       lags = first_behind;
     }
 
+-- the run has no turn yet
+pub opens_with_none : (L : Layout) (tree : List ℕ) (fits : IsLayout L) (e : tree ≡ words_of L (memory.opening L)) → (opens L tree fits e).runs.turns ≡ []
+unfolding opens
+opens_with_none L tree fits e = refl
+
 -- ---- cutting
 
 abbrev IsHere : View → Type 0
@@ -136,7 +141,7 @@ cuts L id v left right keep stay count lag had s K at = rewrap L s.words (length
       once = λ w. sum_by-append (stands w) (set s.views id left) (right ∷ []) ∙ omega (arith, sum_by-cons (stands w) right [], sum_after (stands w) s.views id v left at, count w, K.runs.once w);
       lags = each (LagsBehind (trace_in (ordered L) K.runs.turns)) (lag (trace_in (ordered L) K.runs.turns) (K.runs.lags id v at)) K.runs.lags;
     })
-    (grown_none K.runs.turns) (each (λ (u : View). HasStores K.stores u.stores) (had K.stores (K.valued.seen id v at)) K.valued.seen)
+    (grown_none L (length s.homes) K.stores K.runs.turns) (each (λ (u : View). HasStores K.stores u.stores) (had K.stores (K.valued.seen id v at)) K.valued.seen)
   where
     each : (P : View → Type 0) → P left × P right → ((j : ℕ) (u : View) → get_elem? s.views j ≡ some u → P u) → (j : ℕ) (u : View) → get_elem? (set s.views id left ++ right ∷ []) j ≡ some u → P u
     each P both others j u is = ⊎_elim (each_set P s.views id left both.0 (λ j u _. others j u) j u) (λ (x : right ≡ u). subst P x both.1) (at_snoc (set s.views id left) right u j is)
@@ -221,7 +226,7 @@ hears L id v other w resigned s K at apart at' = rewrap L s.words (length s.home
       lags = each_two (LagsBehind (trace_in (ordered L) K.runs.turns)) s.views id other (informed v w) nobody (record { past = (K.runs.lags id v at).past; heard = (K.runs.lags other w was).past })
           (record { past = goes_on_from_nothing (trace_in (ordered L) K.runs.turns); heard = goes_on_from_nothing (trace_in (ordered L) K.runs.turns) }) (λ j u _ _. K.runs.lags j u);
     })
-    (grown_none K.runs.turns) (each_two (λ (u : View). HasStores K.stores u.stores) s.views id other (informed v w) nobody (K.valued.seen id v at) (stores_from_none K.stores) (λ j u _ _. K.valued.seen j u))
+    (grown_none L (length s.homes) K.stores K.runs.turns) (each_two (λ (u : View). HasStores K.stores u.stores) s.views id other (informed v w) nobody (K.valued.seen id v at) (stores_from_none K.stores) (λ j u _ _. K.valued.seen j u))
   where
     was : get_elem? s.views other ≡ some w
     was = sym (set_else s.views id other (informed v w) apart) ∙ at'
@@ -380,7 +385,11 @@ module _ (L : Layout) (id : ℕ) (v : View) (other : ℕ) (w : View) (alive : v.
 pub joins : (L : Layout) (id : ℕ) (v : View) (other : ℕ) (w : View) → v.resigned ≡ false → w.resigned ≡ false → HasEmptyHands (knowledge w) → Joins (Kept L) id v other w (joining_view v w) nobody
 joins L id v other w alive alive' hands s K at apart at' =
     let was = sym (set_else s.views id other (joining_view v w) apart) ∙ at' in
-    rewrap L s.words (length s.homes) s.views (set (set s.views id (joining_view v w)) other nobody) K (joint L id v other w alive alive' hands s K.core K.runs at apart was) (record { rest = (v.number, Join w.number) ∷ []; is = refl })
+    rewrap L s.words (length s.homes) s.views (set (set s.views id (joining_view v w)) other nobody) K (joint L id v other w alive alive' hands s K.core K.runs at apart was) (record {
+      rest = (v.number, Join w.number) ∷ [];
+      is = refl;
+      linked = joined_links L (length s.homes) K.stores K.runs.turns v.number w.number;
+    })
     (each_two (λ (u : View). HasStores K.stores u.stores) s.views id other (joining_view v w) nobody (K.valued.seen id v at) (stores_from_none K.stores) (λ j u _ _. K.valued.seen j u))
 
 pub fresh_push : (b : TreeView) (k n : ℕ) (ps : List PassView) (p : PassView) → AreFresh b k ps → k + length ps ≡ n → p.table ≡ b.table → p.view ≡ fresh_view b.layout n → AreFresh b k (ps ++ p ∷ [])

@@ -63,11 +63,11 @@ module _ (L : Layout) (words : List ℕ) (views : List View) (id : ℕ) (v : Vie
   }
 
 ties : (L : Layout) (slots id : ℕ) (v : View) (i : ℕ) → v.resigned ≡ false → v.layout ≡ L → i < words L → Allows (Kept L) slots id (v, []) i (λ n. n) (TellsItsStanding (step slots i 0 0 none) (v, []))
-ties L slots id v i alive layout below = lifts L slots id v i (λ n. n) (TellsItsStanding (step slots i 0 0 none) (v, [])) below (λ core views k at small.
+ties L slots id v i alive layout below = lifts L slots id v i (λ n. n) (TellsItsStanding (step slots i 0 0 none) (v, [])) below (λ core views k at small st had.
     let stands = stands_in_run L core views id v k at alive layout in (
       up_to (trace_in (ordered L) k.turns) v,
       reworded (sym (set-get_or core i 0)) (seen_so_far L core views id v k at),
-      grown_none k.turns,
+      grown_none L slots st k.turns,
       refl,
       (
         refl,

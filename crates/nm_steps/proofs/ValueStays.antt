@@ -46,4 +46,5 @@ continues_by_value p q l fits = record {
   same = l.same ∙ (λ i. record p { view = record p.view { log = sym (ap (λ (z : PassView). z.view.log) l.same) i; past = q.view.past; stores = q.view.stores } });
   past = record { goes_on = l.past };
   run = record { fits = fits; run = run_of_seen q.view l.seen.run };
+  stores = l.stores;
 }

@@ -12,16 +12,17 @@ use Rattle.std.specs.Prelude.{replicate}
 use Rattle.nm_model.specs.Memory as memory
 use Rattle.nm_steps.specs.Packing.{words_of}
 use Rattle.nm_steps.specs.declared.view.Held.{Held}
-use Rattle.nm_steps.proofs.Cutting.{opens}
+use Rattle.nm_steps.proofs.Cutting.{opens, opens_with_none}
 use Rattle.atomic_table.specs.Seated.{TableId}
 use Rattle.atomic_table.specs.declared.shared.Seat.{Seat}
 use Rattle.nm_edge.specs.Layouts.{Layout, IsLayout}
 use Rattle.nm_edge.specs.Words.{IsSlot, at_announcement, word, words}
 use Rattle.nm_model.specs.declared.knowledge.Brief.{Brief}
 use Rattle.nm_model.specs.declared.event.Event.{Event}
-use Rattle.nm_model.specs.declared.event.Event.{Event}
+use Rattle.nm_model.specs.declared.event.Event.TheVariants.{Link}
 use Rattle.nm_model.specs.declared.trace.Turn.{Turn}
 use Rattle.nm_model.specs.Knowledge.{Knowledge, is_private}
+use Rattle.nm_model.specs.Walks.{Entry}
 use Rattle.nm_model.specs.Runs.{of}
 use Rattle.nm_model.specs.Ordered.{ordered, after_in, trace_in}
 use Rattle.nm_order.specs.Hands.{IsPooled}
@@ -31,7 +32,7 @@ use Rattle.nm_order.proofs.PinNumbers.{length_trace}
 use Rattle.nm_steps.proofs.Blocks.{set-append-add}
 use Rattle.nm_steps.specs.declared.view.Stored.{Stored}
 use Rattle.nm_steps.specs.declared.view.View.{View}
-use Rattle.nm_steps.specs.Rules.{HasStores, IsShown, Keeps, Kept, LagsBehind, Runs, WasHeld, WereHeld, everybody, knowledge, numbers_from, stands, value_of, value_from, viewing}
+use Rattle.nm_steps.specs.Rules.{HasStores, IsShown, LinksHaveValues, Keeps, Kept, LagsBehind, Runs, WasHeld, WereHeld, everybody, knowledge, numbers_from, stands, value_of, value_from, viewing}
 use Rattle.nm_steps.specs.Steps.{HasSeen, Laid, PassView, Tied, TreeView}
 use Rattle.nm_steps.specs.Ties.{StandsInRun}
 use Rattle.nm_steps.specs.Values.{CanReach, HasLooked, HasSeenStores, HasStoredValue, HasValues, LooksOnly, MayStore, SawValue, no_step, own_store, value_word}
@@ -40,7 +41,7 @@ use Rattle.nm_steps.proofs.Growing.{goes_on_itself, goes_on_from_nothing}
 use Rattle.nm_steps.proofs.Keeping.{each_set}
 use Rattle.nm_steps.proofs.Noting.{standing}
 use Rattle.nm_steps.proofs.Tying.{own_part, stands_in_run}
-use Rattle.nm_steps.proofs.Valuing.{held_push, run_long, stores_more, stores_themselves, value_push}
+use Rattle.nm_steps.proofs.Valuing.{IfValued, still_linked, held_push, run_long, stores_more, stores_themselves, value_push}
 
 -- the view that has seen the run so far, and these stores
 abbrev pub up_to_stores : List Turn → List Stored → View → View
@@ -98,6 +99,11 @@ module _ (L : Layout) (s : State Unit View) (k : Kept L s) (slots slot i : ℕ) 
   pub values_written : (n : ℕ) → slice_set s.words i n ≡ k.core ++ set k.values (slot - 1) n
   values_written n = (λ j. slice_set (k.words_are j) (place j) n) ∙ set-append-add k.core k.values (slot - 1) n
 
+-- a table with values has some
+all_linked : (L : Layout) (turns : List (ℕ × Event)) (values : List ℕ) (st : List Stored) → IsLayout L → length values ≡ L.nodes → IfValued L (length values) turns st → LinksHaveValues L turns st
+all_linked L turns values st fits many (inl plain) = absurd (let least = fits.least in omega (arith, least, many, plain))
+all_linked L turns values st fits many (inr l) = l
+
 -- A LOOK at a value
 pub sees : (L : Layout) (slots id : ℕ) (v : View) (slot i : ℕ) → v.resigned ≡ false → v.layout ≡ L → slots ≡ L.nodes → IsSlot L slot → i ≡ words L + (slot - 1) → Allows (Kept L) slots id (v, []) i (λ n. n) (SawValue slot no_step (v, []))
 sees L slots id v slot i alive layout many is index s k homes at small =
@@ -116,6 +122,7 @@ sees L slots id v slot i alive layout many is index s k homes at small =
         valued = record {
           are = k.valued.are;
           held = k.valued.held;
+          linked = k.valued.linked;
           seen = each_set (λ (u : View). HasStores k.stores u.stores) s.views id w (stores_themselves k.stores) (λ j u _. k.valued.seen j u);
         };
       },
@@ -125,7 +132,7 @@ sees L slots id v slot i alive layout many is index s k homes at small =
           same = refl;
           past = (k.runs.lags id v at).past;
           stores = k.valued.seen id v at;
-          seen = record { run = run_seen L k.core s.views id v k.runs at k.stores alive layout; held = subst (λ (l : Layout). WereHeld l k.runs.turns k.stores) (sym layout) k.valued.held };
+          seen = record { run = run_seen L k.core s.views id v k.runs at k.stores alive layout; held = subst (λ (l : Layout). WereHeld l k.runs.turns k.stores) (sym layout) k.valued.held; linked = subst (λ (l : Layout). LinksHaveValues l k.runs.turns k.stores) (sym layout) (all_linked L k.runs.turns k.values k.stores k.runs.fits (k.long ∙ homes ∙ many) k.valued.linked) };
         },
         value_there L s k slots slot i homes many is index,
       ),
@@ -150,10 +157,10 @@ pub stores_it : (L : Layout) (slots id : ℕ) (v : View) (slot i new : ℕ) → 
     → Allows (Kept L) slots id (v, []) i (λ _. new) (λ _. HasStoredValue slot no_step (v, []) new)
 stores_it L slots id v slot i new alive layout many is private index s k homes at small =
     let trace = trace_in (ordered L) k.runs.turns in
-    let x : Stored = record { at = length trace; worker = v.number; slot = slot; value = new } in
+    let x : Stored = record { at = length trace; worker = v.number; own = length v.log; slot = slot; value = new } in
     let st : List Stored = k.stores ++ x ∷ [] in
     let w : View = up_to_stores trace st v in
-    let held : WereHeld L k.runs.turns st = held_push L k.runs.turns k.stores x k.valued.held (record { before = k.runs.turns; since = []; is_run = sym (append-nil k.runs.turns); at = sym (length_trace (ordered L) k.runs.turns); private = is_held L k.core s.views id v k.runs at k.stores alive layout slot private }) in (
+    let held : WereHeld L k.runs.turns st = held_push L k.runs.turns k.stores x k.valued.held (record { before = k.runs.turns; since = []; is_run = sym (append-nil k.runs.turns); at = sym (length_trace (ordered L) k.runs.turns); own = ap (λ (l : List Entry). length l) (own_part L k.core s.views id v k.runs at alive); private = is_held L k.core s.views id v k.runs at k.stores alive layout slot private }) in (
       w,
       keeps,
       tt,
@@ -167,6 +174,7 @@ stores_it L slots id v slot i new alive layout many is private index s k homes a
         valued = record {
           are = values_after k.values k.stores slot x is.0 (inside L s k slots slot i homes many is index) refl k.valued.are;
           held = held;
+          linked = subst (λ (n : ℕ). IfValued L n k.runs.turns st) (sym (length-set k.values (slot - 1) new)) (still_linked L (length k.values) k.runs.turns st k.stores (stores_more k.stores k.stores x (stores_themselves k.stores)) k.valued.linked);
           seen = each_set (λ (u : View). HasStores st u.stores) s.views id w (stores_themselves st) (λ j u _ there. stores_more k.stores u.stores x (k.valued.seen j u there));
         };
       },
@@ -176,7 +184,7 @@ stores_it L slots id v slot i new alive layout many is private index s k homes a
           same = refl;
           past = (k.runs.lags id v at).past;
           stores = stores_more k.stores v.stores x (k.valued.seen id v at);
-          seen = record { run = run_seen L k.core s.views id v k.runs at st alive layout; held = subst (λ (l : Layout). WereHeld l k.runs.turns st) (sym layout) held };
+          seen = record { run = run_seen L k.core s.views id v k.runs at st alive layout; held = subst (λ (l : Layout). WereHeld l k.runs.turns st) (sym layout) held; linked = subst (λ (l : Layout). LinksHaveValues l k.runs.turns st) (sym layout) (all_linked L k.runs.turns k.values st k.runs.fits (k.long ∙ homes ∙ many) (still_linked L (length k.values) k.runs.turns st k.stores (stores_more k.stores k.stores x (stores_themselves k.stores)) k.valued.linked)) };
         },
         (k.stores, refl),
       ),
@@ -246,10 +254,15 @@ opens_values L ws units fits e =
       valued = record {
         are = λ i below. get_or-replicate (length units) i 0 0 (let long = length-replicate {A = ℕ} (length units) 0 in omega (arith, below, long));
         held = tt;
+        linked = inr (λ before since w p side leaf new is. absurd (no_turn before since (w, Link p side leaf new) (sym (opens_with_none L (words_of L (memory.opening L)) fits refl) ∙ is)));
         seen = λ i v there. none_seen i v there;
       };
     }
   where
+    no_turn : (before since : List (ℕ × Event)) (x : ℕ × Event) → [] ≡ before ++ x ∷ since → ⊥
+    no_turn [] since x is = cc
+    no_turn (y ∷ before) since x is = cc
+
     no_values : (hs : List Held) → (viewing L hs).stores ≡ []
     no_values [] = refl
     no_values (h ∷ hs) = refl

@@ -1,17 +1,18 @@
 -- The rule of the table: the logs of all workers are a run of the ordered core, and the words are
 -- those of its memory.
-use Rattle.std.specs.Prelude.{◌≡◌, ◌<◌, ◌+◌, ℕ, Option, zero, suc, Bool, true, false, List, [], ◌∷◌, ◌++◌, All, Ok, if◌then◌else◌, ◌==◌, nat_lt, length, slice_index}
+use Rattle.std.specs.Prelude.{◌≡◌, ◌<◌, ◌+◌, ℕ, Option, zero, suc, Bool, true, false, List, [], ◌∷◌, ◌++◌, All, Ok, if◌then◌else◌, ◌==◌, nat_lt, length, slice_index, unwrap_or, Contains, ◌⊎◌}
 use Rattle.std.specs.List.{sum_by, count_by}
 use mathlib.Core.Option.{some}
 use lib.ListN.{get_elem?}
 use Rattle.nm_edge.specs.Layouts.{Layout, IsLayout, dense}
+use Rattle.nm_edge.specs.declared.edge.Side.{Side}
 use Rattle.atomic_table.specs.Table.{State, Me, Step}
 use Rattle.nm_model.specs.declared.event.Event.{Event}
-use Rattle.nm_model.specs.declared.event.Event.TheVariants.{Announce, Leave, LeaveWith, Fill, Join}
+use Rattle.nm_model.specs.declared.event.Event.TheVariants.{Announce, Leave, LeaveWith, Fill, Link, Join}
 use Rattle.nm_model.specs.declared.reply.Reply.{Reply}
 use Rattle.nm_model.specs.declared.reply.Reply.TheVariants.{Joined}
 use Rattle.nm_model.specs.declared.trace.Turn.{Turn}
-use Rattle.nm_model.specs.Knowledge.{Knowledge, is_private}
+use Rattle.nm_model.specs.Knowledge.{Knowledge, beside, draft_of, is_private}
 use Rattle.nm_model.specs.Runs.{of}
 use Rattle.nm_model.specs.Walks.{Entry}
 use Rattle.nm_model.specs.Ordered.{ordered, after_in, trace_in}
@@ -215,6 +216,7 @@ pub record WasHeld (L : Layout) (turns : List (ℕ × Event)) (x : Stored) : Typ
   pub since : List (ℕ × Event)
   pub is_run : turns ≡ before ++ since
   pub at : length before ≡ x.at
+  pub own : length (part_of x.worker (trace_in (ordered L) before)) ≡ x.own
   pub private : is_private (of (after_in (ordered L) before).state x.worker) x.slot ≡ true
 
 -- each of these stores was such
@@ -222,12 +224,41 @@ abbrev pub WereHeld : Layout → List (ℕ × Event) → List Stored → Type 0
 WereHeld L turns [] = Unit {0}
 WereHeld L turns (x ∷ xs) = WasHeld L turns x × WereHeld L turns xs
 
+-- the new leaf of a link: the child of the new internal node beside the node that was there
+abbrev pub new_leaf : Knowledge → ℕ → ℕ → ℕ
+new_leaf k leaf new = unwrap_or (beside (draft_of k new) leaf) 0
+
+-- the worker stored a value for the slot when its log had so many entries
+pub record IsStored (stores : List Stored) (w entries slot : ℕ) : Type 0 where
+  pub stored : Stored
+  pub there : Contains stores stored
+  pub by_worker : stored.worker ≡ w
+  pub at_own : stored.own ≡ entries
+  pub for_slot : stored.slot ≡ slot
+
+-- each worker that tried to link a new leaf had stored a value for it, and had taken no step after
+-- that store
+abbrev pub LinksHaveValues : Layout → List (ℕ × Event) → List Stored → Type 0
+LinksHaveValues L turns stores =
+    (before since : List (ℕ × Event)) (w p : ℕ) (side : Side) (leaf new : ℕ)
+    → turns ≡ before ++ (w, Link p side leaf new) ∷ since
+    → IsStored stores w (length (part_of w (trace_in (ordered L) before)))
+    (new_leaf (of (after_in (ordered L) before).state w) leaf new)
+
+-- the worker may try to link: in a table with values it has just stored one for the new leaf
+abbrev pub HasStored : ℕ → View → Event → Type 0
+HasStored slots v (Link p side leaf new) = (slots ≡ 0)
+    ⊎ IsStored v.stores v.number (length v.log) (new_leaf (knowledge v) leaf new)
+HasStored slots v e = Unit {0}
+
 -- the words after those of the core are the values of slots 1 and on by these stores. Each slot was
--- private at its store. The stores that a view has seen are a beginning of them
+-- private at its store, and each new leaf has a store. The stores that a view has seen are a
+-- beginning of them
 pub record HoldsValues (L : Layout) (turns : List (ℕ × Event)) (values : List ℕ) (stores : List Stored)
     (views : List View) : Type 0 where
   pub are : (i : ℕ) → i < length values → slice_index values i ≡ value_of stores (i + 1)
   pub held : WereHeld L turns stores
+  pub linked : (length values ≡ 0) ⊎ LinksHaveValues L turns stores
   pub seen : (i : ℕ) (v : View) → get_elem? views i ≡ some v → HasStores stores v.stores
 
 -- the first words are those of a run, and the last `count` words are values. A table with values has

@@ -31,7 +31,7 @@ use Rattle.nm_steps.specs.declared.answers.Sighted.TheVariants as seeing
 use Rattle.nm_steps.specs.declared.tree_steps.FrozenChain.{FrozenChain}
 use Rattle.nm_steps.specs.declared.view.View.{View}
 use Rattle.nm_model.specs.declared.trace.Turn.{Turn}
-use Rattle.nm_steps.specs.Rules.{held_log, knowledge, known_births, viewing, joined, answered_turn, logged, is_store, stands, once_below, Extends, IsShown, IsFound}
+use Rattle.nm_steps.specs.Rules.{held_log, knowledge, known_births, viewing, joined, answered_turn, logged, is_store, stands, once_below, Extends, IsShown, IsFound, HasStored, HasStores}
 
 -- ---- what a worker's own log allows
 
@@ -85,6 +85,7 @@ pub record IsReadyFor (b : TreeView) (it : Seat Unit View) (e : Event) (i : ℕ)
   pub layout : it.me.0.layout ≡ b.layout
   pub within : IsField b.layout (touched_field it.me.0.number e)
   pub word : i ≡ word b.layout (touched_field it.me.0.number e)
+  pub stored : HasStored b.table.slots it.me.0 e
   pub may : May b.layout it.me.0.number it.me.0.log e
 
 -- the event is done, with the reply that this word gives
@@ -152,6 +153,7 @@ pub record TakesStep (p q : PassView) (e : Event) (r : Reply) : Type 0 where
   pub step : Stepped p q e r
   pub past : HasTurn p q e r
   pub run : IsInRun q
+  pub stores : q.view.stores ≡ p.view.stores
 
 -- what a view has seen is the turns of an ordered run, its log is its worker's part of them, and
 -- the worker has not resigned
@@ -232,11 +234,13 @@ pub record Ends (L : Layout) (words : List ℕ) (view : View) : Type 0 where
 abbrev pub IsSamePass : PassView → PassView → Type 0
 IsSamePass p q = q ≡ record p { view = record p.view { log = q.view.log; past = q.view.past; stores = q.view.stores } }
 
--- what one or more steps leave: it is the same pass, has seen all that it had seen, and is in a run
+-- what one or more steps leave: it is the same pass, has seen all that it had seen, of turns and of
+-- stores, and is in a run
 pub record Continues (p q : PassView) : Type 0 where
   pub same : IsSamePass p q
   pub past : HasSeenAllOf q p
   pub run : IsInRun q
+  pub stores : HasStores q.view.stores p.view.stores
 
 -- ---- replies, from the results of step functions
 

@@ -7,7 +7,7 @@ use Rattle.nm_edge.specs.Words.{IsSlot, words}
 use Rattle.nm_model.specs.Knowledge.{is_private}
 use Rattle.nm_steps.specs.declared.view.Stored.{Stored}
 use Rattle.nm_steps.specs.declared.view.View.{View}
-use Rattle.nm_steps.specs.Rules.{Extends, HasStores, WereHeld, knowledge, value_of}
+use Rattle.nm_steps.specs.Rules.{Extends, HasStores, LinksHaveValues, WereHeld, knowledge, value_of}
 use Rattle.nm_steps.specs.Steps.{HasSeen, PassView, TreeView}
 
 -- a table with a value for each slot
@@ -20,10 +20,11 @@ abbrev pub value_word : TreeView → ℕ → ℕ
 value_word b s = words b.layout + (s - 1)
 
 -- the stores that a view has seen are those of the run that it has seen. Each slot was private to its
--- worker at the store
+-- worker at the store, and each new leaf has a store
 pub record HasSeenStores (v : View) : Type 0 where
   pub run : HasSeen v
   pub held : WereHeld v.layout run.events v.stores
+  pub linked : LinksHaveValues v.layout run.events v.stores
 
 -- only what has been seen has changed: more turns, and more stores
 pub record HasLooked (before after : View) : Type 0 where
@@ -40,7 +41,13 @@ SawValue slot s me n after = (after.1 ≡ me.1) × HasLooked me.0 after.0
 -- the worker's own store of this value for a slot
 abbrev pub own_store : View → ℕ → ℕ → List Stored → ℕ → List Stored
 own_store v slot value stores at =
-    stores ++ record { at = at; worker = v.number; slot = slot; value = value } ∷ []
+    stores ++ record {
+      at = at;
+      worker = v.number;
+      own = length v.log;
+      slot = slot;
+      value = value;
+    } ∷ []
 
 -- a value was stored for a slot, by the last store so far
 abbrev pub HasStoredValue : ℕ → Step Unit → Me Unit View → ℕ → Me Unit View → Type 0

@@ -11,11 +11,12 @@ pub struct Held {
     pub log: LinkedList<(Event, Reply)>,
 }
 
-/// A value that a worker stored for a slot that was private to it, after `at` turns of the run. Proof
-/// only: no value of it is made.
+/// A value that a worker stored for a slot that was private to it, after `at` turns of the run. Its
+/// log had `own` entries then. Proof only: no value of it is made.
 pub struct Stored {
     pub at: u64,
     pub worker: u32,
+    pub own: u64,
     pub slot: u32,
     pub value: u64,
 }

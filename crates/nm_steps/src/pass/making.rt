@@ -34,6 +34,7 @@ impl Shared {
         ensures layout { IfOk result (λ r. r.0.layout ≡ layout) }
         ensures count { IfOk result (λ r. length r.1.items ≡ layout.workers) }
         ensures fresh { IfOk result (λ r. AreFresh r.0 0 r.1.items) }
+        ensures plain { IfOk result (λ r. r.0.table.slots ≡ 0) }
         ensures memory { IfErr result (λ e. e ≡ NewError.NoMemory) }
     {
         Ok(made(alloc, layout)?)
@@ -56,6 +57,7 @@ fn made(alloc: Global, layout: Layout) -> Result<(Shared, Vec<Pass>), AllocError
     ensures layout { IfOk result (λ r. r.0.layout ≡ layout) }
     ensures count { IfOk result (λ r. length r.1.items ≡ layout.workers) }
     ensures fresh { IfOk result (λ r. AreFresh r.0 0 r.1.items) }
+    ensures plain { IfOk result (λ r. r.0.table.slots ≡ 0) }
 {
     let _workers = layout.workers();
     let tree = opening_words(alloc, layout)?;

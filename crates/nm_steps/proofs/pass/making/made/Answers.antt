@@ -1,4 +1,6 @@
 use Rattle.std.proofs.Common.{rules, ◌≡◌, ◌∙◌, ap, length, arith, inl, refl}
+use Rattle.std.specs.Prelude.{Result, Ok, Err, IfOk}
+use Rattle.atomic_table.specs.Seated.{TableId}
 use Rattle.nm_edge.specs.Words.{words}
 use Rattle.nm_steps.proofs.Cutting.{opens, deals, left_others, left_own, fresh_push}
 use Rattle.nm_steps.proofs.OpeningWords.{opening_long}
@@ -17,3 +19,10 @@ dealt-requires-clause-words c =
 
 pub dealt-requires-clause-slots : goal.dealt-requires-clause-slots
 dealt-requires-clause-slots c = inl c.in_ok-table.ensures.1
+
+with_table : {A E : Type 0} {P Q : A → Type 0} (r : Result A E) → ((x : A) → P x → Q x) → IfOk r P → IfOk r Q
+with_table (Ok x) f p = f x p
+with_table (Err e) f p = tt
+
+pub returns-clause-plain : goal.returns-clause-plain
+returns-clause-plain c = with_table c.dealt.result (λ r table. ap (λ (z : TableId). z.slots) table ∙ c.in_ok-table.ensures.1) c.dealt.ensures.table
