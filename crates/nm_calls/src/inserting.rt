@@ -99,6 +99,7 @@ fn try_insert(
     new_nodes: &mut Option<NewNodes>,
 ) -> Attempt
     requires pinned { IsPinnedIn shared.now pass.old }
+    requires plain { shared.now.table.slots ≡ 0 }
     requires call { IsPinnedForCall Insert key pass.old }
     requires unlinked { (search pass.old).linked ≡ false }
     requires room { cut_bound ≤ held.old.queue.spare }
@@ -148,6 +149,7 @@ fn insert_pinned(
     tries: u32,
 ) -> Result<bool, CallFault>
     requires pinned { IsPinnedIn shared.now pass.old }
+    requires plain { shared.now.table.slots ≡ 0 }
     requires call { IsPinnedForCall Insert key pass.old }
     requires unchanged { HasChangedNothing pass.old }
     requires room { cut_bound ≤ held.old.queue.spare }
@@ -218,6 +220,7 @@ pub fn insert(
     tries: u32,
 ) -> Result<bool, CallFault>
     requires own { IsOf shared.now pass.old }
+    requires plain { shared.now.table.slots ≡ 0 }
     requires rests { IsResting pass.old }
     requires kept { HoldsCuts pass.old held.old }
     ensures after { AfterInsert workspace.old.placement shared.now.layout tries key pass.old
