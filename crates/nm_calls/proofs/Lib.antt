@@ -17,3 +17,4 @@ pub mod NearLooks
 pub mod ScanLooks
 pub mod Unheld
 pub mod NamedLeaves
+pub mod MapMoments

@@ -11,6 +11,7 @@ mod lookup;
 mod many;
 mod near_key;
 mod scanning;
+mod values;
 
 pub use deleting::{Missed, Unfinished, delete, finish};
 pub use fault::CallFault;
@@ -20,3 +21,4 @@ pub use lookup::has;
 pub use many::{Query, has_many};
 pub use near_key::nearest;
 pub use scanning::{Scanned, scan};
+pub use values::get;
