@@ -18,3 +18,4 @@ pub mod ScanLooks
 pub mod Unheld
 pub mod NamedLeaves
 pub mod MapMoments
+pub mod InsertedValues

@@ -1,20 +1,24 @@
 -- A map: what was stored under a key and when, and what a call for the value of a key leaves.
-use Rattle.std.specs.Prelude.{◌≡◌, ◌≤◌, ◌<◌, ℕ, nat_lt, Bool, true, false, List, [], ◌++◌, length, filter, Option, Some, None, Result, IfOk, IfErr, IfSome}
+use Rattle.std.specs.Prelude.{◌≡◌, ◌≤◌, ◌<◌, ℕ, nat_lt, Bool, true, false, List, [], ◌∷◌, ◌++◌, length, filter, Option, Some, None, Result, IfOk, IfErr, IfSome}
 use Rattle.nm_edge.specs.Layouts.{Layout}
 use Rattle.nm_edge.specs.declared.edge.Side.{Side}
+use Rattle.nm_edge.specs.declared.node.NodeId.{NodeId}
 use Rattle.nm_model.specs.declared.event.Event.{Event}
+use Rattle.nm_model.specs.declared.event.Event.TheVariants.{LeaveWith, Link}
+use Rattle.nm_model.specs.declared.reply.Reply.TheVariants.{Departed, Linked}
 use Rattle.nm_model.specs.declared.trace.Turn.{Turn}
 use Rattle.nm_model.specs.Headline.{IsPinned, words_after}
 use Rattle.nm_model.specs.Memory.{infinity_0, is_leaf, node}
 use Rattle.nm_model.specs.Ordered.{ordered, trace_in}
 use Rattle.nm_model.specs.Paths.{Reached}
-use Rattle.nm_model.specs.Walks.{WalkEnds, since_pin}
+use Rattle.nm_model.specs.Walks.{Entry, WalkEnds, since_pin}
 use Rattle.nm_steps.specs.declared.view.Stored.{Stored}
 use Rattle.nm_steps.specs.Rules.{Extends, HasStores, LinksHaveValues, WereHeld, value_of}
 use Rattle.nm_steps.specs.Steps.{HasSeenAllOf, IsSamePass, PassView}
 use Rattle.nm_steps.specs.Values.{HasSeenStores}
 use Rattle.nm_epoch.specs.Resting.{IsResting, KeepsHands}
 use Rattle.nm_walks.specs.Bounds.{reach}
+use Rattle.nm_walks.specs.Making.{fills}
 use Rattle.nm_walks.specs.WonCounts.{won_splices}
 use Rattle.nm_calls.specs.declared.fault.CallFault.{CallFault}
 use Rattle.nm_calls.specs.declared.fault.CallFault.TheVariants as fault
@@ -62,6 +66,33 @@ pub record HoldsStores (L : Layout) (now : List Turn) (stores : List Stored) : T
   pub are : until ≡ trace_in (ordered L) events
   pub held : WereHeld L events stores
   pub linked : LinksHaveValues L events stores
+
+-- the step by which a call leaves with an answer
+abbrev pub answered : Bool → List Entry
+answered answer = (LeaveWith answer, Departed) ∷ []
+
+-- the worker filled a slot as a leaf with the key, stored this value in it as its last store, and
+-- linked it by its next step. After that it took the steps `rest`
+pub record HasInserted (rest : List Entry) (q : PassView) (k v : ℕ) : Type 0 where
+  pub before : List Entry
+  pub slot : ℕ
+  pub parent : ℕ
+  pub side : Side
+  pub old : ℕ
+  pub new : ℕ
+  pub node : NodeId
+  pub log : q.view.log
+      ≡ (before ++ fills slot k 0 0) ++ (Link parent side old new, Linked node) ∷ rest
+  pub earlier : List Stored
+  pub at : ℕ
+  pub stores : q.view.stores ≡ earlier ++ record {
+    at = at;
+    worker = q.view.number;
+    own = length (before ++ fills slot k 0 0);
+    slot = slot;
+    value = v;
+  } ∷ []
+  pub early : at < length q.view.past
 
 -- ---- what a look-up leaves
 

@@ -42,7 +42,7 @@ pub(crate) enum Attempt {
 }
 
 /// Returns the two new nodes, and claims them if there are none yet.
-fn ready(
+pub(crate) fn ready(
     shared: &Shared,
     pass: &mut Pass,
     placement: &mut Placement,
@@ -67,7 +67,12 @@ fn ready(
 
 /// Walks as an insert does, which depends on the shape of the tree.
 #[inline(always)]
-fn stop(shared: &Shared, pass: &mut Pass, key: u64, chain: &mut ChainEdges) -> Option<WalkEnd>
+pub(crate) fn stop(
+    shared: &Shared,
+    pass: &mut Pass,
+    key: u64,
+    chain: &mut ChainEdges,
+) -> Option<WalkEnd>
     requires pinned { IsPinnedIn shared.now pass.old }
     requires root { Tells pass.old (KnowsSlot 1) }
     requires known { Tells pass.old (KnowsSlot 2) }
