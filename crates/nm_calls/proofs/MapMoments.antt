@@ -1,24 +1,17 @@
 -- A look-up of a value: its walk, and the moment at which the map had the value that was read.
-use Rattle.std.proofs.Common.{◌≡◌, ◌≢◌, ◌⊎◌, inl, inr, ℕ, ◌+◌, ◌*◌, ◌<◌, ◌≤◌, ◌==◌, Bool, true, false, List, [], ◌∷◌, ◌++◌, append_assoc, length, refl, sym, ap, subst, ◌∙◌, arith}
+use Rattle.std.proofs.Common.{◌≡◌, ℕ, ◌+◌, ◌<◌, ◌≤◌, true, false, List, [], ◌++◌, append_assoc, length, refl, sym, ap, subst, ◌∙◌, arith}
 use Rattle.std.specs.Prelude.{All, IsSome, None, Some, Option, Result, Ok, Err, IfOk, IfErr, IfSome}
-use Rattle.std.proofs.lemmas.Bool.{ne_eqb}
 use Rattle.std.proofs.lemmas.List.{append_cancel_left, length-map}
-use Rattle.nm_edge.specs.Edges.{Edge}
 use Rattle.nm_edge.specs.Keys.{IsKey}
 use Rattle.nm_edge.specs.Layouts.{Layout, IsLayout}
-use Rattle.nm_edge.specs.declared.edge.Side.{Side}
 use Rattle.nm_model.specs.declared.event.Event.{Event}
 use Rattle.nm_model.specs.declared.event.Event.TheVariants.{Leave, Sight}
 use Rattle.nm_model.specs.declared.reply.Reply.TheVariants.{Departed}
 use Rattle.nm_model.specs.declared.trace.Turn.{Turn}
-use Rattle.nm_model.specs.Acts.{InSet}
-use Rattle.nm_model.specs.Headline.{HasLeft, Headline, IsPinned, has_after, words_after}
-use Rattle.nm_model.specs.Histories.{WasSoBehind}
-use Rattle.nm_model.specs.Knowledge.{is_private}
+use Rattle.nm_model.specs.Headline.{HasLeft, IsPinned, has_after, words_after}
 use Rattle.nm_model.specs.Memory.{Memory, infinity_1, is_leaf, node, opening}
-use Rattle.nm_model.specs.Ordered.{Configuration, ordered, after_in, trace_in, turn_of, HasKey}
+use Rattle.nm_model.specs.Ordered.{ordered, after_in, trace_in, turn_of, HasKey}
 use Rattle.nm_model.specs.Paths.{Reached}
-use Rattle.nm_model.specs.Runs.{of}
 use Rattle.nm_model.specs.Walks.{Entry, WalkEnds, since_pin}
 use Rattle.nm_order.specs.Logs.{part_of, known_by}
 use Rattle.nm_order.specs.StalePaths.{WasReachedSince, log_under_pin}
@@ -32,9 +25,8 @@ use Rattle.nm_theorem.proofs.HeadlineOfRuns.{each_run_has_it}
 use Rattle.nm_theorem.proofs.LooksBehind.{pinned_by_turns}
 use Rattle.nm_theorem.proofs.WrittenWords.{run_words}
 use Rattle.nm_steps.specs.declared.view.Stored.{Stored}
-use Rattle.nm_steps.specs.Rules.{Extends, LinksHaveValues, WereHeld, knowledge, value_of}
+use Rattle.nm_steps.specs.Rules.{Extends}
 use Rattle.nm_steps.specs.Steps.{Continues, HasSeen, HasSeenAllOf, IsSamePass, PassView, TakesStep}
-use Rattle.nm_steps.specs.Values.{HasSeenStores}
 use Rattle.nm_steps.proofs.Seeing.{same_by_step, same_then, seen_by_turn, seen_through, stores_same, stores_through}
 use Rattle.nm_steps.proofs.ValueStays.{NobodyHolds, value_stays}
 use Rattle.nm_epoch.specs.Resting.{IsResting, KeepsHands, epochs}
@@ -50,8 +42,8 @@ use Rattle.nm_walks.proofs.Looks.{enough}
 use Rattle.nm_walks.proofs.PlainLooks.{looks_longer}
 use Rattle.nm_calls.specs.declared.fault.CallFault.{CallFault}
 use Rattle.nm_calls.specs.declared.fault.CallFault.TheVariants as fault
-use Rattle.nm_calls.specs.Maps.{AfterGet, HasLookedUp, HasReadValue, HoldsStores, IsInMap, MapGives, WasMapped, value_at}
-use Rattle.nm_calls.specs.PlainWalks.{HasEndedSo, HasPassed, LooksUnderPin, WasSo, events_of, most_looks}
+use Rattle.nm_calls.specs.Maps.{AfterGet, HasLookedUp, HasReadValue, HoldsStores, WasMapped}
+use Rattle.nm_calls.specs.PlainWalks.{HasPassed, LooksUnderPin, WasSo, events_of, most_looks}
 use Rattle.nm_calls.proofs.Adding.{cuts_none, has_won, plain_moved_adds}
 use Rattle.nm_calls.proofs.NamedLeaves.{leaf_has_key, leaf_is_one, leaf_was, moment_is_later, pin_not_left}
 use Rattle.nm_calls.proofs.PlainLooks.{as_events, call_adds, events_go_on, events_of_trace, was_so}

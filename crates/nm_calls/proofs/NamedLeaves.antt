@@ -1,6 +1,6 @@
 -- The leaf at which a walk for its key ended was reached, with that key, at a moment after the pin.
-use Rattle.std.proofs.Common.{◌≡◌, ◌≢◌, ◌⊎◌, inl, inr, ℕ, ◌<◌, ◌≤◌, ◌==◌, Bool, true, false, cond, ◌&&◌, ◌||◌, List, [], ◌∷◌, ◌++◌, append_assoc, length, refl, sym, ap, subst, ◌∙◌, arith, true≢false}
-use Rattle.std.specs.Prelude.{All, None, Some, Ok, Err, Result}
+use Rattle.std.proofs.Common.{◌≡◌, ◌≢◌, inl, inr, ℕ, ◌<◌, ◌≤◌, ◌==◌, Bool, true, false, cond, ◌&&◌, ◌||◌, List, [], ◌∷◌, ◌++◌, append_assoc, length, refl, sym, ap, subst, ◌∙◌, true≢false}
+use Rattle.std.specs.Prelude.{All, None, Ok, Err, Result}
 use Rattle.std.specs.List.{list_any}
 use Rattle.std.proofs.lemmas.Bool.{and_parts, cases_lt, eqb-true, or_parts}
 use Rattle.std.proofs.lemmas.List.{append_cancel_left}
@@ -19,10 +19,9 @@ use Rattle.nm_model.specs.declared.trace.Turn.{Turn}
 use Rattle.nm_model.specs.Headline.{HasLeft, departs, leaves}
 use Rattle.nm_model.specs.Knowledge.{Knowledge}
 use Rattle.nm_model.specs.Memory.{node, child, is_leaf, infinity_1}
-use Rattle.nm_model.specs.Paths.{Reached}
 use Rattle.nm_model.specs.Runs.{of}
 use Rattle.nm_model.specs.Searches.{side_of}
-use Rattle.nm_model.specs.Walks.{Entry, IsPart, WalkComes, WalkReads, WalkEnds, begins_anew, log_of, logged_by, since_pin}
+use Rattle.nm_model.specs.Walks.{Entry, IsPart, WalkComes, WalkReads, WalkEnds, begins_anew, log_of, logged_by}
 use Rattle.nm_model.specs.Ordered.{Configuration, ordered, after_in, trace_in}
 use Rattle.nm_laws.proofs.Configurations.{after_in-append}
 use Rattle.nm_order.specs.Intervals.{HasKey, key}

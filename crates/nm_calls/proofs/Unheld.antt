@@ -1,7 +1,7 @@
--- A slot that was reached at a moment at which a worker was pinned is in nobody's hands until the
--- worker leaves.
-use Rattle.std.proofs.Common.{◌≡◌, ◌⊎◌, inl, inr, ℕ, zero, suc, ◌<◌, ◌≤◌, ◌==◌, Bool, true, false, cond, not, ◌&&◌, ◌||◌, List, [], ◌∷◌, ◌++◌, append-nil, append_assoc, length, refl, sym, ap, subst, ◌∙◌, arith, true≢false}
-use Rattle.std.specs.Prelude.{filter, map, Some, Contains, slice_get, option_map}
+-- If a slot is reached at a moment at which a worker is pinned, nobody has the slot in hands until
+-- that worker leaves.
+use Rattle.std.proofs.Common.{◌≡◌, ◌⊎◌, inl, inr, ℕ, zero, suc, ◌≤◌, ◌==◌, Bool, true, false, cond, not, ◌&&◌, ◌||◌, List, [], ◌∷◌, ◌++◌, append-nil, append_assoc, refl, sym, ap, subst, ◌∙◌, arith, true≢false}
+use Rattle.std.specs.Prelude.{filter, Some, Contains, slice_get, option_map}
 use Rattle.std.specs.List.{list_any}
 use Rattle.std.proofs.lemmas.Bool.{and_parts, eq-eqb, eqb-true}
 use Rattle.std.proofs.lemmas.List.Folds.{list_any-append}
@@ -12,7 +12,7 @@ use Rattle.nm_edge.specs.declared.node.NodeId.{NodeId}
 use Rattle.nm_model.specs.declared.trace.Turn.{Turn}
 use Rattle.nm_model.specs.Memory.{Memory, opening}
 use Rattle.nm_model.specs.Paths.{Reached}
-use Rattle.nm_model.specs.Headline.{Headline, HasLeft, IsPinned, OnePlace, Place, StandsAt, after_turn, cuts_of, freed_by, has_after, is_among, leaves, nodes_cut_of, nodes_freed_of, slots_of, waits_of, words_after, words_from}
+use Rattle.nm_model.specs.Headline.{Headline, HasLeft, IsPinned, OnePlace, Place, StandsAt, after_turn, cuts_of, freed_by, has_after, is_among, leaves, nodes_cut_of, nodes_freed_of, slots_of, words_after, words_from}
 use Rattle.nm_model.specs.Headline.Place.{InHands, InPool, OnPath, Waits}
 use Rattle.nm_theorem.proofs.FreedOfRuns.{cuts-append}
 use Rattle.nm_theorem.proofs.LeftSince.{readers_have_left}

@@ -13,7 +13,7 @@ use Rattle.nm_model.specs.Ordered.{ordered, trace_in}
 use Rattle.nm_model.specs.Paths.{Reached}
 use Rattle.nm_model.specs.Walks.{Entry, WalkEnds, since_pin}
 use Rattle.nm_steps.specs.declared.view.Stored.{Stored}
-use Rattle.nm_steps.specs.Rules.{Extends, HasStores, LinksHaveValues, WereHeld, value_of}
+use Rattle.nm_steps.specs.Rules.{Extends, ExtendsStores, LinksHaveValues, WereHeld, value_of}
 use Rattle.nm_steps.specs.Steps.{HasSeenAllOf, IsSamePass, PassView}
 use Rattle.nm_steps.specs.Values.{HasSeenStores}
 use Rattle.nm_epoch.specs.Resting.{IsResting, KeepsHands}
@@ -128,7 +128,7 @@ HasLookedUp p k (Some v) = HasReadValue p k v
 pub record AfterGet (L : Layout) (tries k : ℕ) (p q : PassView) (r : Result (Option ℕ) CallFault) : Type 0 where
   pub same : IsSamePass p q
   pub past : HasSeenAllOf q p
-  pub stores : HasStores q.view.stores p.view.stores
+  pub stores : ExtendsStores q.view.stores p.view.stores
   pub did : IfOk r
       (λ found. LooksUnderPin tries (most_looks (reach L) 1) p.view.log q.view.log)
   pub moment : IfOk r

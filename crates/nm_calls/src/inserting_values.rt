@@ -1,7 +1,7 @@
 //! Inserts with a value, in a table that has a value for each slot.
 ghost use Rattle.std.specs.Prelude.{◌≡◌, ◌<◌, ◌≤◌, ◌*◌, true, false, length, [], None, Ok, IfOk, IsErrOf};
 ghost use Rattle.nm_model.specs.declared.event.Op.TheVariants.{Insert};
-ghost use Rattle.nm_steps.specs.Rules.{HasStores};
+ghost use Rattle.nm_steps.specs.Rules.{ExtendsStores};
 ghost use Rattle.nm_steps.specs.Steps.{PassView, IsOf, Continues};
 ghost use Rattle.nm_steps.specs.Values.{HasValues};
 ghost use Rattle.nm_epoch.specs.Resting.{IsResting, search};
@@ -164,7 +164,7 @@ pub fn insert_with_value(
         pass.new result }
     ensures refused { IsErrOf result CallFault.NoMemory → held.new.queue.spare < cut_bound }
     ensures stored { result ≡ Ok true → HasInserted (answered true) pass.new key value }
-    ensures on { HasStores pass.new.view.stores pass.old.view.stores }
+    ensures on { ExtendsStores pass.new.view.stores pass.old.view.stores }
     ensures kept { HoldsCuts pass.new held.new }
     ensures few { length held.new.queue.items ≤ shared.now.layout.nodes }
     ensures blocks { TakesRoom held.old.queue held.new.queue }

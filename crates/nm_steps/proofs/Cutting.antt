@@ -22,7 +22,7 @@ use Rattle.nm_steps.specs.Packing.{words_of}
 use Rattle.nm_steps.specs.declared.view.Held.{Held}
 use Rattle.nm_steps.specs.declared.view.Stored.{Stored}
 use Rattle.nm_steps.specs.declared.view.View.{View}
-use Rattle.nm_steps.specs.Rules.{held_log, holdings, knowledge, stands, once_below, LogsAre, IsShown, LagsBehind, HasStores, Runs, Kept, numbers_from, viewing, everybody, own_alone, the_others, nobody, passing, informed, joining_view, noted_down, answered_turn}
+use Rattle.nm_steps.specs.Rules.{held_log, holdings, knowledge, stands, once_below, LogsAre, IsShown, LagsBehind, ExtendsStores, Runs, Kept, numbers_from, viewing, everybody, own_alone, the_others, nobody, passing, informed, joining_view, noted_down, answered_turn}
 use Rattle.nm_steps.specs.Steps.{HasEmptyHands, TreeView, PassView, fresh_view, AreFresh, Ends}
 use Rattle.nm_steps.proofs.Counts.{sum_after, at_most_sum, both_at_most_sum}
 use Rattle.nm_steps.proofs.Growing.{goes_on_itself, goes_on_from_nothing, goes_on_by, behind_by}
@@ -80,8 +80,8 @@ opens L words fits e = record {
     no_values [] = refl
     no_values (h ∷ hs) = refl
 
-    no_stores : (i : ℕ) (v : View) → get_elem? (everybody L ∷ []) i ≡ some v → HasStores [] v.stores
-    no_stores zero v is = subst (λ (x : View). HasStores [] x.stores) (some-injective _ _ is) (subst (HasStores []) (sym (no_values (numbers_from 0 L.workers))) (stores_themselves []))
+    no_stores : (i : ℕ) (v : View) → get_elem? (everybody L ∷ []) i ≡ some v → ExtendsStores [] v.stores
+    no_stores zero v is = subst (λ (x : View). ExtendsStores [] x.stores) (some-injective _ _ is) (subst (ExtendsStores []) (sym (no_values (numbers_from 0 L.workers))) (stores_themselves []))
     no_stores (suc i) v is = absurd (some-ne-none v (sym is))
 
     under : (w n : ℕ) → cond (ltb w 0) 0 (cond (ltb w (0 + n)) 1 0) ≡ once_below w n
@@ -129,7 +129,7 @@ abbrev IsHere : View → Type 0
 IsHere v = v.resigned ≡ false → (knowledge v).gone ≡ false
 
 cuts : (L : Layout) (id : ℕ) (v left right : View) → ((t : List Turn) → IsShown L t v → IsShown L t left × IsShown L t right) → (IsHere v → IsHere left × IsHere right) → ((w : ℕ) → stands w left + stands w right ≡ stands w v)
-    → ((ts : List Turn) → LagsBehind ts v → LagsBehind ts left × LagsBehind ts right) → ((st : List Stored) → HasStores st v.stores → HasStores st left.stores × HasStores st right.stores) → Splits (Kept L) id v left right
+    → ((ts : List Turn) → LagsBehind ts v → LagsBehind ts left × LagsBehind ts right) → ((st : List Stored) → ExtendsStores st v.stores → ExtendsStores st left.stores × ExtendsStores st right.stores) → Splits (Kept L) id v left right
 cuts L id v left right keep stay count lag had s K at = rewrap L s.words (length s.homes) s.views (set s.views id left ++ right ∷ []) K
     (record {
       fits = K.runs.fits;
@@ -141,7 +141,7 @@ cuts L id v left right keep stay count lag had s K at = rewrap L s.words (length
       once = λ w. sum_by-append (stands w) (set s.views id left) (right ∷ []) ∙ omega (arith, sum_by-cons (stands w) right [], sum_after (stands w) s.views id v left at, count w, K.runs.once w);
       lags = each (LagsBehind (trace_in (ordered L) K.runs.turns)) (lag (trace_in (ordered L) K.runs.turns) (K.runs.lags id v at)) K.runs.lags;
     })
-    (grown_none L (length s.homes) K.stores K.runs.turns) (each (λ (u : View). HasStores K.stores u.stores) (had K.stores (K.valued.seen id v at)) K.valued.seen)
+    (grown_none L (length s.homes) K.stores K.runs.turns) (each (λ (u : View). ExtendsStores K.stores u.stores) (had K.stores (K.valued.seen id v at)) K.valued.seen)
   where
     each : (P : View → Type 0) → P left × P right → ((j : ℕ) (u : View) → get_elem? s.views j ≡ some u → P u) → (j : ℕ) (u : View) → get_elem? (set s.views id left ++ right ∷ []) j ≡ some u → P u
     each P both others j u is = ⊎_elim (each_set P s.views id left both.0 (λ j u _. others j u) j u) (λ (x : right ≡ u). subst P x both.1) (at_snoc (set s.views id left) right u j is)
@@ -188,7 +188,7 @@ deals L id k v is below =
     (λ ts b. (nothing_seen v.layout v.others ts, record { past = b.past; heard = b.heard }))
     (λ st h. (no_values v.layout v.others st, h))
   where
-    no_values : (l : Layout) (hs : List Held) (st : List Stored) → HasStores st (viewing l hs).stores
+    no_values : (l : Layout) (hs : List Held) (st : List Stored) → ExtendsStores st (viewing l hs).stores
     no_values l [] st = stores_from_none st
     no_values l (h ∷ hs) st = stores_from_none st
 
@@ -226,7 +226,7 @@ hears L id v other w resigned s K at apart at' = rewrap L s.words (length s.home
       lags = each_two (LagsBehind (trace_in (ordered L) K.runs.turns)) s.views id other (informed v w) nobody (record { past = (K.runs.lags id v at).past; heard = (K.runs.lags other w was).past })
           (record { past = goes_on_from_nothing (trace_in (ordered L) K.runs.turns); heard = goes_on_from_nothing (trace_in (ordered L) K.runs.turns) }) (λ j u _ _. K.runs.lags j u);
     })
-    (grown_none L (length s.homes) K.stores K.runs.turns) (each_two (λ (u : View). HasStores K.stores u.stores) s.views id other (informed v w) nobody (K.valued.seen id v at) (stores_from_none K.stores) (λ j u _ _. K.valued.seen j u))
+    (grown_none L (length s.homes) K.stores K.runs.turns) (each_two (λ (u : View). ExtendsStores K.stores u.stores) s.views id other (informed v w) nobody (K.valued.seen id v at) (stores_from_none K.stores) (λ j u _ _. K.valued.seen j u))
   where
     was : get_elem? s.views other ≡ some w
     was = sym (set_else s.views id other (informed v w) apart) ∙ at'
@@ -390,7 +390,7 @@ joins L id v other w alive alive' hands s K at apart at' =
       is = refl;
       linked = joined_links L (length s.homes) K.stores K.runs.turns v.number w.number;
     })
-    (each_two (λ (u : View). HasStores K.stores u.stores) s.views id other (joining_view v w) nobody (K.valued.seen id v at) (stores_from_none K.stores) (λ j u _ _. K.valued.seen j u))
+    (each_two (λ (u : View). ExtendsStores K.stores u.stores) s.views id other (joining_view v w) nobody (K.valued.seen id v at) (stores_from_none K.stores) (λ j u _ _. K.valued.seen j u))
 
 pub fresh_push : (b : TreeView) (k n : ℕ) (ps : List PassView) (p : PassView) → AreFresh b k ps → k + length ps ≡ n → p.table ≡ b.table → p.view ≡ fresh_view b.layout n → AreFresh b k (ps ++ p ∷ [])
 fresh_push b k n [] p a e t v = (t, v ∙ ap (fresh_view b.layout) (omega arith), tt)

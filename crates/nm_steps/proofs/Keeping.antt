@@ -34,7 +34,7 @@ use Rattle.nm_steps.specs.Told.{told}
 use Rattle.nm_steps.specs.declared.view.Held.{Held}
 use Rattle.nm_steps.specs.declared.view.Stored.{Stored}
 use Rattle.nm_steps.specs.declared.view.View.{View}
-use Rattle.nm_steps.specs.Rules.{held_log, holdings, knowledge, known_births, stands, once_below, HasStores, LogsAre, IsShown, LagsBehind, Runs, Kept, answered_turn, logged, is_store, IsFound, Did, Extends, HasStored, IsStored, LinksHaveValues, new_leaf}
+use Rattle.nm_steps.specs.Rules.{held_log, holdings, knowledge, known_births, stands, once_below, ExtendsStores, LogsAre, IsShown, LagsBehind, Runs, Kept, answered_turn, logged, is_store, IsFound, Did, Extends, LinkHasValue, IsStored, new_leaf}
 use Rattle.nm_steps.specs.Steps.{May, IsReadyFor, IsDone, Changes, IsBlind}
 use Rattle.nm_steps.proofs.Counts.{at_most_sum, both_at_most_sum, sum_after}
 use Rattle.nm_steps.proofs.Growing.{goes_on_itself, goes_on_by, behind_by}
@@ -203,18 +203,18 @@ module _ (L : Layout) (words : List ℕ) (views : List View) (id : ℕ) (v : Vie
       ∙ (ap (known_by L v.number) mine.1 ∙ sym (logs_tell L k.turns v.number counted.1))
 
   -- a store of the view is one of the run, if the worker has taken no step after it
-  stored_in_run : (st : List Stored) (slot : ℕ) → HasStores st v.stores → IsStored v.stores v.number (length v.log) slot → IsStored st v.number (length (part_of v.number trace)) slot
+  stored_in_run : (st : List Stored) (slot : ℕ) → ExtendsStores st v.stores → IsStored v.stores v.number (length v.log) slot → IsStored st v.number (length (part_of v.number trace)) slot
   stored_in_run st slot had s = subst (λ (n : ℕ). IsStored st v.number n slot) (ap (λ (l : List Entry). length l) mine.1) (still_stored st v.stores v.number (length v.log) slot had s)
 
   -- each new leaf still has a store
-  pub links_on : (slots : ℕ) (st : List Stored) → HasStores st v.stores → HasStored slots v e → IfValued L slots k.turns st → IfValued L slots more st
+  pub links_on : (slots : ℕ) (st : List Stored) → ExtendsStores st v.stores → LinkHasValue slots v e → IfValued L slots k.turns st → IfValued L slots more st
   links_on slots st had stored (inl plain) = inl plain
   links_on slots st had stored (inr links) = elim (ℕ_discrete slots 0) [
     | yes none' ↦ inl none'
     | no other ↦ inr (λ before since w p side leaf new is. by other before w p side leaf new (last_or_earlier k.turns before since (w, Link p side leaf new) (v.number, e) is))
   ]
     where
-      now' : (p : ℕ) (side : Side) (leaf new : ℕ) → slots ≢ 0 → HasStored slots v (Link p side leaf new) → IsStored st v.number (length (part_of v.number trace)) (new_leaf (of (after_in (ordered L) k.turns).state v.number) leaf new)
+      now' : (p : ℕ) (side : Side) (leaf new : ℕ) → slots ≢ 0 → LinkHasValue slots v (Link p side leaf new) → IsStored st v.number (length (part_of v.number trace)) (new_leaf (of (after_in (ordered L) k.turns).state v.number) leaf new)
       now' p side leaf new other (inl plain) = absurd (other plain)
       now' p side leaf new other (inr s) = subst (λ (x : Knowledge). IsStored st v.number (length (part_of v.number trace)) (new_leaf x leaf new)) known_is (stored_in_run st (new_leaf (knowledge v) leaf new) had s)
 
@@ -224,7 +224,7 @@ module _ (L : Layout) (words : List ℕ) (views : List View) (id : ℕ) (v : Vie
       by other before w p side leaf new (inr last) =
           subst (λ (u : ℕ). IsStored st u (length (part_of u (trace_in (ordered L) before))) (new_leaf (of (after_in (ordered L) before).state u) leaf new)) (ap (λ (t : ℕ × Event). t.0) last.1)
           (subst (λ (ts : List (ℕ × Event)). IsStored st v.number (length (part_of v.number (trace_in (ordered L) ts))) (new_leaf (of (after_in (ordered L) ts).state v.number) leaf new)) (sym last.0)
-          (now' p side leaf new other (subst (HasStored slots v) (ap (λ (t : ℕ × Event). t.1) last.1) stored)))
+          (now' p side leaf new other (subst (LinkHasValue slots v) (ap (λ (t : ℕ × Event). t.1) last.1) stored)))
 
 abbrev no_step : Step Unit
 no_step = step 0 0 0 0 none
@@ -235,7 +235,7 @@ pub goes_on : (L : Layout) (words : List ℕ) (views : List View) (id : ℕ) (v 
     → get_elem? views id ≡ some v → v.resigned ≡ false → v.layout ≡ L → i ≡ word L (touched_field v.number e) → May L v.number v.log e
     → told v.layout (knowledge v) (known_births v) e m ≡ told v.layout (knowledge v) (known_births v) e (slice_index words i)
     → (is_store e ≡ false → m ≡ slice_index words i)
-    → (slots : ℕ) (st : List Stored) → HasStores st v.stores → HasStored slots v e
+    → (slots : ℕ) (st : List Stored) → ExtendsStores st v.stores → LinkHasValue slots v e
     → (w : View) × (r : Runs L (slice_set words i (left_word v.layout (knowledge v) e (slice_index words i))) (set views id w)) × Grows L slots st k.turns r.turns × (w.stores ≡ v.stores) × Did e no_step (v, []) m (w, [])
 unfolding is_found
 goes_on L words views id v e i m k at alive layout index may same is slots st had stored =
@@ -266,7 +266,7 @@ goes_on L words views id v e i m k at alive layout index may same is slots st ha
 
 -- where the core's words take a step, so do all
 pub lifts : (L : Layout) (slots id : ℕ) (v : View) (i : ℕ) (f : ℕ → ℕ) (then' : ℕ → Me Unit View → Type 0) → i < all_words L
-    → ((core : List ℕ) (views : List View) (k : Runs L core views) → get_elem? views id ≡ some v → slice_index core i < 18446744073709551616 → (st : List Stored) → HasStores st v.stores
+    → ((core : List ℕ) (views : List View) (k : Runs L core views) → get_elem? views id ≡ some v → slice_index core i < 18446744073709551616 → (st : List Stored) → ExtendsStores st v.stores
     → (w : View) × (r : Runs L (slice_set core i (f (slice_index core i))) (set views id w)) × Grows L slots st k.turns r.turns × (w.stores ≡ v.stores) × then' (slice_index core i) (w, []))
     → Allows (Kept L) slots id (v, []) i f then'
 lifts L slots id v i f then' below go s k homes at small =
@@ -288,7 +288,7 @@ lifts L slots id v i f then' below go s k homes at small =
           are = k.valued.are;
           held = held_longer L slots k.stores k.runs.turns g.1.turns g.2 k.stores k.valued.held;
           linked = subst (λ (n : ℕ). IfValued L n g.1.turns k.stores) (sym (k.long ∙ homes)) (g.2.linked (subst (λ (n : ℕ). IfValued L n k.runs.turns k.stores) (k.long ∙ homes) k.valued.linked));
-          seen = each_set (λ (u : View). HasStores k.stores u.stores) s.views id g.0 (subst (HasStores k.stores) (sym g.3) (k.valued.seen id v at)) (λ j u _. k.valued.seen j u);
+          seen = each_set (λ (u : View). ExtendsStores k.stores u.stores) s.views id g.0 (subst (ExtendsStores k.stores) (sym g.3) (k.valued.seen id v at)) (λ j u _. k.valued.seen j u);
         };
       },
       subst (λ (n : ℕ). then' n (g.0, [])) (sym same) g.4,
@@ -300,11 +300,11 @@ pub allows : (L : Layout) (slots id : ℕ) (v : View) (e : Event) (i : ℕ) (f s
     → v.resigned ≡ false → v.layout ≡ L → i ≡ word L (touched_field v.number e) → May L v.number v.log e
     → ((n : ℕ) → f n ≡ left_word v.layout (knowledge v) e n)
     → ((n : ℕ) → (told v.layout (knowledge v) (known_births v) e (said n) ≡ told v.layout (knowledge v) (known_births v) e n) × (is_store e ≡ false → said n ≡ n))
-    → i < all_words L → HasStored slots v e
+    → i < all_words L → LinkHasValue slots v e
     → Allows (Kept L) slots id (v, []) i f (λ n. Did e no_step (v, []) (said n))
 allows L slots id v e i f said alive layout index may change tell below stored = lifts L slots id v i f (λ n. Did e no_step (v, []) (said n)) below by
   where
-    by : (core : List ℕ) (views : List View) (k : Runs L core views) → get_elem? views id ≡ some v → slice_index core i < 18446744073709551616 → (st : List Stored) → HasStores st v.stores
+    by : (core : List ℕ) (views : List View) (k : Runs L core views) → get_elem? views id ≡ some v → slice_index core i < 18446744073709551616 → (st : List Stored) → ExtendsStores st v.stores
         → (w : View) × (r : Runs L (slice_set core i (f (slice_index core i))) (set views id w)) × Grows L slots st k.turns r.turns × (w.stores ≡ v.stores) × Did e no_step (v, []) (said (slice_index core i)) (w, [])
     by core views k at small st had =
         let n : ℕ = slice_index core i in

@@ -27,7 +27,7 @@ use Rattle.nm_steps.specs.Packing.{word_at, touched_field}
 use Rattle.nm_steps.specs.Told.{told}
 use Rattle.nm_steps.specs.declared.view.View.{View}
 use Rattle.std.proofs.lemmas.List.{same_from_push}
-use Rattle.nm_steps.specs.Rules.{HasStored, knowledge, known_births, answered_turn, logged, is_store, IsFound}
+use Rattle.nm_steps.specs.Rules.{LinkHasValue, knowledge, known_births, answered_turn, logged, is_store, IsFound}
 use Rattle.nm_steps.specs.Steps.{PassView, May, IsReadyFor, IsDone, Stepped, HasTurn, IsOfRun, IsInRun, HasSeen, Tied, Laid, noted_sight, TakesStep}
 use Rattle.nm_steps.proofs.Presence.{gone_kept, known_push}
 use Rattle.nm_steps.proofs.Asking.{within, seen_small, private_pooled}
@@ -163,7 +163,7 @@ small_seen None small = tt
 small_seen (Some s) small = small s refl
 
 pub ready : (z : TableId) (key L : Layout) (it : Seat Unit View) (number announcement : ℕ) (brief : Brief) (e : Event) (i : ℕ)
-    → Laid z key L → Tied it number announcement brief → it.table_id ≡ z → it.me.0.layout ≡ L → May it.me.0.layout it.me.0.number it.me.0.log e → i ≡ word L (touched_field number e) → HasStored z.slots it.me.0 e → IsReadyFor (record { table = z; layout = L }) it e i
+    → Laid z key L → Tied it number announcement brief → it.table_id ≡ z → it.me.0.layout ≡ L → May it.me.0.layout it.me.0.number it.me.0.log e → i ≡ word L (touched_field number e) → LinkHasValue z.slots it.me.0 e → IsReadyFor (record { table = z; layout = L }) it e i
 ready z key L it number announcement brief e i laid tied table same may index stored =
     let k : May L it.me.0.number it.me.0.log e = subst (λ (l : Layout). May l it.me.0.number it.me.0.log e) same may in
     let own : it.me.0.number < L.workers = subst (λ (n : ℕ). n < L.workers) tied.number_is (subst (λ (l : Layout). number < l.workers) same tied.worker) in

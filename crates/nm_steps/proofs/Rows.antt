@@ -14,7 +14,7 @@ use Rattle.atomic_table.specs.Seated.{TableId}
 use Rattle.atomic_table.specs.declared.shared.Seat.{Seat}
 use Rattle.atomic_table.proofs.Lists.{set_here, set_again}
 use Rattle.nm_edge.specs.Layouts.{Layout, IsLayout}
-use Rattle.nm_edge.specs.Words.{pool_place, pool_word, word, words, at_announcement, at_row}
+use Rattle.nm_edge.specs.Words.{pool_word, word, words, at_announcement, at_row}
 use Rattle.nm_edge.proofs.Words.{fields_within, places_are_rows}
 use Rattle.nm_model.specs.declared.event.Event.{Event}
 use Rattle.nm_model.specs.declared.event.Event.TheVariants.{Claim}
@@ -32,7 +32,7 @@ use Rattle.nm_steps.specs.Packing.{touched_field, left_word}
 use Rattle.nm_steps.specs.Told.{told}
 use Rattle.nm_steps.specs.declared.view.Stored.{Stored}
 use Rattle.nm_steps.specs.declared.view.View.{View}
-use Rattle.nm_steps.specs.Rules.{knowledge, known_births, Extends, Runs, Kept, answered_turn, logged, HasStores}
+use Rattle.nm_steps.specs.Rules.{knowledge, known_births, Extends, Runs, Kept, answered_turn, logged, ExtendsStores}
 use Rattle.nm_steps.specs.Steps.{Laid, PassView, May, IsDone, HasSeen, Tied, Continues, Stepped, TakesStep}
 use Rattle.nm_steps.specs.Rows.{DoneInTurn, FoundTaken, shown_taken, DidClaims, CanPass, HasPassed}
 use Rattle.nm_steps.proofs.Growing.{goes_on_itself}
@@ -169,7 +169,7 @@ within_length [] i a e = absurd (some-ne-none a (sym e))
 within_length (x ∷ xs) zero a e = omega arith
 within_length (x ∷ xs) (suc i) a e = let less = within_length xs i a e in omega (arith, less)
 
-module _ (L : Layout) (id i from : ℕ) (v : View) (core : List ℕ) (views : List View) (rule : Runs L core views) (at : get_elem? views id ≡ some v) (alive : v.resigned ≡ false) (layout : v.layout ≡ L) (small : slice_index core i < 18446744073709551616) (low : 6 ≤ from) (slots : ℕ) (st : List Stored) (had : HasStores st v.stores) where
+module _ (L : Layout) (id i from : ℕ) (v : View) (core : List ℕ) (views : List View) (rule : Runs L core views) (at : get_elem? views id ≡ some v) (alive : v.resigned ≡ false) (layout : v.layout ≡ L) (small : slice_index core i < 18446744073709551616) (low : 6 ≤ from) (slots : ℕ) (st : List Stored) (had : ExtendsStores st v.stores) where
   abbrev n : ℕ
   n = slice_index core i
 
@@ -178,7 +178,7 @@ module _ (L : Layout) (id i from : ℕ) (v : View) (core : List ℕ) (views : Li
   reaches (suc k) high rows taken =
       let r = reaches k (omega (arith, high)) (λ j less. rows j (omega (arith, less))) (λ j less. taken j (omega (arith, less))) in
       let e : Event = Claim (from + k) in
-      let step = goes_on L core (set views id r.view) id r.view e i n r.keeps_rule r.at r.alive r.layout (rows k (omega arith)) (allowed_claim L r.view.number r.view.log (from + k) (omega (arith, low)) (omega (arith, high))) refl (λ h. refl) slots st (subst (HasStores st) (sym r.same) had) tt in
+      let step = goes_on L core (set views id r.view) id r.view e i n r.keeps_rule r.at r.alive r.layout (rows k (omega arith)) (allowed_claim L r.view.number r.view.log (from + k) (omega (arith, low)) (omega (arith, high))) refl (λ h. refl) slots st (subst (ExtendsStores st) (sym r.same) had) tt in
       let w : View = step.0 in
       let same : w ≡ logged r.view e n (trace_in (ordered r.view.layout) step.4.0.turns) = ap (λ (m : Me Unit View). m.0) step.4.1 in
       let words_same : slice_set core i (left_word r.view.layout (knowledge r.view) e n) ≡ core = ap (slice_set core i) (left_alone r.view.layout (knowledge r.view) (from + k) n small (taken k (omega arith))) ∙ set_read core i in

@@ -6,7 +6,7 @@ use Rattle.nm_steps.specs.Steps.{PassView, Stepped, HasTurn, HasSeenAllOf, IsSam
 use Rattle.nm_steps.proofs.Growing.{goes_on_itself, goes_on_through, goes_on_by}
 use Rattle.std.proofs.Common.{◌≡◌, [], ◌++◌, append-nil, append_assoc, sym, subst, ap, ◌∙◌, List}
 use Rattle.nm_model.specs.declared.trace.Turn.{Turn}
-use Rattle.nm_steps.specs.Rules.{Extends, HasStores, answered_turn}
+use Rattle.nm_steps.specs.Rules.{Extends, ExtendsStores, answered_turn}
 use Rattle.nm_steps.specs.declared.view.Stored.{Stored}
 
 pub seen_itself : (p : PassView) → HasSeenAllOf p p
@@ -26,13 +26,13 @@ same_then p q r first second = second ∙ ap (λ (z : PassView). record z { view
 pub same_by_step : (p q : PassView) (e : Event) (r : Reply) → Stepped p q e r → IsSamePass p q
 same_by_step p q e r step = step ∙ ap (λ (log : List Entry). record p { view = record p.view { log = log; past = q.view.past; stores = q.view.stores } }) (sym (ap (λ (z : PassView). z.view.log) step))
 
-pub stores_through : (a b c : List Stored) → HasStores b a → HasStores c b → HasStores c a
+pub stores_through : (a b c : List Stored) → ExtendsStores b a → ExtendsStores c b → ExtendsStores c a
 stores_through a b c first second = record {
   more = first.more ++ second.more;
   is = second.is ∙ (ap (λ (l : List Stored). l ++ second.more) first.is ∙ append_assoc a first.more second.more);
 }
 
-pub stores_same : (now was : List Stored) → now ≡ was → HasStores now was
+pub stores_same : (now was : List Stored) → now ≡ was → ExtendsStores now was
 stores_same now was same = record { more = []; is = same ∙ sym (append-nil was) }
 
 pub continues_then : (p q r : PassView) → Continues p q → Continues q r → Continues p r

@@ -1,5 +1,5 @@
 -- What follows from a look at a value about earlier moments.
-use Rattle.std.proofs.Common.{◌≡◌, ◌⊎◌, inl, inr, ℕ, ◌<◌, ◌≤◌, ◌==◌, ltb, Bool, true, false, cond, List, [], ◌∷◌, ◌++◌, length, refl, sym, ap, ◌∙◌, subst, arith}
+use Rattle.std.proofs.Common.{◌≡◌, ◌⊎◌, inl, inr, ℕ, ◌<◌, ◌≤◌, ◌==◌, ltb, Bool, true, false, cond, List, [], ◌∷◌, ◌++◌, length, refl, sym, ap, ◌∙◌, arith}
 use Rattle.std.specs.Prelude.{filter}
 use Rattle.std.proofs.lemmas.Bool.{cases_lt, lt-ltb, le-ltb, ne_eqb, true≢false}
 use Rattle.nm_edge.specs.Layouts.{Layout, IsLayout}
@@ -10,7 +10,7 @@ use Rattle.nm_model.specs.Ordered.{ordered, after_in}
 use Rattle.nm_steps.specs.declared.view.Stored.{Stored}
 use Rattle.nm_steps.specs.Rules.{WereHeld, value_from, value_of}
 use Rattle.nm_steps.specs.Steps.{Continues, PassView}
-use Rattle.nm_steps.specs.Values.{LooksOnly}
+use Rattle.nm_steps.specs.Values.{OnlySees}
 use Rattle.nm_steps.proofs.AfterSteps.{run_of_seen}
 
 -- the value of a slot by the stores that were made before so many turns
@@ -41,7 +41,7 @@ pub value_stays : (L : Layout) (turns : List (ℕ × Event)) (stores : List Stor
 value_stays L turns stores m s held free = left_out m s 0 stores L turns held free
 
 -- a pass goes on over a step on a value
-pub continues_by_value : (p q : PassView) → LooksOnly p q → IsLayout q.view.layout → Continues p q
+pub continues_by_value : (p q : PassView) → OnlySees p q → IsLayout q.view.layout → Continues p q
 continues_by_value p q l fits = record {
   same = l.same ∙ (λ i. record p { view = record p.view { log = sym (ap (λ (z : PassView). z.view.log) l.same) i; past = q.view.past; stores = q.view.stores } });
   past = record { goes_on = l.past };

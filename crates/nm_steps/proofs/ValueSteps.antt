@@ -1,12 +1,12 @@
 -- How a value is read and stored: the rule after the step, and what the seat learns by it.
-use Rattle.std.proofs.Common.{◌≡◌, ◌≢◌, ◌⊎◌, inl, inr, ℕ, zero, suc, ◌+◌, ◌-◌, ◌<◌, ◌≤◌, ◌==◌, Bool, true, false, cond, List, [], ◌∷◌, ◌++◌, length, set, refl, sym, ap, ◌∙◌, subst, arith, get_or-set_same, get_or-set_other, get_or-append-add, length-set, eq-eqb, ne_eqb, append-nil}
+use Rattle.std.proofs.Common.{◌≡◌, inl, inr, ℕ, zero, suc, ◌+◌, ◌-◌, ◌<◌, ◌≤◌, ◌==◌, true, false, List, [], ◌∷◌, ◌++◌, length, set, refl, sym, ap, ◌∙◌, subst, arith, get_or-set_same, get_or-set_other, get_or-append-add, length-set, eq-eqb, ne_eqb, append-nil}
 use Rattle.std.specs.Prelude.{slice_index, slice_set}
 use Rattle.std.proofs.lemmas.List.{set-get_or}
 use Rattle.std.proofs.lemmas.Bool.{cond-true, cond-false}
-use mathlib.Core.Option.{some, none, some-injective, some-ne-none}
+use mathlib.Core.Option.{some, some-injective, some-ne-none}
 use native.Mathlib.Decide.{ℕ_discrete}
 use lib.ListN.{get_elem?}
-use Rattle.atomic_table.specs.Table.{Me, State, Step, Allows, keeps, opening}
+use Rattle.atomic_table.specs.Table.{State, Allows, keeps, opening}
 use Rattle.std.proofs.lemmas.List.{get_or-replicate, length-map, length-replicate, nil_from_length}
 use Rattle.std.specs.Prelude.{replicate}
 use Rattle.nm_model.specs.Memory as memory
@@ -26,18 +26,17 @@ use Rattle.nm_model.specs.Walks.{Entry}
 use Rattle.nm_model.specs.Runs.{of}
 use Rattle.nm_model.specs.Ordered.{ordered, after_in, trace_in}
 use Rattle.nm_order.specs.Hands.{IsPooled}
-use Rattle.nm_order.specs.Logs.{part_of, known_by}
+use Rattle.nm_order.specs.Logs.{known_by}
 use Rattle.nm_order.proofs.PartsOfRuns.{logs_tell}
 use Rattle.nm_order.proofs.PinNumbers.{length_trace}
 use Rattle.nm_steps.proofs.Blocks.{set-append-add}
 use Rattle.nm_steps.specs.declared.view.Stored.{Stored}
 use Rattle.nm_steps.specs.declared.view.View.{View}
-use Rattle.nm_steps.specs.Rules.{HasStores, IsShown, LinksHaveValues, Keeps, Kept, LagsBehind, Runs, WasHeld, WereHeld, everybody, knowledge, numbers_from, stands, value_of, value_from, viewing}
-use Rattle.nm_steps.specs.Steps.{HasSeen, Laid, PassView, Tied, TreeView}
-use Rattle.nm_steps.specs.Ties.{StandsInRun}
-use Rattle.nm_steps.specs.Values.{CanReach, HasLooked, HasSeenStores, HasStoredValue, HasValues, LooksOnly, MayStore, SawValue, no_step, own_store, value_word}
+use Rattle.nm_steps.specs.Rules.{ExtendsStores, IsShown, LinksHaveValues, Kept, LagsBehind, Runs, WereHeld, everybody, knowledge, numbers_from, stands, value_of, viewing}
+use Rattle.nm_steps.specs.Steps.{HasSeen, Laid, Tied}
+use Rattle.nm_steps.specs.Values.{CanReach, HasSeenMore, HasStoredValue, OnlySees, MayStore, SawValue, no_step}
 use Rattle.nm_steps.proofs.Counts.{sum_after}
-use Rattle.nm_steps.proofs.Growing.{goes_on_itself, goes_on_from_nothing}
+use Rattle.nm_steps.proofs.Growing.{goes_on_itself}
 use Rattle.nm_steps.proofs.Keeping.{each_set}
 use Rattle.nm_steps.proofs.Noting.{standing}
 use Rattle.nm_steps.proofs.Tying.{own_part, stands_in_run}
@@ -123,7 +122,7 @@ sees L slots id v slot i alive layout many is index s k homes at small =
           are = k.valued.are;
           held = k.valued.held;
           linked = k.valued.linked;
-          seen = each_set (λ (u : View). HasStores k.stores u.stores) s.views id w (stores_themselves k.stores) (λ j u _. k.valued.seen j u);
+          seen = each_set (λ (u : View). ExtendsStores k.stores u.stores) s.views id w (stores_themselves k.stores) (λ j u _. k.valued.seen j u);
         };
       },
       (
@@ -175,7 +174,7 @@ stores_it L slots id v slot i new alive layout many is private index s k homes a
           are = values_after k.values k.stores slot x is.0 (inside L s k slots slot i homes many is index) refl k.valued.are;
           held = held;
           linked = subst (λ (n : ℕ). IfValued L n k.runs.turns st) (sym (length-set k.values (slot - 1) new)) (still_linked L (length k.values) k.runs.turns st k.stores (stores_more k.stores k.stores x (stores_themselves k.stores)) k.valued.linked);
-          seen = each_set (λ (u : View). HasStores st u.stores) s.views id w (stores_themselves st) (λ j u _ there. stores_more k.stores u.stores x (k.valued.seen j u there));
+          seen = each_set (λ (u : View). ExtendsStores st u.stores) s.views id w (stores_themselves st) (λ j u _ there. stores_more k.stores u.stores x (k.valued.seen j u there));
         };
       },
       (
@@ -216,7 +215,7 @@ asked_to_store L z it d slot i new pick can may = (
 pub can_by_key : (z : TableId) (key L : Layout) (it : Seat Unit View) (slot i : ℕ) → Laid z key L → CanReach (record { table = z; layout = L }) it slot i → CanReach (record { table = z; layout = key }) it slot i
 can_by_key z key L it slot i laid c = subst (λ (l : Layout). CanReach (record { table = z; layout = l }) it slot i) (sym laid.key_is) c
 
-pub looked_tied : (it after : Seat Unit View) (number announcement : ℕ) (brief : Brief) → Tied it number announcement brief → after.me.1 ≡ it.me.1 → HasLooked it.me.0 after.me.0 → Tied after number announcement brief
+pub looked_tied : (it after : Seat Unit View) (number announcement : ℕ) (brief : Brief) → Tied it number announcement brief → after.me.1 ≡ it.me.1 → HasSeenMore it.me.0 after.me.0 → Tied after number announcement brief
 looked_tied it after number announcement brief tied slots l = record {
   empty = slots ∙ tied.empty;
   alive = ap (λ (v : View). v.resigned) l.same ∙ tied.alive;
@@ -231,7 +230,7 @@ looked_tied it after number announcement brief tied slots l = record {
   heard = ap (λ (v : View). v.heard) l.same ∙ tied.heard;
 }
 
-pub looks_only : (it after : Seat Unit View) → after.table_id ≡ it.table_id → after.id ≡ it.id → HasLooked it.me.0 after.me.0 → LooksOnly (standing it) (standing after)
+pub looks_only : (it after : Seat Unit View) → after.table_id ≡ it.table_id → after.id ≡ it.id → HasSeenMore it.me.0 after.me.0 → OnlySees (standing it) (standing after)
 looks_only it after table seat l = record {
   same = λ i. record { table = table i; seat = seat i; view = l.same i };
   past = l.past;
@@ -267,6 +266,6 @@ opens_values L ws units fits e =
     no_values [] = refl
     no_values (h ∷ hs) = refl
 
-    none_seen : (i : ℕ) (v : View) → get_elem? (everybody L ∷ []) i ≡ some v → HasStores [] v.stores
-    none_seen zero v there = subst (λ (x : View). HasStores [] x.stores) (some-injective _ _ there) (subst (HasStores []) (sym (no_values (numbers_from 0 L.workers))) (stores_themselves []))
+    none_seen : (i : ℕ) (v : View) → get_elem? (everybody L ∷ []) i ≡ some v → ExtendsStores [] v.stores
+    none_seen zero v there = subst (λ (x : View). ExtendsStores [] x.stores) (some-injective _ _ there) (subst (ExtendsStores []) (sym (no_values (numbers_from 0 L.workers))) (stores_themselves []))
     none_seen (suc i) v there = absurd (some-ne-none v (sym there))

@@ -1,7 +1,5 @@
 -- Values after the words of the core: a step of the core leaves them as they are.
-use Rattle.std.proofs.Common.{◌≡◌, ◌≢◌, ◌⊎◌, inl, inr, ℕ, zero, suc, ◌+◌, ◌-◌, ◌<◌, ◌≤◌, ◌==◌, Bool, true, false, cond, List, [], ◌∷◌, ◌++◌, length, set, refl, sym, ap, ◌∙◌, subst, arith, append-nil, append_assoc, get_or-set_same, get_or-set_other, get_or-append-add, length-set, eq-eqb, ne_eqb}
-use Rattle.std.specs.Prelude.{slice_index, slice_set}
-use Rattle.std.proofs.lemmas.List.{get_or_append_left, set-append_left, set-get_or}
+use Rattle.std.proofs.Common.{◌≡◌, ◌⊎◌, inl, inr, ℕ, ◌+◌, ◌-◌, ◌≤◌, ◌==◌, false, cond, List, [], ◌∷◌, ◌++◌, length, refl, sym, ap, ◌∙◌, subst, arith, append-nil, append_assoc}
 use Rattle.std.proofs.lemmas.List.Elements.{Contains-append_left}
 use Rattle.std.specs.Prelude.{Contains}
 use mathlib.Core.Option.{some}
@@ -21,7 +19,7 @@ use Rattle.nm_steps.proofs.PackedEvents.{each_state_fits}
 use Rattle.nm_steps.proofs.PackedReads.{each_field_has_a_word}
 use Rattle.nm_steps.specs.declared.view.Stored.{Stored}
 use Rattle.nm_steps.specs.declared.view.View.{View}
-use Rattle.nm_steps.specs.Rules.{HasStores, IsShown, IsStored, LinksHaveValues, new_leaf, Keeps, LagsBehind, Runs, WasHeld, WereHeld, knowledge, once_below, stands, value_from, value_of}
+use Rattle.nm_steps.specs.Rules.{ExtendsStores, IsShown, IsStored, LinksHaveValues, new_leaf, Keeps, LagsBehind, Runs, WasHeld, WereHeld, knowledge, once_below, stands, value_from}
 use Rattle.std.specs.List.{sum_by}
 
 -- ---- runs that go on
@@ -76,7 +74,7 @@ last_or_earlier (z ∷ xs) (b ∷ before) since x y is = on (last_or_earlier xs 
     on (inl s) = inl (s.0, λ i. head is i ∷ s.1 i)
     on (inr s) = inr ((λ i. sym (head is) i ∷ s.0 i), s.1)
 
-pub still_stored : (st was : List Stored) (w own slot : ℕ) → HasStores st was → IsStored was w own slot → IsStored st w own slot
+pub still_stored : (st was : List Stored) (w own slot : ℕ) → ExtendsStores st was → IsStored was w own slot → IsStored st w own slot
 still_stored st was w own slot h s = record {
   stored = s.stored;
   there = subst (λ (l : List Stored). Contains l s.stored) (sym h.is) (Contains-append_left was h.more s.stored s.there);
@@ -85,7 +83,7 @@ still_stored st was w own slot h s = record {
   for_slot = s.for_slot;
 }
 
-pub still_linked : (L : Layout) (slots : ℕ) (turns : List (ℕ × Event)) (st was : List Stored) → HasStores st was → IfValued L slots turns was → IfValued L slots turns st
+pub still_linked : (L : Layout) (slots : ℕ) (turns : List (ℕ × Event)) (st was : List Stored) → ExtendsStores st was → IfValued L slots turns was → IfValued L slots turns st
 still_linked L slots turns st was h (inl plain) = inl plain
 still_linked L slots turns st was h (inr l) = inr (λ before since w p side leaf new is. still_stored st was w _ _ h (l before since w p side leaf new is))
 
@@ -107,13 +105,13 @@ reviewed {L} {core} {views} {new} e r = record {
 
 -- ---- stores that go on
 
-pub stores_themselves : (st : List Stored) → HasStores st st
+pub stores_themselves : (st : List Stored) → ExtendsStores st st
 stores_themselves st = record { more = []; is = sym (append-nil st) }
 
-pub stores_from_none : (st : List Stored) → HasStores st []
+pub stores_from_none : (st : List Stored) → ExtendsStores st []
 stores_from_none st = record { more = st; is = refl }
 
-pub stores_more : (st was : List Stored) (x : Stored) → HasStores st was → HasStores (st ++ x ∷ []) was
+pub stores_more : (st was : List Stored) (x : Stored) → ExtendsStores st was → ExtendsStores (st ++ x ∷ []) was
 stores_more st was x h = record { more = h.more ++ x ∷ []; is = ap (λ (l : List Stored). l ++ x ∷ []) h.is ∙ append_assoc was h.more (x ∷ []) }
 
 -- the same turn
@@ -158,7 +156,7 @@ value_push was (y ∷ ys) x s = value_push (cond (y.slot == s) y.value was) ys x
 
 -- ---- the rule with other views
 
-pub rewrap : (L : Layout) (ws : List ℕ) (count : ℕ) (views new : List View) (K : Keeps L ws count views) (r : Runs L K.core new) → Grows L count K.stores K.runs.turns r.turns → ((i : ℕ) (u : View) → get_elem? new i ≡ some u → HasStores K.stores u.stores) → Keeps L ws count new
+pub rewrap : (L : Layout) (ws : List ℕ) (count : ℕ) (views new : List View) (K : Keeps L ws count views) (r : Runs L K.core new) → Grows L count K.stores K.runs.turns r.turns → ((i : ℕ) (u : View) → get_elem? new i ≡ some u → ExtendsStores K.stores u.stores) → Keeps L ws count new
 rewrap L ws count views new K r grows seen = record {
   core = K.core;
   values = K.values;

@@ -206,7 +206,7 @@ abbrev pub value_of : List Stored → ℕ → ℕ
 value_of stores s = value_from 0 stores s
 
 -- these stores extend earlier ones
-pub record HasStores (now was : List Stored) : Type 0 where
+pub record ExtendsStores (now was : List Stored) : Type 0 where
   pub more : List Stored
   pub is : now ≡ was ++ more
 
@@ -228,7 +228,7 @@ WereHeld L turns (x ∷ xs) = WasHeld L turns x × WereHeld L turns xs
 abbrev pub new_leaf : Knowledge → ℕ → ℕ → ℕ
 new_leaf k leaf new = unwrap_or (beside (draft_of k new) leaf) 0
 
--- the worker stored a value for the slot when its log had so many entries
+-- the worker stored a value for the slot when its log had this number of entries
 pub record IsStored (stores : List Stored) (w entries slot : ℕ) : Type 0 where
   pub stored : Stored
   pub there : Contains stores stored
@@ -245,11 +245,11 @@ LinksHaveValues L turns stores =
     → IsStored stores w (length (part_of w (trace_in (ordered L) before)))
     (new_leaf (of (after_in (ordered L) before).state w) leaf new)
 
--- the worker may try to link: in a table with values it has just stored one for the new leaf
-abbrev pub HasStored : ℕ → View → Event → Type 0
-HasStored slots v (Link p side leaf new) = (slots ≡ 0)
+-- if this event is a link in a table with values, its worker has just stored a value for the new leaf
+abbrev pub LinkHasValue : ℕ → View → Event → Type 0
+LinkHasValue slots v (Link p side leaf new) = (slots ≡ 0)
     ⊎ IsStored v.stores v.number (length v.log) (new_leaf (knowledge v) leaf new)
-HasStored slots v e = Unit {0}
+LinkHasValue slots v e = Unit {0}
 
 -- the words after those of the core are the values of slots 1 and on by these stores. Each slot was
 -- private at its store, and each new leaf has a store. The stores that a view has seen are a
@@ -259,7 +259,7 @@ pub record HoldsValues (L : Layout) (turns : List (ℕ × Event)) (values : List
   pub are : (i : ℕ) → i < length values → slice_index values i ≡ value_of stores (i + 1)
   pub held : WereHeld L turns stores
   pub linked : (length values ≡ 0) ⊎ LinksHaveValues L turns stores
-  pub seen : (i : ℕ) (v : View) → get_elem? views i ≡ some v → HasStores stores v.stores
+  pub seen : (i : ℕ) (v : View) → get_elem? views i ≡ some v → ExtendsStores stores v.stores
 
 -- the first words are those of a run, and the last `count` words are values. A table with values has
 -- `count` slots, which have no bytes, and any other table has none

@@ -31,7 +31,7 @@ use Rattle.nm_steps.specs.declared.answers.Sighted.TheVariants as seeing
 use Rattle.nm_steps.specs.declared.tree_steps.FrozenChain.{FrozenChain}
 use Rattle.nm_steps.specs.declared.view.View.{View}
 use Rattle.nm_model.specs.declared.trace.Turn.{Turn}
-use Rattle.nm_steps.specs.Rules.{held_log, knowledge, known_births, viewing, joined, answered_turn, logged, is_store, stands, once_below, Extends, IsShown, IsFound, HasStored, HasStores}
+use Rattle.nm_steps.specs.Rules.{held_log, knowledge, known_births, viewing, joined, answered_turn, logged, is_store, stands, once_below, Extends, IsShown, IsFound, LinkHasValue, ExtendsStores}
 
 -- ---- what a worker's own log allows
 
@@ -85,7 +85,7 @@ pub record IsReadyFor (b : TreeView) (it : Seat Unit View) (e : Event) (i : ℕ)
   pub layout : it.me.0.layout ≡ b.layout
   pub within : IsField b.layout (touched_field it.me.0.number e)
   pub word : i ≡ word b.layout (touched_field it.me.0.number e)
-  pub stored : HasStored b.table.slots it.me.0 e
+  pub stored : LinkHasValue b.table.slots it.me.0 e
   pub may : May b.layout it.me.0.number it.me.0.log e
 
 -- the event is done, with the reply that this word gives
@@ -240,7 +240,7 @@ pub record Continues (p q : PassView) : Type 0 where
   pub same : IsSamePass p q
   pub past : HasSeenAllOf q p
   pub run : IsInRun q
-  pub stores : HasStores q.view.stores p.view.stores
+  pub stores : ExtendsStores q.view.stores p.view.stores
 
 -- ---- replies, from the results of step functions
 

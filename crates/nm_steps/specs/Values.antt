@@ -7,7 +7,7 @@ use Rattle.nm_edge.specs.Words.{IsSlot, words}
 use Rattle.nm_model.specs.Knowledge.{is_private}
 use Rattle.nm_steps.specs.declared.view.Stored.{Stored}
 use Rattle.nm_steps.specs.declared.view.View.{View}
-use Rattle.nm_steps.specs.Rules.{Extends, HasStores, LinksHaveValues, WereHeld, knowledge, value_of}
+use Rattle.nm_steps.specs.Rules.{Extends, ExtendsStores, LinksHaveValues, WereHeld, knowledge, value_of}
 use Rattle.nm_steps.specs.Steps.{HasSeen, PassView, TreeView}
 
 -- a table with a value for each slot
@@ -27,15 +27,15 @@ pub record HasSeenStores (v : View) : Type 0 where
   pub linked : LinksHaveValues v.layout run.events v.stores
 
 -- only what has been seen has changed: more turns, and more stores
-pub record HasLooked (before after : View) : Type 0 where
+pub record HasSeenMore (before after : View) : Type 0 where
   pub same : after ≡ record before { past = after.past; stores = after.stores }
   pub past : Extends after.past before.past
-  pub stores : HasStores after.stores before.stores
+  pub stores : ExtendsStores after.stores before.stores
   pub seen : HasSeenStores after
 
 -- a look at the value of a slot, which is the one that was stored last for it
 abbrev pub SawValue : ℕ → Step Unit → Me Unit View → ℕ → Me Unit View → Type 0
-SawValue slot s me n after = (after.1 ≡ me.1) × HasLooked me.0 after.0
+SawValue slot s me n after = (after.1 ≡ me.1) × HasSeenMore me.0 after.0
     × (n ≡ value_of after.0.stores slot)
 
 -- the worker's own store of this value for a slot
@@ -51,7 +51,7 @@ own_store v slot value stores at =
 
 -- a value was stored for a slot, by the last store so far
 abbrev pub HasStoredValue : ℕ → Step Unit → Me Unit View → ℕ → Me Unit View → Type 0
-HasStoredValue slot s me n after = (after.1 ≡ me.1) × HasLooked me.0 after.0
+HasStoredValue slot s me n after = (after.1 ≡ me.1) × HasSeenMore me.0 after.0
     × ((earlier : List Stored) × (after.0.stores ≡ own_store me.0 slot n earlier (length after.0.past)))
 
 -- the pass of this seat can read or store the value of the slot, by the word i
@@ -86,10 +86,10 @@ pub record HasPutValue (it after : Seat Unit View) (slot n : ℕ) : Type 0 where
 -- ---- of a pass
 
 -- the pass has seen more turns and stores, and nothing else has changed
-pub record LooksOnly (p q : PassView) : Type 0 where
+pub record OnlySees (p q : PassView) : Type 0 where
   pub same : q ≡ record p { view = record p.view { past = q.view.past; stores = q.view.stores } }
   pub past : Extends q.view.past p.view.past
-  pub stores : HasStores q.view.stores p.view.stores
+  pub stores : ExtendsStores q.view.stores p.view.stores
   pub seen : HasSeenStores q.view
 
 -- the value was stored for the slot, by the last store so far

@@ -7,7 +7,7 @@ ghost use Rattle.nm_model.specs.declared.event.Field.TheVariants.{Key as KeyOf, 
 ghost use Rattle.nm_model.specs.declared.reply.Reply.TheVariants.{KeyIs, EdgeIs, BirthIs, Filled, Was};
 ghost use Rattle.nm_model.specs.Knowledge.{read};
 ghost use Rattle.nm_model.specs.Step.{last_number};
-ghost use Rattle.nm_steps.specs.Rules.{HasStored, knowledge};
+ghost use Rattle.nm_steps.specs.Rules.{LinkHasValue, knowledge};
 ghost use Rattle.nm_steps.specs.Steps.{IsOf, MayStep, TakesStep, link_reply, flag_reply, splice_of, splice_reply};
 
 use crate::pass::{Pass, Shared};
@@ -116,7 +116,7 @@ impl Shared {
     ) -> Result<(), Edge>
         requires own { IsOf self.now pass.old }
         requires may { MayStep pass.old (Link parent side leaf new) }
-        requires stored { HasStored self.now.table.slots pass.old.view
+        requires stored { LinkHasValue self.now.table.slots pass.old.view
             (Link parent side leaf new) }
         ensures { TakesStep pass.old pass.new (Link parent side leaf new)
             (link_reply pass.old.view new result) }

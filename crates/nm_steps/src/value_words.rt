@@ -4,7 +4,7 @@ ghost use Rattle.nm_edge.specs.Words.{IsSlot};
 ghost use Rattle.nm_model.specs.Knowledge.{is_private};
 ghost use Rattle.nm_steps.specs.Rules.{knowledge, value_of};
 ghost use Rattle.nm_steps.specs.Steps.{IsOf};
-ghost use Rattle.nm_steps.specs.Values.{HasStoredFor, HasValues, LooksOnly, value_word};
+ghost use Rattle.nm_steps.specs.Values.{HasStoredFor, HasValues, OnlySees, value_word};
 
 use crate::pass::{Pass, Shared};
 use std::marker::Brand;
@@ -16,7 +16,7 @@ impl Shared {
         requires own { IsOf self.now pass.old }
         requires values { HasValues self.now }
         requires slot { IsSlot self.now.layout slot }
-        ensures looks { LooksOnly pass.old pass.new }
+        ensures looks { OnlySees pass.old pass.new }
         ensures value { result ≡ value_of pass.new.view.stores slot }
     {
         let word = self.value_word(slot);
@@ -29,7 +29,7 @@ impl Shared {
         requires values { HasValues self.now }
         requires slot { IsSlot self.now.layout slot }
         requires private { is_private (knowledge pass.old.view) slot ≡ true }
-        ensures looks { LooksOnly pass.old pass.new }
+        ensures looks { OnlySees pass.old pass.new }
         ensures stored { HasStoredFor pass.old pass.new slot value }
     {
         let word = self.value_word(slot);

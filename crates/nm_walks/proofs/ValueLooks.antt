@@ -1,5 +1,5 @@
 -- A step on a value keeps all that a pass knows.
-use Rattle.std.proofs.Common.{◌≡◌, ◌<◌, ◌+◌, ℕ, List, [], ◌∷◌, ◌++◌, length, refl, sym, ap, subst, ◌∙◌, arith}
+use Rattle.std.proofs.Common.{ℕ, List, [], ◌∷◌, length, refl, sym, ap, subst, ◌∙◌, arith}
 use Rattle.std.specs.Prelude.{Contains, Result, Ok, Err, IfOk}
 use Rattle.std.proofs.lemmas.List.{length-append}
 use Rattle.std.proofs.lemmas.List.Elements.{Contains-push}
@@ -13,14 +13,14 @@ use Rattle.nm_model.specs.Walks.{search_after}
 use Rattle.nm_steps.specs.declared.view.Stored.{Stored}
 use Rattle.nm_steps.specs.Rules.{IsStored, answered_turn, knowledge, new_leaf}
 use Rattle.nm_steps.specs.Steps.{PassView, Continues, TakesStep}
-use Rattle.nm_steps.specs.Values.{HasStoredFor, LooksOnly, own_store}
+use Rattle.nm_steps.specs.Values.{HasStoredFor, OnlySees, own_store}
 use Rattle.nm_steps.proofs.ValueStays.{continues_by_value}
 use Rattle.nm_walks.specs.Growing.{HasLinkedValue}
 use Rattle.nm_walks.specs.Making.{HasFilled, HasJustStored, IsInserting, OnlyMakes}
 use Rattle.nm_walks.specs.Telling.{GoesOn, OnlyLooks, Tells}
 use Rattle.nm_walks.proofs.Linking.{is_fresh}
 
-pub goes_by_value : (p q : PassView) → LooksOnly p q → IsLayout p.view.layout → GoesOn p q
+pub goes_by_value : (p q : PassView) → OnlySees p q → IsLayout p.view.layout → GoesOn p q
 goes_by_value p q l fits =
     let on : Continues p q = continues_by_value p q l (subst (λ (z : PassView). IsLayout z.view.layout) (sym l.same) fits) in
     record {
@@ -31,7 +31,7 @@ goes_by_value p q l fits =
       keeps = λ fact holds. subst (λ (z : PassView). Tells z fact) (sym l.same) holds;
     }
 
-pub only_by_value : (p q : PassView) → LooksOnly p q → OnlyMakes p q
+pub only_by_value : (p q : PassView) → OnlySees p q → OnlyMakes p q
 only_by_value p q l = record {
   epochs = ap (λ (z : PassView). (knowledge z.view).brief) l.same;
   known = ap (λ (z : PassView). (knowledge z.view).known) l.same;
@@ -39,7 +39,7 @@ only_by_value p q l = record {
   search = ap (λ (z : PassView). search_after idle z.view.log) l.same;
 }
 
-pub looks_by_value : (p q : PassView) → LooksOnly p q → OnlyLooks p q
+pub looks_by_value : (p q : PassView) → OnlySees p q → OnlyLooks p q
 looks_by_value p q l = record {
   epochs = ap (λ (z : PassView). (knowledge z.view).brief) l.same;
   private = ap (λ (z : PassView). (knowledge z.view).drafts) l.same;
@@ -51,10 +51,10 @@ looks_by_value p q l = record {
 }
 
 -- three fills and then a value
-pub filled_by_value : (o p q : PassView) (slot key left right : ℕ) → HasFilled o p slot key left right → LooksOnly p q → HasFilled o q slot key left right
+pub filled_by_value : (o p q : PassView) (slot key left right : ℕ) → HasFilled o p slot key left right → OnlySees p q → HasFilled o q slot key left right
 filled_by_value o p q slot key left right f l = l.same ∙ ap (λ (z : PassView). record z { view = record z.view { past = q.view.past; stores = q.view.stores } }) f
 
-pub just_stored : (p q : PassView) (slot value : ℕ) → LooksOnly p q → HasStoredFor p q slot value → HasJustStored q slot value
+pub just_stored : (p q : PassView) (slot value : ℕ) → OnlySees p q → HasStoredFor p q slot value → HasJustStored q slot value
 just_stored p q slot value l s = (s.earlier, s.is ∙ ap (λ (z : PassView). own_store z.view slot value s.earlier (length q.view.past)) (sym l.same))
 
 -- ---- a link after a store

@@ -133,9 +133,9 @@ pub fn grow_with_value(
     fill_with_value(shared, pass, new_nodes.leaf.slot, &alone, value);
     pass.know_pooled_slots();
     let SeekRecord { parent, side, .. } = end.seek_record;
-    let linked = shared.link(pass, parent, side, leaf, new_nodes.internal.slot);
+    let won = shared.link(pass, parent, side, leaf, new_nodes.internal.slot);
     pass.know_run();
-    linked
+    won
 }
 
 /// Gives both nodes back to the pool, the internal one first. The placement remembers their slots.

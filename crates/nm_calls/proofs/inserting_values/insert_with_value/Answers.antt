@@ -1,10 +1,8 @@
-use Rattle.std.proofs.Common.{rules, refl, ap, subst}
-use Rattle.std.specs.Prelude.{IfOk}
+use Rattle.std.proofs.Common.{rules, refl, ap}
 use Rattle.nm_model.specs.declared.event.Op.TheVariants.{Insert}
 use Rattle.nm_steps.proofs.Seeing.{seen_all}
-use Rattle.nm_calls.specs.Inserts.{Finishes}
 use Rattle.nm_model.specs.Searches.{Search}
-use Rattle.nm_calls.specs.Moments.{AnswerHasMoment, HadNoCall}
+use Rattle.nm_calls.specs.Moments.{HadNoCall}
 use Rattle.nm_calls.proofs.Moments.{none_begun}
 use Rattle.nm_calls.proofs.Adding.{has_won, pin_adds, moved_adds}
 use Rattle.nm_calls.proofs.AddingInserts.{insert_did, insert_wins, insert_steps}

@@ -1,4 +1,4 @@
-use Rattle.std.proofs.Common.{◌≡◌, ◌≤◌, ◌+◌, ◌*◌}
+use Rattle.std.proofs.Common.{◌≤◌, ◌+◌, ◌*◌}
 use Rattle.nm_order.specs.Facts.Fact.{KnowsSlot}
 use Rattle.nm_walks.specs.AddedLooks.{AddsLooks}
 use Rattle.nm_walks.specs.Bounds.{reach}

@@ -1,12 +1,6 @@
-use Rattle.std.proofs.Common.{◌≡◌, ◌≢◌, ◌≤◌, ◌∙◌, ℕ, List, refl, sym, ap, subst, arith}
-use Rattle.std.proofs.lemmas.Bool.{ne_eqb}
+use Rattle.std.proofs.Common.{◌≡◌, ◌≤◌, subst, arith}
 use Rattle.nm_edge.specs.Layouts.{Layout}
-use Rattle.nm_edge.specs.Words.{IsSlot}
-use Rattle.nm_model.specs.Walks.{Entry, WalkEnds, since_pin}
-use Rattle.nm_steps.specs.Steps.{PassView}
-use Rattle.nm_walks.specs.AddedLooks.{AddsLooks}
-use Rattle.nm_walks.proofs.GoingOn.{goes_then, own_still, only_then}
-use Rattle.nm_walks.proofs.ValueLooks.{goes_by_value, looks_by_value}
+use Rattle.nm_walks.proofs.GoingOn.{own_still}
 use Rattle.nm_calls.proofs.values.look_up.Goals as goal
 
 pub look_value-value-requires-clause-own : goal.look_value-value-requires-clause-own

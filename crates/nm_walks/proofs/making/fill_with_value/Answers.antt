@@ -1,8 +1,6 @@
-use Rattle.std.proofs.Common.{rules, ap, subst, sym, ◌∙◌, ◌≤◌, arith}
+use Rattle.std.proofs.Common.{ap, subst, ◌∙◌, ◌≤◌, arith}
 use Rattle.std.specs.Prelude.{is_some}
 use Rattle.nm_edge.specs.Layouts.{Layout}
-use Rattle.nm_edge.specs.Words.{IsSlot}
-use Rattle.nm_model.specs.declared.knowledge.Draft.{Draft}
 use Rattle.nm_model.specs.Maps.{get}
 use Rattle.nm_steps.specs.Rules.{knowledge}
 use Rattle.nm_steps.specs.Steps.{PassView}

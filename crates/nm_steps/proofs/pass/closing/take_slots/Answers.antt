@@ -1,4 +1,4 @@
-use Rattle.std.proofs.Common.{◌≡◌, ◌≢◌, ◌<◌, ◌≤◌, ◌+◌, ◌∙◌, ℕ, zero, suc, Bool, false, true, List, [], ◌∷◌, set, refl, sym, ap, subst, arith, get_or-set_other}
+use Rattle.std.proofs.Common.{◌≡◌, ◌<◌, ◌≤◌, ◌+◌, ◌∙◌, ℕ, zero, suc, Bool, false, true, List, [], ◌∷◌, set, refl, ap, arith, get_or-set_other}
 use Rattle.std.specs.Prelude.{slice_index_or}
 use native.Mathlib.Decide.{ℕ_discrete}
 use Rattle.nm_steps.proofs.pass.closing.take_slots.Goals as goal

@@ -1,7 +1,5 @@
-use Rattle.std.proofs.Common.{rules, ◌≡◌, ◌∙◌, ap, length, arith, inl, refl}
-use Rattle.nm_edge.specs.Words.{words}
-use Rattle.nm_steps.proofs.Cutting.{opens, deals, left_others, left_own, fresh_push}
-use Rattle.nm_steps.proofs.OpeningWords.{opening_long}
+use Rattle.std.proofs.Common.{rules, ◌∙◌, ap, length, arith, refl}
+use Rattle.nm_steps.proofs.Cutting.{deals, left_others, left_own, fresh_push}
 use Rattle.nm_steps.proofs.FreshPasses.{left_all, fresh_tied}
 use Rattle.nm_steps.proofs.pass.making.dealt.Goals as goal
 

@@ -1,10 +1,9 @@
-use Rattle.std.proofs.Common.{rules, ◌≡◌, ◌∙◌, ap, length, arith, inl, refl}
+use Rattle.std.proofs.Common.{◌≡◌, ◌∙◌, ap, length, arith, inl}
 use Rattle.std.specs.Prelude.{Result, Ok, Err, IfOk}
 use Rattle.atomic_table.specs.Seated.{TableId}
 use Rattle.nm_edge.specs.Words.{words}
-use Rattle.nm_steps.proofs.Cutting.{opens, deals, left_others, left_own, fresh_push}
+use Rattle.nm_steps.proofs.Cutting.{opens}
 use Rattle.nm_steps.proofs.OpeningWords.{opening_long}
-use Rattle.nm_steps.proofs.FreshPasses.{left_all, fresh_tied}
 use Rattle.nm_steps.proofs.pass.making.made.Goals as goal
 
 pub of_words-requires : goal.of_words-requires

@@ -1,4 +1,4 @@
-use Rattle.std.proofs.Common.{rules, ◌≡◌, ◌+◌, ◌-◌, ◌≤◌, ◌++◌, ◌∙◌, ℕ, List, ap, length, arith, sym, subst}
+use Rattle.std.proofs.Common.{rules, ◌≡◌, ◌+◌, ◌-◌, ◌++◌, ◌∙◌, ℕ, List, ap, length, arith, sym, subst}
 use Rattle.std.specs.Prelude.{replicate, take, Result, Ok, Err, IfOk}
 use Rattle.std.proofs.lemmas.List.{take_all, length-append, length-replicate}
 use Rattle.atomic_table.specs.Seated.{TableId}
@@ -6,7 +6,6 @@ use Rattle.nm_edge.specs.Layouts.{Layout, IsLayout}
 use Rattle.nm_edge.specs.Words.{words}
 use Rattle.nm_model.specs.Memory.{opening}
 use Rattle.nm_steps.specs.Packing.{words_of}
-use Rattle.nm_steps.specs.Values.{HasValues}
 use Rattle.nm_steps.proofs.ValueSteps.{opens_values}
 use Rattle.nm_steps.proofs.OpeningWords.{opening_long}
 use Rattle.nm_steps.proofs.pass.making.made_with_values.Goals as goal

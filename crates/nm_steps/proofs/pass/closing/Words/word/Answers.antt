@@ -1,4 +1,4 @@
-use Rattle.std.proofs.Common.{◌≡◌, ◌∙◌, ◌<◌, ◌≤◌, ℕ, List, length, sym, arith}
+use Rattle.std.proofs.Common.{◌∙◌, ◌<◌, ℕ, List, length, sym, arith}
 use Rattle.std.specs.Prelude.{take}
 use Rattle.std.proofs.lemmas.List.{get_or-take, length-take}
 use Rattle.nm_steps.proofs.Counts.{read_there}
