@@ -125,6 +125,10 @@ pub found_answer : (p q : PassView) (k : ℕ) → GoesOn p q → (search q).link
 found_answer p q k on linked unlinked call ended =
     (Insert, k, on.keeps (CallIs Insert k) call, ((ended.0, (ended.1.0, ended.1.1, on.keeps (EndedAt ThePin k ended.0 ended.1.0 ended.1.1 k) ended.1.2)), linked ∙ unlinked))
 
+-- what goes on continues
+pub going_continues : (o p : PassView) → GoesOn o p → Continues o p
+going_continues o p on = record { same = on.same; past = on.past; run = on.run; stores = on.stores }
+
 -- the call's last step
 pub continued : (o p q : PassView) (e : Event) (r : Reply) → GoesOn o p → TakesStep p q e r → Continues o q
-continued o p q e r on step = continues_then o p q (record { same = on.same; past = on.past; run = on.run }) (continues_by p q e r step)
+continued o p q e r on step = continues_then o p q (going_continues o p on) (continues_by p q e r step)

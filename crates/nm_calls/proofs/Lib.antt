@@ -15,3 +15,7 @@ pub mod PlainLooks
 pub mod InTurnsLooks
 pub mod NearLooks
 pub mod ScanLooks
+pub mod Unheld
+pub mod NamedLeaves
+pub mod MapMoments
+pub mod InsertedValues

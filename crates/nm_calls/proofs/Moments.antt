@@ -73,7 +73,7 @@ moment_of o p q op k answer had fits call step turn after =
     (answered p.view.layout fits p.view.number now.worker answer o.view.past turn.before q.view.past now.events
     (goes_on_through turn.before p.view.past o.view.past turn.extends had.past.goes_on) turn.is now.keys now.are p.view.log op k now.is_part no_call call)
   where
-    now : HasSeen (record p.view { log = p.view.log ++ (LeaveWith answer, Departed) ∷ []; past = q.view.past })
+    now : HasSeen (record p.view { log = p.view.log ++ (LeaveWith answer, Departed) ∷ []; past = q.view.past; stores = q.view.stores })
     now = subst (λ (z : PassView). HasSeen z.view) step after
 
     no_call : call_begun p.view.number o.view.past ≡ None

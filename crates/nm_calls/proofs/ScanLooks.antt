@@ -24,7 +24,7 @@ use Rattle.nm_order.proofs.LogParts.{part_within}
 use Rattle.nm_order.proofs.RadixLaws.{walks_are_short}
 use Rattle.nm_order.specs.Facts.Fact.{KnowsSlot}
 use Rattle.nm_steps.specs.Steps.{TreeView, PassView, Stepped, TakesStep, Continues, HasSeen}
-use Rattle.nm_steps.proofs.Seeing.{same_by_step, same_then, seen_by_turn, seen_itself, seen_through}
+use Rattle.nm_steps.proofs.Seeing.{same_by_step, same_then, seen_by_turn, seen_itself, seen_through, stores_same}
 use Rattle.nm_epoch.specs.Resting.{IsResting, KeepsHands, epochs}
 use Rattle.nm_epoch.specs.Tries.{IsPinnedBy, IsMoved}
 use Rattle.nm_epoch.proofs.KeptHands.{kept_on}
@@ -437,6 +437,7 @@ goes_here b p pinned = record {
   same = refl;
   past = seen_itself p;
   run = pinned.run;
+  stores = stores_same p.view.stores p.view.stores refl;
   keeps = λ fact holds. holds;
 }
 

@@ -10,3 +10,4 @@ pub mod Leaving
 pub mod Moments
 pub mod Inserts
 pub mod Deletes
+pub mod Maps

@@ -42,7 +42,7 @@ pub(crate) enum Attempt {
 }
 
 /// Returns the two new nodes, and claims them if there are none yet.
-fn ready(
+pub(crate) fn ready(
     shared: &Shared,
     pass: &mut Pass,
     placement: &mut Placement,
@@ -67,7 +67,12 @@ fn ready(
 
 /// Walks as an insert does, which depends on the shape of the tree.
 #[inline(always)]
-fn stop(shared: &Shared, pass: &mut Pass, key: u64, chain: &mut ChainEdges) -> Option<WalkEnd>
+pub(crate) fn stop(
+    shared: &Shared,
+    pass: &mut Pass,
+    key: u64,
+    chain: &mut ChainEdges,
+) -> Option<WalkEnd>
     requires pinned { IsPinnedIn shared.now pass.old }
     requires root { Tells pass.old (KnowsSlot 1) }
     requires known { Tells pass.old (KnowsSlot 2) }
@@ -99,6 +104,7 @@ fn try_insert(
     new_nodes: &mut Option<NewNodes>,
 ) -> Attempt
     requires pinned { IsPinnedIn shared.now pass.old }
+    requires plain { shared.now.table.slots ≡ 0 }
     requires call { IsPinnedForCall Insert key pass.old }
     requires unlinked { (search pass.old).linked ≡ false }
     requires room { cut_bound ≤ held.old.queue.spare }
@@ -148,6 +154,7 @@ fn insert_pinned(
     tries: u32,
 ) -> Result<bool, CallFault>
     requires pinned { IsPinnedIn shared.now pass.old }
+    requires plain { shared.now.table.slots ≡ 0 }
     requires call { IsPinnedForCall Insert key pass.old }
     requires unchanged { HasChangedNothing pass.old }
     requires room { cut_bound ≤ held.old.queue.spare }
@@ -218,6 +225,7 @@ pub fn insert(
     tries: u32,
 ) -> Result<bool, CallFault>
     requires own { IsOf shared.now pass.old }
+    requires plain { shared.now.table.slots ≡ 0 }
     requires rests { IsResting pass.old }
     requires kept { HoldsCuts pass.old held.old }
     ensures after { AfterInsert workspace.old.placement shared.now.layout tries key pass.old

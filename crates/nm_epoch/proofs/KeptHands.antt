@@ -115,10 +115,10 @@ scan_is_silent (Some e) = refl
 
 module _ (me v : ℕ) (pin found : Option ℕ) (p q : PassView) (same : IsSamePass p q) (look : LooksAt me pin v found p.view.log q.view.log) where
   scanned : q.view.log ≡ p.view.log ++ (Scan v, reply_scan found) ∷ [] → Stepped p q (Scan v) (reply_scan found)
-  scanned more = same ∙ ap (λ (log : List Entry). record p { view = record p.view { log = log; past = q.view.past } }) more
+  scanned more = same ∙ ap (λ (log : List Entry). record p { view = record p.view { log = log; past = q.view.past; stores = q.view.stores } }) more
 
-  unmoved : q.view.log ≡ p.view.log → q ≡ record p { view = record p.view { past = q.view.past } }
-  unmoved none' = same ∙ ap (λ (log : List Entry). record p { view = record p.view { log = log; past = q.view.past } }) none'
+  unmoved : q.view.log ≡ p.view.log → q ≡ record p { view = record p.view { past = q.view.past; stores = q.view.stores } }
+  unmoved none' = same ∙ ap (λ (log : List Entry). record p { view = record p.view { log = log; past = q.view.past; stores = q.view.stores } }) none'
 
   pub look_keeps : KeepsHands p q
   look_keeps = ⊎_elim

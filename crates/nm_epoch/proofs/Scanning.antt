@@ -21,7 +21,7 @@ use Rattle.nm_epoch.proofs.KeptHands.{look_known}
 -- ---- one look
 
 abbrev with_log : PassView → PassView → List Entry → PassView
-with_log p q log = record p { view = record p.view { log = log; past = q.view.past } }
+with_log p q log = record p { view = record p.view { log = log; past = q.view.past; stores = q.view.stores } }
 
 stepped_by : (p q : PassView) (e : Event) (r : Reply) → IsSamePass p q → q.view.log ≡ p.view.log ++ (e, r) ∷ [] → Stepped p q e r
 stepped_by p q e r same more = same ∙ ap (λ (log : List Entry). with_log p q log) more

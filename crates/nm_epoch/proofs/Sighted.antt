@@ -66,7 +66,7 @@ module _ (k l : Knowledge) (s : Sights k l) where
 
 module _ (p q : PassView) (e : ℕ) (same : IsSamePass p q) (sight : IsSightOf e p.view.log q.view.log) where
   step : Stepped p q Sight sight.0
-  step = same ∙ ap (λ (log : List LogEntry). record p { view = record p.view { log = log; past = q.view.past } }) sight.2
+  step = same ∙ ap (λ (log : List LogEntry). record p { view = record p.view { log = log; past = q.view.past; stores = q.view.stores } }) sight.2
 
   seen_so : Sights (knowledge p.view) (knowledge q.view)
   seen_so = rw (ap (λ (y : PassView). knowledge y.view) step ∙ known_push p.view.number p.view.layout p.view.log (Sight, sight.0)) (sights p.view.number (knowledge p.view) sight.0 e sight.1)

@@ -108,7 +108,7 @@ follows_itself p = record { same = refl; past = seen_itself p }
 
 pub follows_then : (o p q : PassView) → Follows o p → Follows p q → Follows o q
 follows_then o p q first second = record {
-  same = second.same ∙ ap (λ (z : PassView). record z { view = record z.view { log = q.view.log; past = q.view.past } }) first.same;
+  same = second.same ∙ ap (λ (z : PassView). record z { view = record z.view { log = q.view.log; past = q.view.past; stores = q.view.stores } }) first.same;
   past = seen_through o p q first.past second.past;
 }
 

@@ -1,5 +1,5 @@
 -- The rule holds at the start, and where views are cut and joined.
-use Rattle.std.proofs.Common.{◌≡◌, ◌≢◌, ℕ, zero, suc, ◌+◌, ◌-◌, ◌<◌, ◌≤◌, Bool, true, false, cond, eqb, ltb, ◌||◌, true≢false, List, [], ◌∷◌, ◌++◌, length, set, refl, sym, ap, ◌∙◌, subst, ⊎_elim, ne_eqb, eq-eqb, add-zero, arith}
+use Rattle.std.proofs.Common.{inl, ◌≡◌, ◌≢◌, ℕ, zero, suc, ◌+◌, ◌-◌, ◌<◌, ◌≤◌, Bool, true, false, cond, eqb, ltb, ◌||◌, true≢false, List, [], ◌∷◌, ◌++◌, length, set, refl, sym, ap, ◌∙◌, subst, ⊎_elim, ne_eqb, eq-eqb, add-zero, arith}
 use Rattle.std.specs.List.{count_by}
 use Rattle.std.proofs.lemmas.List.Sums.{sum_by-cons, sum_by-append}
 use Rattle.std.proofs.lemmas.Bool.Decides.{nat_tests}
@@ -20,8 +20,9 @@ use Rattle.nm_model.specs.Ordered.{ordered, after_in, trace_in}
 use Rattle.nm_order.specs.Logs.{part_of, known_by}
 use Rattle.nm_steps.specs.Packing.{words_of}
 use Rattle.nm_steps.specs.declared.view.Held.{Held}
+use Rattle.nm_steps.specs.declared.view.Stored.{Stored}
 use Rattle.nm_steps.specs.declared.view.View.{View}
-use Rattle.nm_steps.specs.Rules.{held_log, holdings, knowledge, stands, once_below, LogsAre, IsShown, LagsBehind, Runs, Kept, numbers_from, viewing, everybody, own_alone, the_others, nobody, passing, informed, joining_view, noted_down, answered_turn}
+use Rattle.nm_steps.specs.Rules.{held_log, holdings, knowledge, stands, once_below, LogsAre, IsShown, LagsBehind, ExtendsStores, Runs, Kept, numbers_from, viewing, everybody, own_alone, the_others, nobody, passing, informed, joining_view, noted_down, answered_turn}
 use Rattle.nm_steps.specs.Steps.{HasEmptyHands, TreeView, PassView, fresh_view, AreFresh, Ends}
 use Rattle.nm_steps.proofs.Counts.{sum_after, at_most_sum, both_at_most_sum}
 use Rattle.nm_steps.proofs.Growing.{goes_on_itself, goes_on_from_nothing, goes_on_by, behind_by}
@@ -29,6 +30,11 @@ use Rattle.nm_steps.proofs.Presence.{gone_kept, known_push}
 use Rattle.nm_steps.proofs.Extending.{IsPartOf, words_after_join, trace_after_join}
 use Rattle.nm_steps.proofs.Keeping.{live, stands_live, once_is, part_grows, part_stays, each_set}
 use Rattle.nm_laws.proofs.Configurations.{keys_more}
+use Rattle.nm_steps.proofs.Valuing.{joined_links, grown_none, rewrap, run_long, stores_from_none, stores_themselves}
+use Rattle.std.proofs.lemmas.List.{append-nil}
+use Rattle.std.proofs.Math.Seq.{take-append_seam}
+use Rattle.std.specs.Prelude.{take}
+use Rattle.nm_edge.specs.Words.{words}
 
 -- ---- the opening
 
@@ -61,16 +67,23 @@ once_between w k (suc n) = let e = times-cons w (held_log k []) (numbers_from (s
 pub opens : (L : Layout) (words : List ℕ) → IsLayout L → words ≡ words_of L (memory.opening L) → Kept L (opening words [] (everybody L))
 unfolding after_in trace_in
 opens L words fits e = record {
-  fits = fits;
-  turns = [];
-  keys = λ i d below. absurd (omega arith);
-  words_are = e;
-  shown = first;
-  here = first_here;
-  once = λ w. sum_by-cons (stands w) (everybody L) [] ∙ add-zero (stands w (everybody L)) ∙ (let a : times w (holdings (everybody L)) ≡ cond (ltb w 0) 0 (cond (ltb w (0 + L.workers)) 1 0) = ap (times w) (held_by L (numbers_from 0 L.workers)) ∙ once_between w 0 L.workers in a ∙ under w L.workers);
-  lags = first_behind;
+  core = words;
+  values = [];
+  words_are = sym (append-nil words);
+  long = refl;
+  runs = runs;
+  stores = [];
+  valued = record { are = λ i below. absurd (omega (arith, below)); held = tt; linked = inl refl; seen = no_stores };
 }
   where
+    no_values : (hs : List Held) → (viewing L hs).stores ≡ []
+    no_values [] = refl
+    no_values (h ∷ hs) = refl
+
+    no_stores : (i : ℕ) (v : View) → get_elem? (everybody L ∷ []) i ≡ some v → ExtendsStores [] v.stores
+    no_stores zero v is = subst (λ (x : View). ExtendsStores [] x.stores) (some-injective _ _ is) (subst (ExtendsStores []) (sym (no_values (numbers_from 0 L.workers))) (stores_themselves []))
+    no_stores (suc i) v is = absurd (some-ne-none v (sym is))
+
     under : (w n : ℕ) → cond (ltb w 0) 0 (cond (ltb w (0 + n)) 1 0) ≡ once_below w n
     under w n = grind (arith, nat_tests)
 
@@ -93,23 +106,42 @@ opens L words fits e = record {
     first zero v is = subst (IsShown L []) (some-injective _ _ is) all
     first (suc i) v is = absurd (some-ne-none v (sym is))
 
+    runs : Runs L words (everybody L ∷ [])
+    runs = record {
+      fits = fits;
+      turns = [];
+      keys = λ i d below. absurd (omega arith);
+      words_are = e;
+      shown = first;
+      here = first_here;
+      once = λ w. sum_by-cons (stands w) (everybody L) [] ∙ add-zero (stands w (everybody L)) ∙ (let a : times w (holdings (everybody L)) ≡ cond (ltb w 0) 0 (cond (ltb w (0 + L.workers)) 1 0) = ap (times w) (held_by L (numbers_from 0 L.workers)) ∙ once_between w 0 L.workers in a ∙ under w L.workers);
+      lags = first_behind;
+    }
+
+-- the run has no turn yet
+pub opens_with_none : (L : Layout) (tree : List ℕ) (fits : IsLayout L) (e : tree ≡ words_of L (memory.opening L)) → (opens L tree fits e).runs.turns ≡ []
+unfolding opens
+opens_with_none L tree fits e = refl
+
 -- ---- cutting
 
 abbrev IsHere : View → Type 0
 IsHere v = v.resigned ≡ false → (knowledge v).gone ≡ false
 
 cuts : (L : Layout) (id : ℕ) (v left right : View) → ((t : List Turn) → IsShown L t v → IsShown L t left × IsShown L t right) → (IsHere v → IsHere left × IsHere right) → ((w : ℕ) → stands w left + stands w right ≡ stands w v)
-    → ((ts : List Turn) → LagsBehind ts v → LagsBehind ts left × LagsBehind ts right) → Splits (Kept L) id v left right
-cuts L id v left right keep stay count lag s k at = record {
-  fits = k.fits;
-  turns = k.turns;
-  keys = k.keys;
-  words_are = k.words_are;
-  shown = each (IsShown L (trace_in (ordered L) k.turns)) (keep (trace_in (ordered L) k.turns) (k.shown id v at)) k.shown;
-  here = each IsHere (stay (k.here id v at)) k.here;
-  once = λ w. sum_by-append (stands w) (set s.views id left) (right ∷ []) ∙ omega (arith, sum_by-cons (stands w) right [], sum_after (stands w) s.views id v left at, count w, k.once w);
-  lags = each (LagsBehind (trace_in (ordered L) k.turns)) (lag (trace_in (ordered L) k.turns) (k.lags id v at)) k.lags;
-}
+    → ((ts : List Turn) → LagsBehind ts v → LagsBehind ts left × LagsBehind ts right) → ((st : List Stored) → ExtendsStores st v.stores → ExtendsStores st left.stores × ExtendsStores st right.stores) → Splits (Kept L) id v left right
+cuts L id v left right keep stay count lag had s K at = rewrap L s.words (length s.homes) s.views (set s.views id left ++ right ∷ []) K
+    (record {
+      fits = K.runs.fits;
+      turns = K.runs.turns;
+      keys = K.runs.keys;
+      words_are = K.runs.words_are;
+      shown = each (IsShown L (trace_in (ordered L) K.runs.turns)) (keep (trace_in (ordered L) K.runs.turns) (K.runs.shown id v at)) K.runs.shown;
+      here = each IsHere (stay (K.runs.here id v at)) K.runs.here;
+      once = λ w. sum_by-append (stands w) (set s.views id left) (right ∷ []) ∙ omega (arith, sum_by-cons (stands w) right [], sum_after (stands w) s.views id v left at, count w, K.runs.once w);
+      lags = each (LagsBehind (trace_in (ordered L) K.runs.turns)) (lag (trace_in (ordered L) K.runs.turns) (K.runs.lags id v at)) K.runs.lags;
+    })
+    (grown_none L (length s.homes) K.stores K.runs.turns) (each (λ (u : View). ExtendsStores K.stores u.stores) (had K.stores (K.valued.seen id v at)) K.valued.seen)
   where
     each : (P : View → Type 0) → P left × P right → ((j : ℕ) (u : View) → get_elem? s.views j ≡ some u → P u) → (j : ℕ) (u : View) → get_elem? (set s.views id left ++ right ∷ []) j ≡ some u → P u
     each P both others j u is = ⊎_elim (each_set P s.views id left both.0 (λ j u _. others j u) j u) (λ (x : right ≡ u). subst P x both.1) (at_snoc (set s.views id left) right u j is)
@@ -125,7 +157,7 @@ abbrev pub left_from : Layout → ℕ → View
 left_from L k = viewing L (numbers_from k (L.workers - k))
 
 abbrev with_others : Layout → ℕ → List Held → View
-with_others L k hs = record { layout = L; resigned = false; number = k; log = []; others = hs; past = []; heard = [] }
+with_others L k hs = record { layout = L; resigned = false; number = k; log = []; others = hs; past = []; heard = []; stores = [] }
 
 left_has : (L : Layout) (k m : ℕ) → m ≡ suc (L.workers - suc k) → viewing L (numbers_from k m) ≡ with_others L k (numbers_from (suc k) (L.workers - suc k))
 left_has L k m e = ap (λ (n : ℕ). viewing L (numbers_from k n)) e
@@ -154,7 +186,12 @@ deals L id k v is below =
     (λ h. ((λ _. subst (λ (x : View). (knowledge x).gone ≡ false) (sym (left_others L k v is below)) (fresh_here L (k + 1) (L.workers - (k + 1)))), h))
     (λ w. omega (arith, ap (times w) (held_by v.layout v.others), ap (times w) (live (own_alone v) alive), ap (times w) (live v alive), times-cons w (held_log v.number v.log) v.others, times-cons w (held_log v.number v.log) []))
     (λ ts b. (nothing_seen v.layout v.others ts, record { past = b.past; heard = b.heard }))
+    (λ st h. (no_values v.layout v.others st, h))
   where
+    no_values : (l : Layout) (hs : List Held) (st : List Stored) → ExtendsStores st (viewing l hs).stores
+    no_values l [] st = stores_from_none st
+    no_values l (h ∷ hs) st = stores_from_none st
+
     nothing_seen : (l : Layout) (hs : List Held) (ts : List Turn) → LagsBehind ts (viewing l hs)
     nothing_seen l [] ts = record { past = goes_on_from_nothing ts; heard = goes_on_from_nothing ts }
     nothing_seen l (h ∷ hs) ts = record { past = goes_on_from_nothing ts; heard = goes_on_from_nothing ts }
@@ -163,7 +200,7 @@ deals L id k v is below =
 
 -- a note stands for nobody, and has seen what the view has
 pub writes_down : (L : Layout) (id : ℕ) (v : View) → Splits (Kept L) id v v (noted_down v)
-writes_down L id v = cuts L id v v (noted_down v) (λ t a. (a, tt)) (λ h. (h, λ e. absurd (true≢false e))) (λ w. add-zero (stands w v)) (λ ts b. (b, record { past = b.past; heard = goes_on_from_nothing ts }))
+writes_down L id v = cuts L id v v (noted_down v) (λ t a. (a, tt)) (λ h. (h, λ e. absurd (true≢false e))) (λ w. add-zero (stands w v)) (λ ts b. (b, record { past = b.past; heard = goes_on_from_nothing ts })) (λ st h. (h, stores_from_none st))
 
 -- what holds of two views that are set, and of each other, holds of each
 each_two : (P : View → Type 0) (views : List View) (id other : ℕ) (now then' : View) → P now → P then' → ((j : ℕ) (u : View) → j ≢ id → j ≢ other → get_elem? views j ≡ some u → P u)
@@ -177,26 +214,29 @@ each_two P views id other now then' first second others j u is =
 
 -- a view may hear of what one has seen that stands for nobody
 pub hears : (L : Layout) (id : ℕ) (v : View) (other : ℕ) (w : View) → w.resigned ≡ true → Joins (Kept L) id v other w (informed v w) nobody
-hears L id v other w spent s k at apart at' = record {
-  fits = k.fits;
-  turns = k.turns;
-  keys = k.keys;
-  words_are = k.words_are;
-  shown = each_two (IsShown L (trace_in (ordered L) k.turns)) s.views id other (informed v w) nobody (k.shown id v at) tt (λ j u _ _. k.shown j u);
-  here = each_two IsHere s.views id other (informed v w) nobody (k.here id v at) (λ e. absurd (true≢false e)) (λ j u _ _. k.here j u);
-  once = λ n. omega (arith, sum_after (stands n) (set s.views id (informed v w)) other w nobody at', sum_after (stands n) s.views id v (informed v w) at, no_log n, k.once n);
-  lags = each_two (LagsBehind (trace_in (ordered L) k.turns)) s.views id other (informed v w) nobody (record { past = (k.lags id v at).past; heard = (k.lags other w was).past }) (record { past = goes_on_from_nothing (trace_in (ordered L) k.turns); heard = goes_on_from_nothing (trace_in (ordered L) k.turns) }) (λ j u _ _. k.lags j u);
-}
+hears L id v other w resigned s K at apart at' = rewrap L s.words (length s.homes) s.views (set (set s.views id (informed v w)) other nobody) K
+    (record {
+      fits = K.runs.fits;
+      turns = K.runs.turns;
+      keys = K.runs.keys;
+      words_are = K.runs.words_are;
+      shown = each_two (IsShown L (trace_in (ordered L) K.runs.turns)) s.views id other (informed v w) nobody (K.runs.shown id v at) tt (λ j u _ _. K.runs.shown j u);
+      here = each_two IsHere s.views id other (informed v w) nobody (K.runs.here id v at) (λ e. absurd (true≢false e)) (λ j u _ _. K.runs.here j u);
+      once = λ n. omega (arith, sum_after (stands n) (set s.views id (informed v w)) other w nobody at', sum_after (stands n) s.views id v (informed v w) at, no_log n, K.runs.once n);
+      lags = each_two (LagsBehind (trace_in (ordered L) K.runs.turns)) s.views id other (informed v w) nobody (record { past = (K.runs.lags id v at).past; heard = (K.runs.lags other w was).past })
+          (record { past = goes_on_from_nothing (trace_in (ordered L) K.runs.turns); heard = goes_on_from_nothing (trace_in (ordered L) K.runs.turns) }) (λ j u _ _. K.runs.lags j u);
+    })
+    (grown_none L (length s.homes) K.stores K.runs.turns) (each_two (λ (u : View). ExtendsStores K.stores u.stores) s.views id other (informed v w) nobody (K.valued.seen id v at) (stores_from_none K.stores) (λ j u _ _. K.valued.seen j u))
   where
     was : get_elem? s.views other ≡ some w
     was = sym (set_else s.views id other (informed v w) apart) ∙ at'
 
     no_log : (n : ℕ) → stands n w ≡ 0
-    no_log n = ap (λ (b : Bool). times n (cond b [] (held_log w.number w.log ∷ w.others))) spent
+    no_log n = ap (λ (b : Bool). times n (cond b [] (held_log w.number w.log ∷ w.others))) resigned
 
 -- ---- joining
 
-module _ (L : Layout) (id : ℕ) (v : View) (other : ℕ) (w : View) (alive : v.resigned ≡ false) (alive' : w.resigned ≡ false) (hands : HasEmptyHands (knowledge w)) (s : State Unit View) (k : Kept L s)
+module _ (L : Layout) (id : ℕ) (v : View) (other : ℕ) (w : View) (alive : v.resigned ≡ false) (alive' : w.resigned ≡ false) (hands : HasEmptyHands (knowledge w)) (s : State Unit View) (core : List ℕ) (k : Runs L core s.views)
     (at : get_elem? s.views id ≡ some v) (apart : ¬ (other ≡ id)) (at' : get_elem? s.views other ≡ some w) where
   abbrev before : List Turn
   before = trace_in (ordered L) k.turns
@@ -328,7 +368,7 @@ module _ (L : Layout) (id : ℕ) (v : View) (other : ℕ) (w : View) (alive : v.
   behind_joined : LagsBehind (trace_in (ordered L) more) (joining_view v w)
   behind_joined = longer (joining_view v w) (record { past = goes_on_by before v.past turn (k.lags id v at).past; heard = goes_on_by before w.past turn (k.lags other w at').past })
 
-  joint : Runs L s.words (set (set s.views id (joining_view v w)) other nobody)
+  abbrev joint : Runs L core (set (set s.views id (joining_view v w)) other nobody)
   joint = record {
     fits = k.fits;
     turns = more;
@@ -343,7 +383,14 @@ module _ (L : Layout) (id : ℕ) (v : View) (other : ℕ) (w : View) (alive : v.
 
 -- the first stands for both, and the join is an event of both
 pub joins : (L : Layout) (id : ℕ) (v : View) (other : ℕ) (w : View) → v.resigned ≡ false → w.resigned ≡ false → HasEmptyHands (knowledge w) → Joins (Kept L) id v other w (joining_view v w) nobody
-joins L id v other w alive alive' hands s k at apart at' = joint L id v other w alive alive' hands s k at apart (sym (set_else s.views id other (joining_view v w) apart) ∙ at')
+joins L id v other w alive alive' hands s K at apart at' =
+    let was = sym (set_else s.views id other (joining_view v w) apart) ∙ at' in
+    rewrap L s.words (length s.homes) s.views (set (set s.views id (joining_view v w)) other nobody) K (joint L id v other w alive alive' hands s K.core K.runs at apart was) (record {
+      rest = (v.number, Join w.number) ∷ [];
+      is = refl;
+      linked = joined_links L (length s.homes) K.stores K.runs.turns v.number w.number;
+    })
+    (each_two (λ (u : View). ExtendsStores K.stores u.stores) s.views id other (joining_view v w) nobody (K.valued.seen id v at) (stores_from_none K.stores) (λ j u _ _. K.valued.seen j u))
 
 pub fresh_push : (b : TreeView) (k n : ℕ) (ps : List PassView) (p : PassView) → AreFresh b k ps → k + length ps ≡ n → p.table ≡ b.table → p.view ≡ fresh_view b.layout n → AreFresh b k (ps ++ p ∷ [])
 fresh_push b k n [] p a e t v = (t, v ∙ ap (fresh_view b.layout) (omega arith), tt)
@@ -351,7 +398,20 @@ fresh_push b k n (q ∷ ps) p a e t v = (a.0, a.1, fresh_push b (suc k) n ps p a
 
 -- ---- the end
 
-pub ended : (L : Layout) (id : ℕ) (v : View) (words : List ℕ) (slots : List Unit) → Final (Seen (Kept L) id v) words slots → Ends L words v
-ended L id v words slots f =
-    let k : Runs L f.0.words f.0.views = f.1.0 in
-    record { fits = k.fits; turns = k.turns; keys = k.keys; words_are = sym f.2 ∙ k.words_are; shown = k.shown id v f.1.1; once = λ w. omega (arith, at_most_sum (stands w) f.0.views id v f.1.1, k.once w); past = (k.lags id v f.1.1).past }
+-- the words of the core, which come first
+pub ended : (L : Layout) (id : ℕ) (v : View) (all : List ℕ) (slots : List Unit) (count : ℕ) → count ≡ words L → Final (Seen (Kept L) id v) all slots → Ends L (take count all) v
+ended L id v all slots count is f =
+    let K = f.1.0 in
+    let k : Runs L K.core f.0.views = K.runs in
+    let first : take count all ≡ K.core =
+    (λ j. take ((is ∙ sym (run_long L K.core f.0.views k)) j) ((sym f.2 ∙ K.words_are) j))
+    ∙ take-append_seam K.core K.values in
+    record {
+      fits = k.fits;
+      turns = k.turns;
+      keys = k.keys;
+      words_are = first ∙ k.words_are;
+      shown = k.shown id v f.1.1;
+      once = λ w. omega (arith, at_most_sum (stands w) f.0.views id v f.1.1, k.once w);
+      past = (k.lags id v f.1.1).past;
+    }

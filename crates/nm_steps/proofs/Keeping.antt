@@ -1,39 +1,47 @@
 -- Each step keeps the rule.
-use Rattle.std.proofs.Common.{◌≡◌, ◌≢◌, ℕ, ◌+◌, ◌<◌, ◌≤◌, Bool, true, false, cond, eqb, ltb, ◌||◌, List, [], ◌∷◌, ◌++◌, set, refl, sym, ap, ◌∙◌, subst, ⊎_elim, eq-eqb, true≢false, arith}
+use Rattle.std.proofs.Common.{◌≡◌, ◌≢◌, ℕ, ◌+◌, ◌<◌, ◌≤◌, Bool, true, false, cond, eqb, ltb, ◌||◌, List, [], ◌∷◌, ◌++◌, length, set, refl, sym, ap, ◌∙◌, subst, ⊎_elim, ◌⊎◌, inl, inr, eq-eqb, true≢false, arith}
 use Rattle.std.specs.Prelude.{slice_index, slice_set}
 use Rattle.std.specs.List.{sum_by, count_by}
 use Rattle.std.proofs.lemmas.List.{append-nil}
 use Rattle.std.proofs.lemmas.List.Sums.{sum_by-cons}
 use Rattle.std.proofs.lemmas.Bool.Decides.{nat_tests}
 use mathlib.Core.Option.{some, none}
+use native.Mathlib.Decide.{ℕ_discrete}
 use lib.ListN.{get_elem?}
-use Rattle.atomic_table.specs.Table.{Step, step, Allows, keeps}
+use Rattle.atomic_table.specs.Table.{Me, Step, step, Allows, keeps}
 use Rattle.atomic_table.specs.Seated.{TableId}
 use Rattle.atomic_table.specs.declared.shared.Seat.{Seat}
 use Rattle.atomic_table.proofs.Lists.{at_set}
 use Rattle.nm_edge.specs.Layouts.{Layout, IsLayout}
-use Rattle.nm_edge.specs.Words.{word}
+use Rattle.nm_edge.specs.Words.{IsField, word, words as all_words}
+use Rattle.nm_edge.specs.declared.edge.Side.{Side}
 use Rattle.nm_edge.proofs.Words.{fields_within}
 use Rattle.nm_model.specs.declared.event.Event.{Event}
-use Rattle.nm_model.specs.declared.event.Event.TheVariants.{Join}
+use Rattle.nm_model.specs.declared.event.Event.TheVariants.{Join, Link}
 use Rattle.nm_model.specs.declared.reply.Reply.{Reply}
 use Rattle.nm_model.specs.declared.trace.Turn.{Turn}
+use Rattle.nm_model.specs.Knowledge.{Knowledge}
+use Rattle.nm_model.specs.Runs.{of}
 use Rattle.nm_model.specs.Learning.{learn}
 use Rattle.nm_model.specs.Walks.{Entry}
 use Rattle.nm_model.specs.Ordered.{ordered, after_in, trace_in}
 use Rattle.nm_order.specs.Logs.{takes_part, is_leaver, part_of, known_by}
 use Rattle.nm_order.specs.OwnBirths.{births_by}
 use Rattle.nm_order.proofs.AnswersSince.{part-append}
+use Rattle.nm_order.proofs.PartsOfRuns.{logs_tell}
 use Rattle.nm_steps.specs.Packing.{words_of, word_at, touched_field, left_word}
 use Rattle.nm_steps.specs.Told.{told}
 use Rattle.nm_steps.specs.declared.view.Held.{Held}
+use Rattle.nm_steps.specs.declared.view.Stored.{Stored}
 use Rattle.nm_steps.specs.declared.view.View.{View}
-use Rattle.nm_steps.specs.Rules.{held_log, holdings, knowledge, known_births, stands, once_below, LogsAre, IsShown, LagsBehind, Runs, Kept, answered_turn, logged, is_store, IsFound, Did, Extends}
+use Rattle.nm_steps.specs.Rules.{held_log, holdings, knowledge, known_births, stands, once_below, ExtendsStores, LogsAre, IsShown, LagsBehind, Runs, Kept, answered_turn, logged, is_store, IsFound, Did, Extends, LinkHasValue, IsStored, new_leaf}
 use Rattle.nm_steps.specs.Steps.{May, IsReadyFor, IsDone, Changes, IsBlind}
 use Rattle.nm_steps.proofs.Counts.{at_most_sum, both_at_most_sum, sum_after}
 use Rattle.nm_steps.proofs.Growing.{goes_on_itself, goes_on_by, behind_by}
 use Rattle.nm_steps.proofs.Presence.{gone_kept, known_push}
 use Rattle.nm_steps.proofs.Extending.{IsPartOf, words_after, trace_after}
+use Rattle.nm_steps.proofs.Valuing.{Grows, IfValued, IsPair, held_longer, last_or_earlier, reworded, run_long, still_stored}
+use Rattle.std.proofs.lemmas.List.{get_or_append_left, set-append_left}
 use Rattle.nm_laws.proofs.Configurations.{keys_more}
 
 pub once_is : (w n : ℕ) → (once_below w n ≤ 1) × (1 ≤ once_below w n → w < n)
@@ -173,7 +181,7 @@ module _ (L : Layout) (words : List ℕ) (views : List View) (id : ℕ) (v : Vie
       ap (λ (l : Layout). slice_set words i (left_word l (known_by l v.number v.log) e found)) layout
       ∙ ((λ j. slice_set (k.words_are j) (index j) (left_word L (known_by L v.number v.log) e (found_is j))) ∙ sym (words_after L v.number v.log k.turns part e may))
 
-  pub next : Runs L (slice_set words i (left_word v.layout (knowledge v) e found)) (set views id now)
+  abbrev next : Runs L (slice_set words i (left_word v.layout (knowledge v) e found)) (set views id now)
   next = record {
     fits = k.fits;
     turns = more;
@@ -187,6 +195,37 @@ module _ (L : Layout) (words : List ℕ) (views : List View) (id : ℕ) (v : Vie
         (λ j u _ is. longer (λ ts. LagsBehind ts u) (behind_by trace (answered_turn v.number e reply) u (k.lags j u is)));
   }
 
+  -- ---- values
+
+  known_is : knowledge v ≡ of (after_in (ordered L) k.turns).state v.number
+  known_is =
+      ap (λ (l : Layout). known_by l v.number v.log) layout
+      ∙ (ap (known_by L v.number) mine.1 ∙ sym (logs_tell L k.turns v.number counted.1))
+
+  -- a store of the view is one of the run, if the worker has taken no step after it
+  stored_in_run : (st : List Stored) (slot : ℕ) → ExtendsStores st v.stores → IsStored v.stores v.number (length v.log) slot → IsStored st v.number (length (part_of v.number trace)) slot
+  stored_in_run st slot had s = subst (λ (n : ℕ). IsStored st v.number n slot) (ap (λ (l : List Entry). length l) mine.1) (still_stored st v.stores v.number (length v.log) slot had s)
+
+  -- each new leaf still has a store
+  pub links_on : (slots : ℕ) (st : List Stored) → ExtendsStores st v.stores → LinkHasValue slots v e → IfValued L slots k.turns st → IfValued L slots more st
+  links_on slots st had stored (inl plain) = inl plain
+  links_on slots st had stored (inr links) = elim (ℕ_discrete slots 0) [
+    | yes none' ↦ inl none'
+    | no other ↦ inr (λ before since w p side leaf new is. by other before w p side leaf new (last_or_earlier k.turns before since (w, Link p side leaf new) (v.number, e) is))
+  ]
+    where
+      now' : (p : ℕ) (side : Side) (leaf new : ℕ) → slots ≢ 0 → LinkHasValue slots v (Link p side leaf new) → IsStored st v.number (length (part_of v.number trace)) (new_leaf (of (after_in (ordered L) k.turns).state v.number) leaf new)
+      now' p side leaf new other (inl plain) = absurd (other plain)
+      now' p side leaf new other (inr s) = subst (λ (x : Knowledge). IsStored st v.number (length (part_of v.number trace)) (new_leaf x leaf new)) known_is (stored_in_run st (new_leaf (knowledge v) leaf new) had s)
+
+      by : slots ≢ 0 → (before : List (ℕ × Event)) (w p : ℕ) (side : Side) (leaf new : ℕ) → ((rest : List (ℕ × Event)) × (k.turns ≡ before ++ (w, Link p side leaf new) ∷ rest)) ⊎ ((before ≡ k.turns) × IsPair v.number e w (Link p side leaf new))
+          → IsStored st w (length (part_of w (trace_in (ordered L) before))) (new_leaf (of (after_in (ordered L) before).state w) leaf new)
+      by other before w p side leaf new (inl earlier) = links before earlier.0 w p side leaf new earlier.1
+      by other before w p side leaf new (inr last) =
+          subst (λ (u : ℕ). IsStored st u (length (part_of u (trace_in (ordered L) before))) (new_leaf (of (after_in (ordered L) before).state u) leaf new)) (ap (λ (t : ℕ × Event). t.0) last.1)
+          (subst (λ (ts : List (ℕ × Event)). IsStored st v.number (length (part_of v.number (trace_in (ordered L) ts))) (new_leaf (of (after_in (ordered L) ts).state v.number) leaf new)) (sym last.0)
+          (now' p side leaf new other (subst (LinkHasValue slots v) (ap (λ (t : ℕ × Event). t.1) last.1) stored)))
+
 abbrev no_step : Step Unit
 no_step = step 0 0 0 0 none
 
@@ -196,13 +235,16 @@ pub goes_on : (L : Layout) (words : List ℕ) (views : List View) (id : ℕ) (v 
     → get_elem? views id ≡ some v → v.resigned ≡ false → v.layout ≡ L → i ≡ word L (touched_field v.number e) → May L v.number v.log e
     → told v.layout (knowledge v) (known_births v) e m ≡ told v.layout (knowledge v) (known_births v) e (slice_index words i)
     → (is_store e ≡ false → m ≡ slice_index words i)
-    → (w : View) × Runs L (slice_set words i (left_word v.layout (knowledge v) e (slice_index words i))) (set views id w) × Did e no_step (v, []) m (w, [])
+    → (slots : ℕ) (st : List Stored) → ExtendsStores st v.stores → LinkHasValue slots v e
+    → (w : View) × (r : Runs L (slice_set words i (left_word v.layout (knowledge v) e (slice_index words i))) (set views id w)) × Grows L slots st k.turns r.turns × (w.stores ≡ v.stores) × Did e no_step (v, []) m (w, [])
 unfolding is_found
-goes_on L words views id v e i m k at alive layout index may same is =
+goes_on L words views id v e i m k at alive layout index may same is slots st had stored =
     let n : ℕ = slice_index words i in
     let was = is_found L words views id v e i k at alive layout index may in (
       logged v e n (trace_in (ordered L) k.turns),
       next L words views id v e i k at alive layout index may,
+      record { rest = (v.number, e) ∷ []; is = refl; linked = links_on L words views id v e i k at alive layout index may slots st had stored },
+      refl,
       (
         found_by v.layout (sym layout) (record { fits = was.fits; worker = was.worker; turns = was.turns; keys = was.keys; is_part = was.is_part; here = was.here; word = λ h. is h ∙ was.word h }),
         (λ j. (record v { log = v.log ++ (e, sym same j) ∷ []; past = trace_in (ordered (sym layout j)) k.turns ++ answered_turn v.number e (sym same j) ∷ [] }, [])),
@@ -222,30 +264,69 @@ goes_on L words views id v e i m k at alive layout index may same is =
       word = subst (λ (x : Layout). is_store e ≡ false → m ≡ word_at x (after_in (ordered x) f.turns).state.memory (touched_field v.number e)) same f.word;
     }
 
+-- where the core's words take a step, so do all
+pub lifts : (L : Layout) (slots id : ℕ) (v : View) (i : ℕ) (f : ℕ → ℕ) (then' : ℕ → Me Unit View → Type 0) → i < all_words L
+    → ((core : List ℕ) (views : List View) (k : Runs L core views) → get_elem? views id ≡ some v → slice_index core i < 18446744073709551616 → (st : List Stored) → ExtendsStores st v.stores
+    → (w : View) × (r : Runs L (slice_set core i (f (slice_index core i))) (set views id w)) × Grows L slots st k.turns r.turns × (w.stores ≡ v.stores) × then' (slice_index core i) (w, []))
+    → Allows (Kept L) slots id (v, []) i f then'
+lifts L slots id v i f then' below go s k homes at small =
+    let long = run_long L k.core s.views k.runs in
+    let inside : i < length k.core = omega (arith, long, below) in
+    let same : slice_index s.words i ≡ slice_index k.core i = ap (λ (l : List ℕ). slice_index l i) k.words_are ∙ get_or_append_left k.core k.values 0 i inside in
+    let g = go k.core s.views k.runs at (subst (λ (n : ℕ). n < 18446744073709551616) same small) k.stores (k.valued.seen id v at) in (
+      g.0,
+      keeps,
+      tt,
+      record {
+        core = slice_set k.core i (f (slice_index k.core i));
+        values = k.values;
+        words_are = (λ j. slice_set (k.words_are j) i (f (same j))) ∙ set-append_left k.core k.values i (f (slice_index k.core i)) inside;
+        long = k.long;
+        runs = g.1;
+        stores = k.stores;
+        valued = record {
+          are = k.valued.are;
+          held = held_longer L slots k.stores k.runs.turns g.1.turns g.2 k.stores k.valued.held;
+          linked = subst (λ (n : ℕ). IfValued L n g.1.turns k.stores) (sym (k.long ∙ homes)) (g.2.linked (subst (λ (n : ℕ). IfValued L n k.runs.turns k.stores) (k.long ∙ homes) k.valued.linked));
+          seen = each_set (λ (u : View). ExtendsStores k.stores u.stores) s.views id g.0 (subst (ExtendsStores k.stores) (sym g.3) (k.valued.seen id v at)) (λ j u _. k.valued.seen j u);
+        };
+      },
+      subst (λ (n : ℕ). then' n (g.0, [])) (sym same) g.4,
+    )
+
 -- THE STEP: an event that the own log allows may be made at its word, by any operation that leaves
 -- the word that the event leaves
 pub allows : (L : Layout) (slots id : ℕ) (v : View) (e : Event) (i : ℕ) (f said : ℕ → ℕ)
     → v.resigned ≡ false → v.layout ≡ L → i ≡ word L (touched_field v.number e) → May L v.number v.log e
     → ((n : ℕ) → f n ≡ left_word v.layout (knowledge v) e n)
     → ((n : ℕ) → (told v.layout (knowledge v) (known_births v) e (said n) ≡ told v.layout (knowledge v) (known_births v) e n) × (is_store e ≡ false → said n ≡ n))
+    → i < all_words L → LinkHasValue slots v e
     → Allows (Kept L) slots id (v, []) i f (λ n. Did e no_step (v, []) (said n))
-allows L slots id v e i f said alive layout index may change tell s k homes at small =
-    let n : ℕ = slice_index s.words i in
-    let g = goes_on L s.words s.views id v e i (said n) k at alive layout index may (tell n).0 (tell n).1 in
-    (g.0, keeps, tt, subst (λ (m : ℕ). Runs L (slice_set s.words i m) (set s.views id g.0)) (sym (change n)) g.1, g.2)
+allows L slots id v e i f said alive layout index may change tell below stored = lifts L slots id v i f (λ n. Did e no_step (v, []) (said n)) below by
+  where
+    by : (core : List ℕ) (views : List View) (k : Runs L core views) → get_elem? views id ≡ some v → slice_index core i < 18446744073709551616 → (st : List Stored) → ExtendsStores st v.stores
+        → (w : View) × (r : Runs L (slice_set core i (f (slice_index core i))) (set views id w)) × Grows L slots st k.turns r.turns × (w.stores ≡ v.stores) × Did e no_step (v, []) (said (slice_index core i)) (w, [])
+    by core views k at small st had =
+        let n : ℕ = slice_index core i in
+        let g = goes_on L core views id v e i (said n) k at alive layout index may (tell n).0 (tell n).1 slots st had stored in
+        (g.0, reworded (ap (λ (m : ℕ). slice_set core i m) (sym (change n))) g.1, g.2, g.3, g.4)
+
+-- the word that an event touches is one of the core
+pub field_below : (L : Layout) (w : ℕ) (e : Event) (i : ℕ) → i ≡ word L (touched_field w e) → IsField L (touched_field w e) → i < all_words L
+field_below L w e i index within = subst (λ (k : ℕ). k < all_words L) (sym index) (fields_within L (touched_field w e) within)
 
 -- what every operation asks of its caller, where the pass is ready; d is the event that the `Play`
 -- names
-asked : (L : Layout) (z : TableId) (slots : ℕ) (it : Seat Unit View) (d e : Event) (i : ℕ) (f said : ℕ → ℕ)
+asked : (L : Layout) (z : TableId) (it : Seat Unit View) (d e : Event) (i : ℕ) (f said : ℕ → ℕ)
     → d ≡ e → IsReadyFor (record { table = z; layout = L }) it e i → Changes e it.me.0 f
     → ((n : ℕ) → (told it.me.0.layout (knowledge it.me.0) (known_births it.me.0) e (said n) ≡ told it.me.0.layout (knowledge it.me.0) (known_births it.me.0) e n) × (is_store e ≡ false → said n ≡ n))
-    → (it.table_id ≡ z) × (i < z.words) × Allows (Kept L) slots it.id it.me i f (λ n. Did d no_step it.me (said n))
-asked L z slots it d e i f said pick r change tell = (
+    → (it.table_id ≡ z) × (i < z.words) × Allows (Kept L) z.slots it.id it.me i f (λ n. Did d no_step it.me (said n))
+asked L z it d e i f said pick r change tell = (
   r.table,
-  subst (λ (k : ℕ). k < z.words) (sym r.word) (subst (λ (k : ℕ). word L (touched_field it.me.0.number e) < k) (sym r.words) (fields_within L (touched_field it.me.0.number e) r.within)),
-  subst (λ (x : Event). Allows (Kept L) slots it.id it.me i f (λ n. Did x no_step it.me (said n))) (sym pick)
-      (subst (λ (c : List (ℕ × Unit)). Allows (Kept L) slots it.id (it.me.0, c) i f (λ n. Did e no_step (it.me.0, c) (said n))) (sym r.empty)
-      (allows L slots it.id it.me.0 e i f said r.alive r.layout r.word r.may change tell)),
+  (let below = field_below L it.me.0.number e i r.word r.within in let within = r.words in omega (arith, below, within)),
+  subst (λ (x : Event). Allows (Kept L) z.slots it.id it.me i f (λ n. Did x no_step it.me (said n))) (sym pick)
+      (subst (λ (c : List (ℕ × Unit)). Allows (Kept L) z.slots it.id (it.me.0, c) i f (λ n. Did e no_step (it.me.0, c) (said n))) (sym r.empty)
+      (allows L z.slots it.id it.me.0 e i f said r.alive r.layout r.word r.may change tell (field_below L it.me.0.number e i r.word r.within) r.stored)),
 )
 
 -- what the `Play` tells, as clauses say it
@@ -253,12 +334,12 @@ pub is_done : (it after : Seat Unit View) (d e : Event) (n : ℕ) → d ≡ e �
 is_done it after d e n pick table seat did = subst (λ (x : Event). IsDone it after x n) pick (record { table = table; seat = seat; found = did.0; me = did.1; past = did.2 })
 
 -- the same where the `Play` is told the word that was found, and where it is told the one stored
-pub asked_plainly : (L : Layout) (z : TableId) (slots : ℕ) (it : Seat Unit View) (d e : Event) (i : ℕ) (f : ℕ → ℕ)
+pub asked_plainly : (L : Layout) (z : TableId) (it : Seat Unit View) (d e : Event) (i : ℕ) (f : ℕ → ℕ)
     → d ≡ e → IsReadyFor (record { table = z; layout = L }) it e i → Changes e it.me.0 f
-    → (it.table_id ≡ z) × (i < z.words) × Allows (Kept L) slots it.id it.me i f (Did d no_step it.me)
-asked_plainly L z slots it d e i f pick r change = asked L z slots it d e i f (λ n. n) pick r change (λ n. (refl, λ h. refl))
+    → (it.table_id ≡ z) × (i < z.words) × Allows (Kept L) z.slots it.id it.me i f (Did d no_step it.me)
+asked_plainly L z it d e i f pick r change = asked L z it d e i f (λ n. n) pick r change (λ n. (refl, λ h. refl))
 
-pub asked_blind : (L : Layout) (z : TableId) (slots : ℕ) (it : Seat Unit View) (d e : Event) (i new : ℕ)
+pub asked_blind : (L : Layout) (z : TableId) (it : Seat Unit View) (d e : Event) (i new : ℕ)
     → d ≡ e → IsReadyFor (record { table = z; layout = L }) it e i → Changes e it.me.0 (λ _. new) → IsBlind e it.me.0
-    → (it.table_id ≡ z) × (i < z.words) × Allows (Kept L) slots it.id it.me i (λ _. new) (λ _. Did d no_step it.me new)
-asked_blind L z slots it d e i new pick r change blind = asked L z slots it d e i (λ _. new) (λ _. new) pick r change (λ n. (blind.same new n, λ h. absurd (true≢false (sym blind.store ∙ h))))
+    → (it.table_id ≡ z) × (i < z.words) × Allows (Kept L) z.slots it.id it.me i (λ _. new) (λ _. Did d no_step it.me new)
+asked_blind L z it d e i new pick r change blind = asked L z it d e i (λ _. new) (λ _. new) pick r change (λ n. (blind.same new n, λ h. absurd (true≢false (sym blind.store ∙ h))))

@@ -3,6 +3,7 @@ pub mod Growing
 pub mod Seeing
 pub mod Presence
 pub mod Extending
+pub mod Valuing
 pub mod Asking
 pub mod Keeping
 pub mod OpeningWords
@@ -27,3 +28,5 @@ pub mod PackedEvents
 pub mod PackedSizes
 pub mod PackedReplies
 pub mod MarkedEdges
+pub mod ValueSteps
+pub mod ValueStays

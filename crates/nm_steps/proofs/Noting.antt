@@ -4,6 +4,7 @@ use Rattle.std.proofs.Common.{◌≡◌, ◌≢◌, ℕ, ◌<◌, ◌≤◌, ◌
 use Rattle.std.specs.Prelude.{Option, Some, None, IfSome}
 use Rattle.nm_model.specs.Maps.{is_number}
 use Rattle.std.proofs.lemmas.Bool.{cond_both, ne_eqb}
+use Rattle.atomic_table.specs.Table.{Me}
 use Rattle.atomic_table.specs.Seated.{TableId}
 use Rattle.atomic_table.specs.declared.shared.Seat.{Seat}
 use Rattle.nm_edge.specs.Layouts.{Layout, IsLayout}
@@ -26,7 +27,7 @@ use Rattle.nm_steps.specs.Packing.{word_at, touched_field}
 use Rattle.nm_steps.specs.Told.{told}
 use Rattle.nm_steps.specs.declared.view.View.{View}
 use Rattle.std.proofs.lemmas.List.{same_from_push}
-use Rattle.nm_steps.specs.Rules.{knowledge, known_births, answered_turn, logged, is_store, IsFound}
+use Rattle.nm_steps.specs.Rules.{LinkHasValue, knowledge, known_births, answered_turn, logged, is_store, IsFound}
 use Rattle.nm_steps.specs.Steps.{PassView, May, IsReadyFor, IsDone, Stepped, HasTurn, IsOfRun, IsInRun, HasSeen, Tied, Laid, noted_sight, TakesStep}
 use Rattle.nm_steps.proofs.Presence.{gone_kept, known_push}
 use Rattle.nm_steps.proofs.Asking.{within, seen_small, private_pooled}
@@ -162,8 +163,8 @@ small_seen None small = tt
 small_seen (Some s) small = small s refl
 
 pub ready : (z : TableId) (key L : Layout) (it : Seat Unit View) (number announcement : ℕ) (brief : Brief) (e : Event) (i : ℕ)
-    → Laid z key L → Tied it number announcement brief → it.table_id ≡ z → it.me.0.layout ≡ L → May it.me.0.layout it.me.0.number it.me.0.log e → i ≡ word L (touched_field number e) → IsReadyFor (record { table = z; layout = L }) it e i
-ready z key L it number announcement brief e i laid tied table same may index =
+    → Laid z key L → Tied it number announcement brief → it.table_id ≡ z → it.me.0.layout ≡ L → May it.me.0.layout it.me.0.number it.me.0.log e → i ≡ word L (touched_field number e) → LinkHasValue z.slots it.me.0 e → IsReadyFor (record { table = z; layout = L }) it e i
+ready z key L it number announcement brief e i laid tied table same may index stored =
     let k : May L it.me.0.number it.me.0.log e = subst (λ (l : Layout). May l it.me.0.number it.me.0.log e) same may in
     let own : it.me.0.number < L.workers = subst (λ (n : ℕ). n < L.workers) tied.number_is (subst (λ (l : Layout). number < l.workers) same tied.worker) in
     record {
@@ -175,6 +176,7 @@ ready z key L it number announcement brief e i laid tied table same may index =
       within = within L it.me.0.number it.me.0.log own e k;
       word = index ∙ ap (λ (w : ℕ). word L (touched_field w e)) tied.number_is;
       may = k;
+      stored = stored;
     }
 
 -- the word of a pass's announcement is the one that its announcement has in the table
@@ -201,6 +203,7 @@ takes_step it after number announcement brief e n p r tied may done step is = re
   step = step;
   past = has_turn p (standing after) e r step (subst (λ (x : PassView). HasTurned x (standing after) e) is (has_turned it after e n done));
   run = in_run_after it after number announcement brief e n tied may done;
+  stores = ap (λ (m : Me Unit View). m.0.stores) done.me ∙ ap (λ (x : PassView). x.view.stores) is;
 }
 
 pub tied_after : (it after : Seat Unit View) (number announcement : ℕ) (brief new : Brief) (e : Event) (n : ℕ) → Tied it number announcement brief → May it.me.0.layout it.me.0.number it.me.0.log e → IsDone it after e n

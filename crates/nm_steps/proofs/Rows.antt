@@ -9,12 +9,12 @@ use Rattle.std.proofs.lemmas.Bool.{cond-false, eqb-true, ne_eqb}
 use lib.Bits.{and_comm, and_zero_r}
 use lib.ListN.{get_elem?}
 use mathlib.Core.Option.{some, some-ne-none}
-use Rattle.atomic_table.specs.Table.{State, Me, Allows, keeps}
+use Rattle.atomic_table.specs.Table.{Me, Allows}
 use Rattle.atomic_table.specs.Seated.{TableId}
 use Rattle.atomic_table.specs.declared.shared.Seat.{Seat}
 use Rattle.atomic_table.proofs.Lists.{set_here, set_again}
 use Rattle.nm_edge.specs.Layouts.{Layout, IsLayout}
-use Rattle.nm_edge.specs.Words.{pool_place, pool_word, word, at_announcement, at_row}
+use Rattle.nm_edge.specs.Words.{pool_word, word, words, at_announcement, at_row}
 use Rattle.nm_edge.proofs.Words.{fields_within, places_are_rows}
 use Rattle.nm_model.specs.declared.event.Event.{Event}
 use Rattle.nm_model.specs.declared.event.Event.TheVariants.{Claim}
@@ -30,16 +30,18 @@ use Rattle.nm_laws.proofs.Learned.{learn_taken}
 use Rattle.nm_order.specs.Hands.{IsPooled}
 use Rattle.nm_steps.specs.Packing.{touched_field, left_word}
 use Rattle.nm_steps.specs.Told.{told}
+use Rattle.nm_steps.specs.declared.view.Stored.{Stored}
 use Rattle.nm_steps.specs.declared.view.View.{View}
-use Rattle.nm_steps.specs.Rules.{knowledge, known_births, Extends, Runs, Kept, answered_turn, logged}
+use Rattle.nm_steps.specs.Rules.{knowledge, known_births, Extends, Runs, Kept, answered_turn, logged, ExtendsStores}
 use Rattle.nm_steps.specs.Steps.{Laid, PassView, May, IsDone, HasSeen, Tied, Continues, Stepped, TakesStep}
 use Rattle.nm_steps.specs.Rows.{DoneInTurn, FoundTaken, shown_taken, DidClaims, CanPass, HasPassed}
 use Rattle.nm_steps.proofs.Growing.{goes_on_itself}
 use Rattle.nm_steps.proofs.Presence.{known_push}
-use Rattle.nm_steps.proofs.Keeping.{goes_on}
+use Rattle.nm_steps.proofs.Keeping.{goes_on, lifts}
+use Rattle.nm_steps.proofs.Valuing.{Grows, grown_none, grown_then, reviewed, reworded}
 use Rattle.nm_steps.proofs.Noting.{standing, has_turned, has_turn, in_run_after, tied_after}
 use Rattle.nm_steps.proofs.AfterSteps.{run_of_seen}
-use Rattle.nm_steps.proofs.Seeing.{continues_then, continues_by}
+use Rattle.nm_steps.proofs.Seeing.{continues_then, continues_by, stores_same}
 use Rattle.std.proofs.lemmas.Bool.{le-ltb}
 use Rattle.std.specs.Prelude.{Option, Some, None, nat_lt, ◌||◌}
 
@@ -152,10 +154,12 @@ allowed_claim L w log s least most = record {
 -- ---- the rule
 
 -- after so many claims some view keeps the rule, which is alive and of the same layout
-record Reaches (L : Layout) (s : State Unit View) (id n from k : ℕ) (v : View) : Type 0 where
+record Reaches (L : Layout) (slots : ℕ) (st : List Stored) (core : List ℕ) (views : List View) (turns : List (ℕ × Event)) (id n from k : ℕ) (v : View) : Type 0 where
   view : View
-  keeps_rule : Runs L s.words (set s.views id view)
-  at : get_elem? (set s.views id view) id ≡ some view
+  keeps_rule : Runs L core (set views id view)
+  grows : Grows L slots st turns keeps_rule.turns
+  same : view.stores ≡ v.stores
+  at : get_elem? (set views id view) id ≡ some view
   alive : view.resigned ≡ false
   layout : view.layout ≡ L
   claims : DidClaims from k (v, []) n (view, [])
@@ -165,26 +169,28 @@ within_length [] i a e = absurd (some-ne-none a (sym e))
 within_length (x ∷ xs) zero a e = omega arith
 within_length (x ∷ xs) (suc i) a e = let less = within_length xs i a e in omega (arith, less)
 
-module _ (L : Layout) (id i from : ℕ) (v : View) (s : State Unit View) (rule : Kept L s) (at : get_elem? s.views id ≡ some v) (alive : v.resigned ≡ false) (layout : v.layout ≡ L) (small : slice_index s.words i < 18446744073709551616) (low : 6 ≤ from) where
+module _ (L : Layout) (id i from : ℕ) (v : View) (core : List ℕ) (views : List View) (rule : Runs L core views) (at : get_elem? views id ≡ some v) (alive : v.resigned ≡ false) (layout : v.layout ≡ L) (small : slice_index core i < 18446744073709551616) (low : 6 ≤ from) (slots : ℕ) (st : List Stored) (had : ExtendsStores st v.stores) where
   abbrev n : ℕ
-  n = slice_index s.words i
+  n = slice_index core i
 
-  reaches : (k : ℕ) → from + k ≤ L.nodes + 1 → ((j : ℕ) → j < k → i ≡ word L (touched_field v.number (Claim (from + j)))) → ((j : ℕ) → j < k → IsShownTaken n (from + j)) → Reaches L s id n from k v
-  reaches zero high rows taken = record { view = v; keeps_rule = subst (Runs L s.words) (sym (set_again s.views id v at)) rule; at = subst (λ (l : List View). get_elem? l id ≡ some v) (sym (set_again s.views id v at)) at; alive = alive; layout = layout; claims = refl }
+  reaches : (k : ℕ) → from + k ≤ L.nodes + 1 → ((j : ℕ) → j < k → i ≡ word L (touched_field v.number (Claim (from + j)))) → ((j : ℕ) → j < k → IsShownTaken n (from + j)) → Reaches L slots st core views rule.turns id n from k v
+  reaches zero high rows taken = record { view = v; keeps_rule = reviewed (sym (set_again views id v at)) rule; grows = grown_none L slots st rule.turns; same = refl; at = subst (λ (l : List View). get_elem? l id ≡ some v) (sym (set_again views id v at)) at; alive = alive; layout = layout; claims = refl }
   reaches (suc k) high rows taken =
       let r = reaches k (omega (arith, high)) (λ j less. rows j (omega (arith, less))) (λ j less. taken j (omega (arith, less))) in
       let e : Event = Claim (from + k) in
-      let step = goes_on L s.words (set s.views id r.view) id r.view e i n r.keeps_rule r.at r.alive r.layout (rows k (omega arith)) (allowed_claim L r.view.number r.view.log (from + k) (omega (arith, low)) (omega (arith, high))) refl (λ h. refl) in
+      let step = goes_on L core (set views id r.view) id r.view e i n r.keeps_rule r.at r.alive r.layout (rows k (omega arith)) (allowed_claim L r.view.number r.view.log (from + k) (omega (arith, low)) (omega (arith, high))) refl (λ h. refl) slots st (subst (ExtendsStores st) (sym r.same) had) tt in
       let w : View = step.0 in
-      let same : w ≡ logged r.view e n (trace_in (ordered r.view.layout) step.2.0.turns) = ap (λ (m : Me Unit View). m.0) step.2.1 in
-      let words_same : slice_set s.words i (left_word r.view.layout (knowledge r.view) e n) ≡ s.words = ap (slice_set s.words i) (left_alone r.view.layout (knowledge r.view) (from + k) n small (taken k (omega arith))) ∙ set_read s.words i in
+      let same : w ≡ logged r.view e n (trace_in (ordered r.view.layout) step.4.0.turns) = ap (λ (m : Me Unit View). m.0) step.4.1 in
+      let words_same : slice_set core i (left_word r.view.layout (knowledge r.view) e n) ≡ core = ap (slice_set core i) (left_alone r.view.layout (knowledge r.view) (from + k) n small (taken k (omega arith))) ∙ set_read core i in
       record {
         view = w;
-        keeps_rule = subst (λ (l : List View). Runs L s.words l) (set-set s.views id r.view w) (subst (λ (ws : List ℕ). Runs L ws (set (set s.views id r.view) id w)) words_same step.1);
-        at = set_here s.views id w (within_length s.views id v at);
+        keeps_rule = reviewed (set-set views id r.view w) (reworded words_same step.1);
+        grows = grown_then L slots st rule.turns r.keeps_rule.turns step.1.turns r.grows step.2;
+        same = step.3 ∙ r.same;
+        at = set_here views id w (within_length views id v at);
         alive = ap (λ (x : View). x.resigned) same ∙ r.alive;
         layout = ap (λ (x : View). x.layout) same ∙ r.layout;
-        claims = ((r.view, []), r.claims, step.2);
+        claims = ((r.view, []), r.claims, step.4);
       }
     where
       set_read : (l : List ℕ) (i : ℕ) → slice_set l i (slice_index l i) ≡ l
@@ -198,24 +204,27 @@ pub asked_to_pass : (L : Layout) (z : TableId) (slots : ℕ) (it : Seat Unit Vie
     → (it.table_id ≡ z) × (i < z.words) × Allows (Kept L) slots it.id it.me i (λ n. n) (λ n after. DidClaims first (shown_taken n first many) it.me n after)
 asked_to_pass L z slots it first many from most i pick pick_many can = (
   can.table,
-  subst (λ (k : ℕ). k < z.words) (sym can.word) (subst (λ (k : ℕ). (pool_place L from).word < k) (sym can.words) (fields_within L (at_row ((from - 1) / 64)) (places_are_rows L from (omega (arith, can.low), can.slot)))),
+  (let below = row_below in let many = can.words in omega (arith, below, many)),
   subst (λ (x : ℕ). Allows (Kept L) slots it.id it.me i (λ n. n) (λ n after. DidClaims x (shown_taken n x many) it.me n after)) (sym pick)
       (subst (λ (x : ℕ). Allows (Kept L) slots it.id it.me i (λ n. n) (λ n after. DidClaims from (shown_taken n from x) it.me n after)) (sym pick_many)
       (subst (λ (c : List (ℕ × Unit)). Allows (Kept L) slots it.id (it.me.0, c) i (λ n. n) (λ n after. DidClaims from (shown_taken n from most) (it.me.0, c) n after)) (sym can.empty) passes)),
 )
   where
+    row_below : i < words L
+    row_below = subst (λ (k : ℕ). k < words L) (sym can.word) (fields_within L (at_row ((from - 1) / 64)) (places_are_rows L from (omega (arith, can.low), can.slot)))
+
     same_row : (j : ℕ) → j < most → (from - 1) / 64 ≡ (from + j - 1) / 64
     same_row j less = let low = can.low in let row = can.row in omega (arith, low, row, less)
 
     passes : Allows (Kept L) slots it.id (it.me.0, []) i (λ n. n) (λ n after. DidClaims from (shown_taken n from most) (it.me.0, []) n after)
-    passes s rule homes at small =
-        let n : ℕ = slice_index s.words i in
+    passes = lifts L slots it.id it.me.0 i (λ n. n) (λ n after. DidClaims from (shown_taken n from most) (it.me.0, []) n after) row_below (λ core views rule at small st had.
+        let n : ℕ = slice_index core i in
         let k : ℕ = shown_taken n from most in
         let few : k ≤ most = few_shown n from most in
-        let r = reaches L it.id i from it.me.0 s rule at can.alive can.layout small can.low k (let high = can.high in omega (arith, high, few))
+        let r = reaches L it.id i from it.me.0 core views rule at can.alive can.layout small can.low slots st had k (let high = can.high in omega (arith, high, few))
         (λ j less. can.word ∙ ap (λ (x : ℕ). pool_word L + x) (same_row j (omega (arith, less, few))))
         (λ j less. each_shown n from most j less) in
-        (r.view, keeps, tt, subst (λ (ws : List ℕ). Runs L ws (set s.views it.id r.view)) (sym (set-get_or s.words i _)) r.keeps_rule, r.claims)
+        (r.view, reworded (sym (set-get_or core i 0)) r.keeps_rule, r.grows, r.same, r.claims))
 
 -- ---- what a look leaves
 
@@ -249,9 +258,10 @@ module _ (it : Seat Unit View) (number announcement : ℕ) (brief : Brief) (from
       record {
         tied = t;
         on = record {
-          same = (λ j. record { table = table j; seat = seat j; view = (same j).0 }) ∙ sym (λ j. record (standing it) { view = record it.me.0 { log = (same j).0.log; past = (same j).0.past } });
+          same = (λ j. record { table = table j; seat = seat j; view = (same j).0 }) ∙ sym (λ j. record (standing it) { view = record it.me.0 { log = (same j).0.log; past = (same j).0.past; stores = (same j).0.stores } });
           past = record { goes_on = subst (λ (m : Me Unit View). Extends m.0.past it.me.0.past) (sym same) (goes_on_itself it.me.0.past) };
           run = record { fits = t.fits; run = run_of_seen after.me.0 t.seen };
+          stores = stores_same after.me.0.stores it.me.0.stores (ap (λ (m : Me Unit View). m.0.stores) same);
         };
         passed = ap (λ (m : Me Unit View). m.0.log) same;
         learned = ap (λ (m : Me Unit View). knowledge m.0) same;
@@ -270,8 +280,8 @@ module _ (it : Seat Unit View) (number announcement : ℕ) (brief : Brief) (from
       let step : Stepped (standing m) (standing after) e Taken =
       (λ j. record { table = after.table_id; seat = after.id; view = me j })
       ∙ ((λ j. record (standing m) { view = record mid { log = mid.log ++ (e, is j) ∷ []; past = trace_in (ordered mid.layout) did.2.0.turns ++ answered_turn mid.number e (told mid.layout (knowledge mid) (known_births mid) e n) ∷ [] } })
-      ∙ sym (λ j. record (standing m) { view = record mid { log = mid.log ++ (e, Taken) ∷ []; past = (me j).past } })) in
-      let took : TakesStep (standing m) (standing after) e Taken = record { step = step; past = has_turn _ _ _ _ step (has_turned m after e n done); run = in_run_after m after number announcement brief e n r.tied may done } in
+      ∙ sym (λ j. record (standing m) { view = record mid { log = mid.log ++ (e, Taken) ∷ []; past = (me j).past; stores = (me j).stores } })) in
+      let took : TakesStep (standing m) (standing after) e Taken = record { step = step; past = has_turn _ _ _ _ step (has_turned m after e n done); run = in_run_after m after number announcement brief e n r.tied may done; stores = ap (λ (v : View). v.stores) me } in
       record {
         tied = tied_after m after number announcement brief brief e n r.tied may done refl;
         on = continues_then _ _ _ r.on (continues_by _ _ _ _ took);

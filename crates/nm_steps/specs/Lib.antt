@@ -5,3 +5,4 @@ pub mod Ties
 pub mod Rows
 pub mod Packing
 pub mod Told
+pub mod Values

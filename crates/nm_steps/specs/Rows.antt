@@ -53,7 +53,7 @@ PassedOver from most s me n after = DidClaims from (shown_taken n from most) me 
 -- i
 pub record CanPass (b : TreeView) (it : Seat Unit View) (from most i : ℕ) : Type 0 where
   pub table : it.table_id ≡ b.table
-  pub words : b.table.words ≡ words b.layout
+  pub words : words b.layout ≤ b.table.words
   pub empty : it.me.1 ≡ []
   pub alive : it.me.0.resigned ≡ false
   pub layout : it.me.0.layout ≡ b.layout

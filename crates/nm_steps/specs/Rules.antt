@@ -1,17 +1,19 @@
 -- The rule of the table: the logs of all workers are a run of the ordered core, and the words are
 -- those of its memory.
-use Rattle.std.specs.Prelude.{◌≡◌, ◌<◌, ℕ, Option, zero, suc, Bool, true, false, List, [], ◌∷◌, ◌++◌, All, Ok, if◌then◌else◌, ◌==◌, nat_lt}
+use Rattle.std.specs.Prelude.{◌≡◌, ◌<◌, ◌+◌, ℕ, Option, zero, suc, Bool, true, false, List, [], ◌∷◌, ◌++◌, All, Ok, if◌then◌else◌, ◌==◌, nat_lt, length, slice_index, unwrap_or, Contains, ◌⊎◌}
 use Rattle.std.specs.List.{sum_by, count_by}
 use mathlib.Core.Option.{some}
 use lib.ListN.{get_elem?}
 use Rattle.nm_edge.specs.Layouts.{Layout, IsLayout, dense}
+use Rattle.nm_edge.specs.declared.edge.Side.{Side}
 use Rattle.atomic_table.specs.Table.{State, Me, Step}
 use Rattle.nm_model.specs.declared.event.Event.{Event}
-use Rattle.nm_model.specs.declared.event.Event.TheVariants.{Announce, Leave, LeaveWith, Fill, Join}
+use Rattle.nm_model.specs.declared.event.Event.TheVariants.{Announce, Leave, LeaveWith, Fill, Link, Join}
 use Rattle.nm_model.specs.declared.reply.Reply.{Reply}
 use Rattle.nm_model.specs.declared.reply.Reply.TheVariants.{Joined}
 use Rattle.nm_model.specs.declared.trace.Turn.{Turn}
-use Rattle.nm_model.specs.Knowledge.{Knowledge}
+use Rattle.nm_model.specs.Knowledge.{Knowledge, beside, draft_of, is_private}
+use Rattle.nm_model.specs.Runs.{of}
 use Rattle.nm_model.specs.Walks.{Entry}
 use Rattle.nm_model.specs.Ordered.{ordered, after_in, trace_in}
 use Rattle.nm_order.specs.Intervals.{HasKey}
@@ -20,6 +22,7 @@ use Rattle.nm_order.specs.OwnBirths.{births_by}
 use Rattle.nm_steps.specs.Packing.{words_of, word_at, touched_field}
 use Rattle.nm_steps.specs.Told.{told}
 use Rattle.nm_steps.specs.declared.view.Held.{Held}
+use Rattle.nm_steps.specs.declared.view.Stored.{Stored}
 use Rattle.nm_steps.specs.declared.view.View.{View}
 
 abbrev pub held_log : ℕ → List Entry → Held
@@ -96,6 +99,7 @@ viewing L [] = record {
   others = [];
   past = [];
   heard = [];
+  stores = [];
 }
 viewing L (h ∷ hs) = record {
   layout = L;
@@ -105,6 +109,7 @@ viewing L (h ∷ hs) = record {
   others = hs;
   past = [];
   heard = [];
+  stores = [];
 }
 
 -- `everybody`, `own_alone`, `the_others`: the view of all workers; of its own worker only; of those
@@ -190,6 +195,83 @@ Did e s me n after = (f : IsFound me.0.layout me.0.number me.0.log e n)
     × (after ≡ (logged me.0 e n (trace_in (ordered me.0.layout) f.turns), me.1))
     × Extends (trace_in (ordered me.0.layout) f.turns) me.0.past
 
+-- ---- values
+
+-- the value of a slot: the one that was stored last for it, or 0
+abbrev pub value_from : ℕ → List Stored → ℕ → ℕ
+value_from was [] s = was
+value_from was (x ∷ xs) s = value_from (if x.slot == s then x.value else was) xs s
+
+abbrev pub value_of : List Stored → ℕ → ℕ
+value_of stores s = value_from 0 stores s
+
+-- these stores extend earlier ones
+pub record ExtendsStores (now was : List Stored) : Type 0 where
+  pub more : List Stored
+  pub is : now ≡ was ++ more
+
+-- when the value was stored, its slot was private to the worker that stored it
+pub record WasHeld (L : Layout) (turns : List (ℕ × Event)) (x : Stored) : Type 0 where
+  pub before : List (ℕ × Event)
+  pub since : List (ℕ × Event)
+  pub is_run : turns ≡ before ++ since
+  pub at : length before ≡ x.at
+  pub own : length (part_of x.worker (trace_in (ordered L) before)) ≡ x.own
+  pub private : is_private (of (after_in (ordered L) before).state x.worker) x.slot ≡ true
+
+-- each of these stores was such
+abbrev pub WereHeld : Layout → List (ℕ × Event) → List Stored → Type 0
+WereHeld L turns [] = Unit {0}
+WereHeld L turns (x ∷ xs) = WasHeld L turns x × WereHeld L turns xs
+
+-- the new leaf of a link: the child of the new internal node beside the node that was there
+abbrev pub new_leaf : Knowledge → ℕ → ℕ → ℕ
+new_leaf k leaf new = unwrap_or (beside (draft_of k new) leaf) 0
+
+-- the worker stored a value for the slot when its log had this number of entries
+pub record IsStored (stores : List Stored) (w entries slot : ℕ) : Type 0 where
+  pub stored : Stored
+  pub there : Contains stores stored
+  pub by_worker : stored.worker ≡ w
+  pub at_own : stored.own ≡ entries
+  pub for_slot : stored.slot ≡ slot
+
+-- each worker that tried to link a new leaf had stored a value for it, and had taken no step after
+-- that store
+abbrev pub LinksHaveValues : Layout → List (ℕ × Event) → List Stored → Type 0
+LinksHaveValues L turns stores =
+    (before since : List (ℕ × Event)) (w p : ℕ) (side : Side) (leaf new : ℕ)
+    → turns ≡ before ++ (w, Link p side leaf new) ∷ since
+    → IsStored stores w (length (part_of w (trace_in (ordered L) before)))
+    (new_leaf (of (after_in (ordered L) before).state w) leaf new)
+
+-- if this event is a link in a table with values, its worker has just stored a value for the new leaf
+abbrev pub LinkHasValue : ℕ → View → Event → Type 0
+LinkHasValue slots v (Link p side leaf new) = (slots ≡ 0)
+    ⊎ IsStored v.stores v.number (length v.log) (new_leaf (knowledge v) leaf new)
+LinkHasValue slots v e = Unit {0}
+
+-- the words after those of the core are the values of slots 1 and on by these stores. Each slot was
+-- private at its store, and each new leaf has a store. The stores that a view has seen are a
+-- beginning of them
+pub record HoldsValues (L : Layout) (turns : List (ℕ × Event)) (values : List ℕ) (stores : List Stored)
+    (views : List View) : Type 0 where
+  pub are : (i : ℕ) → i < length values → slice_index values i ≡ value_of stores (i + 1)
+  pub held : WereHeld L turns stores
+  pub linked : (length values ≡ 0) ⊎ LinksHaveValues L turns stores
+  pub seen : (i : ℕ) (v : View) → get_elem? views i ≡ some v → ExtendsStores stores v.stores
+
+-- the first words are those of a run, and the last `count` words are values. A table with values has
+-- `count` slots, which have no bytes, and any other table has none
+pub record Keeps (L : Layout) (words : List ℕ) (count : ℕ) (views : List View) : Type 0 where
+  pub core : List ℕ
+  pub values : List ℕ
+  pub words_are : words ≡ core ++ values
+  pub long : length values ≡ count
+  pub runs : Runs L core views
+  pub stores : List Stored
+  pub valued : HoldsValues L runs.turns values stores views
+
 -- the rule that the table keeps between any two steps
 abbrev pub Kept : Layout → State Unit View → Type 0
-Kept L s = Runs L s.words s.views
+Kept L s = Keeps L s.words (length s.homes) s.views

@@ -1,5 +1,5 @@
 -- What a step requires of its worker, and what it does.
-use Rattle.std.specs.Prelude.{◌≡◌, ◌≢◌, ◌+◌, ◌≤◌, ◌<◌, IfSome, ℕ, suc, true, false, List, [], ◌∷◌, ◌++◌, length, map, Bool, if◌then◌else◌, unwrap_or, Result, Ok, Err, Option, Some, None, IsSome, All}
+use Rattle.std.specs.Prelude.{◌≡◌, ◌⊎◌, ◌≢◌, ◌+◌, ◌≤◌, ◌<◌, IfSome, ℕ, suc, true, false, List, [], ◌∷◌, ◌++◌, length, map, Bool, if◌then◌else◌, unwrap_or, Result, Ok, Err, Option, Some, None, IsSome, All}
 use Rattle.atomic_table.specs.Seated.{TableId}
 use Rattle.atomic_table.specs.declared.shared.Seat.{Seat}
 use Rattle.nm_edge.specs.Edges.{Edge}
@@ -31,7 +31,7 @@ use Rattle.nm_steps.specs.declared.answers.Sighted.TheVariants as seeing
 use Rattle.nm_steps.specs.declared.tree_steps.FrozenChain.{FrozenChain}
 use Rattle.nm_steps.specs.declared.view.View.{View}
 use Rattle.nm_model.specs.declared.trace.Turn.{Turn}
-use Rattle.nm_steps.specs.Rules.{held_log, knowledge, known_births, viewing, joined, answered_turn, logged, is_store, stands, once_below, Extends, IsShown, IsFound}
+use Rattle.nm_steps.specs.Rules.{held_log, knowledge, known_births, viewing, joined, answered_turn, logged, is_store, stands, once_below, Extends, IsShown, IsFound, LinkHasValue, ExtendsStores}
 
 -- ---- what a worker's own log allows
 
@@ -79,12 +79,13 @@ pub record PassView : Type 0 where
 -- the pass of this seat can do this event, by the word i
 pub record IsReadyFor (b : TreeView) (it : Seat Unit View) (e : Event) (i : ℕ) : Type 0 where
   pub table : it.table_id ≡ b.table
-  pub words : b.table.words ≡ words b.layout
+  pub words : words b.layout ≤ b.table.words
   pub empty : it.me.1 ≡ []
   pub alive : it.me.0.resigned ≡ false
   pub layout : it.me.0.layout ≡ b.layout
   pub within : IsField b.layout (touched_field it.me.0.number e)
   pub word : i ≡ word b.layout (touched_field it.me.0.number e)
+  pub stored : LinkHasValue b.table.slots it.me.0 e
   pub may : May b.layout it.me.0.number it.me.0.log e
 
 -- the event is done, with the reply that this word gives
@@ -124,7 +125,7 @@ MayStep p e = May p.view.layout p.view.number p.view.log e
 -- this event with this reply is appended to the log, more has been seen, and nothing else changed
 abbrev pub Stepped : PassView → PassView → Event → Reply → Type 0
 Stepped p q e r = q ≡ record p
-    { view = record p.view { log = p.view.log ++ (e, r) ∷ []; past = q.view.past } }
+    { view = record p.view { log = p.view.log ++ (e, r) ∷ []; past = q.view.past; stores = q.view.stores } }
 
 -- what has been seen is turns that extend what had been seen before, and the last of them is this
 -- event with this reply
@@ -152,6 +153,7 @@ pub record TakesStep (p q : PassView) (e : Event) (r : Reply) : Type 0 where
   pub step : Stepped p q e r
   pub past : HasTurn p q e r
   pub run : IsInRun q
+  pub stores : q.view.stores ≡ p.view.stores
 
 -- what a view has seen is the turns of an ordered run, its log is its worker's part of them, and
 -- the worker has not resigned
@@ -181,8 +183,8 @@ pub record Tied (it : Seat Unit View) (number announcement : ℕ) (brief : Brief
 -- what a table always satisfies
 pub record Laid (z : TableId) (key L : Layout) : Type 0 where
   pub key_is : key ≡ L
-  pub words_are : z.words ≡ words L
-  pub no_slots : z.slots ≡ 0
+  pub words_are : words L ≤ z.words
+  pub slots_are : (z.slots ≡ 0) ⊎ (z.slots ≡ L.nodes)
 
 -- ---- making, joining and closing
 
@@ -230,13 +232,15 @@ pub record Ends (L : Layout) (words : List ℕ) (view : View) : Type 0 where
 
 -- only the log and what has been seen have changed
 abbrev pub IsSamePass : PassView → PassView → Type 0
-IsSamePass p q = q ≡ record p { view = record p.view { log = q.view.log; past = q.view.past } }
+IsSamePass p q = q ≡ record p { view = record p.view { log = q.view.log; past = q.view.past; stores = q.view.stores } }
 
--- what one or more steps leave: it is the same pass, has seen all that it had seen, and is in a run
+-- what one or more steps leave: it is the same pass, has seen all that it had seen, of turns and of
+-- stores, and is in a run
 pub record Continues (p q : PassView) : Type 0 where
   pub same : IsSamePass p q
   pub past : HasSeenAllOf q p
   pub run : IsInRun q
+  pub stores : ExtendsStores q.view.stores p.view.stores
 
 -- ---- replies, from the results of step functions
 

@@ -7,7 +7,7 @@ ghost use Rattle.nm_model.specs.declared.event.Field.TheVariants.{Key as KeyOf, 
 ghost use Rattle.nm_model.specs.declared.reply.Reply.TheVariants.{KeyIs, EdgeIs, BirthIs, Filled, Was};
 ghost use Rattle.nm_model.specs.Knowledge.{read};
 ghost use Rattle.nm_model.specs.Step.{last_number};
-ghost use Rattle.nm_steps.specs.Rules.{knowledge};
+ghost use Rattle.nm_steps.specs.Rules.{LinkHasValue, knowledge};
 ghost use Rattle.nm_steps.specs.Steps.{IsOf, MayStep, TakesStep, link_reply, flag_reply, splice_of, splice_reply};
 
 use crate::pass::{Pass, Shared};
@@ -104,7 +104,8 @@ impl Shared {
     }
 
     /// Replaces a leaf, or in a radix tree perhaps an internal node, by a private internal node
-    /// over it and a private new leaf. `Err`: the link was lost; this edge was found instead.
+    /// over it and a private new leaf. `Err`: the link was lost; this edge was found instead. In a
+    /// table with values the worker must just have stored one for the new leaf.
     pub fn link(
         &self,
         pass: &mut Pass,
@@ -115,6 +116,8 @@ impl Shared {
     ) -> Result<(), Edge>
         requires own { IsOf self.now pass.old }
         requires may { MayStep pass.old (Link parent side leaf new) }
+        requires stored { LinkHasValue self.now.table.slots pass.old.view
+            (Link parent side leaf new) }
         ensures { TakesStep pass.old pass.new (Link parent side leaf new)
             (link_reply pass.old.view new result) }
     {

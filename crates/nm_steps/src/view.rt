@@ -11,9 +11,19 @@ pub struct Held {
     pub log: LinkedList<(Event, Reply)>,
 }
 
+/// A value that a worker stored for a slot that was private to it, after `at` turns of the run. Its
+/// log had `own` entries then. Proof only: no value of it is made.
+pub struct Stored {
+    pub at: u64,
+    pub worker: u32,
+    pub own: u64,
+    pub slot: u32,
+    pub value: u64,
+}
+
 /// The knowledge of a seat: the logs of the workers that it represents, its own apart from the
-/// others; the turns of the run up to its last step; and the turns of a note that it has heard.
-/// Proof only: no value of it is made.
+/// others; the turns of the run up to its last step; the turns of a note that it has heard; and the
+/// stores of values up to its last step on a value. Proof only: no value of it is made.
 pub struct View {
     pub layout: Layout,
     pub resigned: bool,
@@ -22,6 +32,7 @@ pub struct View {
     pub others: LinkedList<Held>,
     pub past: LinkedList<Turn>,
     pub heard: LinkedList<Turn>,
+    pub stores: LinkedList<Stored>,
 }
 
 pub struct Law;
@@ -83,6 +94,39 @@ impl<D: Passing> Play<(), View> for Passes<D> {
     ghost use Rattle.nm_steps.specs.Rows.{PassedOver};
 
     ghost then = { PassedOver D.from D.most };
+}
+
+/// The slot whose value a step reads or stores.
+pub trait Slotted {
+    ghost use Rattle.std.specs.Prelude.{ℕ};
+
+    ghost slot: { ℕ };
+}
+
+impl Slotted for Brand {
+    ghost slot = { 0 };
+}
+
+/// What a seat learns by a look at a value.
+pub struct LooksAtValue<D> {
+    of: PhantomData<D>,
+}
+
+impl<D: Slotted> Play<(), View> for LooksAtValue<D> {
+    ghost use Rattle.nm_steps.specs.Values.{SawValue};
+
+    ghost then = { SawValue D.slot };
+}
+
+/// What a seat learns by the store of a value.
+pub struct StoresValue<D> {
+    of: PhantomData<D>,
+}
+
+impl<D: Slotted> Play<(), View> for StoresValue<D> {
+    ghost use Rattle.nm_steps.specs.Values.{HasStoredValue};
+
+    ghost then = { HasStoredValue D.slot };
 }
 
 /// A read that changes nothing, by which a seat learns that its logs are parts of one run.

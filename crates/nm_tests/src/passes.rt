@@ -17,6 +17,7 @@ mod near_claims;
 mod pools;
 mod radix_cores;
 mod reports;
+mod values;
 mod workers;
 
 /// Returns the pass of a table of one worker.

@@ -1,5 +1,5 @@
 -- What the rule keeps is of the turns of its run, and so is what a worker has seen.
-use Rattle.std.proofs.Common.{ℕ, ◌≡◌, Bool, cond, zero, suc, List, [], ◌∷◌, inl, inr, ◌⊎◌, refl, sym, ap, subst, ◌∙◌, arith}
+use Rattle.std.proofs.Common.{ℕ, ◌≡◌, Bool, cond, zero, suc, List, [], ◌∷◌, ◌++◌, inl, inr, ◌⊎◌, refl, sym, ap, subst, ◌∙◌, arith}
 use Rattle.std.specs.Prelude.{true, false, Result, Ok, Err, All, Contains, map, slice_index_or, ◌<◌}
 use Rattle.std.proofs.lemmas.List.{get_or-map, length-map}
 use Rattle.std.proofs.lemmas.List.Elements.{Contains-append_left, Contains-append_right, Contains-append_cases, All-contains_itself}
@@ -14,6 +14,7 @@ use Rattle.nm_model.specs.declared.trace.Turn.{Turn}
 use Rattle.nm_model.specs.Walks.{Entry, logged_by}
 use Rattle.nm_order.specs.Logs.{part_of, takes_part}
 use Rattle.nm_steps.specs.declared.view.View.{View}
+use Rattle.nm_steps.specs.Rules.{Runs}
 use Rattle.nm_steps.specs.Steps.{HasSeen}
 use Rattle.nm_epoch.specs.declared.collecting.Entry.{Entry as Waiting}
 use Rattle.nm_epoch.specs.declared.collecting.HeldQueue.{HeldQueue}
@@ -30,14 +31,18 @@ use Rattle.nm_tree.specs.Running.{AreOfWorkers, EachMomentIsOfTurns, HasSeenTurn
 use Rattle.nm_tree.proofs.WonAnswers.{true_answers_have_won, turns_are_of_workers}
 
 pub each_moment_is_of_turns : EachMomentIsOfTurns
-each_moment_is_of_turns L s r = record {
-  turns = trace_in (ordered L) r.turns;
-  shown = r.shown;
-  lags = λ i v e. (r.lags i v e).past;
-  written = r.words_are ∙ ap (words_of L) (sym (run_words L r.fits true r.turns));
-  headline = headline L r.fits true r.turns r.keys;
-  plain_set = history_of_run L r.fits r.turns r.keys;
-}
+each_moment_is_of_turns L s k =
+    let r : Runs L k.core s.views = k.runs in
+    record {
+      turns = trace_in (ordered L) r.turns;
+      shown = r.shown;
+      lags = λ i v e. (r.lags i v e).past;
+      values = k.values;
+      count = k.long;
+      written = k.words_are ∙ ap (λ (core : List ℕ). core ++ k.values) (r.words_are ∙ ap (words_of L) (sym (run_words L r.fits true r.turns)));
+      headline = headline L r.fits true r.turns r.keys;
+      plain_set = history_of_run L r.fits r.turns r.keys;
+    }
 
 -- ---- what a worker has seen
 

@@ -35,7 +35,7 @@ use Rattle.nm_calls.specs.declared.fault.CallFault.TheVariants as fault
 use Rattle.nm_tree.specs.declared.fault.PinFault.{PinFault}
 use Rattle.nm_tree.specs.Answers.{HasAnswered, HasInserted, HasDeleted, HasFinished, FinishHasMoment, HasTold, InsertTold, DeleteTold, FinishTold, DeleteLacks, FinishLacks, HasPinned, KeepsPlace, links_won, flags_won, DeleteWasLost, FinishWasLost, FailsAlone}
 use Rattle.nm_tree.specs.InTurns.{HasAnsweredMany}
-use Rattle.nm_tree.specs.Looked.{HasLooked}
+use Rattle.nm_tree.specs.Looked.{HasSeenMore}
 use Rattle.nm_tree.specs.Running.{IsFreedInGrace}
 use Rattle.nm_tree.specs.Workers.{WorkerView, KeepsOtherQueues, TakeRoom}
 
@@ -155,7 +155,7 @@ pub record LeavesNear (Was : PassView → PassView → Option ℕ → Type 0)
     (r : Result (Option ℕ) CallFault) : Type 0 where
   pub same : IsSamePass w.pass z.pass
   pub past : HasSeenAllOf z.pass w.pass
-  pub did : HasLooked GivesUp tries (tries * most_looks (reach L) 1) w z r
+  pub did : HasSeenMore GivesUp tries (tries * most_looks (reach L) 1) w z r
   pub interfered : IsErrOf r fault.Busy → NearWasBusy w.pass z.pass tries
   pub alone : IsAlone w.pass z.pass → IsErrOf r fault.Busy → tries ≤ 1
   pub moment : IfOk r (Was w.pass z.pass)

@@ -9,11 +9,11 @@ use Rattle.nm_tree.specs.Workers.{WorkerView}
 
 -- what such a call leaves of its worker and its log, by its answer, with at most `most` looks;
 -- `GivesUp` is how its walks end without an answer (Natarajan and Mittal, section 3.2)
-abbrev pub HasLooked : {X : Type 0} → (List Entry → List Entry → Type 0) → ℕ → ℕ → WorkerView → WorkerView
+abbrev pub HasSeenMore : {X : Type 0} → (List Entry → List Entry → Type 0) → ℕ → ℕ → WorkerView → WorkerView
     → Result X CallFault → Type 0
-HasLooked GivesUp tries most w z (Ok _) =
+HasSeenMore GivesUp tries most w z (Ok _) =
     IsFree w z × LooksUnderPin tries most w.pass.view.log z.pass.view.log
-HasLooked GivesUp tries most w z (Err fault.Busy) =
+HasSeenMore GivesUp tries most w z (Err fault.Busy) =
     IsFree w z × PlainMissed GivesUp tries w.pass.view.log z.pass.view.log
-HasLooked GivesUp tries most w z (Err fault.Pending) = IsPendingStill w z
-HasLooked GivesUp tries most w z (Err _) = ⊥
+HasSeenMore GivesUp tries most w z (Err fault.Pending) = IsPendingStill w z
+HasSeenMore GivesUp tries most w z (Err _) = ⊥

@@ -1,5 +1,5 @@
 -- The theorem for each moment of the running threads, and for what each worker has seen.
-use Rattle.std.specs.Prelude.{◌≡◌, ◌⊎◌, ◌==◌, ◌<◌, ℕ, Bool, true, false, ◌&&◌, List, ◌∷◌, ◌++◌, Contains, Some, Result, Ok}
+use Rattle.std.specs.Prelude.{◌≡◌, ◌⊎◌, ◌==◌, ◌<◌, ℕ, Bool, true, false, ◌&&◌, List, ◌∷◌, ◌++◌, length, Contains, Some, Result, Ok}
 use Rattle.std.specs.List.{list_any}
 use mathlib.Core.Option.{some}
 use lib.ListN.{get_elem?}
@@ -48,12 +48,15 @@ TrueAnswersHaveWon turns = (before since : List Turn) (w : ℕ) (c : Called)
 
 -- the logs in the views of all seats are the parts of these turns, and what each seat has seen is a
 -- beginning of them; the turns lead from the words of the empty tree to these words, have the
--- headline, and are a history of one plain set
+-- headline, and are a history of one plain set. If the table has slots, as many words come after
+-- those of the tree: the values. A table without slots has none
 pub record IsOfTurnsSoFar (L : Layout) (s : State Unit View) : Type 0 where
   pub turns : List Turn
   pub shown : (i : ℕ) (v : View) → get_elem? s.views i ≡ some v → IsShown L turns v
   pub lags : (i : ℕ) (v : View) → get_elem? s.views i ≡ some v → Extends turns v.past
-  pub written : s.words ≡ words_of L (words_after L turns)
+  pub values : List ℕ
+  pub count : length values ≡ length s.homes
+  pub written : s.words ≡ words_of L (words_after L turns) ++ values
   pub headline : Headline L turns
   pub plain_set : HasHistory L turns
 

@@ -14,7 +14,7 @@ use Rattle.nm_calls.specs.Scans.{GiveUp, IsIn, IsRangeBy, count_of, end_of, leg_
 use Rattle.nm_calls.specs.Won.{HasWon}
 use Rattle.nm_progress.specs.Alone.{IsAlone}
 use Rattle.nm_progress.specs.Walked.{ManyWereBusy}
-use Rattle.nm_tree.specs.Looked.{HasLooked}
+use Rattle.nm_tree.specs.Looked.{HasSeenMore}
 use Rattle.nm_tree.specs.Workers.{WorkerView}
 
 -- what a scan from a key on to a side, up to a bound, leaves of its worker: the fields are those of
@@ -27,7 +27,7 @@ pub record LeavesScan (side : Side) (L : Layout) (tries from to : ℕ) (old out 
     (w z : WorkerView) (r : Result Scanned CallFault) : Type 0 where
   pub same : IsSamePass w.pass z.pass
   pub past : HasSeenAllOf z.pass w.pass
-  pub did : HasLooked (GiveUp L from) tries ((count_of r + tries) * leg_looks (reach L)) w z r
+  pub did : HasSeenMore (GiveUp L from) tries ((count_of r + tries) * leg_looks (reach L)) w z r
   pub interfered : IsErrOf r fault.Busy → ManyWereBusy w.pass z.pass tries
   pub alone : IsAlone w.pass z.pass → IsErrOf r fault.Busy → tries ≡ 0
   pub moment : IfOk r (λ s. IsRangeBy side (WasSo w.pass z.pass) (bound side from)

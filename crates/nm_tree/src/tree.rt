@@ -20,11 +20,14 @@ pub struct Tree {
 }
 
 impl Model for Tree {
+    ghost use Rattle.std.specs.Prelude.{◌≡◌};
     ghost use Rattle.nm_steps.specs.Steps.{TreeView};
 
     ghost Value = { TreeView };
 
     ghost view = { λ t. t.shared };
+
+    ghost invariant = { λ t. t.shared.table.slots ≡ 0 };
 }
 
 impl Tree {

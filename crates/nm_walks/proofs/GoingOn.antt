@@ -8,7 +8,7 @@ use Rattle.nm_model.specs.declared.event.Op.{Op}
 use Rattle.nm_order.specs.Facts.Fact.{KnowsSlot, KnowsLeaf, IsTagged, IsFlagged, IsPinned, CallIs, Came, ReadKey, EndedAt}
 use Rattle.nm_order.specs.Taught.{EdgeLearned}
 use Rattle.nm_steps.specs.Steps.{TreeView, PassView, IsOf, IsSamePass}
-use Rattle.nm_steps.proofs.Seeing.{same_then, seen_through}
+use Rattle.nm_steps.proofs.Seeing.{same_then, seen_through, stores_through}
 use Rattle.nm_walks.specs.declared.seek_record.SeekRecord.{SeekRecord}
 use Rattle.nm_walks.specs.Labelling.{IsPinnedForCall}
 use Rattle.nm_walks.specs.Telling.{Tells, GoesOn, OnlyLooks, IsPinnedSomewhere, IsPinnedIn, KeyTold, EdgeTold, OnwardTold}
@@ -20,6 +20,7 @@ goes_then o p q a b = record {
   same = same_then o p q a.same b.same;
   past = seen_through o p q a.past b.past;
   run = b.run;
+  stores = stores_through o.view.stores p.view.stores q.view.stores a.stores b.stores;
   keeps = λ fact holds. b.keeps fact (a.keeps fact holds);
 }
 

@@ -16,3 +16,4 @@ pub mod Forks
 pub mod Adding
 pub mod KeptLedgers
 pub mod PlainLooks
+pub mod ValueLooks

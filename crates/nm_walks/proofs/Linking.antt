@@ -139,7 +139,7 @@ module _ (p : PassView) (parent : ℕ) (side : Side) (leaf new fresh : ℕ) (i :
   shown : ForksOver (draft_of (knowledge p.view) new) leaf fresh
   shown = fork_shown p i.key i.other leaf new fresh i.new_nodes
 
-  is_fresh : unwrap_or (beside (draft_of (knowledge p.view) new) leaf) 0 ≡ fresh
+  pub is_fresh : unwrap_or (beside (draft_of (knowledge p.view) new) leaf) 0 ≡ fresh
   is_fresh = ap (λ (o : Option ℕ). unwrap_or o 0) shown.beside_leaf
 
   new_private : is_private (knowledge p.view) new ≡ true
@@ -242,8 +242,8 @@ module _ (p q : PassView) (parent : ℕ) (side : Side) (leaf new fresh : ℕ) wh
   stands_anew (Ok u) = refl
   stands_anew (Err e) = refl
 
-  pub link_goes_on : (r : Result Unit Edge) → Stepped p q (Link parent side leaf new) (link_reply p.view new r) → HasSeenAllOf q p → IsLayout q.view.layout → TellsRun q → GoesOn p q
-  link_goes_on r step past fits tells = goes_on p q (Link parent side leaf new) (link_reply p.view new r) step past refl (stands_anew r) fits tells
+  pub link_goes_on : (r : Result Unit Edge) → Stepped p q (Link parent side leaf new) (link_reply p.view new r) → HasSeenAllOf q p → q.view.stores ≡ p.view.stores → IsLayout q.view.layout → TellsRun q → GoesOn p q
+  link_goes_on r step past stored fits tells = goes_on p q (Link parent side leaf new) (link_reply p.view new r) step past stored refl (stands_anew r) fits tells
 
   pub link_won : IsInRun p → IsInserting p parent side leaf new fresh → Stepped p q (Link parent side leaf new) (Linked (node_linked (knowledge p.view) new)) → HasLinked p q parent side leaf new fresh
   unfolding searched

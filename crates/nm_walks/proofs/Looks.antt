@@ -39,6 +39,7 @@ use Rattle.nm_order.proofs.ToldLaws.{twins_are_told, flags_are_told, flagged_lea
 use Rattle.nm_steps.specs.Rules.{knowledge}
 use Rattle.nm_steps.specs.Steps.{PassView, MayStep, Stepped, HasSeenAllOf}
 use Rattle.nm_steps.proofs.AfterSteps.{TellsRun, run_after, is_join}
+use Rattle.nm_steps.proofs.Seeing.{stores_same}
 use Rattle.nm_walks.specs.Telling.{Tells, IsInRun, GoesOn, OnlyLooks, IsPinnedSomewhere, KeyTold, EdgeTold}
 use Rattle.nm_model.proofs.Checks.{not_outside}
 
@@ -91,13 +92,14 @@ grown p q e r step other fits tells =
 pub told_after : (p q : PassView) (e : Event) (r : Reply) → Stepped p q e r → (fact : Fact) → Holds p.view.layout p.view.number (p.view.log ++ (e, r) ∷ []) fact → Tells q fact
 told_after p q e r step fact holds = subst (λ (s : PassView). Tells s fact) (sym step) holds
 
-pub goes_on : (p q : PassView) (e : Event) (r : Reply) → Stepped p q e r → HasSeenAllOf q p → is_join e ≡ false → begins_anew (e, r) ≡ false → IsLayout q.view.layout → TellsRun q → GoesOn p q
-goes_on p q e r step past other stands fits tells =
+pub goes_on : (p q : PassView) (e : Event) (r : Reply) → Stepped p q e r → HasSeenAllOf q p → q.view.stores ≡ p.view.stores → is_join e ≡ false → begins_anew (e, r) ≡ false → IsLayout q.view.layout → TellsRun q → GoesOn p q
+goes_on p q e r step past stored other stands fits tells =
     let layout : IsLayout p.view.layout = subst (λ (s : PassView). IsLayout s.view.layout) step fits in
     record {
-      same = step ∙ ap (λ (log : List Entry). record p { view = record p.view { log = log; past = q.view.past } }) (sym (ap (λ (s : PassView). s.view.log) step));
+      same = step ∙ ap (λ (log : List Entry). record p { view = record p.view { log = log; past = q.view.past; stores = q.view.stores } }) (sym (ap (λ (s : PassView). s.view.log) step));
       past = past;
       run = record { fits = fits; run = run_after p q e r (ap (λ (s : PassView). s.view.log) step) other tells };
+      stores = stores_same q.view.stores p.view.stores stored;
       keeps = λ fact holds. told_after p q e r step fact (facts_stay p.view.layout (enough p.view.layout layout) p.view.number p.view.log (e, r) (grown p q e r step other fits tells) stands fact holds);
     }
 

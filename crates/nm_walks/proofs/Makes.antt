@@ -28,7 +28,7 @@ use Rattle.nm_order.specs.Hands.{IsPooled}
 use Rattle.nm_order.specs.Logs.{part_of, known_by, IsLogOf}
 use Rattle.nm_order.proofs.LastEntries.{ToldBy, told_by_part, search_more}
 use Rattle.nm_order.proofs.OrderedLaws.{law_of_state}
-use Rattle.nm_steps.specs.Rules.{knowledge}
+use Rattle.nm_steps.specs.Rules.{ExtendsStores, knowledge}
 use Rattle.nm_steps.specs.Steps.{PassView, MayStep, Stepped, IsSamePass, HasSeenAllOf}
 use Rattle.nm_steps.proofs.AfterSteps.{TellsRun, run_after, is_join}
 use Rattle.nm_walks.specs.Telling.{IsInRun, GoesOn}
@@ -83,11 +83,12 @@ held_still k l s t brief known search (Came since key x p d) h = subst (λ (y : 
 held_still k l s t brief known search (ReadKey since key x p d v) h = subst (λ (y : Search). HoldsIn k y (ReadKey since key x p d v)) (sym search) h
 held_still k l s t brief known search (EndedAt since key x p d v) h = subst (λ (y : Search). HoldsIn k y (EndedAt since key x p d v)) (sym search) h
 
-pub makes_go_on : (p q : PassView) → OnlyMakes p q → IsSamePass p q → HasSeenAllOf q p → IsInRun q → GoesOn p q
-makes_go_on p q only same past run = record {
+pub makes_go_on : (p q : PassView) → OnlyMakes p q → IsSamePass p q → HasSeenAllOf q p → ExtendsStores q.view.stores p.view.stores → IsInRun q → GoesOn p q
+makes_go_on p q only same past stored run = record {
   same = same;
   past = past;
   run = run;
+  stores = stored;
   keeps = held_still (knowledge p.view) (knowledge q.view) (search_after idle p.view.log) (search_after idle q.view.log) only.epochs only.known only.search;
 }
 

@@ -1,5 +1,5 @@
 -- New nodes for a key, which are linked into the tree or given back.
-use Rattle.std.specs.Prelude.{◌≡◌, ◌≢◌, ◌≤◌, ◌⊎◌, ℕ, nat_lt, Bool, true, false, if◌then◌else◌, List, [], ◌∷◌, ◌++◌, Option, Some, None}
+use Rattle.std.specs.Prelude.{◌≡◌, ◌≢◌, ◌<◌, ◌≤◌, ◌+◌, ◌⊎◌, ℕ, nat_lt, Bool, true, false, if◌then◌else◌, List, [], ◌∷◌, ◌++◌, length, Option, Some, None}
 use Rattle.nm_edge.specs.Edges.{Edge}
 use Rattle.nm_edge.specs.declared.node.NodeId.{NodeId}
 use Rattle.nm_model.specs.declared.event.Event.TheVariants.{Give, Link}
@@ -12,6 +12,7 @@ use Rattle.nm_order.specs.Facts.Fact.{KnowsSlot, CallIs}
 use Rattle.nm_order.specs.Taught.{EdgeLearned}
 use Rattle.nm_pool.specs.Claims.{IsClaimBy}
 use Rattle.nm_edge.specs.declared.placement.Fit.{Fit}
+use Rattle.nm_steps.specs.declared.view.Stored.{Stored}
 use Rattle.nm_steps.specs.Rules.{knowledge}
 use Rattle.nm_steps.specs.Steps.{PassView}
 use Rattle.nm_epoch.specs.Resting.{epochs, search}
@@ -112,6 +113,16 @@ pub record HasGrown (radix : Bool) (p q : PassView) (key : ℕ) (r : WalkEnd) (f
   pub others : KeepsBut f p q
   pub new_given : get (knowledge q.view).drafts f.internal.slot ≡ None
   pub fresh_given : get (knowledge q.view).drafts f.leaf.slot ≡ None
+
+-- the worker's last step was the link of this slot, and the last store before it was that of this
+-- value for the slot
+pub record HasLinkedValue (q : PassView) (slot value : ℕ) : Type 0 where
+  pub earlier : List Stored
+  pub at : ℕ
+  pub own : ℕ
+  pub is : q.view.stores ≡ earlier ++ record { at = at; worker = q.view.number; own = own; slot = slot; value = value } ∷ []
+  pub early : at < length q.view.past
+  pub last : own + 1 ≡ length q.view.log
 
 -- the link was lost: the new nodes are still ready, and the edge that was found is known
 pub record HasNotGrown (radix : Bool) (p q : PassView) (key : ℕ) (r : WalkEnd) (f : NewNodes)

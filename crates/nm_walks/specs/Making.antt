@@ -1,5 +1,5 @@
 -- The contents of a pass's private slots, and the effects of the steps that make nodes.
-use Rattle.std.specs.Prelude.{◌≡◌, ◌≢◌, ◌⊎◌, ℕ, ◌<◌, nat_lt, Bool, true, false, if◌then◌else◌, List, [], ◌∷◌, ◌++◌, Option, Some, IfSome}
+use Rattle.std.specs.Prelude.{◌≡◌, ◌≢◌, ◌⊎◌, ℕ, ◌<◌, nat_lt, Bool, true, false, if◌then◌else◌, List, [], ◌∷◌, ◌++◌, length, Option, Some, IfSome}
 use Rattle.nm_edge.specs.Edges.{Edge}
 use Rattle.nm_edge.specs.Ranges.{IsParting, covers}
 use Rattle.nm_edge.specs.declared.edge.Side.{Side}
@@ -17,7 +17,9 @@ use Rattle.nm_model.specs.Walks.{Entry, search_after}
 use Rattle.nm_order.specs.Facts.Since.{ThePin}
 use Rattle.nm_order.specs.Facts.Fact.{CallIs, KnowsLeaf, ReadKey, EndedAt}
 use Rattle.nm_order.specs.Taught.{EdgeLearned}
+use Rattle.nm_steps.specs.declared.view.Stored.{Stored}
 use Rattle.nm_steps.specs.Rules.{knowledge}
+use Rattle.nm_steps.specs.Values.{own_store}
 use Rattle.nm_steps.specs.Steps.{PassView, Stepped}
 use Rattle.nm_walks.specs.Places.{IsOver}
 use Rattle.nm_walks.specs.Telling.{Tells, OnlyLooks}
@@ -70,8 +72,13 @@ abbrev pub HasFilled : PassView → PassView → ℕ → ℕ → ℕ → ℕ →
 HasFilled p q slot key left right =
     q ≡ record p {
       view = record p.view
-          { log = p.view.log ++ fills slot key left right; past = q.view.past };
+          { log = p.view.log ++ fills slot key left right; past = q.view.past; stores = q.view.stores };
     }
+
+-- the last store is the worker's own, of this value for the slot. It took no step after it
+abbrev pub HasJustStored : PassView → ℕ → ℕ → Type 0
+HasJustStored p slot value = (earlier : List Stored)
+    × (p.view.stores ≡ own_store p.view slot value earlier (length p.view.past))
 
 -- ---- linking a new node
 

@@ -9,7 +9,7 @@ use Rattle.nm_model.specs.Walks.{search_after}
 use Rattle.nm_order.specs.Facts.{Since, Fact, Holds}
 use Rattle.nm_order.specs.Facts.Fact.{IsPinned, KnowsLeaf, IsTagged, IsFlagged, Came, ReadKey, EndedAt}
 use Rattle.nm_order.specs.Taught.{WalksAreFor, EdgeLearned}
-use Rattle.nm_steps.specs.Rules.{knowledge}
+use Rattle.nm_steps.specs.Rules.{ExtendsStores, knowledge}
 use Rattle.nm_steps.specs.Steps.{TreeView, PassView, IsOf, IsSamePass, HasSeenAllOf}
 pub use Rattle.nm_steps.specs.Steps.{IsInRun}
 
@@ -27,12 +27,13 @@ pub record IsPinnedIn (b : TreeView) (p : PassView) : Type 0 where
   pub run : IsInRun p
   pub pin : IsPinnedSomewhere p
 
--- it is the same pass, has seen all that it had seen, is still in a run, and still shows each fact
--- that it showed
+-- it is the same pass, has seen all turns and stores that it had seen, is still in a run, and still
+-- shows each fact that it showed
 pub record GoesOn (p q : PassView) : Type 0 where
   pub same : IsSamePass p q
   pub past : HasSeenAllOf q p
   pub run : IsInRun q
+  pub stores : ExtendsStores q.view.stores p.view.stores
   pub keeps : (fact : Fact) → Tells p fact → Tells q fact
 
 -- only what is known of nodes and of the call's walks has changed: epochs, private slots, ledgers,

@@ -1,11 +1,12 @@
 //! The two new nodes of an insert: they are claimed, filled and linked, or given back.
 ghost use Rattle.std.specs.Prelude.{◌≡◌, ◌≢◌, None, IfOk, IfErr};
 ghost use Rattle.nm_steps.specs.Steps.{IsOf, PassView};
+ghost use Rattle.nm_steps.specs.Values.{HasValues};
 ghost use Rattle.nm_walks.specs.Telling.{GoesOn, IsPinnedIn};
 ghost use Rattle.nm_walks.specs.Making.{IsRouter, OnlyMakes};
-ghost use Rattle.nm_walks.specs.Growing.{ClaimsNewNodes, HasNewNodes, IfReady, Returns, inner_of, MayGrow, KeepsCall, HasGrown, HasNotGrown};
+ghost use Rattle.nm_walks.specs.Growing.{ClaimsNewNodes, HasNewNodes, IfReady, Returns, inner_of, MayGrow, KeepsCall, HasGrown, HasLinkedValue, HasNotGrown};
 
-use crate::making::{Contents, NewNodes, claim, fill, give};
+use crate::making::{Contents, NewNodes, claim, fill, fill_with_value, give};
 use crate::seek_record::{SeekRecord, WalkEnd};
 use nm_edge::{Edge, Placement, parting};
 use nm_steps::{Pass, Shared};
@@ -65,7 +66,7 @@ fn node_over(radix: bool, key: u64, other: u64, leaf: u32, fresh: u32) -> Conten
 /// link was lost; this edge was found instead.
 ///
 /// Only a call to insert the key of the new leaf may do this, and only once. The edge must be the
-/// one by which a walk of the call came to the node and stopped there.
+/// one by which a walk of the call came to the node and stopped there. The table has no values.
 pub fn grow(
     shared: &Shared,
     pass: &mut Pass,
@@ -74,6 +75,7 @@ pub fn grow(
     new_nodes: &NewNodes,
 ) -> Result<(), Edge>
     requires pinned { IsPinnedIn shared.now pass.old }
+    requires plain { shared.now.table.slots ≡ 0 }
     requires may { MayGrow pass.old key end.now new_nodes.now }
     ensures on { GoesOn pass.old pass.new }
     ensures call { KeepsCall pass.old pass.new }
@@ -97,6 +99,43 @@ pub fn grow(
     let linked = shared.link(pass, parent, side, leaf, new_nodes.internal.slot);
     pass.know_run();
     linked
+}
+
+/// Does the same in a table with values, and stores the value of the new leaf before the link.
+pub fn grow_with_value(
+    shared: &Shared,
+    pass: &mut Pass,
+    key: u64,
+    value: u64,
+    end: &WalkEnd,
+    new_nodes: &NewNodes,
+) -> Result<(), Edge>
+    requires pinned { IsPinnedIn shared.now pass.old }
+    requires values { HasValues shared.now }
+    requires may { MayGrow pass.old key end.now new_nodes.now }
+    ensures on { GoesOn pass.old pass.new }
+    ensures call { KeepsCall pass.old pass.new }
+    ensures won { IfOk result (λ _. HasGrown shared.now.layout.radix pass.old pass.new key end.now
+        new_nodes.now) }
+    ensures stored { IfOk result (λ _. HasLinkedValue pass.new new_nodes.now.leaf.slot value) }
+    ensures lost { IfErr result (λ e. HasNotGrown shared.now.layout.radix pass.old pass.new key
+        end.now new_nodes.now e) }
+{
+    let leaf = end.seek_record.edge.slot();
+    let radix = shared.layout().is_radix();
+    let node = node_over(radix, key, end.key, leaf, new_nodes.leaf.slot);
+    fill(shared, pass, new_nodes.internal.slot, &node);
+    let alone = Contents {
+        key,
+        left: 0,
+        right: 0,
+    };
+    fill_with_value(shared, pass, new_nodes.leaf.slot, &alone, value);
+    pass.know_pooled_slots();
+    let SeekRecord { parent, side, .. } = end.seek_record;
+    let won = shared.link(pass, parent, side, leaf, new_nodes.internal.slot);
+    pass.know_run();
+    won
 }
 
 /// Gives both nodes back to the pool, the internal one first. The placement remembers their slots.

@@ -14,7 +14,8 @@ ghost use Rattle.nm_pool.specs.Claims.{IsClaimBy, IsNewNode, LearnsSlots};
 ghost use Rattle.nm_steps.specs.Rules.{knowledge};
 ghost use Rattle.nm_steps.specs.Steps.{IsOf, Stepped};
 ghost use Rattle.nm_walks.specs.Telling.{Tells, GoesOn, IsPinnedIn};
-ghost use Rattle.nm_walks.specs.Making.{draft, KeepsOtherSlots, KeepsAllBut, OnlyMakes, with_node, HasFilled, IsInserting, HasLinked, HasLost};
+ghost use Rattle.nm_steps.specs.Values.{HasValues};
+ghost use Rattle.nm_walks.specs.Making.{HasJustStored, draft, KeepsOtherSlots, KeepsAllBut, OnlyMakes, with_node, HasFilled, IsInserting, HasLinked, HasLost};
 
 use crate::seek_record::SeekRecord;
 use nm_edge::{Edge, NodeId, Placement, Side};
@@ -95,4 +96,30 @@ pub(crate) fn fill(shared: &Shared, pass: &mut Pass, slot: u32, node: &Contents)
     shared.fill_key(pass, slot, node.key);
     shared.fill_edge(pass, slot, Side::Left, node.left);
     shared.fill_edge(pass, slot, Side::Right, node.right);
+}
+
+/// Stores a key, two edges and a value in a private slot whose birth is stored, the value last.
+pub(crate) fn fill_with_value(
+    shared: &Shared,
+    pass: &mut Pass,
+    slot: u32,
+    node: &Contents,
+    value: u64,
+)
+    requires own { IsOf shared.now pass.old }
+    requires values { HasValues shared.now }
+    requires born { IsSome (draft pass.old slot).birth }
+    requires left { node.now.left ≤ pass.old.view.layout.nodes }
+    requires right { node.now.right ≤ pass.old.view.layout.nodes }
+    ensures steps { HasFilled pass.old pass.new slot node.now.key node.now.left node.now.right }
+    ensures on { GoesOn pass.old pass.new }
+    ensures filled { get (knowledge pass.new.view).drafts slot
+        ≡ Some (with_node (draft pass.old slot) node.now.key node.now.left node.now.right) }
+    ensures others { KeepsOtherSlots slot pass.old pass.new }
+    ensures only { OnlyMakes pass.old pass.new }
+    ensures stored { HasJustStored pass.new slot value }
+{
+    fill(shared, pass, slot, node);
+    pass.know_pooled_slots();
+    shared.fill_value(pass, slot, value);
 }

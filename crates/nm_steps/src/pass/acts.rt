@@ -10,9 +10,10 @@ ghost use Rattle.std.specs.Prelude.{◌≡◌, ◌==◌, bit_and, bit_or};
 ghost use prog.Atomic.{either};
 ghost use Rattle.nm_steps.specs.Steps.{IsReadyFor, IsDone, Changes, IsBlind};
 ghost use Rattle.nm_steps.specs.Rows.{CanPass, HasPassed};
+ghost use Rattle.nm_steps.specs.Values.{CanReach, HasPutValue, HasSeenValue, MayStore};
 
 use crate::pass::Shared;
-use crate::view::{Does, Doing, Passes, Passing, WorkerSeat};
+use crate::view::{Does, Doing, LooksAtValue, Passes, Passing, Slotted, StoresValue, WorkerSeat};
 use nm_model::Event;
 
 impl Shared {
@@ -115,5 +116,37 @@ impl Shared {
     {
         let _ = (from, most);
         self.table.shared.load::<Passes<D>>(seat, word)
+    }
+
+    /// Reads the value of a slot.
+    pub(crate) fn look_at_value<D: Slotted>(
+        &self,
+        seat: &mut WorkerSeat,
+        word: usize,
+        slot: u32,
+    ) -> u64
+        requires pick { D.slot ≡ slot }
+        requires can { CanReach self.now seat.old slot word }
+        ensures { HasSeenValue seat.old seat.new slot result }
+    {
+        let _ = slot;
+        self.table.shared.load::<LooksAtValue<D>>(seat, word)
+    }
+
+    /// Stores the value of a private slot.
+    pub(crate) fn store_value<D: Slotted>(
+        &self,
+        seat: &mut WorkerSeat,
+        word: usize,
+        slot: u32,
+        value: u64,
+    )
+        requires pick { D.slot ≡ slot }
+        requires can { CanReach self.now seat.old slot word }
+        requires may { MayStore seat.old slot }
+        ensures { HasPutValue seat.old seat.new slot value }
+    {
+        let _ = slot;
+        self.table.shared.store::<StoresValue<D>>(seat, word, value);
     }
 }

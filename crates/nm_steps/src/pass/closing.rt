@@ -1,5 +1,5 @@
 //! The end of a table.
-ghost use Rattle.std.specs.Prelude.{◌≡◌, ◌<◌, length, slice_index};
+ghost use Rattle.std.specs.Prelude.{◌≡◌, ◌<◌, ℕ, false, true, length, slice_index, slice_index_or};
 ghost use Rattle.nm_edge.specs.Words.{words};
 ghost use Rattle.nm_steps.specs.Steps.{IsOf, Ends};
 
@@ -8,20 +8,25 @@ use atomic_table::Closed;
 use std::alloc::Global;
 use std::marker::Model;
 
-/// The words of a tree that is no longer shared.
+/// The words of a tree that is no longer shared: the first `count` words of its table. The words
+/// after them, if there are any, are the values of its slots.
 pub struct Words {
     closed: Closed<(), Global>,
+    count: usize,
 }
 
 impl Model for Words {
-    ghost use Rattle.std.specs.Prelude.{◌≡◌, ◌<◌, ◌≤◌, ℕ, List, true, false, slice_index_or};
+    ghost use Rattle.std.specs.Prelude.{◌≡◌, ◌<◌, ◌≤◌, ℕ, List, true, false, slice_index_or, take};
 
     ghost Value = { List ℕ };
 
-    ghost view = { λ w. w.closed.words.items };
+    ghost view = { λ w. take w.count w.closed.words.items };
 
-    ghost invariant = { λ w. ((k : ℕ) → 0 ≤ k → k < w.closed.words.len
-        → slice_index_or w.closed.words.filled k false ≡ true) × (w.closed.slots.len ≡ 0) };
+    ghost invariant = { λ w. (w.count ≤ w.closed.words.len)
+        × ((k : ℕ) → 0 ≤ k → k < w.closed.words.len
+        → slice_index_or w.closed.words.filled k false ≡ true)
+        × ((k : ℕ) → 0 ≤ k → k < w.closed.slots.len
+        → slice_index_or w.closed.slots.filled k false ≡ true) };
 }
 
 impl Shared {
@@ -33,7 +38,7 @@ impl Shared {
         ensures ends { Ends self.layout result pass.view }
         ensures long { length result ≡ words self.layout }
     {
-        let Shared { table, layout: _ } = self;
+        let Shared { table, layout } = self;
         let Pass {
             seat,
             number: _,
@@ -42,6 +47,7 @@ impl Shared {
         } = pass;
         Words {
             closed: table.close_with(seat),
+            count: layout.words() as usize,
         }
     }
 }
@@ -58,7 +64,23 @@ impl Words {
 
 impl Drop for Words {
     fn drop(self) {
-        let Words { closed } = self;
+        let Words {
+            mut closed,
+            count: _,
+        } = self;
+        take_slots(&mut closed);
         closed.free();
+    }
+}
+
+/// Takes what is in each slot of the table, which has no bytes.
+fn take_slots(closed: &mut Closed<(), Global>)
+    requires { (k : ℕ) → k < closed.old.slots.len
+        → slice_index_or closed.old.slots.filled k false ≡ true }
+    ensures { (k : ℕ) → k < closed.new.slots.len
+        → slice_index_or closed.new.slots.filled k false ≡ false }
+{
+    for slot in 0..closed.slot_count() {
+        closed.take(slot);
     }
 }

@@ -1,13 +1,16 @@
 //! The making of a table: the words of the empty tree, and a pass for each worker.
-ghost use Rattle.std.specs.Prelude.{◌≡◌, length, IfOk, IfErr};
+ghost use Rattle.std.specs.Prelude.{◌≡◌, ◌≤◌, ◌⊎◌, [], length, IfOk, IfErr};
 ghost use Rattle.nm_edge.specs.Words.{IsSlot, words};
 ghost use Rattle.nm_model.specs.Memory.{fork, opening};
 ghost use Rattle.nm_steps.specs.Packing.{words_of};
 ghost use Rattle.nm_steps.specs.Openings.{untouched, planted, Plants};
+ghost use Rattle.nm_edge.specs.Layouts.{IsLayout};
+ghost use Rattle.nm_steps.specs.Rules.{everybody};
 ghost use Rattle.nm_steps.specs.Steps.{AreFresh};
+ghost use Rattle.nm_steps.specs.Values.{HasValues};
 
 use crate::pass::{Pass, Shared};
-use crate::view::View;
+use crate::view::{Law, View, WorkerSeat};
 use atomic_table::{Split, Table};
 use nm_edge::{Edge, FIRST_SLOT, INFINITY_0, INFINITY_1, INFINITY_2, Layout, Side};
 use nm_model::{Brief, NewError};
@@ -31,21 +34,78 @@ impl Shared {
         ensures layout { IfOk result (λ r. r.0.layout ≡ layout) }
         ensures count { IfOk result (λ r. length r.1.items ≡ layout.workers) }
         ensures fresh { IfOk result (λ r. AreFresh r.0 0 r.1.items) }
+        ensures plain { IfOk result (λ r. r.0.table.slots ≡ 0) }
         ensures memory { IfErr result (λ e. e ≡ NewError.NoMemory) }
     {
         Ok(made(alloc, layout)?)
     }
+
+    /// Makes the same tree with a value for each slot, which is 0 at first. Errors: only `NoMemory`.
+    pub fn with_values(alloc: Global, layout: Layout) -> Result<(Shared, Vec<Pass>), NewError>
+        ensures layout { IfOk result (λ r. r.0.layout ≡ layout) }
+        ensures count { IfOk result (λ r. length r.1.items ≡ layout.workers) }
+        ensures fresh { IfOk result (λ r. AreFresh r.0 0 r.1.items) }
+        ensures values { IfOk result (λ r. HasValues r.0) }
+        ensures memory { IfErr result (λ e. e ≡ NewError.NoMemory) }
+    {
+        Ok(made_with_values(alloc, layout)?)
+    }
 }
 
-/// Makes the table, and splits its first seat into one for each worker.
+/// Makes the table, and a pass for each worker.
 fn made(alloc: Global, layout: Layout) -> Result<(Shared, Vec<Pass>), AllocError>
     ensures layout { IfOk result (λ r. r.0.layout ≡ layout) }
     ensures count { IfOk result (λ r. length r.1.items ≡ layout.workers) }
     ensures fresh { IfOk result (λ r. AreFresh r.0 0 r.1.items) }
+    ensures plain { IfOk result (λ r. r.0.table.slots ≡ 0) }
+{
+    let _workers = layout.workers();
+    let tree = opening_words(alloc, layout)?;
+    let (table, seat) = Table::of_words(alloc, tree.as_slice(), &layout)?;
+    dealt(alloc, layout, table, seat)
+}
+
+/// Makes the same table with a value for each slot after the words of the core. It has as many slots
+/// as the tree, of no bytes.
+fn made_with_values(alloc: Global, layout: Layout) -> Result<(Shared, Vec<Pass>), AllocError>
+    ensures layout { IfOk result (λ r. r.0.layout ≡ layout) }
+    ensures count { IfOk result (λ r. length r.1.items ≡ layout.workers) }
+    ensures fresh { IfOk result (λ r. AreFresh r.0 0 r.1.items) }
+    ensures values { IfOk result (λ r. HasValues r.0) }
+{
+    let _workers = layout.workers();
+    let nodes = layout.nodes() as usize;
+    let mut tree = opening_words(alloc, layout)?;
+    let long = tree.len() + nodes;
+    tree.resize(long, 0)?;
+    let units = vec![in alloc; (); nodes]?;
+    let Ok((table, seat)) = Table::new(alloc, tree.as_slice(), units, &layout) else {
+        return Err(AllocError);
+    };
+    dealt(alloc, layout, table, seat)
+}
+
+/// Splits the first seat of a new table into one for each worker.
+fn dealt(
+    alloc: Global,
+    layout: Layout,
+    table: Table<(), View, Layout, Law, Global>,
+    mut seat: WorkerSeat,
+) -> Result<(Shared, Vec<Pass>), AllocError>
+    requires fits { IsLayout layout }
+    requires table { seat.table_id ≡ table.shared.table_id }
+    requires key { table.shared.key ≡ layout }
+    requires words { words layout ≤ table.shared.table_id.words }
+    requires slots { (table.shared.table_id.slots ≡ 0)
+        ⊎ (table.shared.table_id.slots ≡ layout.nodes) }
+    requires view { seat.me.0 ≡ everybody layout }
+    requires empty { seat.me.1 ≡ [] }
+    ensures layout { IfOk result (λ r. r.0.layout ≡ layout) }
+    ensures count { IfOk result (λ r. length r.1.items ≡ layout.workers) }
+    ensures fresh { IfOk result (λ r. AreFresh r.0 0 r.1.items) }
+    ensures table { IfOk result (λ r. r.0.table ≡ table.shared.table_id) }
 {
     let workers = layout.workers();
-    let tree = opening_words(alloc, layout)?;
-    let (table, mut seat) = Table::of_words(alloc, tree.as_slice(), &layout)?;
     let mut passes = Vec::new(alloc);
     for number in 0..workers {
         let own = table.shared.split_seat::<Deal>(&mut seat);

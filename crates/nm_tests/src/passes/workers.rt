@@ -1,4 +1,5 @@
 //! A worker that makes calls over a pass, and keeps between two calls what a caller keeps.
+ghost use Rattle.std.specs.Prelude.{◌≡◌};
 ghost use Rattle.nm_steps.specs.Steps.{IsOf};
 ghost use Rattle.nm_calls.specs.Fresh.{HasDoneNothing};
 ghost use Rattle.nm_tests.specs.Plays.{IsAtRest, IsPendingFor};
@@ -58,6 +59,7 @@ pub(super) fn inserts(
     tries: u32,
     wanted: Result<bool, CallFault>,
 )
+    requires plain { shared.now.table.slots ≡ 0 }
     requires rests { IsAtRest shared.now worker.old.pass worker.old.held }
     ensures rests { IsAtRest shared.now worker.new.pass worker.new.held }
 {

@@ -5,7 +5,7 @@ use Rattle.nm_model.specs.declared.reply.Reply.TheVariants.{Departed}
 use Rattle.nm_order.specs.Facts.Fact.{CallIs}
 use Rattle.nm_steps.specs.Steps.{PassView}
 use Rattle.nm_calls.specs.Deletes.{leaf_of}
-use Rattle.nm_calls.proofs.Forks.{continued}
+use Rattle.nm_calls.proofs.Forks.{continued, going_continues}
 use Rattle.nm_walks.proofs.GoingOn.{goes_then}
 use Rattle.nm_calls.proofs.KeptLedgers.{holds_left}
 use Rattle.nm_calls.proofs.Moments.{no_call_on}
@@ -75,3 +75,9 @@ pub returns-in-Removed-clause-kept : goal.returns-in-Removed-clause-kept
 returns-in-Removed-clause-kept c =
     holds_left c.remove_after.new.pass c.answer-in-Removed.new.pass _ (LeaveWith true) tt c.answer-in-Removed.ensures.took c.answer-in-Removed.ensures.hands
     (c.remove_after.ensures.only.labelled (c.inject.ensures.only.labelled c.requires.unchanged.labelled)) c.remove_after.ensures.kept
+
+pub returns-in-Refused-remove_after-clause-on : goal.returns-in-Refused-remove_after-clause-on
+returns-in-Refused-remove_after-clause-on c = going_continues c.args.pass.now c.remove_after.new.pass (goes_then c.args.pass.now c.inject.new.pass c.remove_after.new.pass c.inject.ensures.on c.remove_after.ensures.on)
+
+pub returns-in-Spent-remove_after-clause-on : goal.returns-in-Spent-remove_after-clause-on
+returns-in-Spent-remove_after-clause-on c = going_continues c.args.pass.now c.remove_after.new.pass (goes_then c.args.pass.now c.inject.new.pass c.remove_after.new.pass c.inject.ensures.on c.remove_after.ensures.on)

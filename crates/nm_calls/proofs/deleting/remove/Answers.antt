@@ -24,3 +24,6 @@ returns-then-not-make_room-clause-blocks c = takes_then c.args.held.now.queue c.
 
 pub returns-then-try_remove-clause-blocks : goal.returns-then-try_remove-clause-blocks
 returns-then-try_remove-clause-blocks c = takes_fills c.args.held.now.queue c.make_room.new.queue c.try_remove.new.held.queue (takes_then c.args.held.now.queue c.loop-round.held.queue c.make_room.new.queue c.loop-round.invariant.blocks c.make_room.ensures.blocks) c.try_remove.ensures.fills
+
+pub returns-then-try_remove-clause-on : goal.returns-then-try_remove-clause-on
+returns-then-try_remove-clause-on c = goes_then c.args.pass.now c.loop-round.pass c.try_remove.new.pass c.loop-round.invariant.on c.try_remove.ensures.on

@@ -1,6 +1,7 @@
 use Rattle.std.proofs.Common.{◌-◌, inl, arith, subst}
 use Rattle.nm_edge.specs.declared.node.NodeId.{NodeId}
 use Rattle.nm_calls.specs.Deletes.{IsRemoval, leaf_of}
+use Rattle.nm_walks.proofs.GoingOn.{goes_then}
 use Rattle.nm_calls.proofs.Removals.{removing_on, removal_after}
 use Rattle.nm_calls.proofs.Rooms.{takes_then, takes_fills}
 use Rattle.nm_calls.proofs.Waiting.{may_grow_more}
@@ -34,3 +35,6 @@ returns-then-cleanup-clause-blocks c = takes_fills c.args.held.now.queue c.make_
 pub returns-clause-blocks : goal.returns-clause-blocks
 returns-clause-blocks c =
     takes_then c.args.held.now.queue c.cleanup.new.held.queue c.remove.new.held.queue (takes_fills c.args.held.now.queue c.make_room.new.queue c.cleanup.new.held.queue c.make_room.ensures.blocks c.cleanup.ensures.fills) c.remove.ensures.blocks
+
+pub returns-clause-on : goal.returns-clause-on
+returns-clause-on c = goes_then c.args.pass.now c.cleanup.new.pass c.remove.new.pass c.cleanup.ensures.on c.remove.ensures.on

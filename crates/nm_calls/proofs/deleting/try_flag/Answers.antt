@@ -77,3 +77,6 @@ returns-in-Ok-clause-part c = record {
 
 pub returns-then-end-sought-clause-part : goal.returns-then-end-sought-clause-part
 returns-then-end-sought-clause-part c = (c.in-Some.end, (rw c.get-sought.ensures.number at c.in-Some.ensures.walk), (rw c.get-sought.ensures.number at c.if-end-sought.true))
+
+pub returns-in-Ok-clause-on : goal.returns-in-Ok-clause-on
+returns-in-Ok-clause-on c = goes_then c.args.pass.now c.seek.new.pass c.flag_at.new.pass c.in-Some.ensures.on c.in-Ok.ensures.on

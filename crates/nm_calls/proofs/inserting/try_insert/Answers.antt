@@ -106,3 +106,6 @@ stop-requires-clause-key c = rw c.get-sought.ensures.number (key_of_call c.args.
 
 pub returns-in_default-clause-part : goal.returns-in_default-clause-part
 returns-in_default-clause-part c = inl (c.stop.new.chain.items, (rw c.get-sought.ensures.number at c.in_default.ensures.walk), refl)
+
+pub returns-in_default-ready-clause-on : goal.returns-in_default-ready-clause-on
+returns-in_default-ready-clause-on c = goes_then c.args.pass.now c.stop.new.pass c.ready.new.pass c.in-Some.ensures.on c.ready.ensures.on

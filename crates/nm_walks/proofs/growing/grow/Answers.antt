@@ -1,4 +1,4 @@
-use Rattle.std.proofs.Common.{rules, ap, subst, sym, ◌∙◌}
+use Rattle.std.proofs.Common.{rules, inl, ap, subst, sym, ◌∙◌}
 use Rattle.nm_edge.specs.Layouts.{Layout}
 use Rattle.nm_order.specs.Facts.Fact.{KnowsSlot}
 use Rattle.nm_steps.proofs.Seeing.{seen_by_turn}
@@ -29,7 +29,7 @@ returns-clause-on c =
     let f = c.args.new_nodes.now in
     let p = c.fill-2.new.pass in
     goes_then c.args.pass.now p c.link-linked.new.pass (goes_then c.args.pass.now c.fill.new.pass p c.fill.ensures.on c.fill-2.ensures.on)
-    (link_goes_on p c.link-linked.new.pass s.parent s.side c.slot-leaf.result f.internal.slot f.leaf.slot c.link-linked.result c.link-linked.ensures.step (seen_by_turn _ _ _ _ c.link-linked.ensures.past) c.know_run.ensures.fits c.know_run.ensures.run)
+    (link_goes_on p c.link-linked.new.pass s.parent s.side c.slot-leaf.result f.internal.slot f.leaf.slot c.link-linked.result c.link-linked.ensures.step (seen_by_turn _ _ _ _ c.link-linked.ensures.past) c.link-linked.ensures.stores c.know_run.ensures.fits c.know_run.ensures.run)
 
 pub returns-clause-call : goal.returns-clause-call
 returns-clause-call c =
@@ -58,3 +58,6 @@ returns-clause-lost c =
     let lost = if_lost c.fill-2.new.pass c.link-linked.new.pass c.args.end.now.seek_record.parent c.args.end.now.seek_record.side c.args.end.now.seek_record.edge.slot c.args.new_nodes.now.internal.slot c.args.new_nodes.now.leaf.slot c.link-linked.result (rw c.slot-leaf.ensures at c.link-linked.ensures.step)
     (c.fill-2.ensures.on.keeps (KnowsSlot c.args.end.now.seek_record.parent) (c.fill.ensures.on.keeps (KnowsSlot c.args.end.now.seek_record.parent) c.requires.may.parent)) c.know_run.ensures.fits c.know_run.ensures.run in
     search (rules, lost)
+
+pub link-linked-requires-clause-stored : goal.link-linked-requires-clause-stored
+link-linked-requires-clause-stored c = inl c.requires.plain

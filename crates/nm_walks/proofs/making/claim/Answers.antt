@@ -23,5 +23,5 @@ returns-clause-only c =
 pub returns-clause-on : goal.returns-clause-on
 returns-clause-on c =
     let e = c.claim_by.ensures in
-    makes_go_on c.args.pass.now c.claim_by.new.pass (returns-clause-only c) e.on.same e.on.past
+    makes_go_on c.args.pass.now c.claim_by.new.pass (returns-clause-only c) e.on.same e.on.past e.on.stores
     e.on.run

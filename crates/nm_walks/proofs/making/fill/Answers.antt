@@ -4,7 +4,7 @@ use Rattle.nm_model.specs.declared.event.Field.TheVariants.{Key as KeyOf, Edge a
 use Rattle.nm_model.specs.declared.knowledge.Draft.{Draft}
 use Rattle.nm_model.specs.Learning.{filled_in}
 use Rattle.nm_steps.specs.Steps.{PassView}
-use Rattle.nm_steps.proofs.Seeing.{seen_all}
+use Rattle.nm_steps.proofs.Seeing.{seen_all, stores_same}
 use Rattle.std.specs.Prelude.{Some}
 use Rattle.nm_walks.proofs.Makes.{fillable, fillable_still, may_fill_key, may_fill_edge, filled_there, filled_draft, filled_others, only_filled, both_make, makes_go_on}
 use Rattle.nm_walks.proofs.making.fill.Goals as goal
@@ -64,4 +64,4 @@ returns-clause-on c =
     let p = c.args.pass.now in
     let r = c.fill_edge.new.pass in
     let t = c.fill_edge-2.new.pass in
-    makes_go_on p t (returns-clause-only c) (search rules) (search (rules, seen_all)) c.fill_edge-2.ensures.run
+    makes_go_on p t (returns-clause-only c) (search rules) (search (rules, seen_all)) (stores_same t.view.stores p.view.stores (c.fill_edge-2.ensures.stores ∙ (c.fill_edge.ensures.stores ∙ c.fill_key.ensures.stores))) c.fill_edge-2.ensures.run

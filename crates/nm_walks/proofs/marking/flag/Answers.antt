@@ -8,7 +8,7 @@ pub flag-won-requires-clause-may : goal.flag-won-requires-clause-may
 flag-won-requires-clause-may c = may_flag c.args.pass.now c.args.parent c.args.side c.args.leaf c.requires.pinned.run c.requires.pinned.pin c.requires.found
 
 pub returns-clause-on : goal.returns-clause-on
-returns-clause-on c = goes_on c.args.pass.now c.flag-won.new.pass _ _ c.flag-won.ensures.step (seen_by_turn _ _ _ _ c.flag-won.ensures.past) refl refl c.know_run.ensures.fits c.know_run.ensures.run
+returns-clause-on c = goes_on c.args.pass.now c.flag-won.new.pass _ _ c.flag-won.ensures.step (seen_by_turn _ _ _ _ c.flag-won.ensures.past) c.flag-won.ensures.stores refl refl c.know_run.ensures.fits c.know_run.ensures.run
 
 pub returns-clause-only : goal.returns-clause-only
 returns-clause-only c = only_flags c.args.pass.now c.flag-won.new.pass c.args.parent c.args.side c.args.leaf c.flag-won.result c.flag-won.ensures.step

@@ -11,7 +11,7 @@ pub splice-won-requires-clause-kept : goal.splice-won-requires-clause-kept
 splice-won-requires-clause-kept c = c.requires.frozen.kept_so.0
 
 pub returns-clause-on : goal.returns-clause-on
-returns-clause-on c = goes_on c.args.pass.now c.splice-won.new.pass _ _ c.splice-won.ensures.step (seen_by_turn _ _ _ _ c.splice-won.ensures.past) refl refl c.know_run.ensures.fits c.know_run.ensures.run
+returns-clause-on c = goes_on c.args.pass.now c.splice-won.new.pass _ _ c.splice-won.ensures.step (seen_by_turn _ _ _ _ c.splice-won.ensures.past) c.splice-won.ensures.stores refl refl c.know_run.ensures.fits c.know_run.ensures.run
 
 pub returns-clause-only : goal.returns-clause-only
 returns-clause-only c = only_cuts c.args.pass.now c.splice-won.new.pass c.args.seek_record.now.ancestor c.args.seek_record.now.above c.args.seek_record.now.successor c.args.seek_record.now.parent c.args.keep c.splice-won.result c.splice-won.ensures.step

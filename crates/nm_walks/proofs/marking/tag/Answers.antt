@@ -8,7 +8,7 @@ pub tag-edge-requires-clause-may : goal.tag-edge-requires-clause-may
 tag-edge-requires-clause-may c = may_tag c.args.pass.now c.args.parent c.args.side c.requires.pinned.run c.requires.pinned.pin c.requires.known c.requires.beside
 
 pub returns-clause-on : goal.returns-clause-on
-returns-clause-on c = goes_on c.args.pass.now c.tag-edge.new.pass _ _ c.tag-edge.ensures.step (seen_by_turn _ _ _ _ c.tag-edge.ensures.past) refl refl c.know_run.ensures.fits c.know_run.ensures.run
+returns-clause-on c = goes_on c.args.pass.now c.tag-edge.new.pass _ _ c.tag-edge.ensures.step (seen_by_turn _ _ _ _ c.tag-edge.ensures.past) c.tag-edge.ensures.stores refl refl c.know_run.ensures.fits c.know_run.ensures.run
 
 pub returns-clause-only : goal.returns-clause-only
 returns-clause-only c = only_tags c.args.pass.now c.tag-edge.new.pass c.args.parent c.args.side c.tag-edge.result c.tag-edge.ensures.step

@@ -1,56 +1,27 @@
-use Rattle.std.proofs.Common.{rules, ◌≡◌, ◌∙◌, ap, length, arith}
+use Rattle.std.proofs.Common.{◌≡◌, ◌∙◌, ap, length, arith, inl}
+use Rattle.std.specs.Prelude.{Result, Ok, Err, IfOk}
+use Rattle.atomic_table.specs.Seated.{TableId}
 use Rattle.nm_edge.specs.Words.{words}
-use Rattle.nm_steps.proofs.Cutting.{opens, deals, left_others, left_own, fresh_push}
+use Rattle.nm_steps.proofs.Cutting.{opens}
 use Rattle.nm_steps.proofs.OpeningWords.{opening_long}
-use Rattle.nm_steps.proofs.FreshPasses.{left_all, fresh_tied}
 use Rattle.nm_steps.proofs.pass.making.made.Goals as goal
 
 pub of_words-requires : goal.of_words-requires
 of_words-requires c = opens c.args.layout c.as_slice.result.now c.workers-workers.ensures.fits (c.as_slice.ensures.value ∙ c.in_ok-tree.ensures)
 
-pub loop-number-init : goal.loop-number-init
-loop-number-init c =
+pub dealt-requires-clause-words : goal.dealt-requires-clause-words
+dealt-requires-clause-words c =
     let t = c.in_ok-table.ensures in
     let long : length c.as_slice.result.now ≡ words c.args.layout = ap length (c.as_slice.ensures.value ∙ c.in_ok-tree.ensures) ∙ opening_long c.args.layout (omega (arith, c.workers-workers.ensures.fits.least)) in
-    record {
-      end = c.workers-workers.ensures.workers;
-      fits = c.workers-workers.ensures.fits;
-      table = t.2;
-      key = t.5;
-      words_are = t.0 ∙ long;
-      slots = t.1;
-      view = left_all c.args.layout _ (ap (λ m. m.0) t.4);
-      empty = ap (λ m. m.1) t.4;
-      count = ap length c.new-passes.ensures.items;
-      fresh = rw c.new-passes.ensures.items tt;
-    }
+    let all = t.0 ∙ long in
+    omega (arith, all)
 
-pub split_seat-own-requires : goal.split_seat-own-requires
-split_seat-own-requires c =
-    let h = c.loop-number.invariant in
-    (h.table, rw h.words_are (omega arith), rw h.key (deals c.args.layout _ c.loop-number.number _ h.view (rw h.end at c.loop-number-test.true)))
+pub dealt-requires-clause-slots : goal.dealt-requires-clause-slots
+dealt-requires-clause-slots c = inl c.in_ok-table.ensures.1
 
-pub invariant_of-push : goal.invariant_of-push
-invariant_of-push c =
-    let h = c.loop-number.invariant in
-    let me = c.split_seat-own.ensures.4 in
-    fresh_tied c.args.layout _ c.loop-number.number _ h.fits (rw h.end at c.loop-number-test.true) c.announcement.ensures (ap (λ m. m.0) me ∙ left_own c.args.layout c.loop-number.number _ h.view (rw h.end at c.loop-number-test.true)) (ap (λ m. m.1) me)
+with_table : {A E : Type 0} {P Q : A → Type 0} (r : Result A E) → ((x : A) → P x → Q x) → IfOk r P → IfOk r Q
+with_table (Ok x) f p = f x p
+with_table (Err e) f p = tt
 
-pub loop-number-preserved : goal.loop-number-preserved
-loop-number-preserved c =
-    let h = c.loop-number.invariant in
-    let s = c.split_seat-own.ensures in
-    let below = rw h.end at c.loop-number-test.true in
-    let items = c.in_ok-push.ensures.items in
-    record {
-      end = h.end;
-      fits = h.fits;
-      table = s.0 ∙ h.table;
-      key = h.key;
-      words_are = h.words_are;
-      slots = h.slots;
-      view = ap (λ m. m.0) s.2 ∙ left_others c.args.layout c.loop-number.number _ h.view below;
-      empty = ap (λ m. m.1) s.2 ∙ h.empty;
-      count = search rules;
-      fresh = rw items (fresh_push _ 0 c.loop-number.number _ _ h.fresh (omega (arith, h.count)) (s.3 ∙ h.table) (ap (λ m. m.0) s.4 ∙ left_own c.args.layout c.loop-number.number _ h.view below));
-    }
+pub returns-clause-plain : goal.returns-clause-plain
+returns-clause-plain c = with_table c.dealt.result (λ r table. ap (λ (z : TableId). z.slots) table ∙ c.in_ok-table.ensures.1) c.dealt.ensures.table

@@ -1,9 +1,9 @@
-use Rattle.std.proofs.Common.{◌≡◌, [], length}
+use Rattle.std.proofs.Common.{◌≡◌, ◌≤◌, ◌⊎◌, [], length}
 use Rattle.nm_edge.specs.Layouts.{IsLayout}
 use Rattle.nm_edge.specs.Words.{words}
 use Rattle.nm_steps.specs.Steps.{AreFresh}
 use Rattle.nm_steps.proofs.Cutting.{left_from}
-use Rattle.nm_steps.proofs.pass.making.made.Given as goal
+use Rattle.nm_steps.proofs.pass.making.dealt.Given as goal
 
 abbrev pub invariant-loop-number : goal.invariant-loop-number
 invariant-loop-number l = record {
@@ -11,8 +11,9 @@ invariant-loop-number l = record {
   fits : IsLayout l.layout;
   table : l.seat.table_id ≡ l.table.shared.table_id;
   key : l.table.shared.key ≡ l.layout;
-  words_are : l.table.shared.table_id.words ≡ words l.layout;
-  slots : l.table.shared.table_id.slots ≡ 0;
+  words_are : words l.layout ≤ l.table.shared.table_id.words;
+  slots : (l.table.shared.table_id.slots ≡ 0) ⊎ (l.table.shared.table_id.slots ≡ l.layout.nodes);
+  same_table : l.table.shared.table_id ≡ l.fn.table.shared.table_id;
   view : l.seat.me.0 ≡ left_from l.layout l.number;
   empty : l.seat.me.1 ≡ [];
   count : length l.passes.items ≡ l.number;

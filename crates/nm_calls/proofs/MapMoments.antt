@@ -1,0 +1,253 @@
+-- A look-up of a value: its walk, and the moment at which the map had the value that was read.
+use Rattle.std.proofs.Common.{◌≡◌, ℕ, ◌+◌, ◌<◌, ◌≤◌, true, false, List, [], ◌++◌, append_assoc, length, refl, sym, ap, subst, ◌∙◌, arith}
+use Rattle.std.specs.Prelude.{All, IsSome, None, Some, Option, Result, Ok, Err, IfOk, IfErr, IfSome}
+use Rattle.std.proofs.lemmas.List.{append_cancel_left, length-map}
+use Rattle.nm_edge.specs.Keys.{IsKey}
+use Rattle.nm_edge.specs.Layouts.{Layout, IsLayout}
+use Rattle.nm_model.specs.declared.event.Event.{Event}
+use Rattle.nm_model.specs.declared.event.Event.TheVariants.{Leave, Sight}
+use Rattle.nm_model.specs.declared.reply.Reply.TheVariants.{Departed}
+use Rattle.nm_model.specs.declared.trace.Turn.{Turn}
+use Rattle.nm_model.specs.Headline.{HasLeft, IsPinned, has_after, words_after}
+use Rattle.nm_model.specs.Memory.{Memory, infinity_1, is_leaf, node, opening}
+use Rattle.nm_model.specs.Ordered.{ordered, after_in, trace_in, turn_of, HasKey}
+use Rattle.nm_model.specs.Paths.{Reached}
+use Rattle.nm_model.specs.Walks.{Entry, WalkEnds, since_pin}
+use Rattle.nm_order.specs.Logs.{part_of, known_by}
+use Rattle.nm_order.specs.StalePaths.{WasReachedSince, log_under_pin}
+use Rattle.nm_order.proofs.PartWalks.{ends_in_log}
+use Rattle.nm_order.proofs.PinNumbers.{length_trace}
+use Rattle.nm_order.proofs.RealTime.{begins_with}
+use Rattle.nm_order.proofs.WalksOfRuns.{trace_in-append}
+use Rattle.nm_theorem.proofs.GraceOfRuns.{pin_is}
+use Rattle.nm_theorem.proofs.Hands.{run_hands}
+use Rattle.nm_theorem.proofs.HeadlineOfRuns.{each_run_has_it}
+use Rattle.nm_theorem.proofs.LooksBehind.{pinned_by_turns}
+use Rattle.nm_theorem.proofs.WrittenWords.{run_words}
+use Rattle.nm_steps.specs.declared.view.Stored.{Stored}
+use Rattle.nm_steps.specs.Rules.{Extends}
+use Rattle.nm_steps.specs.Steps.{Continues, HasSeen, HasSeenAllOf, IsSamePass, PassView, TakesStep}
+use Rattle.nm_steps.proofs.Seeing.{same_by_step, same_then, seen_by_turn, seen_through, stores_same, stores_through}
+use Rattle.nm_steps.proofs.ValueStays.{NobodyHolds, value_stays}
+use Rattle.nm_epoch.specs.Resting.{IsResting, KeepsHands, epochs}
+use Rattle.nm_epoch.specs.Tries.{IsMoved, IsPinnedBy}
+use Rattle.nm_epoch.proofs.KeptHands.{kept_on}
+use Rattle.nm_model.specs.declared.knowledge.Brief.{Brief}
+use Rattle.nm_walks.specs.declared.looking.Onward.{Onward}
+use Rattle.nm_walks.specs.AddedLooks.{AddsLooks}
+use Rattle.nm_walks.specs.Bounds.{reach}
+use Rattle.nm_walks.specs.Telling.{GoesOn, OnlyLooks}
+use Rattle.nm_walks.specs.Walks.{Reads}
+use Rattle.nm_walks.proofs.Looks.{enough}
+use Rattle.nm_walks.proofs.PlainLooks.{looks_longer}
+use Rattle.nm_calls.specs.declared.fault.CallFault.{CallFault}
+use Rattle.nm_calls.specs.declared.fault.CallFault.TheVariants as fault
+use Rattle.nm_calls.specs.Maps.{AfterGet, HasLookedUp, HasReadValue, HoldsStores, WasMapped}
+use Rattle.nm_calls.specs.PlainWalks.{HasPassed, LooksUnderPin, WasSo, events_of, most_looks}
+use Rattle.nm_calls.proofs.Adding.{cuts_none, has_won, plain_moved_adds}
+use Rattle.nm_calls.proofs.NamedLeaves.{leaf_has_key, leaf_is_one, leaf_was, moment_is_later, pin_not_left}
+use Rattle.nm_calls.proofs.PlainLooks.{as_events, call_adds, events_go_on, events_of_trace, was_so}
+use Rattle.nm_calls.proofs.Unheld.{unheld}
+
+-- a walk ends at the leaf that it has read
+pub ends_at : (p q : PassView) (n k x : ℕ) (on : Onward) → Reads k x p.view.log q.view.log on → (c : HasPassed n p.view.log k x) → on.next.slot ≡ 0 → WalkEnds k (since_pin [] q.view.log) x c.0 c.1 on.found
+ends_at p q n k x on r c null = record { looks = c.2.looks; leads = c.2.leads; null = on.next; is_null = null; is_part = looks_longer p.view.log q.view.log k x on r c.2.looks c.2.is_part }
+
+-- ---- where nobody has had the leaf in hands, by events
+
+module _ (L : Layout) (fits : IsLayout L) (turns : List (ℕ × Event)) (keys : All (λ t. HasKey t.1) turns) (w slot : ℕ) (high : 6 ≤ slot) (within : slot ≤ L.nodes)
+    (before since : List (ℕ × Event)) (is_run : turns ≡ before ++ since) (pinned : IsPinned w (trace_in (ordered L) before)) (stays : HasLeft w (trace_in (after_in (ordered L) before) since) → ⊥) (reached : Reached (words_after L (trace_in (ordered L) before)) slot) where
+  abbrev first : List Turn
+  first = trace_in (ordered L) before
+
+  abbrev rest : List Turn
+  rest = trace_in (after_in (ordered L) before) since
+
+  whole : trace_in (ordered L) turns ≡ first ++ rest
+  whole = ap (trace_in (ordered L)) is_run ∙ trace_in-append (ordered L) before since
+
+  pub nobody_holds : NobodyHolds L turns (length first) slot
+  nobody_holds now later is le v =
+      let long = length_trace (ordered L) before in
+      let mid = begins_with before since now later (sym is_run ∙ is) (omega (arith, le, long)) in
+      let after : since ≡ mid.0 ++ later = append_cancel_left before since (mid.0 ++ later) (sym is_run ∙ (is ∙ (ap (λ (l : List (ℕ × Event)). l ++ later) mid.1 ∙ append_assoc before mid.0 later))) in
+      let turns_mid : List Turn = trace_in (after_in (ordered L) before) mid.0 in
+      let held = unheld L (trace_in (ordered L) turns) (each_run_has_it L fits true turns keys) w slot high within first rest whole pinned stays reached turns_mid (trace_in (after_in (after_in (ordered L) before) mid.0) later)
+      (ap (trace_in (after_in (ordered L) before)) after ∙ trace_in-append (after_in (ordered L) before) mid.0 later) v in
+      sym (run_hands v slot L fits true now)
+      ∙ (ap (has_after (opening L) v slot false) (ap (trace_in (ordered L)) mid.1 ∙ trace_in-append (ordered L) before mid.0) ∙ held)
+
+-- ---- the moment of a value that was read
+
+module _ (o a m q : PassView) (first_seen : HasSeen o.view) (first_fits : IsLayout o.view.layout) (unpinned : (epochs o).pin ≡ None) (pinning : Continues o a) (walked : GoesOn a m) (leaves : TakesStep m q Leave Departed) (k : ℕ) (is_key : IsKey k) where
+  same : IsSamePass o m
+  same = same_then o a m pinning.same walked.same
+
+  past : HasSeenAllOf m o
+  past = seen_through o a m pinning.past walked.past
+
+  abbrev L : Layout
+  L = m.view.layout
+
+  abbrev w : ℕ
+  w = m.view.number
+
+  fits : IsLayout L
+  fits = subst (λ (s : PassView). IsLayout s.view.layout) (sym same) first_fits
+
+  abbrev earlier : List (ℕ × Event)
+  earlier = events_of o.view.past
+
+  unpinned_then : (known_by L w (part_of w (trace_in (ordered L) earlier))).brief.pin ≡ None
+  unpinned_then =
+      subst (λ (s : PassView). (known_by s.view.layout s.view.number (part_of s.view.number (trace_in (ordered s.view.layout) earlier))).brief.pin ≡ None) (sym same)
+      (subst (λ (l : List Entry). (known_by o.view.layout o.view.number l).brief.pin ≡ None) (sym (as_events o.view first_seen).is_part) unpinned)
+
+  -- what the last step leaves of a moment of the map
+  mapped_longer : (answer : Option ℕ) → WasMapped L o.view.past m.view.past m.view.stores w k answer → WasMapped q.view.layout o.view.past q.view.past q.view.stores q.view.number k answer
+  mapped_longer answer was =
+      let more : Extends q.view.past m.view.past = (seen_by_turn m q Leave Departed leaves.past).goes_on in
+      subst (λ (st : List Stored). WasMapped q.view.layout o.view.past q.view.past st q.view.number k answer) (sym leaves.stores)
+      (subst (λ (s : PassView). WasMapped s.view.layout o.view.past q.view.past m.view.stores s.view.number k answer) (sym (same_by_step m q Leave Departed leaves.step)) (record {
+        so_far = was.so_far;
+        rest = was.rest ++ more.more;
+        are = more.is ∙ (ap (λ (l : List Turn). l ++ more.more) was.are ∙ append_assoc was.so_far was.rest more.more);
+        later = was.later;
+        pinned = was.pinned;
+        gives = was.gives;
+      }))
+
+  -- the leaf with the value
+  module _ (v : ℕ) (r : HasReadValue m k v) where
+    abbrev turns : List (ℕ × Event)
+    turns = r.seen.run.events
+
+    abbrev more : List (ℕ × Event)
+    more = events_of past.goes_on.more
+
+    grown : turns ≡ earlier ++ more
+    grown = sym (ap events_of r.seen.run.are ∙ events_of_trace (ordered L) turns) ∙ events_go_on m.view.past o.view.past past.goes_on
+
+    small : k < infinity_1
+    small = let le = is_key in omega (arith, le)
+
+    walk : WalkEnds k (log_under_pin L turns w) r.slot r.parent r.side k
+    walk = ends_in_log w (trace_in (ordered L) turns) k r.slot r.parent r.side k
+        (subst (λ (l : List Entry). WalkEnds k (since_pin [] l) r.slot r.parent r.side k) (sym (ap (part_of w) (sym r.seen.run.are) ∙ r.seen.run.is_part)) r.walk)
+
+    abbrev was : WasReachedSince (ordered L) turns w k r.slot
+    was = leaf_was L (enough L fits) turns r.seen.run.keys w k r.slot r.parent r.side small walk
+
+    words : words_after L (trace_in (ordered L) was.before) ≡ (after_in (ordered L) was.before).state.memory
+    words = run_words L fits true was.before
+
+    reached_then : Reached (words_after L (trace_in (ordered L) was.before)) r.slot
+    reached_then = subst (λ (x : Memory). Reached x r.slot) (sym words) was.reached
+
+    pinned_then : IsPinned w (trace_in (ordered L) was.before)
+    pinned_then = pinned_by_turns w (trace_in (ordered L) was.before) (subst (λ (p : Option ℕ). IsSome p) (sym was.pinned.1 ∙ pin_is L fits true was.before w) refl)
+
+    value_was : WasMapped L o.view.past m.view.past m.view.stores w k (Some v)
+    value_was = record {
+      so_far = trace_in (ordered L) was.before;
+      rest = trace_in (after_in (ordered L) was.before) was.since;
+      are = r.seen.run.are ∙ (ap (trace_in (ordered L)) was.is_run ∙ trace_in-append (ordered L) was.before was.since);
+      later = (
+          let moment = moment_is_later L (enough L fits) w r.seen.run.worker earlier more (subst (λ (ts : List (ℕ × Event)). All (λ t. HasKey t.1) ts) grown r.seen.run.keys) unpinned_then was.before was.since (sym grown ∙ was.is_run) was.pinned was.stands in
+          let long = length_trace (ordered L) was.before in
+          let first = length-map o.view.past turn_of in
+          omega (arith, moment, long, first)
+          );
+      pinned = pinned_then;
+      gives = record {
+        slot = r.slot;
+        reached = reached_then;
+        leaf = ap (λ (x : Memory). is_leaf (node x r.slot)) words ∙ leaf_is_one L (enough L fits) turns r.seen.run.keys w k r.slot r.parent r.side small walk;
+        has_key = ap (λ (x : Memory). (node x r.slot).key) words ∙ leaf_has_key L (enough L fits) turns r.seen.run.keys w k r.slot r.parent r.side small walk;
+        has_value = value_stays L turns m.view.stores (length (trace_in (ordered L) was.before)) r.slot r.seen.held
+            (nobody_holds L fits turns r.seen.run.keys w r.slot r.high r.within was.before was.since was.is_run pinned_then (pin_not_left w (trace_in (after_in (ordered L) was.before) was.since) was.stands) reached_then)
+            ∙ sym r.value;
+      };
+    }
+
+    -- the stores are those of the run that the pass has seen
+    pub stores_are : HoldsStores q.view.layout q.view.past q.view.stores
+    stores_are =
+        subst (HoldsStores q.view.layout q.view.past) (sym leaves.stores)
+        (subst (λ (s : PassView). HoldsStores s.view.layout q.view.past m.view.stores) (sym (same_by_step m q Leave Departed leaves.step)) (record {
+          until = m.view.past;
+          ends = (seen_by_turn m q Leave Departed leaves.past).goes_on;
+          events = turns;
+          are = r.seen.run.are;
+          held = r.seen.held;
+          linked = r.seen.linked;
+        }))
+
+  -- what the call found was so
+  pub was_mapped : HasSeen m.view → (answer : Option ℕ) → HasLookedUp m k answer → WasMapped q.view.layout o.view.past q.view.past q.view.stores q.view.number k answer
+  was_mapped seen None e = none_of (was_so o a m q first_seen first_fits unpinned pinning walked seen leaves k false is_key e)
+    where
+      none_of : WasSo o q k false → WasMapped q.view.layout o.view.past q.view.past q.view.stores q.view.number k None
+      none_of so = record {
+        so_far = so.so_far;
+        rest = so.rest;
+        are = so.are;
+        later = so.later;
+        pinned = so.pinned;
+        gives = λ v in_map. so.gives (record { slot = in_map.slot; reached = in_map.reached; leaf = in_map.leaf; has_key = in_map.has_key });
+      }
+  was_mapped seen (Some v) r = mapped_longer (Some v) (value_was v r)
+
+  pub stored_if : (answer : Option ℕ) → HasLookedUp m k answer → IfSome answer (λ v. HoldsStores q.view.layout q.view.past q.view.stores)
+  stored_if None e = tt
+  stored_if (Some v) r = stores_are v r
+
+-- ---- the whole call
+
+-- each try of the pin was lost
+pub get_without_pin : (L : Layout) (tries k : ℕ) (o a : PassView) → Continues o a → IsMoved Sight tries o.view.log a.view.log → IsResting a → KeepsHands o a → AfterGet L tries k o a (Err fault.Busy)
+get_without_pin L tries k o a pinning moved rests kept =
+    let added = plain_moved_adds tries o.view.log a.view.log moved in
+    record {
+      same = pinning.same;
+      past = pinning.past;
+      stores = pinning.stores;
+      did = tt;
+      moment = tt;
+      stored = tt;
+      busy = refl;
+      won = has_won _ _ added;
+      uncut = cuts_none _ _ added;
+      rests = rests;
+      hands = kept;
+    }
+
+-- a pin, a walk and a leave
+pub get_after_walk : (L : Layout) (tries k epoch : ℕ) (o a p q : PassView) (r : Result (Option ℕ) CallFault)
+    → Continues o a → IsPinnedBy Sight tries o.view.log a.view.log epoch → KeepsHands o a
+    → GoesOn a p → OnlyLooks a p → AddsLooks (most_looks (reach L) 1) a.view.log p.view.log
+    → TakesStep p q Leave Departed → IsResting q → KeepsHands p q
+    → IfOk r (WasMapped q.view.layout o.view.past q.view.past q.view.stores q.view.number k) → IfOk r (λ found. IfSome found (λ v. HoldsStores q.view.layout q.view.past q.view.stores)) → IfErr r (λ e. e ≡ fault.Busy) → AfterGet L tries k o q r
+get_after_walk L tries k epoch o a p q r pinning pinned hands walked only looks leaves rests kept moment stored busy =
+    let did : LooksUnderPin tries (most_looks (reach L) 1) o.view.log q.view.log = record { pinned = a.view.log; epoch = epoch; pin = pinned; looked = p.view.log; looks = looks; leaves = ap (λ (s : PassView). s.view.log) leaves.step } in
+    let added = call_adds tries (most_looks (reach L) 1) o.view.log q.view.log did in
+    record {
+      same = same_then o p q (same_then o a p pinning.same walked.same) (same_by_step p q Leave Departed leaves.step);
+      past = seen_through o p q (seen_through o a p pinning.past walked.past) (seen_by_turn p q Leave Departed leaves.past);
+      stores = stores_through o.view.stores p.view.stores q.view.stores (stores_through o.view.stores a.view.stores p.view.stores pinning.stores walked.stores) (stores_same q.view.stores p.view.stores leaves.stores);
+      did = any_ok r did;
+      moment = moment;
+      stored = stored;
+      busy = busy;
+      won = has_won _ _ added;
+      uncut = cuts_none _ _ added;
+      rests = rests;
+      hands = kept_on o p q (kept_on o a p hands looks_keep) kept;
+    }
+  where
+    any_ok : {P : Type 0} (x : Result (Option ℕ) CallFault) → P → IfOk x (λ found. P)
+    any_ok (Ok found) did = did
+    any_ok (Err e) did = tt
+
+    looks_keep : KeepsHands a p
+    looks_keep = record { private = only.private; labelled = λ was. ap (λ (b : Brief). b.unlabelled) only.epochs ∙ was; ledgers = λ was. only.ledgers }

@@ -1,0 +1,142 @@
+-- A map: what was stored under a key and when, and what a call for the value of a key leaves.
+use Rattle.std.specs.Prelude.{◌≡◌, ◌≤◌, ◌<◌, ℕ, nat_lt, Bool, true, false, List, [], ◌∷◌, ◌++◌, length, filter, Option, Some, None, Result, IfOk, IfErr, IfSome}
+use Rattle.nm_edge.specs.Layouts.{Layout}
+use Rattle.nm_edge.specs.declared.edge.Side.{Side}
+use Rattle.nm_edge.specs.declared.node.NodeId.{NodeId}
+use Rattle.nm_model.specs.declared.event.Event.{Event}
+use Rattle.nm_model.specs.declared.event.Event.TheVariants.{LeaveWith, Link}
+use Rattle.nm_model.specs.declared.reply.Reply.TheVariants.{Departed, Linked}
+use Rattle.nm_model.specs.declared.trace.Turn.{Turn}
+use Rattle.nm_model.specs.Headline.{IsPinned, words_after}
+use Rattle.nm_model.specs.Memory.{infinity_0, is_leaf, node}
+use Rattle.nm_model.specs.Ordered.{ordered, trace_in}
+use Rattle.nm_model.specs.Paths.{Reached}
+use Rattle.nm_model.specs.Walks.{Entry, WalkEnds, since_pin}
+use Rattle.nm_steps.specs.declared.view.Stored.{Stored}
+use Rattle.nm_steps.specs.Rules.{Extends, ExtendsStores, LinksHaveValues, WereHeld, value_of}
+use Rattle.nm_steps.specs.Steps.{HasSeenAllOf, IsSamePass, PassView}
+use Rattle.nm_steps.specs.Values.{HasSeenStores}
+use Rattle.nm_epoch.specs.Resting.{IsResting, KeepsHands}
+use Rattle.nm_walks.specs.Bounds.{reach}
+use Rattle.nm_walks.specs.Making.{fills}
+use Rattle.nm_walks.specs.WonCounts.{won_splices}
+use Rattle.nm_calls.specs.declared.fault.CallFault.{CallFault}
+use Rattle.nm_calls.specs.declared.fault.CallFault.TheVariants as fault
+use Rattle.nm_calls.specs.declared.values.Leaf.{Leaf}
+use Rattle.nm_calls.specs.PlainWalks.{HasEndedSo, LooksUnderPin, most_looks}
+use Rattle.nm_calls.specs.Won.{HasWon}
+
+-- ---- what a map has
+
+-- the value of a slot after n turns: the one that was stored last for it before that moment
+abbrev pub value_at : ℕ → List Stored → ℕ → ℕ
+value_at n stores s = value_of (filter (λ (x : Stored). nat_lt x.at n) stores) s
+
+-- after these turns the map has the key with this value: a leaf with the key is reached, and the
+-- slot of that leaf has the value
+pub record IsInMap (L : Layout) (turns : List Turn) (stores : List Stored) (k v : ℕ) : Type 0 where
+  pub slot : ℕ
+  pub reached : Reached (words_after L turns) slot
+  pub leaf : is_leaf (node (words_after L turns) slot) ≡ true
+  pub has_key : (node (words_after L turns) slot).key ≡ k
+  pub has_value : value_at (length turns) stores slot ≡ v
+
+-- a plain map, given by what it has under a key, gives this answer to a look-up of the key
+abbrev pub MapGives : (ℕ → Type 0) → Option ℕ → Type 0
+MapGives has (Some v) = has v
+MapGives has None = (v : ℕ) → has v → ⊥
+
+-- at a moment after the turns `was`, at which the worker was pinned, a plain map of the reached
+-- leaves and their values gives this answer to a look-up of the key (O'Hearn and others)
+pub record WasMapped (L : Layout) (was now : List Turn) (stores : List Stored) (w k : ℕ)
+    (answer : Option ℕ) : Type 0 where
+  pub so_far : List Turn
+  pub rest : List Turn
+  pub are : now ≡ so_far ++ rest
+  pub later : length was < length so_far
+  pub pinned : IsPinned w so_far
+  pub gives : MapGives (IsInMap L so_far stores k) answer
+
+-- the stores are those of a run whose turns are a beginning of these. Each was made in a slot that
+-- was private to its worker, and each worker that tried to link a new leaf had just stored its value
+pub record HoldsStores (L : Layout) (now : List Turn) (stores : List Stored) : Type 0 where
+  pub until : List Turn
+  pub ends : Extends now until
+  pub events : List (ℕ × Event)
+  pub are : until ≡ trace_in (ordered L) events
+  pub held : WereHeld L events stores
+  pub linked : LinksHaveValues L events stores
+
+-- the step by which a call leaves with an answer
+abbrev pub answered : Bool → List Entry
+answered answer = (LeaveWith answer, Departed) ∷ []
+
+-- the worker filled a slot as a leaf with the key, stored this value in it as its last store, and
+-- linked it by its next step. After that it took the steps `rest`
+pub record HasInserted (rest : List Entry) (q : PassView) (k v : ℕ) : Type 0 where
+  pub before : List Entry
+  pub slot : ℕ
+  pub parent : ℕ
+  pub side : Side
+  pub old : ℕ
+  pub new : ℕ
+  pub node : NodeId
+  pub log : q.view.log
+      ≡ (before ++ fills slot k 0 0) ++ (Link parent side old new, Linked node) ∷ rest
+  pub earlier : List Stored
+  pub at : ℕ
+  pub stores : q.view.stores ≡ earlier ++ record {
+    at = at;
+    worker = q.view.number;
+    own = length (before ++ fills slot k 0 0);
+    slot = slot;
+    value = v;
+  } ∷ []
+  pub early : at < length q.view.past
+
+-- ---- what a look-up leaves
+
+-- a walk for the key has ended at this leaf in the log from the pin on. If its key is below the
+-- sentinels, its slot is above 5 (Natarajan and Mittal, section 3.2)
+pub record IsLeafAt (p : PassView) (k : ℕ) (leaf : Leaf) : Type 0 where
+  pub parent : ℕ
+  pub side : Side
+  pub walk : WalkEnds k (since_pin [] p.view.log) leaf.slot parent side leaf.key
+  pub high : leaf.key < infinity_0 → 6 ≤ leaf.slot
+  pub within : leaf.slot ≤ p.view.layout.nodes
+
+-- a walk for the key has ended at a leaf with the key, whose value was read after it
+pub record HasReadValue (p : PassView) (k v : ℕ) : Type 0 where
+  pub slot : ℕ
+  pub parent : ℕ
+  pub side : Side
+  pub walk : WalkEnds k (since_pin [] p.view.log) slot parent side k
+  pub high : 6 ≤ slot
+  pub within : slot ≤ p.view.layout.nodes
+  pub seen : HasSeenStores p.view
+  pub value : v ≡ value_of p.view.stores slot
+
+-- a walk has ended with this answer
+abbrev pub HasLookedUp : PassView → ℕ → Option ℕ → Type 0
+HasLookedUp p k None = HasEndedSo p k false
+HasLookedUp p k (Some v) = HasReadValue p k v
+
+-- what a look-up of a value leaves of its pass, by its answer. It is the same pass, which has seen
+-- all turns and stores that it had seen. An answer was right at a moment (linearization point) of
+-- the call. A value was stored under the key. No exchange was won. The worker rests, and holds what
+-- it held
+pub record AfterGet (L : Layout) (tries k : ℕ) (p q : PassView) (r : Result (Option ℕ) CallFault) : Type 0 where
+  pub same : IsSamePass p q
+  pub past : HasSeenAllOf q p
+  pub stores : ExtendsStores q.view.stores p.view.stores
+  pub did : IfOk r
+      (λ found. LooksUnderPin tries (most_looks (reach L) 1) p.view.log q.view.log)
+  pub moment : IfOk r
+      (WasMapped q.view.layout p.view.past q.view.past q.view.stores q.view.number k)
+  pub stored : IfOk r (λ found. IfSome found
+      (λ v. HoldsStores q.view.layout q.view.past q.view.stores))
+  pub busy : IfErr r (λ e. e ≡ fault.Busy)
+  pub won : HasWon p.view.log q.view.log 0 0
+  pub uncut : won_splices q.view.log ≡ won_splices p.view.log
+  pub rests : IsResting q
+  pub hands : KeepsHands p q

@@ -1,0 +1,271 @@
+-- How a value is read and stored: the rule after the step, and what the seat learns by it.
+use Rattle.std.proofs.Common.{◌≡◌, inl, inr, ℕ, zero, suc, ◌+◌, ◌-◌, ◌<◌, ◌≤◌, ◌==◌, true, false, List, [], ◌∷◌, ◌++◌, length, set, refl, sym, ap, ◌∙◌, subst, arith, get_or-set_same, get_or-set_other, get_or-append-add, length-set, eq-eqb, ne_eqb, append-nil}
+use Rattle.std.specs.Prelude.{slice_index, slice_set}
+use Rattle.std.proofs.lemmas.List.{set-get_or}
+use Rattle.std.proofs.lemmas.Bool.{cond-true, cond-false}
+use mathlib.Core.Option.{some, some-injective, some-ne-none}
+use native.Mathlib.Decide.{ℕ_discrete}
+use lib.ListN.{get_elem?}
+use Rattle.atomic_table.specs.Table.{State, Allows, keeps, opening}
+use Rattle.std.proofs.lemmas.List.{get_or-replicate, length-map, length-replicate, nil_from_length}
+use Rattle.std.specs.Prelude.{replicate}
+use Rattle.nm_model.specs.Memory as memory
+use Rattle.nm_steps.specs.Packing.{words_of}
+use Rattle.nm_steps.specs.declared.view.Held.{Held}
+use Rattle.nm_steps.proofs.Cutting.{opens, opens_with_none}
+use Rattle.atomic_table.specs.Seated.{TableId}
+use Rattle.atomic_table.specs.declared.shared.Seat.{Seat}
+use Rattle.nm_edge.specs.Layouts.{Layout, IsLayout}
+use Rattle.nm_edge.specs.Words.{IsSlot, at_announcement, word, words}
+use Rattle.nm_model.specs.declared.knowledge.Brief.{Brief}
+use Rattle.nm_model.specs.declared.event.Event.{Event}
+use Rattle.nm_model.specs.declared.event.Event.TheVariants.{Link}
+use Rattle.nm_model.specs.declared.trace.Turn.{Turn}
+use Rattle.nm_model.specs.Knowledge.{Knowledge, is_private}
+use Rattle.nm_model.specs.Walks.{Entry}
+use Rattle.nm_model.specs.Runs.{of}
+use Rattle.nm_model.specs.Ordered.{ordered, after_in, trace_in}
+use Rattle.nm_order.specs.Hands.{IsPooled}
+use Rattle.nm_order.specs.Logs.{known_by}
+use Rattle.nm_order.proofs.PartsOfRuns.{logs_tell}
+use Rattle.nm_order.proofs.PinNumbers.{length_trace}
+use Rattle.nm_steps.proofs.Blocks.{set-append-add}
+use Rattle.nm_steps.specs.declared.view.Stored.{Stored}
+use Rattle.nm_steps.specs.declared.view.View.{View}
+use Rattle.nm_steps.specs.Rules.{ExtendsStores, IsShown, LinksHaveValues, Kept, LagsBehind, Runs, WereHeld, everybody, knowledge, numbers_from, stands, value_of, viewing}
+use Rattle.nm_steps.specs.Steps.{HasSeen, Laid, Tied}
+use Rattle.nm_steps.specs.Values.{CanReach, HasSeenMore, HasStoredValue, OnlySees, MayStore, SawValue, no_step}
+use Rattle.nm_steps.proofs.Counts.{sum_after}
+use Rattle.nm_steps.proofs.Growing.{goes_on_itself}
+use Rattle.nm_steps.proofs.Keeping.{each_set}
+use Rattle.nm_steps.proofs.Noting.{standing}
+use Rattle.nm_steps.proofs.Tying.{own_part, stands_in_run}
+use Rattle.nm_steps.proofs.Valuing.{IfValued, still_linked, held_push, run_long, stores_more, stores_themselves, value_push}
+
+-- the view that has seen the run so far, and these stores
+abbrev pub up_to_stores : List Turn → List Stored → View → View
+up_to_stores turns st v = record v { past = turns; stores = st }
+
+module _ (L : Layout) (core : List ℕ) (views : List View) (id : ℕ) (v : View) (k : Runs L core views) (at : get_elem? views id ≡ some v) (st : List Stored) where
+  -- a seat may see them at any time
+  abbrev pub seen_stores_so_far : Runs L core (set views id (up_to_stores (trace_in (ordered L) k.turns) st v))
+  seen_stores_so_far = record {
+    fits = k.fits;
+    turns = k.turns;
+    keys = k.keys;
+    words_are = k.words_are;
+    shown = each_set (IsShown L (trace_in (ordered L) k.turns)) views id (up_to_stores (trace_in (ordered L) k.turns) st v) (k.shown id v at) (λ j u _. k.shown j u);
+    here = each_set (λ (u : View). u.resigned ≡ false → (knowledge u).gone ≡ false) views id (up_to_stores (trace_in (ordered L) k.turns) st v) (k.here id v at) (λ j u _. k.here j u);
+    once = λ w. omega (arith, sum_after (stands w) views id v (up_to_stores (trace_in (ordered L) k.turns) st v) at, k.once w);
+    lags = each_set (LagsBehind (trace_in (ordered L) k.turns)) views id (up_to_stores (trace_in (ordered L) k.turns) st v) (record { past = goes_on_itself (trace_in (ordered L) k.turns); heard = (k.lags id v at).heard }) (λ j u _. k.lags j u);
+  }
+
+  module _ (alive : v.resigned ≡ false) (layout : v.layout ≡ L) where
+    abbrev pub run_seen : HasSeen (up_to_stores (trace_in (ordered L) k.turns) st v)
+    run_seen =
+        let stands = stands_in_run L core views id v k at alive layout in
+        record {
+          worker = stands.run.is_part.worker;
+          events = k.turns;
+          keys = k.keys;
+          are = ap (λ (l : Layout). trace_in (ordered l) k.turns) (sym layout);
+          is_part = own_part L core views id v k at alive;
+          here = stands.run.here;
+        }
+
+    -- a slot that is private by the worker's log is private in the run
+    pub is_held : (slot : ℕ) → is_private (knowledge v) slot ≡ true → is_private (of (after_in (ordered L) k.turns).state v.number) slot ≡ true
+    is_held slot private =
+        let stands = stands_in_run L core views id v k at alive layout in
+        let below : v.number < L.workers = subst (λ (l : Layout). v.number < l.workers) layout stands.run.is_part.worker in
+        ap (λ (x : Knowledge). is_private x slot) (logs_tell L k.turns v.number below ∙ ap (known_by L v.number) (own_part L core views id v k at alive))
+        ∙ (ap (λ (l : Layout). is_private (known_by l v.number v.log) slot) (sym layout) ∙ private)
+
+-- the place of a value
+module _ (L : Layout) (s : State Unit View) (k : Kept L s) (slots slot i : ℕ) (homes : length s.homes ≡ slots) (many : slots ≡ L.nodes) (is : IsSlot L slot) (index : i ≡ words L + (slot - 1)) where
+  place : i ≡ length k.core + (slot - 1)
+  place = let long = run_long L k.core s.views k.runs in omega (arith, long, index)
+
+  pub inside : slot - 1 < length k.values
+  inside = let long = k.long in let low = is.0 in let high = is.1 in omega (arith, long, homes, many, low, high)
+
+  pub value_there : slice_index s.words i ≡ value_of k.stores slot
+  value_there =
+      (λ j. slice_index (k.words_are j) (place j))
+      ∙ (get_or-append-add k.core k.values (slot - 1) 0
+      ∙ (k.valued.are (slot - 1) inside ∙ ap (value_of k.stores) (let low = is.0 in omega (arith, low))))
+
+  pub values_written : (n : ℕ) → slice_set s.words i n ≡ k.core ++ set k.values (slot - 1) n
+  values_written n = (λ j. slice_set (k.words_are j) (place j) n) ∙ set-append-add k.core k.values (slot - 1) n
+
+-- a table with values has some
+all_linked : (L : Layout) (turns : List (ℕ × Event)) (values : List ℕ) (st : List Stored) → IsLayout L → length values ≡ L.nodes → IfValued L (length values) turns st → LinksHaveValues L turns st
+all_linked L turns values st fits many (inl plain) = absurd (let least = fits.least in omega (arith, least, many, plain))
+all_linked L turns values st fits many (inr l) = l
+
+-- A LOOK at a value
+pub sees : (L : Layout) (slots id : ℕ) (v : View) (slot i : ℕ) → v.resigned ≡ false → v.layout ≡ L → slots ≡ L.nodes → IsSlot L slot → i ≡ words L + (slot - 1) → Allows (Kept L) slots id (v, []) i (λ n. n) (SawValue slot no_step (v, []))
+sees L slots id v slot i alive layout many is index s k homes at small =
+    let trace = trace_in (ordered L) k.runs.turns in
+    let w : View = up_to_stores trace k.stores v in (
+      w,
+      keeps,
+      tt,
+      record {
+        core = k.core;
+        values = k.values;
+        words_are = set-get_or s.words i 0 ∙ k.words_are;
+        long = k.long;
+        runs = seen_stores_so_far L k.core s.views id v k.runs at k.stores;
+        stores = k.stores;
+        valued = record {
+          are = k.valued.are;
+          held = k.valued.held;
+          linked = k.valued.linked;
+          seen = each_set (λ (u : View). ExtendsStores k.stores u.stores) s.views id w (stores_themselves k.stores) (λ j u _. k.valued.seen j u);
+        };
+      },
+      (
+        refl,
+        record {
+          same = refl;
+          past = (k.runs.lags id v at).past;
+          stores = k.valued.seen id v at;
+          seen = record { run = run_seen L k.core s.views id v k.runs at k.stores alive layout; held = subst (λ (l : Layout). WereHeld l k.runs.turns k.stores) (sym layout) k.valued.held; linked = subst (λ (l : Layout). LinksHaveValues l k.runs.turns k.stores) (sym layout) (all_linked L k.runs.turns k.values k.stores k.runs.fits (k.long ∙ homes ∙ many) k.valued.linked) };
+        },
+        value_there L s k slots slot i homes many is index,
+      ),
+    )
+
+-- values after one store more
+values_after : (values : List ℕ) (stores : List Stored) (slot : ℕ) (x : Stored) → 1 ≤ slot → slot - 1 < length values → x.slot ≡ slot → ((i : ℕ) → i < length values → slice_index values i ≡ value_of stores (i + 1))
+    → (i : ℕ) → i < length (set values (slot - 1) x.value) → slice_index (set values (slot - 1) x.value) i ≡ value_of (stores ++ x ∷ []) (i + 1)
+values_after values stores slot x low inside own are i below = elim (ℕ_discrete i (slot - 1)) [
+  | yes same ↦
+      ap (slice_index (set values (slot - 1) x.value)) same
+      ∙ (get_or-set_same values (slot - 1) x.value 0 inside
+      ∙ sym (value_push 0 stores x (i + 1) ∙ cond-true (x.slot == (i + 1)) x.value (value_of stores (i + 1)) (eq-eqb x.slot (i + 1) (omega (arith, own, same, low)))))
+  | no other ↦
+      get_or-set_other values (slot - 1) i x.value 0 other
+      ∙ (are i (let long = length-set values (slot - 1) x.value in omega (arith, below, long))
+      ∙ sym (value_push 0 stores x (i + 1) ∙ cond-false (x.slot == (i + 1)) x.value (value_of stores (i + 1)) (ne_eqb x.slot (i + 1) (λ e. other (omega (arith, own, e))))))
+]
+
+-- A STORE of a value
+pub stores_it : (L : Layout) (slots id : ℕ) (v : View) (slot i new : ℕ) → v.resigned ≡ false → v.layout ≡ L → slots ≡ L.nodes → IsSlot L slot → is_private (knowledge v) slot ≡ true → i ≡ words L + (slot - 1)
+    → Allows (Kept L) slots id (v, []) i (λ _. new) (λ _. HasStoredValue slot no_step (v, []) new)
+stores_it L slots id v slot i new alive layout many is private index s k homes at small =
+    let trace = trace_in (ordered L) k.runs.turns in
+    let x : Stored = record { at = length trace; worker = v.number; own = length v.log; slot = slot; value = new } in
+    let st : List Stored = k.stores ++ x ∷ [] in
+    let w : View = up_to_stores trace st v in
+    let held : WereHeld L k.runs.turns st = held_push L k.runs.turns k.stores x k.valued.held (record { before = k.runs.turns; since = []; is_run = sym (append-nil k.runs.turns); at = sym (length_trace (ordered L) k.runs.turns); own = ap (λ (l : List Entry). length l) (own_part L k.core s.views id v k.runs at alive); private = is_held L k.core s.views id v k.runs at k.stores alive layout slot private }) in (
+      w,
+      keeps,
+      tt,
+      record {
+        core = k.core;
+        values = set k.values (slot - 1) new;
+        words_are = values_written L s k slots slot i homes many is index new;
+        long = length-set k.values (slot - 1) new ∙ k.long;
+        runs = seen_stores_so_far L k.core s.views id v k.runs at st;
+        stores = st;
+        valued = record {
+          are = values_after k.values k.stores slot x is.0 (inside L s k slots slot i homes many is index) refl k.valued.are;
+          held = held;
+          linked = subst (λ (n : ℕ). IfValued L n k.runs.turns st) (sym (length-set k.values (slot - 1) new)) (still_linked L (length k.values) k.runs.turns st k.stores (stores_more k.stores k.stores x (stores_themselves k.stores)) k.valued.linked);
+          seen = each_set (λ (u : View). ExtendsStores st u.stores) s.views id w (stores_themselves st) (λ j u _ there. stores_more k.stores u.stores x (k.valued.seen j u there));
+        };
+      },
+      (
+        refl,
+        record {
+          same = refl;
+          past = (k.runs.lags id v at).past;
+          stores = stores_more k.stores v.stores x (k.valued.seen id v at);
+          seen = record { run = run_seen L k.core s.views id v k.runs at st alive layout; held = subst (λ (l : Layout). WereHeld l k.runs.turns st) (sym layout) held; linked = subst (λ (l : Layout). LinksHaveValues l k.runs.turns st) (sym layout) (all_linked L k.runs.turns k.values st k.runs.fits (k.long ∙ homes ∙ many) (still_linked L (length k.values) k.runs.turns st k.stores (stores_more k.stores k.stores x (stores_themselves k.stores)) k.valued.linked)) };
+        },
+        (k.stores, refl),
+      ),
+    )
+
+-- what the operations ask of their caller
+pub asked_to_look : (L : Layout) (z : TableId) (it : Seat Unit View) (d slot i : ℕ) → d ≡ slot → CanReach (record { table = z; layout = L }) it slot i
+    → (it.table_id ≡ z) × (i < z.words) × Allows (Kept L) z.slots it.id it.me i (λ n. n) (SawValue d no_step it.me)
+asked_to_look L z it d slot i pick can = (
+  can.table,
+  (let all = can.values.words_are in let low = can.is_slot.0 in let high = can.is_slot.1 in let index = can.word in omega (arith, all, low, high, index)),
+  subst (λ (x : ℕ). Allows (Kept L) z.slots it.id it.me i (λ n. n) (SawValue x no_step it.me)) (sym pick)
+      (subst (λ (c : List (ℕ × Unit)). Allows (Kept L) z.slots it.id (it.me.0, c) i (λ n. n) (SawValue slot no_step (it.me.0, c))) (sym can.empty)
+      (sees L z.slots it.id it.me.0 slot i can.alive can.layout can.values.slots_are can.is_slot can.word)),
+)
+
+pub asked_to_store : (L : Layout) (z : TableId) (it : Seat Unit View) (d slot i new : ℕ) → d ≡ slot → CanReach (record { table = z; layout = L }) it slot i → MayStore it slot
+    → (it.table_id ≡ z) × (i < z.words) × Allows (Kept L) z.slots it.id it.me i (λ _. new) (λ _. HasStoredValue d no_step it.me new)
+asked_to_store L z it d slot i new pick can may = (
+  can.table,
+  (let all = can.values.words_are in let low = can.is_slot.0 in let high = can.is_slot.1 in let index = can.word in omega (arith, all, low, high, index)),
+  subst (λ (x : ℕ). Allows (Kept L) z.slots it.id it.me i (λ _. new) (λ _. HasStoredValue x no_step it.me new)) (sym pick)
+      (subst (λ (c : List (ℕ × Unit)). Allows (Kept L) z.slots it.id (it.me.0, c) i (λ _. new) (λ _. HasStoredValue slot no_step (it.me.0, c) new)) (sym can.empty)
+      (stores_it L z.slots it.id it.me.0 slot i new can.alive can.layout can.values.slots_are can.is_slot may can.word)),
+)
+
+-- ---- what they leave of a pass
+
+pub can_by_key : (z : TableId) (key L : Layout) (it : Seat Unit View) (slot i : ℕ) → Laid z key L → CanReach (record { table = z; layout = L }) it slot i → CanReach (record { table = z; layout = key }) it slot i
+can_by_key z key L it slot i laid c = subst (λ (l : Layout). CanReach (record { table = z; layout = l }) it slot i) (sym laid.key_is) c
+
+pub looked_tied : (it after : Seat Unit View) (number announcement : ℕ) (brief : Brief) → Tied it number announcement brief → after.me.1 ≡ it.me.1 → HasSeenMore it.me.0 after.me.0 → Tied after number announcement brief
+looked_tied it after number announcement brief tied slots l = record {
+  empty = slots ∙ tied.empty;
+  alive = ap (λ (v : View). v.resigned) l.same ∙ tied.alive;
+  number_is = tied.number_is ∙ sym (ap (λ (v : View). v.number) l.same);
+  announcement_is = tied.announcement_is ∙ sym (ap (λ (v : View). word v.layout (at_announcement number)) l.same);
+  brief_is = tied.brief_is ∙ sym (ap (λ (v : View). (knowledge v).brief) l.same);
+  fits = subst (λ (v : View). IsLayout v.layout) (sym l.same) tied.fits;
+  worker = subst (λ (v : View). number < v.layout.workers) (sym l.same) tied.worker;
+  small = tied.small;
+  private = subst (λ (v : View). (x : ℕ) → is_private (knowledge v) x ≡ true → IsPooled v.layout x) (sym l.same) tied.private;
+  seen = l.seen.run;
+  heard = ap (λ (v : View). v.heard) l.same ∙ tied.heard;
+}
+
+pub looks_only : (it after : Seat Unit View) → after.table_id ≡ it.table_id → after.id ≡ it.id → HasSeenMore it.me.0 after.me.0 → OnlySees (standing it) (standing after)
+looks_only it after table seat l = record {
+  same = λ i. record { table = table i; seat = seat i; view = l.same i };
+  past = l.past;
+  stores = l.stores;
+  seen = l.seen;
+}
+
+-- ---- a table with values begins
+
+pub opens_values : (L : Layout) (ws : List ℕ) (units : List Unit) → IsLayout L → ws ≡ words_of L (memory.opening L) ++ replicate (length units) 0 → Kept L (opening ws units (everybody L))
+opens_values L ws units fits e =
+    let K = opens L (words_of L (memory.opening L)) fits refl in
+    record {
+      core = K.core;
+      values = replicate (length units) 0;
+      words_are = e ∙ ap (λ (l : List ℕ). l ++ replicate (length units) 0) (K.words_are ∙ (ap (λ (l : List ℕ). K.core ++ l) (nil_from_length K.values K.long) ∙ append-nil K.core));
+      long = length-replicate {A = ℕ} (length units) 0 ∙ sym (length-map units some);
+      runs = K.runs;
+      stores = [];
+      valued = record {
+        are = λ i below. get_or-replicate (length units) i 0 0 (let long = length-replicate {A = ℕ} (length units) 0 in omega (arith, below, long));
+        held = tt;
+        linked = inr (λ before since w p side leaf new is. absurd (no_turn before since (w, Link p side leaf new) (sym (opens_with_none L (words_of L (memory.opening L)) fits refl) ∙ is)));
+        seen = λ i v there. none_seen i v there;
+      };
+    }
+  where
+    no_turn : (before since : List (ℕ × Event)) (x : ℕ × Event) → [] ≡ before ++ x ∷ since → ⊥
+    no_turn [] since x is = cc
+    no_turn (y ∷ before) since x is = cc
+
+    no_values : (hs : List Held) → (viewing L hs).stores ≡ []
+    no_values [] = refl
+    no_values (h ∷ hs) = refl
+
+    none_seen : (i : ℕ) (v : View) → get_elem? (everybody L ∷ []) i ≡ some v → ExtendsStores [] v.stores
+    none_seen zero v there = subst (λ (x : View). ExtendsStores [] x.stores) (some-injective _ _ there) (subst (ExtendsStores []) (sym (no_values (numbers_from 0 L.workers))) (stores_themselves []))
+    none_seen (suc i) v there = absurd (some-ne-none v (sym there))

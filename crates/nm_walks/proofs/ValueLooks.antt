@@ -1,0 +1,91 @@
+-- A step on a value keeps all that a pass knows.
+use Rattle.std.proofs.Common.{ℕ, List, [], ◌∷◌, length, refl, sym, ap, subst, ◌∙◌, arith}
+use Rattle.std.specs.Prelude.{Contains, Result, Ok, Err, IfOk}
+use Rattle.std.proofs.lemmas.List.{length-append}
+use Rattle.std.proofs.lemmas.List.Elements.{Contains-push}
+use Rattle.nm_edge.specs.Layouts.{IsLayout}
+use Rattle.nm_edge.specs.declared.edge.Side.{Side}
+use Rattle.nm_model.specs.declared.event.Event.{Event}
+use Rattle.nm_model.specs.declared.reply.Reply.{Reply}
+use Rattle.nm_model.specs.declared.trace.Turn.{Turn}
+use Rattle.nm_model.specs.Searches.{idle}
+use Rattle.nm_model.specs.Walks.{search_after}
+use Rattle.nm_steps.specs.declared.view.Stored.{Stored}
+use Rattle.nm_steps.specs.Rules.{IsStored, answered_turn, knowledge, new_leaf}
+use Rattle.nm_steps.specs.Steps.{PassView, Continues, TakesStep}
+use Rattle.nm_steps.specs.Values.{HasStoredFor, OnlySees, own_store}
+use Rattle.nm_steps.proofs.ValueStays.{continues_by_value}
+use Rattle.nm_walks.specs.Growing.{HasLinkedValue}
+use Rattle.nm_walks.specs.Making.{HasFilled, HasJustStored, IsInserting, OnlyMakes}
+use Rattle.nm_walks.specs.Telling.{GoesOn, OnlyLooks, Tells}
+use Rattle.nm_walks.proofs.Linking.{is_fresh}
+
+pub goes_by_value : (p q : PassView) → OnlySees p q → IsLayout p.view.layout → GoesOn p q
+goes_by_value p q l fits =
+    let on : Continues p q = continues_by_value p q l (subst (λ (z : PassView). IsLayout z.view.layout) (sym l.same) fits) in
+    record {
+      same = on.same;
+      past = on.past;
+      run = on.run;
+      stores = l.stores;
+      keeps = λ fact holds. subst (λ (z : PassView). Tells z fact) (sym l.same) holds;
+    }
+
+pub only_by_value : (p q : PassView) → OnlySees p q → OnlyMakes p q
+only_by_value p q l = record {
+  epochs = ap (λ (z : PassView). (knowledge z.view).brief) l.same;
+  known = ap (λ (z : PassView). (knowledge z.view).known) l.same;
+  ledgers = ap (λ (z : PassView). (knowledge z.view).ledgers) l.same;
+  search = ap (λ (z : PassView). search_after idle z.view.log) l.same;
+}
+
+pub looks_by_value : (p q : PassView) → OnlySees p q → OnlyLooks p q
+looks_by_value p q l = record {
+  epochs = ap (λ (z : PassView). (knowledge z.view).brief) l.same;
+  private = ap (λ (z : PassView). (knowledge z.view).drafts) l.same;
+  ledgers = ap (λ (z : PassView). (knowledge z.view).ledgers) l.same;
+  call = ap (λ (z : PassView). (search_after idle z.view.log).call) l.same;
+  linked = ap (λ (z : PassView). (search_after idle z.view.log).linked) l.same;
+  flagged = ap (λ (z : PassView). (search_after idle z.view.log).flagged) l.same;
+  cut = ap (λ (z : PassView). (search_after idle z.view.log).cut) l.same;
+}
+
+-- three fills and then a value
+pub filled_by_value : (o p q : PassView) (slot key left right : ℕ) → HasFilled o p slot key left right → OnlySees p q → HasFilled o q slot key left right
+filled_by_value o p q slot key left right f l = l.same ∙ ap (λ (z : PassView). record z { view = record z.view { past = q.view.past; stores = q.view.stores } }) f
+
+pub just_stored : (p q : PassView) (slot value : ℕ) → OnlySees p q → HasStoredFor p q slot value → HasJustStored q slot value
+just_stored p q slot value l s = (s.earlier, s.is ∙ ap (λ (z : PassView). own_store z.view slot value s.earlier (length q.view.past)) (sym l.same))
+
+-- ---- a link after a store
+
+-- the link may be tried
+pub may_link_value : (p : PassView) (parent : ℕ) (side : Side) (leaf new fresh value : ℕ) → IsInserting p parent side leaf new fresh → HasJustStored p fresh value → IsStored p.view.stores p.view.number (length p.view.log) (new_leaf (knowledge p.view) leaf new)
+may_link_value p parent side leaf new fresh value i s =
+    let x : Stored = record { at = length p.view.past; worker = p.view.number; own = length p.view.log; slot = fresh; value = value } in
+    record {
+      stored = x;
+      there = subst (λ (l : List Stored). Contains l x) (sym s.1) (Contains-push s.0 x);
+      by_worker = refl;
+      at_own = refl;
+      for_slot = sym (is_fresh p parent side leaf new fresh i);
+    }
+
+-- and the store is the last one after it
+linked_value : (p q : PassView) (e : Event) (r : Reply) (slot value : ℕ) → HasJustStored p slot value → TakesStep p q e r → HasLinkedValue q slot value
+linked_value p q e r slot value s took = record {
+  earlier = s.0;
+  at = length p.view.past;
+  own = length p.view.log;
+  is = took.stores ∙ (s.1 ∙ ap (λ (z : PassView). own_store (record p.view { number = z.view.number }) slot value s.0 (length p.view.past)) (sym took.step));
+  early = (
+      let whole = ap (λ (l : List Turn). length l) took.past.is ∙ length-append took.past.before (answered_turn p.view.number e r ∷ []) in
+      let first = ap (λ (l : List Turn). length l) took.past.extends.is ∙ length-append p.view.past took.past.extends.more in
+      omega (arith, whole, first)
+      );
+  last = sym (ap (λ (z : PassView). length z.view.log) took.step ∙ length-append p.view.log ((e, r) ∷ []));
+}
+
+pub if_linked_value : {A E : Type 0} (result : Result A E) (p q : PassView) (e : Event) (r : Reply) (slot value : ℕ) → HasJustStored p slot value → TakesStep p q e r → IfOk result (λ _. HasLinkedValue q slot value)
+if_linked_value (Ok u) p q e r slot value s took = linked_value p q e r slot value s took
+if_linked_value (Err u) p q e r slot value s took = tt
