@@ -1,6 +1,6 @@
--- An insert that runs alone beside removes that other workers have left pending: it loses at most as
--- many tries as there are workers.
-use Rattle.std.proofs.Common.{◌≡◌, ◌∙◌, ℕ, suc, ◌+◌, ◌*◌, ◌<◌, ◌≤◌, ◌==◌, inl, inr, ◌⊎◌, Bool, true, false, cond, not, ◌&&◌, ◌||◌, List, [], ◌∷◌, ◌++◌, length, length-append, refl, sym, ap, subst, arith, true≢false}
+-- An insert or a remove that runs alone beside removes that other workers have left pending: it loses
+-- at most as many tries as there are workers.
+use Rattle.std.proofs.Common.{◌≡◌, ◌≢◌, ◌∙◌, ℕ, suc, ◌+◌, ◌*◌, ◌<◌, ◌≤◌, ◌==◌, inl, inr, ◌⊎◌, Bool, true, false, cond, not, ◌&&◌, ◌||◌, List, [], ◌∷◌, ◌++◌, length, length-append, refl, sym, ap, subst, arith, true≢false}
 use Rattle.std.specs.Prelude.{All, None, Result, Ok, Err, filter}
 use Rattle.std.proofs.lemmas.Bool.{eq-eqb}
 use Rattle.std.proofs.Math.Nat.{mul-zero}
@@ -9,7 +9,8 @@ use Rattle.std.proofs.lemmas.List.Elements.{filter-append}
 use Rattle.nm_edge.specs.Layouts.{IsLayout}
 use Rattle.nm_model.specs.declared.event.Event.{Event}
 use Rattle.nm_model.specs.declared.event.Event.TheVariants.{Flag}
-use Rattle.nm_model.specs.declared.event.Op.TheVariants.{Insert}
+use Rattle.nm_model.specs.declared.event.Op.{Op}
+use Rattle.nm_model.specs.declared.event.Op.TheVariants.{Has, Insert, Delete}
 use Rattle.nm_model.specs.declared.reply.Refused.{Refused}
 use Rattle.nm_model.specs.declared.reply.Reply.{Reply}
 use Rattle.nm_model.specs.declared.reply.Reply.TheVariants.{Flagged}
@@ -37,7 +38,7 @@ use Rattle.nm_progress.proofs.LostPins.{keys_seen, turns_between}
 use Rattle.nm_tree.specs.Answers.{LacksRoom}
 use Rattle.nm_tree.specs.Workers.{WorkerView}
 use Rattle.nm_set.specs.declared.managed.Options.{Options}
-use Rattle.nm_set.specs.Managed.{Manages, MetInterference, SaysManaged}
+use Rattle.nm_set.specs.Managed.{Manages, MetInterference, SaysManaged, flags_told_by}
 use Rattle.nm_callers.specs.AnsweredAlone.{IsAnswered, IsAnsweredWithRoom}
 use Rattle.nm_callers.proofs.RunningAlone.{was_managed}
 
@@ -95,7 +96,7 @@ none_moved w (t ∷ ts) own =
     let one = ap (λ (b : Bool). cond {A = ℕ} b 1 0) (none_own (t.worker == w) (moves t) (eq-eqb t.worker w (own 0 t (omega arith)))) in
     omega (arith, rest, one)
 
--- ---- a busy insert
+-- ---- a busy insert or remove
 
 module _ (p q : PassView) (seen_p : HasSeen p.view) (seen_q : HasSeen q.view) (enough : 5 ≤ p.view.layout.nodes) (same : IsSamePass p q) (alone : IsAlone p q) where
   abbrev goes_on : Extends q.view.past p.view.past
@@ -124,10 +125,20 @@ module _ (p q : PassView) (seen_p : HasSeen p.view) (seen_q : HasSeen q.view) (e
       let here = subst (λ (ts : List Turn). tries ≤ number_of (moves_of_others p.view.number) ts + number_of (interferes p.view.number) ts) (append_cancel_left p.view.past turns alone.turns (sym is ∙ alone.is)) met in
       omega (arith, most, none, flags, still, here)
 
-pub insert_beside : (b : TreeView) (h : Options) (k : ℕ) (w z : WorkerView) (r : Result Bool CallFault) → HasSeen w.pass.view → HasSeen z.pass.view → IsLayout w.pass.view.layout → w.held ≡ None → w.pass.view.layout.workers < (h.rounds + 1) * h.tries → SaysManaged Insert b h k w z r
+pub change_beside : (op : Op) → op ≢ Has → (b : TreeView) (h : Options) (k : ℕ) (w z : WorkerView) (r : Result Bool CallFault) → HasSeen w.pass.view → HasSeen z.pass.view → IsLayout w.pass.view.layout → w.held ≡ None → w.pass.view.layout.workers < (h.rounds + 1) * h.tries → SaysManaged op b h k w z r
     → IsAlone w.pass z.pass → IsAnsweredWithRoom z r
-insert_beside b h k w z r seen_w seen_z fits free many says alone room = by r (was_managed Insert b h k w z r free says)
+change_beside op change b h k w z r seen_w seen_z fits free many says alone room = by r (was_managed op b h k w z r free says)
   where
+    unflagged_busy : (o : Op) (m n : ℕ) → m ≡ n + flags_told_by o (Err fault.Busy) → m ≡ n + 0
+    unflagged_busy Has m n is = is
+    unflagged_busy Insert m n is = is
+    unflagged_busy Delete m n is = is
+
+    as_change : (o : Op) → o ≢ Has → MetInterference o w.pass z.pass ((h.rounds + 1) * h.tries) → MetInterference Insert w.pass z.pass ((h.rounds + 1) * h.tries)
+    as_change Has other met = absurd (other refl)
+    as_change Insert other met = met
+    as_change Delete other met = met
+
     some : (h.tries < 1) ⊎ LacksRoom z → ⊥
     some (inl less) =
         let none : h.tries ≡ 0 = omega (arith, less) in
@@ -136,13 +147,13 @@ insert_beside b h k w z r seen_w seen_z fits free many says alone room = by r (w
         omega (arith, many, zero_is, zero)
     some (inr lacks) = room lacks
 
-    by : (r : Result Bool CallFault) → Manages b h Insert k w z r → IsAnswered r
+    by : (r : Result Bool CallFault) → Manages b h op k w z r → IsAnswered r
     by (Ok answer) m = tt
     by (Err fault.Busy) m =
-        let few = few_tries w.pass z.pass seen_w seen_z (enough_of w.pass.view.layout fits) m.answers.on.same alone ((h.rounds + 1) * h.tries) m.answers.won.flags (m.answers.busy refl) in
+        let few = few_tries w.pass z.pass seen_w seen_z (enough_of w.pass.view.layout fits) m.answers.on.same alone ((h.rounds + 1) * h.tries) (unflagged_busy op (won_flags z.pass.view.log) (won_flags w.pass.view.log) m.answers.won.flags) (as_change op change (m.answers.busy refl)) in
         absurd (omega (arith, few, many))
     by (Err fault.Full) m = tt
     by (Err fault.NoMemory) m = tt
-    by (Err fault.Unfinished) m = absurd (let no = m.answers.left.0 in cc)
-    by (Err fault.Pending) m = absurd (some (m.pending alone refl))
+    by (Err fault.Unfinished) m = absurd (some (m.pending alone (inr refl)))
+    by (Err fault.Pending) m = absurd (some (m.pending alone (inl refl)))
     by (Err fault.Pinned) m = absurd m.answers.left

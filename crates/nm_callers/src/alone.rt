@@ -126,6 +126,26 @@ pub fn insert_beside_pending(
     inserted
 }
 
+/// Removes a key by a managed call, with more tries in all than the tree has workers. Proved: the same
+/// as of `insert_beside_pending`.
+pub fn remove_beside_pending(
+    member: &mut Member,
+    key: Key,
+    options: &Options,
+) -> Result<bool, CallFault>
+    requires free { member.old.worker.held ≡ None }
+    requires many { member.old.worker.pass.view.layout.workers
+        < (options.now.rounds + 1) * options.now.tries }
+    ensures tree { member.new.tree ≡ member.old.tree }
+    ensures answered { IsAlone member.old.worker.pass member.new.worker.pass
+        → IsAnsweredWithRoom member.new.worker result }
+{
+    member.know_run();
+    let removed = member.remove(key, options);
+    member.know_run();
+    removed
+}
+
 /// Looks up a key by a member that may have a remove of an earlier call pending. Proved: if no other
 /// worker has a remove pending before, and no other worker makes a transition meanwhile, the call
 /// finishes that remove and returns an answer. The exception is a lack of memory.
