@@ -24,3 +24,4 @@ pub mod InsertMoments
 pub mod LettersRead
 pub mod Blamed
 pub mod RunningAlone
+pub mod BesidePending

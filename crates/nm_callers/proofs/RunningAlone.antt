@@ -76,7 +76,7 @@ module _ (b : TreeView) (h : Options) (k : ℕ) (w z : WorkerView) (some : 1 ≤
   managed_answered op (Err fault.Full) m runs room = tt
   managed_answered op (Err fault.NoMemory) m runs room = tt
   managed_answered op (Err fault.Unfinished) m runs room = room_or (m.alone runs) room
-  managed_answered op (Err fault.Pending) m runs room = room_or (m.pending runs.alone refl) room
+  managed_answered op (Err fault.Pending) m runs room = room_or (m.pending runs.alone (inl refl)) room
   managed_answered op (Err fault.Pinned) m runs room = absurd m.answers.left
 
   -- an insert needs no room if nothing is pending

@@ -1,6 +1,6 @@
 //! Calls of a worker during which no other worker makes a transition, proved from the clauses of
 //! `nm_tree` and `nm_set` alone.
-ghost use Rattle.std.specs.Prelude.{◌≡◌, ◌≤◌, None, IsErrOf};
+ghost use Rattle.std.specs.Prelude.{◌≡◌, ◌<◌, ◌≤◌, ◌+◌, ◌*◌, None, IsErrOf};
 ghost use Rattle.nm_progress.specs.Alone.{IsAlone, RunsAlone};
 ghost use Rattle.nm_tree.specs.Calls.{MayCall};
 ghost use Rattle.nm_set.specs.Managed.{of_insert};
@@ -103,6 +103,47 @@ pub fn insert_then_remove_alone(
     let inserted = member.insert(key, options);
     let removed = member.remove(key, options);
     (inserted, removed)
+}
+
+/// Inserts a key by a managed call, with more tries in all than the tree has workers. Proved: if no
+/// other worker makes a transition during the call, it is answered, even if other workers have removes
+/// pending. The exceptions are a lack of slots and of memory.
+pub fn insert_beside_pending(
+    member: &mut Member,
+    key: Key,
+    options: &Options,
+) -> Result<bool, InsertFault>
+    requires free { member.old.worker.held ≡ None }
+    requires many { member.old.worker.pass.view.layout.workers
+        < (options.now.rounds + 1) * options.now.tries }
+    ensures tree { member.new.tree ≡ member.old.tree }
+    ensures answered { IsAlone member.old.worker.pass member.new.worker.pass
+        → IsAnsweredWithRoom member.new.worker (of_insert result) }
+{
+    member.know_run();
+    let inserted = member.insert(key, options);
+    member.know_run();
+    inserted
+}
+
+/// Removes a key by a managed call, with more tries in all than the tree has workers. Proved: the same
+/// as of `insert_beside_pending`.
+pub fn remove_beside_pending(
+    member: &mut Member,
+    key: Key,
+    options: &Options,
+) -> Result<bool, CallFault>
+    requires free { member.old.worker.held ≡ None }
+    requires many { member.old.worker.pass.view.layout.workers
+        < (options.now.rounds + 1) * options.now.tries }
+    ensures tree { member.new.tree ≡ member.old.tree }
+    ensures answered { IsAlone member.old.worker.pass member.new.worker.pass
+        → IsAnsweredWithRoom member.new.worker result }
+{
+    member.know_run();
+    let removed = member.remove(key, options);
+    member.know_run();
+    removed
 }
 
 /// Looks up a key by a member that may have a remove of an earlier call pending. Proved: if no other

@@ -1,6 +1,6 @@
 -- A cleanup behind a walk is lost only if another worker changes an edge meanwhile. So it interferes
 -- its worker, whether it wins its splice or loses it.
-use Rattle.std.proofs.Common.{◌≡◌, ◌≢◌, ℕ, zero, suc, ◌+◌, ◌<◌, ◌≤◌, inl, inr, ◌⊎◌, ◌==◌, Bool, true, false, cond, not, ◌&&◌, ◌||◌, List, length, [], ◌∷◌, ◌++◌, append_assoc, refl, sym, ap, subst, ◌∙◌, arith, true≢false}
+use Rattle.std.proofs.Common.{◌≡◌, ◌≢◌, ℕ, zero, suc, ◌+◌, ◌*◌, ◌<◌, ◌≤◌, inl, inr, ◌⊎◌, ◌==◌, Bool, true, false, cond, not, ◌&&◌, ◌||◌, List, length, [], ◌∷◌, ◌++◌, append_assoc, refl, sym, ap, subst, ◌∙◌, arith, true≢false}
 use Rattle.std.specs.Prelude.{Some, Result, Ok, Err, All}
 use Rattle.std.specs.List.{list_any}
 use Rattle.std.proofs.lemmas.Bool.{eq-eqb, ne_eqb, or_parts}
@@ -46,10 +46,10 @@ use Rattle.nm_walks.specs.Walks.{Walks}
 use Rattle.nm_progress.specs.Changes.{is_bare, is_change}
 use Rattle.nm_progress.specs.Changes.Expects.{ToCut}
 use Rattle.nm_progress.specs.Moves.{number_of}
-use Rattle.nm_progress.specs.Paid.{links_on, flags_on, cuts_on, tags_on}
+use Rattle.nm_progress.specs.Paid.{links_on, flags_on, cuts_on, tags_on, links_in, flags_in}
 use Rattle.nm_progress.specs.Tries.{changes_edge, interferes, changes_of_others, reading, losing, LosesTries}
 use Rattle.nm_progress.specs.Tries.LosesTries.{NoTry, OneTry}
-use Rattle.nm_progress.proofs.CountedTries.{known_longer, lost_count, others_interfere}
+use Rattle.nm_progress.proofs.CountedTries.{hindrances_are_paid, known_longer, lost_count, others_interfere}
 use Rattle.nm_progress.proofs.Covers.{one_if}
 use Rattle.nm_progress.proofs.Interfered.{Interferes, Ran, ran_on}
 use Rattle.nm_progress.proofs.LostTries.{later_keys}
@@ -452,6 +452,10 @@ was_changed p q n seen_p seen_q enough same on h = record {
   turns = on.goes_on.more;
   is = on.goes_on.is;
   changed = subst (λ (ts : List Turn). n ≤ number_of (changes_of_others p.view.number) ts) (turns_between p q seen_p seen_q same on.goes_on) count;
+  paid = subst (λ (ts : List Turn). n ≤ links_in ts + 3 * flags_in ts + 2 * p.view.layout.workers) (turns_between p q seen_p seen_q same on.goes_on)
+      (let few = others_interfere p.view.number (trace_in (after_in (ordered p.view.layout) (events_of p.view.past)) (events_of on.goes_on.more)) in
+      let most = hindrances_are_paid p.view.layout enough p.view.number (events_of p.view.past) (events_of on.goes_on.more) keys in
+      omega (arith, count, few, most));
 }
   where
     keys : All (λ t. HasKey t.1) ((events_of p.view.past) ++ (events_of on.goes_on.more))

@@ -20,11 +20,13 @@ pub record Interference (p q : PassView) (times : ℕ) : Type 0 where
       + own_flags p.view.number turns + p.view.layout.workers
   pub paid : times ≤ links_in turns + 3 * flags_in turns + 2 * p.view.layout.workers
 
--- between what p had seen and what q has seen, other workers changed edges at least this many times
+-- between what p had seen and what q has seen, other workers changed edges at least this many times.
+-- This number has the same bound (`paid`)
 pub record WasChanged (p q : PassView) (times : ℕ) : Type 0 where
   pub turns : List Turn
   pub is : q.view.past ≡ p.view.past ++ turns
   pub changed : times ≤ number_of (changes_of_others p.view.number) turns
+  pub paid : times ≤ links_in turns + 3 * flags_in turns + 2 * p.view.layout.workers
 
 -- why an insert or a delete was busy: its number of tries was 0; or others advanced the epoch at
 -- least as many times; or its worker was interfered with at least as many times

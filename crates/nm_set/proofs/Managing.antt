@@ -708,7 +708,7 @@ managed_fails h op k m y z (Err fault.Pinned) a runs last = tt
 -- the operation, after what came before it
 pub manages : (b : TreeView) (h : Options) (op : Op) (k m n : ℕ) (w y z : WorkerView) (r : Result Bool CallFault) → m + n ≤ 3 * h.rounds + 5 → IsOnward (rounds_bound b h m) w y → Prepares h op w y.pass
     → Answers op k (rounds_bound b h n) ((h.rounds + 1) * h.tries) y z r → (r ≡ Err fault.Full → (f : Fullness) × WasFull w z f)
-    → (RunsAlone y.pass z.pass → r ≡ Err fault.Unfinished → FailsAlone 1 1 h.tries z fault.Unfinished) → Manages b h op k w z r
+    → (IsAlone y.pass z.pass → r ≡ Err fault.Unfinished → FailsAlone 1 1 h.tries z fault.Unfinished) → Manages b h op k w z r
 manages b h op k m n w y z r few on first a full last =
     let most = round_bound h.tries b.layout in
     let sum = add-mul m n most in
@@ -718,14 +718,18 @@ manages b h op k m n w y z r few on first a full last =
           (answers_after op k (m * most) (n * most) ((h.rounds + 1) * h.tries) w y z r on a);
       full = full;
       begins = λ other. (y.pass, first, a.moment);
-      alone = λ runs. (let more = runs_on w y z on.on a.on runs in managed_fails h op k (rounds_bound b h n) y z r a more (last more));
-      pending = λ alone is. none_there y.pending on.none (subst (IsLeft op k y z) is a.left).0;
+      alone = λ runs. (let more = runs_on w y z on.on a.on runs in managed_fails h op k (rounds_bound b h n) y z r a more (last more.alone));
+      pending = λ mine is. still mine is;
     }
+  where
+    still : IsAlone w.pass z.pass → (r ≡ Err fault.Pending) ⊎ (r ≡ Err fault.Unfinished) → FailsAlone 1 1 h.tries z fault.Unfinished
+    still mine (inl is) = none_there y.pending on.none (subst (IsLeft op k y z) is a.left).0
+    still mine (inr is) = last (alone_later w.pass y.pass z.pass on.on.same on.on.past a.on.past mine) is
 
 -- which was the first thing that it did
 pub manages_at_once : (b : TreeView) (h : Options) (op : Op) (k n : ℕ) (w z : WorkerView) (r : Result Bool CallFault) → n ≤ 3 * h.rounds + 5 → w.held ≡ None → w.pending ≡ None → (op ≢ Has → h.collect_after ≤ waiting_in w.queues → ⊥)
     → Answers op k (rounds_bound b h n) ((h.rounds + 1) * h.tries) w z r → (r ≡ Err fault.Full → (f : Fullness) × WasFull w z f)
-    → (RunsAlone w.pass z.pass → r ≡ Err fault.Unfinished → FailsAlone 1 1 h.tries z fault.Unfinished) → Manages b h op k w z r
+    → (IsAlone w.pass z.pass → r ≡ Err fault.Unfinished → FailsAlone 1 1 h.tries z fault.Unfinished) → Manages b h op k w z r
 manages_at_once b h op k n w z r few free none tidy a full last =
     let most = round_bound h.tries b.layout in
     let nothing = zero-mul most in
@@ -877,7 +881,7 @@ module _ (b : TreeView) (h : Options) (k : ℕ) (w : WorkerView) where
     pub removes_at_last : (r : Result Bool CallFault) → FinishesIn b h (h.rounds + 1) x z r → Removes b h k w z r
     removes_at_last r f = record {
       answers = removes_ended r f;
-      alone = λ runs is. subst (λ (q : Result Bool CallFault). IfErr q (FailsAlone 1 1 h.tries z)) is (f.alone (runs_on w x z first.on f.on runs).alone);
+      alone = λ mine is. subst (λ (q : Result Bool CallFault). IfErr q (FailsAlone 1 1 h.tries z)) is (f.alone (alone_later w.pass x.pass z.pass first.on.same first.on.past f.on.past mine));
     }
 
 -- ---- a call that failed at once, and what was done after it

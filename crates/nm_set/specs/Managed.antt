@@ -170,8 +170,8 @@ pub record WasFull (w z : WorkerView) (f : Fullness) : Type 0 where
 -- a managed call, of at most 3 `rounds` + 5 rounds: its answer, and what came before its operation,
 -- which is not made if an earlier remove stays pending. If it is `Busy`, the epoch was advanced or
 -- turns have interfered with it at least (`rounds` + 1) * `tries` times. If the worker ran alone, an
--- error is due to a number of tries that is 0, to a lack of room, or to a full pool (`alone`); an
--- earlier remove then stays pending for such a reason too, even if others have removes pending
+-- error is due to a number of tries that is 0, to a lack of room, or to a full pool (`alone`). A
+-- remove then stays pending for such a reason too, even if others have removes pending (`pending`)
 pub record Manages (b : TreeView) (h : Options) (op : Op) (k : ℕ) (w z : WorkerView)
     (r : Result Bool CallFault) : Type 0 where
   pub answers : Answers op k ((3 * h.rounds + 5) * round_bound h.tries b.layout)
@@ -180,7 +180,7 @@ pub record Manages (b : TreeView) (h : Options) (op : Op) (k : ℕ) (w z : Worke
   pub begins : r ≢ Err fault.Pending → (begun : PassView) × Prepares h op w begun
       × IfOk r (AnswerHasMoment begun z.pass op k)
   pub alone : RunsAlone w.pass z.pass → IfErr r (FailsAlone 1 1 h.tries z)
-  pub pending : IsAlone w.pass z.pass → r ≡ Err fault.Pending
+  pub pending : IsAlone w.pass z.pass → (r ≡ Err fault.Pending) ⊎ (r ≡ Err fault.Unfinished)
       → FailsAlone 1 1 h.tries z fault.Unfinished
 
 -- what a caller learns from each of the three managed calls

@@ -3,7 +3,7 @@ use Rattle.std.specs.Prelude.{◌≡◌, ◌+◌, ◌*◌, ℕ, Bool, Option, So
 use Rattle.nm_edge.specs.Layouts.{Layout}
 use Rattle.nm_model.specs.declared.event.Op.{Op}
 use Rattle.nm_model.specs.declared.event.Op.TheVariants.{Delete, Insert}
-use Rattle.nm_progress.specs.Alone.{IsAlone, RunsAlone}
+use Rattle.nm_progress.specs.Alone.{IsAlone}
 use Rattle.nm_steps.specs.Steps.{TreeView}
 use Rattle.nm_epoch.specs.declared.answers.Advance.{Advance}
 use Rattle.nm_epoch.specs.declared.answers.Advance.TheVariants as advance
@@ -87,7 +87,7 @@ pub record Inserts (b : TreeView) (h : Options) (k : ℕ) (w z : WorkerView) (r 
 -- the remove is not finished, the number of tries is 0, or the worker lacks room (`alone`)
 pub record Removes (b : TreeView) (h : Options) (k : ℕ) (w z : WorkerView) (r : Result Bool CallFault) : Type 0 where
   pub answers : Answers Delete k (rounds_bound b h (2 * h.rounds + 2)) ((h.rounds + 1) * h.tries) w z r
-  pub alone : RunsAlone w.pass z.pass → r ≡ Err fault.Unfinished
+  pub alone : IsAlone w.pass z.pass → r ≡ Err fault.Unfinished
       → FailsAlone 1 1 h.tries z fault.Unfinished
 
 -- a managed insert, with its two numbers
