@@ -42,10 +42,10 @@ fn return_and_keep(set: &mut Set, member: Member) -> bool
     ensures { result ≡ true
         → set.new ≡ record set.old { kept = set.old.kept ++ member.worker ∷ [] } }
 {
-    match set.keep_returned(member.close()) {
-        Ok(()) => true,
-        Err(_) => false,
-    }
+    let Ok(()) = set.keep_returned(member.close()) else {
+        return false;
+    };
+    true
 }
 
 /// Closes a set after both its members were returned. `None`: memory was refused, or a worker was
