@@ -83,3 +83,21 @@ pub fn look_in_new_of_one(alloc: Global, nodes: u32, key: Key, options: &Options
     let mut member = members.pop()?;
     look_only(&mut member, key, options)
 }
+
+/// Makes a set of one worker by `Set::new`, takes its worker, and looks up a key. `None`: the set or
+/// the worker was refused, the worker had been returned before, or the call returned an error.
+/// Proved: otherwise the key is absent, because a new set is empty and its workers are new.
+pub fn look_in_fresh(alloc: Global, nodes: u32, key: Key, options: &Options) -> Option<bool>
+    ensures missed { IfSome result (λ b. b ≡ false) }
+{
+    let Ok(set) = Set::new(alloc, nodes, 1) else {
+        return None;
+    };
+    let Ok(mut member) = set.member(0) else {
+        return None;
+    };
+    if member.returns() != 0 {
+        return None;
+    }
+    look_only(&mut member, key, options)
+}

@@ -5,6 +5,7 @@
 
 mod alone;
 mod beside;
+mod coming_back;
 mod filled;
 mod fresh;
 mod full;
@@ -29,8 +30,9 @@ pub use alone::{
     remove_beside_pending,
 };
 pub use beside::{delete_beside, insert_beside, look_many_beside, next_beside, prev_beside};
+pub use coming_back::{WorkedTasks, work_and_return};
 pub use filled::keys_then_report;
-pub use fresh::{Looked, look_first, look_in_new, look_in_new_of_one, look_only};
+pub use fresh::{Looked, look_first, look_in_fresh, look_in_new, look_in_new_of_one, look_only};
 pub use full::add_or_blame;
 pub use least::{Taken, take_at_once, take_both, take_in_threads};
 pub use letters::{Reading, Written, insert_while_read};
@@ -44,7 +46,7 @@ pub use queue::take_two_tasks;
 pub use radix::look_in_radix;
 pub use ranges::{ReadTwice, read_range, read_range_back, read_twice};
 pub use reading::look_where_told;
-pub use rejoining::{Rejoined, add_then_rejoin};
+pub use rejoining::{Rejoined, add_then_come_back, add_then_rejoin};
 pub use sets::{insert_then_end, insert_then_report};
 pub use sharing::{SharedTasks, add_tasks, share_tasks, take_tasks};
 pub use threads::{Inserted, find_both, insert_both, insert_both_then_find};

@@ -43,3 +43,30 @@ pub fn add_then_rejoin(set: &Set, member: Member, key: Key, options: &Options) -
         there,
     })
 }
+
+/// Inserts a key by a member, closes it, and takes the same worker again, which looks up the key.
+/// `None`: a call returned an error, the key was in the set before, or another member has had the
+/// worker since. Proved: otherwise the key is found, unless a remove of it took effect after all that
+/// the first member had seen before. No note is heard: the worker continues from where it was.
+pub fn add_then_come_back(member: Member, key: Key, options: &Options) -> Option<Rejoined>
+    ensures own { IfSome result (λ f. f.member.tree ≡ member.tree) }
+    ensures found { IfSome result (λ f. NoneDeleted f.member.worker.pass.view.layout
+        member.worker.pass.view.past f.member.worker.pass.view.past key → f.there ≡ true) }
+{
+    let mut member = member;
+    let Ok(true) = member.insert(key, options) else {
+        return None;
+    };
+    member.know_run();
+    let Ok(mut back) = member.close().again() else {
+        return None;
+    };
+    let Ok(there) = back.contains(key, options) else {
+        return None;
+    };
+    back.know_run();
+    Some(Rejoined {
+        member: back,
+        there,
+    })
+}

@@ -1,5 +1,5 @@
 -- The close of a set: what its report accounts for, and what an error leaves.
-use Rattle.std.specs.Prelude.{◌≡◌, List, [], ◌∷◌, ◌++◌, true, false}
+use Rattle.std.specs.Prelude.{◌≡◌, List, [], ◌∷◌, ◌++◌, true, false, Some}
 use Rattle.nm_tree.specs.declared.closing.CloseReason.{CloseReason}
 use Rattle.nm_tree.specs.declared.closing.CloseReason.TheVariants as because
 use Rattle.nm_tree.specs.declared.closing.Report.{Report}
@@ -7,6 +7,9 @@ use Rattle.nm_tree.specs.Closing.{IsClosed, IsCloseReason, SaysClosed}
 use Rattle.nm_tree.specs.Workers.{WorkerView}
 use Rattle.nm_set.specs.declared.ending.EndError.{EndError}
 use Rattle.nm_set.specs.declared.ending.EndError.TheVariants.{Attached, Gathered}
+use Rattle.nm_set.specs.declared.set.KeepReturnedError.{KeepReturnedError}
+use Rattle.nm_set.specs.declared.set.KeepReturnedError.TheVariants.{Taken, NoMemory}
+use Rattle.nm_set.specs.Posts.{ReturnedView}
 use Rattle.nm_set.specs.Seats.{AreOwn, MemberView, SetView}
 
 -- What a caller learns from a closed set. Its tree was closed with the workers that the set kept,
@@ -43,6 +46,17 @@ IsAsBefore s t = (s.closing ≡ false) × (t ≡ s)
 abbrev pub IsLeftOpen : SetView → CloseReason → SetView → Type 0
 IsLeftOpen s because.Attached t = IsAsBefore s t
 IsLeftOpen s why t = HasGathered s why t
+
+-- ---- workers that are kept after they were returned
+
+-- the set keeps the worker, as it was returned, after those that it kept before
+abbrev pub KeepsReturned : SetView → ReturnedView → SetView → Type 0
+KeepsReturned s r t = (w : WorkerView) × (r.worker ≡ Some w) × (t ≡ record s { kept = s.kept ++ w ∷ [] })
+
+-- what was returned is unchanged; or a member of its tree has the worker as it was returned
+abbrev pub IsNotKept : ReturnedView → KeepReturnedError → Type 0
+IsNotKept r (Taken s) = s ≡ r
+IsNotKept r (NoMemory m) = (m.tree ≡ r.tree) × (r.worker ≡ Some m.worker)
 
 -- ---- the close by the last member
 

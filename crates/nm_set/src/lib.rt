@@ -34,4 +34,4 @@ pub use nm_tree::{
 };
 pub use posting::{Stamp, letters_are_in_order};
 pub use returning::ReturnedWorker;
-pub use set::{CloseError, KeepError, Set};
+pub use set::{CloseError, KeepError, KeepReturnedError, Set};

@@ -73,8 +73,8 @@ impl ReturnedWorker {
     /// Takes the worker again, as it was when it was returned: with the same log, the same queues,
     /// and the same pending key. By one compare-exchange.
     ///
-    /// Errors: a member has had the worker since, or it has resigned. What was returned is handed
-    /// back unchanged.
+    /// Errors: another member has had the worker after that, or it has resigned. What was returned is
+    /// handed back unchanged.
     pub fn again(self) -> Result<Member, ReturnedWorker>
         ensures tree { IfOk result (λ m. m.tree ≡ self.tree) }
         ensures same { IfOk result (λ m. self.worker ≡ Some m.worker) }

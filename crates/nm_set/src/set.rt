@@ -6,13 +6,14 @@ ghost use Rattle.nm_edge.specs.Layouts.{IsLayoutFault, in_radix, spaced};
 ghost use Rattle.nm_tree.specs.Closing.{IsClosed, IsCloseReason};
 ghost use Rattle.nm_tree.specs.Workers.{AreNew, HaveFit};
 ghost use Rattle.nm_set.specs.Seats.{AreOwn, HasRoom, IsNewMember, IsResident, IsAnyResident, TellsAttached, site_in};
-ghost use Rattle.nm_set.specs.Ends.{EndsSet, IsLeftOpen, SaysEnded};
+ghost use Rattle.nm_set.specs.Ends.{EndsSet, IsLeftOpen, IsNotKept, KeepsReturned, SaysEnded};
 ghost use Rattle.nm_set.specs.States.{IsNewSet, open_set, closing_set, room_for_one};
 
 use crate::attach::take_any;
 use crate::fault::MemberFault;
 use crate::home::{Absence, Home, Site};
 use crate::member::Member;
+use crate::returning::ReturnedWorker;
 use nm_edge::{Layout, LayoutError, MOST_SPACED_NODES};
 use nm_tree::{CloseReason, Fit, NewError, Report, Tree, Worker};
 use std::alloc::Global;
@@ -74,6 +75,15 @@ pub struct CloseError {
 #[derive(Drop)]
 pub struct KeepError {
     pub member: Member,
+}
+
+/// Why a worker that was returned is not kept.
+#[derive(Drop)]
+pub enum KeepReturnedError {
+    /// Another member has had the worker. What was returned is unchanged.
+    Taken(ReturnedWorker),
+    /// There is no memory. A member has the worker, as it was returned.
+    NoMemory(Member),
 }
 
 impl Set {
@@ -222,9 +232,32 @@ impl Set {
         }
     }
 
+    /// Keeps a worker that was returned, for `close`: it is taken again by its ticket, as it was, and
+    /// kept as by `keep`. So the report of the set goes on from all that it had done and seen.
+    ///
+    /// The worker must be one of this set, like the member of `keep`.
+    ///
+    /// Errors: `Taken`: another member has had the worker. `NoMemory`. The set is unchanged.
+    pub fn keep_returned(&mut self, returned: ReturnedWorker) -> Result<(), KeepReturnedError>
+        requires own { returned.tree ≡ self.old.tree }
+        ensures kept { OnOk result (KeepsReturned self.old returned self.new) }
+        ensures same { OnErr result (self.new ≡ self.old) }
+        ensures refused { IfErr result (IsNotKept returned) }
+    {
+        let member = match returned.again() {
+            Ok(member) => member,
+            Err(returned) => return Err(KeepReturnedError::Taken(returned)),
+        };
+        match self.keep(member) {
+            Ok(()) => Ok(()),
+            Err(error) => Err(KeepReturnedError::NoMemory(error.member)),
+        }
+    }
+
     /// Ends the set when all its members are closed or kept, and returns the report: `Tree::close`
     /// of `nm_tree`, over the workers that the set keeps and those that were returned. A caller may
-    /// hold a kept worker, and a key may be pending.
+    /// hold a kept worker, and a key may be pending. The report goes on from all that each kept
+    /// worker had done and seen, also of one that was kept after it was returned.
     ///
     /// Errors: `Attached`: a member is neither closed nor kept; the set is unchanged. `NotAll`,
     /// `NoMemory`: see `CloseReason`; the set keeps all workers that it has gathered, and `close`

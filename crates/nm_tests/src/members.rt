@@ -91,6 +91,35 @@ fn a_member_answers_and_keeps_what_it_holds(rt: HostRuntime) -> Result<(), Fail>
     Ok(())
 }
 
+#[test]
+fn a_returned_worker_is_taken_again(rt: HostRuntime) -> Result<(), Fail> {
+    let set = Set::unbalanced(rt.alloc(), 64, 2, Fit::FirstFit)?;
+    let five = key(&rt, 5);
+    let mut first = set.member(0)?;
+    assert_eq!(rt;
+        (first.returns(), first.try_insert(five, TRIES)),
+        (0, Ok(true))
+    );
+    let Ok(mut again) = first.close().again() else {
+        panic!(rt; "nobody else has had the worker")
+    };
+    assert_eq!(rt;
+        (again.returns(), again.try_contains(five, TRIES)),
+        (1, Ok(true))
+    );
+    assert_eq!(rt; set.is_attached(0), Ok(true));
+    let returned = again.close();
+    assert_eq!(rt;
+        (returned.done().inserted, set.is_attached(0)),
+        (1, Ok(false))
+    );
+    set.attach()?.close();
+    assert!(rt; returned.again().is_err());
+    let (keys, slots) = closed(&rt, set);
+    assert_eq!(rt; (keys.as_slice(), slots), ([five].as_slice(), 59));
+    Ok(())
+}
+
 /// Returns why no set was made of keys.
 fn not_made(rt: &impl Abort, made: Result<SetOfKeys, OfKeysError>) -> OfKeysError {
     match made {
