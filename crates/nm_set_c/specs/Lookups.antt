@@ -28,9 +28,9 @@ lookup_of q = record { key = q.key; found = found_bit q.found }
 abbrev pub AreKeys : List Lookup → Type 0
 AreKeys ls = All (λ l. IsKey l.key) ls
 
--- no look-up was made: memory was refused, or one of the numbers is no key
+-- no look-up was made: one of the numbers is no key, or else memory was refused
 abbrev pub IsUnasked : List Lookup → Outcome → Type 0
-IsUnasked ls o = (o ≡ outcome.NoMemory) ⊎ ((o ≡ outcome.Key) × (AreKeys ls → ⊥))
+IsUnasked ls o = ((o ≡ outcome.NoMemory) × AreKeys ls) ⊎ ((o ≡ outcome.Key) × (AreKeys ls → ⊥))
 
 -- the outcome of such a call, by its answer
 abbrev pub of_many : Result (Unit {0}) CallFault → Outcome

@@ -1,17 +1,17 @@
 //! Look-ups of several keys together, by the handle of a worker.
 #![tactic(auto, using(crate::proofs::Owners::asked_of_worker))]
 
-ghost use Rattle.std.specs.Prelude.{◌≡◌, length, map, IfOk, IfErr};
+ghost use Rattle.std.specs.Prelude.{◌≡◌, true, false, length, map, IfOk, IfErr};
 ghost use Rattle.nm_calls.specs.InTurns.{key_of};
 ghost use Rattle.nm_set.specs.InTurns.{AskedMany};
 ghost use Rattle.nm_set_c.specs.Handles.{held_by};
-ghost use Rattle.nm_set_c.specs.Lookups.{TellsContainsMany, IsUnasked, lookup_of, key_looked_up};
+ghost use Rattle.nm_set_c.specs.Lookups.{AreKeys, TellsContainsMany, IsUnasked, lookup_of, key_looked_up};
 ghost use Rattle.nm_set_c.specs.Outcomes.{IsCodeOf};
 ghost use Rattle.nm_set_c.specs.Owners.{HasDone, OfWorker};
 
 use crate::handle::{Handle, by_handle};
 use crate::outcome::Outcome;
-use nm_edge::Key;
+use nm_edge::{Key, MOST_KEY};
 use nm_set::{CallFault, Member, Query};
 use std::alloc::Global;
 
@@ -66,11 +66,23 @@ fn ask(member: &mut Member, queries: &mut Vec<Query>, tries: u32) -> Result<(), 
     member.contains_many(queries.as_mut_slice(), tries)
 }
 
-/// Makes a query of each of these keys.
+/// Returns whether each of these numbers is a key.
+fn are_keys(lookups: &[Lookup]) -> bool
+    ensures yes { result ≡ true → AreKeys lookups.now }
+    ensures no { result ≡ false → AreKeys lookups.now → ⊥ }
+{
+    lookups.iter().all(|lookup| lookup.key <= MOST_KEY)
+}
+
+/// Makes a query of each of these keys. Errors: `Key` if one of the numbers is no key, and else
+/// `NoMemory`.
 fn queries_of(alloc: Global, lookups: &[Lookup]) -> Result<Vec<Query>, Outcome>
     ensures keys { IfOk result (λ v. map key_of v.items ≡ map key_looked_up lookups.now) }
     ensures unasked { IfErr result (λ o. IsUnasked lookups.now o) }
 {
+    if !are_keys(lookups) {
+        return Err(Outcome::Key);
+    }
     let Ok(mut queries) = Vec::with_capacity(alloc, lookups.len()) else {
         return Err(Outcome::NoMemory);
     };
