@@ -4,6 +4,7 @@
 
 mod deleting;
 mod fault;
+mod handing_back;
 mod helping;
 mod inserting;
 mod inserting_values;
@@ -16,6 +17,7 @@ mod values;
 
 pub use deleting::{Missed, Unfinished, delete, finish};
 pub use fault::CallFault;
+pub use handing_back::hand_back;
 pub use inserting::insert;
 pub use inserting_values::insert_with_value;
 pub use leaving::leave;

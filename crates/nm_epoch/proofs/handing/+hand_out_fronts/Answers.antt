@@ -1,4 +1,4 @@
-use Rattle.std.proofs.Common.{rules, ◌≡◌, ◌+◌, ◌++◌, ◌∙◌, suc, List, ℕ, [], ◌∷◌, append-nil, append_assoc, sym, ap, subst, arith}
+use Rattle.std.proofs.Common.{rules, ◌≡◌, ◌++◌, ◌∙◌, suc, List, ℕ, [], ◌∷◌, append-nil, append_assoc, sym, ap, subst, arith}
 use Rattle.std.specs.Prelude.{length, nat_lt, take}
 use Rattle.nm_model.specs.declared.knowledge.Brief.{Brief}
 use Rattle.nm_steps.specs.Rules.{knowledge}
