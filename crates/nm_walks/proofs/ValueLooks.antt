@@ -1,19 +1,20 @@
 -- A step on a value keeps all that a pass knows.
-use Rattle.std.proofs.Common.{ℕ, List, [], ◌∷◌, length, refl, sym, ap, subst, ◌∙◌, arith}
+use Rattle.std.proofs.Common.{◌≡◌, ◌⊎◌, inl, inr, ℕ, List, [], ◌∷◌, length, refl, sym, ap, subst, ◌∙◌, arith}
 use Rattle.std.specs.Prelude.{Contains, Result, Ok, Err, IfOk}
 use Rattle.std.proofs.lemmas.List.{length-append}
 use Rattle.std.proofs.lemmas.List.Elements.{Contains-push}
 use Rattle.nm_edge.specs.Layouts.{IsLayout}
 use Rattle.nm_edge.specs.declared.edge.Side.{Side}
 use Rattle.nm_model.specs.declared.event.Event.{Event}
+use Rattle.nm_model.specs.declared.event.Event.TheVariants.{Link}
 use Rattle.nm_model.specs.declared.reply.Reply.{Reply}
 use Rattle.nm_model.specs.declared.trace.Turn.{Turn}
 use Rattle.nm_model.specs.Searches.{idle}
 use Rattle.nm_model.specs.Walks.{search_after}
 use Rattle.nm_steps.specs.declared.view.Stored.{Stored}
-use Rattle.nm_steps.specs.Rules.{IsStored, answered_turn, knowledge, new_leaf}
-use Rattle.nm_steps.specs.Steps.{PassView, Continues, TakesStep}
-use Rattle.nm_steps.specs.Values.{HasStoredFor, OnlySees, own_store}
+use Rattle.nm_steps.specs.Rules.{IsStored, LinkHasValue, answered_turn, knowledge, new_leaf}
+use Rattle.nm_steps.specs.Steps.{PassView, TreeView, Continues, TakesStep}
+use Rattle.nm_steps.specs.Values.{HasStoredFor, HasValues, OnlySees, own_store}
 use Rattle.nm_steps.proofs.ValueStays.{continues_by_value}
 use Rattle.nm_walks.specs.Growing.{HasLinkedValue}
 use Rattle.nm_walks.specs.Making.{HasFilled, HasJustStored, IsInserting, OnlyMakes}
@@ -60,7 +61,7 @@ just_stored p q slot value l s = (s.earlier, s.is ∙ ap (λ (z : PassView). own
 -- ---- a link after a store
 
 -- the link may be tried
-pub may_link_value : (p : PassView) (parent : ℕ) (side : Side) (leaf new fresh value : ℕ) → IsInserting p parent side leaf new fresh → HasJustStored p fresh value → IsStored p.view.stores p.view.number (length p.view.log) (new_leaf (knowledge p.view) leaf new)
+may_link_value : (p : PassView) (parent : ℕ) (side : Side) (leaf new fresh value : ℕ) → IsInserting p parent side leaf new fresh → HasJustStored p fresh value → IsStored p.view.stores p.view.number (length p.view.log) (new_leaf (knowledge p.view) leaf new)
 may_link_value p parent side leaf new fresh value i s =
     let x : Stored = record { at = length p.view.past; worker = p.view.number; own = length p.view.log; slot = fresh; value = value } in
     record {
@@ -70,6 +71,15 @@ may_link_value p parent side leaf new fresh value i s =
       at_own = refl;
       for_slot = sym (is_fresh p parent side leaf new fresh i);
     }
+
+pub may_link_stored : (b : TreeView) (p : PassView) (parent : ℕ) (side : Side) (leaf new fresh value : ℕ) → IsInserting p parent side leaf new fresh → (b.table.slots ≡ 0) ⊎ HasJustStored p fresh value → LinkHasValue b.table.slots p.view (Link parent side leaf new)
+may_link_stored b p parent side leaf new fresh value i (inl plain) = inl plain
+may_link_stored b p parent side leaf new fresh value i (inr s) = inr (may_link_value p parent side leaf new fresh value i s)
+
+-- a table with values has slots
+pub has_stored : (b : TreeView) (p : PassView) (slot value : ℕ) → IsLayout b.layout → HasValues b → (b.table.slots ≡ 0) ⊎ HasJustStored p slot value → HasJustStored p slot value
+has_stored b p slot value fits values (inl plain) = absurd (let least = fits.least in let slots = values.slots_are in omega (arith, least, slots, plain))
+has_stored b p slot value fits values (inr s) = s
 
 -- and the store is the last one after it
 linked_value : (p q : PassView) (e : Event) (r : Reply) (slot value : ℕ) → HasJustStored p slot value → TakesStep p q e r → HasLinkedValue q slot value
