@@ -4,7 +4,7 @@ ghost use Rattle.nm_steps.specs.Steps.{IsOf, PassView};
 ghost use Rattle.nm_steps.specs.Values.{HasValues};
 ghost use Rattle.nm_walks.specs.Telling.{GoesOn, IsPinnedIn};
 ghost use Rattle.nm_walks.specs.Making.{IsRouter, OnlyMakes};
-ghost use Rattle.nm_walks.specs.Growing.{ClaimsNewNodes, HasNewNodes, IfReady, Returns, inner_of, MayGrow, KeepsCall, HasGrown, HasLinkedValue, HasNotGrown};
+ghost use Rattle.nm_walks.specs.Growing.{ClaimsNewNodes, HasNewNodes, IfReady, Returns, inner_of, MayGrow, KeepsCall, HasGrown, HasLinkedLeaf, HasLinkedValue, HasNotGrown};
 
 use crate::making::{Contents, NewNodes, claim, fill, fill_leaf, give};
 use crate::seek_record::{SeekRecord, WalkEnd};
@@ -82,6 +82,7 @@ pub fn grow(
     ensures call { KeepsCall pass.old pass.new }
     ensures won { IfOk result (λ _. HasGrown shared.now.layout.radix pass.old pass.new key end.now
         new_nodes.now) }
+    ensures leaf { IfOk result (λ _. HasLinkedLeaf pass.old pass.new new_nodes.now.leaf.slot key) }
     ensures stored { HasValues shared.now
         → IfOk result (λ _. HasLinkedValue pass.new new_nodes.now.leaf.slot value) }
     ensures lost { IfErr result (λ e. HasNotGrown shared.now.layout.radix pass.old pass.new key
