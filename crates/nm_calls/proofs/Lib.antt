@@ -19,3 +19,4 @@ pub mod Unheld
 pub mod NamedLeaves
 pub mod MapMoments
 pub mod InsertedValues
+pub mod MadeLeaves

@@ -1,5 +1,5 @@
 -- A look-up of a value: its walk, and the moment at which the map had the value that was read.
-use Rattle.std.proofs.Common.{◌≡◌, ℕ, ◌+◌, ◌<◌, ◌≤◌, true, false, List, [], ◌++◌, append_assoc, length, refl, sym, ap, subst, ◌∙◌, arith}
+use Rattle.std.proofs.Common.{◌≡◌, ℕ, ◌<◌, ◌≤◌, true, false, List, [], ◌++◌, append_assoc, length, refl, sym, ap, subst, ◌∙◌, arith}
 use Rattle.std.specs.Prelude.{All, IsSome, None, Some, Option, Result, Ok, Err, IfOk, IfErr, IfSome}
 use Rattle.std.proofs.lemmas.List.{append_cancel_left, length-map}
 use Rattle.nm_edge.specs.Keys.{IsKey}
@@ -217,6 +217,7 @@ get_without_pin L tries k o a pinning moved rests kept =
       stored = tt;
       busy = refl;
       won = has_won _ _ added;
+      steps = (let few = added.steps in omega (arith, few));
       uncut = cuts_none _ _ added;
       rests = rests;
       hands = kept;
@@ -240,6 +241,7 @@ get_after_walk L tries k epoch o a p q r pinning pinned hands walked only looks 
       stored = stored;
       busy = busy;
       won = has_won _ _ added;
+      steps = (let few = added.steps in omega (arith, few));
       uncut = cuts_none _ _ added;
       rests = rests;
       hands = kept_on o p q (kept_on o a p hands looks_keep) kept;

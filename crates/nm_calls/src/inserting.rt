@@ -18,7 +18,7 @@ ghost use Rattle.nm_walks.specs.Growing.{HasNewNodes};
 ghost use Rattle.nm_calls.specs.Inserts.{IsReadied, IsTry, OnlyTries, ShowsTry, Finishes, AfterInsert};
 ghost use Rattle.nm_walks.specs.Labelling.{IsPinnedForCall};
 ghost use Rattle.nm_calls.specs.Leaving.{HasChangedNothing};
-ghost use Rattle.nm_calls.specs.Maps.{HasInserted, answered};
+ghost use Rattle.nm_calls.specs.Maps.{HasInserted, HasPut, answered};
 
 use crate::fault::CallFault;
 use crate::helping::{help, make_room, make_room_for};
@@ -115,6 +115,8 @@ fn try_insert(
     ensures shows { ShowsTry key pass.old pass.new result }
     ensures stored { HasValues shared.now → result ≡ Attempt.Linked
         → HasInserted [] pass.new key value }
+    ensures put { HasValues shared.now → result ≡ Attempt.Linked
+        → HasPut pass.old pass.new key value }
     ensures has { (o : PassView) → HasNewNodes o pass.old new_nodes.old → HasNewNodes o pass.new new_nodes.new }
     ensures kept { HoldsCuts pass.new held.new }
     ensures fills { FillsUp held.old.queue held.new.queue }
@@ -132,6 +134,7 @@ fn try_insert(
     };
     match grow(shared, pass, sought, value, &end, &made) {
         Ok(()) => {
+            pass.know_run();
             *new_nodes = None;
             held.counts.links = held.counts.links.saturating_add(1);
             Attempt::Linked
@@ -165,6 +168,7 @@ fn insert_pinned(
     ensures refused { IsErrOf result CallFault.NoMemory → held.new.queue.spare < cut_bound }
     ensures stored { HasValues shared.now → result ≡ Ok true
         → HasInserted (answered true) pass.new key value }
+    ensures put { HasValues shared.now → result ≡ Ok true → HasPut pass.old pass.new key value }
     ensures moment { (o : PassView) → HadNoCall o pass.old
         → IfOk result (AnswerHasMoment o pass.new Insert key) }
     ensures rests { IsResting pass.new }
@@ -239,6 +243,7 @@ pub fn insert(
     ensures refused { IsErrOf result CallFault.NoMemory → held.new.queue.spare < cut_bound }
     ensures stored { HasValues shared.now → result ≡ Ok true
         → HasInserted (answered true) pass.new key value }
+    ensures put { HasValues shared.now → result ≡ Ok true → HasPut pass.old pass.new key value }
     ensures kept { HoldsCuts pass.new held.new }
     ensures few { length held.new.queue.items ≤ shared.now.layout.nodes }
     ensures on { ExtendsStores pass.new.view.stores pass.old.view.stores }
