@@ -23,7 +23,8 @@ use Rattle.nm_walks.specs.WonCounts.{won_splices}
 use Rattle.nm_calls.specs.declared.fault.CallFault.{CallFault}
 use Rattle.nm_calls.specs.declared.fault.CallFault.TheVariants as fault
 use Rattle.nm_calls.specs.declared.values.Leaf.{Leaf}
-use Rattle.nm_calls.specs.PlainWalks.{HasEndedSo, LooksUnderPin, most_looks}
+use Rattle.nm_calls.specs.InTurns.{GiveUp}
+use Rattle.nm_calls.specs.PlainWalks.{HasEndedSo, LooksUnderPin, PlainMissed, most_looks}
 use Rattle.nm_calls.specs.Won.{HasWon}
 
 -- ---- what a map has
@@ -161,6 +162,8 @@ pub record AfterGet (L : Layout) (tries k : ℕ) (p q : PassView) (r : Result (O
   pub moment : IfOk r (MapGave p q k)
   pub stored : IfOk r (λ found. IfSome found (λ v. HasStores q))
   pub busy : IfErr r (λ e. e ≡ fault.Busy)
+  pub missed : IfErr r
+      (λ e. PlainMissed (GiveUp L (k ∷ [])) tries p.view.log q.view.log)
   pub won : HasWon p.view.log q.view.log 0 0
   pub steps : length q.view.log ≤ length p.view.log + 3 * tries + most_looks (reach L) 1 + 2
   pub uncut : won_splices q.view.log ≡ won_splices p.view.log

@@ -11,7 +11,7 @@ use Rattle.nm_calls.specs.PlainWalks.{LooksUnderPin, PlainMissed}
 use Rattle.nm_calls.specs.Scans.{count_of}
 use Rattle.nm_calls.specs.declared.scanning.Scanned.{Scanned}
 use Rattle.nm_tree.specs.Answers.{IsFree, LacksRoom, HasTold, HasAnswered, InsertTold, HasInserted, FailsAlone}
-use Rattle.nm_tree.specs.Looked.{HasGot, HasSeenMore}
+use Rattle.nm_tree.specs.Looked.{HasSeenMore}
 use Rattle.nm_tree.specs.Workers.{WorkerView}
 
 -- what holds of each error holds where there is this one
@@ -66,10 +66,6 @@ pub has_looked : {X : Type 0} (GivesUp : List Entry → List Entry → Type 0) (
     → HasSeenMore GivesUp tries most w z r
 has_looked GivesUp tries most w z free (Ok x) did missed busy = (free, did)
 has_looked {X} GivesUp tries most w z free (Err e) did missed busy = subst (λ (f : CallFault). HasSeenMore {X = X} GivesUp tries most w z (Err f)) (sym busy) (free, missed)
-
-pub has_got : {X : Type 0} (tries most : ℕ) (w z : WorkerView) → IsFree w z → (r : Result X CallFault) → IfOk r (λ x. LooksUnderPin tries most w.pass.view.log z.pass.view.log) → IfErr r (λ e. e ≡ fault.Busy) → HasGot tries most w z r
-has_got tries most w z free (Ok x) did busy = (free, did)
-has_got {X} tries most w z free (Err e) did busy = subst (λ (f : CallFault). HasGot {X = X} tries most w z (Err f)) (sym busy) free
 
 pub has_scanned : (GivesUp : List Entry → List Entry → Type 0) (tries each : ℕ) (w z : WorkerView) → IsFree w z → (r : Result Scanned CallFault) → IfOk r (λ s. LooksUnderPin tries ((s.count + tries) * each) w.pass.view.log z.pass.view.log) → IfErr r (λ e. PlainMissed GivesUp tries w.pass.view.log z.pass.view.log) → IfErr r (λ e. e ≡ fault.Busy)
     → HasSeenMore GivesUp tries ((count_of r + tries) * each) w z r

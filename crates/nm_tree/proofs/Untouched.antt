@@ -38,6 +38,8 @@ module _ (L : Layout) (tries k : ℕ) (w : WorkerView) (there : IsSome w.pending
     same = refl;
     past = seen_itself w.pass;
     did = (there, refl);
+    interfered = λ is. absurd (let no = is in cc);
+    alone = λ alone is. absurd (let no = is in cc);
     moment = tt;
     stored = tt;
     won = nothing_won w.pass.view.log;

@@ -17,11 +17,3 @@ HasSeenMore GivesUp tries most w z (Err fault.Busy) =
     IsFree w z × PlainMissed GivesUp tries w.pass.view.log z.pass.view.log
 HasSeenMore GivesUp tries most w z (Err fault.Pending) = IsPendingStill w z
 HasSeenMore GivesUp tries most w z (Err _) = ⊥
-
--- the same for a look-up of a value
-abbrev pub HasGot : {X : Type 0} → ℕ → ℕ → WorkerView → WorkerView → Result X CallFault → Type 0
-HasGot tries most w z (Ok _) =
-    IsFree w z × LooksUnderPin tries most w.pass.view.log z.pass.view.log
-HasGot tries most w z (Err fault.Busy) = IsFree w z
-HasGot tries most w z (Err fault.Pending) = IsPendingStill w z
-HasGot tries most w z (Err _) = ⊥

@@ -49,6 +49,11 @@ impl Tree {
     /// - The walk had looked at as many nodes as there are, and had not ended. In a radix tree this
     ///   never happens.
     ///
+    /// Proved (`alone`): a call that has at least one try is not `Busy` if no other worker makes a
+    /// transition during it. Proved (`interfered`): if a call is `Busy`, others advanced the epoch at
+    /// least as many times as it had tries, or they linked or cut off a node, and the tree is no
+    /// radix tree.
+    ///
     /// Cost: at most 3 * `tries` + 3 `reach` + 3 steps, and a look at the value. A walk's reach is
     /// 66 nodes in a radix tree, and the number of nodes otherwise. (The search of Natarajan and
     /// Mittal, section 3.2.)
@@ -61,6 +66,9 @@ impl Tree {
         if let Standing::Pending(_) = worker.standing {
             return Err(CallFault::Pending);
         }
-        get(&self.shared, &mut worker.pass, key, tries)
+        worker.pass.know_run();
+        let found = get(&self.shared, &mut worker.pass, key, tries);
+        worker.pass.know_run();
+        found
     }
 }
