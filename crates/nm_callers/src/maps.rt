@@ -1,13 +1,15 @@
-//! A worker that inserts a key with a value and then gets the value, proved from the clauses of
+//! A worker of a tree with values that inserts a key and gets the value of a key, proved from the clauses of
 //! `nm_tree` and the page alone.
-ghost use Rattle.std.specs.Prelude.{◌≡◌, None, IfSome, IsSome};
+ghost use Rattle.std.specs.Prelude.{◌≡◌, ◌≤◌, None, IfSome, IsErrOf, IsSome};
+ghost use Rattle.nm_progress.specs.Alone.{IsAlone};
 ghost use Rattle.nm_steps.specs.Steps.{IsOf};
 ghost use Rattle.nm_steps.specs.Values.{HasValues};
+ghost use Rattle.nm_tree.specs.Calls.{MayCall};
 ghost use Rattle.nm_callers.specs.Mapping.{PutsThenGets};
 ghost use Rattle.nm_callers.specs.Meanwhile.{NoneDeletedThroughout};
 
 use nm_edge::Key;
-use nm_tree::{Tree, Worker};
+use nm_tree::{CallFault, Tree, Worker};
 
 /// Inserts a key with a value, and then gets the value of the key. The outer `None`: a call returned
 /// an error, or the key was in the map before. Proved: otherwise right after the insert's link the map
@@ -35,4 +37,20 @@ pub fn insert_then_get(
     worker.know_run();
     let _number = key.get();
     found.ok()
+}
+
+/// Gets the value of a key with at least one try. Proved: it is not busy if no other worker makes a
+/// transition (turn) during the call.
+pub fn get_alone(
+    tree: &Tree,
+    worker: &mut Worker,
+    key: Key,
+    tries: u32,
+) -> Result<Option<u64>, CallFault>
+    requires may { MayCall tree.now worker.old }
+    requires values { HasValues tree.now }
+    requires some { 1 ≤ tries }
+    ensures { IsAlone worker.old.pass worker.new.pass → IsErrOf result CallFault.Busy → ⊥ }
+{
+    tree.get(worker, key, tries)
 }
