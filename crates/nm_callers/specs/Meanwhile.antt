@@ -1,5 +1,5 @@
 -- Turns in which no worker deletes a key, or inserts it, after some moment (linearization point).
-use Rattle.std.specs.Prelude.{◌≡◌, ◌≤◌, ℕ, Bool, true, false, List, [], ◌++◌, length}
+use Rattle.std.specs.Prelude.{◌≡◌, ◌≤◌, ℕ, Bool, true, false, List, [], length}
 use Rattle.nm_edge.specs.Keys.{IsKey}
 use Rattle.nm_edge.specs.Layouts.{Layout}
 use Rattle.nm_model.specs.Headline.{words_after}
@@ -27,11 +27,6 @@ NoneDeleted L start turns k = OnlyWithin L start turns (IsTrueDelete k)
 
 abbrev pub NoneInserted : Layout → List Turn → List Turn → ℕ → Type 0
 NoneInserted L start turns k = OnlyWithin L start turns (IsTrueInsert k)
-
--- after no beginning of these turns has a true delete of the key taken effect after `start`
-abbrev pub NoneDeletedThroughout : Layout → List Turn → List Turn → ℕ → Type 0
-NoneDeletedThroughout L start now k = (so_far rest : List Turn) → now ≡ so_far ++ rest
-    → NoneDeleted L start so_far k
 
 -- ---- laws of any turns
 

@@ -6,7 +6,7 @@ ghost use Rattle.nm_steps.specs.Steps.{IsOf};
 ghost use Rattle.nm_steps.specs.Values.{HasValues};
 ghost use Rattle.nm_tree.specs.Calls.{MayCall};
 ghost use Rattle.nm_callers.specs.Mapping.{PutsThenGets};
-ghost use Rattle.nm_callers.specs.Meanwhile.{NoneDeletedThroughout};
+ghost use Rattle.nm_callers.specs.Meanwhile.{NoneDeleted};
 
 use nm_edge::Key;
 use nm_tree::{CallFault, Tree, Worker};
@@ -27,7 +27,7 @@ pub fn insert_then_get(
     requires free { worker.old.held ≡ None }
     requires values { HasValues tree.now }
     ensures answers { IfSome result (PutsThenGets worker.old.pass worker.new.pass key value) }
-    ensures found { NoneDeletedThroughout worker.new.pass.view.layout worker.old.pass.view.past
+    ensures found { NoneDeleted worker.new.pass.view.layout worker.old.pass.view.past
         worker.new.pass.view.past key → IfSome result (λ found. IsSome found) }
 {
     let Ok(true) = tree.insert_with_value(worker, key, value, tries) else {

@@ -21,5 +21,5 @@ returns-clause-found c none =
     let p = c.insert_with_value.new.worker.pass in
     let q = c.get-found.new.worker.pass in
     of_found c.get-found.result c.ok.result (MapGave p q c.args.key) (λ found. IsSome found) c.ok.ensures.value
-    (is_found c.args.worker.now.pass p q c.args.key (subst IsKey c.get-_number.ensures.number c.get-_number.ensures.fits) c.know_run.ensures.seen c.know_run.ensures.fits (sym (ap (λ (z : PassView). z.view.layout) c.get-found.ensures.same)) c.get-found.ensures.past
+    (is_found c.args.worker.now.pass p q c.args.key (subst IsKey c.get-_number.ensures.number c.get-_number.ensures.fits) c.know_run.ensures.turns.plain_set (sym (ap (λ (z : PassView). z.view.layout) c.get-found.ensures.same)) c.get-found.ensures.past
     (subst (λ b. AnswerHasMoment c.args.worker.now.pass p Insert c.args.key b) c.in-Ok-true.field-0-test c.in-Ok-true.ensures.says.moment) none) c.get-found.ensures.moment
