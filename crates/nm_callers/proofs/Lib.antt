@@ -25,3 +25,4 @@ pub mod LettersRead
 pub mod Blamed
 pub mod RunningAlone
 pub mod BesidePending
+pub mod Mapped

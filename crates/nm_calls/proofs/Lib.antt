@@ -20,3 +20,4 @@ pub mod NamedLeaves
 pub mod MapMoments
 pub mod InsertedValues
 pub mod HandedBack
+pub mod MadeLeaves

@@ -20,6 +20,7 @@ mod resigning;
 mod running;
 mod scanning;
 mod tree;
+mod values;
 mod worker;
 
 pub use closing::{

@@ -1,4 +1,4 @@
-use Rattle.std.proofs.Common.{ap, subst, ◌∙◌, ◌≤◌, arith}
+use Rattle.std.proofs.Common.{inl, inr, refl, ap, subst, ◌∙◌, ◌≤◌, arith}
 use Rattle.std.specs.Prelude.{is_some}
 use Rattle.nm_edge.specs.Layouts.{Layout}
 use Rattle.nm_model.specs.Maps.{get}
@@ -7,7 +7,7 @@ use Rattle.nm_steps.specs.Steps.{PassView}
 use Rattle.nm_walks.proofs.GoingOn.{goes_then, own_still}
 use Rattle.nm_walks.proofs.Makes.{both_make}
 use Rattle.nm_walks.proofs.ValueLooks.{filled_by_value, goes_by_value, just_stored, only_by_value}
-use Rattle.nm_walks.proofs.making.fill_with_value.Goals as goal
+use Rattle.nm_walks.proofs.making.fill_leaf.Goals as goal
 
 pub fill_value-requires-clause-own : goal.fill_value-requires-clause-own
 fill_value-requires-clause-own c = own_still c.args.shared.now c.args.pass.now c.fill.new.pass c.requires.own c.fill.ensures.on.same
@@ -38,4 +38,7 @@ pub returns-clause-only : goal.returns-clause-only
 returns-clause-only c = both_make c.args.pass.now c.fill.new.pass c.fill_value.new.pass c.fill.ensures.only (only_by_value c.fill.new.pass c.fill_value.new.pass c.fill_value.ensures.looks)
 
 pub returns-clause-stored : goal.returns-clause-stored
-returns-clause-stored c = just_stored c.fill.new.pass c.fill_value.new.pass c.args.slot c.args.value c.fill_value.ensures.looks c.fill_value.ensures.stored
+returns-clause-stored c = inr (just_stored c.fill.new.pass c.fill_value.new.pass c.args.slot c.args.value c.fill_value.ensures.looks c.fill_value.ensures.stored)
+
+pub returns-then-not-has_values-clause-stored : goal.returns-then-not-has_values-clause-stored
+returns-then-not-has_values-clause-stored c = inl (c.if-not-has_values.ensures.no refl)

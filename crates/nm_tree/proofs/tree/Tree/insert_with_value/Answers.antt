@@ -11,7 +11,7 @@ use Rattle.nm_calls.specs.declared.fault.CallFault.{CallFault}
 use Rattle.nm_calls.specs.Inserts.{InsertDid}
 use Rattle.nm_tree.proofs.Telling.{inserted_so}
 use Rattle.nm_tree.proofs.Untouched.{insert_pending}
-use Rattle.nm_tree.proofs.tree.Tree.insert.Goals as goal
+use Rattle.nm_tree.proofs.tree.Tree.insert_with_value.Goals as goal
 
 pub returns-in-Pending-clause-leaves : goal.returns-in-Pending-clause-leaves
 returns-in-Pending-clause-leaves c = insert_pending c.args.self.now.layout c.args.tries c.args.key c.args.worker.now (search rules) c.requires.free
@@ -62,3 +62,9 @@ returns-clause-leaves c = record {
       c.know_run.ensures.seen c.know_run-2.ensures.seen c.know_run.ensures.fits c.insert-answer.ensures.after.same c.insert-answer.ensures.after.past c.requires.own _ runs (rests_in c.worker.inside.pass c.worker.inside.standing (resting_in c.worker.inside.standing (ap (λ (w : WorkerView). w.held) c.worker.view_is ∙ c.requires.free) c.in_default.not-Pending) c.worker.invariant.between.stands) (subst (λ (r : Result Bool CallFault). InsertDid c.worker.inside.workspace.placement c.self.inside.shared.layout c.args.tries c.args.key c.worker.inside.pass.view.log c.insert-answer.new.pass.view.log r) is c.insert-answer.ensures.after.did))
       );
 }
+
+pub returns-in-Pending-clause-puts : goal.returns-in-Pending-clause-puts
+returns-in-Pending-clause-puts c = λ _ is. absurd (let no = is in cc)
+
+pub returns-clause-puts : goal.returns-clause-puts
+returns-clause-puts c = rw (← c.worker.view_is, ← c.self.view_is) c.insert-answer.ensures.put
