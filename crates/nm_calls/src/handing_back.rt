@@ -1,4 +1,4 @@
-//! Collections that hand back the values of removed keys.
+//! Collections that hand out the values of removed keys.
 ghost use Rattle.std.specs.Prelude.{◌≡◌, ◌≤◌, ℕ, length, take, nat_lt};
 ghost use Rattle.nm_steps.specs.Rules.{knowledge};
 ghost use Rattle.nm_steps.specs.Steps.{IsOf};
@@ -9,12 +9,20 @@ ghost use Rattle.nm_epoch.specs.Handing.{CollectsValues, WasRead};
 ghost use Rattle.nm_calls.specs.HandedBack.{WasCutWith};
 
 use nm_edge::Placement;
-use nm_epoch::{HandedOut, HeldQueue, collect_values};
+use nm_epoch::{HandedOut, HeldQueue, collect_values as collect_in_epoch};
 use nm_steps::{Pass, Shared};
 
-/// Frees nodes and writes the value of each freed leaf to `out`, as `collect_values` of `nm_epoch`
-/// does. Proved besides: each value is the one that its slot had right before the leaf was cut off.
-pub fn hand_back(
+/// Frees nodes as `collect` of `nm_epoch` does, in a table with values, and writes the value of each
+/// freed leaf to `out`, in the order in which the leaves are freed. It stops before a leaf if `out`
+/// is full, and a later call goes on there. If it returns fewer values than `out` has room for, no
+/// node is left that could be freed.
+///
+/// Proved (`back`): each value is the one that the slot of the leaf had right before the leaf was cut
+/// off. Each leaf is freed once, so a value comes back once.
+///
+/// Cost: one step to read the epoch, one for each freed node, and a look for each value. It takes no
+/// memory. (Fraser, Practical lock-freedom, 2004, chapter 5.)
+pub fn collect_values(
     shared: &Shared,
     pass: &mut Pass,
     placement: &mut Placement,
@@ -31,5 +39,5 @@ pub fn hand_back(
     ensures long { (length out.new ≡ length out.old) × (result.values ≤ length out.new) }
     ensures fit { placement.new ≡ placement.old }
 {
-    collect_values(shared, pass, placement, queues, out)
+    collect_in_epoch(shared, pass, placement, queues, out)
 }

@@ -16,7 +16,7 @@ mod values;
 
 pub use deleting::{Missed, Unfinished, delete, finish};
 pub use fault::CallFault;
-pub use handing_back::hand_back;
+pub use handing_back::collect_values;
 pub use inserting::insert;
 pub use leaving::leave;
 pub use lookup::has;
