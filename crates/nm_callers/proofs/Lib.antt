@@ -26,3 +26,4 @@ pub mod Blamed
 pub mod RunningAlone
 pub mod BesidePending
 pub mod Mapped
+pub mod Returned

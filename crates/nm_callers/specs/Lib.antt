@@ -10,3 +10,4 @@ pub mod Letters
 pub mod Mapping
 pub mod Blame
 pub mod AnsweredAlone
+pub mod Returning

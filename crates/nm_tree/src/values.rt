@@ -1,11 +1,15 @@
-//! The value that a tree with values has under a key.
+//! The values of a tree with values: the value under a key, and the values that come back.
+ghost use Rattle.std.specs.Prelude.{◌≡◌, ◌≤◌, length, nat_lt, take};
+ghost use Rattle.nm_steps.specs.Steps.{IsOf};
 ghost use Rattle.nm_steps.specs.Values.{HasValues};
 ghost use Rattle.nm_tree.specs.Calls.{MayCall, LeavesGet};
+ghost use Rattle.nm_tree.specs.Handing.{LeavesCollectValues};
 
 use crate::tree::Tree;
 use crate::worker::{Standing, Worker};
-use nm_calls::{CallFault, get};
+use nm_calls::{CallFault, collect_values, get};
 use nm_edge::Key;
+use nm_epoch::HandedOut;
 
 impl Tree {
     /// Returns the value that the map has under `key`, or `None` if it does not have the key. Proved
@@ -40,5 +44,38 @@ impl Tree {
         let found = get(&self.shared, &mut worker.pass, key, tries);
         worker.pass.know_run();
         found
+    }
+
+    /// Reads the epoch, frees ripe nodes at the front of each queue that the worker holds, like
+    /// `collect`, and writes the value of each freed leaf to `out`, in the order in which the leaves
+    /// are freed. It stops before a leaf if `out` is full, and a later call goes on there. If it
+    /// returns fewer values than `out` has room for, it has freed all that `collect` would free. The
+    /// tree must have values.
+    ///
+    /// Proved (`back`): each value is the one that the slot of its leaf had right before the leaf was
+    /// cut off. Proved (`grace`): each worker that was pinned then has unpinned since, in what this
+    /// worker has now seen. Each leaf is freed once, so the value under a removed key comes back
+    /// once. A `collect` frees leaves too, and their values are lost.
+    ///
+    /// It may be called at any time, and takes no memory. Cost: at most as many steps as the tree has
+    /// nodes, and a look for each value. (Fraser, Practical lock-freedom, 2004, section 5.2.3.)
+    pub fn collect_values(&self, worker: &mut Worker, out: &mut [u64]) -> HandedOut
+        requires own { IsOf self.now worker.old.pass }
+        requires values { HasValues self.now }
+        ensures leaves { LeavesCollectValues self.now.layout.nodes
+            (nat_lt result.values (length out.new)) worker.old worker.new
+            (take result.values out.new) result }
+        ensures long { (length out.new ≡ length out.old) × (result.values ≤ length out.new) }
+    {
+        worker.pass.know_run();
+        let handed = collect_values(
+            &self.shared,
+            &mut worker.pass,
+            &mut worker.workspace.placement,
+            worker.queues.as_mut_slice(),
+            out,
+        );
+        worker.pass.know_run();
+        handed
     }
 }
