@@ -5,8 +5,8 @@ use Rattle.nm_steps.specs.declared.view.View.{View}
 use Rattle.nm_calls.specs.HandedBack.{WasCutWith}
 use Rattle.nm_tree.specs.Running.{IsFreedInGrace}
 
--- right before a node was cut off, its slot had this value. The node is freed, and each worker that was
--- pinned at the cut has unpinned since
+-- a leaf with this value was cut off, and is freed. Each worker that was pinned at the cut has unpinned
+-- since
 pub record HasComeBack (v : View) (value : ℕ) : Type 0 where
   pub node : NodeId
   pub cut : WasCutWith v.layout v.past v.stores node value

@@ -8,9 +8,9 @@ ghost use Rattle.nm_callers.specs.Returning.{HasComeBack};
 use nm_tree::{Tree, Worker};
 
 /// Frees nodes, and writes the values that come back to `out`; returns how many there are. Proved, about
-/// each of them: a leaf or another node was cut off, and right before that its slot had this value. The
-/// node is freed, and each worker that was pinned at the cut has unpinned since. So the object that a
-/// value names may be freed.
+/// each of them: a leaf was cut off that had this value, and the leaf is freed. Each worker that was
+/// pinned at the cut has unpinned since. So nobody who found the value in the map is still pinned, and
+/// the object that the value names may be freed.
 pub fn take_back(tree: &Tree, worker: &mut Worker, out: &mut [u64]) -> usize
     requires own { IsOf tree.now worker.old.pass }
     requires values { HasValues tree.now }

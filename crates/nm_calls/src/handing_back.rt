@@ -17,8 +17,8 @@ use nm_steps::{Pass, Shared};
 /// is full, and a later call goes on there. If it returns fewer values than `out` has room for, no
 /// node is left that could be freed.
 ///
-/// Proved (`back`): each value is the one that the slot of the leaf had right before the leaf was cut
-/// off. Each leaf is freed once, so a value comes back once.
+/// Proved (`back`): each value is the one that its leaf had right before the leaf was cut off. Each
+/// leaf is freed once, so a value comes back once.
 ///
 /// Cost: one step to read the epoch, one for each freed node, and a look for each value. It takes no
 /// memory. (Fraser, Practical lock-freedom, 2004, chapter 5.)

@@ -47,7 +47,7 @@ read_on origin start p q [] [] on r = tt
 read_on origin start p q [] (v ∷ vs) on r = absurd r
 read_on origin start p q (e ∷ es) [] on r = absurd r
 read_on origin start p q (e ∷ es) (v ∷ vs) on r = (
-  record { at = r.0.at; after = r.0.after; until = continues_then r.0.at p q r.0.until on; later = r.0.later; waits = r.0.waits; seen = r.0.seen; value = r.0.value },
+  record { at = r.0.at; after = r.0.after; until = continues_then r.0.at p q r.0.until on; later = r.0.later; waits = r.0.waits; is_leaf = r.0.is_leaf; seen = r.0.seen; value = r.0.value },
   read_on origin start p q es vs on r.1,
 )
 
@@ -56,7 +56,7 @@ read_from origin o p q [] [] before r = tt
 read_from origin o p q [] (v ∷ vs) before r = absurd r
 read_from origin o p q (e ∷ es) [] before r = absurd r
 read_from origin o p q (e ∷ es) (v ∷ vs) before r = (
-  record { at = r.0.at; after = continues_then o p r.0.at before r.0.after; until = r.0.until; later = r.0.later; waits = r.0.waits; seen = r.0.seen; value = r.0.value },
+  record { at = r.0.at; after = continues_then o p r.0.at before r.0.after; until = r.0.until; later = r.0.later; waits = r.0.waits; is_leaf = r.0.is_leaf; seen = r.0.seen; value = r.0.value },
   read_from origin o p q es vs before r.1,
 )
 
@@ -138,8 +138,8 @@ handing_more epoch origin start p q all es x vs ws h more on log c new = record 
 
 -- what was read of the node at the front
 pub front_read : (origin : ℕ) (start r q : PassView) (x : Entry) (es : List Entry) (epoch : ℕ) (all : List Entry) (p : PassView) → Continues start r → Continues r q → OnlySees p r → IsCollecting epoch origin start all r (x ∷ es)
-    → WasRead origin start q x (value_of r.view.stores x.node.slot)
-front_read origin start r q x es epoch all p after until sees c = record { at = r; after = after; until = until; later = es; waits = c.queue; seen = sees.seen; value = refl }
+    → is_odd (suc (length es)) ≡ true → WasRead origin start q x (value_of r.view.stores x.node.slot)
+front_read origin start r q x es epoch all p after until sees c odd = record { at = r; after = after; until = until; later = es; waits = c.queue; is_leaf = odd; seen = sees.seen; value = refl }
 
 -- the node at the front was freed, after a look at its value if it is a leaf
 pub handing_on : (epoch origin : ℕ) (start p r q : PassView) (all now later : List Entry) (vs ws : List ℕ) (n : NodeId) (b : Bool) → Continues start p → IsHanding epoch origin start all p now vs → ripe_front epoch now ≡ Some n → b ≡ is_odd (length now)
@@ -170,7 +170,7 @@ handing_on epoch origin start p r q all (x ∷ es) later vs ws n b on h ripe lea
     read = by b refl
       where
         by : (d : Bool) → b ≡ d → MayHaveRead origin start q x (is_odd (suc (length es))) vs ws
-        by true e = inl (sym leaf ∙ e, value_of r.view.stores x.node.slot, front_read origin start r q x es epoch all p (continues_then start p r on at_r) to_q (looks e).0 c_r, (looks e).1 ∙ ap (λ (m : NodeId). vs ++ value_of r.view.stores m.slot ∷ []) (sym node.1))
+        by true e = inl (sym leaf ∙ e, value_of r.view.stores x.node.slot, front_read origin start r q x es epoch all p (continues_then start p r on at_r) to_q (looks e).0 c_r (sym leaf ∙ e), (looks e).1 ∙ ap (λ (m : NodeId). vs ++ value_of r.view.stores m.slot ∷ []) (sym node.1))
         by false e = inr (sym leaf ∙ e, (none' e).1)
 
     here : IsHanding epoch origin start all q es ws

@@ -23,14 +23,15 @@ abbrev pub leaves_of : ℕ → List Entry → List Entry
 leaves_of more [] = []
 leaves_of more (e ∷ es) = if is_odd (suc (length es + more)) then e ∷ leaves_of more es else leaves_of more es
 
--- at a moment between p and q, when this entry was at the front of its queue, the pass read this
--- value of the entry's slot
+-- at a moment between p and q, when this entry was at the front of its queue, and an odd number of
+-- entries waited there, the pass read this value of the entry's slot
 pub record WasRead (origin : ℕ) (p q : PassView) (e : Entry) (v : ℕ) : Type 0 where
   pub at : PassView
   pub after : Continues p at
   pub until : Continues at q
   pub later : List Entry
   pub waits : IsQueueOf (knowledge at.view) origin (e ∷ later)
+  pub is_leaf : is_odd (suc (length later)) ≡ true
   pub seen : HasSeenStores at.view
   pub value : v ≡ value_of at.view.stores e.node.slot
 

@@ -14,8 +14,8 @@ use Rattle.nm_tree.specs.Running.{IsFreedInGrace}
 use Rattle.nm_tree.specs.Workers.{WorkerView}
 
 -- The fields are those of `LeavesCollect`. The freed nodes and the values of the leaves among them
--- are those of the queues, queue by queue (`handed`). Each value is the one that the slot of its leaf
--- had right before the leaf was cut off (`back`). Each worker that was pinned at the cut of a freed
+-- are those of the queues, queue by queue (`handed`). Each value is the one that its leaf had right
+-- before the leaf was cut off (`back`). Each worker that was pinned at the cut of a freed
 -- node has unpinned since (`grace`). If there was room for one more value, no ripe node is left at a
 -- front (`all`)
 pub record LeavesCollectValues (nodes : ℕ) (room : Bool) (w z : WorkerView) (values : List ℕ) (c : HandedOut) : Type 0 where

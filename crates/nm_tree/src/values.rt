@@ -52,8 +52,8 @@ impl Tree {
     /// returns fewer values than `out` has room for, it has freed all that `collect` would free. The
     /// tree must have values.
     ///
-    /// Proved (`back`): each value is the one that the slot of its leaf had right before the leaf was
-    /// cut off. Proved (`grace`): each worker that was pinned then has unpinned since, in what this
+    /// Proved (`back`): each value is the one that its leaf had right before the leaf was cut off.
+    /// Proved (`grace`): each worker that was pinned then has unpinned since, in what this
     /// worker has now seen. Each leaf is freed once, so the value under a removed key comes back
     /// once. A `collect` frees leaves too, and their values are lost.
     ///

@@ -38,9 +38,8 @@ returns-clause-after t c =
     let full = nat_lt last (length c.hand_out_fronts.new.out) in
     let long : length c.hand_out_front-here.new.out ≡ length c.hand_out_fronts.new.out = sym later.long.0 in
     let handed : HandsFronts c.args.epoch full p r (c.in-Some.first.now ∷ c.in-Some.rest.now) (c.hand_out_front-here.new.held ∷ c.hand_out_fronts.new.queues) (vs ++ ws) =
-        fronts_handed c.args.epoch _ full p q r c.in-Some.first.now c.hand_out_front-here.new.held c.in-Some.rest.now c.hand_out_fronts.new.queues vs ws all here.after.1 later.after.1
-        (λ there. ap (λ (m : ℕ). nat_lt c.hand_out_front-here.result m) long ∙ room_before c.hand_out_front-here.result last (length c.hand_out_fronts.new.out) later.long.1 there) in
-    (
+    fronts_handed c.args.epoch _ full p q r c.in-Some.first.now c.hand_out_front-here.new.held c.in-Some.rest.now c.hand_out_fronts.new.queues vs ws all here.after.1 later.after.1
+    (λ there. ap (λ (m : ℕ). nat_lt c.hand_out_front-here.result m) long ∙ room_before c.hand_out_front-here.result last (length c.hand_out_fronts.new.out) later.long.1 there) in (
       vs ++ ws,
       subst (λ (hs : List HeldQueue). HandsFronts c.args.epoch full p r hs (c.hand_out_front-here.new.held ∷ c.hand_out_fronts.new.queues) (vs ++ ws)) (sym split) handed,
       later.after.2 ∙ (ap (λ (l : List ℕ). l ++ ws) here.after.2 ∙ append_assoc (take c.args.count c.args.out.now) vs ws),
