@@ -1,25 +1,16 @@
 -- A get after an insert of the same key finds a value, over the page alone.
-use Rattle.std.proofs.Common.{◌≡◌, ◌≤◌, ℕ, Bool, true, List, [], ◌∷◌, ◌++◌, append_assoc, length, refl, sym, ap, subst, ◌∙◌, arith}
-use Rattle.std.specs.Prelude.{All, IfOk, IfSome, IsSome, None, Ok, Err, Option, Result, Some}
+use Rattle.std.proofs.Common.{◌≡◌, ℕ, true, length, refl, sym, subst, arith}
+use Rattle.std.specs.Prelude.{IfOk, IfSome, IsSome, None, Ok, Err, Option, Result, Some}
 use Rattle.std.specs.Result.{result_ok}
-use Rattle.std.proofs.lemmas.List.{length-append}
 use Rattle.nm_edge.specs.Keys.{IsKey}
-use Rattle.nm_edge.specs.Layouts.{Layout, IsLayout}
-use Rattle.nm_model.specs.declared.event.Event.{Event}
+use Rattle.nm_edge.specs.Layouts.{Layout}
 use Rattle.nm_model.specs.declared.event.Op.TheVariants.{Insert}
-use Rattle.nm_model.specs.declared.trace.Turn.{Turn}
 use Rattle.nm_model.specs.Acts.{InSet}
 use Rattle.nm_model.specs.Headline.{words_after}
 use Rattle.nm_model.specs.Histories.{HasHistory}
-use Rattle.nm_model.specs.Ordered.{Configuration, HasKey, ordered, next_in, trace_in}
-use Rattle.nm_order.proofs.RealTime.{begins_with}
-use Rattle.nm_order.proofs.RunExchanges.{first_keys}
-use Rattle.nm_theorem.proofs.HistoriesOfRuns.{history_of_run}
-use Rattle.nm_steps.specs.Rules.{Extends}
-use Rattle.nm_steps.specs.Steps.{HasSeen, HasSeenAllOf, IsSamePass, PassView}
-use Rattle.nm_calls.specs.Maps.{HasPut, MapGave, value_at}
+use Rattle.nm_steps.specs.Steps.{HasSeenAllOf, PassView}
+use Rattle.nm_calls.specs.Maps.{MapGave, value_at}
 use Rattle.nm_calls.specs.Moments.{AnswerHasMoment}
-use Rattle.nm_callers.specs.Mapping.{PutsThenGets}
 use Rattle.nm_callers.specs.Meanwhile.{NoneDeleted}
 use Rattle.nm_callers.proofs.StayingKeys.{stays_at_each_moment}
 
