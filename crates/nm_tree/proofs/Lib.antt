@@ -10,6 +10,7 @@ pub mod Untouched
 pub mod Changing
 pub mod FlaggedSeen
 pub mod Interfered
+pub mod EarlyScans
 pub mod OwnQueue
 pub mod Freeing
 pub mod Opening
