@@ -15,7 +15,7 @@ use Rattle.nm_model.specs.declared.event.Event.TheVariants.{Look, Sight, Leave}
 use Rattle.nm_model.specs.declared.knowledge.Brief.{Brief}
 use Rattle.nm_model.specs.declared.event.Field.TheVariants.{Key as KeyOf, Edge as EdgeOn}
 use Rattle.nm_model.specs.declared.reply.Reply.TheVariants.{KeyIs, EdgeIs, Departed}
-use Rattle.nm_model.specs.Memory.{infinity_0, infinity_1}
+use Rattle.nm_model.specs.Memory.{infinity_0}
 use Rattle.nm_model.specs.Searches.{side_of}
 use Rattle.nm_model.specs.Walks.{Entry, since_pin, IsPart, WalkReads}
 use Rattle.nm_model.specs.Walks.IsPart.{nothing, takes, skips}

@@ -98,7 +98,9 @@ pub struct Scanned {
 ///
 /// The call continues beyond `from` whenever `out` has room for a key. It ends early if `tries` of
 /// its walks have ended with no key of the range, or if a walk after the first one had looked at as
-/// many nodes as there are. The worker must rest, and it rests afterwards.
+/// many nodes as there are. Proved (`early`): a call that has two tries ends early only after a walk
+/// that had found no key between two internal nodes, or after such a long walk. The worker must
+/// rest, and it rests afterwards.
 ///
 /// Errors: `out` is unchanged. `Busy`, for one of these reasons:
 /// - `tries` is 0; then there was no step.
