@@ -5,6 +5,7 @@ use Rattle.std.specs.Prelude.{All}
 use Rattle.std.specs.List.{list_all, list_any}
 use Rattle.std.proofs.lemmas.Bool.{and_parts, eq-eqb}
 use Rattle.std.proofs.lemmas.List.{append-nil, append_cancel_left, length-append}
+use Rattle.nm_edge.specs.Edges.{Edge}
 use Rattle.nm_edge.specs.Layouts.{Layout}
 use Rattle.nm_edge.specs.declared.edge.Side.{Side}
 use Rattle.nm_edge.specs.declared.edge.Side.TheVariants.{Left}
@@ -219,11 +220,11 @@ module _ (L : Layout) (enough : 5 ≤ L.nodes) (w : ℕ) (old new : List Entry) 
   none_interference h = record { plain = plain; never = λ c o ts keys calm whole. finds_some L enough w c o ts keys calm new (since_is c ts whole) h }
 
 pub turns_interference : (L : Layout) (enough : 5 ≤ L.nodes) (w : ℕ) (ks : List ℕ) (old new : List Entry) → since_pin [] old ≡ [] → GiveUp L ks old new → HasInterference L enough w old new
-turns_interference L enough w ks old new none (added, plain, k, slot, n, among, passed, all) = far_interference L enough w old new none added k slot n passed all
+turns_interference L enough w ks old new none (added, radix, k, slot, n, among, passed, all) = far_interference L enough w old new none added k slot n passed all
 
 pub short_interference : (L : Layout) (enough : 5 ≤ L.nodes) (w : ℕ) (old new : List Entry) → since_pin [] old ≡ [] → StopsShort L old new → HasInterference L enough w old new
 short_interference L enough w old new none (most, added, short) = by short
   where
     by : HasStoppedShort L new → HasInterference L enough w old new
     by (inl h) = none_interference L enough w old new none added h
-    by (inr (k, plain, slot, n, passed, all)) = far_interference L enough w old new none added k slot n passed all
+    by (inr (k, (radix, slot, n, passed, all))) = far_interference L enough w old new none added k slot n passed all
