@@ -18,6 +18,7 @@ pub mod RadixLookups
 pub mod ReadNodes
 pub mod Schedulers
 pub mod RangesRead
+pub mod Unchanged
 pub mod AddedUp
 pub mod Working
 pub mod InsertMoments

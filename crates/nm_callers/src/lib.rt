@@ -44,7 +44,7 @@ pub use page::{
 };
 pub use queue::take_two_tasks;
 pub use radix::look_in_radix;
-pub use ranges::{ReadTwice, read_range, read_range_back, read_twice};
+pub use ranges::{ReadTwice, read_alone, read_range, read_range_back, read_twice};
 pub use reading::look_where_told;
 pub use rejoining::{Rejoined, add_then_come_back, add_then_rejoin};
 pub use sets::{insert_then_end, insert_then_report};
