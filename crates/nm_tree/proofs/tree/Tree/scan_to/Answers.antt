@@ -1,4 +1,4 @@
-use Rattle.std.proofs.Common.{rules, ◌≡◌, ◌∷◌, [], ℕ, ap, sym, ◌∙◌}
+use Rattle.std.proofs.Common.{rules, ◌∷◌, [], ℕ, ap, ◌∙◌}
 use Rattle.std.specs.Prelude.{length}
 use Rattle.nm_steps.proofs.Seeing.{seen_all}
 use Rattle.nm_progress.proofs.AloneCalls.{many_alone}
