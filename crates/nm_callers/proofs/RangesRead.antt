@@ -89,8 +89,8 @@ not_both Right a c j k one other = let less = one.0 in let less' = other.0 in om
 module _ (side : Side) (V W : ℕ → Bool → Type 0) (one : (j : ℕ) → V j true → W j false → ⊥) (other : (j : ℕ) → W j true → V j false → ⊥) where
   pub same_list : (from to : ℕ) (xs ys : List ℕ) → IsRangeBy side V from to xs → IsRangeBy side W from to ys → xs ≡ ys
   same_list from to [] [] none none' = refl
-  same_list from to [] (y ∷ ys) none (in', is_key, was, more) = absurd (other y was (none y is_key in'))
-  same_list from to (x ∷ xs) [] (in', is_key, was, more) none = absurd (one x was (none x is_key in'))
+  same_list from to [] (y ∷ ys) none (in', is_key, was, before, rest) = absurd (other y was (none y is_key in'))
+  same_list from to (x ∷ xs) [] (in', is_key, was, before, rest) none = absurd (one x was (none x is_key in'))
   same_list from to (x ∷ xs) (y ∷ ys) (in', is_key, was, none, rest) (in'', is_key', was', none', rest') =
       by (split_at side from to y x in') (split_at side from to x y in'')
       (λ same. ap (λ (l : List ℕ). x ∷ l) (same_list (beyond side x) to xs ys rest (subst (λ (n : ℕ). IsRangeBy side W (beyond side n) to ys) same rest')) ∙ ap (λ (n : ℕ). n ∷ ys) (sym same))
