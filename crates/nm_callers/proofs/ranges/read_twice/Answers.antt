@@ -1,4 +1,4 @@
-use Rattle.std.proofs.Common.{◌≡◌, ◌+◌, ℕ, ap, arith, sym}
+use Rattle.std.proofs.Common.{◌≡◌, ℕ, ap, arith, sym}
 use Rattle.std.specs.Prelude.{take}
 use Rattle.nm_steps.specs.Steps.{PassView}
 use Rattle.nm_steps.proofs.Seeing.{same_then}
