@@ -26,7 +26,7 @@ mod trees;
 
 pub use alone::{
     finish_then_look_alone, insert_alone, insert_beside_pending, insert_then_delete_alone,
-    insert_then_remove_alone, look_alone, look_many_alone, next_alone, pop_alone,
+    insert_then_remove_alone, look_alone, look_many_alone, next_alone, pop_alone, pop_first_alone,
     remove_beside_pending,
 };
 pub use beside::{delete_beside, insert_beside, look_many_beside, next_beside, prev_beside};

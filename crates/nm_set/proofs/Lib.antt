@@ -9,9 +9,7 @@ pub mod Sending
 pub mod Inside
 pub mod Managing
 pub mod Emptied
-pub mod AlonePops
 pub mod PopRounds
-pub mod AnswersInRuns
 pub mod Counting
 pub mod RunSums
 pub mod Rests

@@ -15,13 +15,13 @@ use Rattle.nm_tree.specs.declared.popping.End.{End}
 use Rattle.nm_tree.specs.Calls.{LeavesNear}
 use Rattle.nm_tree.specs.Popping.{Finds, IsOutside, TakesOf, among, comes_before}
 use Rattle.nm_tree.specs.Workers.{IsBetweenCalls, WorkerView}
+use Rattle.nm_tree.proofs.AlonePops.{found_is_there}
 use Rattle.nm_tree.proofs.FlaggedSeen.{none_seen}
 use Rattle.nm_tree.proofs.Taking.{found_by, found_in, gives_up_at, key_found, moment_since, near_bound, none_found, none_inside, scaled, told_at, was_so_since}
 use Rattle.nm_set.specs.declared.managed.Options.{Options}
 use Rattle.nm_set.specs.Managed.{GoesOn, Manages, SaysManaged, round_bound}
 use Rattle.nm_set.specs.Popping.{PopLeft, Pops, flags_told_by_pop, pop_round_bound, pop_rounds_bound}
 use Rattle.nm_set.specs.Rounds.{FinishesIn, IsOnward}
-use Rattle.nm_set.proofs.AlonePops.{found_is_there}
 use Rattle.nm_set.proofs.Managing.{finished, goes_more, goes_then, lose_same, none_there, onward_itself, onward_more, onward_then, wins_after}
 
 abbrev pop_busy : Result (Option ℕ) CallFault

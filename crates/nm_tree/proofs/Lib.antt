@@ -28,6 +28,9 @@ pub mod Closed
 pub mod EndCounts
 pub mod OfClosed
 pub mod Taking
+pub mod AnswersInRuns
+pub mod FoundThenGone
+pub mod AlonePops
 pub mod WorkedPending
 pub mod Ends
 pub mod Pools

@@ -1,6 +1,6 @@
 -- A key that a worker has found is there when it removes it, if the worker runs alone.
-use Rattle.std.proofs.Common.{◌≡◌, ◌≢◌, ◌∙◌, ℕ, suc, ◌+◌, ◌<◌, ◌≤◌, inl, inr, ◌==◌, Bool, true, false, cond, ◌&&◌, ◌||◌, List, [], ◌∷◌, ◌++◌, append-nil, append_assoc, length, length-append, refl, sym, ap, subst, arith, true≢false}
-use Rattle.std.specs.Prelude.{All, filter, unwrap_or, Option, Some, None, Result, Ok, Err}
+use Rattle.std.proofs.Common.{◌≡◌, ◌≢◌, ◌∙◌, ℕ, zero, suc, ◌+◌, ◌<◌, ◌≤◌, inl, inr, ◌==◌, Bool, true, false, cond, ◌&&◌, ◌||◌, List, [], ◌∷◌, ◌++◌, append-nil, append_assoc, length, length-append, refl, sym, ap, subst, arith, true≢false}
+use Rattle.std.specs.Prelude.{All, filter, Option, Some, None, Result, Ok, Err}
 use Rattle.std.specs.List.{list_any}
 use Rattle.std.proofs.lemmas.Bool.{eq-eqb, eqb-true, eqb-false, or_parts}
 use Rattle.std.proofs.lemmas.List.{append_cancel_left}
@@ -9,33 +9,27 @@ use Rattle.nm_edge.specs.Keys.{IsKey}
 use Rattle.nm_edge.specs.Layouts.{Layout, IsLayout}
 use Rattle.nm_edge.specs.declared.node.NodeId.{NodeId}
 use Rattle.nm_model.specs.Acts.{InSet}
-use Rattle.nm_model.specs.Headline.{confirms, departs, words_after}
-use Rattle.nm_model.specs.Memory.{Memory}
-use Rattle.nm_model.specs.Ordered.{Configuration, HasKey, ordered, next_in, outcome_in, after_in, trace_in, search_of}
-use Rattle.nm_model.specs.Searches.{Search}
+use Rattle.nm_model.specs.Headline.{confirms, departs}
+use Rattle.nm_model.specs.Ordered.{Configuration, HasKey, ordered, next_in, outcome_in, after_in, trace_in}
 use Rattle.nm_model.specs.Walks.{Entry, logged_by}
 use Rattle.nm_model.specs.declared.event.Event.{Event}
-use Rattle.nm_model.specs.declared.event.Event.TheVariants.{Flag, LeaveWith}
+use Rattle.nm_model.specs.declared.event.Event.TheVariants.{Flag}
 use Rattle.nm_model.specs.declared.event.Op.TheVariants.{Delete}
 use Rattle.nm_model.specs.declared.reply.Refused.{Refused}
 use Rattle.nm_model.specs.declared.reply.Reply.{Reply}
 use Rattle.nm_model.specs.declared.reply.Reply.TheVariants.{Flagged}
 use Rattle.nm_model.specs.declared.trace.Turn.{Turn}
 use Rattle.nm_order.specs.Exchanges.{is_won_link}
-use Rattle.nm_order.specs.History.{pin_of}
-use Rattle.nm_order.specs.Legal.{WasLegal}
 use Rattle.nm_order.specs.Logs.{is_leaver, part_of}
 use Rattle.nm_order.specs.Totals.{Agree, how_often, is_for, is_so, call_of, links_of, flags_of}
 use Rattle.nm_order.specs.WalksToArrivals.{is_won_flag}
 use Rattle.nm_order.proofs.AnswersSince.{part-append}
-use Rattle.nm_order.proofs.OwnTurns.{own_search}
-use Rattle.nm_order.proofs.PinNumbers.{pin_stays, pin_below}
 use Rattle.nm_order.proofs.RunExchanges.{first_keys}
 use Rattle.nm_order.proofs.TotalsOfRuns.{each_total_is_the_set}
 use Rattle.nm_order.proofs.WalksOfRuns.{all_before, trace_in-append}
 use Rattle.nm_theorem.proofs.Runs.{Parts, parts_of, enough_of}
-use Rattle.nm_theorem.proofs.WrittenWords.{run_words}
 use Rattle.nm_steps.specs.Steps.{PassView, IsSamePass, HasSeen, HasSeenAllOf}
+use Rattle.nm_steps.proofs.Seeing.{same_then, seen_through}
 use Rattle.nm_calls.specs.Moments.{AnswerHasMoment}
 use Rattle.nm_calls.specs.PlainWalks.{WasSo}
 use Rattle.nm_calls.specs.Won.{HasWon}
@@ -45,9 +39,11 @@ use Rattle.nm_progress.specs.Pending.{NonePends, leaf_after, leaf_by}
 use Rattle.nm_progress.proofs.PendingTurns.{nothing_is_pending}
 use Rattle.nm_progress.proofs.RunningAlone.{leaf-append, leaf_stays}
 use Rattle.nm_progress.proofs.SplitTurns.{number-append}
-use Rattle.nm_tree.proofs.Taking.{no_shorter}
-use Rattle.nm_set.proofs.AnswersInRuns.{AnsweredBy, answered_by}
-use Rattle.nm_set.proofs.Letters.{begins}
+use Rattle.nm_tree.specs.declared.popping.End.{End}
+use Rattle.nm_tree.specs.Popping.{LosesRounds}
+use Rattle.nm_tree.specs.Workers.{WorkerView}
+use Rattle.nm_tree.proofs.FoundThenGone.{begins, was_gone, was_there}
+use Rattle.nm_tree.proofs.Taking.{found_by, have_gone, key_found, no_shorter, was_so_since}
 
 -- ---- entries and turns of a kind
 
@@ -227,42 +223,25 @@ module _ (p z : PassView) (seen : HasSeen z.view) (fits : IsLayout z.view.layout
 
   -- a call that found it, until q, and then a delete of it
   pub found_is_there : (q : PassView) → IsSamePass p q → HasSeenAllOf q p → HasSeenAllOf z q → (k : ℕ) → IsKey k → WasSo p q k true → AnswerHasMoment q z Delete k false → ⊥
-  found_is_there q same_q first last k key was answer = stays x.early x.late m.before rest x.all whole (omega (arith, size, after)) (let low = far in let short = no_shorter q.view.past p.view.past first.goes_on in omega (arith, low, short)) k key
-      (subst (λ (M : Memory). InSet M k) (ap (words_after L) x.first_is ∙ run_words L fits true x.early) (subst (λ (M : Layout). InSet (words_after M was.so_far) k) layout_q was.gives)) m.gives
-    where
-      layout_q : q.view.layout ≡ z.view.layout
-      layout_q = ap (λ (s : PassView). s.view.layout) same_q ∙ sym layout
+  found_is_there q same_q first last k key was answer =
+      let layout_q : q.view.layout ≡ L = ap (λ (s : PassView). s.view.layout) same_q ∙ sym layout in
+      let there = was_there L fits seen.events p q k layout_q (last.goes_on.more) (sym seen.are ∙ last.goes_on.is) was in
+      let gone = was_gone L fits seen.events seen.keys q.view.past z.view.past z.view.number [] (sym seen.are ∙ sym (append-nil z.view.past)) k answer in
+      let size = there.size in
+      let after = was.later in
+      let far = gone.late in
+      let short = no_shorter q.view.past p.view.past first.goes_on in
+      stays there.early there.rest gone.before gone.rest there.all gone.all (omega (arith, size, after)) (omega (arith, far, short)) k key there.is gone.is
 
-      number_q : q.view.number ≡ z.view.number
-      number_q = ap (λ (s : PassView). s.view.number) same_q ∙ sym number
+-- ---- the rounds of a pop
 
-      x : Parts (ordered z.view.layout) seen.events was.so_far (was.rest ++ last.goes_on.more)
-      x = parts_of (ordered L) seen.events was.so_far (was.rest ++ last.goes_on.more) (sym seen.are ∙ (last.goes_on.is ∙ (ap (λ (ts : List Turn). ts ++ last.goes_on.more) was.are ∙ append_assoc was.so_far was.rest last.goes_on.more)))
-
-      size : length x.early ≡ length was.so_far
-      size = x.size
-
-      after : length p.view.past < length was.so_far
-      after = was.later
-
-      a : AnsweredBy z.view.layout seen.events q.view.past z.view.past z.view.number Delete k false
-      a = answered_by L fits seen.events seen.keys q.view.past z.view.past [] (sym seen.are ∙ sym (append-nil z.view.past)) z.view.number Delete k false answer
-
-      m : WasLegal z.view.layout a.is.before z.view.number Delete k false
-      m = a.is.moment
-
-      rest : List (ℕ × Event)
-      rest = m.since ++ (z.view.number, LeaveWith false) ∷ a.is.since
-
-      whole : seen.events ≡ m.before ++ rest
-      whole = a.is.is_run ∙ (ap (λ (us : List (ℕ × Event)). us ++ (z.view.number, LeaveWith false) ∷ a.is.since) m.is_run ∙ append_assoc m.before m.since ((z.view.number, LeaveWith false) ∷ a.is.since))
-
-      call : (own_search (after_in (ordered z.view.layout) m.before) z.view.number).call ≡ Some (record { op = Delete; key = k })
-      call = ap (λ (o : Option (List Search)). (search_of (unwrap_or o []) z.view.number).call) m.called.are ∙ m.called.is_call
-
-      far : length q.view.past < length m.before
-      far =
-          let begun = a.pinned in
-          let stays : pin_of L a.is.before z.view.number ≡ pin_of L m.before z.view.number = ap (λ (us : List (ℕ × Event)). pin_of L us z.view.number) m.is_run ∙ pin_stays L m.before m.since z.view.number m.stands in
-          let below = pin_below L enough m.before (first_keys m.before rest (subst (λ (us : List (ℕ × Event)). All (λ t. HasKey t.1) us) whole seen.keys)) z.view.number (record { op = Delete; key = k }) call in
-          omega (arith, begun, stays, below)
+-- a worker that runs alone loses no round of a pop
+pub loses_none_alone : (end : End) (L : Layout) (tries n : ℕ) (w z : WorkerView) → HasSeen w.pass.view → HasSeen z.pass.view → IsLayout z.pass.view.layout → leaf_after w.pass.view.number None w.pass.view.past ≡ None → w.pending ≡ None → w.held ≡ None
+    → LosesRounds end L tries n w z → RunsAlone w.pass z.pass → n ≡ 0
+loses_none_alone end L tries zero w z seen seen_z fits rests none free lost runs = refl
+loses_none_alone end L tries (suc n) w z seen seen_z fits rests none free (x, y, key, before, found, did) runs =
+    let l = found_by end L tries x y (Ok (Some key)) found in
+    let first = (have_gone end L tries n w x none free before).on in
+    let whole = (have_gone end L tries (suc n) w z none free (x, y, key, before, found, did)).on in
+    let was = key_found end x.pass y.pass key l.moment in
+    absurd (found_is_there w.pass z.pass seen_z fits whole.same runs rests seen.is_part whole.won y.pass (same_then w.pass x.pass y.pass first.same l.same) (seen_through w.pass x.pass y.pass first.past l.past) did.says.past key was.is_key (was_so_since w.pass x.pass y.pass key true first.past was.was) did.says.moment)
