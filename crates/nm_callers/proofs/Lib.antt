@@ -23,5 +23,6 @@ pub mod Working
 pub mod InsertMoments
 pub mod LettersRead
 pub mod Blamed
+pub mod StayedLeavers
 pub mod RunningAlone
 pub mod BesidePending

@@ -46,7 +46,9 @@ pub use queue::take_two_tasks;
 pub use radix::look_in_radix;
 pub use ranges::{ReadTwice, read_range, read_range_back, read_twice};
 pub use reading::look_where_told;
-pub use rejoining::{Rejoined, add_then_come_back, add_then_rejoin};
+pub use rejoining::{
+    Rejoined, StayedLeaver, add_then_come_back, add_then_rejoin, finish_own_remove,
+};
 pub use sets::{insert_then_end, insert_then_report};
 pub use sharing::{SharedTasks, add_tasks, share_tasks, take_tasks};
 pub use threads::{Inserted, find_both, insert_both, insert_both_then_find};
