@@ -121,7 +121,7 @@ popped_alone b h w z r some free (inr did) runs room = by r did.1
     room_or (inl less) = absurd (omega (arith, some, less))
     room_or (inr lacks) = absurd (room lacks)
 
-    by : (r : Result (Option ℕ) CallFault) → Pops IsKey ◌<◌ (pop_rounds_bound h b.layout) h.tries w z r → IsAnswered r
+    by : (r : Result (Option ℕ) CallFault) → Pops IsKey ◌<◌ (pop_rounds_bound h b.layout) h.tries (h.rounds + 1) w z r → IsAnswered r
     by (Ok taken) m = tt
     by (Err fault.Busy) m = let less = m.alone runs in absurd (omega (arith, some, less))
     by (Err fault.Full) m = tt

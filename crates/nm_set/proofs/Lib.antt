@@ -7,6 +7,7 @@ pub mod Letters
 pub mod LettingGo
 pub mod Sending
 pub mod Inside
+pub mod WaitingNodes
 pub mod Managing
 pub mod Emptied
 pub mod PopRounds
