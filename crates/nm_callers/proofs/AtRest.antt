@@ -41,9 +41,9 @@ use Rattle.nm_steps.proofs.Growing.{goes_on_through}
 use Rattle.nm_calls.specs.Moments.{AnswerHasMoment}
 use Rattle.nm_walks.specs.WonCounts.{won_links, won_flags}
 use Rattle.nm_tree.proofs.Taking.{no_shorter}
-use Rattle.nm_set.proofs.Letters.{begins}
+use Rattle.nm_tree.proofs.FoundThenGone.{begins}
 use Rattle.nm_set.proofs.Rests.{at_most, none_first}
-use Rattle.nm_set.proofs.AnswersInRuns.{AnsweredBy, answered_by}
+use Rattle.nm_tree.proofs.AnswersInRuns.{AnsweredBy, answered_by}
 use Rattle.nm_set.proofs.Counting.{fewer, flagged_once, linked_once, none_in}
 
 -- ---- counts

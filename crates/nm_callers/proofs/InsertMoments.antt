@@ -34,7 +34,7 @@ use Rattle.nm_tree.proofs.JoinsAlone.{told_in_part}
 use Rattle.nm_tree.proofs.Taking.{no_shorter}
 use Rattle.nm_set.specs.Posts.{HasHeardAll, HasWonNothing}
 use Rattle.nm_set.proofs.Letters.{some_in}
-use Rattle.nm_set.proofs.AnswersInRuns.{AnsweredBy, answered_by, pinned_so}
+use Rattle.nm_tree.proofs.AnswersInRuns.{AnsweredBy, answered_by, pinned_so}
 use Rattle.nm_callers.proofs.TwoAnswers.{index_of}
 
 -- an element behind some first ones, and within so many more

@@ -18,10 +18,14 @@ pub mod RadixLookups
 pub mod ReadNodes
 pub mod Schedulers
 pub mod RangesRead
+pub mod Unchanged
 pub mod AddedUp
 pub mod Working
 pub mod InsertMoments
 pub mod LettersRead
 pub mod Blamed
+pub mod StayedLeavers
 pub mod RunningAlone
 pub mod BesidePending
+pub mod Mapped
+pub mod Returned

@@ -1,18 +1,23 @@
 -- A range that is read: the keys that were in the set all the time are read, and those that were absent
--- all the time are not.
+-- all the time are not. Two scans agree on both.
 use Rattle.std.proofs.Common.{◌≡◌, ◌<◌, ◌≤◌, ◌⊎◌, inl, inr, ℕ, zero, suc, Bool, true, false, List, [], ◌∷◌, ◌++◌, append_assoc, length, refl, sym, ap, subst, ◌∙◌, arith}
-use Rattle.std.specs.Prelude.{Contains, Option, take}
+use Rattle.std.specs.Prelude.{Contains, Option}
 use Rattle.std.proofs.lemmas.Bool.{cases_lt}
 use Rattle.nm_edge.specs.Keys.{IsKey}
+use Rattle.nm_edge.specs.Layouts.{Layout}
 use Rattle.nm_edge.specs.declared.edge.Side.{Side}
 use Rattle.nm_edge.specs.declared.edge.Side.TheVariants.{Left, Right}
 use Rattle.nm_model.specs.declared.trace.Turn.{Turn}
+use Rattle.nm_model.specs.Acts.{InSet}
+use Rattle.nm_model.specs.Headline.{words_after}
 use Rattle.nm_steps.specs.Rules.{Extends}
-use Rattle.nm_steps.specs.Steps.{PassView}
+use Rattle.nm_steps.specs.Steps.{PassView, HasSeenAllOf}
+use Rattle.nm_steps.proofs.Growing.{goes_on_itself}
 use Rattle.nm_calls.specs.NearKeys.{bound}
 use Rattle.nm_calls.specs.PlainWalks.{WasSo}
-use Rattle.nm_calls.specs.Scans.{IsIn, IsRangeBy, beyond}
-use Rattle.nm_callers.specs.Taking.{AbsentThroughout, StandsThroughout}
+use Rattle.nm_calls.specs.Scans.{IsIn, IsRangeBy, beyond, end_of}
+use Rattle.nm_tree.proofs.Taking.{no_shorter}
+use Rattle.nm_callers.specs.Taking.{AbsentThroughout, StandsThroughout, StaysThroughout}
 
 -- ---- the keys of a range, as a list
 
@@ -62,8 +67,63 @@ module _ (start o x : PassView) (now : List Turn) (early : length start.view.pas
       let later = was.later in
       absent was.so_far (was.rest ++ on.more) (on.is ∙ (ap (λ (l : List Turn). l ++ on.more) was.are ∙ append_assoc was.so_far was.rest on.more)) (omega (arith, early, later)) was.gives
 
--- ---- two accounts of one key agree
+-- ---- two accounts
 
-pub agree : (S A P Q : Type 0) → S ⊎ A → (S → P) → (S → Q) → (A → P → ⊥) → (A → Q → ⊥) → (P → Q) × (Q → P)
-agree S A P Q (inl stands) p q no_p no_q = (λ _. q stands, λ _. p stands)
-agree S A P Q (inr absent) p q no_p no_q = (λ has. absurd (no_p absent has), λ has. absurd (no_q absent has))
+-- of one key, if the set had it all the time or at no time
+pub unequal : (L : Layout) (start o x o' x' : PassView) (now : List Turn) (k : ℕ) → length start.view.past ≤ length o.view.past → length start.view.past ≤ length o'.view.past → Extends now x.view.past → Extends now x'.view.past → x.view.layout ≡ L → x'.view.layout ≡ L
+    → StaysThroughout L start.view.past now k → WasSo o x k true → WasSo o' x' k false → ⊥
+unequal L start o x o' x' now k early early' on on' layout layout' stays was was' =
+    let later = was.later in
+    let later' = was'.later in
+    was'.gives (subst (λ (M : Layout). InSet (words_after M was'.so_far) k) (sym layout')
+    (stays was.so_far was'.so_far (was.rest ++ on.more) (was'.rest ++ on'.more)
+    (on.is ∙ (ap (λ (l : List Turn). l ++ on.more) was.are ∙ append_assoc was.so_far was.rest on.more)) (on'.is ∙ (ap (λ (l : List Turn). l ++ on'.more) was'.are ∙ append_assoc was'.so_far was'.rest on'.more))
+    (omega (arith, early, later)) (omega (arith, early', later')) (subst (λ (M : Layout). InSet (words_after M was.so_far) k) layout was.gives)))
+
+-- no two keys are each beyond the other
+not_both : (side : Side) (a c j k : ℕ) → IsIn side (beyond side k) c j → IsIn side (beyond side j) c k → ⊥
+not_both Left a c j k one other = let less = one.1 in let less' = other.1 in omega (arith, less, less')
+not_both Right a c j k one other = let less = one.0 in let less' = other.0 in omega (arith, less, less')
+
+-- of one range: if they never differ, the lists are equal
+module _ (side : Side) (V W : ℕ → Bool → Type 0) (one : (j : ℕ) → V j true → W j false → ⊥) (other : (j : ℕ) → W j true → V j false → ⊥) where
+  pub same_list : (from to : ℕ) (xs ys : List ℕ) → IsRangeBy side V from to xs → IsRangeBy side W from to ys → xs ≡ ys
+  same_list from to [] [] none none' = refl
+  same_list from to [] (y ∷ ys) none (in', is_key, was, before, rest) = absurd (other y was (none y is_key in'))
+  same_list from to (x ∷ xs) [] (in', is_key, was, before, rest) none = absurd (one x was (none x is_key in'))
+  same_list from to (x ∷ xs) (y ∷ ys) (in', is_key, was, none, rest) (in'', is_key', was', none', rest') =
+      by (split_at side from to y x in') (split_at side from to x y in'')
+      (λ same. ap (λ (l : List ℕ). x ∷ l) (same_list (beyond side x) to xs ys rest (subst (λ (n : ℕ). IsRangeBy side W (beyond side n) to ys) same rest')) ∙ ap (λ (n : ℕ). n ∷ ys) (sym same))
+    where
+      by : IsIn side from (bound side y) x ⊎ (y ≡ x) ⊎ IsIn side (beyond side y) to x → IsIn side from (bound side x) y ⊎ (x ≡ y) ⊎ IsIn side (beyond side x) to y → (y ≡ x → x ∷ xs ≡ y ∷ ys) → x ∷ xs ≡ y ∷ ys
+      by (inl before) at go = absurd (one x was (none' x is_key before))
+      by (inr (inl same)) at go = go same
+      by (inr (inr after)) (inl before) go = absurd (other y was' (none y is_key' before))
+      by (inr (inr after)) (inr (inl same)) go = go (sym same)
+      by (inr (inr after)) (inr (inr after')) go = absurd (not_both side from to x y after after')
+
+-- ---- two scans of one range
+
+module _ (w x z : PassView) (from to : ℕ) (o o' : Option ℕ) (one two : List ℕ) (layout : x.view.layout ≡ z.view.layout) (past : HasSeenAllOf x w) (past' : HasSeenAllOf z x)
+    (first : IsRangeBy Right (WasSo w x) from (end_of Right to o) one) (second : IsRangeBy Right (WasSo x z) from (end_of Right to o') two) where
+  abbrev Stays : ℕ → Type 0
+  Stays = StaysThroughout z.view.layout w.view.past z.view.past
+
+  later : length w.view.past ≤ length x.view.past
+  later = no_shorter x.view.past w.view.past past.goes_on
+
+  first_alone : (k : ℕ) → Stays k → WasSo w x k true → WasSo x z k false → ⊥
+  first_alone k = unequal z.view.layout w w x x z z.view.past k (omega arith) later past'.goes_on (goes_on_itself z.view.past) layout refl
+
+  second_alone : (k : ℕ) → Stays k → WasSo x z k true → WasSo w x k false → ⊥
+  second_alone k = unequal z.view.layout w x z w x z.view.past k later (omega arith) (goes_on_itself z.view.past) past'.goes_on refl layout
+
+  pub agree : (k : ℕ) → IsKey k → Stays k → IsIn Right from (end_of Right to o) k → IsIn Right from (end_of Right to o') k → (Contains one k → Contains two k) × (Contains two k → Contains one k)
+  agree k key stays within within' = (
+    λ has. told_in Right (WasSo x z) from (end_of Right to o') two second k key within' (first_alone k stays (told_was Right (WasSo w x) from (end_of Right to o) one first k has)),
+    λ has. told_in Right (WasSo w x) from (end_of Right to o) one first k key within (second_alone k stays (told_was Right (WasSo x z) from (end_of Right to o') two second k has)),
+  )
+
+  pub equal : ((k : ℕ) → Stays k) → o ≡ o' → one ≡ two
+  equal stays is = same_list Right (WasSo w x) (WasSo x z) (λ k. first_alone k (stays k)) (λ k. second_alone k (stays k)) from (end_of Right to o) one two first
+      (subst (λ (p : Option ℕ). IsRangeBy Right (WasSo x z) from (end_of Right to p) two) (sym is) second)

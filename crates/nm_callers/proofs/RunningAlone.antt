@@ -1,5 +1,5 @@
 -- Calls of a worker that runs alone are answered.
-use Rattle.std.proofs.Common.{◌≡◌, ◌∙◌, ◌<◌, ◌≤◌, ◌⊎◌, inl, inr, ℕ, Bool, refl, ap, arith}
+use Rattle.std.proofs.Common.{◌≡◌, ◌∙◌, ◌+◌, ◌<◌, ◌≤◌, ◌⊎◌, inl, inr, ℕ, Bool, refl, ap, arith}
 use Rattle.std.specs.Prelude.{Option, None, Result, Ok, Err}
 use Rattle.nm_edge.specs.Keys.{IsKey}
 use Rattle.nm_edge.specs.Layouts.{Layout}
@@ -12,6 +12,7 @@ use Rattle.nm_progress.specs.Alone.{RunsAlone}
 use Rattle.nm_progress.proofs.RunningAlone.{runs_before, runs_later}
 use Rattle.nm_tree.specs.Answers.{InsertTold, LacksRoom}
 use Rattle.nm_tree.specs.Calls.{LeavesInsert, LeavesDelete}
+use Rattle.nm_tree.specs.Popping.{SaysPop}
 use Rattle.nm_tree.specs.Workers.{WorkerView}
 use Rattle.nm_set.specs.declared.managed.Options.{Options}
 use Rattle.nm_set.specs.Managed.{Manages, SaysManaged}
@@ -58,6 +59,19 @@ both_answered L t k w x z q r some none first last runs =
     let before = runs_before w.pass x.pass z.pass first.says.same first.says.past last.says.past runs in
     let later = runs_later w.pass x.pass z.pass first.says.same first.says.past last.says.past runs in
     (insert_answered L t k w x q (omega (arith, some)) none first before, delete_answered L t k x z r some (still_none L t k w x q none first.says.told) last later)
+
+pub pop_answered : (L : Layout) (t : ℕ) (w z : WorkerView) (r : Result (Option ℕ) CallFault) → 2 ≤ t → w.pending ≡ None → SaysPop ◌<◌ L t w z r → RunsAlone w.pass z.pass → IsAnsweredWithRoom z r
+pop_answered L t w z (Ok taken) some none s runs room = tt
+pop_answered L t w z (Err fault.Busy) some none s runs room = let less = s.alone runs in absurd (omega (arith, some, less))
+pop_answered L t w z (Err fault.Full) some none s runs room = tt
+pop_answered L t w z (Err fault.NoMemory) some none s runs room = tt
+pop_answered L t w z (Err fault.Unfinished) some none s runs room = by (s.alone runs)
+  where
+    by : (t < 2) ⊎ LacksRoom z → ⊥
+    by (inl less) = omega (arith, some, less)
+    by (inr lacks) = room lacks
+pop_answered L t w z (Err fault.Pending) some none s runs room = none_there w.pending none s.told.0
+pop_answered L t w z (Err fault.Pinned) some none s runs room = absurd s.told
 
 -- ---- managed calls
 
@@ -107,7 +121,7 @@ popped_alone b h w z r some free (inr did) runs room = by r did.1
     room_or (inl less) = absurd (omega (arith, some, less))
     room_or (inr lacks) = absurd (room lacks)
 
-    by : (r : Result (Option ℕ) CallFault) → Pops IsKey ◌<◌ (pop_rounds_bound h b.layout) h.tries w z r → IsAnswered r
+    by : (r : Result (Option ℕ) CallFault) → Pops IsKey ◌<◌ (pop_rounds_bound h b.layout) h.tries (h.rounds + 1) w z r → IsAnswered r
     by (Ok taken) m = tt
     by (Err fault.Busy) m = let less = m.alone runs in absurd (omega (arith, some, less))
     by (Err fault.Full) m = tt

@@ -1,5 +1,5 @@
 -- What a member finds that has made its calls one after the other, over the page alone.
-use Rattle.std.proofs.Common.{◌≡◌, ◌<◌, ℕ, Bool, true, false, true≢false, List, [], inl, inr, sym, ap, subst, arith}
+use Rattle.std.proofs.Common.{◌+◌, ◌≡◌, ◌<◌, ℕ, Bool, true, false, true≢false, List, [], inl, inr, sym, ap, subst, arith}
 use Rattle.std.specs.Prelude.{Option, Some, None, Result, Ok, IfOk, IfSome, is_ok}
 use Rattle.nm_edge.specs.Keys.{IsKey}
 use Rattle.nm_edge.specs.Layouts.{Layout}
@@ -79,6 +79,6 @@ puts_back k w x z None removed found = tt
 puts_back k w x z (Some answer) removed found = (x, removed, found)
 
 -- a call that took a key has done so
-pub has_popped : (b : TreeView) (h : Options) (k : ℕ) (w z : WorkerView) → SaysManagedPop ◌<◌ b h w z (Ok (Some k)) → Pops IsKey ◌<◌ (pop_rounds_bound h b.layout) h.tries w z (Ok (Some k))
+pub has_popped : (b : TreeView) (h : Options) (k : ℕ) (w z : WorkerView) → SaysManagedPop ◌<◌ b h w z (Ok (Some k)) → Pops IsKey ◌<◌ (pop_rounds_bound h b.layout) h.tries (h.rounds + 1) w z (Ok (Some k))
 has_popped b h k w z (inl held) = absurd (true≢false (ap (λ (r : Result (Option ℕ) CallFault). is_ok r) held.1))
 has_popped b h k w z (inr did) = did.1

@@ -7,5 +7,7 @@ pub mod Taking
 pub mod Tallies
 pub mod Queues
 pub mod Letters
+pub mod Mapping
 pub mod Blame
 pub mod AnsweredAlone
+pub mod Returning

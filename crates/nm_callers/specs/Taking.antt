@@ -15,3 +15,9 @@ StandsThroughout L was now k = (so_far rest : List Turn) → now ≡ so_far ++ r
 abbrev pub AbsentThroughout : Layout → List Turn → List Turn → ℕ → Type 0
 AbsentThroughout L was now k = (so_far rest : List Turn) → now ≡ so_far ++ rest
     → length was < length so_far → InSet (words_after L so_far) k → ⊥
+
+-- the set had the key after each such beginning, or after none of them
+abbrev pub StaysThroughout : Layout → List Turn → List Turn → ℕ → Type 0
+StaysThroughout L was now k = (early late rest others : List Turn) → now ≡ early ++ rest
+    → now ≡ late ++ others → length was < length early → length was < length late
+    → InSet (words_after L early) k → InSet (words_after L late) k

@@ -163,6 +163,22 @@ pub fn finish_then_look_alone(
     member.contains(key, options)
 }
 
+/// Pops the least key of a tree with at least two tries. Proved: if no other worker has a delete
+/// pending before, and no other worker makes a transition during the call, it returns an answer. The
+/// exception is a lack of memory.
+pub fn pop_first_alone(
+    tree: &Tree,
+    worker: &mut Worker,
+    tries: u32,
+) -> Result<Option<Key>, CallFault>
+    requires may { MayCall tree.now worker.old }
+    requires free { worker.old.pending ≡ None }
+    requires two { 2 ≤ tries }
+    ensures { RunsAlone worker.old.pass worker.new.pass → IsAnsweredWithRoom worker.new result }
+{
+    tree.pop_first(worker, tries)
+}
+
 /// Pops the least key by a managed call with at least two tries. Proved: if no other worker has a
 /// remove pending before, and no other worker makes a transition during the call, it returns an
 /// answer. The exception is a lack of memory.

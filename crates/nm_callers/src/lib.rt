@@ -11,6 +11,7 @@ mod fresh;
 mod full;
 mod least;
 mod letters;
+mod maps;
 mod members;
 mod others;
 mod page;
@@ -19,6 +20,7 @@ mod radix;
 mod ranges;
 mod reading;
 mod rejoining;
+mod returned_values;
 mod sets;
 mod sharing;
 mod threads;
@@ -26,7 +28,7 @@ mod trees;
 
 pub use alone::{
     finish_then_look_alone, insert_alone, insert_beside_pending, insert_then_delete_alone,
-    insert_then_remove_alone, look_alone, look_many_alone, next_alone, pop_alone,
+    insert_then_remove_alone, look_alone, look_many_alone, next_alone, pop_alone, pop_first_alone,
     remove_beside_pending,
 };
 pub use beside::{delete_beside, insert_beside, look_many_beside, next_beside, prev_beside};
@@ -36,6 +38,7 @@ pub use fresh::{Looked, look_first, look_in_fresh, look_in_new, look_in_new_of_o
 pub use full::add_or_blame;
 pub use least::{Taken, take_at_once, take_both, take_in_threads};
 pub use letters::{Reading, Written, insert_while_read};
+pub use maps::{get_alone, insert_then_get};
 pub use members::{add_then_find, put_again, put_and_take, put_back, remove_then_miss, take_once};
 pub use others::{PutAndTaken, put_and_take_alone, put_and_take_in_new};
 pub use page::{
@@ -44,9 +47,12 @@ pub use page::{
 };
 pub use queue::take_two_tasks;
 pub use radix::look_in_radix;
-pub use ranges::{ReadTwice, read_range, read_range_back, read_twice};
+pub use ranges::{ReadTwice, read_alone, read_range, read_range_back, read_twice};
 pub use reading::look_where_told;
-pub use rejoining::{Rejoined, add_then_come_back, add_then_rejoin};
+pub use rejoining::{
+    Rejoined, StayedLeaver, add_then_come_back, add_then_rejoin, finish_own_remove,
+};
+pub use returned_values::take_back;
 pub use sets::{insert_then_end, insert_then_report};
 pub use sharing::{SharedTasks, add_tasks, share_tasks, take_tasks};
 pub use threads::{Inserted, find_both, insert_both, insert_both_then_find};

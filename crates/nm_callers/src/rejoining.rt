@@ -1,10 +1,10 @@
-//! A member that is closed, and a worker of its set that is attached afterwards, proved from the
-//! clauses of `nm_set` and the page alone.
-ghost use Rattle.std.specs.Prelude.{◌≡◌, true, IfSome};
+//! A member that is closed, a worker of its set that is attached afterwards, and a worker that does
+//! not resign, proved from the clauses of `nm_set` and the page alone.
+ghost use Rattle.std.specs.Prelude.{◌≡◌, true, Some, IfSome};
 ghost use Rattle.nm_callers.specs.Meanwhile.{NoneDeleted};
 
 use nm_edge::Key;
-use nm_set::{Member, Options, Set};
+use nm_set::{Member, Options, ResignError, Set};
 
 /// A member that has looked up a key, and the answer.
 #[derive(Drop)]
@@ -68,5 +68,48 @@ pub fn add_then_come_back(member: Member, key: Key, options: &Options) -> Option
     Some(Rejoined {
         member: back,
         there,
+    })
+}
+
+/// A worker that did not resign, and the member that was to be its heir.
+#[derive(Drop)]
+pub struct StayedLeaver {
+    pub heir: Member,
+    pub leaver: Member,
+    /// Whether the leaver has finished a remove of its own.
+    pub finished: bool,
+}
+
+/// Lets a worker at home resign to a member. If it may not, because it has a pending key, the same
+/// worker is taken again by its ticket, and goes on with its own remove. `None`: the worker resigned,
+/// or it was not found, or another member has had it since, or the remove is not finished. Proved:
+/// otherwise the worker has finished a remove that was pending when it was found, and the heir is
+/// unchanged.
+pub fn finish_own_remove(heir: Member, number: u32, tries: u32) -> Option<StayedLeaver>
+    ensures heir { IfSome result (λ s. s.heir ≡ heir) }
+    ensures own { IfSome result (λ s. s.leaver.tree ≡ heir.tree) }
+    ensures finished { IfSome result (λ s. s.finished ≡ true) }
+{
+    let Err(error) = heir.resign(number) else {
+        return None;
+    };
+    let ResignError {
+        reason: _,
+        member,
+        leaver,
+    } = error;
+    let Some(returned) = leaver else {
+        return None;
+    };
+    let Ok(mut back) = returned.again() else {
+        return None;
+    };
+    let Ok(finished) = back.finish(tries) else {
+        return None;
+    };
+    Some(StayedLeaver {
+        heir: member,
+        leaver: back,
+        finished,
     })
 }

@@ -107,6 +107,11 @@ key_among [] i d below = absurd (omega (arith, below))
 key_among (q ∷ qs) zero d below = (0, omega arith, refl)
 key_among (q ∷ qs) (suc i) d below = let rest = key_among qs i d (omega (arith, below)) in (suc rest.0, (let less = rest.1 in omega (arith, less)), rest.2)
 
+-- a fact of one query
+pub one_of : (P : Query → Type 0) (q : Query) → P q → All P (q ∷ [])
+one_of P q is zero d below = is
+one_of P q is (suc i) d below = absurd (omega (arith, below))
+
 -- one of these has not ended, where it has looked at as many nodes as a walk may
 pub given_up : (b : TreeView) (old : List Entry) (q : PassView) → IsPinnedIn b q → (n : ℕ) (queries : List Query) (keys : List ℕ) → map key_of queries ≡ keys → All (IsUnderWay n q) queries → (i : ℕ) × (i < length queries) × HoldsAt (λ x. x.node ≢ 0) queries i
     → suc n ≡ reach b.layout → AddsLooks (most_looks (reach b.layout) (length keys)) old q.view.log → GiveUp b.layout keys old q.view.log

@@ -1,5 +1,5 @@
 -- The value of an insert is that of the leaf which it links.
-use Rattle.std.proofs.Common.{◌≡◌, ◌+◌, ℕ, Bool, List, [], ◌∷◌, ◌++◌, append_assoc, length, sym, ap, ◌∙◌, arith}
+use Rattle.std.proofs.Common.{◌≡◌, ℕ, Bool, List, [], ◌∷◌, ◌++◌, append_assoc, length, sym, ap, ◌∙◌, arith}
 use Rattle.std.proofs.lemmas.List.{length-append}
 use Rattle.nm_model.specs.declared.event.Event.TheVariants.{LeaveWith, Link}
 use Rattle.nm_model.specs.declared.reply.Reply.TheVariants.{Departed, Linked}

@@ -19,3 +19,6 @@ pub mod Unheld
 pub mod NamedLeaves
 pub mod MapMoments
 pub mod InsertedValues
+pub mod CutLeaves
+pub mod HandedBack
+pub mod MadeLeaves

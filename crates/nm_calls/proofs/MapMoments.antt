@@ -1,7 +1,8 @@
 -- A look-up of a value: its walk, and the moment at which the map had the value that was read.
-use Rattle.std.proofs.Common.{◌≡◌, ℕ, ◌+◌, ◌<◌, ◌≤◌, true, false, List, [], ◌++◌, append_assoc, length, refl, sym, ap, subst, ◌∙◌, arith}
+use Rattle.std.proofs.Common.{◌≡◌, ◌≢◌, ℕ, ◌<◌, ◌≤◌, true, false, List, [], ◌∷◌, ◌++◌, append_assoc, length, refl, sym, ap, subst, ◌∙◌, arith}
 use Rattle.std.specs.Prelude.{All, IsSome, None, Some, Option, Result, Ok, Err, IfOk, IfErr, IfSome}
 use Rattle.std.proofs.lemmas.List.{append_cancel_left, length-map}
+use Rattle.std.proofs.lemmas.Result.{IfErr-weaker}
 use Rattle.nm_edge.specs.Keys.{IsKey}
 use Rattle.nm_edge.specs.Layouts.{Layout, IsLayout}
 use Rattle.nm_model.specs.declared.event.Event.{Event}
@@ -42,11 +43,12 @@ use Rattle.nm_walks.proofs.Looks.{enough}
 use Rattle.nm_walks.proofs.PlainLooks.{looks_longer}
 use Rattle.nm_calls.specs.declared.fault.CallFault.{CallFault}
 use Rattle.nm_calls.specs.declared.fault.CallFault.TheVariants as fault
+use Rattle.nm_calls.specs.InTurns.{GiveUp}
 use Rattle.nm_calls.specs.Maps.{AfterGet, HasLookedUp, HasReadValue, HoldsStores, WasMapped}
 use Rattle.nm_calls.specs.PlainWalks.{HasPassed, LooksUnderPin, WasSo, events_of, most_looks}
 use Rattle.nm_calls.proofs.Adding.{cuts_none, has_won, plain_moved_adds}
 use Rattle.nm_calls.proofs.NamedLeaves.{leaf_has_key, leaf_is_one, leaf_was, moment_is_later, pin_not_left}
-use Rattle.nm_calls.proofs.PlainLooks.{as_events, call_adds, events_go_on, events_of_trace, was_so}
+use Rattle.nm_calls.proofs.PlainLooks.{as_events, call_adds, events_go_on, events_of_trace, pin_missed, walks_missed, was_so}
 use Rattle.nm_calls.proofs.Unheld.{unheld}
 
 -- a walk ends at the leaf that it has read
@@ -205,8 +207,8 @@ module _ (o a m q : PassView) (first_seen : HasSeen o.view) (first_fits : IsLayo
 -- ---- the whole call
 
 -- each try of the pin was lost
-pub get_without_pin : (L : Layout) (tries k : ℕ) (o a : PassView) → Continues o a → IsMoved Sight tries o.view.log a.view.log → IsResting a → KeepsHands o a → AfterGet L tries k o a (Err fault.Busy)
-get_without_pin L tries k o a pinning moved rests kept =
+pub get_without_pin : (L : Layout) (tries k : ℕ) (o a : PassView) → tries ≢ 0 → Continues o a → IsMoved Sight tries o.view.log a.view.log → IsResting a → KeepsHands o a → AfterGet L tries k o a (Err fault.Busy)
+get_without_pin L tries k o a some pinning moved rests kept =
     let added = plain_moved_adds tries o.view.log a.view.log moved in
     record {
       same = pinning.same;
@@ -216,7 +218,9 @@ get_without_pin L tries k o a pinning moved rests kept =
       moment = tt;
       stored = tt;
       busy = refl;
+      missed = pin_missed (GiveUp L (k ∷ [])) tries o.view.log a.view.log some moved;
       won = has_won _ _ added;
+      steps = (let few = added.steps in omega (arith, few));
       uncut = cuts_none _ _ added;
       rests = rests;
       hands = kept;
@@ -227,8 +231,8 @@ pub get_after_walk : (L : Layout) (tries k epoch : ℕ) (o a p q : PassView) (r 
     → Continues o a → IsPinnedBy Sight tries o.view.log a.view.log epoch → KeepsHands o a
     → GoesOn a p → OnlyLooks a p → AddsLooks (most_looks (reach L) 1) a.view.log p.view.log
     → TakesStep p q Leave Departed → IsResting q → KeepsHands p q
-    → IfOk r (WasMapped q.view.layout o.view.past q.view.past q.view.stores q.view.number k) → IfOk r (λ found. IfSome found (λ v. HoldsStores q.view.layout q.view.past q.view.stores)) → IfErr r (λ e. e ≡ fault.Busy) → AfterGet L tries k o q r
-get_after_walk L tries k epoch o a p q r pinning pinned hands walked only looks leaves rests kept moment stored busy =
+    → IfOk r (WasMapped q.view.layout o.view.past q.view.past q.view.stores q.view.number k) → IfOk r (λ found. IfSome found (λ v. HoldsStores q.view.layout q.view.past q.view.stores)) → IfErr r (λ e. GiveUp L (k ∷ []) a.view.log p.view.log) → IfErr r (λ e. e ≡ fault.Busy) → AfterGet L tries k o q r
+get_after_walk L tries k epoch o a p q r pinning pinned hands walked only looks leaves rests kept moment stored given_up busy =
     let did : LooksUnderPin tries (most_looks (reach L) 1) o.view.log q.view.log = record { pinned = a.view.log; epoch = epoch; pin = pinned; looked = p.view.log; looks = looks; leaves = ap (λ (s : PassView). s.view.log) leaves.step } in
     let added = call_adds tries (most_looks (reach L) 1) o.view.log q.view.log did in
     record {
@@ -239,7 +243,9 @@ get_after_walk L tries k epoch o a p q r pinning pinned hands walked only looks 
       moment = moment;
       stored = stored;
       busy = busy;
+      missed = IfErr-weaker r _ _ (λ e gives. walks_missed (GiveUp L (k ∷ [])) tries o.view.log a.view.log p.view.log q.view.log epoch pinned gives did.leaves) given_up;
       won = has_won _ _ added;
+      steps = (let few = added.steps in omega (arith, few));
       uncut = cuts_none _ _ added;
       rests = rests;
       hands = kept_on o p q (kept_on o a p hands looks_keep) kept;

@@ -98,7 +98,7 @@ looks_add {n} old new a =
 -- ---- a walk stays in the log
 
 module _ {n : ℕ} (p q : PassView) (a : AddsLooks n p.view.log q.view.log) where
-  part_still : (looks : List Entry) → IsPart looks (since_pin [] p.view.log) → IsPart looks (since_pin [] q.view.log)
+  pub part_still : (looks : List Entry) → IsPart looks (since_pin [] p.view.log) → IsPart looks (since_pin [] q.view.log)
   part_still looks part = subst (IsPart looks) (sym (since_grows p.view.log q.view.log a)) (part_grows a.looks part)
 
   pub come_still : (m k slot : ℕ) → HasPassed m p.view.log k slot → HasPassed m q.view.log k slot

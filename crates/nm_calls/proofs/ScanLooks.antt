@@ -4,7 +4,7 @@ use Rattle.std.specs.Prelude.{Option, Some, None, IfSome, All, take, Result, Ok,
 use Rattle.std.proofs.lemmas.Result.{IfOk-weaker, IfErr-weaker}
 use Rattle.std.proofs.Math.Nat.{add-mul}
 use Rattle.std.proofs.lemmas.Bool.{cases_lt, lt-ltb, le-ltb, le-leb, eq-eqb, ne_eqb, and_from, and_left, and_right, cond-true, cond-false, lt-leb}
-use Rattle.std.proofs.lemmas.List.{length-append}
+use Rattle.std.proofs.lemmas.List.{length-append, length-take-le}
 use Rattle.std.proofs.lemmas.List.Elements.{All-push, All-cons, All-nil, All-weaker, All-same}
 use Rattle.nm_edge.specs.Edges.{Edge}
 use Rattle.nm_edge.specs.Keys.{IsKey}
@@ -34,18 +34,18 @@ use Rattle.nm_calls.specs.declared.fault.CallFault.TheVariants as fault
 use Rattle.nm_calls.specs.declared.scanning.Scanned.{Scanned}
 use Rattle.nm_calls.specs.declared.scanning.Stretch.{Stretch}
 use Rattle.nm_calls.specs.NearKeys.{IsPast, Lies, bound}
-use Rattle.nm_calls.specs.PlainWalks.{HasEndedSo, HasPassed, LooksUnderPin, WasSo, most_looks}
-use Rattle.nm_calls.specs.Scans.{AfterScan, Chooses, GiveUp, Keeps, IsIn, IsRangeBy, IsStretch, IsTooFar, beyond, count_of, end_of, entry_of, exit_of, found_in, leg_looks, most_keys, stretch_over}
+use Rattle.nm_calls.specs.PlainWalks.{GivesUpUnderPin, HasEndedSo, HasPassed, LooksUnderPin, WasSo, most_looks}
+use Rattle.nm_calls.specs.Scans.{AfterScan, Chooses, GiveUp, HasFoundNone, HasRouter, HasStoppedShort, Keeps, IsFull, IsIn, IsRangeBy, IsStretch, IsTooFar, StopsShort, beyond, count_of, end_of, entry_of, exit_of, found_in, leg_looks, most_keys, stretch_over}
 use Rattle.nm_walks.specs.AddedLooks.{AddsLooks}
 use Rattle.nm_walks.specs.Bounds.{reach}
 use Rattle.nm_walks.specs.Telling.{Tells, GoesOn, OnlyLooks, EdgeTold, OnwardTold, IsPinnedIn}
 use Rattle.nm_walks.specs.Walks.{Reads, IsLeafRead, edge_on}
 use Rattle.nm_walks.proofs.Looks.{enough}
-use Rattle.nm_walks.proofs.PlainLooks.{looks_longer, since_grows}
+use Rattle.nm_walks.proofs.PlainLooks.{looks_longer, read_added, since_grows}
 use Rattle.nm_walks.proofs.ShortWalks.{far_of}
 use Rattle.nm_calls.proofs.Adding.{cuts_none, has_won, plain_moved_adds}
 use Rattle.nm_calls.proofs.NearLooks.{read_alike}
-use Rattle.nm_calls.proofs.PlainLooks.{call_adds, come_still, comes_first, comes_on, ended_still, ends_so, look_added, looks_in, looks_then, pin_missed, walks_missed, was_so}
+use Rattle.nm_calls.proofs.PlainLooks.{call_adds, come_still, comes_first, comes_on, ended_still, ends_so, look_added, looks_in, looks_then, part_still, pin_missed, walks_missed, was_so}
 
 -- ---- parts of lists
 
@@ -67,6 +67,24 @@ same_side k j v le below = by (cases_lt k v)
     by (inl less) = ap (λ (t : Bool). cond t Left Right) (lt-ltb j v (below less) ∙ sym (lt-ltb k v less))
     by (inr above) = ap (λ (t : Bool). cond t Left Right) (le-ltb j v (omega (arith, le, above)) ∙ sym (le-ltb k v above))
 
+-- ---- an internal node that was passed stays so
+
+pub router_still : {m : ℕ} (p q : PassView) → AddsLooks m p.view.log q.view.log → (v : ℕ) → HasRouter p.view.log v → HasRouter q.view.log v
+router_still p q a v (k, slot, parent, up, small, walk) = (k, slot, parent, up, small, record { looks = walk.looks; leads = walk.leads; next = walk.next; there = walk.there; is_part = part_still p q a _ walk.is_part })
+
+-- the bound at which a stretch ends
+abbrev pub EndsBy : ℕ → PassView → ℕ → Type 0
+EndsBy end p v = (v ≡ end) ⊎ HasRouter p.view.log v
+
+pub ends_still : {m : ℕ} (end : ℕ) (p q : PassView) → AddsLooks m p.view.log q.view.log → (v : ℕ) → EndsBy end p v → EndsBy end q v
+ends_still end p q a v (inl is) = inl is
+ends_still end p q a v (inr walk) = inr (router_still p q a v walk)
+
+-- a stretch with the same bounds, or with the one of them by which a scan to that side leaves it
+same_exit : (side : Side) (d e : Stretch) → e.low ≡ d.low → e.high ≡ d.high → exit_of side d ≡ exit_of side e
+same_exit Left d e low high = sym low
+same_exit Right d e low high = sym high
+
 -- ---- a stretch stays one
 
 pub stretch_still : {m : ℕ} (side : Side) (end n : ℕ) (p q : PassView) → AddsLooks m p.view.log q.view.log → GoesOn p q → (d : Stretch) → IsStretch side end n p d → IsStretch side end n q d
@@ -77,6 +95,7 @@ stretch_still side end n p q a on d w = record {
   comes = λ some j le less. come_still p q a n j d.next.slot (w.comes some j le less);
   known = λ some. on.keeps (KnowsSlot d.next.slot) (w.known some);
   ends = λ null j le less. ended_still p q a j (d.found == j) (w.ends null j le less);
+  parts = ends_still end p q a (exit_of side d) w.parts;
 }
 
 pub stretches_still : {m : ℕ} (side : Side) (end n : ℕ) (p q : PassView) → AddsLooks m p.view.log q.view.log → GoesOn p q → (ds : List Stretch) → All (IsStretch side end n p) ds → All (IsStretch side end n q) ds
@@ -91,6 +110,7 @@ stretch_sooner side end n p d w = record {
   comes = λ some j le less. (let h = w.comes some j le less in (h.0, h.1, h.2, (let many = h.3 in omega (arith, many))));
   known = w.known;
   ends = w.ends;
+  parts = w.parts;
 }
 
 -- a narrower stretch ends sooner
@@ -112,6 +132,10 @@ over_stops : (side : Side) (at end : ℕ) (first : Edge) → Lies side (exit_of 
 over_stops Left at end first = omega arith
 over_stops Right at end first = omega arith
 
+over_exit : (side : Side) (at end : ℕ) (first : Edge) → exit_of side (stretch_over side at end first) ≡ end
+over_exit Left at end first = refl
+over_exit Right at end first = refl
+
 over_next : (side : Side) (at end : ℕ) (first : Edge) → (stretch_over side at end first).next ≡ first
 over_next Left at end first = refl
 over_next Right at end first = refl
@@ -128,6 +152,7 @@ stretch_begins side at end p q e step told past one other = record {
   comes = λ some j le less. subst (HasPassed 0 q.view.log j) (sym is) (comes_first p q e step (λ null. some (is ∙ null)) j);
   known = λ some. subst (λ (x : ℕ). Tells q (KnowsSlot x)) (sym is) (told.learned.leads (λ null. some (is ∙ null)));
   ends = λ null. absurd (told.root refl refl (sym is ∙ null));
+  parts = inl (over_exit side at end e);
 }
   where
     is : (stretch_over side at end e).next.slot ≡ e.slot
@@ -140,6 +165,10 @@ module _ (side : Side) (end n : ℕ) (p q : PassView) (d : Stretch) (on : Onward
   on_with : (j : ℕ) → d.low ≤ j → j < d.high → (d.low < on.found → j < on.found) → on.next.slot ≢ 0 → HasPassed (n + 1) q.view.log j on.next.slot
   on_with j le less below more = comes_on p q n j d.next.slot on (read_alike d.low j d.next.slot p.view.log q.view.log on (same_side d.low j on.found le below) r) (w.comes some j le less) more
 
+  -- so the bound at which it ends is as it was
+  ends_here : EndsBy end q (exit_of side d)
+  ends_here = ends_still end p q (read_added d.low d.next.slot p.view.log q.view.log on r) (exit_of side d) w.parts
+
   -- all of them, or it is a leaf: then a key below the leaf's goes right where the walk goes left, and
   -- each of both edges is null
   pub stretch_on : IsLeafRead d.next.slot p.view.log q.view.log on → (on.next.slot ≢ 0 → (on.found ≤ d.low) ⊎ (d.high ≤ on.found)) → IsStretch side end (n + 1) q (record { low = d.low; high = d.high; next = on.next; found = on.found })
@@ -150,6 +179,7 @@ module _ (side : Side) (end n : ℕ) (p q : PassView) (d : Stretch) (on : Onward
     comes = λ more j le less. on_with j le less (λ below. all j le less below (together more)) more;
     known = λ more. told.learned.leads more;
     ends = λ null j le less. by null (cases_lt d.low on.found) j le less;
+    parts = subst (EndsBy end q) (same_exit side d (record { low = d.low; high = d.high; next = on.next; found = on.found }) refl refl) ends_here;
   }
     where
       all : (j : ℕ) → d.low ≤ j → j < d.high → d.low < on.found → (on.found ≤ d.low) ⊎ (d.high ≤ on.found) → j < on.found
@@ -170,6 +200,28 @@ module _ (side : Side) (end n : ℕ) (p q : PassView) (d : Stretch) (on : Onward
           ends_so p q n j d.next.slot on (read_alike d.low j d.next.slot p.view.log q.view.log on (same_side d.low j on.found le (λ below. absurd (omega (arith, below, above)))) r) (w.comes some j le less) null
 
   module _ (more : on.next.slot ≢ 0) (above : d.low < on.found) (below : on.found < d.high) where
+    -- the walk passes it
+    routes : HasRouter q.view.log on.found
+    routes =
+        let h = w.comes some d.low (omega arith) w.wide in
+        let wide = w.wide in
+        let top = w.top in (
+          d.low,
+          d.next.slot,
+          h.0,
+          h.1,
+          omega (arith, wide, top),
+          record { looks = h.2.looks; leads = h.2.leads; next = on.next; there = more; is_part = looks_longer p.view.log q.view.log d.low d.next.slot on r h.2.looks h.2.is_part },
+        )
+
+    lower_ends : (s : Side) → EndsBy end q (exit_of s d) → EndsBy end q (exit_of s (record { low = d.low; high = on.found; next = on.next; found = on.found }))
+    lower_ends Left here = here
+    lower_ends Right here = inr routes
+
+    upper_ends : (s : Side) (e : Edge) → EndsBy end q (exit_of s d) → EndsBy end q (exit_of s (record { low = on.found; high = d.high; next = e; found = on.found }))
+    upper_ends Left e here = inr routes
+    upper_ends Right e here = here
+
     -- if they part there, it goes on with the lower ones
     lower_on : IsStretch side end (n + 1) q (record { low = d.low; high = on.found; next = on.next; found = on.found })
     lower_on = record {
@@ -179,6 +231,7 @@ module _ (side : Side) (end n : ℕ) (p q : PassView) (d : Stretch) (on : Onward
       comes = λ _ j le less. on_with j le (omega (arith, less, below)) (λ _. less) more;
       known = λ _. told.learned.leads more;
       ends = λ null. absurd (more null);
+      parts = lower_ends side ends_here;
     }
 
     -- and the others have read its key
@@ -227,6 +280,7 @@ module _ (side : Side) (end n : ℕ) (p q : PassView) (d : Stretch) (on : Onward
         comes = comes_right;
         known = λ there. told'.learned.leads there;
         ends = ends_right;
+        parts = ends_still end q z (look_added q z d.next.slot Right e step) (exit_of side (record { low = on.found; high = d.high; next = e; found = on.found })) (upper_ends side e ends_here);
       }
 
       pub lower_still : IsStretch side end (n + 1) z (record { low = d.low; high = on.found; next = on.next; found = on.found })
@@ -450,6 +504,129 @@ shown_so side end n p d w null start at next old new is leaves lies grown shown 
     subst (λ (x : ℕ). IsRangeBy side (HasEndedSo p) start x new) (sym leaves)
     (shown_more side end n p d w null start old new (subst (Lies side start) is lies) grown (subst (λ (x : ℕ). IsRangeBy side (HasEndedSo p) start x old) is shown))
 
+-- ---- a stretch with no key
+
+found_none : (d : Stretch) → found_in d ≡ [] → d.low ≤ d.found → d.found < d.high → ⊥
+found_none d none le less = let one = ap (λ (ks : List ℕ). length ks) (sym (found_yes d le less) ∙ none) in absurd (omega (arith, one))
+
+-- between two internal nodes
+stretch_lost : (side : Side) (end n : ℕ) (p : PassView) (d : Stretch) → IsStretch side end n p d → d.next.slot ≡ 0 → found_in d ≡ [] → HasRouter p.view.log (exit_of side d) → HasRouter p.view.log (entry_of side d) → HasFoundNone p.view.log
+stretch_lost side end n p d w null none leave enter = record {
+  low = d.low;
+  high = d.high;
+  wide = w.wide;
+  top = w.top;
+  lower = lower side leave enter;
+  upper = upper side leave enter;
+  none = λ j le less. subst (HasEndedSo p j) (ne_eqb d.found j (λ same. found_none d none (omega (arith, le, same)) (omega (arith, less, same)))) (w.ends null j le less);
+}
+  where
+    lower : (s : Side) → HasRouter p.view.log (exit_of s d) → HasRouter p.view.log (entry_of s d) → HasRouter p.view.log d.low
+    lower Left leave enter = leave
+    lower Right leave enter = enter
+
+    upper : (s : Side) → HasRouter p.view.log (exit_of s d) → HasRouter p.view.log (entry_of s d) → HasRouter p.view.log d.high
+    upper Left leave enter = enter
+    upper Right leave enter = leave
+
+pub none_still : {m : ℕ} (p q : PassView) → AddsLooks m p.view.log q.view.log → HasFoundNone p.view.log → HasFoundNone q.view.log
+none_still p q a h = record {
+  low = h.low;
+  high = h.high;
+  wide = h.wide;
+  top = h.top;
+  lower = router_still p q a h.low h.lower;
+  upper = router_still p q a h.high h.upper;
+  none = λ j le less. ended_still p q a j false (h.none j le less);
+}
+
+-- one walk fewer may end with no key, only after such a stretch, or at the end of the range
+abbrev pub IsSpent : PassView → PassView → ℕ → ℕ → ℕ → Type 0
+IsSpent p q at spare left = (left ≡ spare) ⊎ ((spare ≡ left + 1) × (HasRouter p.view.log at → HasFoundNone q.view.log))
+
+not_past : (side : Side) (a : ℕ) → IsPast side a a → ⊥
+not_past Left a past = omega (arith, past)
+not_past Right a past = omega (arith, past)
+
+pub not_both : (side : Side) (a b : ℕ) → IsPast side a b → Lies side b a → ⊥
+not_both Left a b past lies = omega (arith, past, lies)
+not_both Right a b past lies = omega (arith, past, lies)
+
+pub spent : (side : Side) (end n : ℕ) (p : PassView) (d : Stretch) → IsStretch side end n p d → d.next.slot ≡ 0 → (at next old new spare left : ℕ) (before after : List ℕ) → at ≡ entry_of side d → next ≡ exit_of side d → old ≤ length before → new ≤ length after
+    → take new after ≡ take old before ++ found_in d → new + spare ≡ old + left + 1 → IsPast side next end → IsSpent p p at spare left
+spent side end n p d w null at next old new spare left before after is leaves fits fits' wrote sum past = by (cases_lt d.found d.low) (cases_lt d.found d.high)
+  where
+    size : new ≡ old + length (found_in d)
+    size = sym (length-take-le new after fits') ∙ (ap (λ (ks : List ℕ). length ks) wrote ∙ (length-append (take old before) (found_in d) ∙ ap (λ (x : ℕ). x + length (found_in d)) (length-take-le old before fits)))
+
+    lost : found_in d ≡ [] → IsSpent p p at spare left
+    lost none =
+        let long = ap (λ (ks : List ℕ). length ks) none in
+        inr (omega (arith, size, sum, long), λ enter. by_end w.parts none (subst (HasRouter p.view.log) is enter))
+      where
+        by_end : EndsBy end p (exit_of side d) → found_in d ≡ [] → HasRouter p.view.log (entry_of side d) → HasFoundNone p.view.log
+        by_end (inl ends) none enter = absurd (not_past side end (subst (λ (x : ℕ). IsPast side x end) (leaves ∙ ends) past))
+        by_end (inr leave) none enter = stretch_lost side end n p d w null none leave enter
+
+    by : (d.found < d.low) ⊎ (d.low ≤ d.found) → (d.found < d.high) ⊎ (d.high ≤ d.found) → IsSpent p p at spare left
+    by (inl below) _ = lost (found_no d (inr below))
+    by (inr above) (inr high) = lost (found_no d (inl high))
+    by (inr above) (inl less) = let long = ap (λ (ks : List ℕ). length ks) (found_yes d above less) in inl (omega (arith, size, sum, long))
+
+pub spent_still : {m : ℕ} (p q : PassView) → AddsLooks m p.view.log q.view.log → (at spare left : ℕ) → IsSpent p p at spare left → IsSpent p q at spare left
+spent_still p q a at spare left (inl same) = inl same
+spent_still p q a at spare left (inr lost) = inr (lost.0, λ enter. none_still p q a (lost.1 enter))
+
+-- where a scan has not ended at the end of its range, the bound is the key of an internal node
+pub parts_there : (side : Side) (end n : ℕ) (p : PassView) (d : Stretch) → IsStretch side end n p d → (at : ℕ) → at ≡ exit_of side d → IsPast side at end → HasRouter p.view.log at
+parts_there side end n p d w at leaves past = by w.parts
+  where
+    by : EndsBy end p (exit_of side d) → HasRouter p.view.log at
+    by (inl ends) = absurd (not_past side end (subst (λ (x : ℕ). IsPast side x end) (leaves ∙ ends) past))
+    by (inr walk) = subst (HasRouter p.view.log) (sym leaves) walk
+
+-- the walks of a scan that have ended with no key: the first one alone, or one between two internal
+-- nodes too
+abbrev pub HasSpent : PassView → ℕ → ℕ → ℕ → ℕ → Type 0
+HasSpent p tries turn at spare = ((turn ≡ 0) × (spare ≡ tries)) ⊎ (HasRouter p.view.log at × ((tries ≤ spare + 1) ⊎ HasFoundNone p.view.log))
+
+-- after one more
+fewer : {m : ℕ} (p q : PassView) → AddsLooks m p.view.log q.view.log → (tries turn at spare left : ℕ) → HasSpent p tries turn at spare → IsSpent p q at spare left → (tries ≤ left + 1) ⊎ HasFoundNone q.view.log
+fewer p q a tries turn at spare left (inl (none, all)) (inl same) = inl (omega (arith, all, same))
+fewer p q a tries turn at spare left (inl (none, all)) (inr lost) = let one = lost.0 in inl (omega (arith, all, one))
+fewer p q a tries turn at spare left (inr (walk, inl few)) (inl same) = inl (omega (arith, few, same))
+fewer p q a tries turn at spare left (inr (walk, inl few)) (inr lost) = inr (lost.1 walk)
+fewer p q a tries turn at spare left (inr (walk, inr none)) spent = inr (none_still p q a none)
+
+pub spent_more : {m : ℕ} (p q : PassView) → AddsLooks m p.view.log q.view.log → (tries turn next at at' spare left : ℕ) → HasSpent p tries turn at spare → IsSpent p q at spare left → HasRouter q.view.log at' → HasSpent q tries next at' left
+spent_more p q a tries turn next at at' spare left has spent walk = inr (walk, fewer p q a tries turn at spare left has spent)
+
+-- why a scan has ended before its range
+abbrev pub EndsEarly : Layout → PassView → ℕ → ℕ → ℕ → Type 0
+EndsEarly L p tries room count = (count ≡ room) ⊎ (tries ≤ 1) ⊎ HasStoppedShort L p.view.log
+
+pub early : {m : ℕ} (L : Layout) (p q : PassView) → AddsLooks m p.view.log q.view.log → (tries turn at spare left room count : ℕ) → HasSpent p tries turn at spare → IsSpent p q at spare left
+    → (count ≡ room) ⊎ (left ≡ 0) ⊎ ((j : ℕ) × IsTooFar L j q.view.log) → EndsEarly L q tries room count
+early L p q a tries turn at spare left room count has spent (inl full) = inl full
+early L p q a tries turn at spare left room count has spent (inr (inr far)) = inr (inr (inr far))
+early L p q a tries turn at spare left room count has spent (inr (inl none)) = by (fewer p q a tries turn at spare left has spent)
+  where
+    by : (tries ≤ left + 1) ⊎ HasFoundNone q.view.log → EndsEarly L q tries room count
+    by (inl few) = inr (inl (omega (arith, few, none)))
+    by (inr lost) = inr (inr (inl lost))
+
+-- where there is a key at which to continue
+pub early_so : (side : Side) (at end : ℕ) (X : Type 0) (o : Option ℕ) → IfSome o (λ k. IsKey k × IsPast side at end) → (IsPast side at end → X) → IfSome o (λ k. X)
+early_so side at end X None is so = tt
+early_so side at end X (Some k) is so = so is.1
+
+-- of a slice of this length
+pub early_in : (L : Layout) (p : PassView) (tries room places count : ℕ) (o : Option ℕ) → IsFull places room → IfSome o (λ k. EndsEarly L p tries room count) → IfSome o (λ k. IsFull places count ⊎ (tries ≤ 1) ⊎ HasStoppedShort L p.view.log)
+early_in L p tries room places count None limit is = tt
+early_in L p tries room places count (Some k) limit (inr more) = inr more
+early_in L p tries room places count (Some k) (inl all) (inl full) = inl (inl (full ∙ all))
+early_in L p tries room places count (Some k) (inr most) (inl full) = inl (inr (full ∙ most))
+
 -- ---- how far a scan has come
 
 lies_itself : (side : Side) (a : ℕ) → Lies side a a
@@ -531,6 +708,7 @@ after_lost_pin side L tries from to out o a some pinning moved rests kept =
       moment = tt;
       count = tt;
       next = tt;
+      early = tt;
       busy = refl;
       kept = refl;
       missed = pin_missed (GiveUp L from) tries o.view.log a.view.log some moved;
@@ -550,8 +728,9 @@ pub after_scan : (side : Side) (L : Layout) (tries from to key epoch : ℕ) (old
     → IfOk r (λ s. IsRangeBy side (HasEndedSo p) (bound side key) (end_of side to s.next) (take s.count out))
     → IfOk r (λ s. (s.count ≤ length out) × (s.count ≤ most_keys))
     → IfOk r (λ s. IfSome s.next (λ k. IsKey k × IsIn side (bound side key) to k × (length out ≢ 0 → IsPast side key k)))
+    → IfOk r (λ s. IfSome s.next (λ k. IsFull (length out) s.count ⊎ (tries ≤ 1) ⊎ HasStoppedShort L p.view.log))
     → IfErr r (λ e. GiveUp L key a.view.log p.view.log) → IfErr r (λ e. e ≡ fault.Busy) → IfErr r (λ e. out ≡ old) → AfterScan side L tries from to old out o q r
-after_scan side L tries from to key epoch old out o a p q r is pinning pinned hands walked only looks leaves rests kept first fits unpinned mid told count next given_up busy same =
+after_scan side L tries from to key epoch old out o a p q r is pinning pinned hands walked only looks leaves rests kept first fits unpinned mid told count next ends given_up busy same =
     let did : LooksUnderPin tries ((count_of r + tries) * leg_looks (reach L)) o.view.log q.view.log = record { pinned = a.view.log; epoch = epoch; pin = pinned; looked = p.view.log; looks = looks; leaves = ap (λ (s : PassView). s.view.log) leaves.step } in
     let added = call_adds tries ((count_of r + tries) * leg_looks (reach L)) o.view.log q.view.log did in
     let so = was_so o a p q first fits unpinned pinning walked mid leaves in
@@ -562,6 +741,7 @@ after_scan side L tries from to key epoch old out o a p q r is pinning pinned ha
       moment = IfOk-weaker r _ (λ s. IsRangeBy side (WasSo o q) (bound side from) (end_of side to s.next) (take s.count out)) (λ s range. range_by side (HasEndedSo p) (WasSo o q) so (bound side from) (end_of side to s.next) (take s.count out) (subst (λ (k : ℕ). IsRangeBy side (HasEndedSo p) (bound side k) (end_of side to s.next) (take s.count out)) is range)) told;
       count = count;
       next = subst (λ (x : ℕ). IfOk r (λ s. IfSome s.next (λ k. IsKey k × IsIn side (bound side x) to k × (length out ≢ 0 → IsPast side x k)))) is next;
+      early = IfOk-weaker r _ _ (λ s. stopped s.next s.count did.leaves) ends;
       busy = busy;
       kept = same;
       missed = IfErr-weaker r _ _ (λ e gives. walks_missed (GiveUp L from) tries o.view.log a.view.log p.view.log q.view.log epoch pinned gives did.leaves) (subst (λ (x : ℕ). IfErr r (λ e. GiveUp L x a.view.log p.view.log)) is given_up);
@@ -575,6 +755,13 @@ after_scan side L tries from to key epoch old out o a p q r is pinning pinned ha
     any_ok : (x : Result Scanned CallFault) → LooksUnderPin tries ((count_of x + tries) * leg_looks (reach L)) o.view.log q.view.log → IfOk x (λ s. LooksUnderPin tries ((s.count + tries) * leg_looks (reach L)) o.view.log q.view.log)
     any_ok (Ok s) did = did
     any_ok (Err e) did = tt
+
+    stopped : (next : Option ℕ) (count : ℕ) → q.view.log ≡ p.view.log ++ (Leave, Departed) ∷ [] → IfSome next (λ k. IsFull (length out) count ⊎ (tries ≤ 1) ⊎ HasStoppedShort L p.view.log)
+        → IfSome next (λ k. IsFull (length out) count ⊎ (tries ≤ 1) ⊎ GivesUpUnderPin (StopsShort L) tries o.view.log q.view.log)
+    stopped None count left ends = tt
+    stopped (Some k) count left (inl full) = inl full
+    stopped (Some k) count left (inr (inl few)) = inr (inl few)
+    stopped (Some k) count left (inr (inr short)) = inr (inr (a.view.log, p.view.log, epoch, pinned, (_, looks, short), left))
 
     looks_keep : KeepsHands a p
     looks_keep = record { private = only.private; labelled = λ was. ap (λ (b : Brief). b.unlabelled) only.epochs ∙ was; ledgers = λ was. only.ledgers }

@@ -27,7 +27,7 @@ or_cases : (a b : Bool) → (a || b) ≡ true → (a ≡ true) ⊎ (b ≡ true)
 or_cases true b is = inl refl
 or_cases false b is = inr is
 
-contains_slot : (ns : List NodeId) (x : ℕ) → Contains (slots_of ns) x → (n : NodeId) × Contains ns n × (n.slot ≡ x)
+pub contains_slot : (ns : List NodeId) (x : ℕ) → Contains (slots_of ns) x → (n : NodeId) × Contains ns n × (n.slot ≡ x)
 contains_slot [] x c = absurd (let below = c.1 in omega (arith, below))
 contains_slot (n ∷ ns) x (zero, below, at) = (n, (0, omega arith, refl), at)
 contains_slot (n ∷ ns) x (suc k, below, at) =
@@ -35,7 +35,7 @@ contains_slot (n ∷ ns) x (suc k, below, at) =
     let less = r.1.1 in
     (r.0, (suc r.1.0, omega (arith, less), r.1.2), r.2)
 
-in_filter : (p : NodeId → Bool) (ns : List NodeId) (n : NodeId) → Contains ns n → p n ≡ true → (i : ℕ) × (slice_get (filter p ns) i ≡ Some n)
+pub in_filter : (p : NodeId → Bool) (ns : List NodeId) (n : NodeId) → Contains ns n → p n ≡ true → (i : ℕ) × (slice_get (filter p ns) i ≡ Some n)
 in_filter p [] n c passes = absurd (let below = c.1 in omega (arith, below))
 in_filter p (m ∷ ms) n (zero, below, at) passes = (0, ap (λ (b : Bool). slice_get (cond b (m ∷ filter p ms) (filter p ms)) 0) (ap p at ∙ passes) ∙ ap (λ (y : NodeId). Some y) at)
 in_filter p (m ∷ ms) n (suc k, below, at) passes = go (p m) refl (in_filter p ms n (k, omega (arith, below), at) passes)
@@ -49,7 +49,7 @@ same_node n m same =
     let both = and_parts (n.slot == m.slot) (n.birth == m.birth) same in
     (λ i. record { slot = sym (eqb-true n.slot m.slot both.0) i; birth = sym (eqb-true n.birth m.birth both.1) i })
 
-among_in : (ns : List NodeId) (n : NodeId) → is_among ns n ≡ true → Contains ns n
+pub among_in : (ns : List NodeId) (n : NodeId) → is_among ns n ≡ true → Contains ns n
 among_in [] n is = absurd (true≢false (sym is))
 among_in (m ∷ ms) n is = go (or_cases ((n.slot == m.slot) && (n.birth == m.birth)) (is_among ms n) is) (among_in ms n)
   where
@@ -57,7 +57,7 @@ among_in (m ∷ ms) n is = go (or_cases ((n.slot == m.slot) && (n.birth == m.bir
     go (inl same) later = (0, omega arith, same_node n m same)
     go (inr more) later = let c = later more in let less = c.1 in (suc c.0, omega (arith, less), c.2)
 
-freed_longer : (ts us : List Turn) (n : NodeId) → Contains (freed_by ts) n → Contains (freed_by (ts ++ us)) n
+pub freed_longer : (ts us : List Turn) (n : NodeId) → Contains (freed_by ts) n → Contains (freed_by (ts ++ us)) n
 freed_longer ts us n c = subst (λ (ns : List NodeId). Contains ns n) (sym (go ts)) (Contains-append_left (freed_by ts) (freed_by us) n c)
   where
     go : (xs : List Turn) → freed_by (xs ++ us) ≡ freed_by xs ++ freed_by us
@@ -68,10 +68,10 @@ words_push : (m : Memory) (ts : List Turn) (t : Turn) → words_from m (ts ++ t 
 words_push m [] t = refl
 words_push m (u ∷ ts) t = words_push (after_turn m u) ts t
 
-not_place : (w : ℕ) (path : List Side) → ◌≡◌ {A = Place} (InHands w) (OnPath path) → ⊥
+pub not_place : (w : ℕ) (path : List Side) → ◌≡◌ {A = Place} (InHands w) (OnPath path) → ⊥
 not_place w path e = cc
 
-not_waiting : (w v i : ℕ) → ◌≡◌ {A = Place} (InHands w) (Waits v i) → ⊥
+pub not_waiting : (w v i : ℕ) → ◌≡◌ {A = Place} (InHands w) (Waits v i) → ⊥
 not_waiting w v i e = cc
 
 -- ---- places after a moment at which the slot was reached

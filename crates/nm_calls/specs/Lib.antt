@@ -11,3 +11,4 @@ pub mod Moments
 pub mod Inserts
 pub mod Deletes
 pub mod Maps
+pub mod HandedBack

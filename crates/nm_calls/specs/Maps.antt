@@ -1,5 +1,5 @@
 -- A map: what was stored under a key and when, and what a call for the value of a key leaves.
-use Rattle.std.specs.Prelude.{◌≡◌, ◌≤◌, ◌<◌, ℕ, nat_lt, Bool, true, false, List, [], ◌∷◌, ◌++◌, length, filter, Option, Some, None, Result, IfOk, IfErr, IfSome}
+use Rattle.std.specs.Prelude.{◌≡◌, ◌+◌, ◌*◌, ◌≤◌, ◌<◌, ℕ, nat_lt, Bool, true, false, List, [], ◌∷◌, ◌++◌, length, filter, Option, Some, None, Result, Ok, IfOk, IfErr, IfSome}
 use Rattle.nm_edge.specs.Layouts.{Layout}
 use Rattle.nm_edge.specs.declared.edge.Side.{Side}
 use Rattle.nm_edge.specs.declared.node.NodeId.{NodeId}
@@ -23,7 +23,8 @@ use Rattle.nm_walks.specs.WonCounts.{won_splices}
 use Rattle.nm_calls.specs.declared.fault.CallFault.{CallFault}
 use Rattle.nm_calls.specs.declared.fault.CallFault.TheVariants as fault
 use Rattle.nm_calls.specs.declared.values.Leaf.{Leaf}
-use Rattle.nm_calls.specs.PlainWalks.{HasEndedSo, LooksUnderPin, most_looks}
+use Rattle.nm_calls.specs.InTurns.{GiveUp}
+use Rattle.nm_calls.specs.PlainWalks.{HasEndedSo, LooksUnderPin, PlainMissed, most_looks}
 use Rattle.nm_calls.specs.Won.{HasWon}
 
 -- ---- what a map has
@@ -57,6 +58,24 @@ pub record WasMapped (L : Layout) (was now : List Turn) (stores : List Stored) (
   pub pinned : IsPinned w so_far
   pub gives : MapGives (IsInMap L so_far stores k) answer
 
+-- the worker put the key into the map with this value: it won a link after the turns `was`, and right
+-- after the link the map has the key with the value
+pub record WasPut (L : Layout) (was now : List Turn) (stores : List Stored) (w k v : ℕ) : Type 0 where
+  pub so_far : List Turn
+  pub link : Turn
+  pub rest : List Turn
+  pub are : now ≡ (so_far ++ link ∷ []) ++ rest
+  pub later : length was ≤ length so_far
+  pub own : link.worker ≡ w
+  pub node : NodeId
+  pub won : link.outcome ≡ Ok (Linked node)
+  pub is : IsInMap L (so_far ++ link ∷ []) stores k v
+
+-- from what p had seen to what q has seen, the worker put the key into the map with this value
+abbrev pub HasPut : PassView → PassView → ℕ → ℕ → Type 0
+HasPut p q k v =
+    WasPut q.view.layout p.view.past q.view.past q.view.stores q.view.number k v
+
 -- the stores are those of a run whose turns are a beginning of these. Each was made in a slot that
 -- was private to its worker, and each worker that tried to link a new leaf had just stored its value
 pub record HoldsStores (L : Layout) (now : List Turn) (stores : List Stored) : Type 0 where
@@ -66,6 +85,15 @@ pub record HoldsStores (L : Layout) (now : List Turn) (stores : List Stored) : T
   pub are : until ≡ trace_in (ordered L) events
   pub held : WereHeld L events stores
   pub linked : LinksHaveValues L events stores
+
+-- `MapGave`: between p and q the map gave this answer to a look-up of the key. `HasStores`: what q has
+-- seen of stores is such
+abbrev pub MapGave : PassView → PassView → ℕ → Option ℕ → Type 0
+MapGave p q k answer =
+    WasMapped q.view.layout p.view.past q.view.past q.view.stores q.view.number k answer
+
+abbrev pub HasStores : PassView → Type 0
+HasStores q = HoldsStores q.view.layout q.view.past q.view.stores
 
 -- the step by which a call leaves with an answer
 abbrev pub answered : Bool → List Entry
@@ -131,12 +159,13 @@ pub record AfterGet (L : Layout) (tries k : ℕ) (p q : PassView) (r : Result (O
   pub stores : ExtendsStores q.view.stores p.view.stores
   pub did : IfOk r
       (λ found. LooksUnderPin tries (most_looks (reach L) 1) p.view.log q.view.log)
-  pub moment : IfOk r
-      (WasMapped q.view.layout p.view.past q.view.past q.view.stores q.view.number k)
-  pub stored : IfOk r (λ found. IfSome found
-      (λ v. HoldsStores q.view.layout q.view.past q.view.stores))
+  pub moment : IfOk r (MapGave p q k)
+  pub stored : IfOk r (λ found. IfSome found (λ v. HasStores q))
   pub busy : IfErr r (λ e. e ≡ fault.Busy)
+  pub missed : IfErr r
+      (λ e. PlainMissed (GiveUp L (k ∷ [])) tries p.view.log q.view.log)
   pub won : HasWon p.view.log q.view.log 0 0
+  pub steps : length q.view.log ≤ length p.view.log + 3 * tries + most_looks (reach L) 1 + 2
   pub uncut : won_splices q.view.log ≡ won_splices p.view.log
   pub rests : IsResting q
   pub hands : KeepsHands p q

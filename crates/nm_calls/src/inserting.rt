@@ -1,8 +1,10 @@
 //! Inserts: tries to link two new nodes.
-ghost use Rattle.std.specs.Prelude.{◌≡◌, ◌<◌, ◌≤◌, ◌*◌, true, false, length, None, IfOk, IfSome, IsErrOf};
+ghost use Rattle.std.specs.Prelude.{◌≡◌, ◌<◌, ◌≤◌, ◌*◌, true, false, length, [], None, Ok, IfOk, IfSome, IsErrOf};
 ghost use Rattle.nm_edge.specs.Keys.{IsKey};
 ghost use Rattle.nm_model.specs.declared.event.Op.TheVariants.{Insert};
+ghost use Rattle.nm_steps.specs.Rules.{ExtendsStores};
 ghost use Rattle.nm_steps.specs.Steps.{PassView, IsOf, Continues};
+ghost use Rattle.nm_steps.specs.Values.{HasValues};
 ghost use Rattle.nm_epoch.specs.Resting.{IsResting, search};
 ghost use Rattle.nm_walks.specs.Bounds.{cut_bound};
 ghost use Rattle.nm_walks.specs.Rooms.{FillsUp, TakesRoom};
@@ -16,6 +18,7 @@ ghost use Rattle.nm_walks.specs.Growing.{HasNewNodes};
 ghost use Rattle.nm_calls.specs.Inserts.{IsReadied, IsTry, OnlyTries, ShowsTry, Finishes, AfterInsert};
 ghost use Rattle.nm_walks.specs.Labelling.{IsPinnedForCall};
 ghost use Rattle.nm_calls.specs.Leaving.{HasChangedNothing};
+ghost use Rattle.nm_calls.specs.Maps.{HasInserted, HasPut, answered};
 
 use crate::fault::CallFault;
 use crate::helping::{help, make_room, make_room_for};
@@ -42,7 +45,7 @@ pub(crate) enum Attempt {
 }
 
 /// Returns the two new nodes, and claims them if there are none yet.
-pub(crate) fn ready(
+fn ready(
     shared: &Shared,
     pass: &mut Pass,
     placement: &mut Placement,
@@ -67,12 +70,7 @@ pub(crate) fn ready(
 
 /// Walks as an insert does, which depends on the shape of the tree.
 #[inline(always)]
-pub(crate) fn stop(
-    shared: &Shared,
-    pass: &mut Pass,
-    key: u64,
-    chain: &mut ChainEdges,
-) -> Option<WalkEnd>
+fn stop(shared: &Shared, pass: &mut Pass, key: u64, chain: &mut ChainEdges) -> Option<WalkEnd>
     requires pinned { IsPinnedIn shared.now pass.old }
     requires root { Tells pass.old (KnowsSlot 1) }
     requires known { Tells pass.old (KnowsSlot 2) }
@@ -101,10 +99,10 @@ fn try_insert(
     workspace: &mut Workspace,
     held: &mut HeldQueue,
     key: Key,
+    value: u64,
     new_nodes: &mut Option<NewNodes>,
 ) -> Attempt
     requires pinned { IsPinnedIn shared.now pass.old }
-    requires plain { shared.now.table.slots ≡ 0 }
     requires call { IsPinnedForCall Insert key pass.old }
     requires unlinked { (search pass.old).linked ≡ false }
     requires room { cut_bound ≤ held.old.queue.spare }
@@ -115,6 +113,10 @@ fn try_insert(
     ensures on { GoesOn pass.old pass.new }
     ensures only { OnlyTries pass.old pass.new }
     ensures shows { ShowsTry key pass.old pass.new result }
+    ensures stored { HasValues shared.now → result ≡ Attempt.Linked
+        → HasInserted [] pass.new key value }
+    ensures put { HasValues shared.now → result ≡ Attempt.Linked
+        → HasPut pass.old pass.new key value }
     ensures has { (o : PassView) → HasNewNodes o pass.old new_nodes.old → HasNewNodes o pass.new new_nodes.new }
     ensures kept { HoldsCuts pass.new held.new }
     ensures fills { FillsUp held.old.queue held.new.queue }
@@ -130,8 +132,9 @@ fn try_insert(
     let Some(made) = ready(shared, pass, &mut workspace.placement, new_nodes) else {
         return Attempt::Full;
     };
-    match grow(shared, pass, sought, &end, &made) {
+    match grow(shared, pass, sought, value, &end, &made) {
         Ok(()) => {
+            pass.know_run();
             *new_nodes = None;
             held.counts.links = held.counts.links.saturating_add(1);
             Attempt::Linked
@@ -151,10 +154,10 @@ fn insert_pinned(
     workspace: &mut Workspace,
     held: &mut HeldQueue,
     key: Key,
+    value: u64,
     tries: u32,
 ) -> Result<bool, CallFault>
     requires pinned { IsPinnedIn shared.now pass.old }
-    requires plain { shared.now.table.slots ≡ 0 }
     requires call { IsPinnedForCall Insert key pass.old }
     requires unchanged { HasChangedNothing pass.old }
     requires room { cut_bound ≤ held.old.queue.spare }
@@ -163,6 +166,9 @@ fn insert_pinned(
     ensures part { Finishes workspace.old.placement shared.now.layout tries key
         pass.old.view.log pass.new.view.log result }
     ensures refused { IsErrOf result CallFault.NoMemory → held.new.queue.spare < cut_bound }
+    ensures stored { HasValues shared.now → result ≡ Ok true
+        → HasInserted (answered true) pass.new key value }
+    ensures put { HasValues shared.now → result ≡ Ok true → HasPut pass.old pass.new key value }
     ensures moment { (o : PassView) → HadNoCall o pass.old
         → IfOk result (AnswerHasMoment o pass.new Insert key) }
     ensures rests { IsResting pass.new }
@@ -179,7 +185,7 @@ fn insert_pinned(
             leave(shared, pass);
             return Err(CallFault::NoMemory);
         }
-        match try_insert(shared, pass, workspace, held, key, &mut new_nodes) {
+        match try_insert(shared, pass, workspace, held, key, value, &mut new_nodes) {
             Attempt::Found => {
                 give_back(shared, pass, &mut workspace.placement, &new_nodes);
                 answer(shared, pass, false);
@@ -205,6 +211,10 @@ fn insert_pinned(
 /// with the same private slots. Its queue is that of its log before and after, with no more entries
 /// than there are nodes.
 ///
+/// In a table with values a new key gets `value`, and a key that was there keeps its value. The call
+/// stores the value in the new leaf as its last step before the link, so no other worker can read
+/// the leaf without it. In a table without values `value` is not used.
+///
 /// Each try is a walk that ends with the answer, or a link. If the link is lost, the try helps with
 /// at most one cleanup. Before each try the call makes room for a cleanup, with as few new blocks
 /// as possible; for the first try it does so before the pin. It takes no other memory. It claims
@@ -222,17 +232,21 @@ pub fn insert(
     workspace: &mut Workspace,
     held: &mut HeldQueue,
     key: Key,
+    value: u64,
     tries: u32,
 ) -> Result<bool, CallFault>
     requires own { IsOf shared.now pass.old }
-    requires plain { shared.now.table.slots ≡ 0 }
     requires rests { IsResting pass.old }
     requires kept { HoldsCuts pass.old held.old }
     ensures after { AfterInsert workspace.old.placement shared.now.layout tries key pass.old
         pass.new result }
     ensures refused { IsErrOf result CallFault.NoMemory → held.new.queue.spare < cut_bound }
+    ensures stored { HasValues shared.now → result ≡ Ok true
+        → HasInserted (answered true) pass.new key value }
+    ensures put { HasValues shared.now → result ≡ Ok true → HasPut pass.old pass.new key value }
     ensures kept { HoldsCuts pass.new held.new }
     ensures few { length held.new.queue.items ≤ shared.now.layout.nodes }
+    ensures on { ExtendsStores pass.new.view.stores pass.old.view.stores }
     ensures blocks { TakesRoom held.old.queue held.new.queue }
     ensures fit { workspace.new.placement ≡ workspace.old.placement }
 {
@@ -246,5 +260,5 @@ pub fn insert(
     let Ok(_epoch) = pin_for(shared, pass, tries, Op::Insert, key) else {
         return Err(CallFault::Busy);
     };
-    insert_pinned(shared, pass, workspace, held, key, tries)
+    insert_pinned(shared, pass, workspace, held, key, value, tries)
 }

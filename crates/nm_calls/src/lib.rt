@@ -4,9 +4,9 @@
 
 mod deleting;
 mod fault;
+mod handing_back;
 mod helping;
 mod inserting;
-mod inserting_values;
 mod leaving;
 mod lookup;
 mod many;
@@ -16,8 +16,8 @@ mod values;
 
 pub use deleting::{Missed, Unfinished, delete, finish};
 pub use fault::CallFault;
+pub use handing_back::collect_values;
 pub use inserting::insert;
-pub use inserting_values::insert_with_value;
 pub use leaving::leave;
 pub use lookup::has;
 pub use many::{Query, has_many};

@@ -13,7 +13,7 @@ ghost use Rattle.nm_steps.specs.Steps.{IsOf};
 ghost use Rattle.nm_epoch.specs.Resting.{IsResting};
 ghost use Rattle.nm_calls.specs.NearKeys.{IsPast, Lies, bound};
 ghost use Rattle.nm_calls.specs.PlainWalks.{HasEndedSo};
-ghost use Rattle.nm_calls.specs.Scans.{AfterScan, Chooses, GiveUp, IsIn, IsRangeBy, IsStretch, IsTooFar, count_of, end_of, entry_of, exit_of, found_in, leg_looks, most_keys, stretch_over};
+ghost use Rattle.nm_calls.specs.Scans.{AfterScan, Chooses, GiveUp, HasFoundNone, HasRouter, HasStoppedShort, IsFull, IsIn, IsRangeBy, IsStretch, IsTooFar, count_of, end_of, entry_of, exit_of, found_in, leg_looks, most_keys, stretch_over};
 ghost use Rattle.nm_walks.specs.AddedLooks.{AddsLooks};
 ghost use Rattle.nm_walks.specs.Bounds.{reach};
 ghost use Rattle.nm_walks.specs.Telling.{Tells, GoesOn, OnlyLooks, IsPinnedIn};
@@ -98,7 +98,9 @@ pub struct Scanned {
 ///
 /// The call continues beyond `from` whenever `out` has room for a key. It ends early if `tries` of
 /// its walks have ended with no key of the range, or if a walk after the first one had looked at as
-/// many nodes as there are. The worker must rest, and it rests afterwards.
+/// many nodes as there are. Proved (`early`): a call that has two tries ends early only after a walk
+/// that had found no key between two internal nodes, or after such a long walk. The worker must
+/// rest, and it rests afterwards.
 ///
 /// Errors: `out` is unchanged. `Busy`, for one of these reasons:
 /// - `tries` is 0; then there was no step.
@@ -159,6 +161,8 @@ fn scan_pinned(
     ensures count { IfOk result (λ s. (s.count ≤ length out.new) × (s.count ≤ most_keys)) }
     ensures next { IfOk result (λ s. IfSome s.next
         (λ k. IsKey k × IsIn side (bound side from) to k × (length out.new ≢ 0 → IsPast side from k))) }
+    ensures early { IfOk result (λ s. IfSome s.next (λ k. IsFull (length out.new) s.count ⊎ (tries ≤ 1)
+        ⊎ HasStoppedShort shared.now.layout pass.new.view.log)) }
     ensures given_up { IfErr result
         (λ e. GiveUp shared.now.layout from pass.old.view.log pass.new.view.log) }
     ensures busy { IfErr result (λ e. e ≡ CallFault.Busy) }
@@ -189,6 +193,7 @@ fn plan_of(side: Side, to: u64, length: usize) -> Plan
     ensures top { result.end ≤ INFINITY_0 }
     ensures end { (result.end ≤ to) × ((result.end ≡ to) ⊎ (result.end ≡ INFINITY_0)) }
     ensures room { (result.room ≤ length) × (result.room ≤ most_keys) }
+    ensures limit { IsFull length result.room }
     ensures some { result.room ≡ 0 → length ≡ 0 }
 {
     Plan {
@@ -476,6 +481,8 @@ fn write_all(
         × IsPast plan.now.side (bound plan.now.side k) plan.now.end
         × (plan.now.room ≢ 0
         → IsPast plan.now.side (entry_of plan.now.side first.now) (bound plan.now.side k))) }
+    ensures early { IfSome result.next (λ k. (result.count ≡ plan.now.room) ⊎ (tries ≤ 1)
+        ⊎ HasStoppedShort shared.now.layout pass.new.view.log) }
     ensures on { GoesOn pass.old pass.new }
     ensures only { OnlyLooks pass.old pass.new }
 {
@@ -537,6 +544,16 @@ fn turn(
     ensures further { IsPast plan.now.side progress.old.at progress.new.at
         ⊎ ((progress.new.at ≡ progress.old.at) × (plan.now.room ≡ progress.old.count)) }
     ensures count { (progress.new.count ≤ plan.now.room) × (length out.new ≡ length out.old) }
+    ensures parts { result ≡ true
+        → HasRouter pass.new.view.log progress.new.at × IsPast plan.now.side progress.new.at plan.now.end }
+    ensures lost { IsPast plan.now.side progress.new.at plan.now.end
+        → (progress.new.spare ≡ progress.old.spare) ⊎ ((progress.old.spare ≡ progress.new.spare + 1)
+        × (HasRouter pass.old.view.log progress.old.at → HasFoundNone pass.new.view.log)) }
+    ensures stops { result ≡ false → IsPast plan.now.side progress.new.at plan.now.end
+        → (progress.new.count ≡ plan.now.room) ⊎ (progress.new.spare ≡ 0)
+        ⊎ ((j : ℕ) × IsTooFar shared.now.layout j pass.new.view.log) }
+    ensures wrote { result ≡ true
+        → progress.new.count + progress.old.spare ≡ progress.old.count + progress.new.spare + 1 }
     ensures on { GoesOn pass.old pass.new }
     ensures only { OnlyLooks pass.old pass.new }
 {

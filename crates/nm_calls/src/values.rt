@@ -1,5 +1,5 @@
 //! The value that a map has under a key. Its table has a value for each slot.
-ghost use Rattle.std.specs.Prelude.{◌≡◌, None, IfOk, IfErr, IfSome};
+ghost use Rattle.std.specs.Prelude.{◌≡◌, [], ◌∷◌, None, IfOk, IfErr, IfNone, IfSome};
 ghost use Rattle.nm_edge.specs.Keys.{IsKey};
 ghost use Rattle.nm_order.specs.Facts.Fact.{KnowsSlot};
 ghost use Rattle.nm_steps.specs.Steps.{IsOf};
@@ -8,6 +8,7 @@ ghost use Rattle.nm_epoch.specs.Resting.{IsResting};
 ghost use Rattle.nm_walks.specs.AddedLooks.{AddsLooks};
 ghost use Rattle.nm_walks.specs.Bounds.{reach};
 ghost use Rattle.nm_walks.specs.Telling.{Tells, GoesOn, OnlyLooks, IsPinnedIn};
+ghost use Rattle.nm_calls.specs.InTurns.{GiveUp};
 ghost use Rattle.nm_calls.specs.Maps.{AfterGet, HasLookedUp, IsLeafAt};
 ghost use Rattle.nm_calls.specs.PlainWalks.{most_looks};
 
@@ -66,6 +67,8 @@ fn look_up(shared: &Shared, pass: &mut Pass, key: u64) -> Result<Option<u64>, Ca
         pass.new.view.log }
     ensures found { IfOk result (HasLookedUp pass.new key) }
     ensures busy { IfErr result (λ e. e ≡ CallFault.Busy) }
+    ensures missed { IfErr result (λ e. GiveUp shared.now.layout (key ∷ []) pass.old.view.log
+        pass.new.view.log) }
     ensures on { GoesOn pass.old pass.new }
     ensures only { OnlyLooks pass.old pass.new }
 {
@@ -89,6 +92,8 @@ fn find_leaf(shared: &Shared, pass: &mut Pass, key: u64) -> Option<Leaf>
     ensures looks { AddsLooks (most_looks (reach shared.now.layout) 1) pass.old.view.log
         pass.new.view.log }
     ensures ended { IfSome result (IsLeafAt pass.new key) }
+    ensures gave { IfNone result (GiveUp shared.now.layout (key ∷ []) pass.old.view.log
+        pass.new.view.log) }
     ensures on { GoesOn pass.old pass.new }
     ensures only { OnlyLooks pass.old pass.new }
 {

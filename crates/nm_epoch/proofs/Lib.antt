@@ -18,3 +18,5 @@ pub mod Newest
 pub mod Steps
 pub mod FewFreed
 pub mod Labels
+pub mod ReadValues
+pub mod HandedQueues

@@ -39,13 +39,23 @@ pub record IsCollecting (epoch origin : ℕ) (start : PassView) (all : List Entr
   pub left : rest_of epoch now ≡ rest_of epoch all
   pub count : length now + length (ripe_part epoch all) ≡ length all + length (ripe_part epoch now)
 
+pub collecting_begins : (epoch origin : ℕ) (start : PassView) (all : List Entry) → IsQueueOf (knowledge start.view) origin all → IsCollecting epoch origin start all start all
+collecting_begins epoch origin start all queue = record {
+  queue = queue;
+  others = λ o other. refl;
+  only = record { retired = λ o. refl; epochs_are = refl; search_is = refl; nodes = refl; private = refl };
+  entries = refl;
+  left = refl;
+  count = refl;
+}
+
 -- ---- ripe entries
 
-ripe_node : (b : Bool) (x n : NodeId) → cond b (Some x) None ≡ Some n → (b ≡ true) × (x ≡ n)
+pub ripe_node : (b : Bool) (x n : NodeId) → cond b (Some x) None ≡ Some n → (b ≡ true) × (x ≡ n)
 ripe_node true x n h = (refl, same_Some x n h)
 ripe_node false x n h = absurd (none-some n h)
 
-ripe_more : (epoch : ℕ) (x : Entry) (es : List Entry) → is_ripe epoch x ≡ true → ripe_part epoch (x ∷ es) ≡ x ∷ ripe_part epoch es
+pub ripe_more : (epoch : ℕ) (x : Entry) (es : List Entry) → is_ripe epoch x ≡ true → ripe_part epoch (x ∷ es) ≡ x ∷ ripe_part epoch es
 ripe_more epoch x es h = take_while-cons (is_ripe epoch) x es ∙ cond-true (is_ripe epoch x) (x ∷ ripe_part epoch es) [] h
 
 rest_more : (epoch : ℕ) (x : Entry) (es : List Entry) → is_ripe epoch x ≡ true → rest_of epoch (x ∷ es) ≡ rest_of epoch es
@@ -117,6 +127,13 @@ collecting_on epoch origin start p q all (x ∷ es) later y n run c ripe step is
     let here : Stepped p q (Give x.node.slot) (give_reply p.view x.node.slot) = subst (λ (m : NodeId). Stepped p q (Give m.slot) (give_reply p.view m.slot)) (sym r.1) step in
     subst (λ (l : List Entry). IsCollecting epoch origin start all q l) (ap (λ (l : List Entry). drop 1 l) is)
     (collecting_more epoch origin start p q all es x run c r.0 (subst (λ reply. Stepped p q (Give x.node.slot) reply) (freed_reply p origin x es c.queue (apart_in_run p run)) here))
+
+-- the step by which the front was freed
+pub freed_log : (epoch origin : ℕ) (start p q : PassView) (all es : List Entry) (x : Entry) (n : NodeId) → IsInRun p → IsCollecting epoch origin start all p (x ∷ es) → ripe_front epoch (x ∷ es) ≡ Some n → Stepped p q (Give n.slot) (give_reply p.view n.slot) → q.view.log ≡ p.view.log ++ freeing x ∷ []
+freed_log epoch origin start p q all es x n run c ripe step =
+    let r = ripe_node (is_ripe epoch x) x.node n ripe in
+    let here : Stepped p q (Give x.node.slot) (give_reply p.view x.node.slot) = subst (λ (m : NodeId). Stepped p q (Give m.slot) (give_reply p.view m.slot)) (sym r.1) step in
+    ap (λ (y : PassView). y.view.log) (subst (λ reply. Stepped p q (Give x.node.slot) reply) (freed_reply p origin x es c.queue (apart_in_run p run)) here)
 
 -- what is dropped is the front
 pub dropped_front : (epoch : ℕ) (now later : List Entry) (n : NodeId) → later ≡ drop 1 now → ripe_front epoch now ≡ Some n → (y : Entry) × (now ≡ y ∷ later)

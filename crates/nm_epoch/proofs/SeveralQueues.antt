@@ -33,11 +33,11 @@ none_still epoch o (h ∷ hs) [] lost none' = absurd lost
 none_still epoch o (h ∷ hs) (g ∷ gs) lost none' = (λ e. none'.0 (e ∙ lost.0.origin), none_still epoch o hs gs lost.1 none'.1)
 
 -- the first queue and then the others: all are held in the end
-pub held_all : (epoch : ℕ) (k l : Knowledge) (o : ℕ) (g : HeldQueue) (hs gs : List HeldQueue) → g.origin ≡ o → IsQueueOf k g.origin g.queue.items → NoneHas o hs → HaveLost epoch hs gs → StaysBut (λ j. NoneHas j hs) k l → AreHeld l gs
+pub held_all : (k l : Knowledge) (o : ℕ) (g : HeldQueue) (hs gs : List HeldQueue) → g.origin ≡ o → IsQueueOf k g.origin g.queue.items → NoneHas o hs → NoneHas o gs → StaysBut (λ j. NoneHas j hs) k l → AreHeld l gs
     → AreHeld l (g ∷ gs)
-held_all epoch k l o g hs gs at has none' lost stay rest = (
+held_all k l o g hs gs at has none' left stay rest = (
   queue_stays k l g.origin g.queue.items (ap (λ (j : ℕ). held l.ledgers j) at ∙ (stay o none' ∙ sym (ap (λ (j : ℕ). held k.ledgers j) at))) has,
-  rw at (none_still epoch o hs gs lost none'),
+  rw at left,
   rest,
 )
 
@@ -59,7 +59,7 @@ fronts_freed epoch p q r h g hs gs m n has first rest =
       freed = omega (arith, sum, one, more);
       lost = (first.lost, rest.lost);
       blocks = (first.blocks, rest.blocks);
-      queues = held_all epoch (knowledge q.view) (knowledge r.view) h.origin g hs gs first.lost.origin first.queue has.1 rest.lost rest.others rest.queues;
+      queues = held_all (knowledge q.view) (knowledge r.view) h.origin g hs gs first.lost.origin first.queue has.1 (none_still epoch h.origin hs gs rest.lost has.1) rest.others rest.queues;
       others = others_on (knowledge p.view) (knowledge q.view) (knowledge r.view) h hs first.others rest.others;
       only = frees_then p q r first.only rest.only;
     }

@@ -4,3 +4,4 @@ pub mod Scans
 pub mod Watches
 pub mod Collecting
 pub mod Reading
+pub mod Handing

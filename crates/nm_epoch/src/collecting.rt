@@ -64,7 +64,7 @@ impl HeldQueue {
 /// The number of spare places that a queue keeps after a collection, if it has them: 128 that a try
 /// needs, and 128 for what is cut off until the next collection. So a worker that collects now and
 /// then reuses its blocks and allocates no memory.
-const SPARE_KEPT: u32 = 256;
+pub(crate) const SPARE_KEPT: u32 = 256;
 
 /// Returns whether the label is at least two below the epoch.
 fn is_ripe(label: u64, epoch: u64) -> bool
@@ -74,7 +74,7 @@ fn is_ripe(label: u64, epoch: u64) -> bool
 }
 
 /// Returns the node at the front, if it is ripe.
-fn next_ripe(queue: &BlockQueue<Entry>, epoch: u64) -> Option<NodeId>
+pub(crate) fn next_ripe(queue: &BlockQueue<Entry>, epoch: u64) -> Option<NodeId>
     ensures { result ≡ ripe_front epoch queue.now.items }
 {
     match queue.front() {
@@ -90,7 +90,7 @@ fn next_ripe(queue: &BlockQueue<Entry>, epoch: u64) -> Option<NodeId>
 }
 
 /// Removes the front, if there is one. It takes no memory.
-fn drop_front(queue: &mut BlockQueue<Entry>)
+pub(crate) fn drop_front(queue: &mut BlockQueue<Entry>)
     ensures items { queue.new.items ≡ drop 1 queue.old.items }
     ensures blocks { queue.new.blocks ≡ queue.old.blocks }
 {
@@ -98,7 +98,7 @@ fn drop_front(queue: &mut BlockQueue<Entry>)
 }
 
 /// Frees the node that waits in a slot. Cost: one step.
-fn free(shared: &Shared, pass: &mut Pass, slot: u32)
+pub(crate) fn free(shared: &Shared, pass: &mut Pass, slot: u32)
     requires own { IsOf shared.now pass.old }
     requires may { MayStep pass.old (Give slot) }
     ensures { TakesStep pass.old pass.new (Give slot) (give_reply pass.old.view slot) }

@@ -7,6 +7,7 @@
 
 mod answers;
 mod collecting;
+mod handing;
 mod leaving;
 mod looking;
 mod moving;
@@ -15,6 +16,7 @@ mod watching;
 
 pub use answers::{Advance, Behind, Moved};
 pub use collecting::{Collected, Entry, HeldQueue, Tally, collect};
+pub use handing::{HandedOut, collect_values};
 pub use leaving::{label, unpin, unpin_with};
 pub use moving::advance;
 pub use pinning::{pin, pin_for};

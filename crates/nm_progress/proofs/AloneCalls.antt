@@ -112,7 +112,7 @@ none_moved p q n alone m =
     let few = m.moved in
     omega (arith, none, few)
 
-none_reshaped : (p q : PassView) (n : ℕ) → IsAlone p q → WasReshaped p q n → n ≡ 0
+pub none_reshaped : (p q : PassView) (n : ℕ) → IsAlone p q → WasReshaped p q n → n ≡ 0
 none_reshaped p q n alone m =
     let same_is = same_turns p.view.past m.turns alone.turns q.view.past m.is alone.is in
     let none = ap (λ (l : List Turn). number_of (reshapes_of_others p.view.number) l) same_is ∙ own_none p.view.number is_reshape alone.turns alone.own in

@@ -1,5 +1,6 @@
 -- In the tree of one moment: between the keys of two internal nodes stands a leaf.
-use Rattle.std.proofs.Common.{◌≡◌, ◌≢◌, ℕ, ◌+◌, ◌<◌, ◌≤◌, inl, inr, ◌⊎◌, List, [], ◌∷◌, ◌++◌, refl, sym, ap, subst, ◌∙◌, arith}
+use Rattle.std.proofs.Common.{◌≡◌, ◌≢◌, ℕ, ◌+◌, ◌-◌, ◌<◌, ◌≤◌, inl, inr, ◌⊎◌, List, [], ◌∷◌, ◌++◌, refl, sym, ap, subst, ◌∙◌, arith}
+use Rattle.std.proofs.lemmas.Bool.{cases_lt}
 use Rattle.nm_edge.specs.Edges.{Edge, other}
 use Rattle.nm_edge.specs.Layouts.{Layout}
 use Rattle.nm_edge.specs.declared.edge.Side.{Side}
@@ -115,29 +116,20 @@ module _ (L : Layout) (enough : 5 ≤ L.nodes) (c : Configuration) (o : IsOrdere
       turn Left one two = left_if k (key c.state.memory s) (let less = less_of_left b (key c.state.memory s) two in omega (arith, high, less))
       turn Right one two = right_unless k (key c.state.memory s) (let more = more_of_right a (key c.state.memory s) one in omega (arith, low, more))
 
-  -- ---- two internal nodes with keys a and b, of which one stands on the way of the search for a key
-  -- between them
+  -- ---- two internal nodes with keys a and b
 
   module _ (a b x z : ℕ) (wide : a < b) (none : (j : ℕ) → a ≤ j → j < b → (y : ℕ) × Ends j y × (key c.state.memory y ≢ j)) where
     -- the leaf's key cannot lie between them
     nowhere : (k y : ℕ) → Ends k y → a ≤ key c.state.memory y → key c.state.memory y < b → ⊥
     nowhere k y e low high = let other = none (key c.state.memory y) low high in other.2 (one_end k y other.0 e other.1)
 
-    -- the node with the greater key is on the way of the search for a
-    pub none_from : (j : ℕ) → Passes j x → key c.state.memory x ≡ a → Passes a z → key c.state.memory z ≡ b → ⊥
-    none_from j p at q to =
-        let e = none a (omega arith) wide in
-        nowhere a e.0 e.1
-        (more_of_right _ a (subst (λ (n : ℕ). side_of (key c.state.memory e.0) n ≡ side_of a n) at (alike a e.0 x e.1 (record { comes = subst (λ (n : ℕ). Comes n x) at (own_key j x p.comes); inner = p.inner })) ∙ right_unless a a (omega arith)))
-        (less_of_left _ b (subst (λ (n : ℕ). side_of (key c.state.memory e.0) n ≡ side_of a n) to (alike a e.0 z e.1 q) ∙ left_if a b wide))
+    -- where a search comes by the node with key b, and turns left there, so does its leaf
+    less_than : (k y : ℕ) → Ends k y → Passes k z → key c.state.memory z ≡ b → k < b → key c.state.memory y < b
+    less_than k y e q to below = less_of_left _ b (subst (λ (n : ℕ). side_of (key c.state.memory y) n ≡ side_of k n) to (alike k y z e q) ∙ left_if k b below)
 
-    -- the one with the lesser key is on the way of the search for the greatest key below b
-    pub none_up_to : (k j : ℕ) → k + 1 ≡ b → Passes j z → key c.state.memory z ≡ b → Passes k x → key c.state.memory x ≡ a → ⊥
-    none_up_to k j last q to p at =
-        let e = none k (omega (arith, wide, last)) (omega (arith, last)) in
-        nowhere k e.0 e.1
-        (more_of_right _ a (subst (λ (n : ℕ). side_of (key c.state.memory e.0) n ≡ side_of k n) at (alike k e.0 x e.1 p) ∙ right_unless k a (omega (arith, wide, last))))
-        (less_of_left _ b (subst (λ (n : ℕ). side_of (key c.state.memory e.0) n ≡ side_of k n) to (alike k e.0 z e.1 (record { comes = comes; inner = q.inner })) ∙ left_if k b (omega (arith, last))))
+    -- the search for the greatest key below b comes by the node with key b
+    comes_below : (k j : ℕ) → k + 1 ≡ b → Passes j z → key c.state.memory z ≡ b → Passes k z
+    comes_below k j last q to = record { comes = comes; inner = q.inner }
       where
         -- by way of the node to the left of that with key b
         l : ℕ
@@ -159,3 +151,30 @@ module _ (L : Layout) (enough : 5 ≤ L.nodes) (c : Configuration) (o : IsOrdere
           goes = goes_between (key c.state.memory l) k b 1 q.comes.path (omega (arith, below, last)) (omega (arith, last)) (goes_first (child c.state.memory) (key c.state.memory) (key c.state.memory l) 1 q.comes.path (Left ∷ []) own) (subst (λ (n : ℕ). GoesBy (child c.state.memory) (key c.state.memory) n 1 q.comes.path) to (own_key j z q.comes).goes);
           is_slot = q.comes.is_slot;
         }
+
+    pub none_between : (i j : ℕ) → Passes i x → key c.state.memory x ≡ a → Passes j z → key c.state.memory z ≡ b → ⊥
+    none_between i j p at q to = by (none a (omega arith) wide)
+      where
+        k : ℕ
+        k = b - 1
+
+        by : (y : ℕ) × Ends a y × (key c.state.memory y ≢ a) → ⊥
+        by (y, e, other) = elim (cases_lt (key c.state.memory y) b) [
+          | inl less ↦ nowhere a y e low less
+          | inr high ↦ let less = less_than k y (behind high) (comes_below k j (omega (arith, wide)) q to) to (omega (arith, wide)) in absurd (omega (arith, less, high))
+        ]
+          where
+            low : a ≤ key c.state.memory y
+            low = more_of_right _ a (subst (λ (n : ℕ). side_of (key c.state.memory y) n ≡ side_of a n) at (alike a y x e (record { comes = subst (λ (n : ℕ). Comes n x) at (own_key i x p.comes); inner = p.inner })) ∙ right_unless a a (omega arith))
+
+            -- if its key is not below b, the leaf is where the search for the greatest key below b ends
+            behind : b ≤ key c.state.memory y → Ends (b - 1) y
+            behind high = record {
+              comes = record {
+                path = e.comes.path;
+                ends = e.comes.ends;
+                goes = goes_between a (b - 1) (key c.state.memory y) 1 e.comes.path (omega (arith, wide)) (omega (arith, high)) e.comes.goes (own_key a y e.comes).goes;
+                is_slot = e.comes.is_slot;
+              };
+              leaf = e.leaf;
+            }

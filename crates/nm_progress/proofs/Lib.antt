@@ -17,8 +17,8 @@ pub mod WalkInterference
 pub mod Steady
 pub mod DeepInterference
 pub mod LostLookups
-pub mod TurnInterference
 pub mod Between
+pub mod TurnInterference
 pub mod NearInterference
 pub mod LostWalked
 pub mod Interfered

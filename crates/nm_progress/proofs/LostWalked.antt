@@ -1,17 +1,17 @@
--- A call that walks under a plain pin and is busy.
+-- A call that walks under a plain pin and is busy, and a scan that ends early.
 use Rattle.std.proofs.Common.{◌≡◌, ◌≤◌, ◌+◌, ◌*◌, ℕ, zero, suc, inl, inr, List, ◌++◌, [], ◌∷◌, refl, arith}
 use Rattle.nm_model.specs.declared.event.Event.TheVariants.{Sight, Leave}
 use Rattle.nm_model.specs.declared.reply.Reply.TheVariants.{Departed}
 use Rattle.nm_model.specs.Walks.{Entry}
 use Rattle.nm_steps.specs.Steps.{PassView, IsSamePass, HasSeen, HasSeenAllOf}
 use Rattle.nm_walks.specs.Walks.{IsTooLong}
-use Rattle.nm_progress.specs.Walked.{NearWasBusy, BusyManyMetInterference, BusyNearMetInterference}
+use Rattle.nm_progress.specs.Walked.{NearWasBusy, BusyManyMetInterference, BusyNearMetInterference, ShortScansMetInterference}
 use Rattle.nm_progress.proofs.WalkInterference.{Strays, long_interference, strays_longer}
 use Rattle.nm_progress.proofs.LostLookups.{was_reshaped}
 use Rattle.nm_progress.proofs.LostPins.{lost_pins_were_moved_past}
 use Rattle.nm_progress.proofs.NearInterference.{nears_interference}
 use Rattle.nm_progress.proofs.Parts.{Longer, longer_none, pin_longer}
-use Rattle.nm_progress.proofs.TurnInterference.{pinned_since, turns_interference}
+use Rattle.nm_progress.proofs.TurnInterference.{pinned_since, short_interference, turns_interference}
 
 pub busy_many_met_interference : BusyManyMetInterference
 busy_many_met_interference ks zero p q seen_p seen_q enough same on missed = inl refl
@@ -21,6 +21,11 @@ busy_many_met_interference ks (suc t) p q seen_p seen_q enough same on (inr (pin
   was_reshaped 1 p q seen_p seen_q enough same on pinned walked (pin_longer Sight (suc t) p.view.log pinned epoch pin)
       (pinned, longer_none pinned pinned refl, turns_interference p.view.layout enough p.view.number ks pinned walked (pinned_since (suc t) p.view.log pinned epoch pin) gives) leaves,
 ))
+
+pub short_scans_met_interference : ShortScansMetInterference
+short_scans_met_interference tries p q seen_p seen_q enough same on (pinned, walked, epoch, pin, short, leaves) =
+    was_reshaped 1 p q seen_p seen_q enough same on pinned walked (pin_longer Sight tries p.view.log pinned epoch pin)
+    (pinned, longer_none pinned pinned refl, short_interference p.view.layout enough p.view.number pinned walked (pinned_since tries p.view.log pinned epoch pin) short) leaves
 
 -- ---- the nearest key
 

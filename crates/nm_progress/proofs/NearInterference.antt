@@ -27,7 +27,7 @@ use Rattle.nm_progress.proofs.MoreTries.{Plain, plain_then}
 use Rattle.nm_progress.proofs.Reshapes.{is_reshape, StaysThere, calm_turns}
 use Rattle.nm_progress.proofs.SplitTurns.{ordered_after, number-append}
 use Rattle.nm_progress.proofs.WalkInterference.{SplitPart, split_part, HasInterference, Strays, OnPath, IsRead, walk_path, walk_plain, behind_read, read_there}
-use Rattle.nm_progress.proofs.Between.{Comes, Ends, Passes, both_null, passes, at_key, none_from, none_up_to}
+use Rattle.nm_progress.proofs.Between.{Comes, Ends, Passes, both_null, passes, at_key, none_between}
 use Rattle.nm_progress.proofs.Parts.{Longer, longer_none, longer_then, plain_longer, reads_plain, walk_longer}
 
 -- ---- what walks tell of the tree that stays
@@ -148,7 +148,7 @@ module _ (L : Layout) (enough : 5 ≤ L.nodes) (w : ℕ) where
         led : (c : Configuration) → Second c a mid new → ⊥
         led c s =
             let q = search_passes L enough w s.now s.is_ordered s.events s.keys s.calm a (let wide = two.0 in omega (arith, low, wide)) b mid new (two.2 a (omega arith) two.0) [] s.whole in
-            none_from L enough s.now s.is_ordered a b s.node q.0 two.0 (none_there L enough w s.now s.is_ordered s.events s.keys s.calm a b b low mid new two [] s.whole) (key s.now.state.memory s.node) s.passes s.key_is q.1 q.2
+            none_between L enough s.now s.is_ordered a b s.node q.0 two.0 (none_there L enough w s.now s.is_ordered s.events s.keys s.calm a b b low mid new two [] s.whole) (key s.now.state.memory s.node) a s.passes s.key_is q.1 q.2
 
     -- downwards
     prev_interference : d ≤ infinity_1 → HasNone L b d b old mid → HasNone L a b a mid new → HasInterference L enough w old new
@@ -164,7 +164,7 @@ module _ (L : Layout) (enough : 5 ≤ L.nodes) (w : ℕ) where
         led c s =
             let wide = two.0 in
             let q = search_passes L enough w s.now s.is_ordered s.events s.keys s.calm (b - 1) (omega (arith, low, wide)) a mid new (two.2 (b - 1) (omega (arith, wide)) (omega (arith, wide))) [] s.whole in
-            none_up_to L enough s.now s.is_ordered a b q.0 s.node two.0 (none_there L enough w s.now s.is_ordered s.events s.keys s.calm a b a low mid new two [] s.whole) (b - 1) (key s.now.state.memory s.node) (omega (arith, wide)) s.passes s.key_is q.1 q.2
+            none_between L enough s.now s.is_ordered a b q.0 s.node two.0 (none_there L enough w s.now s.is_ordered s.events s.keys s.calm a b a low mid new two [] s.whole) (b - 1) (key s.now.state.memory s.node) q.1 q.2 s.passes s.key_is
 
   -- ---- and so many
 

@@ -1,12 +1,13 @@
 -- What other workers did during a call that walks under a pin without an operation, and returned
--- `Busy`.
+-- `Busy`, or during a scan that ended early.
 use Rattle.std.specs.Prelude.{◌≡◌, ◌⊎◌, ℕ, ◌+◌, ◌*◌, ◌≤◌, false, List}
 use Rattle.nm_edge.specs.declared.edge.Side.{Side}
 use Rattle.nm_model.specs.Walks.{Entry}
 use Rattle.nm_steps.specs.Steps.{PassView, IsSamePass, HasSeenAllOf, HasSeen}
 use Rattle.nm_calls.specs.InTurns.{GiveUp as GiveUpInTurns}
 use Rattle.nm_calls.specs.NearKeys.{GiveUp as GiveUpNear}
-use Rattle.nm_calls.specs.PlainWalks.{PlainMissed}
+use Rattle.nm_calls.specs.PlainWalks.{GivesUpUnderPin, PlainMissed}
+use Rattle.nm_calls.specs.Scans.{StopsShort}
 use Rattle.nm_progress.specs.Lookups.{WasReshaped}
 use Rattle.nm_progress.specs.Pins.{WasMovedPast}
 
@@ -37,3 +38,9 @@ BusyManyMetInterference =
 abbrev pub BusyNearMetInterference : Type 0
 BusyNearMetInterference = (side : Side) (k : ℕ)
     → OfEachWalked (λ p tries. GiveUpNear side p.view.layout tries k) NearWasBusy
+
+-- during each scan in which a walk stopped short, by its contract, others linked or cut off a node
+abbrev pub ShortScansMetInterference : Type 0
+ShortScansMetInterference = (tries : ℕ) (p q : PassView) → HasSeen p.view → HasSeen q.view
+    → 5 ≤ p.view.layout.nodes → IsSamePass p q → HasSeenAllOf q p
+    → GivesUpUnderPin (StopsShort p.view.layout) tries p.view.log q.view.log → WasReshaped p q 1

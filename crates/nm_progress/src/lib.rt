@@ -29,5 +29,7 @@ pub use pins::lost_pins_were_moved_past;
 pub use tries::{
     hindrances_are_by_others, hindrances_are_paid, tries_are_lost_to_changes, tries_are_paid,
 };
-pub use walked::{busy_many_met_interference, busy_near_met_interference};
+pub use walked::{
+    busy_many_met_interference, busy_near_met_interference, short_scans_met_interference,
+};
 pub use worked::worked_tries;

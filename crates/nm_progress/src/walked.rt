@@ -1,5 +1,6 @@
-//! Laws of calls that walk under a pin without an operation, and return `Busy`.
-ghost use Rattle.nm_progress.specs.Walked.{BusyManyMetInterference, BusyNearMetInterference};
+//! Laws of calls that walk under a pin without an operation, and return `Busy`, and of scans that end
+//! early.
+ghost use Rattle.nm_progress.specs.Walked.{BusyManyMetInterference, BusyNearMetInterference, ShortScansMetInterference};
 
 /// Law: for every look-up of several keys that returns `Busy`, its number of tries was 0, or others
 /// advanced the epoch at least as many times as it had tries, or they linked or cut off a node. The
@@ -12,4 +13,10 @@ pub fn busy_many_met_interference()
 /// others linked or cut off nodes at least half as many times as it had tries, rounded down.
 pub fn busy_near_met_interference()
     ensures { BusyNearMetInterference }
+{}
+
+/// Law: during every scan that ended early after a walk that had stopped short, others linked or cut
+/// off a node.
+pub fn short_scans_met_interference()
+    ensures { ShortScansMetInterference }
 {}

@@ -34,7 +34,7 @@ use Rattle.nm_set.specs.Filling.{HasFilled, HasInserted, HasInsertedKey, HoldsJu
 use Rattle.nm_set.specs.Managed.{Manages, SaysManaged}
 use Rattle.nm_set.specs.Seats.{IsNewMember, MemberView}
 use Rattle.nm_set.specs.declared.managed.Options.{Options}
-use Rattle.nm_set.proofs.AnswersInRuns.{AnsweredBy, answered_by}
+use Rattle.nm_tree.proofs.AnswersInRuns.{AnsweredBy, answered_by}
 use Rattle.nm_set.proofs.Counting.{flagged_once, linked_once}
 use Rattle.nm_set.proofs.Managing.{follows_then, is_no_fault}
 use Rattle.nm_set.proofs.Rests.{at_most, rests_below}

@@ -27,6 +27,7 @@ use Rattle.nm_progress.specs.Pending.{leaf_after, leaf_by}
 use Rattle.nm_tree.specs.declared.worker.Counts.{Counts}
 use Rattle.nm_tree.specs.Workers.{WorkerView, IsLedger, log_held_of}
 use Rattle.nm_tree.proofs.OwnQueue.{log_of_own}
+use Rattle.nm_tree.proofs.FoundThenGone.{begins}
 use Rattle.nm_tree.proofs.JoinsAlone.{told_in_part}
 use Rattle.nm_set.specs.declared.posting.Stamp.{Stamp}
 use Rattle.nm_set.specs.Posts.{ComesBehind, HasHeardAll, HasHeardOf, HasTally, HasWonNothing, IsLetter, IsTallyOf, LettersAreInOrder, pending_by}
@@ -146,16 +147,6 @@ heard_of b d i t w z heard at letter same past on rest = record {
 }
 
 -- ---- the order of two workers
-
--- the shorter of two first parts begins the other
-pub begins : {X : Type 0} (xs ys us vs : List X) → xs ++ us ≡ ys ++ vs → length xs ≤ length ys → (more : List X) × (ys ≡ xs ++ more)
-begins {X = X} [] ys us vs e less = (ys, refl)
-begins {X = X} (x ∷ xs) [] us vs e less = absurd (omega (arith, less))
-begins {X = X} (x ∷ xs) (y ∷ ys) us vs e less =
-    let head : x ≡ y = cc in
-    let tail : xs ++ us ≡ ys ++ vs = cc in
-    let rest = begins xs ys us vs tail (omega (arith, less)) in
-    (rest.0, ap (λ (zs : List X). y ∷ zs) rest.1 ∙ ap (λ (z : X). z ∷ (xs ++ rest.0)) (sym head))
 
 -- who has counted no more by some turns than by a beginning of them has won nothing between, and
 -- nothing was pending then

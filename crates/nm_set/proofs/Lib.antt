@@ -7,11 +7,10 @@ pub mod Letters
 pub mod LettingGo
 pub mod Sending
 pub mod Inside
+pub mod WaitingNodes
 pub mod Managing
 pub mod Emptied
-pub mod AlonePops
 pub mod PopRounds
-pub mod AnswersInRuns
 pub mod Counting
 pub mod RunSums
 pub mod Rests

@@ -1,22 +1,25 @@
 -- What managed calls leave, by what each part of them leaves.
-use Rattle.std.proofs.Common.{◌≡◌, ◌≢◌, ◌≤◌, ◌<◌, ◌⊎◌, inl, inr, true≢false, ℕ, zero, suc, ◌+◌, ◌-◌, ◌*◌, Bool, true, false, List, [], ◌∷◌, ◌++◌, append-nil, append_assoc, length, refl, sym, ap, subst, ◌∙◌, arith}
-use Rattle.std.specs.Prelude.{drop, Option, Some, None, IsSome, Result, Ok, Err, IfOk, IfErr, is_ok, Contains}
-use Rattle.std.specs.List.{prefix_len}
+use Rattle.std.proofs.Common.{◌≡◌, ◌≢◌, ◌≤◌, ◌<◌, ◌⊎◌, inl, inr, true≢false, ℕ, zero, suc, ◌+◌, ◌-◌, ◌*◌, ◌==◌, Bool, true, false, cond, not, ◌&&◌, ◌||◌, List, [], ◌∷◌, ◌++◌, append-nil, append_assoc, length, refl, sym, ap, subst, ◌∙◌, arith}
+use Rattle.std.specs.Prelude.{drop, Option, Some, None, IsSome, Result, Ok, Err, IfOk, IfErr, is_ok}
+use Rattle.std.specs.List.{AllZip, prefix_len}
 use Rattle.std.proofs.Math.Nat.{suc-mul, zero-mul, add-mul, mul-zero, mul-le-mul_right}
 use Rattle.std.proofs.lemmas.List.{drop-drop}
 use Rattle.std.proofs.lemmas.List.Elements.{Contains-append_left, Contains-append_right}
 use Rattle.std.proofs.lemmas.Option.{none-some, same_Some}
-use Rattle.nm_edge.specs.declared.node.NodeId.{NodeId}
 use Rattle.nm_edge.specs.Layouts.{Layout}
 use Rattle.nm_model.specs.declared.event.Event.{Event}
 use Rattle.nm_model.specs.declared.event.Op.{Op}
 use Rattle.nm_model.specs.declared.event.Op.TheVariants.{Has, Insert, Delete}
 use Rattle.nm_model.specs.declared.reply.Reply.{Reply}
+use Rattle.nm_model.specs.Step.{last_number}
 use Rattle.nm_model.specs.declared.trace.Turn.{Turn}
 use Rattle.nm_progress.specs.Alone.{IsAlone, RunsAlone}
 use Rattle.nm_progress.specs.Lookups.{WasBusy}
 use Rattle.nm_progress.specs.Lost.{ChangeWasBusy}
 use Rattle.nm_progress.specs.Moves.{number_of, moves, moves_of_others}
+use Rattle.nm_progress.specs.Paid.{links_on, flags_on, cuts_on, tags_on, cuts_in}
+use Rattle.nm_progress.specs.Tries.{interferes, reshapes_of_others}
+use Rattle.nm_progress.specs.Walked.{NearWasBusy}
 use Rattle.nm_progress.proofs.RunningAlone.{alone_later, runs_later}
 use Rattle.nm_progress.proofs.SplitTurns.{number-append}
 use Rattle.nm_steps.specs.Steps.{TreeView, PassView, IsSamePass, HasSeenAllOf}
@@ -35,12 +38,13 @@ use Rattle.nm_tree.specs.Calls.{LeavesHas, LeavesInsert, LeavesDelete, LeavesAdv
 use Rattle.nm_tree.specs.Workers.{WorkerView, IsIdle, KeepsOtherQueues, waiting_in}
 use Rattle.nm_tree.proofs.Taking.{moment_since}
 use Rattle.nm_set.specs.Asked.{UnlessPinned}
+use Rattle.nm_set.proofs.WaitingNodes.{freed_longer, freed_now}
 use Rattle.nm_set.specs.declared.fault.Fullness.{Fullness}
 use Rattle.nm_set.specs.declared.fault.InsertFault.{InsertFault}
 use Rattle.nm_set.specs.declared.fault.InsertFault.TheVariants as inserting
 use Rattle.nm_set.specs.declared.managed.Options.{Options}
-use Rattle.nm_set.specs.Managed.{Answers, Collects, FindsBehind, GoesOn, HasFoundElsewhere, HasMade, HasSighted, IsLeft, Manages, MetInterference, OnlyLoses, OthersOnlyLose, Prepares, Since, WasFull, flags_told_by, interfering, links_told_by, of_insert, round_bound}
-use Rattle.nm_set.specs.Rounds.{AnswersIn, FinishesIn, Inserts, IsOnward, IsReady, IsRelieved, ManagesInsert, Removes, WereBusy, plain, rounds_bound, with_fullness}
+use Rattle.nm_set.specs.Managed.{Answers, Collects, FindsBehind, GoesOn, HasFoundElsewhere, HasMade, HasSighted, IsLeft, Manages, MetInterference, OnlyLoses, Prepares, Since, WasFull, flags_told_by, interfering, links_told_by, of_insert, round_bound}
+use Rattle.nm_set.specs.Rounds.{AnswersIn, FinishesIn, Inserts, IsKnown, IsOnward, IsReady, IsRelieved, ManagesInsert, Removes, WereBusy, plain, rounds_bound, with_fullness}
 
 -- nothing is not there
 pub none_there : {A B : Type 0} (x : Option A) → x ≡ None → IsSome x → B
@@ -60,14 +64,18 @@ busy = Err fault.Busy
 
 -- ---- queues
 
+-- the origins are the same, and each queue of another origin has only lost nodes at its front
+abbrev OthersOnlyLose : ℕ → List HeldQueue → List HeldQueue → Type 0
+OthersOnlyLose o hs gs = AllZip (OnlyLoses o) hs gs
+
 pub lose_nothing : (o : ℕ) (hs : List HeldQueue) → OthersOnlyLose o hs hs
 lose_nothing o [] = tt
-lose_nothing o (h ∷ hs) = (refl, inr (0, refl), lose_nothing o hs)
+lose_nothing o (h ∷ hs) = ((refl, inr (0, refl)), lose_nothing o hs)
 
-loses_both : (o : ℕ) (h g f : HeldQueue) → g.origin ≡ h.origin → OnlyLoses o h g → OnlyLoses o g f → OnlyLoses o h f
-loses_both o h g f same (inl e) second = inl e
-loses_both o h g f same (inr a) (inl e) = inl (sym same ∙ e)
-loses_both o h g f same (inr (n, a)) (inr (m, b)) = inr (n + m, b ∙ (ap (λ (es : List Entry). drop m es) a ∙ drop-drop m n h.queue.items))
+loses_both : (o : ℕ) (h g f : HeldQueue) → OnlyLoses o h g → OnlyLoses o g f → OnlyLoses o h f
+loses_both o h g f (same, inl e) (more, second) = (more ∙ same, inl e)
+loses_both o h g f (same, inr a) (more, inl e) = (more ∙ same, inl (sym same ∙ e))
+loses_both o h g f (same, inr (n, a)) (more, inr (m, b)) = (more ∙ same, inr (n + m, b ∙ (ap (λ (es : List Entry). drop m es) a ∙ drop-drop m n h.queue.items)))
 
 pub lose_through : (o : ℕ) (hs gs fs : List HeldQueue) → OthersOnlyLose o hs gs → OthersOnlyLose o gs fs → OthersOnlyLose o hs fs
 lose_through o [] [] [] a b = tt
@@ -75,23 +83,23 @@ lose_through o [] [] (f ∷ fs) a b = absurd b
 lose_through o [] (g ∷ gs) fs a b = absurd a
 lose_through o (h ∷ hs) [] fs a b = absurd a
 lose_through o (h ∷ hs) (g ∷ gs) [] a b = absurd b
-lose_through o (h ∷ hs) (g ∷ gs) (f ∷ fs) a b = (b.0 ∙ a.0, loses_both o h g f a.0 a.1 b.1, lose_through o hs gs fs a.2 b.2)
+lose_through o (h ∷ hs) (g ∷ gs) (f ∷ fs) a b = (loses_both o h g f a.0 b.0, lose_through o hs gs fs a.1 b.1)
 
-kept_one : (o : ℕ) (h g : HeldQueue) → (h.origin ≡ o) ⊎ (g ≡ h) → OnlyLoses o h g
-kept_one o h g (inl e) = inl e
-kept_one o h g (inr e) = inr (0, ap (λ (q : HeldQueue). q.queue.items) e)
+kept_one : (o : ℕ) (h g : HeldQueue) → g.origin ≡ h.origin → (h.origin ≡ o) ⊎ (g ≡ h) → OnlyLoses o h g
+kept_one o h g same (inl e) = (same, inl e)
+kept_one o h g same (inr e) = (same, inr (0, ap (λ (q : HeldQueue). q.queue.items) e))
 
 pub lose_by_call : (o : ℕ) (hs gs : List HeldQueue) → KeepsOtherQueues o hs gs → OthersOnlyLose o hs gs
 lose_by_call o [] [] a = tt
 lose_by_call o [] (g ∷ gs) a = absurd a
 lose_by_call o (h ∷ hs) [] a = absurd a
-lose_by_call o (h ∷ hs) (g ∷ gs) a = (a.0, kept_one o h g a.1, lose_by_call o hs gs a.2)
+lose_by_call o (h ∷ hs) (g ∷ gs) a = (kept_one o h g a.0 a.1, lose_by_call o hs gs a.2)
 
 pub lose_by_collect : (o epoch : ℕ) (hs gs : List HeldQueue) → HaveLost epoch hs gs → OthersOnlyLose o hs gs
 lose_by_collect o epoch [] [] a = tt
 lose_by_collect o epoch [] (g ∷ gs) a = absurd a
 lose_by_collect o epoch (h ∷ hs) [] a = absurd a
-lose_by_collect o epoch (h ∷ hs) (g ∷ gs) a = (a.0.origin, inr (prefix_len (is_ripe epoch) h.queue.items, a.0.items), lose_by_collect o epoch hs gs a.1)
+lose_by_collect o epoch (h ∷ hs) (g ∷ gs) a = ((a.0.origin, inr (prefix_len (is_ripe epoch) h.queue.items, a.0.items)), lose_by_collect o epoch hs gs a.1)
 
 pub lose_same : (o : ℕ) (hs gs : List HeldQueue) → gs ≡ hs → OthersOnlyLose o hs gs
 lose_same o hs gs e = subst (OthersOnlyLose o hs) (sym e) (lose_nothing o hs)
@@ -243,13 +251,25 @@ finds_within w (Some i) xs ys zs found = found_within w i xs ys zs found
 finds_within w None xs ys zs (inl sighted) = inl (sighted_within w _ xs ys zs sighted)
 finds_within w None xs ys zs (inr moved) = inr (moved_within 2 xs ys zs moved)
 
-number_of_pass : (p q : PassView) → IsSamePass p q → q.view.number ≡ p.view.number
+pub number_of_pass : (p q : PassView) → IsSamePass p q → q.view.number ≡ p.view.number
 number_of_pass p q same = ap (λ (z : PassView). z.view.number) same
 
 pub finds_since : (o p q z : PassView) (behind : Option ℕ) → Follows o p → Follows q z → Since p q (FindsBehind p.view.number behind) → Since o z (FindsBehind o.view.number behind)
 finds_since o p q z behind first last found =
     subst (λ (w : ℕ). Since o z (FindsBehind w behind)) (number_of_pass o p first.same)
     (since_within o p q z first last (FindsBehind p.view.number behind) (finds_within p.view.number behind) found)
+
+-- a collection serves a call that began before it
+pub collects_since : (m : ℕ) (w x : WorkerView) (y q : PassView) → IsKnown w → IsKnown x → GoesOn m w x → Follows x.pass y → Follows y q → Collects x y → Collects w q
+collects_since m w x y q known later on first last (inl found) = inl (subst (λ (v : ℕ). Since w.pass q (HeldBack v)) (number_of_pass w.pass x.pass on.same) (since_within w.pass x.pass y q (record { same = on.same; past = on.past }) last (HeldBack x.pass.view.number) grows found))
+  where
+    HeldBack : ℕ → List Turn → Type 0
+    HeldBack v ts = ((i : ℕ) × HasFoundElsewhere v i ts) ⊎ HasSighted v ts last_number
+
+    grows : (xs ys zs : List Turn) → ((i : ℕ) × HasFoundElsewhere x.pass.view.number i ys) ⊎ HasSighted x.pass.view.number ys last_number → ((i : ℕ) × HasFoundElsewhere x.pass.view.number i (xs ++ (ys ++ zs))) ⊎ HasSighted x.pass.view.number (xs ++ (ys ++ zs)) last_number
+    grows xs ys zs (inl (i, at)) = inl (i, found_within x.pass.view.number i xs ys zs at)
+    grows xs ys zs (inr sighted) = inr (sighted_within x.pass.view.number last_number xs ys zs sighted)
+collects_since m w x y q known later on first last (inr frees) = inr (λ h there e waited. freed_longer q.view.past y.view.past e.node last.past.goes_on (freed_now w x y m known later on first.past frees h there e waited))
 
 -- ---- interference
 
@@ -263,18 +283,70 @@ module _ (op : Op) where
       let b = number-append (interfering op w) xs ys in
       omega (arith, a, b)
 
-  met_nothing : (p : PassView) → MetInterference op p p 0
+  pub met_nothing : (p : PassView) → MetInterference op p p 0
   met_nothing p = ([], sym (append-nil p.view.past), omega arith)
 
-  met_then : (m n : ℕ) (p q r : PassView) → q.view.number ≡ p.view.number → MetInterference op p q m → MetInterference op q r n → MetInterference op p r (m + n)
+  pub met_then : (m n : ℕ) (p q r : PassView) → q.view.number ≡ p.view.number → MetInterference op p q m → MetInterference op q r n → MetInterference op p r (m + n)
   met_then m n p q r number (xs, first, some) (ys, second, many) =
       let more = subst (λ (v : ℕ). n ≤ count v ys) number many in
       let whole = adds p.view.number xs ys in
       (xs ++ ys, second ∙ (ap (λ (ts : List Turn). ts ++ ys) first ∙ append_assoc p.view.past xs ys), omega (arith, some, more, whole))
 
   -- what came before takes nothing away
-  met_since : (n : ℕ) (p q r : PassView) → Follows p q → MetInterference op q r n → MetInterference op p r n
+  pub met_since : (n : ℕ) (p q r : PassView) → Follows p q → MetInterference op q r n → MetInterference op p r n
   met_since n p q r on met = subst (MetInterference op p r) (omega arith) (met_then 0 n p q r (number_of_pass p q on.same) (on.past.goes_on.more, on.past.goes_on.is, omega arith) met)
+
+-- ---- rounds of a pop
+
+-- turns of one kind are of another one too
+fewer_of : (p q : Turn → Bool) → ((t : Turn) → p t ≡ true → q t ≡ true) → (ts : List Turn) → number_of p ts ≤ number_of q ts
+fewer_of p q each [] = omega arith
+fewer_of p q each (t ∷ ts) = by (p t) (q t) (each t) (fewer_of p q each ts)
+  where
+    by : (a b : Bool) → (a ≡ true → b ≡ true) → number_of p ts ≤ number_of q ts → cond a 1 0 + number_of p ts ≤ cond b 1 0 + number_of q ts
+    by true true is rest = omega (arith, rest)
+    by true false is rest = absurd (true≢false (sym (is refl)))
+    by false b is rest = by' b rest
+      where
+        by' : (b : Bool) → number_of p ts ≤ number_of q ts → 0 + number_of p ts ≤ cond b 1 0 + number_of q ts
+        by' true rest = omega (arith, rest)
+        by' false rest = omega (arith, rest)
+
+-- a cut interferes, and so does a change by others of where an edge leads
+cut_interferes : (w : ℕ) (t : Turn) → cuts_on t.event t.outcome ≡ true → interferes w t ≡ true
+cut_interferes w t is = by (t.worker == w) (links_on t.event t.outcome) (flags_on t.event t.outcome) (cuts_on t.event t.outcome) (tags_on t.event t.outcome) is
+  where
+    by : (o a b c d : Bool) → c ≡ true → cond o c (a || (b || (c || d))) ≡ true
+    by true a b c d is = is
+    by false true b c d is = refl
+    by false false true c d is = refl
+    by false false false true d is = refl
+    by false false false false d is = absurd (true≢false (sym is))
+
+reshape_interferes : (w : ℕ) (t : Turn) → reshapes_of_others w t ≡ true → interferes w t ≡ true
+reshape_interferes w t is = by (t.worker == w) (links_on t.event t.outcome) (flags_on t.event t.outcome) (cuts_on t.event t.outcome) (tags_on t.event t.outcome) is
+  where
+    by : (o a b c d : Bool) → (not o && (a || c)) ≡ true → cond o c (a || (b || (c || d))) ≡ true
+    by true a b c d is = absurd (true≢false (sym is))
+    by false true b c d is = refl
+    by false false true c d is = refl
+    by false false false true d is = refl
+    by false false false false d is = absurd (true≢false (sym is))
+
+-- a call that finds a key and was busy met interference, and so did one that came too late
+pub near_met : (p q : PassView) (tries : ℕ) → 2 ≤ tries → NearWasBusy p q tries → MetInterference Delete p q 1
+near_met p q tries two (inl (inl none)) = absurd (omega (arith, two, none))
+near_met p q tries two (inl (inr (inl moved))) = (moved.turns, moved.is, let some = moved.moved in omega (arith, some, two))
+near_met p q tries two (inl (inr (inr (shape, r)))) = (r.turns, r.is, let some = r.reshaped in let more = fewer_of (reshapes_of_others p.view.number) (interferes p.view.number) (reshape_interferes p.view.number) r.turns in omega (arith, some, more))
+near_met p q tries two (inr (times, few, r)) = (r.turns, r.is, let some = r.reshaped in let more = fewer_of (reshapes_of_others p.view.number) (interferes p.view.number) (reshape_interferes p.view.number) r.turns in omega (arith, two, few, some, more))
+
+pub late_met : (p q : PassView) (turns : List Turn) → q.view.past ≡ p.view.past ++ turns → 1 ≤ cuts_in turns → MetInterference Delete p q 1
+late_met p q turns is some = (turns, is, let more = fewer_of (λ t. cuts_on t.event t.outcome) (interferes p.view.number) (cut_interferes p.view.number) turns in omega (arith, some, more))
+
+pub met_fewer : (op : Op) (m n : ℕ) (p q : PassView) → n ≤ m → MetInterference op p q m → MetInterference op p q n
+met_fewer op m n p q few (turns, is, some) = (turns, is, omega (arith, few, some))
+
+-- ---- calls of the tree that were busy
 
 look_met : (p q : PassView) (times : ℕ) → HasSeenAllOf q p → WasBusy p q times → MetInterference Has p q times
 look_met p q times past (inl none) = (past.goes_on.more, past.goes_on.is, omega (arith, none))
@@ -785,7 +857,7 @@ module _ (b : TreeView) (h : Options) (k : ℕ) (w : WorkerView) where
 
   -- no slot was free at first
   module _ (x y z : WorkerView) (behind : Option ℕ) (r : Result Bool CallFault) (first : AnswersIn b h Insert k (h.rounds + 1) w x (Err fault.Full)) (relieved : IsRelieved b.layout x y behind)
-      (last : AnswersIn b h Insert k (h.rounds + 1) y z r) where
+      (last : AnswersIn b h Insert k (h.rounds + 1) y z r) (known : IsKnown w) (tried : IsKnown x) where
     to_x : IsOnward ((h.rounds + 1) * round) w x
     to_x = record { on = first.on; none = first.left.1; won = first.won }
 
@@ -795,6 +867,7 @@ module _ (b : TreeView) (h : Options) (k : ℕ) (w : WorkerView) where
     found : WasFull w z (record { waiting = waiting_in z.queues; behind = behind })
     found = record {
       finds = finds_since w.pass x.pass y.pass z.pass behind (record { same = first.on.same; past = first.on.past }) (record { same = last.on.same; past = last.on.past }) relieved.finds;
+      collects = collects_since (rounds_bound b h (h.rounds + 1)) w x y.pass z.pass known tried first.on (record { same = relieved.onward.on.same; past = relieved.onward.on.past }) (record { same = last.on.same; past = last.on.past }) relieved.collects;
       waiting = refl;
     }
 
@@ -812,17 +885,18 @@ module _ (b : TreeView) (h : Options) (k : ℕ) (w : WorkerView) where
         }
 
 -- what was full after something had come before
-pub full_since : (m : ℕ) (w y z : WorkerView) (f : Fullness) → GoesOn m w y → WasFull y z f → WasFull w z f
-full_since m w y z f on full = record {
+pub full_since : (m : ℕ) (w y z : WorkerView) (f : Fullness) → IsKnown w → IsKnown y → GoesOn m w y → Follows y.pass z.pass → WasFull y z f → WasFull w z f
+full_since m w y z f known later on last full = record {
   finds = finds_since w.pass y.pass z.pass z.pass f.behind (record { same = on.same; past = on.past }) (follows_itself z.pass) full.finds;
+  collects = collects_since m w y z.pass z.pass known later on last (follows_itself z.pass) full.collects;
   waiting = full.waiting;
 }
 
 -- the whole of an insert
-pub inserts_manage : (b : TreeView) (h : Options) (k m : ℕ) (w y z : WorkerView) (r : Result Bool InsertFault) → m ≤ h.rounds + 2 → IsOnward (rounds_bound b h m) w y → Prepares h Insert w y.pass → Inserts b h k y z r
+pub inserts_manage : (b : TreeView) (h : Options) (k m : ℕ) (w y z : WorkerView) (r : Result Bool InsertFault) → m ≤ h.rounds + 2 → IsKnown w → IsKnown y → IsOnward (rounds_bound b h m) w y → Prepares h Insert w y.pass → Inserts b h k y z r
     → ManagesInsert b h k w z r
-inserts_manage b h k m w y z r few on first i =
-    let full : of_insert r ≡ Err fault.Full → (f : Fullness) × (r ≡ Err (inserting.Full f)) × WasFull w z f = λ is. (let found = i.full is in (found.0, found.1, full_since (rounds_bound b h m) w y z found.0 on.on found.2)) in
+inserts_manage b h k m w y z r few known later on first i =
+    let full : of_insert r ≡ Err fault.Full → (f : Fullness) × (r ≡ Err (inserting.Full f)) × WasFull w z f = λ is. (let found = i.full is in (found.0, found.1, full_since (rounds_bound b h m) w y z found.0 known later on.on (record { same = i.answers.on.same; past = i.answers.on.past }) found.2)) in
     (manages b h Insert k m (2 * h.rounds + 3) w y z (of_insert r) (omega (arith, few)) on first i.answers (λ is. (let found = full is in (found.0, found.2))) (λ runs is. never_unfinished Insert k _ _ y z (of_insert r) (λ no. (let which = no in cc)) i.answers is), as_full w z r full)
 
 -- an answer at once
@@ -917,10 +991,10 @@ module _ (b : TreeView) (h : Options) (k : ℕ) (w z : WorkerView) (free : w.hel
   tidy : (op : Op) → op ≢ Has → h.collect_after ≤ waiting_in w.queues → ⊥
   tidy op not many = omega (arith, few, many)
 
-  pub inserts_tidy : (r : Result Bool InsertFault) → Inserts b h k w z r → ManagesInsert b h k w z r
-  inserts_tidy r i =
+  pub inserts_tidy : IsKnown w → (r : Result Bool InsertFault) → Inserts b h k w z r → ManagesInsert b h k w z r
+  inserts_tidy known r i =
       let most = round_bound h.tries b.layout in
-      inserts_manage b h k 0 w w z r (omega arith) (onward_more 0 (0 * most) w w (omega arith) (onward_itself w none free)) (prepares_nothing h Insert w none (tidy Insert)) i
+      inserts_manage b h k 0 w w z r (omega arith) known known (onward_more 0 (0 * most) w w (omega arith) (onward_itself w none free)) (prepares_nothing h Insert w none (tidy Insert)) i
 
   pub removes_tidy : (r : Result Bool CallFault) → Removes b h k w z r → Manages b h Delete k w z r
   removes_tidy r a = manages_at_once b h Delete k (2 * h.rounds + 2) w z r (omega arith) free none (tidy Delete) a.answers (never_full Delete k _ _ w z r (λ is. let no = is in cc) a.answers) a.alone

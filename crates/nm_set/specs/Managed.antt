@@ -1,6 +1,7 @@
 -- Managed calls: what a caller learns from a call that is retried while it loses its tries, that
 -- finishes a remove which has begun, and that collects waiting nodes.
-use Rattle.std.specs.Prelude.{◌≡◌, ◌≢◌, ◌⊎◌, ◌+◌, ◌*◌, ◌≤◌, ℕ, Bool, true, length, drop, List, [], ◌∷◌, ◌++◌, Option, Some, None, IsSome, Result, Ok, Err, IfOk, IfErr, Contains}
+use Rattle.std.specs.Prelude.{◌≡◌, ◌≢◌, ◌⊎◌, ◌+◌, ◌*◌, ◌≤◌, ℕ, Bool, true, length, drop, List, ◌++◌, Option, Some, None, IsSome, Result, Ok, Err, IfOk, IfErr, Contains}
+use Rattle.std.specs.List.{AllZip}
 use Rattle.nm_edge.specs.Layouts.{Layout}
 use Rattle.nm_edge.specs.declared.node.NodeId.{NodeId}
 use Rattle.nm_model.specs.declared.event.Event.{Event}
@@ -35,23 +36,17 @@ use Rattle.nm_set.specs.declared.managed.Options.{Options}
 
 -- ---- what a worker has become
 
--- it is the queue of that origin, or it has only lost nodes at its front
+-- a queue of the same origin: it has that origin, or it has only lost nodes at its front
 abbrev pub OnlyLoses : ℕ → HeldQueue → HeldQueue → Type 0
-OnlyLoses o h g = (h.origin ≡ o) ⊎ ((n : ℕ) × (g.queue.items ≡ drop n h.queue.items))
-
--- the origins are the same, and each queue of another origin has only lost nodes at its front
-abbrev pub OthersOnlyLose : ℕ → List HeldQueue → List HeldQueue → Type 0
-OthersOnlyLose o [] [] = Unit {0}
-OthersOnlyLose o (h ∷ hs) (g ∷ gs) =
-    (g.origin ≡ h.origin) × OnlyLoses o h g × OthersOnlyLose o hs gs
-OthersOnlyLose o _ _ = ⊥
+OnlyLoses o h g = (g.origin ≡ h.origin)
+    × ((h.origin ≡ o) ⊎ ((n : ℕ) × (g.queue.items ≡ drop n h.queue.items)))
 
 -- the worker has gone on, in at most `most` steps: it has the same pass, which has seen more, and
 -- its caller has not pinned it
 pub record GoesOn (most : ℕ) (w z : WorkerView) : Type 0 where
   pub same : IsSamePass w.pass z.pass
   pub past : HasSeenAllOf z.pass w.pass
-  pub queues : OthersOnlyLose w.pass.view.number w.queues z.queues
+  pub queues : AllZip (OnlyLoses w.pass.view.number) w.queues z.queues
   pub steps : length z.pass.view.log ≤ length w.pass.view.log + most
   pub held : z.held ≡ None
   pub fit : z.fit ≡ w.fit
@@ -113,14 +108,13 @@ of_insert (Err (inserting.Other f)) = Err f
 -- and `Pending`. After `Unfinished` the key of this call is pending, after `Pending` the same key
 -- as before
 abbrev pub IsLeft : Op → ℕ → WorkerView → WorkerView → Result Bool CallFault → Type 0
-IsLeft op k w z (Ok answer) = z.pending ≡ None
-IsLeft op k w z (Err fault.Busy) = z.pending ≡ None
 IsLeft op k w z (Err fault.Pending) = IsSome w.pending × (z.pending ≡ w.pending)
 IsLeft op k w z (Err fault.Full) = (op ≡ Insert) × (z.pending ≡ None)
 IsLeft op k w z (Err fault.NoMemory) = (op ≢ Has) × (z.pending ≡ None)
 IsLeft op k w z (Err fault.Unfinished) =
     (op ≡ Delete) × (leaf : NodeId) × (z.pending ≡ Some (record { key = k; leaf = leaf }))
 IsLeft op k w z (Err fault.Pinned) = ⊥
+IsLeft op k w z _ = z.pending ≡ None
 
 -- `links_told_by`, `flags_told_by`: the links and the flags that the call has won, by its result
 abbrev pub links_told_by : Op → Result Bool CallFault → ℕ
@@ -161,10 +155,11 @@ pub record Prepares (h : Options) (op : Op) (w : WorkerView) (begun : PassView) 
   pub collects : op ≢ Has → w.pending ≡ None → h.collect_after ≤ waiting_in w.queues
       → Collects w begun
 
--- an insert that found no free slot found what holds memory back; `waiting` is how many nodes wait
--- when it returns
+-- an insert that found no free slot found what holds memory back, and collected; `waiting` is how
+-- many nodes wait when it returns
 pub record WasFull (w z : WorkerView) (f : Fullness) : Type 0 where
   pub finds : Since w.pass z.pass (FindsBehind w.pass.view.number f.behind)
+  pub collects : Collects w z.pass
   pub waiting : f.waiting ≡ waiting_in z.queues
 
 -- a managed call, of at most 3 `rounds` + 5 rounds: its answer, and what came before its operation,

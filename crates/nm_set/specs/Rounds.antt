@@ -1,22 +1,28 @@
 -- What the parts of a managed call leave, for the contracts inside this crate.
 use Rattle.std.specs.Prelude.{◌≡◌, ◌+◌, ◌*◌, ℕ, Bool, Option, Some, None, Result, Ok, Err, IfErr}
-use Rattle.nm_edge.specs.Layouts.{Layout}
+use Rattle.nm_edge.specs.Layouts.{IsLayout, Layout}
 use Rattle.nm_model.specs.declared.event.Op.{Op}
 use Rattle.nm_model.specs.declared.event.Op.TheVariants.{Delete, Insert}
 use Rattle.nm_progress.specs.Alone.{IsAlone}
-use Rattle.nm_steps.specs.Steps.{TreeView}
+use Rattle.nm_steps.specs.Steps.{TreeView, HasSeen}
 use Rattle.nm_epoch.specs.declared.answers.Advance.{Advance}
 use Rattle.nm_epoch.specs.declared.answers.Advance.TheVariants as advance
 use Rattle.nm_calls.specs.Won.{HasWon}
 use Rattle.nm_calls.specs.declared.fault.CallFault.{CallFault}
 use Rattle.nm_calls.specs.declared.fault.CallFault.TheVariants as fault
 use Rattle.nm_tree.specs.Answers.{FailsAlone, FinishHasMoment, FinishTold}
-use Rattle.nm_tree.specs.Workers.{WorkerView}
+use Rattle.nm_tree.specs.Workers.{WorkerView, IsBetweenCalls}
 use Rattle.nm_set.specs.declared.fault.Fullness.{Fullness}
 use Rattle.nm_set.specs.declared.fault.InsertFault.{InsertFault}
 use Rattle.nm_set.specs.declared.fault.InsertFault.TheVariants as inserting
 use Rattle.nm_set.specs.declared.managed.Options.{Options}
 use Rattle.nm_set.specs.Managed.{Answers, Collects, FindsBehind, GoesOn, Manages, MetInterference, Prepares, Since, WasFull, of_insert, round_bound}
+
+-- what a worker has seen, and what it holds between two calls, as `Member::know_run` shows it
+pub record IsKnown (w : WorkerView) : Type 0 where
+  pub seen : HasSeen w.pass.view
+  pub between : IsBetweenCalls w
+  pub fits : IsLayout w.pass.view.layout
 
 -- the steps of n rounds
 abbrev pub rounds_bound : TreeView → Options → ℕ → ℕ

@@ -33,6 +33,13 @@ impl Model for Lease {
     ghost view = { λ l. arc_value l.home };
 }
 
+/// A worker that was taken from its seat, with its way back and a part in its home.
+pub(crate) struct Taken {
+    pub(crate) home: Lease,
+    pub(crate) sealed: SealedWorker,
+    pub(crate) way_back: WayBack,
+}
+
 impl Lease {
     pub(crate) fn of(home: Arc<Home, Global>) -> Lease
         ensures { result ≡ arc_value home }
@@ -84,17 +91,35 @@ impl Lease {
         (self, found)
     }
 
-    /// Takes a worker from its seat.
-    pub(crate) fn take(self, number: u32) -> (Lease, Result<(SealedWorker, WayBack), Absence>)
+    /// Takes a worker from its seat, with a lease of its own for the way back. The lease is made
+    /// first. If it cannot be counted, the worker stays on its seat, and counts as attached.
+    pub(crate) fn take(self, number: u32) -> (Lease, Result<Taken, Absence>)
         ensures same { result.0 ≡ self }
+        ensures lease { IfOk result.1 (λ g. g.home ≡ self) }
         ensures taken { IfOk result.1
-            (λ g. IsResident self.tree self.fit number g.0.worker
+            (λ g. IsResident self.tree self.fit number g.sealed.worker
             × (number < self.tree.layout.workers)) }
-        ensures back { IfOk result.1 (λ g. MayReturn (seats_in self) g.0.worker g.1) }
+        ensures back { IfOk result.1 (λ g. MayReturn (seats_in self) g.sealed.worker g.way_back) }
         ensures number { IsErrOf result.1 Absence.Number ↔ (self.tree.layout.workers ≤ number) }
     {
-        let found = self.home.take(number);
-        (self, found)
+        if self.home.workers() <= number as usize {
+            return (self, Err(Absence::Number));
+        }
+        let Ok(home) = Arc::try_clone(&self.home) else {
+            return (self, Err(Absence::Attached));
+        };
+        match home.take(number) {
+            Ok((sealed, way_back)) => {
+                let home = Lease { home };
+                let taken = Taken {
+                    home,
+                    sealed,
+                    way_back,
+                };
+                (self, Ok(taken))
+            }
+            Err(absence) => (self, Err(absence)),
+        }
     }
 
     /// Notes that a worker that was taken from its seat does not come back to it.

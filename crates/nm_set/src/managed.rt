@@ -7,7 +7,7 @@ ghost use Rattle.nm_tree.specs.Calls.{LeavesHas, LeavesInsert, LeavesDelete};
 ghost use Rattle.nm_tree.specs.Workers.{IsIdle, WorkerView, waiting_in};
 ghost use Rattle.nm_set.specs.declared.fault.Fullness.{Fullness};
 ghost use Rattle.nm_set.specs.Managed.{Answers, Manages, SaysManaged, WasFull, of_insert, round_bound};
-ghost use Rattle.nm_set.specs.Rounds.{AnswersIn, FinishesIn, Inserts, IsReady, IsRelieved, ManagesInsert, Removes, found_behind, plain, with_fullness};
+ghost use Rattle.nm_set.specs.Rounds.{AnswersIn, FinishesIn, Inserts, IsKnown, IsReady, IsRelieved, ManagesInsert, Removes, found_behind, plain, with_fullness};
 
 use crate::fault::{Fullness, InsertFault};
 use crate::member::Member;
@@ -182,6 +182,7 @@ impl Member {
         if self.has_many_waiting(options) {
             return self.insert_untidy(key, options);
         }
+        self.know_run();
         match self
             .home
             .tree()
@@ -275,7 +276,7 @@ impl Member {
         requires begun { (w : WorkerView) × LeavesInsert self.old.tree.layout options.now.tries key
             w self.old.worker (Err fault) }
         ensures tree { self.new.tree ≡ self.old.tree }
-        ensures says { (w : WorkerView) → w.held ≡ None
+        ensures says { (w : WorkerView) → w.held ≡ None → IsKnown w
             → waiting_in w.queues < options.now.collect_after
             → LeavesInsert self.old.tree.layout options.now.tries key w self.old.worker (Err fault)
             → ManagesInsert self.old.tree options.now key w self.new.worker result }
@@ -321,9 +322,11 @@ impl Member {
         ensures says { ManagesInsert self.old.tree options.now key self.old.worker self.new.worker
             result }
     {
+        self.know_run();
         if let Err(fault) = self.make_tidy(options) {
             return Err(InsertFault::Other(fault));
         }
+        self.know_run();
         match self.ask(Op::Insert, key, options.tries) {
             Ok(answer) => Ok(answer),
             Err(fault) => self.retry_insert(key, options, fault),
@@ -383,7 +386,7 @@ impl Member {
             (round_bound options.now.tries self.old.tree.layout) options.now.tries w
             self.old.worker (Err fault) }
         ensures tree { self.new.tree ≡ self.old.tree }
-        ensures says { (w : WorkerView) → Answers Insert key
+        ensures says { (w : WorkerView) → IsKnown w → Answers Insert key
             (round_bound options.now.tries self.old.tree.layout) options.now.tries w
             self.old.worker (Err fault)
             → Inserts self.old.tree options.now key w self.new.worker result }
@@ -392,6 +395,7 @@ impl Member {
         if !is_full(&told) {
             return plain(told);
         }
+        self.know_run();
         let behind = self.relieve();
         let told = self.ask_with_retries(Op::Insert, key, options);
         with_fullness(behind, self.queue_len(), told)

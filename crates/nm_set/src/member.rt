@@ -12,7 +12,7 @@ ghost use Rattle.nm_tree.specs.Calls.{SaysHas, LeavesAdvance, LeavesBehind, Leav
 ghost use Rattle.nm_set.specs.Asked.{Asked, AskedToPin, AskedToUnpin, SaysTryInsert, SaysTryRemove, SaysGoOn};
 ghost use Rattle.nm_set.specs.InTurns.{AskedMany};
 ghost use Rattle.nm_set.specs.NextKeys.{AskedNext, AskedPrev};
-ghost use Rattle.nm_set.specs.Posts.{IsReturned, IsTallyOf, ReadsNote};
+ghost use Rattle.nm_set.specs.Posts.{IsReturned, IsSentBack, IsTallyOf, ReadsNote};
 ghost use Rattle.nm_set.specs.Seats.{IsLetGo, IsOwn, IsResident, IsStaying, MayReturn, seats_in, told_absence};
 
 use crate::fault::{NotPinned, ObserveFault};
@@ -20,7 +20,7 @@ use crate::home::{Absence, Home};
 use crate::lease::Lease;
 use crate::posting::{Stamp, leave_letter, read_letter};
 use crate::returning::ReturnedWorker;
-use crate::seat::{SealedWorker, Stay, WayBack, unite};
+use crate::seat::{SealedWorker, WayBack};
 use nm_edge::Key;
 use nm_steps::Note;
 use nm_tree::{
@@ -56,6 +56,9 @@ impl Model for Member {
 pub struct ResignError {
     pub reason: ResignReason,
     pub member: Member,
+    /// After `Pending`: the worker that was found on its seat, as it was returned to it, with its
+    /// key still pending. `None` after any other reason.
+    pub leaver: Option<ReturnedWorker>,
 }
 
 impl Member {
@@ -442,15 +445,18 @@ impl Member {
     /// Takes over a worker that is not attached: `Tree::resign` of `nm_tree`. That worker never
     /// comes back; this one holds all that it held.
     ///
-    /// Errors: nothing has changed, the leaver is still on its seat, and the member is given back
+    /// Errors: nothing has changed, the leaver is on its seat, and the member is given back
     /// unchanged. `Number`: the tree has no worker of that number. `Attached`: a member has it, or
-    /// it has resigned. `Pending`: it was returned with a pending key.
+    /// it has resigned, or the set has as many members as can be counted. `Pending`: it was returned
+    /// with a pending key. It was taken from its seat and is back there, with its key still pending;
+    /// the error has its ticket.
     pub fn resign(self, leaver: u32) -> Result<Member, ResignError>
         ensures done { IfOk result
             (λ m. (m.tree ≡ self.tree) × (w : WorkerView) × IsResident self.tree self.worker.fit leaver w
             × HasResigned self.worker w m.worker) }
         ensures refused { IfErr result (λ e. e.member ≡ self) }
         ensures reason { IfErr result (λ e. IsStaying self leaver e.reason) }
+        ensures leaver { IfErr result (λ e. IsSentBack self leaver e.reason e.leaver) }
     {
         let Member {
             home,
@@ -458,29 +464,23 @@ impl Member {
             way_back,
         } = self;
         let (home, found) = home.take(leaver);
-        let (other, others_way) = match found {
-            Ok(found) => found,
+        let taken = match found {
+            Ok(taken) => taken,
             Err(absence) => {
                 return Err(ResignError {
                     reason: reason_of(absence),
-                    member: Member {
-                        home,
-                        sealed,
-                        way_back,
-                    },
+                    member: Member::back(home, sealed, way_back),
+                    leaver: None,
                 });
             }
         };
-        match unite(home.tree(), sealed, other) {
-            Ok(heir) => Ok(Member::back(home.retire(others_way), heir, way_back)),
-            Err(stay) => {
-                let Stay { heir, leaver } = stay;
-                home.receive(leaver, others_way);
-                Err(ResignError {
-                    reason: ResignReason::Pending,
-                    member: Member::back(home, heir, way_back),
-                })
-            }
+        match taken.resign_to(sealed) {
+            Ok(heir) => Ok(Member::back(home, heir, way_back)),
+            Err((heir, returned)) => Err(ResignError {
+                reason: ResignReason::Pending,
+                member: Member::back(home, heir, way_back),
+                leaver: Some(returned),
+            }),
         }
     }
 }

@@ -33,6 +33,8 @@ impl Member {
     ///
     /// Errors: `Pinned`, `Pending`, `NoMemory`: as of `remove`. `Busy`: each round came to nothing,
     /// because others removed the key that was found, or because a call lost each of its tries.
+    /// Proved (`busy`): a call with at least two tries is `Busy` only if turns have interfered with it,
+    /// or others have advanced the epoch, at least once for each round.
     /// `Unfinished`: the least key, as above, will be removed by this call, and is pending; the
     /// next managed call finishes it first. Proved (`alone`, `pending`): a call with at least two tries
     /// returns an answer or `NoMemory` if no other worker has a remove pending before it or makes a
@@ -104,7 +106,7 @@ impl Member {
         ensures tree { self.new.tree ≡ self.old.tree }
         ensures says { Pops (among end) (comes_before end)
             ((options.now.rounds + 1) * pop_round_bound options.now self.old.tree.layout)
-            options.now.tries self.old.worker self.new.worker result }
+            options.now.tries (options.now.rounds + 1) self.old.worker self.new.worker result }
     {
         for _round in 0..options.rounds {
             let told = self.pop_once(end, options);
@@ -121,7 +123,7 @@ impl Member {
         requires none { self.old.worker.pending ≡ None }
         ensures tree { self.new.tree ≡ self.old.tree }
         ensures says { Pops (among end) (comes_before end) (pop_round_bound options.now self.old.tree.layout)
-            options.now.tries self.old.worker self.new.worker result }
+            options.now.tries 1 self.old.worker self.new.worker result }
     {
         self.know_run();
         let Some(key) = self.key_at(end, options.tries)? else {

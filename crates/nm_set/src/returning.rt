@@ -1,13 +1,15 @@
 //! Workers that were returned, and the way to take one again as it was.
-ghost use Rattle.std.specs.Prelude.{◌≡◌, Some, IfOk, IfErr};
+ghost use Rattle.std.specs.Prelude.{◌≡◌, None, Some, IfOk, IfErr, IsSome};
+ghost use Rattle.nm_steps.specs.Steps.{IsOf};
 ghost use Rattle.nm_set.specs.Posts.{HasSat, IsReturned};
-ghost use Rattle.nm_set.specs.Seats.{seats_in};
+ghost use Rattle.nm_set.specs.Seats.{IsOwn, MayReturn, seats_in};
+ghost use Rattle.nm_tree.specs.Resigning.{HasResigned};
 ghost use Rattle.nm_tree.specs.Workers.{WorkerView};
 
-use crate::lease::Lease;
+use crate::lease::{Lease, Taken};
 use crate::member::Member;
 use crate::posting::Stamp;
-use crate::seat::{Sat, Ticket};
+use crate::seat::{Sat, SealedWorker, Stay, Ticket, unite};
 use nm_steps::Note;
 use std::marker::Model;
 
@@ -95,6 +97,42 @@ impl ReturnedWorker {
                 done,
                 note,
             }),
+        }
+    }
+}
+
+impl Taken {
+    /// Lets the worker that was taken resign to this one: `Tree::resign` of `nm_tree`. If it has a
+    /// pending key, it is returned to its seat instead, and the other one is handed back.
+    pub(crate) fn resign_to(
+        self,
+        heir: SealedWorker,
+    ) -> Result<SealedWorker, (SealedWorker, ReturnedWorker)>
+        requires heir { IsOf self.home.tree heir.worker.pass }
+        requires own { IsOwn self.home.tree self.sealed.worker }
+        requires fit { self.sealed.worker.fit ≡ self.home.fit }
+        requires free { self.sealed.worker.held ≡ None }
+        requires back { MayReturn (seats_in self.home) self.sealed.worker self.way_back }
+        ensures done { IfOk result (λ g. HasResigned heir.worker self.sealed.worker g.worker) }
+        ensures refused { IfErr result
+            (λ s. IsSome self.sealed.worker.pending × (s.0.worker ≡ heir.worker)
+            × (s.1.tree ≡ self.home.tree) × IsReturned self.sealed.worker s.1) }
+    {
+        let Taken {
+            home,
+            sealed,
+            way_back,
+        } = self;
+        match unite(home.tree(), heir, sealed) {
+            Ok(heir) => {
+                let _gone = home.retire(way_back);
+                Ok(heir)
+            }
+            Err(stay) => {
+                let Stay { heir, leaver } = stay;
+                let sat = home.receive(leaver, way_back);
+                Err((heir, ReturnedWorker::of(home, sat)))
+            }
         }
     }
 }

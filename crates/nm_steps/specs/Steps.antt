@@ -1,5 +1,5 @@
 -- What a step requires of its worker, and what it does.
-use Rattle.std.specs.Prelude.{◌≡◌, ◌⊎◌, ◌≢◌, ◌+◌, ◌≤◌, ◌<◌, IfSome, ℕ, suc, true, false, List, [], ◌∷◌, ◌++◌, length, map, Bool, if◌then◌else◌, unwrap_or, Result, Ok, Err, Option, Some, None, IsSome, All}
+use Rattle.std.specs.Prelude.{◌≡◌, ◌≢◌, ◌+◌, ◌≤◌, ◌<◌, IfSome, ℕ, suc, true, false, List, [], ◌∷◌, ◌++◌, length, map, Bool, if◌then◌else◌, unwrap_or, Result, Ok, Err, Option, Some, None, IsSome, All}
 use Rattle.atomic_table.specs.Seated.{TableId}
 use Rattle.atomic_table.specs.declared.shared.Seat.{Seat}
 use Rattle.nm_edge.specs.Edges.{Edge}
@@ -184,7 +184,6 @@ pub record Tied (it : Seat Unit View) (number announcement : ℕ) (brief : Brief
 pub record Laid (z : TableId) (key L : Layout) : Type 0 where
   pub key_is : key ≡ L
   pub words_are : words L ≤ z.words
-  pub slots_are : (z.slots ≡ 0) ⊎ (z.slots ≡ L.nodes)
 
 -- ---- making, joining and closing
 

@@ -1,19 +1,31 @@
 -- Steps on values, whose words come after those of the core.
-use Rattle.std.specs.Prelude.{◌≡◌, ◌+◌, ◌-◌, ℕ, true, false, List, [], ◌∷◌, ◌++◌, length}
+use Rattle.std.specs.Prelude.{◌≡◌, ◌+◌, ◌-◌, ℕ, Bool, true, false, List, [], ◌∷◌, ◌++◌, length}
 use mathlib.Core.Option.{none}
+use Rattle.atomic_table.specs.Seated.{TableId}
 use Rattle.atomic_table.specs.Table.{Me, Step, step}
 use Rattle.atomic_table.specs.declared.shared.Seat.{Seat}
+use Rattle.nm_edge.specs.Layouts.{Layout}
 use Rattle.nm_edge.specs.Words.{IsSlot, words}
 use Rattle.nm_model.specs.Knowledge.{is_private}
 use Rattle.nm_steps.specs.declared.view.Stored.{Stored}
 use Rattle.nm_steps.specs.declared.view.View.{View}
 use Rattle.nm_steps.specs.Rules.{Extends, ExtendsStores, LinksHaveValues, WereHeld, knowledge, value_of}
-use Rattle.nm_steps.specs.Steps.{HasSeen, PassView, TreeView}
+use Rattle.nm_steps.specs.Steps.{HasSeen, Laid, PassView, TreeView}
 
 -- a table with a value for each slot
 pub record HasValues (b : TreeView) : Type 0 where
   pub words_are : b.table.words ≡ words b.layout + b.layout.nodes
   pub slots_are : b.table.slots ≡ b.layout.nodes
+
+-- a table with a value for each slot, or one without values
+abbrev pub HasValuesIf : Bool → TreeView → Type 0
+HasValuesIf true b = HasValues b
+HasValuesIf false b = b.table.slots ≡ 0
+
+-- what the words of a tree always satisfy: the table was made for the layout, and has values or not
+pub record IsMade (z : TableId) (key L : Layout) (values : Bool) : Type 0 where
+  pub laid : Laid z key L
+  pub kind : HasValuesIf values (record { table = z; layout = L })
 
 -- the number of the word of a slot's value
 abbrev pub value_word : TreeView → ℕ → ℕ

@@ -3,12 +3,13 @@
 //! The table is a private field, which only the modules below this one can use. All other code
 //! takes steps by `join` and by the operations of `acts`, each of which is one operation on one
 //! word.
-ghost use Rattle.std.specs.Prelude.{◌≡◌, ◌<◌, ℕ, true};
+ghost use Rattle.std.specs.Prelude.{◌≡◌, ◌<◌, ℕ, true, false};
 ghost use Rattle.nm_edge.specs.Layouts.{IsLayout};
 ghost use Rattle.nm_model.specs.Knowledge.{is_private};
 ghost use Rattle.nm_order.specs.Hands.{IsPooled};
 ghost use Rattle.nm_steps.specs.Rules.{knowledge};
 ghost use Rattle.nm_steps.specs.Steps.{IsOfRun, HasSeen};
+ghost use Rattle.nm_steps.specs.Values.{HasValues};
 
 mod acts;
 mod closing;
@@ -30,16 +31,18 @@ use std::marker::Model;
 pub struct Shared {
     table: Table<(), View, Layout, Law, Global>,
     pub(crate) layout: Layout,
+    values: bool,
 }
 
 impl Model for Shared {
-    ghost use Rattle.nm_steps.specs.Steps.{TreeView, Laid};
+    ghost use Rattle.nm_steps.specs.Steps.{TreeView};
+    ghost use Rattle.nm_steps.specs.Values.{IsMade};
 
     ghost Value = { TreeView };
 
     ghost view = { λ s. record { table = s.table.shared.table_id; layout = s.layout } };
 
-    ghost invariant = { λ s. Laid s.table.shared.table_id s.table.shared.key s.layout };
+    ghost invariant = { λ s. IsMade s.table.shared.table_id s.table.shared.key s.layout s.values };
 }
 
 /// One worker: its seat, its number, the index of the word of its announcement, and what its log
@@ -68,6 +71,14 @@ impl Shared {
         ensures { result ≡ self.now.layout }
     {
         self.layout
+    }
+
+    /// Returns whether the table has a value for each slot.
+    pub fn has_values(&self) -> bool
+        ensures yes { result ≡ true → HasValues self.now }
+        ensures no { result ≡ false → self.now.table.slots ≡ 0 }
+    {
+        self.values
     }
 }
 

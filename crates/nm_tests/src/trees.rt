@@ -18,6 +18,7 @@ mod order;
 mod readers;
 mod stalled;
 mod threads;
+mod values;
 
 /// A call of a worker.
 #[derive(Clone, Copy)]

@@ -3,8 +3,9 @@ use Rattle.std.proofs.Common.{◌≡◌, ℕ, zero, suc, ◌+◌, ◌<◌, true,
 use Rattle.std.specs.Prelude.{◌↔◌, Contains, Option, Some, None, option_map, slice_get}
 use Rattle.std.proofs.lemmas.Bool.{false_from_ne_true}
 use Rattle.std.proofs.lemmas.Option.{none-some, same_Some}
-use Rattle.nm_edge.specs.Layouts.{Layout}
+use Rattle.nm_edge.specs.Layouts.{Layout, IsLayout}
 use Rattle.nm_edge.specs.declared.node.NodeId.{NodeId}
+use Rattle.nm_model.specs.declared.event.Event.{Event}
 use Rattle.nm_model.specs.declared.ledger.Ledger.{Ledger}
 use Rattle.nm_model.specs.declared.ledger.Queued.{Queued}
 use Rattle.nm_model.specs.declared.trace.Turn.{Turn}
@@ -12,7 +13,7 @@ use Rattle.nm_model.specs.Knowledge.{Knowledge, is_private}
 use Rattle.nm_model.specs.Laws.{node_in}
 use Rattle.nm_model.specs.Ledgers.{held}
 use Rattle.nm_model.specs.Memory.{Memory, infinity_0, opening}
-use Rattle.nm_model.specs.Ordered.{ordered, trace_in}
+use Rattle.nm_model.specs.Ordered.{ordered, after_in, trace_in}
 use Rattle.nm_model.specs.Reports.{keys}
 use Rattle.nm_model.specs.Runs.{of}
 use Rattle.nm_model.specs.Acts.{InSet}
@@ -50,23 +51,26 @@ nodes_of : (es : List Entry) → map (λ (e : Entry). e.node) es ≡ map node_in
 nodes_of [] = refl
 nodes_of (e ∷ es) = ap (λ (ns : List NodeId). e.node ∷ ns) (nodes_of es)
 
+-- what waits in a held queue is what waits by the turns
+pub queue_waits : (L : Layout) (fits : IsLayout L) (ts : List (ℕ × Event)) (u : ℕ) (k : Knowledge) (h : HeldQueue) → of (after_in (ordered L) ts).state u ≡ k → IsQueueOf k h.origin h.queue.items → map (λ (e : Entry). e.node) h.queue.items ≡ waits_of h.origin (trace_in (ordered L) ts)
+queue_waits L fits ts u k h knows has = go (held k.ledgers h.origin) refl has
+  where
+    go : (x : Option Ledger) → held k.ledgers h.origin ≡ x → option_map (λ (l : Ledger). l.queue) x ≡ Some (map queued h.queue.items) → map (λ (e : Entry). e.node) h.queue.items ≡ waits_of h.origin (trace_in (ordered L) ts)
+    go None there none = absurd (none-some (map queued h.queue.items) none)
+    go (Some l) there queue =
+        nodes_of h.queue.items ∙ (ap (λ (q : List Queued). map node_in q) (sym (same_Some l.queue (map queued h.queue.items) queue))
+        ∙ sym (waits_is L fits true ts u h.origin l (ap (λ (x : Knowledge). held x.ledgers h.origin) knows ∙ there)))
+
 module _ (L : Layout) (words : List ℕ) (e : IsEndOf L words) (w : WorkerView) (home r : ℕ) (is : IsWorker w home r) (is_shown : IsShown L (trace_in (ordered L) e.turns) w.pass.view)
     (each : AreFrom 0 w.queues) (all : length w.queues ≡ L.workers) where
   abbrev turns : List Turn
   turns = trace_in (ordered L) e.turns
 
   waiting : (o : ℕ) (h : HeldQueue) → slice_get w.queues o ≡ Some h → map (λ (e : Entry). e.node) h.queue.items ≡ waits_of o turns
-  waiting o h at = go (held (knowledge w.pass.view).ledgers h.origin) refl (held_at (knowledge w.pass.view) w.queues is.between.queues o h at)
-    where
-      own : h.origin ≡ o
-      own = let e' = origin_at 0 w.queues each o h at in omega (arith, e')
-
-      go : (x : Option Ledger) → held (knowledge w.pass.view).ledgers h.origin ≡ x → option_map (λ (l : Ledger). l.queue) x ≡ Some (map queued h.queue.items) → map (λ (e : Entry). e.node) h.queue.items ≡ waits_of o turns
-      go None there none = absurd (none-some (map queued h.queue.items) none)
-      go (Some l) there queue =
-          nodes_of h.queue.items ∙ (ap (λ (q : List Queued). map node_in q) (sym (same_Some l.queue (map queued h.queue.items) queue))
-          ∙ sym (waits_is L e.fits true e.turns w.pass.view.number o l
-          (ap (λ (k : Knowledge). held k.ledgers o) (known L words e w home r is is_shown each all) ∙ (ap (λ (n : ℕ). held (knowledge w.pass.view).ledgers n) (sym own) ∙ there))))
+  waiting o h at =
+      let from = origin_at 0 w.queues each o h at in
+      let own : h.origin ≡ o = omega (arith, from) in
+      queue_waits L e.fits e.turns w.pass.view.number (knowledge w.pass.view) h (known L words e w home r is is_shown each all) (held_at (knowledge w.pass.view) w.queues is.between.queues o h at) ∙ ap (λ (n : ℕ). waits_of n turns) own
 
   no_hands : (u x : ℕ) → has_after (opening L) u x false turns ≡ false
   no_hands u x = run_hands u x L e.fits true e.turns ∙ false_from_ne_true (is_private (of (end_of L words e) u) x) (none_private L words e w home r is is_shown each all u x)

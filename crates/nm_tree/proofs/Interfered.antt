@@ -12,9 +12,10 @@ use Rattle.nm_calls.specs.Calls.{HasMissed}
 use Rattle.nm_calls.specs.InTurns.{GiveUp as GiveUpInTurns}
 use Rattle.nm_calls.specs.Inserts.{InsertDid}
 use Rattle.nm_calls.specs.NearKeys.{GiveUp as GiveUpNear}
-use Rattle.nm_calls.specs.PlainWalks.{PlainMissed}
+use Rattle.nm_calls.specs.PlainWalks.{GivesUpUnderPin, PlainMissed}
+use Rattle.nm_calls.specs.Scans.{StopsShort}
 use Rattle.nm_calls.specs.Deletes.{DeleteDid, IsRemoving, LosesAfterFlag, LosesEachTry}
-use Rattle.nm_progress.specs.Lookups.{WasBusy}
+use Rattle.nm_progress.specs.Lookups.{WasBusy, WasReshaped}
 use Rattle.nm_progress.specs.Lost.{Interference, WasChanged, ChangeWasBusy}
 use Rattle.nm_epoch.specs.Resting.{IsResting}
 use Rattle.nm_progress.specs.Alone.{IsAlone, RunsAlone}
@@ -22,7 +23,7 @@ use Rattle.nm_progress.specs.Walked.{ManyWereBusy, NearWasBusy}
 use Rattle.nm_progress.proofs.AloneCalls.{lookups_alone_are_answered, inserts_alone_are_answered, deletes_alone_are_not_busy}
 use Rattle.nm_progress.proofs.AloneRemovals.{deletes_alone_are_finished, finishes_alone_are_answered}
 use Rattle.nm_progress.proofs.LostLookups.{busy_lookups_met_interference}
-use Rattle.nm_progress.proofs.LostWalked.{busy_many_met_interference, busy_near_met_interference}
+use Rattle.nm_progress.proofs.LostWalked.{busy_many_met_interference, busy_near_met_interference, short_scans_met_interference}
 use Rattle.nm_progress.proofs.InterferedCalls.{busy_inserts_were_lost, busy_deletes_were_lost, unfinished_deletes_were_lost, unfinished_finishes_were_lost}
 
 -- of a tree and a worker whose insides are b and o, a call that ends at q
@@ -68,6 +69,11 @@ module _ (b d : TreeView) (o p q : PassView) (k tries : ℕ) (tree : b ≡ d) (a
   near_interfered own side missed =
       subst (λ (x : PassView). NearWasBusy x q tries) at
       (busy_near_met_interference side k tries o q seen after enough same past (subst (λ (L : Layout). PlainMissed (GiveUpNear side L tries k) tries o.view.log q.view.log) (sym (layouts own)) missed))
+
+  pub scan_interfered : IsOf d p → GivesUpUnderPin (StopsShort b.layout) tries o.view.log q.view.log → WasReshaped p q 1
+  scan_interfered own short =
+      subst (λ (x : PassView). WasReshaped x q 1) at
+      (short_scans_met_interference tries o q seen after enough same past (subst (λ (L : Layout). GivesUpUnderPin (StopsShort L) tries o.view.log q.view.log) (sym (layouts own)) short))
 
   -- ---- alone
 

@@ -10,6 +10,7 @@ pub mod Untouched
 pub mod Changing
 pub mod FlaggedSeen
 pub mod Interfered
+pub mod EarlyScans
 pub mod OwnQueue
 pub mod Freeing
 pub mod Opening
@@ -28,6 +29,9 @@ pub mod Closed
 pub mod EndCounts
 pub mod OfClosed
 pub mod Taking
+pub mod AnswersInRuns
+pub mod FoundThenGone
+pub mod AlonePops
 pub mod WorkedPending
 pub mod Ends
 pub mod Pools

@@ -83,14 +83,14 @@ in_map : (es : List Waiting) (e : Waiting) → Contains es e → Contains (map f
 in_map es e there = (there.0, subst (λ (n : ℕ). there.0 < n) (sym (length-map es freeing)) there.1, get_or-map freeing es there.0 e (freeing e) there.1 ∙ ap freeing there.2)
 
 -- a collection frees in grace
-pub collected_in_grace : (v : View) (old : List Entry) (epoch : ℕ) (hs : List HeldQueue) → IsLayout v.layout → HasSeen v → IsCollection epoch hs old v.log → All (λ (e : Waiting). IsFreedInGrace v e.node) (ripe_of epoch hs)
-collected_in_grace v old epoch hs fits seen c = λ i d below. of_one (slice_index_or (ripe_of epoch hs) i d) (All-contains_itself (ripe_of epoch hs) i d below)
+pub collected_in_grace : (v : View) (mid : List Entry) (es : List Waiting) → IsLayout v.layout → HasSeen v → v.log ≡ mid ++ map freeing es → All (λ (e : Waiting). IsFreedInGrace v e.node) es
+collected_in_grace v mid es fits seen is = λ i d below. of_one (slice_index_or es i d) (All-contains_itself es i d below)
   where
-    logged : (e : Waiting) → Contains (ripe_of epoch hs) e → Contains v.log (freeing e)
-    logged e there = subst (λ (log : List Entry). Contains log (freeing e)) (sym c.2) (Contains-append_right c.0 (map freeing (ripe_of epoch hs)) (freeing e) (in_map (ripe_of epoch hs) e there))
+    logged : (e : Waiting) → Contains es e → Contains v.log (freeing e)
+    logged e there = subst (λ (log : List Entry). Contains log (freeing e)) (sym is) (Contains-append_right mid (map freeing es) (freeing e) (in_map es e there))
 
-    freed : (e : Waiting) → Contains (ripe_of epoch hs) e → Contains (freed_by v.past) e.node
+    freed : (e : Waiting) → Contains es e → Contains (freed_by v.past) e.node
     freed e there = freed_by_turns v.number v.past e.node.slot e.node (subst (λ (log : List Entry). Contains log (freeing e)) (sym seen.is_part) (logged e there))
 
-    of_one : (e : Waiting) → Contains (ripe_of epoch hs) e → IsFreedInGrace v e.node
+    of_one : (e : Waiting) → Contains es e → IsFreedInGrace v e.node
     of_one e there = record { freed = freed e there; left = readers_have_left v.layout v.past (has_seen_turns v fits seen).headline e.node (freed e there) }

@@ -25,6 +25,8 @@ use Rattle.nm_calls.proofs.Adding.{mul_below}
 use Rattle.nm_calls.proofs.Rooms.{takes_then}
 use Rattle.nm_calls.specs.declared.fault.CallFault.{CallFault}
 use Rattle.nm_calls.specs.declared.fault.CallFault.TheVariants as fault
+use Rattle.nm_progress.specs.Alone.{RunsAlone}
+use Rattle.nm_progress.proofs.RunningAlone.{alone_later, runs_later}
 use Rattle.nm_tree.specs.declared.popping.End.{End}
 use Rattle.nm_tree.specs.declared.popping.End.TheVariants.{First, FirstBelow, Last, LastFrom}
 use Rattle.nm_tree.specs.Answers.{flags_won}
@@ -107,15 +109,15 @@ room_through (h ∷ hs) (g ∷ gs) (f ∷ fs) a b = (takes_then h.queue g.queue 
 -- ---- going on
 
 -- the worker has gone on by calls, in so many steps at most, by which so many flags were won
-record GoesOn (most flags : ℕ) (w z : WorkerView) : Type 0 where
-  same : IsSamePass w.pass z.pass
-  past : HasSeenAllOf z.pass w.pass
-  won : HasWon w.pass.view.log z.pass.view.log 0 flags
-  steps : length z.pass.view.log ≤ length w.pass.view.log + most
-  queues : KeepsOtherQueues w.pass.view.number w.queues z.queues
-  blocks : TakeRoom w.queues z.queues
-  held : z.held ≡ None
-  fit : z.fit ≡ w.fit
+pub record GoesOn (most flags : ℕ) (w z : WorkerView) : Type 0 where
+  pub same : IsSamePass w.pass z.pass
+  pub past : HasSeenAllOf z.pass w.pass
+  pub won : HasWon w.pass.view.log z.pass.view.log 0 flags
+  pub steps : length z.pass.view.log ≤ length w.pass.view.log + most
+  pub queues : KeepsOtherQueues w.pass.view.number w.queues z.queues
+  pub blocks : TakeRoom w.queues z.queues
+  pub held : z.held ≡ None
+  pub fit : z.fit ≡ w.fit
 
 goes_nowhere : (w : WorkerView) → w.held ≡ None → GoesOn 0 0 w w
 goes_nowhere w free = record {
@@ -222,7 +224,7 @@ near_bound L tries = 3 * tries + tries * most_looks (reach L) 1 + 2
 abbrev delete_bound : Layout → ℕ → ℕ
 delete_bound L tries = tries * (4 * reach L + 8 * chain_bound) + 10
 
-abbrev round_bound : Layout → ℕ → ℕ
+abbrev pub round_bound : Layout → ℕ → ℕ
 round_bound L tries = tries * (7 * reach L + 8 * chain_bound + 4) + 12
 
 pub scaled : (t r c d : ℕ) → t * (c * r + d) ≡ c * (t * r) + d * t
@@ -287,11 +289,11 @@ goes_round end L tries k w y z r found did =
 pub one_more : (end : End) (L : Layout) (tries n : ℕ) (w x y z : WorkerView) (key : ℕ) → LosesRounds end L tries n w x → Finds end L tries x y (Ok (Some key)) → LeavesDelete L tries key y z (Ok false) → LosesRounds end L tries (n + 1) w z
 one_more end L tries n w x y z key before found did = let more : suc n ≡ n + 1 = omega arith in subst (λ (m : ℕ). LosesRounds end L tries m w z) more (x, y, key, before, found, did)
 
-record HaveGone (L : Layout) (tries n : ℕ) (w z : WorkerView) : Type 0 where
-  on : GoesOn (n * round_bound L tries) 0 w z
-  free : z.pending ≡ None
+pub record HaveGone (L : Layout) (tries n : ℕ) (w z : WorkerView) : Type 0 where
+  pub on : GoesOn (n * round_bound L tries) 0 w z
+  pub free : z.pending ≡ None
 
-have_gone : (end : End) (L : Layout) (tries n : ℕ) (w z : WorkerView) → w.pending ≡ None → w.held ≡ None → LosesRounds end L tries n w z → HaveGone L tries n w z
+pub have_gone : (end : End) (L : Layout) (tries n : ℕ) (w z : WorkerView) → w.pending ≡ None → w.held ≡ None → LosesRounds end L tries n w z → HaveGone L tries n w z
 have_gone end L tries zero w z none free is = subst (HaveGone L tries zero w) (sym is) (record { on = goes_more 0 (0 * round_bound L tries) 0 w w (omega arith) (goes_nowhere w free); free = none })
 have_gone end L tries (suc n) w z none free (x, y, key, before, found, did) =
     let gone = have_gone end L tries n w x none free before in
@@ -351,6 +353,7 @@ module _ (end : End) (L : Layout) (tries : ℕ) (w : WorkerView) (none : w.pendi
         blocks = on.blocks;
         held = on.held;
         fit = on.fit;
+        alone = λ runs. tt;
       }
 
   -- one that finds a key which is not to be popped
@@ -369,6 +372,7 @@ module _ (end : End) (L : Layout) (tries : ℕ) (w : WorkerView) (none : w.pendi
         blocks = on.blocks;
         held = on.held;
         fit = on.fit;
+        alone = λ runs. tt;
       }
 
   -- the key that was found, in the whole call
@@ -391,6 +395,7 @@ module _ (end : End) (L : Layout) (tries : ℕ) (w : WorkerView) (none : w.pendi
         blocks = on.blocks;
         held = on.held;
         fit = on.fit;
+        alone = λ runs. tt;
       }
 
   -- the call that finds a key was not answered
@@ -400,7 +405,7 @@ module _ (end : End) (L : Layout) (tries : ℕ) (w : WorkerView) (none : w.pendi
       by : (f : CallFault) → Finds end L tries x z (Err f) → LeavesNear (told_at end) (gives_up_at end L tries) L tries x z (Err f) → Says z (Err f)
       by fault.Busy found l =
           let on = so_far n 0 x z less gone (half_round x z (Err fault.Busy) found) in
-          record { same = on.same; past = on.past; told = (none, l.did.0.1); took = tt; won = on.won; steps = on.steps; queues = on.queues; blocks = on.blocks; held = on.held; fit = on.fit }
+          record { same = on.same; past = on.past; told = (none, l.did.0.1); took = tt; won = on.won; steps = on.steps; queues = on.queues; blocks = on.blocks; held = on.held; fit = on.fit; alone = λ runs. (let few = l.alone (alone_later w.pass x.pass z.pass gone.on.same gone.on.past l.past runs.alone) refl in omega (arith, few)) }
       by fault.Pending found l = not_pending x gone.free l.did.0
       by fault.Full found l = absurd l.did
       by fault.NoMemory found l = absurd l.did
@@ -414,13 +419,16 @@ module _ (end : End) (L : Layout) (tries : ℕ) (w : WorkerView) (none : w.pendi
       l : LeavesNear (told_at end) (gives_up_at end L tries) L tries x y (Ok (Some key))
       l = found_by end L tries x y (Ok (Some key)) found
 
+      later : {r : Result Bool CallFault} → RunsAlone w.pass z.pass → LeavesDelete L tries key y z r → RunsAlone y.pass z.pass
+      later runs did = runs_later w.pass y.pass z.pass (same_then w.pass x.pass y.pass gone.on.same l.same) (seen_through w.pass x.pass y.pass gone.on.past l.past) did.says.past runs
+
       by : (f : CallFault) → LeavesDelete L tries key y z (Err f) → Says z (Err f)
       by fault.Busy did =
           let on = so_far n 0 x z less gone (goes_round end L tries key x y z (Err fault.Busy) found did) in
-          record { same = on.same; past = on.past; told = (none, did.says.told.1); took = tt; won = on.won; steps = on.steps; queues = on.queues; blocks = on.blocks; held = on.held; fit = on.fit }
+          record { same = on.same; past = on.past; told = (none, did.says.told.1); took = tt; won = on.won; steps = on.steps; queues = on.queues; blocks = on.blocks; held = on.held; fit = on.fit; alone = λ runs. (let few = did.alone (later runs did) in omega (arith, few)) }
       by fault.NoMemory did =
           let on = so_far n 0 x z less gone (goes_round end L tries key x y z (Err fault.NoMemory) found did) in
-          record { same = on.same; past = on.past; told = ((none, did.says.told.0.1), did.says.told.1); took = tt; won = on.won; steps = on.steps; queues = on.queues; blocks = on.blocks; held = on.held; fit = on.fit }
+          record { same = on.same; past = on.past; told = ((none, did.says.told.0.1), did.says.told.1); took = tt; won = on.won; steps = on.steps; queues = on.queues; blocks = on.blocks; held = on.held; fit = on.fit; alone = λ runs. tt }
       by fault.Unfinished did =
           let on = so_far n 1 x z less gone (goes_round end L tries key x y z (Err fault.Unfinished) found did) in
           let was = found_so x y z key gone.on.past found (Err fault.Unfinished) did in
@@ -435,16 +443,17 @@ module _ (end : End) (L : Layout) (tries : ℕ) (w : WorkerView) (none : w.pendi
             blocks = on.blocks;
             held = on.held;
             fit = on.fit;
+            alone = λ runs. did.alone (later runs did);
           }
       by fault.Pending did = not_pending y l.did.0.1 did.says.told.0
       by fault.Full did = absurd did.says.told
       by fault.Pinned did = absurd did.says.told
 
   -- all rounds came too late
-  by_all : (z : WorkerView) → HaveGone L tries tries w z → Says z (Err fault.Busy)
-  by_all z gone =
+  by_all : (z : WorkerView) → (RunsAlone w.pass z.pass → tries < 2) → HaveGone L tries tries w z → Says z (Err fault.Busy)
+  by_all z late gone =
       let on = gone.on in
-      record { same = on.same; past = on.past; told = (none, gone.free); took = tt; won = on.won; steps = on.steps; queues = on.queues; blocks = on.blocks; held = on.held; fit = on.fit }
+      record { same = on.same; past = on.past; told = (none, gone.free); took = tt; won = on.won; steps = on.steps; queues = on.queues; blocks = on.blocks; held = on.held; fit = on.fit; alone = late }
 
   by_round : (n : ℕ) (x z : WorkerView) (r : Result (Option ℕ) CallFault) → n < tries → HaveGone L tries n w x → EndsRound end L tries x z r → Says z r
   by_round n x z (Ok None) less gone (inl found) = by_none n x z less gone found
@@ -457,12 +466,16 @@ module _ (end : End) (L : Layout) (tries : ℕ) (w : WorkerView) (none : w.pendi
 by_pending : (end : End) (L : Layout) (tries : ℕ) (w : WorkerView) → w.held ≡ None → IsSome w.pending → SaysPopOf (among end) (comes_before end) L tries w w (Err fault.Pending)
 by_pending end L tries w free some =
     let on = goes_more 0 (pop_bound L tries) 0 w w (omega arith) (goes_nowhere w free) in
-    record { same = on.same; past = on.past; told = (some, refl); took = tt; won = on.won; steps = on.steps; queues = on.queues; blocks = on.blocks; held = on.held; fit = on.fit }
+    record { same = on.same; past = on.past; told = (some, refl); took = tt; won = on.won; steps = on.steps; queues = on.queues; blocks = on.blocks; held = on.held; fit = on.fit; alone = λ runs. tt }
 
-pops_so : (end : End) (L : Layout) (tries : ℕ) (w z : WorkerView) (r : Result (Option ℕ) CallFault) → w.held ≡ None → HasPopped end L tries w z r → SaysPopOf (among end) (comes_before end) L tries w z r
-pops_so end L tries w z r free (inl (still, is)) = subst (SaysPopOf (among end) (comes_before end) L tries w z) (sym is) (subst (λ (x : WorkerView). SaysPopOf (among end) (comes_before end) L tries w x (Err fault.Pending)) (sym still.1) (by_pending end L tries w free still.0))
-pops_so end L tries w z r free (inr (none, inl (n, x, less, lost, ends))) = by_round end L tries w none free n x z r less (have_gone end L tries n w x none free lost) ends
-pops_so end L tries w z r free (inr (none, inr (lost, is))) = subst (SaysPopOf (among end) (comes_before end) L tries w z) (sym is) (by_all end L tries w none free z (have_gone end L tries tries w z none free lost))
+-- where a worker that runs alone cannot lose so many rounds
+abbrev pub LosesNoneAlone : End → Layout → ℕ → WorkerView → WorkerView → Type 0
+LosesNoneAlone end L tries w z = LosesRounds end L tries tries w z → RunsAlone w.pass z.pass → tries < 2
 
-pub leaves_so : (end : End) (L : Layout) (tries : ℕ) (w z : WorkerView) (r : Result (Option ℕ) CallFault) → w.held ≡ None → HasPopped end L tries w z r → LeavesPop end L tries w z r
-leaves_so end L tries w z r free did = record { says = pops_so end L tries w z r free did; did = did }
+pops_so : (end : End) (L : Layout) (tries : ℕ) (w z : WorkerView) (r : Result (Option ℕ) CallFault) → w.held ≡ None → (w.pending ≡ None → LosesNoneAlone end L tries w z) → HasPopped end L tries w z r → SaysPopOf (among end) (comes_before end) L tries w z r
+pops_so end L tries w z r free late (inl (still, is)) = subst (SaysPopOf (among end) (comes_before end) L tries w z) (sym is) (subst (λ (x : WorkerView). SaysPopOf (among end) (comes_before end) L tries w x (Err fault.Pending)) (sym still.1) (by_pending end L tries w free still.0))
+pops_so end L tries w z r free late (inr (none, inl (n, x, less, lost, ends))) = by_round end L tries w none free n x z r less (have_gone end L tries n w x none free lost) ends
+pops_so end L tries w z r free late (inr (none, inr (lost, is))) = subst (SaysPopOf (among end) (comes_before end) L tries w z) (sym is) (by_all end L tries w none free z (late none lost) (have_gone end L tries tries w z none free lost))
+
+pub leaves_so : (end : End) (L : Layout) (tries : ℕ) (w z : WorkerView) (r : Result (Option ℕ) CallFault) → w.held ≡ None → (w.pending ≡ None → LosesNoneAlone end L tries w z) → HasPopped end L tries w z r → LeavesPop end L tries w z r
+leaves_so end L tries w z r free late did = record { says = pops_so end L tries w z r free late did; did = did }

@@ -8,7 +8,7 @@ use Rattle.nm_steps.proofs.Seeing.{seen_itself}
 use Rattle.nm_calls.specs.Won.{HasWon}
 use Rattle.nm_calls.specs.declared.fault.CallFault.TheVariants as fault
 use Rattle.nm_tree.specs.Workers.{WorkerView}
-use Rattle.nm_tree.specs.Calls.{LeavesHas, LeavesInsert, LeavesDelete, LeavesFinish}
+use Rattle.nm_tree.specs.Calls.{LeavesGet, LeavesHas, LeavesInsert, LeavesDelete, LeavesFinish}
 use Rattle.nm_tree.proofs.QueueLists.{others_stay, room_stays}
 
 nothing_won : (log : List Entry) → HasWon log log 0 0
@@ -31,6 +31,22 @@ module _ (L : Layout) (tries k : ℕ) (w : WorkerView) (there : IsSome w.pending
     };
     did = (there, refl);
     alone = λ alone. tt;
+  }
+
+  pub get_pending : LeavesGet L tries k w w (Err fault.Pending)
+  get_pending = record {
+    same = refl;
+    past = seen_itself w.pass;
+    did = (there, refl);
+    interfered = λ is. absurd (let no = is in cc);
+    alone = λ alone is. absurd (let no = is in cc);
+    moment = tt;
+    stored = tt;
+    won = nothing_won w.pass.view.log;
+    steps = omega arith;
+    queues = refl;
+    held = free;
+    fit = refl;
   }
 
   pub insert_pending : LeavesInsert L tries k w w (Err fault.Pending)

@@ -1,6 +1,6 @@
 -- What a call requires of its worker, and what each call leaves of it: all that it ensures, in one
 -- record.
-use Rattle.std.specs.Prelude.{◌≡◌, ◌+◌, ◌*◌, ◌≤◌, ℕ, Bool, List, length, map, Option, None, Result, IfOk, IfErr, IsErrOf, All}
+use Rattle.std.specs.Prelude.{◌≡◌, ◌+◌, ◌*◌, ◌≤◌, ℕ, Bool, List, [], ◌∷◌, length, map, Option, None, Result, IfOk, IfErr, IfSome, IsErrOf, All}
 use Rattle.nm_edge.specs.Layouts.{Layout}
 use Rattle.nm_edge.specs.declared.edge.Side.{Side}
 use Rattle.nm_edge.specs.declared.edge.Side.TheVariants.{Left, Right}
@@ -21,7 +21,8 @@ use Rattle.nm_epoch.specs.Watches.{IsBehind}
 use Rattle.nm_calls.specs.declared.many.Query.{Query}
 use Rattle.nm_walks.specs.Bounds.{reach}
 use Rattle.nm_calls.specs.Bounds.{IsWithinBound, IsWithinClaims}
-use Rattle.nm_calls.specs.InTurns.{WasSo, key_of}
+use Rattle.nm_calls.specs.InTurns.{WasSo, key_of, GiveUp as GiveUpInTurns}
+use Rattle.nm_calls.specs.Maps.{HasStores, MapGave}
 use Rattle.nm_calls.specs.Moments.{AnswerHasMoment}
 use Rattle.nm_calls.specs.NearKeys.{WasNear, GiveUp}
 use Rattle.nm_calls.specs.PlainWalks.{most_looks}
@@ -126,6 +127,24 @@ pub record LeavesFinish (L : Layout) (tries : ℕ) (w z : WorkerView) (r : Resul
   pub lacks : IfErr r (FinishLacks L tries w z)
   pub lost : IsErrOf r fault.Unfinished → FinishWasLost tries w z
   pub alone : IsAlone w.pass z.pass → IfErr r (FailsAlone 1 1 tries z)
+
+-- `LeavesGet`: the same for a look-up of a value. The map gave its answer at a moment (linearization
+-- point) of the call, and each value was stored by a worker that linked its leaf (`stored`). A call
+-- that has a try is not busy if no other worker makes a transition during it (`alone`)
+pub record LeavesGet (L : Layout) (tries k : ℕ) (w z : WorkerView) (r : Result (Option ℕ) CallFault) : Type 0 where
+  pub same : IsSamePass w.pass z.pass
+  pub past : HasSeenAllOf z.pass w.pass
+  pub did : HasSeenMore (GiveUpInTurns L (k ∷ [])) tries (most_looks (reach L) 1) w z r
+  pub interfered : IsErrOf r fault.Busy → ManyWereBusy w.pass z.pass tries
+  pub alone : IsAlone w.pass z.pass → IsErrOf r fault.Busy → tries ≡ 0
+  pub moment : IfOk r (MapGave w.pass z.pass k)
+  pub stored : IfOk r (λ found. IfSome found (λ v. HasStores z.pass))
+  pub won : HasWon w.pass.view.log z.pass.view.log 0 0
+  pub steps : length z.pass.view.log
+      ≤ length w.pass.view.log + 3 * tries + most_looks (reach L) 1 + 2
+  pub queues : z.queues ≡ w.queues
+  pub held : z.held ≡ None
+  pub fit : z.fit ≡ w.fit
 
 -- `LeavesHasMany`: the same for a look-up of several queries, from the old ones to the new ones. A
 -- call that has a try is not busy if no other worker makes a transition during it (`alone`)

@@ -12,3 +12,4 @@ pub mod Running
 pub mod Worked
 pub mod Trees
 pub mod Ended
+pub mod Handing

@@ -1,6 +1,6 @@
 -- Pops of the least and of the greatest key, of all keys or of those up to a bound, in a set that
 -- others change.
-use Rattle.std.specs.Prelude.{◌≡◌, ◌⊎◌, ◌+◌, ◌-◌, ◌*◌, ◌^◌, ◌≤◌, ◌<◌, ℕ, zero, suc, true, false, length, Option, Some, None, Result, Ok, Err, IfOk}
+use Rattle.std.specs.Prelude.{◌≡◌, ◌⊎◌, ◌+◌, ◌-◌, ◌*◌, ◌^◌, ◌≤◌, ◌<◌, ℕ, zero, suc, true, false, length, Option, Some, None, Result, Ok, Err, IfOk, IfErr}
 use Rattle.nm_edge.specs.Keys.{IsKey}
 use Rattle.nm_edge.specs.Layouts.{Layout}
 use Rattle.nm_model.specs.declared.event.Op.TheVariants.{Delete}
@@ -12,9 +12,10 @@ use Rattle.nm_calls.specs.Won.{HasWon}
 use Rattle.nm_calls.specs.declared.deleting.Unfinished.{Unfinished}
 use Rattle.nm_calls.specs.declared.fault.CallFault.{CallFault}
 use Rattle.nm_calls.specs.declared.fault.CallFault.TheVariants as fault
+use Rattle.nm_progress.specs.Alone.{RunsAlone}
 use Rattle.nm_tree.specs.declared.popping.End.{End}
 use Rattle.nm_tree.specs.declared.popping.End.TheVariants.{First, FirstBelow, Last, LastFrom}
-use Rattle.nm_tree.specs.Answers.{IsPendingStill, IsFree, LacksRoom}
+use Rattle.nm_tree.specs.Answers.{IsPendingStill, IsFree, LacksRoom, FailsAlone}
 use Rattle.nm_tree.specs.Calls.{LeavesNext, LeavesPrev, LeavesDelete}
 use Rattle.nm_tree.specs.Workers.{WorkerView, KeepsOtherQueues, TakeRoom}
 
@@ -85,7 +86,8 @@ abbrev pub pop_bound : Layout → ℕ → ℕ
 pop_bound L tries = tries * (tries * (7 * reach L + 8 * chain_bound + 4) + 12)
 
 -- what a caller learns from a pop of one of these keys, by its answer: like `SaysDelete` for a
--- delete
+-- delete. If the worker ran alone, an error is due to fewer than two tries, or to a lack of room
+-- (`alone`)
 pub record SaysPopOf (Among : ℕ → Type 0) (Before : ℕ → ℕ → Type 0) (L : Layout) (tries : ℕ)
     (w z : WorkerView) (r : Result (Option ℕ) CallFault) : Type 0 where
   pub same : IsSamePass w.pass z.pass
@@ -98,6 +100,7 @@ pub record SaysPopOf (Among : ℕ → Type 0) (Before : ℕ → ℕ → Type 0) 
   pub blocks : TakeRoom w.queues z.queues
   pub held : z.held ≡ None
   pub fit : z.fit ≡ w.fit
+  pub alone : RunsAlone w.pass z.pass → IfErr r (FailsAlone 2 2 tries z)
 
 -- the same of all keys
 abbrev pub SaysPop : (ℕ → ℕ → Type 0) → Layout → ℕ → WorkerView → WorkerView

@@ -1,5 +1,8 @@
 //! Inserts, deletes, and the completion of a pending delete.
+ghost use Rattle.std.specs.Prelude.{◌≡◌, true, Ok};
 ghost use Rattle.nm_steps.specs.Steps.{IsOf};
+ghost use Rattle.nm_steps.specs.Values.{HasValues};
+ghost use Rattle.nm_calls.specs.Maps.{HasPut};
 ghost use Rattle.nm_tree.specs.Calls.{MayCall, LeavesInsert, SaysInsert, LeavesDelete, SaysDelete, LeavesFinish, SaysFinish};
 
 use crate::tree::Tree;
@@ -8,7 +11,7 @@ use nm_calls::{CallFault, Missed, Unfinished, delete, finish, insert};
 use nm_edge::Key;
 
 impl Tree {
-    /// Inserts `key`; returns true if it was absent.
+    /// Inserts `key`; returns true if it was absent. In a tree with values the value is 0.
     ///
     /// Each try is a walk that ends with the answer, or a link of two new nodes. If the link is
     /// lost, the try helps with at most one cleanup. Before each try the call makes room for 128
@@ -29,6 +32,28 @@ impl Tree {
         ensures says { SaysInsert self.now.layout tries key worker.old worker.new result }
         ensures leaves { LeavesInsert self.now.layout tries key worker.old worker.new result }
     {
+        self.insert_with_value(worker, key, 0, tries)
+    }
+
+    /// Inserts `key` with `value`; returns true if the key was absent. Otherwise the key keeps its
+    /// value. In a tree without values it is `insert`, and `value` is not used. Proved (`puts`): if
+    /// the result is `Ok(true)`, the map had the key with the value at a moment of the call.
+    ///
+    /// Errors and cost are those of `insert`. (The insert of Natarajan and Mittal, section 3.2.)
+    #[inline(always)]
+    pub fn insert_with_value(
+        &self,
+        worker: &mut Worker,
+        key: Key,
+        value: u64,
+        tries: u32,
+    ) -> Result<bool, CallFault>
+        requires { MayCall self.now worker.old }
+        ensures says { SaysInsert self.now.layout tries key worker.old worker.new result }
+        ensures leaves { LeavesInsert self.now.layout tries key worker.old worker.new result }
+        ensures puts { HasValues self.now → result ≡ Ok true
+            → HasPut worker.old.pass worker.new.pass key value }
+    {
         if let Standing::Pending(_) = worker.standing {
             return Err(CallFault::Pending);
         }
@@ -40,6 +65,7 @@ impl Tree {
             &mut worker.workspace,
             own,
             key,
+            value,
             tries,
         );
         worker.pass.know_run();

@@ -20,6 +20,7 @@ mod resigning;
 mod running;
 mod scanning;
 mod tree;
+mod values;
 mod worker;
 
 pub use closing::{
@@ -28,7 +29,7 @@ pub use closing::{
 pub use fault::PinFault;
 pub use nm_calls::{CallFault, Query, Scanned};
 pub use nm_edge::Fit;
-pub use nm_epoch::{Advance, Behind, Collected, Entry, HeldQueue, Tally};
+pub use nm_epoch::{Advance, Behind, Collected, Entry, HandedOut, HeldQueue, Tally};
 pub use nm_model::NewError;
 pub use nm_steps::Note;
 pub use popping::End;

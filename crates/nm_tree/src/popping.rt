@@ -57,6 +57,10 @@ impl Tree {
     /// - In each of `tries` rounds the key that was found was not there to be deleted.
     /// - `next` or `delete` was busy; each of them has `tries` tries.
     ///
+    /// Proved (`alone`), if no other worker has a delete pending before the call or makes a
+    /// transition during it: a call with at least two tries is not `Busy`, and is `Unfinished` only
+    /// if the room of a try was refused.
+    ///
     /// Cost: at most `tries` * (`tries` * (7 `reach` + 516) + 12) steps. A walk's reach is 66 nodes
     /// in a radix tree, and the number of nodes otherwise. (The search and the delete of Natarajan
     /// and Mittal, section 3.2; the name of Rust's `BTreeSet`.)
@@ -122,7 +126,10 @@ impl Tree {
         if worker.pending().is_some() {
             return Err(CallFault::Pending);
         }
-        self.pop_in_rounds(worker, end, tries)
+        worker.know_run();
+        let taken = self.pop_in_rounds(worker, end, tries);
+        worker.know_run();
+        taken
     }
 
     /// Finds the key at that end and deletes it, in rounds, until this call has deleted one, or

@@ -21,8 +21,8 @@ impl Tree {
     /// worker had seen before. Takes no memory. The caller must not have pinned the worker.
     ///
     /// The call continues beyond `from` whenever `out` has room for a key. It ends early if `tries`
-    /// of its walks have ended with no key of the range, because other workers removed it. It also
-    /// ends early if a walk after the first one had looked at as many nodes as there are.
+    /// of its walks have ended with no key of the range. It also ends early if a walk after the
+    /// first one had looked at as many nodes as there are.
     ///
     /// Errors: `out` is unchanged. `Pending`: a key is pending. `Busy`, for one of these reasons:
     /// - `tries` is 0; then there was no step.
@@ -31,7 +31,9 @@ impl Tree {
     ///   workers linked or cut off nodes meanwhile. In a radix tree this never happens.
     ///
     /// Proved (`alone`): a call that has at least one try is not `Busy` if no other worker makes a
-    /// transition during it.
+    /// transition during it. Proved (`early`): a call that has two tries ends before its range and
+    /// its room only if other workers linked or cut off a node during it. So it does not if no
+    /// other worker makes a transition during it (`whole`).
     ///
     /// Cost: at most 3 `tries` + 2 steps, and 4 `reach` + 1 steps for each key that it wrote and
     /// for each of `tries` walks. A walk's reach is 66 nodes in a radix tree, and the number of

@@ -1,6 +1,8 @@
 //! The tree that workers share.
 ghost use Rattle.std.specs.Prelude.{◌≡◌, ◌≤◌, ◌↔◌, length, IfOk, IfErr, IsErrOf};
 ghost use Rattle.nm_edge.specs.Layouts.{IsLayoutFault, dense};
+ghost use Rattle.nm_steps.specs.Steps.{AreFresh};
+ghost use Rattle.nm_steps.specs.Values.{HasValues};
 ghost use Rattle.nm_tree.specs.Trees.{IsNewTree};
 ghost use Rattle.nm_tree.specs.Workers.{AreAllFresh, AreMade, HaveWorkers, IsFresh, IsNewWorker};
 
@@ -20,14 +22,11 @@ pub struct Tree {
 }
 
 impl Model for Tree {
-    ghost use Rattle.std.specs.Prelude.{◌≡◌};
     ghost use Rattle.nm_steps.specs.Steps.{TreeView};
 
     ghost Value = { TreeView };
 
     ghost view = { λ t. t.shared };
-
-    ghost invariant = { λ t. t.shared.table.slots ≡ 0 };
 }
 
 impl Tree {
@@ -69,11 +68,46 @@ impl Tree {
         ensures memory { IfErr result (λ e. e ≡ NewError.NoMemory) }
     {
         let (shared, passes) = Shared::new(alloc, layout)?;
-        // The cursors begin at equal distances.
-        let share = layout.nodes() / layout.workers().max(1);
-        let made = workers_of(alloc, passes, fit, share)?;
-        Ok((Tree { shared }, made))
+        Ok(with_workers(alloc, shared, passes, fit)?)
     }
+
+    /// Makes the empty map of a layout and its workers, which claim by that fit. It is the set of
+    /// `of` with a value, an integer, under each key: `insert_with_value` stores it, and `get`
+    /// returns it. All other calls are those of a set; `insert` stores 0. It takes 8 bytes more for
+    /// each node.
+    ///
+    /// Errors: `NoMemory`: nothing is kept. No other error occurs.
+    pub fn with_values(
+        alloc: Global,
+        layout: Layout,
+        fit: Fit,
+    ) -> Result<(Tree, Vec<Worker>), NewError>
+        ensures new { IfOk result (λ r. IsNewTree layout fit r.0 r.1.items) }
+        ensures values { IfOk result (λ r. HasValues r.0) }
+        ensures memory { IfErr result (λ e. e ≡ NewError.NoMemory) }
+    {
+        let (shared, passes) = Shared::with_values(alloc, layout)?;
+        Ok(with_workers(alloc, shared, passes, fit)?)
+    }
+}
+
+/// Makes a tree of these words, and its workers of these passes.
+fn with_workers(
+    alloc: Global,
+    shared: Shared,
+    passes: Vec<Pass>,
+    fit: Fit,
+) -> Result<(Tree, Vec<Worker>), AllocError>
+    requires count { length passes.items ≡ shared.layout.workers }
+    requires fresh { AreFresh shared 0 passes.items }
+    ensures new { IfOk result (λ r. IsNewTree shared.layout fit r.0 r.1.items) }
+    ensures tree { IfOk result (λ r. r.0 ≡ shared) }
+{
+    let layout = shared.layout();
+    // The cursors begin at equal distances.
+    let share = layout.nodes() / layout.workers().max(1);
+    let made = workers_of(alloc, passes, fit, share)?;
+    Ok((Tree { shared }, made))
 }
 
 /// Makes the worker of a pass that has done nothing yet, with room for the queues of all origins.

@@ -7,7 +7,6 @@ use Rattle.nm_model.specs.Knowledge.{Knowledge}
 use Rattle.nm_model.specs.Searches.{searched}
 use Rattle.nm_laws.proofs.Learned.{learn_labelled}
 use Rattle.nm_steps.specs.Steps.{PassView, Stepped}
-use Rattle.nm_epoch.specs.Resting.{search}
 use Rattle.nm_epoch.proofs.Entries.{epochs_after, search_is}
 use Rattle.nm_epoch.proofs.Labels.{drafts_stay}
 use Rattle.nm_walks.specs.Labelling.{OnlyLabels}

@@ -1,5 +1,5 @@
 -- Looks at nodes, as entries of a log.
-use Rattle.std.specs.Prelude.{◌≡◌, ◌≤◌, ◌+◌, ℕ, Bool, true, false, List, ◌++◌, length}
+use Rattle.std.specs.Prelude.{◌≡◌, ◌≤◌, ℕ, Bool, true, false, List, ◌++◌, length}
 use Rattle.std.specs.List.{list_all}
 use Rattle.nm_model.specs.declared.event.Event.TheVariants.{Look}
 use Rattle.nm_model.specs.Walks.{Entry}

@@ -1,19 +1,24 @@
 -- New nodes for a key, which are linked into the tree or given back.
 use Rattle.std.specs.Prelude.{◌≡◌, ◌≢◌, ◌<◌, ◌≤◌, ◌+◌, ◌⊎◌, ℕ, nat_lt, Bool, true, false, if◌then◌else◌, List, [], ◌∷◌, ◌++◌, length, Option, Some, None}
 use Rattle.nm_edge.specs.Edges.{Edge}
+use Rattle.nm_edge.specs.declared.edge.Side.{Side}
 use Rattle.nm_edge.specs.declared.node.NodeId.{NodeId}
 use Rattle.nm_model.specs.declared.event.Event.TheVariants.{Give, Link}
 use Rattle.nm_model.specs.declared.event.Op.TheVariants.{Insert}
 use Rattle.nm_model.specs.declared.reply.Reply.{Reply}
 use Rattle.nm_model.specs.declared.reply.Reply.TheVariants.{Returned, Linked, Lost}
+use Rattle.nm_model.specs.declared.trace.Turn.{Turn}
+use Rattle.nm_model.specs.Knowledge.{draft_of}
 use Rattle.nm_model.specs.Maps.{get}
 use Rattle.nm_model.specs.Walks.{Entry}
 use Rattle.nm_order.specs.Facts.Fact.{KnowsSlot, CallIs}
+use Rattle.nm_order.specs.Hands.{IsPooled}
+use Rattle.nm_order.specs.Logs.{known_by}
 use Rattle.nm_order.specs.Taught.{EdgeLearned}
 use Rattle.nm_pool.specs.Claims.{IsClaimBy}
 use Rattle.nm_edge.specs.declared.placement.Fit.{Fit}
 use Rattle.nm_steps.specs.declared.view.Stored.{Stored}
-use Rattle.nm_steps.specs.Rules.{knowledge}
+use Rattle.nm_steps.specs.Rules.{Extends, answered_turn, knowledge, new_leaf}
 use Rattle.nm_steps.specs.Steps.{PassView}
 use Rattle.nm_epoch.specs.Resting.{epochs, search}
 use Rattle.nm_walks.specs.declared.making.Contents.{Contents}
@@ -113,6 +118,24 @@ pub record HasGrown (radix : Bool) (p q : PassView) (key : ℕ) (r : WalkEnd) (f
   pub others : KeepsBut f p q
   pub new_given : get (knowledge q.view).drafts f.internal.slot ≡ None
   pub fresh_given : get (knowledge q.view).drafts f.leaf.slot ≡ None
+
+-- the last turn that was seen is the worker's won link, after all that had been seen. Before it, by
+-- the worker's log, the slot was the new leaf of that link, and had this key
+pub record HasLinkedLeaf (p q : PassView) (slot key : ℕ) : Type 0 where
+  pub before : List Turn
+  pub extends : Extends before p.view.past
+  pub log : List Entry
+  pub parent : ℕ
+  pub side : Side
+  pub old : ℕ
+  pub new : ℕ
+  pub node : NodeId
+  pub past : q.view.past
+      ≡ before ++ answered_turn q.view.number (Link parent side old new) (Linked node) ∷ []
+  pub is_log : q.view.log ≡ log ++ (Link parent side old new, Linked node) ∷ []
+  pub fresh : new_leaf (known_by q.view.layout q.view.number log) old new ≡ slot
+  pub has_key : (draft_of (known_by q.view.layout q.view.number log) slot).key ≡ Some key
+  pub pooled : IsPooled q.view.layout slot
 
 -- the worker's last step was the link of this slot, and the last store before it was that of this
 -- value for the slot

@@ -4,9 +4,9 @@ ghost use Rattle.nm_steps.specs.Steps.{IsOf, PassView};
 ghost use Rattle.nm_steps.specs.Values.{HasValues};
 ghost use Rattle.nm_walks.specs.Telling.{GoesOn, IsPinnedIn};
 ghost use Rattle.nm_walks.specs.Making.{IsRouter, OnlyMakes};
-ghost use Rattle.nm_walks.specs.Growing.{ClaimsNewNodes, HasNewNodes, IfReady, Returns, inner_of, MayGrow, KeepsCall, HasGrown, HasLinkedValue, HasNotGrown};
+ghost use Rattle.nm_walks.specs.Growing.{ClaimsNewNodes, HasNewNodes, IfReady, Returns, inner_of, MayGrow, KeepsCall, HasGrown, HasLinkedLeaf, HasLinkedValue, HasNotGrown};
 
-use crate::making::{Contents, NewNodes, claim, fill, fill_with_value, give};
+use crate::making::{Contents, NewNodes, claim, fill, fill_leaf, give};
 use crate::seek_record::{SeekRecord, WalkEnd};
 use nm_edge::{Edge, Placement, parting};
 use nm_steps::{Pass, Shared};
@@ -62,47 +62,13 @@ fn node_over(radix: bool, key: u64, other: u64, leaf: u32, fresh: u32) -> Conten
 }
 
 /// Fills both new nodes, and replaces the node at which the walk ended by the new internal node, over
-/// that node and the new leaf. It is a leaf or, in a radix tree, perhaps an internal node. `Err`: the
-/// link was lost; this edge was found instead.
+/// that node and the new leaf. It is a leaf or, in a radix tree, perhaps an internal node. If the
+/// table has values, the value of the new leaf is stored before the link. `Err`: the link was lost;
+/// this edge was found instead.
 ///
 /// Only a call to insert the key of the new leaf may do this, and only once. The edge must be the
-/// one by which a walk of the call came to the node and stopped there. The table has no values.
+/// one by which a walk of the call came to the node and stopped there.
 pub fn grow(
-    shared: &Shared,
-    pass: &mut Pass,
-    key: u64,
-    end: &WalkEnd,
-    new_nodes: &NewNodes,
-) -> Result<(), Edge>
-    requires pinned { IsPinnedIn shared.now pass.old }
-    requires plain { shared.now.table.slots ≡ 0 }
-    requires may { MayGrow pass.old key end.now new_nodes.now }
-    ensures on { GoesOn pass.old pass.new }
-    ensures call { KeepsCall pass.old pass.new }
-    ensures won { IfOk result (λ _. HasGrown shared.now.layout.radix pass.old pass.new key end.now
-        new_nodes.now) }
-    ensures lost { IfErr result (λ e. HasNotGrown shared.now.layout.radix pass.old pass.new key
-        end.now new_nodes.now e) }
-{
-    let leaf = end.seek_record.edge.slot();
-    let radix = shared.layout().is_radix();
-    let node = node_over(radix, key, end.key, leaf, new_nodes.leaf.slot);
-    fill(shared, pass, new_nodes.internal.slot, &node);
-    let alone = Contents {
-        key,
-        left: 0,
-        right: 0,
-    };
-    fill(shared, pass, new_nodes.leaf.slot, &alone);
-    pass.know_pooled_slots();
-    let SeekRecord { parent, side, .. } = end.seek_record;
-    let linked = shared.link(pass, parent, side, leaf, new_nodes.internal.slot);
-    pass.know_run();
-    linked
-}
-
-/// Does the same in a table with values, and stores the value of the new leaf before the link.
-pub fn grow_with_value(
     shared: &Shared,
     pass: &mut Pass,
     key: u64,
@@ -111,13 +77,14 @@ pub fn grow_with_value(
     new_nodes: &NewNodes,
 ) -> Result<(), Edge>
     requires pinned { IsPinnedIn shared.now pass.old }
-    requires values { HasValues shared.now }
     requires may { MayGrow pass.old key end.now new_nodes.now }
     ensures on { GoesOn pass.old pass.new }
     ensures call { KeepsCall pass.old pass.new }
     ensures won { IfOk result (λ _. HasGrown shared.now.layout.radix pass.old pass.new key end.now
         new_nodes.now) }
-    ensures stored { IfOk result (λ _. HasLinkedValue pass.new new_nodes.now.leaf.slot value) }
+    ensures leaf { IfOk result (λ _. HasLinkedLeaf pass.old pass.new new_nodes.now.leaf.slot key) }
+    ensures stored { HasValues shared.now
+        → IfOk result (λ _. HasLinkedValue pass.new new_nodes.now.leaf.slot value) }
     ensures lost { IfErr result (λ e. HasNotGrown shared.now.layout.radix pass.old pass.new key
         end.now new_nodes.now e) }
 {
@@ -125,17 +92,12 @@ pub fn grow_with_value(
     let radix = shared.layout().is_radix();
     let node = node_over(radix, key, end.key, leaf, new_nodes.leaf.slot);
     fill(shared, pass, new_nodes.internal.slot, &node);
-    let alone = Contents {
-        key,
-        left: 0,
-        right: 0,
-    };
-    fill_with_value(shared, pass, new_nodes.leaf.slot, &alone, value);
+    fill_leaf(shared, pass, new_nodes.leaf.slot, key, value);
     pass.know_pooled_slots();
     let SeekRecord { parent, side, .. } = end.seek_record;
-    let won = shared.link(pass, parent, side, leaf, new_nodes.internal.slot);
+    let linked = shared.link(pass, parent, side, leaf, new_nodes.internal.slot);
     pass.know_run();
-    won
+    linked
 }
 
 /// Gives both nodes back to the pool, the internal one first. The placement remembers their slots.

@@ -16,7 +16,7 @@ mod workspace;
 
 pub use cleaning::cleanup;
 pub use cutting::{Kept, choose};
-pub use growing::{claim_new_nodes, give_back, grow, grow_with_value};
+pub use growing::{claim_new_nodes, give_back, grow};
 pub use looking::{Onward, look_birth, look_edge, read_node};
 pub use making::NewNodes;
 pub use marking::{flag, tag};

@@ -2,7 +2,7 @@
 //!
 //! `claim` and `give` are those of `nm_pool`, said in facts of the log that later steps keep, as in
 //! `looking`.
-ghost use Rattle.std.specs.Prelude.{◌≡◌, ◌+◌, ◌*◌, ◌≤◌, false, length, Some, IsSome, IfSome, IfOk, IfErr};
+ghost use Rattle.std.specs.Prelude.{◌≡◌, ◌⊎◌, ◌+◌, ◌*◌, ◌≤◌, false, length, Some, IsSome, IfSome, IfOk, IfErr};
 ghost use Rattle.nm_model.specs.declared.event.Event.TheVariants.{Give};
 ghost use Rattle.nm_model.specs.declared.reply.Reply.TheVariants.{Returned};
 ghost use Rattle.nm_model.specs.Knowledge.{is_private};
@@ -14,7 +14,6 @@ ghost use Rattle.nm_pool.specs.Claims.{IsClaimBy, IsNewNode, LearnsSlots};
 ghost use Rattle.nm_steps.specs.Rules.{knowledge};
 ghost use Rattle.nm_steps.specs.Steps.{IsOf, Stepped};
 ghost use Rattle.nm_walks.specs.Telling.{Tells, GoesOn, IsPinnedIn};
-ghost use Rattle.nm_steps.specs.Values.{HasValues};
 ghost use Rattle.nm_walks.specs.Making.{HasJustStored, draft, KeepsOtherSlots, KeepsAllBut, OnlyMakes, with_node, HasFilled, IsInserting, HasLinked, HasLost};
 
 use crate::seek_record::SeekRecord;
@@ -98,28 +97,28 @@ pub(crate) fn fill(shared: &Shared, pass: &mut Pass, slot: u32, node: &Contents)
     shared.fill_edge(pass, slot, Side::Right, node.right);
 }
 
-/// Stores a key, two edges and a value in a private slot whose birth is stored, the value last.
-pub(crate) fn fill_with_value(
-    shared: &Shared,
-    pass: &mut Pass,
-    slot: u32,
-    node: &Contents,
-    value: u64,
-)
+/// Fills a private slot whose birth is stored as a leaf with this key. If the table has values, the
+/// value is stored last.
+pub(crate) fn fill_leaf(shared: &Shared, pass: &mut Pass, slot: u32, key: u64, value: u64)
     requires own { IsOf shared.now pass.old }
-    requires values { HasValues shared.now }
     requires born { IsSome (draft pass.old slot).birth }
-    requires left { node.now.left ≤ pass.old.view.layout.nodes }
-    requires right { node.now.right ≤ pass.old.view.layout.nodes }
-    ensures steps { HasFilled pass.old pass.new slot node.now.key node.now.left node.now.right }
+    ensures steps { HasFilled pass.old pass.new slot key 0 0 }
     ensures on { GoesOn pass.old pass.new }
     ensures filled { get (knowledge pass.new.view).drafts slot
-        ≡ Some (with_node (draft pass.old slot) node.now.key node.now.left node.now.right) }
+        ≡ Some (with_node (draft pass.old slot) key 0 0) }
     ensures others { KeepsOtherSlots slot pass.old pass.new }
     ensures only { OnlyMakes pass.old pass.new }
-    ensures stored { HasJustStored pass.new slot value }
+    ensures stored { (shared.now.table.slots ≡ 0) ⊎ HasJustStored pass.new slot value }
 {
-    fill(shared, pass, slot, node);
+    let alone = Contents {
+        key,
+        left: 0,
+        right: 0,
+    };
+    fill(shared, pass, slot, &alone);
+    if !shared.has_values() {
+        return;
+    }
     pass.know_pooled_slots();
     shared.fill_value(pass, slot, value);
 }

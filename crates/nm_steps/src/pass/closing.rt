@@ -38,7 +38,11 @@ impl Shared {
         ensures ends { Ends self.layout result pass.view }
         ensures long { length result ≡ words self.layout }
     {
-        let Shared { table, layout } = self;
+        let Shared {
+            table,
+            layout,
+            values: _,
+        } = self;
         let Pass {
             seat,
             number: _,

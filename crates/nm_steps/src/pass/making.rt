@@ -1,5 +1,5 @@
 //! The making of a table: the words of the empty tree, and a pass for each worker.
-ghost use Rattle.std.specs.Prelude.{◌≡◌, ◌≤◌, ◌⊎◌, [], length, IfOk, IfErr};
+ghost use Rattle.std.specs.Prelude.{◌≡◌, ◌≤◌, [], length, IfOk, IfErr};
 ghost use Rattle.nm_edge.specs.Words.{IsSlot, words};
 ghost use Rattle.nm_model.specs.Memory.{fork, opening};
 ghost use Rattle.nm_steps.specs.Packing.{words_of};
@@ -7,7 +7,7 @@ ghost use Rattle.nm_steps.specs.Openings.{untouched, planted, Plants};
 ghost use Rattle.nm_edge.specs.Layouts.{IsLayout};
 ghost use Rattle.nm_steps.specs.Rules.{everybody};
 ghost use Rattle.nm_steps.specs.Steps.{AreFresh};
-ghost use Rattle.nm_steps.specs.Values.{HasValues};
+ghost use Rattle.nm_steps.specs.Values.{HasValues, HasValuesIf};
 
 use crate::pass::{Pass, Shared};
 use crate::view::{Law, View, WorkerSeat};
@@ -62,7 +62,7 @@ fn made(alloc: Global, layout: Layout) -> Result<(Shared, Vec<Pass>), AllocError
     let _workers = layout.workers();
     let tree = opening_words(alloc, layout)?;
     let (table, seat) = Table::of_words(alloc, tree.as_slice(), &layout)?;
-    dealt(alloc, layout, table, seat)
+    dealt(alloc, layout, table, seat, false)
 }
 
 /// Makes the same table with a value for each slot after the words of the core. It has as many slots
@@ -82,7 +82,7 @@ fn made_with_values(alloc: Global, layout: Layout) -> Result<(Shared, Vec<Pass>)
     let Ok((table, seat)) = Table::new(alloc, tree.as_slice(), units, &layout) else {
         return Err(AllocError);
     };
-    dealt(alloc, layout, table, seat)
+    dealt(alloc, layout, table, seat, true)
 }
 
 /// Splits the first seat of a new table into one for each worker.
@@ -91,19 +91,19 @@ fn dealt(
     layout: Layout,
     table: Table<(), View, Layout, Law, Global>,
     mut seat: WorkerSeat,
+    values: bool,
 ) -> Result<(Shared, Vec<Pass>), AllocError>
     requires fits { IsLayout layout }
     requires table { seat.table_id ≡ table.shared.table_id }
     requires key { table.shared.key ≡ layout }
     requires words { words layout ≤ table.shared.table_id.words }
-    requires slots { (table.shared.table_id.slots ≡ 0)
-        ⊎ (table.shared.table_id.slots ≡ layout.nodes) }
+    requires kind { HasValuesIf values (record { table = table.shared.table_id; layout = layout }) }
     requires view { seat.me.0 ≡ everybody layout }
     requires empty { seat.me.1 ≡ [] }
     ensures layout { IfOk result (λ r. r.0.layout ≡ layout) }
     ensures count { IfOk result (λ r. length r.1.items ≡ layout.workers) }
     ensures fresh { IfOk result (λ r. AreFresh r.0 0 r.1.items) }
-    ensures table { IfOk result (λ r. r.0.table ≡ table.shared.table_id) }
+    ensures kind { IfOk result (λ r. HasValuesIf values r.0) }
 {
     let workers = layout.workers();
     let mut passes = Vec::new(alloc);
@@ -121,7 +121,12 @@ fn dealt(
             },
         })?;
     }
-    Ok((Shared { table, layout }, passes))
+    let shared = Shared {
+        table,
+        layout,
+        values,
+    };
+    Ok((shared, passes))
 }
 
 /// Returns the words of the empty tree, with every slot above 5 in the pool.

@@ -112,7 +112,6 @@ fn reads(
 fn inserted(rt: &(impl Abort + AllocGlobal), shared: &Shared, pass: Pass, keys: &[u64]) -> Worker
     requires own { IsOf shared.now pass }
     requires new { HasDoneNothing pass }
-    requires plain { shared.now.table.slots ≡ 0 }
     ensures { IsAtRest shared.now result.pass result.held }
 {
     let mut one = starting(rt.alloc(), shared, pass);

@@ -4,7 +4,7 @@ ghost use Rattle.nm_tests.specs.Plays.{IsAtRest};
 
 use super::only;
 use super::workers::{Worker, deletes, key, starting};
-use nm_calls::{CallFault, get, insert_with_value};
+use nm_calls::{CallFault, get, insert};
 use nm_edge::{Key, Layout};
 use nm_steps::Shared;
 use std::process::Abort;
@@ -27,11 +27,10 @@ fn puts(
     value: u64,
     wanted: Result<bool, CallFault>,
 )
-    requires values { HasValues shared.now }
     requires rests { IsAtRest shared.now worker.old.pass worker.old.held }
     ensures rests { IsAtRest shared.now worker.new.pass worker.new.held }
 {
-    let inserted = insert_with_value(
+    let inserted = insert(
         shared,
         &mut worker.pass,
         &mut worker.workspace,

@@ -59,7 +59,6 @@ pub(super) fn inserts(
     tries: u32,
     wanted: Result<bool, CallFault>,
 )
-    requires plain { shared.now.table.slots ≡ 0 }
     requires rests { IsAtRest shared.now worker.old.pass worker.old.held }
     ensures rests { IsAtRest shared.now worker.new.pass worker.new.held }
 {
@@ -69,6 +68,7 @@ pub(super) fn inserts(
         &mut worker.workspace,
         &mut worker.held,
         key,
+        0,
         tries,
     );
     assert!(rt; inserted == wanted);

@@ -10,6 +10,7 @@ use Rattle.nm_walks.proofs.KeptLedgers.{holds_on}
 use Rattle.nm_calls.proofs.KeptLedgers.{holds_with_room}
 use Rattle.nm_calls.proofs.Rooms.{takes_then}
 use Rattle.nm_calls.proofs.Waiting.{may_grow_more, few_in_table}
+use Rattle.nm_calls.proofs.MadeLeaves.{put_earlier}
 use Rattle.nm_calls.proofs.inserting.insert.Goals as goal
 
 pub returns-clause-after : goal.returns-clause-after
@@ -72,3 +73,6 @@ returns-in_default-clause-few c = rw c.make_room.ensures.items (few_in_table c.a
 
 pub returns-clause-few : goal.returns-clause-few
 returns-clause-few c = few_in_table c.args.shared.now c.args.pass.now c.insert_pinned.new.pass c.insert_pinned.new.held c.requires.own (search rules) c.insert_pinned.ensures.on.run c.insert_pinned.ensures.kept
+
+pub returns-clause-put : goal.returns-clause-put
+returns-clause-put c = λ values is. put_earlier c.args.pass.now c.pin_for.new.pass c.insert_pinned.new.pass c.args.key c.args.value c.pin_for.ensures.on.past (c.insert_pinned.ensures.put values is)

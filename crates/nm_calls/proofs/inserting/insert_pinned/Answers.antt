@@ -20,6 +20,8 @@ use Rattle.nm_calls.proofs.Moments.{no_call_on}
 use Rattle.nm_calls.proofs.Forks.{if_ready, none_left, tries_then, found_answer, continued}
 use Rattle.nm_calls.proofs.Rooms.{takes_then, takes_fills, later_refused}
 use Rattle.nm_calls.proofs.Waiting.{may_grow_more}
+use Rattle.nm_calls.proofs.InsertedValues.{inserted_then}
+use Rattle.nm_calls.proofs.MadeLeaves.{put_earlier, put_then}
 use Rattle.nm_calls.proofs.inserting.insert_pinned.Goals as goal
 
 pub returns-then-not-make_room_for-clause-private : goal.returns-then-not-make_room_for-clause-private
@@ -183,3 +185,11 @@ pub returns-clause-kept : goal.returns-clause-kept
 returns-clause-kept c =
     holds_left c.give_back-2.new.pass c.leave-2.new.pass _ Leave tt c.leave-2.ensures.took c.leave-2.ensures.hands (ap (λ (b : Brief). b.unlabelled) c.give_back-2.ensures.only.epochs ∙ (c.loop-round.invariant.only.labelled c.requires.unchanged.labelled))
     (holds_on c.loop-round.pass c.give_back-2.new.pass _ c.give_back-2.ensures.on.same c.give_back-2.ensures.only.ledgers (back_adds c.loop-round.new_nodes c.loop-round.pass.view.log c.give_back-2.new.pass.view.log c.give_back-2.ensures.part) c.loop-round.invariant.kept)
+
+pub returns-in-Linked-clause-stored : goal.returns-in-Linked-clause-stored
+returns-in-Linked-clause-stored c = λ values _. inserted_then c.try_insert.new.pass c.answer-in-Linked.new.pass true c.args.key c.args.value (c.in-Linked.ensures.stored values refl) c.answer-in-Linked.ensures.took
+
+pub returns-in-Linked-clause-put : goal.returns-in-Linked-clause-put
+returns-in-Linked-clause-put c = λ values _.
+    put_then c.args.pass.now c.try_insert.new.pass c.answer-in-Linked.new.pass (LeaveWith true) Departed c.args.key c.args.value
+    (put_earlier c.args.pass.now c.loop-round.pass c.try_insert.new.pass c.args.key c.args.value c.loop-round.invariant.on.past (c.in-Linked.ensures.put values refl)) c.answer-in-Linked.ensures.took

@@ -11,6 +11,8 @@ use Rattle.nm_calls.proofs.Forks.{kept_fork, lost_fork, linked_fork, held_fork, 
 use Rattle.nm_calls.proofs.Adding.{link_counts, stops_adds}
 use Rattle.nm_walks.proofs.KeptLedgers.{holds_on, holds_so}
 use Rattle.nm_calls.proofs.AddingInserts.{readied_adds, grows_won, grows_lost}
+use Rattle.nm_calls.proofs.InsertedValues.{inserted}
+use Rattle.nm_calls.proofs.MadeLeaves.{put_by_link, put_earlier}
 use Rattle.nm_calls.proofs.inserting.try_insert.Goals as goal
 
 pub returns-then-end-sought-clause-shows : goal.returns-then-end-sought-clause-shows
@@ -109,3 +111,11 @@ returns-in_default-clause-part c = inl (c.stop.new.chain.items, (rw c.get-sought
 
 pub returns-in_default-ready-clause-on : goal.returns-in_default-ready-clause-on
 returns-in_default-ready-clause-on c = goes_then c.args.pass.now c.stop.new.pass c.ready.new.pass c.in-Some.ensures.on c.ready.ensures.on
+
+pub returns-in-Ok-clause-stored : goal.returns-in-Ok-clause-stored
+returns-in-Ok-clause-stored c = λ values _. inserted c.args.shared.now.layout.radix c.ready.new.pass c.grow.new.pass c.args.key c.args.value c.in-Some.end c.in-Some-ready.made (rw c.get-sought.ensures.number at c.in-Ok.ensures.won) (c.in-Ok.ensures.stored values)
+
+pub returns-in-Ok-clause-put : goal.returns-in-Ok-clause-put
+returns-in-Ok-clause-put c = λ values _.
+    put_earlier c.args.pass.now c.ready.new.pass c.grow.new.pass c.args.key c.args.value (goes_then c.args.pass.now c.stop.new.pass c.ready.new.pass c.stop.ensures.on c.ready.ensures.on).past
+    (put_by_link c.ready.new.pass c.grow.new.pass c.in-Some-ready.made.leaf.slot c.args.key c.args.value c.know_run.ensures.fits c.know_run.ensures.seen (rw c.get-sought.ensures.number at c.in-Ok.ensures.leaf) (c.in-Ok.ensures.stored values))

@@ -1,14 +1,14 @@
-use Rattle.std.proofs.Common.{◌≡◌, ◌+◌, ◌*◌, ◌∙◌, ℕ, subst, arith}
-use Rattle.std.specs.Prelude.{take}
+use Rattle.std.proofs.Common.{◌≡◌, ◌+◌, ◌*◌, ◌∙◌, ℕ, subst, sym, arith}
+use Rattle.std.specs.Prelude.{length, take}
 use Rattle.nm_edge.specs.declared.edge.Side.{Side}
 use Rattle.nm_order.specs.Facts.Fact.{KnowsSlot}
 use Rattle.nm_walks.specs.Bounds.{reach}
 use Rattle.nm_calls.specs.NearKeys.{bound}
 use Rattle.nm_calls.specs.PlainWalks.{HasEndedSo}
-use Rattle.nm_calls.specs.Scans.{IsRangeBy, end_of, entry_of, leg_looks}
+use Rattle.nm_calls.specs.Scans.{IsFull, IsRangeBy, end_of, entry_of, leg_looks}
 use Rattle.nm_calls.proofs.Adding.{mul_below}
 use Rattle.nm_calls.proofs.PlainLooks.{looks_in, looks_then}
-use Rattle.nm_calls.proofs.ScanLooks.{end_cut, gives_up}
+use Rattle.nm_calls.proofs.ScanLooks.{early_in, end_cut, gives_up}
 use Rattle.nm_calls.proofs.scanning.scan_pinned.Goals as goal
 
 pub write_all-requires-clause-known : goal.write_all-requires-clause-known
@@ -59,3 +59,9 @@ returns-clause-told c =
     end_cut c.plan_of-plan.result.end c.args.to plan.end.0 plan.end.1 c.args.side (HasEndedSo z) (bound c.args.side c.args.from) s.next keys
     (subst (λ (side : Side). IsRangeBy side (HasEndedSo z) (bound c.args.side c.args.from) (end_of side c.plan_of-plan.result.end s.next) keys) plan.side
     (subst (λ (start : ℕ). IsRangeBy c.plan_of-plan.result.side (HasEndedSo z) start (end_of c.plan_of-plan.result.side c.plan_of-plan.result.end s.next) keys) enters c.write_all.ensures.told))
+
+pub returns-clause-early : goal.returns-clause-early
+returns-clause-early c =
+    let places = length c.write_all.new.out in
+    let room = c.plan_of-plan.result.room in
+    early_in c.args.shared.now.layout c.write_all.new.pass c.args.tries room places c.write_all.result.count c.write_all.result.next (subst (λ (n : ℕ). IsFull n room) (sym c.write_all.auto.out) c.plan_of-plan.ensures.limit) c.write_all.ensures.early

@@ -5,7 +5,7 @@ use Rattle.nm_walks.specs.Bounds.{reach}
 use Rattle.nm_walks.specs.Telling.{GoesOn, OnlyLooks}
 use Rattle.nm_calls.specs.PlainWalks.{HasEndedSo}
 use Rattle.nm_calls.specs.Scans.{IsRangeBy, IsStretch, entry_of, leg_looks}
-use Rattle.nm_calls.proofs.ScanLooks.{HasCome}
+use Rattle.nm_calls.proofs.ScanLooks.{HasCome, HasSpent}
 use Rattle.nm_calls.proofs.scanning.write_all.Given as goal
 
 abbrev pub invariant-loop-turn : goal.invariant-loop-turn
@@ -19,6 +19,8 @@ invariant-loop-turn l = record {
   count : (l.progress.count ≤ l.plan.room) × (length l.out ≡ length l.fn.out);
   shown : IsRangeBy l.plan.side (HasEndedSo l.pass) (entry_of l.plan.side l.first) l.progress.at (take l.progress.count l.out);
   come : HasCome l.plan.side (entry_of l.plan.side l.first) l._turn l.progress.at l.progress.count;
+  spent : HasSpent l.pass l.tries l._turn l.progress.at l.progress.spare;
+  turns : l._turn + l.progress.spare ≡ l.progress.count + l.tries;
   on : GoesOn l.fn.pass l.pass;
   only : OnlyLooks l.fn.pass l.pass;
 }

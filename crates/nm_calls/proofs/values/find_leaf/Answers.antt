@@ -1,4 +1,4 @@
-use Rattle.std.proofs.Common.{◌≤◌, ◌+◌, ◌*◌, ℕ, refl, sym, ap, subst, arith}
+use Rattle.std.proofs.Common.{◌≤◌, ◌+◌, ◌*◌, ◌∙◌, ℕ, false, [], ◌∷◌, refl, sym, ap, subst, arith}
 use Rattle.nm_edge.specs.Layouts.{Layout}
 use Rattle.nm_edge.specs.declared.edge.Side.TheVariants.{Left}
 use Rattle.nm_order.specs.Facts.Fact.{KnowsSlot}
@@ -9,6 +9,9 @@ use Rattle.nm_walks.proofs.PlainLooks.{read_added}
 use Rattle.nm_calls.specs.PlainWalks.{HasPassed}
 use Rattle.nm_calls.proofs.MapMoments.{ends_at}
 use Rattle.nm_calls.proofs.PlainLooks.{comes_first, comes_on, look_added, looks_in, looks_then}
+use Rattle.nm_calls.specs.declared.many.Query.{Query}
+use Rattle.nm_calls.specs.InTurns.{IsUnderWay}
+use Rattle.nm_calls.proofs.InTurnsLooks.{given_up, one_of}
 use Rattle.nm_calls.proofs.values.find_leaf.Goals as goal
 
 pub loop-node-init : goal.loop-node-init
@@ -23,6 +26,7 @@ loop-node-init c =
     let there = did.told.root refl refl in
     record {
       inside = omega (arith, some, size, layout);
+      some = λ none. there (sym c.slot-node.ensures ∙ none);
       looks = looks_in _ o.view.log q.view.log (omega arith) (look_added o q 2 Left edge did.step);
       came = subst (HasPassed 0 q.view.log c.args.key) (sym c.slot-node.ensures) (comes_first o q edge did.step there c.args.key);
       known = subst (λ (n : ℕ). Tells q (KnowsSlot n)) (sym c.slot-node.ensures) (did.told.learned.leads there);
@@ -49,6 +53,7 @@ loop-node-preserved c =
     let some = c.is_null.ensures.no c.if-is_null.false in
     record {
       inside = omega (arith, below, size, layout);
+      some = λ none. some (sym c.slot-node-in-loop-node.ensures ∙ none);
       looks = looks_in (1 + (c.loop-node._node + 1) * (3 * 1)) o.view.log q.view.log (omega arith)
           (looks_then o.view.log p.view.log q.view.log held.looks (read_added c.args.key x p.view.log q.view.log on did.looks));
       came = subst (HasPassed (c.loop-node._node + 1) q.view.log c.args.key) (sym c.slot-node-in-loop-node.ensures) (comes_on p q c.loop-node._node c.args.key x on did.looks held.came some);
@@ -81,6 +86,23 @@ returns-then-is_null c =
         high = did.told.high;
         within = subst (λ (L : Layout). x ≤ L.nodes) (sym (own_still c.args.shared.now o q c.requires.pinned.own went.same).layout) held.within;
       };
+      gave = tt;
       on = went;
       only = only_then o p q held.only did.only;
     }
+
+pub returns-clause-gave : goal.returns-clause-gave
+returns-clause-gave c =
+    let o = c.args.pass.now in
+    let p = c.loop-node.pass in
+    let k = c.args.key in
+    let x = c.loop-node.node in
+    let held = c.loop-node.invariant in
+    let inside = held.inside in
+    let end = c.loop-node-test.false in
+    let size = c.reach-node-end.ensures.reach in
+    let layout = ap reach c.layout-layout.ensures in
+    let query : Query = record { key = k; found = false; node = x } in
+    let under : IsUnderWay c.loop-node._node p query = record { is_key = c.requires.key; comes = λ some. held.came; known = λ some. held.known; ends = λ none. absurd (held.some none) } in
+    given_up c.args.shared.now o.view.log p (pinned_in_still c.args.shared.now o p held.on c.requires.pinned) c.loop-node._node (query ∷ []) (k ∷ []) refl (one_of (IsUnderWay c.loop-node._node p) query under) (0, omega arith, λ _. held.some)
+    (omega (arith, inside, end, size, layout)) (looks_in _ o.view.log p.view.log (omega (arith, inside)) held.looks)

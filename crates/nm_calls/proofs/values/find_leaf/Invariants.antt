@@ -1,4 +1,4 @@
-use Rattle.std.proofs.Common.{◌≤◌, ◌+◌, ◌*◌}
+use Rattle.std.proofs.Common.{◌≢◌, ◌≤◌, ◌+◌, ◌*◌}
 use Rattle.nm_order.specs.Facts.Fact.{KnowsSlot}
 use Rattle.nm_walks.specs.AddedLooks.{AddsLooks}
 use Rattle.nm_walks.specs.Bounds.{reach}
@@ -9,6 +9,7 @@ use Rattle.nm_calls.proofs.values.find_leaf.Given as goal
 abbrev pub invariant-loop-node : goal.invariant-loop-node
 invariant-loop-node l = record {
   inside : l._node + 1 ≤ reach l.shared.layout;
+  some : l.node ≢ 0;
   looks : AddsLooks (1 + l._node * (3 * 1)) l.fn.pass.view.log l.pass.view.log;
   came : HasPassed l._node l.pass.view.log l.key l.node;
   known : Tells l.pass (KnowsSlot l.node);

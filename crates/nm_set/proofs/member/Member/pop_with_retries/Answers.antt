@@ -1,4 +1,4 @@
-use Rattle.std.proofs.Common.{◌≡◌, ◌∙◌, ◌+◌, ◌*◌, ℕ, refl, subst, arith}
+use Rattle.std.proofs.Common.{◌∙◌, ◌+◌, ℕ, refl, subst, arith}
 use Rattle.std.specs.Prelude.{Option, Result}
 use Rattle.nm_steps.specs.Steps.{TreeView}
 use Rattle.nm_calls.specs.declared.fault.CallFault.{CallFault}
@@ -8,19 +8,19 @@ use Rattle.nm_set.proofs.PopRounds.{last_round, no_round_yet, one_round_more}
 use Rattle.nm_set.proofs.member.Member.pop_with_retries.Goals as goal
 
 pub pop_once-told-requires-clause-free : goal.pop_once-told-requires-clause-free
-pop_once-told-requires-clause-free c = c.loop-round.invariant.onward.on.held
+pop_once-told-requires-clause-free c = c.loop-round.invariant.lost.onward.on.held
 
 pub pop_once-told-requires-clause-none : goal.pop_once-told-requires-clause-none
-pop_once-told-requires-clause-none c = c.loop-round.invariant.onward.none
+pop_once-told-requires-clause-none c = c.loop-round.invariant.lost.onward.none
 
 pub pop_once-requires-clause-free : goal.pop_once-requires-clause-free
-pop_once-requires-clause-free c = c.loop-round.invariant.onward.on.held
+pop_once-requires-clause-free c = c.loop-round.invariant.lost.onward.on.held
 
 pub pop_once-requires-clause-none : goal.pop_once-requires-clause-none
-pop_once-requires-clause-none c = c.loop-round.invariant.onward.none
+pop_once-requires-clause-none c = c.loop-round.invariant.lost.onward.none
 
 pub loop-round-init : goal.loop-round-init
-loop-round-init c = record { tree = refl; onward = no_round_yet (among c.args.end) (comes_before c.args.end) c.args.options.now.tries (pop_round_bound c.args.options.now c.args.self.now.tree.layout) c.args.self.now.worker c.requires.none c.requires.free }
+loop-round-init c = record { tree = refl; lost = no_round_yet (among c.args.end) (comes_before c.args.end) c.args.options.now.tries (pop_round_bound c.args.options.now c.args.self.now.tree.layout) c.args.self.now.worker c.requires.none c.requires.free }
 
 pub loop-round-preserved : goal.loop-round-preserved
 loop-round-preserved c =
@@ -29,12 +29,12 @@ loop-round-preserved c =
     let Among = among c.args.end in
     let Before = comes_before c.args.end in
     let most = pop_round_bound h c.args.self.now.tree.layout in
-    let P : TreeView → Type 0 = λ b. Pops Among Before (pop_round_bound h b.layout) h.tries at.self.worker c.pop_once-told.new.self.worker c.pop_once-told.result in
-    let R : Result (Option ℕ) CallFault → Type 0 = λ r. Pops Among Before most h.tries at.self.worker c.pop_once-told.new.self.worker r in
+    let P : TreeView → Type 0 = λ b. Pops Among Before (pop_round_bound h b.layout) h.tries 1 at.self.worker c.pop_once-told.new.self.worker c.pop_once-told.result in
+    let R : Result (Option ℕ) CallFault → Type 0 = λ r. Pops Among Before most h.tries 1 at.self.worker c.pop_once-told.new.self.worker r in
     let last = subst R (c.if-not-is_busy.ensures.yes refl) (subst P at.invariant.tree c.pop_once-told.ensures.says) in
     record {
       tree = c.pop_once-told.ensures.tree ∙ at.invariant.tree;
-      onward = one_round_more Among Before h.tries most at._round c.args.self.now.worker at.self.worker c.pop_once-told.new.self.worker at.invariant.onward last;
+      lost = one_round_more Among Before h.tries most at._round c.args.self.now.worker at.self.worker c.pop_once-told.new.self.worker at.invariant.lost last;
     }
 
 pub returns-then-not-is_busy-clause-says : goal.returns-then-not-is_busy-clause-says
@@ -45,17 +45,18 @@ returns-then-not-is_busy-clause-says c =
     let Before = comes_before c.args.end in
     let z = c.pop_once-told.new.self.worker in
     let r = c.pop_once-told.result in
-    let P : TreeView → Type 0 = λ b. Pops Among Before (pop_round_bound h b.layout) h.tries at.self.worker z r in
-    last_round Among Before h.tries (pop_round_bound h c.args.self.now.tree.layout) at._round (h.rounds + 1) c.args.self.now.worker at.self.worker z r (omega (arith, c.loop-round-test.true)) at.invariant.onward (subst P at.invariant.tree c.pop_once-told.ensures.says)
+    let P : TreeView → Type 0 = λ b. Pops Among Before (pop_round_bound h b.layout) h.tries 1 at.self.worker z r in
+    last_round Among Before h.tries (pop_round_bound h c.args.self.now.tree.layout) at._round (h.rounds + 1) c.args.self.now.worker at.self.worker z r (omega (arith, c.loop-round-test.true)) (λ is. absurd (c.if-not-is_busy.ensures.no refl is)) at.invariant.lost (subst P at.invariant.tree c.pop_once-told.ensures.says)
 
 pub returns-clause-says : goal.returns-clause-says
 returns-clause-says c =
     let at = c.loop-round in
     let h = c.args.options.now in
+    let past = c.loop-round-test.false in
     let within = at.auto._round-end in
     let Among = among c.args.end in
     let Before = comes_before c.args.end in
     let z = c.pop_once.new.self.worker in
     let r = c.pop_once.result in
-    let P : TreeView → Type 0 = λ b. Pops Among Before (pop_round_bound h b.layout) h.tries at.self.worker z r in
-    last_round Among Before h.tries (pop_round_bound h c.args.self.now.tree.layout) at._round (h.rounds + 1) c.args.self.now.worker at.self.worker z r (omega (arith, within)) at.invariant.onward (subst P at.invariant.tree c.pop_once.ensures.says)
+    let P : TreeView → Type 0 = λ b. Pops Among Before (pop_round_bound h b.layout) h.tries 1 at.self.worker z r in
+    last_round Among Before h.tries (pop_round_bound h c.args.self.now.tree.layout) at._round (h.rounds + 1) c.args.self.now.worker at.self.worker z r (omega (arith, within)) (λ is. omega (arith, past, within)) at.invariant.lost (subst P at.invariant.tree c.pop_once.ensures.says)

@@ -1,10 +1,10 @@
-use Rattle.std.proofs.Common.{◌≡◌, ◌*◌}
+use Rattle.std.proofs.Common.{◌≡◌}
 use Rattle.nm_set.specs.Popping.{pop_round_bound}
-use Rattle.nm_set.specs.Rounds.{IsOnward}
+use Rattle.nm_set.proofs.PopRounds.{LostRounds}
 use Rattle.nm_set.proofs.member.Member.pop_with_retries.Given as goal
 
 abbrev pub invariant-loop-round : goal.invariant-loop-round
 invariant-loop-round l = record {
   tree : l.self.tree ≡ l.fn.self.tree;
-  onward : IsOnward (l._round * pop_round_bound l.options l.fn.self.tree.layout) l.fn.self.worker l.self.worker;
+  lost : LostRounds (pop_round_bound l.options l.fn.self.tree.layout) l._round l.options.tries l.fn.self.worker l.self.worker;
 }

@@ -1,22 +1,21 @@
 use Rattle.std.proofs.Common.{◌≡◌, ◌∙◌, ◌+◌, ℕ, Bool, refl, sym, subst}
-use Rattle.std.specs.Prelude.{Result, Err}
+use Rattle.std.specs.Prelude.{Result}
 use Rattle.nm_model.specs.declared.event.Op.TheVariants.{Insert}
 use Rattle.nm_steps.specs.Steps.{TreeView}
 use Rattle.nm_calls.specs.declared.fault.CallFault.{CallFault}
-use Rattle.nm_set.specs.declared.fault.InsertFault.{InsertFault}
-use Rattle.nm_set.specs.Rounds.{AnswersIn, Inserts, IsRelieved, with_fullness}
+use Rattle.nm_set.specs.Rounds.{AnswersIn, Inserts, IsKnown, IsRelieved, with_fullness}
 use Rattle.nm_set.proofs.Managing.{inserts_again, inserts_plain}
 use Rattle.nm_set.proofs.member.Member.retry_insert.Goals as goal
 
 pub returns-then-not-is_full-clause-says : goal.returns-then-not-is_full-clause-says
-returns-then-not-is_full-clause-says c = λ w first.
+returns-then-not-is_full-clause-says c = λ w known first.
     let b = c.args.self.now.tree in
     let h = c.args.options.now in
     let z = c.retry-told.new.self.worker in
     subst (Inserts b h c.args.key w z) (sym c.plain.ensures) (inserts_plain b h c.args.key w z c.retry-told.result (c.if-not-is_full.ensures.no refl) (c.retry-told.ensures.says w first))
 
 pub returns-clause-says : goal.returns-clause-says
-returns-clause-says c = λ w first.
+returns-clause-says c = λ w known first.
     let b = c.args.self.now.tree in
     let h = c.args.options.now in
     let k = c.args.key in
@@ -30,4 +29,5 @@ returns-clause-says c = λ w first.
     let relieved = subst (λ (d : TreeView). IsRelieved d.layout x y behind) same c.relieve-behind.ensures.did in
     let last = subst (λ (d : TreeView). AnswersIn d h Insert k (h.rounds + 1) y z told) (c.relieve-behind.ensures.tree ∙ same) c.ask_with_retries-told.ensures.says in
     let is = subst (λ (n : ℕ). c.with_fullness.result ≡ with_fullness behind n told) c.queue_len.ensures c.with_fullness.ensures in
-    subst (Inserts b h k w z) (sym is) (inserts_again b h k w x y z behind told full relieved last)
+    let tried : IsKnown x = record { seen = c.know_run.ensures.seen; between = c.know_run.ensures.between; fits = c.know_run.ensures.fits } in
+    subst (Inserts b h k w z) (sym is) (inserts_again b h k w x y z behind told full relieved last known tried)

@@ -10,7 +10,7 @@ pub word_flagged-requires : goal.word_flagged-requires
 word_flagged-requires c = flag_leaf _ _ _ c.args.parent c.args.side c.args.leaf (rw (← c.pass.view_is) at c.requires.may)
 
 pub exchange-found-requires-clause-ready : goal.exchange-found-requires-clause-ready
-exchange-found-requires-clause-ready c = rw (← c.self.view_is) (ready _ _ _ _ _ _ _ _ _ c.self.invariant c.pass.invariant (search rules) (search rules) (rw (← c.pass.view_is) at c.requires.may) (search rules) tt)
+exchange-found-requires-clause-ready c = rw (← c.self.view_is) (ready _ _ _ _ _ _ _ _ _ c.self.invariant.laid c.pass.invariant (search rules) (search rules) (rw (← c.pass.view_is) at c.requires.may) (search rules) tt)
 
 pub edge_of-requires : goal.edge_of-requires
 edge_of-requires c = finds_edge _ _ _ _ _ c.args.parent c.args.side c.exchange-found.ensures.found refl refl (flag_slot _ _ _ c.args.parent c.args.side c.args.leaf (rw (← c.pass.view_is) at c.requires.may))

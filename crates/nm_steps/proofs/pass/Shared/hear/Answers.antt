@@ -5,12 +5,12 @@ use Rattle.nm_steps.proofs.Tying.{may_tie}
 use Rattle.nm_steps.proofs.pass.Shared.hear.Goals as goal
 
 pub join_seat-requires : goal.join_seat-requires
-join_seat-requires c = (search rules, search rules, c.note.invariant.1, omega (arith, c.self.invariant.words_are), hears _ _ _ _ _ c.note.invariant.0)
+join_seat-requires c = (search rules, search rules, c.note.invariant.1, omega (arith, c.self.invariant.laid.words_are), hears _ _ _ _ _ c.note.invariant.0)
 
 -- the view that has heard is as it was but for what it heard
 pub load-requires : goal.load-requires
 load-requires c =
-    may_tie _ _ _ _ _ c.self.invariant (search rules) (ap (λ m. m.0.resigned) c.join_seat.ensures.2 ∙ c.pass.invariant.alive) (ap (λ m. m.1) c.join_seat.ensures.2 ∙ c.pass.invariant.empty)
+    may_tie _ _ _ _ _ c.self.invariant.laid (search rules) (ap (λ m. m.0.resigned) c.join_seat.ensures.2 ∙ c.pass.invariant.alive) (ap (λ m. m.1) c.join_seat.ensures.2 ∙ c.pass.invariant.empty)
     (ap (λ m. m.0.layout) c.join_seat.ensures.2 ∙ search rules) c.epoch-epoch.ensures
 
 pub invariant_of-pass : goal.invariant_of-pass

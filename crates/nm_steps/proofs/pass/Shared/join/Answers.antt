@@ -11,14 +11,14 @@ join_seat-requires c = (
   search rules,
   search rules,
   c.other.invariant.empty,
-  omega (arith, c.self.invariant.words_are),
+  omega (arith, c.self.invariant.laid.words_are),
   joins _ _ _ _ _ c.pass.invariant.alive c.other.invariant.alive (subst (λ (p : PassView). HasEmptyHands (knowledge p.view)) (sym c.other.view_is) c.requires.hands),
 )
 
 -- the joined view's layout is the table's, and it is alive
 pub load-requires : goal.load-requires
 load-requires c =
-    may_tie _ _ _ _ _ c.self.invariant (search rules) (ap (λ m. m.0.resigned) c.join_seat.ensures.2 ∙ c.pass.invariant.alive) (ap (λ m. m.1) c.join_seat.ensures.2 ∙ c.pass.invariant.empty)
+    may_tie _ _ _ _ _ c.self.invariant.laid (search rules) (ap (λ m. m.0.resigned) c.join_seat.ensures.2 ∙ c.pass.invariant.alive) (ap (λ m. m.1) c.join_seat.ensures.2 ∙ c.pass.invariant.empty)
     (ap (λ m. m.0.layout) c.join_seat.ensures.2 ∙ search rules) c.epoch-epoch.ensures
 
 pub invariant_of-result : goal.invariant_of-result

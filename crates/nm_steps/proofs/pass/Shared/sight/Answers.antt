@@ -6,7 +6,7 @@ use Rattle.nm_steps.proofs.Sighting.{sight_answers}
 use Rattle.nm_steps.proofs.pass.Shared.sight.Goals as goal
 
 pub load-found-requires-clause-ready : goal.load-found-requires-clause-ready
-load-found-requires-clause-ready c = rw (← c.self.view_is) (ready _ _ _ _ _ _ _ _ _ c.self.invariant c.pass.invariant (search rules) (search rules) (may_sight _ _ _) c.epoch-word.ensures tt)
+load-found-requires-clause-ready c = rw (← c.self.view_is) (ready _ _ _ _ _ _ _ _ _ c.self.invariant.laid c.pass.invariant (search rules) (search rules) (may_sight _ _ _) c.epoch-word.ensures tt)
 
 pub invariant_of-pass : goal.invariant_of-pass
 invariant_of-pass c = tied_after _ _ _ _ _ _ _ _ c.pass.invariant (may_sight _ _ _) c.load-found.ensures (search rules)

@@ -5,7 +5,7 @@ use Rattle.nm_steps.proofs.Sighting.{noted_pin, noted_miss}
 use Rattle.nm_steps.proofs.pass.Shared.sight_for.Goals as goal
 
 pub load-found-requires-clause-ready : goal.load-found-requires-clause-ready
-load-found-requires-clause-ready c = rw (← c.self.view_is) (ready _ _ _ _ _ _ _ _ _ c.self.invariant c.pass.invariant (search rules) (search rules) (rw (← c.pass.view_is) at c.requires.may) c.epoch-word.ensures tt)
+load-found-requires-clause-ready c = rw (← c.self.view_is) (ready _ _ _ _ _ _ _ _ _ c.self.invariant.laid c.pass.invariant (search rules) (search rules) (rw (← c.pass.view_is) at c.requires.may) c.epoch-word.ensures tt)
 
 pub invariant_of-pass : goal.invariant_of-pass
 invariant_of-pass c = tied_after _ _ _ _ _ _ _ _ c.pass.invariant (rw (← c.pass.view_is) at c.requires.may) c.load-found.ensures (noted_pin c.pass.inside.seat.me.0.layout (knowledge c.pass.inside.seat.me.0) (known_births c.pass.inside.seat.me.0) c.args.op c.args.key c.pass.inside.brief c.args.announced c.load-found.result c.pass.invariant.brief_is (rw (← c.pass.view_is) at c.requires.unpinned) (rw (← c.pass.view_is) at c.requires.announcement) (rw (← c.pass.view_is) at c.requires.labelled) (search rules))

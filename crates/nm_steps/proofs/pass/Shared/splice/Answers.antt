@@ -7,7 +7,7 @@ pub edge-word-requires : goal.edge-word-requires
 edge-word-requires c = let slot = splice_slot _ _ _ c.args.chain.ancestor c.args.chain.side c.args.chain.successor c.args.chain.parent c.args.chain.keep c.requires.may in search (rules, slot)
 
 pub exchange-found-requires-clause-ready : goal.exchange-found-requires-clause-ready
-exchange-found-requires-clause-ready c = rw (← c.self.view_is) (ready _ _ _ _ _ _ _ _ _ c.self.invariant c.pass.invariant (search rules) (search rules) (rw (← c.pass.view_is) at c.requires.may) (search rules) tt)
+exchange-found-requires-clause-ready c = rw (← c.self.view_is) (ready _ _ _ _ _ _ _ _ _ c.self.invariant.laid c.pass.invariant (search rules) (search rules) (rw (← c.pass.view_is) at c.requires.may) (search rules) tt)
 
 pub edge_of-requires : goal.edge_of-requires
 edge_of-requires c = finds_edge _ _ _ _ _ c.args.chain.ancestor c.args.chain.side c.exchange-found.ensures.found refl refl (splice_slot _ _ _ c.args.chain.ancestor c.args.chain.side c.args.chain.successor c.args.chain.parent c.args.chain.keep (rw (← c.pass.view_is) at c.requires.may))

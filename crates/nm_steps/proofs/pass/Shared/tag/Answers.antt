@@ -7,7 +7,7 @@ pub edge-word-requires : goal.edge-word-requires
 edge-word-requires c = let slot = tag_slot _ _ _ c.args.parent c.args.side c.requires.may in search (rules, slot)
 
 pub mark-requires-clause-ready : goal.mark-requires-clause-ready
-mark-requires-clause-ready c = rw (← c.self.view_is) (ready _ _ _ _ _ _ _ _ _ c.self.invariant c.pass.invariant (search rules) (search rules) (rw (← c.pass.view_is) at c.requires.may) (search rules) tt)
+mark-requires-clause-ready c = rw (← c.self.view_is) (ready _ _ _ _ _ _ _ _ _ c.self.invariant.laid c.pass.invariant (search rules) (search rules) (rw (← c.pass.view_is) at c.requires.may) (search rules) tt)
 
 pub edge_of-requires : goal.edge_of-requires
 edge_of-requires c = finds_edge _ _ _ _ _ c.args.parent c.args.side c.mark.ensures.found refl refl (tag_slot _ _ _ c.args.parent c.args.side (rw (← c.pass.view_is) at c.requires.may))

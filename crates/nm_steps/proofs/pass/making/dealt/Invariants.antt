@@ -1,7 +1,8 @@
-use Rattle.std.proofs.Common.{◌≡◌, ◌≤◌, ◌⊎◌, [], length}
+use Rattle.std.proofs.Common.{◌≡◌, ◌≤◌, [], length}
 use Rattle.nm_edge.specs.Layouts.{IsLayout}
 use Rattle.nm_edge.specs.Words.{words}
 use Rattle.nm_steps.specs.Steps.{AreFresh}
+use Rattle.nm_steps.specs.Values.{HasValuesIf}
 use Rattle.nm_steps.proofs.Cutting.{left_from}
 use Rattle.nm_steps.proofs.pass.making.dealt.Given as goal
 
@@ -12,7 +13,7 @@ invariant-loop-number l = record {
   table : l.seat.table_id ≡ l.table.shared.table_id;
   key : l.table.shared.key ≡ l.layout;
   words_are : words l.layout ≤ l.table.shared.table_id.words;
-  slots : (l.table.shared.table_id.slots ≡ 0) ⊎ (l.table.shared.table_id.slots ≡ l.layout.nodes);
+  kind : HasValuesIf l.values (record { table = l.table.shared.table_id; layout = l.layout });
   same_table : l.table.shared.table_id ≡ l.fn.table.shared.table_id;
   view : l.seat.me.0 ≡ left_from l.layout l.number;
   empty : l.seat.me.1 ≡ [];

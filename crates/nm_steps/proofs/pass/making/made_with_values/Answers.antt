@@ -1,7 +1,6 @@
 use Rattle.std.proofs.Common.{rules, ◌≡◌, ◌+◌, ◌-◌, ◌++◌, ◌∙◌, ℕ, List, ap, length, arith, sym, subst}
-use Rattle.std.specs.Prelude.{replicate, take, Result, Ok, Err, IfOk}
+use Rattle.std.specs.Prelude.{replicate, take}
 use Rattle.std.proofs.lemmas.List.{take_all, length-append, length-replicate}
-use Rattle.atomic_table.specs.Seated.{TableId}
 use Rattle.nm_edge.specs.Layouts.{Layout, IsLayout}
 use Rattle.nm_edge.specs.Words.{words}
 use Rattle.nm_model.specs.Memory.{opening}
@@ -25,10 +24,6 @@ all_long L new n fits is =
     let rest = length-replicate {A = ℕ} n 0 in
     omega (arith, whole, core, rest)
 
-both : {A E : Type 0} {P Q R : A → Type 0} (r : Result A E) → ((x : A) → P x → Q x → R x) → IfOk r P → IfOk r Q → IfOk r R
-both (Ok x) f p q = f x p q
-both (Err e) f p q = tt
-
 pub new-requires : goal.new-requires
 new-requires c = opens_values c.args.layout c.as_slice.result.now c.in_ok-units.units.items c.workers-workers.ensures.fits
     (c.as_slice.ensures.value
@@ -45,8 +40,8 @@ dealt-requires-clause-words c =
     (subst (λ (k : ℕ). c.resize.new.self.items ≡ take (c.len.result + c.nodes-nodes.result) c.in_ok-tree.tree.items ++ replicate {A = ℕ} (c.len.result + c.nodes-nodes.result - k) 0) (sym c.len.ensures) c.in_ok-resize.ensures.items) (search rules) (search rules)) in
     omega (arith, all, long)
 
-pub returns-clause-values : goal.returns-clause-values
-returns-clause-values c = both c.dealt.result (λ r table layout.
+pub dealt-requires-clause-kind : goal.dealt-requires-clause-kind
+dealt-requires-clause-kind c =
     let t = c.in-Ok.ensures.ok in
     let units : length c.in_ok-units.units.items ≡ c.args.layout.nodes = search rules in
     let long = all_long c.args.layout c.as_slice.result.now (length c.in_ok-units.units.items) c.workers-workers.ensures.fits
@@ -54,6 +49,6 @@ returns-clause-values c = both c.dealt.result (λ r table layout.
     ∙ grown c.args.layout c.in_ok-tree.tree.items c.resize.new.self.items (c.len.result + c.nodes-nodes.result) (length c.in_ok-units.units.items) c.len.result c.in_ok-tree.ensures
     (subst (λ (k : ℕ). c.resize.new.self.items ≡ take (c.len.result + c.nodes-nodes.result) c.in_ok-tree.tree.items ++ replicate {A = ℕ} (c.len.result + c.nodes-nodes.result - k) 0) (sym c.len.ensures) c.in_ok-resize.ensures.items) (search rules) (search rules)) in
     record {
-      words_are = ap (λ (z : TableId). z.words) table ∙ (t.0 ∙ (long ∙ (ap (λ (n : ℕ). words c.args.layout + n) units ∙ ap (λ (l : Layout). words l + l.nodes) (sym layout))));
-      slots_are = ap (λ (z : TableId). z.slots) table ∙ (t.1 ∙ (units ∙ ap (λ (l : Layout). l.nodes) (sym layout)));
-    }) c.dealt.ensures.table c.dealt.ensures.layout
+      words_are = t.0 ∙ (long ∙ ap (λ (n : ℕ). words c.args.layout + n) units);
+      slots_are = t.1 ∙ units;
+    }

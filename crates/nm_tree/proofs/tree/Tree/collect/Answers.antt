@@ -3,10 +3,10 @@ use Rattle.std.specs.Vec.{with_items}
 use Rattle.std.proofs.lemmas.List.{with_items_is}
 use Rattle.nm_steps.specs.Steps.{TreeView}
 use Rattle.nm_epoch.specs.declared.collecting.HeldQueue.{HeldQueue}
-use Rattle.nm_epoch.specs.Collecting.{Collects}
+use Rattle.nm_epoch.specs.Collecting.{Collects, ripe_of}
 use Rattle.nm_tree.specs.Calls.{LeavesCollect}
 use Rattle.nm_tree.specs.Workers.{WorkerView, IsWorker, held_in, pending_in}
-use Rattle.nm_tree.proofs.Freeing.{as_many_queues, collected}
+use Rattle.nm_tree.proofs.Freeing.{as_many_queues, collected, have_lost}
 use Rattle.nm_tree.proofs.RunningTurns.{collected_in_grace}
 use Rattle.nm_tree.proofs.tree.Tree.collect.Goals as goal
 
@@ -19,7 +19,7 @@ does c =
 -- which are as many as before
 left : (c : goal.After-know_run-2) → (with_items c.worker.inside.queues c.collect-collected.new.queues).items ≡ c.collect-collected.new.queues
 left c =
-    with_items_is c.worker.inside.queues c.collect-collected.new.queues (sym (c.worker.inside.queues.ok.0 ∙ as_many_queues c.collect-collected.result.epoch c.worker.inside.queues.items c.collect-collected.new.queues (does c).lost))
+    with_items_is c.worker.inside.queues c.collect-collected.new.queues (sym (c.worker.inside.queues.ok.0 ∙ as_many_queues c.worker.inside.queues.items c.collect-collected.new.queues (have_lost c.collect-collected.result.epoch c.worker.inside.queues.items c.collect-collected.new.queues (does c).lost)))
 
 -- the worker as it was, and with queues
 before : goal.After-know_run-2 → WorkerView
@@ -44,7 +44,7 @@ returns c =
       did = d.part;
       freed = d.freed;
       lost = d.lost;
-      grace = collected_in_grace c.collect-collected.new.pass.view c.worker.inside.pass.view.log c.collect-collected.result.epoch c.worker.inside.queues.items c.know_run-2.ensures.fits c.know_run-2.ensures.seen d.part;
+      grace = collected_in_grace c.collect-collected.new.pass.view d.part.0 (ripe_of c.collect-collected.result.epoch c.worker.inside.queues.items) c.know_run-2.ensures.fits c.know_run-2.ensures.seen d.part.2;
       blocks = d.blocks;
       newest = d.newest;
       place = (refl, refl);

@@ -1,0 +1,56 @@
+//! A worker of a tree with values that inserts a key and gets the value of a key, proved from the clauses of
+//! `nm_tree` and the page alone.
+ghost use Rattle.std.specs.Prelude.{◌≡◌, ◌≤◌, None, IfSome, IsErrOf, IsSome};
+ghost use Rattle.nm_progress.specs.Alone.{IsAlone};
+ghost use Rattle.nm_steps.specs.Steps.{IsOf};
+ghost use Rattle.nm_steps.specs.Values.{HasValues};
+ghost use Rattle.nm_tree.specs.Calls.{MayCall};
+ghost use Rattle.nm_callers.specs.Mapping.{PutsThenGets};
+ghost use Rattle.nm_callers.specs.Meanwhile.{NoneDeleted};
+
+use nm_edge::Key;
+use nm_tree::{CallFault, Tree, Worker};
+
+/// Inserts a key with a value, and then gets the value of the key. The outer `None`: a call returned
+/// an error, or the key was in the map before. Proved: otherwise right after the insert's link the map
+/// had the key with the value, and the get returned what the map had at a later moment (linearization
+/// point). Proved too: the get found a value, unless a delete of the key took effect after all that
+/// the worker had seen before.
+pub fn insert_then_get(
+    tree: &Tree,
+    worker: &mut Worker,
+    key: Key,
+    value: u64,
+    tries: u32,
+) -> Option<Option<u64>>
+    requires own { IsOf tree.now worker.old.pass }
+    requires free { worker.old.held ≡ None }
+    requires values { HasValues tree.now }
+    ensures answers { IfSome result (PutsThenGets worker.old.pass worker.new.pass key value) }
+    ensures found { NoneDeleted worker.new.pass.view.layout worker.old.pass.view.past
+        worker.new.pass.view.past key → IfSome result (λ found. IsSome found) }
+{
+    let Ok(true) = tree.insert_with_value(worker, key, value, tries) else {
+        return None;
+    };
+    let found = tree.get(worker, key, tries);
+    worker.know_run();
+    let _number = key.get();
+    found.ok()
+}
+
+/// Gets the value of a key with at least one try. Proved: it is not busy if no other worker makes a
+/// transition (turn) during the call.
+pub fn get_alone(
+    tree: &Tree,
+    worker: &mut Worker,
+    key: Key,
+    tries: u32,
+) -> Result<Option<u64>, CallFault>
+    requires may { MayCall tree.now worker.old }
+    requires values { HasValues tree.now }
+    requires some { 1 ≤ tries }
+    ensures { IsAlone worker.old.pass worker.new.pass → IsErrOf result CallFault.Busy → ⊥ }
+{
+    tree.get(worker, key, tries)
+}

@@ -1,0 +1,307 @@
+-- Right after a won link the map has the key of the new leaf, with the value that was stored for it.
+use Rattle.std.proofs.Common.{◌≡◌, ℕ, ◌<◌, ◌≤◌, ◌==◌, Bool, true, false, cond, ◌||◌, List, [], ◌∷◌, ◌++◌, append-nil, append_assoc, length, refl, sym, ap, subst, ◌∙◌, arith}
+use Rattle.std.specs.Prelude.{All, None, Some, Option, Result, Ok, Err, filter, nat_lt}
+use Rattle.std.proofs.lemmas.Bool.{and_from, eq-eqb, lt-ltb}
+use Rattle.std.proofs.lemmas.List.{length-append, same_from_push}
+use Rattle.nm_edge.specs.Edges.{Edge, is_to, other, to}
+use Rattle.nm_edge.specs.Layouts.{Layout, IsLayout}
+use Rattle.nm_edge.specs.declared.edge.Side.{Side}
+use Rattle.nm_edge.specs.declared.edge.Side.TheVariants.{Left, Right}
+use Rattle.nm_edge.specs.declared.node.NodeId.{NodeId}
+use Rattle.nm_model.specs.declared.event.Event.{Event}
+use Rattle.nm_model.specs.declared.event.Event.TheVariants.{Link}
+use Rattle.nm_model.specs.declared.reply.Refused.{Refused}
+use Rattle.nm_model.specs.declared.reply.Reply.{Reply}
+use Rattle.nm_model.specs.declared.reply.Reply.TheVariants.{Linked, Lost}
+use Rattle.nm_model.specs.declared.trace.Turn.{Turn}
+use Rattle.nm_model.specs.Headline.{after_turn, words_after, words_from}
+use Rattle.nm_model.specs.Knowledge.{Knowledge, draft_of}
+use Rattle.nm_model.specs.Memory.{Memory, child, edge, is_leaf, node, opening, put_edge}
+use Rattle.nm_model.specs.Ordered.{Configuration, HasKey, ordered, after_in, next_in, outcome_in, refused_in, trace_in}
+use Rattle.nm_model.specs.Paths.{Reached, follow}
+use Rattle.nm_model.specs.Runs.{State, of, reply_of}
+use Rattle.nm_model.specs.Step.{node_linked, reply, write}
+use Rattle.nm_model.specs.Walks.{Entry, logged_by}
+use Rattle.nm_laws.proofs.Configurations.{allowed_by_state, allowed_outcome, refused_outcome}
+use Rattle.nm_laws.proofs.KnownBirths.{each_birth_stands}
+use Rattle.nm_laws.proofs.Steps.{Allowed, allowed}
+use Rattle.nm_laws.proofs.TreeSteps.{Lawful}
+use Rattle.nm_laws.proofs.Trees.{Children, follow-append, no_longer, not_taken, rest_after, taken}
+use Rattle.nm_order.specs.Intervals.{key}
+use Rattle.nm_order.specs.Logs.{known_by, part_of}
+use Rattle.nm_order.proofs.AnswersSince.{part-append}
+use Rattle.nm_order.proofs.OrderedLaws.{IsOrdered, each_ordered, law_of_state}
+use Rattle.nm_order.proofs.OrderedLinks.{grafted}
+use Rattle.nm_order.proofs.OrderedTrees.{Grafting, unless_at}
+use Rattle.nm_order.proofs.PartsOfRuns.{logs_tell}
+use Rattle.nm_order.proofs.RunExchanges.{first_keys}
+use Rattle.nm_order.proofs.TreeChanges.{WonLink, same_keys, won_link}
+use Rattle.nm_theorem.proofs.WrittenWords.{run_words}
+use Rattle.nm_steps.specs.declared.view.Stored.{Stored}
+use Rattle.nm_steps.specs.Rules.{Extends, answered_turn, new_leaf, value_from, value_of}
+use Rattle.nm_steps.specs.Steps.{HasSeen, HasSeenAllOf, PassView, TakesStep}
+use Rattle.nm_steps.proofs.Seeing.{same_by_step, seen_by_turn}
+use Rattle.nm_walks.specs.Growing.{HasLinkedLeaf, HasLinkedValue}
+use Rattle.nm_walks.proofs.Looks.{enough}
+use Rattle.nm_calls.specs.Maps.{HasPut, IsInMap, WasPut, value_at}
+
+-- ---- the last event of a run
+
+record LastEvent (c : Configuration) (events : List (ℕ × Event)) (before : List Turn) (t : Turn) : Type 0 where
+  first : List (ℕ × Event)
+  last : ℕ × Event
+  are : events ≡ first ++ last ∷ []
+  firsts : trace_in c first ≡ before
+  is : record { worker = last.0; event = last.1; outcome = outcome_in (after_in c first) last } ≡ t
+
+last_event : (before : List Turn) (events : List (ℕ × Event)) (c : Configuration) (t : Turn) → trace_in c events ≡ before ++ t ∷ [] → LastEvent c events before t
+unfolding trace_in after_in
+last_event [] [] c t is = absurd (let long = ap (λ (l : List Turn). length l) is in omega (arith, long))
+last_event [] (e ∷ []) c t is = record { first = []; last = e; are = refl; firsts = refl; is = cc }
+last_event [] (e ∷ f ∷ es) c t is = absurd (let long = ap (λ (l : List Turn). length l) is in omega (arith, long))
+last_event (b ∷ bs) [] c t is = absurd (let long = ap (λ (l : List Turn). length l) is in omega (arith, long))
+last_event (b ∷ bs) (e ∷ es) c t is =
+    let rest : trace_in (next_in c e) es ≡ bs ++ t ∷ [] = cc in
+    let head : record { worker = e.0; event = e.1; outcome = outcome_in c e } ≡ b = cc in
+    let r = last_event bs es (next_in c e) t rest in
+    record {
+      first = e ∷ r.first;
+      last = r.last;
+      are = ap (λ (l : List (ℕ × Event)). e ∷ l) r.are;
+      firsts = (λ i. head i ∷ r.firsts i);
+      is = r.is;
+    }
+
+words_push : (m : Memory) (ts : List Turn) (t : Turn) → words_from m (ts ++ t ∷ []) ≡ after_turn (words_from m ts) t
+words_push m [] t = refl
+words_push m (u ∷ ts) t = words_push (after_turn m u) ts t
+
+-- ---- the path to a new leaf
+
+module _ (c c' : Children) (p : ℕ) (d : Side) (leaf new far : ℕ) (dl : Side) (g : Grafting c c' p d leaf new far dl) where
+  straight_to : rest_after c p d 1 g.front ≡ None
+  straight_to = go (rest_after c p d 1 g.front) refl
+    where
+      go : (o : Option (List Side)) → rest_after c p d 1 g.front ≡ o → o ≡ None
+      go None h = refl
+      go (Some r) h =
+          let t = taken c c' p d new g.exchanged 1 g.front r h in
+          let same : g.front ≡ t.front = g.alone g.front t.front (λ z. g.is_slot (sym g.at_front ∙ z)) (g.at_front ∙ sym t.comes) in
+          absurd (no_longer d g.front r (t.is ∙ ap (λ (y : List Side). y ++ d ∷ r) (sym same)))
+
+  at_parent : follow c' 1 g.front ≡ p
+  at_parent = not_taken c c' p d new g.exchanged 1 g.front straight_to ∙ g.at_front
+
+  to_far : follow c' 1 (g.front ++ d ∷ other dl ∷ []) ≡ far
+  to_far =
+      follow-append c' 1 g.front (d ∷ other dl ∷ [])
+      ∙ (ap (λ (y : ℕ). c' (c' y d) (other dl)) at_parent
+      ∙ (ap (λ (y : ℕ). c' y (other dl)) g.exchanged.here
+      ∙ (unless_at c c' p d new new (other dl) g.exchanged (λ i. g.off_new g.front (g.at_front ∙ sym i)) ∙ g.over_far)))
+
+  far_null : (f : Side) → c' far f ≡ 0
+  far_null f = unless_at c c' p d new far f g.exchanged (λ i. g.off_far g.front (g.at_front ∙ sym i)) ∙ g.far_null f
+
+-- ---- a won link
+
+module _ (L : Layout) (fits : IsLayout L) (events : List (ℕ × Event)) (keys : All (λ t. HasKey t.1) events) (w : ℕ) (below : w < L.workers) (parent : ℕ) (side : Side) (old new : ℕ) (n : NodeId) (slot k : ℕ)
+    (won : outcome_in (after_in (ordered L) events) (w, Link parent side old new) ≡ Ok (Linked n)) (is_fresh : new_leaf (known_by L w (part_of w (trace_in (ordered L) events))) old new ≡ slot)
+    (has : (draft_of (known_by L w (part_of w (trace_in (ordered L) events))) slot).key ≡ Some k) (high : 6 ≤ slot) where
+  abbrev c : Configuration
+  c = after_in (ordered L) events
+
+  abbrev event : ℕ × Event
+  event = (w, Link parent side old new)
+
+  is_ordered : IsOrdered L c
+  is_ordered = each_ordered L (enough L fits) events keys
+
+  h : ℕ → ℕ
+  h = (law_of_state L (enough L fits) c is_ordered).0
+
+  law : Lawful c.state h
+  unfolding h
+  law = (law_of_state L (enough L fits) c is_ordered).1
+
+  unrefused : refused_in c w (Link parent side old new) ≡ None
+  unrefused = go (refused_in c w (Link parent side old new)) refl
+    where
+      wrong : (r : Refused) → Err r ≡ Ok (Linked n) → ⊥
+      wrong r e = cc
+
+      go : (o : Option Refused) → refused_in c w (Link parent side old new) ≡ o → o ≡ None
+      go None is = refl
+      go (Some r) is = absurd (wrong r (sym (refused_outcome c event r is) ∙ won))
+
+  ok : Allowed c.state w (Link parent side old new)
+  ok = allowed c.state w (Link parent side old new) (allowed_by_state c w (Link parent side old new) unrefused)
+
+  replied : reply_of c.state w (Link parent side old new) ≡ Linked n
+  replied = same_ok (sym (allowed_outcome c event unrefused) ∙ won)
+    where
+      same_ok : ◌≡◌ {A = Result Reply Refused} (Ok (reply_of c.state w (Link parent side old new))) (Ok (Linked n)) → reply_of c.state w (Link parent side old new) ≡ Linked n
+      same_ok e = cc
+
+  found : is_to (edge c.state.memory parent side) old ≡ true
+  unfolding reply
+  found = by (is_to (edge c.state.memory parent side) old) refl replied
+    where
+      lost : (f : Edge) → Lost f ≡ Linked n → ⊥
+      lost f e = cc
+
+      by : (b : Bool) → is_to (edge c.state.memory parent side) old ≡ b → cond b (Linked (node_linked (of c.state w) new)) (Lost (edge c.state.memory parent side)) ≡ Linked n → b ≡ true
+      by true is r = refl
+      by false is r = absurd (lost (edge c.state.memory parent side) r)
+
+  link : WonLink c.state h law w parent side old new
+  link = won_link c.state h law w parent side old new ok found
+
+  told : of c.state w ≡ known_by L w (part_of w (trace_in (ordered L) events))
+  told = logs_tell L events w below
+
+  far_is : link.drafts.far ≡ slot
+  far_is = sym link.drafts.is_far ∙ (ap (λ (j : Knowledge). new_leaf j old new) told ∙ is_fresh)
+
+  abbrev after : Memory
+  after = put_edge c.state.memory parent side (to new)
+
+  graft : Grafting (child c.state.memory) (child after) parent side old new link.drafts.far link.drafts.side
+  graft = grafted c.state h law w parent side old new link.drafts.far link.drafts.side link.link (child after) link.exchanged
+
+  words : words_after L (trace_in (ordered L) events ++ answered_turn w (Link parent side old new) (Linked n) ∷ []) ≡ after
+  words = words_push (opening L) (trace_in (ordered L) events) (answered_turn w (Link parent side old new) (Linked n)) ∙ ap (λ (m : Memory). put_edge m parent side (to new)) (run_words L fits true events)
+
+  reached_after : Reached after slot
+  reached_after = record {
+    path = graft.front ++ side ∷ other link.drafts.side ∷ [];
+    ends = to_far (child c.state.memory) (child after) parent side old new link.drafts.far link.drafts.side graft ∙ far_is;
+    is_slot = λ none'. omega (arith, high, none');
+  }
+
+  null_after : (f : Side) → child after slot f ≡ 0
+  null_after f = subst (λ (x : ℕ). child after x f ≡ 0) far_is (far_null (child c.state.memory) (child after) parent side old new link.drafts.far link.drafts.side graft f)
+
+  leaf_after : is_leaf (node after slot) ≡ true
+  leaf_after = and_from ((node after slot).left.slot == 0) ((node after slot).right.slot == 0) (eq-eqb (node after slot).left.slot 0 (null_after Left)) (eq-eqb (node after slot).right.slot 0 (null_after Right))
+
+  key_before : key c.state.memory slot ≡ k
+  key_before =
+      let births = subst (λ (s : State). (x v : ℕ) → (draft_of (of s w) x).key ≡ Some v → (node s.memory x).key ≡ v) (sym is_ordered.leads) (each_birth_stands L (enough L fits) is_ordered.events w).key in
+      births slot k (ap (λ (j : Knowledge). (draft_of j slot).key) told ∙ has)
+
+  key_kept : key after slot ≡ key c.state.memory slot
+  unfolding write
+  key_kept = subst (λ (b : Bool). key (cond b after c.state.memory) slot ≡ key c.state.memory slot) found (same_keys c.state h law w (Link parent side old new) (λ y f v i. cc) slot)
+
+  abbrev turns : List Turn
+  turns = trace_in (ordered L) events ++ answered_turn w (Link parent side old new) (Linked n) ∷ []
+
+  linked_in_map : (stores : List Stored) (v : ℕ) → value_at (length turns) stores slot ≡ v → IsInMap L turns stores k v
+  linked_in_map stores v has_value = record {
+    slot = slot;
+    reached = subst (λ (m : Memory). Reached m slot) (sym words) reached_after;
+    leaf = ap (λ (m : Memory). is_leaf (node m slot)) words ∙ leaf_after;
+    has_key = ap (λ (m : Memory). (node m slot).key) words ∙ (key_kept ∙ key_before);
+    has_value = has_value;
+  }
+
+-- ---- a value that was stored last
+
+last_value : (slot v at w own was : ℕ) (earlier : List Stored) → value_from was (earlier ++ record { at = at; worker = w; own = own; slot = slot; value = v } ∷ []) slot ≡ v
+last_value slot v at w own was [] = ap (λ (b : Bool). cond b v was) (eq-eqb slot slot refl)
+last_value slot v at w own was (x ∷ xs) = last_value slot v at w own (cond (x.slot == slot) x.value was) xs
+
+kept_last : (n : ℕ) (l : List Stored) (x : Stored) → x.at < n → filter (λ (y : Stored). nat_lt y.at n) (l ++ x ∷ []) ≡ filter (λ (y : Stored). nat_lt y.at n) l ++ x ∷ []
+kept_last n [] x early = ap (λ (b : Bool). cond b (x ∷ []) []) (lt-ltb x.at n early)
+kept_last n (y ∷ ys) x early = go (nat_lt y.at n) (kept_last n ys x early)
+  where
+    go : (b : Bool) → filter (λ (z : Stored). nat_lt z.at n) (ys ++ x ∷ []) ≡ filter (λ (z : Stored). nat_lt z.at n) ys ++ x ∷ []
+        → cond b (y ∷ filter (λ (z : Stored). nat_lt z.at n) (ys ++ x ∷ [])) (filter (λ (z : Stored). nat_lt z.at n) (ys ++ x ∷ [])) ≡ cond b (y ∷ filter (λ (z : Stored). nat_lt z.at n) ys) (filter (λ (z : Stored). nat_lt z.at n) ys) ++ x ∷ []
+    go true rest = ap (λ (l : List Stored). y ∷ l) rest
+    go false rest = rest
+
+stored_last : (n slot v at w own : ℕ) (earlier : List Stored) → at < n → value_at n (earlier ++ record { at = at; worker = w; own = own; slot = slot; value = v } ∷ []) slot ≡ v
+stored_last n slot v at w own earlier early =
+    ap (λ (l : List Stored). value_of l slot) (kept_last n earlier (record { at = at; worker = w; own = own; slot = slot; value = v }) early)
+    ∙ last_value slot v at w own 0 (filter (λ (y : Stored). nat_lt y.at n) earlier)
+
+-- ---- of a pass
+
+pub put_by_link : (p q : PassView) (slot k v : ℕ) → IsLayout q.view.layout → HasSeen q.view → HasLinkedLeaf p q slot k → HasLinkedValue q slot v → WasPut q.view.layout p.view.past q.view.past q.view.stores q.view.number k v
+put_by_link p q slot k v fits seen l s = record {
+  so_far = l.before;
+  link = turn;
+  rest = [];
+  are = l.past ∙ sym (append-nil (l.before ++ turn ∷ []));
+  later = (let n = ap (λ (ts : List Turn). length ts) l.extends.is ∙ length-append p.view.past l.extends.more in omega (arith, n));
+  own = refl;
+  node = l.node;
+  won = refl;
+  is = subst (λ (ts : List Turn). IsInMap L (ts ++ turn ∷ []) q.view.stores k v) e.firsts
+      (linked_in_map L fits e.first (first_keys e.first (e.last ∷ []) (subst (λ (es : List (ℕ × Event)). All (λ t. HasKey t.1) es) e.are seen.keys)) w seen.worker l.parent l.side l.old l.new l.node slot k
+      won
+      (ap (λ (log : List Entry). new_leaf (known_by L w log) l.old l.new) log_is ∙ l.fresh)
+      (ap (λ (log : List Entry). (draft_of (known_by L w log) slot).key) log_is ∙ l.has_key) l.pooled.0 q.view.stores v
+      (subst (λ (st : List Stored). value_at (length (trace_in (ordered L) e.first ++ turn ∷ [])) st slot ≡ v) (sym s.is) (stored_last (length (trace_in (ordered L) e.first ++ turn ∷ [])) slot v s.at w s.own s.earlier early)));
+}
+  where
+    L : Layout
+    L = q.view.layout
+
+    w : ℕ
+    w = q.view.number
+
+    turn : Turn
+    turn = answered_turn w (Link l.parent l.side l.old l.new) (Linked l.node)
+
+    e : LastEvent (ordered L) seen.events l.before turn
+    e = last_event l.before seen.events (ordered L) turn (sym seen.are ∙ l.past)
+
+    last_is : e.last ≡ (w, Link l.parent l.side l.old l.new)
+    last_is = (λ i. ((ap (λ (t : Turn). t.worker) e.is) i, (ap (λ (t : Turn). t.event) e.is) i))
+
+    won : outcome_in (after_in (ordered L) e.first) (w, Link l.parent l.side l.old l.new) ≡ Ok (Linked l.node)
+    won = ap (outcome_in (after_in (ordered L) e.first)) (sym last_is) ∙ ap (λ (t : Turn). t.outcome) e.is
+
+    whole : part_of w l.before ++ (Link l.parent l.side l.old l.new, Linked l.node) ∷ [] ≡ l.log ++ (Link l.parent l.side l.old l.new, Linked l.node) ∷ []
+    whole = sym (ap (λ (b : Bool). part_of w l.before ++ (cond b (logged_by turn) [] ++ [])) (λ i. own_part i)) ∙ (sym (part-append w l.before (turn ∷ [])) ∙ (ap (part_of w) (sym l.past) ∙ (seen.is_part ∙ l.is_log)))
+      where
+        own_part : ((w == w) || false) ≡ true
+        own_part = ap (λ (b : Bool). b || false) (eq-eqb w w refl)
+
+    log_is : part_of w (trace_in (ordered L) e.first) ≡ l.log
+    log_is = ap (part_of w) e.firsts ∙ (same_from_push (part_of w l.before) l.log (Link l.parent l.side l.old l.new, Linked l.node) (Link l.parent l.side l.old l.new, Linked l.node) whole).0
+
+    early : s.at < length (trace_in (ordered L) e.first ++ turn ∷ [])
+    early = subst (λ (n : ℕ). s.at < n) (ap (λ (ts : List Turn). length ts) (l.past ∙ ap (λ (ts : List Turn). ts ++ turn ∷ []) (sym e.firsts))) s.early
+
+-- it stays so for all that had been seen earlier
+pub put_earlier : (o p q : PassView) (k v : ℕ) → HasSeenAllOf p o → HasPut p q k v → HasPut o q k v
+put_earlier o p q k v seen put = record {
+  so_far = put.so_far;
+  link = put.link;
+  rest = put.rest;
+  are = put.are;
+  later = (let later = put.later in let n = ap (λ (ts : List Turn). length ts) seen.goes_on.is ∙ length-append o.view.past seen.goes_on.more in omega (arith, later, n));
+  own = put.own;
+  node = put.node;
+  won = put.won;
+  is = put.is;
+}
+
+-- and for a pass that goes on
+pub put_then : (p q z : PassView) (e : Event) (r : Reply) (k v : ℕ) → HasPut p q k v → TakesStep q z e r → HasPut p z k v
+put_then p q z e r k v put took =
+    let on : Extends z.view.past q.view.past = (seen_by_turn q z e r took.past).goes_on in
+    subst (λ (st : List Stored). WasPut z.view.layout p.view.past z.view.past st z.view.number k v) (sym took.stores)
+    (subst (λ (s : PassView). WasPut s.view.layout p.view.past z.view.past q.view.stores s.view.number k v) (sym (same_by_step q z e r took.step)) (record {
+      so_far = put.so_far;
+      link = put.link;
+      rest = put.rest ++ on.more;
+      are = on.is ∙ (ap (λ (l : List Turn). l ++ on.more) put.are ∙ append_assoc (put.so_far ++ put.link ∷ []) put.rest on.more);
+      later = put.later;
+      own = put.own;
+      node = put.node;
+      won = put.won;
+      is = put.is;
+    }))

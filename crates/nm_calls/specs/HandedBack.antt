@@ -1,0 +1,25 @@
+-- Values that come back once the leaf that had them is freed.
+use Rattle.std.specs.Prelude.{◌≡◌, ℕ, true, List, ◌∷◌, ◌++◌, length, Contains}
+use Rattle.nm_edge.specs.Layouts.{Layout}
+use Rattle.nm_edge.specs.declared.node.NodeId.{NodeId}
+use Rattle.nm_model.specs.declared.trace.Turn.{Turn}
+use Rattle.nm_model.specs.Headline.{nodes_cut_of, words_after}
+use Rattle.nm_model.specs.Memory.{is_leaf, node}
+use Rattle.nm_model.specs.Paths.{Reached}
+use Rattle.nm_steps.specs.declared.view.Stored.{Stored}
+use Rattle.nm_steps.specs.Rules.{ExtendsStores}
+use Rattle.nm_calls.specs.Maps.{value_at}
+
+-- a turn cut the node off. Right before it a path from the root reached the node, which was a leaf,
+-- and the map had the key of the leaf with the value v, by the first of these stores
+pub record WasCutWith (L : Layout) (turns : List Turn) (stores : List Stored) (n : NodeId) (v : ℕ) : Type 0 where
+  pub before : List Turn
+  pub cut : Turn
+  pub since : List Turn
+  pub are : turns ≡ before ++ cut ∷ since
+  pub cuts : Contains (nodes_cut_of cut.outcome) n
+  pub reached : Reached (words_after L before) n.slot
+  pub leaf : is_leaf (node (words_after L before) n.slot) ≡ true
+  pub first : List Stored
+  pub extends : ExtendsStores stores first
+  pub has_value : value_at (length before) first n.slot ≡ v

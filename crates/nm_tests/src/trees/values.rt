@@ -1,0 +1,116 @@
+//! Trees with values: each worker gets what another one has put under a key, and the values of removed
+//! keys come back.
+ghost use Rattle.std.specs.Prelude.{IfOk};
+ghost use Rattle.nm_steps.specs.Steps.{IsOf};
+ghost use Rattle.nm_steps.specs.Values.{HasValues};
+ghost use Rattle.nm_tree.specs.Calls.{MayCall};
+
+use super::endings::{both, report_of, step};
+use super::*;
+
+/// Makes a tree with values and its two workers.
+fn map_of(rt: &(impl Abort + AllocGlobal), nodes: u32) -> Result<(Tree, Worker, Worker), Fail>
+    ensures { IfOk result (λ r. MayCall r.0 r.1 × MayCall r.0 r.2 × HasValues r.0) }
+{
+    let layout = Layout::new(nodes, 2)?.in_radix();
+    let (tree, mut workers) = Tree::with_values(rt.alloc(), layout, Fit::FirstFit)?;
+    let Some(second) = workers.pop() else {
+        unreachable!()
+    };
+    let Some(first) = workers.pop() else {
+        unreachable!()
+    };
+    Ok((tree, first, second))
+}
+
+fn puts(
+    rt: &impl Abort,
+    tree: &Tree,
+    worker: &mut Worker,
+    number: u64,
+    value: u64,
+    want: Result<bool, CallFault>,
+)
+    requires own { IsOf tree.now worker.old.pass }
+    ensures own { IsOf tree.now worker.new.pass }
+{
+    let Some(key) = Key::new(number) else {
+        panic!(rt; "{number} is no key")
+    };
+    if worker.held().is_some() {
+        panic!(rt; "the worker is pinned")
+    }
+    let put = tree.insert_with_value(worker, key, value, 1);
+    assert!(rt; put == want);
+}
+
+fn gets(rt: &impl Abort, tree: &Tree, worker: &mut Worker, number: u64, want: Option<u64>)
+    requires own { IsOf tree.now worker.old.pass }
+    requires values { HasValues tree.now }
+    ensures own { IsOf tree.now worker.new.pass }
+{
+    let Some(key) = Key::new(number) else {
+        panic!(rt; "{number} is no key")
+    };
+    if worker.held().is_some() {
+        panic!(rt; "the worker is pinned")
+    }
+    let found = tree.get(worker, key, 1);
+    assert!(rt; found == Ok(want));
+}
+
+/// A key has the value of the insert that returned true. A plain insert puts 0 under its key.
+#[test]
+fn a_map_of_two_workers(rt: HostRuntime) -> Result<(), Fail> {
+    let (tree, mut one, mut two) = map_of(&rt, 64)?;
+    gets(&rt, &tree, &mut one, 5, None);
+    puts(&rt, &tree, &mut one, 5, 50, Ok(true));
+    puts(&rt, &tree, &mut two, 5, 51, Ok(false));
+    gets(&rt, &tree, &mut two, 5, Some(50));
+    step(&rt, &tree, &mut two, Call::Insert(6), Answer::Is(true));
+    gets(&rt, &tree, &mut one, 6, Some(0));
+    step(&rt, &tree, &mut two, Call::Delete(5), Answer::Is(true));
+    gets(&rt, &tree, &mut one, 5, None);
+    puts(&rt, &tree, &mut two, 5, 52, Ok(true));
+    gets(&rt, &tree, &mut one, 5, Some(52));
+    let report = report_of(&rt, tree, both(rt.alloc(), one, two)?);
+    assert_eq!(rt; report.keys.len(), 2);
+    Ok(())
+}
+
+/// Advances the epoch twice, and collects into a slice; returns how many values came back.
+fn takes_back(tree: &Tree, worker: &mut Worker, out: &mut [u64]) -> usize
+    requires own { IsOf tree.now worker.old.pass }
+    requires values { HasValues tree.now }
+    ensures own { IsOf tree.now worker.new.pass }
+{
+    let _ = tree.advance(worker);
+    let _ = tree.advance(worker);
+    tree.collect_values(worker, out).values
+}
+
+/// The values of removed keys come back once, in the order of the removals. A slice that is full
+/// keeps the next ones for a later call. The value of a key that is in the tree stays there.
+#[test]
+fn values_come_back_once(rt: HostRuntime) -> Result<(), Fail> {
+    let (tree, mut one, _two) = map_of(&rt, 64)?;
+    puts(&rt, &tree, &mut one, 7, 70, Ok(true));
+    for value in 50..53 {
+        puts(&rt, &tree, &mut one, 5, value, Ok(true));
+        step(&rt, &tree, &mut one, Call::Delete(5), Answer::Is(true));
+    }
+    let mut none: [u64; 0] = [];
+    assert_eq!(rt; takes_back(&tree, &mut one, &mut none), 0);
+    assert_eq!(rt; one.queue_len(), 5);
+    let mut two = [0; 2];
+    assert_eq!(rt; takes_back(&tree, &mut one, &mut two), 2);
+    assert_eq!(rt; two, [50, 51]);
+    let mut four = [0; 4];
+    assert_eq!(rt; takes_back(&tree, &mut one, &mut four), 1);
+    assert_eq!(rt; four, [52, 0, 0, 0]);
+    assert_eq!(rt; takes_back(&tree, &mut one, &mut four), 0);
+    assert_eq!(rt; one.queue_len(), 0);
+    gets(&rt, &tree, &mut one, 7, Some(70));
+    gets(&rt, &tree, &mut one, 5, None);
+    Ok(())
+}

@@ -1,0 +1,70 @@
+use Rattle.std.proofs.Common.{rules, Bool, ap, refl, subst, ◌∙◌, arith}
+use Rattle.std.specs.Prelude.{Result}
+use Rattle.nm_steps.proofs.Seeing.{seen_all}
+use Rattle.nm_tree.specs.Workers.{WorkerView}
+use Rattle.nm_tree.proofs.QueueLists.{lacks_after, stands_within, room_after}
+use Rattle.nm_tree.proofs.Staying.{resting_in, rests_in, rests_as, free_in}
+use Rattle.nm_tree.proofs.Interfered.{insert_interfered, insert_alone}
+use Rattle.nm_tree.proofs.Answered.{insert_fails, insert_told, has_inserted}
+use Rattle.nm_tree.proofs.Changing.{kept_there, changed, others_kept}
+use Rattle.nm_calls.specs.declared.fault.CallFault.{CallFault}
+use Rattle.nm_calls.specs.Inserts.{InsertDid}
+use Rattle.nm_tree.proofs.Telling.{inserted_so}
+use Rattle.nm_tree.proofs.Untouched.{insert_pending}
+use Rattle.nm_tree.proofs.tree.Tree.insert_with_value.Goals as goal
+
+pub returns-in-Pending-clause-leaves : goal.returns-in-Pending-clause-leaves
+returns-in-Pending-clause-leaves c = insert_pending c.args.self.now.layout c.args.tries c.args.key c.args.worker.now (search rules) c.requires.free
+
+pub returns-in-Pending-clause-says : goal.returns-in-Pending-clause-says
+returns-in-Pending-clause-says c = (returns-in-Pending-clause-leaves c).says
+
+pub index_mut-own-requires : goal.index_mut-own-requires
+index_mut-own-requires c = omega (arith, stands_within c.worker.inside.home _ c.worker.inside.queues.items c.worker.invariant.own, c.worker.inside.queues.ok.0)
+
+pub insert-answer-requires-clause-rests : goal.insert-answer-requires-clause-rests
+insert-answer-requires-clause-rests c =
+    rests_in c.worker.inside.pass c.worker.inside.standing (resting_in c.worker.inside.standing (ap (λ (w : WorkerView). w.held) c.worker.view_is ∙ c.requires.free) c.in_default.not-Pending) c.worker.invariant.between.stands
+
+pub insert-answer-requires-clause-kept : goal.insert-answer-requires-clause-kept
+insert-answer-requires-clause-kept c = kept_there _ c.worker.inside.home _ c.worker.invariant c.index_mut-own.ensures.value
+
+pub invariant_of-worker : goal.invariant_of-worker
+invariant_of-worker c =
+    changed _ c.worker.inside.home c.insert-answer.new.pass _ _ c.insert-answer.new.held c.worker.invariant c.insert-answer.ensures.after.same c.insert-answer.ensures.kept
+    c.insert-answer.ensures.after.ledgers.others c.insert-answer.ensures.after.private (rests_as c.insert-answer.new.pass c.worker.inside.standing (resting_in c.worker.inside.standing (ap (λ (w : WorkerView). w.held) c.worker.view_is ∙ c.requires.free) c.in_default.not-Pending) c.insert-answer.ensures.after.rests)
+    (_, c.index_mut-own.ensures.value, c.insert-answer.ensures.blocks)
+
+pub returns-clause-says : goal.returns-clause-says
+returns-clause-says c = record {
+  same = search rules;
+  past = search (rules, seen_all);
+  told = rw (← c.worker.view_is) (insert_told c.self.inside.shared.layout c.args.tries c.args.key _ _ (free_in c.worker.inside.standing (resting_in c.worker.inside.standing (ap (λ (w : WorkerView). w.held) c.worker.view_is ∙ c.requires.free) c.in_default.not-Pending)) c.insert-answer.result
+      (λ none'. lacks_after c.worker.inside.home _ _ c.worker.inside.queues.items c.insert-answer.new.held c.worker.invariant.own c.insert-answer.ensures.kept.own (c.insert-answer.ensures.refused none')) c.insert-answer.ensures.after.did);
+  moment = search rules;
+  won = search rules;
+  steps = search rules;
+  queues = others_kept _ _ c.worker.inside.home c.insert-answer.new.pass c.insert-answer.new.held c.worker.view_is c.worker.invariant.own c.insert-answer.ensures.kept.own c.insert-answer.ensures.after.same;
+  blocks = rw (← c.worker.view_is) (room_after c.worker.inside.home _ c.worker.inside.queues.items _ c.insert-answer.new.held c.worker.invariant.own c.index_mut-own.ensures.value c.insert-answer.ensures.blocks);
+  held = search rules;
+  fit = search rules;
+}
+
+pub returns-clause-leaves : goal.returns-clause-leaves
+returns-clause-leaves c = record {
+  says = returns-clause-says c;
+  did = inserted_so _ _ c.args.tries c.args.key _ _ _ c.insert-answer.result _ c.self.view_is c.worker.view_is refl (has_inserted _ c.args.tries c.args.key _ _ (free_in c.worker.inside.standing (resting_in c.worker.inside.standing (ap (λ (w : WorkerView). w.held) c.worker.view_is ∙ c.requires.free) c.in_default.not-Pending)) c.insert-answer.result c.insert-answer.ensures.after.did);
+  interfered = λ is. insert_interfered c.self.inside.shared c.args.self.now c.worker.inside.pass c.args.worker.now.pass c.insert-answer.new.pass c.args.key c.args.tries c.self.view_is (ap (λ (x : WorkerView). x.pass) c.worker.view_is)
+      c.know_run.ensures.seen c.know_run-2.ensures.seen c.know_run.ensures.fits c.insert-answer.ensures.after.same c.insert-answer.ensures.after.past c.requires.own _ (subst (λ (r : Result Bool CallFault). InsertDid c.worker.inside.workspace.placement c.self.inside.shared.layout c.args.tries c.args.key c.worker.inside.pass.view.log c.insert-answer.new.pass.view.log r) is c.insert-answer.ensures.after.did);
+  alone = λ runs. (
+      insert_fails c.args.tries _ _ c.insert-answer.result (returns-clause-says c).told
+      (λ is. insert_alone c.self.inside.shared c.args.self.now c.worker.inside.pass c.args.worker.now.pass c.insert-answer.new.pass c.args.key c.args.tries c.self.view_is (ap (λ (x : WorkerView). x.pass) c.worker.view_is)
+      c.know_run.ensures.seen c.know_run-2.ensures.seen c.know_run.ensures.fits c.insert-answer.ensures.after.same c.insert-answer.ensures.after.past c.requires.own _ runs (rests_in c.worker.inside.pass c.worker.inside.standing (resting_in c.worker.inside.standing (ap (λ (w : WorkerView). w.held) c.worker.view_is ∙ c.requires.free) c.in_default.not-Pending) c.worker.invariant.between.stands) (subst (λ (r : Result Bool CallFault). InsertDid c.worker.inside.workspace.placement c.self.inside.shared.layout c.args.tries c.args.key c.worker.inside.pass.view.log c.insert-answer.new.pass.view.log r) is c.insert-answer.ensures.after.did))
+      );
+}
+
+pub returns-in-Pending-clause-puts : goal.returns-in-Pending-clause-puts
+returns-in-Pending-clause-puts c = λ _ is. absurd (let no = is in cc)
+
+pub returns-clause-puts : goal.returns-clause-puts
+returns-clause-puts c = rw (← c.worker.view_is, ← c.self.view_is) c.insert-answer.ensures.put
