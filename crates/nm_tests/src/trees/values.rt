@@ -78,6 +78,14 @@ fn a_map_of_two_workers(rt: HostRuntime) -> Result<(), Fail> {
     Ok(())
 }
 
+fn puts_and_deletes(rt: &impl Abort, tree: &Tree, worker: &mut Worker, number: u64, value: u64)
+    requires own { IsOf tree.now worker.old.pass }
+    ensures own { IsOf tree.now worker.new.pass }
+{
+    puts(rt, tree, worker, number, value, Ok(true));
+    step(rt, tree, worker, Call::Delete(number), Answer::Is(true));
+}
+
 /// Advances the epoch twice, and collects into a slice; returns how many values came back.
 fn takes_back(tree: &Tree, worker: &mut Worker, out: &mut [u64]) -> usize
     requires own { IsOf tree.now worker.old.pass }
@@ -95,10 +103,9 @@ fn takes_back(tree: &Tree, worker: &mut Worker, out: &mut [u64]) -> usize
 fn values_come_back_once(rt: HostRuntime) -> Result<(), Fail> {
     let (tree, mut one, _two) = map_of(&rt, 64)?;
     puts(&rt, &tree, &mut one, 7, 70, Ok(true));
-    for value in 50..53 {
-        puts(&rt, &tree, &mut one, 5, value, Ok(true));
-        step(&rt, &tree, &mut one, Call::Delete(5), Answer::Is(true));
-    }
+    puts_and_deletes(&rt, &tree, &mut one, 5, 50);
+    puts_and_deletes(&rt, &tree, &mut one, 5, 51);
+    puts_and_deletes(&rt, &tree, &mut one, 5, 52);
     let mut none: [u64; 0] = [];
     assert_eq!(rt; takes_back(&tree, &mut one, &mut none), 0);
     assert_eq!(rt; one.queue_len(), 5);
