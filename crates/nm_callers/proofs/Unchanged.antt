@@ -32,7 +32,7 @@ use Rattle.nm_theorem.proofs.WrittenWords.{run_words}
 use Rattle.nm_steps.specs.Steps.{PassView, HasSeen, IsSamePass}
 use Rattle.nm_walks.specs.WonCounts.{is_won_splice, won_links, won_splices}
 use Rattle.nm_progress.specs.Alone.{IsAlone}
-use Rattle.nm_set.proofs.Letters.{begins}
+use Rattle.nm_tree.proofs.FoundThenGone.{begins}
 use Rattle.nm_callers.specs.Taking.{StaysThroughout}
 
 -- ---- one turn
