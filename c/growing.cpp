@@ -192,7 +192,9 @@ void closes_beside_growth() {
 #ifndef __SANITIZE_ADDRESS__
 // A thread that is cancelled while its insert lets the set grow ends after it, and keeps nothing.
 void threads_are_cancelled_beside_growth() {
-    nm::Set set;
+    nm::Options options;
+    options.timeout_ms = 60000;
+    nm::Set set(options);
     std::vector<pthread_t> threads(8);
     for (pthread_t &thread : threads)
         CHECK(pthread_create(&thread, nullptr, [](void *of) -> void * {
