@@ -22,7 +22,7 @@ use Rattle.nm_steps.specs.Packing.{words_of}
 use Rattle.nm_steps.specs.declared.view.Held.{Held}
 use Rattle.nm_steps.specs.declared.view.Stored.{Stored}
 use Rattle.nm_steps.specs.declared.view.View.{View}
-use Rattle.nm_steps.specs.Rules.{held_log, holdings, knowledge, stands, once_below, LogsAre, IsShown, LagsBehind, ExtendsStores, Runs, Kept, numbers_from, viewing, everybody, own_alone, the_others, nobody, passing, informed, joining_view, noted_down, answered_turn}
+use Rattle.nm_steps.specs.Rules.{held_log, holdings, knowledge, stands, once_below, LogsAre, IsShown, LagsBehind, LagsInStores, Runs, WereHeld, Kept, numbers_from, viewing, everybody, own_alone, the_others, nobody, passing, informed, joining_view, noted_down, answered_turn}
 use Rattle.nm_steps.specs.Steps.{HasEmptyHands, TreeView, PassView, fresh_view, AreFresh, Ends}
 use Rattle.nm_steps.proofs.Counts.{sum_after, at_most_sum, both_at_most_sum}
 use Rattle.nm_steps.proofs.Growing.{goes_on_itself, goes_on_from_nothing, goes_on_by, behind_by}
@@ -30,7 +30,8 @@ use Rattle.nm_steps.proofs.Presence.{gone_kept, known_push}
 use Rattle.nm_steps.proofs.Extending.{IsPartOf, words_after_join, trace_after_join}
 use Rattle.nm_steps.proofs.Keeping.{live, stands_live, once_is, part_grows, part_stays, each_set}
 use Rattle.nm_laws.proofs.Configurations.{keys_more}
-use Rattle.nm_steps.proofs.Valuing.{joined_links, grown_none, rewrap, run_long, stores_from_none, stores_themselves}
+use Rattle.nm_steps.proofs.StoreOrders.{lags_for_nobody, lags_in_none, lags_kept, none_in_order, stored_nothing}
+use Rattle.nm_steps.proofs.Valuing.{joined_links, grown_none, rewrap, run_long}
 use Rattle.std.proofs.lemmas.List.{append-nil}
 use Rattle.std.proofs.Math.Seq.{take-append_seam}
 use Rattle.std.specs.Prelude.{take}
@@ -64,6 +65,15 @@ once_between : (w k n : ℕ) → times w (numbers_from k n) ≡ cond (ltb w k) 0
 once_between w k zero = grind (arith, nat_tests)
 once_between w k (suc n) = let e = times-cons w (held_log k []) (numbers_from (suc k) n) in let r = once_between w (suc k) n in grind (arith, nat_tests, e, r)
 
+-- at the start no value is stored, and no view has seen one
+pub no_stores_seen : (L : Layout) (i : ℕ) (v : View) → get_elem? (everybody L ∷ []) i ≡ some v → LagsInStores [] v
+no_stores_seen L zero v is = subst (LagsInStores []) (some-injective _ _ is) (lags_in_none [] (everybody L) (no_values (numbers_from 0 L.workers)))
+  where
+    no_values : (hs : List Held) → (viewing L hs).stores ≡ []
+    no_values [] = refl
+    no_values (h ∷ hs) = refl
+no_stores_seen L (suc i) v is = absurd (some-ne-none v (sym is))
+
 pub opens : (L : Layout) (words : List ℕ) → IsLayout L → words ≡ words_of L (memory.opening L) → Kept L (opening words [] (everybody L))
 unfolding after_in trace_in
 opens L words fits e = record {
@@ -73,17 +83,9 @@ opens L words fits e = record {
   long = refl;
   runs = runs;
   stores = [];
-  valued = record { are = λ i below. absurd (omega (arith, below)); held = tt; linked = inl refl; seen = no_stores };
+  valued = record { are = λ i below. absurd (omega (arith, below)); held = tt; linked = inl refl; order = none_in_order; seen = no_stores_seen L };
 }
   where
-    no_values : (hs : List Held) → (viewing L hs).stores ≡ []
-    no_values [] = refl
-    no_values (h ∷ hs) = refl
-
-    no_stores : (i : ℕ) (v : View) → get_elem? (everybody L ∷ []) i ≡ some v → ExtendsStores [] v.stores
-    no_stores zero v is = subst (λ (x : View). ExtendsStores [] x.stores) (some-injective _ _ is) (subst (ExtendsStores []) (sym (no_values (numbers_from 0 L.workers))) (stores_themselves []))
-    no_stores (suc i) v is = absurd (some-ne-none v (sym is))
-
     under : (w n : ℕ) → cond (ltb w 0) 0 (cond (ltb w (0 + n)) 1 0) ≡ once_below w n
     under w n = grind (arith, nat_tests)
 
@@ -129,7 +131,7 @@ abbrev IsHere : View → Type 0
 IsHere v = v.resigned ≡ false → (knowledge v).gone ≡ false
 
 cuts : (L : Layout) (id : ℕ) (v left right : View) → ((t : List Turn) → IsShown L t v → IsShown L t left × IsShown L t right) → (IsHere v → IsHere left × IsHere right) → ((w : ℕ) → stands w left + stands w right ≡ stands w v)
-    → ((ts : List Turn) → LagsBehind ts v → LagsBehind ts left × LagsBehind ts right) → ((st : List Stored) → ExtendsStores st v.stores → ExtendsStores st left.stores × ExtendsStores st right.stores) → Splits (Kept L) id v left right
+    → ((ts : List Turn) → LagsBehind ts v → LagsBehind ts left × LagsBehind ts right) → ((turns : List (ℕ × Event)) (st : List Stored) → WereHeld L turns st → IsShown L (trace_in (ordered L) turns) left → LagsInStores st v → LagsInStores st left × LagsInStores st right) → Splits (Kept L) id v left right
 cuts L id v left right keep stay count lag had s K at = rewrap L s.words (length s.homes) s.views (set s.views id left ++ right ∷ []) K
     (record {
       fits = K.runs.fits;
@@ -141,7 +143,7 @@ cuts L id v left right keep stay count lag had s K at = rewrap L s.words (length
       once = λ w. sum_by-append (stands w) (set s.views id left) (right ∷ []) ∙ omega (arith, sum_by-cons (stands w) right [], sum_after (stands w) s.views id v left at, count w, K.runs.once w);
       lags = each (LagsBehind (trace_in (ordered L) K.runs.turns)) (lag (trace_in (ordered L) K.runs.turns) (K.runs.lags id v at)) K.runs.lags;
     })
-    (grown_none L (length s.homes) K.stores K.runs.turns) (each (λ (u : View). ExtendsStores K.stores u.stores) (had K.stores (K.valued.seen id v at)) K.valued.seen)
+    (grown_none L (length s.homes) K.stores K.runs.turns) (each (LagsInStores K.stores) (had K.runs.turns K.stores K.valued.held (keep (trace_in (ordered L) K.runs.turns) (K.runs.shown id v at)).0 (K.valued.seen id v at)) K.valued.seen)
   where
     each : (P : View → Type 0) → P left × P right → ((j : ℕ) (u : View) → get_elem? s.views j ≡ some u → P u) → (j : ℕ) (u : View) → get_elem? (set s.views id left ++ right ∷ []) j ≡ some u → P u
     each P both others j u is = ⊎_elim (each_set P s.views id left both.0 (λ j u _. others j u) j u) (λ (x : right ≡ u). subst P x both.1) (at_snoc (set s.views id left) right u j is)
@@ -174,6 +176,14 @@ left_others L k v e h = ap the_others (e ∙ left_is L k h) ∙ ap (left_from L)
 pub left_own : (L : Layout) (k : ℕ) (v : View) → v ≡ left_from L k → k < L.workers → own_alone v ≡ fresh_view L k
 left_own L k v e h = ap own_alone (e ∙ left_is L k h)
 
+-- none of those that are left has stored a value
+left_seen : (L : Layout) (k n : ℕ) (turns : List (ℕ × Event)) (st : List Stored) → (1 ≤ n → k < L.workers) → WereHeld L turns st → IsShown L (trace_in (ordered L) turns) (viewing L (numbers_from k n)) → LagsInStores st (viewing L (numbers_from k n))
+left_seen L k zero turns st below held shown = lags_for_nobody st (viewing L []) refl refl
+left_seen L k (suc n) turns st below held shown = record {
+  seen = record { more = st; is = refl };
+  own = λ alive. stored_nothing L turns k (below (omega arith)) (sym shown.1) st held;
+}
+
 -- the own log goes to a seat of its own
 pub deals : (L : Layout) (id k : ℕ) (v : View) → v ≡ left_from L k → k < L.workers → Splits (Kept L) id v (the_others v) (own_alone v)
 deals L id k v is below =
@@ -186,12 +196,11 @@ deals L id k v is below =
     (λ h. ((λ _. subst (λ (x : View). (knowledge x).gone ≡ false) (sym (left_others L k v is below)) (fresh_here L (k + 1) (L.workers - (k + 1)))), h))
     (λ w. omega (arith, ap (times w) (held_by v.layout v.others), ap (times w) (live (own_alone v) alive), ap (times w) (live v alive), times-cons w (held_log v.number v.log) v.others, times-cons w (held_log v.number v.log) []))
     (λ ts b. (nothing_seen v.layout v.others ts, record { past = b.past; heard = b.heard }))
-    (λ st h. (no_values v.layout v.others st, h))
+    (λ turns st held shown h. (
+      subst (LagsInStores st) (sym (left_others L k v is below)) (left_seen L (k + 1) (L.workers - (k + 1)) turns st (λ n. omega arith) held (subst (IsShown L (trace_in (ordered L) turns)) (left_others L k v is below) shown)),
+      record { seen = h.seen; own = h.own },
+    ))
   where
-    no_values : (l : Layout) (hs : List Held) (st : List Stored) → ExtendsStores st (viewing l hs).stores
-    no_values l [] st = stores_from_none st
-    no_values l (h ∷ hs) st = stores_from_none st
-
     nothing_seen : (l : Layout) (hs : List Held) (ts : List Turn) → LagsBehind ts (viewing l hs)
     nothing_seen l [] ts = record { past = goes_on_from_nothing ts; heard = goes_on_from_nothing ts }
     nothing_seen l (h ∷ hs) ts = record { past = goes_on_from_nothing ts; heard = goes_on_from_nothing ts }
@@ -200,7 +209,7 @@ deals L id k v is below =
 
 -- a note stands for nobody, and has seen what the view has
 pub writes_down : (L : Layout) (id : ℕ) (v : View) → Splits (Kept L) id v v (noted_down v)
-writes_down L id v = cuts L id v v (noted_down v) (λ t a. (a, tt)) (λ h. (h, λ e. absurd (true≢false e))) (λ w. add-zero (stands w v)) (λ ts b. (b, record { past = b.past; heard = goes_on_from_nothing ts })) (λ st h. (h, stores_from_none st))
+writes_down L id v = cuts L id v v (noted_down v) (λ t a. (a, tt)) (λ h. (h, λ e. absurd (true≢false e))) (λ w. add-zero (stands w v)) (λ ts b. (b, record { past = b.past; heard = goes_on_from_nothing ts })) (λ turns st held shown h. (h, lags_for_nobody st (noted_down v) refl refl))
 
 -- what holds of two views that are set, and of each other, holds of each
 each_two : (P : View → Type 0) (views : List View) (id other : ℕ) (now then' : View) → P now → P then' → ((j : ℕ) (u : View) → j ≢ id → j ≢ other → get_elem? views j ≡ some u → P u)
@@ -226,7 +235,7 @@ hears L id v other w resigned s K at apart at' = rewrap L s.words (length s.home
       lags = each_two (LagsBehind (trace_in (ordered L) K.runs.turns)) s.views id other (informed v w) nobody (record { past = (K.runs.lags id v at).past; heard = (K.runs.lags other w was).past })
           (record { past = goes_on_from_nothing (trace_in (ordered L) K.runs.turns); heard = goes_on_from_nothing (trace_in (ordered L) K.runs.turns) }) (λ j u _ _. K.runs.lags j u);
     })
-    (grown_none L (length s.homes) K.stores K.runs.turns) (each_two (λ (u : View). ExtendsStores K.stores u.stores) s.views id other (informed v w) nobody (K.valued.seen id v at) (stores_from_none K.stores) (λ j u _ _. K.valued.seen j u))
+    (grown_none L (length s.homes) K.stores K.runs.turns) (each_two (LagsInStores K.stores) s.views id other (informed v w) nobody (lags_kept K.stores v (informed v w) (K.valued.seen id v at) (record { stores = refl; number = refl; resigned = refl })) (lags_for_nobody K.stores nobody refl refl) (λ j u _ _. K.valued.seen j u))
   where
     was : get_elem? s.views other ≡ some w
     was = sym (set_else s.views id other (informed v w) apart) ∙ at'
@@ -390,7 +399,7 @@ joins L id v other w alive alive' hands s K at apart at' =
       is = refl;
       linked = joined_links L (length s.homes) K.stores K.runs.turns v.number w.number;
     })
-    (each_two (λ (u : View). ExtendsStores K.stores u.stores) s.views id other (joining_view v w) nobody (K.valued.seen id v at) (stores_from_none K.stores) (λ j u _ _. K.valued.seen j u))
+    (each_two (LagsInStores K.stores) s.views id other (joining_view v w) nobody (lags_kept K.stores v (joining_view v w) (K.valued.seen id v at) (record { stores = refl; number = refl; resigned = refl })) (lags_for_nobody K.stores nobody refl refl) (λ j u _ _. K.valued.seen j u))
 
 pub fresh_push : (b : TreeView) (k n : ℕ) (ps : List PassView) (p : PassView) → AreFresh b k ps → k + length ps ≡ n → p.table ≡ b.table → p.view ≡ fresh_view b.layout n → AreFresh b k (ps ++ p ∷ [])
 fresh_push b k n [] p a e t v = (t, v ∙ ap (fresh_view b.layout) (omega arith), tt)

@@ -1,5 +1,5 @@
 -- Passes that have done nothing yet.
-use Rattle.std.proofs.Common.{◌≡◌, ◌-◌, ◌<◌, ℕ, true, false, true≢false, [], refl, sym, ap, ◌∙◌, subst, arith}
+use Rattle.std.proofs.Common.{◌≡◌, ◌+◌, ◌-◌, ◌<◌, ℕ, true, false, true≢false, [], length, refl, sym, ap, ◌∙◌, subst, arith}
 use Rattle.std.specs.Prelude.{None}
 use Rattle.atomic_table.specs.declared.shared.Seat.{Seat}
 use Rattle.nm_edge.specs.Layouts.{Layout, IsLayout}
@@ -9,8 +9,10 @@ use Rattle.nm_model.specs.Knowledge.{is_private}
 use Rattle.nm_model.specs.Ordered.{trace_in}
 use Rattle.nm_order.specs.Hands.{IsPooled}
 use Rattle.nm_order.specs.Logs.{IsLogOf}
+use Rattle.std.proofs.lemmas.List.Elements.{All-nil}
+use Rattle.nm_steps.specs.declared.view.Stored.{Stored}
 use Rattle.nm_steps.specs.declared.view.View.{View}
-use Rattle.nm_steps.specs.Rules.{knowledge, numbers_from, viewing, everybody}
+use Rattle.nm_steps.specs.Rules.{StoredBefore, knowledge, numbers_from, viewing, everybody}
 use Rattle.nm_steps.specs.Steps.{HasSeen, Tied, fresh_view}
 use Rattle.nm_steps.proofs.Cutting.{left_from}
 
@@ -40,4 +42,5 @@ fresh_tied L it w announcement fits below at view empty = record {
   private = subst (λ (v : View). (x : ℕ) → is_private (knowledge v) x ≡ true → IsPooled v.layout x) (sym view) (λ x h. absurd (true≢false (sym h)));
   seen = subst HasSeen (sym view) (let log = empty_log L w below in record { worker = below; events = []; keys = log.keys; are = refl; is_part = refl; here = refl });
   heard = ap (λ (v : View). v.heard) view;
+  stored = subst (λ (v : View). StoredBefore v.number (length v.log + 1) v.stores) (sym view) (All-nil (λ (x : Stored). x.worker ≡ w → x.own < 1));
 }

@@ -1,5 +1,5 @@
 -- What a note leaves of the pass that hears it.
-use Rattle.std.proofs.Common.{◌≡◌, ℕ, ◌<◌, true, List, [], sym, ap, ◌∙◌, subst}
+use Rattle.std.proofs.Common.{◌≡◌, ℕ, ◌+◌, ◌<◌, true, List, [], length, sym, ap, ◌∙◌, subst}
 use Rattle.atomic_table.specs.declared.shared.Seat.{Seat}
 use Rattle.nm_edge.specs.Layouts.{IsLayout}
 use Rattle.nm_edge.specs.Words.{at_announcement, word}
@@ -8,7 +8,7 @@ use Rattle.nm_model.specs.declared.knowledge.Brief.{Brief}
 use Rattle.nm_model.specs.Knowledge.{is_private}
 use Rattle.nm_order.specs.Hands.{IsPooled}
 use Rattle.nm_steps.specs.declared.view.View.{View}
-use Rattle.nm_steps.specs.Rules.{knowledge, informed, Extends}
+use Rattle.nm_steps.specs.Rules.{StoredBefore, knowledge, informed, Extends}
 use Rattle.nm_steps.specs.Steps.{Tied, HasSeen}
 use Rattle.nm_steps.specs.Ties.{HasSeenBoth}
 
@@ -33,6 +33,7 @@ module _ (it mid after : Seat Unit View) (number announcement : ℕ) (brief : Br
     private = subst (λ (v : View). (x : ℕ) → is_private (knowledge v) x ≡ true → IsPooled v.layout x) (sym view) tied.private;
     seen = seen;
     heard = ap (λ (v : View). v.heard) view;
+    stored = subst (λ (v : View). StoredBefore v.number (length v.log + 1) v.stores) (sym view) tied.stored;
   }
 
   pub heard_view : after.me.0 ≡ record it.me.0 { past = now }

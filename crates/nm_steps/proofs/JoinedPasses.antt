@@ -1,5 +1,5 @@
 -- What a join leaves of a pass.
-use Rattle.std.proofs.Common.{◌≡◌, ℕ, ◌<◌, ◌==◌, true, List, [], refl, sym, ap, ◌∙◌, subst}
+use Rattle.std.proofs.Common.{◌≡◌, ℕ, ◌+◌, ◌<◌, ◌==◌, true, List, [], ◌∷◌, length, refl, sym, ap, ◌∙◌, subst, arith}
 use Rattle.std.specs.Prelude.{Option}
 use Rattle.std.proofs.lemmas.Bool.{cond_both}
 use Rattle.atomic_table.specs.declared.shared.Seat.{Seat}
@@ -16,11 +16,13 @@ use Rattle.nm_model.specs.Learning.{learn, resigned, inheriting}
 use Rattle.nm_model.specs.Maps.{has}
 use Rattle.nm_order.specs.Hands.{IsPooled}
 use Rattle.nm_steps.specs.declared.view.View.{View}
-use Rattle.nm_steps.specs.Rules.{knowledge, joined, joining_view, passing, Extends}
+use Rattle.nm_steps.specs.Rules.{StoredBefore, knowledge, joined, joining_view, passing, Extends}
 use Rattle.nm_steps.specs.Steps.{Tied, HasSeen}
 use Rattle.nm_steps.specs.Ties.{HasSeenBoth}
+use Rattle.std.proofs.lemmas.List.{length-append}
 use Rattle.nm_steps.proofs.Noting.{brief_is_noted}
 use Rattle.nm_steps.proofs.Presence.{known_push}
+use Rattle.nm_steps.proofs.StoreOrders.{stored_longer}
 
 -- a join leaves the private slots
 drafts_stay : (w v : ℕ) (k : Knowledge) (ls : List (Option Ledger)) → (learn w k (Join v) (Joined ls)).drafts ≡ k.drafts
@@ -56,6 +58,7 @@ module _ (it mid after : Seat Unit View) (number announcement : ℕ) (brief : Br
         private = subst (λ (v : View). (x : ℕ) → is_private (knowledge v) x ≡ true → IsPooled v.layout x) (sym view) (λ x h. tied.private x (ap (λ (d : List (ℕ × Draft)). has d x) (sym drafts) ∙ h));
         seen = seen;
         heard = ap (λ (v : View). v.heard) view;
+        stored = subst (λ (v : View). StoredBefore v.number (length v.log + 1) v.stores) (sym view) (stored_longer it.me.0.number (length it.me.0.log + 1) (length (joined it.me.0 w).log + 1) it.me.0.stores (let long = length-append it.me.0.log (passing w ∷ []) in omega (arith, long)) tied.stored);
       }
 
   pub joined_view : after.me.0 ≡ record (joined it.me.0 w) { past = now }

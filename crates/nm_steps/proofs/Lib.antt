@@ -30,3 +30,4 @@ pub mod PackedReplies
 pub mod MarkedEdges
 pub mod ValueSteps
 pub mod ValueStays
+pub mod StoreOrders

@@ -1,6 +1,6 @@
 -- What a step leaves of a pass: the epochs that it mirrors, and its log, which is a part of a run
 -- still.
-use Rattle.std.proofs.Common.{◌≡◌, ◌≢◌, ℕ, ◌<◌, ◌≤◌, ◌+◌, ◌==◌, Bool, true, false, ◌||◌, cond, List, [], ◌∷◌, ◌++◌, refl, sym, ap, subst, ◌∙◌, eq-eqb, true≢false}
+use Rattle.std.proofs.Common.{◌≡◌, ◌≢◌, ℕ, ◌<◌, ◌≤◌, ◌+◌, ◌==◌, Bool, true, false, ◌||◌, cond, List, [], ◌∷◌, ◌++◌, length, refl, sym, ap, subst, ◌∙◌, eq-eqb, true≢false, arith}
 use Rattle.std.specs.Prelude.{Option, Some, None, IfSome}
 use Rattle.nm_model.specs.Maps.{is_number}
 use Rattle.std.proofs.lemmas.Bool.{cond_both, ne_eqb}
@@ -26,13 +26,14 @@ use Rattle.nm_laws.proofs.Learned.{scan_teaches, look_teaches}
 use Rattle.nm_steps.specs.Packing.{word_at, touched_field}
 use Rattle.nm_steps.specs.Told.{told}
 use Rattle.nm_steps.specs.declared.view.View.{View}
-use Rattle.std.proofs.lemmas.List.{same_from_push}
-use Rattle.nm_steps.specs.Rules.{LinkHasValue, knowledge, known_births, answered_turn, logged, is_store, IsFound}
+use Rattle.std.proofs.lemmas.List.{length-append, same_from_push}
+use Rattle.nm_steps.specs.Rules.{LinkHasValue, StoredBefore, knowledge, known_births, answered_turn, logged, is_store, IsFound}
 use Rattle.nm_steps.specs.Steps.{PassView, May, IsReadyFor, IsDone, Stepped, HasTurn, IsOfRun, IsInRun, HasSeen, Tied, Laid, noted_sight, TakesStep}
 use Rattle.nm_steps.proofs.Presence.{gone_kept, known_push}
 use Rattle.nm_steps.proofs.Asking.{within, seen_small, private_pooled}
 use Rattle.nm_steps.proofs.Extending.{IsPartOf, trace_after}
 use Rattle.nm_steps.proofs.Keeping.{no_leaver, part_grows}
+use Rattle.nm_steps.proofs.StoreOrders.{stored_longer}
 use Rattle.nm_laws.proofs.Configurations.{keys_more}
 
 -- the brief behind an event with its reply
@@ -229,6 +230,7 @@ tied_after it after number announcement brief new e n tied may done is =
           (private_pooled it.me.0.layout it.me.0.number (it.me.0.log ++ (e, r) ∷ []) tied.fits longer);
       seen = subst HasSeen (sym me) (seen_after it.me.0 e n done.found may);
       heard = ap (λ (v : View). v.heard) me ∙ tied.heard;
+      stored = subst (λ (v : View). StoredBefore v.number (length v.log + 1) v.stores) (sym me) (stored_longer it.me.0.number (length it.me.0.log + 1) (length (it.me.0.log ++ (e, r) ∷ []) + 1) it.me.0.stores (let long = length-append it.me.0.log ((e, r) ∷ []) in omega (arith, long)) tied.stored);
     }
 
 -- ---- a sight is always allowed

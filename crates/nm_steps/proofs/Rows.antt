@@ -32,7 +32,7 @@ use Rattle.nm_steps.specs.Packing.{touched_field, left_word}
 use Rattle.nm_steps.specs.Told.{told}
 use Rattle.nm_steps.specs.declared.view.Stored.{Stored}
 use Rattle.nm_steps.specs.declared.view.View.{View}
-use Rattle.nm_steps.specs.Rules.{knowledge, known_births, Extends, Runs, Kept, answered_turn, logged, ExtendsStores}
+use Rattle.nm_steps.specs.Rules.{knowledge, known_births, Extends, Runs, Kept, answered_turn, logged, ExtendsStores, StoredBefore}
 use Rattle.nm_steps.specs.Steps.{Laid, PassView, May, IsDone, HasSeen, Tied, Continues, Stepped, TakesStep}
 use Rattle.nm_steps.specs.Rows.{DoneInTurn, FoundTaken, shown_taken, DidClaims, CanPass, HasPassed}
 use Rattle.nm_steps.proofs.Growing.{goes_on_itself}
@@ -42,6 +42,7 @@ use Rattle.nm_steps.proofs.Valuing.{Grows, grown_none, grown_then, reviewed, rew
 use Rattle.nm_steps.proofs.Noting.{standing, has_turned, has_turn, in_run_after, tied_after}
 use Rattle.nm_steps.proofs.AfterSteps.{run_of_seen}
 use Rattle.nm_steps.proofs.Seeing.{continues_then, continues_by, stores_same}
+use Rattle.nm_steps.proofs.StoreOrders.{SameStores, same_stores_then}
 use Rattle.std.proofs.lemmas.Bool.{le-ltb}
 use Rattle.std.specs.Prelude.{Option, Some, None, nat_lt, ◌||◌}
 
@@ -158,7 +159,7 @@ record Reaches (L : Layout) (slots : ℕ) (st : List Stored) (core : List ℕ) (
   view : View
   keeps_rule : Runs L core (set views id view)
   grows : Grows L slots st turns keeps_rule.turns
-  same : view.stores ≡ v.stores
+  same : SameStores v view
   at : get_elem? (set views id view) id ≡ some view
   alive : view.resigned ≡ false
   layout : view.layout ≡ L
@@ -174,11 +175,11 @@ module _ (L : Layout) (id i from : ℕ) (v : View) (core : List ℕ) (views : Li
   n = slice_index core i
 
   reaches : (k : ℕ) → from + k ≤ L.nodes + 1 → ((j : ℕ) → j < k → i ≡ word L (touched_field v.number (Claim (from + j)))) → ((j : ℕ) → j < k → IsShownTaken n (from + j)) → Reaches L slots st core views rule.turns id n from k v
-  reaches zero high rows taken = record { view = v; keeps_rule = reviewed (sym (set_again views id v at)) rule; grows = grown_none L slots st rule.turns; same = refl; at = subst (λ (l : List View). get_elem? l id ≡ some v) (sym (set_again views id v at)) at; alive = alive; layout = layout; claims = refl }
+  reaches zero high rows taken = record { view = v; keeps_rule = reviewed (sym (set_again views id v at)) rule; grows = grown_none L slots st rule.turns; same = record { stores = refl; number = refl; resigned = refl }; at = subst (λ (l : List View). get_elem? l id ≡ some v) (sym (set_again views id v at)) at; alive = alive; layout = layout; claims = refl }
   reaches (suc k) high rows taken =
       let r = reaches k (omega (arith, high)) (λ j less. rows j (omega (arith, less))) (λ j less. taken j (omega (arith, less))) in
       let e : Event = Claim (from + k) in
-      let step = goes_on L core (set views id r.view) id r.view e i n r.keeps_rule r.at r.alive r.layout (rows k (omega arith)) (allowed_claim L r.view.number r.view.log (from + k) (omega (arith, low)) (omega (arith, high))) refl (λ h. refl) slots st (subst (ExtendsStores st) (sym r.same) had) tt in
+      let step = goes_on L core (set views id r.view) id r.view e i n r.keeps_rule r.at r.alive r.layout (rows k (omega arith)) (allowed_claim L r.view.number r.view.log (from + k) (omega (arith, low)) (omega (arith, high))) refl (λ h. refl) slots st (subst (ExtendsStores st) (sym r.same.stores) had) tt in
       let w : View = step.0 in
       let same : w ≡ logged r.view e n (trace_in (ordered r.view.layout) step.4.0.turns) = ap (λ (m : Me Unit View). m.0) step.4.1 in
       let words_same : slice_set core i (left_word r.view.layout (knowledge r.view) e n) ≡ core = ap (slice_set core i) (left_alone r.view.layout (knowledge r.view) (from + k) n small (taken k (omega arith))) ∙ set_read core i in
@@ -186,7 +187,7 @@ module _ (L : Layout) (id i from : ℕ) (v : View) (core : List ℕ) (views : Li
         view = w;
         keeps_rule = reviewed (set-set views id r.view w) (reworded words_same step.1);
         grows = grown_then L slots st rule.turns r.keeps_rule.turns step.1.turns r.grows step.2;
-        same = step.3 ∙ r.same;
+        same = same_stores_then v r.view w r.same step.3;
         at = set_here views id w (within_length views id v at);
         alive = ap (λ (x : View). x.resigned) same ∙ r.alive;
         layout = ap (λ (x : View). x.layout) same ∙ r.layout;
@@ -243,6 +244,7 @@ tied_same it after number announcement brief same t =
       private = subst (λ (v : View). (x : ℕ) → is_private (knowledge v) x ≡ true → IsPooled v.layout x) e t.private;
       seen = subst HasSeen e t.seen;
       heard = subst (λ (v : View). v.heard ≡ []) e t.heard;
+      stored = subst (λ (v : View). StoredBefore v.number (length v.log + 1) v.stores) e t.stored;
     }
 
 pub record Leaves (it after : Seat Unit View) (number announcement : ℕ) (brief : Brief) (from k : ℕ) : Type 0 where

@@ -67,7 +67,7 @@ ties L slots id v i alive layout below = lifts L slots id v i (λ n. n) (TellsIt
       up_to (trace_in (ordered L) k.turns) v,
       reworded (sym (set-get_or core i 0)) (seen_so_far L core views id v k at),
       grown_none L slots st k.turns,
-      refl,
+      record { stores = refl; number = refl; resigned = refl },
       (
         refl,
         record { is = refl; past = (k.lags id v at).past; heard = (k.lags id v at).heard },

@@ -1,9 +1,10 @@
 -- How a value is read and stored: the rule after the step, and what the seat learns by it.
-use Rattle.std.proofs.Common.{◌≡◌, inl, inr, ℕ, zero, suc, ◌+◌, ◌-◌, ◌<◌, ◌≤◌, ◌==◌, true, false, List, [], ◌∷◌, ◌++◌, length, set, refl, sym, ap, ◌∙◌, subst, arith, get_or-set_same, get_or-set_other, get_or-append-add, length-set, eq-eqb, ne_eqb, append-nil}
-use Rattle.std.specs.Prelude.{slice_index, slice_set}
+use Rattle.std.proofs.Common.{◌≡◌, inl, inr, ℕ, zero, suc, ◌+◌, ◌-◌, ◌<◌, ◌≤◌, ◌==◌, ◌≢◌, eqb, true, false, List, [], ◌∷◌, ◌++◌, length, set, refl, sym, ap, ◌∙◌, subst, arith, get_or-set_same, get_or-set_other, get_or-append-add, length-set, eq-eqb, ne_eqb, append-nil}
+use Rattle.std.specs.Prelude.{All, AllPairs, slice_index, slice_set}
+use Rattle.std.specs.List.{count_by}
 use Rattle.std.proofs.lemmas.List.{set-get_or}
 use Rattle.std.proofs.lemmas.Bool.{cond-true, cond-false}
-use mathlib.Core.Option.{some, some-injective, some-ne-none}
+use mathlib.Core.Option.{some}
 use native.Mathlib.Decide.{ℕ_discrete}
 use lib.ListN.{get_elem?}
 use Rattle.atomic_table.specs.Table.{State, Allows, keeps, opening}
@@ -11,8 +12,7 @@ use Rattle.std.proofs.lemmas.List.{get_or-replicate, length-map, length-replicat
 use Rattle.std.specs.Prelude.{replicate}
 use Rattle.nm_model.specs.Memory as memory
 use Rattle.nm_steps.specs.Packing.{words_of}
-use Rattle.nm_steps.specs.declared.view.Held.{Held}
-use Rattle.nm_steps.proofs.Cutting.{opens, opens_with_none}
+use Rattle.nm_steps.proofs.Cutting.{no_stores_seen, opens, opens_with_none}
 use Rattle.atomic_table.specs.Seated.{TableId}
 use Rattle.atomic_table.specs.declared.shared.Seat.{Seat}
 use Rattle.nm_edge.specs.Layouts.{Layout, IsLayout}
@@ -32,13 +32,14 @@ use Rattle.nm_order.proofs.PinNumbers.{length_trace}
 use Rattle.nm_steps.proofs.Blocks.{set-append-add}
 use Rattle.nm_steps.specs.declared.view.Stored.{Stored}
 use Rattle.nm_steps.specs.declared.view.View.{View}
-use Rattle.nm_steps.specs.Rules.{ExtendsStores, IsShown, LinksHaveValues, Kept, LagsBehind, Runs, WereHeld, everybody, knowledge, numbers_from, stands, value_of, viewing}
+use Rattle.nm_steps.specs.Rules.{ComesBefore, HasNotStored, IsShown, LinksHaveValues, Kept, LagsBehind, LagsInStores, Runs, WereHeld, everybody, knowledge, stands, value_of}
 use Rattle.nm_steps.specs.Steps.{HasSeen, Laid, Tied}
 use Rattle.nm_steps.specs.Values.{CanReach, HasSeenMore, HasStoredValue, OnlySees, MayStore, SawValue, no_step}
-use Rattle.nm_steps.proofs.Counts.{sum_after}
+use Rattle.nm_steps.proofs.Counts.{both_at_most_sum, sum_after}
 use Rattle.nm_steps.proofs.Growing.{goes_on_itself}
-use Rattle.nm_steps.proofs.Keeping.{each_set}
+use Rattle.nm_steps.proofs.Keeping.{each_set, once_is, stands_live}
 use Rattle.nm_steps.proofs.Noting.{standing}
+use Rattle.nm_steps.proofs.StoreOrders.{lags_by_other, lags_in_none, none_in_order, order_push, own_were_before, seen_stored, stored_by_now}
 use Rattle.nm_steps.proofs.Tying.{own_part, stands_in_run}
 use Rattle.nm_steps.proofs.Valuing.{IfValued, still_linked, held_push, run_long, stores_more, stores_themselves, value_push}
 
@@ -122,7 +123,8 @@ sees L slots id v slot i alive layout many is index s k homes at small =
           are = k.valued.are;
           held = k.valued.held;
           linked = k.valued.linked;
-          seen = each_set (λ (u : View). ExtendsStores k.stores u.stores) s.views id w (stores_themselves k.stores) (λ j u _. k.valued.seen j u);
+          order = k.valued.order;
+          seen = each_set (LagsInStores k.stores) s.views id w (lags_in_none k.stores w refl) (λ j u _. k.valued.seen j u);
         };
       },
       (
@@ -130,8 +132,8 @@ sees L slots id v slot i alive layout many is index s k homes at small =
         record {
           same = refl;
           past = (k.runs.lags id v at).past;
-          stores = k.valued.seen id v at;
-          seen = record { run = run_seen L k.core s.views id v k.runs at k.stores alive layout; held = subst (λ (l : Layout). WereHeld l k.runs.turns k.stores) (sym layout) k.valued.held; linked = subst (λ (l : Layout). LinksHaveValues l k.runs.turns k.stores) (sym layout) (all_linked L k.runs.turns k.values k.stores k.runs.fits (k.long ∙ homes ∙ many) k.valued.linked) };
+          stores = (k.valued.seen id v at).seen;
+          seen = record { run = run_seen L k.core s.views id v k.runs at k.stores alive layout; held = subst (λ (l : Layout). WereHeld l k.runs.turns k.stores) (sym layout) k.valued.held; linked = subst (λ (l : Layout). LinksHaveValues l k.runs.turns k.stores) (sym layout) (all_linked L k.runs.turns k.values k.stores k.runs.fits (k.long ∙ homes ∙ many) k.valued.linked); order = k.valued.order };
         },
         value_there L s k slots slot i homes many is index,
       ),
@@ -151,15 +153,28 @@ values_after values stores slot x low inside own are i below = elim (ℕ_discret
       ∙ sym (value_push 0 stores x (i + 1) ∙ cond-false (x.slot == (i + 1)) x.value (value_of stores (i + 1)) (ne_eqb x.slot (i + 1) (λ e. other (omega (arith, own, e))))))
 ]
 
+up_to_now : (trace : List Turn) (st : List Stored) (turns : List (ℕ × Event)) → length trace ≡ length turns → All (λ (x : Stored). x.at ≤ length turns) st → All (λ (x : Stored). x.at ≤ length trace) st
+up_to_now trace st turns long h = subst (λ (n : ℕ). All (λ (x : Stored). x.at ≤ n) st) (sym long) h
+
+-- two seats have different workers
+others_apart : (L : Layout) (core : List ℕ) (views : List View) (k : Runs L core views) (i j : ℕ) (v u : View) → j ≢ i → get_elem? views i ≡ some v → get_elem? views j ≡ some u → v.resigned ≡ false → u.resigned ≡ false → v.number ≡ u.number → ⊥
+others_apart L core views k i j v u ne at there alive alive' same =
+    let both = both_at_most_sum (stands v.number) views j i u v ne there at in
+    let mine = stands_live v alive in
+    let yours : stands v.number u ≡ 1 + count_by (λ h. eqb u.number h.number) u.others = ap (λ (n : ℕ). stands n u) same ∙ stands_live u alive' in
+    let one = (once_is v.number L.workers).0 in
+    absurd (omega (arith, both, mine, yours, one, k.once v.number))
+
 -- A STORE of a value
-pub stores_it : (L : Layout) (slots id : ℕ) (v : View) (slot i new : ℕ) → v.resigned ≡ false → v.layout ≡ L → slots ≡ L.nodes → IsSlot L slot → is_private (knowledge v) slot ≡ true → i ≡ words L + (slot - 1)
+pub stores_it : (L : Layout) (slots id : ℕ) (v : View) (slot i new : ℕ) → v.resigned ≡ false → v.layout ≡ L → slots ≡ L.nodes → IsSlot L slot → is_private (knowledge v) slot ≡ true → HasNotStored v → i ≡ words L + (slot - 1)
     → Allows (Kept L) slots id (v, []) i (λ _. new) (λ _. HasStoredValue slot no_step (v, []) new)
-stores_it L slots id v slot i new alive layout many is private index s k homes at small =
+stores_it L slots id v slot i new alive layout many is private once index s k homes at small =
     let trace = trace_in (ordered L) k.runs.turns in
     let x : Stored = record { at = length trace; worker = v.number; own = length v.log; slot = slot; value = new } in
     let st : List Stored = k.stores ++ x ∷ [] in
     let w : View = up_to_stores trace st v in
-    let held : WereHeld L k.runs.turns st = held_push L k.runs.turns k.stores x k.valued.held (record { before = k.runs.turns; since = []; is_run = sym (append-nil k.runs.turns); at = sym (length_trace (ordered L) k.runs.turns); own = ap (λ (l : List Entry). length l) (own_part L k.core s.views id v k.runs at alive); private = is_held L k.core s.views id v k.runs at k.stores alive layout slot private }) in (
+    let held : WereHeld L k.runs.turns st = held_push L k.runs.turns k.stores x k.valued.held (record { before = k.runs.turns; since = []; is_run = sym (append-nil k.runs.turns); at = sym (length_trace (ordered L) k.runs.turns); own = ap (λ (l : List Entry). length l) (own_part L k.core s.views id v k.runs at alive); private = is_held L k.core s.views id v k.runs at k.stores alive layout slot private }) in
+    let order : AllPairs ComesBefore st = order_push k.stores x k.valued.order (up_to_now trace k.stores k.runs.turns (length_trace (ordered L) k.runs.turns) (stored_by_now L k.runs.turns k.stores k.valued.held)) (own_were_before k.stores v (length v.log) alive (k.valued.seen id v at) once) in (
       w,
       keeps,
       tt,
@@ -174,7 +189,8 @@ stores_it L slots id v slot i new alive layout many is private index s k homes a
           are = values_after k.values k.stores slot x is.0 (inside L s k slots slot i homes many is index) refl k.valued.are;
           held = held;
           linked = subst (λ (n : ℕ). IfValued L n k.runs.turns st) (sym (length-set k.values (slot - 1) new)) (still_linked L (length k.values) k.runs.turns st k.stores (stores_more k.stores k.stores x (stores_themselves k.stores)) k.valued.linked);
-          seen = each_set (λ (u : View). ExtendsStores st u.stores) s.views id w (stores_themselves st) (λ j u _ there. stores_more k.stores u.stores x (k.valued.seen j u there));
+          order = order;
+          seen = each_set (LagsInStores st) s.views id w (lags_in_none st w refl) (λ j u ne there. lags_by_other k.stores u x (λ alive' same. others_apart L k.core s.views k.runs id j v u ne at there alive alive' same) (k.valued.seen j u there));
         };
       },
       (
@@ -182,8 +198,8 @@ stores_it L slots id v slot i new alive layout many is private index s k homes a
         record {
           same = refl;
           past = (k.runs.lags id v at).past;
-          stores = stores_more k.stores v.stores x (k.valued.seen id v at);
-          seen = record { run = run_seen L k.core s.views id v k.runs at st alive layout; held = subst (λ (l : Layout). WereHeld l k.runs.turns st) (sym layout) held; linked = subst (λ (l : Layout). LinksHaveValues l k.runs.turns st) (sym layout) (all_linked L k.runs.turns k.values st k.runs.fits (k.long ∙ homes ∙ many) (still_linked L (length k.values) k.runs.turns st k.stores (stores_more k.stores k.stores x (stores_themselves k.stores)) k.valued.linked)) };
+          stores = stores_more k.stores v.stores x (k.valued.seen id v at).seen;
+          seen = record { run = run_seen L k.core s.views id v k.runs at st alive layout; held = subst (λ (l : Layout). WereHeld l k.runs.turns st) (sym layout) held; linked = subst (λ (l : Layout). LinksHaveValues l k.runs.turns st) (sym layout) (all_linked L k.runs.turns k.values st k.runs.fits (k.long ∙ homes ∙ many) (still_linked L (length k.values) k.runs.turns st k.stores (stores_more k.stores k.stores x (stores_themselves k.stores)) k.valued.linked)); order = order };
         },
         (k.stores, refl),
       ),
@@ -200,14 +216,14 @@ asked_to_look L z it d slot i pick can = (
       (sees L z.slots it.id it.me.0 slot i can.alive can.layout can.values.slots_are can.is_slot can.word)),
 )
 
-pub asked_to_store : (L : Layout) (z : TableId) (it : Seat Unit View) (d slot i new : ℕ) → d ≡ slot → CanReach (record { table = z; layout = L }) it slot i → MayStore it slot
+pub asked_to_store : (L : Layout) (z : TableId) (it : Seat Unit View) (d slot i new : ℕ) → d ≡ slot → CanReach (record { table = z; layout = L }) it slot i → MayStore it slot → HasNotStored it.me.0
     → (it.table_id ≡ z) × (i < z.words) × Allows (Kept L) z.slots it.id it.me i (λ _. new) (λ _. HasStoredValue d no_step it.me new)
-asked_to_store L z it d slot i new pick can may = (
+asked_to_store L z it d slot i new pick can may once = (
   can.table,
   (let all = can.values.words_are in let low = can.is_slot.0 in let high = can.is_slot.1 in let index = can.word in omega (arith, all, low, high, index)),
   subst (λ (x : ℕ). Allows (Kept L) z.slots it.id it.me i (λ _. new) (λ _. HasStoredValue x no_step it.me new)) (sym pick)
       (subst (λ (c : List (ℕ × Unit)). Allows (Kept L) z.slots it.id (it.me.0, c) i (λ _. new) (λ _. HasStoredValue slot no_step (it.me.0, c) new)) (sym can.empty)
-      (stores_it L z.slots it.id it.me.0 slot i new can.alive can.layout can.values.slots_are can.is_slot may can.word)),
+      (stores_it L z.slots it.id it.me.0 slot i new can.alive can.layout can.values.slots_are can.is_slot may once can.word)),
 )
 
 -- ---- what they leave of a pass
@@ -228,6 +244,7 @@ looked_tied it after number announcement brief tied slots l = record {
   private = subst (λ (v : View). (x : ℕ) → is_private (knowledge v) x ≡ true → IsPooled v.layout x) (sym l.same) tied.private;
   seen = l.seen.run;
   heard = ap (λ (v : View). v.heard) l.same ∙ tied.heard;
+  stored = seen_stored after.me.0 l.seen;
 }
 
 pub looks_only : (it after : Seat Unit View) → after.table_id ≡ it.table_id → after.id ≡ it.id → HasSeenMore it.me.0 after.me.0 → OnlySees (standing it) (standing after)
@@ -254,18 +271,11 @@ opens_values L ws units fits e =
         are = λ i below. get_or-replicate (length units) i 0 0 (let long = length-replicate {A = ℕ} (length units) 0 in omega (arith, below, long));
         held = tt;
         linked = inr (λ before since w p side leaf new is. absurd (no_turn before since (w, Link p side leaf new) (sym (opens_with_none L (words_of L (memory.opening L)) fits refl) ∙ is)));
-        seen = λ i v there. none_seen i v there;
+        order = none_in_order;
+        seen = no_stores_seen L;
       };
     }
   where
     no_turn : (before since : List (ℕ × Event)) (x : ℕ × Event) → [] ≡ before ++ x ∷ since → ⊥
     no_turn [] since x is = cc
     no_turn (y ∷ before) since x is = cc
-
-    no_values : (hs : List Held) → (viewing L hs).stores ≡ []
-    no_values [] = refl
-    no_values (h ∷ hs) = refl
-
-    none_seen : (i : ℕ) (v : View) → get_elem? (everybody L ∷ []) i ≡ some v → ExtendsStores [] v.stores
-    none_seen zero v there = subst (λ (x : View). ExtendsStores [] x.stores) (some-injective _ _ there) (subst (ExtendsStores []) (sym (no_values (numbers_from 0 L.workers))) (stores_themselves []))
-    none_seen (suc i) v there = absurd (some-ne-none v (sym there))

@@ -19,7 +19,7 @@ use Rattle.nm_steps.proofs.PackedEvents.{each_state_fits}
 use Rattle.nm_steps.proofs.PackedReads.{each_field_has_a_word}
 use Rattle.nm_steps.specs.declared.view.Stored.{Stored}
 use Rattle.nm_steps.specs.declared.view.View.{View}
-use Rattle.nm_steps.specs.Rules.{ExtendsStores, IsShown, IsStored, LinksHaveValues, new_leaf, Keeps, LagsBehind, Runs, WasHeld, WereHeld, knowledge, once_below, stands, value_from}
+use Rattle.nm_steps.specs.Rules.{ExtendsStores, IsShown, IsStored, LinksHaveValues, new_leaf, Keeps, LagsBehind, LagsInStores, Runs, WasHeld, WereHeld, knowledge, once_below, stands, value_from}
 use Rattle.std.specs.List.{sum_by}
 
 -- ---- runs that go on
@@ -156,7 +156,7 @@ value_push was (y ∷ ys) x s = value_push (cond (y.slot == s) y.value was) ys x
 
 -- ---- the rule with other views
 
-pub rewrap : (L : Layout) (ws : List ℕ) (count : ℕ) (views new : List View) (K : Keeps L ws count views) (r : Runs L K.core new) → Grows L count K.stores K.runs.turns r.turns → ((i : ℕ) (u : View) → get_elem? new i ≡ some u → ExtendsStores K.stores u.stores) → Keeps L ws count new
+pub rewrap : (L : Layout) (ws : List ℕ) (count : ℕ) (views new : List View) (K : Keeps L ws count views) (r : Runs L K.core new) → Grows L count K.stores K.runs.turns r.turns → ((i : ℕ) (u : View) → get_elem? new i ≡ some u → LagsInStores K.stores u) → Keeps L ws count new
 rewrap L ws count views new K r grows seen = record {
   core = K.core;
   values = K.values;
@@ -168,6 +168,7 @@ rewrap L ws count views new K r grows seen = record {
     are = K.valued.are;
     held = held_longer L count K.stores K.runs.turns r.turns grows K.stores K.valued.held;
     linked = subst (λ (n : ℕ). IfValued L n r.turns K.stores) (sym K.long) (grows.linked (subst (λ (n : ℕ). IfValued L n K.runs.turns K.stores) K.long K.valued.linked));
+    order = K.valued.order;
     seen = seen;
   };
 }

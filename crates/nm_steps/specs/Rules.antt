@@ -1,6 +1,6 @@
 -- The rule of the table: the logs of all workers are a run of the ordered core, and the words are
 -- those of its memory.
-use Rattle.std.specs.Prelude.{◌≡◌, ◌<◌, ◌+◌, ℕ, Option, zero, suc, Bool, true, false, List, [], ◌∷◌, ◌++◌, All, Ok, if◌then◌else◌, ◌==◌, nat_lt, length, slice_index, unwrap_or, Contains, ◌⊎◌}
+use Rattle.std.specs.Prelude.{◌≡◌, ◌<◌, ◌≤◌, ◌+◌, ℕ, Option, zero, suc, Bool, true, false, List, [], ◌∷◌, ◌++◌, All, Ok, if◌then◌else◌, ◌==◌, nat_lt, length, slice_index, unwrap_or, AllPairs, Contains, ◌≢◌, ◌⊎◌}
 use Rattle.std.specs.List.{sum_by, count_by}
 use mathlib.Core.Option.{some}
 use lib.ListN.{get_elem?}
@@ -224,6 +224,15 @@ abbrev pub WereHeld : Layout → List (ℕ × Event) → List Stored → Type 0
 WereHeld L turns [] = Unit {0}
 WereHeld L turns (x ∷ xs) = WasHeld L turns x × WereHeld L turns xs
 
+-- this store was made after no more turns than that one. If one worker made both, it took a step
+-- between them
+abbrev pub ComesBefore : Stored → Stored → Type 0
+ComesBefore x y = (x.at ≤ y.at) × (x.worker ≡ y.worker → x.own < y.own)
+
+-- those of these stores that the worker made, it made when its log had fewer than n entries
+abbrev pub StoredBefore : ℕ → ℕ → List Stored → Type 0
+StoredBefore w n stores = All (λ (x : Stored). x.worker ≡ w → x.own < n) stores
+
 -- the new leaf of a link: the child of the new internal node beside the node that was there
 abbrev pub new_leaf : Knowledge → ℕ → ℕ → ℕ
 new_leaf k leaf new = unwrap_or (beside (draft_of k new) leaf) 0
@@ -251,15 +260,26 @@ LinkHasValue slots v (Link p side leaf new) = (slots ≡ 0)
     ⊎ IsStored v.stores v.number (length v.log) (new_leaf (knowledge v) leaf new)
 LinkHasValue slots v e = Unit {0}
 
--- the words after those of the core are the values of slots 1 and on by these stores. Each slot was
--- private at its store, and each new leaf has a store. The stores that a view has seen are a
--- beginning of them
+-- the worker of the view has stored no value after its last step
+abbrev pub HasNotStored : View → Type 0
+HasNotStored v = StoredBefore v.number (length v.log) v.stores
+
+-- what a view has seen of these stores is a beginning of them. All those that its worker made are in
+-- it
+pub record LagsInStores (stores : List Stored) (v : View) : Type 0 where
+  pub seen : ExtendsStores stores v.stores
+  pub own : v.resigned ≡ false → All (λ (x : Stored). x.worker ≢ v.number) seen.more
+
+-- the words after those of the core are the values of slots 1 and on by these stores, which are in
+-- their order. Each slot was private at its store, and each new leaf has a store. Each view has seen
+-- a beginning of them
 pub record HoldsValues (L : Layout) (turns : List (ℕ × Event)) (values : List ℕ) (stores : List Stored)
     (views : List View) : Type 0 where
   pub are : (i : ℕ) → i < length values → slice_index values i ≡ value_of stores (i + 1)
   pub held : WereHeld L turns stores
   pub linked : (length values ≡ 0) ⊎ LinksHaveValues L turns stores
-  pub seen : (i : ℕ) (v : View) → get_elem? views i ≡ some v → ExtendsStores stores v.stores
+  pub order : AllPairs ComesBefore stores
+  pub seen : (i : ℕ) (v : View) → get_elem? views i ≡ some v → LagsInStores stores v
 
 -- the first words are those of a run, and the last `count` words are values. A table with values has
 -- `count` slots, which have no bytes, and any other table has none

@@ -31,7 +31,7 @@ use Rattle.nm_steps.specs.declared.answers.Sighted.TheVariants as seeing
 use Rattle.nm_steps.specs.declared.tree_steps.FrozenChain.{FrozenChain}
 use Rattle.nm_steps.specs.declared.view.View.{View}
 use Rattle.nm_model.specs.declared.trace.Turn.{Turn}
-use Rattle.nm_steps.specs.Rules.{held_log, knowledge, known_births, viewing, joined, answered_turn, logged, is_store, stands, once_below, Extends, IsShown, IsFound, LinkHasValue, ExtendsStores}
+use Rattle.nm_steps.specs.Rules.{held_log, knowledge, known_births, viewing, joined, answered_turn, logged, is_store, stands, once_below, Extends, IsShown, IsFound, LinkHasValue, ExtendsStores, StoredBefore}
 
 -- ---- what a worker's own log allows
 
@@ -166,7 +166,8 @@ pub record HasSeen (v : View) : Type 0 where
   pub here : (knowledge v).gone ≡ false
 
 -- what a pass always satisfies: its number and epochs agree with its log, its private slots are
--- ones of the pool's range, and its log is its worker's part of the run that it has seen
+-- ones of the pool's range, and its log is its worker's part of the run that it has seen. At each
+-- store of its worker the log had no more entries than now
 pub record Tied (it : Seat Unit View) (number announcement : ℕ) (brief : Brief) : Type 0 where
   pub empty : it.me.1 ≡ []
   pub alive : it.me.0.resigned ≡ false
@@ -179,6 +180,7 @@ pub record Tied (it : Seat Unit View) (number announcement : ℕ) (brief : Brief
   pub private : (x : ℕ) → is_private (knowledge it.me.0) x ≡ true → IsPooled it.me.0.layout x
   pub seen : HasSeen it.me.0
   pub heard : it.me.0.heard ≡ []
+  pub stored : StoredBefore it.me.0.number (length it.me.0.log + 1) it.me.0.stores
 
 -- what a table always satisfies
 pub record Laid (z : TableId) (key L : Layout) : Type 0 where

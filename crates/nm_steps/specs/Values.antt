@@ -1,5 +1,5 @@
 -- Steps on values, whose words come after those of the core.
-use Rattle.std.specs.Prelude.{◌≡◌, ◌+◌, ◌-◌, ℕ, Bool, true, false, List, [], ◌∷◌, ◌++◌, length}
+use Rattle.std.specs.Prelude.{◌≡◌, ◌+◌, ◌-◌, ℕ, Bool, true, false, List, [], ◌∷◌, ◌++◌, length, AllPairs}
 use mathlib.Core.Option.{none}
 use Rattle.atomic_table.specs.Seated.{TableId}
 use Rattle.atomic_table.specs.Table.{Me, Step, step}
@@ -9,7 +9,7 @@ use Rattle.nm_edge.specs.Words.{IsSlot, words}
 use Rattle.nm_model.specs.Knowledge.{is_private}
 use Rattle.nm_steps.specs.declared.view.Stored.{Stored}
 use Rattle.nm_steps.specs.declared.view.View.{View}
-use Rattle.nm_steps.specs.Rules.{Extends, ExtendsStores, LinksHaveValues, WereHeld, knowledge, value_of}
+use Rattle.nm_steps.specs.Rules.{ComesBefore, Extends, ExtendsStores, LinksHaveValues, WereHeld, knowledge, value_of}
 use Rattle.nm_steps.specs.Steps.{HasSeen, Laid, PassView, TreeView}
 
 -- a table with a value for each slot
@@ -31,12 +31,13 @@ pub record IsMade (z : TableId) (key L : Layout) (values : Bool) : Type 0 where
 abbrev pub value_word : TreeView → ℕ → ℕ
 value_word b s = words b.layout + (s - 1)
 
--- the stores that a view has seen are those of the run that it has seen. Each slot was private to its
--- worker at the store, and each new leaf has a store
+-- the stores that a view has seen are those of the run that it has seen, in their order. Each slot was
+-- private to its worker at the store, and each new leaf has a store
 pub record HasSeenStores (v : View) : Type 0 where
   pub run : HasSeen v
   pub held : WereHeld v.layout run.events v.stores
   pub linked : LinksHaveValues v.layout run.events v.stores
+  pub order : AllPairs ComesBefore v.stores
 
 -- only what has been seen has changed: more turns, and more stores
 pub record HasSeenMore (before after : View) : Type 0 where

@@ -3,11 +3,11 @@
 //! The table is a private field, which only the modules below this one can use. All other code
 //! takes steps by `join` and by the operations of `acts`, each of which is one operation on one
 //! word.
-ghost use Rattle.std.specs.Prelude.{◌≡◌, ◌<◌, ℕ, true, false};
+ghost use Rattle.std.specs.Prelude.{◌≡◌, ◌<◌, ◌+◌, ℕ, true, false, length};
 ghost use Rattle.nm_edge.specs.Layouts.{IsLayout};
 ghost use Rattle.nm_model.specs.Knowledge.{is_private};
 ghost use Rattle.nm_order.specs.Hands.{IsPooled};
-ghost use Rattle.nm_steps.specs.Rules.{knowledge};
+ghost use Rattle.nm_steps.specs.Rules.{StoredBefore, knowledge};
 ghost use Rattle.nm_steps.specs.Steps.{IsOfRun, HasSeen};
 ghost use Rattle.nm_steps.specs.Values.{HasValues};
 
@@ -105,6 +105,15 @@ impl Pass {
         ensures run { IsOfRun self.now.view.layout self.now.view.number self.now.view.log }
         ensures seen { HasSeen self.now.view }
         ensures fits { IsLayout self.now.view.layout }
+    {
+        let _brief = self.brief;
+    }
+
+    /// Proof only: establishes that the worker's log had no more entries at any of its stores of a
+    /// value than it has now. No run-time effect.
+    pub fn know_stores(&self)
+        ensures { StoredBefore self.now.view.number (length self.now.view.log + 1)
+            self.now.view.stores }
     {
         let _brief = self.brief;
     }

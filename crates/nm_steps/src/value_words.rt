@@ -2,7 +2,7 @@
 ghost use Rattle.std.specs.Prelude.{◌≡◌, true};
 ghost use Rattle.nm_edge.specs.Words.{IsSlot};
 ghost use Rattle.nm_model.specs.Knowledge.{is_private};
-ghost use Rattle.nm_steps.specs.Rules.{knowledge, value_of};
+ghost use Rattle.nm_steps.specs.Rules.{HasNotStored, knowledge, value_of};
 ghost use Rattle.nm_steps.specs.Steps.{IsOf};
 ghost use Rattle.nm_steps.specs.Values.{HasStoredFor, HasValues, OnlySees, value_word};
 
@@ -23,12 +23,14 @@ impl Shared {
         self.look_at_value::<Brand>(&mut pass.seat, word, slot)
     }
 
-    /// Stores the value of a private slot. The store is in no log.
+    /// Stores the value of a private slot. The store is in no log. Between two of its steps a worker
+    /// stores at most one value.
     pub fn fill_value(&self, pass: &mut Pass, slot: u32, value: u64)
         requires own { IsOf self.now pass.old }
         requires values { HasValues self.now }
         requires slot { IsSlot self.now.layout slot }
         requires private { is_private (knowledge pass.old.view) slot ≡ true }
+        requires once { HasNotStored pass.old.view }
         ensures looks { OnlySees pass.old pass.new }
         ensures stored { HasStoredFor pass.old pass.new slot value }
     {

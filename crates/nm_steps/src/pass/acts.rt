@@ -10,6 +10,7 @@ ghost use Rattle.std.specs.Prelude.{◌≡◌, ◌==◌, bit_and, bit_or};
 ghost use prog.Atomic.{either};
 ghost use Rattle.nm_steps.specs.Steps.{IsReadyFor, IsDone, Changes, IsBlind};
 ghost use Rattle.nm_steps.specs.Rows.{CanPass, HasPassed};
+ghost use Rattle.nm_steps.specs.Rules.{HasNotStored};
 ghost use Rattle.nm_steps.specs.Values.{CanReach, HasPutValue, HasSeenValue, MayStore};
 
 use crate::pass::Shared;
@@ -144,6 +145,7 @@ impl Shared {
         requires pick { D.slot ≡ slot }
         requires can { CanReach self.now seat.old slot word }
         requires may { MayStore seat.old slot }
+        requires once { HasNotStored seat.old.me.0 }
         ensures { HasPutValue seat.old seat.new slot value }
     {
         let _ = slot;

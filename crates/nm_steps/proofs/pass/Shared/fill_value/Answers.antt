@@ -19,6 +19,9 @@ store_value-requires-clause-can c = record {
 pub store_value-requires-clause-may : goal.store_value-requires-clause-may
 store_value-requires-clause-may c = rw (← c.pass.view_is) at c.requires.private
 
+pub store_value-requires-clause-once : goal.store_value-requires-clause-once
+store_value-requires-clause-once c = rw (← c.pass.view_is) at c.requires.once
+
 pub invariant_of-pass : goal.invariant_of-pass
 invariant_of-pass c = looked_tied _ _ _ _ _ c.pass.invariant c.store_value.ensures.put.0 c.store_value.ensures.put.1
 
