@@ -31,3 +31,4 @@ pub mod MarkedEdges
 pub mod ValueSteps
 pub mod ValueStays
 pub mod StoreOrders
+pub mod LinkedValues
