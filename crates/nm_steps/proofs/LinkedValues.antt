@@ -58,7 +58,7 @@ value_of_last n s was (suc k) (y ∷ ys) x below is early slot none' = by (λ v.
         ∙ rest was
 
 -- the store at an index was held
-held_at : (L : Layout) (turns : List (ℕ × Event)) (xs : List Stored) → WereHeld L turns xs → (k : ℕ) (d : Stored) → k < length xs → WasHeld L turns (get_or xs k d)
+pub held_at : (L : Layout) (turns : List (ℕ × Event)) (xs : List Stored) → WereHeld L turns xs → (k : ℕ) (d : Stored) → k < length xs → WasHeld L turns (get_or xs k d)
 held_at L turns [] held k d below = absurd (omega (arith, below))
 held_at L turns (x ∷ xs) held zero d below = held.0
 held_at L turns (x ∷ xs) held (suc k) d below = held_at L turns xs held.1 k d (omega (arith, below))

@@ -1,6 +1,7 @@
 -- What the steps that make nodes ask and leave.
-use Rattle.std.proofs.Common.{◌≡◌, ◌≢◌, ℕ, ◌≤◌, eqb, Bool, true, false, true≢false, not, ◌&&◌, ◌||◌, List, refl, sym, ap, subst, ◌∙◌}
+use Rattle.std.proofs.Common.{◌≡◌, ◌≢◌, ℕ, ◌+◌, ◌≤◌, eqb, Bool, true, false, true≢false, not, ◌&&◌, ◌||◌, List, [], ◌∷◌, length, refl, sym, ap, subst, ◌∙◌, arith}
 use Rattle.std.specs.Prelude.{Option, Some, None, IsSome, is_some, is_none, unwrap_or, nat_lt}
+use Rattle.std.proofs.lemmas.List.{length-append}
 use Rattle.std.proofs.lemmas.Bool.{le-ltb, cond-true, cond-false, eq-eqb, ne_eqb}
 use Rattle.nm_edge.specs.Layouts.{Layout, IsLayout}
 use Rattle.nm_edge.specs.declared.edge.Side.{Side}
@@ -28,9 +29,10 @@ use Rattle.nm_order.specs.Hands.{IsPooled}
 use Rattle.nm_order.specs.Logs.{part_of, known_by, IsLogOf}
 use Rattle.nm_order.proofs.LastEntries.{ToldBy, told_by_part, search_more}
 use Rattle.nm_order.proofs.OrderedLaws.{law_of_state}
-use Rattle.nm_steps.specs.Rules.{ExtendsStores, knowledge}
+use Rattle.nm_steps.specs.Rules.{ExtendsStores, HasNotStored, StoredBefore, knowledge}
 use Rattle.nm_steps.specs.Steps.{PassView, MayStep, Stepped, IsSamePass, HasSeenAllOf}
 use Rattle.nm_steps.proofs.AfterSteps.{TellsRun, run_after, is_join}
+use Rattle.nm_steps.proofs.StoreOrders.{stored_longer}
 use Rattle.nm_walks.specs.Telling.{IsInRun, GoesOn}
 use Rattle.nm_walks.specs.Making.{draft, IsFilled, KeepsOtherSlots, OnlyMakes, with_node}
 use Rattle.nm_model.proofs.Checks.{not_outside, passes_then}
@@ -112,6 +114,17 @@ makes p q m is search = record {
 }
 
 -- ---- filling a slot
+
+-- a step makes the log longer
+pub log_longer : (p q : PassView) (e : Event) (r : Reply) → Stepped p q e r → length q.view.log ≡ length p.view.log + 1
+log_longer p q e r step = ap (λ (z : PassView). length z.view.log) step ∙ length-append p.view.log ((e, r) ∷ [])
+
+-- after a step the worker has stored no value, if it stores none on the way
+pub not_stored_after : (p q : PassView) → IsSamePass p q → length p.view.log + 1 ≤ length q.view.log → q.view.stores ≡ p.view.stores → StoredBefore p.view.number (length p.view.log + 1) p.view.stores → HasNotStored q.view
+not_stored_after p q is longer same h =
+    subst (StoredBefore q.view.number (length q.view.log)) (sym same)
+    (subst (λ (z : PassView). StoredBefore z.view.number (length q.view.log) p.view.stores) (sym is)
+    (stored_longer p.view.number (length p.view.log + 1) (length q.view.log) p.view.stores longer h))
 
 -- a private slot whose birth is stored
 pub record Fillable (p : PassView) (s : ℕ) : Type 0 where

@@ -11,7 +11,7 @@ ghost use Rattle.nm_order.specs.Facts.Fact.{KnowsSlot};
 ghost use Rattle.nm_order.specs.Hands.{IsPooled};
 ghost use Rattle.nm_order.specs.Told.{IsNew};
 ghost use Rattle.nm_pool.specs.Claims.{IsClaimBy, IsNewNode, LearnsSlots};
-ghost use Rattle.nm_steps.specs.Rules.{knowledge};
+ghost use Rattle.nm_steps.specs.Rules.{HasNotStored, knowledge};
 ghost use Rattle.nm_steps.specs.Steps.{IsOf, Stepped};
 ghost use Rattle.nm_walks.specs.Telling.{Tells, GoesOn, IsPinnedIn};
 ghost use Rattle.nm_walks.specs.Making.{HasJustStored, draft, KeepsOtherSlots, KeepsAllBut, OnlyMakes, with_node, HasFilled, IsInserting, HasLinked, HasLost};
@@ -77,7 +77,8 @@ pub(crate) fn give(shared: &Shared, pass: &mut Pass, node: NodeId)
     nm_pool::give(shared, pass, node);
 }
 
-/// Stores a key and two edges in a private slot whose birth is stored, in three steps.
+/// Stores a key and two edges in a private slot whose birth is stored, in three steps. The worker has
+/// stored no value after the last one.
 pub(crate) fn fill(shared: &Shared, pass: &mut Pass, slot: u32, node: &Contents)
     requires own { IsOf shared.now pass.old }
     requires born { IsSome (draft pass.old slot).birth }
@@ -89,9 +90,11 @@ pub(crate) fn fill(shared: &Shared, pass: &mut Pass, slot: u32, node: &Contents)
         ≡ Some (with_node (draft pass.old slot) node.now.key node.now.left node.now.right) }
     ensures others { KeepsOtherSlots slot pass.old pass.new }
     ensures only { OnlyMakes pass.old pass.new }
+    ensures once { HasNotStored pass.new.view }
 {
     pass.know_run();
     pass.know_pooled_slots();
+    pass.know_stores();
     shared.fill_key(pass, slot, node.key);
     shared.fill_edge(pass, slot, Side::Left, node.left);
     shared.fill_edge(pass, slot, Side::Right, node.right);

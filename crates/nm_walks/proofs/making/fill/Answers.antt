@@ -1,4 +1,4 @@
-use Rattle.std.proofs.Common.{rules, refl, sym, ap, subst, ◌∙◌, ◌≤◌}
+use Rattle.std.proofs.Common.{rules, refl, sym, ap, subst, ◌∙◌, ◌≤◌, arith}
 use Rattle.nm_edge.specs.declared.edge.Side.TheVariants.{Left, Right}
 use Rattle.nm_model.specs.declared.event.Field.TheVariants.{Key as KeyOf, Edge as EdgeOn}
 use Rattle.nm_model.specs.declared.knowledge.Draft.{Draft}
@@ -7,6 +7,7 @@ use Rattle.nm_steps.specs.Steps.{PassView}
 use Rattle.nm_steps.proofs.Seeing.{seen_all, stores_same}
 use Rattle.std.specs.Prelude.{Some}
 use Rattle.nm_walks.proofs.Makes.{fillable, fillable_still, may_fill_key, may_fill_edge, filled_there, filled_draft, filled_others, only_filled, both_make, makes_go_on}
+use Rattle.nm_walks.proofs.Makes.{log_longer, not_stored_after}
 use Rattle.nm_walks.proofs.making.fill.Goals as goal
 
 pub fill_key-requires-clause-may : goal.fill_key-requires-clause-may
@@ -65,3 +66,12 @@ returns-clause-on c =
     let r = c.fill_edge.new.pass in
     let t = c.fill_edge-2.new.pass in
     makes_go_on p t (returns-clause-only c) (search rules) (search (rules, seen_all)) (stores_same t.view.stores p.view.stores (c.fill_edge-2.ensures.stores ∙ (c.fill_edge.ensures.stores ∙ c.fill_key.ensures.stores))) c.fill_edge-2.ensures.run
+
+pub returns-clause-once : goal.returns-clause-once
+returns-clause-once c =
+    let p = c.args.pass.now in
+    let q = c.fill_key.new.pass in
+    let r = c.fill_edge.new.pass in
+    let t = c.fill_edge-2.new.pass in
+    not_stored_after p t (search rules) (omega (arith, log_longer p q _ _ c.fill_key.ensures.step, log_longer q r _ _ c.fill_edge.ensures.step, log_longer r t _ _ c.fill_edge-2.ensures.step))
+    (c.fill_edge-2.ensures.stores ∙ (c.fill_edge.ensures.stores ∙ c.fill_key.ensures.stores)) c.know_stores.ensures

@@ -22,6 +22,9 @@ fill_value-requires-clause-slot c =
     let low = pooled.0 in
     (omega (arith, low), subst (λ (L : Layout). c.args.slot ≤ L.nodes) own.layout pooled.1)
 
+pub fill_value-requires-clause-once : goal.fill_value-requires-clause-once
+fill_value-requires-clause-once c = c.fill.ensures.once
+
 pub returns-clause-steps : goal.returns-clause-steps
 returns-clause-steps c = filled_by_value c.args.pass.now c.fill.new.pass c.fill_value.new.pass _ _ _ _ c.fill.ensures.steps c.fill_value.ensures.looks
 
