@@ -22,3 +22,5 @@ pub mod InsertedValues
 pub mod CutLeaves
 pub mod HandedBack
 pub mod MadeLeaves
+pub mod KeptLeaves
+pub mod KeptValues

@@ -1,6 +1,7 @@
 -- Right after a won link the map has the key of the new leaf, with the value that was stored for it.
 use Rattle.std.proofs.Common.{◌≡◌, ℕ, ◌<◌, ◌≤◌, ◌==◌, Bool, true, false, cond, ◌||◌, List, [], ◌∷◌, ◌++◌, append-nil, append_assoc, length, refl, sym, ap, subst, ◌∙◌, arith}
-use Rattle.std.specs.Prelude.{All, None, Some, Option, Result, Ok, Err, filter, nat_lt}
+use Rattle.std.proofs.lemmas.List.Elements.{Contains-push}
+use Rattle.std.specs.Prelude.{All, Contains, None, Some, Option, Result, Ok, Err, filter, nat_lt}
 use Rattle.std.proofs.lemmas.Bool.{and_from, eq-eqb, lt-ltb}
 use Rattle.std.proofs.lemmas.List.{length-append, same_from_push}
 use Rattle.nm_edge.specs.Edges.{Edge, is_to, other, to}
@@ -47,14 +48,14 @@ use Rattle.nm_calls.specs.Maps.{HasPut, IsInMap, WasPut, value_at}
 
 -- ---- the last event of a run
 
-record LastEvent (c : Configuration) (events : List (ℕ × Event)) (before : List Turn) (t : Turn) : Type 0 where
-  first : List (ℕ × Event)
-  last : ℕ × Event
-  are : events ≡ first ++ last ∷ []
-  firsts : trace_in c first ≡ before
-  is : record { worker = last.0; event = last.1; outcome = outcome_in (after_in c first) last } ≡ t
+pub record LastEvent (c : Configuration) (events : List (ℕ × Event)) (before : List Turn) (t : Turn) : Type 0 where
+  pub first : List (ℕ × Event)
+  pub last : ℕ × Event
+  pub are : events ≡ first ++ last ∷ []
+  pub firsts : trace_in c first ≡ before
+  pub is : record { worker = last.0; event = last.1; outcome = outcome_in (after_in c first) last } ≡ t
 
-last_event : (before : List Turn) (events : List (ℕ × Event)) (c : Configuration) (t : Turn) → trace_in c events ≡ before ++ t ∷ [] → LastEvent c events before t
+pub last_event : (before : List Turn) (events : List (ℕ × Event)) (c : Configuration) (t : Turn) → trace_in c events ≡ before ++ t ∷ [] → LastEvent c events before t
 unfolding trace_in after_in
 last_event [] [] c t is = absurd (let long = ap (λ (l : List Turn). length l) is in omega (arith, long))
 last_event [] (e ∷ []) c t is = record { first = []; last = e; are = refl; firsts = refl; is = cc }
@@ -193,15 +194,15 @@ module _ (L : Layout) (fits : IsLayout L) (events : List (ℕ × Event)) (keys :
   unfolding write
   key_kept = subst (λ (b : Bool). key (cond b after c.state.memory) slot ≡ key c.state.memory slot) found (same_keys c.state h law w (Link parent side old new) (λ y f v i. cc) slot)
 
-  abbrev turns : List Turn
-  turns = trace_in (ordered L) events ++ answered_turn w (Link parent side old new) (Linked n) ∷ []
+  abbrev turn : Turn
+  turn = answered_turn w (Link parent side old new) (Linked n)
 
-  linked_in_map : (stores : List Stored) (v : ℕ) → value_at (length turns) stores slot ≡ v → IsInMap L turns stores k v
-  linked_in_map stores v has_value = record {
+  abbrev linked_in_map : (stores : List Stored) (v : ℕ) (first : List Turn) → trace_in (ordered L) events ≡ first → value_at (length (first ++ turn ∷ [])) stores slot ≡ v → IsInMap L (first ++ turn ∷ []) stores k v
+  linked_in_map stores v first is has_value = record {
     slot = slot;
-    reached = subst (λ (m : Memory). Reached m slot) (sym words) reached_after;
-    leaf = ap (λ (m : Memory). is_leaf (node m slot)) words ∙ leaf_after;
-    has_key = ap (λ (m : Memory). (node m slot).key) words ∙ (key_kept ∙ key_before);
+    reached = subst (λ (ts : List Turn). Reached (words_after L (ts ++ turn ∷ [])) slot) is (subst (λ (m : Memory). Reached m slot) (sym words) reached_after);
+    leaf = ap (λ (ts : List Turn). is_leaf (node (words_after L (ts ++ turn ∷ [])) slot)) (sym is) ∙ (ap (λ (m : Memory). is_leaf (node m slot)) words ∙ leaf_after);
+    has_key = ap (λ (ts : List Turn). (node (words_after L (ts ++ turn ∷ [])) slot).key) (sym is) ∙ (ap (λ (m : Memory). (node m slot).key) words ∙ (key_kept ∙ key_before));
     has_value = has_value;
   }
 
@@ -237,12 +238,23 @@ put_by_link p q slot k v fits seen l s = record {
   own = refl;
   node = l.node;
   won = refl;
-  is = subst (λ (ts : List Turn). IsInMap L (ts ++ turn ∷ []) q.view.stores k v) e.firsts
-      (linked_in_map L fits e.first (first_keys e.first (e.last ∷ []) (subst (λ (es : List (ℕ × Event)). All (λ t. HasKey t.1) es) e.are seen.keys)) w seen.worker l.parent l.side l.old l.new l.node slot k
+  is = linked_in_map L fits e.first (first_keys e.first (e.last ∷ []) (subst (λ (es : List (ℕ × Event)). All (λ t. HasKey t.1) es) e.are seen.keys)) w seen.worker l.parent l.side l.old l.new l.node slot k
       won
       (ap (λ (log : List Entry). new_leaf (known_by L w log) l.old l.new) log_is ∙ l.fresh)
-      (ap (λ (log : List Entry). (draft_of (known_by L w log) slot).key) log_is ∙ l.has_key) l.pooled.0 q.view.stores v
-      (subst (λ (st : List Stored). value_at (length (trace_in (ordered L) e.first ++ turn ∷ [])) st slot ≡ v) (sym s.is) (stored_last (length (trace_in (ordered L) e.first ++ turn ∷ [])) slot v s.at w s.own s.earlier early)));
+      (ap (λ (log : List Entry). (draft_of (known_by L w log) slot).key) log_is ∙ l.has_key) l.pooled.0 q.view.stores v l.before e.firsts
+      (subst (λ (st : List Stored). value_at (length (l.before ++ turn ∷ [])) st slot ≡ v) (sym s.is) (stored_last (length (l.before ++ turn ∷ [])) slot v s.at w s.own s.earlier early));
+  stored = record {
+    stored = x;
+    there = subst (λ (st : List Stored). Contains st x) (sym s.is) (Contains-push s.earlier x);
+    by_worker = refl;
+    at_own = (
+        let long = ap (λ (log : List Entry). length log) l.is_log ∙ length-append l.log ((Link l.parent l.side l.old l.new, Linked l.node) ∷ []) in
+        let last = s.last in
+        let same : length (part_of w l.before) ≡ length l.log = ap (λ (log : List Entry). length log) (ap (part_of w) (sym e.firsts) ∙ log_is) in
+        omega (arith, long, last, same)
+        );
+    for_slot = refl;
+  };
 }
   where
     L : Layout
@@ -272,8 +284,11 @@ put_by_link p q slot k v fits seen l s = record {
     log_is : part_of w (trace_in (ordered L) e.first) ≡ l.log
     log_is = ap (part_of w) e.firsts ∙ (same_from_push (part_of w l.before) l.log (Link l.parent l.side l.old l.new, Linked l.node) (Link l.parent l.side l.old l.new, Linked l.node) whole).0
 
-    early : s.at < length (trace_in (ordered L) e.first ++ turn ∷ [])
-    early = subst (λ (n : ℕ). s.at < n) (ap (λ (ts : List Turn). length ts) (l.past ∙ ap (λ (ts : List Turn). ts ++ turn ∷ []) (sym e.firsts))) s.early
+    early : s.at < length (l.before ++ turn ∷ [])
+    early = subst (λ (n : ℕ). s.at < n) (ap (λ (ts : List Turn). length ts) l.past) s.early
+
+    x : Stored
+    x = record { at = s.at; worker = w; own = s.own; slot = slot; value = v }
 
 -- it stays so for all that had been seen earlier
 pub put_earlier : (o p q : PassView) (k v : ℕ) → HasSeenAllOf p o → HasPut p q k v → HasPut o q k v
@@ -287,6 +302,7 @@ put_earlier o p q k v seen put = record {
   node = put.node;
   won = put.won;
   is = put.is;
+  stored = put.stored;
 }
 
 -- and for a pass that goes on
@@ -304,4 +320,5 @@ put_then p q z e r k v put took =
       node = put.node;
       won = put.won;
       is = put.is;
+      stored = put.stored;
     }))

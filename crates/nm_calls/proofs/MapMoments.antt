@@ -183,6 +183,7 @@ module _ (o a m q : PassView) (first_seen : HasSeen o.view) (first_fits : IsLayo
           are = r.seen.run.are;
           held = r.seen.held;
           linked = r.seen.linked;
+          order = r.seen.order;
         }))
 
   -- what the call found was so

@@ -11,4 +11,5 @@ pub mod Moments
 pub mod Inserts
 pub mod Deletes
 pub mod Maps
+pub mod KeptValues
 pub mod HandedBack

@@ -1,5 +1,5 @@
 -- A map: what was stored under a key and when, and what a call for the value of a key leaves.
-use Rattle.std.specs.Prelude.{◌≡◌, ◌+◌, ◌*◌, ◌≤◌, ◌<◌, ℕ, nat_lt, Bool, true, false, List, [], ◌∷◌, ◌++◌, length, filter, Option, Some, None, Result, Ok, IfOk, IfErr, IfSome}
+use Rattle.std.specs.Prelude.{◌≡◌, ◌+◌, ◌*◌, ◌≤◌, ◌<◌, ℕ, nat_lt, Bool, true, false, List, [], ◌∷◌, ◌++◌, length, filter, AllPairs, Option, Some, None, Result, Ok, IfOk, IfErr, IfSome}
 use Rattle.nm_edge.specs.Layouts.{Layout}
 use Rattle.nm_edge.specs.declared.edge.Side.{Side}
 use Rattle.nm_edge.specs.declared.node.NodeId.{NodeId}
@@ -13,7 +13,8 @@ use Rattle.nm_model.specs.Ordered.{ordered, trace_in}
 use Rattle.nm_model.specs.Paths.{Reached}
 use Rattle.nm_model.specs.Walks.{Entry, WalkEnds, since_pin}
 use Rattle.nm_steps.specs.declared.view.Stored.{Stored}
-use Rattle.nm_steps.specs.Rules.{Extends, ExtendsStores, LinksHaveValues, WereHeld, value_of}
+use Rattle.nm_order.specs.Logs.{part_of}
+use Rattle.nm_steps.specs.Rules.{ComesBefore, Extends, ExtendsStores, IsStored, LinksHaveValues, WereHeld, value_of}
 use Rattle.nm_steps.specs.Steps.{HasSeenAllOf, IsSamePass, PassView}
 use Rattle.nm_steps.specs.Values.{HasSeenStores}
 use Rattle.nm_epoch.specs.Resting.{IsResting, KeepsHands}
@@ -59,7 +60,8 @@ pub record WasMapped (L : Layout) (was now : List Turn) (stores : List Stored) (
   pub gives : MapGives (IsInMap L so_far stores k) answer
 
 -- the worker put the key into the map with this value: it won a link after the turns `was`, and right
--- after the link the map has the key with the value
+-- after the link the map has the key with the value. It stored a value for the leaf after its last
+-- step before the link
 pub record WasPut (L : Layout) (was now : List Turn) (stores : List Stored) (w k v : ℕ) : Type 0 where
   pub so_far : List Turn
   pub link : Turn
@@ -70,14 +72,16 @@ pub record WasPut (L : Layout) (was now : List Turn) (stores : List Stored) (w k
   pub node : NodeId
   pub won : link.outcome ≡ Ok (Linked node)
   pub is : IsInMap L (so_far ++ link ∷ []) stores k v
+  pub stored : IsStored stores w (length (part_of w so_far)) is.slot
 
 -- from what p had seen to what q has seen, the worker put the key into the map with this value
 abbrev pub HasPut : PassView → PassView → ℕ → ℕ → Type 0
 HasPut p q k v =
     WasPut q.view.layout p.view.past q.view.past q.view.stores q.view.number k v
 
--- the stores are those of a run whose turns are a beginning of these. Each was made in a slot that
--- was private to its worker, and each worker that tried to link a new leaf had just stored its value
+-- the stores are those of a run whose turns are a beginning of these, in their order. Each was made in
+-- a slot that was private to its worker, and each worker that tried to link a new leaf had just stored
+-- its value
 pub record HoldsStores (L : Layout) (now : List Turn) (stores : List Stored) : Type 0 where
   pub until : List Turn
   pub ends : Extends now until
@@ -85,6 +89,7 @@ pub record HoldsStores (L : Layout) (now : List Turn) (stores : List Stored) : T
   pub are : until ≡ trace_in (ordered L) events
   pub held : WereHeld L events stores
   pub linked : LinksHaveValues L events stores
+  pub order : AllPairs ComesBefore stores
 
 -- `MapGave`: between p and q the map gave this answer to a look-up of the key. `HasStores`: what q has
 -- seen of stores is such

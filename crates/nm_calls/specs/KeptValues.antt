@@ -1,0 +1,42 @@
+-- A leaf keeps its value until a turn cuts it off.
+use Rattle.std.specs.Prelude.{◌≡◌, ◌<◌, ℕ, List, [], ◌∷◌, ◌++◌, All, Contains}
+use Rattle.nm_edge.specs.Layouts.{Layout, IsLayout}
+use Rattle.nm_model.specs.declared.event.Event.{Event}
+use Rattle.nm_model.specs.declared.trace.Turn.{Turn}
+use Rattle.nm_model.specs.Headline.{nodes_cut_of, slots_of}
+use Rattle.nm_model.specs.Ordered.{HasKey, ordered, trace_in}
+use Rattle.nm_steps.specs.declared.view.Stored.{Stored}
+use Rattle.nm_steps.specs.Rules.{ExtendsStores}
+use Rattle.nm_calls.specs.Maps.{HoldsStores, IsInMap, WasPut}
+
+-- none of these turns cuts off a node in this slot
+abbrev pub NoneCuts : List Turn → ℕ → Type 0
+NoneCuts turns s = (before since : List Turn) (t : Turn) → turns ≡ before ++ t ∷ since
+    → Contains (slots_of (nodes_cut_of t.outcome)) s → ⊥
+
+-- the map still has the key with the value after these turns, in the same leaf
+pub record StaysInMap (L : Layout) (so_far mid : List Turn) (stores : List Stored) (k v : ℕ)
+    (was : IsInMap L so_far stores k v) : Type 0 where
+  pub now : IsInMap L (so_far ++ mid) stores k v
+  pub same : now.slot ≡ was.slot
+
+-- in each run, a leaf in the map stays there with its value until a turn cuts it off
+abbrev pub LeavesKeepTheirValues : Type 0
+LeavesKeepTheirValues = (L : Layout) → IsLayout L → (events : List (ℕ × Event))
+    → All (λ t. HasKey t.1) events → (so_far mid rest : List Turn)
+    → trace_in (ordered L) events ≡ so_far ++ (mid ++ rest) → (stores : List Stored)
+    → HoldsStores L (trace_in (ordered L) events) stores → (k v : ℕ)
+    → (was : IsInMap L so_far stores k v) → NoneCuts mid was.slot
+    → StaysInMap L so_far mid stores k v was
+
+-- in each run, if a worker put a key into the map with a value, the map has the key with this value,
+-- and with no other, until a turn cuts off the leaf. This holds by the stores that the worker had
+-- seen then, and by more
+abbrev pub PutValuesStay : Type 0
+PutValuesStay = (L : Layout) → IsLayout L → (events : List (ℕ × Event))
+    → All (λ t. HasKey t.1) events → (was first : List Turn) (seen stores : List Stored) (w k v : ℕ)
+    → w < L.workers → (put : WasPut L was first seen w k v) → ExtendsStores stores seen
+    → HoldsStores L (trace_in (ordered L) events) stores → (mid rest : List Turn)
+    → trace_in (ordered L) events ≡ (put.so_far ++ put.link ∷ []) ++ (mid ++ rest)
+    → NoneCuts mid put.is.slot → (found : ℕ)
+    → IsInMap L ((put.so_far ++ put.link ∷ []) ++ mid) stores k found → found ≡ v
