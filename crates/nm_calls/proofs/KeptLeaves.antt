@@ -1,6 +1,6 @@
 -- A node that is reached stays so, with its key, until a turn cuts it off. Nobody has it in hands.
-use Rattle.std.proofs.Common.{◌≡◌, ◌≢◌, ℕ, zero, suc, ◌+◌, ◌<◌, ◌≤◌, Bool, true, false, List, [], ◌∷◌, ◌++◌, append_assoc, length, refl, sym, ap, subst, ◌∙◌, arith}
-use Rattle.std.specs.Prelude.{All, Contains, Ok}
+use Rattle.std.proofs.Common.{◌≡◌, ℕ, suc, ◌+◌, ◌≤◌, true, false, List, [], ◌∷◌, ◌++◌, append_assoc, length, refl, sym, ap, subst, ◌∙◌, arith}
+use Rattle.std.specs.Prelude.{All, Contains}
 use Rattle.std.proofs.lemmas.Bool.{false_from_ne_true}
 use Rattle.std.proofs.lemmas.List.{append_cancel_left, length-append}
 use Rattle.nm_edge.specs.Layouts.{Layout}
@@ -9,12 +9,12 @@ use Rattle.nm_model.specs.declared.event.Event.{Event}
 use Rattle.nm_model.specs.declared.trace.Turn.{Turn}
 use Rattle.nm_model.specs.Headline.{nodes_cut_of, slots_of}
 use Rattle.nm_model.specs.Knowledge.{is_private}
-use Rattle.nm_model.specs.Memory.{Memory, is_leaf, named, node}
+use Rattle.nm_model.specs.Memory.{named}
 use Rattle.nm_model.specs.Ordered.{Configuration, HasKey, ordered, after_in, next_in, outcome_in, trace_in}
 use Rattle.nm_model.specs.Paths.{Reached}
 use Rattle.nm_model.specs.Runs.{of}
 use Rattle.nm_laws.proofs.Configurations.{after_in-append}
-use Rattle.nm_laws.proofs.Pictures.{Once, Picture, nowhere_else}
+use Rattle.nm_laws.proofs.Pictures.{Picture, nowhere_else}
 use Rattle.nm_laws.proofs.Pictures.SeekRecord.{PrivateTo}
 use Rattle.nm_laws.proofs.TreeSteps.{Lawful}
 use Rattle.nm_laws.proofs.Views.{picture}

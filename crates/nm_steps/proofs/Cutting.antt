@@ -30,7 +30,7 @@ use Rattle.nm_steps.proofs.Presence.{gone_kept, known_push}
 use Rattle.nm_steps.proofs.Extending.{IsPartOf, words_after_join, trace_after_join}
 use Rattle.nm_steps.proofs.Keeping.{live, stands_live, once_is, part_grows, part_stays, each_set}
 use Rattle.nm_laws.proofs.Configurations.{keys_more}
-use Rattle.nm_steps.proofs.StoreOrders.{lags_for_nobody, lags_in_none, lags_kept, none_in_order, stored_nothing}
+use Rattle.nm_steps.proofs.StoreOrders.{lags_for_nobody, sees_all_stores, lags_kept, none_in_order, stored_nothing}
 use Rattle.nm_steps.proofs.Valuing.{joined_links, grown_none, rewrap, run_long}
 use Rattle.std.proofs.lemmas.List.{append-nil}
 use Rattle.std.proofs.Math.Seq.{take-append_seam}
@@ -67,7 +67,7 @@ once_between w k (suc n) = let e = times-cons w (held_log k []) (numbers_from (s
 
 -- at the start no value is stored, and no view has seen one
 pub no_stores_seen : (L : Layout) (i : ℕ) (v : View) → get_elem? (everybody L ∷ []) i ≡ some v → LagsInStores [] v
-no_stores_seen L zero v is = subst (LagsInStores []) (some-injective _ _ is) (lags_in_none [] (everybody L) (no_values (numbers_from 0 L.workers)))
+no_stores_seen L zero v is = subst (LagsInStores []) (some-injective _ _ is) (sees_all_stores [] (everybody L) (no_values (numbers_from 0 L.workers)))
   where
     no_values : (hs : List Held) → (viewing L hs).stores ≡ []
     no_values [] = refl

@@ -4,7 +4,6 @@ use Rattle.std.proofs.Common.{◌≡◌, ◌⊎◌, inl, inr, ℕ, zero, suc, �
 use Rattle.std.specs.Prelude.{filter}
 use Rattle.std.proofs.lemmas.Bool.{cases_lt, cond-true, lt-ltb, le-ltb}
 use Rattle.std.proofs.lemmas.List.{get_or_default, length-append}
-use native.Mathlib.Decide.{ℕ_discrete}
 use Rattle.nm_edge.specs.Layouts.{Layout}
 use Rattle.nm_model.specs.declared.event.Event.{Event}
 use Rattle.nm_model.specs.Knowledge.{Knowledge, is_private}
@@ -15,10 +14,9 @@ use Rattle.nm_order.specs.Logs.{known_by, part_of}
 use Rattle.nm_order.proofs.PartsOfRuns.{logs_tell}
 use Rattle.nm_order.proofs.RealTime.{begins_with}
 use Rattle.nm_steps.specs.declared.view.Stored.{Stored}
-use Rattle.nm_steps.specs.Rules.{ComesBefore, IsStored, WasHeld, WereHeld, value_from, value_of}
-use Rattle.nm_steps.proofs.StoreOrders.{part_longer, stored_once}
+use Rattle.nm_steps.specs.Rules.{ComesBefore, IsStored, WasHeld, WereHeld, value_from}
+use Rattle.nm_steps.proofs.StoreOrders.{part_longer}
 use Rattle.nm_steps.proofs.ValueStays.{value_before}
-use Rattle.std.specs.Prelude.{Contains}
 
 -- ---- lists
 

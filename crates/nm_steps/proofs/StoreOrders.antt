@@ -1,12 +1,10 @@
 -- The stores of values in their order, and what a view has seen of them.
-use Rattle.std.proofs.Common.{◌≡◌, ◌≢◌, ◌⊎◌, inl, inr, ℕ, zero, suc, ◌+◌, ◌<◌, ◌≤◌, ◌==◌, Bool, true, false, List, [], ◌∷◌, ◌++◌, All, AllPairs, length, get_or, refl, sym, ap, ◌∙◌, subst, true≢false, append-nil, append_assoc, arith}
-use Rattle.std.proofs.lemmas.Bool.{cases_lt}
+use Rattle.std.proofs.Common.{◌≡◌, ◌≢◌, ℕ, ◌+◌, ◌<◌, ◌≤◌, true, false, List, [], ◌∷◌, ◌++◌, All, AllPairs, length, get_or, refl, sym, ap, ◌∙◌, subst, true≢false, append-nil, append_assoc, arith}
 use Rattle.std.proofs.lemmas.List.{get_or_append_left, length-append}
 use Rattle.std.proofs.lemmas.List.Elements.{All-append, All-cons, All-nil}
 use Rattle.std.proofs.lemmas.List.Quantifiers.{all_pairs_push}
 use Rattle.nm_edge.specs.Layouts.{Layout}
 use Rattle.nm_model.specs.declared.event.Event.{Event}
-use Rattle.nm_model.specs.declared.trace.Turn.{Turn}
 use Rattle.nm_model.specs.Knowledge.{Knowledge, is_private}
 use Rattle.nm_model.specs.Runs.{of}
 use Rattle.nm_model.specs.Walks.{Entry}
@@ -17,7 +15,7 @@ use Rattle.nm_order.proofs.PartsOfRuns.{logs_tell}
 use Rattle.nm_order.proofs.WalksOfRuns.{trace_in-append}
 use Rattle.nm_steps.specs.declared.view.Stored.{Stored}
 use Rattle.nm_steps.specs.declared.view.View.{View}
-use Rattle.nm_steps.specs.Rules.{ComesBefore, ExtendsStores, LagsInStores, StoredBefore, WasHeld, WereHeld}
+use Rattle.nm_steps.specs.Rules.{ComesBefore, LagsInStores, StoredBefore, WasHeld, WereHeld}
 use Rattle.nm_steps.specs.Values.{HasSeenStores}
 
 -- ---- lists
@@ -31,16 +29,6 @@ order_of_first xs ys h i j d lt within =
     let long = length-append xs ys in
     subst (λ (x : Stored). ComesBefore x (get_or xs j d)) (get_or_append_left xs ys d i (omega (arith, lt, within)))
     (subst (ComesBefore (get_or (xs ++ ys) i d)) (get_or_append_left xs ys d j within) (h i j d lt (omega (arith, within, long))))
-
--- two stores of one worker between the same of its steps are one
-pub stored_once : (xs : List Stored) → AllPairs ComesBefore xs → (i j : ℕ) (d : Stored) → i < length xs → j < length xs
-    → (get_or xs i d).worker ≡ (get_or xs j d).worker → (get_or xs i d).own ≡ (get_or xs j d).own → i ≡ j
-stored_once xs h i j d inside within same own = by (cases_lt i j) (cases_lt j i)
-  where
-    by : (i < j) ⊎ (j ≤ i) → (j < i) ⊎ (i ≤ j) → i ≡ j
-    by (inl less) other = absurd (let before = (h i j d less within).1 same in omega (arith, before, own))
-    by (inr least) (inl more) = absurd (let before = (h j i d more inside).1 (sym same) in omega (arith, before, own))
-    by (inr least) (inr most) = omega (arith, least, most)
 
 -- a log that has grown
 pub stored_longer : (w n m : ℕ) (st : List Stored) → n ≤ m → StoredBefore w n st → StoredBefore w m st
@@ -121,8 +109,8 @@ lags_for_nobody st v none' spent = record {
 }
 
 -- a view that has seen them all
-pub lags_in_none : (st : List Stored) (v : View) → v.stores ≡ st → LagsInStores st v
-lags_in_none st v same = record {
+pub sees_all_stores : (st : List Stored) (v : View) → v.stores ≡ st → LagsInStores st v
+sees_all_stores st v same = record {
   seen = record { more = []; is = sym same ∙ sym (append-nil v.stores) };
   own = λ alive. All-nil (λ (x : Stored). x.worker ≢ v.number);
 }

@@ -1,5 +1,5 @@
 -- How a value is read and stored: the rule after the step, and what the seat learns by it.
-use Rattle.std.proofs.Common.{◌≡◌, inl, inr, ℕ, zero, suc, ◌+◌, ◌-◌, ◌<◌, ◌≤◌, ◌==◌, ◌≢◌, eqb, true, false, List, [], ◌∷◌, ◌++◌, length, set, refl, sym, ap, ◌∙◌, subst, arith, get_or-set_same, get_or-set_other, get_or-append-add, length-set, eq-eqb, ne_eqb, append-nil}
+use Rattle.std.proofs.Common.{◌≡◌, inl, inr, ℕ, ◌+◌, ◌-◌, ◌<◌, ◌≤◌, ◌==◌, ◌≢◌, eqb, true, false, List, [], ◌∷◌, ◌++◌, length, set, refl, sym, ap, ◌∙◌, subst, arith, get_or-set_same, get_or-set_other, get_or-append-add, length-set, eq-eqb, ne_eqb, append-nil}
 use Rattle.std.specs.Prelude.{All, AllPairs, slice_index, slice_set}
 use Rattle.std.specs.List.{count_by}
 use Rattle.std.proofs.lemmas.List.{set-get_or}
@@ -39,7 +39,7 @@ use Rattle.nm_steps.proofs.Counts.{both_at_most_sum, sum_after}
 use Rattle.nm_steps.proofs.Growing.{goes_on_itself}
 use Rattle.nm_steps.proofs.Keeping.{each_set, once_is, stands_live}
 use Rattle.nm_steps.proofs.Noting.{standing}
-use Rattle.nm_steps.proofs.StoreOrders.{lags_by_other, lags_in_none, none_in_order, order_push, own_were_before, seen_stored, stored_by_now}
+use Rattle.nm_steps.proofs.StoreOrders.{lags_by_other, sees_all_stores, none_in_order, order_push, own_were_before, seen_stored, stored_by_now}
 use Rattle.nm_steps.proofs.Tying.{own_part, stands_in_run}
 use Rattle.nm_steps.proofs.Valuing.{IfValued, still_linked, held_push, run_long, stores_more, stores_themselves, value_push}
 
@@ -124,7 +124,7 @@ sees L slots id v slot i alive layout many is index s k homes at small =
           held = k.valued.held;
           linked = k.valued.linked;
           order = k.valued.order;
-          seen = each_set (LagsInStores k.stores) s.views id w (lags_in_none k.stores w refl) (λ j u _. k.valued.seen j u);
+          seen = each_set (LagsInStores k.stores) s.views id w (sees_all_stores k.stores w refl) (λ j u _. k.valued.seen j u);
         };
       },
       (
@@ -190,7 +190,7 @@ stores_it L slots id v slot i new alive layout many is private once index s k ho
           held = held;
           linked = subst (λ (n : ℕ). IfValued L n k.runs.turns st) (sym (length-set k.values (slot - 1) new)) (still_linked L (length k.values) k.runs.turns st k.stores (stores_more k.stores k.stores x (stores_themselves k.stores)) k.valued.linked);
           order = order;
-          seen = each_set (LagsInStores st) s.views id w (lags_in_none st w refl) (λ j u ne there. lags_by_other k.stores u x (λ alive' same. others_apart L k.core s.views k.runs id j v u ne at there alive alive' same) (k.valued.seen j u there));
+          seen = each_set (LagsInStores st) s.views id w (sees_all_stores st w refl) (λ j u ne there. lags_by_other k.stores u x (λ alive' same. others_apart L k.core s.views k.runs id j v u ne at there alive alive' same) (k.valued.seen j u there));
         };
       },
       (

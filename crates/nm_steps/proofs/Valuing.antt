@@ -108,9 +108,6 @@ reviewed {L} {core} {views} {new} e r = record {
 pub stores_themselves : (st : List Stored) → ExtendsStores st st
 stores_themselves st = record { more = []; is = sym (append-nil st) }
 
-pub stores_from_none : (st : List Stored) → ExtendsStores st []
-stores_from_none st = record { more = st; is = refl }
-
 pub stores_more : (st was : List Stored) (x : Stored) → ExtendsStores st was → ExtendsStores (st ++ x ∷ []) was
 stores_more st was x h = record { more = h.more ++ x ∷ []; is = ap (λ (l : List Stored). l ++ x ∷ []) h.is ∙ append_assoc was h.more (x ∷ []) }
 
