@@ -4,7 +4,7 @@ use Rattle.std.proofs.Common.{◌≡◌, ℕ, List, false, refl, arith}
 use Rattle.std.specs.Prelude.{None, IsSome, Ok, Err}
 use Rattle.nm_edge.specs.Layouts.{Layout}
 use Rattle.nm_model.specs.Walks.{Entry}
-use Rattle.nm_steps.proofs.Seeing.{seen_itself}
+use Rattle.nm_steps.proofs.Seeing.{seen_itself, stores_same}
 use Rattle.nm_calls.specs.Won.{HasWon}
 use Rattle.nm_calls.specs.declared.fault.CallFault.TheVariants as fault
 use Rattle.nm_tree.specs.Workers.{WorkerView}
@@ -37,6 +37,7 @@ module _ (L : Layout) (tries k : ℕ) (w : WorkerView) (there : IsSome w.pending
   get_pending = record {
     same = refl;
     past = seen_itself w.pass;
+    stores = stores_same w.pass.view.stores w.pass.view.stores refl;
     did = (there, refl);
     interfered = λ is. absurd (let no = is in cc);
     alone = λ alone is. absurd (let no = is in cc);

@@ -9,6 +9,7 @@ use Rattle.nm_model.specs.declared.event.Op.TheVariants.{Has, Insert, Delete}
 use Rattle.nm_model.specs.declared.reply.Reply.TheVariants.{Departed}
 use Rattle.nm_model.specs.Walks.{Entry as LogEntry}
 use Rattle.nm_order.specs.Reads.{HasRead}
+use Rattle.nm_steps.specs.Rules.{ExtendsStores}
 use Rattle.nm_steps.specs.Steps.{TreeView, PassView, IsOf, IsSamePass, HasSeenAllOf, Stepped}
 use Rattle.nm_epoch.specs.declared.answers.Advance.{Advance}
 use Rattle.nm_epoch.specs.declared.answers.Behind.{Behind}
@@ -134,6 +135,7 @@ pub record LeavesFinish (L : Layout) (tries : ℕ) (w z : WorkerView) (r : Resul
 pub record LeavesGet (L : Layout) (tries k : ℕ) (w z : WorkerView) (r : Result (Option ℕ) CallFault) : Type 0 where
   pub same : IsSamePass w.pass z.pass
   pub past : HasSeenAllOf z.pass w.pass
+  pub stores : ExtendsStores z.pass.view.stores w.pass.view.stores
   pub did : HasSeenMore (GiveUpInTurns L (k ∷ [])) tries (most_looks (reach L) 1) w z r
   pub interfered : IsErrOf r fault.Busy → ManyWereBusy w.pass z.pass tries
   pub alone : IsAlone w.pass z.pass → IsErrOf r fault.Busy → tries ≡ 0

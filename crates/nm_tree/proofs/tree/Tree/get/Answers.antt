@@ -24,6 +24,7 @@ pub returns : goal.returns
 returns c = record {
   same = search rules;
   past = search (rules, seen_all);
+  stores = search rules;
   did = rw (← c.worker.view_is, ← c.self.view_is) (has_looked _ c.args.tries _ _ _ (free_in c.worker.inside.standing (resting_in c.worker.inside.standing (ap (λ (w : WorkerView). w.held) c.worker.view_is ∙ c.requires.call.free) c.in_default.not-Pending)) c.get-found.result c.get-found.ensures.did c.get-found.ensures.missed c.get-found.ensures.busy);
   interfered = λ is. many_interfered c.self.inside.shared c.args.self.now c.worker.inside.pass c.args.worker.now.pass c.get-found.new.pass 0 c.args.tries c.self.view_is (ap (λ (x : WorkerView). x.pass) c.worker.view_is)
       c.know_run.ensures.seen c.know_run-2.ensures.seen c.know_run.ensures.fits c.get-found.ensures.same c.get-found.ensures.past c.requires.call.own (c.args.key ∷ []) (of_error c.get-found.result fault.Busy is c.get-found.ensures.missed);
