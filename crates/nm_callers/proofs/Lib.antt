@@ -28,4 +28,5 @@ pub mod StayedLeavers
 pub mod RunningAlone
 pub mod BesidePending
 pub mod Mapped
+pub mod KeptAfterPut
 pub mod Returned

@@ -1,6 +1,6 @@
 //! A worker of a tree with values that inserts a key and gets the value of a key, proved from the clauses of
 //! `nm_tree` and the page alone.
-ghost use Rattle.std.specs.Prelude.{◌≡◌, ◌≤◌, None, IfSome, IsErrOf, IsSome};
+ghost use Rattle.std.specs.Prelude.{◌≡◌, ◌≤◌, None, Some, IfSome, IsErrOf};
 ghost use Rattle.nm_progress.specs.Alone.{IsAlone};
 ghost use Rattle.nm_steps.specs.Steps.{IsOf};
 ghost use Rattle.nm_steps.specs.Values.{HasValues};
@@ -14,8 +14,8 @@ use nm_tree::{CallFault, Tree, Worker};
 /// Inserts a key with a value, and then gets the value of the key. The outer `None`: a call returned
 /// an error, or the key was in the map before. Proved: otherwise right after the insert's link the map
 /// had the key with the value, and the get returned what the map had at a later moment (linearization
-/// point). Proved too: the get found a value, unless a delete of the key took effect after all that
-/// the worker had seen before.
+/// point). Proved too: the get found the value that was inserted, unless a delete of the key took
+/// effect after all that the worker had seen before.
 pub fn insert_then_get(
     tree: &Tree,
     worker: &mut Worker,
@@ -28,7 +28,7 @@ pub fn insert_then_get(
     requires values { HasValues tree.now }
     ensures answers { IfSome result (PutsThenGets worker.old.pass worker.new.pass key value) }
     ensures found { NoneDeleted worker.new.pass.view.layout worker.old.pass.view.past
-        worker.new.pass.view.past key → IfSome result (λ found. IsSome found) }
+        worker.new.pass.view.past key → IfSome result (λ found. found ≡ Some value) }
 {
     let Ok(true) = tree.insert_with_value(worker, key, value, tries) else {
         return None;
