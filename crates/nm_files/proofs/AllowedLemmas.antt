@@ -1,5 +1,5 @@
 -- Each call that is read is one that its file may have, and there are no more than 100,000.
-use Rattle.std.proofs.Common.{◌≡◌, ◌≤◌, ℕ, ◌+◌, Bool, true, List, [], ◌∷◌, length, ap, ◌∙◌, All, Option, Some, None, Result, Ok, Err, refl, sym, subst, inl, inr, arith}
+use Rattle.std.proofs.Common.{◌≡◌, ◌≤◌, ◌<◌, ℕ, ◌+◌, Bool, true, List, [], ◌∷◌, length, All, Option, Some, None, Result, Ok, Err, refl, rules, sym, subst, inl, inr, arith}
 use Rattle.std.specs.Prelude.{◌==◌, IfOk}
 use Rattle.std.specs.Option.{ok_or}
 use Rattle.std.specs.List.{AllByRecursion, list_all}
@@ -12,52 +12,44 @@ use Rattle.nm_files.specs.declared.read.fault.Reason.TheVariants as reason
 use Rattle.nm_files.specs.declared.read.fault.RunFault.{RunFault}
 use Rattle.nm_files.specs.declared.read.header.Command.{Command}
 use Rattle.nm_files.specs.declared.read.header.Header.{Header}
-use Rattle.nm_files.specs.declared.read.kind.Kind.{Kind}
 use Rattle.nm_files.specs.Lines.{parts, fields, is_field}
-use Rattle.nm_files.specs.Values.{worker_and_values, values_of, worker_of}
-use Rattle.nm_files.specs.Kinds.{kind_row, kind_word, may_stand, is_named, kind_of, calls, IsAllowed}
+use Rattle.nm_files.specs.Values.{Values, values_of, worker_of, no_values}
+use Rattle.nm_files.specs.Values.Argument.{Worker}
+use Rattle.nm_files.specs.Kinds.{Kind, is_named, kind_of, made, made_by, calls, IsAllowed}
 use Rattle.nm_files.specs.Files.{Fault, File, GivesWhatIsSaid, is_long, checked, entries_from, file_from}
 use Rattle.nm_files.specs.Entries.{Script, entry_of, first_line_of, line_of, script_of, IsEntryOf}
 use Rattle.nm_files.proofs.LimitLemmas.{short}
-use Rattle.nm_files.proofs.ValueLemmas.{◌&◌, Row, puts, both_are, found_is, ok_is, then_is, values_are, worker_below}
+use Rattle.nm_files.proofs.ValueLemmas.{both_are, found_is, ok_is, seen_is, then_is, worker_below}
 
--- a kind makes calls of its values that a file may have where the kind may stand
-abbrev Allows : Kind → Type 0
-Allows kind = (workers : ℕ) (is_extended is_bare : Bool) → may_stand is_extended is_bare kind ≡ true → (x : Row workers (kind_row kind)) → IfOk (calls.made kind (puts workers (kind_row kind) x)) (IsAllowed workers is_extended)
+-- a kind makes calls of its values that a file may have if the kind may stand
+abbrev Allows : Kind ScriptCall → Type 0
+Allows kind = (workers : ℕ) (is_extended is_bare : Bool) → kind.may_stand is_extended is_bare ≡ true → (fs : List (List ℕ)) (values : Values kind.arguments) → values_of workers kind.arguments fs ≡ Ok values → IsAllowed workers is_extended (made kind.arguments kind.maker values)
 
-calls_allow : AllByRecursion Allows calls.kinds
-calls_allow =
-    (λ w o b h x. tt)
-    & (λ w o b h x. tt)
-    & (λ w o b h x. tt)
-    & (λ w o b h x. tt)
-    & (λ w o b h x. tt)
-    & (λ w o b h x. tt)
-    & (λ w o b h x. tt)
-    & (λ w o b h x. tt)
-    & (λ w o b h x. (h, x.0.1))
-    & tt
+heir_below : (workers : ℕ) (fs : List (List ℕ)) (values : Values (Worker ∷ [])) → values_of workers (Worker ∷ []) fs ≡ Ok values → values.0 < workers
+heir_below workers [] values e = absurd cc
+heir_below workers (f ∷ fs) values e = worker_below workers f values.0 (both_are (worker_of workers f) (no_values fs) values e).0
 
-some_is : (o : Option Kind) (kind : Kind) → ok_or o reason.Kind ≡ Ok kind → o ≡ Some kind
+calls_allow : AllByRecursion Allows calls
+calls_allow = search (rules, heir_below)
+
+some_is : {X : Type 0} (o : Option X) (kind : X) → ok_or o reason.Kind ≡ Ok kind → o ≡ Some kind
 some_is None kind e = absurd cc
 some_is (Some k) kind e = let same : k ≡ kind = ok_is k kind e in rw same refl
 
 entry_allowed : (header : Header) (fs : List (List ℕ)) (e : ℕ × ScriptCall) → entry_of calls header fs ≡ Ok e → IsEntryOf header e
-unfolding entry_of
+unfolding entry_of made_by
 entry_allowed header [] e is = absurd cc
 entry_allowed header (a ∷ []) e is = absurd cc
 entry_allowed header (a ∷ b ∷ fs) e is =
     let workers = header.layout.workers in
     let bare = length fs == 0 in
-    let k = then_is (kind_of calls.kinds header.is_extended b bare) _ e is in
-    let found = found_is Allows (is_named header.is_extended b bare) calls.kinds k.0 (some_is _ k.0 k.1) calls_allow in
-    let told = then_is (worker_and_values workers a (kind_row k.0) fs) _ e k.2 in
-    let both = both_are (worker_of workers a) (values_of workers (kind_row k.0) fs) told.0 told.1 in
-    let made = then_is (calls.made k.0 told.0.1) _ e told.2 in
-    let values = values_are workers (kind_row k.0) fs told.0.1 both.1 in
-    let allowed = found.0 workers header.is_extended bare (and_parts (bytes_eq b (kind_word k.0)) (may_stand header.is_extended bare k.0) found.1).1 values.0 in
-    let so : IfOk {T = ScriptCall} {E = Reason} (Ok made.0) (IsAllowed workers header.is_extended) = subst (λ r. IfOk r (IsAllowed workers header.is_extended)) (sym (ap (calls.made k.0) values.1) ∙ made.1) allowed in
-    subst (IsEntryOf header) (ok_is (told.0.0, made.0) e made.2) (worker_below workers a told.0.0 both.0, so)
+    let both = both_are (worker_of workers a) (made_by calls workers header.is_extended b fs) e is in
+    let k = then_is (kind_of calls header.is_extended b bare) _ e.1 both.1 in
+    let found = found_is Allows (is_named header.is_extended b bare) calls k.0 (some_is _ k.0 k.1) calls_allow in
+    let values = seen_is (made k.0.arguments k.0.maker) (values_of workers k.0.arguments fs) e.1 k.2 in
+    let stands = and_parts (bytes_eq b k.0.word) (k.0.may_stand header.is_extended bare) found.1 in
+    let allowed = found.0 workers header.is_extended bare stands.1 fs values.0 values.1 in
+    (worker_below workers a e.0 both.0, subst (IsAllowed workers header.is_extended) (sym values.2) allowed)
 
 pub line_allowed : (header : Header) (line : List ℕ) (e : ℕ × ScriptCall) → line_of calls header line ≡ Ok e → IsEntryOf header e
 line_allowed header line e is =

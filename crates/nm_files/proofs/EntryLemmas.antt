@@ -1,27 +1,25 @@
 -- Lines by their fields.
-use Rattle.std.proofs.Common.{◌≡◌, ℕ, zero, suc, ◌+◌, ◌-◌, ◌<◌, append_assoc, Bor, List, [], ◌∷◌, ◌++◌, length, map, take, Result, Ok, Err, refl, arith}
+use Rattle.std.proofs.Common.{◌≡◌, ℕ, zero, suc, ◌+◌, ◌-◌, ◌<◌, append_assoc, Bor, List, [], ◌∷◌, ◌++◌, length, map, take, Option, Some, None, Err, true, ap, refl, Bool, arith}
 use Rattle.std.specs.Prelude.{◌==◌}
-use Rattle.std.proofs.lemmas.Bool.{ne_eqb}
+use Rattle.std.specs.Option.{ok_or}
+use Rattle.std.specs.List.{find, list_all}
+use Rattle.std.proofs.lemmas.Bool.{ne_eqb, ltb-true}
 use Rattle.std.proofs.lemmas.List.{map_push}
-use Rattle.nm_files.specs.declared.read.fault.Reason.{Reason}
 use Rattle.nm_files.specs.declared.read.fault.Reason.TheVariants as reason
 use Rattle.nm_files.specs.declared.read.header.Command.{Command}
 use Rattle.nm_files.specs.declared.read.header.Header.{Header}
-use Rattle.nm_files.specs.declared.read.kind.Kind.{Kind}
-use Rattle.nm_files.specs.declared.read.value.Argument.{Argument}
-use Rattle.nm_files.specs.declared.read.value.Value.{Value}
 use Rattle.nm_files.specs.Chain.{◌>>=◌}
-use Rattle.nm_files.specs.Values.{both, worker_and_values, values_of, with_view}
-use Rattle.nm_files.specs.Formats.{Format}
-use Rattle.nm_files.specs.Kinds.{kind_row, kind_of}
+use Rattle.nm_files.specs.Values.{Argument, values_of, both, worker_of}
+use Rattle.nm_files.specs.Kinds.{Kind, is_short, is_named, made, made_by, with_view}
 use Rattle.nm_files.specs.Entries.{entry_of}
 use Rattle.nm_files.specs.Headers.{header_of, tries_of}
+use Rattle.nm_files.proofs.ValueLemmas.{found_is, each_is}
 
-pub entry_short : {X : Type 0} (format : Format X) (header : Header) (fs : List (List ℕ)) → length fs < 2 → Err reason.Form ≡ entry_of format header fs
+pub entry_short : {X : Type 0} (kinds : List (Kind X)) (header : Header) (fs : List (List ℕ)) → length fs < 2 → Err reason.Form ≡ entry_of kinds header fs
 unfolding entry_of
-entry_short format header [] h = refl
-entry_short format header (a ∷ []) h = refl
-entry_short format header (a ∷ b ∷ more) h = absurd (omega arith)
+entry_short kinds header [] h = refl
+entry_short kinds header (a ∷ []) h = refl
+entry_short kinds header (a ∷ b ∷ more) h = absurd (omega arith)
 
 pub header_short : (command : Command) (fs : List (List ℕ)) → length fs < 4 → Err reason.Header ≡ header_of command fs
 unfolding header_of
@@ -44,10 +42,6 @@ header_take command (a ∷ b ∷ []) = refl
 header_take command (a ∷ b ∷ c ∷ []) = refl
 header_take command (a ∷ b ∷ c ∷ d ∷ more) = rw (tries_take command more) refl
 
--- no kind has six fields behind its word
-few : (kind : Kind) → length (kind_row kind) < 6
-few kind = grind arith
-
 values_take : (workers n : ℕ) (row : List Argument) (fs : List (List ℕ)) → length row < n → values_of workers row (take n fs) ≡ values_of workers row fs
 values_take workers zero row fs h = absurd (omega (arith, h))
 values_take workers (suc n) [] [] h = refl
@@ -59,22 +53,22 @@ is_bare_take : (fs : List (List ℕ)) → (length (take 6 fs) == 0) ≡ (length 
 is_bare_take [] = refl
 is_bare_take (f ∷ fs) = rw (ne_eqb (length (f ∷ take 5 fs)) 0 (λ e. omega (arith, e)), ne_eqb (length (f ∷ fs)) 0 (λ e. omega (arith, e))) refl
 
-after_kind : {X : Type 0} (workers : ℕ) (a : List ℕ) (kind : Result Kind Reason) (f : Kind → ℕ × List Value → Result X Reason) (fs : List (List ℕ)) → (kind >>= λ kind. worker_and_values workers a (kind_row kind) (take 6 fs) >>= f kind) ≡ (kind >>= λ kind. worker_and_values workers a (kind_row kind) fs >>= f kind)
-after_kind workers a (Ok kind) f fs = rw (values_take workers 6 (kind_row kind) fs (few kind)) refl
-after_kind workers a (Err r) f fs = refl
+after_kind : {X : Type 0} (kinds : List (Kind X)) → list_all is_short kinds ≡ true → (workers : ℕ) (test : Kind X → Bool) (fs : List (List ℕ)) (o : Option (Kind X)) → find test kinds ≡ o
+    → (ok_or o reason.Kind >>= λ kind. with_view (made kind.arguments kind.maker) (values_of workers kind.arguments (take 6 fs)))
+    ≡ (ok_or o reason.Kind >>= λ kind. with_view (made kind.arguments kind.maker) (values_of workers kind.arguments fs))
+after_kind kinds few workers test fs (Some kind) is =
+    let short = found_is (λ k. is_short k ≡ true) test kinds kind is (each_is is_short kinds few) in
+    rw (values_take workers 6 kind.arguments fs (ltb-true (length kind.arguments) 6 short.0)) refl
+after_kind kinds few workers test fs None is = refl
 
-pub entry_take : {X : Type 0} (format : Format X) (header : Header) (fs : List (List ℕ)) → entry_of format header (take 8 fs) ≡ entry_of format header fs
-unfolding entry_of
-entry_take format header [] = refl
-entry_take format header (a ∷ []) = refl
-entry_take format header (a ∷ b ∷ more) =
-    rw (is_bare_take more) (after_kind header.layout.workers a (kind_of format.kinds header.is_extended b (length more == 0)) (λ kind read. format.made kind read.1 >>= λ entry. Ok (read.0, entry)) more)
+pub entry_take : {X : Type 0} (kinds : List (Kind X)) → list_all is_short kinds ≡ true → (header : Header) (fs : List (List ℕ)) → entry_of kinds header (take 8 fs) ≡ entry_of kinds header fs
+unfolding entry_of made_by
+entry_take kinds few header [] = refl
+entry_take kinds few header (a ∷ []) = refl
+entry_take kinds few header (a ∷ b ∷ more) =
+    rw (is_bare_take more) (ap (both (worker_of header.layout.workers a)) (after_kind kinds few header.layout.workers (is_named header.is_extended b (length more == 0)) more _ refl))
 
 -- ---- what a function of the program gives
-
--- a value beside what was read, seen by view
-pub both_seen : {A B C : Type 0} (view : B → C) (a : Result A Reason) (b : Result B Reason) → with_view (λ p. (p.0, view p.1)) (both a b) ≡ both a (with_view view b)
-both_seen view a b = grind arith
 
 -- one more field that is kept
 pub push_field : (items : List (Bor (List ℕ))) (f : Bor (List ℕ)) (i : ℕ) (all after total : List (List ℕ)) → i < 8 → all ≡ f.now ∷ after → map (λ f. f.now) items ++ take (8 - i) all ≡ total → map (λ f. f.now) (items ++ f ∷ []) ++ take (8 - (i + 1)) after ≡ total

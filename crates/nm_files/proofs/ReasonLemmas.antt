@@ -2,7 +2,7 @@
 use Rattle.std.proofs.Common.{◌≡◌, ℕ, Bool, true, false, List, [], ◌∷◌, length, Option, Some, None, Result, Ok, Err, refl, sym, ◌∙◌, inl, inr, arith}
 use Rattle.std.specs.Prelude.{◌||◌, ◌==◌, nat_lt, codes, if◌then◌else◌}
 use Rattle.std.specs.Str.{bytes_eq}
-use Rattle.std.specs.List.{AllByRecursion, find, list_all}
+use Rattle.std.specs.List.{find, list_all}
 use Rattle.std.proofs.lemmas.Bool.{cases_Bool, le-ltb}
 use Rattle.nm_files.specs.declared.read.fault.Reason.{Reason}
 use Rattle.nm_files.specs.declared.read.fault.Reason.TheVariants as reason
@@ -11,21 +11,17 @@ use Rattle.nm_files.specs.declared.read.header.Command.{Command}
 use Rattle.nm_files.specs.declared.read.header.Command.TheVariants.{Replay, Serial, Stress}
 use Rattle.nm_files.specs.declared.read.header.Header.{Header}
 use Rattle.nm_files.specs.declared.read.header.Limits.{Limits}
-use Rattle.nm_files.specs.declared.read.kind.Kind.{Kind}
-use Rattle.nm_files.specs.declared.read.value.Argument.{Argument}
-use Rattle.nm_files.specs.declared.read.value.Argument.TheVariants as a
-use Rattle.nm_files.specs.declared.read.value.Value.{Value}
 use Rattle.nm_files.specs.Chain.{◌>>=◌}
 use Rattle.nm_files.specs.Lines.{fields, is_field}
-use Rattle.nm_files.specs.Values.{both, worker_and_values, value_of, values_of, with_view, worker_of, is_key, field_words, side_words, op_words, answer_words}
-use Rattle.nm_files.specs.Formats.{Format}
-use Rattle.nm_files.specs.Kinds.{kind_row, is_named, events, calls}
+use Rattle.nm_files.specs.Values.{Argument, both, value_of, values_of, worker_of, is_key, field_words, side_words, op_words, answer_words}
+use Rattle.nm_files.specs.Values.{Argument as a}
+use Rattle.nm_files.specs.Kinds.{Kind as KindOf, is_named, made, made_by, with_view, events, calls}
 use Rattle.nm_files.specs.Headers.{command_word, later_limits, limits_of, count, tries_of, header_of, header_within}
 use Rattle.nm_files.specs.Entries.{entry_of, line_of, first_line_of}
 use Rattle.nm_model.specs.Step.{outside}
 use Rattle.nm_files.specs.Files.{least, at_line, checked, is_long}
 use Rattle.nm_files.specs.Reasons.{field_holds, row_holds, field_reasons, holds_of, holds, line_reasons, header_holds_of, header_holds, header_reasons, reason_of}
-use Rattle.nm_files.proofs.ValueLemmas.{Gives, Makes, both_are, events_make, calls_make, found_is, by_word_gives, number_gives, place_gives, values_are}
+use Rattle.nm_files.proofs.ValueLemmas.{Gives, by_word_gives, number_gives, place_gives}
 
 -- the reason of what was read
 abbrev reason_in : {X : Type 0} → Result X Reason → Option Reason
@@ -85,7 +81,7 @@ value_least workers a.Key f =
       | inl e ↦ rw e refl
       | inr x ↦ elim (cases_Bool (is_key x.0)) [ inl y ↦ rw (x.1, y) refl | inr n ↦ rw (x.1, n) refl ]
     ]
-value_least workers a.Worker f = seen_reason _ (worker_of workers f) ∙ worker_least workers f
+value_least workers a.Worker f = worker_least workers f
 value_least workers a.Field f = elim (by_word_gives field_words f) [ inl e ↦ rw e refl | inr x ↦ rw (x.1) refl ]
 value_least workers a.Side f = elim (by_word_gives side_words f) [ inl e ↦ rw e refl | inr x ↦ rw (x.1) refl ]
 value_least workers a.Op f = elim (by_word_gives op_words f) [ inl e ↦ rw e refl | inr x ↦ rw (x.1) refl ]
@@ -96,57 +92,50 @@ row_least workers [] [] = refl
 row_least workers [] (f ∷ fs) = refl
 row_least workers (argument ∷ row) [] = refl
 row_least workers (argument ∷ row) (f ∷ fs) =
-    seen_reason _ (both (value_of workers argument f) (values_of workers row fs))
-    ∙ both_least (value_of workers argument f) (values_of workers row fs) (field_holds workers argument f) (row_holds workers row fs) (value_least workers argument f) (row_least workers row fs)
+    both_least (value_of workers argument f) (values_of workers row fs) (field_holds workers argument f) (row_holds workers row fs) (value_least workers argument f) (row_least workers row fs)
 
 -- ---- a line
 
--- a kind makes an entry of what was read
-made_of : {X : Type 0} (format : Format X) (kind : Kind) → Makes format kind → (workers : ℕ) (w : List ℕ) (fs : List (List ℕ)) (said : Result (ℕ × List Value) Reason) → worker_and_values workers w (kind_row kind) fs ≡ said
-    → reason_in {X = ℕ × X} (said >>= λ told. format.made kind told.1 >>= λ entry. Ok (told.0, entry)) ≡ reason_in said
-made_of format kind makes workers w fs (Err r) is = refl
-made_of format kind makes workers w fs (Ok told) is =
-    let both = both_are (worker_of workers w) (values_of workers (kind_row kind) fs) told is in
-    let values = values_are workers (kind_row kind) fs told.1 both.1 in
-    let made = makes workers values.0 in
-    rw (values.1, made.1) refl
+-- no reason of a worker is before that of a wrong kind
+kind_first : {A : Type 0} (B : Type 0) (r : Result A Reason) (p : Reason → Bool) → reason_in r ≡ find p field_reasons → reason_in (both {B = B} r (Err reason.Kind)) ≡ Some reason.Kind
+kind_first B r p by_p = both_lesser {B = B} r (Err reason.Kind) ∙ rw (by_p, first_found p) (grind arith)
 
-kind_least : {X : Type 0} (format : Format X) → AllByRecursion (Makes format) format.kinds → (header : Header) (w k : List ℕ) (fs : List (List ℕ)) → list_all is_field (w ∷ k ∷ fs) ≡ true
-    → (o : Option Kind) → find (is_named header.is_extended k (length fs == 0)) format.kinds ≡ o
-    → reason_in (entry_of format header (w ∷ k ∷ fs)) ≡ find (holds_of format.kinds header false (w ∷ k ∷ fs)) line_reasons
-unfolding entry_of
-kind_least format makes header w k fs formed None is =
-    let two : nat_lt (length (w ∷ k ∷ fs)) 2 ≡ false = le-ltb (length (w ∷ k ∷ fs)) 2 (omega arith) in
-    rw (is, formed, two) refl
-kind_least format makes header w k fs formed (Some kind) is =
+kind_least : {X : Type 0} (kinds : List (KindOf X)) (header : Header) (w k : List ℕ) (fs : List (List ℕ)) → list_all is_field (w ∷ k ∷ fs) ≡ true
+    → (o : Option (KindOf X)) → find (is_named header.is_extended k (length fs == 0)) kinds ≡ o
+    → reason_in (entry_of kinds header (w ∷ k ∷ fs)) ≡ find (holds_of kinds header false (w ∷ k ∷ fs)) line_reasons
+unfolding entry_of made_by
+kind_least {X} kinds header w k fs formed None is =
     let workers = header.layout.workers in
     let two : nat_lt (length (w ∷ k ∷ fs)) 2 ≡ false = le-ltb (length (w ∷ k ∷ fs)) 2 (omega arith) in
-    let found = found_is (Makes format) (is_named header.is_extended k (length fs == 0)) format.kinds kind is makes in
-    rw (is, formed, two) (made_of format kind found.0 workers w fs (worker_and_values workers w (kind_row kind) fs) refl
-    ∙ both_least (worker_of workers w) (values_of workers (kind_row kind) fs) (field_holds workers a.Worker w) (row_holds workers (kind_row kind) fs) (worker_least workers w) (row_least workers (kind_row kind) fs))
+    rw (is, formed, two) (kind_first X (worker_of workers w) (field_holds workers a.Worker w) (worker_least workers w))
+kind_least kinds header w k fs formed (Some kind) is =
+    let workers = header.layout.workers in
+    let two : nat_lt (length (w ∷ k ∷ fs)) 2 ≡ false = le-ltb (length (w ∷ k ∷ fs)) 2 (omega arith) in
+    let values = values_of workers kind.arguments fs in
+    rw (is, formed, two) (both_least (worker_of workers w) (with_view (made kind.arguments kind.maker) values) (field_holds workers a.Worker w) (row_holds workers kind.arguments fs) (worker_least workers w) (seen_reason _ values ∙ row_least workers kind.arguments fs))
 
-entry_least : {X : Type 0} (format : Format X) → AllByRecursion (Makes format) format.kinds → (header : Header) (fs : List (List ℕ)) → list_all is_field fs ≡ true → reason_in (entry_of format header fs) ≡ find (holds_of format.kinds header false fs) line_reasons
+entry_least : {X : Type 0} (kinds : List (KindOf X)) (header : Header) (fs : List (List ℕ)) → list_all is_field fs ≡ true → reason_in (entry_of kinds header fs) ≡ find (holds_of kinds header false fs) line_reasons
 unfolding entry_of
-entry_least format makes header [] formed = refl
-entry_least format makes header (w ∷ []) formed = rw formed refl
-entry_least format makes header (w ∷ k ∷ fs) formed = kind_least format makes header w k fs formed _ refl
+entry_least kinds header [] formed = refl
+entry_least kinds header (w ∷ []) formed = rw formed refl
+entry_least kinds header (w ∷ k ∷ fs) formed = kind_least kinds header w k fs formed _ refl
 
-fields_least : {X : Type 0} (format : Format X) → AllByRecursion (Makes format) format.kinds → (header : Header) (long : Bool) (fs : List (List ℕ)) → reason_in (if long then Err reason.Long else if list_all is_field fs then entry_of format header fs else Err reason.Form) ≡ find (holds_of format.kinds header long fs) line_reasons
-fields_least format makes header true fs = refl
-fields_least format makes header false fs =
+fields_least : {X : Type 0} (kinds : List (KindOf X)) (header : Header) (long : Bool) (fs : List (List ℕ)) → reason_in (if long then Err reason.Long else if list_all is_field fs then entry_of kinds header fs else Err reason.Form) ≡ find (holds_of kinds header long fs) line_reasons
+fields_least kinds header true fs = refl
+fields_least kinds header false fs =
     elim (cases_Bool (list_all is_field fs)) [
-      | inl y ↦ let e = entry_least format makes header fs y in rw y (rw y at e)
+      | inl y ↦ let e = entry_least kinds header fs y in rw y (rw y at e)
       | inr n ↦ rw n refl
     ]
 
-line_least : {X : Type 0} (format : Format X) → AllByRecursion (Makes format) format.kinds → (header : Header) (number : ℕ) (line : List ℕ) → reason_of (checked number line (line_of format header line)) ≡ find (holds format.kinds header number line) line_reasons
-line_least format makes header number line = reason_at number _ ∙ fields_least format makes header (is_long number line) (fields line)
+line_least : {X : Type 0} (kinds : List (KindOf X)) (header : Header) (number : ℕ) (line : List ℕ) → reason_of (checked number line (line_of kinds header line)) ≡ find (holds kinds header number line) line_reasons
+line_least kinds header number line = reason_at number _ ∙ fields_least kinds header (is_long number line) (fields line)
 
-pub event_least : (header : Header) (number : ℕ) (line : List ℕ) → reason_of (checked number line (line_of events header line)) ≡ find (holds events.kinds header number line) line_reasons
-event_least = line_least events events_make
+pub event_least : (header : Header) (number : ℕ) (line : List ℕ) → reason_of (checked number line (line_of events header line)) ≡ find (holds events header number line) line_reasons
+event_least = line_least events
 
-pub call_least : (header : Header) (number : ℕ) (line : List ℕ) → reason_of (checked number line (line_of calls header line)) ≡ find (holds calls.kinds header number line) line_reasons
-call_least = line_least calls calls_make
+pub call_least : (header : Header) (number : ℕ) (line : List ℕ) → reason_of (checked number line (line_of calls header line)) ≡ find (holds calls header number line) line_reasons
+call_least = line_least calls
 
 -- ---- the first line
 

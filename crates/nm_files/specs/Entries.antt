@@ -1,7 +1,6 @@
 -- A file by its lines: a schedule is a header and events of workers in their order; a script is a
 -- header and calls.
-use Rattle.nm_files.specs.Chain.{◌>>=◌}
-use Rattle.std.specs.Prelude.{◌<◌, ℕ, List, ◌∷◌, length, ◌==◌, Result, Ok, Err, if◌then◌else◌}
+use Rattle.std.specs.Prelude.{◌<◌, ℕ, List, ◌∷◌, Result, Err, if◌then◌else◌}
 use Rattle.std.specs.List.{list_all}
 use Rattle.nm_model.specs.declared.event.Event.{Event}
 use Rattle.nm_files.specs.declared.read.entry.ScriptCall.{ScriptCall}
@@ -11,33 +10,30 @@ use Rattle.nm_files.specs.declared.read.header.Command.{Command}
 use Rattle.nm_files.specs.declared.read.header.Command.TheVariants.{Replay}
 use Rattle.nm_files.specs.declared.read.header.Header.{Header}
 use Rattle.nm_files.specs.Lines.{parts, fields, is_field}
-use Rattle.nm_files.specs.Values.{worker_and_values}
-use Rattle.nm_files.specs.Formats.{Format}
-use Rattle.nm_files.specs.Kinds.{kind_row, kind_of, events, calls, IsAllowed}
+use Rattle.nm_files.specs.Values.{both, worker_of}
+use Rattle.nm_files.specs.Kinds.{Kind, made_by, events, calls, IsAllowed}
 use Rattle.nm_files.specs.Headers.{header_of, SerialAlone}
 use Rattle.nm_files.specs.Files.{Fault, File, file_from}
 
 -- the worker and the entry of a line, from its fields
-unfoldable pub entry_of : {X : Type 0} → Format X → Header → List (List ℕ) → Result (ℕ × X) Reason
-entry_of format header (worker ∷ word ∷ arguments) = do
-  kind ← kind_of format.kinds header.is_extended word (length arguments == 0)
-  told ← worker_and_values header.layout.workers worker (kind_row kind) arguments
-  entry ← format.made kind told.1
-  Ok (told.0, entry)
-entry_of format header _ = Err reason.Form
+unfoldable pub entry_of : {X : Type 0} → List (Kind X) → Header → List (List ℕ) → Result (ℕ × X) Reason
+entry_of kinds header (worker ∷ word ∷ arguments) =
+    both (worker_of header.layout.workers worker)
+    (made_by kinds header.layout.workers header.is_extended word arguments)
+entry_of kinds header _ = Err reason.Form
 
 -- the worker and the entry of a line, in a file with that header
-abbrev pub line_of : {X : Type 0} → Format X → Header → List ℕ → Result (ℕ × X) Reason
-line_of format header line =
-    if list_all is_field (fields line) then entry_of format header (fields line)
+abbrev pub line_of : {X : Type 0} → List (Kind X) → Header → List ℕ → Result (ℕ × X) Reason
+line_of kinds header line =
+    if list_all is_field (fields line) then entry_of kinds header (fields line)
     else Err reason.Form
 
 abbrev pub first_line_of : Command → List ℕ → Result Header Reason
 first_line_of command line = header_of command (fields line)
 
--- the contents of a file for that command from its bytes, in lines of that format
-abbrev pub file_of : {X : Type 0} → Format X → Command → List ℕ → Result (File Header (ℕ × X)) Fault
-file_of format command bytes = file_from (first_line_of command) (line_of format) (parts bytes)
+-- the contents of a file for that command from its bytes, in lines of these kinds
+abbrev pub file_of : {X : Type 0} → List (Kind X) → Command → List ℕ → Result (File Header (ℕ × X)) Fault
+file_of kinds command bytes = file_from (first_line_of command) (line_of kinds) (parts bytes)
 
 -- a header, and the events of workers
 abbrev pub Schedule : Type 0

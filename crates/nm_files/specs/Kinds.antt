@@ -1,6 +1,7 @@
 -- The kinds of line: the word of each, what the fields after it must be, and the entry that it
 -- gives.
-use Rattle.std.specs.Prelude.{◌≡◌, ◌<◌, ℕ, List, [], ◌∷◌, codes, Bool, true, not, ◌&&◌, Result, Ok, Err}
+use Rattle.nm_files.specs.Chain.{◌>>=◌}
+use Rattle.std.specs.Prelude.{◌≡◌, ◌<◌, ℕ, List, [], ◌∷◌, length, codes, Bool, true, not, ◌&&◌, ◌==◌, nat_lt, Result, Ok, Err}
 use Rattle.std.specs.List.{find}
 use Rattle.std.specs.Option.{ok_or}
 use Rattle.std.specs.Str.{bytes_eq}
@@ -10,136 +11,107 @@ use Rattle.nm_files.specs.declared.read.entry.ScriptCall.{ScriptCall}
 use Rattle.nm_files.specs.declared.read.entry.ScriptCall.TheVariants as call
 use Rattle.nm_files.specs.declared.read.fault.Reason.{Reason}
 use Rattle.nm_files.specs.declared.read.fault.Reason.TheVariants as reason
-use Rattle.nm_files.specs.declared.read.kind.Kind.{Kind}
-use Rattle.nm_files.specs.declared.read.kind.Kind.TheVariants.{SightFor, Sight, Announce, LeaveWith, Leave, Scan, Advance, Claim, Give, Look, Fill, Link, Flag, Tag, Splice, Has, Insert, Delete, Finish, Pin, Unpin, Collect, Resign}
-use Rattle.nm_files.specs.declared.read.value.Argument.{Argument}
-use Rattle.nm_files.specs.declared.read.value.Argument.TheVariants as a
-use Rattle.nm_files.specs.declared.read.value.Value.{Value}
-use Rattle.nm_files.specs.declared.read.value.Value.TheVariants.{Place, Number, Key, Worker, Field, Side, Op, Answer}
-use Rattle.nm_files.specs.Formats.{Format}
+use Rattle.nm_files.specs.Values.{Argument, ValueOf, Values, values_of}
+use Rattle.nm_files.specs.Values.Argument.{Place, Number, Key, Worker, Field, Side, Op, Answer}
 
--- the word of each kind
-abbrev pub kind_word : Kind → List ℕ
-kind_word SightFor = codes "sight"
-kind_word Sight = codes "sight"
-kind_word Announce = codes "announce"
-kind_word LeaveWith = codes "leave"
-kind_word Leave = codes "leave"
-kind_word Scan = codes "scan"
-kind_word Advance = codes "advance"
-kind_word Claim = codes "claim"
-kind_word Give = codes "give"
-kind_word Look = codes "look"
-kind_word Fill = codes "fill"
-kind_word Link = codes "link"
-kind_word Flag = codes "flag"
-kind_word Tag = codes "tag"
-kind_word Splice = codes "splice"
-kind_word Has = codes "has"
-kind_word Insert = codes "insert"
-kind_word Delete = codes "delete"
-kind_word Finish = codes "finish"
-kind_word Pin = codes "pin"
-kind_word Unpin = codes "unpin"
-kind_word Collect = codes "collect"
-kind_word Resign = codes "resign"
+-- `Maker`, `made`: a function of the values of these arguments, one after the other; and the entry
+-- that it makes of them
+abbrev pub Maker : List Argument → Type 0 → Type 0
+Maker [] X = X
+Maker (argument ∷ row) X = ValueOf argument → Maker row X
 
--- what the fields after its word must be
-abbrev pub kind_row : Kind → List Argument
-kind_row SightFor = a.Op ∷ a.Key ∷ []
-kind_row LeaveWith = a.Answer ∷ []
-kind_row Scan = a.Place ∷ []
-kind_row Claim = a.Place ∷ []
-kind_row Give = a.Place ∷ []
-kind_row Look = a.Place ∷ a.Field ∷ []
-kind_row Fill = a.Place ∷ a.Field ∷ a.Number ∷ []
-kind_row Link = a.Place ∷ a.Side ∷ a.Place ∷ a.Place ∷ []
-kind_row Flag = a.Place ∷ a.Side ∷ a.Place ∷ []
-kind_row Tag = a.Place ∷ a.Side ∷ []
-kind_row Splice = a.Place ∷ a.Side ∷ a.Place ∷ a.Place ∷ a.Side ∷ []
-kind_row Has = a.Key ∷ []
-kind_row Insert = a.Key ∷ []
-kind_row Delete = a.Key ∷ []
-kind_row Resign = a.Worker ∷ []
-kind_row kind = []
+abbrev pub made : {X : Type 0} (row : List Argument) → Maker row X → Values row → X
+made [] entry values = entry
+made (argument ∷ row) maker values = made row (maker values.0) values.1
 
--- a file may have lines of this kind: sights and leaves of operations, and lines of resigning, only
--- in later versions. With no field after its word, a sight or a leave is not of an operation
-abbrev pub may_stand : Bool → Bool → Kind → Bool
-may_stand is_extended is_bare SightFor = is_extended && not is_bare
-may_stand is_extended is_bare LeaveWith = is_extended && not is_bare
-may_stand is_extended is_bare Resign = is_extended
-may_stand is_extended is_bare kind = true
+-- `Standing`, `always`, `later`, `later_with_fields`: whether a line may be of a kind, in a file that
+-- has the lines of later versions or not, and with no field after the word or some
+abbrev pub Standing : Type 0
+Standing = Bool → Bool → Bool
+
+abbrev pub always : Standing
+always is_extended is_bare = true
+
+abbrev pub later : Standing
+later is_extended is_bare = is_extended
+
+abbrev pub later_with_fields : Standing
+later_with_fields is_extended is_bare = is_extended && not is_bare
+
+-- `Kind`, `kind`: a kind of line: which lines may be of it, its word, what the fields after the word
+-- must be, and the entry that it makes of their values
+pub record Kind (X : Type 0) : Type 0 where
+  pub may_stand : Standing
+  pub word : List ℕ
+  pub arguments : List Argument
+  pub maker : Maker arguments X
+
+abbrev pub kind : {X : Type 0} → Standing → List ℕ → (arguments : List Argument) → Maker arguments X
+    → Kind X
+kind may_stand word arguments maker = record {
+  may_stand = may_stand;
+  word = word;
+  arguments = arguments;
+  maker = maker;
+}
+
+-- the lines of a schedule. A sight or a leave with no field after its word is not of an operation
+abbrev pub events : List (Kind Event)
+events = kind later_with_fields (codes "sight") (Op ∷ Key ∷ []) event.SightFor
+    ∷ kind always (codes "sight") [] event.Sight
+    ∷ kind always (codes "announce") [] event.Announce
+    ∷ kind later_with_fields (codes "leave") (Answer ∷ []) event.LeaveWith
+    ∷ kind always (codes "leave") [] event.Leave
+    ∷ kind always (codes "scan") (Place ∷ []) event.Scan
+    ∷ kind always (codes "advance") [] event.Advance
+    ∷ kind always (codes "claim") (Place ∷ []) event.Claim
+    ∷ kind always (codes "give") (Place ∷ []) event.Give
+    ∷ kind always (codes "look") (Place ∷ Field ∷ []) event.Look
+    ∷ kind always (codes "fill") (Place ∷ Field ∷ Number ∷ []) event.Fill
+    ∷ kind always (codes "link") (Place ∷ Side ∷ Place ∷ Place ∷ []) event.Link
+    ∷ kind always (codes "flag") (Place ∷ Side ∷ Place ∷ []) event.Flag
+    ∷ kind always (codes "tag") (Place ∷ Side ∷ []) event.Tag
+    ∷ kind always (codes "splice") (Place ∷ Side ∷ Place ∷ Place ∷ Side ∷ []) event.Splice
+    ∷ []
+
+-- the lines of a script
+abbrev pub calls : List (Kind ScriptCall)
+calls = kind always (codes "has") (Key ∷ []) call.Has
+    ∷ kind always (codes "insert") (Key ∷ []) call.Insert
+    ∷ kind always (codes "delete") (Key ∷ []) call.Delete
+    ∷ kind always (codes "finish") [] call.Finish
+    ∷ kind always (codes "pin") [] call.Pin
+    ∷ kind always (codes "unpin") [] call.Unpin
+    ∷ kind always (codes "advance") [] call.Advance
+    ∷ kind always (codes "collect") [] call.Collect
+    ∷ kind later (codes "resign") (Worker ∷ []) call.Resign
+    ∷ []
+
+-- no kind has six fields after its word
+abbrev pub is_short : {X : Type 0} → Kind X → Bool
+is_short kind = nat_lt (length kind.arguments) 6
 
 -- the kind has this word, and is allowed
-abbrev pub is_named : Bool → List ℕ → Bool → Kind → Bool
+abbrev pub is_named : {X : Type 0} → Bool → List ℕ → Bool → Kind X → Bool
 is_named is_extended given is_bare kind =
-    bytes_eq given (kind_word kind) && may_stand is_extended is_bare kind
+    bytes_eq given kind.word && kind.may_stand is_extended is_bare
 
 -- the first such of these kinds
-abbrev pub kind_of : List Kind → Bool → List ℕ → Bool → Result Kind Reason
+abbrev pub kind_of : {X : Type 0} → List (Kind X) → Bool → List ℕ → Bool → Result (Kind X) Reason
 kind_of kinds is_extended given is_bare =
     ok_or (find (is_named is_extended given is_bare) kinds) reason.Kind
 
--- `removal`, `tree_event`, `slot_event`, `event_made`: the event of each kind from the values of
--- its fields: of a tag and a splice; of all changes of the tree; of all steps on one slot too; of
--- all kinds
-abbrev pub removal : Kind → List Value → Result Event Reason
-removal Tag (Place parent ∷ Side side ∷ []) = Ok (event.Tag parent side)
-removal Splice (Place ancestor ∷ Side side ∷ Place successor ∷ Place parent ∷ Side keep ∷ []) =
-    Ok (event.Splice ancestor side successor parent keep)
-removal kind values = Err reason.Fields
+-- the result, with its value seen by view
+abbrev pub with_view : {X Y : Type 0} → (X → Y) → Result X Reason → Result Y Reason
+with_view view (Ok x) = Ok (view x)
+with_view view (Err r) = Err r
 
-abbrev pub tree_event : Kind → List Value → Result Event Reason
-tree_event Link (Place parent ∷ Side side ∷ Place leaf ∷ Place new ∷ []) =
-    Ok (event.Link parent side leaf new)
-tree_event Flag (Place parent ∷ Side side ∷ Place leaf ∷ []) = Ok (event.Flag parent side leaf)
-tree_event kind values = removal kind values
-
-abbrev pub slot_event : Kind → List Value → Result Event Reason
-slot_event Claim (Place slot ∷ []) = Ok (event.Claim slot)
-slot_event Give (Place slot ∷ []) = Ok (event.Give slot)
-slot_event Look (Place slot ∷ Field field ∷ []) = Ok (event.Look slot field)
-slot_event Fill (Place slot ∷ Field field ∷ Number value ∷ []) = Ok (event.Fill slot field value)
-slot_event kind values = tree_event kind values
-
-abbrev pub event_made : Kind → List Value → Result Event Reason
-event_made SightFor (Op op ∷ Key key ∷ []) = Ok (event.SightFor op key)
-event_made Sight [] = Ok event.Sight
-event_made Announce [] = Ok event.Announce
-event_made LeaveWith (Answer answer ∷ []) = Ok (event.LeaveWith answer)
-event_made Leave [] = Ok event.Leave
-event_made Scan (Place worker ∷ []) = Ok (event.Scan worker)
-event_made Advance [] = Ok event.Advance
-event_made kind values = slot_event kind values
-
--- the call of each kind from the values of its fields
-abbrev pub call_made : Kind → List Value → Result ScriptCall Reason
-call_made Has (Key key ∷ []) = Ok (call.Has key)
-call_made Insert (Key key ∷ []) = Ok (call.Insert key)
-call_made Delete (Key key ∷ []) = Ok (call.Delete key)
-call_made Finish [] = Ok call.Finish
-call_made Pin [] = Ok call.Pin
-call_made Unpin [] = Ok call.Unpin
-call_made Advance [] = Ok call.Advance
-call_made Collect [] = Ok call.Collect
-call_made Resign (Worker heir ∷ []) = Ok (call.Resign heir)
-call_made kind values = Err reason.Fields
-
--- the lines of a schedule
-abbrev pub events : Format Event
-events = record {
-  kinds = SightFor ∷ Sight ∷ Announce ∷ LeaveWith ∷ Leave ∷ Scan ∷ Advance ∷ Claim ∷ Give ∷ Look
-      ∷ Fill ∷ Link ∷ Flag ∷ Tag ∷ Splice ∷ [];
-  made = event_made;
-}
-
--- the lines of a script
-abbrev pub calls : Format ScriptCall
-calls = record {
-  kinds = Has ∷ Insert ∷ Delete ∷ Finish ∷ Pin ∷ Unpin ∷ Advance ∷ Collect ∷ Resign ∷ [];
-  made = call_made;
-}
+-- the entry of a word and the fields after it
+unfoldable pub made_by : {X : Type 0} → List (Kind X) → ℕ → Bool → List ℕ → List (List ℕ)
+    → Result X Reason
+made_by kinds workers is_extended word fields = do
+  kind ← kind_of kinds is_extended word (length fields == 0)
+  with_view (made kind.arguments kind.maker) (values_of workers kind.arguments fields)
 
 -- a call that a file may have: its heir is one of the workers, and it resigns only in later
 -- versions

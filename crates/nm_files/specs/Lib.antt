@@ -2,7 +2,6 @@ pub mod Chain
 pub mod Lines
 pub mod Files
 pub mod Values
-pub mod Formats
 pub mod Kinds
 pub mod Headers
 pub mod Entries

@@ -6,12 +6,10 @@ use Rattle.nm_files.specs.declared.read.fault.Reason.TheVariants.{Long, Header, 
 use Rattle.nm_files.specs.declared.read.header.Command.{Command as CommandOf}
 use Rattle.nm_files.specs.declared.read.header.Header.{Header as HeaderOf}
 use Rattle.nm_files.specs.declared.read.header.Limits.{Limits}
-use Rattle.nm_files.specs.declared.read.kind.Kind.{Kind as KindOf}
-use Rattle.nm_files.specs.declared.read.value.Argument.{Argument}
-use Rattle.nm_files.specs.declared.read.value.Argument.TheVariants as a
 use Rattle.nm_files.specs.Lines.{fields, is_field, number, place}
-use Rattle.nm_files.specs.Values.{by_word, field_words, side_words, op_words, answer_words, is_key}
-use Rattle.nm_files.specs.Kinds.{kind_row, kind_of}
+use Rattle.nm_files.specs.Values.{Argument, by_word, field_words, side_words, op_words, answer_words, is_key}
+use Rattle.nm_files.specs.Values.{Argument as a}
+use Rattle.nm_files.specs.Kinds.{Kind as KindOf, kind_of}
 use Rattle.nm_files.specs.Headers.{limits_of, tries_of}
 use Rattle.nm_model.specs.Step.{outside}
 use Rattle.nm_files.specs.Files.{Fault, is_long}
@@ -71,23 +69,23 @@ row_holds workers _ _ _ = false
 abbrev pub worker_field : List (List ℕ) → List ℕ
 worker_field fs = slice_index_or fs 0 []
 
-abbrev pub kind_in : List KindOf → HeaderOf → List (List ℕ) → Result KindOf Reason
+abbrev pub kind_in : {X : Type 0} → List (KindOf X) → HeaderOf → List (List ℕ) → Result (KindOf X) Reason
 kind_in kinds header fs =
     kind_of kinds header.is_extended (slice_index_or fs 1 []) (length (drop 2 fs) == 0)
 
 -- `holds_of`, `header_holds_of`: the reason holds of a line, and of the first line
-abbrev pub holds_of : List KindOf → HeaderOf → Bool → List (List ℕ) → Reason → Bool
+abbrev pub holds_of : {X : Type 0} → List (KindOf X) → HeaderOf → Bool → List (List ℕ) → Reason → Bool
 holds_of kinds header long fs Long = long
 holds_of kinds header long fs Form = not (list_all is_field fs) || nat_lt (length fs) 2
 holds_of kinds header long fs Kind = not (is_ok (kind_in kinds header fs))
 holds_of kinds header long fs r =
     field_holds header.layout.workers a.Worker (worker_field fs) r
-    || so_at (λ kind. row_holds header.layout.workers (kind_row kind) (drop 2 fs) r)
+    || so_at (λ kind. row_holds header.layout.workers kind.arguments (drop 2 fs) r)
     (kind_in kinds header fs)
 
 -- the reason holds of the line of this number, in a file with that header whose lines are of these
 -- kinds
-abbrev pub holds : List KindOf → HeaderOf → ℕ → List ℕ → Reason → Bool
+abbrev pub holds : {X : Type 0} → List (KindOf X) → HeaderOf → ℕ → List ℕ → Reason → Bool
 holds kinds header number line = holds_of kinds header (is_long number line) (fields line)
 
 -- the reasons that fields can have, and those that a line after the first can have, in the order of

@@ -4,7 +4,6 @@ pub mod fault;
 pub mod field;
 pub mod file;
 pub mod header;
-pub mod kind;
 pub mod line;
 pub mod pieces;
 pub mod value;

@@ -1,10 +1,14 @@
 //! The entry of a line, besides its worker: an event of a schedule, or a call of a script.
-ghost use Rattle.std.specs.Prelude.{◌≡◌};
+ghost use Rattle.std.specs.Prelude.{◌≡◌, List, [], ◌∷◌, true, refl, map};
+ghost use Rattle.std.specs.List.{list_all};
+ghost use Rattle.std.specs.Str.{bytes_eq};
+ghost use Rattle.nm_files.specs.Values.{values_of};
+ghost use Rattle.nm_files.specs.Values.Argument.{Worker};
+ghost use Rattle.nm_files.specs.Kinds.{Kind, events, calls, with_view};
 ghost use Rattle.nm_files.specs.Kinds as spec;
 
 use crate::read::fault::Reason;
-use crate::read::kind::Kind;
-use crate::read::value::Value;
+use crate::read::value::{Arguments, worker_of};
 use nm_edge::Key;
 use nm_model::Event;
 
@@ -23,146 +27,118 @@ pub enum ScriptCall {
     Resign(u32),
 }
 
-/// The entries of one format: the kinds of its lines, and the entry of each kind and its values.
-pub trait FileEntry: Copy {
-    ghost use Rattle.nm_files.specs.Formats.{Format};
+/// The entry of a line: an event of a schedule, or a call of a script.
+pub(crate) trait FileEntry: Copy {
+    ghost kinds: { List (Kind Self) };
 
-    ghost format: { Format Self };
+    ghost few: { list_all spec.is_short kinds ≡ true };
 
-    /// Returns the kinds that a line may have. If two of them have the same word and are allowed,
-    /// the first is meant.
-    fn kinds() -> &'static [Kind]
-        ensures { result.now ≡ format.kinds };
-
-    /// Returns the entry of a line of this kind, from the values of its fields. Errors: `Fields`
-    /// for other values.
-    fn made(kind: Kind, values: &[Value]) -> Result<Self, Reason>
-        ensures { result ≡ format.made kind values.now };
+    /// Parses a word and the fields after it, in a file with this number of workers, and with the
+    /// lines of later versions or not. Errors: `Kind` for a word of no kind; the least reason for
+    /// which the fields are not those of the kind.
+    fn made(workers: u32, is_extended: bool, word: &[u8], fields: &[&[u8]]) -> Result<Self, Reason>
+        ensures { result
+            ≡ spec.made_by kinds workers is_extended word.now (map (λ f. f.now) fields.now) };
 }
 
+/// Returns whether a word is this one.
+fn is(word: &[u8], name: &[u8]) -> bool
+    ensures { result ≡ bytes_eq word.now name.now }
+{
+    word == name
+}
+
+/// Parses the fields after a word.
+fn values<T: Arguments>(fields: &[&[u8]]) -> Result<T, Reason>
+    ensures { result ≡ T.values (map (λ f. f.now) fields.now) }
+{
+    T::values(fields)
+}
+
+/// Each row is one kind of event: its word, and the event that it makes of the fields.
 impl FileEntry for Event {
-    ghost use Rattle.nm_files.specs.Kinds.{events};
+    ghost kinds = { events };
 
-    ghost format = { events };
+    ghost few = { refl };
 
-    fn kinds() -> &'static [Kind] {
-        &[
-            Kind::SightFor,
-            Kind::Sight,
-            Kind::Announce,
-            Kind::LeaveWith,
-            Kind::Leave,
-            Kind::Scan,
-            Kind::Advance,
-            Kind::Claim,
-            Kind::Give,
-            Kind::Look,
-            Kind::Fill,
-            Kind::Link,
-            Kind::Flag,
-            Kind::Tag,
-            Kind::Splice,
-        ]
-    }
-
-    fn made(kind: Kind, values: &[Value]) -> Result<Event, Reason> {
-        match (kind, values) {
-            (Kind::SightFor, [Value::Op(op), Value::Key(key)]) => Ok(Event::SightFor(*op, *key)),
-            (Kind::Sight, []) => Ok(Event::Sight),
-            (Kind::Announce, []) => Ok(Event::Announce),
-            (Kind::LeaveWith, [Value::Answer(answer)]) => Ok(Event::LeaveWith(*answer)),
-            (Kind::Leave, []) => Ok(Event::Leave),
-            (Kind::Scan, [Value::Place(worker)]) => Ok(Event::Scan(*worker)),
-            (Kind::Advance, []) => Ok(Event::Advance),
-            _ => slot_event(kind, values),
+    #[tactic(auto, unfolding(crate::specs::Kinds::made_by))]
+    fn made(_: u32, is_extended: bool, word: &[u8], fields: &[&[u8]]) -> Result<Event, Reason> {
+        use Event::*;
+        let is_of_operation = is_extended && !fields.is_empty();
+        match word {
+            _ if is(word, b"sight") && is_of_operation => values(fields).map(|(
+                op,
+                (key, ()),
+            )| SightFor(op, key)),
+            _ if is(word, b"sight") => values(fields).map(|()| Sight),
+            _ if is(word, b"announce") => values(fields).map(|()| Announce),
+            _ if is(word, b"leave") && is_of_operation => values(fields).map(|(
+                answer,
+                (),
+            )| LeaveWith(answer)),
+            _ if is(word, b"leave") => values(fields).map(|()| Leave),
+            _ if is(word, b"scan") => values(fields).map(|(worker, ())| Scan(worker)),
+            _ if is(word, b"advance") => values(fields).map(|()| Advance),
+            _ if is(word, b"claim") => values(fields).map(|(slot, ())| Claim(slot)),
+            _ if is(word, b"give") => values(fields).map(|(slot, ())| Give(slot)),
+            _ if is(word, b"look") => values(fields).map(|(slot, (field, ()))| Look(slot, field)),
+            _ if is(word, b"fill") => values(fields).map(|(slot, (field, (value, ())))| Fill(
+                slot, field, value,
+            )),
+            _ if is(word, b"link") => values(fields).map(|(parent, (side, (leaf, (new, ()))))| Link(
+                parent, side, leaf, new,
+            )),
+            _ if is(word, b"flag") => values(fields).map(|(parent, (side, (leaf, ())))| Flag(
+                parent, side, leaf,
+            )),
+            _ if is(word, b"tag") => values(fields).map(|(parent, (side, ()))| Tag(parent, side)),
+            _ if is(word, b"splice") => values(fields).map(|(
+                ancestor,
+                (side, (successor, (parent, (keep, ())))),
+            )| Splice(ancestor, side, successor, parent, keep)),
+            _ => Err(Reason::Kind),
         }
     }
 }
 
-/// Returns an event on one slot, from the values of its fields.
-fn slot_event(kind: Kind, values: &[Value]) -> Result<Event, Reason>
-    ensures { result ≡ spec.slot_event kind values.now }
+/// Parses the only field into a worker, whose number must be below `workers`.
+fn heir(workers: u32, fields: &[&[u8]]) -> Result<u32, Reason>
+    ensures { with_view (λ heir. (heir, tt)) result
+        ≡ values_of workers (Worker ∷ []) (map (λ f. f.now) fields.now) }
 {
-    use Value::{Field, Number, Place};
-    match (kind, values) {
-        (Kind::Claim, [Place(slot)]) => Ok(Event::Claim(*slot)),
-        (Kind::Give, [Place(slot)]) => Ok(Event::Give(*slot)),
-        (Kind::Look, [Place(slot), Field(word)]) => Ok(Event::Look(*slot, *word)),
-        (Kind::Fill, [Place(slot), Field(word), Number(value)]) => {
-            Ok(Event::Fill(*slot, *word, *value))
-        }
-        _ => tree_event(kind, values),
-    }
-}
-
-/// Returns a link, a flag or another change of the tree, from the values of its fields.
-fn tree_event(kind: Kind, values: &[Value]) -> Result<Event, Reason>
-    ensures { result ≡ spec.tree_event kind values.now }
-{
-    use Value::{Place, Side};
-    match (kind, values) {
-        (Kind::Link, [Place(parent), Side(side), Place(leaf), Place(new)]) => {
-            Ok(Event::Link(*parent, *side, *leaf, *new))
-        }
-        (Kind::Flag, [Place(parent), Side(side), Place(leaf)]) => {
-            Ok(Event::Flag(*parent, *side, *leaf))
-        }
-        _ => removal(kind, values),
-    }
-}
-
-/// Returns a tag or a splice, from the values of its fields.
-fn removal(kind: Kind, values: &[Value]) -> Result<Event, Reason>
-    ensures { result ≡ spec.removal kind values.now }
-{
-    use Value::{Place, Side};
-    match (kind, values) {
-        (Kind::Tag, [Place(parent), Side(side)]) => Ok(Event::Tag(*parent, *side)),
-        (
-            Kind::Splice,
-            [
-                Place(ancestor),
-                Side(side),
-                Place(successor),
-                Place(parent),
-                Side(keep),
-            ],
-        ) => Ok(Event::Splice(*ancestor, *side, *successor, *parent, *keep)),
+    match fields {
+        [heir] => worker_of(workers, heir),
         _ => Err(Reason::Fields),
     }
 }
 
+/// Each row is one kind of call: its word, and the call that it makes of the fields.
 impl FileEntry for ScriptCall {
-    ghost use Rattle.nm_files.specs.Kinds.{calls};
+    ghost kinds = { calls };
 
-    ghost format = { calls };
+    ghost few = { refl };
 
-    fn kinds() -> &'static [Kind] {
-        &[
-            Kind::Has,
-            Kind::Insert,
-            Kind::Delete,
-            Kind::Finish,
-            Kind::Pin,
-            Kind::Unpin,
-            Kind::Advance,
-            Kind::Collect,
-            Kind::Resign,
-        ]
-    }
-
-    fn made(kind: Kind, values: &[Value]) -> Result<ScriptCall, Reason> {
-        match (kind, values) {
-            (Kind::Has, [Value::Key(key)]) => Ok(ScriptCall::Has(*key)),
-            (Kind::Insert, [Value::Key(key)]) => Ok(ScriptCall::Insert(*key)),
-            (Kind::Delete, [Value::Key(key)]) => Ok(ScriptCall::Delete(*key)),
-            (Kind::Finish, []) => Ok(ScriptCall::Finish),
-            (Kind::Pin, []) => Ok(ScriptCall::Pin),
-            (Kind::Unpin, []) => Ok(ScriptCall::Unpin),
-            (Kind::Advance, []) => Ok(ScriptCall::Advance),
-            (Kind::Collect, []) => Ok(ScriptCall::Collect),
-            (Kind::Resign, [Value::Worker(heir)]) => Ok(ScriptCall::Resign(*heir)),
-            _ => Err(Reason::Fields),
+    #[tactic(auto, unfolding(crate::specs::Kinds::made_by))]
+    fn made(
+        workers: u32,
+        is_extended: bool,
+        word: &[u8],
+        fields: &[&[u8]],
+    ) -> Result<ScriptCall, Reason> {
+        use ScriptCall::*;
+        match word {
+            _ if is(word, b"resign") && is_extended => heir(workers, fields).map(|heir| Resign(
+                heir,
+            )),
+            _ if is(word, b"has") => values(fields).map(|(key, ())| Has(key)),
+            _ if is(word, b"insert") => values(fields).map(|(key, ())| Insert(key)),
+            _ if is(word, b"delete") => values(fields).map(|(key, ())| Delete(key)),
+            _ if is(word, b"finish") => values(fields).map(|()| Finish),
+            _ if is(word, b"pin") => values(fields).map(|()| Pin),
+            _ if is(word, b"unpin") => values(fields).map(|()| Unpin),
+            _ if is(word, b"advance") => values(fields).map(|()| Advance),
+            _ if is(word, b"collect") => values(fields).map(|()| Collect),
+            _ => Err(Reason::Kind),
         }
     }
 }

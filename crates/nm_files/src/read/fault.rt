@@ -59,7 +59,7 @@ impl Reason {
     }
 
     /// Returns the lesser of two reasons by their numbers.
-    pub fn least(self, other: Reason) -> Reason
+    pub(crate) fn least(self, other: Reason) -> Reason
         ensures { result ≡ least self other }
     {
         if self.number() <= other.number() {

@@ -5,7 +5,7 @@ ghost use Rattle.nm_files.specs.Lines as spec;
 use crate::read::fault::Reason;
 
 /// Returns whether a field has at least one byte, and only bytes 33 to 126.
-pub fn is_field(field: &[u8]) -> bool
+pub(crate) fn is_field(field: &[u8]) -> bool
     ensures { result ≡ spec.is_field field.now }
 {
     for b in field {
@@ -17,7 +17,7 @@ pub fn is_field(field: &[u8]) -> bool
 }
 
 /// Parses a field into a number below 2^64. Errors: `Number`.
-pub fn number(field: &[u8]) -> Result<u64, Reason>
+pub(crate) fn number(field: &[u8]) -> Result<u64, Reason>
     ensures { result ≡ spec.number field.now }
 {
     if field.is_empty() || field[0] == b'0' && field.len() != 1 {
@@ -38,7 +38,7 @@ pub fn number(field: &[u8]) -> Result<u64, Reason>
 }
 
 /// Parses a field into a slot or a worker, below 2^32. Errors: `Number`.
-pub fn place(field: &[u8]) -> Result<u32, Reason>
+pub(crate) fn place(field: &[u8]) -> Result<u32, Reason>
     ensures { result ≡ spec.place field.now }
 {
     let n = number(field)?;

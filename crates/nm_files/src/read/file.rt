@@ -77,7 +77,7 @@ fn entries_of<T: FileEntry>(
     body: &[u8],
 ) -> Result<Vec<(u32, T)>, RunFault>
     ensures { GivesWhatIsSaid (λ v. v.items) result
-        (entries_from (spec.line_of T.format header.now) 2 (parts body.now)) }
+        (entries_from (spec.line_of T.kinds header.now) 2 (parts body.now)) }
 {
     let mut entries = Vec::new(alloc);
     let mut rest = body;
@@ -105,7 +105,7 @@ fn file_of<T: FileEntry>(
     bytes: &[u8],
 ) -> Result<File<'_, T>, RunFault>
     ensures says { GivesWhatIsSaid (λ s. record { header = s.header; entries = s.entries.items })
-        result (spec.file_of T.format command bytes.now) }
+        result (spec.file_of T.kinds command bytes.now) }
     ensures body { IfOk result (λ s. drop 1 (parts bytes.now) ≡ parts s.body.now) }
     ensures stress { IfOk result (λ s. ResignsInSerial command s.header) }
 {

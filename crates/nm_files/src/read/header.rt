@@ -159,7 +159,7 @@ fn header_within(limits: Limits, nodes: u64, workers: u64, tries: u64) -> Result
 
 /// Parses the fields of the first line, in a file for that command.
 #[tactic(auto, unfolding(crate::specs::Headers::header_of))]
-pub fn header_of(command: Command, fields: &[&[u8]]) -> Result<Header, Reason>
+pub(crate) fn header_of(command: Command, fields: &[&[u8]]) -> Result<Header, Reason>
     ensures says { result ≡ spec.header_of command (map (λ f. f.now) fields.now) }
     ensures stress { IfOk result (λ h. SerialAlone command h.is_extended) }
 {

@@ -14,9 +14,8 @@ use crate::read::entry::FileEntry;
 use crate::read::fault::Reason;
 use crate::read::field::is_field;
 use crate::read::header::{Command, Header, header_of};
-use crate::read::kind::kind_of;
 use crate::read::pieces::cut;
-use crate::read::value::worker_and_values;
+use crate::read::value::{both, worker_of};
 use arrayvec::ArrayVec;
 
 /// Returns whether a line consists of fields with single spaces between them.
@@ -54,25 +53,21 @@ fn fields_of(line: &[u8]) -> ArrayVec<&[u8], 8>
 /// Parses the fields of a line into a worker and an entry.
 #[tactic(auto, unfolding(crate::specs::Entries::entry_of))]
 fn entry_of<T: FileEntry>(header: &Header, fields: &[&[u8]]) -> Result<(u32, T), Reason>
-    ensures { result ≡ spec.entry_of T.format header.now (map (λ f. f.now) fields.now) }
+    ensures { result ≡ spec.entry_of T.kinds header.now (map (λ f. f.now) fields.now) }
 {
     let [worker, word, arguments @ ..] = fields else {
         return Err(Reason::Form);
     };
-    let kind = kind_of(T::kinds(), header.is_extended, word, arguments.is_empty())?;
-    let (worker, values) = worker_and_values(
-        header.layout.workers(),
-        worker,
-        kind.row(),
-        arguments,
-    )?;
-    let entry = T::made(kind, values.as_slice())?;
-    Ok((worker, entry))
+    let workers = header.layout.workers();
+    both(
+        worker_of(workers, worker),
+        T::made(workers, header.is_extended, word, arguments),
+    )
 }
 
 /// Parses a line into a worker and an entry, in a file with that header.
-pub fn line_of<T: FileEntry>(header: &Header, line: &[u8]) -> Result<(u32, T), Reason>
-    ensures { result ≡ spec.line_of T.format header.now line.now }
+pub(crate) fn line_of<T: FileEntry>(header: &Header, line: &[u8]) -> Result<(u32, T), Reason>
+    ensures { result ≡ spec.line_of T.kinds header.now line.now }
 {
     if !is_formed(line) {
         return Err(Reason::Form);
@@ -81,7 +76,7 @@ pub fn line_of<T: FileEntry>(header: &Header, line: &[u8]) -> Result<(u32, T), R
 }
 
 /// Parses the first line, in a file for that command.
-pub fn first_line_of(command: Command, line: &[u8]) -> Result<Header, Reason>
+pub(crate) fn first_line_of(command: Command, line: &[u8]) -> Result<Header, Reason>
     ensures says { result ≡ spec.first_line_of command line.now }
     ensures stress { IfOk result (spec.ResignsInSerial command) }
 {
@@ -97,8 +92,8 @@ pub fn least_reason()
         ≡ find (header_holds command line) header_reasons }
     ensures event { (header : HeaderOf) (number : ℕ) (line : List ℕ)
         → reason_of (checked number line (spec.line_of events header line))
-        ≡ find (holds events.kinds header number line) line_reasons }
+        ≡ find (holds events header number line) line_reasons }
     ensures call { (header : HeaderOf) (number : ℕ) (line : List ℕ)
         → reason_of (checked number line (spec.line_of calls header line))
-        ≡ find (holds calls.kinds header number line) line_reasons }
+        ≡ find (holds calls header number line) line_reasons }
 {}

@@ -1,57 +1,51 @@
 //! The arguments of a line: what each field must be, and its value.
-ghost use Rattle.std.specs.Prelude.{◌≡◌, ◌<◌, ◌≤◌, length, map, IfOk};
-ghost use Rattle.nm_files.specs.Values.{with_view};
+ghost use Rattle.std.specs.Prelude.{◌≡◌, ℕ, List, Result, map};
+ghost use Rattle.nm_files.specs.declared.read.fault.Reason.{Reason as ReasonOf};
+ghost use Rattle.nm_files.specs.Lines as lines;
 ghost use Rattle.nm_files.specs.Values as spec;
 
 use crate::read::fault::Reason;
 use crate::read::field::{number, place};
-use arrayvec::ArrayVec;
 use nm_edge::{Key, Side};
 use nm_model::{Field, Op};
 
-/// What a field must be.
-#[derive(Clone, Copy, Debug, PartialEq, Eq)]
-pub enum Argument {
-    /// The number of a slot or of a worker.
-    Place,
-    /// A number below 2^64.
-    Number,
-    /// A key of the set.
-    Key,
-    /// One of the header's workers.
-    Worker,
-    /// The word of a field of a node.
-    Field,
-    /// The word of a side.
-    Side,
-    /// The word of an operation of the set.
-    Op,
-    /// The word of an answer of an operation.
-    Answer,
+/// The value of a field of a line. A `u32` is the number of a slot or of a worker.
+pub(crate) trait Argument: Copy {
+    ghost value: { List ℕ → Result Self ReasonOf };
+
+    /// Parses a field. Errors: `Fields` if it has to be a word and is another one; `Number`; `Key`
+    /// if it is above the keys of the set.
+    fn value(field: &[u8]) -> Result<Self, Reason>
+        ensures { result ≡ value field.now };
 }
 
-/// The value of a field.
-#[derive(Clone, Copy, Debug, PartialEq, Eq)]
-pub enum Value {
-    Place(u32),
-    Number(u64),
-    Key(Key),
-    Worker(u32),
-    Field(Field),
-    Side(Side),
-    Op(Op),
-    Answer(bool),
-}
+impl Argument for u32 {
+    ghost value = { lines.place };
 
-/// The value in unused places of `Values`.
-impl Default for Value {
-    fn default() -> Value {
-        Value::Place(0)
+    fn value(field: &[u8]) -> Result<u32, Reason> {
+        place(field)
     }
 }
 
-/// The values of the fields of a line: no kind of line has more than five.
-pub type Values = ArrayVec<Value, 5>;
+impl Argument for u64 {
+    ghost value = { lines.number };
+
+    fn value(field: &[u8]) -> Result<u64, Reason> {
+        number(field)
+    }
+}
+
+impl Argument for Key {
+    ghost value = { spec.key_field };
+
+    fn value(field: &[u8]) -> Result<Key, Reason> {
+        let n = number(field)?;
+        match Key::new(n) {
+            Some(key) => Ok(key),
+            None => Err(Reason::Key),
+        }
+    }
+}
 
 /// Returns the value that belongs to this word. Errors: `Fields` if there is none.
 fn by_word<T: Copy>(words: &[(&[u8], T)], given: &[u8]) -> Result<T, Reason>
@@ -65,91 +59,57 @@ fn by_word<T: Copy>(words: &[(&[u8], T)], given: &[u8]) -> Result<T, Reason>
     Err(Reason::Fields)
 }
 
-/// Returns the field of a node that a word names.
-fn node_field(given: &[u8]) -> Result<Field, Reason>
-    ensures { result ≡ spec.by_word spec.field_words given.now }
-{
-    let words = [
-        (b"key".as_slice(), Field::Key),
-        (b"left", Field::Edge(Side::Left)),
-        (b"right", Field::Edge(Side::Right)),
-        (b"birth", Field::Birth),
-    ];
-    by_word(&words, given)
-}
+impl Argument for Field {
+    ghost value = { spec.by_word spec.field_words };
 
-/// Returns the side of a node that a word names.
-fn side_of(given: &[u8]) -> Result<Side, Reason>
-    ensures { result ≡ spec.by_word spec.side_words given.now }
-{
-    let words = [(b"left".as_slice(), Side::Left), (b"right", Side::Right)];
-    by_word(&words, given)
-}
-
-/// Returns the operation of the set that a word names.
-fn op_of(given: &[u8]) -> Result<Op, Reason>
-    ensures { result ≡ spec.by_word spec.op_words given.now }
-{
-    let words = [
-        (b"has".as_slice(), Op::Has),
-        (b"insert", Op::Insert),
-        (b"delete", Op::Delete),
-    ];
-    by_word(&words, given)
-}
-
-/// Returns the answer that a word names.
-fn answer_of(given: &[u8]) -> Result<bool, Reason>
-    ensures { result ≡ spec.by_word spec.answer_words given.now }
-{
-    let words = [(b"true".as_slice(), true), (b"false", false)];
-    by_word(&words, given)
-}
-
-/// Parses a field into a key of the set. Errors: `Key` if it is above those of the set, `Number` if
-/// it is no number.
-fn key_of(field: &[u8]) -> Result<Key, Reason>
-    ensures { result ≡ spec.key_field field.now }
-{
-    let n = number(field)?;
-    match Key::new(n) {
-        Some(key) => Ok(key),
-        None => Err(Reason::Key),
+    fn value(given: &[u8]) -> Result<Field, Reason> {
+        let words = [
+            (b"key".as_slice(), Field::Key),
+            (b"left", Field::Edge(Side::Left)),
+            (b"right", Field::Edge(Side::Right)),
+            (b"birth", Field::Birth),
+        ];
+        by_word(&words, given)
     }
 }
 
-/// Parses a field into a worker, whose number must be below `workers`.
-fn worker_of(workers: u32, field: &[u8]) -> Result<u32, Reason>
-    ensures { result ≡ spec.worker_of workers field.now }
-{
-    let worker = place(field)?;
-    if worker < workers {
-        Ok(worker)
-    } else {
-        Err(Reason::Worker)
+impl Argument for Side {
+    ghost value = { spec.by_word spec.side_words };
+
+    fn value(given: &[u8]) -> Result<Side, Reason> {
+        let words = [(b"left".as_slice(), Side::Left), (b"right", Side::Right)];
+        by_word(&words, given)
     }
 }
 
-impl Argument {
-    /// Parses a field that must be this, in a file with this number of workers.
-    fn value(self, workers: u32, field: &[u8]) -> Result<Value, Reason>
-        ensures { result ≡ spec.value_of workers self field.now }
-    {
-        Ok(match self {
-            Argument::Place => Value::Place(place(field)?),
-            Argument::Number => Value::Number(number(field)?),
-            Argument::Key => Value::Key(key_of(field)?),
-            Argument::Worker => Value::Worker(worker_of(workers, field)?),
-            Argument::Field => Value::Field(node_field(field)?),
-            Argument::Side => Value::Side(side_of(field)?),
-            Argument::Op => Value::Op(op_of(field)?),
-            Argument::Answer => Value::Answer(answer_of(field)?),
-        })
+impl Argument for Op {
+    ghost value = { spec.by_word spec.op_words };
+
+    fn value(given: &[u8]) -> Result<Op, Reason> {
+        let words = [
+            (b"has".as_slice(), Op::Has),
+            (b"insert", Op::Insert),
+            (b"delete", Op::Delete),
+        ];
+        by_word(&words, given)
+    }
+}
+
+/// The answer of an operation.
+impl Argument for bool {
+    ghost value = { spec.by_word spec.answer_words };
+
+    fn value(given: &[u8]) -> Result<bool, Reason> {
+        let words = [(b"true".as_slice(), true), (b"false", false)];
+        by_word(&words, given)
     }
 }
 
 /// Returns both values, or the reason of the one that failed; the lesser one if both failed.
-fn both<A: Drop, B: Drop>(a: Result<A, Reason>, b: Result<B, Reason>) -> Result<(A, B), Reason>
+pub(crate) fn both<A: Drop, B: Drop>(
+    a: Result<A, Reason>,
+    b: Result<B, Reason>,
+) -> Result<(A, B), Reason>
     ensures { result ≡ spec.both a b }
 {
     match (a, b) {
@@ -159,41 +119,48 @@ fn both<A: Drop, B: Drop>(a: Result<A, Reason>, b: Result<B, Reason>) -> Result<
     }
 }
 
-/// Parses as many fields as the row has, each by its argument in the row. Errors: the least reason
-/// for which a field fails.
-fn values_of(workers: u32, row: &[Argument], fields: &[&[u8]]) -> Result<Values, Reason>
-    requires { length row.now ≤ 5 }
-    ensures values { with_view (λ v. v.items) result
-        ≡ spec.values_of workers row.now (map (λ f. f.now) fields.now) }
-    ensures count { IfOk result (λ v. length v.items ≡ length row.now) }
-{
-    let [argument, row @ ..] = row else {
-        return if fields.is_empty() {
-            Ok(ArrayVec::new())
-        } else {
-            Err(Reason::Fields)
-        };
-    };
-    let [field, fields @ ..] = fields else {
-        return Err(Reason::Fields);
-    };
-    let rest = values_of(workers, row, fields);
-    let (value, mut values) = both(argument.value(workers, field), rest)?;
-    values.insert(0, value);
-    Ok(values)
+/// The values of the fields after a word, from the first to the last: `(u32, (Side, ()))` are those
+/// of two fields.
+pub(crate) trait Arguments: Copy {
+    ghost values: { List (List ℕ) → Result Self ReasonOf };
+
+    /// Parses these fields. Errors: the least reason for which one fails; `Fields` if there are more
+    /// or fewer.
+    fn values(fields: &[&[u8]]) -> Result<Self, Reason>
+        ensures { result ≡ values (map (λ f. f.now) fields.now) };
 }
 
-/// Parses the worker of a line, whose number must be below `workers`, and the fields after the
-/// line's word. Errors: the least reason for which one of them fails.
-pub fn worker_and_values(
-    workers: u32,
-    worker: &[u8],
-    row: &[Argument],
-    fields: &[&[u8]],
-) -> Result<(u32, Values), Reason>
-    requires { length row.now ≤ 5 }
-    ensures { with_view (λ p. (p.0, p.1.items)) result
-        ≡ spec.worker_and_values workers worker.now row.now (map (λ f. f.now) fields.now) }
+impl Arguments for () {
+    ghost values = { spec.no_values };
+
+    fn values(fields: &[&[u8]]) -> Result<(), Reason> {
+        if fields.is_empty() {
+            Ok(())
+        } else {
+            Err(Reason::Fields)
+        }
+    }
+}
+
+impl<A: Argument, R: Arguments> Arguments for (A, R) {
+    ghost values = { spec.first_and_rest A.value R.values };
+
+    fn values(fields: &[&[u8]]) -> Result<(A, R), Reason> {
+        let [field, rest @ ..] = fields else {
+            return Err(Reason::Fields);
+        };
+        both(A::value(field), R::values(rest))
+    }
+}
+
+/// Parses a field into a worker, whose number must be below `workers`.
+pub(crate) fn worker_of(workers: u32, field: &[u8]) -> Result<u32, Reason>
+    ensures { result ≡ spec.worker_of workers field.now }
 {
-    both(worker_of(workers, worker), values_of(workers, row, fields))
+    let worker = place(field)?;
+    if worker < workers {
+        Ok(worker)
+    } else {
+        Err(Reason::Worker)
+    }
 }

@@ -31,7 +31,7 @@ fn put_edge(out: &mut Vec<u8>, word: &[u8], edge: Edge) -> Result<(), AllocError
 }
 
 /// Appends a word, and a node: its slot, a dot and its birth.
-pub fn put_node(out: &mut Vec<u8>, word: &[u8], node: NodeId) -> Result<(), AllocError>
+pub(crate) fn put_node(out: &mut Vec<u8>, word: &[u8], node: NodeId) -> Result<(), AllocError>
     ensures { OnOk result (out.new.items ≡ out.old.items ++ (word.now ++ spec.node_text node)) }
 {
     put_number(out, word, u64::from(node.slot))?;
@@ -39,7 +39,7 @@ pub fn put_node(out: &mut Vec<u8>, word: &[u8], node: NodeId) -> Result<(), Allo
 }
 
 /// Appends the nodes, each after a space.
-pub fn put_spaced_nodes(out: &mut Vec<u8>, nodes: &[NodeId]) -> Result<(), AllocError>
+pub(crate) fn put_spaced_nodes(out: &mut Vec<u8>, nodes: &[NodeId]) -> Result<(), AllocError>
     ensures { OnOk result (out.new.items ≡ out.old.items ++ spec.spaced_nodes nodes.now) }
 {
     for node in nodes {
