@@ -1,4 +1,3 @@
 pub mod Reached
 pub mod HeldLedgers
-pub mod WorkedHistories
-pub mod WorkedNumbers
+pub mod Worked

@@ -2,4 +2,3 @@ pub mod Schedules
 pub mod Pasts
 pub mod Stops
 pub mod Histories
-pub mod RadixSchedules

@@ -4,7 +4,6 @@
 mod pure_core;
 
 ghost use Rattle.std.specs.Prelude.{[], ◌∷◌};
-ghost use Rattle.nm_core.specs.RadixSchedules.{parent_cut};
 ghost use Rattle.nm_core.specs.Schedules.{IsAsWorked, IsAsWorkedInOrder};
 ghost use Rattle.nm_core.specs.Schedules as worked;
 ghost use Rattle.nm_core.specs.Histories.{IsAsTold};
@@ -29,7 +28,7 @@ pub fn worked_schedules()
     ensures joining { IsAsWorked worked.resigning_schedule }
     ensures insert_in_order { IsAsWorkedInOrder worked.insert_in_order (5 ∷ []) }
     ensures delete_in_order { IsAsWorkedInOrder worked.delete_in_order [] }
-    ensures parent_cut { IsAsWorkedInOrder parent_cut (5 ∷ 6 ∷ 12 ∷ []) }
+    ensures parent_cut { IsAsWorkedInOrder worked.parent_cut (5 ∷ 6 ∷ 12 ∷ []) }
 {}
 
 /// Law: two worked schedules have the histories that were worked out by hand. In one, another

@@ -1,4 +1,4 @@
-use Rattle.nm_core.proofs.WorkedHistories.{helped_is_as_told, stale_is_as_told}
+use Rattle.nm_core.proofs.Worked.{helped_is_as_told, stale_is_as_told}
 use Rattle.nm_core.proofs.worked_histories.Goals as goal
 
 pub returns-clause-helped : goal.returns-clause-helped

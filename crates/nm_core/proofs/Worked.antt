@@ -1,5 +1,5 @@
 -- The worked histories: what is computed of each schedule, and what the laws then say.
-use Rattle.std.proofs.Common.{◌≡◌, ℕ, zero, suc, ◌+◌, ◌≤◌, ◌⊎◌, inl, inr, Bool, true, List, [], ◌∷◌, ◌++◌, length, take, drop, refl, sym, subst, ◌∙◌, ap, arith, true≢false, lit<, lit≤, not, ◌&&◌, ◌==◌}
+use Rattle.std.proofs.Common.{◌≡◌, ℕ, zero, suc, ◌+◌, ◌≤◌, ◌⊎◌, inl, inr, Bool, true, List, [], ◌∷◌, ◌++◌, length, take, drop, map, refl, sym, subst, ◌∙◌, ap, arith, true≢false, lit<, lit≤, not, ◌&&◌, ◌==◌}
 use Rattle.std.specs.Prelude.{Some, All, Contains}
 use Rattle.std.specs.List.{list_all}
 use Rattle.std.proofs.lemmas.Bool.{and_parts, eq-eqb}
@@ -11,13 +11,13 @@ use Rattle.nm_model.specs.declared.arrivals.Call.{Call}
 use Rattle.nm_model.specs.declared.event.Op.TheVariants.{Has, Insert, Delete}
 use Rattle.nm_model.specs.declared.event.Event.{Event}
 use Rattle.nm_model.specs.declared.event.Event.TheVariants.{LeaveWith}
-use Rattle.nm_model.specs.Ordered.{HasKey, ordered, after_in, trace_in, outcome_in, next_in, refused_in, applied_in}
+use Rattle.nm_model.specs.Ordered.{HasKey, ordered, turn_of, after_in, trace_in, outcome_in, next_in, refused_in, applied_in}
 use Rattle.nm_model.specs.Paths.{Reached}
 use Rattle.nm_model.specs.Places.{EachSlotInOnePlace, OneSlotPlace}
 use Rattle.nm_model.specs.Places.SlotPlace.{OnPath, InQueue}
 use Rattle.nm_model.specs.Reports.{ordered_report}
 use Rattle.nm_model.specs.Runs.{refused, applied}
-use Rattle.nm_core.specs.Schedules.{IsAsWorkedInOrder}
+use Rattle.nm_core.specs.Schedules.{IsAsWorkedInOrder, delete_in_order}
 use Rattle.nm_model.specs.Searches.{searched}
 use Rattle.nm_model.specs.Step.{refusal, reply, write}
 use Rattle.nm_model.specs.Learning.{learn}
@@ -25,8 +25,9 @@ use Rattle.nm_laws.proofs.OnePlace.{each_slot_has_one_place}
 use Rattle.nm_order.specs.Intervals.{IsCalled}
 use Rattle.nm_order.specs.Exchanges.{MayAnswer}
 use Rattle.nm_order.specs.Removals.{HasWonDelete}
+use Rattle.nm_order.specs.Totals.{how_often, links_of, flags_of}
 use Rattle.nm_model.specs.Acts.{Act, IsAmong}
-use Rattle.nm_order.specs.History.{SameCall, EachOnce, IsActOfRun, HasActOfCall, IsRunHistory, pin_of}
+use Rattle.nm_order.specs.History.{SameCall, EachOnce, IsActOfRun, HasActOfCall, IsRunHistory, RunHasHistory, pin_of}
 use Rattle.nm_order.specs.History.IsActOfRun.{IsAnswered, IsPending}
 use Rattle.nm_order.proofs.OrderedLaws.{each_ordered}
 use Rattle.nm_order.proofs.KeyTests.{all_keys}
@@ -333,3 +334,50 @@ stale_is_as_told = record {
   found = found_stale;
   only = only_stale;
 }
+
+-- ---- an insert and then a delete: its numbers, and what the laws say of it
+
+abbrev N : Layout
+N = delete_in_order.layout
+
+abbrev vs : List (ℕ × Event)
+vs = map turn_of delete_in_order.turns
+
+-- one link of 5 and one flag of 5
+one_link : links_of 5 N vs ≡ 1
+unfolding how_often trace_in after_in outcome_in next_in refused_in applied_in searched refusal reply write learn refused applied
+one_link = refl
+
+one_flag : flags_of 5 N vs ≡ 1
+unfolding how_often trace_in after_in outcome_in next_in refused_in applied_in searched refusal reply write learn refused applied
+one_flag = refl
+
+no_other : links_of 4 N vs ≡ 0
+unfolding how_often trace_in after_in outcome_in next_in refused_in applied_in searched refusal reply write learn refused applied
+no_other = refl
+
+-- the insert's pin was confirmed by turn 2, the delete's by turn 20; the insert was answered by
+-- turn 18, and the delete by the last
+pin_of_insert : pin_of N (take 18 vs) 0 ≡ 2
+unfolding trace_in after_in outcome_in next_in refused_in applied_in searched refusal reply write learn refused applied
+pin_of_insert = refl
+
+pin_of_delete : pin_of N (take 43 vs) 0 ≡ 20
+unfolding trace_in after_in outcome_in next_in refused_in applied_in searched refusal reply write learn refused applied
+pin_of_delete = refl
+
+-- the answers of both are ones of which the laws speak
+insert_answers : MayAnswer (after_in (ordered N) (take 18 vs)) 0 Insert 5 true
+unfolding trace_in after_in outcome_in next_in refused_in applied_in searched refusal reply write learn refused applied
+insert_answers = record { called = record { searches = _; are = refl; is_call = refl }; leaves = refl }
+
+delete_answers : MayAnswer (after_in (ordered N) (take 43 vs)) 0 Delete 5 true
+unfolding trace_in after_in outcome_in next_in refused_in applied_in searched refusal reply write learn refused applied
+delete_answers = record { called = record { searches = _; are = refl; is_call = refl }; leaves = refl }
+
+-- so a history of this schedule has both calls
+both_told : (h : RunHasHistory N vs) → HasActOfCall h.0 0 2 Insert 5 true × HasActOfCall h.0 0 20 Delete 5 true
+both_told h = (
+  subst (λ (p : ℕ). HasActOfCall h.0 0 p Insert 5 true) pin_of_insert (h.1.answered (take 18 vs) (drop 19 vs) 0 Insert 5 true refl insert_answers),
+  subst (λ (p : ℕ). HasActOfCall h.0 0 p Delete 5 true) pin_of_delete (h.1.answered (take 43 vs) [] 0 Delete 5 true refl delete_answers),
+)
