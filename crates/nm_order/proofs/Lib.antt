@@ -86,8 +86,7 @@ pub mod StaleWalks
 pub mod StaleRuns
 pub mod RadixLaws
 pub mod KeyTests
-pub mod WorkedPaths
-pub mod WorkedRadix
+pub mod Worked
 pub mod AnswersSince
 pub mod PartWalks
 pub mod WalkTells

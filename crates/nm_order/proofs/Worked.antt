@@ -1,9 +1,9 @@
--- A worked schedule: a walk under a pin for no call, which goes on by edges that were cut off, and
--- what the law says of it.
+-- Two worked schedules: a walk under a pin for no call, which goes on by edges that were cut off, and
+-- what the law says of it; and three inserts in a radix tree.
 use Rattle.std.proofs.Common.{◌≡◌, ℕ, List, [], ◌∷◌, ◌++◌, refl, arith, lit≤}
-use Rattle.std.specs.Prelude.{true, false}
+use Rattle.std.specs.Prelude.{true, false, Err, is_ok}
 use Rattle.nm_edge.specs.Edges.{Edge, to}
-use Rattle.nm_edge.specs.Layouts.{Layout, dense}
+use Rattle.nm_edge.specs.Layouts.{Layout, dense, in_radix}
 use Rattle.nm_edge.specs.declared.edge.Side.TheVariants.{Left, Right}
 use Rattle.nm_model.specs.declared.event.Op.TheVariants.{Insert, Delete}
 use Rattle.nm_model.specs.declared.event.Field.TheVariants.{Key, Edge as EdgeOn, Birth}
@@ -22,6 +22,9 @@ use Rattle.nm_model.specs.Ordered.{ordered, trace_in, after_in, outcome_in, next
 use Rattle.nm_order.specs.StalePaths.{log_under_pin, WasReachedSince}
 use Rattle.nm_order.proofs.KeyTests.{all_keys}
 use Rattle.nm_order.proofs.StaleRuns.{any_walk_was_reached}
+use Rattle.std.specs.List.{list_all}
+use Rattle.nm_model.specs.declared.reply.Refused.TheVariants.{NotOrdered}
+use Rattle.nm_model.specs.Reports.{keys}
 
 abbrev L : Layout
 L = dense 7 2
@@ -72,3 +75,61 @@ comes = record {
 -- so 7 was reached since that pin, with 4 in its interval
 was_reached : WasReachedSince (ordered L) turns 1 4 7
 was_reached = any_walk_was_reached L (lit≤ tt) turns (all_keys turns refl) refl 1 4 7 6 Left (omega arith) comes
+
+-- ---- a radix tree: of three inserts the third links over an internal node, and one of a key in that
+-- node's range may not
+
+abbrev R : Layout
+R = in_radix (dense 15 1)
+
+-- a new internal node with that router over two slots, of which one is a new leaf with that key
+abbrev made : ℕ → ℕ → ℕ → ℕ → ℕ → ℕ → List (ℕ × Event)
+made new router left right leaf key =
+    (0, Claim new) ∷ (0, Fill new Birth 1) ∷ (0, Claim leaf) ∷ (0, Fill leaf Birth 1) ∷ (0, Fill new Key router) ∷ (0, Fill new (EdgeOn Left) left) ∷ (0, Fill new (EdgeOn Right) right)
+    ∷ (0, Fill leaf Key key) ∷ (0, Fill leaf (EdgeOn Left) 0) ∷ (0, Fill leaf (EdgeOn Right) 0) ∷ []
+
+-- 5: the router between it and the key of slot 3, 2^64 - 3, is 2^63
+abbrev five : List (ℕ × Event)
+five =
+    (0, Sight) ∷ (0, Announce) ∷ (0, SightFor Insert 5) ∷ (0, Look 2 (EdgeOn Left)) ∷ (0, Look 3 Key) ∷ (0, Look 3 (EdgeOn Left)) ∷ []
+    ++ (made 6 9223372036854775808 7 3 7 5 ++ (0, Link 2 Left 3 6) ∷ (0, LeaveWith true) ∷ [])
+
+-- 6: the router between 5 and 6 is 6, with the range from 4 to 7
+abbrev six : List (ℕ × Event)
+six =
+    (0, Announce) ∷ (0, SightFor Insert 6) ∷ (0, Look 2 (EdgeOn Left)) ∷ (0, Look 6 Key) ∷ (0, Look 6 (EdgeOn Left)) ∷ (0, Look 7 Key) ∷ (0, Look 7 (EdgeOn Right)) ∷ []
+    ++ (made 8 6 7 9 9 6 ++ (0, Link 6 Left 7 8) ∷ (0, LeaveWith true) ∷ [])
+
+-- 12 is not in that range: the router between is 8, with the range from 0 to 15
+abbrev twelve : List (ℕ × Event)
+twelve =
+    (0, Announce) ∷ (0, SightFor Insert 12) ∷ (0, Look 2 (EdgeOn Left)) ∷ (0, Look 6 Key) ∷ (0, Look 6 (EdgeOn Left)) ∷ (0, Look 8 Key) ∷ []
+    ++ (made 10 8 8 11 11 12 ++ (0, Link 6 Left 8 10) ∷ (0, LeaveWith true) ∷ [])
+
+abbrev inserts : List (ℕ × Event)
+inserts = five ++ (six ++ twelve)
+
+-- all is allowed
+all_allowed : list_all (λ t. is_ok t.outcome) (trace_in (ordered R) inserts) ≡ true
+unfolding trace_in after_in outcome_in next_in refused_in applied_in searched refusal reply write learn refused applied
+all_allowed = refl
+
+-- the third link is over the internal node 8
+is_over : child (after_in (ordered R) inserts).state.memory 10 Left ≡ 8
+unfolding after_in next_in refused_in applied_in searched refusal reply write learn refused applied
+is_over = refl
+
+-- and these are the keys
+keys_are : keys (after_in (ordered R) inserts).state ≡ 5 ∷ 6 ∷ 12 ∷ []
+unfolding after_in next_in refused_in applied_in searched refusal reply write learn refused applied
+keys_are = refl
+
+-- 7 is in the range of 8, so it may not be put above it
+abbrev seven : List (ℕ × Event)
+seven =
+    (0, Announce) ∷ (0, SightFor Insert 7) ∷ (0, Look 2 (EdgeOn Left)) ∷ (0, Look 6 Key) ∷ (0, Look 6 (EdgeOn Left)) ∷ (0, Look 8 Key) ∷ []
+    ++ made 10 7 8 11 11 7
+
+not_above : outcome_in (after_in (ordered R) (five ++ (six ++ seven))) (0, Link 6 Left 8 10) ≡ Err NotOrdered
+unfolding outcome_in after_in next_in refused_in applied_in searched refusal reply write learn refused applied
+not_above = refl
