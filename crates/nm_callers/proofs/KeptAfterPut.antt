@@ -1,7 +1,7 @@
 -- A get after an insert of the same key finds the value that was inserted, if no delete of the key
 -- takes effect.
 use Rattle.std.proofs.Common.{◌≡◌, inl, inr, ℕ, zero, suc, ◌+◌, ◌<◌, ◌≤◌, Bool, true, false, cond, List, [], ◌∷◌, ◌++◌, append_assoc, length, map, refl, sym, ap, subst, ◌∙◌, true≢false, arith}
-use Rattle.std.specs.Prelude.{All, Contains, IfSome, IsSome, None, Some, Option, Result, Ok}
+use Rattle.std.specs.Prelude.{All, Contains, IsSome, None, Some, Option, Result, Ok}
 use Rattle.std.proofs.lemmas.List.{length-append}
 use Rattle.nm_edge.specs.Layouts.{Layout, IsLayout}
 use Rattle.nm_edge.specs.declared.node.NodeId.{NodeId}
@@ -20,7 +20,7 @@ use Rattle.nm_steps.specs.declared.view.Stored.{Stored}
 use Rattle.nm_steps.specs.Rules.{ExtendsStores}
 use Rattle.nm_steps.specs.Steps.{HasSeen, HasSeenAllOf, IsSamePass, PassView}
 use Rattle.nm_calls.specs.KeptValues.{NoneCuts, StaysInMap}
-use Rattle.nm_calls.specs.Maps.{HasPut, HasStores, HoldsStores, IsInMap, MapGave, WasPut, value_at}
+use Rattle.nm_calls.specs.Maps.{HasPut, HoldsStores, IsInMap, MapGave, WasPut, value_at}
 use Rattle.nm_calls.proofs.KeptValues.{leaves_keep_their_values, put_values_stay}
 use Rattle.nm_callers.specs.Meanwhile.{NoneDeleted}
 
@@ -60,7 +60,7 @@ key_among m (x ∷ xs) s (suc i, below, at) leaf = by (is_leaf (node m x)) (key_
 no_turn : (before since : List Turn) (t : Turn) → [] ≡ before ++ t ∷ since → ⊥
 no_turn before since t is = let long = ap (λ (l : List Turn). length l) is ∙ length-append before (t ∷ since) in omega (arith, long)
 
-module _ (L : Layout) (fits : IsLayout L) (events : List (ℕ × Event)) (keys : All (λ t. HasKey t.1) events) (stores : List Stored) (held : HoldsStores L (trace_in (ordered L) events) stores) (start : List Turn) (k : ℕ)
+module _ (L : Layout) (fits : IsLayout L) (events : List (ℕ × Event)) (keys : All (λ t. HasKey t.1) events) (stores : List Stored) (from : List Turn) (held : HoldsStores L from (trace_in (ordered L) events) stores) (start : List Turn) (k : ℕ)
     (acts : List Act) (h : IsHistory L (trace_in (ordered L) events) acts) (none : NoneDeleted L start (trace_in (ordered L) events) k) (s : ℕ) where
   -- a leaf with the key in that slot
   abbrev IsThere : List Turn → Type 0
@@ -100,7 +100,7 @@ module _ (L : Layout) (fits : IsLayout L) (events : List (ℕ × Event)) (keys :
       one (b ∷ d ∷ before) since t is c = absurd (let long = ap (λ (l : List Turn). length l) is in omega (arith, long))
 
       after : IsThere (so_far ++ u ∷ [])
-      after = let stays : StaysInMap L so_far (u ∷ []) stores k there.0 there.1 = leaves_keep_their_values L fits events keys so_far (u ∷ []) (mid ++ rest) are stores held k there.0 there.1 (subst (NoneCuts (u ∷ [])) (sym there.2) one) in (there.0, stays.now, stays.same ∙ there.2)
+      after = let stays : StaysInMap L so_far (u ∷ []) stores k there.0 there.1 = leaves_keep_their_values L fits events keys so_far (u ∷ []) (mid ++ rest) are stores from held k there.0 there.1 (subst (NoneCuts (u ∷ [])) (sym there.2) one) in (there.0, stays.now, stays.same ∙ there.2)
 
       by : (IsThere (so_far ++ u ∷ []) → NoneCuts mid s) → NoneCuts (u ∷ mid) s
       by rest' [] since t is c = first (subst (λ (x : Turn). Contains (slots_of (nodes_cut_of x.outcome)) s) (sym (head is)) c)
@@ -122,7 +122,7 @@ module _ (o p q : PassView) (k v : ℕ) (seen : HasSeen q.view) (fits : IsLayout
   abbrev linked : List Turn
   linked = put.so_far ++ put.link ∷ []
 
-  value_is_kept : (found : ℕ) (so_far rest : List Turn) → q.view.past ≡ so_far ++ rest → length p.view.past < length so_far → IsInMap L so_far q.view.stores k found → HoldsStores L q.view.past q.view.stores → found ≡ v
+  value_is_kept : (found : ℕ) (so_far rest : List Turn) → q.view.past ≡ so_far ++ rest → length p.view.past < length so_far → IsInMap L so_far q.view.stores k found → HoldsStores L so_far q.view.past q.view.stores → found ≡ v
   value_is_kept found so_far rest are later there held =
       let whole : linked ++ (put.rest ++ on.goes_on.more) ≡ so_far ++ rest = sym (append_assoc linked put.rest on.goes_on.more) ∙ (ap (λ (ts : List Turn). ts ++ on.goes_on.more) (sym put.are) ∙ (sym on.goes_on.is ∙ are)) in
       let long = ap (λ (ts : List Turn). length ts) put.are ∙ length-append linked put.rest in
@@ -130,18 +130,18 @@ module _ (o p q : PassView) (k v : ℕ) (seen : HasSeen q.view) (fits : IsLayout
       let mid : List Turn = part.0 in
       let split : q.view.past ≡ linked ++ (mid ++ rest) = are ∙ (ap (λ (ts : List Turn). ts ++ rest) part.1 ∙ append_assoc linked mid rest) in
       let turns : trace_in (ordered L) seen.events ≡ linked ++ (mid ++ rest) = sym seen.are ∙ split in
-      let held' : HoldsStores L (trace_in (ordered L) seen.events) q.view.stores = subst (λ (ts : List Turn). HoldsStores L ts q.view.stores) seen.are held in
+      let held' : HoldsStores L so_far (trace_in (ordered L) seen.events) q.view.stores = subst (λ (ts : List Turn). HoldsStores L so_far ts q.view.stores) seen.are held in
       let here : IsInMap L linked q.view.stores k (value_at (length linked) q.view.stores put.is.slot) = record { slot = put.is.slot; reached = put.is.reached; leaf = put.is.leaf; has_key = put.is.has_key; has_value = refl } in
       let after = length-append put.so_far (put.link ∷ []) in
       let first = put.later in
-      put_values_stay L fits seen.events seen.keys o.view.past p.view.past p.view.stores q.view.stores q.view.number k v seen.worker put more held' mid rest turns
-      (none_cuts L fits seen.events seen.keys q.view.stores held' o.view.past k history.0 (subst (λ (ts : List Turn). IsHistory L ts history.0) seen.are history.1) (subst (λ (ts : List Turn). NoneDeleted L o.view.past ts k) seen.are none) put.is.slot mid linked rest turns (omega (arith, first, after)) ((value_at (length linked) q.view.stores put.is.slot, here, refl)))
+      put_values_stay L fits seen.events seen.keys o.view.past p.view.past p.view.stores q.view.stores q.view.number k v seen.worker put more so_far held' mid rest turns
+      (none_cuts L fits seen.events seen.keys q.view.stores so_far held' o.view.past k history.0 (subst (λ (ts : List Turn). IsHistory L ts history.0) seen.are history.1) (subst (λ (ts : List Turn). NoneDeleted L o.view.past ts k) seen.are none) put.is.slot mid linked rest turns (omega (arith, first, after)) ((value_at (length linked) q.view.stores put.is.slot, here, refl)))
       found (subst (λ (ts : List Turn). IsInMap L ts q.view.stores k found) part.1 there)
 
 -- the answer of a get is the value that the insert has put
 pub is_kept : (o p q : PassView) (k v : ℕ) → HasSeen q.view → IsLayout q.view.layout → HasHistory q.view.layout q.view.past → IsSamePass p q → HasSeenAllOf q p → ExtendsStores q.view.stores p.view.stores → HasPut o p k v
-    → NoneDeleted q.view.layout o.view.past q.view.past k → (found : Option ℕ) → IsSome found → MapGave p q k found → IfSome found (λ x. HasStores q) → found ≡ Some v
-is_kept o p q k v seen fits history same on more put none None some gave held = absurd (true≢false (sym some))
-is_kept o p q k v seen fits history same on more put none (Some x) some gave held =
+    → NoneDeleted q.view.layout o.view.past q.view.past k → (found : Option ℕ) → IsSome found → MapGave p q k found → found ≡ Some v
+is_kept o p q k v seen fits history same on more put none None some gave = absurd (true≢false (sym some))
+is_kept o p q k v seen fits history same on more put none (Some x) some gave =
     ap Some
-    (value_is_kept o p q k v seen fits history same on more (subst (λ (z : PassView). WasPut z.view.layout o.view.past p.view.past p.view.stores z.view.number k v) (sym same) put) none x gave.so_far gave.rest gave.are gave.later gave.gives held)
+    (value_is_kept o p q k v seen fits history same on more (subst (λ (z : PassView). WasPut z.view.layout o.view.past p.view.past p.view.stores z.view.number k v) (sym same) put) none x gave.so_far gave.rest gave.are gave.later gave.gives gave.stored)

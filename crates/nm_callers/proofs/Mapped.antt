@@ -35,11 +35,6 @@ pub is_found : (o p q : PassView) (k : ℕ) → IsKey k → HasHistory q.view.la
 is_found o p q k key history layout on put none (Some v) gave = refl
 is_found o p q k key history layout on put none None gave = absurd (not_missed o p q k key history layout on put none gave)
 
--- what a result says of its answer in two ways
-pub both_said : {E : Type 0} (r : Result (Option ℕ) E) (P Q : Option ℕ → Type 0) → IfOk r P → IfOk r Q → IfOk r (λ found. P found × Q found)
-both_said (Ok x) P Q first second = (first, second)
-both_said (Err e) P Q first second = tt
-
 -- where an error is left out
 pub of_found : {E : Type 0} (r : Result (Option ℕ) E) (o : Option (Option ℕ)) (P Q : Option ℕ → Type 0) → o ≡ result_ok r → ((found : Option ℕ) → P found → Q found) → IfOk r P → IfSome o Q
 of_found (Ok x) o P Q is then' holds = subst (λ (y : Option (Option ℕ)). IfSome y Q) (sym is) (then' x holds)

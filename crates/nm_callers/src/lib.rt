@@ -23,6 +23,7 @@ mod rejoining;
 mod returned_values;
 mod sets;
 mod sharing;
+mod taken_values;
 mod threads;
 mod trees;
 
@@ -55,6 +56,7 @@ pub use rejoining::{
 pub use returned_values::take_back;
 pub use sets::{insert_then_end, insert_then_report};
 pub use sharing::{SharedTasks, add_tasks, share_tasks, take_tasks};
+pub use taken_values::{pin_then_get, put_then_take};
 pub use threads::{Inserted, find_both, insert_both, insert_both_then_find};
 pub use trees::{
     delete_then_miss, insert_then_find, insert_then_find_alone, look_told, tell_worker,

@@ -40,6 +40,7 @@ use Rattle.nm_steps.specs.Rules.{knowledge, value_of}
 use Rattle.nm_steps.specs.Steps.{IsInRun, PassView}
 use Rattle.nm_steps.specs.Values.{HasSeenStores}
 use Rattle.nm_steps.proofs.AfterSteps.{apart_in_run}
+use Rattle.nm_steps.proofs.Growing.{goes_on_itself}
 use Rattle.nm_steps.proofs.Seeing.{stores_same, stores_through}
 use Rattle.nm_steps.proofs.ValueStays.{NobodyHolds, value_stays}
 use Rattle.nm_epoch.specs.declared.collecting.Entry.{Entry}
@@ -48,6 +49,7 @@ use Rattle.nm_epoch.proofs.Fronts.{shown_queue}
 use Rattle.nm_epoch.specs.Handing.{WasRead, is_odd}
 use Rattle.nm_calls.specs.HandedBack.{WasCutWith}
 use Rattle.nm_calls.proofs.CutLeaves.{CutsFrom, Odd, OddCut, all_even, odd_cut}
+use Rattle.nm_calls.proofs.MapMoments.{holds_longer}
 use Rattle.nm_calls.proofs.Unheld.{among_in, freed_longer, in_filter, not_place, not_waiting}
 
 -- ---- lists
@@ -300,6 +302,16 @@ module _ (at : PassView) (run : IsInRun at) (seen : HasSeenStores at.view) (o : 
     leaf = was_leaf;
     first = at.view.stores;
     extends = stores_same at.view.stores at.view.stores refl;
+    stored = record {
+      until = at.view.past;
+      from = record { more = c.cut ∷ c.since; is = seen.run.are ∙ c.are };
+      ends = goes_on_itself at.view.past;
+      events = events;
+      are = seen.run.are;
+      held = seen.held;
+      linked = seen.linked;
+      order = seen.order;
+    };
     has_value = value_stays L events at.view.stores (length c.before) e.node.slot seen.held nobody ∙ sym is;
   }
 
@@ -318,5 +330,6 @@ read_is_cut p q o e v r =
       leaf = was.leaf;
       first = was.first;
       extends = stores_through was.first r.at.view.stores q.view.stores was.extends r.until.stores;
+      stored = holds_longer r.at.view.layout was.before r.at.view.past q.view.past was.first more was.stored;
       has_value = was.has_value;
     })

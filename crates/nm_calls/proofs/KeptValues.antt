@@ -270,31 +270,31 @@ module _ (L : Layout) (fits : IsLayout L) (events : List (ℕ × Event)) (keys :
 -- ---- the laws
 
 -- the stores of a run are held in all that goes on from it
-held_in_all : (L : Layout) (events : List (ℕ × Event)) (stores : List Stored) → HoldsStores L (trace_in (ordered L) events) stores → WereHeld L events stores
-held_in_all L events stores h =
+held_in_all : (L : Layout) (from : List Turn) (events : List (ℕ × Event)) (stores : List Stored) → HoldsStores L from (trace_in (ordered L) events) stores → WereHeld L events stores
+held_in_all L from events stores h =
     let whole : events ≡ h.events ++ events_of h.ends.more =
     sym (events_of_trace (ordered L) events) ∙ (events_go_on (trace_in (ordered L) events) h.until h.ends ∙ ap (λ (ts : List (ℕ × Event)). ts ++ events_of h.ends.more) (ap events_of h.are ∙ events_of_trace (ordered L) h.events)) in
     subst (λ (ts : List (ℕ × Event)). WereHeld L ts stores) (sym whole) (held_on L h.events (events_of h.ends.more) stores h.held)
 
 pub leaves_keep_their_values : LeavesKeepTheirValues
-leaves_keep_their_values L fits events keys so_far mid rest are stores h k v was uncut = record {
+leaves_keep_their_values L fits events keys so_far mid rest are stores from h k v was uncut = record {
   now = record {
     slot = was.slot;
     reached = reached_still L fits events keys so_far mid rest are was.slot was.reached uncut;
     leaf = leaf_still L fits events keys so_far mid rest are was.slot was.reached uncut ∙ was.leaf;
     has_key = key_still L fits events keys so_far mid rest are was.slot was.reached uncut ∙ was.has_key;
-    has_value = sym (value_still L fits events keys so_far mid rest are was.slot was.reached uncut stores (held_in_all L events stores h)) ∙ was.has_value;
+    has_value = sym (value_still L fits events keys so_far mid rest are was.slot was.reached uncut stores (held_in_all L from events stores h)) ∙ was.has_value;
   };
   same = refl;
 }
 
 pub put_values_stay : PutValuesStay
-put_values_stay L fits events keys was first seen stores w k v worker put on h mid rest are uncut found there =
+put_values_stay L fits events keys was first seen stores w k v worker put on from h mid rest are uncut found there =
     sym there.has_value
     ∙ (ap (value_before (length (so_far ++ mid)) stores) same
     ∙ (ap (λ (st : List Stored). value_before (length (so_far ++ mid)) st put.is.slot) on.is
     ∙ (sym (put_still L fits events keys so_far mid rest are put.is.slot put.is.reached uncut put.so_far put.link refl w put.node worker put.own put.won seen on.more
-    (subst (WereHeld L events) on.is (held_in_all L events stores h)) (subst (λ (st : List Stored). AllPairs ComesBefore st) on.is h.order) put.stored)
+    (subst (WereHeld L events) on.is (held_in_all L from events stores h)) (subst (λ (st : List Stored). AllPairs ComesBefore st) on.is h.order) put.stored)
     ∙ put.is.has_value)))
   where
     so_far : List Turn

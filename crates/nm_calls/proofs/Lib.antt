@@ -22,5 +22,6 @@ pub mod InsertedValues
 pub mod CutLeaves
 pub mod HandedBack
 pub mod MadeLeaves
+pub mod TakenValues
 pub mod KeptLeaves
 pub mod KeptValues

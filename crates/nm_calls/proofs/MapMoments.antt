@@ -1,24 +1,29 @@
 -- A look-up of a value: its walk, and the moment at which the map had the value that was read.
-use Rattle.std.proofs.Common.{◌≡◌, ◌≢◌, ℕ, ◌<◌, ◌≤◌, true, false, List, [], ◌∷◌, ◌++◌, append_assoc, length, refl, sym, ap, subst, ◌∙◌, arith}
+use Rattle.std.proofs.Common.{◌≡◌, ◌≢◌, ℕ, ◌<◌, ◌≤◌, ◌==◌, Bool, true, false, List, [], ◌∷◌, ◌++◌, append_assoc, length, refl, sym, ap, subst, ◌∙◌, arith}
 use Rattle.std.specs.Prelude.{All, IsSome, None, Some, Option, Result, Ok, Err, IfOk, IfErr, IfSome}
 use Rattle.std.proofs.lemmas.List.{append_cancel_left, length-map}
 use Rattle.std.proofs.lemmas.Result.{IfErr-weaker}
 use Rattle.nm_edge.specs.Keys.{IsKey}
 use Rattle.nm_edge.specs.Layouts.{Layout, IsLayout}
+use Rattle.nm_edge.specs.declared.edge.Side.{Side}
 use Rattle.nm_model.specs.declared.event.Event.{Event}
 use Rattle.nm_model.specs.declared.event.Event.TheVariants.{Leave, Sight}
+use Rattle.nm_model.specs.declared.event.Op.TheVariants.{Has}
 use Rattle.nm_model.specs.declared.reply.Reply.TheVariants.{Departed}
 use Rattle.nm_model.specs.declared.trace.Turn.{Turn}
+use Rattle.nm_model.specs.Acts.{Gives, InSet}
 use Rattle.nm_model.specs.Headline.{HasLeft, IsPinned, has_after, words_after}
 use Rattle.nm_model.specs.Memory.{Memory, infinity_1, is_leaf, node, opening}
 use Rattle.nm_model.specs.Ordered.{ordered, after_in, trace_in, turn_of, HasKey}
 use Rattle.nm_model.specs.Paths.{Reached}
 use Rattle.nm_model.specs.Walks.{Entry, WalkEnds, since_pin}
 use Rattle.nm_order.specs.Logs.{part_of, known_by}
-use Rattle.nm_order.specs.StalePaths.{WasReachedSince, log_under_pin}
+use Rattle.nm_order.specs.StalePaths.{HasPin, WasReachedSince, log_under_pin}
+use Rattle.nm_order.specs.WalkAnswers.{WasSoUnderPin}
 use Rattle.nm_order.proofs.PartWalks.{ends_in_log}
 use Rattle.nm_order.proofs.PinNumbers.{length_trace}
 use Rattle.nm_order.proofs.RealTime.{begins_with}
+use Rattle.nm_order.proofs.WalkTells.{any_walk_tells}
 use Rattle.nm_order.proofs.WalksOfRuns.{trace_in-append}
 use Rattle.nm_theorem.proofs.GraceOfRuns.{pin_is}
 use Rattle.nm_theorem.proofs.Hands.{run_hands}
@@ -28,6 +33,7 @@ use Rattle.nm_theorem.proofs.WrittenWords.{run_words}
 use Rattle.nm_steps.specs.declared.view.Stored.{Stored}
 use Rattle.nm_steps.specs.Rules.{Extends}
 use Rattle.nm_steps.specs.Steps.{Continues, HasSeen, HasSeenAllOf, IsSamePass, PassView, TakesStep}
+use Rattle.nm_steps.proofs.Growing.{goes_on_itself, goes_on_through}
 use Rattle.nm_steps.proofs.Seeing.{same_by_step, same_then, seen_by_turn, seen_through, stores_same, stores_through}
 use Rattle.nm_steps.proofs.ValueStays.{NobodyHolds, value_stays}
 use Rattle.nm_epoch.specs.Resting.{IsResting, KeepsHands, epochs}
@@ -44,7 +50,7 @@ use Rattle.nm_walks.proofs.PlainLooks.{looks_longer}
 use Rattle.nm_calls.specs.declared.fault.CallFault.{CallFault}
 use Rattle.nm_calls.specs.declared.fault.CallFault.TheVariants as fault
 use Rattle.nm_calls.specs.InTurns.{GiveUp}
-use Rattle.nm_calls.specs.Maps.{AfterGet, HasLookedUp, HasReadValue, HoldsStores, WasMapped}
+use Rattle.nm_calls.specs.Maps.{AfterGet, HasLookedUp, HasReadValue, HoldsStores, IsInMap, WasMapped, WasMappedUnderPin}
 use Rattle.nm_calls.specs.PlainWalks.{HasPassed, LooksUnderPin, WasSo, events_of, most_looks}
 use Rattle.nm_calls.proofs.Adding.{cuts_none, has_won, plain_moved_adds}
 use Rattle.nm_calls.proofs.NamedLeaves.{leaf_has_key, leaf_is_one, leaf_was, moment_is_later, pin_not_left}
@@ -54,6 +60,25 @@ use Rattle.nm_calls.proofs.Unheld.{unheld}
 -- a walk ends at the leaf that it has read
 pub ends_at : (p q : PassView) (n k x : ℕ) (on : Onward) → Reads k x p.view.log q.view.log on → (c : HasPassed n p.view.log k x) → on.next.slot ≡ 0 → WalkEnds k (since_pin [] q.view.log) x c.0 c.1 on.found
 ends_at p q n k x on r c null = record { looks = c.2.looks; leads = c.2.leads; null = on.next; is_null = null; is_part = looks_longer p.view.log q.view.log k x on r c.2.looks c.2.is_part }
+
+-- ---- stores that are seen later
+
+-- the same stores, after more turns
+pub holds_longer : (L : Layout) (was now later : List Turn) (stores : List Stored) → Extends later now → HoldsStores L was now stores → HoldsStores L was later stores
+holds_longer L was now later stores more s = record {
+  until = s.until;
+  from = s.from;
+  ends = goes_on_through later now s.until more s.ends;
+  events = s.events;
+  are = s.are;
+  held = s.held;
+  linked = s.linked;
+  order = s.order;
+}
+
+stored_longer : (answer : Option ℕ) (L : Layout) (was now later : List Turn) (stores : List Stored) → Extends later now → IfSome answer (λ v. HoldsStores L was now stores) → IfSome answer (λ v. HoldsStores L was later stores)
+stored_longer None L was now later stores more s = tt
+stored_longer (Some v) L was now later stores more s = holds_longer L was now later stores more s
 
 -- ---- where nobody has had the leaf in hands, by events
 
@@ -79,7 +104,149 @@ module _ (L : Layout) (fits : IsLayout L) (turns : List (ℕ × Event)) (keys : 
       sym (run_hands v slot L fits true now)
       ∙ (ap (has_after (opening L) v slot false) (ap (trace_in (ordered L)) mid.1 ∙ trace_in-append (ordered L) before mid.0) ∙ held)
 
--- ---- the moment of a value that was read
+-- ---- the moment of a value that was read, under the pin that the worker still has
+
+module _ (m : PassView) (fits : IsLayout m.view.layout) (k : ℕ) (is_key : IsKey k) where
+  abbrev L : Layout
+  L = m.view.layout
+
+  abbrev w : ℕ
+  w = m.view.number
+
+  abbrev small : k < infinity_1
+  small = let le = is_key in omega (arith, le)
+
+  -- a walk, in the run that the pass has seen
+  module _ (seen : HasSeen m.view) (slot parent : ℕ) (side : Side) (v : ℕ) (ends : WalkEnds k (since_pin [] m.view.log) slot parent side v) where
+    pub walk_in_run : WalkEnds k (log_under_pin L seen.events w) slot parent side v
+    walk_in_run = ends_in_log w (trace_in (ordered L) seen.events) k slot parent side v
+        (subst (λ (l : List Entry). WalkEnds k (since_pin [] l) slot parent side v) (sym (ap (part_of w) (sym seen.are) ∙ seen.is_part)) ends)
+
+  -- a moment of the run that the pass has seen
+  module _ (seen : HasSeen m.view) (before since : List (ℕ × Event)) (is_run : seen.events ≡ before ++ since) where
+    pub parts_are : m.view.past ≡ trace_in (ordered L) before ++ trace_in (after_in (ordered L) before) since
+    parts_are = seen.are ∙ (ap (trace_in (ordered L)) is_run ∙ trace_in-append (ordered L) before since)
+
+    pub pinned_at : HasPin (after_in (ordered L) before) w → IsPinned w (trace_in (ordered L) before)
+    pinned_at pinned = pinned_by_turns w (trace_in (ordered L) before) (subst (λ (p : Option ℕ). IsSome p) (sym pinned.1 ∙ pin_is L fits true before w) refl)
+
+  -- the leaf with the value
+  module _ (v : ℕ) (r : HasReadValue m k v) where
+    abbrev turns : List (ℕ × Event)
+    turns = r.seen.run.events
+
+    abbrev walk : WalkEnds k (log_under_pin L turns w) r.slot r.parent r.side k
+    walk = walk_in_run r.seen.run r.slot r.parent r.side k r.walk
+
+    abbrev pub was : WasReachedSince (ordered L) turns w k r.slot
+    was = leaf_was L (enough L fits) turns r.seen.run.keys w k r.slot r.parent r.side small walk
+
+    abbrev pub so_far : List Turn
+    so_far = trace_in (ordered L) was.before
+
+    abbrev pub remaining : List Turn
+    remaining = trace_in (after_in (ordered L) was.before) was.since
+
+    pub are : m.view.past ≡ so_far ++ remaining
+    are = parts_are r.seen.run was.before was.since was.is_run
+
+    pub pinned_then : IsPinned w so_far
+    pinned_then = pinned_at r.seen.run was.before was.since was.is_run was.pinned
+
+    pub not_left : HasLeft w remaining → ⊥
+    not_left = pin_not_left w remaining was.stands
+
+    words : words_after L so_far ≡ (after_in (ordered L) was.before).state.memory
+    words = run_words L fits true was.before
+
+    reached_then : Reached (words_after L so_far) r.slot
+    reached_then = subst (λ (x : Memory). Reached x r.slot) (sym words) was.reached
+
+    pub in_map : IsInMap L so_far m.view.stores k v
+    in_map = record {
+      slot = r.slot;
+      reached = reached_then;
+      leaf = ap (λ (x : Memory). is_leaf (node x r.slot)) words ∙ leaf_is_one L (enough L fits) turns r.seen.run.keys w k r.slot r.parent r.side small walk;
+      has_key = ap (λ (x : Memory). (node x r.slot).key) words ∙ leaf_has_key L (enough L fits) turns r.seen.run.keys w k r.slot r.parent r.side small walk;
+      has_value = value_stays L turns m.view.stores (length so_far) r.slot r.seen.held
+          (nobody_holds L fits turns r.seen.run.keys w r.slot r.high r.within was.before was.since was.is_run pinned_then not_left reached_then)
+          ∙ sym r.value;
+    }
+
+    pub in_map_slot : in_map.slot ≡ r.slot
+    unfolding in_map
+    in_map_slot = refl
+
+    pub stores_then : HoldsStores L so_far m.view.past m.view.stores
+    stores_then = record {
+      until = m.view.past;
+      from = record { more = remaining; is = are };
+      ends = goes_on_itself m.view.past;
+      events = turns;
+      are = r.seen.run.are;
+      held = r.seen.held;
+      linked = r.seen.linked;
+      order = r.seen.order;
+    }
+
+  -- what a walk and a look found was so at a moment of the pin
+  pub mapped_under_pin : HasSeen m.view → (answer : Option ℕ) → HasLookedUp m k answer → WasMappedUnderPin L m.view.past m.view.stores w k answer
+  mapped_under_pin seen (Some v) r = record {
+    so_far = so_far v r;
+    rest = remaining v r;
+    are = are v r;
+    pinned = pinned_then v r;
+    stays = not_left v r;
+    gives = in_map v r;
+    stored = stores_then v r;
+  }
+  mapped_under_pin seen None e =
+      let t : WasSoUnderPin L seen.events w k (e.2 == k) = any_walk_tells L (enough L fits) seen.events seen.keys w k e.0 e.1 e.3 e.2 small (walk_in_run seen e.0 e.1 e.3 e.2 e.4) in
+      record {
+        so_far = trace_in (ordered L) t.before;
+        rest = trace_in (after_in (ordered L) t.before) t.since;
+        are = parts_are seen t.before t.since t.is_run;
+        pinned = pinned_at seen t.before t.since t.is_run t.pinned;
+        stays = pin_not_left w (trace_in (after_in (ordered L) t.before) t.since) t.stands;
+        gives = none_there (subst (λ (b : Bool). Gives (InSet (words_after L (trace_in (ordered L) t.before))) Has k b) (sym e.5) (subst (λ (x : Memory). Gives (InSet x) Has k (e.2 == k)) (sym (run_words L fits true t.before)) t.gives));
+        stored = tt;
+      }
+    where
+      none_there : {turns : List Turn} → Gives (InSet (words_after L turns)) Has k false → (v : ℕ) → IsInMap L turns m.view.stores k v → ⊥
+      none_there gives v in_map = gives (record { slot = in_map.slot; reached = in_map.reached; leaf = in_map.leaf; has_key = in_map.has_key })
+
+-- ---- it is later than an earlier moment at which the worker was not pinned
+
+module _ (o m : PassView) (first_seen : HasSeen o.view) (first_fits : IsLayout o.view.layout) (unpinned : (epochs o).pin ≡ None) (same : IsSamePass o m) (past : HasSeenAllOf m o) (k : ℕ) (is_key : IsKey k) where
+  pub fits_later : IsLayout m.view.layout
+  fits_later = subst (λ (s : PassView). IsLayout s.view.layout) (sym same) first_fits
+
+  abbrev earlier : List (ℕ × Event)
+  earlier = events_of o.view.past
+
+  abbrev more : List (ℕ × Event)
+  more = events_of past.goes_on.more
+
+  unpinned_then : (known_by m.view.layout m.view.number (part_of m.view.number (trace_in (ordered m.view.layout) earlier))).brief.pin ≡ None
+  unpinned_then =
+      subst (λ (s : PassView). (known_by s.view.layout s.view.number (part_of s.view.number (trace_in (ordered s.view.layout) earlier))).brief.pin ≡ None) (sym same)
+      (subst (λ (l : List Entry). (known_by o.view.layout o.view.number l).brief.pin ≡ None) (sym (as_events o.view first_seen).is_part) unpinned)
+
+  module _ (v : ℕ) (r : HasReadValue m k v) where
+    grown : r.seen.run.events ≡ earlier ++ more
+    grown = sym (ap events_of r.seen.run.are ∙ events_of_trace (ordered m.view.layout) r.seen.run.events) ∙ events_go_on m.view.past o.view.past past.goes_on
+
+    abbrev reached : WasReachedSince (ordered m.view.layout) r.seen.run.events m.view.number k r.slot
+    reached = was m fits_later k is_key v r
+
+    pub later : length o.view.past < length (so_far m fits_later k is_key v r)
+    later =
+        let moment = moment_is_later m.view.layout (enough m.view.layout fits_later) m.view.number r.seen.run.worker earlier more (subst (λ (ts : List (ℕ × Event)). All (λ t. HasKey t.1) ts) grown r.seen.run.keys) unpinned_then reached.before reached.since (sym grown ∙ reached.is_run) reached.pinned reached.stands in
+        let long = length_trace (ordered m.view.layout) reached.before in
+        let first = length-map o.view.past turn_of in
+        omega (arith, moment, long, first)
+
+-- ---- the moment of a value that was read, in its call
 
 module _ (o a m q : PassView) (first_seen : HasSeen o.view) (first_fits : IsLayout o.view.layout) (unpinned : (epochs o).pin ≡ None) (pinning : Continues o a) (walked : GoesOn a m) (leaves : TakesStep m q Leave Departed) (k : ℕ) (is_key : IsKey k) where
   same : IsSamePass o m
@@ -88,25 +255,11 @@ module _ (o a m q : PassView) (first_seen : HasSeen o.view) (first_fits : IsLayo
   past : HasSeenAllOf m o
   past = seen_through o a m pinning.past walked.past
 
-  abbrev L : Layout
-  L = m.view.layout
-
-  abbrev w : ℕ
-  w = m.view.number
-
-  fits : IsLayout L
-  fits = subst (λ (s : PassView). IsLayout s.view.layout) (sym same) first_fits
-
-  abbrev earlier : List (ℕ × Event)
-  earlier = events_of o.view.past
-
-  unpinned_then : (known_by L w (part_of w (trace_in (ordered L) earlier))).brief.pin ≡ None
-  unpinned_then =
-      subst (λ (s : PassView). (known_by s.view.layout s.view.number (part_of s.view.number (trace_in (ordered s.view.layout) earlier))).brief.pin ≡ None) (sym same)
-      (subst (λ (l : List Entry). (known_by o.view.layout o.view.number l).brief.pin ≡ None) (sym (as_events o.view first_seen).is_part) unpinned)
+  abbrev fits : IsLayout m.view.layout
+  fits = fits_later o m first_seen first_fits unpinned same past k is_key
 
   -- what the last step leaves of a moment of the map
-  mapped_longer : (answer : Option ℕ) → WasMapped L o.view.past m.view.past m.view.stores w k answer → WasMapped q.view.layout o.view.past q.view.past q.view.stores q.view.number k answer
+  mapped_longer : (answer : Option ℕ) → WasMapped m.view.layout o.view.past m.view.past m.view.stores m.view.number k answer → WasMapped q.view.layout o.view.past q.view.past q.view.stores q.view.number k answer
   mapped_longer answer was =
       let more : Extends q.view.past m.view.past = (seen_by_turn m q Leave Departed leaves.past).goes_on in
       subst (λ (st : List Stored). WasMapped q.view.layout o.view.past q.view.past st q.view.number k answer) (sym leaves.stores)
@@ -117,74 +270,19 @@ module _ (o a m q : PassView) (first_seen : HasSeen o.view) (first_fits : IsLayo
         later = was.later;
         pinned = was.pinned;
         gives = was.gives;
+        stored = stored_longer answer m.view.layout was.so_far m.view.past q.view.past m.view.stores more was.stored;
       }))
 
-  -- the leaf with the value
-  module _ (v : ℕ) (r : HasReadValue m k v) where
-    abbrev turns : List (ℕ × Event)
-    turns = r.seen.run.events
-
-    abbrev more : List (ℕ × Event)
-    more = events_of past.goes_on.more
-
-    grown : turns ≡ earlier ++ more
-    grown = sym (ap events_of r.seen.run.are ∙ events_of_trace (ordered L) turns) ∙ events_go_on m.view.past o.view.past past.goes_on
-
-    small : k < infinity_1
-    small = let le = is_key in omega (arith, le)
-
-    walk : WalkEnds k (log_under_pin L turns w) r.slot r.parent r.side k
-    walk = ends_in_log w (trace_in (ordered L) turns) k r.slot r.parent r.side k
-        (subst (λ (l : List Entry). WalkEnds k (since_pin [] l) r.slot r.parent r.side k) (sym (ap (part_of w) (sym r.seen.run.are) ∙ r.seen.run.is_part)) r.walk)
-
-    abbrev was : WasReachedSince (ordered L) turns w k r.slot
-    was = leaf_was L (enough L fits) turns r.seen.run.keys w k r.slot r.parent r.side small walk
-
-    words : words_after L (trace_in (ordered L) was.before) ≡ (after_in (ordered L) was.before).state.memory
-    words = run_words L fits true was.before
-
-    reached_then : Reached (words_after L (trace_in (ordered L) was.before)) r.slot
-    reached_then = subst (λ (x : Memory). Reached x r.slot) (sym words) was.reached
-
-    pinned_then : IsPinned w (trace_in (ordered L) was.before)
-    pinned_then = pinned_by_turns w (trace_in (ordered L) was.before) (subst (λ (p : Option ℕ). IsSome p) (sym was.pinned.1 ∙ pin_is L fits true was.before w) refl)
-
-    value_was : WasMapped L o.view.past m.view.past m.view.stores w k (Some v)
-    value_was = record {
-      so_far = trace_in (ordered L) was.before;
-      rest = trace_in (after_in (ordered L) was.before) was.since;
-      are = r.seen.run.are ∙ (ap (trace_in (ordered L)) was.is_run ∙ trace_in-append (ordered L) was.before was.since);
-      later = (
-          let moment = moment_is_later L (enough L fits) w r.seen.run.worker earlier more (subst (λ (ts : List (ℕ × Event)). All (λ t. HasKey t.1) ts) grown r.seen.run.keys) unpinned_then was.before was.since (sym grown ∙ was.is_run) was.pinned was.stands in
-          let long = length_trace (ordered L) was.before in
-          let first = length-map o.view.past turn_of in
-          omega (arith, moment, long, first)
-          );
-      pinned = pinned_then;
-      gives = record {
-        slot = r.slot;
-        reached = reached_then;
-        leaf = ap (λ (x : Memory). is_leaf (node x r.slot)) words ∙ leaf_is_one L (enough L fits) turns r.seen.run.keys w k r.slot r.parent r.side small walk;
-        has_key = ap (λ (x : Memory). (node x r.slot).key) words ∙ leaf_has_key L (enough L fits) turns r.seen.run.keys w k r.slot r.parent r.side small walk;
-        has_value = value_stays L turns m.view.stores (length (trace_in (ordered L) was.before)) r.slot r.seen.held
-            (nobody_holds L fits turns r.seen.run.keys w r.slot r.high r.within was.before was.since was.is_run pinned_then (pin_not_left w (trace_in (after_in (ordered L) was.before) was.since) was.stands) reached_then)
-            ∙ sym r.value;
-      };
-    }
-
-    -- the stores are those of the run that the pass has seen
-    pub stores_are : HoldsStores q.view.layout q.view.past q.view.stores
-    stores_are =
-        subst (HoldsStores q.view.layout q.view.past) (sym leaves.stores)
-        (subst (λ (s : PassView). HoldsStores s.view.layout q.view.past m.view.stores) (sym (same_by_step m q Leave Departed leaves.step)) (record {
-          until = m.view.past;
-          ends = (seen_by_turn m q Leave Departed leaves.past).goes_on;
-          events = turns;
-          are = r.seen.run.are;
-          held = r.seen.held;
-          linked = r.seen.linked;
-          order = r.seen.order;
-        }))
+  value_was : (v : ℕ) → HasReadValue m k v → WasMapped m.view.layout o.view.past m.view.past m.view.stores m.view.number k (Some v)
+  value_was v r = record {
+    so_far = so_far m fits k is_key v r;
+    rest = remaining m fits k is_key v r;
+    are = are m fits k is_key v r;
+    later = later o m first_seen first_fits unpinned same past k is_key v r;
+    pinned = pinned_then m fits k is_key v r;
+    gives = in_map m fits k is_key v r;
+    stored = stores_then m fits k is_key v r;
+  }
 
   -- what the call found was so
   pub was_mapped : HasSeen m.view → (answer : Option ℕ) → HasLookedUp m k answer → WasMapped q.view.layout o.view.past q.view.past q.view.stores q.view.number k answer
@@ -198,12 +296,9 @@ module _ (o a m q : PassView) (first_seen : HasSeen o.view) (first_fits : IsLayo
         later = so.later;
         pinned = so.pinned;
         gives = λ v in_map. so.gives (record { slot = in_map.slot; reached = in_map.reached; leaf = in_map.leaf; has_key = in_map.has_key });
+        stored = tt;
       }
   was_mapped seen (Some v) r = mapped_longer (Some v) (value_was v r)
-
-  pub stored_if : (answer : Option ℕ) → HasLookedUp m k answer → IfSome answer (λ v. HoldsStores q.view.layout q.view.past q.view.stores)
-  stored_if None e = tt
-  stored_if (Some v) r = stores_are v r
 
 -- ---- the whole call
 
@@ -217,7 +312,6 @@ get_without_pin L tries k o a some pinning moved rests kept =
       stores = pinning.stores;
       did = tt;
       moment = tt;
-      stored = tt;
       busy = refl;
       missed = pin_missed (GiveUp L (k ∷ [])) tries o.view.log a.view.log some moved;
       won = has_won _ _ added;
@@ -232,8 +326,8 @@ pub get_after_walk : (L : Layout) (tries k epoch : ℕ) (o a p q : PassView) (r 
     → Continues o a → IsPinnedBy Sight tries o.view.log a.view.log epoch → KeepsHands o a
     → GoesOn a p → OnlyLooks a p → AddsLooks (most_looks (reach L) 1) a.view.log p.view.log
     → TakesStep p q Leave Departed → IsResting q → KeepsHands p q
-    → IfOk r (WasMapped q.view.layout o.view.past q.view.past q.view.stores q.view.number k) → IfOk r (λ found. IfSome found (λ v. HoldsStores q.view.layout q.view.past q.view.stores)) → IfErr r (λ e. GiveUp L (k ∷ []) a.view.log p.view.log) → IfErr r (λ e. e ≡ fault.Busy) → AfterGet L tries k o q r
-get_after_walk L tries k epoch o a p q r pinning pinned hands walked only looks leaves rests kept moment stored given_up busy =
+    → IfOk r (WasMapped q.view.layout o.view.past q.view.past q.view.stores q.view.number k) → IfErr r (λ e. GiveUp L (k ∷ []) a.view.log p.view.log) → IfErr r (λ e. e ≡ fault.Busy) → AfterGet L tries k o q r
+get_after_walk L tries k epoch o a p q r pinning pinned hands walked only looks leaves rests kept moment given_up busy =
     let did : LooksUnderPin tries (most_looks (reach L) 1) o.view.log q.view.log = record { pinned = a.view.log; epoch = epoch; pin = pinned; looked = p.view.log; looks = looks; leaves = ap (λ (s : PassView). s.view.log) leaves.step } in
     let added = call_adds tries (most_looks (reach L) 1) o.view.log q.view.log did in
     record {
@@ -242,7 +336,6 @@ get_after_walk L tries k epoch o a p q r pinning pinned hands walked only looks 
       stores = stores_through o.view.stores p.view.stores q.view.stores (stores_through o.view.stores a.view.stores p.view.stores pinning.stores walked.stores) (stores_same q.view.stores p.view.stores leaves.stores);
       did = any_ok r did;
       moment = moment;
-      stored = stored;
       busy = busy;
       missed = IfErr-weaker r _ _ (λ e gives. walks_missed (GiveUp L (k ∷ [])) tries o.view.log a.view.log p.view.log q.view.log epoch pinned gives did.leaves) given_up;
       won = has_won _ _ added;

@@ -115,13 +115,23 @@ has_flagged o p q r b looked born on won = record {
   born = on.keeps (IsBorn r.seek_record.edge.slot b) born;
 }
 
-pub may_flag_there : (p q : PassView) (k : ℕ) (L : Layout) (r : WalkEnd) (c : List ChainEdge) → Tells p (CallIs Delete k) → (search p).flagged ≡ None → k < infinity_0 → GoesOn p q → OnlyLooks p q → HasEnded (Tells q) L r.seek_record c
+-- the same after a look at a value
+pub flagged_by_value : (o p q : PassView) (r : WalkEnd) (b : ℕ) → q ≡ record p { view = record p.view { past = q.view.past; stores = q.view.stores } } → GoesOn p q → HasWonItsFlag o p r b → HasWonItsFlag o q r b
+flagged_by_value o p q r b same on won = record {
+  part = ap (λ (x : PassView). x.view.log) same ∙ won.part;
+  flagged = ap (λ (x : PassView). (search x).flagged) same ∙ won.flagged;
+  edge = on.keeps (IsFlagged r.seek_record.parent r.seek_record.side r.seek_record.edge.slot) won.edge;
+  born = on.keeps (IsBorn r.seek_record.edge.slot b) won.born;
+}
+
+pub may_flag_there : (p q : PassView) (k : ℕ) (L : Layout) (r : WalkEnd) (c : List ChainEdge) → q.view.layout ≡ L → Tells p (CallIs Delete k) → (search p).flagged ≡ None → k < infinity_0 → GoesOn p q → OnlyLooks p q → HasEnded (Tells q) L r.seek_record c
     → (r.key < infinity_0 → 6 ≤ r.seek_record.edge.slot) → HasFound p q k r.seek_record.edge.slot r.seek_record.parent r.seek_record.side r.key → r.key ≡ k → MayFlag q k r
-may_flag_there p q k L r c call unflagged low on only ended high found is = record {
+may_flag_there p q k L r c layout call unflagged low on only ended high found is = record {
   parent = ended.at.parent;
   known = ended.at.node;
   leaf = ended.leaf;
   high = high (subst (λ (n : ℕ). n < infinity_0) (sym is) low);
+  within = subst (λ (l : Layout). r.seek_record.edge.slot ≤ l.nodes) (sym layout) ended.within;
   call = on.keeps (CallIs Delete k) call;
   ended = subst (λ (n : ℕ). Tells q (EndedAt ThePin k r.seek_record.edge.slot r.seek_record.parent r.seek_record.side n)) is (found ThePin (Delete, call));
   unflagged = only.flagged ∙ unflagged;

@@ -118,6 +118,7 @@ pub record MayFlag (p : PassView) (k : ℕ) (r : WalkEnd) : Type 0 where
   pub known : Tells p (KnowsSlot r.seek_record.edge.slot)
   pub leaf : Tells p (KnowsLeaf r.seek_record.edge.slot)
   pub high : 6 ≤ r.seek_record.edge.slot
+  pub within : r.seek_record.edge.slot ≤ p.view.layout.nodes
   pub call : Tells p (CallIs Delete k)
   pub ended : Tells p (EndedAt ThePin k r.seek_record.edge.slot r.seek_record.parent r.seek_record.side k)
   pub unflagged : (search p).flagged ≡ None
@@ -161,6 +162,21 @@ ShowsFlag k c p q (injected.Flagged r b) =
     × Tells q (IsFlagged r.seek_record.parent r.seek_record.side r.seek_record.edge.slot)
     × Tells q (IsBorn r.seek_record.edge.slot b) × IsAt (Tells q) r.seek_record c × (length c < chain_bound)
 ShowsFlag k c p q injected.Lost = (search q).flagged ≡ (search p).flagged
+
+-- `IfFlagged`, `IfInjected`, `IfTaken`: the property holds if a leaf was flagged, by the result of a
+-- try, of all tries, and of the call
+abbrev pub IfFlagged : Injected → Type 0 → Type 0
+IfFlagged (injected.Flagged r b) P = P
+IfFlagged _ P = Unit {0}
+
+abbrev pub IfInjected : Injection → Type 0 → Type 0
+IfInjected (injection.Flagged f) P = P
+IfInjected _ P = Unit {0}
+
+abbrev pub IfTaken : Result Bool Missed → Type 0 → Type 0
+IfTaken (Ok true) P = P
+IfTaken (Err (missed.Unfinished n)) P = P
+IfTaken _ P = Unit {0}
 
 -- ---- the tries to flag
 

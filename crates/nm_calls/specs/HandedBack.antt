@@ -8,10 +8,11 @@ use Rattle.nm_model.specs.Memory.{is_leaf, node}
 use Rattle.nm_model.specs.Paths.{Reached}
 use Rattle.nm_steps.specs.declared.view.Stored.{Stored}
 use Rattle.nm_steps.specs.Rules.{ExtendsStores}
-use Rattle.nm_calls.specs.Maps.{value_at}
+use Rattle.nm_calls.specs.Maps.{HoldsStores, value_at}
 
 -- a turn cut the node off. Right before it a path from the root reached the node, which was a leaf,
--- and the map had the key of the leaf with the value v, by the first of these stores
+-- and the map had the key of the leaf with the value v. It had it by the first of these stores, which
+-- have the store of each leaf that was linked before the cut (`stored`)
 pub record WasCutWith (L : Layout) (turns : List Turn) (stores : List Stored) (n : NodeId) (v : ℕ) : Type 0 where
   pub before : List Turn
   pub cut : Turn
@@ -22,4 +23,5 @@ pub record WasCutWith (L : Layout) (turns : List Turn) (stores : List Stored) (n
   pub leaf : is_leaf (node (words_after L before) n.slot) ≡ true
   pub first : List Stored
   pub extends : ExtendsStores stores first
+  pub stored : HoldsStores L before turns first
   pub has_value : value_at (length before) first n.slot ≡ v

@@ -25,7 +25,7 @@ abbrev pub LeavesKeepTheirValues : Type 0
 LeavesKeepTheirValues = (L : Layout) → IsLayout L → (events : List (ℕ × Event))
     → All (λ t. HasKey t.1) events → (so_far mid rest : List Turn)
     → trace_in (ordered L) events ≡ so_far ++ (mid ++ rest) → (stores : List Stored)
-    → HoldsStores L (trace_in (ordered L) events) stores → (k v : ℕ)
+    → (from : List Turn) → HoldsStores L from (trace_in (ordered L) events) stores → (k v : ℕ)
     → (was : IsInMap L so_far stores k v) → NoneCuts mid was.slot
     → StaysInMap L so_far mid stores k v was
 
@@ -36,7 +36,7 @@ abbrev pub PutValuesStay : Type 0
 PutValuesStay = (L : Layout) → IsLayout L → (events : List (ℕ × Event))
     → All (λ t. HasKey t.1) events → (was first : List Turn) (seen stores : List Stored) (w k v : ℕ)
     → w < L.workers → (put : WasPut L was first seen w k v) → ExtendsStores stores seen
-    → HoldsStores L (trace_in (ordered L) events) stores → (mid rest : List Turn)
+    → (from : List Turn) → HoldsStores L from (trace_in (ordered L) events) stores → (mid rest : List Turn)
     → trace_in (ordered L) events ≡ (put.so_far ++ put.link ∷ []) ++ (mid ++ rest)
     → NoneCuts mid put.is.slot → (found : ℕ)
     → IsInMap L ((put.so_far ++ put.link ∷ []) ++ mid) stores k found → found ≡ v

@@ -1,5 +1,6 @@
 -- A map: what was stored under a key and when, and what a call for the value of a key leaves.
 use Rattle.std.specs.Prelude.{◌≡◌, ◌+◌, ◌*◌, ◌≤◌, ◌<◌, ℕ, nat_lt, Bool, true, false, List, [], ◌∷◌, ◌++◌, length, filter, AllPairs, Option, Some, None, Result, Ok, IfOk, IfErr, IfSome}
+use Rattle.nm_edge.specs.Keys.{IsKey}
 use Rattle.nm_edge.specs.Layouts.{Layout}
 use Rattle.nm_edge.specs.declared.edge.Side.{Side}
 use Rattle.nm_edge.specs.declared.node.NodeId.{NodeId}
@@ -7,7 +8,8 @@ use Rattle.nm_model.specs.declared.event.Event.{Event}
 use Rattle.nm_model.specs.declared.event.Event.TheVariants.{LeaveWith, Link}
 use Rattle.nm_model.specs.declared.reply.Reply.TheVariants.{Departed, Linked}
 use Rattle.nm_model.specs.declared.trace.Turn.{Turn}
-use Rattle.nm_model.specs.Headline.{IsPinned, words_after}
+use Rattle.nm_model.specs.Headline.{HasLeft, IsPinned, words_after}
+use Rattle.nm_model.specs.Histories.{HasFlaggedOneOf}
 use Rattle.nm_model.specs.Memory.{infinity_0, is_leaf, node}
 use Rattle.nm_model.specs.Ordered.{ordered, trace_in}
 use Rattle.nm_model.specs.Paths.{Reached}
@@ -15,11 +17,13 @@ use Rattle.nm_model.specs.Walks.{Entry, WalkEnds, since_pin}
 use Rattle.nm_steps.specs.declared.view.Stored.{Stored}
 use Rattle.nm_order.specs.Logs.{part_of}
 use Rattle.nm_steps.specs.Rules.{ComesBefore, Extends, ExtendsStores, IsStored, LinksHaveValues, WereHeld, value_of}
-use Rattle.nm_steps.specs.Steps.{HasSeenAllOf, IsSamePass, PassView}
+use Rattle.nm_steps.specs.Steps.{Continues, HasSeenAllOf, IsSamePass, PassView}
 use Rattle.nm_steps.specs.Values.{HasSeenStores}
 use Rattle.nm_epoch.specs.Resting.{IsResting, KeepsHands}
+use Rattle.nm_walks.specs.AddedLooks.{AddsLooks}
 use Rattle.nm_walks.specs.Bounds.{reach}
 use Rattle.nm_walks.specs.Making.{fills}
+use Rattle.nm_walks.specs.Telling.{GoesOn, OnlyLooks}
 use Rattle.nm_walks.specs.WonCounts.{won_splices}
 use Rattle.nm_calls.specs.declared.fault.CallFault.{CallFault}
 use Rattle.nm_calls.specs.declared.fault.CallFault.TheVariants as fault
@@ -48,8 +52,22 @@ abbrev pub MapGives : (ℕ → Type 0) → Option ℕ → Type 0
 MapGives has (Some v) = has v
 MapGives has None = (v : ℕ) → has v → ⊥
 
+-- the stores are those of a run that ended between the turns `was` and the turns `now`, in their order.
+-- So they have the store of each leaf that was linked in `was`. Each was made in a slot that was
+-- private to its worker, and each worker that tried to link a new leaf had just stored its value
+pub record HoldsStores (L : Layout) (was now : List Turn) (stores : List Stored) : Type 0 where
+  pub until : List Turn
+  pub from : Extends until was
+  pub ends : Extends now until
+  pub events : List (ℕ × Event)
+  pub are : until ≡ trace_in (ordered L) events
+  pub held : WereHeld L events stores
+  pub linked : LinksHaveValues L events stores
+  pub order : AllPairs ComesBefore stores
+
 -- at a moment after the turns `was`, at which the worker was pinned, a plain map of the reached
--- leaves and their values gives this answer to a look-up of the key (O'Hearn and others)
+-- leaves and their values gives this answer to a look-up of the key (O'Hearn and others). A value is
+-- by stores that have the store of each leaf that was linked before that moment (`stored`)
 pub record WasMapped (L : Layout) (was now : List Turn) (stores : List Stored) (w k : ℕ)
     (answer : Option ℕ) : Type 0 where
   pub so_far : List Turn
@@ -58,6 +76,18 @@ pub record WasMapped (L : Layout) (was now : List Turn) (stores : List Stored) (
   pub later : length was < length so_far
   pub pinned : IsPinned w so_far
   pub gives : MapGives (IsInMap L so_far stores k) answer
+  pub stored : IfSome answer (λ v. HoldsStores L so_far now stores)
+
+-- the same at a moment since which the worker is pinned without a break
+pub record WasMappedUnderPin (L : Layout) (now : List Turn) (stores : List Stored) (w k : ℕ)
+    (answer : Option ℕ) : Type 0 where
+  pub so_far : List Turn
+  pub rest : List Turn
+  pub are : now ≡ so_far ++ rest
+  pub pinned : IsPinned w so_far
+  pub stays : HasLeft w rest → ⊥
+  pub gives : MapGives (IsInMap L so_far stores k) answer
+  pub stored : IfSome answer (λ v. HoldsStores L so_far now stores)
 
 -- the worker put the key into the map with this value: it won a link after the turns `was`, and right
 -- after the link the map has the key with the value. It stored a value for the leaf after its last
@@ -79,26 +109,35 @@ abbrev pub HasPut : PassView → PassView → ℕ → ℕ → Type 0
 HasPut p q k v =
     WasPut q.view.layout p.view.past q.view.past q.view.stores q.view.number k v
 
--- the stores are those of a run whose turns are a beginning of these, in their order. Each was made in
--- a slot that was private to its worker, and each worker that tried to link a new leaf had just stored
--- its value
-pub record HoldsStores (L : Layout) (now : List Turn) (stores : List Stored) : Type 0 where
-  pub until : List Turn
-  pub ends : Extends now until
-  pub events : List (ℕ × Event)
-  pub are : until ≡ trace_in (ordered L) events
-  pub held : WereHeld L events stores
-  pub linked : LinksHaveValues L events stores
-  pub order : AllPairs ComesBefore stores
+-- the worker has flagged a leaf, to remove it. In the slot of this leaf, at a moment after the turns
+-- `was`, the map had the key with the value. It had it by the first of these stores
+pub record WasTaken (L : Layout) (was now : List Turn) (stores : List Stored) (w k v : ℕ) : Type 0 where
+  pub so_far : List Turn
+  pub rest : List Turn
+  pub are : now ≡ so_far ++ rest
+  pub later : length was < length so_far
+  pub first : List Stored
+  pub extends : ExtendsStores stores first
+  pub is : IsInMap L so_far first k v
+  pub stored : HoldsStores L so_far now first
+  pub leaf : NodeId
+  pub slot : is.slot ≡ leaf.slot
+  pub flagged : HasFlaggedOneOf now w (leaf ∷ [])
 
--- `MapGave`: between p and q the map gave this answer to a look-up of the key. `HasStores`: what q has
--- seen of stores is such
+-- from what p had seen to what q has seen, the worker has so taken the key with this value
+abbrev pub HasTaken : PassView → PassView → ℕ → ℕ → Type 0
+HasTaken p q k v =
+    WasTaken q.view.layout p.view.past q.view.past q.view.stores q.view.number k v
+
+-- between p and q the map gave this answer to a look-up of the key
 abbrev pub MapGave : PassView → PassView → ℕ → Option ℕ → Type 0
 MapGave p q k answer =
     WasMapped q.view.layout p.view.past q.view.past q.view.stores q.view.number k answer
 
-abbrev pub HasStores : PassView → Type 0
-HasStores q = HoldsStores q.view.layout q.view.past q.view.stores
+-- by what q has seen, the map gave this answer at a moment of the pin that q has
+abbrev pub MapGivesUnderPin : PassView → ℕ → Option ℕ → Type 0
+MapGivesUnderPin q k answer =
+    WasMappedUnderPin q.view.layout q.view.past q.view.stores q.view.number k answer
 
 -- the step by which a call leaves with an answer
 abbrev pub answered : Bool → List Entry
@@ -149,6 +188,17 @@ pub record HasReadValue (p : PassView) (k v : ℕ) : Type 0 where
   pub seen : HasSeenStores p.view
   pub value : v ≡ value_of p.view.stores slot
 
+-- between p and q the worker has flagged a leaf with the key, and has read its value
+pub record HasReadFlagged (p q : PassView) (k v : ℕ) : Type 0 where
+  pub at : PassView
+  pub since : Continues p at
+  pub until : Continues at q
+  pub is_key : IsKey k
+  pub read : HasReadValue at k v
+  pub leaf : NodeId
+  pub slot : read.slot ≡ leaf.slot
+  pub flagged : HasFlaggedOneOf at.view.past at.view.number (leaf ∷ [])
+
 -- a walk has ended with this answer
 abbrev pub HasLookedUp : PassView → ℕ → Option ℕ → Type 0
 HasLookedUp p k None = HasEndedSo p k false
@@ -156,8 +206,7 @@ HasLookedUp p k (Some v) = HasReadValue p k v
 
 -- what a look-up of a value leaves of its pass, by its answer. It is the same pass, which has seen
 -- all turns and stores that it had seen. An answer was right at a moment (linearization point) of
--- the call. A value was stored under the key. No exchange was won. The worker rests, and holds what
--- it held
+-- the call. No exchange was won. The worker rests, and holds what it held
 pub record AfterGet (L : Layout) (tries k : ℕ) (p q : PassView) (r : Result (Option ℕ) CallFault) : Type 0 where
   pub same : IsSamePass p q
   pub past : HasSeenAllOf q p
@@ -165,7 +214,6 @@ pub record AfterGet (L : Layout) (tries k : ℕ) (p q : PassView) (r : Result (O
   pub did : IfOk r
       (λ found. LooksUnderPin tries (most_looks (reach L) 1) p.view.log q.view.log)
   pub moment : IfOk r (MapGave p q k)
-  pub stored : IfOk r (λ found. IfSome found (λ v. HasStores q))
   pub busy : IfErr r (λ e. e ≡ fault.Busy)
   pub missed : IfErr r
       (λ e. PlainMissed (GiveUp L (k ∷ [])) tries p.view.log q.view.log)
@@ -174,3 +222,13 @@ pub record AfterGet (L : Layout) (tries k : ℕ) (p q : PassView) (r : Result (O
   pub uncut : won_splices q.view.log ≡ won_splices p.view.log
   pub rests : IsResting q
   pub hands : KeepsHands p q
+
+-- what a look-up of a value by a pinned worker leaves of its pass, by its answer: looks alone. An
+-- answer was right at a moment of the pin
+pub record AfterPinnedGet (L : Layout) (k : ℕ) (p q : PassView) (r : Result (Option ℕ) CallFault) : Type 0 where
+  pub on : GoesOn p q
+  pub only : OnlyLooks p q
+  pub looks : AddsLooks (most_looks (reach L) 1) p.view.log q.view.log
+  pub moment : IfOk r (MapGivesUnderPin q k)
+  pub busy : IfErr r (λ e. e ≡ fault.Busy)
+  pub missed : IfErr r (λ e. GiveUp L (k ∷ []) p.view.log q.view.log)

@@ -1,5 +1,6 @@
 //! Deletes: tries to flag a leaf, and tries to remove it.
 ghost use Rattle.std.specs.Prelude.{◌≡◌, ◌≢◌, ◌⊎◌, ◌<◌, ◌≤◌, length, true, false, None, IfOk, IfErr};
+ghost use Rattle.nm_edge.specs.Keys.{IsKey};
 ghost use Rattle.nm_model.specs.declared.event.Op.TheVariants.{Delete};
 ghost use Rattle.nm_order.specs.Facts.Fact.{IsFlagged};
 ghost use Rattle.nm_steps.specs.Rules.{knowledge};
@@ -12,12 +13,15 @@ ghost use Rattle.nm_walks.specs.Walks.{IsAt};
 ghost use Rattle.nm_walks.specs.Labelling.{IsPinnedForCall};
 ghost use Rattle.nm_calls.specs.Leaving.{ShowsAnswer, HasChangedNothing};
 ghost use Rattle.nm_walks.specs.Marking.{OnlyFlags};
+ghost use Rattle.nm_steps.specs.Values.{HasValues};
+ghost use Rattle.nm_calls.specs.Maps.{HasReadFlagged, HasTaken};
 ghost use Rattle.nm_calls.specs.Moments.{AnswerHasMoment, HadNoCall};
 ghost use Rattle.nm_walks.specs.Cleanups.{OnlyCleans, KeepsLedgers, HoldsCuts};
-ghost use Rattle.nm_calls.specs.Deletes.{IsRemoving, Removes, RemovesNothing, IsRemoval, IfRemoved, MayFlag, HasWonItsFlag, HasNotFlagged, IsFlagTry, ShowsFlag, OnlyInjects, IsInjection, ShowsInjection, RemovalAfter, leaf_of, DeleteFinishes, LosesAfterFlag, LacksRoomOr, FlagsThen, LosesEachTry, AfterDelete, AfterFinish, RestsOrRemoves};
+ghost use Rattle.nm_calls.specs.Deletes.{IsRemoving, Removes, RemovesNothing, IsRemoval, IfRemoved, MayFlag, HasWonItsFlag, HasNotFlagged, IfFlagged, IfInjected, IfTaken, IsFlagTry, ShowsFlag, OnlyInjects, IsInjection, ShowsInjection, RemovalAfter, leaf_of, DeleteFinishes, LosesAfterFlag, LacksRoomOr, FlagsThen, LosesEachTry, AfterDelete, AfterFinish, RestsOrRemoves};
 
 use crate::helping::{help, make_room, make_room_for};
 use crate::leaving::{answer, leave};
+use crate::values::value_of_slot;
 use nm_edge::{Edge, Key, NodeId};
 use nm_epoch::{HeldQueue, pin_for};
 use nm_model::Op;
@@ -164,14 +168,23 @@ fn remove(
     Removal::Spent
 }
 
-/// Looks at the generation (birth) of the leaf at which the walk ended, flags the edge to it, and
-/// returns the generation if the flag is won. Error: the flag was lost; it is the edge that was
-/// found.
-fn flag_at(shared: &Shared, pass: &mut Pass, key: u64, end: &WalkEnd) -> Result<u64, Edge>
+/// Looks at the generation (birth) of the leaf at which the walk ended, and flags the edge to it. If
+/// the flag is won, it writes the value of the leaf to `value`, and returns the generation. Error: the
+/// flag was lost; it is the edge that was found.
+fn flag_at(
+    shared: &Shared,
+    pass: &mut Pass,
+    key: u64,
+    end: &WalkEnd,
+    value: &mut u64,
+) -> Result<u64, Edge>
+    requires key { IsKey key }
     requires pinned { IsPinnedIn shared.now pass.old }
     requires may { MayFlag pass.old key end.now }
     ensures won { IfOk result (λ b. HasWonItsFlag pass.old pass.new end.now b) }
     ensures lost { IfErr result (λ e. HasNotFlagged pass.old pass.new end.now e) }
+    ensures read { HasValues shared.now
+        → IfOk result (λ _. HasReadFlagged pass.old pass.new key value.new) }
     ensures on { GoesOn pass.old pass.new }
     ensures only { OnlyFlags pass.old pass.new }
 {
@@ -179,19 +192,24 @@ fn flag_at(shared: &Shared, pass: &mut Pass, key: u64, end: &WalkEnd) -> Result<
     let leaf = seek_record.edge.slot();
     let birth = look_birth(shared, pass, leaf);
     match flag(shared, pass, seek_record.parent, seek_record.side, leaf) {
-        Ok(()) => Ok(birth),
+        Ok(()) => {
+            *value = value_of_slot(shared, pass, leaf);
+            Ok(birth)
+        }
         Err(found) => Err(found),
     }
 }
 
-/// Tries once to flag the leaf with the key: a walk, and a flag if the leaf has the key. If the
-/// flag is lost, the try helps with at most one cleanup.
+/// Tries once to flag the leaf with the key: a walk, and a flag if the leaf has the key. If the flag
+/// is won, the try writes the value of the leaf to `value`. If it is lost, the try helps with at most
+/// one cleanup.
 fn try_flag(
     shared: &Shared,
     pass: &mut Pass,
     workspace: &mut Workspace,
     held: &mut HeldQueue,
     key: Key,
+    value: &mut u64,
 ) -> Injected
     requires pinned { IsPinnedIn shared.now pass.old }
     requires call { IsPinnedForCall Delete key pass.old }
@@ -201,6 +219,8 @@ fn try_flag(
     ensures part { IsFlagTry shared.now.layout key workspace.new.chain.items pass.old.view.log
         pass.new.view.log result }
     ensures shows { ShowsFlag key workspace.new.chain.items pass.old pass.new result }
+    ensures read { HasValues shared.now
+        → IfFlagged result (HasReadFlagged pass.old pass.new key value.new) }
     ensures on { GoesOn pass.old pass.new }
     ensures only { OnlyInjects pass.old pass.new }
     ensures kept { HoldsCuts pass.new held.new }
@@ -214,7 +234,7 @@ fn try_flag(
     if end.key != sought {
         return Injected::Absent;
     }
-    match flag_at(shared, pass, sought, &end) {
+    match flag_at(shared, pass, sought, &end, value) {
         Ok(birth) => {
             held.counts.flags = held.counts.flags.saturating_add(1);
             Injected::Flagged(end, birth)
@@ -226,13 +246,15 @@ fn try_flag(
     }
 }
 
-/// Tries at most `tries` times to flag the leaf with the key. There must be room for the first try.
+/// Tries at most `tries` times to flag the leaf with the key, and writes the value of the flagged leaf
+/// to `value`. There must be room for the first try.
 fn inject(
     shared: &Shared,
     pass: &mut Pass,
     workspace: &mut Workspace,
     held: &mut HeldQueue,
     key: Key,
+    value: &mut u64,
     tries: u32,
 ) -> Injection
     requires pinned { IsPinnedIn shared.now pass.old }
@@ -244,6 +266,8 @@ fn inject(
         pass.old.view.log pass.new.view.log result }
     ensures refused { result ≡ Injection.Refused → held.new.queue.spare < cut_bound }
     ensures shows { ShowsInjection key workspace.new.chain.items pass.new result }
+    ensures read { HasValues shared.now
+        → IfInjected result (HasReadFlagged pass.old pass.new key value.new) }
     ensures on { GoesOn pass.old pass.new }
     ensures only { OnlyInjects pass.old pass.new }
     ensures kept { HoldsCuts pass.new held.new }
@@ -254,7 +278,7 @@ fn inject(
         if !make_room_for(&mut held.queue, round) {
             return Injection::Refused;
         }
-        match try_flag(shared, pass, workspace, held, key) {
+        match try_flag(shared, pass, workspace, held, key, value) {
             Injected::Absent => return Injection::Absent,
             Injected::Flagged(end, birth) => {
                 let left = tries - round - 1;
@@ -326,6 +350,7 @@ fn delete_pinned(
     workspace: &mut Workspace,
     held: &mut HeldQueue,
     key: Key,
+    value: &mut u64,
     tries: u32,
 ) -> Result<bool, Missed>
     requires pinned { IsPinnedIn shared.now pass.old }
@@ -341,6 +366,8 @@ fn delete_pinned(
         pass.new.view.log Removal.Spent) held.new.queue.spare) }
     ensures moment { (o : PassView) → HadNoCall o pass.old
         → IfOk result (AnswerHasMoment o pass.new Delete key) }
+    ensures read { HasValues shared.now
+        → IfTaken result (HasReadFlagged pass.old pass.new key value.new) }
     ensures stands { RestsOrRemoves key pass.new result }
     ensures private { (knowledge pass.new.view).drafts ≡ (knowledge pass.old.view).drafts }
     ensures kept { HoldsCuts pass.new held.new }
@@ -348,7 +375,7 @@ fn delete_pinned(
     ensures ledgers { KeepsLedgers pass.old pass.new }
     ensures fit { workspace.new.placement ≡ workspace.old.placement }
 {
-    match inject(shared, pass, workspace, held, key, tries) {
+    match inject(shared, pass, workspace, held, key, value, tries) {
         Injection::Absent => {
             answer(shared, pass, false);
             Ok(false)
@@ -375,8 +402,9 @@ fn delete_pinned(
     }
 }
 
-/// Deletes `key`; returns true if it was present. The worker must rest, and it rests afterwards,
-/// except after `Unfinished`. Its queue is that of its log before and after. Before each try the
+/// Deletes `key`; returns true if it was present. Then, and after `Unfinished`, it has written the value
+/// of the leaf with the key to `value`, if the table has values. The worker must rest, and it rests
+/// afterwards, except after `Unfinished`. Its queue is that of its log before and after. Before each try the
 /// call makes room for a cleanup, with as few new blocks as possible; for the first try it does so
 /// before the pin. It takes no other memory.
 ///
@@ -392,12 +420,15 @@ pub fn delete(
     workspace: &mut Workspace,
     held: &mut HeldQueue,
     key: Key,
+    value: &mut u64,
     tries: u32,
 ) -> Result<bool, Missed>
     requires own { IsOf shared.now pass.old }
     requires rests { IsResting pass.old }
     requires kept { HoldsCuts pass.old held.old }
     ensures after { AfterDelete shared.now.layout tries key pass.old pass.new result }
+    ensures taken { HasValues shared.now
+        → IfTaken result (HasTaken pass.old pass.new key value.new) }
     ensures refused { IfErr result
         (LacksRoomOr (LosesAfterFlag shared.now.layout tries key pass.old.view.log
         pass.new.view.log) held.new.queue.spare) }
@@ -416,7 +447,7 @@ pub fn delete(
     let Ok(_epoch) = pin_for(shared, pass, tries, Op::Delete, key) else {
         return Err(Missed::Busy);
     };
-    delete_pinned(shared, pass, workspace, held, key, tries)
+    delete_pinned(shared, pass, workspace, held, key, value, tries)
 }
 
 /// Goes on to remove the leaf that the worker has flagged; returns true if it is cut off, and then

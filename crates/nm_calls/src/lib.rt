@@ -25,4 +25,4 @@ pub use lookup::has;
 pub use many::{Query, has_many};
 pub use near_key::nearest;
 pub use scanning::{Scanned, scan};
-pub use values::get;
+pub use values::{get, get_pinned};

@@ -2,14 +2,16 @@
 ghost use Rattle.std.specs.Prelude.{◌≡◌, [], ◌∷◌, None, IfOk, IfErr, IfNone, IfSome};
 ghost use Rattle.nm_edge.specs.Keys.{IsKey};
 ghost use Rattle.nm_order.specs.Facts.Fact.{KnowsSlot};
-ghost use Rattle.nm_steps.specs.Steps.{IsOf};
-ghost use Rattle.nm_steps.specs.Values.{HasValues};
+ghost use Rattle.nm_edge.specs.Words.{IsSlot};
+ghost use Rattle.nm_steps.specs.Rules.{value_of};
+ghost use Rattle.nm_steps.specs.Steps.{IsInRun, IsOf};
+ghost use Rattle.nm_steps.specs.Values.{HasSeenStores, HasValues};
 ghost use Rattle.nm_epoch.specs.Resting.{IsResting};
 ghost use Rattle.nm_walks.specs.AddedLooks.{AddsLooks};
 ghost use Rattle.nm_walks.specs.Bounds.{reach};
 ghost use Rattle.nm_walks.specs.Telling.{Tells, GoesOn, OnlyLooks, IsPinnedIn};
 ghost use Rattle.nm_calls.specs.InTurns.{GiveUp};
-ghost use Rattle.nm_calls.specs.Maps.{AfterGet, HasLookedUp, IsLeafAt};
+ghost use Rattle.nm_calls.specs.Maps.{AfterGet, AfterPinnedGet, HasLookedUp, IsLeafAt};
 ghost use Rattle.nm_calls.specs.PlainWalks.{most_looks};
 
 use crate::fault::CallFault;
@@ -53,6 +55,47 @@ pub fn get(shared: &Shared, pass: &mut Pass, key: Key, tries: u32) -> Result<Opt
     pass.know_run();
     unpin(shared, pass);
     found
+}
+
+/// Returns the value that the map has under `key`, or `None` if the map does not have the key, to a
+/// worker that is pinned for no call: it was so at a moment of its pin. No step is made but looks.
+///
+/// Errors: `Busy`: the walk had looked at as many nodes as there are, and had not ended. In a radix
+/// tree this never happens.
+///
+/// (The search of Natarajan and Mittal, section 3.2.)
+pub fn get_pinned(shared: &Shared, pass: &mut Pass, key: Key) -> Result<Option<u64>, CallFault>
+    requires pinned { IsPinnedIn shared.now pass.old }
+    requires values { HasValues shared.now }
+    requires known { Tells pass.old (KnowsSlot 2) }
+    ensures { AfterPinnedGet shared.now.layout key pass.old pass.new result }
+{
+    let answer = look_up(shared, pass, key.get());
+    pass.know_run();
+    answer
+}
+
+/// Returns the value of a slot, or 0 in a table without values. The look is in no log.
+#[inline(always)]
+pub(crate) fn value_of_slot(shared: &Shared, pass: &mut Pass, slot: u32) -> u64
+    requires own { IsOf shared.now pass.old }
+    requires run { IsInRun pass.old }
+    requires slot { IsSlot shared.now.layout slot }
+    ensures same { pass.new ≡ record pass.old {
+      view = record pass.old.view {
+        past = pass.new.view.past;
+        stores = pass.new.view.stores;
+      };
+    } }
+    ensures on { GoesOn pass.old pass.new }
+    ensures sees { HasValues shared.now → HasSeenStores pass.new.view
+        × (result ≡ value_of pass.new.view.stores slot) }
+{
+    if shared.has_values() {
+        shared.look_value(pass, slot)
+    } else {
+        0
+    }
 }
 
 /// Walks for a key, and reads the value of the leaf with the key. `None`: the leaf at the end of the

@@ -1,13 +1,21 @@
 -- What a worker is between two calls, after a call that changes nothing in its hands.
-use Rattle.std.proofs.Common.{◌≡◌, ℕ, inl, inr, false, List, [], ◌∷◌, Option, Some, None, refl, sym, ap, ◌∙◌, subst}
+use Rattle.std.proofs.Common.{◌≡◌, ℕ, inl, inr, true, false, ◌&&◌, List, [], ◌∷◌, Option, Some, None, refl, sym, ap, ◌∙◌, subst, true≢false}
+use Rattle.std.specs.List.{list_all}
 use Rattle.std.specs.Prelude.{IsSome, is_some, unwrap_or}
+use Rattle.nm_model.specs.declared.arrivals.Call.{Call}
+use Rattle.nm_model.specs.declared.event.Event.{Event}
+use Rattle.nm_model.specs.declared.event.Event.TheVariants.{Look}
+use Rattle.nm_model.specs.declared.knowledge.Brief.{Brief}
 use Rattle.nm_model.specs.declared.trace.Turn.{Turn}
 use Rattle.nm_model.specs.declared.ledger.Ledger.{Ledger}
 use Rattle.nm_model.specs.declared.knowledge.Seen.{Seen}
 use Rattle.nm_model.specs.Knowledge.{Knowledge, unread}
 use Rattle.nm_model.specs.Ledgers.{held, fresh_ledger}
 use Rattle.nm_model.specs.Maps.{get, has}
-use Rattle.nm_model.specs.Searches.{Search}
+use Rattle.nm_model.specs.Searches.{Search, idle, look_for, searched}
+use Rattle.nm_model.specs.Walks.{Entry, search_after}
+use Rattle.nm_order.specs.Facts.Fact.{KnowsSlot}
+use Rattle.nm_order.proofs.WalksOfRuns.{search-append}
 use Rattle.nm_steps.specs.Rules.{knowledge}
 use Rattle.nm_steps.specs.Steps.{PassView, IsSamePass}
 use Rattle.nm_epoch.specs.declared.collecting.HeldQueue.{HeldQueue}
@@ -16,7 +24,8 @@ use Rattle.std.proofs.lemmas.Option.{none-some}
 use Rattle.nm_epoch.specs.Resting.{IsResting, IsSettled, KeepsHands, Settles, IsPinnedAt, epochs, search}
 use Rattle.nm_epoch.proofs.SeveralQueues.{queue_stays}
 use Rattle.nm_calls.specs.Deletes.{IsRemoving}
-use Rattle.nm_walks.specs.Telling.{IsInRun}
+use Rattle.nm_walks.specs.AddedLooks.{AddsLooks, is_look}
+use Rattle.nm_walks.specs.Telling.{GoesOn, IsInRun, OnlyLooks}
 use Rattle.nm_edge.specs.declared.placement.Fit.{Fit}
 use Rattle.nm_tree.specs.declared.worker.Standing.{Standing}
 use Rattle.nm_tree.specs.declared.worker.Standing.TheVariants as standing
@@ -69,7 +78,7 @@ labelled p (Some n) None is = is.labelled
 labelled p (Some n) (Some e) is = absurd is
 
 pub held_at : (p : PassView) (e : ℕ) → IsPinnedAt e None p → IsHolding p e
-held_at p e is = record { announcement = is.announcement; pin = is.pin; labelled = is.labelled; search = is.begun }
+held_at p e is = record { announcement = is.announcement; pin = is.pin; labelled = is.labelled; search = is.begun; known = ap (λ (m : List (ℕ × Seen)). has m 2) is.known }
 
 is_some_of : (o : Option ℕ) (e : ℕ) → o ≡ Some e → IsSome o
 is_some_of o e is = ap (λ (x : Option ℕ). is_some x) is
@@ -88,7 +97,7 @@ stands_still p q None None is s run =
     record { unpinned = t.pin ∙ is.unpinned; silent = t.announcement ∙ is.silent; labelled = s.labelled; idle = t.search ∙ is.idle }
 stands_still p q None (Some e) is s run =
     let t = s.stays (settled p None (Some e) is) in
-    record { announcement = t.announcement ∙ is.announcement; pin = t.pin ∙ is.pin; labelled = s.labelled; search = t.search ∙ is.search }
+    record { announcement = t.announcement ∙ is.announcement; pin = t.pin ∙ is.pin; labelled = s.labelled; search = t.search ∙ is.search; known = ap (λ (m : List (ℕ × Seen)). has m 2) t.known ∙ is.known }
 stands_still p q (Some n) None is s run =
     let t = s.stays (settled p (Some n) None is) in
     record {
@@ -102,6 +111,39 @@ stands_still p q (Some n) None is s run =
       labelled = s.labelled;
     }
 stands_still p q (Some n) (Some e) is s run = absurd is
+
+-- ---- looks under the caller's pin
+
+-- a look for no call adds nothing to its search
+looks_keep : (s : Search) (es : List Entry) → s.call ≡ None → list_all is_look es ≡ true → search_after s es ≡ s
+unfolding searched
+looks_keep s [] none' all = refl
+looks_keep s ((event, r) ∷ es) none' all = by (looks_keep s es none') event all
+  where
+    by : (list_all is_look es ≡ true → search_after s es ≡ s) → (e : Event) → (is_look (e, r) && list_all is_look es) ≡ true → search_after (searched s e r) es ≡ s
+    by rest (Look slot field) all' = ap (λ (t : Search). search_after t es) (ap (λ (c : Option Call). look_for s c slot field r) none') ∙ rest all'
+    by rest e all' = absurd (true≢false (sym all'))
+
+pub holds_on : {n : ℕ} (p q : PassView) (e : ℕ) → IsHolding p e → GoesOn p q → OnlyLooks p q → AddsLooks n p.view.log q.view.log → IsHolding q e
+holds_on p q e is on only looks = record {
+  announcement = ap (λ (b : Brief). b.announcement) only.epochs ∙ is.announcement;
+  pin = ap (λ (b : Brief). b.pin) only.epochs ∙ is.pin;
+  labelled = ap (λ (b : Brief). b.unlabelled) only.epochs ∙ is.labelled;
+  search = ap (search_after idle) looks.grown ∙ (search-append idle p.view.log looks.looks ∙ (looks_keep (search p) looks.looks (ap (λ (s : Search). s.call) is.search) looks.only ∙ is.search));
+  known = on.keeps (KnowsSlot 2) is.known;
+}
+
+-- the epoch at which its caller has pinned it
+pub held_as : (s : Standing) → IsSome (held_in s) → (e : ℕ) × (s ≡ standing.Held e)
+held_as standing.Resting some' = absurd (true≢false (sym some'))
+held_as (standing.Held e) some' = (e, refl)
+held_as (standing.Pending n) some' = absurd (true≢false (sym some'))
+
+pub holding_in : (p : PassView) (s : Standing) (e : ℕ) → s ≡ standing.Held e → IsAs p (pending_in s) (held_in s) → IsHolding p e
+holding_in p s e is as' = let P : Standing → Type 0 = λ x. IsAs p (pending_in x) (held_in x) in subst P is as'
+
+pub holding_as : (p : PassView) (s : Standing) (e : ℕ) → s ≡ standing.Held e → IsHolding p e → IsAs p (pending_in s) (held_in s)
+holding_as p s e is holds = let P : Standing → Type 0 = λ x. IsAs p (pending_in x) (held_in x) in subst P (sym is) holds
 
 -- ---- what a worker is in the midst of
 
@@ -140,7 +182,7 @@ seeing past p = record p { view = record p.view { past = past } }
 
 as_was : (past : List Turn) (p : PassView) (n : Option Unfinished) (e : Option ℕ) → IsAs p n e → IsAs (seeing past p) n e
 as_was past p None None is = record { unpinned = is.unpinned; silent = is.silent; labelled = is.labelled; idle = is.idle }
-as_was past p None (Some e) is = record { announcement = is.announcement; pin = is.pin; labelled = is.labelled; search = is.search }
+as_was past p None (Some e) is = record { announcement = is.announcement; pin = is.pin; labelled = is.labelled; search = is.search; known = is.known }
 as_was past p (Some n) None is = record {
   run = record { fits = is.run.fits; run = is.run.run };
   pinned = is.pinned;

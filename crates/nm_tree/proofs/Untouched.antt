@@ -42,7 +42,6 @@ module _ (L : Layout) (tries k : ℕ) (w : WorkerView) (there : IsSome w.pending
     interfered = λ is. absurd (let no = is in cc);
     alone = λ alone is. absurd (let no = is in cc);
     moment = tt;
-    stored = tt;
     won = nothing_won w.pass.view.log;
     steps = omega arith;
     queues = refl;

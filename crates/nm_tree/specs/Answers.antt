@@ -190,6 +190,12 @@ HasPinned tries w z (Err (pinning.Moved epoch)) =
 HasPinned tries w z (Err pinning.Pending) = IsPendingStill w z
 HasPinned tries w z (Err pinning.Pinned) = ⊥
 
+-- the property holds if the call has flagged its leaf
+abbrev pub IfTaken : Result Bool CallFault → Type 0 → Type 0
+IfTaken (Ok true) P = P
+IfTaken (Err fault.Unfinished) P = P
+IfTaken _ P = Unit {0}
+
 -- what is pending, and the caller's pin, are unchanged
 abbrev pub KeepsPlace : WorkerView → WorkerView → Type 0
 KeepsPlace w z = (z.pending ≡ w.pending) × (z.held ≡ w.held)

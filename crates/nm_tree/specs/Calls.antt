@@ -1,6 +1,6 @@
 -- What a call requires of its worker, and what each call leaves of it: all that it ensures, in one
 -- record.
-use Rattle.std.specs.Prelude.{◌≡◌, ◌+◌, ◌*◌, ◌≤◌, ℕ, Bool, List, [], ◌∷◌, length, map, Option, None, Result, IfOk, IfErr, IfSome, IsErrOf, All}
+use Rattle.std.specs.Prelude.{◌≡◌, ◌+◌, ◌*◌, ◌≤◌, ℕ, Bool, List, [], ◌∷◌, length, map, Option, None, Result, IfOk, IfErr, IsErrOf, All}
 use Rattle.nm_edge.specs.Layouts.{Layout}
 use Rattle.nm_edge.specs.declared.edge.Side.{Side}
 use Rattle.nm_edge.specs.declared.edge.Side.TheVariants.{Left, Right}
@@ -20,10 +20,11 @@ use Rattle.nm_epoch.specs.Resting.{epochs}
 use Rattle.nm_epoch.specs.Scans.{IsAdvance}
 use Rattle.nm_epoch.specs.Watches.{IsBehind}
 use Rattle.nm_calls.specs.declared.many.Query.{Query}
+use Rattle.nm_walks.specs.AddedLooks.{AddsLooks}
 use Rattle.nm_walks.specs.Bounds.{reach}
 use Rattle.nm_calls.specs.Bounds.{IsWithinBound, IsWithinClaims}
 use Rattle.nm_calls.specs.InTurns.{WasSo, key_of, GiveUp as GiveUpInTurns}
-use Rattle.nm_calls.specs.Maps.{HasStores, MapGave}
+use Rattle.nm_calls.specs.Maps.{MapGave, MapGivesUnderPin}
 use Rattle.nm_calls.specs.Moments.{AnswerHasMoment}
 use Rattle.nm_calls.specs.NearKeys.{WasNear, GiveUp}
 use Rattle.nm_calls.specs.PlainWalks.{most_looks}
@@ -130,8 +131,8 @@ pub record LeavesFinish (L : Layout) (tries : ℕ) (w z : WorkerView) (r : Resul
   pub alone : IsAlone w.pass z.pass → IfErr r (FailsAlone 1 1 tries z)
 
 -- `LeavesGet`: the same for a look-up of a value. The map gave its answer at a moment (linearization
--- point) of the call, and each value was stored by a worker that linked its leaf (`stored`). A call
--- that has a try is not busy if no other worker makes a transition during it (`alone`)
+-- point) of the call. A call that has a try is not busy if no other worker makes a transition during
+-- it (`alone`)
 pub record LeavesGet (L : Layout) (tries k : ℕ) (w z : WorkerView) (r : Result (Option ℕ) CallFault) : Type 0 where
   pub same : IsSamePass w.pass z.pass
   pub past : HasSeenAllOf z.pass w.pass
@@ -140,12 +141,24 @@ pub record LeavesGet (L : Layout) (tries k : ℕ) (w z : WorkerView) (r : Result
   pub interfered : IsErrOf r fault.Busy → ManyWereBusy w.pass z.pass tries
   pub alone : IsAlone w.pass z.pass → IsErrOf r fault.Busy → tries ≡ 0
   pub moment : IfOk r (MapGave w.pass z.pass k)
-  pub stored : IfOk r (λ found. IfSome found (λ v. HasStores z.pass))
   pub won : HasWon w.pass.view.log z.pass.view.log 0 0
   pub steps : length z.pass.view.log
       ≤ length w.pass.view.log + 3 * tries + most_looks (reach L) 1 + 2
   pub queues : z.queues ≡ w.queues
   pub held : z.held ≡ None
+  pub fit : z.fit ≡ w.fit
+
+-- `LeavesPinnedGet`: the same for a look-up of a value by a worker that its caller has pinned. The map
+-- gave its answer at a moment of that pin. The call is busy only if its walk gave up
+pub record LeavesPinnedGet (L : Layout) (k : ℕ) (w z : WorkerView) (r : Result (Option ℕ) CallFault) : Type 0 where
+  pub same : IsSamePass w.pass z.pass
+  pub past : HasSeenAllOf z.pass w.pass
+  pub did : AddsLooks (most_looks (reach L) 1) w.pass.view.log z.pass.view.log
+  pub gave : IfErr r (λ e. (e ≡ fault.Busy) × GiveUpInTurns L (k ∷ []) w.pass.view.log z.pass.view.log)
+  pub moment : IfOk r (MapGivesUnderPin z.pass k)
+  pub won : HasWon w.pass.view.log z.pass.view.log 0 0
+  pub place : KeepsPlace w z
+  pub queues : z.queues ≡ w.queues
   pub fit : z.fit ≡ w.fit
 
 -- `LeavesHasMany`: the same for a look-up of several queries, from the old ones to the new ones. A

@@ -5,6 +5,7 @@ use Rattle.nm_model.specs.declared.ledger.Ledger.{Ledger}
 use Rattle.nm_model.specs.Ledgers.{held, fresh_ledger}
 use Rattle.nm_model.specs.Maps.{get}
 use Rattle.nm_model.specs.Walks.{Entry}
+use Rattle.nm_order.specs.Facts.Fact.{KnowsSlot}
 use Rattle.nm_order.specs.Logs.{known_by}
 use Rattle.nm_steps.specs.declared.view.Held.{Held}
 use Rattle.nm_steps.specs.declared.view.View.{View}
@@ -17,6 +18,7 @@ use Rattle.nm_model.specs.Histories.{call_begun}
 use Rattle.nm_walks.specs.Bounds.{cut_bound}
 use Rattle.nm_calls.specs.Deletes.{IsRemoving}
 use Rattle.nm_walks.specs.Rooms.{TakesRoom}
+use Rattle.nm_walks.specs.Telling.{Tells}
 use Rattle.nm_walks.specs.WonCounts.{CountsWon, won_links, won_flags, won_splices}
 use Rattle.nm_edge.specs.declared.placement.Fit.{Fit}
 use Rattle.nm_tree.specs.declared.worker.Counts.{Counts}
@@ -44,12 +46,14 @@ abbrev pub held_in : Standing → Option ℕ
 held_in (standing.Held epoch) = Some epoch
 held_in _ = None
 
--- the caller has pinned the worker at this epoch, for no call
+-- the caller has pinned the worker at this epoch, for no call. The worker knows slot 2, where each
+-- walk begins
 pub record IsHolding (p : PassView) (epoch : ℕ) : Type 0 where
   pub announcement : (epochs p).announcement ≡ Some epoch
   pub pin : (epochs p).pin ≡ Some epoch
   pub labelled : (epochs p).unlabelled ≡ false
   pub search : search p ≡ begun_for None
+  pub known : Tells p (KnowsSlot 2)
 
 -- the worker rests, is pinned by the caller, or stays pinned for a leaf that it has flagged
 abbrev pub IsAs : PassView → Option Unfinished → Option ℕ → Type 0

@@ -2,8 +2,9 @@
 ghost use Rattle.std.specs.Prelude.{◌≡◌, true, Ok};
 ghost use Rattle.nm_steps.specs.Steps.{IsOf};
 ghost use Rattle.nm_steps.specs.Values.{HasValues};
-ghost use Rattle.nm_calls.specs.Maps.{HasPut};
+ghost use Rattle.nm_calls.specs.Maps.{HasPut, HasTaken};
 ghost use Rattle.nm_tree.specs.Calls.{MayCall, LeavesInsert, SaysInsert, LeavesDelete, SaysDelete, LeavesFinish, SaysFinish};
+ghost use Rattle.nm_tree.specs.Answers.{IfTaken};
 
 use crate::tree::Tree;
 use crate::worker::{Standing, Worker};
@@ -95,6 +96,29 @@ impl Tree {
         ensures says { SaysDelete self.now.layout tries key worker.old worker.new result }
         ensures leaves { LeavesDelete self.now.layout tries key worker.old worker.new result }
     {
+        let mut value = 0;
+        self.delete_with_value(worker, key, &mut value, tries)
+    }
+
+    /// Deletes `key` as `delete` does. In a tree with values it writes the value that the key had to
+    /// `taken`, if it returns true or `Unfinished`. Proved (`takes`): the worker has then flagged a
+    /// leaf with the key, and the map had the key with the value, in the slot of this leaf, at a
+    /// moment of the call. The value comes back by `collect_values` too, once nobody can read it.
+    ///
+    /// Errors and cost are those of `delete`. (The delete of Natarajan and Mittal, section 3.2.)
+    pub fn delete_with_value(
+        &self,
+        worker: &mut Worker,
+        key: Key,
+        taken: &mut u64,
+        tries: u32,
+    ) -> Result<bool, CallFault>
+        requires { MayCall self.now worker.old }
+        ensures says { SaysDelete self.now.layout tries key worker.old worker.new result }
+        ensures leaves { LeavesDelete self.now.layout tries key worker.old worker.new result }
+        ensures takes { HasValues self.now → IfTaken result
+            (HasTaken worker.old.pass worker.new.pass key taken.new) }
+    {
         if let Standing::Pending(_) = worker.standing {
             return Err(CallFault::Pending);
         }
@@ -106,6 +130,7 @@ impl Tree {
             &mut worker.workspace,
             own,
             key,
+            taken,
             tries,
         ) {
             Ok(answer) => Ok(answer),

@@ -1,13 +1,13 @@
 //! The values of a tree with values: the value under a key, and the values that come back.
-ghost use Rattle.std.specs.Prelude.{◌≡◌, ◌≤◌, length, nat_lt, take};
+ghost use Rattle.std.specs.Prelude.{◌≡◌, ◌≤◌, IsSome, length, nat_lt, take};
 ghost use Rattle.nm_steps.specs.Steps.{IsOf};
 ghost use Rattle.nm_steps.specs.Values.{HasValues};
-ghost use Rattle.nm_tree.specs.Calls.{MayCall, LeavesGet};
+ghost use Rattle.nm_tree.specs.Calls.{MayCall, LeavesGet, LeavesPinnedGet};
 ghost use Rattle.nm_tree.specs.Handing.{LeavesCollectValues};
 
 use crate::tree::Tree;
 use crate::worker::{Standing, Worker};
-use nm_calls::{CallFault, collect_values, get};
+use nm_calls::{CallFault, collect_values, get, get_pinned};
 use nm_edge::Key;
 use nm_epoch::HandedOut;
 
@@ -44,6 +44,30 @@ impl Tree {
         let found = get(&self.shared, &mut worker.pass, key, tries);
         worker.pass.know_run();
         found
+    }
+
+    /// Returns the value that the map has under `key`, or `None` if it does not have the key, to a
+    /// worker that its caller has pinned (`pin`). Proved (`moment`): it was so at a moment of that
+    /// pin. The tree must have values.
+    ///
+    /// So no value that the call returns comes back by `collect_values` before `unpin`: the worker is
+    /// pinned when its leaf is cut off. Until then the caller may use what the value refers to.
+    ///
+    /// Errors: `Busy`: the walk had looked at as many nodes as there are, and had not ended. In a
+    /// radix tree this never happens (`gave`).
+    ///
+    /// Cost: at most 3 `reach` + 1 steps, and a look at the value. A walk's reach is 66 nodes in a
+    /// radix tree, and the number of nodes otherwise. (The search of Natarajan and Mittal, section
+    /// 3.2.)
+    #[inline(always)]
+    pub fn get_pinned(&self, worker: &mut Worker, key: Key) -> Result<Option<u64>, CallFault>
+        requires own { IsOf self.now worker.old.pass }
+        requires values { HasValues self.now }
+        requires held { IsSome worker.old.held }
+        ensures { LeavesPinnedGet self.now.layout key worker.old worker.new result }
+    {
+        worker.pass.know_run();
+        get_pinned(&self.shared, &mut worker.pass, key)
     }
 
     /// Reads the epoch, frees ripe nodes at the front of each queue that the worker holds, like

@@ -78,12 +78,14 @@ pub(super) fn deletes(rt: &impl Abort, shared: &Shared, worker: &mut Worker, key
     requires rests { IsAtRest shared.now worker.old.pass worker.old.held }
     ensures rests { IsAtRest shared.now worker.new.pass worker.new.held }
 {
+    let mut unused = 0;
     let Ok(deleted) = delete(
         shared,
         &mut worker.pass,
         &mut worker.workspace,
         &mut worker.held,
         key,
+        &mut unused,
         2,
     ) else {
         panic!(rt; "two tries are enough")
@@ -96,12 +98,14 @@ pub(super) fn flags(rt: &impl Abort, shared: &Shared, worker: &mut Worker, key: 
     requires rests { IsAtRest shared.now worker.old.pass worker.old.held }
     ensures pending { IsPendingFor shared.now worker.new.pass worker.new.held key result }
 {
+    let mut unused = 0;
     let Err(Missed::Unfinished(leaf)) = delete(
         shared,
         &mut worker.pass,
         &mut worker.workspace,
         &mut worker.held,
         key,
+        &mut unused,
         1,
     ) else {
         panic!(rt; "one try flags the leaf")

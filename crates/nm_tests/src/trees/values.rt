@@ -121,3 +121,88 @@ fn values_come_back_once(rt: HostRuntime) -> Result<(), Fail> {
     gets(&rt, &tree, &mut one, 5, None);
     Ok(())
 }
+
+/// Deletes a key; returns its value, or `None` if it was absent.
+fn takes(rt: &impl Abort, tree: &Tree, worker: &mut Worker, number: u64) -> Option<u64>
+    requires own { IsOf tree.now worker.old.pass }
+    ensures own { IsOf tree.now worker.new.pass }
+{
+    let Some(key) = Key::new(number) else {
+        panic!(rt; "{number} is no key")
+    };
+    if worker.held().is_some() {
+        panic!(rt; "the worker is pinned")
+    }
+    let mut value = 0;
+    let Ok(deleted) = tree.delete_with_value(worker, key, &mut value, 2) else {
+        panic!(rt; "two tries are enough")
+    };
+    deleted.then_some(value)
+}
+
+/// A delete writes the value that its key had, and that value comes back later.
+#[test]
+fn a_delete_writes_the_value(rt: HostRuntime) -> Result<(), Fail> {
+    let (tree, mut one, mut two) = map_of(&rt, 64)?;
+    puts(&rt, &tree, &mut one, 5, 50, Ok(true));
+    puts(&rt, &tree, &mut two, 6, 60, Ok(true));
+    assert_eq!(rt; takes(&rt, &tree, &mut one, 6), Some(60));
+    assert_eq!(rt; takes(&rt, &tree, &mut one, 6), None);
+    assert_eq!(rt; takes(&rt, &tree, &mut two, 5), Some(50));
+    let mut four = [0; 4];
+    assert_eq!(rt; takes_back(&tree, &mut one, &mut four), 1);
+    assert_eq!(rt; four[0], 60);
+    Ok(())
+}
+
+fn pins(rt: &impl Abort, tree: &Tree, worker: &mut Worker)
+    requires own { IsOf tree.now worker.old.pass }
+    ensures own { IsOf tree.now worker.new.pass }
+{
+    if worker.held().is_some() {
+        panic!(rt; "the worker is pinned")
+    }
+    assert!(rt; tree.pin(worker, 1).is_ok());
+}
+
+fn gets_pinned(rt: &impl Abort, tree: &Tree, worker: &mut Worker, number: u64, want: Option<u64>)
+    requires own { IsOf tree.now worker.old.pass }
+    requires values { HasValues tree.now }
+    ensures own { IsOf tree.now worker.new.pass }
+{
+    let Some(key) = Key::new(number) else {
+        panic!(rt; "{number} is no key")
+    };
+    if worker.held().is_none() {
+        panic!(rt; "the worker is not pinned")
+    }
+    let found = tree.get_pinned(worker, key);
+    assert!(rt; found == Ok(want));
+}
+
+fn unpins(rt: &impl Abort, tree: &Tree, worker: &mut Worker)
+    requires own { IsOf tree.now worker.old.pass }
+    ensures own { IsOf tree.now worker.new.pass }
+{
+    if worker.held().is_none() {
+        panic!(rt; "the worker is not pinned")
+    }
+    tree.unpin(worker);
+}
+
+/// A value that a pinned worker has read does not come back before that worker unpins.
+#[test]
+fn a_pin_keeps_a_value(rt: HostRuntime) -> Result<(), Fail> {
+    let (tree, mut one, mut two) = map_of(&rt, 64)?;
+    puts(&rt, &tree, &mut one, 5, 50, Ok(true));
+    pins(&rt, &tree, &mut two);
+    gets_pinned(&rt, &tree, &mut two, 5, Some(50));
+    step(&rt, &tree, &mut one, Call::Delete(5), Answer::Is(true));
+    gets_pinned(&rt, &tree, &mut two, 5, None);
+    let mut four = [0; 4];
+    assert_eq!(rt; takes_back(&tree, &mut one, &mut four), 0);
+    unpins(&rt, &tree, &mut two);
+    assert_eq!(rt; takes_back(&tree, &mut one, &mut four), 1);
+    assert_eq!(rt; four[0], 50);
+    Ok(())
+}

@@ -1,13 +1,13 @@
 use Rattle.std.proofs.Common.{◌≡◌, sym, ap, subst}
-use Rattle.std.specs.Prelude.{IfSome, Ok, Some}
+use Rattle.std.specs.Prelude.{Ok, Some}
 use Rattle.nm_edge.specs.Keys.{IsKey}
 use Rattle.nm_model.specs.declared.event.Op.TheVariants.{Insert}
 use Rattle.nm_steps.specs.Steps.{PassView}
-use Rattle.nm_calls.specs.Maps.{HasStores, MapGave}
+use Rattle.nm_calls.specs.Maps.{MapGave}
 use Rattle.nm_calls.specs.Moments.{AnswerHasMoment}
 use Rattle.nm_callers.specs.Mapping.{PutsThenGets}
 use Rattle.nm_callers.proofs.KeptAfterPut.{is_kept}
-use Rattle.nm_callers.proofs.Mapped.{both_said, is_found, of_found}
+use Rattle.nm_callers.proofs.Mapped.{is_found, of_found}
 use Rattle.nm_callers.proofs.maps.insert_then_get.Goals as goal
 
 pub returns-clause-answers : goal.returns-clause-answers
@@ -26,6 +26,6 @@ returns-clause-found c none =
     let history = c.know_run.ensures.turns.plain_set in
     let some = is_found o p q c.args.key (subst IsKey c.get-number.ensures.number c.get-number.ensures.fits) history (sym (ap (λ (z : PassView). z.view.layout) e.same)) e.past
     (subst (λ b. AnswerHasMoment o p Insert c.args.key b) c.in-Ok-true.field-0-test c.in-Ok-true.ensures.says.moment) none in
-    of_found c.get-found.result c.ok.result (λ found. MapGave p q c.args.key found × IfSome found (λ x. HasStores q)) (λ found. found ≡ Some c.args.value) c.ok.ensures.value
-    (λ found said. is_kept o p q c.args.key c.args.value c.know_run.ensures.seen c.know_run.ensures.fits history e.same e.past e.stores (c.in-Ok-true.ensures.puts c.requires.values (ap Ok c.in-Ok-true.field-0-test)) none found (some found said.0) said.0 said.1)
-    (both_said c.get-found.result (MapGave p q c.args.key) (λ found. IfSome found (λ x. HasStores q)) e.moment e.stored)
+    of_found c.get-found.result c.ok.result (MapGave p q c.args.key) (λ found. found ≡ Some c.args.value) c.ok.ensures.value
+    (λ found gave. is_kept o p q c.args.key c.args.value c.know_run.ensures.seen c.know_run.ensures.fits history e.same e.past e.stores (c.in-Ok-true.ensures.puts c.requires.values (ap Ok c.in-Ok-true.field-0-test)) none found (some found gave) gave)
+    e.moment

@@ -11,6 +11,7 @@ use Rattle.nm_walks.proofs.KeptLedgers.{holds_on}
 use Rattle.nm_calls.proofs.KeptLedgers.{holds_with_room}
 use Rattle.nm_calls.proofs.Rooms.{takes_then}
 use Rattle.nm_calls.proofs.Waiting.{may_grow_more, few_in_table}
+use Rattle.nm_calls.proofs.TakenValues.{if_taken}
 use Rattle.nm_calls.proofs.deleting.delete.Goals as goal
 
 pub returns-clause-after : goal.returns-clause-after
@@ -80,3 +81,7 @@ returns-in_default-clause-few c = rw c.make_room.ensures.items (few_in_table c.a
 
 pub returns-clause-few : goal.returns-clause-few
 returns-clause-few c = few_in_table c.args.shared.now c.args.pass.now c.delete_pinned.new.pass c.delete_pinned.new.held c.requires.own (search rules) c.delete_pinned.ensures.on.run c.delete_pinned.ensures.kept
+
+pub returns-clause-taken : goal.returns-clause-taken
+returns-clause-taken c = λ values.
+    if_taken c.args.pass.now c.pin_for.new.pass c.delete_pinned.new.pass c.args.key c.delete_pinned.new.value c.know_run.ensures.seen c.know_run.ensures.fits c.requires.rests.unpinned c.pin_for.ensures.on c.delete_pinned.result (c.delete_pinned.ensures.read values)

@@ -8,7 +8,9 @@ use Rattle.nm_calls.specs.Deletes.{leaf_of}
 use Rattle.nm_calls.proofs.Forks.{continued, going_continues}
 use Rattle.nm_walks.proofs.GoingOn.{goes_then}
 use Rattle.nm_calls.proofs.KeptLedgers.{holds_left}
+use Rattle.nm_steps.proofs.Seeing.{continues_by, continues_then}
 use Rattle.nm_calls.proofs.Moments.{no_call_on}
+use Rattle.nm_calls.proofs.TakenValues.{read_until}
 use Rattle.nm_calls.proofs.Rooms.{takes_then}
 use Rattle.nm_calls.proofs.Removals.{removing_from, removing_on}
 use Rattle.nm_calls.proofs.deleting.delete_pinned.Goals as goal
@@ -81,3 +83,15 @@ returns-in-Refused-remove_after-clause-on c = going_continues c.args.pass.now c.
 
 pub returns-in-Spent-remove_after-clause-on : goal.returns-in-Spent-remove_after-clause-on
 returns-in-Spent-remove_after-clause-on c = going_continues c.args.pass.now c.remove_after.new.pass (goes_then c.args.pass.now c.inject.new.pass c.remove_after.new.pass c.inject.ensures.on c.remove_after.ensures.on)
+
+pub returns-in-Removed-clause-read : goal.returns-in-Removed-clause-read
+returns-in-Removed-clause-read c = λ values.
+    let p = c.remove_after.new.pass in
+    let q = c.answer-in-Removed.new.pass in
+    read_until c.args.pass.now c.inject.new.pass q c.args.key c.inject.new.value (continues_then c.inject.new.pass p q (going_continues c.inject.new.pass p c.remove_after.ensures.on) (continues_by p q (LeaveWith true) Departed c.answer-in-Removed.ensures.took)) (c.in-Flagged.ensures.read values)
+
+pub returns-in-Refused-remove_after-clause-read : goal.returns-in-Refused-remove_after-clause-read
+returns-in-Refused-remove_after-clause-read c = λ values. read_until c.args.pass.now c.inject.new.pass c.remove_after.new.pass c.args.key c.inject.new.value (going_continues c.inject.new.pass c.remove_after.new.pass c.remove_after.ensures.on) (c.in-Flagged.ensures.read values)
+
+pub returns-in-Spent-remove_after-clause-read : goal.returns-in-Spent-remove_after-clause-read
+returns-in-Spent-remove_after-clause-read c = λ values. read_until c.args.pass.now c.inject.new.pass c.remove_after.new.pass c.args.key c.inject.new.value (going_continues c.inject.new.pass c.remove_after.new.pass c.remove_after.ensures.on) (c.in-Flagged.ensures.read values)

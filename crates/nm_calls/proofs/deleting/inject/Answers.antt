@@ -2,6 +2,8 @@ use Rattle.std.proofs.Common.{add-one, arith, ◌∙◌}
 use Rattle.nm_model.specs.declared.event.Op.TheVariants.{Delete}
 use Rattle.nm_walks.proofs.GoingOn.{goes_then, call_still}
 use Rattle.nm_calls.proofs.Removals.{injects_then}
+use Rattle.nm_calls.proofs.Forks.{going_continues}
+use Rattle.nm_calls.proofs.TakenValues.{read_since}
 use Rattle.nm_calls.proofs.Rooms.{takes_then, takes_fills, later_refused}
 use Rattle.nm_calls.proofs.Waiting.{may_grow_more}
 use Rattle.nm_calls.proofs.deleting.inject.Goals as goal
@@ -55,3 +57,7 @@ returns-in-Flagged-clause-on c = goes_then c.args.pass.now c.loop-round.pass c.t
 
 pub returns-in-Flagged-clause-only : goal.returns-in-Flagged-clause-only
 returns-in-Flagged-clause-only c = injects_then c.args.pass.now c.loop-round.pass c.try_flag.new.pass c.loop-round.invariant.on.same c.loop-round.invariant.only c.try_flag.ensures.only
+
+pub returns-in-Flagged-clause-read : goal.returns-in-Flagged-clause-read
+returns-in-Flagged-clause-read c = λ values.
+    read_since c.args.pass.now c.loop-round.pass c.try_flag.new.pass c.args.key c.try_flag.new.value (going_continues c.args.pass.now c.loop-round.pass c.loop-round.invariant.on) (c.in-Flagged.ensures.read values)

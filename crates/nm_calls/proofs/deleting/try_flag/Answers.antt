@@ -1,10 +1,13 @@
-use Rattle.std.proofs.Common.{inr, refl, ◌∙◌, arith}
+use Rattle.std.proofs.Common.{ℕ, inr, refl, subst, ◌∙◌, arith}
 use Rattle.nm_model.specs.declared.event.Op.TheVariants.{Delete}
 use Rattle.nm_order.specs.Facts.Since.{ThePin}
 use Rattle.nm_walks.specs.Telling.{Tells}
-use Rattle.nm_walks.proofs.GoingOn.{goes_then}
+use Rattle.nm_walks.proofs.GoingOn.{goes_then, own_still}
 use Rattle.nm_walks.proofs.Standing.{at_kept}
+use Rattle.nm_calls.specs.Maps.{HasReadFlagged}
+use Rattle.nm_calls.proofs.Forks.{going_continues}
 use Rattle.nm_calls.proofs.Removals.{may_flag_there}
+use Rattle.nm_calls.proofs.TakenValues.{read_since}
 use Rattle.nm_calls.proofs.Adding.{flag_counts, seeks_adds}
 use Rattle.nm_walks.proofs.KeptLedgers.{holds_on, holds_so}
 use Rattle.nm_calls.proofs.AddingDeletes.{flag_won_adds, flag_lost_adds}
@@ -18,7 +21,7 @@ returns-then-end-sought-clause-shows c =
 pub flag_at-requires-clause-may : goal.flag_at-requires-clause-may
 flag_at-requires-clause-may c =
     let low = c.get-sought.ensures.fits in
-    may_flag_there c.args.pass.now c.seek.new.pass c.get-sought.result c.args.shared.now.layout c.in-Some.end c.seek.new.chain.items (rw (← c.get-sought.ensures.number) at c.requires.call.call) c.requires.unflagged (omega (arith, low)) c.seek.ensures.on c.seek.ensures.only
+    may_flag_there c.args.pass.now c.seek.new.pass c.get-sought.result c.args.shared.now.layout c.in-Some.end c.seek.new.chain.items (own_still c.args.shared.now c.args.pass.now c.seek.new.pass c.requires.pinned.own c.seek.ensures.on.same).layout (rw (← c.get-sought.ensures.number) at c.requires.call.call) c.requires.unflagged (omega (arith, low)) c.seek.ensures.on c.seek.ensures.only
     c.in-Some.ensures.came.ended c.in-Some.ensures.came.high c.in-Some.ensures.came.found c.if-end-sought.false
 
 pub help-requires-clause-at : goal.help-requires-clause-at
@@ -80,3 +83,8 @@ returns-then-end-sought-clause-part c = (c.in-Some.end, (rw c.get-sought.ensures
 
 pub returns-in-Ok-clause-on : goal.returns-in-Ok-clause-on
 returns-in-Ok-clause-on c = goes_then c.args.pass.now c.seek.new.pass c.flag_at.new.pass c.in-Some.ensures.on c.in-Ok.ensures.on
+
+pub returns-in-Ok-clause-read : goal.returns-in-Ok-clause-read
+returns-in-Ok-clause-read c = λ values.
+    read_since c.args.pass.now c.seek.new.pass c.flag_at.new.pass c.args.key c.flag_at.new.value (going_continues c.args.pass.now c.seek.new.pass c.seek.ensures.on)
+    (subst (λ (j : ℕ). HasReadFlagged c.seek.new.pass c.flag_at.new.pass j c.flag_at.new.value) c.get-sought.ensures.number (c.in-Ok.ensures.read values))

@@ -1,10 +1,10 @@
 use Rattle.std.proofs.Common.{[], ◌∷◌, subst, ℕ}
-use Rattle.std.specs.Prelude.{IfErr, IfSome}
+use Rattle.std.specs.Prelude.{IfErr}
 use Rattle.std.proofs.lemmas.Result.{IfOk-weaker}
 use Rattle.nm_edge.specs.Keys.{IsKey}
 use Rattle.nm_calls.specs.InTurns.{GiveUp}
-use Rattle.nm_calls.specs.Maps.{HasLookedUp, HoldsStores, WasMapped}
-use Rattle.nm_calls.proofs.MapMoments.{get_after_walk, get_without_pin, stored_if, was_mapped}
+use Rattle.nm_calls.specs.Maps.{HasLookedUp, WasMapped}
+use Rattle.nm_calls.proofs.MapMoments.{get_after_walk, get_without_pin, was_mapped}
 use Rattle.nm_calls.proofs.PlainLooks.{may_end}
 use Rattle.nm_calls.proofs.values.get.Goals as goal
 
@@ -25,6 +25,5 @@ returns c =
     let k = c.args.key in
     let is_key = subst IsKey c.get.ensures.number c.get.ensures.fits in
     let moment = IfOk-weaker r _ (WasMapped q.view.layout o.view.past q.view.past q.view.stores q.view.number k) (λ found h. was_mapped o a p q c.know_run.ensures.seen c.know_run.ensures.fits c.requires.rests.unpinned c.pin.ensures.on on c.unpin.ensures.took k is_key c.know_run-2.ensures.seen found (subst (λ (j : ℕ). HasLookedUp p j found) c.get.ensures.number h)) c.look_up-found.ensures.found in
-    let stored = IfOk-weaker r _ (λ found. IfSome found (λ v. HoldsStores q.view.layout q.view.past q.view.stores)) (λ found h. stored_if o a p q c.know_run.ensures.seen c.know_run.ensures.fits c.requires.rests.unpinned c.pin.ensures.on on c.unpin.ensures.took k is_key found (subst (λ (j : ℕ). HasLookedUp p j found) c.get.ensures.number h)) c.look_up-found.ensures.found in
     get_after_walk c.args.shared.now.layout c.args.tries k c.in-Ok._epoch o a p q r c.pin.ensures.on c.in-Ok.ensures.pinned c.pin.ensures.hands on c.look_up-found.ensures.only c.look_up-found.ensures.looks
-    c.unpin.ensures.took c.unpin.ensures.rests c.unpin.ensures.hands moment stored (subst (λ (j : ℕ). IfErr r (λ e. GiveUp c.args.shared.now.layout (j ∷ []) a.view.log p.view.log)) c.get.ensures.number c.look_up-found.ensures.missed) c.look_up-found.ensures.busy
+    c.unpin.ensures.took c.unpin.ensures.rests c.unpin.ensures.hands moment (subst (λ (j : ℕ). IfErr r (λ e. GiveUp c.args.shared.now.layout (j ∷ []) a.view.log p.view.log)) c.get.ensures.number c.look_up-found.ensures.missed) c.look_up-found.ensures.busy

@@ -31,7 +31,6 @@ returns c = record {
   alone = λ alone is. many_alone c.args.worker.now.pass c.get-found.new.pass c.args.tries alone (many_interfered c.self.inside.shared c.args.self.now c.worker.inside.pass c.args.worker.now.pass c.get-found.new.pass 0 c.args.tries c.self.view_is (ap (λ (x : WorkerView). x.pass) c.worker.view_is)
       c.know_run.ensures.seen c.know_run-2.ensures.seen c.know_run.ensures.fits c.get-found.ensures.same c.get-found.ensures.past c.requires.call.own (c.args.key ∷ []) (of_error c.get-found.result fault.Busy is c.get-found.ensures.missed));
   moment = search rules;
-  stored = search rules;
   won = search rules;
   steps = search rules;
   queues = search rules;

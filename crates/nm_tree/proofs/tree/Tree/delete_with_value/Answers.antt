@@ -12,7 +12,7 @@ use Rattle.nm_calls.specs.Deletes.{DeleteDid, LacksRoomOr, LosesAfterFlag}
 use Rattle.nm_calls.specs.declared.fault.CallFault.TheVariants as fault
 use Rattle.nm_tree.proofs.Telling.{deleted_so}
 use Rattle.nm_tree.proofs.Untouched.{delete_pending}
-use Rattle.nm_tree.proofs.tree.Tree.delete.Goals as goal
+use Rattle.nm_tree.proofs.tree.Tree.delete_with_value.Goals as goal
 
 pub returns-in-Pending-clause-leaves : goal.returns-in-Pending-clause-leaves
 returns-in-Pending-clause-leaves c = delete_pending c.args.self.now.layout c.args.tries c.args.key c.args.worker.now (search rules) c.requires.free
@@ -199,3 +199,6 @@ returns-in-Err-Unfinished-clause-leaves c = record {
       ])
       );
 }
+
+pub returns-in-Pending-clause-takes : goal.returns-in-Pending-clause-takes
+returns-in-Pending-clause-takes c = λ values. tt

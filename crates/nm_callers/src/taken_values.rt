@@ -1,0 +1,50 @@
+//! A worker of a tree with values that takes a value out, and one that gets a value under its pin, proved
+//! from the clauses of `nm_tree`.
+ghost use Rattle.std.specs.Prelude.{◌≡◌, None, IfSome};
+ghost use Rattle.nm_steps.specs.Steps.{IsOf};
+ghost use Rattle.nm_steps.specs.Values.{HasValues};
+ghost use Rattle.nm_tree.specs.Calls.{MayCall};
+ghost use Rattle.nm_callers.specs.Mapping.{IsHoldingAnswer, PutsThenTakes};
+
+use nm_edge::Key;
+use nm_tree::{Tree, Worker};
+
+/// Inserts a key with a value, then deletes the key, and returns the value that it had. `None`: a call
+/// returned an error, or the key was in the map before, or another worker deleted it between the two
+/// calls. Proved: otherwise right after the insert's link the map had the key with the value, and at a
+/// later moment it had the key with the value that is returned, in the slot of a leaf that this worker
+/// has flagged.
+pub fn put_then_take(
+    tree: &Tree,
+    worker: &mut Worker,
+    key: Key,
+    value: u64,
+    tries: u32,
+) -> Option<u64>
+    requires may { MayCall tree.now worker.old }
+    requires values { HasValues tree.now }
+    ensures { IfSome result (PutsThenTakes worker.old.pass worker.new.pass key value) }
+{
+    let Ok(true) = tree.insert_with_value(worker, key, value, tries) else {
+        return None;
+    };
+    let mut taken = 0;
+    let Ok(true) = tree.delete_with_value(worker, key, &mut taken, tries) else {
+        return None;
+    };
+    Some(taken)
+}
+
+/// Pins a worker, and gets the value of a key under that pin. `None`: the pin was lost in each try, or
+/// the walk gave up, or a key is pending. Proved: otherwise the worker is still pinned, and the map gave
+/// this answer at a moment of that pin.
+pub fn pin_then_get(tree: &Tree, worker: &mut Worker, key: Key, tries: u32) -> Option<Option<u64>>
+    requires may { MayCall tree.now worker.old }
+    requires values { HasValues tree.now }
+    ensures { IfSome result (IsHoldingAnswer worker.new key) }
+{
+    let Ok(_epoch) = tree.pin(worker, tries) else {
+        return None;
+    };
+    tree.get_pinned(worker, key).ok()
+}
