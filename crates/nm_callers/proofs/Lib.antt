@@ -29,3 +29,5 @@ pub mod RunningAlone
 pub mod BesidePending
 pub mod Mapped
 pub mod Returned
+pub mod ArenaResets
+pub mod MappedMembers
