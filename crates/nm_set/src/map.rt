@@ -1,5 +1,5 @@
 //! Maps: a set whose tree has a value, an integer, under each key.
-ghost use Rattle.std.specs.Prelude.{◌≡◌, ℕ, ◌≤◌, ◌↔◌, ◌++◌, ◌∷◌, length, true, false, IfOk, IfErr, IsErrOf, OnOk, OnErr};
+ghost use Rattle.std.specs.Prelude.{◌≡◌, ℕ, ◌≤◌, ◌↔◌, ◌++◌, ◌∷◌, [], length, true, false, IfOk, IfErr, IfSome, IsErrOf, OnOk, OnErr};
 ghost use Rattle.nm_edge.specs.Layouts.{IsLayoutFault, in_radix, spaced};
 ghost use Rattle.nm_steps.specs.Values.{HasValues};
 ghost use Rattle.nm_set.specs.Ends.{EndsMember, EndsSet, IsLeftOpen, KeepsReturned, SaysEnded, set_of};
