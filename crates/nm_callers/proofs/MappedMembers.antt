@@ -20,19 +20,19 @@ use Rattle.nm_callers.specs.Meanwhile.{NoneDeleted}
 use Rattle.nm_callers.proofs.Mapped.{is_found, of_found}
 
 -- where a call was refused, nothing is said
-refused : {P : Option ℕ → Type 0} (r : Result (Option ℕ) CallFault) (o : Option (Option ℕ)) → o ≡ result_ok r → r ≡ Err fault.Pinned → IfSome o P
-refused {P = P} r o is no = subst (λ (y : Option (Option ℕ)). IfSome y P) (sym (is ∙ ap result_ok no)) tt
+refused : (P : Option ℕ → Type 0) (r : Result (Option ℕ) CallFault) (o : Option (Option ℕ)) → o ≡ result_ok r → r ≡ Err fault.Pinned → IfSome o P
+refused P r o is told = subst (λ (y : Option (Option ℕ)). IfSome y P) (sym (is ∙ ap (λ (q : Result (Option ℕ) CallFault). result_ok q) told)) tt
 
 module _ (L M : Layout) (s t k v : ℕ) (w x z : WorkerView) (r : Result (Option ℕ) CallFault) (o : Option (Option ℕ)) (is : o ≡ result_ok r) where
   pub puts_then_gets : HasPut w.pass x.pass k v → Asked (LeavesGet M t k) x z r → IfSome o (PutsThenGets w.pass z.pass k v)
-  puts_then_gets put (inl pinned) = refused {P = PutsThenGets w.pass z.pass k v} r o is pinned.1
+  puts_then_gets put (inl pinned) = refused (PutsThenGets w.pass z.pass k v) r o is pinned.1
   puts_then_gets put (inr (free, l)) = of_found r o (MapGave x.pass z.pass k) (PutsThenGets w.pass z.pass k v) is (λ found gave. record { mid = x.pass; put = put; on = l.past; gave = gave }) l.moment
 
   inserted : SaysTryInsert L s k w x (Ok true) → AnswerHasMoment w.pass x.pass Insert k true
   inserted says = (was_made w x true says.says).moment
 
   pub finds : IsKey k → HasHistory z.pass.view.layout z.pass.view.past → SaysTryInsert L s k w x (Ok true) → NoneDeleted z.pass.view.layout w.pass.view.past z.pass.view.past k → Asked (LeavesGet M t k) x z r → IfSome o (λ found. IsSome found)
-  finds key history says none (inl pinned) = refused {P = λ found. IsSome found} r o is pinned.1
+  finds key history says none (inl pinned) = refused (λ found. IsSome found) r o is pinned.1
   finds key history says none (inr (free, l)) =
       of_found r o (MapGave x.pass z.pass k) (λ found. IsSome found) is
       (is_found w.pass x.pass z.pass k key history (sym (ap (λ (p : PassView). p.view.layout) l.same)) l.past (inserted says) none) l.moment

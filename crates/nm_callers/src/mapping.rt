@@ -11,7 +11,7 @@ use std::alloc::Global;
 
 /// A new map, its only member, and what this member has found.
 #[derive(Drop)]
-pub struct Mapped {
+pub struct PutAndGot {
     pub map: Map,
     pub member: MapMember,
     /// The value under the key; `None` if the map did not have the key.
@@ -48,7 +48,7 @@ pub fn put_then_get_in_new(
     key: Key,
     value: u64,
     tries: u32,
-) -> Option<Mapped>
+) -> Option<PutAndGot>
     ensures own { IfSome result (λ m. m.member.tree ≡ m.map.tree) }
     ensures answers { IfSome result
         (λ m. (p : PassView) × PutsThenGets p m.member.worker.pass key value m.found) }
@@ -58,5 +58,5 @@ pub fn put_then_get_in_new(
     };
     let mut member = members.pop()?;
     let found = put_then_get(&mut member, key, value, tries)?;
-    Some(Mapped { map, member, found })
+    Some(PutAndGot { map, member, found })
 }
