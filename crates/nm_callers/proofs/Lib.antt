@@ -30,3 +30,6 @@ pub mod BesidePending
 pub mod Mapped
 pub mod KeptAfterPut
 pub mod Returned
+pub mod ArenaResets
+pub mod ArenaReads
+pub mod MappedMembers

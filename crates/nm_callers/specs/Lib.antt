@@ -11,3 +11,4 @@ pub mod Mapping
 pub mod Blame
 pub mod AnsweredAlone
 pub mod Returning
+pub mod Arenas

@@ -4,6 +4,7 @@
 #![tactic(auto)]
 
 mod alone;
+mod arena;
 mod beside;
 mod coming_back;
 mod filled;
@@ -11,6 +12,7 @@ mod fresh;
 mod full;
 mod least;
 mod letters;
+mod mapping;
 mod maps;
 mod members;
 mod others;
@@ -32,6 +34,7 @@ pub use alone::{
     insert_then_remove_alone, look_alone, look_many_alone, next_alone, pop_alone, pop_first_alone,
     remove_beside_pending,
 };
+pub use arena::{read_object, reset_returned};
 pub use beside::{delete_beside, insert_beside, look_many_beside, next_beside, prev_beside};
 pub use coming_back::{WorkedTasks, work_and_return};
 pub use filled::keys_then_report;
@@ -39,6 +42,7 @@ pub use fresh::{Looked, look_first, look_in_fresh, look_in_new, look_in_new_of_o
 pub use full::add_or_blame;
 pub use least::{Taken, take_at_once, take_both, take_in_threads};
 pub use letters::{Reading, Written, insert_while_read};
+pub use mapping::{PutAndGot, put_then_get, put_then_get_in_new};
 pub use maps::{get_alone, insert_then_get};
 pub use members::{add_then_find, put_again, put_and_take, put_back, remove_then_miss, take_once};
 pub use others::{PutAndTaken, put_and_take_alone, put_and_take_in_new};

@@ -1,4 +1,4 @@
--- Members and sets may go from thread to thread, and a reference to a set may be shared.
+-- Members, sets and maps may go from thread to thread, and a reference to a set may be shared.
 use denote.Param.Send.{IsSend, IsSync, part_keyless, sendable}
 use denote.RattleType.{RattleType}
 use Rattle.std.proofs.Crossing.{crosses}
@@ -20,6 +20,8 @@ use Rattle.nm_set.specs.contracts.home.Home as home
 use Rattle.nm_set.proofs.home.Home.TheSendSync as home_crosses
 use Rattle.nm_set.specs.contracts.member.Member as member
 use Rattle.nm_set.specs.contracts.set.Set as set
+use Rattle.nm_set.specs.contracts.map_member.MapMember as map_member
+use Rattle.nm_set.specs.contracts.map.Map as whole_map
 
 -- what a reference to a table's seat gives is a part of the seat
 seat_sync : (S V : RattleType) → IsSend S → IsSync (seat.the_row S V)
@@ -45,3 +47,9 @@ member_send = search (sendable, crosses, home_crosses.the_send, home_sync, worke
 
 pub set_send : IsSend set.the_row
 set_send = search (sendable, crosses, home_crosses.the_send, home_sync, tree.the_send, worker_crosses.the_send) depth 80
+
+pub map_member_send : IsSend map_member.the_row
+map_member_send = search (sendable, crosses, member_send) depth 20
+
+pub map_send : IsSend whole_map.the_row
+map_send = search (sendable, crosses, set_send) depth 20

@@ -10,3 +10,4 @@ pub mod Managed
 pub mod Rounds
 pub mod Popping
 pub mod Filling
+pub mod Maps

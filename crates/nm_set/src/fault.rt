@@ -46,6 +46,18 @@ fn whoever(behind: &Option<u32>) -> Holder {
 #[error("the worker is not pinned")]
 pub struct NotPinned;
 
+/// Why a call under the caller's pin returned no value.
+#[derive(Clone, Copy, Debug, Error, PartialEq, Eq)]
+pub enum PinnedGetFault {
+    /// The caller has not pinned the worker. Nothing has changed, and no step was made.
+    #[error("the worker is not pinned")]
+    NotPinned,
+    /// The walk had looked at as many nodes as there are, and had not ended. In a radix tree this
+    /// never happens.
+    #[error("the walk has passed as many nodes as there are: call again")]
+    Busy,
+}
+
 /// Why a set gave out no member.
 #[derive(Clone, Copy, Debug, Error, PartialEq, Eq)]
 pub enum MemberFault {

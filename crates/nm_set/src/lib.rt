@@ -14,6 +14,9 @@ mod gathering;
 mod home;
 mod lease;
 mod managed;
+mod map;
+mod map_calls;
+mod map_member;
 mod member;
 mod opening;
 mod popping;
@@ -24,13 +27,15 @@ mod seat;
 mod set;
 
 pub use ending::EndError;
-pub use fault::{Fullness, InsertFault, MemberFault, NotPinned, ObserveFault};
+pub use fault::{Fullness, InsertFault, MemberFault, NotPinned, ObserveFault, PinnedGetFault};
 pub use filling::{OfKeysError, SetOfKeys};
 pub use managed::Options;
+pub use map::{Map, MapCloseError, MapEndError, MapKeepError, MapKeepReturnedError};
+pub use map_member::{MapMember, MapResignError, ReturnedMapWorker};
 pub use member::{Member, ResignError};
 pub use nm_tree::{
-    Advance, Behind, CallFault, CloseReason, Collected, Counts, Entry, Fit, HeldQueue, NewError,
-    PinFault, Query, Report, ResignReason, Scanned, Tally,
+    Advance, Behind, CallFault, CloseReason, Collected, Counts, Entry, Fit, HandedOut, HeldQueue,
+    NewError, PinFault, Query, Report, ResignReason, Scanned, Tally,
 };
 pub use posting::{Stamp, letters_are_in_order};
 pub use returning::ReturnedWorker;

@@ -46,7 +46,7 @@ impl Set {
 }
 
 /// Makes a set of a new tree with this many seats, and a member for each of its workers.
-fn give_out(
+pub(crate) fn give_out(
     alloc: Global,
     site: Site,
     workers: Vec<Worker>,

@@ -291,7 +291,12 @@ fn made(alloc: Global, layout: Layout, fit: Fit) -> Result<Set, NewError>
 }
 
 /// Makes a set of a new tree and puts all its workers on their seats.
-fn settle(alloc: Global, site: Site, workers: Vec<Worker>, seats: u32) -> Result<Set, NewError>
+pub(crate) fn settle(
+    alloc: Global,
+    site: Site,
+    workers: Vec<Worker>,
+    seats: u32,
+) -> Result<Set, NewError>
     requires new { AreNew site.tree 0 workers.items }
     requires all { length workers.items ≡ seats }
     requires each { site.tree.layout.workers ≡ seats }

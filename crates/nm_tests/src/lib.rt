@@ -7,6 +7,8 @@ mod gates;
 #[cfg(test)]
 mod many;
 #[cfg(test)]
+mod maps;
+#[cfg(test)]
 mod members;
 #[cfg(test)]
 mod passes;
