@@ -2,7 +2,7 @@
  *
  * proved: nm_set_c and all crates that it depends on
  * kit: rattle-kit-13f logic dac8208d650f15bf
- * sources: sha256 4f86049f040b0e3bb81678b4acb8fdd07212bb2020ebf89bd6956086c3238a9b
+ * sources: sha256 bb9d4b58be558477f188d72a1d54dd8c5d673a0a723cfd179fc589e5afce1fb1
  *
  * dist/README.md says how this file is made, checked and used, and what is trusted.
  */
@@ -5803,7 +5803,7 @@
 	.cfi_offset %r14, -32
 	.cfi_offset %r15, -24
 	.cfi_offset %rbp, -16
-	movq	%rdx, %r15
+	movq	%rdx, %r12
 	movb	$1, %al
 	movb	$4, %dl
 	cmpb	$2, 96(%rsi)
@@ -5818,7 +5818,7 @@
 	addq	64(%rsi), %rbx
 	movl	48(%rbx), %eax
 	cmpl	$3, %eax
-	movq	%rsi, (%rsp)
+	movq	%rsi, 8(%rsp)
 	ja	.LBB27_4
 	movl	60(%rbx), %ecx
 	addl	24(%rbx), %eax
@@ -5835,7 +5835,7 @@
 	movq	$1, 8(%rsi)
 	movq	%rax, 16(%rsi)
 	leaq	24(%rsi), %rcx
-	movq	%rcx, 48(%rsp)
+	movq	%rcx, 64(%rsp)
 	movl	%ebp, %ecx
 	.p2align	4
 .LBB27_5:
@@ -5861,7 +5861,7 @@
 	xchgq	%rsi, (%rax,%rcx,8)
 .LBB27_8:
 	xorps	%xmm0, %xmm0
-	movq	48(%rsp), %rax
+	movq	64(%rsp), %rax
 	movups	%xmm0, 16(%rax)
 	movups	%xmm0, (%rax)
 	jmp	.LBB27_71
@@ -5871,7 +5871,7 @@
 	movq	$0, (%rdx)
 	movq	%rdx, (%rax)
 .LBB27_10:
-	movq	(%rsp), %rsi
+	movq	8(%rsp), %rsi
 	movq	%rdx, 40(%rbx)
 	movl	48(%rbx), %eax
 	movl	60(%rbx), %ecx
@@ -5901,14 +5901,14 @@
 	movq	$1, 40(%rsi)
 	movq	%rax, 48(%rsi)
 	leaq	656(%rsi), %rax
-	movq	%rax, 72(%rsp)
+	movq	%rax, 88(%rsp)
 	leaq	1176(%rsi), %rax
-	movq	%rax, 32(%rsp)
-	xorl	%r12d, %r12d
-	movq	%r14, 8(%rsp)
-	movq	%r15, 40(%rsp)
-	movq	%rbx, 16(%rsp)
-	movl	%ebp, 28(%rsp)
+	movq	%rax, 40(%rsp)
+	xorl	%r15d, %r15d
+	movq	%r14, 16(%rsp)
+	movq	%r12, 48(%rsp)
+	movq	%rbx, 80(%rsp)
+	movl	%ebp, 36(%rsp)
 	jmp	.LBB27_18
 .LBB27_16:
 	movq	80(%r11), %rax
@@ -5918,16 +5918,16 @@
 	movq	%rcx, 80(%r11)
 	.p2align	4
 .LBB27_17:
-	movl	68(%rsp), %r12d
-	incl	%r12d
-	movl	28(%rsp), %ebp
-	cmpl	%ebp, %r12d
-	movq	8(%rsp), %r14
-	movq	16(%rsp), %rbx
-	movq	40(%rsp), %r15
+	movl	24(%rsp), %r15d
+	incl	%r15d
+	movl	36(%rsp), %ebp
+	cmpl	%ebp, %r15d
+	movq	16(%rsp), %r14
+	movq	80(%rsp), %rbx
+	movq	48(%rsp), %r12
 	je	.LBB27_73
 .LBB27_18:
-	testl	%r12d, %r12d
+	testl	%r15d, %r15d
 	je	.LBB27_21
 	movl	48(%rbx), %eax
 	cmpl	$3, %eax
@@ -5945,13 +5945,13 @@
 	testq	%rdx, %rdx
 	je	.LBB27_23
 	shlq	$3, %rdx
-	movq	72(%rsp), %rdi
+	movq	88(%rsp), %rdi
 	xorl	%esi, %esi
 	callq	memset@PLT
-	movq	(%rsp), %rsi
+	movq	8(%rsp), %rsi
 	movq	$0, 1168(%rsi)
 .LBB27_23:
-	movl	%r12d, 68(%rsp)
+	movl	%r15d, 24(%rsp)
 	movl	64(%r14), %edx
 	movl	80(%r14), %r11d
 	movq	(%r14), %rax
@@ -5979,12 +5979,12 @@
 	movq	8(%r9,%r8,8), %r9
 	movq	(%r14), %r10
 	movq	16(%r10,%r8,8), %r8
-	cmpq	%rdi, %r15
+	cmpq	%rdi, %r12
 	cmovbq	%r9, %r8
 	testq	%r8, %r8
 	je	.LBB27_46
 	xorl	%r9d, %r9d
-	cmpq	%rdi, %r15
+	cmpq	%rdi, %r12
 	setae	%r9b
 	orl	%ebp, %r9d
 	incl	%ecx
@@ -6021,7 +6021,7 @@
 	testb	$1, %al
 	je	.LBB27_69
 	cmpl	$0, 48(%rbx)
-	movq	(%rsp), %rsi
+	movq	8(%rsp), %rsi
 	jne	.LBB27_29
 	movq	$0, (%rdx)
 	movq	%rdx, 32(%rbx)
@@ -6038,7 +6038,7 @@
 	cmovnel	%eax, %r12d
 	subl	%ecx, %r12d
 	jbe	.LBB27_17
-	movq	8(%rsp), %rax
+	movq	16(%rsp), %rax
 	movl	80(%rax), %eax
 	movl	%ebx, %r9d
 	shrl	$2, %r9d
@@ -6047,7 +6047,7 @@
 	shrl	$2, %r15d
 	andb	$1, %r13b
 	addl	$-4, %eax
-	movq	%rax, 56(%rsp)
+	movq	%rax, 72(%rsp)
 	movl	%r13d, %r14d
 	movl	%r15d, %r10d
 	jmp	.LBB27_41
@@ -6064,12 +6064,12 @@
 	testq	%rdx, %rdx
 	je	.LBB27_39
 	shlq	$3, %rdx
-	movq	72(%rsp), %rdi
+	movq	88(%rsp), %rdi
 	xorl	%esi, %esi
 	movq	%r11, %rbx
 	callq	memset@PLT
 	movq	%rbx, %r11
-	movq	(%rsp), %rsi
+	movq	8(%rsp), %rsi
 	movq	$0, 1168(%rsi)
 	jmp	.LBB27_39
 	.p2align	4
@@ -6079,16 +6079,16 @@
 	movq	%rbp, %rax
 	movq	%rbp, %r15
 	shrq	$2, %r15
-	movq	8(%rsp), %r8
+	movq	16(%rsp), %r8
 	movq	(%r8), %rcx
-	movq	56(%rsp), %rdx
+	movq	72(%rsp), %rdx
 	leal	(%rdx,%r15,4), %edx
 	movq	(%rcx,%rdx,8), %rdi
 	movq	(%r8), %rcx
 	movq	8(%rcx,%rdx,8), %rcx
 	movq	(%r8), %r8
 	movq	16(%r8,%rdx,8), %rbp
-	cmpq	%rdi, 40(%rsp)
+	cmpq	%rdi, 48(%rsp)
 	setae	%r14b
 	cmovbq	%rcx, %rbp
 	testq	%rbp, %rbp
@@ -6120,23 +6120,24 @@
 	andb	$1, %bl
 	andb	$1, %r13b
 	movl	%r10d, %r11d
-	cmpq	%r15, %rdi
+	cmpq	%r12, %rdi
 	je	.LBB27_48
 	jmp	.LBB27_74
 .LBB27_47:
 	movq	%rax, %rbp
-	movq	8(%rsp), %r14
-	movq	40(%rsp), %r15
-	cmpq	%r15, %rdi
+	movq	16(%rsp), %r14
+	movq	48(%rsp), %r12
+	cmpq	%r12, %rdi
 	jne	.LBB27_74
 .LBB27_48:
-	movl	%ebp, %eax
-	andl	$-4, %eax
-	movq	(%r14), %rcx
-	movl	80(%r14), %edx
-	addl	%edx, %eax
-	decl	%eax
-	movq	(%rcx,%rax,8), %r12
+	movl	%r10d, 72(%rsp)
+	movq	%rbp, %r15
+	shrq	$2, %r15
+	movq	(%r14), %rax
+	movl	80(%r14), %ecx
+	leal	(%rcx,%r15,4), %ecx
+	decl	%ecx
+	movq	(%rax,%rcx,8), %r10
 	movq	(%r14), %rcx
 	leal	(,%r11,4), %r8d
 	movl	80(%r14), %edx
@@ -6150,37 +6151,37 @@
 	lock		cmpxchgq	%rdi, (%rcx,%rdx,8)
 	je	.LBB27_75
 	testb	$3, %al
+	movl	72(%rsp), %ebp
 	je	.LBB27_17
 	shrq	$2, %rax
-	shrq	$2, %rbp
-	cmpl	%ebp, %eax
+	cmpl	%r15d, %eax
 	jne	.LBB27_17
-	movq	%r8, %r12
-	movq	1168(%rsi), %rax
-	movq	%rax, 56(%rsp)
+	movq	%r8, 56(%rsp)
+	movq	1168(%rsi), %r10
 	movq	3224(%rsi), %rdx
 	testq	%rdx, %rdx
 	je	.LBB27_53
 	shlq	$4, %rdx
-	movq	32(%rsp), %rdi
+	movq	40(%rsp), %rdi
 	xorl	%esi, %esi
 	movq	%r9, %r14
-	movl	%r10d, %ebp
 	movq	%r11, %r15
+	movq	%r10, %r12
 	callq	memset@PLT
+	movq	%r12, %r10
 	movq	%r15, %r11
-	movl	%ebp, %r10d
 	movq	%r14, %r9
-	movq	(%rsp), %rsi
+	movq	8(%rsp), %rsi
 	movq	$0, 3224(%rsi)
 .LBB27_53:
 	xorl	%eax, %eax
 	testb	%r13b, %r13b
 	sete	%al
-	movq	8(%rsp), %r8
+	movq	16(%rsp), %r8
 	movl	80(%r8), %ecx
 	movq	(%r8), %rdx
-	addl	%r12d, %ecx
+	movq	56(%rsp), %rdi
+	addl	%edi, %ecx
 	addl	$-4, %ecx
 	movq	%rcx, %rdi
 	subq	%rax, %rdi
@@ -6191,17 +6192,17 @@
 	testb	$1, %dl
 	jne	.LBB27_55
 	testb	$1, %al
-	movq	%r12, %rdi
+	movq	56(%rsp), %rdi
 	je	.LBB27_17
 	jmp	.LBB27_56
 .LBB27_55:
 	testb	%r13b, %r13b
 	sete	%r13b
-	movq	%r12, %rdi
+	movq	56(%rsp), %rdi
 .LBB27_56:
-	movl	%r10d, %r12d
+	movl	%ebp, %r12d
 	movq	%r9, %r15
-	movq	8(%rsp), %r14
+	movq	16(%rsp), %r14
 	movq	(%r14), %rcx
 	addl	80(%r14), %edi
 	cmpb	$1, %r13b
@@ -6217,10 +6218,10 @@
 	jne	.LBB27_57
 	movzbl	%r13b, %r8d
 	movq	%r14, %rdi
-	movq	72(%rsp), %rsi
-	movq	56(%rsp), %rdx
+	movq	88(%rsp), %rsi
+	movq	%r10, %rdx
 	movl	%r11d, %ecx
-	movq	32(%rsp), %r9
+	movq	40(%rsp), %r9
 	callq	"nm_walks::cutting::freeze"
 	shll	$2, %r15d
 	addl	80(%r14), %r15d
@@ -6232,21 +6233,21 @@
 	andq	$-3, %rbp
 	movq	(%r14), %rcx
 	lock		cmpxchgq	%rbp, (%rcx,%r15,8)
-	movq	(%rsp), %rsi
+	movq	8(%rsp), %rsi
 	jne	.LBB27_17
 	movb	$1, 56(%rsi)
-	movq	8(%rsp), %rax
+	movq	16(%rsp), %rax
 	movq	(%rax), %rax
 	movq	(%rax), %rax
 	testb	$1, 56(%rsi)
-	je	.LBB27_107
+	je	.LBB27_108
 	movq	$1, 8(%rsi)
 	movq	%rax, 16(%rsi)
 	movb	$0, 56(%rsi)
 	movq	3224(%rsi), %rcx
 	testq	%rcx, %rcx
-	movq	16(%rsp), %r11
-	movq	32(%rsp), %rdx
+	movq	80(%rsp), %r11
+	movq	40(%rsp), %rdx
 	je	.LBB27_16
 	movl	60(%r11), %r10d
 	jmp	.LBB27_64
@@ -6298,12 +6299,12 @@
 	jmp	.LBB27_63
 .LBB27_69:
 	movq	(%r14), %rax
-	movq	(%rsp), %rcx
+	movq	8(%rsp), %rcx
 	movl	4(%rcx), %ecx
 	xorl	%edx, %edx
 	xchgq	%rdx, (%rax,%rcx,8)
 	xorps	%xmm0, %xmm0
-	movq	48(%rsp), %rax
+	movq	64(%rsp), %rax
 	movups	%xmm0, 16(%rax)
 	movups	%xmm0, (%rax)
 .LBB27_70:
@@ -6341,101 +6342,81 @@
 	xorl	%esi, %esi
 	xchgq	%rsi, (%rax,%rcx,8)
 	xorps	%xmm0, %xmm0
-	movq	48(%rsp), %rax
+	movq	64(%rsp), %rax
 	movups	%xmm0, 16(%rax)
 	movups	%xmm0, (%rax)
 	xorl	%eax, %eax
 	jmp	.LBB27_72
 .LBB27_75:
-	movq	16(%rsp), %rdx
-	movq	72(%rdx), %rax
+	movq	%r10, 48(%rsp)
+	cmpb	$1, 84(%r14)
+	jne	.LBB27_77
+	movl	64(%r14), %eax
+	leal	(,%rax,4), %ecx
+	movl	%eax, %edx
+	shrl	$6, %edx
+	andl	$63, %eax
+	addl	80(%r14), %ecx
+	addl	%edx, %ecx
+	cmpl	$1, %eax
+	sbbl	$-1, %ecx
+	movl	%r15d, %eax
+	decl	%eax
+	addq	%rcx, %rax
+	movq	(%r14), %rcx
+	movq	(%rcx,%rax,8), %rax
+.LBB27_77:
+	movq	%r15, 16(%rsp)
+	movq	%r8, 56(%rsp)
+	movq	80(%rsp), %r15
+	movq	72(%r15), %rax
 	incq	%rax
 	movq	$-1, %rcx
 	cmovneq	%rax, %rcx
-	movq	%rcx, 72(%rdx)
-	movl	68(%rsp), %eax
+	movq	%rcx, 72(%r15)
+	movl	24(%rsp), %eax
 	notl	%eax
-	shrq	$2, %rbp
 	xorps	%xmm0, %xmm0
 	movaps	%xmm0, 96(%rsp)
 	movq	$0, 112(%rsp)
-	addl	%eax, 28(%rsp)
-	je	.LBB27_88
-	movq	%r12, 8(%rsp)
-	movq	%r11, 40(%rsp)
-	movq	16(%rsp), %rax
-	movl	48(%rax), %eax
+	addl	%eax, 36(%rsp)
+	movl	72(%rsp), %r10d
+	je	.LBB27_89
+	movq	%r11, 24(%rsp)
+	movl	48(%r15), %eax
 	cmpl	$3, %eax
-	ja	.LBB27_84
-	movq	16(%rsp), %rdx
-	movl	60(%rdx), %ecx
-	addl	24(%rdx), %eax
+	ja	.LBB27_80
+	movl	60(%r15), %ecx
+	addl	24(%r15), %eax
 	shll	$5, %eax
-	addl	56(%rdx), %ecx
+	addl	56(%r15), %ecx
 	subl	%ecx, %eax
 	cmpl	$127, %eax
-	ja	.LBB27_84
-	movq	%r9, 128(%rsp)
-	movq	%r8, 80(%rsp)
-	jmp	.LBB27_81
-.LBB27_79:
-	movq	40(%rsi), %rax
-	movq	$0, (%rdx)
-	movq	%rdx, (%rax)
+	jbe	.LBB27_86
 .LBB27_80:
-	movq	%rdx, 40(%rsi)
-	movl	48(%rsi), %eax
-	movl	60(%rsi), %ecx
-	incl	%eax
-	movl	%eax, 48(%rsi)
-	addl	24(%rsi), %eax
-	shll	$5, %eax
-	addl	56(%rsi), %ecx
-	subl	%ecx, %eax
-	cmpl	$128, %eax
-	jae	.LBB27_84
-.LBB27_81:
-	movl	$776, %edi
-	movl	$8, %esi
-	movl	%r10d, %r12d
-	callq	nm_host_alloc@PLT
-	movq	80(%rsp), %r8
-	movl	%r12d, %r10d
-	movq	128(%rsp), %r9
-	testb	$1, %al
-	movq	8(%rsp), %r12
-	je	.LBB27_88
-	movq	16(%rsp), %rsi
-	cmpl	$0, 48(%rsi)
-	jne	.LBB27_79
-	movq	$0, (%rdx)
-	movq	%rdx, 32(%rsi)
-	jmp	.LBB27_80
-.LBB27_84:
-	movq	(%rsp), %rsi
+	movq	8(%rsp), %rsi
 	movq	1168(%rsi), %r11
 	movq	3224(%rsi), %rdx
 	testq	%rdx, %rdx
-	movl	%r10d, 92(%rsp)
-	je	.LBB27_86
+	je	.LBB27_82
 	shlq	$4, %rdx
-	movq	32(%rsp), %rdi
+	movq	40(%rsp), %rdi
 	xorl	%esi, %esi
-	movq	%r9, %r12
-	movq	%r8, 80(%rsp)
-	movq	%r11, 56(%rsp)
+	movq	%r9, %rbp
+	movq	%r11, 128(%rsp)
 	callq	memset@PLT
-	movq	56(%rsp), %r11
-	movq	80(%rsp), %r8
-	movq	%r12, %r9
-	movq	(%rsp), %rsi
+	movq	128(%rsp), %r11
+	movl	72(%rsp), %r10d
+	movq	%rbp, %r9
+	movq	8(%rsp), %rsi
 	movq	$0, 3224(%rsi)
-.LBB27_86:
+.LBB27_82:
 	xorl	%eax, %eax
 	testb	%r13b, %r13b
 	sete	%al
 	movl	80(%r14), %ecx
 	movq	(%r14), %rdx
+	movq	56(%rsp), %r8
 	addl	%r8d, %ecx
 	addl	$-4, %ecx
 	movq	%rcx, %rdi
@@ -6445,70 +6426,105 @@
 	addq	%rcx, %rax
 	movq	8(%rdi,%rax,8), %rax
 	testb	$1, %dl
-	jne	.LBB27_89
-	testb	$1, %al
-	movq	40(%rsp), %rcx
 	jne	.LBB27_90
-	jmp	.LBB27_103
-.LBB27_88:
-	movq	(%rsp), %rsi
+	testb	$1, %al
+	movq	24(%rsp), %rcx
+	jne	.LBB27_91
 	jmp	.LBB27_104
+.LBB27_84:
+	movq	40(%r15), %rax
+	movq	$0, (%rdx)
+	movq	%rdx, (%rax)
+.LBB27_85:
+	movq	%rdx, 40(%r15)
+	movl	48(%r15), %eax
+	movl	60(%r15), %ecx
+	incl	%eax
+	movl	%eax, 48(%r15)
+	addl	24(%r15), %eax
+	shll	$5, %eax
+	addl	56(%r15), %ecx
+	subl	%ecx, %eax
+	cmpl	$128, %eax
+	jae	.LBB27_80
+.LBB27_86:
+	movl	$776, %edi
+	movl	$8, %esi
+	movq	%r9, %rbp
+	movl	%r10d, %r15d
+	callq	nm_host_alloc@PLT
+	movl	%r15d, %r10d
+	movq	80(%rsp), %r15
+	testb	$1, %al
+	je	.LBB27_89
+	movq	%rbp, %r9
+	cmpl	$0, 48(%r15)
+	jne	.LBB27_84
+	movq	$0, (%rdx)
+	movq	%rdx, 32(%r15)
+	jmp	.LBB27_85
 .LBB27_89:
+	movq	8(%rsp), %rsi
+	movq	16(%rsp), %rbx
+	movq	48(%rsp), %r13
+	jmp	.LBB27_105
+.LBB27_90:
 	testb	%r13b, %r13b
 	sete	%r13b
-	movq	40(%rsp), %rcx
-.LBB27_90:
-	movq	%r9, %r12
+	movq	24(%rsp), %rcx
+.LBB27_91:
+	movl	%r10d, %ebp
+	movq	%r9, 24(%rsp)
 	movq	(%r14), %rsi
 	addl	80(%r14), %r8d
 	cmpb	$1, %r13b
 	sbbl	$0, %r8d
 	addl	$-2, %r8d
-.LBB27_91:
+.LBB27_92:
 	movq	(%rsi,%r8,8), %rdi
 	movq	%rdi, %rdx
 	orq	$2, %rdx
 	movq	%rdi, %rax
 	lock		cmpxchgq	%rdx, (%rsi,%r8,8)
-	jne	.LBB27_91
+	jne	.LBB27_92
 	movzbl	%r13b, %r8d
 	movq	%rdi, %r13
 	movq	%r14, %rdi
-	movq	72(%rsp), %rsi
+	movq	88(%rsp), %rsi
 	movq	%r11, %rdx
-	movq	32(%rsp), %r9
+	movq	40(%rsp), %r9
 	callq	"nm_walks::cutting::freeze"
-	shll	$2, %r12d
-	addl	80(%r14), %r12d
+	movq	24(%rsp), %rdx
+	shll	$2, %edx
+	addl	80(%r14), %edx
 	cmpb	$1, %bl
-	sbbl	$0, %r12d
-	addl	$-2, %r12d
-	movl	92(%rsp), %eax
+	sbbl	$0, %edx
+	addl	$-2, %edx
+	movl	%ebp, %eax
 	shlq	$2, %rax
 	andq	$-3, %r13
 	movq	(%r14), %rcx
-	lock		cmpxchgq	%r13, (%rcx,%r12,8)
-	movq	(%rsp), %rsi
-	jne	.LBB27_103
+	lock		cmpxchgq	%r13, (%rcx,%rdx,8)
+	movq	8(%rsp), %rsi
+	jne	.LBB27_104
 	movb	$1, 56(%rsi)
 	movq	(%r14), %rax
 	movq	(%rax), %rax
 	testb	$1, 56(%rsi)
-	je	.LBB27_107
+	je	.LBB27_108
 	movq	$1, 8(%rsi)
 	movq	%rax, 16(%rsi)
 	movb	$0, 56(%rsi)
 	movq	3224(%rsi), %rcx
 	testq	%rcx, %rcx
-	movq	16(%rsp), %r10
-	movq	32(%rsp), %r11
-	je	.LBB27_105
-	movl	60(%r10), %edx
-	jmp	.LBB27_98
-.LBB27_96:
-	movq	16(%r10), %r9
+	movq	40(%rsp), %r10
+	je	.LBB27_106
+	movl	60(%r15), %edx
+	jmp	.LBB27_99
 .LBB27_97:
-	addq	$16, %r11
+	movq	16(%r15), %r9
+.LBB27_98:
+	addq	$16, %r10
 	decq	%rcx
 	subl	%edi, %edx
 	addl	$32, %edx
@@ -6516,100 +6532,101 @@
 	movaps	144(%rsp), %xmm0
 	movups	%xmm0, 8(%r9,%rdx,8)
 	movq	%rax, 24(%r9,%rdx,8)
-	movl	60(%r10), %edx
+	movl	60(%r15), %edx
 	incl	%edx
-	movl	%edx, 60(%r10)
+	movl	%edx, 60(%r15)
 	testq	%rcx, %rcx
-	je	.LBB27_105
-.LBB27_98:
-	movups	(%r11), %xmm0
+	je	.LBB27_106
+.LBB27_99:
+	movups	(%r10), %xmm0
 	movaps	%xmm0, 144(%rsp)
-	addl	56(%r10), %edx
-	movl	24(%r10), %r8d
+	addl	56(%r15), %edx
+	movl	24(%r15), %r8d
 	movl	%r8d, %edi
 	shll	$5, %edi
 	cmpl	%edi, %edx
-	jne	.LBB27_96
-	movq	32(%r10), %r9
+	jne	.LBB27_97
+	movq	32(%r15), %r9
 	movq	(%r9), %rdi
-	movq	%rdi, 32(%r10)
-	decl	48(%r10)
+	movq	%rdi, 32(%r15)
+	decl	48(%r15)
 	testl	%r8d, %r8d
-	je	.LBB27_101
-	movq	16(%r10), %rdi
+	je	.LBB27_102
+	movq	16(%r15), %rdi
 	movq	$0, (%r9)
 	movq	%r9, (%rdi)
-	jmp	.LBB27_102
-.LBB27_101:
-	movq	$0, (%r9)
-	movq	%r9, 8(%r10)
+	jmp	.LBB27_103
 .LBB27_102:
-	movq	%r9, 16(%r10)
-	movl	24(%r10), %edi
-	incl	%edi
-	movl	%edi, 24(%r10)
-	shll	$5, %edi
-	jmp	.LBB27_97
+	movq	$0, (%r9)
+	movq	%r9, 8(%r15)
 .LBB27_103:
-	movq	%r15, 96(%rsp)
-	movl	%ebp, 104(%rsp)
+	movq	%r9, 16(%r15)
+	movl	24(%r15), %edi
+	incl	%edi
+	movl	%edi, 24(%r15)
+	shll	$5, %edi
+	jmp	.LBB27_98
+.LBB27_104:
+	movq	%r12, 96(%rsp)
+	movq	16(%rsp), %rbx
+	movl	%ebx, 104(%rsp)
 	movl	$0, 108(%rsp)
-	movq	8(%rsp), %r12
-	movq	%r12, 112(%rsp)
-	movl	28(%rsp), %r9d
+	movq	48(%rsp), %r13
+	movq	%r13, 112(%rsp)
+	movl	36(%rsp), %r9d
 	decl	%r9d
 	leaq	96(%rsp), %r8
 	movq	%r14, %rdi
 	movq	136(%rsp), %rdx
-	movq	16(%rsp), %rcx
+	movq	%r15, %rcx
 	callq	"nm_calls::deleting::remove"
-	movq	(%rsp), %rsi
+	movq	8(%rsp), %rsi
 	testb	%al, %al
-	je	.LBB27_106
-.LBB27_104:
+	je	.LBB27_107
+.LBB27_105:
 	movq	$2, 96(%rsi)
-	movq	%r15, 104(%rsi)
-	movl	%ebp, 112(%rsi)
+	movq	%r12, 104(%rsi)
+	movl	%ebx, 112(%rsi)
 	movl	$0, 116(%rsi)
-	movq	%r12, 120(%rsi)
+	movq	%r13, 120(%rsi)
 	movb	$3, %dl
 	jmp	.LBB27_71
-.LBB27_105:
-	movq	80(%r10), %rax
+.LBB27_106:
+	movq	80(%r15), %rax
 	incq	%rax
 	movq	$-1, %rcx
 	cmovneq	%rax, %rcx
-	movq	%rcx, 80(%r10)
-.LBB27_106:
+	movq	%rcx, 80(%r15)
+.LBB27_107:
 	movq	(%r14), %rdi
 	movl	4(%rsi), %ecx
 	xorl	%eax, %eax
 	xorl	%edx, %edx
 	xchgq	%rdx, (%rdi,%rcx,8)
 	xorps	%xmm0, %xmm0
-	movq	48(%rsp), %rcx
+	movq	64(%rsp), %rcx
 	movups	%xmm0, 16(%rcx)
 	movups	%xmm0, (%rcx)
 	movb	$1, %dl
 	jmp	.LBB27_72
-.LBB27_107:
+.LBB27_108:
 	cmpb	$0, 40(%rsi)
-	jne	.LBB27_112
-	movq	(%rsp), %rcx
+	jne	.LBB27_113
+	movq	8(%rsp), %rcx
 	cmpb	$1, 24(%rcx)
-	jne	.LBB27_112
-	movq	(%rsp), %rcx
+	jne	.LBB27_113
+	movq	8(%rsp), %rcx
 	cmpq	%rax, 32(%rcx)
 	movq	$1, 8(%rcx)
 	movq	%rax, 16(%rcx)
-	jne	.LBB27_111
-	movq	(%rsp), %rcx
+	jne	.LBB27_112
+	movq	8(%rsp), %rcx
 	movq	$1, 40(%rcx)
 	movq	%rax, 48(%rcx)
-.LBB27_111:
-	ud2
 .LBB27_112:
-	movq	(%rsp), %rcx
+	ud2
+.LBB27_113:
+	movq	8(%rsp), %rcx
 	movq	$1, 8(%rcx)
 	movq	%rax, 16(%rcx)
 	ud2
@@ -38671,7 +38688,7 @@ nm_set_attach:
 	xchgq	%rax, 8(%rbx)
 .LBB77_39:
 	movzbl	%bpl, %eax
-	leaq	.Lswitch.table.nm_set_new_unbalanced.428(%rip), %rcx
+	leaq	.Lswitch.table.nm_set_new_unbalanced.432(%rip), %rcx
 	movl	(%rcx,%rax,4), %eax
 .LBB77_41:
 	addq	$32408, %rsp
@@ -38888,7 +38905,7 @@ nm_set_new:
 	xorl	%ecx, %ecx
 	xchgq	%rcx, 8(%rbx)
 	movsbq	%al, %rax
-	leaq	.Lswitch.table.nm_set_new_unbalanced.428(%rip), %rcx
+	leaq	.Lswitch.table.nm_set_new_unbalanced.432(%rip), %rcx
 	movl	32(%rcx,%rax,4), %eax
 .LBB78_10:
 	addq	$3568, %rsp
@@ -39042,7 +39059,7 @@ nm_set_new_first_fit:
 	xorl	%ecx, %ecx
 	xchgq	%rcx, 8(%rbx)
 	movsbq	%al, %rax
-	leaq	.Lswitch.table.nm_set_new_unbalanced.428(%rip), %rcx
+	leaq	.Lswitch.table.nm_set_new_unbalanced.432(%rip), %rcx
 	movl	32(%rcx,%rax,4), %eax
 .LBB79_10:
 	addq	$3568, %rsp
@@ -39196,7 +39213,7 @@ nm_set_new_unbalanced:
 	xorl	%ecx, %ecx
 	xchgq	%rcx, 8(%rbx)
 	movsbq	%al, %rax
-	leaq	.Lswitch.table.nm_set_new_unbalanced.428(%rip), %rcx
+	leaq	.Lswitch.table.nm_set_new_unbalanced.432(%rip), %rcx
 	movl	32(%rcx,%rax,4), %eax
 .LBB80_10:
 	addq	$3568, %rsp
@@ -41924,10 +41941,10 @@ nm_worker_contains_many:
 	.long	4294967289
 	.long	4294967288
 	.size	.Lswitch.table.nm_set_new_unbalanced, 36
-	.type	.Lswitch.table.nm_set_new_unbalanced.428,@object
-	.section	.rodata..Lswitch.table.nm_set_new_unbalanced.428,"a",@progbits
+	.type	.Lswitch.table.nm_set_new_unbalanced.432,@object
+	.section	.rodata..Lswitch.table.nm_set_new_unbalanced.432,"a",@progbits
 	.p2align	2, 0x0
-.Lswitch.table.nm_set_new_unbalanced.428:
+.Lswitch.table.nm_set_new_unbalanced.432:
 	.long	0
 	.long	1
 	.long	2
@@ -41954,7 +41971,7 @@ nm_worker_contains_many:
 	.long	4294967275
 	.long	4294967274
 	.long	4294967273
-	.size	.Lswitch.table.nm_set_new_unbalanced.428, 104
+	.size	.Lswitch.table.nm_set_new_unbalanced.432, 104
 	.type	.Lswitch.table.nm_set_worker,@object
 	.section	.rodata..Lswitch.table.nm_set_worker,"a",@progbits
 	.p2align	2, 0x0
