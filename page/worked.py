@@ -7,7 +7,7 @@ from __future__ import annotations
 import re
 from typing import Iterator, NamedTuple
 
-SCHEDULES = ("crates/nm_core/specs/Schedules.antt", "crates/nm_core/specs/RadixSchedules.antt")
+SCHEDULES = "crates/nm_core/specs/Schedules.antt"
 THEOREM = "crates/nm_theorem/specs/Worked.antt"
 SHORTHANDS = "crates/nm_model/specs/Shorthands.antt"
 PARTS = ("inserting", "deleting", "cut", "waiting", "leaving", "free_turn", "claim_turn")
