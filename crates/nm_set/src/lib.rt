@@ -16,6 +16,7 @@ mod lease;
 mod managed;
 mod map;
 mod map_calls;
+mod map_managed;
 mod map_member;
 mod member;
 mod opening;
@@ -31,6 +32,7 @@ pub use fault::{Fullness, InsertFault, MemberFault, NotPinned, ObserveFault, Pin
 pub use filling::{OfKeysError, SetOfKeys};
 pub use managed::Options;
 pub use map::{Map, MapCloseError, MapEndError, MapKeepError, MapKeepReturnedError};
+pub use map_managed::Reclaimed;
 pub use map_member::{MapMember, MapResignError, ReturnedMapWorker};
 pub use member::{Member, ResignError};
 pub use nm_tree::{

@@ -348,8 +348,9 @@ impl MapMember {
 
     /// Frees what has waited long enough at the front of each queue that the worker holds, and
     /// writes the value of each freed leaf to `out`: `Tree::collect_values` of `nm_tree`. It stops
-    /// before a leaf if `out` is full, and a later call goes on there. Each value comes back once,
-    /// after all workers that were pinned when its leaf was cut off have unpinned.
+    /// before a leaf if `out` is full, and a later call goes on there. Proved (`says`): each value is
+    /// the one that its leaf had right before the leaf was cut off, and all workers that were pinned
+    /// then have unpinned since.
     pub fn collect(&mut self, out: &mut [u64]) -> HandedOut
         ensures tree { self.new.tree ≡ self.old.tree }
         ensures says { HandsInto self.old.tree.layout.nodes out.old out.new self.old.worker

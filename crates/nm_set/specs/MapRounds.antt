@@ -1,0 +1,30 @@
+-- What the parts of a managed call of a map leave, for the contracts inside this crate.
+use Rattle.std.specs.Prelude.{◌≡◌, ◌+◌, ◌*◌, ◌≤◌, ℕ, Bool, true, Option, Result, Ok, Err}
+use Rattle.nm_edge.specs.Layouts.{Layout}
+use Rattle.nm_model.specs.declared.event.Op.{Op}
+use Rattle.nm_model.specs.declared.event.Op.TheVariants.{Delete, Has, Insert}
+use Rattle.nm_steps.specs.Steps.{PassView, TreeView}
+use Rattle.nm_calls.specs.Maps.{HasPut, HasTaken}
+use Rattle.nm_calls.specs.declared.fault.CallFault.{CallFault}
+use Rattle.nm_tree.specs.Answers.{IfTaken}
+use Rattle.nm_tree.specs.Workers.{WorkerView}
+use Rattle.nm_set.specs.declared.managed.Options.{Options}
+use Rattle.nm_set.specs.Managed.{MetInterference}
+use Rattle.nm_set.specs.Maps.{AnswersGet, look_bound}
+use Rattle.nm_set.specs.Rounds.{IsOnward}
+
+-- what a call for a key does with values: an insert puts the key into the map with v, and a remove
+-- takes the key with t
+abbrev pub MovesValue : Op → ℕ → ℕ → ℕ → PassView → PassView → Result Bool CallFault → Type 0
+MovesValue Has k v t p q r = Unit {0}
+MovesValue Insert k v t p q r = r ≡ Ok true → HasPut p q k v
+MovesValue Delete k v t p q r = IfTaken r (HasTaken p q k t)
+
+-- n look-ups of a value in a row were busy
+pub record LooksWereBusy (b : TreeView) (h : Options) (n : ℕ) (w z : WorkerView) : Type 0 where
+  pub onward : IsOnward (n * look_bound h.tries b.layout) w z
+  pub met : 1 ≤ h.tries → MetInterference Has w.pass z.pass n
+
+-- at most n look-ups of a value, made until one is not busy
+abbrev pub GetsIn : TreeView → Options → ℕ → ℕ → WorkerView → WorkerView → Result (Option ℕ) CallFault → Type 0
+GetsIn b h k n = AnswersGet k (n * look_bound h.tries b.layout) n h.tries
