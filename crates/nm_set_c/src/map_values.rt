@@ -1,12 +1,12 @@
 //! Calls for a key and its value, by the handle of a map's worker.
-#![tactic(auto, using(crate::proofs::Owners::asked_of_map_worker))]
+#![tactic(auto, using(crate::proofs::Owners::asked_of_owner))]
 
-ghost use Rattle.std.specs.Prelude.{◌≡◌, ⊤, true, false};
+ghost use Rattle.std.specs.Prelude.{◌≡◌, ⊤};
 ghost use Rattle.nm_set_c.specs.Handles.{held_by};
-ghost use Rattle.nm_set_c.specs.Maps.{OfMapWorker, TellsGet, TellsGetPinned, TellsPut, TellsReclaim, TellsTake, HasTakenKey, number_written, of_pinned_get, pinned_written};
+ghost use Rattle.nm_set_c.specs.Maps.{TellsGet, TellsGetPinned, TellsPut, TellsReclaim, TellsTake, number_written, of_pinned_get, pinned_written, taken_written};
 ghost use Rattle.nm_set_c.specs.NextKeys.{found_written, of_found};
 ghost use Rattle.nm_set_c.specs.Outcomes.{IsCodeOf};
-ghost use Rattle.nm_set_c.specs.Owners.{HasDone};
+ghost use Rattle.nm_set_c.specs.Owners.{HasDone, OfMapWorker};
 
 use crate::handle::{Handle, by_handle};
 use crate::outcome::Outcome;
@@ -115,19 +115,19 @@ fn remove(member: &mut MapMember, key: u64, options: &Options, value: &mut u64) 
     };
     let mut taken = 0;
     let answer = member.remove(key, &mut taken, options);
-    if has_taken(&answer) {
-        *value = taken;
-    }
+    write_taken(&answer, taken, value);
     Outcome::of_answer(answer)
 }
 
-/// Returns whether a remove has taken the key, finished or not.
+/// Writes the value of the key that a remove has taken, finished or not.
 #[inline(always)]
-fn has_taken(answer: &Result<bool, CallFault>) -> bool
-    ensures yes { result ≡ true → HasTakenKey answer.now }
-    ensures no { result ≡ false → HasTakenKey answer.now → ⊥ }
+fn write_taken(answer: &Result<bool, CallFault>, taken: u64, value: &mut u64)
+    ensures { value.new ≡ taken_written answer.now taken value.old }
 {
-    matches!(answer, Ok(true) | Err(CallFault::Unfinished))
+    match answer {
+        Ok(true) | Err(CallFault::Unfinished) => *value = taken,
+        _ => {}
+    }
 }
 
 /// Tries twice to advance the epoch, and frees what has waited long enough: `MapMember::reclaim` of

@@ -1,13 +1,12 @@
 //! Calls of a map's worker that are like those of a set's, by its handle.
-#![tactic(auto, using(crate::proofs::Owners::asked_of_map_worker))]
+#![tactic(auto, using(crate::proofs::Owners::asked_of_owner))]
 
 ghost use Rattle.std.specs.Prelude.{◌≡◌, ⊤};
 ghost use Rattle.nm_edge.specs.declared.edge.Side.TheVariants.{Left, Right};
 ghost use Rattle.nm_tree.specs.Workers.{waiting_in};
 ghost use Rattle.nm_set_c.specs.Handles.{held_by};
-ghost use Rattle.nm_set_c.specs.Maps.{OfMapWorker};
 ghost use Rattle.nm_set_c.specs.Outcomes.{IsCodeOf};
-ghost use Rattle.nm_set_c.specs.Owners.{HasDone};
+ghost use Rattle.nm_set_c.specs.Owners.{HasDone, OfMapWorker};
 ghost use Rattle.nm_set_c.specs.Scanning.{TellsScan};
 ghost use Rattle.nm_set_c.specs.Workers.{TellsNumber, TellsOption, TellsPin, TellsUnpin, pending_key};
 
