@@ -27,14 +27,14 @@ pub extern "C" fn nm_map_pin(
     tries: u32,
     epoch: &mut u64,
 ) -> i32
-    ensures { IsCodeOf (OfMapWorker (TellsPin tries epoch.old epoch.new) (epoch.new ≡ epoch.old)
+    ensures tells { IsCodeOf (OfMapWorker (TellsPin tries epoch.old epoch.new) (epoch.new ≡ epoch.old)
         (held_by worker.old) (held_by worker.new)) result }
 {
     by_handle!(alloc, worker, MapWorker(member) => pin(member, tries, epoch))
 }
 
 fn pin(member: &mut MapMember, tries: u32, epoch: &mut u64) -> Outcome
-    ensures { HasDone (TellsPin tries epoch.old epoch.new) member.old member.new result }
+    ensures tells { HasDone (TellsPin tries epoch.old epoch.new) member.old member.new result }
 {
     let answer = member.pin(tries);
     tell_pin(answer, epoch)
@@ -44,13 +44,13 @@ fn pin(member: &mut MapMember, tries: u32, epoch: &mut u64) -> Outcome
 /// `Closed`, `InUse`, `Kind`.
 #[unsafe(no_mangle)]
 pub extern "C" fn nm_map_unpin(alloc: Global, worker: &mut Handle) -> i32
-    ensures { IsCodeOf (OfMapWorker TellsUnpin ⊤ (held_by worker.old) (held_by worker.new)) result }
+    ensures tells { IsCodeOf (OfMapWorker TellsUnpin ⊤ (held_by worker.old) (held_by worker.new)) result }
 {
     by_handle!(alloc, worker, MapWorker(member) => unpin(member))
 }
 
 fn unpin(member: &mut MapMember) -> Outcome
-    ensures { HasDone TellsUnpin member.old member.new result }
+    ensures tells { HasDone TellsUnpin member.old member.new result }
 {
     let answer = member.unpin();
     tell_unpin(answer)
@@ -66,7 +66,7 @@ pub extern "C" fn nm_map_get_pinned(
     key: u64,
     value: &mut u64,
 ) -> i32
-    ensures { IsCodeOf (OfMapWorker (TellsGetPinned key value.old value.new)
+    ensures tells { IsCodeOf (OfMapWorker (TellsGetPinned key value.old value.new)
         (value.new ≡ value.old) (held_by worker.old) (held_by worker.new)) result }
 {
     by_handle!(alloc, worker, MapWorker(member) => get_pinned(member, key, value))
@@ -74,7 +74,7 @@ pub extern "C" fn nm_map_get_pinned(
 
 #[inline(always)]
 fn get_pinned(member: &mut MapMember, key: u64, value: &mut u64) -> Outcome
-    ensures { HasDone (TellsGetPinned key value.old value.new) member.old member.new result }
+    ensures tells { HasDone (TellsGetPinned key value.old value.new) member.old member.new result }
 {
     let Some(key) = Key::new(key) else {
         return Outcome::Key;
@@ -111,7 +111,7 @@ pub extern "C" fn nm_map_reclaim(
     count: &mut u64,
     behind: &mut u32,
 ) -> i32
-    ensures { IsCodeOf (OfMapWorker (TellsReclaim values.old values.new count.new behind.new)
+    ensures tells { IsCodeOf (OfMapWorker (TellsReclaim values.old values.new count.new behind.new)
         ((values.new ≡ values.old) × (count.new ≡ count.old) × (behind.new ≡ behind.old))
         (held_by worker.old) (held_by worker.new)) result }
 {
@@ -124,7 +124,7 @@ fn reclaim(
     count: &mut u64,
     behind: &mut u32,
 ) -> Outcome
-    ensures { HasDone (TellsReclaim values.old values.new count.new behind.new) member.old member.new
+    ensures tells { HasDone (TellsReclaim values.old values.new count.new behind.new) member.old member.new
         result }
 {
     let reclaimed = member.reclaim(values);

@@ -25,7 +25,7 @@ pub extern "C" fn nm_map_get(
     options: &Options,
     value: &mut u64,
 ) -> i32
-    ensures { IsCodeOf (OfMapWorker (TellsGet options.now key value.old value.new)
+    ensures tells { IsCodeOf (OfMapWorker (TellsGet options.now key value.old value.new)
         (value.new ≡ value.old) (held_by worker.old) (held_by worker.new)) result }
 {
     by_handle!(alloc, worker, MapWorker(member) => get(member, key, options, value))
@@ -33,7 +33,7 @@ pub extern "C" fn nm_map_get(
 
 #[inline(always)]
 fn get(member: &mut MapMember, key: u64, options: &Options, value: &mut u64) -> Outcome
-    ensures { HasDone (TellsGet options.now key value.old value.new) member.old member.new result }
+    ensures tells { HasDone (TellsGet options.now key value.old value.new) member.old member.new result }
 {
     let Some(key) = Key::new(key) else {
         return Outcome::Key;
