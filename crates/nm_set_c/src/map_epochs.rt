@@ -21,12 +21,7 @@ const NOBODY: u32 = u32::MAX;
 /// Pins the epoch for the caller, until unpin, and writes it: `MapMember::pin` of `nm_set`. Returns
 /// and errors: as of `nm_worker_pin`.
 #[unsafe(no_mangle)]
-pub extern "C" fn nm_map_pin(
-    alloc: Global,
-    worker: &mut Handle,
-    tries: u32,
-    epoch: &mut u64,
-) -> i32
+pub extern "C" fn nm_map_pin(alloc: Global, worker: &mut Handle, tries: u32, epoch: &mut u64) -> i32
     ensures tells { IsCodeOf (OfMapWorker (TellsPin tries epoch.old epoch.new) (epoch.new ≡ epoch.old)
         (held_by worker.old) (held_by worker.new)) result }
 {
@@ -118,12 +113,7 @@ pub extern "C" fn nm_map_reclaim(
     by_handle!(alloc, worker, MapWorker(member) => reclaim(member, values, count, behind))
 }
 
-fn reclaim(
-    member: &mut MapMember,
-    values: &mut [u64],
-    count: &mut u64,
-    behind: &mut u32,
-) -> Outcome
+fn reclaim(member: &mut MapMember, values: &mut [u64], count: &mut u64, behind: &mut u32) -> Outcome
     ensures tells { HasDone (TellsReclaim values.old values.new count.new behind.new) member.old member.new
         result }
 {
