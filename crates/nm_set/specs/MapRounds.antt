@@ -3,6 +3,7 @@ use Rattle.std.specs.Prelude.{◌≡◌, ◌+◌, ◌*◌, ◌≤◌, ℕ, Bool,
 use Rattle.nm_edge.specs.Layouts.{Layout}
 use Rattle.nm_model.specs.declared.event.Op.{Op}
 use Rattle.nm_model.specs.declared.event.Op.TheVariants.{Delete, Has, Insert}
+use Rattle.nm_steps.specs.Rules.{ExtendsStores}
 use Rattle.nm_steps.specs.Steps.{PassView, TreeView}
 use Rattle.nm_calls.specs.Maps.{HasPut, HasTaken}
 use Rattle.nm_calls.specs.declared.fault.CallFault.{CallFault}
@@ -20,11 +21,17 @@ MovesValue Has k v t p q r = Unit {0}
 MovesValue Insert k v t p q r = r ≡ Ok true → HasPut p q k v
 MovesValue Delete k v t p q r = IfTaken r (HasTaken p q k t)
 
+-- the worker has seen all stores that it had seen
+abbrev pub KeepsStores : WorkerView → WorkerView → Type 0
+KeepsStores w z = ExtendsStores z.pass.view.stores w.pass.view.stores
+
 -- n look-ups of a value in a row were busy
 pub record LooksWereBusy (b : TreeView) (h : Options) (n : ℕ) (w z : WorkerView) : Type 0 where
   pub onward : IsOnward (n * look_bound h.tries b.layout) w z
   pub met : 1 ≤ h.tries → MetInterference Has w.pass z.pass n
+  pub stores : KeepsStores w z
 
 -- at most n look-ups of a value, made until one is not busy
-abbrev pub GetsIn : TreeView → Options → ℕ → ℕ → WorkerView → WorkerView → Result (Option ℕ) CallFault → Type 0
-GetsIn b h k n = AnswersGet k (n * look_bound h.tries b.layout) n h.tries
+pub record GetsIn (b : TreeView) (h : Options) (k n : ℕ) (w z : WorkerView) (r : Result (Option ℕ) CallFault) : Type 0 where
+  pub answers : AnswersGet k (n * look_bound h.tries b.layout) n h.tries w z r
+  pub stores : KeepsStores w z
