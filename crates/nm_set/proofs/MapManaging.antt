@@ -152,7 +152,7 @@ module _ (b : TreeView) (h : Options) where
       record {
         onward = onward_more 0 (0 * one) w w (omega (arith, nothing)) (onward_itself w none free);
         met = λ some. met_nothing Has w.pass;
-        stores = stores_same w.pass.view.stores;
+        stores = stores_same w.pass.view.stores w.pass.view.stores refl;
       }
 
   pub looked_again : (k n : ℕ) (w x z : WorkerView) → LooksWereBusy b h n w x → GetsOnce b.layout h.tries k x z (Err fault.Busy) → LooksWereBusy b h (n + 1) w z
