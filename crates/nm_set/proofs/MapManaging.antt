@@ -23,9 +23,9 @@ use Rattle.nm_tree.specs.Calls.{LeavesGet}
 use Rattle.nm_tree.specs.Workers.{WorkerView, IsIdle}
 use Rattle.nm_set.specs.Asked.{Asked, UnlessPinned}
 use Rattle.nm_set.specs.declared.managed.Options.{Options}
-use Rattle.nm_set.specs.Managed.{FinishesFirst, GoesOn, IsLeft, ManagesAfter, MetInterference, round_bound}
-use Rattle.nm_set.specs.MapRounds.{GetsIn, KeepsStores, LooksWereBusy, MovesValue}
-use Rattle.nm_set.specs.Maps.{AnswersGet, ManagesGet, TookMeanwhile, look_bound}
+use Rattle.nm_set.specs.Managed.{FinishesFirst, GoesOn, IsLeft, ManagesAfter, MetInterference, SaysManaged, round_bound}
+use Rattle.nm_set.specs.MapRounds.{GetsIn, KeepsStores, LooksWereBusy, MovesValue, SaysRemoved}
+use Rattle.nm_set.specs.Maps.{AnswersGet, ManagesGet, PopsValue, SaysChange, TookMeanwhile, look_bound}
 use Rattle.nm_set.specs.Rounds.{AnswersIn, FinishesIn, IsOnward, Removes, rounds_bound}
 use Rattle.nm_set.proofs.Managing.{finished, finished_nothing, finishes_first, goes_more, goes_then, left_since, lose_same, manages_after, met_nothing, met_since, met_then, never_unfinished, none_there, number_of_pass, onward_itself, onward_more, onward_then, wins_after}
 
@@ -98,6 +98,23 @@ took_now o p q k t r seen known taken = if_each r (λ had. record { then = q; ta
 
 pub took_before : (o p x q : PassView) (k t : ℕ) (r : Result Bool CallFault) → HasSeenAllOf p o → HasSeen x.view → HasTaken p x k t → HasSeenAllOf q x → IsSamePass x q → IfTaken r (TookMeanwhile o q k t)
 took_before o p x q k t r seen known had until same = if_any r (record { then = x; taken = taken_earlier o p x k t seen had; seen = known; until = until; same = same })
+
+-- ---- pops
+
+-- what a managed remove of a set says, and one of a map
+pub removed_from_set : (b : TreeView) (h : Options) (k : ℕ) (w z : WorkerView) (r : Result Bool CallFault) → SaysManaged Delete b h k w z r → SaysRemoved b h k w z r
+removed_from_set b h k w z r (inl pinned) = inl pinned
+removed_from_set b h k w z r (inr (free, m)) = inr (free, record { answers = m.answers; alone = m.alone })
+
+pub removed_from_map : (b : TreeView) (h : Options) (k : ℕ) (w z : WorkerView) (r : Result Bool CallFault) → SaysChange Delete b h k w z r → SaysRemoved b h k w z r
+removed_from_map b h k w z r (inl pinned) = inl pinned
+removed_from_map b h k w z r (inr (free, m)) = inr (free, record { answers = m.answers; alone = m.alone })
+
+-- a pop took a value after all that had been seen earlier, too
+pub pops_earlier : (o p q : PassView) (v : ℕ) (r : Result (Option ℕ) CallFault) → HasSeenAllOf p o → PopsValue p q v r → PopsValue o q v r
+pops_earlier o p q v (Ok (Some k)) seen took = record { then = took.then; taken = taken_earlier o p took.then k v seen took.taken; seen = took.seen; until = took.until; same = took.same }
+pops_earlier o p q v (Ok None) seen took = tt
+pops_earlier o p q v (Err f) seen took = tt
 
 -- ---- look-ups of a value in a row
 

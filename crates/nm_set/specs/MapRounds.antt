@@ -1,16 +1,17 @@
 -- What the parts of a managed call of a map leave, for the contracts inside this crate.
-use Rattle.std.specs.Prelude.{◌≡◌, ◌+◌, ◌*◌, ◌≤◌, ℕ, Bool, true, Option, Result, Ok, Err}
-use Rattle.nm_edge.specs.Layouts.{Layout}
+use Rattle.std.specs.Prelude.{◌≡◌, ◌+◌, ◌*◌, ◌≤◌, ℕ, Bool, true, Option, Result, Ok, IfErr}
 use Rattle.nm_model.specs.declared.event.Op.{Op}
 use Rattle.nm_model.specs.declared.event.Op.TheVariants.{Delete, Has, Insert}
 use Rattle.nm_steps.specs.Rules.{ExtendsStores}
 use Rattle.nm_steps.specs.Steps.{PassView, TreeView}
 use Rattle.nm_calls.specs.Maps.{HasPut, HasTaken}
 use Rattle.nm_calls.specs.declared.fault.CallFault.{CallFault}
-use Rattle.nm_tree.specs.Answers.{IfTaken}
+use Rattle.nm_progress.specs.Alone.{RunsAlone}
+use Rattle.nm_tree.specs.Answers.{FailsAlone, IfTaken}
 use Rattle.nm_tree.specs.Workers.{WorkerView}
 use Rattle.nm_set.specs.declared.managed.Options.{Options}
-use Rattle.nm_set.specs.Managed.{MetInterference}
+use Rattle.nm_set.specs.Asked.{UnlessPinned}
+use Rattle.nm_set.specs.Managed.{Answers, MetInterference, round_bound}
 use Rattle.nm_set.specs.Maps.{AnswersGet, look_bound}
 use Rattle.nm_set.specs.Rounds.{IsOnward}
 
@@ -35,3 +36,12 @@ pub record LooksWereBusy (b : TreeView) (h : Options) (n : ℕ) (w z : WorkerVie
 pub record GetsIn (b : TreeView) (h : Options) (k n : ℕ) (w z : WorkerView) (r : Result (Option ℕ) CallFault) : Type 0 where
   pub answers : AnswersGet k (n * look_bound h.tries b.layout) n h.tries w z r
   pub stores : KeepsStores w z
+
+-- `Removed`, `SaysRemoved`: what a pop learns from a managed remove, of a set or of a map
+pub record Removed (b : TreeView) (h : Options) (k : ℕ) (w z : WorkerView) (r : Result Bool CallFault) : Type 0 where
+  pub answers : Answers Delete k ((3 * h.rounds + 5) * round_bound h.tries b.layout)
+      ((h.rounds + 1) * h.tries) w z r
+  pub alone : RunsAlone w.pass z.pass → IfErr r (FailsAlone 1 1 h.tries z)
+
+abbrev pub SaysRemoved : TreeView → Options → ℕ → WorkerView → WorkerView → Result Bool CallFault → Type 0
+SaysRemoved b h k w z r = UnlessPinned (Removed b h k w z r) w z r

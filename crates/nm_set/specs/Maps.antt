@@ -115,6 +115,11 @@ pub record TookMeanwhile (p q : PassView) (k v : ℕ) : Type 0 where
   pub until : HasSeenAllOf q then
   pub same : IsSamePass then q
 
+-- a pop that returns a key took it with this value
+abbrev pub PopsValue : PassView → PassView → ℕ → Result (Option ℕ) CallFault → Type 0
+PopsValue p q v (Ok (Some k)) = TookMeanwhile p q k v
+PopsValue p q v _ = Unit {0}
+
 -- two attempts to advance the epoch, and a collection that writes values; `behind` is the worker that
 -- was found to hold the epoch back
 pub record LeavesReclaim (L : Layout) (old new : List ℕ) (w z : WorkerView) (behind : Option ℕ)
