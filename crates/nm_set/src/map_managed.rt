@@ -1,13 +1,13 @@
 //! Managed calls of a map: a call that lost its tries is retried, and a remove that has begun is
 //! finished. They free no leaf; `MapMember::reclaim` does, and hands out the values.
-ghost use Rattle.std.specs.Prelude.{◌≡◌, ◌+◌, true, None, Ok};
+ghost use Rattle.std.specs.Prelude.{◌≡◌, ◌≢◌, ◌+◌, true, false, None, Ok, Err};
 ghost use Rattle.nm_model.specs.declared.event.Op.TheVariants.{Insert, Delete};
 ghost use Rattle.nm_steps.specs.Values.{HasValues};
 ghost use Rattle.nm_calls.specs.Maps.{HasPut};
+ghost use Rattle.nm_calls.specs.declared.fault.CallFault.TheVariants as fault;
 ghost use Rattle.nm_tree.specs.Answers.{IfTaken};
 ghost use Rattle.nm_set.specs.MapRounds.{GetsIn};
 ghost use Rattle.nm_set.specs.Maps.{LeavesReclaim, SaysChange, SaysGet, TookMeanwhile};
-ghost use Rattle.nm_set.specs.Rounds.{found_behind};
 
 use crate::managed::{Options, behind_of, is_unfinished};
 use crate::map_member::MapMember;
@@ -24,6 +24,14 @@ pub struct Reclaimed {
     /// The other worker that was found to hold the epoch back. `None`: no worker was found so. Then
     /// the epoch was advanced twice during the call, or it is the last one.
     pub behind: Option<u32>,
+}
+
+/// Returns whether a look-up lost each of its tries.
+fn is_busy(told: &Result<Option<u64>, CallFault>) -> bool
+    ensures yes { result ≡ true → told.now ≡ Err fault.Busy }
+    ensures no { result ≡ false → told.now ≢ Err fault.Busy }
+{
+    matches!(told, Err(CallFault::Busy))
 }
 
 impl MapMember {
@@ -146,9 +154,9 @@ impl Member {
             self.old.worker self.new.worker result }
     {
         for _round in 0..options.rounds {
-            match self.try_get_value(key, options.tries) {
-                Err(CallFault::Busy) => {}
-                told => return told,
+            let told = self.try_get_value(key, options.tries);
+            if !is_busy(&told) {
+                return told;
             }
         }
         self.try_get_value(key, options.tries)
