@@ -19,6 +19,7 @@ pub mod Unheld
 pub mod NamedLeaves
 pub mod MapMoments
 pub mod InsertedValues
+pub mod FoundValues
 pub mod CutLeaves
 pub mod HandedBack
 pub mod MadeLeaves

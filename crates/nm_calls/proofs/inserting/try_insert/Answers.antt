@@ -1,10 +1,11 @@
-use Rattle.std.proofs.Common.{rules, inl, inr, refl, sym, subst}
+use Rattle.std.proofs.Common.{◌≤◌, rules, inl, inr, refl, sym, subst}
+use Rattle.nm_edge.specs.Layouts.{Layout}
 use Rattle.nm_model.specs.declared.event.Op.TheVariants.{Insert}
 use Rattle.nm_order.specs.Facts.Since.{ThePin}
 use Rattle.nm_order.specs.Facts.Fact.{EndedAt}
 use Rattle.nm_walks.specs.Telling.{Tells}
 use Rattle.nm_walks.specs.Growing.{HasNewNodes, HoldsNewNodes}
-use Rattle.nm_walks.proofs.GoingOn.{goes_then}
+use Rattle.nm_walks.proofs.GoingOn.{goes_then, own_still}
 use Rattle.nm_walks.proofs.Standing.{at_kept}
 use Rattle.nm_walks.proofs.ShortWalks.{key_of_call}
 use Rattle.nm_calls.proofs.Forks.{kept_fork, lost_fork, linked_fork, held_fork, may_grow}
@@ -19,7 +20,12 @@ pub returns-then-end-sought-clause-shows : goal.returns-then-end-sought-clause-s
 returns-then-end-sought-clause-shows c =
     let e = c.in-Some.end in
     let ended = (rw c.get-sought.ensures.number at c.in-Some.ensures.came).found (rw c.get-sought.ensures.number at c.if-end-sought.true) ThePin (Insert, c.requires.call.call) in
-    ((e.seek_record.edge.slot, (e.seek_record.parent, e.seek_record.side, subst (λ n. Tells c.stop.new.pass (EndedAt ThePin c.args.key e.seek_record.edge.slot e.seek_record.parent e.seek_record.side n)) (rw c.get-sought.ensures.number at c.if-end-sought.true) ended)), c.stop.ensures.only.linked)
+    let layout = (own_still c.args.shared.now c.args.pass.now c.stop.new.pass c.requires.pinned.own c.stop.ensures.on.same).layout in
+    rw c.slot-leaf.ensures (
+      (e.seek_record.parent, e.seek_record.side, subst (λ n. Tells c.stop.new.pass (EndedAt ThePin c.args.key e.seek_record.edge.slot e.seek_record.parent e.seek_record.side n)) (rw c.get-sought.ensures.number at c.if-end-sought.true) ended),
+      subst (λ (L : Layout). e.seek_record.edge.slot ≤ L.nodes) (sym layout) c.in-Some.ensures.came.within,
+      c.stop.ensures.only.linked,
+    )
 
 pub returns-in_default-ready-clause-has : goal.returns-in_default-ready-clause-has
 returns-in_default-ready-clause-has c = λ o has. c.ready.ensures.has o (kept_fork o c.args.pass.now c.stop.new.pass c.args.new_nodes.now c.stop.ensures.on.same c.stop.ensures.only.private has)
@@ -119,3 +125,6 @@ pub returns-in-Ok-clause-put : goal.returns-in-Ok-clause-put
 returns-in-Ok-clause-put c = λ values _.
     put_earlier c.args.pass.now c.ready.new.pass c.grow.new.pass c.args.key c.args.value (goes_then c.args.pass.now c.stop.new.pass c.ready.new.pass c.stop.ensures.on c.ready.ensures.on).past
     (put_by_link c.ready.new.pass c.grow.new.pass c.in-Some-ready.made.leaf.slot c.args.key c.args.value c.know_run.ensures.fits c.know_run.ensures.seen (rw c.get-sought.ensures.number at c.in-Ok.ensures.leaf) (c.in-Ok.ensures.stored values))
+
+pub returns-then-end-sought-clause-part : goal.returns-then-end-sought-clause-part
+returns-then-end-sought-clause-part c = (c.in-Some.end, c.stop.new.chain.items, (rw c.get-sought.ensures.number at c.in-Some.ensures.walk), (rw c.get-sought.ensures.number at c.if-end-sought.true), sym c.slot-leaf.ensures, refl)
