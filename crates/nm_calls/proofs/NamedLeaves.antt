@@ -30,6 +30,7 @@ use Rattle.nm_order.specs.Moments.{PinStands}
 use Rattle.nm_order.specs.Ranges.{StandsFor}
 use Rattle.nm_order.specs.StalePaths.{HasPin, log_under_pin, WasReachedSince}
 use Rattle.nm_order.proofs.AnswersSince.{later_keys}
+use Rattle.nm_order.proofs.CutTurns.{reached_inside}
 use Rattle.nm_order.proofs.FactLaws.{leaf_is}
 use Rattle.nm_order.proofs.LogParts.{part_grows, part_itself, part_within}
 use Rattle.nm_order.proofs.OrderedLaws.{IsOrdered, each_ordered}
@@ -89,7 +90,16 @@ module _ (L : Layout) (enough : 5 ≤ L.nodes) (turns : List (ℕ × Event)) (ke
   pub leaf_is_one : is_leaf (node (after_in (ordered L) leaf_was.before).state.memory slot) ≡ true
   leaf_is_one = leaf_was.same_kind ∙ leaf_now
 
-  -- it is none of the fixed nodes
+  -- it is a slot of the layout, and none of a fixed node
+  abbrev then' : Configuration
+  then' = after_in (ordered L) leaf_was.before
+
+  ordered_then : IsOrdered L then'
+  ordered_then = each_ordered L enough leaf_was.before (first_keys leaf_was.before leaf_was.since (subst (λ (l : List (ℕ × Event)). All (λ t. HasKey t.1) l) leaf_was.is_run keys))
+
+  pub leaf_is_inside : slot ≤ L.nodes
+  leaf_is_inside = reached_inside L enough then' ordered_then slot leaf_was.reached
+
   pub leaf_is_high : k < infinity_0 → 6 ≤ slot
   leaf_is_high low = elim (cases_lt 5 slot) [
     | inl high ↦ omega (arith, high)
@@ -101,8 +111,8 @@ module _ (L : Layout) (enough : 5 ≤ L.nodes) (turns : List (ℕ × Event)) (ke
 
       too_low : slot ≤ 5 → ⊥
       too_low fixed =
-          let high : infinity_0 ≤ key (after_in (ordered L) turns).state.memory slot = sentinel_is_high (after_in (ordered L) turns).state (sentinels_of L (after_in (ordered L) turns) (each_ordered L enough turns keys)) slot positive fixed in
-          let is = key_now in
+          let high : infinity_0 ≤ key then'.state.memory slot = sentinel_is_high then'.state (sentinels_of L then' ordered_then) slot positive fixed in
+          let is = leaf_has_key in
           omega (arith, high, is, low)
 
 -- ---- the moment is later than an earlier run at whose end the worker was not pinned

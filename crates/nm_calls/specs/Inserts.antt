@@ -1,6 +1,6 @@
 -- Inserts: the two new nodes that a call keeps over its tries, and what each part of it leaves in
 -- the log, and of the pass.
-use Rattle.std.specs.Prelude.{◌≡◌, ◌≢◌, ◌⊎◌, ℕ, zero, suc, ◌<◌, ◌≤◌, ◌==◌, Bool, true, false, ◌&&◌, ◌||◌, List, [], ◌∷◌, ◌++◌, Option, Some, None, Result, Ok, Err, IfOk}
+use Rattle.std.specs.Prelude.{◌≡◌, ◌≢◌, ◌⊎◌, ℕ, zero, suc, ◌<◌, ◌==◌, Bool, true, false, ◌&&◌, ◌||◌, List, [], ◌∷◌, ◌++◌, Option, Some, None, Result, Ok, Err, IfOk}
 use Rattle.nm_edge.specs.Edges.{Edge}
 use Rattle.nm_edge.specs.Layouts.{Layout}
 use Rattle.nm_edge.specs.declared.node.NodeId.{NodeId}
@@ -95,8 +95,7 @@ pub record OnlyTries (p q : PassView) : Type 0 where
 -- what the log shows after a try
 abbrev pub ShowsTry : ℕ → PassView → PassView → Attempt → Type 0
 ShowsTry k p q (attempt.Found leaf) =
-    EndedWith q ThePin k leaf k × (leaf ≤ q.view.layout.nodes)
-    × ((search q).linked ≡ (search p).linked)
+    EndedWith q ThePin k leaf k × ((search q).linked ≡ (search p).linked)
 ShowsTry k p q attempt.Linked = (search q).linked ≡ true
 ShowsTry k p q _ = (search q).linked ≡ (search p).linked
 

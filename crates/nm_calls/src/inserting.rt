@@ -164,7 +164,6 @@ fn give_back_and_read(
     requires own { IsOf shared.now pass.old }
     requires ready { IfReady pass.old new_nodes.now }
     requires ended { (k : ℕ) × EndedWith pass.old ThePin k leaf k }
-    requires within { leaf ≤ shared.now.layout.nodes }
     ensures part { Returns new_nodes.now pass.old.view.log pass.new.view.log }
     ensures given { (o : PassView) → HasNewNodes o pass.old new_nodes.now → HasNewNodes o pass.new None }
     ensures on { GoesOn pass.old pass.new }

@@ -1,4 +1,4 @@
-use Rattle.std.proofs.Common.{◌≤◌, true, false, add-one, arith, refl, ap, subst, ◌∙◌}
+use Rattle.std.proofs.Common.{true, false, add-one, arith, refl, ap, subst, ◌∙◌}
 use Rattle.std.specs.Prelude.{Option, None}
 use Rattle.nm_model.specs.declared.event.Event.TheVariants.{Leave, LeaveWith}
 use Rattle.nm_model.specs.declared.reply.Reply.TheVariants.{Departed}
@@ -7,14 +7,13 @@ use Rattle.nm_model.specs.declared.knowledge.Brief.{Brief}
 use Rattle.nm_model.specs.Searches.{Search}
 use Rattle.nm_order.specs.Facts.Fact.{CallIs}
 use Rattle.nm_walks.specs.declared.making.NewNodes.{NewNodes}
-use Rattle.nm_edge.specs.Layouts.{Layout}
 use Rattle.nm_edge.specs.declared.placement.Fit.{Fit}
 use Rattle.nm_calls.specs.declared.inserting.Attempt.TheVariants as attempt
 use Rattle.nm_walks.specs.Growing.{HasNewNodes}
 use Rattle.nm_calls.specs.Inserts.{IsTry}
 use Rattle.nm_steps.specs.Steps.{PassView}
 use Rattle.nm_calls.proofs.AddingInserts.{back_adds}
-use Rattle.nm_walks.proofs.GoingOn.{goes_then, call_still, own_still}
+use Rattle.nm_walks.proofs.GoingOn.{goes_then, call_still}
 use Rattle.nm_walks.proofs.ShortWalks.{key_of_call}
 use Rattle.nm_walks.proofs.KeptLedgers.{holds_on}
 use Rattle.nm_calls.proofs.KeptLedgers.{holds_left, holds_with_room}
@@ -39,7 +38,7 @@ give_back_and_read-requires-clause-ready c = if_ready c.args.pass.now c.try_inse
 pub answer-requires-clause-shown : goal.answer-requires-clause-shown
 answer-requires-clause-shown c =
     let shows = c.in-Found.ensures.shows in
-    found_answer c.try_insert.new.pass c.give_back_and_read.new.pass c.args.key c.give_back_and_read.ensures.on (ap (λ (s : Search). s.linked) c.give_back_and_read.ensures.only.search) (shows.2 ∙ c.loop-round.invariant.unlinked)
+    found_answer c.try_insert.new.pass c.give_back_and_read.new.pass c.args.key c.give_back_and_read.ensures.on (ap (λ (s : Search). s.linked) c.give_back_and_read.ensures.only.search) (shows.1 ∙ c.loop-round.invariant.unlinked)
     (c.try_insert.ensures.on.keeps (CallIs Insert c.args.key) (c.loop-round.invariant.on.keeps (CallIs Insert c.args.key) c.requires.call.call)) (c.in-Found.leaf, shows.0)
 
 pub returns-in-Found-clause-private : goal.returns-in-Found-clause-private
@@ -198,10 +197,6 @@ returns-in-Linked-clause-put c = λ values _.
 
 pub give_back_and_read-requires-clause-ended : goal.give_back_and_read-requires-clause-ended
 give_back_and_read-requires-clause-ended c = (c.args.key, c.in-Found.ensures.shows.0)
-
-pub give_back_and_read-requires-clause-within : goal.give_back_and_read-requires-clause-within
-give_back_and_read-requires-clause-within c =
-    subst (λ (L : Layout). c.in-Found.leaf ≤ L.nodes) (own_still c.args.shared.now c.args.pass.now c.try_insert.new.pass c.requires.pinned.own (goes_then c.args.pass.now c.loop-round.pass c.try_insert.new.pass c.loop-round.invariant.on c.try_insert.ensures.on).same).layout c.in-Found.ensures.shows.1
 
 pub returns-in-Found-clause-finds : goal.returns-in-Found-clause-finds
 returns-in-Found-clause-finds c = λ values _.

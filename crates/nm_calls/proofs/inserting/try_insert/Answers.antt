@@ -1,11 +1,10 @@
-use Rattle.std.proofs.Common.{◌≤◌, rules, inl, inr, refl, sym, subst}
-use Rattle.nm_edge.specs.Layouts.{Layout}
+use Rattle.std.proofs.Common.{rules, inl, inr, refl, sym, subst}
 use Rattle.nm_model.specs.declared.event.Op.TheVariants.{Insert}
 use Rattle.nm_order.specs.Facts.Since.{ThePin}
 use Rattle.nm_order.specs.Facts.Fact.{EndedAt}
 use Rattle.nm_walks.specs.Telling.{Tells}
 use Rattle.nm_walks.specs.Growing.{HasNewNodes, HoldsNewNodes}
-use Rattle.nm_walks.proofs.GoingOn.{goes_then, own_still}
+use Rattle.nm_walks.proofs.GoingOn.{goes_then}
 use Rattle.nm_walks.proofs.Standing.{at_kept}
 use Rattle.nm_walks.proofs.ShortWalks.{key_of_call}
 use Rattle.nm_calls.proofs.Forks.{kept_fork, lost_fork, linked_fork, held_fork, may_grow}
@@ -20,10 +19,8 @@ pub returns-then-end-sought-clause-shows : goal.returns-then-end-sought-clause-s
 returns-then-end-sought-clause-shows c =
     let e = c.in-Some.end in
     let ended = (rw c.get-sought.ensures.number at c.in-Some.ensures.came).found (rw c.get-sought.ensures.number at c.if-end-sought.true) ThePin (Insert, c.requires.call.call) in
-    let layout = (own_still c.args.shared.now c.args.pass.now c.stop.new.pass c.requires.pinned.own c.stop.ensures.on.same).layout in
     rw c.slot-leaf.ensures (
       (e.seek_record.parent, e.seek_record.side, subst (λ n. Tells c.stop.new.pass (EndedAt ThePin c.args.key e.seek_record.edge.slot e.seek_record.parent e.seek_record.side n)) (rw c.get-sought.ensures.number at c.if-end-sought.true) ended),
-      subst (λ (L : Layout). e.seek_record.edge.slot ≤ L.nodes) (sym layout) c.in-Some.ensures.came.within,
       c.stop.ensures.only.linked,
     )
 
