@@ -41,8 +41,7 @@ found_within p run seen k leaf ended =
     let is_key = key_of_walk p run k leaf ended in
     let low = enough p.view.layout run.fits in
     let small : k < infinity_1 = omega (arith, is_key) in
-    let walk = walk_in_run p run.fits k is_key seen leaf ended.0 ended.1 k (walk_ended p k leaf ended.0 ended.1 ended.2) in
-    (
+    let walk = walk_in_run p run.fits k is_key seen leaf ended.0 ended.1 k (walk_ended p k leaf ended.0 ended.1 ended.2) in (
       leaf_is_high p.view.layout low seen.events seen.keys p.view.number k leaf ended.0 ended.1 small walk (omega (arith, is_key)),
       leaf_is_inside p.view.layout low seen.events seen.keys p.view.number k leaf ended.0 ended.1 small walk,
     )
