@@ -22,6 +22,7 @@ use Rattle.nm_walks.specs.Telling.{GoesOn}
 use Rattle.nm_walks.proofs.Looks.{enough}
 use Rattle.nm_walks.proofs.ShortWalks.{key_of_call}
 use Rattle.nm_calls.specs.Leaving.{EndedWith}
+use Rattle.nm_calls.specs.PlainWalks.{HasEndedAt}
 use Rattle.nm_calls.specs.Maps.{HasReadFound, HasReadValue, MapGave}
 use Rattle.nm_calls.proofs.MapMoments.{mapped_longer, value_was, walk_in_run}
 use Rattle.nm_calls.proofs.NamedLeaves.{leaf_is_high, leaf_is_inside}
@@ -35,16 +36,18 @@ key_of_walk p run k leaf ended =
     let a = ended.2.0 in
     key_of_call p run a.call.op k (a.is_call ∙ ap (λ (n : ℕ). Some (record { op = a.call.op; key = n })) a.is_for)
 
--- so the leaf is a slot above the fixed nodes
-found_within : (p : PassView) → IsInRun p → HasSeen p.view → (k leaf : ℕ) → EndedWith p ThePin k leaf k → (6 ≤ leaf) × (leaf ≤ p.view.layout.nodes)
-found_within p run seen k leaf ended =
-    let is_key = key_of_walk p run k leaf ended in
-    let low = enough p.view.layout run.fits in
+-- the leaf at which a walk for its key has ended is a slot above the fixed nodes
+pub leaf_within : (p : PassView) → IsLayout p.view.layout → HasSeen p.view → (k leaf : ℕ) → IsKey k → HasEndedAt p k leaf → (6 ≤ leaf) × (leaf ≤ p.view.layout.nodes)
+leaf_within p fits seen k leaf is_key ended =
+    let low = enough p.view.layout fits in
     let small : k < infinity_1 = omega (arith, is_key) in
-    let walk = walk_in_run p run.fits k is_key seen leaf ended.0 ended.1 k (walk_ended p k leaf ended.0 ended.1 ended.2) in (
+    let walk = walk_in_run p fits k is_key seen leaf ended.0 ended.1 k ended.2 in (
       leaf_is_high p.view.layout low seen.events seen.keys p.view.number k leaf ended.0 ended.1 small walk (omega (arith, is_key)),
       leaf_is_inside p.view.layout low seen.events seen.keys p.view.number k leaf ended.0 ended.1 small walk,
     )
+
+found_within : (p : PassView) → IsInRun p → HasSeen p.view → (k leaf : ℕ) → EndedWith p ThePin k leaf k → (6 ≤ leaf) × (leaf ≤ p.view.layout.nodes)
+found_within p run seen k leaf ended = leaf_within p run.fits seen k leaf (key_of_walk p run k leaf ended) (ended.0, ended.1, walk_ended p k leaf ended.0 ended.1 ended.2)
 
 pub found_slot : (b : TreeView) (p : PassView) → IsOf b p → IsInRun p → HasSeen p.view → (leaf : ℕ) → ((k : ℕ) × EndedWith p ThePin k leaf k) → IsSlot b.layout leaf
 found_slot b p own run seen leaf ended =

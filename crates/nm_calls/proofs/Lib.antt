@@ -20,6 +20,7 @@ pub mod NamedLeaves
 pub mod MapMoments
 pub mod InsertedValues
 pub mod FoundValues
+pub mod NearValues
 pub mod CutLeaves
 pub mod HandedBack
 pub mod MadeLeaves
