@@ -142,6 +142,56 @@ fn values_come_back_once(rt: HostRuntime) -> Result<(), Fail> {
     Ok(())
 }
 
+/// Returns the key from a number on, up or down, with its value; `None` if there is none.
+fn beside(
+    rt: &impl Abort,
+    tree: &Tree,
+    worker: &mut Worker,
+    number: u64,
+    up: bool,
+) -> Option<(u64, u64)>
+    requires own { IsOf tree.now worker.old.pass }
+    requires values { HasValues tree.now }
+    ensures own { IsOf tree.now worker.new.pass }
+{
+    let Some(key) = Key::new(number) else {
+        panic!(rt; "{number} is no key")
+    };
+    if worker.held().is_some() {
+        panic!(rt; "the worker is pinned")
+    }
+    let mut value = 0;
+    let found = if up {
+        tree.next_with_value(worker, key, &mut value, 2)
+    } else {
+        tree.prev_with_value(worker, key, &mut value, 2)
+    };
+    let Ok(found) = found else {
+        panic!(rt; "two tries are enough")
+    };
+    let Some(found) = found else {
+        return None;
+    };
+    Some((found.get(), value))
+}
+
+/// The next key and the previous one come with their values.
+#[test]
+fn keys_come_with_their_values(rt: HostRuntime) -> Result<(), Fail> {
+    let (tree, mut one, mut two) = map_of(&rt, 64)?;
+    puts(&rt, &tree, &mut one, 5, 50, Ok(true));
+    puts(&rt, &tree, &mut two, 7, 70, Ok(true));
+    assert!(rt; beside(&rt, &tree, &mut one, 0, true) == Some((5, 50)));
+    assert!(rt; beside(&rt, &tree, &mut one, 6, true) == Some((7, 70)));
+    assert!(rt; beside(&rt, &tree, &mut two, 6, false) == Some((5, 50)));
+    assert!(rt; beside(&rt, &tree, &mut two, 8, true) == None);
+    step(&rt, &tree, &mut one, Call::Delete(5), Answer::Is(true));
+    assert!(rt; beside(&rt, &tree, &mut two, 6, false) == None);
+    puts(&rt, &tree, &mut one, 5, 51, Ok(true));
+    assert!(rt; beside(&rt, &tree, &mut two, 5, true) == Some((5, 51)));
+    Ok(())
+}
+
 /// Deletes a key; returns its value, or `None` if it was absent.
 fn takes(rt: &impl Abort, tree: &Tree, worker: &mut Worker, number: u64) -> Option<u64>
     requires own { IsOf tree.now worker.old.pass }
