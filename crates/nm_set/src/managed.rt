@@ -542,9 +542,12 @@ impl Member {
             self.old.worker.pass self.new.worker.pass result }
     {
         let tree = self.home.tree();
+        let mut found = 0;
         match op {
             Op::Has => tree.has(&mut self.sealed.worker, key, tries),
-            Op::Insert => tree.insert_with_value(&mut self.sealed.worker, key, value, tries),
+            Op::Insert => {
+                tree.insert_with_value(&mut self.sealed.worker, key, value, &mut found, tries)
+            }
             Op::Delete => tree.delete_with_value(&mut self.sealed.worker, key, taken, tries),
         }
     }

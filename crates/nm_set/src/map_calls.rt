@@ -55,9 +55,10 @@ impl Member {
         if self.sealed.worker.held().is_some() {
             return Err(CallFault::Pinned);
         }
+        let mut found = 0;
         self.home
             .tree()
-            .insert_with_value(&mut self.sealed.worker, key, value, tries)
+            .insert_with_value(&mut self.sealed.worker, key, value, &mut found, tries)
     }
 
     /// Removes the key, and writes the value that it had: `Tree::delete_with_value` of `nm_tree`.
