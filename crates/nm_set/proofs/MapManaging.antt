@@ -89,7 +89,7 @@ if_any (Err fault.Pinned) p = tt
 
 pub moves_earlier : (op : Op) (k v t : ℕ) (o p q : PassView) (r : Result Bool CallFault) → HasSeenAllOf p o → MovesValue op k v t p q r → MovesValue op k v t o q r
 moves_earlier Has k v t o p q r seen moves = tt
-moves_earlier Insert k v t o p q r seen moves = λ is. put_earlier o p q k v seen (moves is)
+moves_earlier Insert k v t o p q r seen (puts, finds) = (λ is. put_earlier o p q k v seen (puts is), λ is. gave_earlier o p q k (Some t) seen (finds is))
 moves_earlier Delete k v t o p q r seen moves = if_each r (taken_earlier o p q k t seen) moves
 
 -- a call that is busy has moved no value

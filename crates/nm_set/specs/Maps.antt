@@ -1,6 +1,6 @@
 -- Maps: what managed calls and collections of a map leave, and what is left of a map, of its members,
 -- and of workers that were returned, if a call is refused.
-use Rattle.std.specs.Prelude.{◌≡◌, ◌≢◌, ◌≤◌, ◌+◌, ◌*◌, ℕ, nat_lt, Bool, true, List, length, take, Option, Some, None, Result, Ok, Err, IfOk, IfErr}
+use Rattle.std.specs.Prelude.{◌≡◌, ◌≢◌, ◌≤◌, ◌+◌, ◌*◌, ℕ, nat_lt, Bool, true, List, length, take, Option, Some, None, Result, Ok, Err, IfOk, IfErr, IfSome}
 use Rattle.nm_edge.specs.Layouts.{Layout}
 use Rattle.nm_model.specs.declared.event.Op.{Op}
 use Rattle.nm_model.specs.declared.event.Op.TheVariants.{Has}
@@ -113,6 +113,10 @@ pub record TookMeanwhile (p q : PassView) (k v : ℕ) : Type 0 where
   pub seen : HasSeen then.view
   pub until : HasSeenAllOf q then
   pub same : IsSamePass then q
+
+-- the map had the key that was found with this value at a moment of the call
+abbrev pub FindsValue : PassView → PassView → ℕ → Result (Option ℕ) CallFault → Type 0
+FindsValue p q v r = IfOk r (λ found. IfSome found (λ k. MapGave p q k (Some v)))
 
 -- a pop that returns a key took it with this value
 abbrev pub PopsValue : PassView → PassView → ℕ → Result (Option ℕ) CallFault → Type 0

@@ -26,7 +26,15 @@ returns-clause-puts c =
     let y = c.finish_with_retries.new.self.worker in
     let z = c.ask_value_with_retries.new.self.worker in
     let has : HasValues c.finish_with_retries.new.self.tree = subst HasValues (sym c.finish_with_retries.ensures.tree) c.requires.values in
-    moves_earlier Insert c.args.key c.args.value c.ask_value_with_retries.new.taken w.pass y.pass z.pass c.ask_value_with_retries.result c.in-Ok.ensures.says.on.past (c.ask_value_with_retries.ensures.moves has)
+    (moves_earlier Insert c.args.key c.args.value c.ask_value_with_retries.new.found w.pass y.pass z.pass c.ask_value_with_retries.result c.in-Ok.ensures.says.on.past (c.ask_value_with_retries.ensures.moves has)).0
+
+pub returns-clause-finds : goal.returns-clause-finds
+returns-clause-finds c =
+    let w = c.args.self.now.worker in
+    let y = c.finish_with_retries.new.self.worker in
+    let z = c.ask_value_with_retries.new.self.worker in
+    let has : HasValues c.finish_with_retries.new.self.tree = subst HasValues (sym c.finish_with_retries.ensures.tree) c.requires.values in
+    (moves_earlier Insert c.args.key c.args.value c.ask_value_with_retries.new.found w.pass y.pass z.pass c.ask_value_with_retries.result c.in-Ok.ensures.says.on.past (c.ask_value_with_retries.ensures.moves has)).1
 
 pub returns-in_default-clause-says : goal.returns-in_default-clause-says
 returns-in_default-clause-says c =

@@ -31,7 +31,7 @@ returns-then-not-is_unfinished-clause-takes c =
     let y = c.finish_with_retries.new.self.worker in
     let z = c.ask_value_with_retries-told.new.self.worker in
     let has : HasValues c.finish_with_retries.new.self.tree = subst HasValues (sym c.finish_with_retries.ensures.tree) c.requires.values in
-    took_now w.pass y.pass z.pass c.args.key c.ask_value_with_retries-told.new.taken c.ask_value_with_retries-told.result c.in-Ok.ensures.says.on.past c.know_run-2.ensures.seen (c.ask_value_with_retries-told.ensures.moves has)
+    took_now w.pass y.pass z.pass c.args.key c.ask_value_with_retries-told.new.found c.ask_value_with_retries-told.result c.in-Ok.ensures.says.on.past c.know_run-2.ensures.seen (c.ask_value_with_retries-told.ensures.moves has)
 
 pub returns-clause-says : goal.returns-clause-says
 returns-clause-says c =
@@ -57,7 +57,7 @@ returns-clause-takes c =
     let y = c.finish_with_retries.new.self.worker in
     let x = c.ask_value_with_retries-told.new.self.worker in
     let z = c.finish_with_retries-2.new.self.worker in
-    let t = c.ask_value_with_retries-told.new.taken in
+    let t = c.ask_value_with_retries-told.new.found in
     let has : HasValues c.finish_with_retries.new.self.tree = subst HasValues (sym c.finish_with_retries.ensures.tree) c.requires.values in
     let last = c.finish_with_retries-2.ensures.says in
     let taken = subst (λ (q : Result Bool CallFault). IfTaken q (HasTaken y.pass x.pass c.args.key t)) (c.if-not-is_unfinished.ensures.yes refl) (c.ask_value_with_retries-told.ensures.moves has) in
