@@ -104,7 +104,7 @@ flagged_longer now was w ns more (parent, side, s, n, there, among) = (
 -- ---- what was read of the leaf
 
 -- a walk of the call has ended there
-walk_ended : (p : PassView) (k slot parent : ℕ) (side : Side) → Tells p (EndedAt ThePin k slot parent side k) → WalkEnds k (since_pin [] p.view.log) slot parent side k
+pub walk_ended : (p : PassView) (k slot parent : ℕ) (side : Side) → Tells p (EndedAt ThePin k slot parent side k) → WalkEnds k (since_pin [] p.view.log) slot parent side k
 walk_ended p k slot parent side (a, key, ended) =
     let log = since_pin [] p.view.log in
     let own : IsOfWalk a.call.key log a.arrival = subst (IsOfWalk a.call.key log) a.among.2 (arrivals_are_walks p.view.log a.call a.is_call a.among.0 a.arrival a.among.1) in

@@ -55,9 +55,9 @@ returns-clause-says c =
 pub returns-then-not-is_busy-clause-moves : goal.returns-then-not-is_busy-clause-moves
 returns-then-not-is_busy-clause-moves c = λ has.
     let at = c.loop-round in
-    moves_earlier c.args.op c.args.key c.args.value c.ask-told.new.taken c.args.self.now.worker.pass at.self.worker.pass c.ask-told.new.self.worker.pass c.ask-told.result at.invariant.busy.onward.on.past (c.ask-told.ensures.moves (subst HasValues (sym at.invariant.tree) has))
+    moves_earlier c.args.op c.args.key c.args.value c.ask-told.new.found c.args.self.now.worker.pass at.self.worker.pass c.ask-told.new.self.worker.pass c.ask-told.result at.invariant.busy.onward.on.past (c.ask-told.ensures.moves (subst HasValues (sym at.invariant.tree) has))
 
 pub returns-clause-moves : goal.returns-clause-moves
 returns-clause-moves c = λ has.
     let at = c.loop-round in
-    moves_earlier c.args.op c.args.key c.args.value c.ask.new.taken c.args.self.now.worker.pass at.self.worker.pass c.ask.new.self.worker.pass c.ask.result at.invariant.busy.onward.on.past (c.ask.ensures.moves (subst HasValues (sym at.invariant.tree) has))
+    moves_earlier c.args.op c.args.key c.args.value c.ask.new.found c.args.self.now.worker.pass at.self.worker.pass c.ask.new.self.worker.pass c.ask.result at.invariant.busy.onward.on.past (c.ask.ensures.moves (subst HasValues (sym at.invariant.tree) has))
