@@ -17,7 +17,7 @@ pub fn put_or_find(
     options: &Options,
 ) -> Option<u64>
     ensures tree { member.new.tree ≡ member.old.tree }
-    ensures { IfSome result (HasPutOrFound member.old.worker.pass member.new.worker.pass key value) }
+    ensures had { IfSome result (HasPutOrFound member.old.worker.pass member.new.worker.pass key value) }
 {
     let mut found = 0;
     match member.insert(key, value, &mut found, options) {
@@ -31,7 +31,7 @@ pub fn put_or_find(
 /// returned an error. Proved: otherwise the map had that key with that value at a moment of the call.
 pub fn look_next(member: &mut MapMember, key: Key, tries: u32) -> Option<(Key, u64)>
     ensures tree { member.new.tree ≡ member.old.tree }
-    ensures { IfSome result (λ e. MapGave member.old.worker.pass member.new.worker.pass e.0 (Some e.1)) }
+    ensures had { IfSome result (λ e. MapGave member.old.worker.pass member.new.worker.pass e.0 (Some e.1)) }
 {
     let mut value = 0;
     match member.next_with_value(key, &mut value, tries) {
@@ -45,7 +45,7 @@ pub fn look_next(member: &mut MapMember, key: Key, tries: u32) -> Option<(Key, u
 /// with that value at a moment of the call, in the slot of a leaf that this member has flagged.
 pub fn take_due(member: &mut MapMember, below: u64, options: &Options) -> Option<(Key, u64)>
     ensures tree { member.new.tree ≡ member.old.tree }
-    ensures { IfSome result
+    ensures took { IfSome result
         (λ e. TookMeanwhile member.old.worker.pass member.new.worker.pass e.0 e.1) }
 {
     let mut value = 0;
