@@ -18,7 +18,6 @@ use Rattle.nm_epoch.specs.Resting.{epochs}
 use Rattle.nm_walks.specs.declared.making.NewNodes.{NewNodes}
 use Rattle.nm_walks.specs.Growing.{HasNewNodes, Returns}
 use Rattle.nm_walks.specs.Making.{OnlyMakes}
-use Rattle.nm_walks.specs.Telling.{GoesOn}
 use Rattle.nm_walks.proofs.Looks.{enough}
 use Rattle.nm_walks.proofs.ShortWalks.{key_of_call}
 use Rattle.nm_calls.specs.Leaving.{EndedWith}

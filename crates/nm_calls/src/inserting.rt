@@ -150,16 +150,15 @@ fn try_insert(
 }
 
 /// Gives both new nodes back to the pool, like `give_back`, and then writes the value of this leaf
-/// to `found`, or 0 in a table without values. A walk of the call must have ended at the leaf, with
-/// its key. The look at the value is in no log.
+/// to `workspace.found`, or 0 in a table without values. A walk of the call must have ended at the
+/// leaf, with its key. The look at the value is in no log.
 #[inline(always)]
 fn give_back_and_read(
     shared: &Shared,
     pass: &mut Pass,
-    placement: &mut Placement,
+    workspace: &mut Workspace,
     new_nodes: &Option<NewNodes>,
     leaf: u32,
-    found: &mut u64,
 )
     requires own { IsOf shared.now pass.old }
     requires ready { IfReady pass.old new_nodes.now }
@@ -168,18 +167,18 @@ fn give_back_and_read(
     ensures given { (o : PassView) → HasNewNodes o pass.old new_nodes.now → HasNewNodes o pass.new None }
     ensures on { GoesOn pass.old pass.new }
     ensures only { OnlyMakes pass.old pass.new }
-    ensures fit { placement.new ≡ placement.old }
+    ensures fit { workspace.new.placement ≡ workspace.old.placement }
     ensures read { HasValues shared.now → (k : ℕ) → EndedWith pass.old ThePin k leaf k
-        → HasReadValue pass.new k found.new }
+        → HasReadValue pass.new k workspace.new.found }
 {
     pass.know_run();
-    give_back(shared, pass, placement, new_nodes);
-    *found = value_of_slot(shared, pass, leaf);
+    give_back(shared, pass, &mut workspace.placement, new_nodes);
+    workspace.found = value_of_slot(shared, pass, leaf);
 }
 
 /// Makes the tries of an insert, from its pin to its answer. The room of the first one must have
 /// been made before the pin. If the answer is false, it has written the value of the leaf with the key
-/// to `found`.
+/// to `workspace.found`.
 fn insert_pinned(
     shared: &Shared,
     pass: &mut Pass,
@@ -187,7 +186,6 @@ fn insert_pinned(
     held: &mut HeldQueue,
     key: Key,
     value: u64,
-    found: &mut u64,
     tries: u32,
 ) -> Result<bool, CallFault>
     requires pinned { IsPinnedIn shared.now pass.old }
@@ -203,7 +201,7 @@ fn insert_pinned(
         → HasInserted (answered true) pass.new key value }
     ensures put { HasValues shared.now → result ≡ Ok true → HasPut pass.old pass.new key value }
     ensures finds { HasValues shared.now → result ≡ Ok false
-        → HasReadFound pass.old pass.new key found.new }
+        → HasReadFound pass.old pass.new key workspace.new.found }
     ensures moment { (o : PassView) → HadNoCall o pass.old
         → IfOk result (AnswerHasMoment o pass.new Insert key) }
     ensures rests { IsResting pass.new }
@@ -222,8 +220,7 @@ fn insert_pinned(
         }
         match try_insert(shared, pass, workspace, held, key, value, &mut new_nodes) {
             Attempt::Found(leaf) => {
-                let placement = &mut workspace.placement;
-                give_back_and_read(shared, pass, placement, &new_nodes, leaf, found);
+                give_back_and_read(shared, pass, workspace, &new_nodes, leaf);
                 answer(shared, pass, false);
                 return Ok(false);
             }
@@ -252,9 +249,9 @@ fn insert_pinned(
 /// the leaf without it. In a table without values `value` is not used.
 ///
 /// If the result is `Ok(false)` in a table with values, the call has written the value of the key to
-/// `found`. It has read the value at the leaf with the key, under its pin, after its walk had ended
-/// there: the map had the key with this value at a moment (linearization point) of the call. If the
-/// result is another one, or the table has no values, `found` may be anything.
+/// `workspace.found`. It has read the value at the leaf with the key, under its pin, after its walk
+/// had ended there: the map had the key with this value at a moment (linearization point) of the
+/// call. If the result is another one, or the table has no values, `workspace.found` may be anything.
 ///
 /// Each try is a walk that ends with the answer, or a link. If the link is lost, the try helps with
 /// at most one cleanup. Before each try the call makes room for a cleanup, with as few new blocks
@@ -274,7 +271,6 @@ pub fn insert(
     held: &mut HeldQueue,
     key: Key,
     value: u64,
-    found: &mut u64,
     tries: u32,
 ) -> Result<bool, CallFault>
     requires own { IsOf shared.now pass.old }
@@ -287,7 +283,7 @@ pub fn insert(
         → HasInserted (answered true) pass.new key value }
     ensures put { HasValues shared.now → result ≡ Ok true → HasPut pass.old pass.new key value }
     ensures finds { HasValues shared.now → result ≡ Ok false
-        → MapGave pass.old pass.new key (Some found.new) }
+        → MapGave pass.old pass.new key (Some workspace.new.found) }
     ensures kept { HoldsCuts pass.new held.new }
     ensures few { length held.new.queue.items ≤ shared.now.layout.nodes }
     ensures on { ExtendsStores pass.new.view.stores pass.old.view.stores }
@@ -304,5 +300,5 @@ pub fn insert(
     let Ok(_epoch) = pin_for(shared, pass, tries, Op::Insert, key) else {
         return Err(CallFault::Busy);
     };
-    insert_pinned(shared, pass, workspace, held, key, value, found, tries)
+    insert_pinned(shared, pass, workspace, held, key, value, tries)
 }

@@ -1,7 +1,7 @@
 -- What managed calls of a map leave, by what each part of them leaves.
-use Rattle.std.proofs.Common.{◌≡◌, ◌≤◌, ◌⊎◌, inl, inr, ℕ, ◌+◌, ◌*◌, Bool, true, false, List, length, refl, sym, ap, subst, ◌∙◌, arith}
+use Rattle.std.proofs.Common.{◌≡◌, ◌≤◌, inl, inr, ℕ, ◌+◌, ◌*◌, Bool, true, false, List, length, refl, ap, subst, ◌∙◌, arith}
 use Rattle.std.specs.Prelude.{Option, Some, None, Result, Ok, Err, IfOk, IfErr}
-use Rattle.std.proofs.Math.Nat.{add-mul, mul-add, suc-mul, zero-mul, mul-le-mul_right}
+use Rattle.std.proofs.Math.Nat.{add-mul, mul-add, zero-mul, mul-le-mul_right}
 use Rattle.std.proofs.lemmas.List.{length-append}
 use Rattle.nm_edge.specs.Layouts.{Layout}
 use Rattle.nm_model.specs.declared.event.Op.{Op}
@@ -13,17 +13,17 @@ use Rattle.nm_progress.proofs.RunningAlone.{alone_later}
 use Rattle.nm_steps.specs.Steps.{TreeView, PassView, HasSeen, HasSeenAllOf, IsSamePass}
 use Rattle.nm_steps.proofs.Seeing.{seen_itself, stores_same, stores_through}
 use Rattle.nm_walks.specs.Bounds.{reach}
-use Rattle.nm_calls.specs.Maps.{HasPut, HasTaken, MapGave}
+use Rattle.nm_calls.specs.Maps.{HasTaken, MapGave}
 use Rattle.nm_calls.specs.PlainWalks.{most_looks}
 use Rattle.nm_calls.specs.declared.fault.CallFault.{CallFault}
 use Rattle.nm_calls.specs.declared.fault.CallFault.TheVariants as fault
 use Rattle.nm_calls.proofs.MadeLeaves.{put_earlier}
 use Rattle.nm_tree.specs.Answers.{FailsAlone, IfTaken}
 use Rattle.nm_tree.specs.Calls.{LeavesGet}
-use Rattle.nm_tree.specs.Workers.{WorkerView, IsIdle}
-use Rattle.nm_set.specs.Asked.{Asked, UnlessPinned}
+use Rattle.nm_tree.specs.Workers.{WorkerView}
+use Rattle.nm_set.specs.Asked.{Asked}
 use Rattle.nm_set.specs.declared.managed.Options.{Options}
-use Rattle.nm_set.specs.Managed.{FinishesFirst, GoesOn, IsLeft, ManagesIn, MetInterference, SaysManaged, round_bound}
+use Rattle.nm_set.specs.Managed.{IsLeft, ManagesIn, MetInterference, SaysManaged, round_bound}
 use Rattle.nm_set.specs.MapRounds.{GetsIn, KeepsStores, LooksWereBusy, MovesValue, SaysRemoved}
 use Rattle.nm_set.specs.Maps.{AnswersGet, ManagesGet, PopsValue, SaysChange, TookMeanwhile, look_bound}
 use Rattle.nm_set.specs.Rounds.{AnswersIn, FinishesIn, IsOnward, Removes, rounds_bound}

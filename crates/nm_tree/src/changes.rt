@@ -74,9 +74,9 @@ impl Tree {
             own,
             key,
             value,
-            found,
             tries,
         );
+        *found = worker.workspace.found;
         worker.pass.know_run();
         answer
     }

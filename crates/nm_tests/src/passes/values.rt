@@ -30,7 +30,6 @@ fn inserts(
     requires rests { IsAtRest shared.now worker.old.pass worker.old.held }
     ensures rests { IsAtRest shared.now worker.new.pass worker.new.held }
 {
-    let mut found = 0;
     let inserted = insert(
         shared,
         &mut worker.pass,
@@ -38,10 +37,9 @@ fn inserts(
         &mut worker.held,
         key,
         value,
-        &mut found,
         1,
     );
-    (inserted, found)
+    (inserted, worker.workspace.found)
 }
 
 fn puts(rt: &impl Abort, shared: &Shared, worker: &mut Worker, key: Key, value: u64)

@@ -62,7 +62,6 @@ pub(super) fn inserts(
     requires rests { IsAtRest shared.now worker.old.pass worker.old.held }
     ensures rests { IsAtRest shared.now worker.new.pass worker.new.held }
 {
-    let mut unused = 0;
     let inserted = insert(
         shared,
         &mut worker.pass,
@@ -70,7 +69,6 @@ pub(super) fn inserts(
         &mut worker.held,
         key,
         0,
-        &mut unused,
         tries,
     );
     assert!(rt; inserted == wanted);

@@ -80,4 +80,4 @@ returns-clause-put c = λ values is. put_earlier c.args.pass.now c.pin_for.new.p
 
 pub returns-clause-finds : goal.returns-clause-finds
 returns-clause-finds c = λ values is.
-    found_was c.args.pass.now c.pin_for.new.pass c.insert_pinned.new.pass c.know_run.ensures.seen c.know_run.ensures.fits c.requires.rests.unpinned c.pin_for.ensures.on c.args.key c.insert_pinned.new.found (c.insert_pinned.ensures.finds values is)
+    found_was c.args.pass.now c.pin_for.new.pass c.insert_pinned.new.pass c.know_run.ensures.seen c.know_run.ensures.fits c.requires.rests.unpinned c.pin_for.ensures.on c.args.key c.insert_pinned.new.workspace.found (c.insert_pinned.ensures.finds values is)

@@ -1,5 +1,5 @@
-use Rattle.std.proofs.Common.{◌≡◌, Bool, true, false, sym, subst}
-use Rattle.std.specs.Prelude.{Result, Ok, Some}
+use Rattle.std.proofs.Common.{◌≡◌, true, false, sym, subst}
+use Rattle.std.specs.Prelude.{Ok, Some}
 use Rattle.nm_model.specs.declared.event.Op.{Op}
 use Rattle.nm_tree.specs.Calls.{LeavesHas, LeavesInsert, LeavesDelete}
 use Rattle.nm_steps.specs.Values.{HasValues}

@@ -1,10 +1,9 @@
-use Rattle.std.proofs.Common.{◌≡◌, ◌∙◌, ◌+◌, refl, sym, subst, arith, Bool}
+use Rattle.std.proofs.Common.{◌∙◌, ◌+◌, refl, sym, subst, arith, Bool}
 use Rattle.std.specs.Prelude.{Result}
 use Rattle.nm_steps.specs.Steps.{TreeView}
 use Rattle.nm_calls.specs.declared.fault.CallFault.{CallFault}
 use Rattle.nm_set.specs.Managed.{Answers, round_bound}
 use Rattle.nm_steps.specs.Values.{HasValues}
-use Rattle.nm_set.specs.MapRounds.{MovesValue}
 use Rattle.nm_set.proofs.Managing.{answers_last, busy_again, not_yet_busy}
 use Rattle.nm_set.proofs.MapManaging.{moves_earlier}
 use Rattle.nm_set.proofs.member.Member.ask_value_with_retries.Goals as goal

@@ -1,4 +1,4 @@
-use Rattle.std.proofs.Common.{rules, ◌≡◌, ◌+◌, inr, sym, subst, Bool}
+use Rattle.std.proofs.Common.{rules, ◌≡◌, ◌+◌, inr, subst}
 use Rattle.std.specs.Prelude.{None, Err}
 use Rattle.nm_calls.specs.declared.fault.CallFault.{CallFault}
 use Rattle.nm_steps.specs.Steps.{TreeView}

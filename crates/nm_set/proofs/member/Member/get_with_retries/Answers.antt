@@ -1,4 +1,4 @@
-use Rattle.std.proofs.Common.{◌≡◌, ◌∙◌, ◌+◌, ℕ, Bool, refl, subst, arith}
+use Rattle.std.proofs.Common.{◌∙◌, ◌+◌, ℕ, refl, subst, arith}
 use Rattle.std.specs.Prelude.{Option, Result}
 use Rattle.nm_steps.specs.Steps.{TreeView}
 use Rattle.nm_calls.specs.declared.fault.CallFault.{CallFault}

@@ -1,4 +1,4 @@
-use Rattle.std.proofs.Common.{rules, ◌≡◌, ◌+◌, inr, sym, subst, Bool}
+use Rattle.std.proofs.Common.{rules, ◌≡◌, ◌+◌, inr, sym, subst}
 use Rattle.std.specs.Prelude.{None, Err}
 use Rattle.nm_model.specs.declared.event.Op.TheVariants.{Insert}
 use Rattle.nm_steps.specs.Steps.{TreeView}

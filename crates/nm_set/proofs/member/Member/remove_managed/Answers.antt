@@ -6,7 +6,6 @@ use Rattle.nm_steps.specs.Values.{HasValues}
 use Rattle.nm_calls.specs.Maps.{HasTaken}
 use Rattle.nm_calls.specs.declared.fault.CallFault.{CallFault}
 use Rattle.nm_tree.specs.Answers.{IfTaken}
-use Rattle.nm_tree.specs.Workers.{WorkerView}
 use Rattle.nm_set.specs.Rounds.{AnswersIn, FinishesIn}
 use Rattle.nm_set.proofs.Managing.{finish_err, finished, pending_manages, removes_at_last, removes_plain}
 use Rattle.nm_set.proofs.MapManaging.{removes_then, took_before, took_now}
