@@ -11,3 +11,4 @@ pub mod NextKeys
 pub mod Scanning
 pub mod Reports
 pub mod Maps
+pub mod MapEntries

@@ -1,12 +1,12 @@
 -- What calls on a map and on its workers return and leave: m is the worker before the call, n the
 -- worker after it, and o the outcome.
-use Rattle.std.specs.Prelude.{◌≡◌, ◌⊎◌, ℕ, Bool, true, List, Option, Some, None, Result, Ok, Err}
+use Rattle.std.specs.Prelude.{◌≡◌, ◌⊎◌, ℕ, Bool, true, false, List, Option, Some, None, Result, Ok, Err}
 use Rattle.nm_edge.specs.Keys.{IsKey}
 use Rattle.nm_edge.specs.Layouts.{Layout}
 use Rattle.nm_edge.specs.declared.placement.Fit.{Fit}
 use Rattle.nm_model.specs.declared.event.Op.TheVariants.{Insert, Delete}
 use Rattle.nm_steps.specs.Steps.{TreeView}
-use Rattle.nm_calls.specs.Maps.{HasPut}
+use Rattle.nm_calls.specs.Maps.{HasPut, MapGave}
 use Rattle.nm_calls.specs.declared.fault.CallFault.{CallFault}
 use Rattle.nm_calls.specs.declared.fault.CallFault.TheVariants as fault
 use Rattle.nm_epoch.specs.declared.handing.HandedOut.{HandedOut}
@@ -57,6 +57,27 @@ pub record PutsValue (b : TreeView) (h : Options) (k v : ℕ) (w z : WorkerView)
 
 abbrev pub TellsPut : Options → ℕ → ℕ → MemberView → MemberView → Outcome → Type 0
 TellsPut h k v m n o = OfKey k (TellsAnswer (PutsValue m.tree h k v) m n o) m n o
+
+-- the value that is written if the key of an insert was there, or the number that was there before
+abbrev pub there_written : Result Bool CallFault → ℕ → ℕ → ℕ
+there_written (Ok false) there old = there
+there_written _ there old = old
+
+-- the worker's call is made, and the outcome is that of its answer. If the key was there, the map had
+-- it with the found value at a moment of the call, and this value is written
+pub record FindsOrPuts (h : Options) (k v old found : ℕ) (m n : MemberView) (o : Outcome) : Type 0 where
+  pub answer : Result Bool CallFault
+  pub told : o ≡ of_answer answer
+  pub tree : n.tree ≡ m.tree
+  pub says : PutsValue m.tree h k v m.worker n.worker answer
+  pub there : ℕ
+  pub finds : answer ≡ Ok false → MapGave m.worker.pass n.worker.pass k (Some there)
+  pub written : found ≡ there_written answer there old
+
+-- if the number is a key, that call is made; otherwise the outcome is `Key`, and nothing has changed
+abbrev pub TellsFindOrPut : Options → ℕ → ℕ → ℕ → ℕ → MemberView → MemberView → Outcome → Type 0
+TellsFindOrPut h k v old found m n o = (IsKey k × FindsOrPuts h k v old found m n o)
+    ⊎ ((IsKey k → ⊥) × (o ≡ outcome.Key) × (n ≡ m) × (found ≡ old))
 
 -- the value that is written if the remove has taken its key, whether it is finished or not; or the
 -- number that was there before

@@ -3,7 +3,7 @@
 
 ghost use Rattle.std.specs.Prelude.{◌≡◌, ⊤};
 ghost use Rattle.nm_set_c.specs.Handles.{held_by};
-ghost use Rattle.nm_set_c.specs.Maps.{TellsGet, TellsPut, TellsTake, taken_written};
+ghost use Rattle.nm_set_c.specs.Maps.{TellsFindOrPut, TellsGet, TellsPut, TellsTake, taken_written, there_written};
 ghost use Rattle.nm_set_c.specs.NextKeys.{found_written, of_found};
 ghost use Rattle.nm_set_c.specs.Outcomes.{IsCodeOf};
 ghost use Rattle.nm_set_c.specs.Owners.{HasDone, OfMapWorker};
@@ -84,6 +84,55 @@ fn insert(member: &mut MapMember, key: u64, value: u64, options: &Options) -> Ou
     };
     let mut found = 0;
     Outcome::of_answer(member.insert(key, value, &mut found, options))
+}
+
+/// Inserts a key with a value, or finds the value that the key has: `MapMember::insert` of `nm_set`.
+/// Returns `Yes` if the key was absent, or `No`, and then writes the value that the map has under the
+/// key. Errors: as of `nm_map_insert`.
+#[unsafe(no_mangle)]
+pub extern "C" fn nm_map_get_or_insert(
+    alloc: Global,
+    worker: &mut Handle,
+    key: u64,
+    value: u64,
+    options: &Options,
+    found: &mut u64,
+) -> i32
+    ensures tells { IsCodeOf (OfMapWorker (TellsFindOrPut options.now key value found.old found.new)
+        (found.new ≡ found.old) (held_by worker.old) (held_by worker.new)) result }
+{
+    by_handle!(alloc, worker, MapWorker(member) => get_or_insert(member, key, value, options, found))
+}
+
+#[inline(always)]
+fn get_or_insert(
+    member: &mut MapMember,
+    key: u64,
+    value: u64,
+    options: &Options,
+    found: &mut u64,
+) -> Outcome
+    ensures tells { HasDone (TellsFindOrPut options.now key value found.old found.new) member.old
+        member.new result }
+{
+    let Some(key) = Key::new(key) else {
+        return Outcome::Key;
+    };
+    let mut there = 0;
+    let answer = member.insert(key, value, &mut there, options);
+    write_there(&answer, there, found);
+    Outcome::of_answer(answer)
+}
+
+/// Writes the value that the key of an insert has, if the key was there.
+#[inline(always)]
+fn write_there(answer: &Result<bool, CallFault>, there: u64, found: &mut u64)
+    ensures { found.new ≡ there_written answer.now there found.old }
+{
+    match answer {
+        Ok(false) => *found = there,
+        _ => {}
+    }
 }
 
 /// Removes a key, and writes the value that it had: `MapMember::remove` of `nm_set`. Returns `Yes`

@@ -117,7 +117,7 @@ fn pop_last_from(member: &mut Member, from: u64, options: &Options, taken: &mut 
 
 /// Writes the key that was taken, or the pending one if its remove is unfinished, and returns the
 /// outcome.
-fn tell_taken(
+pub(crate) fn tell_taken(
     answer: Result<Option<Key>, CallFault>,
     pending: Option<Key>,
     taken: &mut u64,
