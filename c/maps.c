@@ -22,11 +22,24 @@ static void each_call_tells(nm_handle *worker, uint64_t key, nm_outcome wanted) 
     uint64_t count = NOT_WRITTEN, next = NOT_WRITTEN;
     CHECK(nm_map_get(worker, key, usual, &value) == wanted &&
           nm_map_insert(worker, key, 1, usual) == wanted &&
+          nm_map_get_or_insert(worker, key, 1, usual, &value) == wanted &&
           nm_map_remove(worker, key, usual, &value) == wanted);
+    CHECK(nm_map_next(worker, key, TRIES, &next, &value) == wanted &&
+          nm_map_prev(worker, key, TRIES, &next, &value) == wanted);
     CHECK(nm_map_scan(worker, key, UINT64_MAX, keys, 2, &count, &next, TRIES) == wanted &&
           nm_map_scan_back(worker, key, 0, keys, 2, &count, &next, TRIES) == wanted);
     CHECK(value == NOT_WRITTEN && keys[0] == NOT_WRITTEN && keys[1] == NOT_WRITTEN &&
           count == NOT_WRITTEN && next == NOT_WRITTEN);
+}
+
+/* Checks that each call that pops a key returns the wanted outcome, and writes nothing. */
+static void each_pop_tells(nm_handle *worker, const nm_options *options, nm_outcome wanted) {
+    uint64_t key = NOT_WRITTEN, value = NOT_WRITTEN;
+    CHECK(nm_map_pop_first(worker, options, &key, &value) == wanted &&
+          nm_map_pop_last(worker, options, &key, &value) == wanted &&
+          nm_map_pop_first_below(worker, UINT64_MAX, options, &key, &value) == wanted &&
+          nm_map_pop_last_from(worker, 0, options, &key, &value) == wanted);
+    CHECK(key == NOT_WRITTEN && value == NOT_WRITTEN);
 }
 
 /* Checks that each call on a worker of a map returns the wanted outcome, and writes nothing. */
@@ -34,6 +47,7 @@ static void no_worker_of_a_map(nm_handle *handle, nm_outcome wanted) {
     uint64_t wide = NOT_WRITTEN, values[2] = {NOT_WRITTEN, NOT_WRITTEN};
     uint32_t narrow = NOT_WRITTEN;
     each_call_tells(handle, 5, wanted);
+    each_pop_tells(handle, usual, wanted);
     CHECK(nm_map_reclaim(handle, values, 2, &wide, &narrow) == wanted);
     CHECK(nm_map_pin(handle, TRIES, &wide) == wanted && nm_map_unpin(handle) == wanted &&
           nm_map_get_pinned(handle, 5, &wide) == wanted);
@@ -92,6 +106,35 @@ static void answers(void) {
     CHECK(nm_map_get_pinned(&worker, UINT64_MAX - 2, &value) == NM_KEY && value == 502);
     CHECK(nm_drop(&map) == NM_DONE && nm_map_get(&worker, 5, usual, &value) == NM_YES &&
           nm_drop(&worker) == NM_DONE);
+}
+
+/* The neighbours of a key come with their values, and so do keys that are popped. */
+static void entries(void) {
+    const nm_options none = {0, 0, 64};
+    nm_handle map = NM_CLOSED_HANDLE, worker = NM_CLOSED_HANDLE;
+    uint64_t key = NOT_WRITTEN, value = NOT_WRITTEN, back[4];
+    CHECK(nm_map_new(&map, 64, 1) == NM_DONE && nm_map_attach(&map, &worker) == NM_DONE);
+    each_pop_tells(&worker, usual, NM_NO);
+    each_pop_tells(&worker, &none, NM_BUSY);
+    CHECK(nm_map_get_or_insert(&worker, 5, 50, usual, &value) == NM_YES && value == NOT_WRITTEN);
+    CHECK(nm_map_get_or_insert(&worker, 5, 51, usual, &value) == NM_NO && value == 50);
+    for (uint64_t each = 6; each < 9; each++)
+        CHECK(nm_map_insert(&worker, each, 10 * each, usual) == NM_YES);
+    CHECK(nm_map_next(&worker, 0, TRIES, &key, &value) == NM_YES && key == 5 && value == 50);
+    CHECK(nm_map_prev(&worker, 7, TRIES, &key, &value) == NM_YES && key == 7 && value == 70);
+    CHECK(nm_map_next(&worker, 9, TRIES, &key, &value) == NM_NO &&
+          nm_map_prev(&worker, 4, TRIES, &key, &value) == NM_NO && key == 7 && value == 70);
+    CHECK(nm_map_pop_first_below(&worker, 5, usual, &key, &value) == NM_NO &&
+          nm_map_pop_last_from(&worker, 9, usual, &key, &value) == NM_NO && key == 7);
+    CHECK(nm_map_pop_first(&worker, usual, &key, &value) == NM_YES && key == 5 && value == 50);
+    CHECK(nm_map_pop_last(&worker, usual, &key, &value) == NM_YES && key == 8 && value == 80);
+    CHECK(nm_map_pop_first_below(&worker, 7, usual, &key, &value) == NM_YES && key == 6 &&
+          value == 60);
+    CHECK(nm_map_pop_last_from(&worker, 7, usual, &key, &value) == NM_YES && key == 7 &&
+          value == 70);
+    comes_back(&worker, back, 4, 4, NM_NOBODY);
+    CHECK(back[0] == 50 && back[1] == 80 && back[2] == 60 && back[3] == 70);
+    CHECK(nm_drop(&worker) == NM_DONE && nm_drop(&map) == NM_DONE);
 }
 
 /* Options that allow no try, what a worker reports of itself, and its keys in order. */
@@ -155,6 +198,7 @@ static void pinned(void) {
     CHECK(nm_map_pin(&reader, TRIES, &epoch) == NM_DONE &&
           nm_map_pin(&reader, TRIES, &epoch) == NM_PINNED);
     each_call_tells(&reader, 5, NM_PINNED);
+    each_pop_tells(&reader, usual, NM_PINNED);
     CHECK(nm_map_get_pinned(&reader, 6, &value) == NM_NO && value == NOT_WRITTEN);
     CHECK(nm_map_get_pinned(&reader, 5, &value) == NM_YES && value == 500);
     CHECK(nm_map_remove(&writer, 5, usual, &value) == NM_YES && value == 500);
@@ -374,6 +418,7 @@ static void threads(void) {
 int main(void) {
     sizes();
     answers();
+    entries();
     reports();
     reclaims();
     pinned();

@@ -503,9 +503,9 @@ nm_outcome nm_map_attached(nm_handle *map, uint32_t number);
  * the map, whose workers were gathered, so that only this function goes on. */
 nm_outcome nm_map_close(nm_handle *map);
 
-/* The next three are managed calls, like nm_worker_contains, nm_worker_insert and nm_worker_remove:
- * a call that lost each of its tries is retried, and the remove of an earlier call is finished
- * first. They collect nothing (collect_after has no effect): only nm_map_reclaim frees nodes. */
+/* The following, up to nm_map_pop_last_from, are managed calls, like nm_worker_contains,
+ * nm_worker_insert and nm_worker_remove: a call that lost each of its tries is retried, and the remove
+ * of an earlier call is finished first. They collect nothing (collect_after has no effect): only nm_map_reclaim frees nodes. */
 
 /* Returns NM_YES and writes the value that the map has under a key, or NM_NO if the map does not
  * have the key. It takes no memory for the look-up. Once the call has returned, another worker may
@@ -519,6 +519,12 @@ nm_outcome nm_map_get(nm_handle *worker, uint64_t key, const nm_options *options
 nm_outcome nm_map_insert(nm_handle *worker, uint64_t key, uint64_t value,
                          const nm_options *options);
 
+/* Inserts a key with a value, or finds the value that the key has. Returns NM_YES if the key was
+ * absent, or NM_NO, and then writes to found the value that the map has under the key. It returns the
+ * errors of nm_map_insert, and then writes nothing. */
+nm_outcome nm_map_get_or_insert(nm_handle *worker, uint64_t key, uint64_t value,
+                                const nm_options *options, uint64_t *found);
+
 /* Removes a key. Returns NM_YES if it was present, and writes the value that it had, or NM_NO. The
  * value comes back by nm_map_reclaim too: until then other workers may read it. Errors:
  * NM_UNFINISHED: value is written too. The key will be removed by this call and no other, and it is
@@ -526,6 +532,19 @@ nm_outcome nm_map_insert(nm_handle *worker, uint64_t key, uint64_t value,
  * NM_NO_MEMORY. After any other outcome than NM_YES and NM_UNFINISHED, value is not written. */
 nm_outcome nm_map_remove(nm_handle *worker, uint64_t key, const nm_options *options,
                          uint64_t *value);
+
+/* Removes the least key of the map, or the greatest; or the least key that is below a bound, or the
+ * greatest that is not below one. They return like nm_worker_pop_first and its like, and with NM_YES
+ * they write the value that the key had to value. The value comes back by nm_map_reclaim too. After
+ * NM_UNFINISHED they have written the key that is pending, and no value. They collect nothing. */
+nm_outcome nm_map_pop_first(nm_handle *worker, const nm_options *options, uint64_t *taken,
+                            uint64_t *value);
+nm_outcome nm_map_pop_last(nm_handle *worker, const nm_options *options, uint64_t *taken,
+                           uint64_t *value);
+nm_outcome nm_map_pop_first_below(nm_handle *worker, uint64_t below, const nm_options *options,
+                                  uint64_t *taken, uint64_t *value);
+nm_outcome nm_map_pop_last_from(nm_handle *worker, uint64_t from, const nm_options *options,
+                                uint64_t *taken, uint64_t *value);
 
 /* Tries twice to advance the epoch, and then frees what has waited long enough with this worker. It
  * writes the value of each key that is freed into values, at most `room` of them, and their number
@@ -550,6 +569,14 @@ nm_outcome nm_map_unpin(nm_handle *worker);
  * have the key, to a caller that has pinned the worker. The value does not come back before
  * nm_map_unpin. Errors: NM_NOT_PINNED. NM_BUSY, which no map of nm_map_new returns. NM_KEY. */
 nm_outcome nm_map_get_pinned(nm_handle *worker, uint64_t key, uint64_t *value);
+
+/* Finds the least key of the map that is not below key, or the greatest that is not above it. They
+ * return like nm_worker_next and nm_worker_prev, and with NM_YES they write the value of the key that
+ * was found to value. */
+nm_outcome nm_map_next(nm_handle *worker, uint64_t key, uint32_t tries, uint64_t *found,
+                       uint64_t *value);
+nm_outcome nm_map_prev(nm_handle *worker, uint64_t key, uint32_t tries, uint64_t *found,
+                       uint64_t *value);
 
 /* Writes keys of the map into keys, in ascending and in descending order, and returns like
  * nm_worker_scan and nm_worker_scan_back. Values are not read: get each by its key. */

@@ -84,6 +84,8 @@ static void take_values(void) {
     uint64_t values[64];
     for (uint64_t key = 0; key < 200; key++)
         CHECK(nm_map_remove(&map_worker, key, &nm_default_options, &word) == NM_YES);
+    CHECK(nm_map_pop_last(&map_worker, &nm_default_options, values, &word) == NM_YES &&
+          nm_map_next(&map_worker, 0, 64, values, &word) == NM_YES);
     CHECK(nm_map_reclaim(&map_worker, values, 64, &word, &number) == NM_DONE && word == 64);
 }
 

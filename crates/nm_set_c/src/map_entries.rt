@@ -17,9 +17,9 @@ use nm_edge::Key;
 use nm_set::{CallFault, MapMember, Options};
 use std::alloc::Global;
 
-/// Finds the least key of the map that is not below `key`, with its value: `MapMember::next_with_value` of `nm_set`. Returns `Yes` and
-/// writes both, or `No` if there is none. Errors: `Key`, `Busy`, `Pending`, `Pinned`, `NoMemory`,
-/// `Closed`, `InUse`, `Kind`.
+/// Finds the least key of the map that is not below `key`, with its value:
+/// `MapMember::next_with_value` of `nm_set`. Returns `Yes` and writes both, or `No` if there is none.
+/// Errors: `Key`, `Busy`, `Pending`, `Pinned`, `NoMemory`, `Closed`, `InUse`, `Kind`.
 #[unsafe(no_mangle)]
 pub extern "C" fn nm_map_next(
     alloc: Global,
@@ -49,9 +49,8 @@ fn next(member: &mut MapMember, key: u64, tries: u32, found: &mut u64, value: &m
     tell_found(answer, found)
 }
 
-/// Finds the greatest key of the map that is not above `key`, with its value: `MapMember::prev_with_value` of `nm_set`. Returns `Yes` and
-/// writes both, or `No` if there is none. Errors: `Key`, `Busy`, `Pending`, `Pinned`, `NoMemory`,
-/// `Closed`, `InUse`, `Kind`.
+/// Finds the greatest key of the map that is not above `key`, with its value:
+/// `MapMember::prev_with_value` of `nm_set`. Returns and errors: as of `nm_map_next`.
 #[unsafe(no_mangle)]
 pub extern "C" fn nm_map_prev(
     alloc: Global,
@@ -88,8 +87,7 @@ fn write_value(answer: &Result<Option<Key>, CallFault>, there: u64, value: &mut 
 {
     match answer {
         Ok(Some(_)) => *value = there,
-        Ok(None) => {}
-        Err(_) => {}
+        _ => {}
     }
 }
 
