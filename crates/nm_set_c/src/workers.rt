@@ -7,11 +7,12 @@ ghost use Rattle.nm_set_c.specs.Handles.{held_by};
 ghost use Rattle.nm_set_c.specs.Outcomes.{IsCodeOf};
 ghost use Rattle.nm_set_c.specs.Handles.Hold.{Open};
 ghost use Rattle.nm_set_c.specs.Owners.{OfWorker, OwnsWorker};
-ghost use Rattle.nm_set_c.specs.Workers.{TellsResign, TellsNumber, TellsOption, TellsStats, pending_key};
+ghost use Rattle.nm_set_c.specs.Workers.{TellsResign, TellsNumber, TellsOption, TellsStats, IsOptionTold, pending_key};
 
 use crate::handle::{Handle, by_handle};
 use crate::outcome::Outcome;
 use crate::owner::Owner;
+use nm_edge::Key;
 use nm_set::Member;
 use std::alloc::Global;
 use std::mem::replace;
@@ -73,7 +74,15 @@ fn pending(member: &mut Member, key: &mut u64) -> Outcome
     ensures { TellsOption (pending_key member.old.worker) key.old key.new member.old member.new
         result }
 {
-    match member.pending() {
+    let found = member.pending();
+    tell_pending(found, key)
+}
+
+/// Writes the key that is pending, if there is one, and returns whether there is.
+pub(crate) fn tell_pending(found: Option<Key>, key: &mut u64) -> Outcome
+    ensures { IsOptionTold found key.old key.new result }
+{
+    match found {
         Some(pending) => {
             *key = pending.get();
             Outcome::Yes
