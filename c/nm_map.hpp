@@ -64,13 +64,13 @@ std::uint64_t word_of(const T &value) noexcept {
 
 template <typename T>
 T value_of(std::uint64_t word) noexcept {
-    union Place {
+    union Room {
         char unused;
         T value;
-        Place() noexcept : unused(0) {}
-    } place;
-    std::memcpy(&place.value, &word, sizeof(T));
-    return place.value;
+        Room() noexcept : unused(0) {}
+    } room;
+    std::memcpy(static_cast<void *>(&room.value), &word, sizeof(T));
+    return room.value;
 }
 
 template <typename T>
