@@ -64,7 +64,10 @@ fn a_map_answers_like_a_map() {
     let mut worker = map.attach().unwrap();
     assert!(worker.insert(5, "five").is_ok() && worker.insert(7, "seven").is_ok());
     assert_eq!(worker.insert(5, "six"), Err(InsertError::Present("six")));
-    assert_eq!((worker.contains(5), worker.contains(6)), (Ok(true), Ok(false)));
+    assert_eq!(
+        (worker.contains(5), worker.contains(6)),
+        (Ok(true), Ok(false))
+    );
     let guard = worker.pin().unwrap();
     assert_eq!(guard.get(5), Ok(Some(&"five")));
     assert_eq!(guard.get(6), Ok(None));
@@ -73,7 +76,10 @@ fn a_map_answers_like_a_map() {
     assert_eq!((worker.remove(5), worker.remove(5)), (Ok(true), Ok(false)));
     assert!(worker.insert(5, "again").is_ok());
     assert_eq!(worker.keys(..), Ok(vec![5, 7]));
-    assert_eq!((map.nodes(), map.capacity(), map.workers()), (1_024, 509, 2));
+    assert_eq!(
+        (map.nodes(), map.capacity(), map.workers()),
+        (1_024, 509, 2)
+    );
     assert_eq!(format!("{map:?}"), "Map { nodes: 1024, workers: 2, .. }");
 }
 
@@ -276,7 +282,9 @@ fn a_drop_that_panics_keeps_no_other_value() {
     let mut worker = map.attach().unwrap();
     for key in 0..20 {
         let is_bomb = key == 3 || key == 15;
-        assert!(worker.insert(key, Bomb(Arc::clone(&counts), is_bomb)).is_ok());
+        assert!(worker
+            .insert(key, Bomb(Arc::clone(&counts), is_bomb))
+            .is_ok());
     }
     for key in 0..10 {
         assert_eq!(worker.remove(key), Ok(true));
@@ -316,7 +324,11 @@ fn values_of_other_kinds_are_dropped() {
     let counts = Arc::new(Counts::default());
     let texts: Map<Box<dyn FnOnce() -> u64 + Send + Sync>> = Map::new(64, 1).unwrap();
     let (held, mut worker) = (counts.value(9), texts.attach().unwrap());
-    worker.insert(5, Box::new(move || held.key)).unwrap();
+    let owner = Box::new(move || {
+        let value = held;
+        value.key
+    });
+    worker.insert(5, owner).unwrap();
     assert_eq!(counts.alive(), 1);
     drop(worker);
     drop(texts);

@@ -124,7 +124,12 @@ impl Taken {
 /// `Box<V>` that the caller hands over.
 unsafe extern "C" fn release<V>(context: *mut c_void, value: u64) {
     // SAFETY: by the condition.
-    let (taken, value) = unsafe { (&mut *context.cast::<Taken>(), Box::from_raw(object::<V>(value))) };
+    let (taken, value) = unsafe {
+        (
+            &mut *context.cast::<Taken>(),
+            Box::from_raw(object::<V>(value)),
+        )
+    };
     taken.values += 1;
     match (catch_unwind(AssertUnwindSafe(|| drop(value))), &taken.panic) {
         (Ok(()), _) => {}
@@ -235,7 +240,16 @@ impl<V> WorkerHandle<'_, V> {
         // SAFETY: both handles exist, and `self` is borrowed. `release` gets boxes of this `V`.
         let outcome = taken.by(|context| unsafe {
             let word = pointer as usize as u64;
-            nm_map_put(map, worker, key, word, options, release::<V>, context, timeout_ms)
+            nm_map_put(
+                map,
+                worker,
+                key,
+                word,
+                options,
+                release::<V>,
+                context,
+                timeout_ms,
+            )
         });
         // SAFETY: after any other outcome than yes the map does not have the pointer.
         let left = (outcome != YES).then(|| unsafe { Box::from_raw(pointer) });
@@ -280,12 +294,26 @@ impl<V> WorkerHandle<'_, V> {
 
     /// Reads keys that are not below `next` and are below `below`. Returns the outcome and how many
     /// keys it wrote, and writes where the next call goes on.
-    pub(crate) fn scan(&mut self, next: &mut u64, below: u64, keys: &mut [u64]) -> (Outcome, usize) {
+    pub(crate) fn scan(
+        &mut self,
+        next: &mut u64,
+        below: u64,
+        keys: &mut [u64],
+    ) -> (Outcome, usize) {
         let (from, mut count, tries) = (*next, 0, self.map.options.tries.max(2));
         let (first, room) = (keys.as_mut_ptr(), keys.len());
         // SAFETY: the handle exists, and all is borrowed for this call. `first` is not null.
         let outcome = unsafe {
-            nm_map_scan(self.handle.get(), from, below, first, room, &mut count, next, tries)
+            nm_map_scan(
+                self.handle.get(),
+                from,
+                below,
+                first,
+                room,
+                &mut count,
+                next,
+                tries,
+            )
         };
         (outcome, count as usize)
     }
@@ -333,7 +361,11 @@ impl<'w, 'a, V> Pinned<'w, 'a, V> {
         let mut epoch = 0;
         // SAFETY: the handle exists, and the worker is borrowed.
         let outcome = unsafe {
-            nm_map_hold(worker.handle.get(), &worker.map.options, addr_of_mut!(epoch))
+            nm_map_hold(
+                worker.handle.get(),
+                &worker.map.options,
+                addr_of_mut!(epoch),
+            )
         };
         if outcome < 0 {
             return Err(outcome);
@@ -350,8 +382,7 @@ impl<'w, 'a, V> Pinned<'w, 'a, V> {
         let mut value = 0;
         // SAFETY: the handle exists. No other call has it, because neither `Pinned` nor the worker is
         // `Sync`.
-        let outcome =
-            unsafe { nm_map_get_pinned(self.worker.handle.get(), key, &mut value) };
+        let outcome = unsafe { nm_map_get_pinned(self.worker.handle.get(), key, &mut value) };
         // SAFETY: the pointer is of a box that the map owns. It does not come back before the unpin,
         // which is in the drop of `self`, and the reference has `self` borrowed.
         let found = (outcome == YES).then(|| unsafe { &*object::<V>(value) });
