@@ -215,17 +215,17 @@ void the_last_one_empties_the_map() {
 // What waits with each worker is freed at the end, even if guards held it back when they were closed.
 void the_end_frees_what_waits() {
     {
-        Objects map{4096, 8};
+        Objects map{8192, 8};
         Objects::Worker reader = map.attach();
         auto guard = reader.pin();
         std::vector<Objects::Worker> removers(7);
         for (Objects::Worker &remover : removers) {
             remover = map.attach();
-            for (std::uint64_t key = 0; key < 100; key++) CHECK(remover.emplace(key, key));
-            for (std::uint64_t key = 0; key < 100; key++) CHECK(remover.remove(key));
+            for (std::uint64_t key = 0; key < 200; key++) CHECK(remover.emplace(key, key));
+            for (std::uint64_t key = 0; key < 200; key++) CHECK(remover.remove(key));
         }
         removers.clear();
-        CHECK(Canary::alive() == 700);
+        CHECK(Canary::alive() == 1400);
     }
     CHECK(Canary::alive() == 0);
 }
