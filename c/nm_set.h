@@ -45,8 +45,8 @@
  * or removes that key: so a key may hand over a payload. (Each atomic step of the library is
  * sequentially consistent.)
  *
- * A thread needs a stack of 64 kilobytes for a call that makes, takes, gives back or ends a set or
- * a worker, and one of 16 for any other call. Tested; no clause of the proof says so.
+ * A thread needs a stack of 64 kilobytes for a call that makes, takes, gives back or ends a set, a
+ * map or a worker, and one of 16 for any other call. Tested; no clause of the proof says so.
  */
 #ifndef NM_SET_H
 #define NM_SET_H

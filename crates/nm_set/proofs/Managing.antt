@@ -503,7 +503,7 @@ moment_if : (o p q : PassView) (op : Op) (k : ℕ) (r : Result Bool CallFault) �
 moment_if o p q op k (Ok answer) past m = moment_since o p q op k answer past m
 moment_if o p q op k (Err f) past m = tt
 
-left_since : (op : Op) (k : ℕ) (w x z : WorkerView) (r : Result Bool CallFault) → x.pending ≡ None → IsLeft op k x z r → IsLeft op k w z r
+pub left_since : {A : Type 0} (op : Op) (k : ℕ) (w x z : WorkerView) (r : Result A CallFault) → x.pending ≡ None → IsLeft op k x z r → IsLeft op k w z r
 left_since op k w x z (Ok answer) none left = left
 left_since op k w x z (Err fault.Busy) none left = left
 left_since op k w x z (Err fault.Full) none left = left

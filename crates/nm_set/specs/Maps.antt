@@ -5,6 +5,7 @@ use Rattle.nm_edge.specs.Layouts.{Layout}
 use Rattle.nm_model.specs.declared.event.Op.{Op}
 use Rattle.nm_model.specs.declared.event.Op.TheVariants.{Has}
 use Rattle.nm_progress.specs.Alone.{IsAlone}
+use Rattle.nm_steps.specs.Rules.{ExtendsStores}
 use Rattle.nm_steps.specs.Steps.{HasSeen, HasSeenAllOf, IsSamePass, PassView, TreeView}
 use Rattle.nm_walks.specs.Bounds.{reach}
 use Rattle.nm_calls.specs.Maps.{HasTaken, MapGave}
@@ -84,15 +85,18 @@ pub record AnswersGet (k most rounds tries : ℕ) (w z : WorkerView) (r : Result
   pub alone : IsAlone w.pass z.pass → r ≡ Err fault.Busy → tries ≡ 0
 
 -- a managed look-up of a value: its answer, and the remove of an earlier call, which it finished
--- first. If the worker ran alone, an error is due to a number of tries that is 0, or to a lack of
--- room for that remove (`alone`)
+-- first. If the worker ran alone, an error is due to a number of tries that is 0 (`alone`), or the
+-- remove stays pending for a lack of room (`pending`). If no remove was pending, the worker has seen
+-- all stores that it had seen (`stores`)
 pub record ManagesGet (b : TreeView) (h : Options) (k : ℕ) (w z : WorkerView) (r : Result (Option ℕ) CallFault) : Type 0 where
   pub answers : AnswersGet k
       ((h.rounds + 1) * (round_bound h.tries b.layout + look_bound h.tries b.layout)) (h.rounds + 1)
       h.tries w z r
   pub begins : r ≢ Err fault.Pending → (begun : PassView) × FinishesFirst w begun
       × IfOk r (MapGave begun z.pass k)
+  pub stores : w.pending ≡ None → ExtendsStores z.pass.view.stores w.pass.view.stores
   pub alone : IsAlone w.pass z.pass → IfErr r (FailsAlone 1 1 h.tries z)
+  pub pending : IsAlone w.pass z.pass → r ≡ Err fault.Pending → FailsAlone 1 1 h.tries z fault.Unfinished
 
 -- what a caller learns from a managed look-up of a value
 abbrev pub SaysGet : TreeView → Options → ℕ → WorkerView → WorkerView → Result (Option ℕ) CallFault → Type 0
@@ -110,6 +114,11 @@ pub record TookMeanwhile (p q : PassView) (k v : ℕ) : Type 0 where
   pub seen : HasSeen then.view
   pub until : HasSeenAllOf q then
   pub same : IsSamePass then q
+
+-- a pop that returns a key took it with this value
+abbrev pub PopsValue : PassView → PassView → ℕ → Result (Option ℕ) CallFault → Type 0
+PopsValue p q v (Ok (Some k)) = TookMeanwhile p q k v
+PopsValue p q v _ = Unit {0}
 
 -- two attempts to advance the epoch, and a collection that writes values; `behind` is the worker that
 -- was found to hold the epoch back

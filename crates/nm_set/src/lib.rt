@@ -18,6 +18,7 @@ mod map;
 mod map_calls;
 mod map_managed;
 mod map_member;
+mod map_popping;
 mod member;
 mod opening;
 mod popping;

@@ -10,3 +10,4 @@ pub mod Lookups
 pub mod NextKeys
 pub mod Scanning
 pub mod Reports
+pub mod Maps

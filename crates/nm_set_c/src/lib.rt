@@ -18,6 +18,7 @@ mod handle;
 mod keys;
 mod managed;
 mod many;
+mod map_epochs;
 mod map_values;
 mod map_workers;
 mod maps;

@@ -1,17 +1,15 @@
-//! Calls of a map's worker that are like those of a set's, by its handle.
-#![tactic(auto, using(crate::proofs::Owners::asked_of_map_worker))]
+//! Scans of the keys of a map, and what its worker reports of itself, by the handle of the worker.
+#![tactic(auto, using(crate::proofs::Owners::asked_of_owner))]
 
-ghost use Rattle.std.specs.Prelude.{◌≡◌, ⊤};
+ghost use Rattle.std.specs.Prelude.{◌≡◌};
 ghost use Rattle.nm_edge.specs.declared.edge.Side.TheVariants.{Left, Right};
 ghost use Rattle.nm_tree.specs.Workers.{waiting_in};
 ghost use Rattle.nm_set_c.specs.Handles.{held_by};
-ghost use Rattle.nm_set_c.specs.Maps.{OfMapWorker};
 ghost use Rattle.nm_set_c.specs.Outcomes.{IsCodeOf};
-ghost use Rattle.nm_set_c.specs.Owners.{HasDone};
+ghost use Rattle.nm_set_c.specs.Owners.{HasDone, OfMapWorker};
 ghost use Rattle.nm_set_c.specs.Scanning.{TellsScan};
-ghost use Rattle.nm_set_c.specs.Workers.{TellsNumber, TellsOption, TellsPin, TellsUnpin, pending_key};
+ghost use Rattle.nm_set_c.specs.Workers.{TellsNumber, TellsOption, pending_key};
 
-use crate::epochs::{tell_pin, tell_unpin};
 use crate::handle::{Handle, by_handle};
 use crate::outcome::Outcome;
 use crate::scanning::tell_scanned;
@@ -19,44 +17,6 @@ use crate::workers::tell_pending;
 use nm_edge::Key;
 use nm_set::MapMember;
 use std::alloc::Global;
-
-/// Pins the epoch for the caller, until unpin, and writes it: `MapMember::pin` of `nm_set`. Returns
-/// and errors: as of `nm_worker_pin`.
-#[unsafe(no_mangle)]
-pub extern "C" fn nm_map_pin(
-    alloc: Global,
-    worker: &mut Handle,
-    tries: u32,
-    epoch: &mut u64,
-) -> i32
-    ensures { IsCodeOf (OfMapWorker (TellsPin tries epoch.old epoch.new) (epoch.new ≡ epoch.old)
-        (held_by worker.old) (held_by worker.new)) result }
-{
-    by_handle!(alloc, worker, MapWorker(member) => pin(member, tries, epoch))
-}
-
-fn pin(member: &mut MapMember, tries: u32, epoch: &mut u64) -> Outcome
-    ensures { HasDone (TellsPin tries epoch.old epoch.new) member.old member.new result }
-{
-    let answer = member.pin(tries);
-    tell_pin(answer, epoch)
-}
-
-/// Ends the caller's pin: `MapMember::unpin` of `nm_set`. Returns `Done`. Errors: `NotPinned`,
-/// `Closed`, `InUse`, `Kind`.
-#[unsafe(no_mangle)]
-pub extern "C" fn nm_map_unpin(alloc: Global, worker: &mut Handle) -> i32
-    ensures { IsCodeOf (OfMapWorker TellsUnpin ⊤ (held_by worker.old) (held_by worker.new)) result }
-{
-    by_handle!(alloc, worker, MapWorker(member) => unpin(member))
-}
-
-fn unpin(member: &mut MapMember) -> Outcome
-    ensures { HasDone TellsUnpin member.old member.new result }
-{
-    let answer = member.unpin();
-    tell_unpin(answer)
-}
 
 /// Writes the keys of the map from `from` on that are below `below` into `keys`, in ascending order,
 /// and how many there are: `MapMember::scan` of `nm_set`. Returns, writes and errors: as of

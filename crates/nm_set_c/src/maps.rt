@@ -3,8 +3,9 @@ ghost use Rattle.std.specs.Prelude.{◌≡◌};
 ghost use Rattle.nm_edge.specs.Layouts.{in_radix, spaced};
 ghost use Rattle.nm_edge.specs.declared.placement.Fit.TheVariants.{NextFit};
 ghost use Rattle.nm_set_c.specs.Handles.{held_by};
-ghost use Rattle.nm_set_c.specs.Maps.{MakesMap, GivesNumbered, GivesAny, TakesMapWorker, AttachesToMap, MissesOfMap, MissesOfOwner, EndsMap, EndsMapOwner};
+ghost use Rattle.nm_set_c.specs.Maps.{MakesMap, TakesMapWorker, AttachesToMap, MissesOfMap, EndsMap};
 ghost use Rattle.nm_set_c.specs.Outcomes.{IsCodeOf};
+ghost use Rattle.nm_set_c.specs.Sets.{EndsOwned, GivesAny, GivesNumbered, MissesOwned};
 
 use crate::handle::Handle;
 use crate::opening::{by_two_handles, open};
@@ -53,7 +54,7 @@ pub extern "C" fn nm_map_worker(
 }
 
 fn member_of(owner: &Owner, number: u32) -> Result<Owner, Outcome>
-    ensures { GivesNumbered number owner.now result }
+    ensures { GivesNumbered Owner.Map Owner.MapWorker number owner.now result }
 {
     let Owner::Map(map) = owner else {
         return Err(Outcome::Kind);
@@ -77,7 +78,7 @@ pub extern "C" fn nm_map_attach(alloc: Global, map: &mut Handle, worker: &mut Ha
 }
 
 fn any_of(owner: &Owner) -> Result<Owner, Outcome>
-    ensures { GivesAny owner.now result }
+    ensures { GivesAny Owner.Map Owner.MapWorker owner.now result }
 {
     let Owner::Map(map) = owner else {
         return Err(Outcome::Kind);
@@ -106,7 +107,7 @@ pub extern "C" fn nm_map_attached(alloc: Global, map: &mut Handle, number: u32) 
 }
 
 fn is_attached(owner: &Owner, number: u32) -> Outcome
-    ensures { MissesOfOwner number owner.now result }
+    ensures { MissesOwned Owner.Map number owner.now result }
 {
     let Owner::Map(map) = owner else {
         return Outcome::Kind;
@@ -137,7 +138,7 @@ pub extern "C" fn nm_map_close(alloc: Global, map: &mut Handle) -> i32
 }
 
 fn end(owner: Owner) -> (Owner, Outcome)
-    ensures { EndsMapOwner owner result.0 result.1 }
+    ensures { EndsOwned Owner.Map owner result.0 result.1 }
 {
     let map = match owner {
         Owner::Map(map) => map,

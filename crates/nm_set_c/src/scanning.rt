@@ -1,5 +1,5 @@
 //! Scans of a range of keys, by the handle of a worker.
-#![tactic(auto, using(crate::proofs::Owners::asked_of_worker))]
+#![tactic(auto, using(crate::proofs::Owners::asked_of_owner))]
 
 ghost use Rattle.std.specs.Prelude.{◌≡◌};
 ghost use Rattle.nm_edge.specs.declared.edge.Side.TheVariants.{Left, Right};

@@ -1,11 +1,10 @@
 //! Calls on a set, by its handle.
-ghost use Rattle.std.specs.Prelude.{◌≡◌, ◌⊎◌, None};
+ghost use Rattle.std.specs.Prelude.{◌≡◌};
 ghost use Rattle.nm_edge.specs.Layouts.{in_radix, spaced};
 ghost use Rattle.nm_edge.specs.declared.placement.Fit.TheVariants.{FirstFit, NextFit};
 ghost use Rattle.nm_set_c.specs.Handles.{held_by};
-ghost use Rattle.nm_set_c.specs.Handles.Hold.{Closed, Open};
 ghost use Rattle.nm_set_c.specs.Outcomes.{IsCodeOf};
-ghost use Rattle.nm_set_c.specs.Sets.{MakesSet, GivesWorker, Keeps, TakesWorker, IsNumbered, NumberFaults, Attaches, IsAny, AnyFaults, Misses, MissesOwned, GivesUp};
+ghost use Rattle.nm_set_c.specs.Sets.{MakesSet, GivesNumbered, TakesWorker, Attaches, GivesAny, Misses, MissesOwned, GivesUp};
 
 use crate::handle::Handle;
 use crate::opening::{by_two_handles, open};
@@ -111,7 +110,7 @@ pub extern "C" fn nm_set_worker(
 }
 
 fn member_of(owner: &Owner, number: u32) -> Result<Owner, Outcome>
-    ensures { GivesWorker (IsNumbered number) (NumberFaults number) owner.now result }
+    ensures { GivesNumbered Owner.Set Owner.Worker number owner.now result }
 {
     let Owner::Set(set) = owner else {
         return Err(Outcome::Kind);
@@ -136,7 +135,7 @@ pub extern "C" fn nm_set_attach(alloc: Global, set: &mut Handle, worker: &mut Ha
 }
 
 fn any_of(owner: &Owner) -> Result<Owner, Outcome>
-    ensures { GivesWorker IsAny AnyFaults owner.now result }
+    ensures { GivesAny Owner.Set Owner.Worker owner.now result }
 {
     let Owner::Set(set) = owner else {
         return Err(Outcome::Kind);
@@ -165,7 +164,7 @@ pub extern "C" fn nm_set_attached(alloc: Global, set: &mut Handle, number: u32) 
 }
 
 fn is_attached(owner: &Owner, number: u32) -> Outcome
-    ensures { MissesOwned number owner.now result }
+    ensures { MissesOwned Owner.Set number owner.now result }
 {
     let Owner::Set(set) = owner else {
         return Outcome::Kind;

@@ -1,12 +1,12 @@
 //! What a worker reports of itself, and the end of another one, by its handle.
-#![tactic(auto, using(crate::proofs::Owners::told_of_worker))]
+#![tactic(auto, using(crate::proofs::Owners::told_of_owner))]
 
 ghost use Rattle.std.specs.Prelude.{◌≡◌, ⊤};
 ghost use Rattle.nm_tree.specs.Workers.{waiting_in};
 ghost use Rattle.nm_set_c.specs.Handles.{held_by};
 ghost use Rattle.nm_set_c.specs.Outcomes.{IsCodeOf};
 ghost use Rattle.nm_set_c.specs.Handles.Hold.{Open};
-ghost use Rattle.nm_set_c.specs.Owners.{OfWorker, OwnsWorker};
+ghost use Rattle.nm_set_c.specs.Owners.{OfWorker, Owns};
 ghost use Rattle.nm_set_c.specs.Workers.{TellsResign, TellsNumber, TellsOption, TellsStats, IsOptionTold, pending_key};
 
 use crate::handle::{Handle, by_handle};
@@ -137,7 +137,7 @@ pub extern "C" fn nm_worker_stats(alloc: Global, worker: &mut Handle, stats: &mu
 /// Takes over a worker that is not attached: `Member::resign` of `nm_set`. This worker then holds
 /// all that the leaver held, and the leaver never comes back. Returns `Done`. Errors: `Number`,
 /// `Attached` and `Pending`, which are of the leaver. `Closed`, `InUse`, `Kind`.
-#[tactic(auto, using(crate::proofs::Owners::refused_worker, crate::proofs::Owners::owned_worker))]
+#[tactic(auto, using(crate::proofs::Owners::refused, crate::proofs::Owners::owned))]
 #[unsafe(no_mangle)]
 pub extern "C" fn nm_worker_resign(alloc: Global, worker: &mut Handle, leaver: u32) -> i32
     ensures { IsCodeOf (OfWorker (TellsResign leaver) ⊤ (held_by worker.old) (held_by worker.new))
@@ -153,9 +153,9 @@ pub extern "C" fn nm_worker_resign(alloc: Global, worker: &mut Handle, leaver: u
     outcome.code()
 }
 
-#[tactic(auto, using(crate::proofs::Owners::does_worker, crate::proofs::Owners::is_no_worker))]
+#[tactic(auto, using(crate::proofs::Owners::does_owned, crate::proofs::Owners::is_other))]
 fn resign(heir: Owner, leaver: u32) -> (Owner, Outcome)
-    ensures { OwnsWorker (TellsResign leaver) ⊤ heir (Open result.0) result.1 }
+    ensures { Owns Owner.Worker (TellsResign leaver) ⊤ heir (Open result.0) result.1 }
 {
     let member = match heir {
         Owner::Worker(member) => member,

@@ -1,6 +1,6 @@
 use Rattle.std.proofs.Common.{rules}
-use Rattle.nm_set_c.proofs.Owners.{told_report}
+use Rattle.nm_set_c.proofs.Owners.{told}
 use Rattle.nm_set_c.proofs.reports.nm_report_waiting.Goals as goal
 
 pub returns : goal.returns
-returns c = search (rules, told_report)
+returns c = search (rules, told)
