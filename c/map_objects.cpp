@@ -110,6 +110,17 @@ void an_object_of_a_derived_class_is_freed_by_its_base() {
     CHECK(Canary::alive() == 0);
 }
 
+// Readers of a map of constant objects cannot change them.
+void objects_may_be_constant() {
+    {
+        nm::Map<const Canary> map{64, 1};
+        auto worker = map.attach();
+        CHECK(worker.emplace(5u, 5u) && worker.insert(6u, std::make_unique<const Canary>(6)));
+        CHECK(worker.pin().get(5u)->is_of(5) && worker.remove(6u));
+    }
+    CHECK(Canary::alive() == 0);
+}
+
 // ---- refusals ----
 
 void a_refused_insert_leaves_the_object() {
@@ -298,6 +309,7 @@ int main() {
     a_guard_holds_objects_back();
     a_worker_frees_by_itself();
     an_object_of_a_derived_class_is_freed_by_its_base();
+    objects_may_be_constant();
     a_refused_insert_leaves_the_object();
     a_null_object_is_refused();
     nodes_of_a_returned_worker_are_freed();

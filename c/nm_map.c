@@ -144,15 +144,15 @@ static nm_outcome empty_by_number(nm_handle *map, uint32_t number, nm_map_releas
     return outcome;
 }
 
-/* Empties a map by each of its workers in turn. If some fail, it goes on, and returns why the last one
- * of them did. */
+/* Empties a map by each of its workers in turn. If some fail, it goes on, and returns why one of them
+ * did: NM_NO_MEMORY if that is one of the reasons. */
 static nm_outcome empty(nm_handle *map, nm_map_release release, void *context) {
-    nm_outcome outcome = NM_DONE, last = NM_DONE;
+    nm_outcome outcome = NM_DONE, reason = NM_DONE;
     for (uint32_t number = 0; outcome != NM_NUMBER && number < 64; number++) {
         outcome = empty_by_number(map, number, release, context);
-        if (outcome < 0 && outcome != NM_NUMBER) last = outcome;
+        if (outcome < 0 && outcome != NM_NUMBER && reason != NM_NO_MEMORY) reason = outcome;
     }
-    return last;
+    return reason;
 }
 
 nm_outcome nm_map_drain(nm_handle *map, nm_map_release release, void *context,

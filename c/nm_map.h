@@ -1,7 +1,7 @@
 /* Calls on a map of nm_set.h that hand each value that comes back to a function of the program. So a
- * value may be the address of an object: that function frees the object. nm_map.hpp, the crate for
- * Rust and the calls of this header are made of the proved functions of nm_set.h. They are tested by
- * c/maps.cpp and the tests of each language, and no proof covers them.
+ * value may be the address of an object: that function frees the object. The calls of this header are
+ * made of the proved functions of nm_set.h, and no proof covers them. The maps of C++ and Rust are made
+ * of these calls. c/map_objects.cpp and the tests of each language test them.
  *
  *     static void give_back(void *context, uint64_t value) { free((void *)(uintptr_t)value); }
  *
@@ -85,10 +85,10 @@ nm_outcome nm_map_put(nm_handle *map, nm_handle *worker, uint64_t key, uint64_t 
  * turn. Returns NM_DONE: then no node waits, and an nm_map_close or nm_drop loses no value.
  *
  * Errors, after which another call goes on: NM_NO_MEMORY: memory was refused, even after repetitions
- * for timeout_ms milliseconds, with sleeps in between. NM_ATTACHED: a worker is attached. All others
- * were emptied, but what waits with that one did not come back, and what it pins neither.
- * NM_BEHIND: nodes wait for a worker that was pinned meanwhile. NM_BUSY, NM_IN_USE: other calls
- * interfered. NM_CLOSED, NM_KIND, NM_CLOSING. */
+ * for timeout_ms milliseconds, with sleeps in between. NM_ATTACHED: a worker is attached. The values
+ * of all others have come back; those that wait with that worker have not. NM_BEHIND: values wait for
+ * a worker that is pinned. NM_BUSY, NM_UNFINISHED, NM_IN_USE: other calls interfered. NM_CLOSED,
+ * NM_KIND, NM_CLOSING. */
 nm_outcome nm_map_drain(nm_handle *map, nm_map_release release, void *context,
                         uint32_t timeout_ms);
 

@@ -19,8 +19,8 @@
 // of its own. This header informs ThreadSanitizer of both orders: insert before get, and the end of a
 // guard before the object is freed.
 //
-// The library is proved. What this header and nm_map.h add to it is tested by c/maps.cpp and
-// c/map_soak.cpp, and not proved.
+// The library is proved. What this header and nm_map.h add to it is tested by c/map_objects.cpp,
+// c/map_soak.cpp and c/refused_map.cpp, and not proved. No map is used in a forked child.
 #ifndef NM_MAP_HPP
 #define NM_MAP_HPP
 
@@ -151,9 +151,9 @@ template <typename T>
 class MapWorker;
 
 // A pin of a worker, until its end. What `get` returns exists until then: no other thread's remove
-// frees it. Meanwhile the worker makes no other call (NM_PINNED), and no map frees an object that was
-// removed after the pin. So keep it short: nodes that wait for it are not free for inserts. The worker
-// must neither move nor end before the guard.
+// frees it. Meanwhile the worker makes no other call (NM_PINNED), and the map frees no object whose key
+// was removed after the pin. So keep it short: nodes that wait for it are not free for inserts. The
+// worker must neither move nor end before the guard.
 template <typename T>
 class [[nodiscard]] MapGuard {
 public:

@@ -224,8 +224,8 @@ impl<'a, V> MapWorker<'a, V> {
     /// new one.
     ///
     /// If no nodes are free, it drops the values that came back, by this worker and by those that are
-    /// not attached, and waits for nodes, for the [`timeout_ms`](Options::timeout_ms) of the options at
-    /// most. If another thread is stopped while it attaches a worker, this takes some tenths of a
+    /// not attached. Then it waits for nodes, for the [`timeout_ms`](Options::timeout_ms) of the options
+    /// at most. If another thread is stopped while it attaches a worker, this takes some tenths of a
     /// second more.
     ///
     /// Errors: `Present`. `Fault` with `Key`, `NoNodes` (no nodes became free in that time),
@@ -264,8 +264,8 @@ impl<'a, V> MapWorker<'a, V> {
     }
 
     /// Pins the worker until the guard is dropped: no value that the guard returns is dropped
-    /// meanwhile. No map drops a value that was removed after the pin, so keep it short: the nodes that
-    /// wait for it are not free for inserts.
+    /// meanwhile. The map drops no value whose key was removed after the pin. So keep it short: the
+    /// nodes that wait for it are not free for inserts.
     ///
     /// Errors: `Contention`, `Pinned`.
     pub fn pin(&mut self) -> Result<Guard<'_, 'a, V>, Fault> {

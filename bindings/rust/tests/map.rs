@@ -335,9 +335,14 @@ fn values_of_other_kinds_are_dropped() {
     assert_eq!(counts.alive(), 0);
 }
 
-const THREADS: u64 = 4;
-const CALLS: u64 = 20_000;
 const RANGE: u64 = 64;
+
+/// A number of the environment, for a longer run: `NM_SET_THREADS` and `NM_SET_CALLS`, which are those
+/// of each thread.
+fn number_of(name: &str, usual: u64) -> u64 {
+    let named = std::env::var(name).ok();
+    named.map_or(usual, |text| text.parse().expect("a number"))
+}
 
 fn drawn(seed: &mut u64) -> u64 {
     *seed ^= *seed << 13;
@@ -355,9 +360,9 @@ fn read_some(worker: &mut MapWorker<'_, Value>, seed: &mut u64) {
     }
 }
 
-fn work(map: &Map<Value>, counts: &Arc<Counts>, mut seed: u64) {
+fn work(map: &Map<Value>, counts: &Arc<Counts>, calls: u64, mut seed: u64) {
     let mut worker = map.attach().unwrap();
-    for call in 1..=CALLS {
+    for call in 1..=calls {
         let key = drawn(&mut seed) % RANGE;
         match drawn(&mut seed) % 4 {
             0 => match worker.insert(key, counts.value(key)) {
@@ -375,17 +380,19 @@ fn work(map: &Map<Value>, counts: &Arc<Counts>, mut seed: u64) {
 
 #[test]
 fn no_reader_gets_a_value_that_was_dropped() {
+    let threads = number_of("NM_SET_THREADS", 4);
+    let calls = number_of("NM_SET_CALLS", 20_000);
     let counts = Arc::new(Counts::default());
-    let map = Map::new(4_096, 2 * THREADS as u32).unwrap();
+    let map = Map::new(4_096, 2 * threads as u32).unwrap();
     std::thread::scope(|scope| {
-        for number in 1..=THREADS {
+        for number in 1..=threads {
             let (map, counts) = (&map, &counts);
-            scope.spawn(move || work(map, counts, 88_172_645_463_325_252 + number));
+            scope.spawn(move || work(map, counts, calls, 88_172_645_463_325_252 + number));
         }
     });
     let left = map.attach().unwrap().keys(..).unwrap().len() as u64;
     assert!(left <= RANGE && counts.alive() >= left);
     drop(map);
     assert_eq!(counts.alive(), 0);
-    assert!(counts.dropped.load(SeqCst) > THREADS * CALLS / 10);
+    assert!(counts.dropped.load(SeqCst) > threads * calls / 10);
 }
