@@ -116,7 +116,8 @@ void objects_may_be_constant() {
         nm::Map<const Canary> map{64, 1};
         auto worker = map.attach();
         CHECK(worker.emplace(5u, 5u) && worker.insert(6u, std::make_unique<const Canary>(6)));
-        CHECK(worker.pin().get(5u)->is_of(5) && worker.remove(6u));
+        CHECK(worker.pin().get(5u)->is_of(5));
+        CHECK(worker.remove(6u) && worker.reclaim().values == 1);
     }
     CHECK(Canary::alive() == 0);
 }
