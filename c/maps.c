@@ -168,6 +168,20 @@ static void pinned(void) {
     CHECK(nm_drop(&reader) == NM_DONE && nm_drop(&writer) == NM_DONE && nm_drop(&map) == NM_DONE);
 }
 
+/* A worker that is pinned itself gets back nothing that it can have read. */
+static void pinned_itself(void) {
+    nm_handle map = NM_CLOSED_HANDLE, worker = NM_CLOSED_HANDLE;
+    uint64_t value = NOT_WRITTEN, epoch = NOT_WRITTEN, back[2] = {NOT_WRITTEN, NOT_WRITTEN};
+    CHECK(nm_map_new(&map, 64, 3) == NM_DONE && nm_map_worker(&map, &worker, 1) == NM_DONE);
+    CHECK(nm_map_insert(&worker, 5, 500, usual) == NM_YES &&
+          nm_map_remove(&worker, 5, usual, &value) == NM_YES);
+    CHECK(nm_map_pin(&worker, TRIES, &epoch) == NM_DONE);
+    for (int turn = 0; turn < 3; turn++) comes_back(&worker, back, 2, 0, 1);
+    CHECK(nm_map_unpin(&worker) == NM_DONE);
+    comes_back(&worker, back, 2, 1, NM_NOBODY);
+    CHECK(back[0] == 500 && nm_drop(&worker) == NM_DONE && nm_drop(&map) == NM_DONE);
+}
+
 /* A worker keeps what waits with it when it is returned. */
 static void returned(void) {
     nm_handle map = NM_CLOSED_HANDLE, worker = NM_CLOSED_HANDLE;
@@ -363,6 +377,7 @@ int main(void) {
     reports();
     reclaims();
     pinned();
+    pinned_itself();
     returned();
     ends();
     kinds();

@@ -529,9 +529,9 @@ nm_outcome nm_map_remove(nm_handle *worker, uint64_t key, const nm_options *opti
 
 /* Tries twice to advance the epoch, and then frees what has waited long enough with this worker. It
  * writes the value of each key that is freed into values, at most `room` of them, and their number
- * to count. If count is room, there may be more: call again. Writes to behind the number of another
- * worker that holds the epoch back, so that more values may come back later, or NM_NOBODY if it
- * found no such worker. Returns NM_DONE. A key's value waits with the worker that cut the key off,
+ * to count. If count is room, there may be more: call again. Writes to behind the number of a worker
+ * that holds the epoch back (its own, if the caller has pinned it), so that more values may come back
+ * later, or NM_NOBODY if it found no such worker. Returns NM_DONE. A key's value waits with the worker that cut the key off,
  * so each worker reclaims, after every few dozen removes. values is not null, even if room is 0. */
 nm_outcome nm_map_reclaim(nm_handle *worker, uint64_t *values, size_t room, uint64_t *count,
                           uint32_t *behind);

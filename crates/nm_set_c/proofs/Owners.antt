@@ -27,7 +27,7 @@ owned kind does same old new x y o e f d = inr (x, e, subst (λ (h : Hold). Owns
 pub does_owned : {A : Type 0} (kind : A → Owner) (does : A → A → Outcome → Type 0) (same : Type 0) (x : Owner) (m n : A) (o : Outcome)
     → x ≡ kind m → does m n o → Owns kind does same x (Open (kind n)) o
 unfolding Owns
-does_owned kind does same x m n o e d = inl (m, e, n, refl, d)
+does_owned kind does same x m n o e d = inl (m, e, (n, refl, d))
 
 pub told : {A : Type 0} (kind : A → Owner) (does : A → A → Outcome → Type 0) (same : Type 0) (old new : Hold) (m n : A) (o : Outcome)
     → old ≡ Open (kind m) → new ≡ Open (kind n) → does m n o → OfHandle kind does same old new o
@@ -41,7 +41,7 @@ asked kind does same old new m n o d f e = told kind does same old new m n o e f
 pub is_other : {A : Type 0} (kind : A → Owner) (does : A → A → Outcome → Type 0) (same : Type 0) (x : Owner)
     → ((a : A) → x ≡ kind a → ⊥) → same → Owns kind does same x (Open x) Kind
 unfolding Owns
-is_other kind does same x not s = inr (not, refl, refl, s)
+is_other kind does same x not s = inr (not, (refl, refl, s))
 
 pub other : {A : Type 0} (kind : A → Owner) (does : A → A → Outcome → Type 0) (same : Type 0) (old new : Hold) (x : Owner)
     → ((a : A) → x ≡ kind a → ⊥) → old ≡ Open x → new ≡ Open x → same → OfHandle kind does same old new Kind

@@ -50,11 +50,13 @@ abbrev pub TellsGet : Options → ℕ → ℕ → ℕ → MemberView → MemberV
 TellsGet h k = TellsNear k (λ b. SaysGet b h k)
 
 -- what an insert of a key with a value says, and that the map had both if the key was absent
-abbrev pub Puts : TreeView → Options → ℕ → ℕ → WorkerView → WorkerView → Result Bool CallFault → Type 0
-Puts b h k v w z r = SaysChange Insert b h k w z r × (r ≡ Ok true → HasPut w.pass z.pass k v)
+pub record PutsValue (b : TreeView) (h : Options) (k v : ℕ) (w z : WorkerView) (r : Result Bool CallFault)
+    : Type 0 where
+  pub says : SaysChange Insert b h k w z r
+  pub puts : r ≡ Ok true → HasPut w.pass z.pass k v
 
 abbrev pub TellsPut : Options → ℕ → ℕ → MemberView → MemberView → Outcome → Type 0
-TellsPut h k v m n o = OfKey k (TellsAnswer (Puts m.tree h k v) m n o) m n o
+TellsPut h k v m n o = OfKey k (TellsAnswer (PutsValue m.tree h k v) m n o) m n o
 
 -- the value that is written if the remove has taken its key, whether it is finished or not; or the
 -- number that was there before
