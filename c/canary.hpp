@@ -7,8 +7,8 @@
 #include <atomic>
 #include <cstdint>
 
-// An object of a key. Whoever reads it after its end finds another mark, unless the memory is in use
-// again, which the sanitizers find.
+// An object of a key. Whoever reads it after its end finds another mark, unless the memory is in
+// use again, which the sanitizers find.
 class Canary {
 public:
     inline static std::atomic<std::uint64_t> made{0}, destroyed{0};

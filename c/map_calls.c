@@ -1,6 +1,6 @@
-/* Tests the calls of nm_map.h: each value is handed over once, when it has come back; what is refused
- * leaves the value with its caller; and a drain hands over all that is left, in whatever state the
- * workers were returned. */
+/* Tests the calls of nm_map.h: each value is handed over once, when it has come back; what is
+ * refused leaves the value with its caller; and a drain hands over all that is left, in whatever
+ * state the workers were returned. */
 #include "holds.h"
 #include "nm_map.h"
 
@@ -23,7 +23,8 @@ static void give_back(void *context, uint64_t value) {
 }
 
 static nm_outcome put_for(nm_handle *map, nm_handle *worker, uint64_t key, uint32_t timeout_ms) {
-    return nm_map_put(map, worker, key, NONE + key, &nm_default_options, give_back, &total, timeout_ms);
+    return nm_map_put(map, worker, key, NONE + key, &nm_default_options, give_back, &total,
+                      timeout_ms);
 }
 
 static void put_below(nm_handle *map, nm_handle *worker, uint64_t below) {
@@ -106,7 +107,8 @@ static void a_worker_is_tended_when_enough_nodes_wait(void) {
     end(&map);
 }
 
-/* A pin holds values back. A put into the full map waits for its time, and then for the pin alone. */
+/* A pin holds values back. A put into the full map waits for its time, and then for the pin alone.
+ * */
 static void a_put_waits_for_nodes(void) {
     nm_handle map, reader = NM_CLOSED_HANDLE, worker = NM_CLOSED_HANDLE;
     uint64_t epoch, begin;

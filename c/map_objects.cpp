@@ -1,6 +1,6 @@
 // Tests nm::Map: values in place; objects, each of which is destroyed once and never while a guard
-// can return it; refusals, after which the caller still has the object; the ends of maps and workers;
-// and threads that read objects while others remove them.
+// can return it; refusals, after which the caller still has the object; the ends of maps and
+// workers; and threads that read objects while others remove them.
 #include "canary.hpp"
 #include "nm_map.hpp"
 #include "thrown.hpp"
@@ -131,7 +131,8 @@ void a_refused_insert_leaves_the_object() {
     Objects map(7, options);
     Objects::Worker worker = map.attach(), reader = map.attach();
     auto object = std::make_unique<Canary>(6);
-    CHECK(thrown([&] { worker.insert(UINT64_MAX, std::move(object)); }) == NM_KEY && object->is_of(6));
+    CHECK(thrown([&] { worker.insert(UINT64_MAX, std::move(object)); }) == NM_KEY);
+    CHECK(object->is_of(6));
     CHECK(worker.emplace(5u, 5u) && !worker.insert(5u, std::move(object)) && object->is_of(6));
     {
         auto guard = worker.pin();
@@ -143,8 +144,8 @@ void a_refused_insert_leaves_the_object() {
     CHECK(worker.remove(5u));
     Thrown full = fault_of([&] { worker.insert(6u, std::move(object)); });
     CHECK(full.outcome == NM_FULL && object->is_of(6));
-    CHECK(full.text == "the map is full: no two of its 7 nodes are free, and 2 wait with this worker; "
-                       "held back by a guard or a call of worker 1");
+    CHECK(full.text == "the map is full: no two of its 7 nodes are free, and 2 wait with this "
+                       "worker; held back by a guard or a call of worker 1");
     guard.unpin();
     CHECK(worker.insert(6u, std::move(object)) && object == nullptr && Canary::alive() == 1);
 }
@@ -200,7 +201,8 @@ void keys_are_read_in_order() {
     for (std::uint64_t key = 0; key < 2000; key++) CHECK(worker.insert(key * 7919 % 10007, 1));
     CHECK(worker.insert(nm::most_key, 1));
     std::vector<std::uint64_t> all = worker.keys();
-    CHECK(all.size() == 2001 && std::is_sorted(all.begin(), all.end()) && all.back() == nm::most_key);
+    CHECK(all.size() == 2001 && all.back() == nm::most_key);
+    CHECK(std::is_sorted(all.begin(), all.end()));
     std::vector<std::uint64_t> some = worker.keys(all[10], all[20]);
     CHECK(some == std::vector<std::uint64_t>(all.begin() + 10, all.begin() + 20));
     CHECK(worker.keys(7u, 7u).empty() && worker.keys(UINT64_MAX).empty());
@@ -208,7 +210,8 @@ void keys_are_read_in_order() {
 
 // ---- ends ----
 
-// A map that was moved goes on, and one that ends before its workers is emptied by the last of them.
+// A map that was moved goes on, and one that ends before its workers is emptied by the last of
+// them.
 void the_last_one_empties_the_map() {
     Objects::Worker last;
     {
@@ -224,7 +227,8 @@ void the_last_one_empties_the_map() {
     CHECK(Canary::alive() == 0);
 }
 
-// What waits with each worker is freed at the end, even if guards held it back when they were closed.
+// What waits with each worker is freed at the end, even if guards held it back when they were
+// closed.
 void the_end_frees_what_waits() {
     {
         Objects map{8192, 8};

@@ -1,8 +1,8 @@
-// map_soak [THREADS [CALLS [KEYS]]]: threads insert, get and remove objects of one nm::Map, for CALLS
-// calls in all, with keys below KEYS. A get reads the object under a guard, and now and then holds the
-// guard for a while. Each object checks that it is destroyed once, and each reader that it reads an
-// object that exists. At the end each object was destroyed. Without numbers it is short, for c/check;
-// under the sanitizers and valgrind it finds a read or a free of freed memory.
+// map_soak [THREADS [CALLS [KEYS]]]: threads insert, get and remove objects of one nm::Map, for
+// CALLS calls in all, with keys below KEYS. A get reads the object under a guard, and now and then
+// holds the guard for a while. Each object checks that it is destroyed once, and each reader that
+// it reads an object that exists. At the end each object was destroyed. Without numbers it is
+// short, for c/check; under the sanitizers and valgrind it finds a read or a free of freed memory.
 #include "canary.hpp"
 #include "nm_map.hpp"
 
@@ -25,7 +25,8 @@ struct Load {
 
 // What the calls of a thread returned.
 struct Counts {
-    std::uint64_t inserts = 0, inserted = 0, gets = 0, found = 0, removes = 0, removed = 0, full = 0;
+    std::uint64_t inserts = 0, inserted = 0, full = 0;
+    std::uint64_t gets = 0, found = 0, removes = 0, removed = 0;
 
     Counts &operator+=(const Counts &other) {
         inserts += other.inserts, inserted += other.inserted;
@@ -85,7 +86,8 @@ Counts run(const Load &load) {
     std::vector<Counts> each(load.threads);
     std::vector<std::thread> running;
     for (unsigned number = 0; number < load.threads; number++)
-        running.emplace_back(work, std::ref(map), std::cref(load), number + 1, std::ref(each[number]));
+        running.emplace_back(work, std::ref(map), std::cref(load), number + 1,
+                             std::ref(each[number]));
     for (std::thread &thread : running) thread.join();
     Counts all;
     for (const Counts &counts : each) all += counts;

@@ -144,8 +144,8 @@ static nm_outcome empty_by_number(nm_handle *map, uint32_t number, nm_map_releas
     return outcome;
 }
 
-/* Empties a map by each of its workers in turn. If some fail, it goes on, and returns why one of them
- * did: NM_NO_MEMORY if that is one of the reasons. */
+/* Empties a map by each of its workers in turn. If some fail, it goes on, and returns why one of
+ * them did: NM_NO_MEMORY if that is one of the reasons. */
 static nm_outcome empty(nm_handle *map, nm_map_release release, void *context) {
     nm_outcome outcome = NM_DONE, reason = NM_DONE;
     for (uint32_t number = 0; outcome != NM_NUMBER && number < 64; number++) {

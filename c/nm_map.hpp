@@ -9,15 +9,15 @@
 //     }
 //     worker.remove(5u);                       // true; the text is freed when nobody can read it
 //
-// A T of at most 8 bytes that can be copied by memcpy, like a number, is stored in place. Then `get`
-// returns a copy, and a worker has `get` too. A map holds objects of every other T by
-// `std::unique_ptr<T>`, and frees each of them exactly once: after its key was removed, when no guard
-// is left that could have returned it; or at the end of the map.
+// A T of at most 8 bytes that can be copied by memcpy, like a number, is stored in place. Then
+// `get` returns a copy, and a worker has `get` too. A map holds objects of every other T by
+// `std::unique_ptr<T>`, and frees each of them exactly once: after its key was removed, when no
+// guard is left that could have returned it; or at the end of the map.
 //
 // What a thread wrote before it inserted a key is visible to each thread that gets its value. An
-// object may be read by several threads at the same time: if its T changes, it has a lock or atomics
-// of its own. This header informs ThreadSanitizer of both orders: insert before get, and the end of a
-// guard before the object is freed.
+// object may be read by several threads at the same time: if its T changes, it has a lock or
+// atomics of its own. This header informs ThreadSanitizer of both orders: insert before get, and
+// the end of a guard before the object is freed.
 //
 // The library is proved. What this header and nm_map.h add to it is tested by c/map_objects.cpp,
 // c/map_soak.cpp and c/refused_map.cpp, and not proved. No map is used in a forked child.
@@ -36,8 +36,8 @@ struct MapOptions {
     std::uint32_t workers = 64;       // 1 to 64; each takes 4,096 bytes
     std::uint32_t tries = 64;         // the tries of each call of the tree
     std::uint32_t rounds = 64;        // how often a call that lost each of its tries is retried
-    // The number of waiting nodes from which an insert or a remove first frees what came back. If it
-    // is not given: nodes / (8 * workers), at least 8 and at most 64.
+    // The number of waiting nodes from which an insert or a remove first frees what came back. If
+    // it is not given: nodes / (8 * workers), at least 8 and at most 64.
     std::optional<std::uint32_t> collect_after{};
     std::uint32_t timeout_ms = 1'000; // the longest time that an attach waits for a worker, and an
                                       // insert for nodes, in milliseconds
@@ -89,8 +89,8 @@ void give_up(std::uint64_t word) noexcept {
     if constexpr (!is_in_place<T>) std::default_delete<T>()(object_of<T>(word));
 }
 
-// What a map and its workers share. The last of them that ends empties the map, and frees each object
-// that is left.
+// What a map and its workers share. The last of them that ends empties the map, and frees each
+// object that is left.
 class MapPlace {
 public:
     MapPlace(std::uint64_t nodes, const MapOptions &options, void (*end)(std::uint64_t) noexcept)
@@ -151,9 +151,9 @@ template <typename T>
 class MapWorker;
 
 // A pin of a worker, until its end. What `get` returns exists until then: no other thread's remove
-// frees it. Meanwhile the worker makes no other call (NM_PINNED), and the map frees no object whose key
-// was removed after the pin. So keep it short: nodes that wait for it are not free for inserts. The
-// worker must neither move nor end before the guard.
+// frees it. Meanwhile the worker makes no other call (NM_PINNED), and the map frees no object whose
+// key was removed after the pin. So keep it short: nodes that wait for it are not free for inserts.
+// The worker must neither move nor end before the guard.
 template <typename T>
 class [[nodiscard]] MapGuard {
 public:
@@ -172,8 +172,8 @@ public:
 
     ~MapGuard() { unpin(); }
 
-    // Returns the value that the map has under a key. The map had it at a moment of this call. Throws
-    // NM_KEY, and NM_NOT_PINNED after `unpin`.
+    // Returns the value that the map has under a key. The map had it at a moment of this call.
+    // Throws NM_KEY, and NM_NOT_PINNED after `unpin`.
     [[nodiscard]] Found get(Key key) const {
         std::uint64_t word = 0;
         bool is_found = finds(key, word);
@@ -214,12 +214,13 @@ private:
 };
 
 // One worker of a map, for one thread at a time. It can be moved and not copied; a worker that was
-// moved from is closed. Its end returns it to the map, ends its pin, and frees what came back. If the
-// map ends before its workers, the last of them empties it.
+// moved from is closed. Its end returns it to the map, ends its pin, and frees what came back. If
+// the map ends before its workers, the last of them empties it.
 //
 // Each call throws NM_KEY if the key is above 2^64 - 4; NM_BUSY if the bounds of the options were
-// reached, and then the map is unchanged; NM_PINNED while the worker has a guard; NM_IN_USE if another
-// thread is in a call by this worker; NM_NO_MEMORY; and NM_CLOSED. No call waits, `insert` excepted.
+// reached, and then the map is unchanged; NM_PINNED while the worker has a guard; NM_IN_USE if
+// another thread is in a call by this worker; NM_NO_MEMORY; and NM_CLOSED. No call waits, `insert`
+// excepted.
 template <typename T>
 class MapWorker {
 public:
@@ -259,9 +260,10 @@ public:
 
     // Inserts a key with an object; returns whether the key was absent. Like
     // `std::map::try_emplace`, it takes the object only if it inserts it: after false, or a fault,
-    // `object` has it as before. If no nodes are free, it frees what came back, and waits for nodes,
-    // for `timeout_ms` of the options at most: NM_FULL, with the numbers in the text. If another
-    // thread is stopped while it attaches a worker, this takes some tenths of a second more.
+    // `object` has it as before. If no nodes are free, it frees what came back, and waits for
+    // nodes, for `timeout_ms` of the options at most: NM_FULL, with the numbers in the text. If
+    // another thread is stopped while it attaches a worker, this takes some tenths of a second
+    // more.
     template <typename U, std::enable_if_t<std::is_convertible_v<U *, T *>, int> = 0>
     bool insert(Key key, std::unique_ptr<U> &&object) {
         static_assert(!detail::is_in_place<T>, "a T of at most 8 bytes is inserted by its value");
@@ -281,8 +283,8 @@ public:
         return put(key, detail::word_of(value));
     }
 
-    // Makes an object of these arguments and inserts it; returns whether the key was absent. If it was
-    // present, the new object is destroyed again.
+    // Makes an object of these arguments and inserts it; returns whether the key was absent. If it
+    // was present, the new object is destroyed again.
     template <typename... Args>
     bool emplace(Key key, Args &&...args) {
         if constexpr (detail::is_in_place<T>)
@@ -292,9 +294,9 @@ public:
     }
 
     // Removes a key; returns whether it was present. Its object is freed later, when no guard can
-    // return it, by the thread whose call finds that: by an `insert`, a `remove`, a `reclaim` or the
-    // end of a worker, or by the end of the map. NM_UNFINISHED: the key will be removed by this call
-    // and no other, and the next call by this worker goes on with it.
+    // return it, by the thread whose call finds that: by an `insert`, a `remove`, a `reclaim` or
+    // the end of a worker, or by the end of the map. NM_UNFINISHED: the key will be removed by this
+    // call and no other, and the next call by this worker goes on with it.
     bool remove(Key key) {
         std::uint64_t unused = 0;
         detail::answered(tend());
@@ -343,8 +345,8 @@ public:
 
     // ---- of itself ----
 
-    // Frees what came back by this worker, whatever `collect_after` is. Returns how many values came
-    // back, and which worker holds back others.
+    // Frees what came back by this worker, whatever `collect_after` is. Returns how many values
+    // came back, and which worker holds back others.
     Reclaimed reclaim() {
         Reclaimed result{0, std::nullopt};
         std::uint32_t behind = NM_NOBODY;

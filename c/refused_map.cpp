@@ -1,6 +1,6 @@
-// Tests a map of objects if memory is refused: it repeats each call, which then ends like without the
-// refusal, and no object is lost or destroyed twice. If any one allocation is refused, it writes the
-// same text: refused_map.out.
+// Tests a map of objects if memory is refused: it repeats each call, which then ends like without
+// the refusal, and no object is lost or destroyed twice. If any one allocation is refused, it
+// writes the same text: refused_map.out.
 #include "canary.hpp"
 #include "nm_map.hpp"
 #include "thrown.hpp"

@@ -3,15 +3,16 @@
 The library keeps an integer under each key, and says when nobody can read it any more. Here that
 integer is a token: the key of a dict, in which the object is. So a reader makes two steps: it gets
 the token from the library, and the object from the dict. The lock of the interpreter does not make
-them one step, because other threads run between any two steps of Python. Without more, another thread
-might remove the key in between, and take the object out of the dict. So the reader pins its worker
-first, and unpins it after both steps. A token does not come back while a worker is pinned that may
-have got it, which is proved. This holds without the interpreter's lock too.
+them one step, because other threads run between any two steps of Python. Without more, another
+thread might remove the key in between, and take the object out of the dict. So the reader pins its
+worker first, and unpins it after both steps. A token does not come back while a worker is pinned
+that may have got it, which is proved. This holds without the interpreter's lock too.
 
 A call that removes a key returns its object, but by then another worker may have handed the token
 back. So there are two dicts. An entry of `_read` ends when the token comes back, and an entry of
-`_left` when the call that removed the key has taken it. Each entry ends once, by one call, so no two
-calls need to agree. The object itself ends with the later one of the two, like any object of Python.
+`_left` when the call that removed the key has taken it. Each entry ends once, by one call, so no
+two calls need to agree. The object itself ends with the later one of the two, like any object of
+Python.
 """
 
 from __future__ import annotations
@@ -56,8 +57,8 @@ class _Worker:
 
 
 class _Wait:
-    """Sleeps between the parts of a call that waits: 20 microseconds, and twice as long each time, up
-    to a millisecond."""
+    """Sleeps between the parts of a call that waits: 20 microseconds, and twice as long each time,
+    up to a millisecond."""
 
     def __init__(self, seconds: float) -> None:
         self._end, self._pause = time.monotonic() + seconds, 0.00002
@@ -88,14 +89,15 @@ os.register_at_fork(after_in_child=_forget_all)
 class Map(MutableMapping, Generic[V]):  # type: ignore[type-arg]
     """A concurrent ordered map from the integers 0 to 2^64 - 4 to objects, without locks.
 
-    Any thread may call it. Each call uses one of the map's workers that is in no other call. If each
-    is in a call, the call waits for at most the `timeout_ms` of `Options`, and then raises `NoWorker`.
+    Any thread may call it. Each call uses one of the map's workers that is in no other call. If
+    each is in a call, the call waits for at most the `timeout_ms` of `Options`, and then raises
+    `NoWorker`.
 
-    A call for one key has one moment at which its answer was right, except where its description says
-    that it is made of two steps. Iteration takes no snapshot: it goes over the keys in ascending order,
-    while other threads add and remove. The map refers to an object from its insert until its key was
-    removed and no call can return it any more. That is found by a later call that inserts or removes,
-    by `collect`, or by `close`.
+    A call for one key has one moment at which its answer was right, except where its description
+    says that it is made of two steps. Iteration takes no snapshot: it goes over the keys in
+    ascending order, while other threads add and remove. The map refers to an object from its insert
+    until its key was removed and no call can return it any more. That is found by a later call that
+    inserts or removes, by `collect`, or by `close`.
     """
 
     def __init__(
@@ -105,8 +107,8 @@ class Map(MutableMapping, Generic[V]):  # type: ignore[type-arg]
         workers: SupportsIndex = 16,
         options: Options = Options(),
     ) -> None:
-        """Makes the empty map, with room for 7 to 268,435,456 nodes, and never more: four for each key
-        are usual. `workers` is how many calls there can be at the same time, 1 to 64."""
+        """Makes the empty map, with room for 7 to 268,435,456 nodes, and never more: four for each
+        key are usual. `workers` is how many calls there can be at the same time, 1 to 64."""
         self._nodes = narrow(nodes, "nodes", 7, MOST_NODES)
         self._workers = narrow(workers, "workers", 1, MOST_WORKERS)
         self._seconds = options.timeout_ms / 1_000
@@ -154,10 +156,11 @@ class Map(MutableMapping, Generic[V]):  # type: ignore[type-arg]
 
     def _fault(self, outcome: int) -> Fault:
         """Returns the exception of an outcome below 0."""
+        keys = len(self._left)
         texts = {
             c.NO_WORKER: f"each of the {self._workers} workers of the map is in a call",
             c.FULL: f"the map is full: no two of its {self._nodes:,} nodes are free; it has"
-            f" {len(self):,} keys, which take {2 * len(self) + 5:,}, and the others wait to be freed",
+            f" {keys:,} keys, which take {2 * keys + 5:,}, and the others wait to be freed",
         }
         if outcome in (c.KIND, c.CLOSED, c.CLOSING):  # the map was closed meanwhile
             return fault(c.CLOSED, "the map is closed")
@@ -194,7 +197,8 @@ class Map(MutableMapping, Generic[V]):  # type: ignore[type-arg]
         return self._taken_back(worker) if waiting.value >= self._after else []
 
     def _release(self, tokens: list[int]) -> None:
-        """Ends the references to objects. This may run code of theirs, so the worker is idle again."""
+        """Ends the references to objects. This may run code of theirs, so the worker is idle
+        again."""
         for token in tokens:
             self._read.pop(token, None)
 
@@ -211,8 +215,8 @@ class Map(MutableMapping, Generic[V]):  # type: ignore[type-arg]
         return tokens
 
     def collect(self) -> int:
-        """Ends the map's references to all objects that no call can return any more, and returns how
-        many these are. It skips workers that are in a call, and waits for nothing."""
+        """Ends the map's references to all objects that no call can return any more, and returns
+        how many these are. It skips workers that are in a call, and waits for nothing."""
         self._check_open()
         tokens = self._collected()
         self._release(tokens)
@@ -290,10 +294,10 @@ class Map(MutableMapping, Generic[V]):  # type: ignore[type-arg]
         return outcome
 
     def __setitem__(self, key: SupportsIndex, value: V) -> None:
-        """Inserts a key with an object. If the map has the key, this takes two steps: it removes the
-        key, and inserts it again. Between the two, other threads find the key absent. If another
-        thread inserts the key in between, this starts again, at most `rounds` of `Options` times, and
-        then raises `Contention`."""
+        """Inserts a key with an object. If the map has the key, this takes two steps: it removes
+        the key, and inserts it again. Between the two, other threads find the key absent. If
+        another thread inserts the key in between, this starts again, at most `rounds` of `Options`
+        times, and then raises `Contention`."""
         number = _checked(key)
         for _ in range(self._rounds + 1):
             if self.insert(number, value):
@@ -318,8 +322,8 @@ class Map(MutableMapping, Generic[V]):  # type: ignore[type-arg]
         return self._with_worker(lambda worker: self._removed(worker, number))
 
     def _removed(self, worker: _Worker, key: int) -> Any:
-        """Removes a key, and returns its object, or `_MISSING`. It returns the object of a key whose
-        remove is unfinished too, because this call will remove it and no other call will."""
+        """Removes a key, and returns its object, or `_MISSING`. It returns the object of a key
+        whose remove is unfinished too, because this call will remove it and no other call will."""
         token = c_uint64()
         outcome = c.quick.nm_map_remove(worker.handle, key, self._words, token)
         if outcome in (c.YES, c.UNFINISHED):
@@ -338,8 +342,8 @@ class Map(MutableMapping, Generic[V]):  # type: ignore[type-arg]
     def pop(self, key: object, default: T) -> Union[V, T]: ...
     def pop(self, key: object, default: Any = _MISSING) -> Any:
         """Removes a key, and returns the object that it had. No two calls return one object, unless
-        it was inserted again in between. If the map does not have the key, it returns the default, or
-        raises KeyError if none is given."""
+        it was inserted again in between. If the map does not have the key, it returns the default,
+        or raises KeyError if none is given."""
         number = number_of(key)
         found = self._pop(number) if number is not None else self._get(key)
         if found is not _MISSING:
@@ -364,7 +368,9 @@ class Map(MutableMapping, Generic[V]):  # type: ignore[type-arg]
 
     # ---- in order ----
 
-    def _scan(self, worker: _Worker, first: int, below: int, is_back: bool) -> tuple[list[int], Any]:
+    def _scan(
+        self, worker: _Worker, first: int, below: int, is_back: bool
+    ) -> tuple[list[int], Optional[int]]:
         """Returns keys of a range in an order, and where the next scan goes on, or None."""
         keys, count, rest = (c_uint64 * _SCANNED)(), c_uint64(), c_uint64()
         scan = c.exports.nm_map_scan_back if is_back else c.exports.nm_map_scan
@@ -382,9 +388,9 @@ class Map(MutableMapping, Generic[V]):  # type: ignore[type-arg]
         inclusive: tuple[bool, bool] = (True, True),
         reverse: bool = False,
     ) -> Iterator[int]:
-        """Returns an iterator over the keys from `minimum` to `maximum`, ascending or descending. It
-        reads keys ahead, in blocks of up to 512. A key that is in the map during the whole iteration
-        is returned, and a key that is absent during all of it is not."""
+        """Returns an iterator over the keys from `minimum` to `maximum`, ascending or descending.
+        It reads keys ahead, in blocks of up to 512. A key that is in the map during the whole
+        iteration is returned, and a key that is absent during all of it is not."""
         first, below = ends_of(minimum, maximum, inclusive)
         self._check_open()
         return self._each(first, below, reverse)
@@ -419,8 +425,8 @@ class Map(MutableMapping, Generic[V]):  # type: ignore[type-arg]
     # ---- of itself ----
 
     def __len__(self) -> int:
-        """Returns how many keys the map has. It is exact if no thread makes a call meanwhile, and no
-        exception of a signal handler has interrupted an insert or a remove."""
+        """Returns how many keys the map has. It is exact if no thread makes a call meanwhile, and
+        no exception of a signal handler has interrupted an insert or a remove."""
         self._check_open()
         return len(self._left)
 
@@ -464,8 +470,9 @@ class Map(MutableMapping, Generic[V]):  # type: ignore[type-arg]
 
     def close(self) -> None:
         """Ends the map, and its references to all objects. A closed map is unchanged. It waits for
-        calls that other threads make at this moment, for ten seconds at most, and then raises `InUse`;
-        then the map goes on. Calls that begin meanwhile raise `Closed`, and so does each later call."""
+        calls that other threads make at this moment, for ten seconds at most, and then raises
+        `InUse`; then the map goes on. Calls that begin meanwhile raise `Closed`, and so does each
+        later call."""
         with self._closer:
             if self._process != os.getpid():
                 raise fault(c.FORKED, "the map was made before this process was forked")

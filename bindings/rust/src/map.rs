@@ -25,9 +25,9 @@ const NOBODY: u32 = u32::MAX;
 /// A concurrent ordered map from the integers 0 to 2^64 - 4 to values of a type, without locks.
 ///
 /// Threads share it by reference, and each attaches a [`MapWorker`] of its own. A reader gets a
-/// reference to a value under a [`Guard`]. A removed value is dropped exactly once: when no guard is
-/// left that could have returned it, by whichever worker finds that, or at the drop of the map. So
-/// threads share a map if `V: Send + Sync`.
+/// reference to a value under a [`Guard`]. A removed value is dropped exactly once: when no guard
+/// is left that could have returned it, by whichever worker finds that, or at the drop of the map.
+/// So threads share a map if `V: Send + Sync`.
 ///
 /// ```
 /// # fn main() -> Result<(), Box<dyn std::error::Error>> {
@@ -83,18 +83,19 @@ pub struct Reclaimed {
     pub behind: Option<u32>,
 }
 
-/// One worker of a [`Map`], for one thread at a time. Each call takes it by `&mut`, and it may be sent
-/// to another thread between two calls.
+/// One worker of a [`Map`], for one thread at a time. Each call takes it by `&mut`, and it may be
+/// sent to another thread between two calls.
 ///
-/// When it is dropped, including by a panic, it is returned to the map, and drops the values that came
-/// back. A worker that is forgotten (`std::mem::forget`) is never returned, and the removed values that
-/// wait with it are never dropped.
+/// When it is dropped, including by a panic, it is returned to the map, and drops the values that
+/// came back. A worker that is forgotten (`std::mem::forget`) is never returned, and the removed
+/// values that wait with it are never dropped.
 ///
 /// A call that drops values may panic if the drop of a value does. Then the call was made, and all
 /// other values that came back were dropped.
 ///
-/// No call waits, [`insert`](MapWorker::insert) excepted. Each may return `Contention` (the bound of the
-/// options was reached; the map is unchanged) and `Pinned` (a guard was forgotten; drop the worker).
+/// No call waits, [`insert`](MapWorker::insert) excepted. Each may return `Contention` (the bound
+/// of the options was reached; the map is unchanged) and `Pinned` (a guard was forgotten; drop the
+/// worker).
 pub struct MapWorker<'a, V> {
     handle: WorkerHandle<'a, V>,
 }
@@ -133,9 +134,9 @@ pub struct Guard<'w, 'a, V> {
 }
 
 impl<V> Map<V> {
-    /// Makes an empty map, with room for 7 to 268,435,456 nodes, for 1 to 64 workers. It never grows.
-    /// Four nodes for each key are usual: a key takes two, five are fixed, and those of removed keys
-    /// wait.
+    /// Makes an empty map, with room for 7 to 268,435,456 nodes, for 1 to 64 workers. It never
+    /// grows. Four nodes for each key are usual: a key takes two, five are fixed, and those of
+    /// removed keys wait.
     ///
     /// Errors: `Nodes`, `Workers`, `NoMemory`.
     pub fn new(nodes: u32, workers: u32) -> Result<Map<V>, Fault> {
@@ -146,7 +147,8 @@ impl<V> Map<V> {
         Map::with_options(nodes, options)
     }
 
-    /// Makes an empty map by options: see [`Map::new`]. A map is a radix tree: `shape` has no effect.
+    /// Makes an empty map by options: see [`Map::new`]. A map is a radix tree: `shape` has no
+    /// effect.
     ///
     /// Errors: `Nodes`, `Workers`, `NoMemory`.
     pub fn with_options(nodes: u32, options: Options) -> Result<Map<V>, Fault> {
@@ -220,13 +222,13 @@ fn managed(outcome: Outcome) -> Result<bool, Fault> {
 }
 
 impl<'a, V> MapWorker<'a, V> {
-    /// Inserts a key with a value. If the map has the key, it keeps its value, and the error has the
-    /// new one.
+    /// Inserts a key with a value. If the map has the key, it keeps its value, and the error has
+    /// the new one.
     ///
-    /// If no nodes are free, it drops the values that came back, by this worker and by those that are
-    /// not attached. Then it waits for nodes, for the [`timeout_ms`](Options::timeout_ms) of the options
-    /// at most. If another thread is stopped while it attaches a worker, this takes some tenths of a
-    /// second more.
+    /// If no nodes are free, it drops the values that came back, by this worker and by those that
+    /// are not attached. Then it waits for nodes, for the [`timeout_ms`](Options::timeout_ms) of
+    /// the options at most. If another thread is stopped while it attaches a worker, this takes
+    /// some tenths of a second more.
     ///
     /// Errors: `Present`. `Fault` with `Key`, `NoNodes` (no nodes became free in that time),
     /// `Contention`, `NoMemory`, `Pinned`.
@@ -248,8 +250,8 @@ impl<'a, V> MapWorker<'a, V> {
     /// Removes a key; returns true if it was present. Its value is dropped later, when no guard is
     /// left that could have returned it.
     ///
-    /// Errors: `Key`, `Contention`, `NoMemory`, `Pinned`. `Unfinished`: the key will be removed by this
-    /// call and no other, and the worker's next call goes on with it.
+    /// Errors: `Key`, `Contention`, `NoMemory`, `Pinned`. `Unfinished`: the key will be removed by
+    /// this call and no other, and the worker's next call goes on with it.
     pub fn remove(&mut self, key: u64) -> Result<bool, Fault> {
         let key = checked(key)?;
         managed(self.handle.remove(key))
@@ -276,8 +278,8 @@ impl<'a, V> MapWorker<'a, V> {
     }
 
     /// Returns the keys of a range, ascending. It takes no snapshot: each key was in the map at a
-    /// moment of the call, and two keys may have different moments. A key that is in the map during the
-    /// whole call is returned.
+    /// moment of the call, and two keys may have different moments. A key that is in the map during
+    /// the whole call is returned.
     ///
     /// Errors: `Contention`, `Pinned`.
     pub fn keys(&mut self, bounds: impl RangeBounds<u64>) -> Result<Vec<u64>, Fault> {

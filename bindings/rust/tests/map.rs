@@ -1,5 +1,5 @@
-//! Tests of maps: each value is dropped once, no guard returns a value that was dropped, and what is
-//! refused leaves the caller its value.
+//! Tests of maps: each value is dropped once, no guard returns a value that was dropped, and what
+//! is refused leaves the caller its value.
 
 use nm_set::{Fault, InsertError, Map, MapWorker, Options};
 use std::panic::{catch_unwind, AssertUnwindSafe};
@@ -229,8 +229,8 @@ fn what_a_guard_held_back_is_dropped_with_the_map() {
     assert_eq!(counts.alive(), 0);
 }
 
-/// A guard that was forgotten leaves its worker pinned: nothing is dropped too early, and the drop of
-/// the worker ends the pin.
+/// A guard that was forgotten leaves its worker pinned: nothing is dropped too early, and the drop
+/// of the worker ends the pin.
 #[test]
 fn a_forgotten_guard_only_holds_back() {
     let counts = Arc::new(Counts::default());
@@ -246,8 +246,8 @@ fn a_forgotten_guard_only_holds_back() {
     assert_eq!((remover.reclaim().unwrap().values, counts.alive()), (1, 0));
 }
 
-/// A worker that was forgotten keeps what waits with it. All other values are dropped, and the drop of
-/// the map does not wait.
+/// A worker that was forgotten keeps what waits with it. All other values are dropped, and the drop
+/// of the map does not wait.
 #[test]
 fn a_forgotten_worker_keeps_what_waits_with_it() {
     let counts = Arc::new(Counts::default());
@@ -337,8 +337,8 @@ fn values_of_other_kinds_are_dropped() {
 
 const RANGE: u64 = 64;
 
-/// A number of the environment, for a longer run: `NM_SET_THREADS` and `NM_SET_CALLS`, which are those
-/// of each thread.
+/// A number of the environment, for a longer run: `NM_SET_THREADS` and `NM_SET_CALLS`, which are
+/// those of each thread.
 fn number_of(name: &str, usual: u64) -> u64 {
     let named = std::env::var(name).ok();
     named.map_or(usual, |text| text.parse().expect("a number"))

@@ -1,12 +1,13 @@
-//! The functions of `nm_set.h` and `nm_map.h` for maps, and the values of a map: a [`MapHandle`], its
-//! [`WorkerHandle`]s and their [`Pinned`] ones.
+//! The functions of `nm_set.h` and `nm_map.h` for maps, and the values of a map: a [`MapHandle`],
+//! its [`WorkerHandle`]s and their [`Pinned`] ones.
 //!
-//! A map has a pointer as the value of each key: that of a box, which the map owns from an insert that
-//! succeeded until the pointer comes back. What makes the `unsafe` here right:
+//! A map has a pointer as the value of each key: that of a box, which the map owns from an insert
+//! that succeeded until the pointer comes back. What makes the `unsafe` here right:
 //!
 //! - *Each pointer in the map is of a box of this `V`.* Only [`WorkerHandle::insert`] puts one in.
 //! - *Each pointer comes back once*, by [`release`], which drops the box.
-//! - *No pointer comes back while a worker is pinned that may have got it.* This is what the library
+//! - *No pointer comes back while a worker is pinned that may have got it.* This is what the
+//!   library
 //!   is proved for. A [`Pinned`] has its worker borrowed, and a reference that it returned has the
 //!   `Pinned` borrowed. So the pin ends after the last use of the reference.
 //! - *Boxes are dropped by whichever thread finds that they come back*, and several threads have
@@ -94,8 +95,8 @@ pub(crate) fn collect_after(nodes: u32, workers: u32) -> u32 {
     unsafe { nm_map_collect_after(nodes, workers) }
 }
 
-/// The values that came back during one call: how many, and the panic of the first one whose drop has
-/// panicked.
+/// The values that came back during one call: how many, and the panic of the first one whose drop
+/// has panicked.
 #[derive(Default)]
 struct Taken {
     values: u64,
@@ -195,8 +196,8 @@ impl<V> MapHandle<V> {
             map: self,
             handle: UnsafeCell::new(Word::closed()),
         };
-        // SAFETY: the worker's handle is closed, and no other call has it. That of the map may be used
-        // by several calls at the same time.
+        // SAFETY: the worker's handle is closed, and no other call has it. That of the map may be
+        // used by several calls at the same time.
         match unsafe { nm_map_wait_attach(self.handle.get(), worker.handle.get(), timeout_ms) } {
             0.. => Ok(worker),
             outcome => Err(outcome),
@@ -206,8 +207,8 @@ impl<V> MapHandle<V> {
 
 impl<V> Drop for MapHandle<V> {
     fn drop(&mut self) {
-        // No worker is attached, unless it was forgotten: each has the map borrowed. So only a lack of
-        // memory is waited for.
+        // No worker is attached, unless it was forgotten: each has the map borrowed. So only a lack
+        // of memory is waited for.
         const LONGEST: u32 = 10_000;
         let mut taken = Taken::default();
         // SAFETY: the handle is borrowed for these calls. `release` gets boxes of this `V`.
@@ -262,8 +263,8 @@ impl<V> WorkerHandle<'_, V> {
         let mut taken = Taken::default();
         let (worker, options) = (self.handle.get(), &self.map.options);
         let mut removed = 0;
-        // SAFETY: the handle exists, and `self` is borrowed. `release` gets boxes of this `V`. What is
-        // removed is not dropped here: its pointer comes back later.
+        // SAFETY: the handle exists, and `self` is borrowed. `release` gets boxes of this `V`. What
+        // is removed is not dropped here: its pointer comes back later.
         let outcome = taken.by(|context| unsafe {
             nm_map_tend(worker, options, release::<V>, context);
             nm_map_remove(worker, key, options, &mut removed)
@@ -338,8 +339,8 @@ impl<V> Drop for WorkerHandle<'_, V> {
     fn drop(&mut self) {
         let mut taken = Taken::default();
         let worker = self.handle.get();
-        // SAFETY: the handle exists, and no other call has it. `release` gets boxes of this `V`. The
-        // pin is one whose `Pinned` was forgotten; nothing that it returned is used any more.
+        // SAFETY: the handle exists, and no other call has it. `release` gets boxes of this `V`.
+        // The pin is one whose `Pinned` was forgotten; nothing that it returned is used any more.
         taken.by(|context| unsafe {
             nm_map_unpin(worker);
             nm_map_take_back(worker, release::<V>, context, null_mut());
@@ -380,11 +381,11 @@ impl<'w, 'a, V> Pinned<'w, 'a, V> {
     /// Returns the outcome of a look-up, and the value of the key if the map has it.
     pub(crate) fn get(&self, key: u64) -> (Outcome, Option<&V>) {
         let mut value = 0;
-        // SAFETY: the handle exists. No other call has it, because neither `Pinned` nor the worker is
-        // `Sync`.
+        // SAFETY: the handle exists. No other call has it, because neither `Pinned` nor the worker
+        // is `Sync`.
         let outcome = unsafe { nm_map_get_pinned(self.worker.handle.get(), key, &mut value) };
-        // SAFETY: the pointer is of a box that the map owns. It does not come back before the unpin,
-        // which is in the drop of `self`, and the reference has `self` borrowed.
+        // SAFETY: the pointer is of a box that the map owns. It does not come back before the
+        // unpin, which is in the drop of `self`, and the reference has `self` borrowed.
         let found = (outcome == YES).then(|| unsafe { &*object::<V>(value) });
         (outcome, found)
     }
