@@ -267,6 +267,48 @@ void the_end_of_an_object_may_call_a_map() {
 
 // ---- threads ----
 
+// What has happened so far. It orders no accesses to memory, so that ThreadSanitizer knows only the
+// orders of which the header informs it.
+class Stage {
+public:
+    void reach(int stage) noexcept { reached_.store(stage, std::memory_order_relaxed); }
+
+    void wait_for(int stage) const noexcept {
+        while (reached_.load(std::memory_order_relaxed) < stage) std::this_thread::yield();
+    }
+
+private:
+    std::atomic<int> reached_{0};
+};
+
+// A thread makes an object, another one reads it under a guard, and then the first one destroys it.
+void an_insert_comes_first_and_the_end_of_an_object_last() {
+    Objects map{64, 2};
+    Stage stage;
+    std::thread reader([&] {
+        Objects::Worker worker = map.attach();
+        stage.wait_for(1);
+        auto guard = worker.pin();
+        const Canary *found = guard.get(5u);
+        stage.reach(2);
+        stage.wait_for(3);
+        CHECK(found->is_of(5));
+        guard.unpin();
+        stage.reach(4);
+        stage.wait_for(5);
+    });
+    Objects::Worker worker = map.attach();
+    CHECK(worker.emplace(5u, 5u));
+    stage.reach(1);
+    stage.wait_for(2);
+    CHECK(worker.remove(5u) && worker.reclaim().values == 0);
+    stage.reach(3);
+    stage.wait_for(4);
+    CHECK(worker.reclaim().values == 1 && Canary::alive() == 0);
+    stage.reach(5);
+    reader.join();
+}
+
 constexpr unsigned threads = 4, calls = 20'000;
 constexpr std::uint64_t range = 64;
 
@@ -323,6 +365,7 @@ int main() {
     the_last_one_empties_the_map();
     the_end_frees_what_waits();
     the_end_of_an_object_may_call_a_map();
+    an_insert_comes_first_and_the_end_of_an_object_last();
     no_reader_sees_an_object_that_was_destroyed();
     CHECK(Canary::alive() == 0);
     std::printf("%llu objects were destroyed once each\n",
