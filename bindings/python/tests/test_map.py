@@ -9,6 +9,7 @@ import os
 import pickle
 import random
 import signal
+import sys
 import threading
 import time
 import unittest
@@ -273,7 +274,12 @@ class Ends(unittest.TestCase):
 
 
 class Threads(unittest.TestCase):
-    THREADS, CALLS, RANGE = 8, 3_000, 32
+    THREADS, CALLS, RANGE = 16, 8_000, 32
+
+    def setUp(self) -> None:
+        """Lets threads take turns as often as possible: between most steps of Python."""
+        self.addCleanup(sys.setswitchinterval, sys.getswitchinterval())
+        sys.setswitchinterval(1e-5)
 
     def _work(self, found: Map[Value], seed: int, wrong: list[object]) -> None:
         chance = random.Random(seed)
@@ -294,7 +300,7 @@ class Threads(unittest.TestCase):
 
     def test_threads_find_the_objects_of_their_keys(self) -> None:
         wrong: list[object] = []
-        with Map[Value](4_096, workers=4, options=Options(timeout_ms=10_000)) as found:
+        with Map[Value](4_096, workers=8, options=Options(timeout_ms=10_000)) as found:
             threads = [
                 threading.Thread(target=self._work, args=(found, seed, wrong))
                 for seed in range(self.THREADS)
