@@ -20,7 +20,7 @@
 // the end of a guard before the object is freed.
 //
 // The library is proved. What this header and nm_map.h add to it is tested by c/map_objects.cpp,
-// c/map_soak.cpp and c/refused_map.cpp, and not proved. No map is used in a forked child.
+// c/map_soak.cpp and c/refused_map.cpp, and not proved. Nobody may use a map in a forked child.
 #ifndef NM_MAP_HPP
 #define NM_MAP_HPP
 
@@ -219,8 +219,8 @@ private:
 //
 // Each call throws NM_KEY if the key is above 2^64 - 4; NM_BUSY if the bounds of the options were
 // reached, and then the map is unchanged; NM_PINNED while the worker has a guard; NM_IN_USE if
-// another thread is in a call by this worker; NM_NO_MEMORY; and NM_CLOSED. No call waits, `insert`
-// excepted.
+// another thread is in a call by this worker; NM_NO_MEMORY; and NM_CLOSED. No call waits, except
+// `insert` and `emplace`.
 template <typename T>
 class MapWorker {
 public:
@@ -267,7 +267,8 @@ public:
     template <typename U, std::enable_if_t<std::is_convertible_v<U *, T *>, int> = 0>
     bool insert(Key key, std::unique_ptr<U> &&object) {
         static_assert(!detail::is_in_place<T>, "a T of at most 8 bytes is inserted by its value");
-        static_assert(std::is_same_v<U, T> || std::has_virtual_destructor_v<T>,
+        static_assert(std::is_same_v<std::remove_cv_t<U>, std::remove_cv_t<T>> ||
+                          std::has_virtual_destructor_v<T>,
                       "the map frees the object as a T, which needs a virtual destructor");
         if (object == nullptr) throw std::invalid_argument("nm::Map: the object is null");
         bool inserted = put(key, detail::word_of_object<T>(object.get()));

@@ -93,7 +93,7 @@ pub struct Reclaimed {
 /// A call that drops values may panic if the drop of a value does. Then the call was made, and all
 /// other values that came back were dropped.
 ///
-/// No call waits, [`insert`](MapWorker::insert) excepted. Each may return `Contention` (the bound
+/// No call waits, except [`insert`](MapWorker::insert). Each may return `Contention` (the bound
 /// of the options was reached; the map is unchanged) and `Pinned` (a guard was forgotten; drop the
 /// worker).
 pub struct MapWorker<'a, V> {
