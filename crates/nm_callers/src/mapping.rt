@@ -35,7 +35,8 @@ pub fn put_then_get(
     ensures found { NoneDeleted member.new.worker.pass.view.layout member.old.worker.pass.view.past
         member.new.worker.pass.view.past key → IfSome result (λ found. found ≡ Some value) }
 {
-    let Ok(true) = member.insert(key, value, options) else {
+    let mut unused = 0;
+    let Ok(true) = member.insert(key, value, &mut unused, options) else {
         return None;
     };
     let found = member.get(key, options);

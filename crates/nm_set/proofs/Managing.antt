@@ -1,5 +1,5 @@
 -- What managed calls leave, by what each part of them leaves.
-use Rattle.std.proofs.Common.{◌≡◌, ◌≢◌, ◌≤◌, ◌<◌, ◌⊎◌, inl, inr, true≢false, ℕ, zero, suc, ◌+◌, ◌-◌, ◌*◌, ◌==◌, Bool, true, false, cond, not, ◌&&◌, ◌||◌, List, [], ◌∷◌, ◌++◌, append-nil, append_assoc, length, refl, sym, ap, subst, ◌∙◌, arith}
+use Rattle.std.proofs.Common.{◌≡◌, ◌≢◌, ◌≤◌, ◌<◌, ◌⊎◌, inl, inr, true≢false, ℕ, zero, suc, ◌+◌, ◌*◌, ◌==◌, Bool, true, false, cond, not, ◌&&◌, ◌||◌, List, [], ◌∷◌, ◌++◌, append-nil, append_assoc, length, refl, sym, ap, subst, ◌∙◌, arith}
 use Rattle.std.specs.Prelude.{drop, Option, Some, None, IsSome, Result, Ok, Err, IfOk, IfErr, is_ok}
 use Rattle.std.specs.List.{AllZip, prefix_len}
 use Rattle.std.proofs.Math.Nat.{suc-mul, zero-mul, add-mul, mul-zero, mul-le-mul_right}
@@ -43,7 +43,7 @@ use Rattle.nm_set.specs.declared.fault.Fullness.{Fullness}
 use Rattle.nm_set.specs.declared.fault.InsertFault.{InsertFault}
 use Rattle.nm_set.specs.declared.fault.InsertFault.TheVariants as inserting
 use Rattle.nm_set.specs.declared.managed.Options.{Options}
-use Rattle.nm_set.specs.Managed.{Answers, Collects, FindsBehind, GoesOn, HasFoundElsewhere, HasMade, HasSighted, IsLeft, FinishesFirst, Manages, ManagesAfter, MetInterference, OnlyLoses, Prepares, Since, WasFull, flags_told_by, interfering, links_told_by, of_insert, round_bound}
+use Rattle.nm_set.specs.Managed.{Answers, Collects, FindsBehind, GoesOn, HasFoundElsewhere, HasMade, HasSighted, IsLeft, FinishesFirst, IsFullIn, IsReadyIn, Manages, ManagesIn, MetInterference, OnlyLoses, Prepares, Since, WasFull, flags_told_by, interfering, links_told_by, of_insert, round_bound}
 use Rattle.nm_set.specs.Rounds.{AnswersIn, FinishesIn, Inserts, IsKnown, IsOnward, IsReady, IsRelieved, ManagesInsert, Removes, WereBusy, plain, rounds_bound, with_fullness}
 
 -- nothing is not there
@@ -748,7 +748,7 @@ module _ (b : TreeView) (h : Options) (w x : WorkerView) (answer : Bool) (f : Fi
 -- ---- the three calls
 
 -- where the remove of an earlier call is not finished, nothing else is done
-pub pending_manages : {Ready : PassView → Type 0} {Full : Type 0} (b : TreeView) (h : Options) (op : Op) (k : ℕ) (w z : WorkerView) → FinishesIn b h (h.rounds + 1) w z (Err fault.Unfinished) → ManagesAfter Ready Full b h op k w z (Err fault.Pending)
+pub pending_manages : {map : Bool} (b : TreeView) (h : Options) (op : Op) (k : ℕ) (w z : WorkerView) → FinishesIn b h (h.rounds + 1) w z (Err fault.Unfinished) → ManagesIn map b h op k w z (Err fault.Pending)
 pending_manages b h op k w z f =
     let none = wins_none op fault.Pending (λ is. let which = is in cc) in
     record {
@@ -777,10 +777,10 @@ managed_fails h op k m y z (Err fault.Pending) a runs last = tt
 managed_fails h op k m y z (Err fault.Pinned) a runs last = tt
 
 -- the operation, after what came before it
-pub manages_after : (Ready : PassView → Type 0) (Full : Type 0) (b : TreeView) (h : Options) (op : Op) (k m n : ℕ) (w y z : WorkerView) (r : Result Bool CallFault) → m + n ≤ 3 * h.rounds + 5 → IsOnward (rounds_bound b h m) w y → Ready y.pass
-    → Answers op k (rounds_bound b h n) ((h.rounds + 1) * h.tries) y z r → (r ≡ Err fault.Full → Full)
-    → (IsAlone y.pass z.pass → r ≡ Err fault.Unfinished → FailsAlone 1 1 h.tries z fault.Unfinished) → ManagesAfter Ready Full b h op k w z r
-manages_after Ready Full b h op k m n w y z r few on first a full last =
+pub manages_in : (map : Bool) (b : TreeView) (h : Options) (op : Op) (k m n : ℕ) (w y z : WorkerView) (r : Result Bool CallFault) → m + n ≤ 3 * h.rounds + 5 → IsOnward (rounds_bound b h m) w y → IsReadyIn map h op w y.pass
+    → Answers op k (rounds_bound b h n) ((h.rounds + 1) * h.tries) y z r → (r ≡ Err fault.Full → IsFullIn map w z)
+    → (IsAlone y.pass z.pass → r ≡ Err fault.Unfinished → FailsAlone 1 1 h.tries z fault.Unfinished) → ManagesIn map b h op k w z r
+manages_in map b h op k m n w y z r few on first a full last =
     let most = round_bound h.tries b.layout in
     let sum = add-mul m n most in
     let le = mul-le-mul_right most few in
@@ -801,7 +801,7 @@ manages_after Ready Full b h op k m n w y z r few on first a full last =
 pub manages : (b : TreeView) (h : Options) (op : Op) (k m n : ℕ) (w y z : WorkerView) (r : Result Bool CallFault) → m + n ≤ 3 * h.rounds + 5 → IsOnward (rounds_bound b h m) w y → Prepares h op w y.pass
     → Answers op k (rounds_bound b h n) ((h.rounds + 1) * h.tries) y z r → (r ≡ Err fault.Full → (f : Fullness) × WasFull w z f)
     → (IsAlone y.pass z.pass → r ≡ Err fault.Unfinished → FailsAlone 1 1 h.tries z fault.Unfinished) → Manages b h op k w z r
-manages b h op k m n w y z r few on first a full last = manages_after (Prepares h op w) ((f : Fullness) × WasFull w z f) b h op k m n w y z r few on first a full last
+manages b h op k m n w y z r few on first a full last = manages_in false b h op k m n w y z r few on first a full last
 
 -- which was the first thing that it did
 pub manages_at_once : (b : TreeView) (h : Options) (op : Op) (k n : ℕ) (w z : WorkerView) (r : Result Bool CallFault) → n ≤ 3 * h.rounds + 5 → w.held ≡ None → w.pending ≡ None → (op ≢ Has → h.collect_after ≤ waiting_in w.queues → ⊥)

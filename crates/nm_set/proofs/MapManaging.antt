@@ -1,7 +1,7 @@
 -- What managed calls of a map leave, by what each part of them leaves.
-use Rattle.std.proofs.Common.{◌≡◌, ◌≤◌, ◌⊎◌, inl, inr, ℕ, ◌+◌, ◌*◌, Bool, true, false, List, length, refl, sym, ap, subst, ◌∙◌, arith}
+use Rattle.std.proofs.Common.{◌≡◌, ◌≤◌, inl, inr, ℕ, ◌+◌, ◌*◌, Bool, true, false, List, length, refl, ap, subst, ◌∙◌, arith}
 use Rattle.std.specs.Prelude.{Option, Some, None, Result, Ok, Err, IfOk, IfErr}
-use Rattle.std.proofs.Math.Nat.{add-mul, mul-add, suc-mul, zero-mul, mul-le-mul_right}
+use Rattle.std.proofs.Math.Nat.{add-mul, mul-add, zero-mul, mul-le-mul_right}
 use Rattle.std.proofs.lemmas.List.{length-append}
 use Rattle.nm_edge.specs.Layouts.{Layout}
 use Rattle.nm_model.specs.declared.event.Op.{Op}
@@ -13,21 +13,21 @@ use Rattle.nm_progress.proofs.RunningAlone.{alone_later}
 use Rattle.nm_steps.specs.Steps.{TreeView, PassView, HasSeen, HasSeenAllOf, IsSamePass}
 use Rattle.nm_steps.proofs.Seeing.{seen_itself, stores_same, stores_through}
 use Rattle.nm_walks.specs.Bounds.{reach}
-use Rattle.nm_calls.specs.Maps.{HasPut, HasTaken, MapGave}
+use Rattle.nm_calls.specs.Maps.{HasTaken, MapGave}
 use Rattle.nm_calls.specs.PlainWalks.{most_looks}
 use Rattle.nm_calls.specs.declared.fault.CallFault.{CallFault}
 use Rattle.nm_calls.specs.declared.fault.CallFault.TheVariants as fault
 use Rattle.nm_calls.proofs.MadeLeaves.{put_earlier}
 use Rattle.nm_tree.specs.Answers.{FailsAlone, IfTaken}
 use Rattle.nm_tree.specs.Calls.{LeavesGet}
-use Rattle.nm_tree.specs.Workers.{WorkerView, IsIdle}
-use Rattle.nm_set.specs.Asked.{Asked, UnlessPinned}
+use Rattle.nm_tree.specs.Workers.{WorkerView}
+use Rattle.nm_set.specs.Asked.{Asked}
 use Rattle.nm_set.specs.declared.managed.Options.{Options}
-use Rattle.nm_set.specs.Managed.{FinishesFirst, GoesOn, IsLeft, ManagesAfter, MetInterference, SaysManaged, round_bound}
+use Rattle.nm_set.specs.Managed.{IsLeft, ManagesIn, MetInterference, SaysManaged, round_bound}
 use Rattle.nm_set.specs.MapRounds.{GetsIn, KeepsStores, LooksWereBusy, MovesValue, SaysRemoved}
 use Rattle.nm_set.specs.Maps.{AnswersGet, ManagesGet, PopsValue, SaysChange, TookMeanwhile, look_bound}
 use Rattle.nm_set.specs.Rounds.{AnswersIn, FinishesIn, IsOnward, Removes, rounds_bound}
-use Rattle.nm_set.proofs.Managing.{finished, finished_nothing, finishes_first, goes_more, goes_then, left_since, lose_same, manages_after, met_nothing, met_since, met_then, never_unfinished, none_there, number_of_pass, onward_itself, onward_more, onward_then, wins_after}
+use Rattle.nm_set.proofs.Managing.{finished, finished_nothing, finishes_first, goes_more, goes_then, left_since, lose_same, manages_in, met_nothing, met_since, met_then, never_unfinished, none_there, number_of_pass, onward_itself, onward_more, onward_then, wins_after}
 
 -- ---- an earlier moment
 
@@ -89,7 +89,7 @@ if_any (Err fault.Pinned) p = tt
 
 pub moves_earlier : (op : Op) (k v t : ℕ) (o p q : PassView) (r : Result Bool CallFault) → HasSeenAllOf p o → MovesValue op k v t p q r → MovesValue op k v t o q r
 moves_earlier Has k v t o p q r seen moves = tt
-moves_earlier Insert k v t o p q r seen moves = λ is. put_earlier o p q k v seen (moves is)
+moves_earlier Insert k v t o p q r seen (puts, finds) = (λ is. put_earlier o p q k v seen (puts is), λ is. gave_earlier o p q k (Some t) seen (finds is))
 moves_earlier Delete k v t o p q r seen moves = if_each r (taken_earlier o p q k t seen) moves
 
 -- a call that is busy has moved no value
@@ -235,12 +235,12 @@ module _ (b : TreeView) (h : Options) (k : ℕ) (w y : WorkerView) (answer : Boo
         pending = λ mine is. none_there y.pending came.none (subst (IsLeft Has k y z) is a.left).0;
       }
 
-  pub inserts_then : (z : WorkerView) (r : Result Bool CallFault) → AnswersIn b h Insert k (h.rounds + 1) y z r → ManagesAfter (FinishesFirst w) (Unit {0}) b h Insert k w z r
-  inserts_then z r a = manages_after (FinishesFirst w) (Unit {0}) b h Insert k (h.rounds + 1) (h.rounds + 1) w y z r (omega arith) came (finishes_first b h (h.rounds + 1) w y answer f) a (λ is. tt)
+  pub inserts_then : (z : WorkerView) (r : Result Bool CallFault) → AnswersIn b h Insert k (h.rounds + 1) y z r → ManagesIn true b h Insert k w z r
+  inserts_then z r a = manages_in true b h Insert k (h.rounds + 1) (h.rounds + 1) w y z r (omega arith) came (finishes_first b h (h.rounds + 1) w y answer f) a (λ is. tt)
       (λ runs. never_unfinished Insert k _ _ y z r (λ is. (let no = is in cc)) a)
 
-  pub removes_then : (z : WorkerView) (r : Result Bool CallFault) → Removes b h k y z r → ManagesAfter (FinishesFirst w) (Unit {0}) b h Delete k w z r
-  removes_then z r a = manages_after (FinishesFirst w) (Unit {0}) b h Delete k (h.rounds + 1) (2 * h.rounds + 2) w y z r (omega arith) came (finishes_first b h (h.rounds + 1) w y answer f) a.answers (λ is. tt) a.alone
+  pub removes_then : (z : WorkerView) (r : Result Bool CallFault) → Removes b h k y z r → ManagesIn true b h Delete k w z r
+  removes_then z r a = manages_in true b h Delete k (h.rounds + 1) (2 * h.rounds + 2) w y z r (omega arith) came (finishes_first b h (h.rounds + 1) w y answer f) a.answers (λ is. tt) a.alone
 
 -- if the remove of an earlier call is not finished, nothing is looked up
 pub pending_get : (b : TreeView) (h : Options) (k : ℕ) (w z : WorkerView) → FinishesIn b h (h.rounds + 1) w z (Err fault.Unfinished) → ManagesGet b h k w z (Err fault.Pending)

@@ -1,6 +1,6 @@
 -- Managed calls: what a caller learns from a call that is retried while it loses its tries, that
 -- finishes a remove which has begun, and that collects waiting nodes.
-use Rattle.std.specs.Prelude.{◌≡◌, ◌≢◌, ◌⊎◌, ◌+◌, ◌*◌, ◌≤◌, ℕ, Bool, true, length, drop, List, ◌++◌, Option, Some, None, IsSome, Result, Ok, Err, IfOk, IfErr, Contains}
+use Rattle.std.specs.Prelude.{◌≡◌, ◌≢◌, ◌⊎◌, ◌+◌, ◌*◌, ◌≤◌, ℕ, Bool, false, true, length, drop, List, ◌++◌, Option, Some, None, IsSome, Result, Ok, Err, IfOk, IfErr, Contains}
 use Rattle.std.specs.List.{AllZip}
 use Rattle.nm_edge.specs.Layouts.{Layout}
 use Rattle.nm_edge.specs.declared.node.NodeId.{NodeId}
@@ -167,27 +167,35 @@ pub record WasFull (w z : WorkerView) (f : Fullness) : Type 0 where
   pub collects : Collects w z.pass
   pub waiting : f.waiting ≡ waiting_in z.queues
 
+-- `IsReadyIn`, `IsFullIn`: with what pass the operation begins, and what was so if no slot was free:
+-- in a set (`false`), and in a map, where no managed call collects
+abbrev pub IsReadyIn : Bool → Options → Op → WorkerView → PassView → Type 0
+IsReadyIn false h op w begun = Prepares h op w begun
+IsReadyIn true h op w begun = FinishesFirst w begun
+
+abbrev pub IsFullIn : Bool → WorkerView → WorkerView → Type 0
+IsFullIn false w z = (f : Fullness) × WasFull w z f
+IsFullIn true w z = Unit {0}
+
 -- a managed call, of at most 3 `rounds` + 5 rounds: its answer, and what came before its operation,
 -- which is not made if an earlier remove stays pending. If it is `Busy`, the epoch was advanced or
 -- turns have interfered with it at least (`rounds` + 1) * `tries` times. If the worker ran alone, an
 -- error is due to a number of tries that is 0, to a lack of room, or to a full pool (`alone`). A
--- remove then stays pending for such a reason too, even if others have removes pending (`pending`).
--- `Ready` holds of the pass with which the operation began, and `Full` if no slot was free
-pub record ManagesAfter (Ready : PassView → Type 0) (Full : Type 0) (b : TreeView) (h : Options) (op : Op)
-    (k : ℕ) (w z : WorkerView) (r : Result Bool CallFault) : Type 0 where
+-- remove then stays pending for such a reason too, even if others have removes pending (`pending`)
+pub record ManagesIn (map : Bool) (b : TreeView) (h : Options) (op : Op) (k : ℕ) (w z : WorkerView)
+    (r : Result Bool CallFault) : Type 0 where
   pub answers : Answers op k ((3 * h.rounds + 5) * round_bound h.tries b.layout)
       ((h.rounds + 1) * h.tries) w z r
-  pub full : r ≡ Err fault.Full → Full
-  pub begins : r ≢ Err fault.Pending → (begun : PassView) × Ready begun
+  pub full : r ≡ Err fault.Full → IsFullIn map w z
+  pub begins : r ≢ Err fault.Pending → (begun : PassView) × IsReadyIn map h op w begun
       × IfOk r (AnswerHasMoment begun z.pass op k)
   pub alone : RunsAlone w.pass z.pass → IfErr r (FailsAlone 1 1 h.tries z)
   pub pending : IsAlone w.pass z.pass → (r ≡ Err fault.Pending) ⊎ (r ≡ Err fault.Unfinished)
       → FailsAlone 1 1 h.tries z fault.Unfinished
 
--- a managed call of a set, which collects
+-- a managed call of a set
 abbrev pub Manages : TreeView → Options → Op → ℕ → WorkerView → WorkerView → Result Bool CallFault → Type 0
-Manages b h op k w z r =
-    ManagesAfter (Prepares h op w) ((f : Fullness) × WasFull w z f) b h op k w z r
+Manages = ManagesIn false
 
 -- what a caller learns from each of the three managed calls
 abbrev pub SaysManaged : Op → TreeView → Options → ℕ → WorkerView → WorkerView → Result Bool CallFault → Type 0

@@ -1,10 +1,10 @@
 -- What the parts of a managed call of a map leave, for the contracts inside this crate.
-use Rattle.std.specs.Prelude.{◌≡◌, ◌+◌, ◌*◌, ◌≤◌, ℕ, Bool, true, Option, Result, Ok, IfErr}
+use Rattle.std.specs.Prelude.{◌≡◌, ◌+◌, ◌*◌, ◌≤◌, ℕ, Bool, true, false, Option, Some, Result, Ok, IfErr}
 use Rattle.nm_model.specs.declared.event.Op.{Op}
 use Rattle.nm_model.specs.declared.event.Op.TheVariants.{Delete, Has, Insert}
 use Rattle.nm_steps.specs.Rules.{ExtendsStores}
 use Rattle.nm_steps.specs.Steps.{PassView, TreeView}
-use Rattle.nm_calls.specs.Maps.{HasPut, HasTaken}
+use Rattle.nm_calls.specs.Maps.{HasPut, HasTaken, MapGave}
 use Rattle.nm_calls.specs.declared.fault.CallFault.{CallFault}
 use Rattle.nm_progress.specs.Alone.{RunsAlone}
 use Rattle.nm_tree.specs.Answers.{FailsAlone, IfTaken}
@@ -15,12 +15,13 @@ use Rattle.nm_set.specs.Managed.{Answers, MetInterference, round_bound}
 use Rattle.nm_set.specs.Maps.{AnswersGet, look_bound}
 use Rattle.nm_set.specs.Rounds.{IsOnward}
 
--- what a call for a key does with values: an insert puts the key into the map with v, and a remove
--- takes the key with t
+-- what a call for a key does with values: an insert puts the key into the map with v, or finds it there
+-- with f, and a remove takes the key with f
 abbrev pub MovesValue : Op → ℕ → ℕ → ℕ → PassView → PassView → Result Bool CallFault → Type 0
-MovesValue Has k v t p q r = Unit {0}
-MovesValue Insert k v t p q r = r ≡ Ok true → HasPut p q k v
-MovesValue Delete k v t p q r = IfTaken r (HasTaken p q k t)
+MovesValue Has k v f p q r = Unit {0}
+MovesValue Insert k v f p q r =
+    (r ≡ Ok true → HasPut p q k v) × (r ≡ Ok false → MapGave p q k (Some f))
+MovesValue Delete k v f p q r = IfTaken r (HasTaken p q k f)
 
 -- the worker has seen all stores that it had seen
 abbrev pub KeepsStores : WorkerView → WorkerView → Type 0

@@ -1,6 +1,6 @@
 -- Maps: what managed calls and collections of a map leave, and what is left of a map, of its members,
 -- and of workers that were returned, if a call is refused.
-use Rattle.std.specs.Prelude.{◌≡◌, ◌≢◌, ◌≤◌, ◌+◌, ◌*◌, ℕ, nat_lt, Bool, List, length, take, Option, Some, None, Result, Ok, Err, IfOk, IfErr}
+use Rattle.std.specs.Prelude.{◌≡◌, ◌≢◌, ◌≤◌, ◌+◌, ◌*◌, ℕ, nat_lt, Bool, true, List, length, take, Option, Some, None, Result, Ok, Err, IfOk, IfErr, IfSome}
 use Rattle.nm_edge.specs.Layouts.{Layout}
 use Rattle.nm_model.specs.declared.event.Op.{Op}
 use Rattle.nm_model.specs.declared.event.Op.TheVariants.{Has}
@@ -28,7 +28,7 @@ use Rattle.nm_set.specs.declared.map.MapKeepReturnedError.TheVariants.{Taken, No
 use Rattle.nm_set.specs.declared.managed.Options.{Options}
 use Rattle.nm_set.specs.Asked.{UnlessPinned}
 use Rattle.nm_set.specs.Ends.{HasGathered, set_of}
-use Rattle.nm_set.specs.Managed.{FinishesFirst, GoesOn, IsLeft, ManagesAfter, MetInterference, round_bound}
+use Rattle.nm_set.specs.Managed.{FinishesFirst, GoesOn, IsLeft, ManagesIn, MetInterference, round_bound}
 use Rattle.nm_set.specs.Posts.{ReturnedView}
 use Rattle.nm_set.specs.Rounds.{found_behind}
 use Rattle.nm_set.specs.Seats.{MemberView}
@@ -104,8 +104,7 @@ SaysGet b h k w z r = UnlessPinned (ManagesGet b h k w z r) w z r
 
 -- what a caller learns from a managed insert or remove of a map, which collects nothing
 abbrev pub SaysChange : Op → TreeView → Options → ℕ → WorkerView → WorkerView → Result Bool CallFault → Type 0
-SaysChange op b h k w z r =
-    UnlessPinned (ManagesAfter (FinishesFirst w) (Unit {0}) b h op k w z r) w z r
+SaysChange op b h k w z r = UnlessPinned (ManagesIn true b h op k w z r) w z r
 
 -- the worker took the key with this value at a moment of the call, by what it had seen then
 pub record TookMeanwhile (p q : PassView) (k v : ℕ) : Type 0 where
@@ -114,6 +113,10 @@ pub record TookMeanwhile (p q : PassView) (k v : ℕ) : Type 0 where
   pub seen : HasSeen then.view
   pub until : HasSeenAllOf q then
   pub same : IsSamePass then q
+
+-- the map had the key that was found with this value at a moment of the call
+abbrev pub FindsValue : PassView → PassView → ℕ → Result (Option ℕ) CallFault → Type 0
+FindsValue p q v r = IfOk r (λ found. IfSome found (λ k. MapGave p q k (Some v)))
 
 -- a pop that returns a key took it with this value
 abbrev pub PopsValue : PassView → PassView → ℕ → Result (Option ℕ) CallFault → Type 0

@@ -329,8 +329,8 @@ impl Member {
             return Err(InsertFault::Other(fault));
         }
         self.know_run();
-        let mut taken = 0;
-        match self.ask(Op::Insert, key, 0, &mut taken, options.tries) {
+        let mut found = 0;
+        match self.ask(Op::Insert, key, 0, &mut found, options.tries) {
             Ok(answer) => Ok(answer),
             Err(fault) => self.retry_insert(key, options, fault),
         }
@@ -348,8 +348,8 @@ impl Member {
     {
         self.make_tidy(options)?;
         self.know_run();
-        let mut taken = 0;
-        match self.ask(Op::Delete, key, 0, &mut taken, options.tries) {
+        let mut found = 0;
+        match self.ask(Op::Delete, key, 0, &mut found, options.tries) {
             Ok(answer) => Ok(answer),
             Err(fault) => self.retry_remove(key, options, fault),
         }
@@ -489,20 +489,20 @@ impl Member {
         ensures says { AnswersIn self.old.tree options.now op key (options.now.rounds + 1)
             self.old.worker self.new.worker result }
     {
-        let mut taken = 0;
-        self.ask_value_with_retries(op, key, 0, &mut taken, options)
+        let mut found = 0;
+        self.ask_value_with_retries(op, key, 0, &mut found, options)
     }
 
     /// Makes the call of that operation until one does not lose each of its tries: at most `rounds`
-    /// and one times. In a map an insert gives the key this value, and a remove writes the value of its
-    /// key to `taken`.
+    /// and one times. In a map an insert gives the key this value, or writes the value that was there to
+    /// `found`, and a remove writes the value of its key to it.
     #[inline(always)]
     pub(crate) fn ask_value_with_retries(
         &mut self,
         op: Op,
         key: Key,
         value: u64,
-        taken: &mut u64,
+        found: &mut u64,
         options: &Options,
     ) -> Result<bool, CallFault>
         requires free { self.old.worker.held ≡ None }
@@ -510,16 +510,16 @@ impl Member {
         ensures tree { self.new.tree ≡ self.old.tree }
         ensures says { AnswersIn self.old.tree options.now op key (options.now.rounds + 1)
             self.old.worker self.new.worker result }
-        ensures moves { HasValues self.old.tree → MovesValue op key value taken.new
+        ensures moves { HasValues self.old.tree → MovesValue op key value found.new
             self.old.worker.pass self.new.worker.pass result }
     {
         for _round in 0..options.rounds {
-            let told = self.ask(op, key, value, taken, options.tries);
+            let told = self.ask(op, key, value, found, options.tries);
             if !is_busy(&told) {
                 return told;
             }
         }
-        self.ask(op, key, value, taken, options.tries)
+        self.ask(op, key, value, found, options.tries)
     }
 
     /// Makes the call of that operation.
@@ -530,7 +530,7 @@ impl Member {
         op: Op,
         key: Key,
         value: u64,
-        taken: &mut u64,
+        found: &mut u64,
         tries: u32,
     ) -> Result<bool, CallFault>
         requires free { self.old.worker.held ≡ None }
@@ -538,14 +538,16 @@ impl Member {
         ensures tree { self.new.tree ≡ self.old.tree }
         ensures says { Answers op key (round_bound tries self.old.tree.layout) tries
             self.old.worker self.new.worker result }
-        ensures moves { HasValues self.old.tree → MovesValue op key value taken.new
+        ensures moves { HasValues self.old.tree → MovesValue op key value found.new
             self.old.worker.pass self.new.worker.pass result }
     {
         let tree = self.home.tree();
         match op {
             Op::Has => tree.has(&mut self.sealed.worker, key, tries),
-            Op::Insert => tree.insert_with_value(&mut self.sealed.worker, key, value, tries),
-            Op::Delete => tree.delete_with_value(&mut self.sealed.worker, key, taken, tries),
+            Op::Insert => {
+                tree.insert_with_value(&mut self.sealed.worker, key, value, found, tries)
+            }
+            Op::Delete => tree.delete_with_value(&mut self.sealed.worker, key, found, tries),
         }
     }
 

@@ -1,13 +1,13 @@
 //! Managed calls of a map: a call that lost its tries is retried, and a remove that has begun is
 //! finished. They free no leaf; `MapMember::reclaim` does, and hands out the values.
-ghost use Rattle.std.specs.Prelude.{◌≡◌, ◌+◌, true, None, Ok};
+ghost use Rattle.std.specs.Prelude.{◌≡◌, ◌≢◌, ◌+◌, true, false, None, Some, Ok, Err};
 ghost use Rattle.nm_model.specs.declared.event.Op.TheVariants.{Insert, Delete};
 ghost use Rattle.nm_steps.specs.Values.{HasValues};
-ghost use Rattle.nm_calls.specs.Maps.{HasPut};
+ghost use Rattle.nm_calls.specs.Maps.{HasPut, MapGave};
+ghost use Rattle.nm_calls.specs.declared.fault.CallFault.TheVariants as fault;
 ghost use Rattle.nm_tree.specs.Answers.{IfTaken};
 ghost use Rattle.nm_set.specs.MapRounds.{GetsIn};
 ghost use Rattle.nm_set.specs.Maps.{LeavesReclaim, SaysChange, SaysGet, TookMeanwhile};
-ghost use Rattle.nm_set.specs.Rounds.{found_behind};
 
 use crate::managed::{Options, behind_of, is_unfinished};
 use crate::map_member::MapMember;
@@ -24,6 +24,14 @@ pub struct Reclaimed {
     /// The other worker that was found to hold the epoch back. `None`: no worker was found so. Then
     /// the epoch was advanced twice during the call, or it is the last one.
     pub behind: Option<u32>,
+}
+
+/// Returns whether a look-up lost each of its tries.
+fn is_busy(told: &Result<Option<u64>, CallFault>) -> bool
+    ensures yes { result ≡ true → told.now ≡ Err fault.Busy }
+    ensures no { result ≡ false → told.now ≢ Err fault.Busy }
+{
+    matches!(told, Err(CallFault::Busy))
 }
 
 impl MapMember {
@@ -46,8 +54,10 @@ impl MapMember {
     }
 
     /// Inserts `key` with `value`; returns true if the key was absent. Otherwise the key keeps its
-    /// value. Proved (`puts`): if the result is `Ok(true)`, the map had the key with the value at a
-    /// moment of the call.
+    /// value, and the call writes this value to `found`. Proved (`puts`): if the result is `Ok(true)`,
+    /// the map had the key with `value` at a moment of the call. Proved (`finds`): if the result is
+    /// `Ok(false)`, the map had the key with the value in `found` at a moment of the call. After an
+    /// error `found` may be anything.
     ///
     /// Like `get`, it finishes the remove of an earlier call first, and retries an insert that lost
     /// each of its tries. Nothing is pending after an answer, `Busy`, `Full` and `NoMemory`.
@@ -57,14 +67,22 @@ impl MapMember {
     /// was refused. Proved (`alone`): no other error, as for `get`, if no other worker has a remove
     /// pending.
     #[inline(always)]
-    pub fn insert(&mut self, key: Key, value: u64, options: &Options) -> Result<bool, CallFault>
+    pub fn insert(
+        &mut self,
+        key: Key,
+        value: u64,
+        found: &mut u64,
+        options: &Options,
+    ) -> Result<bool, CallFault>
         ensures tree { self.new.tree ≡ self.old.tree }
         ensures says { SaysChange Insert self.old.tree options.now key self.old.worker
             self.new.worker result }
         ensures puts { result ≡ Ok true → HasPut self.old.worker.pass self.new.worker.pass key
             value }
+        ensures finds { result ≡ Ok false → MapGave self.old.worker.pass self.new.worker.pass key
+            (Some found.new) }
     {
-        self.member.insert_managed(key, value, options)
+        self.member.insert_managed(key, value, found, options)
     }
 
     /// Removes `key`; returns true if it was present, after the leaf with the key was cut off. Then,
@@ -146,9 +164,9 @@ impl Member {
             self.old.worker self.new.worker result }
     {
         for _round in 0..options.rounds {
-            match self.try_get_value(key, options.tries) {
-                Err(CallFault::Busy) => {}
-                told => return told,
+            let told = self.try_get_value(key, options.tries);
+            if !is_busy(&told) {
+                return told;
             }
         }
         self.try_get_value(key, options.tries)
@@ -160,6 +178,7 @@ impl Member {
         &mut self,
         key: Key,
         value: u64,
+        found: &mut u64,
         options: &Options,
     ) -> Result<bool, CallFault>
         requires values { HasValues self.old.tree }
@@ -168,6 +187,8 @@ impl Member {
             self.new.worker result }
         ensures puts { result ≡ Ok true → HasPut self.old.worker.pass self.new.worker.pass key
             value }
+        ensures finds { result ≡ Ok false → MapGave self.old.worker.pass self.new.worker.pass key
+            (Some found.new) }
     {
         if self.pinned().is_some() {
             return Err(CallFault::Pinned);
@@ -175,8 +196,7 @@ impl Member {
         let Ok(_done) = self.finish_with_retries(options) else {
             return Err(CallFault::Pending);
         };
-        let mut taken = 0;
-        self.ask_value_with_retries(Op::Insert, key, value, &mut taken, options)
+        self.ask_value_with_retries(Op::Insert, key, value, found, options)
     }
 
     /// Does `MapMember::remove`.

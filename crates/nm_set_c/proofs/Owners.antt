@@ -47,9 +47,30 @@ pub other : {A : Type 0} (kind : A → Owner) (does : A → A → Outcome → Ty
     → ((a : A) → x ≡ kind a → ⊥) → old ≡ Open x → new ≡ Open x → same → OfHandle kind does same old new Kind
 other kind does same old new x not e f s = owned kind does same old new x x Kind e f (is_other kind does same x not s)
 
+-- ---- the same for each kind, because search needs to know the kind that it looks for
+
+abbrev Told : {A : Type 0} → (A → Owner) → Type 1
+Told {A} kind = (does : A → A → Outcome → Type 0) (same : Type 0) (old new : Hold) (m n : A) (o : Outcome)
+    → old ≡ Open (kind m) → new ≡ Open (kind n) → does m n o → OfHandle kind does same old new o
+
+pub told_worker : Told Worker
+told_worker = told Worker
+
+pub told_map_worker : Told MapWorker
+told_map_worker = told MapWorker
+
+pub told_report : Told Ended
+told_report = told Ended
+
+pub other_report : (does : Report → Report → Outcome → Type 0) (same : Type 0) (old new : Hold) (x : Owner)
+    → ((r : Report) → x ≡ Ended r → ⊥) → old ≡ Open x → new ≡ Open x → same → OfReport does same old new Kind
+other_report = other Ended
+
 -- ---- by which an export is proved: one that returns what it reads, and one that makes a call, whose
 -- clauses are not opened there
 
-pub ruleset told_of_owner = (refused, told, other)
+pub ruleset told_of_worker = (refused, told_worker, other)
 
-pub ruleset asked_of_owner = (has_done, refused, asked, other)
+pub ruleset told_of_report = (refused, told_report, other_report)
+
+pub ruleset asked_of_owner = (has_done, refused, asked, other, told_map_worker)

@@ -155,7 +155,7 @@ IsEnded kind new o s =
     × IsLeftOpen s why t)
 
 -- what owned a set of the kind owns its report afterwards; anything else is refused
-abbrev pub EndsOwned : (SetView → Owner) → Owner → Owner → Outcome → Type 0
+unfoldable pub EndsOwned : (SetView → Owner) → Owner → Owner → Outcome → Type 0
 EndsOwned kind x new o = ByKind kind x (IsEnded kind new o) ((o ≡ outcome.Kind) × (new ≡ x))
 
 -- a handle owns afterwards what a call on its owner leaves

@@ -29,6 +29,7 @@ pub extern "C" fn nm_set_close(alloc: Global, set: &mut Handle) -> i32
     outcome.code()
 }
 
+#[tactic(auto, unfolding(crate::specs::Sets::EndsOwned))]
 fn end(owner: Owner) -> (Owner, Outcome)
     ensures { EndsOwned Owner.Set owner result.0 result.1 }
 {

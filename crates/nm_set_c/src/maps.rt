@@ -137,6 +137,7 @@ pub extern "C" fn nm_map_close(alloc: Global, map: &mut Handle) -> i32
     outcome.code()
 }
 
+#[tactic(auto, unfolding(crate::specs::Sets::EndsOwned))]
 fn end(owner: Owner) -> (Owner, Outcome)
     ensures { EndsOwned Owner.Map owner result.0 result.1 }
 {

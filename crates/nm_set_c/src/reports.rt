@@ -1,5 +1,5 @@
 //! Calls on the report of a set that was closed, by its handle.
-#![tactic(auto, using(crate::proofs::Owners::told_of_owner))]
+#![tactic(auto, using(crate::proofs::Owners::told_of_report))]
 
 ghost use Rattle.std.specs.Prelude.{◌≡◌};
 ghost use Rattle.nm_set_c.specs.Handles.{held_by};

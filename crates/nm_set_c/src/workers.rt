@@ -1,5 +1,5 @@
 //! What a worker reports of itself, and the end of another one, by its handle.
-#![tactic(auto, using(crate::proofs::Owners::told_of_owner))]
+#![tactic(auto, using(crate::proofs::Owners::told_of_worker))]
 
 ghost use Rattle.std.specs.Prelude.{◌≡◌, ⊤};
 ghost use Rattle.nm_tree.specs.Workers.{waiting_in};

@@ -1,8 +1,12 @@
 use Rattle.std.proofs.Common.{ℕ, Bool, subst}
-use Rattle.std.specs.Prelude.{Option, Some, None, Ok, Err}
+use Rattle.std.specs.Prelude.{Option, Some, Ok, Err}
 use Rattle.std.proofs.lemmas.Result.{err_from_is_err_and}
 use Rattle.nm_steps.specs.Steps.{TreeView}
+use Rattle.nm_tree.specs.Answers.{IfTaken}
 use Rattle.nm_tree.specs.Popping.{Finds}
+use Rattle.nm_tree.proofs.Taking.{found_by}
+use Rattle.nm_set.specs.Maps.{TookMeanwhile}
+use Rattle.nm_set.proofs.MapManaging.{pops_earlier}
 use Rattle.nm_set.specs.MapRounds.{SaysRemoved}
 use Rattle.nm_set.proofs.PopRounds.{pops_key, pops_late, pops_none, pops_not_found, pops_not_removed, pops_outside}
 use Rattle.nm_set.proofs.member.Member.pop_once.Goals as goal
@@ -56,3 +60,14 @@ returns-then-not-has-clause-says c =
     let x = c.key_at.new.self.worker in
     let found = subst (λ (f : Option ℕ). Finds c.args.end c.args.self.now.tree.layout c.args.options.now.tries w x (Ok f)) c.in-Some.is c.in_ok-key.ensures.says in
     pops_outside c.args.end c.args.self.now.tree c.args.options.now w c.requires.none x c.in-Some.key found (c.has.ensures.no c.if-not-has.true)
+
+pub returns-then-branch-clause-takes : goal.returns-then-branch-clause-takes
+returns-then-branch-clause-takes c = λ map.
+    let w = c.args.self.now.worker in
+    let x = c.key_at.new.self.worker in
+    let z = c.remove_popped.new.self.worker in
+    let t = c.remove_popped.new.taken in
+    let h = c.args.options.now in
+    let found = subst (λ (f : Option ℕ). Finds c.args.end c.args.self.now.tree.layout h.tries w x (Ok f)) c.in-Some.is c.in_ok-key.ensures.says in
+    let took = subst (λ (answer : Bool). IfTaken (Ok answer) (TookMeanwhile x.pass z.pass c.in-Some.key t)) c.if-branch.true (c.in_ok-remove_popped.ensures.takes map) in
+    pops_earlier w.pass x.pass z.pass t (Ok (Some c.in-Some.key)) (found_by c.args.end c.args.self.now.tree.layout h.tries w x (Ok (Some c.in-Some.key)) found).past took
