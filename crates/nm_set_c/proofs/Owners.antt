@@ -53,10 +53,6 @@ abbrev Told : {A : Type 0} → (A → Owner) → Type 1
 Told {A} kind = (does : A → A → Outcome → Type 0) (same : Type 0) (old new : Hold) (m n : A) (o : Outcome)
     → old ≡ Open (kind m) → new ≡ Open (kind n) → does m n o → OfHandle kind does same old new o
 
-abbrev Other : {A : Type 0} → (A → Owner) → Type 1
-Other {A} kind = (does : A → A → Outcome → Type 0) (same : Type 0) (old new : Hold) (x : Owner)
-    → ((a : A) → x ≡ kind a → ⊥) → old ≡ Open x → new ≡ Open x → same → OfHandle kind does same old new Kind
-
 pub told_worker : Told Worker
 told_worker = told Worker
 
@@ -66,7 +62,8 @@ told_map_worker = told MapWorker
 pub told_report : Told Ended
 told_report = told Ended
 
-pub other_report : Other Ended
+pub other_report : (does : Report → Report → Outcome → Type 0) (same : Type 0) (old new : Hold) (x : Owner)
+    → ((r : Report) → x ≡ Ended r → ⊥) → old ≡ Open x → new ≡ Open x → same → OfReport does same old new Kind
 other_report = other Ended
 
 -- ---- by which an export is proved: one that returns what it reads, and one that makes a call, whose

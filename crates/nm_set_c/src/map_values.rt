@@ -82,7 +82,8 @@ fn insert(member: &mut MapMember, key: u64, value: u64, options: &Options) -> Ou
     let Some(key) = Key::new(key) else {
         return Outcome::Key;
     };
-    Outcome::of_answer(member.insert(key, value, options))
+    let mut found = 0;
+    Outcome::of_answer(member.insert(key, value, &mut found, options))
 }
 
 /// Removes a key, and writes the value that it had: `MapMember::remove` of `nm_set`. Returns `Yes`
