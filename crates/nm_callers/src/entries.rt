@@ -10,12 +10,7 @@ use nm_set::{MapMember, Options};
 /// Inserts a key with a value, and returns the value that the key then had: this one, or the one that
 /// was there. `None`: the call returned an error. Proved: otherwise the map had the key with the
 /// value that is returned, at a moment (linearization point) of the call.
-pub fn put_or_find(
-    member: &mut MapMember,
-    key: Key,
-    value: u64,
-    options: &Options,
-) -> Option<u64>
+pub fn put_or_find(member: &mut MapMember, key: Key, value: u64, options: &Options) -> Option<u64>
     ensures tree { member.new.tree ≡ member.old.tree }
     ensures had { IfSome result (HasPutOrFound member.old.worker.pass member.new.worker.pass key value) }
 {

@@ -142,22 +142,24 @@ GetsOnce L t k w z r = AnswersGet k (look_bound t L) 1 t w z r × KeepsStores w 
 pub gets_once : (L : Layout) (t k : ℕ) (w z : WorkerView) (r : Result (Option ℕ) CallFault) → w.held ≡ None → w.pending ≡ None → Asked (LeavesGet L t k) w z r → GetsOnce L t k w z r
 gets_once L t k w z r free none (inl pinned) = none_there w.held free pinned.0
 gets_once L t k w z r free none (inr did) =
-    let l = did.1 in
-    (record {
-      moment = l.moment;
-      left = get_left L t k w z r none l;
-      won = l.won;
-      on = record {
-        same = l.same;
-        past = l.past;
-        queues = lose_same w.pass.view.number w.queues z.queues l.queues;
-        steps = in_looks (length w.pass.view.log) (length z.pass.view.log) t (most_looks (reach L) 1) l.steps;
-        held = l.held;
-        fit = l.fit;
-      };
-      busy = λ is some. met_once w.pass z.pass t some (l.interfered is);
-      alone = λ mine is. l.alone mine is;
-    }, l.stores)
+    let l = did.1 in (
+      record {
+        moment = l.moment;
+        left = get_left L t k w z r none l;
+        won = l.won;
+        on = record {
+          same = l.same;
+          past = l.past;
+          queues = lose_same w.pass.view.number w.queues z.queues l.queues;
+          steps = in_looks (length w.pass.view.log) (length z.pass.view.log) t (most_looks (reach L) 1) l.steps;
+          held = l.held;
+          fit = l.fit;
+        };
+        busy = λ is some. met_once w.pass z.pass t some (l.interfered is);
+        alone = λ mine is. l.alone mine is;
+      },
+      l.stores,
+    )
 
 module _ (b : TreeView) (h : Options) where
   abbrev one : ℕ

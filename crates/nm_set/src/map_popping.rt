@@ -16,7 +16,11 @@ impl MapMember {
     /// frees no leaf.
     ///
     /// Errors: as of `Member::pop_first`.
-    pub fn pop_first(&mut self, taken: &mut u64, options: &Options) -> Result<Option<Key>, CallFault>
+    pub fn pop_first(
+        &mut self,
+        taken: &mut u64,
+        options: &Options,
+    ) -> Result<Option<Key>, CallFault>
         ensures tree { self.new.tree ≡ self.old.tree }
         ensures says { SaysManagedPop ◌<◌ self.old.tree options.now self.old.worker self.new.worker
             result }
@@ -48,7 +52,8 @@ impl MapMember {
             self.old.worker self.new.worker result }
         ensures takes { PopsValue self.old.worker.pass self.new.worker.pass taken.new result }
     {
-        self.member.pop(End::FirstBelow(below), true, taken, options)
+        self.member
+            .pop(End::FirstBelow(below), true, taken, options)
     }
 
     /// Removes the greatest key of the map, if it is not below `from`, like `Member::pop_last_from`,

@@ -157,7 +157,10 @@ fn managed_calls_of_a_map(rt: HostRuntime) -> Result<(), Fail> {
         (member.insert(five, 51, &mut found, &options), found),
         (Ok(false), 50)
     );
-    assert_eq!(rt; (member.remove(five, &mut taken, &options), taken), (Ok(true), 50));
+    assert_eq!(rt;
+        (member.remove(five, &mut taken, &options), taken),
+        (Ok(true), 50)
+    );
     assert_eq!(rt; member.remove(five, &mut taken, &options), Ok(false));
     assert_eq!(rt; member.get(five, &options), Ok(None));
     member.pin(TRIES)?;
@@ -212,7 +215,12 @@ fn keys_of_a_map_come_with_their_values(rt: HostRuntime) -> Result<(), Fail> {
     let mut member = map.member(0)?;
     let mut found = 0;
     for number in 1..6 {
-        let put = member.insert(key(&rt, number), number.saturating_mul(10), &mut found, &options);
+        let put = member.insert(
+            key(&rt, number),
+            number.saturating_mul(10),
+            &mut found,
+            &options,
+        );
         assert_eq!(rt; put, Ok(true));
     }
     let mut value = 0;
@@ -222,7 +230,10 @@ fn keys_of_a_map_come_with_their_values(rt: HostRuntime) -> Result<(), Fail> {
         (Ok(Some(three)), 30)
     );
     assert_eq!(rt;
-        (member.prev_with_value(key(&rt, 9), &mut value, TRIES), value),
+        (
+            member.prev_with_value(key(&rt, 9), &mut value, TRIES),
+            value
+        ),
         (Ok(Some(key(&rt, 5))), 50)
     );
     assert_eq!(rt;
@@ -244,7 +255,10 @@ fn keys_of_a_map_come_with_their_values(rt: HostRuntime) -> Result<(), Fail> {
     );
     assert_eq!(rt; member.pop_last_from(4, &mut value, &options), Ok(None));
     member.pin(TRIES)?;
-    assert_eq!(rt; member.pop_first(&mut value, &options), Err(CallFault::Pinned));
+    assert_eq!(rt;
+        member.pop_first(&mut value, &options),
+        Err(CallFault::Pinned)
+    );
     assert_eq!(rt;
         member.next_with_value(three, &mut value, TRIES),
         Err(CallFault::Pinned)
