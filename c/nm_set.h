@@ -1,6 +1,6 @@
-/* A concurrent ordered set of 64-bit unsigned integers, without locks. The proof covers each
- * function below. Keys are 0 to 2^64 - 4. nm_set.hpp is the set for C++, and nm_wait.h has calls
- * that wait; both are tested, not proved.
+/* A concurrent ordered set of 64-bit unsigned integers, without locks, and a map from them to 64-bit
+ * values (nm_map_new). The proof covers each function below. Keys are 0 to 2^64 - 4. nm_set.hpp is
+ * the set for C++, and nm_wait.h has calls that wait; both are tested, not proved.
  *
  *     nm_handle set = NM_CLOSED_HANDLE, worker = NM_CLOSED_HANDLE;
  *     nm_set_new(&set, 8192, 2);               a set for two workers
@@ -10,8 +10,8 @@
  *     nm_set_close(&set);                      from now on the handle owns the report
  *     nm_drop(&set);
  *
- * A handle is two words of the caller's memory. It is closed, or it owns a set, one worker of a
- * set, or the report that a set was closed with. A worker is attached while a handle owns it, and
+ * A handle is two words of the caller's memory. It is closed, or it owns a set or a map, one worker
+ * of one, or the report that one was closed with. A worker is attached while a handle owns it, and
  * returned when that handle is dropped. Misuse of open and closed handles, kinds, keys, numbers and
  * sizes returns an error and changes nothing. A function writes a parameter only if its outcome
  * says so.
@@ -35,17 +35,18 @@
  * threads may take their workers by one handle of a set at once, by nm_set_worker and
  * nm_set_attach, without a lock: each has the handle only for the moment of the take. If one of
  * these finds another call there, it looks again for some tenths of a second; so do nm_set_attached
- * and nm_set_close. If a thread is stopped for longer, they return NM_IN_USE: call again, as
- * nm_wait.h does. No other function waits, except that malloc and free may. The handle of a worker
- * or a report is for one thread at a time: NM_IN_USE is then a fault of the program, which has cost
- * nothing. A program reads no word of a handle, because each call empties it while it runs.
+ * and nm_set_close, and the four functions of a map that are like these. If a thread is stopped for
+ * longer, they return NM_IN_USE: call again, as nm_wait.h does. No other function waits, except
+ * that malloc and free may. The handle of a worker or a report is for one thread at a time:
+ * NM_IN_USE is then a fault of the program, which has cost nothing. A program reads no word of a
+ * handle, because each call empties it while it runs.
  *
  * What a thread wrote to memory before it inserted a key is visible to each thread whose call finds
  * or removes that key: so a key may hand over a payload. (Each atomic step of the library is
  * sequentially consistent.)
  *
- * A thread needs a stack of 64 kilobytes for a call that makes, takes, gives back or ends a set or
- * a worker, and one of 16 for any other call. Tested; no clause of the proof says so.
+ * A thread needs a stack of 64 kilobytes for a call that makes, takes, gives back or ends a set, a
+ * map or a worker, and one of 16 for any other call. Tested; no clause of the proof says so.
  */
 #ifndef NM_SET_H
 #define NM_SET_H
@@ -88,10 +89,13 @@ typedef enum nm_outcome {
     NM_BUSY = -9,         /* other threads interfered with each try, or the call has none. Of the
                              call nothing remains but help given to others; call again */
     NM_FULL = -10,        /* no slots were free for the two new nodes of an insert: advance and
-                             collect, and call again (nm_wait_insert of nm_wait.h) */
+                             collect, and call again (nm_wait_insert of nm_wait.h); in a map, reclaim
+                             and call again */
     NM_UNFINISHED = -11,  /* the leaf with the key is flagged and not known to be cut off: the key
-                             will be removed, and is pending until nm_worker_finish */
-    NM_PENDING = -12,     /* a key is pending, so that only nm_worker_finish goes on */
+                             will be removed, and is pending until nm_worker_finish or a managed
+                             call finishes it */
+    NM_PENDING = -12,     /* a key is pending, so that only nm_worker_finish or a managed call goes
+                             on */
     NM_PINNED = -13,      /* the caller has pinned the worker, and has not unpinned it */
     NM_NOT_PINNED = -14,  /* the caller has not pinned the worker */
     NM_BEHIND = -15,      /* a worker holds the epoch back */
@@ -100,7 +104,7 @@ typedef enum nm_outcome {
     NM_ATTACHED = -18,    /* the worker is attached or has resigned, or a worker of the set is
                              still attached */
     NM_CLOSING = -19,     /* a close was refused after all workers had been gathered: only
-                             nm_set_close goes on */
+                             nm_set_close or nm_map_close goes on */
     NM_NOT_ALL = -20,     /* fewer workers were returned than the set has. No test has met it: if a
                              worker is lost, the calls return NM_ATTACHED */
     NM_UNCOUNTED = -21,   /* there are as many handles as can be counted. No test has met it: a set
@@ -454,7 +458,144 @@ nm_outcome nm_worker_resign(nm_handle *worker, uint32_t leaver);
  * this function then returns NM_KIND, and nm_set_close goes on. */
 nm_outcome nm_worker_end(nm_handle *worker);
 
-/* ---- the report of a set that was closed ----
+/* ---- a map ----
+ * A map has a value, any 64-bit number, beside each key. Its functions return NM_CLOSED if the handle
+ * is closed, and NM_KIND if it owns something else than they say; the functions of sets and of their
+ * workers return NM_KIND for a map and for its workers. nm_drop gives up either.
+ *
+ * A value comes back when its key was removed: nm_map_reclaim writes it, once, and only after every
+ * worker that was pinned when the key was cut off has unpinned. So a value may be a pointer, which
+ * the program frees when it comes back. A thread follows such a pointer between nm_map_pin and
+ * nm_map_unpin, by nm_map_get_pinned. A value that was not inserted (any outcome but NM_YES) remains
+ * the caller's.
+ *
+ *     nm_handle map = NM_CLOSED_HANDLE, worker = NM_CLOSED_HANDLE;
+ *     uint64_t value, back[64], count;
+ *     uint32_t behind;
+ *     nm_map_new(&map, 8192, 2);
+ *     nm_map_worker(&map, &worker, 0);
+ *     nm_map_insert(&worker, 5, 500, &nm_default_options);       NM_YES: the key was absent
+ *     nm_map_get(&worker, 5, &nm_default_options, &value);       NM_YES: value is 500
+ *     nm_map_remove(&worker, 5, &nm_default_options, &value);    NM_YES: value is 500
+ *     nm_map_reclaim(&worker, back, 64, &count, &behind);        count is 1, and back[0] is 500
+ */
+
+/* The number of no worker. */
+#define NM_NOBODY UINT32_MAX
+
+/* Makes the empty map, with room for 7 to 268,435,456 nodes, for 1 to 64 workers. It takes 8 bytes
+ * more for each node than the set of nm_set_new. Otherwise it returns like that function. */
+nm_outcome nm_map_new(nm_handle *map, uint32_t nodes, uint32_t workers);
+
+/* Attaches the worker of a number, or any worker that is not attached. They return like
+ * nm_set_worker and nm_set_attach. Several threads may do so by one handle of a map at once. */
+nm_outcome nm_map_worker(nm_handle *map, nm_handle *worker, uint32_t number);
+nm_outcome nm_map_attach(nm_handle *map, nm_handle *worker);
+
+/* Returns NM_YES if a close would miss the worker of a number because a handle has it, and else
+ * NM_NO. Errors: NM_NUMBER, NM_CLOSING. */
+nm_outcome nm_map_attached(nm_handle *map, uint32_t number);
+
+/* Ends the map when all its workers have been returned. Returns NM_DONE, and the handle owns the
+ * report from then on. Values that have not come back are lost: those of the keys in the report, and
+ * those that wait with a worker. So remove the keys, and reclaim by each worker, before the close.
+ * Errors: NM_ATTACHED: the handle still owns the map, unchanged. NM_NO_MEMORY: the handle still owns
+ * the map, whose workers were gathered, so that only this function goes on. */
+nm_outcome nm_map_close(nm_handle *map);
+
+/* The following, up to nm_map_pop_last_from, are managed calls, like nm_worker_contains,
+ * nm_worker_insert and nm_worker_remove: a call that lost each of its tries is retried, and the remove
+ * of an earlier call is finished first. They collect nothing (collect_after has no effect): only nm_map_reclaim frees nodes. */
+
+/* Returns NM_YES and writes the value that the map has under a key, or NM_NO if the map does not
+ * have the key. It takes no memory for the look-up. Once the call has returned, another worker may
+ * remove the key, and its value may come back. Errors: NM_KEY, NM_BUSY, NM_PENDING, NM_PINNED; value
+ * is not written. */
+nm_outcome nm_map_get(nm_handle *worker, uint64_t key, const nm_options *options, uint64_t *value);
+
+/* Inserts a key with a value. Returns NM_YES if the key was absent, and else NM_NO: the key keeps
+ * its value. Errors: NM_FULL: no slots were free for new nodes; call nm_map_reclaim, and insert
+ * again. NM_KEY, NM_BUSY, NM_PENDING, NM_PINNED, NM_NO_MEMORY. */
+nm_outcome nm_map_insert(nm_handle *worker, uint64_t key, uint64_t value,
+                         const nm_options *options);
+
+/* Inserts a key with a value, or finds the value that the key has. Returns NM_YES if the key was
+ * absent, or NM_NO, and then writes to found the value that the map has under the key. It returns the
+ * errors of nm_map_insert, and then writes nothing. */
+nm_outcome nm_map_get_or_insert(nm_handle *worker, uint64_t key, uint64_t value,
+                                const nm_options *options, uint64_t *found);
+
+/* Removes a key. Returns NM_YES if it was present, and writes the value that it had, or NM_NO. The
+ * value comes back by nm_map_reclaim too: until then other workers may read it. Errors:
+ * NM_UNFINISHED: value is written too. The key will be removed by this call and no other, and it is
+ * pending; the next managed call finishes the remove first. NM_KEY, NM_BUSY, NM_PENDING, NM_PINNED,
+ * NM_NO_MEMORY. After any other outcome than NM_YES and NM_UNFINISHED, value is not written. */
+nm_outcome nm_map_remove(nm_handle *worker, uint64_t key, const nm_options *options,
+                         uint64_t *value);
+
+/* Removes the least key of the map, or the greatest; or the least key that is below a bound, or the
+ * greatest that is not below one. They return like nm_worker_pop_first and its like, and with NM_YES
+ * they write the value that the key had to value. The value comes back by nm_map_reclaim too. After
+ * NM_UNFINISHED they have written the key that is pending, and no value. They collect nothing. */
+nm_outcome nm_map_pop_first(nm_handle *worker, const nm_options *options, uint64_t *taken,
+                            uint64_t *value);
+nm_outcome nm_map_pop_last(nm_handle *worker, const nm_options *options, uint64_t *taken,
+                           uint64_t *value);
+nm_outcome nm_map_pop_first_below(nm_handle *worker, uint64_t below, const nm_options *options,
+                                  uint64_t *taken, uint64_t *value);
+nm_outcome nm_map_pop_last_from(nm_handle *worker, uint64_t from, const nm_options *options,
+                                uint64_t *taken, uint64_t *value);
+
+/* Tries twice to advance the epoch, and then frees what has waited long enough with this worker. It
+ * writes the value of each key that is freed into values, at most `room` of them, and their number
+ * to count. If count is room, there may be more: call again. Writes to behind the number of a worker
+ * that holds the epoch back (its own, if the caller has pinned it), so that more values may come back
+ * later, or NM_NOBODY if it found no such worker. Returns NM_DONE. A key's value waits with the worker that cut the key off,
+ * so each worker reclaims, after every few dozen removes. values is not null, even if room is 0. */
+nm_outcome nm_map_reclaim(nm_handle *worker, uint64_t *values, size_t room, uint64_t *count,
+                          uint32_t *behind);
+
+/* Pins the epoch for the caller, until nm_map_unpin, and writes it: no value that the map has now
+ * comes back meanwhile. A pinned worker answers nm_map_get_pinned, and no other call for keys
+ * (NM_PINNED). While it is pinned, no worker gets back a value that was removed after the pin.
+ * Returns NM_DONE. Errors: NM_BUSY: the epoch that was read last is written. NM_PENDING,
+ * NM_PINNED. */
+nm_outcome nm_map_pin(nm_handle *worker, uint32_t tries, uint64_t *epoch);
+
+/* Ends the caller's pin. Returns NM_DONE. Errors: NM_NOT_PINNED. */
+nm_outcome nm_map_unpin(nm_handle *worker);
+
+/* Returns NM_YES and writes the value that the map has under a key, or NM_NO if the map does not
+ * have the key, to a caller that has pinned the worker. The value does not come back before
+ * nm_map_unpin. Errors: NM_NOT_PINNED. NM_BUSY, which no map of nm_map_new returns. NM_KEY. */
+nm_outcome nm_map_get_pinned(nm_handle *worker, uint64_t key, uint64_t *value);
+
+/* Finds the least key of the map that is not below key, or the greatest that is not above it. They
+ * return like nm_worker_next and nm_worker_prev, and with NM_YES they write the value of the key that
+ * was found to value. */
+nm_outcome nm_map_next(nm_handle *worker, uint64_t key, uint32_t tries, uint64_t *found,
+                       uint64_t *value);
+nm_outcome nm_map_prev(nm_handle *worker, uint64_t key, uint32_t tries, uint64_t *found,
+                       uint64_t *value);
+
+/* Writes keys of the map into keys, in ascending and in descending order, and returns like
+ * nm_worker_scan and nm_worker_scan_back. Values are not read: get each by its key. */
+nm_outcome nm_map_scan(nm_handle *worker, uint64_t from, uint64_t below, uint64_t *keys, size_t room,
+                       uint64_t *count, uint64_t *next, uint32_t tries);
+nm_outcome nm_map_scan_back(nm_handle *worker, uint64_t from, uint64_t least, uint64_t *keys,
+                            size_t room, uint64_t *count, uint64_t *next, uint32_t tries);
+
+/* Writes the worker's number. Returns NM_DONE. */
+nm_outcome nm_map_number(nm_handle *worker, uint32_t *number);
+
+/* Writes how many nodes wait in the queues that the worker holds. Returns NM_DONE. */
+nm_outcome nm_map_queue_len(nm_handle *worker, uint64_t *nodes);
+
+/* Finds the key of a remove that has flagged its leaf and is not finished. Returns NM_YES and
+ * writes the key, or NM_NO. */
+nm_outcome nm_map_pending(nm_handle *worker, uint64_t *key);
+
+/* ---- the report of a set or a map that was closed ----
  * These return NM_CLOSED if the handle is closed, and NM_KIND if it owns something else. */
 
 /* Writes how many slots are free, and how many are reached from the root, without the five fixed

@@ -1,5 +1,5 @@
-/* Tests each function by one thread, and each outcome that one thread can meet if no memory is
- * refused. */
+/* Tests each function of sets, of their workers and of reports by one thread, and each outcome that
+ * one thread can meet if no memory is refused. maps.c tests the functions of maps. */
 #include "holds.h"
 #include "nm_set.h"
 
@@ -115,6 +115,23 @@ static void kinds(void) {
     CHECK(nm_drop(&worker) == NM_DONE && nm_set_close(&set) == NM_DONE);
     is_refused(&set, NM_KIND, NM_DONE);
     CHECK(nm_drop(&set) == NM_DONE);
+}
+
+/* A map and a worker of a map are of other kinds than a set and its worker. */
+static void kinds_of_maps(void) {
+    nm_handle map = NM_CLOSED_HANDLE, worker = NM_CLOSED_HANDLE, none = NM_CLOSED_HANDLE;
+    CHECK(nm_map_new(&map, 16, 1) == NM_DONE && nm_map_worker(&map, &worker, 0) == NM_DONE);
+    is_refused(&map, NM_KIND, NM_KIND);
+    is_refused(&worker, NM_KIND, NM_KIND);
+    CHECK(nm_set_worker(&map, &none, 0) == NM_KIND && nm_set_attach(&map, &none) == NM_KIND &&
+          nm_set_attached(&map, 0) == NM_KIND && nm_set_close(&map) == NM_KIND);
+    CHECK(nm_set_worker(&worker, &none, 0) == NM_KIND && nm_set_attach(&worker, &none) == NM_KIND &&
+          nm_set_attached(&worker, 0) == NM_KIND && nm_set_close(&worker) == NM_KIND);
+    CHECK(nm_set_new(&map, 16, 1) == NM_OPEN && nm_set_new(&worker, 16, 1) == NM_OPEN &&
+          none.at == NULL);
+    CHECK(nm_drop(&worker) == NM_DONE && nm_map_close(&map) == NM_DONE);
+    is_refused(&map, NM_KIND, NM_DONE);
+    CHECK(nm_drop(&map) == NM_DONE);
 }
 
 static void answers(void) {
@@ -492,6 +509,7 @@ int main(void) {
     used();
     sizes();
     kinds();
+    kinds_of_maps();
     answers();
     managed();
     collected();

@@ -106,6 +106,53 @@ static void tell(nm_handle *report) {
         free_slots, reached, first, second, third);
 }
 
+/* ---- a map ---- */
+
+static void put(nm_handle *worker, uint64_t key) {
+    nm_outcome told;
+    uint64_t value;
+    while ((told = nm_map_insert(worker, key, 2 * key, &nm_default_options)) == NM_NO_MEMORY)
+        CHECK(nm_map_get(worker, key, &nm_default_options, &value) == NM_NO);
+    CHECK(told == NM_YES);
+}
+
+/* A refused remove has left the key with its value, and has written nothing. */
+static void take_value(nm_handle *worker, uint64_t key) {
+    nm_outcome told;
+    uint64_t value = UINT64_MAX, found;
+    while ((told = nm_map_remove(worker, key, &nm_default_options, &value)) == NM_NO_MEMORY)
+        CHECK(value == UINT64_MAX &&
+              nm_map_get(worker, key, &nm_default_options, &found) == NM_YES && found == 2 * key);
+    CHECK(told == NM_YES && value == 2 * key);
+}
+
+/* Takes all values that come back, and writes how many they are, and their sum. */
+static void take_back(nm_handle *worker) {
+    uint64_t values[KEYS], count, sum = 0;
+    uint32_t behind;
+    CHECK(nm_map_reclaim(worker, values, KEYS, &count, &behind) == NM_DONE && behind == NM_NOBODY);
+    for (uint64_t i = 0; i < count; i++) sum += values[i];
+    printf("values %" PRIu64 ", together %" PRIu64 "\n", count, sum);
+}
+
+static void of_a_map(void) {
+    nm_handle map = NM_CLOSED_HANDLE, worker = NM_CLOSED_HANDLE, none = NM_CLOSED_HANDLE;
+    nm_outcome told;
+    while ((told = nm_map_new(&map, NODES, 2)) == NM_NO_MEMORY) CHECK(map.at == NULL);
+    CHECK(told == NM_DONE);
+    while ((told = nm_map_worker(&map, &worker, 1)) == NM_NO_MEMORY)
+        CHECK(worker.at == NULL && nm_map_attached(&map, 1) == NM_NO);
+    CHECK(told == NM_DONE);
+    for (uint64_t key = 0; key < KEYS; key++) put(&worker, key);
+    for (uint64_t key = 10; key < KEYS; key++) take_value(&worker, key);
+    take_back(&worker);
+    CHECK(nm_drop(&worker) == NM_DONE);
+    while ((told = nm_map_close(&map)) == NM_NO_MEMORY)
+        CHECK(nm_map_worker(&map, &none, 0) == NM_CLOSING);
+    CHECK(told == NM_DONE && nm_report_keys(&map, &(uint64_t){0}) == NM_DONE &&
+          nm_drop(&map) == NM_DONE);
+}
+
 int main(void) {
     nm_handle set = NM_CLOSED_HANDLE, first = NM_CLOSED_HANDLE, second = NM_CLOSED_HANDLE,
               third = NM_CLOSED_HANDLE;
@@ -127,5 +174,6 @@ int main(void) {
     end_by(&first);
     tell(&first);
     CHECK(nm_drop(&first) == NM_DONE);
+    of_a_map();
     return 0;
 }

@@ -1,6 +1,6 @@
 /* Measures how much stack the calls take. It makes each call in a thread of its own, on a painted
  * stack. Fails if a call takes more than the header says: 64 kilobytes for a call that makes,
- * takes, gives back or ends a set or a worker, and 16 kilobytes for any other. Fails too if such a
+ * takes, gives back or ends a set, a map or a worker, and 16 kilobytes for any other. Fails too if such a
  * call crashes in a thread with a stack of that size. What the thread itself takes is included. */
 #define _POSIX_C_SOURCE 200809L
 
@@ -12,7 +12,7 @@
 
 enum { KILO = 1024, STACK = 1024 * KILO, OF_SETS = 64 * KILO, OF_KEYS = 16 * KILO, PAINT = 0xA5 };
 
-static nm_handle set, worker, other;
+static nm_handle set, worker, other, map, map_worker;
 static uint64_t word;
 static uint32_t number;
 
@@ -61,6 +61,34 @@ static void move(void) {
     CHECK(nm_worker_pin(&worker, 64, &word) == NM_DONE && nm_worker_unpin(&worker) == NM_DONE);
 }
 
+static void make_map(void) { CHECK(nm_map_new(&map, 1000, 3) == NM_DONE); }
+static void attach_map(void) { CHECK(nm_map_attach(&map, &map_worker) == NM_DONE); }
+static void drop_map_worker(void) { CHECK(nm_drop(&map_worker) == NM_DONE); }
+static void take_map(void) { CHECK(nm_map_worker(&map, &map_worker, 1) == NM_DONE); }
+static void map_away(void) { CHECK(nm_map_attached(&map, 1) == NM_NO); }
+static void close_map(void) { CHECK(nm_map_close(&map) == NM_DONE && nm_drop(&map) == NM_DONE); }
+static void insert_values(void) {
+    for (uint64_t key = 0; key < 300; key++)
+        CHECK(nm_map_insert(&map_worker, key, key, &nm_default_options) == NM_YES);
+}
+static void get_values(void) {
+    uint64_t keys[64], count, next;
+    CHECK(nm_map_get(&map_worker, 7, &nm_default_options, &word) == NM_YES);
+    CHECK(nm_map_pin(&map_worker, 64, &word) == NM_DONE &&
+          nm_map_get_pinned(&map_worker, 7, &word) == NM_YES &&
+          nm_map_unpin(&map_worker) == NM_DONE);
+    CHECK(nm_map_scan(&map_worker, 0, UINT64_MAX, keys, 64, &count, &next, 64) == NM_YES &&
+          nm_map_scan_back(&map_worker, 299, 0, keys, 64, &count, &next, 64) == NM_YES);
+}
+static void take_values(void) {
+    uint64_t values[64];
+    for (uint64_t key = 0; key < 200; key++)
+        CHECK(nm_map_remove(&map_worker, key, &nm_default_options, &word) == NM_YES);
+    CHECK(nm_map_pop_last(&map_worker, &nm_default_options, values, &word) == NM_YES &&
+          nm_map_next(&map_worker, 0, 64, values, &word) == NM_YES);
+    CHECK(nm_map_reclaim(&map_worker, values, 64, &word, &number) == NM_DONE && word == 64);
+}
+
 typedef struct call {
     const char *name;
     void (*make)(void);
@@ -81,6 +109,12 @@ static const call calls[] = {
     {"nm_set_attach again", attach, OF_SETS}, {"nm_drop of the other", drop_other, OF_SETS},
     {"nm_drop of its set", drop_set, OF_SETS}, {"nm_worker_end", end, OF_SETS},
     {"nm_drop of its report", drop_report, OF_SETS},
+    {"nm_map_new", make_map, OF_SETS},        {"nm_map_attach", attach_map, OF_SETS},
+    {"nm_map_insert", insert_values, OF_KEYS}, {"values and keys", get_values, OF_KEYS},
+    {"values that come back", take_values, OF_KEYS},
+    {"nm_drop of a map's worker", drop_map_worker, OF_SETS},
+    {"nm_map_attached", map_away, OF_SETS},   {"nm_map_worker", take_map, OF_SETS},
+    {"nm_drop of it again", drop_map_worker, OF_SETS}, {"nm_map_close", close_map, OF_SETS},
 };
 
 static void *made(void *which) {

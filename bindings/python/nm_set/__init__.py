@@ -27,6 +27,7 @@ from ._faults import (
     Pinned,
     Unfinished,
 )
+from ._map import Map
 from ._report import Report, Waiting
 from ._set import Options, Set, Stamp, Stats, Worker
 from ._typed import Mapping, SetOf, WorkerOf, pairs, signed, unsigned
@@ -40,6 +41,7 @@ __all__ = [
     "Forked",
     "Full",
     "InUse",
+    "Map",
     "Mapping",
     "NoMemory",
     "NoWorker",

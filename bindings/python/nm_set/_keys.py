@@ -27,7 +27,7 @@ _NO_BOUND = 2**64 - 1  # above each key
 _FIRST_ROOM, _MOST_ROOM = 8, 512  # how many keys the first scan and the last scans of a loop read
 
 
-def _number(key: object) -> Optional[int]:
+def number_of(key: object) -> Optional[int]:
     """Returns the key that equals an object, or None. Like a set of Python, it raises TypeError for
     an object that has no hash and is no set."""
     with suppress(TypeError):
@@ -99,7 +99,7 @@ def _popped(key: Optional[int]) -> int:
     return int(key)
 
 
-def _ends(
+def ends_of(
     minimum: Optional[SupportsIndex], maximum: Optional[SupportsIndex], inclusive: tuple[bool, bool]
 ) -> tuple[int, int]:
     """Returns the least key of a range, and the number below which its keys are."""
@@ -134,7 +134,7 @@ class Keys(MutableSet):  # type: ignore[type-arg]
         except Closed:
             raise
         except (TypeError, ValueError):
-            number = _number(key)
+            number = number_of(key)
         return number is not None and self._calls.contains(number)
 
     def contains(self, key: object) -> bool:
@@ -154,7 +154,7 @@ class Keys(MutableSet):  # type: ignore[type-arg]
         except Closed:
             raise
         except (TypeError, ValueError):
-            number = _number(key)
+            number = number_of(key)
         return number is not None and self._calls.remove(number)
 
     def remove(self, key: object) -> None:
@@ -240,7 +240,7 @@ class Keys(MutableSet):  # type: ignore[type-arg]
     ) -> Iterator[int]:
         """Returns an iterator over the keys from `minimum` to `maximum`, in the way of `__iter__`:
         ascending, or descending if `reverse`."""
-        first, below = _ends(minimum, maximum, inclusive)
+        first, below = ends_of(minimum, maximum, inclusive)
         return self._descending(first, below) if reverse else self._ascending(first, below)
 
     def _ascending(self, first: Optional[int], below: int) -> Iterator[int]:
@@ -265,7 +265,7 @@ class Keys(MutableSet):  # type: ignore[type-arg]
     ) -> int:
         """Returns how many keys there are from `minimum` to `maximum`. While others change the set,
         it counts each key as it finds it."""
-        first, below = _ends(minimum, maximum, inclusive)
+        first, below = ends_of(minimum, maximum, inclusive)
         return self._calls.count(first, below) if first < below else 0
 
     def first(self) -> Optional[int]:

@@ -61,6 +61,12 @@ def free_with(owner: Owner, pool: ctypes.c_void_p, report: c.Handle) -> None:
     _lease(owner, (c.exports.nm_drop, ctypes.byref(report)), (c.exports.nm_pool_free, pool))
 
 
+def drop_with(owner: Owner, handle: c.Handle) -> None:
+    """Gives up what a handle owns when its owner ends. While the handle is closed, this does
+    nothing."""
+    _lease(owner, (c.exports.nm_drop, ctypes.byref(handle)))
+
+
 def detach_with(owner: Owner, pool: ctypes.c_void_p, worker: ctypes.c_uint32) -> None:
     """Returns an attached worker when its owner ends. Before it is attached, this does nothing."""
     _lease(owner, (functools.partial(c.detach, pool), ctypes.byref(worker)))

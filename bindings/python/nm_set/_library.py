@@ -1,4 +1,4 @@
-"""The functions of nm_pool.h and nm_set.h, by ctypes.
+"""The functions of nm_pool.h, nm_map.h and nm_set.h, by ctypes.
 
 The pool finds a worker for each call and refuses calls in a forked child; several threads may call
 it at the same time. So nothing needs a lock here. Other threads run during a call of a function of
@@ -147,6 +147,19 @@ FUNCTIONS: dict[str, list[Any]] = {
     "nm_worker_stats": [_H, POINTER(StatsWords)],
     "nm_worker_publish": [_H, _U64, _U64],
     "nm_worker_observe": [_H, c_uint32, _U64, _U64],
+    "nm_map_new": [_H, c_uint32, c_uint32],
+    "nm_map_close": [_H],
+    "nm_map_attach": [_H, _H],
+    "nm_map_insert": [_H, c_uint64, c_uint64, POINTER(OptionsWords)],
+    "nm_map_remove": [_H, c_uint64, POINTER(OptionsWords), _U64],
+    "nm_map_reclaim": [_H, _U64, c_size_t, _U64, _U32],
+    "nm_map_hold": [_H, POINTER(OptionsWords), _U64],
+    "nm_map_unpin": [_H],
+    "nm_map_get_pinned": [_H, c_uint64, _U64],
+    "nm_map_scan": [_H, c_uint64, c_uint64, _U64, c_size_t, _U64, _U64, c_uint32],
+    "nm_map_scan_back": [_H, c_uint64, c_uint64, _U64, c_size_t, _U64, _U64, c_uint32],
+    "nm_map_queue_len": [_H, _U64],
+    "nm_map_collect_after": [c_uint32, c_uint32],
     "nm_report_slots": [_H, _U32, _U32],
     "nm_report_keys": [_H, _U64],
     "nm_report_key": [_H, c_uint64, _U64],
@@ -164,6 +177,7 @@ _RESULTS: dict[str, Any] = {
     "nm_pool_handle": _H,
     "nm_full_words": c_char_p,
     "nm_mask_words": c_char_p,
+    "nm_map_collect_after": c_uint32,
 }
 
 # In place of the number of a worker: any worker, and none. In place of `collect_after`: an eighth of

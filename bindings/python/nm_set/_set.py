@@ -41,7 +41,7 @@ Shape = Literal["radix", "unbalanced"]
 SHAPES = {"radix": 0, "unbalanced": 1}
 
 
-def _narrow(number: SupportsIndex, what: str, least: int = 0, most: int = 2**32 - 1) -> int:
+def narrow(number: SupportsIndex, what: str, least: int = 0, most: int = 2**32 - 1) -> int:
     """Returns a number of 32 bits for C. Raises `OutOfRange` if it is not `least` to `most`."""
     value = operator.index(number)
     if not least <= value <= most:
@@ -72,7 +72,7 @@ class Options:
         for each in fields(self):
             value = getattr(self, each.name)
             if value is not None or each.name != "collect_after":
-                object.__setattr__(self, each.name, _narrow(value, each.name))
+                object.__setattr__(self, each.name, narrow(value, each.name))
 
     def _words(self, workers: int, shape: int) -> c.PoolOptionsWords:
         """Returns the options for the library, for a set of this many workers and this shape."""
@@ -149,9 +149,9 @@ class Set(Keys):
             keys, nodes = words_of(()), operator.index(iterable)
         else:
             raise TypeError("the number of nodes is given twice")
-        room = c.GROWS if nodes is None else _narrow(nodes, "nodes", 7, MOST_NODES)
+        room = c.GROWS if nodes is None else narrow(nodes, "nodes", 7, MOST_NODES)
         self._options = options
-        seats = _narrow(workers, "workers", 1, MOST_WORKERS)
+        seats = narrow(workers, "workers", 1, MOST_WORKERS)
         if shape not in SHAPES:
             raise ValueError(f'the shape is not "radix" or "unbalanced": {shape!r}')
         self._pool, self._handle, self._seats = c_void_p(), c.Handle(), seats
@@ -456,7 +456,7 @@ class Worker(Keys):
         """Pins the epoch until `unpin`, and returns it. No node that is in the set now is freed
         meanwhile, so adds of all threads may find the set full. It is for tests and proofs."""
         epoch = c_uint64()
-        self._answered(c.quick.nm_worker_pin, _narrow(tries, "tries"), epoch)
+        self._answered(c.quick.nm_worker_pin, narrow(tries, "tries"), epoch)
         return epoch.value
 
     def unpin(self) -> None:

@@ -28,7 +28,7 @@ pub enum Fault {
     /// within the [`timeout_ms`](crate::Options::timeout_ms) of the set.
     Full(Full),
     /// No nodes were free for the key of a [`try_insert`](crate::Worker::try_insert), which waits
-    /// for none.
+    /// for none, or became free within the time of an insert into a [`Map`](crate::Map).
     NoNodes,
     /// Other threads interfered with each try, or the call has none. Of the call nothing remains
     /// but help given to others; call again.

@@ -1,5 +1,6 @@
-//! The functions of `nm_pool.h` and `nm_set.h`, and the one place with `unsafe`: a [`Pool`] and a
-//! [`ReportHandle`], which meet the conditions that the headers ask of their callers.
+//! The functions of `nm_pool.h` and `nm_set.h`, and the one place with `unsafe`: a [`Pool`], a
+//! [`ReportHandle`] and, in [`map`], a map and its workers. They meet the conditions that the headers
+//! ask of their callers.
 //!
 //! What the headers ask, and why it holds here:
 //!
@@ -12,6 +13,8 @@
 //!
 //! If two calls have one worker at the same time, the library refuses the second one, which then
 //! touches nothing. The pool, or [`Pool::by`] here, repeats it.
+
+pub(crate) mod map;
 
 use std::ffi::c_int;
 use std::panic::{RefUnwindSafe, UnwindSafe};
@@ -29,6 +32,16 @@ pub(crate) const GROWS: u64 = u64::MAX;
 pub(crate) struct Word {
     at: *mut u8,
     in_use: u64,
+}
+
+impl Word {
+    /// Returns a closed handle.
+    fn closed() -> Word {
+        Word {
+            at: null_mut(),
+            in_use: 0,
+        }
+    }
 }
 
 /// `nm_pool`, of which only the library knows the fields.
@@ -566,10 +579,7 @@ macro_rules! report_calls {
 impl ReportHandle {
     /// Returns a closed handle.
     pub(crate) fn closed() -> ReportHandle {
-        ReportHandle(Word {
-            at: null_mut(),
-            in_use: 0,
-        })
+        ReportHandle(Word::closed())
     }
 
     report_calls! {

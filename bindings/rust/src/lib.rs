@@ -5,6 +5,7 @@ mod fault;
 #[allow(unsafe_code)]
 mod ffi;
 mod key;
+mod map;
 mod numbers;
 mod options;
 mod order;
@@ -16,6 +17,7 @@ mod worker;
 
 pub use fault::{Fault, Full};
 pub use ffi::{Stats, Waiting};
+pub use map::{Guard, InsertError, Map, MapWorker, Reclaimed};
 pub use numbers::Numbers;
 pub use options::{Options, Shape};
 pub use order::Range;

@@ -1,6 +1,6 @@
 -- A worker that inserts a key with a value, and then gets the value or takes it out; and one that gets
 -- a value under its pin.
-use Rattle.std.specs.Prelude.{ℕ, Option, IsSome}
+use Rattle.std.specs.Prelude.{◌≡◌, ◌⊎◌, ℕ, Option, Some, IsSome}
 use Rattle.nm_steps.specs.Steps.{HasSeenAllOf, PassView}
 use Rattle.nm_calls.specs.Maps.{HasPut, HasTaken, MapGave, MapGivesUnderPin}
 use Rattle.nm_tree.specs.Workers.{WorkerView}
@@ -24,3 +24,8 @@ pub record PutsThenTakes (p q : PassView) (k v taken : ℕ) : Type 0 where
 pub record IsHoldingAnswer (w : WorkerView) (k : ℕ) (found : Option ℕ) : Type 0 where
   pub held : IsSome w.held
   pub gave : MapGivesUnderPin w.pass k found
+
+-- the worker put the key into the map with v, which is this value; or the map gave this value to a
+-- look-up of the key
+abbrev pub HasPutOrFound : PassView → PassView → ℕ → ℕ → ℕ → Type 0
+HasPutOrFound p q k v found = (HasPut p q k v × (found ≡ v)) ⊎ MapGave p q k (Some found)

@@ -59,7 +59,7 @@ pub fn read_object(member: &mut MapMember, objects: &[u64], key: Key, tries: u32
     object
 }
 
-/// Collects the numbers of removed objects into `out`, and resets each of these objects. Returns how
+/// Reclaims the numbers of removed objects into `out`, and resets each of these objects. Returns how
 /// many numbers came back. Proved: each object is as before, or its number has come back: a leaf with
 /// this value was cut off, and each worker that was pinned at the cut has unpinned since. So no worker
 /// that found the number in the map is still pinned when its object is reset. Proved too: each object
@@ -70,7 +70,7 @@ pub fn reset_returned(member: &mut MapMember, objects: &mut [u64], out: &mut [u6
     ensures reset { AreReset (take result out.new) objects.new }
     ensures few { result ≤ length out.new }
 {
-    let count = member.collect(out).values;
+    let count = member.reclaim(out).handed.values;
     reset_each(objects, &out[..count]);
     count
 }

@@ -1,12 +1,12 @@
 //! A member of a map that inserts a key with a value and gets the value of the key, proved from the
 //! clauses of `nm_set` and the page alone.
-ghost use Rattle.std.specs.Prelude.{◌≡◌, IfSome, IsSome};
+ghost use Rattle.std.specs.Prelude.{◌≡◌, Some, IfSome};
 ghost use Rattle.nm_steps.specs.Steps.{PassView};
 ghost use Rattle.nm_callers.specs.Mapping.{PutsThenGets};
 ghost use Rattle.nm_callers.specs.Meanwhile.{NoneDeleted};
 
 use nm_edge::Key;
-use nm_set::{Map, MapMember};
+use nm_set::{Map, MapMember, Options};
 use std::alloc::Global;
 
 /// A new map, its only member, and what this member has found.
@@ -21,19 +21,25 @@ pub struct PutAndGot {
 /// Inserts a key with a value, and then gets the value of the key. The outer `None`: a call returned
 /// an error, or the key was in the map before. Proved: otherwise right after the insert's link the map
 /// had the key with the value, and the get returned what the map had at a later moment (linearization
-/// point). Proved too: the get found a value, unless a delete of the key took effect after all that
-/// the member had seen before.
-pub fn put_then_get(member: &mut MapMember, key: Key, value: u64, tries: u32) -> Option<Option<u64>>
+/// point). Proved too: the get found the value that was inserted, unless a delete of the key took
+/// effect after all that the member had seen before.
+pub fn put_then_get(
+    member: &mut MapMember,
+    key: Key,
+    value: u64,
+    options: &Options,
+) -> Option<Option<u64>>
     ensures tree { member.new.tree ≡ member.old.tree }
     ensures answers { IfSome result (PutsThenGets member.old.worker.pass member.new.worker.pass key
         value) }
     ensures found { NoneDeleted member.new.worker.pass.view.layout member.old.worker.pass.view.past
-        member.new.worker.pass.view.past key → IfSome result (λ found. IsSome found) }
+        member.new.worker.pass.view.past key → IfSome result (λ found. found ≡ Some value) }
 {
-    let Ok(true) = member.try_insert(key, value, tries) else {
+    let mut unused = 0;
+    let Ok(true) = member.insert(key, value, &mut unused, options) else {
         return None;
     };
-    let found = member.try_get(key, tries);
+    let found = member.get(key, options);
     member.know_run();
     let _number = key.get();
     found.ok()
@@ -47,7 +53,7 @@ pub fn put_then_get_in_new(
     nodes: u32,
     key: Key,
     value: u64,
-    tries: u32,
+    options: &Options,
 ) -> Option<PutAndGot>
     ensures own { IfSome result (λ m. m.member.tree ≡ m.map.tree) }
     ensures answers { IfSome result
@@ -57,6 +63,6 @@ pub fn put_then_get_in_new(
         return None;
     };
     let mut member = members.pop()?;
-    let found = put_then_get(&mut member, key, value, tries)?;
+    let found = put_then_get(&mut member, key, value, options)?;
     Some(PutAndGot { map, member, found })
 }

@@ -30,7 +30,8 @@ pub fn insert_then_get(
     ensures found { NoneDeleted worker.new.pass.view.layout worker.old.pass.view.past
         worker.new.pass.view.past key → IfSome result (λ found. found ≡ Some value) }
 {
-    let Ok(true) = tree.insert_with_value(worker, key, value, tries) else {
+    let mut unused = 0;
+    let Ok(true) = tree.insert_with_value(worker, key, value, &mut unused, tries) else {
         return None;
     };
     let found = tree.get(worker, key, tries);

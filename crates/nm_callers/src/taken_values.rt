@@ -25,7 +25,8 @@ pub fn put_then_take(
     requires values { HasValues tree.now }
     ensures { IfSome result (PutsThenTakes worker.old.pass worker.new.pass key value) }
 {
-    let Ok(true) = tree.insert_with_value(worker, key, value, tries) else {
+    let mut unused = 0;
+    let Ok(true) = tree.insert_with_value(worker, key, value, &mut unused, tries) else {
         return None;
     };
     let mut taken = 0;

@@ -103,7 +103,7 @@ links_of attempt.Linked = 1
 links_of _ = 0
 
 try_adds : (fit : Fit) (L : Layout) (k : ℕ) (f g : Option NewNodes) (old new : List Entry) (a : Attempt) → IsTry fit L k f g old new a → (n : ℕ) × (n + paid L.nodes f ≤ most (reach L) + (6 * L.nodes + 1)) × AddsLinks (links_of a) n old new
-try_adds fit L k f g old new attempt.Found h = (3 * reach L, little L f, (0, stops_adds L k old new h.1 (Some h.0) h.2))
+try_adds fit L k f g old new (attempt.Found leaf) h = (3 * reach L, little L f, (0, stops_adds L k old new h.1 (Some h.0) h.2))
   where
     little : (L : Layout) (f : Option NewNodes) → 3 * reach L + paid L.nodes f ≤ most (reach L) + (6 * L.nodes + 1)
     little L None = omega arith
@@ -147,9 +147,9 @@ finishes_add fit L tries k old new (Ok true) h =
     let few = part.1 in
     (part.2.0 + 0, adds_in _ old new (omega (arith, few)) (adds_then old h.0 new part.2.1 (adds_these _ h.0 new h.2)))
 finishes_add fit L tries k old new (Ok false) h =
-    let part = ends_add fit L tries k h.0 attempt.Found old h.1 h.3 in
+    let part = ends_add fit L tries k h.0 (attempt.Found h.3) old h.1 h.4 in
     let few = part.1 in
-    (part.2.0 + 0, adds_in _ old new (omega (arith, few)) (adds_then old h.1 new part.2.1 (adds_then h.1 h.2 new (back_adds h.0 h.1 h.2 h.4) (adds_these _ h.2 new h.5))))
+    (part.2.0 + 0, adds_in _ old new (omega (arith, few)) (adds_then old h.1 new part.2.1 (adds_then h.1 h.2 new (back_adds h.0 h.1 h.2 h.5) (adds_these _ h.2 new h.6))))
 finishes_add fit L tries k old new (Err fault.Full) h =
     let part = ends_add fit L tries k None attempt.Full old h.0 h.1 in
     let few = part.1 in

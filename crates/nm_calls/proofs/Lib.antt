@@ -19,6 +19,8 @@ pub mod Unheld
 pub mod NamedLeaves
 pub mod MapMoments
 pub mod InsertedValues
+pub mod FoundValues
+pub mod NearValues
 pub mod CutLeaves
 pub mod HandedBack
 pub mod MadeLeaves

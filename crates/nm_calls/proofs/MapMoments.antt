@@ -9,6 +9,7 @@ use Rattle.nm_edge.specs.declared.edge.Side.{Side}
 use Rattle.nm_model.specs.declared.event.Event.{Event}
 use Rattle.nm_model.specs.declared.event.Event.TheVariants.{Leave, Sight}
 use Rattle.nm_model.specs.declared.event.Op.TheVariants.{Has}
+use Rattle.nm_model.specs.declared.reply.Reply.{Reply}
 use Rattle.nm_model.specs.declared.reply.Reply.TheVariants.{Departed}
 use Rattle.nm_model.specs.declared.trace.Turn.{Turn}
 use Rattle.nm_model.specs.Acts.{Gives, InSet}
@@ -248,7 +249,22 @@ module _ (o m : PassView) (first_seen : HasSeen o.view) (first_fits : IsLayout o
 
 -- ---- the moment of a value that was read, in its call
 
-module _ (o a m q : PassView) (first_seen : HasSeen o.view) (first_fits : IsLayout o.view.layout) (unpinned : (epochs o).pin ≡ None) (pinning : Continues o a) (walked : GoesOn a m) (leaves : TakesStep m q Leave Departed) (k : ℕ) (is_key : IsKey k) where
+-- a step leaves a moment of the map as it was
+pub mapped_longer : (was : List Turn) (m q : PassView) (e : Event) (r : Reply) → TakesStep m q e r → (k : ℕ) (answer : Option ℕ) → WasMapped m.view.layout was m.view.past m.view.stores m.view.number k answer → WasMapped q.view.layout was q.view.past q.view.stores q.view.number k answer
+mapped_longer was m q e r step k answer so =
+    let more : Extends q.view.past m.view.past = (seen_by_turn m q e r step.past).goes_on in
+    subst (λ (st : List Stored). WasMapped q.view.layout was q.view.past st q.view.number k answer) (sym step.stores)
+    (subst (λ (s : PassView). WasMapped s.view.layout was q.view.past m.view.stores s.view.number k answer) (sym (same_by_step m q e r step.step)) (record {
+      so_far = so.so_far;
+      rest = so.rest ++ more.more;
+      are = more.is ∙ (ap (λ (l : List Turn). l ++ more.more) so.are ∙ append_assoc so.so_far so.rest more.more);
+      later = so.later;
+      pinned = so.pinned;
+      gives = so.gives;
+      stored = stored_longer answer m.view.layout so.so_far m.view.past q.view.past m.view.stores more so.stored;
+    }))
+
+module _ (o a m : PassView) (first_seen : HasSeen o.view) (first_fits : IsLayout o.view.layout) (unpinned : (epochs o).pin ≡ None) (pinning : Continues o a) (walked : GoesOn a m) (k : ℕ) (is_key : IsKey k) where
   same : IsSamePass o m
   same = same_then o a m pinning.same walked.same
 
@@ -258,22 +274,7 @@ module _ (o a m q : PassView) (first_seen : HasSeen o.view) (first_fits : IsLayo
   abbrev fits : IsLayout m.view.layout
   fits = fits_later o m first_seen first_fits unpinned same past k is_key
 
-  -- what the last step leaves of a moment of the map
-  mapped_longer : (answer : Option ℕ) → WasMapped m.view.layout o.view.past m.view.past m.view.stores m.view.number k answer → WasMapped q.view.layout o.view.past q.view.past q.view.stores q.view.number k answer
-  mapped_longer answer was =
-      let more : Extends q.view.past m.view.past = (seen_by_turn m q Leave Departed leaves.past).goes_on in
-      subst (λ (st : List Stored). WasMapped q.view.layout o.view.past q.view.past st q.view.number k answer) (sym leaves.stores)
-      (subst (λ (s : PassView). WasMapped s.view.layout o.view.past q.view.past m.view.stores s.view.number k answer) (sym (same_by_step m q Leave Departed leaves.step)) (record {
-        so_far = was.so_far;
-        rest = was.rest ++ more.more;
-        are = more.is ∙ (ap (λ (l : List Turn). l ++ more.more) was.are ∙ append_assoc was.so_far was.rest more.more);
-        later = was.later;
-        pinned = was.pinned;
-        gives = was.gives;
-        stored = stored_longer answer m.view.layout was.so_far m.view.past q.view.past m.view.stores more was.stored;
-      }))
-
-  value_was : (v : ℕ) → HasReadValue m k v → WasMapped m.view.layout o.view.past m.view.past m.view.stores m.view.number k (Some v)
+  pub value_was : (v : ℕ) → HasReadValue m k v → WasMapped m.view.layout o.view.past m.view.past m.view.stores m.view.number k (Some v)
   value_was v r = record {
     so_far = so_far m fits k is_key v r;
     rest = remaining m fits k is_key v r;
@@ -285,8 +286,8 @@ module _ (o a m q : PassView) (first_seen : HasSeen o.view) (first_fits : IsLayo
   }
 
   -- what the call found was so
-  pub was_mapped : HasSeen m.view → (answer : Option ℕ) → HasLookedUp m k answer → WasMapped q.view.layout o.view.past q.view.past q.view.stores q.view.number k answer
-  was_mapped seen None e = none_of (was_so o a m q first_seen first_fits unpinned pinning walked seen leaves k false is_key e)
+  pub was_mapped : (q : PassView) → TakesStep m q Leave Departed → HasSeen m.view → (answer : Option ℕ) → HasLookedUp m k answer → WasMapped q.view.layout o.view.past q.view.past q.view.stores q.view.number k answer
+  was_mapped q leaves seen None e = none_of (was_so o a m q first_seen first_fits unpinned pinning walked seen leaves k false is_key e)
     where
       none_of : WasSo o q k false → WasMapped q.view.layout o.view.past q.view.past q.view.stores q.view.number k None
       none_of so = record {
@@ -298,7 +299,7 @@ module _ (o a m q : PassView) (first_seen : HasSeen o.view) (first_fits : IsLayo
         gives = λ v in_map. so.gives (record { slot = in_map.slot; reached = in_map.reached; leaf = in_map.leaf; has_key = in_map.has_key });
         stored = tt;
       }
-  was_mapped seen (Some v) r = mapped_longer (Some v) (value_was v r)
+  was_mapped q leaves seen (Some v) r = mapped_longer o.view.past m q Leave Departed leaves k (Some v) (value_was v r)
 
 -- ---- the whole call
 

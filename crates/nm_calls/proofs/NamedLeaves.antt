@@ -1,5 +1,5 @@
 -- The leaf at which a walk for its key ended was reached, with that key, at a moment after the pin.
-use Rattle.std.proofs.Common.{◌≡◌, inl, inr, ℕ, ◌<◌, ◌≤◌, ◌==◌, Bool, true, false, cond, ◌&&◌, ◌||◌, List, [], ◌∷◌, ◌++◌, append_assoc, length, refl, sym, ap, subst, ◌∙◌, true≢false}
+use Rattle.std.proofs.Common.{◌≡◌, ◌≢◌, inl, inr, ℕ, ◌<◌, ◌≤◌, ◌==◌, Bool, true, false, cond, ◌&&◌, ◌||◌, List, [], ◌∷◌, ◌++◌, append_assoc, length, refl, sym, ap, subst, ◌∙◌, arith, true≢false}
 use Rattle.std.specs.Prelude.{All, None, Ok, Err, Result}
 use Rattle.std.specs.List.{list_any}
 use Rattle.std.proofs.lemmas.Bool.{and_parts, cases_lt, eqb-true, or_parts}
@@ -18,7 +18,7 @@ use Rattle.nm_model.specs.declared.reply.Reply.TheVariants.{KeyIs, EdgeIs, Depar
 use Rattle.nm_model.specs.declared.trace.Turn.{Turn}
 use Rattle.nm_model.specs.Headline.{HasLeft, departs, leaves}
 use Rattle.nm_model.specs.Knowledge.{Knowledge}
-use Rattle.nm_model.specs.Memory.{node, child, is_leaf, infinity_1}
+use Rattle.nm_model.specs.Memory.{node, child, is_leaf, infinity_0, infinity_1}
 use Rattle.nm_model.specs.Runs.{of}
 use Rattle.nm_model.specs.Searches.{side_of}
 use Rattle.nm_model.specs.Walks.{Entry, IsPart, WalkComes, WalkReads, WalkEnds, begins_anew, log_of, logged_by}
@@ -30,12 +30,14 @@ use Rattle.nm_order.specs.Moments.{PinStands}
 use Rattle.nm_order.specs.Ranges.{StandsFor}
 use Rattle.nm_order.specs.StalePaths.{HasPin, log_under_pin, WasReachedSince}
 use Rattle.nm_order.proofs.AnswersSince.{later_keys}
+use Rattle.nm_order.proofs.CutTurns.{reached_inside}
 use Rattle.nm_order.proofs.FactLaws.{leaf_is}
 use Rattle.nm_order.proofs.LogParts.{part_grows, part_itself, part_within}
 use Rattle.nm_order.proofs.OrderedLaws.{IsOrdered, each_ordered}
 use Rattle.nm_order.proofs.PartsOfRuns.{logs_tell}
 use Rattle.nm_order.proofs.RealTime.{begins_with}
 use Rattle.nm_order.proofs.RunExchanges.{first_keys}
+use Rattle.nm_order.proofs.Sentinels.{sentinel_is_high, sentinels_of}
 use Rattle.nm_order.proofs.StaleRuns.{any_walk_was_reached, any_walk_reads, any_walk_knows_leaf, radix_walk}
 use Rattle.nm_order.proofs.WalkAnswers.{pin_lasts}
 use Rattle.nm_order.proofs.WalksOfRuns.{trace_in-append, log-append}
@@ -87,6 +89,31 @@ module _ (L : Layout) (enough : 5 ≤ L.nodes) (turns : List (ℕ × Event)) (ke
 
   pub leaf_is_one : is_leaf (node (after_in (ordered L) leaf_was.before).state.memory slot) ≡ true
   leaf_is_one = leaf_was.same_kind ∙ leaf_now
+
+  -- it is a slot of the layout, and none of a fixed node
+  abbrev then' : Configuration
+  then' = after_in (ordered L) leaf_was.before
+
+  ordered_then : IsOrdered L then'
+  ordered_then = each_ordered L enough leaf_was.before (first_keys leaf_was.before leaf_was.since (subst (λ (l : List (ℕ × Event)). All (λ t. HasKey t.1) l) leaf_was.is_run keys))
+
+  pub leaf_is_inside : slot ≤ L.nodes
+  leaf_is_inside = reached_inside L enough then' ordered_then slot leaf_was.reached
+
+  pub leaf_is_high : k < infinity_0 → 6 ≤ slot
+  leaf_is_high low = elim (cases_lt 5 slot) [
+    | inl high ↦ omega (arith, high)
+    | inr fixed ↦ absurd (too_low fixed)
+  ]
+    where
+      positive : 1 ≤ slot
+      positive = let some : slot ≢ 0 = leaf_was.reached.is_slot in omega (arith, some)
+
+      too_low : slot ≤ 5 → ⊥
+      too_low fixed =
+          let high : infinity_0 ≤ key then'.state.memory slot = sentinel_is_high then'.state (sentinels_of L then' ordered_then) slot positive fixed in
+          let is = leaf_has_key in
+          omega (arith, high, is, low)
 
 -- ---- the moment is later than an earlier run at whose end the worker was not pinned
 

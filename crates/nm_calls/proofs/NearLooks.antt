@@ -13,7 +13,7 @@ use Rattle.nm_model.specs.declared.event.Field.TheVariants.{Edge as EdgeOn}
 use Rattle.nm_model.specs.declared.reply.Reply.TheVariants.{EdgeIs}
 use Rattle.nm_model.specs.Memory.{infinity_0}
 use Rattle.nm_model.specs.Searches.{side_of}
-use Rattle.nm_model.specs.Walks.{Entry}
+use Rattle.nm_model.specs.Walks.{Entry, WalkEnds, since_pin}
 use Rattle.nm_steps.specs.Steps.{TreeView, PassView, Stepped}
 use Rattle.nm_walks.specs.declared.looking.Onward.{Onward}
 use Rattle.nm_calls.specs.declared.near_key.KeysWalk.{KeysWalk}
@@ -22,10 +22,11 @@ use Rattle.nm_walks.specs.declared.seek_record.SeekRecord.{SeekRecord}
 use Rattle.nm_walks.specs.Bounds.{reach}
 use Rattle.nm_calls.specs.NearKeys.{ComesBy, HasNone, HasNoneTo, HaveNone, IsDescent, IsNearBy, IsPast, Lies, Serves, border, bound, last_border, read_on}
 use Rattle.nm_walks.specs.AddedLooks.{AddsLooks}
-use Rattle.nm_calls.specs.PlainWalks.{HasEndedSo}
+use Rattle.nm_calls.specs.PlainWalks.{HasEndedAt, HasEndedSo}
 use Rattle.nm_walks.specs.Telling.{EdgeTold, OnwardTold, IsPinnedIn}
 use Rattle.nm_walks.specs.Walks.{begin, onto, chain_onto, edge_on, Reads, IsLeafRead, Walks, EndsAtLeaf, IsTooLong}
 use Rattle.nm_calls.proofs.Adding.{mul_below}
+use Rattle.nm_calls.proofs.MapMoments.{ends_at}
 use Rattle.nm_walks.proofs.PlainLooks.{node_looks, read_grows}
 use Rattle.nm_calls.proofs.PlainLooks.{looks_in, looks_then, ended_still, ends_so}
 use Rattle.nm_walks.proofs.ShortWalks.{walk_comes, too_long}
@@ -42,7 +43,7 @@ both_right x y v one other = ap (λ (t : Bool). cond t Left Right) (le-ltb x v o
 -- ---- a walk that serves them
 
 pub descent_begins : (L : Layout) (p q : PassView) (e : Edge) → Stepped p q (Look 2 (EdgeOn Left)) (EdgeIs e) → EdgeTold p q 2 Left e → (from : ℕ) → IsKey from
-    → IsDescent L 0 p q (record { from = from; low = 0; high = infinity_0; node = e.slot; found = 0 })
+    → IsDescent L 0 p q (record { from = from; low = 0; high = infinity_0; node = e.slot; leaf = 0; found = 0 })
 descent_begins L p q e step told from key = record {
   least = omega arith;
   most = let le = key in omega (arith, le);
@@ -87,23 +88,23 @@ module _ (L : Layout) (n : ℕ) (o p q : PassView) (d : KeysWalk) (low high : �
 
   -- at its end a key on the other side of the leaf's goes right where the walk goes left, and then
   -- each of both edges is null
-  at_end : n + 2 ≤ reach L → on.next.slot ≡ 0 → (j : ℕ) → low ≤ j → j < high → (s : SeekRecord) × (e : List ChainEdge) × EndsAtLeaf L j o.view.log q.view.log s e on.found
+  at_end : n + 2 ≤ reach L → on.next.slot ≡ 0 → (j : ℕ) → low ≤ j → j < high → (s : SeekRecord) × (e : List ChainEdge) × EndsAtLeaf L j o.view.log q.view.log s e on.found × (s.edge.slot ≡ d.node)
   at_end few null j le less = by (cases_lt d.from on.found)
     where
       on_side : (d : Side) (left right : Edge) → left.slot ≡ 0 → right.slot ≡ 0 → (edge_on d left right).slot ≡ 0
       on_side Left left right none null = none
       on_side Right left right none null = null
 
-      by : (d.from < on.found) ⊎ (on.found ≤ d.from) → (s : SeekRecord) × (e : List ChainEdge) × EndsAtLeaf L j o.view.log q.view.log s e on.found
+      by : (d.from < on.found) ⊎ (on.found ≤ d.from) → (s : SeekRecord) × (e : List ChainEdge) × EndsAtLeaf L j o.view.log q.view.log s e on.found × (s.edge.slot ≡ d.node)
       by (inl below) =
           let left : on.side ≡ Left = r.3 ∙ ap (λ (b : Bool). cond b Left Right) (lt-ltb d.from on.found below) in
           let both = leaf left null in
           let mine : Onward = record { found = on.found; side = side_of j on.found; next = edge_on (side_of j on.found) both.0 both.1 } in
-          (t, c, walk_ends L n j o.view.log p.view.log q.view.log t c mine few (walk j le less) (there j mine (both.0, both.1, both.2, refl, refl)) (on_side (side_of j on.found) both.0 both.1 both.3 both.4))
+          (t, c, walk_ends L n j o.view.log p.view.log q.view.log t c mine few (walk j le less) (there j mine (both.0, both.1, both.2, refl, refl)) (on_side (side_of j on.found) both.0 both.1 both.3 both.4), at)
       by (inr above) =
           let past = passed above in
           let same = both_right j d.from on.found (omega (arith, past, le)) above in
-          (t, c, walk_ends L n j o.view.log p.view.log q.view.log t c on few (walk j le less) (there j on (read_alike d.from j d.node p.view.log q.view.log on same r)) null)
+          (t, c, walk_ends L n j o.view.log p.view.log q.view.log t c on few (walk j le less) (there j on (read_alike d.from j d.node p.view.log q.view.log on same r)) null, at)
 
   module _ (capped : on.next.slot ≢ 0 → d.from < on.found → high ≤ on.found) where
     read : on.next.slot ≢ 0 → (j : ℕ) → low ≤ j → j < high → Reads j t.edge.slot p.view.log q.view.log on
@@ -165,6 +166,17 @@ ended_so L j old q s c found (n, mid, on, few, w, null, read, is) =
     let come = walk_comes j n old mid s c w in
     let many = come.1 in
     subst (λ (v : ℕ). HasEndedSo q j (v == j)) is (ends_so (record q { view = record q.view { log = mid } }) q n j s.edge.slot on read (s.parent, s.side, come.0, omega (arith, many)) null)
+
+-- the leaf at which a walk for its key has ended
+pub ended_at : (L : Layout) (j : ℕ) (old : List Entry) (q : PassView) (s : SeekRecord) (c : List ChainEdge) → EndsAtLeaf L j old q.view.log s c j → HasEndedAt q j s.edge.slot
+ended_at L j old q s c (n, mid, on, few, w, null, read, is) =
+    let come = walk_comes j n old mid s c w in
+    let many = come.1 in (
+      s.parent,
+      s.side,
+      subst (λ (v : ℕ). WalkEnds j (since_pin [] q.view.log) s.edge.slot s.parent s.side v) is
+          (ends_at (record q { view = record q.view { log = mid } }) q n j s.edge.slot on read (s.parent, s.side, come.0, omega (arith, many)) null),
+    )
 
 -- ---- which keys are on a side
 
@@ -248,6 +260,13 @@ module _ (side : Side) (L : Layout) (n : ℕ) (o p : PassView) (key from : ℕ) 
       by : IsPast side j from ⊎ Lies side from j → HasEndedSo p j false
       by (inl past) = earlier j lies past
       by (inr on) = subst (HasEndedSo p j) (ne_eqb d.found j other) (ended j (serves (subst (λ (k : ℕ). Lies side k j) (sym begun) on)))
+
+  -- at its leaf, if the key of the leaf is among them
+  pub hit_at : Serves side d d.found → HasEndedAt p d.found d.leaf
+  hit_at hit =
+      let within = served_within side d d.found w.least w.most hit in
+      let end = w.ends null d.found within.0 within.1 in
+      subst (HasEndedAt p d.found) end.3 (ended_at L d.found o.view.log p end.0 end.1 end.2)
 
   -- which is the nearest key, if it is among them
   pub is_near : IsKey from → Serves side d d.found → IsNearBy side (HasEndedSo p) key (Some d.found)

@@ -1,16 +1,15 @@
 -- The value of a leaf that a delete has flagged.
-use Rattle.std.proofs.Common.{◌≡◌, ◌⊎◌, inl, inr, ℕ, zero, suc, ◌<◌, ◌≤◌, ◌||◌, ◌==◌, Bool, true, false, cond, List, [], ◌∷◌, ◌++◌, append_assoc, length, refl, sym, ap, subst, ◌∙◌, arith, true≢false}
-use Rattle.std.specs.Prelude.{All, Contains, None, Some, Result, Ok, Err}
+use Rattle.std.proofs.Common.{◌≡◌, ◌⊎◌, inl, inr, ℕ, zero, suc, ◌≤◌, ◌||◌, ◌==◌, Bool, true, false, cond, List, [], ◌∷◌, ◌++◌, append_assoc, refl, sym, ap, subst, ◌∙◌, arith}
+use Rattle.std.specs.Prelude.{Contains, None, Result, Ok, Err}
 use Rattle.std.proofs.lemmas.Bool.{eqb-true}
 use Rattle.std.proofs.lemmas.List.Elements.{Contains-append_cases, Contains-append_left, Contains-push}
 use Rattle.std.proofs.lemmas.Option.{same_Some}
 use Rattle.nm_edge.specs.Keys.{IsKey}
-use Rattle.nm_edge.specs.Layouts.{Layout, IsLayout}
+use Rattle.nm_edge.specs.Layouts.{IsLayout}
 use Rattle.nm_edge.specs.declared.edge.Side.{Side}
 use Rattle.nm_edge.specs.declared.node.NodeId.{NodeId}
 use Rattle.nm_model.specs.declared.event.Event.{Event}
 use Rattle.nm_model.specs.declared.event.Event.TheVariants.{Flag}
-use Rattle.nm_model.specs.declared.event.Op.TheVariants.{Delete}
 use Rattle.nm_model.specs.declared.reply.Refused.{Refused}
 use Rattle.nm_model.specs.declared.reply.Reply.{Reply}
 use Rattle.nm_model.specs.declared.reply.Reply.TheVariants.{Flagged}
@@ -18,7 +17,7 @@ use Rattle.nm_model.specs.declared.trace.Turn.{Turn}
 use Rattle.nm_model.specs.Histories.{HasFlaggedOneOf}
 use Rattle.nm_model.specs.Walks.{Entry, IsOfWalk, WalkEnds, logged_by, since_pin}
 use Rattle.nm_laws.proofs.WalksOfLogs.{arrivals_are_walks}
-use Rattle.nm_order.specs.Facts.Fact.{CallIs, EndedAt}
+use Rattle.nm_order.specs.Facts.Fact.{EndedAt}
 use Rattle.nm_order.specs.Facts.Since.{ThePin}
 use Rattle.nm_order.specs.Logs.{is_leaver, part_of, takes_part}
 use Rattle.nm_steps.specs.Rules.{Extends, value_of}
@@ -104,7 +103,7 @@ flagged_longer now was w ns more (parent, side, s, n, there, among) = (
 -- ---- what was read of the leaf
 
 -- a walk of the call has ended there
-walk_ended : (p : PassView) (k slot parent : ℕ) (side : Side) → Tells p (EndedAt ThePin k slot parent side k) → WalkEnds k (since_pin [] p.view.log) slot parent side k
+pub walk_ended : (p : PassView) (k slot parent : ℕ) (side : Side) → Tells p (EndedAt ThePin k slot parent side k) → WalkEnds k (since_pin [] p.view.log) slot parent side k
 walk_ended p k slot parent side (a, key, ended) =
     let log = since_pin [] p.view.log in
     let own : IsOfWalk a.call.key log a.arrival = subst (IsOfWalk a.call.key log) a.among.2 (arrivals_are_walks p.view.log a.call a.is_call a.among.0 a.arrival a.among.1) in

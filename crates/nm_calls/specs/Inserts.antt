@@ -69,8 +69,9 @@ pub record TriesLink (fit : Fit) (L : Layout) (k : ℕ) (f : Option NewNodes) (m
 -- and Mittal, section 3.2, insert)
 abbrev pub IsTry : Fit → Layout → ℕ → Option NewNodes → Option NewNodes → List Entry → List Entry → Attempt
     → Type 0
-IsTry fit L k f g old new attempt.Found =
-    (r : WalkEnd) × (c : List ChainEdge) × Stops L k old new c (Some r) × (r.key ≡ k) × (g ≡ f)
+IsTry fit L k f g old new (attempt.Found leaf) =
+    (r : WalkEnd) × (c : List ChainEdge) × Stops L k old new c (Some r) × (r.key ≡ k)
+    × (r.seek_record.edge.slot ≡ leaf) × (g ≡ f)
 IsTry fit L k f g old new attempt.Linked =
     (made : NewNodes) × (r : WalkEnd) × (c : List ChainEdge)
     × TriesLink fit L k f made r c (Linked made.internal) old new × (g ≡ None)
@@ -93,8 +94,8 @@ pub record OnlyTries (p q : PassView) : Type 0 where
 
 -- what the log shows after a try
 abbrev pub ShowsTry : ℕ → PassView → PassView → Attempt → Type 0
-ShowsTry k p q attempt.Found =
-    ((leaf : ℕ) × EndedWith q ThePin k leaf k) × ((search q).linked ≡ (search p).linked)
+ShowsTry k p q (attempt.Found leaf) =
+    EndedWith q ThePin k leaf k × ((search q).linked ≡ (search p).linked)
 ShowsTry k p q attempt.Linked = (search q).linked ≡ true
 ShowsTry k p q _ = (search q).linked ≡ (search p).linked
 
@@ -121,8 +122,8 @@ Finishes fit L tries k old new (Ok true) =
     (mid : List Entry) × EndsBy fit L tries k None attempt.Linked old mid
     × (new ≡ mid ++ (LeaveWith true, Departed) ∷ [])
 Finishes fit L tries k old new (Ok false) =
-    (f : Option NewNodes) × (mid back : List Entry) × EndsBy fit L tries k f attempt.Found old mid
-    × Returns f mid back × (new ≡ back ++ (LeaveWith false, Departed) ∷ [])
+    (f : Option NewNodes) × (mid back : List Entry) × (leaf : ℕ)
+    × EndsBy fit L tries k f (attempt.Found leaf) old mid × Returns f mid back × (new ≡ back ++ (LeaveWith false, Departed) ∷ [])
 Finishes fit L tries k old new (Err fault.Full) =
     (mid : List Entry) × EndsBy fit L tries k None attempt.Full old mid
     × (new ≡ mid ++ (Leave, Departed) ∷ [])

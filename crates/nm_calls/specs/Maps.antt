@@ -17,7 +17,7 @@ use Rattle.nm_model.specs.Walks.{Entry, WalkEnds, since_pin}
 use Rattle.nm_steps.specs.declared.view.Stored.{Stored}
 use Rattle.nm_order.specs.Logs.{part_of}
 use Rattle.nm_steps.specs.Rules.{ComesBefore, Extends, ExtendsStores, IsStored, LinksHaveValues, WereHeld, value_of}
-use Rattle.nm_steps.specs.Steps.{Continues, HasSeenAllOf, IsSamePass, PassView}
+use Rattle.nm_steps.specs.Steps.{Continues, HasSeenAllOf, IsSamePass, PassView, TakesStep}
 use Rattle.nm_steps.specs.Values.{HasSeenStores}
 use Rattle.nm_epoch.specs.Resting.{IsResting, KeepsHands}
 use Rattle.nm_walks.specs.AddedLooks.{AddsLooks}
@@ -198,6 +198,15 @@ pub record HasReadFlagged (p q : PassView) (k v : ℕ) : Type 0 where
   pub leaf : NodeId
   pub slot : read.slot ≡ leaf.slot
   pub flagged : HasFlaggedOneOf at.view.past at.view.number (leaf ∷ [])
+
+-- after p a walk of an insert has ended at a leaf with the key, and its value was read under the same
+-- pin. The next step was the leave with the answer that the key was there
+pub record HasReadFound (p q : PassView) (k v : ℕ) : Type 0 where
+  pub at : PassView
+  pub since : GoesOn p at
+  pub is_key : IsKey k
+  pub read : HasReadValue at k v
+  pub leaves : TakesStep at q (LeaveWith false) Departed
 
 -- a walk has ended with this answer
 abbrev pub HasLookedUp : PassView → ℕ → Option ℕ → Type 0

@@ -90,7 +90,7 @@ GiveUp side L tries key old new = (next : ℕ) × IsKey key × IsKey next
 -- ---- how a walk proceeds that serves many keys
 
 -- after n nodes, a walk for each key from `low` on and below `high` has reached a known node, which
--- it reads next; or it has none to read, and has ended at a leaf with the key that was found. Each
+-- it reads next; or it has none to read, and has ended at `leaf` with the key that was found. Each
 -- of both bounds is the key of an internal node that it passed, or is its first one; or `low` is
 -- the key of its leaf
 pub record IsDescent (L : Layout) (n : ℕ) (o p : PassView) (d : KeysWalk) : Type 0 where
@@ -102,6 +102,7 @@ pub record IsDescent (L : Layout) (n : ℕ) (o p : PassView) (d : KeysWalk) : Ty
   pub known : d.node ≢ 0 → Tells p (KnowsSlot d.node)
   pub ends : d.node ≡ 0 → (j : ℕ) → d.low ≤ j → j < d.high
       → (s : SeekRecord) × (c : List ChainEdge) × EndsAtLeaf L j o.view.log p.view.log s c d.found
+      × (s.edge.slot ≡ d.leaf)
   pub above : d.high ≢ infinity_0 → (j : ℕ) → d.low ≤ j → j < d.high
       → ComesBy j d.high o.view.log p.view.log
   pub below : d.low ≢ 0 → ((d.node ≡ 0) × (d.found ≡ d.low))
@@ -114,6 +115,7 @@ read_on d low high on = record {
   low = low;
   high = high;
   node = on.next.slot;
+  leaf = d.node;
   found = on.found;
 }
 

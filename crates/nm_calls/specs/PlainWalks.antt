@@ -54,6 +54,12 @@ abbrev pub HasEndedSo : PassView → ℕ → Bool → Type 0
 HasEndedSo p k answer = (leaf parent v : ℕ) × (side : Side)
     × WalkEnds k (since_pin [] p.view.log) leaf parent side v × (answer ≡ (v == k))
 
+-- in the log from the pin on, a walk for k has ended at this leaf, which has the key (Natarajan and
+-- Mittal, section 3.2)
+abbrev pub HasEndedAt : PassView → ℕ → ℕ → Type 0
+HasEndedAt p k leaf = (parent : ℕ) × (side : Side)
+    × WalkEnds k (since_pin [] p.view.log) leaf parent side k
+
 -- the events of these turns
 abbrev pub events_of : List Turn → List (ℕ × Event)
 events_of turns = map turn_of turns

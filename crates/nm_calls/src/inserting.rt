@@ -1,5 +1,5 @@
 //! Inserts: tries to link two new nodes.
-ghost use Rattle.std.specs.Prelude.{◌≡◌, ◌<◌, ◌≤◌, ◌*◌, true, false, length, [], None, Ok, IfOk, IfSome, IsErrOf};
+ghost use Rattle.std.specs.Prelude.{◌≡◌, ◌<◌, ◌≤◌, ◌*◌, ℕ, true, false, length, [], Some, None, Ok, IfOk, IfSome, IsErrOf};
 ghost use Rattle.nm_edge.specs.Keys.{IsKey};
 ghost use Rattle.nm_model.specs.declared.event.Op.TheVariants.{Insert};
 ghost use Rattle.nm_steps.specs.Rules.{ExtendsStores};
@@ -10,19 +10,21 @@ ghost use Rattle.nm_walks.specs.Bounds.{cut_bound};
 ghost use Rattle.nm_walks.specs.Rooms.{FillsUp, TakesRoom};
 ghost use Rattle.nm_walks.specs.Telling.{Tells, GoesOn, OnlyLooks, IsPinnedIn};
 ghost use Rattle.nm_order.specs.Facts.Fact.{KnowsSlot};
+ghost use Rattle.nm_order.specs.Facts.Since.{ThePin};
 ghost use Rattle.nm_walks.specs.Places.{HasPlace, HasStopped, Stops};
 ghost use Rattle.nm_walks.specs.Making.{OnlyMakes};
 ghost use Rattle.nm_calls.specs.Moments.{AnswerHasMoment, HadNoCall};
 ghost use Rattle.nm_walks.specs.Cleanups.{KeepsLedgers, HoldsCuts};
-ghost use Rattle.nm_walks.specs.Growing.{HasNewNodes};
+ghost use Rattle.nm_walks.specs.Growing.{HasNewNodes, IfReady, Returns};
 ghost use Rattle.nm_calls.specs.Inserts.{IsReadied, IsTry, OnlyTries, ShowsTry, Finishes, AfterInsert};
 ghost use Rattle.nm_walks.specs.Labelling.{IsPinnedForCall};
-ghost use Rattle.nm_calls.specs.Leaving.{HasChangedNothing};
-ghost use Rattle.nm_calls.specs.Maps.{HasInserted, HasPut, answered};
+ghost use Rattle.nm_calls.specs.Leaving.{EndedWith, HasChangedNothing};
+ghost use Rattle.nm_calls.specs.Maps.{HasInserted, HasPut, HasReadFound, HasReadValue, MapGave, answered};
 
 use crate::fault::CallFault;
 use crate::helping::{help, make_room, make_room_for};
 use crate::leaving::{answer, leave};
+use crate::values::value_of_slot;
 use nm_edge::{Key, Placement};
 use nm_epoch::{HeldQueue, pin_for};
 use nm_model::Op;
@@ -34,8 +36,8 @@ use nm_walks::{
 /// The result of a try of an insert.
 #[derive(Clone, Copy)]
 pub(crate) enum Attempt {
-    /// The leaf has the key.
-    Found,
+    /// This leaf has the key.
+    Found(u32),
     /// A new leaf with the key is linked.
     Linked,
     /// Fewer than two slots were claimed.
@@ -127,7 +129,8 @@ fn try_insert(
         return Attempt::Lost;
     };
     if end.key == sought {
-        return Attempt::Found;
+        let leaf = end.seek_record.edge.slot();
+        return Attempt::Found(leaf);
     }
     let Some(made) = ready(shared, pass, &mut workspace.placement, new_nodes) else {
         return Attempt::Full;
@@ -146,8 +149,36 @@ fn try_insert(
     }
 }
 
+/// Gives both new nodes back to the pool, like `give_back`, and then writes the value of this leaf
+/// to `workspace.found`, or 0 in a table without values. A walk of the call must have ended at the
+/// leaf, with its key. The look at the value is in no log.
+#[inline(always)]
+fn give_back_and_read(
+    shared: &Shared,
+    pass: &mut Pass,
+    workspace: &mut Workspace,
+    new_nodes: &Option<NewNodes>,
+    leaf: u32,
+)
+    requires own { IsOf shared.now pass.old }
+    requires ready { IfReady pass.old new_nodes.now }
+    requires ended { (k : ℕ) × EndedWith pass.old ThePin k leaf k }
+    ensures part { Returns new_nodes.now pass.old.view.log pass.new.view.log }
+    ensures given { (o : PassView) → HasNewNodes o pass.old new_nodes.now → HasNewNodes o pass.new None }
+    ensures on { GoesOn pass.old pass.new }
+    ensures only { OnlyMakes pass.old pass.new }
+    ensures fit { workspace.new.placement ≡ workspace.old.placement }
+    ensures read { HasValues shared.now → (k : ℕ) → EndedWith pass.old ThePin k leaf k
+        → HasReadValue pass.new k workspace.new.found }
+{
+    pass.know_run();
+    give_back(shared, pass, &mut workspace.placement, new_nodes);
+    workspace.found = value_of_slot(shared, pass, leaf);
+}
+
 /// Makes the tries of an insert, from its pin to its answer. The room of the first one must have
-/// been made before the pin.
+/// been made before the pin. If the answer is false, it has written the value of the leaf with the key
+/// to `workspace.found`.
 fn insert_pinned(
     shared: &Shared,
     pass: &mut Pass,
@@ -169,6 +200,8 @@ fn insert_pinned(
     ensures stored { HasValues shared.now → result ≡ Ok true
         → HasInserted (answered true) pass.new key value }
     ensures put { HasValues shared.now → result ≡ Ok true → HasPut pass.old pass.new key value }
+    ensures finds { HasValues shared.now → result ≡ Ok false
+        → HasReadFound pass.old pass.new key workspace.new.found }
     ensures moment { (o : PassView) → HadNoCall o pass.old
         → IfOk result (AnswerHasMoment o pass.new Insert key) }
     ensures rests { IsResting pass.new }
@@ -186,8 +219,8 @@ fn insert_pinned(
             return Err(CallFault::NoMemory);
         }
         match try_insert(shared, pass, workspace, held, key, value, &mut new_nodes) {
-            Attempt::Found => {
-                give_back(shared, pass, &mut workspace.placement, &new_nodes);
+            Attempt::Found(leaf) => {
+                give_back_and_read(shared, pass, workspace, &new_nodes, leaf);
                 answer(shared, pass, false);
                 return Ok(false);
             }
@@ -214,6 +247,11 @@ fn insert_pinned(
 /// In a table with values a new key gets `value`, and a key that was there keeps its value. The call
 /// stores the value in the new leaf as its last step before the link, so no other worker can read
 /// the leaf without it. In a table without values `value` is not used.
+///
+/// If the result is `Ok(false)` in a table with values, the call has written the value of the key to
+/// `workspace.found`. It has read the value at the leaf with the key, under its pin, after its walk
+/// had ended there: the map had the key with this value at a moment (linearization point) of the
+/// call. If the result is another one, or the table has no values, `workspace.found` may be anything.
 ///
 /// Each try is a walk that ends with the answer, or a link. If the link is lost, the try helps with
 /// at most one cleanup. Before each try the call makes room for a cleanup, with as few new blocks
@@ -244,6 +282,8 @@ pub fn insert(
     ensures stored { HasValues shared.now → result ≡ Ok true
         → HasInserted (answered true) pass.new key value }
     ensures put { HasValues shared.now → result ≡ Ok true → HasPut pass.old pass.new key value }
+    ensures finds { HasValues shared.now → result ≡ Ok false
+        → MapGave pass.old pass.new key (Some workspace.new.found) }
     ensures kept { HoldsCuts pass.new held.new }
     ensures few { length held.new.queue.items ≤ shared.now.layout.nodes }
     ensures on { ExtendsStores pass.new.view.stores pass.old.view.stores }

@@ -23,6 +23,6 @@ pub use laws::{leaves_keep_their_values, put_values_stay};
 pub use leaving::leave;
 pub use lookup::has;
 pub use many::{Query, has_many};
-pub use near_key::nearest;
+pub use near_key::{nearest, nearest_with_value};
 pub use scanning::{Scanned, scan};
 pub use values::{get, get_pinned};

@@ -2,14 +2,17 @@
 //!
 //! The walk keeps both bounds of the keys that it serves. It is inlined into each caller, which
 //! names a side, so the code for that side keeps only the bound that it needs.
-ghost use Rattle.std.specs.Prelude.{◌≡◌, ◌<◌, ◌≤◌, ◌*◌, ◌≢◌, ◌⊎◌, ℕ, true, false, None, IfOk, IfErr, IfSome};
+ghost use Rattle.std.specs.Prelude.{◌≡◌, ◌<◌, ◌≤◌, ◌*◌, ◌≢◌, ◌⊎◌, ℕ, true, false, None, Some, IfOk, IfErr, IfSome};
 ghost use Rattle.nm_edge.specs.Keys.{IsKey};
 ghost use Rattle.nm_order.specs.Facts.Fact.{KnowsSlot};
+ghost use Rattle.nm_steps.specs.Rules.{ExtendsStores};
 ghost use Rattle.nm_steps.specs.Steps.{IsOf};
+ghost use Rattle.nm_steps.specs.Values.{HasValues};
 ghost use Rattle.nm_epoch.specs.Resting.{IsResting};
+ghost use Rattle.nm_calls.specs.Maps.{HasReadValue, MapGave};
 ghost use Rattle.nm_calls.specs.NearKeys.{AfterNear, GiveUp, IsDescent, IsNearBy, Serves, border, bound, last_border, read_on};
 ghost use Rattle.nm_walks.specs.AddedLooks.{AddsLooks};
-ghost use Rattle.nm_calls.specs.PlainWalks.{HasEndedSo, most_looks};
+ghost use Rattle.nm_calls.specs.PlainWalks.{HasEndedAt, HasEndedSo, most_looks};
 ghost use Rattle.nm_walks.specs.Bounds.{reach};
 ghost use Rattle.nm_walks.specs.Telling.{Tells, GoesOn, OnlyLooks, IsPinnedIn};
 ghost use Rattle.nm_walks.specs.Walks.{IsTooLong};
@@ -30,6 +33,8 @@ struct KeysWalk {
     high: u64,
     // The node that it reads next; 0 if there is none.
     node: u32,
+    // The node that it read last, which is its leaf if it has ended; 0 if it has read none.
+    leaf: u32,
     // The key of the node that it read last.
     found: u64,
 }
@@ -74,20 +79,95 @@ pub fn nearest(
     let Ok(_epoch) = pin(shared, pass, tries) else {
         return Err(CallFault::Busy);
     };
-    let found = walk_on(shared, pass, key.get(), side, tries);
+    let mut unused = 0;
+    let found = walk_on(shared, pass, key.get(), side, &mut unused, tries);
     pass.know_run();
     unpin(shared, pass);
     found
 }
 
-/// Returns the nearest key from `key` on to that side. It makes at most `tries` walks, and each
-/// begins where the keys of the previous one end.
+/// Returns the key of the map that is nearest to `key` on that side, like `nearest`. If it returns
+/// `Some(found)`, it has written the value of `found` to `value`: the map had `found` with this value
+/// at a moment (linearization point) of the call. It has read the value at the leaf with the key, under
+/// its pin, after its walk had ended there. If it returns anything else, `value` may be anything. The
+/// table must have values.
+///
+/// Errors and cost are those of `nearest`, and a look at the value.
+#[inline(always)]
+pub fn nearest_with_value(
+    shared: &Shared,
+    pass: &mut Pass,
+    key: Key,
+    side: Side,
+    value: &mut u64,
+    tries: u32,
+) -> Result<Option<Key>, CallFault>
+    requires own { IsOf shared.now pass.old }
+    requires values { HasValues shared.now }
+    requires rests { IsResting pass.old }
+    ensures after { AfterNear side shared.now.layout tries key pass.old pass.new result }
+    ensures finds { IfOk result (λ f. IfSome f (λ k. MapGave pass.old pass.new k (Some value.new))) }
+    ensures on { ExtendsStores pass.new.view.stores pass.old.view.stores }
+{
+    if tries == 0 {
+        return Err(CallFault::Busy);
+    }
+    pass.know_run();
+    let Ok(_epoch) = pin(shared, pass, tries) else {
+        return Err(CallFault::Busy);
+    };
+    let found = walk_on_and_read(shared, pass, key.get(), side, value, tries);
+    pass.know_run();
+    unpin(shared, pass);
+    found
+}
+
+/// Returns what `walk_on` returns. If that is a key, it writes the value of the leaf with the key to
+/// `value`. The look at the value is in no log.
+#[inline(always)]
+fn walk_on_and_read(
+    shared: &Shared,
+    pass: &mut Pass,
+    key: u64,
+    side: Side,
+    value: &mut u64,
+    tries: u32,
+) -> Result<Option<Key>, CallFault>
+    requires pinned { IsPinnedIn shared.now pass.old }
+    requires values { HasValues shared.now }
+    requires known { Tells pass.old (KnowsSlot 2) }
+    requires key { IsKey key }
+    ensures looks { AddsLooks (tries * most_looks (reach shared.now.layout) 1) pass.old.view.log
+        pass.new.view.log }
+    ensures near { IfOk result (IsNearBy side (HasEndedSo pass.new) key) }
+    ensures given_up { IfErr result
+        (λ e. GiveUp side shared.now.layout tries key pass.old.view.log pass.new.view.log) }
+    ensures busy { IfErr result (λ e. e ≡ CallFault.Busy) }
+    ensures read { IfOk result (λ f. IfSome f (λ k. HasReadValue pass.new k value.new)) }
+    ensures on { GoesOn pass.old pass.new }
+    ensures only { OnlyLooks pass.old pass.new }
+{
+    let mut leaf = 0;
+    match walk_on(shared, pass, key, side, &mut leaf, tries) {
+        Ok(Some(found)) => {
+            pass.know_run();
+            *value = shared.look_value(pass, leaf);
+            Ok(Some(found))
+        }
+        Ok(None) => Ok(None),
+        Err(fault) => Err(fault),
+    }
+}
+
+/// Returns the nearest key from `key` on to that side, and writes the slot of the leaf with the key
+/// to `leaf`. It makes at most `tries` walks, and each begins where the keys of the previous one end.
 #[inline(always)]
 fn walk_on(
     shared: &Shared,
     pass: &mut Pass,
     key: u64,
     side: Side,
+    leaf: &mut u32,
     tries: u32,
 ) -> Result<Option<Key>, CallFault>
     requires pinned { IsPinnedIn shared.now pass.old }
@@ -99,6 +179,7 @@ fn walk_on(
     ensures given_up { IfErr result
         (λ e. GiveUp side shared.now.layout tries key pass.old.view.log pass.new.view.log) }
     ensures busy { IfErr result (λ e. e ≡ CallFault.Busy) }
+    ensures ended { IfOk result (λ f. IfSome f (λ k. HasEndedAt pass.new k leaf.new)) }
     ensures on { GoesOn pass.old pass.new }
     ensures only { OnlyLooks pass.old pass.new }
 {
@@ -109,6 +190,7 @@ fn walk_on(
             return Err(CallFault::Busy);
         }
         if hits(&walk, side) {
+            *leaf = walk.leaf;
             return Ok(Key::new(walk.found));
         }
         let Some(next) = after(&walk, side) else {
@@ -168,6 +250,7 @@ fn walk_down(shared: &Shared, pass: &mut Pass, from: u64) -> KeysWalk
         low: 0,
         high: INFINITY_0,
         node: first,
+        leaf: 0,
         found: 0,
     };
     for _node in 0..reach(layout) - 1 {
@@ -199,6 +282,7 @@ fn read_so(walk: &KeysWalk, on: &Onward) -> KeysWalk
         low: low_at(walk, on.found),
         high: high_at(walk, on),
         node: on.next.slot(),
+        leaf: walk.node,
         found: on.found,
     }
 }

@@ -1,5 +1,5 @@
 -- What two moves of the epoch leave to wait: nothing, if no worker held them back.
-use Rattle.std.proofs.Common.{◌≡◌, ◌≢◌, ℕ, zero, suc, ◌+◌, ◌*◌, ◌≤◌, ◌==◌, ◌⊎◌, inl, inr, Bool, true, false, true≢false, cond, List, [], ◌∷◌, ◌++◌, append_assoc, length, refl, sym, ap, subst, ◌∙◌, arith}
+use Rattle.std.proofs.Common.{◌≡◌, ◌≢◌, ℕ, zero, suc, ◌+◌, ◌*◌, ◌≤◌, ◌==◌, ◌⊎◌, inl, inr, Bool, true, false, true≢false, cond, List, [], ◌∷◌, ◌++◌, append_assoc, refl, sym, ap, subst, ◌∙◌, arith}
 use Rattle.std.specs.Prelude.{Option, Some, None, Result, Ok, Err, map, slice_get, option_map, All, Contains}
 use Rattle.std.proofs.lemmas.Bool.{cond_both, eqb-true, le-leb, or_cases}
 use Rattle.std.proofs.lemmas.List.{append-nil, append_cancel_left}
@@ -41,7 +41,7 @@ use Rattle.nm_epoch.specs.declared.answers.Advance.TheVariants as advance
 use Rattle.nm_epoch.specs.declared.collecting.Collected.{Collected}
 use Rattle.nm_epoch.specs.declared.collecting.Entry.{Entry}
 use Rattle.nm_epoch.specs.declared.collecting.HeldQueue.{HeldQueue}
-use Rattle.nm_epoch.specs.Collecting.{AreHeld, HaveLost, IsQueueOf, is_ripe, queued, rest_of, ripe_part, ripe_of, freeing}
+use Rattle.nm_epoch.specs.Collecting.{AreHeld, IsQueueOf, is_ripe, queued, ripe_part, ripe_of, freeing}
 use Rattle.nm_epoch.specs.Resting.{epochs}
 use Rattle.nm_epoch.specs.Scans.{AllLetPass, LooksAt, IsAdvance, SightThenScans}
 use Rattle.nm_epoch.proofs.Fronts.{shown_queue}
@@ -54,7 +54,7 @@ use Rattle.nm_tree.specs.Workers.{WorkerView, IsAs, IsBetweenCalls}
 use Rattle.nm_tree.proofs.Quiet.{Quiet, advanced, collected}
 use Rattle.nm_tree.specs.Calls.{LeavesAdvance, LeavesCollect}
 use Rattle.nm_set.specs.Managed.{Collects, FindsBehind, GoesOn, HasFoundElsewhere, HasMade, HasSighted, Since}
-use Rattle.nm_set.specs.Rounds.{IsOnward, IsRelieved, found_behind}
+use Rattle.nm_set.specs.Rounds.{IsRelieved, found_behind}
 use Rattle.nm_set.proofs.Managing.{Follows, follows_then, goes_advance, goes_collect, goes_then, goes_more, wins_after}
 
 -- ---- what is ripe

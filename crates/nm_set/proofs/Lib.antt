@@ -9,6 +9,7 @@ pub mod Sending
 pub mod Inside
 pub mod WaitingNodes
 pub mod Managing
+pub mod MapManaging
 pub mod Emptied
 pub mod PopRounds
 pub mod Counting

@@ -1,5 +1,5 @@
 -- What managed calls leave, by what each part of them leaves.
-use Rattle.std.proofs.Common.{◌≡◌, ◌≢◌, ◌≤◌, ◌<◌, ◌⊎◌, inl, inr, true≢false, ℕ, zero, suc, ◌+◌, ◌-◌, ◌*◌, ◌==◌, Bool, true, false, cond, not, ◌&&◌, ◌||◌, List, [], ◌∷◌, ◌++◌, append-nil, append_assoc, length, refl, sym, ap, subst, ◌∙◌, arith}
+use Rattle.std.proofs.Common.{◌≡◌, ◌≢◌, ◌≤◌, ◌<◌, ◌⊎◌, inl, inr, true≢false, ℕ, zero, suc, ◌+◌, ◌*◌, ◌==◌, Bool, true, false, cond, not, ◌&&◌, ◌||◌, List, [], ◌∷◌, ◌++◌, append-nil, append_assoc, length, refl, sym, ap, subst, ◌∙◌, arith}
 use Rattle.std.specs.Prelude.{drop, Option, Some, None, IsSome, Result, Ok, Err, IfOk, IfErr, is_ok}
 use Rattle.std.specs.List.{AllZip, prefix_len}
 use Rattle.std.proofs.Math.Nat.{suc-mul, zero-mul, add-mul, mul-zero, mul-le-mul_right}
@@ -43,7 +43,7 @@ use Rattle.nm_set.specs.declared.fault.Fullness.{Fullness}
 use Rattle.nm_set.specs.declared.fault.InsertFault.{InsertFault}
 use Rattle.nm_set.specs.declared.fault.InsertFault.TheVariants as inserting
 use Rattle.nm_set.specs.declared.managed.Options.{Options}
-use Rattle.nm_set.specs.Managed.{Answers, Collects, FindsBehind, GoesOn, HasFoundElsewhere, HasMade, HasSighted, IsLeft, Manages, MetInterference, OnlyLoses, Prepares, Since, WasFull, flags_told_by, interfering, links_told_by, of_insert, round_bound}
+use Rattle.nm_set.specs.Managed.{Answers, Collects, FindsBehind, GoesOn, HasFoundElsewhere, HasMade, HasSighted, IsLeft, FinishesFirst, IsFullIn, IsReadyIn, Manages, ManagesIn, MetInterference, OnlyLoses, Prepares, Since, WasFull, flags_told_by, interfering, links_told_by, of_insert, round_bound}
 use Rattle.nm_set.specs.Rounds.{AnswersIn, FinishesIn, Inserts, IsKnown, IsOnward, IsReady, IsRelieved, ManagesInsert, Removes, WereBusy, plain, rounds_bound, with_fullness}
 
 -- nothing is not there
@@ -503,7 +503,7 @@ moment_if : (o p q : PassView) (op : Op) (k : ℕ) (r : Result Bool CallFault) �
 moment_if o p q op k (Ok answer) past m = moment_since o p q op k answer past m
 moment_if o p q op k (Err f) past m = tt
 
-left_since : (op : Op) (k : ℕ) (w x z : WorkerView) (r : Result Bool CallFault) → x.pending ≡ None → IsLeft op k x z r → IsLeft op k w z r
+pub left_since : {A : Type 0} (op : Op) (k : ℕ) (w x z : WorkerView) (r : Result A CallFault) → x.pending ≡ None → IsLeft op k x z r → IsLeft op k w z r
 left_since op k w x z (Ok answer) none left = left
 left_since op k w x z (Err fault.Busy) none left = left
 left_since op k w x z (Err fault.Full) none left = left
@@ -692,17 +692,18 @@ module _ (b : TreeView) (h : Options) where
 pub prepares_nothing : (h : Options) (op : Op) (w : WorkerView) → w.pending ≡ None → (op ≢ Has → h.collect_after ≤ waiting_in w.queues → ⊥) → Prepares h op w w.pass
 prepares_nothing h op w none few = record {
   finished = w.pass;
-  after = seen_itself w.pass;
-  earlier = λ u is o had. absurd (none-some u (sym none ∙ is));
+  first = record { after = seen_itself w.pass; earlier = λ u is o had. absurd (none-some u (sym none ∙ is)) };
   then = seen_itself w.pass;
   collects = λ not none many. absurd (few not many);
 }
 
+pub finishes_first : (b : TreeView) (h : Options) (n : ℕ) (w x : WorkerView) (answer : Bool) → FinishesIn b h n w x (Ok answer) → FinishesFirst w x.pass
+finishes_first b h n w x answer f = record { after = f.on.past; earlier = finished_earlier b h n w x answer f }
+
 pub prepares_look : (b : TreeView) (h : Options) (n : ℕ) (w x : WorkerView) (answer : Bool) → FinishesIn b h n w x (Ok answer) → Prepares h Has w x.pass
 prepares_look b h n w x answer f = record {
   finished = x.pass;
-  after = f.on.past;
-  earlier = finished_earlier b h n w x answer f;
+  first = finishes_first b h n w x answer f;
   then = seen_itself x.pass;
   collects = λ not none many. absurd (not refl);
 }
@@ -725,8 +726,7 @@ module _ (b : TreeView) (h : Options) (w x : WorkerView) (answer : Bool) (f : Fi
         onward = onward_more ((h.rounds + 1) * one + one) ((h.rounds + 2) * one) w z (omega (arith, sum)) (onward_then ((h.rounds + 1) * one) one w x z (finished b h (h.rounds + 1) w x answer f) (relieved_in_round h.tries b.layout x z r.onward));
         prepares = λ op. record {
           finished = x.pass;
-          after = f.on.past;
-          earlier = finished_earlier b h (h.rounds + 1) w x answer f;
+          first = finishes_first b h (h.rounds + 1) w x answer f;
           then = r.onward.on.past;
           collects = λ not none many. subst (λ (v : WorkerView). Collects v z.pass) (finished_nothing b h (h.rounds + 1) w x answer none f) r.collects;
         };
@@ -739,8 +739,7 @@ module _ (b : TreeView) (h : Options) (w x : WorkerView) (answer : Bool) (f : Fi
         onward = onward_more ((h.rounds + 1) * one) ((h.rounds + 2) * one) w x (omega (arith, sum)) (finished b h (h.rounds + 1) w x answer f);
         prepares = λ op. record {
           finished = x.pass;
-          after = f.on.past;
-          earlier = finished_earlier b h (h.rounds + 1) w x answer f;
+          first = finishes_first b h (h.rounds + 1) w x answer f;
           then = seen_itself x.pass;
           collects = λ not none many. absurd (let few = subst (λ (v : WorkerView). waiting_in v.queues < h.collect_after) (finished_nothing b h (h.rounds + 1) w x answer none f) few in omega (arith, few, many));
         };
@@ -749,7 +748,7 @@ module _ (b : TreeView) (h : Options) (w x : WorkerView) (answer : Bool) (f : Fi
 -- ---- the three calls
 
 -- where the remove of an earlier call is not finished, nothing else is done
-pub pending_manages : (b : TreeView) (h : Options) (op : Op) (k : ℕ) (w z : WorkerView) → FinishesIn b h (h.rounds + 1) w z (Err fault.Unfinished) → Manages b h op k w z (Err fault.Pending)
+pub pending_manages : {map : Bool} (b : TreeView) (h : Options) (op : Op) (k : ℕ) (w z : WorkerView) → FinishesIn b h (h.rounds + 1) w z (Err fault.Unfinished) → ManagesIn map b h op k w z (Err fault.Pending)
 pending_manages b h op k w z f =
     let none = wins_none op fault.Pending (λ is. let which = is in cc) in
     record {
@@ -778,10 +777,10 @@ managed_fails h op k m y z (Err fault.Pending) a runs last = tt
 managed_fails h op k m y z (Err fault.Pinned) a runs last = tt
 
 -- the operation, after what came before it
-pub manages : (b : TreeView) (h : Options) (op : Op) (k m n : ℕ) (w y z : WorkerView) (r : Result Bool CallFault) → m + n ≤ 3 * h.rounds + 5 → IsOnward (rounds_bound b h m) w y → Prepares h op w y.pass
-    → Answers op k (rounds_bound b h n) ((h.rounds + 1) * h.tries) y z r → (r ≡ Err fault.Full → (f : Fullness) × WasFull w z f)
-    → (IsAlone y.pass z.pass → r ≡ Err fault.Unfinished → FailsAlone 1 1 h.tries z fault.Unfinished) → Manages b h op k w z r
-manages b h op k m n w y z r few on first a full last =
+pub manages_in : (map : Bool) (b : TreeView) (h : Options) (op : Op) (k m n : ℕ) (w y z : WorkerView) (r : Result Bool CallFault) → m + n ≤ 3 * h.rounds + 5 → IsOnward (rounds_bound b h m) w y → IsReadyIn map h op w y.pass
+    → Answers op k (rounds_bound b h n) ((h.rounds + 1) * h.tries) y z r → (r ≡ Err fault.Full → IsFullIn map w z)
+    → (IsAlone y.pass z.pass → r ≡ Err fault.Unfinished → FailsAlone 1 1 h.tries z fault.Unfinished) → ManagesIn map b h op k w z r
+manages_in map b h op k m n w y z r few on first a full last =
     let most = round_bound h.tries b.layout in
     let sum = add-mul m n most in
     let le = mul-le-mul_right most few in
@@ -797,6 +796,12 @@ manages b h op k m n w y z r few on first a full last =
     still : IsAlone w.pass z.pass → (r ≡ Err fault.Pending) ⊎ (r ≡ Err fault.Unfinished) → FailsAlone 1 1 h.tries z fault.Unfinished
     still mine (inl is) = none_there y.pending on.none (subst (IsLeft op k y z) is a.left).0
     still mine (inr is) = last (alone_later w.pass y.pass z.pass on.on.same on.on.past a.on.past mine) is
+
+-- and so in a set
+pub manages : (b : TreeView) (h : Options) (op : Op) (k m n : ℕ) (w y z : WorkerView) (r : Result Bool CallFault) → m + n ≤ 3 * h.rounds + 5 → IsOnward (rounds_bound b h m) w y → Prepares h op w y.pass
+    → Answers op k (rounds_bound b h n) ((h.rounds + 1) * h.tries) y z r → (r ≡ Err fault.Full → (f : Fullness) × WasFull w z f)
+    → (IsAlone y.pass z.pass → r ≡ Err fault.Unfinished → FailsAlone 1 1 h.tries z fault.Unfinished) → Manages b h op k w z r
+manages b h op k m n w y z r few on first a full last = manages_in false b h op k m n w y z r few on first a full last
 
 -- which was the first thing that it did
 pub manages_at_once : (b : TreeView) (h : Options) (op : Op) (k n : ℕ) (w z : WorkerView) (r : Result Bool CallFault) → n ≤ 3 * h.rounds + 5 → w.held ≡ None → w.pending ≡ None → (op ≢ Has → h.collect_after ≤ waiting_in w.queues → ⊥)

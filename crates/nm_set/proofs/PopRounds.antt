@@ -20,7 +20,8 @@ use Rattle.nm_tree.proofs.FoundThenGone.{late_cut}
 use Rattle.nm_tree.proofs.FlaggedSeen.{none_seen}
 use Rattle.nm_tree.proofs.Taking.{found_by, found_in, gives_up_at, key_found, moment_since, near_bound, none_found, none_inside, scaled, told_at, was_so_since}
 use Rattle.nm_set.specs.declared.managed.Options.{Options}
-use Rattle.nm_set.specs.Managed.{GoesOn, Manages, MetInterference, SaysManaged, round_bound}
+use Rattle.nm_set.specs.Managed.{GoesOn, MetInterference, round_bound}
+use Rattle.nm_set.specs.MapRounds.{Removed, SaysRemoved}
 use Rattle.nm_set.specs.Popping.{PopLeft, Pops, flags_told_by_pop, pop_round_bound, pop_rounds_bound}
 use Rattle.nm_set.specs.Rounds.{FinishesIn, IsOnward}
 use Rattle.nm_set.proofs.Managing.{finished, goes_more, goes_then, late_met, lose_same, met_fewer, met_nothing, met_since, met_then, near_met, none_there, number_of_pass, onward_itself, onward_more, onward_then, wins_after}
@@ -101,11 +102,11 @@ module _ (end : End) (b : TreeView) (h : Options) (w : WorkerView) (none : w.pen
     l : Near x (Ok (Some key))
     l = found_by end L h.tries w x (Ok (Some key)) found
 
-    removes : (r : Result Bool CallFault) → SaysManaged Delete b h key x z r → Manages b h Delete key x z r
+    removes : (r : Result Bool CallFault) → SaysRemoved b h key x z r → Removed b h key x z r
     removes r (inl pinned) = none_there x.held l.held pinned.0
     removes r (inr did) = did.1
 
-    both : (r : Result Bool CallFault) → Manages b h Delete key x z r → GoesOn (pop_round_bound h L) w z
+    both : (r : Result Bool CallFault) → Removed b h key x z r → GoesOn (pop_round_bound h L) w z
     both r t =
         let more = suc-mul (3 * h.rounds + 5) (round_bound h.tries L) in
         goes_more (round_bound h.tries L + (3 * h.rounds + 5) * round_bound h.tries L) (pop_round_bound h L) w z (omega (arith, more)) (goes_then w x z (goes_found end L h.tries w x (Ok (Some key)) found) t.answers.on)
@@ -114,14 +115,14 @@ module _ (end : End) (b : TreeView) (h : Options) (w : WorkerView) (none : w.pen
     later on runs = runs_later w.pass x.pass z.pass l.same l.past on.past runs
 
     -- the key was removed
-    pub pops_key : SaysManaged Delete b h key x z (Ok true) → Says z (Ok (Some key))
+    pub pops_key : SaysRemoved b h key x z (Ok true) → Says z (Ok (Some key))
     pops_key did =
         let t = removes (Ok true) did in
         let was = found_in end w.pass w.pass x.pass z.pass key (seen_itself w.pass) t.answers.on.same t.answers.on.past (key_found end w.pass x.pass key l.moment) in
         record { took = (is, moment_since w.pass x.pass z.pass Delete key true l.past t.answers.moment, was.missing); left = t.answers.left; won = wins_after 0 1 w x z l.won t.answers.won; on = both (Ok true) t; busy = λ is two. absurd (let no = is in cc); alone = λ runs. tt; pending = λ mine is. absurd (let no = is in cc) }
 
     -- the remove came too late, which it does not if the worker runs alone
-    pub pops_late : HasSeen w.pass.view → IsBetweenCalls w → HasSeen z.pass.view → IsLayout z.pass.view.layout → SaysManaged Delete b h key x z (Ok false) → Says z pop_busy
+    pub pops_late : HasSeen w.pass.view → IsBetweenCalls w → HasSeen z.pass.view → IsLayout z.pass.view.layout → SaysRemoved b h key x z (Ok false) → Says z pop_busy
     pops_late seen between seen_z fits did =
         let t = removes (Ok false) did in
         let won = wins_after 0 0 w x z l.won t.answers.won in
@@ -139,10 +140,10 @@ module _ (end : End) (b : TreeView) (h : Options) (w : WorkerView) (none : w.pen
         }
 
     -- or was not answered
-    pub pops_not_removed : (f : CallFault) → SaysManaged Delete b h key x z (Err f) → Says z (Err f)
+    pub pops_not_removed : (f : CallFault) → SaysRemoved b h key x z (Err f) → Says z (Err f)
     pops_not_removed f did = by f (removes (Err f) did)
       where
-        by : (f : CallFault) → Manages b h Delete key x z (Err f) → Says z (Err f)
+        by : (f : CallFault) → Removed b h key x z (Err f) → Says z (Err f)
         by fault.Busy t = record {
           took = tt;
           left = t.answers.left;

@@ -1,6 +1,6 @@
 -- Workers that are on their seats, that were taken from one, and that come back.
-use Rattle.std.proofs.Common.{◌≡◌, ◌∙◌, ◌+◌, ◌<◌, ◌≤◌, ℕ, suc, false, List, [], ◌∷◌, ◌++◌, append_assoc, length, refl, sym, ap, subst, arith}
-use Rattle.std.specs.Prelude.{Option, Some, None, vec_capacity}
+use Rattle.std.proofs.Common.{◌≡◌, ◌∙◌, ◌+◌, ℕ, suc, List, [], ◌∷◌, ◌++◌, length, sym, ap, subst, arith}
+use Rattle.std.specs.Prelude.{Option, Some, None}
 use Rattle.nm_edge.specs.declared.placement.Fit.{Fit}
 use Rattle.nm_seats.specs.Sittings.{AreResident}
 use Rattle.nm_seats.specs.Views.{IsUp, SeatsView, WayBackView}
@@ -8,7 +8,7 @@ use Rattle.nm_steps.specs.Steps.{TreeView}
 use Rattle.nm_steps.specs.declared.view.View.{View}
 use Rattle.nm_tree.specs.Workers.{WorkerView, AreNew}
 use Rattle.nm_set.specs.declared.home.Site.{Site}
-use Rattle.nm_set.specs.Seats.{AreOnSeats, AreOwn, BeginsWith, HomeView, IsOwn, IsResident, MayReturn, never_left, seats_in, site_in, sits}
+use Rattle.nm_set.specs.Seats.{AreOnSeats, AreOwn, HomeView, IsResident, MayReturn, never_left, seats_in, sits}
 
 -- a new worker may sit on its seat
 pub new_resident : (b : TreeView) (f : Fit) (i : ℕ) (w : WorkerView) (ws : List WorkerView) → AreNew b i (w ∷ ws) → w.fit ≡ f → IsResident b f i w

@@ -7,6 +7,7 @@ pub mod Scanning
 pub mod States
 pub mod Ends
 pub mod Managed
+pub mod MapRounds
 pub mod Rounds
 pub mod Popping
 pub mod Filling

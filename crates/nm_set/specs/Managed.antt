@@ -1,6 +1,6 @@
 -- Managed calls: what a caller learns from a call that is retried while it loses its tries, that
 -- finishes a remove which has begun, and that collects waiting nodes.
-use Rattle.std.specs.Prelude.{◌≡◌, ◌≢◌, ◌⊎◌, ◌+◌, ◌*◌, ◌≤◌, ℕ, Bool, true, length, drop, List, ◌++◌, Option, Some, None, IsSome, Result, Ok, Err, IfOk, IfErr, Contains}
+use Rattle.std.specs.Prelude.{◌≡◌, ◌≢◌, ◌⊎◌, ◌+◌, ◌*◌, ◌≤◌, ℕ, Bool, false, true, length, drop, List, ◌++◌, Option, Some, None, IsSome, Result, Ok, Err, IfOk, IfErr, Contains}
 use Rattle.std.specs.List.{AllZip}
 use Rattle.nm_edge.specs.Layouts.{Layout}
 use Rattle.nm_edge.specs.declared.node.NodeId.{NodeId}
@@ -107,7 +107,7 @@ of_insert (Err (inserting.Other f)) = Err f
 -- which operation returns which error, and what is pending then: nothing, except after `Unfinished`
 -- and `Pending`. After `Unfinished` the key of this call is pending, after `Pending` the same key
 -- as before
-abbrev pub IsLeft : Op → ℕ → WorkerView → WorkerView → Result Bool CallFault → Type 0
+abbrev pub IsLeft : {A : Type 0} → Op → ℕ → WorkerView → WorkerView → Result A CallFault → Type 0
 IsLeft op k w z (Err fault.Pending) = IsSome w.pending × (z.pending ≡ w.pending)
 IsLeft op k w z (Err fault.Full) = (op ≡ Insert) × (z.pending ≡ None)
 IsLeft op k w z (Err fault.NoMemory) = (op ≢ Has) × (z.pending ≡ None)
@@ -143,14 +143,19 @@ pub record Answers (op : Op) (k most tries : ℕ) (w z : WorkerView) (r : Result
   pub busy : r ≡ Err fault.Busy → MetInterference op w.pass z.pass tries
   pub alone : RunsAlone w.pass z.pass → r ≡ Err fault.Busy → tries ≡ 0
 
--- before its operation the call finishes the remove of an earlier call, whose answer true has a
--- moment of its own. If nothing was pending, and `collect_after` nodes or more waited, an insert or
--- a remove collects. The pass was `begun` when the operation began
+-- the call first finishes the remove of an earlier call, whose answer true has a moment of its own. The
+-- pass was `begun` after that
+pub record FinishesFirst (w : WorkerView) (begun : PassView) : Type 0 where
+  pub after : HasSeenAllOf begun w.pass
+  pub earlier : (n : Unfinished) → w.pending ≡ Some n → (o : PassView) → HadNoCall o w.pass
+      → AnswerHasMoment o begun Delete n.key true
+
+-- before its operation the call finishes the remove of an earlier call. If nothing was pending, and
+-- `collect_after` nodes or more waited, an insert or a remove collects. The pass was `begun` when the
+-- operation began
 pub record Prepares (h : Options) (op : Op) (w : WorkerView) (begun : PassView) : Type 0 where
   pub finished : PassView
-  pub after : HasSeenAllOf finished w.pass
-  pub earlier : (n : Unfinished) → w.pending ≡ Some n → (o : PassView) → HadNoCall o w.pass
-      → AnswerHasMoment o finished Delete n.key true
+  pub first : FinishesFirst w finished
   pub then : HasSeenAllOf begun finished
   pub collects : op ≢ Has → w.pending ≡ None → h.collect_after ≤ waiting_in w.queues
       → Collects w begun
@@ -162,21 +167,35 @@ pub record WasFull (w z : WorkerView) (f : Fullness) : Type 0 where
   pub collects : Collects w z.pass
   pub waiting : f.waiting ≡ waiting_in z.queues
 
+-- `IsReadyIn`, `IsFullIn`: with what pass the operation begins, and what was so if no slot was free:
+-- in a set (`false`), and in a map, where no managed call collects
+abbrev pub IsReadyIn : Bool → Options → Op → WorkerView → PassView → Type 0
+IsReadyIn false h op w begun = Prepares h op w begun
+IsReadyIn true h op w begun = FinishesFirst w begun
+
+abbrev pub IsFullIn : Bool → WorkerView → WorkerView → Type 0
+IsFullIn false w z = (f : Fullness) × WasFull w z f
+IsFullIn true w z = Unit {0}
+
 -- a managed call, of at most 3 `rounds` + 5 rounds: its answer, and what came before its operation,
 -- which is not made if an earlier remove stays pending. If it is `Busy`, the epoch was advanced or
 -- turns have interfered with it at least (`rounds` + 1) * `tries` times. If the worker ran alone, an
 -- error is due to a number of tries that is 0, to a lack of room, or to a full pool (`alone`). A
 -- remove then stays pending for such a reason too, even if others have removes pending (`pending`)
-pub record Manages (b : TreeView) (h : Options) (op : Op) (k : ℕ) (w z : WorkerView)
+pub record ManagesIn (map : Bool) (b : TreeView) (h : Options) (op : Op) (k : ℕ) (w z : WorkerView)
     (r : Result Bool CallFault) : Type 0 where
   pub answers : Answers op k ((3 * h.rounds + 5) * round_bound h.tries b.layout)
       ((h.rounds + 1) * h.tries) w z r
-  pub full : r ≡ Err fault.Full → (f : Fullness) × WasFull w z f
-  pub begins : r ≢ Err fault.Pending → (begun : PassView) × Prepares h op w begun
+  pub full : r ≡ Err fault.Full → IsFullIn map w z
+  pub begins : r ≢ Err fault.Pending → (begun : PassView) × IsReadyIn map h op w begun
       × IfOk r (AnswerHasMoment begun z.pass op k)
   pub alone : RunsAlone w.pass z.pass → IfErr r (FailsAlone 1 1 h.tries z)
   pub pending : IsAlone w.pass z.pass → (r ≡ Err fault.Pending) ⊎ (r ≡ Err fault.Unfinished)
       → FailsAlone 1 1 h.tries z fault.Unfinished
+
+-- a managed call of a set
+abbrev pub Manages : TreeView → Options → Op → ℕ → WorkerView → WorkerView → Result Bool CallFault → Type 0
+Manages = ManagesIn false
 
 -- what a caller learns from each of the three managed calls
 abbrev pub SaysManaged : Op → TreeView → Options → ℕ → WorkerView → WorkerView → Result Bool CallFault → Type 0

@@ -1,11 +1,22 @@
--- Maps: what a collection of a map leaves, and what is left of a map, of its members, and of workers
--- that were returned, if a call is refused.
-use Rattle.std.specs.Prelude.{◌≡◌, ◌≤◌, ℕ, nat_lt, List, length, take, Option, Some, None, Result, Ok, Err, IfOk}
+-- Maps: what managed calls and collections of a map leave, and what is left of a map, of its members,
+-- and of workers that were returned, if a call is refused.
+use Rattle.std.specs.Prelude.{◌≡◌, ◌≢◌, ◌≤◌, ◌+◌, ◌*◌, ℕ, nat_lt, Bool, true, List, length, take, Option, Some, None, Result, Ok, Err, IfOk, IfErr, IfSome}
 use Rattle.nm_edge.specs.Layouts.{Layout}
+use Rattle.nm_model.specs.declared.event.Op.{Op}
+use Rattle.nm_model.specs.declared.event.Op.TheVariants.{Has}
+use Rattle.nm_progress.specs.Alone.{IsAlone}
+use Rattle.nm_steps.specs.Rules.{ExtendsStores}
+use Rattle.nm_steps.specs.Steps.{HasSeen, HasSeenAllOf, IsSamePass, PassView, TreeView}
+use Rattle.nm_walks.specs.Bounds.{reach}
+use Rattle.nm_calls.specs.Maps.{HasTaken, MapGave}
+use Rattle.nm_calls.specs.PlainWalks.{most_looks}
+use Rattle.nm_calls.specs.Won.{HasWon}
 use Rattle.nm_calls.specs.declared.fault.CallFault.{CallFault}
 use Rattle.nm_calls.specs.declared.fault.CallFault.TheVariants as fault
+use Rattle.nm_epoch.specs.declared.answers.Advance.{Advance}
 use Rattle.nm_epoch.specs.declared.handing.HandedOut.{HandedOut}
-use Rattle.nm_tree.specs.Calls.{LeavesPinnedGet}
+use Rattle.nm_tree.specs.Answers.{FailsAlone}
+use Rattle.nm_tree.specs.Calls.{LeavesAdvance, LeavesPinnedGet}
 use Rattle.nm_tree.specs.Handing.{LeavesCollectValues}
 use Rattle.nm_tree.specs.Workers.{WorkerView}
 use Rattle.nm_set.specs.declared.fault.PinnedGetFault.{PinnedGetFault}
@@ -14,8 +25,12 @@ use Rattle.nm_set.specs.declared.map.MapEndError.{MapEndError}
 use Rattle.nm_set.specs.declared.map.MapEndError.TheVariants.{Attached, Gathered}
 use Rattle.nm_set.specs.declared.map.MapKeepReturnedError.{MapKeepReturnedError}
 use Rattle.nm_set.specs.declared.map.MapKeepReturnedError.TheVariants.{Taken, NoMemory}
+use Rattle.nm_set.specs.declared.managed.Options.{Options}
+use Rattle.nm_set.specs.Asked.{UnlessPinned}
 use Rattle.nm_set.specs.Ends.{HasGathered, set_of}
+use Rattle.nm_set.specs.Managed.{FinishesFirst, GoesOn, IsLeft, ManagesIn, MetInterference, round_bound}
 use Rattle.nm_set.specs.Posts.{ReturnedView}
+use Rattle.nm_set.specs.Rounds.{found_behind}
 use Rattle.nm_set.specs.Seats.{MemberView}
 
 -- the values that came back are the first `result.values` ones of the slice, which is as long as
@@ -50,3 +65,73 @@ abbrev pub SaysPinnedGet : Layout → ℕ → WorkerView → WorkerView → Resu
 SaysPinnedGet L k w z (Ok found) = LeavesPinnedGet L k w z (Ok found)
 SaysPinnedGet L k w z (Err getting.Busy) = LeavesPinnedGet L k w z (Err fault.Busy)
 SaysPinnedGet L k w z (Err getting.NotPinned) = (w.held ≡ None) × (z ≡ w)
+
+-- ---- managed calls
+
+-- the most steps of one look-up of a value
+abbrev pub look_bound : ℕ → Layout → ℕ
+look_bound tries L = 3 * tries + most_looks (reach L) 1 + 2
+
+-- look-ups of a value, made until one is answered: the map gave the answer at a moment
+-- (linearization point) that is later than all that the worker had seen before. They have won
+-- nothing, and have made at most `most` steps. If each of `rounds` look-ups was busy, though it had a
+-- try, they met interference as often; and if the worker ran alone, it had no try (`alone`)
+pub record AnswersGet (k most rounds tries : ℕ) (w z : WorkerView) (r : Result (Option ℕ) CallFault) : Type 0 where
+  pub moment : IfOk r (MapGave w.pass z.pass k)
+  pub left : IsLeft Has k w z r
+  pub won : HasWon w.pass.view.log z.pass.view.log 0 0
+  pub on : GoesOn most w z
+  pub busy : r ≡ Err fault.Busy → 1 ≤ tries → MetInterference Has w.pass z.pass rounds
+  pub alone : IsAlone w.pass z.pass → r ≡ Err fault.Busy → tries ≡ 0
+
+-- a managed look-up of a value: its answer, and the remove of an earlier call, which it finished
+-- first. If the worker ran alone, an error is due to a number of tries that is 0 (`alone`), or the
+-- remove stays pending for a lack of room (`pending`). If no remove was pending, the worker has seen
+-- all stores that it had seen (`stores`)
+pub record ManagesGet (b : TreeView) (h : Options) (k : ℕ) (w z : WorkerView) (r : Result (Option ℕ) CallFault) : Type 0 where
+  pub answers : AnswersGet k
+      ((h.rounds + 1) * (round_bound h.tries b.layout + look_bound h.tries b.layout)) (h.rounds + 1)
+      h.tries w z r
+  pub begins : r ≢ Err fault.Pending → (begun : PassView) × FinishesFirst w begun
+      × IfOk r (MapGave begun z.pass k)
+  pub stores : w.pending ≡ None → ExtendsStores z.pass.view.stores w.pass.view.stores
+  pub alone : IsAlone w.pass z.pass → IfErr r (FailsAlone 1 1 h.tries z)
+  pub pending : IsAlone w.pass z.pass → r ≡ Err fault.Pending → FailsAlone 1 1 h.tries z fault.Unfinished
+
+-- what a caller learns from a managed look-up of a value
+abbrev pub SaysGet : TreeView → Options → ℕ → WorkerView → WorkerView → Result (Option ℕ) CallFault → Type 0
+SaysGet b h k w z r = UnlessPinned (ManagesGet b h k w z r) w z r
+
+-- what a caller learns from a managed insert or remove of a map, which collects nothing
+abbrev pub SaysChange : Op → TreeView → Options → ℕ → WorkerView → WorkerView → Result Bool CallFault → Type 0
+SaysChange op b h k w z r = UnlessPinned (ManagesIn true b h op k w z r) w z r
+
+-- the worker took the key with this value at a moment of the call, by what it had seen then
+pub record TookMeanwhile (p q : PassView) (k v : ℕ) : Type 0 where
+  pub then : PassView
+  pub taken : HasTaken p then k v
+  pub seen : HasSeen then.view
+  pub until : HasSeenAllOf q then
+  pub same : IsSamePass then q
+
+-- the map had the key that was found with this value at a moment of the call
+abbrev pub FindsValue : PassView → PassView → ℕ → Result (Option ℕ) CallFault → Type 0
+FindsValue p q v r = IfOk r (λ found. IfSome found (λ k. MapGave p q k (Some v)))
+
+-- a pop that returns a key took it with this value
+abbrev pub PopsValue : PassView → PassView → ℕ → Result (Option ℕ) CallFault → Type 0
+PopsValue p q v (Ok (Some k)) = TookMeanwhile p q k v
+PopsValue p q v _ = Unit {0}
+
+-- two attempts to advance the epoch, and a collection that writes values; `behind` is the worker that
+-- was found to hold the epoch back
+pub record LeavesReclaim (L : Layout) (old new : List ℕ) (w z : WorkerView) (behind : Option ℕ)
+    (handed : HandedOut) : Type 0 where
+  pub once : WorkerView
+  pub first : Advance
+  pub advanced : LeavesAdvance L.workers w once first
+  pub twice : WorkerView
+  pub second : Advance
+  pub again : LeavesAdvance L.workers once twice second
+  pub found : behind ≡ found_behind first second
+  pub hands : HandsInto L.nodes old new twice z handed

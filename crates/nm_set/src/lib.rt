@@ -16,7 +16,9 @@ mod lease;
 mod managed;
 mod map;
 mod map_calls;
+mod map_managed;
 mod map_member;
+mod map_popping;
 mod member;
 mod opening;
 mod popping;
@@ -31,6 +33,7 @@ pub use fault::{Fullness, InsertFault, MemberFault, NotPinned, ObserveFault, Pin
 pub use filling::{OfKeysError, SetOfKeys};
 pub use managed::Options;
 pub use map::{Map, MapCloseError, MapEndError, MapKeepError, MapKeepReturnedError};
+pub use map_managed::Reclaimed;
 pub use map_member::{MapMember, MapResignError, ReturnedMapWorker};
 pub use member::{Member, ResignError};
 pub use nm_tree::{

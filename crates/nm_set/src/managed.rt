@@ -4,9 +4,11 @@ ghost use Rattle.std.specs.Prelude.{◌≡◌, ◌≢◌, ◌≤◌, ◌<◌, �
 ghost use Rattle.nm_model.specs.declared.event.Op.TheVariants.{Has, Insert, Delete};
 ghost use Rattle.nm_calls.specs.declared.fault.CallFault.TheVariants as call;
 ghost use Rattle.nm_tree.specs.Calls.{LeavesHas, LeavesInsert, LeavesDelete};
+ghost use Rattle.nm_steps.specs.Values.{HasValues};
 ghost use Rattle.nm_tree.specs.Workers.{IsIdle, WorkerView, waiting_in};
 ghost use Rattle.nm_set.specs.declared.fault.Fullness.{Fullness};
 ghost use Rattle.nm_set.specs.Managed.{Answers, Manages, SaysManaged, WasFull, of_insert, round_bound};
+ghost use Rattle.nm_set.specs.MapRounds.{MovesValue};
 ghost use Rattle.nm_set.specs.Rounds.{AnswersIn, FinishesIn, Inserts, IsKnown, IsReady, IsRelieved, ManagesInsert, Removes, found_behind, plain, with_fullness};
 
 use crate::fault::{Fullness, InsertFault};
@@ -43,7 +45,7 @@ impl Default for Options {
 }
 
 /// Returns whether a call lost each of its tries.
-fn is_busy(told: &Result<bool, CallFault>) -> bool
+pub(crate) fn is_busy(told: &Result<bool, CallFault>) -> bool
     ensures yes { result ≡ true → told.now ≡ Err call.Busy }
     ensures no { result ≡ false → told.now ≢ Err call.Busy }
 {
@@ -59,7 +61,7 @@ fn is_pending(fault: CallFault) -> bool
 }
 
 /// Returns whether an insert found no free slot.
-fn is_full(told: &Result<bool, CallFault>) -> bool
+pub(crate) fn is_full(told: &Result<bool, CallFault>) -> bool
     ensures yes { result ≡ true → told.now ≡ Err call.Full }
     ensures no { result ≡ false → told.now ≢ Err call.Full }
 {
@@ -67,7 +69,7 @@ fn is_full(told: &Result<bool, CallFault>) -> bool
 }
 
 /// Returns whether a remove has flagged its leaf and is not finished.
-fn is_unfinished(told: &Result<bool, CallFault>) -> bool
+pub(crate) fn is_unfinished(told: &Result<bool, CallFault>) -> bool
     ensures yes { result ≡ true → told.now ≡ Err call.Unfinished }
     ensures no { result ≡ false → told.now ≢ Err call.Unfinished }
 {
@@ -76,7 +78,7 @@ fn is_unfinished(told: &Result<bool, CallFault>) -> bool
 
 /// Returns the worker that was found to hold the epoch back: by the second of two advances, or else
 /// by the first.
-fn behind_of(first: &Advance, second: &Advance) -> Option<u32>
+pub(crate) fn behind_of(first: &Advance, second: &Advance) -> Option<u32>
     ensures { result ≡ found_behind first.now second.now }
 {
     match (second, first) {
@@ -327,7 +329,8 @@ impl Member {
             return Err(InsertFault::Other(fault));
         }
         self.know_run();
-        match self.ask(Op::Insert, key, options.tries) {
+        let mut found = 0;
+        match self.ask(Op::Insert, key, 0, &mut found, options.tries) {
             Ok(answer) => Ok(answer),
             Err(fault) => self.retry_insert(key, options, fault),
         }
@@ -345,7 +348,8 @@ impl Member {
     {
         self.make_tidy(options)?;
         self.know_run();
-        match self.ask(Op::Delete, key, options.tries) {
+        let mut found = 0;
+        match self.ask(Op::Delete, key, 0, &mut found, options.tries) {
             Ok(answer) => Ok(answer),
             Err(fault) => self.retry_remove(key, options, fault),
         }
@@ -485,30 +489,65 @@ impl Member {
         ensures says { AnswersIn self.old.tree options.now op key (options.now.rounds + 1)
             self.old.worker self.new.worker result }
     {
+        let mut found = 0;
+        self.ask_value_with_retries(op, key, 0, &mut found, options)
+    }
+
+    /// Makes the call of that operation until one does not lose each of its tries: at most `rounds`
+    /// and one times. In a map an insert gives the key this value, or writes the value that was there to
+    /// `found`, and a remove writes the value of its key to it.
+    #[inline(always)]
+    pub(crate) fn ask_value_with_retries(
+        &mut self,
+        op: Op,
+        key: Key,
+        value: u64,
+        found: &mut u64,
+        options: &Options,
+    ) -> Result<bool, CallFault>
+        requires free { self.old.worker.held ≡ None }
+        requires none { self.old.worker.pending ≡ None }
+        ensures tree { self.new.tree ≡ self.old.tree }
+        ensures says { AnswersIn self.old.tree options.now op key (options.now.rounds + 1)
+            self.old.worker self.new.worker result }
+        ensures moves { HasValues self.old.tree → MovesValue op key value found.new
+            self.old.worker.pass self.new.worker.pass result }
+    {
         for _round in 0..options.rounds {
-            let told = self.ask(op, key, options.tries);
+            let told = self.ask(op, key, value, found, options.tries);
             if !is_busy(&told) {
                 return told;
             }
         }
-        self.ask(op, key, options.tries)
+        self.ask(op, key, value, found, options.tries)
     }
 
     /// Makes the call of that operation.
     #[cold]
     #[inline(never)]
-    fn ask(&mut self, op: Op, key: Key, tries: u32) -> Result<bool, CallFault>
+    fn ask(
+        &mut self,
+        op: Op,
+        key: Key,
+        value: u64,
+        found: &mut u64,
+        tries: u32,
+    ) -> Result<bool, CallFault>
         requires free { self.old.worker.held ≡ None }
         requires none { self.old.worker.pending ≡ None }
         ensures tree { self.new.tree ≡ self.old.tree }
         ensures says { Answers op key (round_bound tries self.old.tree.layout) tries
             self.old.worker self.new.worker result }
+        ensures moves { HasValues self.old.tree → MovesValue op key value found.new
+            self.old.worker.pass self.new.worker.pass result }
     {
         let tree = self.home.tree();
         match op {
             Op::Has => tree.has(&mut self.sealed.worker, key, tries),
-            Op::Insert => tree.insert(&mut self.sealed.worker, key, tries),
-            Op::Delete => tree.delete(&mut self.sealed.worker, key, tries),
+            Op::Insert => {
+                tree.insert_with_value(&mut self.sealed.worker, key, value, found, tries)
+            }
+            Op::Delete => tree.delete_with_value(&mut self.sealed.worker, key, found, tries),
         }
     }
 

@@ -137,6 +137,7 @@ impl Map {
         ensures number { IsErrOf result MemberFault.Number
             ↔ ((self.now.closing ≡ false) × (self.now.tree.layout.workers ≤ number)) }
         ensures closing { IsErrOf result MemberFault.Closing ↔ (self.now.closing ≡ true) }
+        ensures named { IsErrOf result MemberFault.NoWorker → ⊥ }
     {
         match self.set.member(number) {
             Ok(member) => Ok(MapMember::of(member)),
@@ -153,6 +154,8 @@ impl Map {
             (λ m. (m.tree ≡ self.now.tree) × IsAnyResident self.now.tree self.now.fit m.worker) }
         ensures first { IfOk result
             (λ m. m.returns ≡ 0 → (k : ℕ) × IsNewMember self.now.tree self.now.fit k m) }
+        ensures number { IsErrOf result MemberFault.Number → ⊥ }
+        ensures any { IsErrOf result MemberFault.Attached → ⊥ }
         ensures closing { IsErrOf result MemberFault.Closing ↔ (self.now.closing ≡ true) }
     {
         match self.set.attach() {

@@ -5,7 +5,8 @@ ghost use Rattle.nm_calls.specs.Maps.{HasPut, HasTaken};
 ghost use Rattle.nm_tree.specs.Answers.{IfTaken};
 ghost use Rattle.nm_tree.specs.Calls.{LeavesGet};
 ghost use Rattle.nm_set.specs.Asked.{Asked, SaysTryInsert, SaysTryRemove};
-ghost use Rattle.nm_set.specs.Maps.{HandsInto, SaysPinnedGet, of_pinned};
+ghost use Rattle.nm_set.specs.Maps.{FindsValue, HandsInto, SaysPinnedGet, of_pinned};
+ghost use Rattle.nm_set.specs.NextKeys.{AskedNext, AskedPrev};
 
 use crate::fault::PinnedGetFault;
 use crate::member::Member;
@@ -55,9 +56,10 @@ impl Member {
         if self.sealed.worker.held().is_some() {
             return Err(CallFault::Pinned);
         }
+        let mut found = 0;
         self.home
             .tree()
-            .insert_with_value(&mut self.sealed.worker, key, value, tries)
+            .insert_with_value(&mut self.sealed.worker, key, value, &mut found, tries)
     }
 
     /// Removes the key, and writes the value that it had: `Tree::delete_with_value` of `nm_tree`.
@@ -81,6 +83,52 @@ impl Member {
         self.home
             .tree()
             .delete_with_value(&mut self.sealed.worker, key, taken, tries)
+    }
+
+    /// Returns the least key that is not below the given one, and writes its value:
+    /// `Tree::next_with_value` of `nm_tree`.
+    #[inline(always)]
+    pub(crate) fn next_value(
+        &mut self,
+        key: Key,
+        value: &mut u64,
+        tries: u32,
+    ) -> Result<Option<Key>, CallFault>
+        requires values { HasValues self.old.tree }
+        ensures tree { self.new.tree ≡ self.old.tree }
+        ensures says { AskedNext self.old.tree.layout tries key self.old.worker self.new.worker
+            result }
+        ensures finds { FindsValue self.old.worker.pass self.new.worker.pass value.new result }
+    {
+        if self.sealed.worker.held().is_some() {
+            return Err(CallFault::Pinned);
+        }
+        self.home
+            .tree()
+            .next_with_value(&mut self.sealed.worker, key, value, tries)
+    }
+
+    /// Returns the greatest key that is not above the given one, and writes its value:
+    /// `Tree::prev_with_value` of `nm_tree`.
+    #[inline(always)]
+    pub(crate) fn prev_value(
+        &mut self,
+        key: Key,
+        value: &mut u64,
+        tries: u32,
+    ) -> Result<Option<Key>, CallFault>
+        requires values { HasValues self.old.tree }
+        ensures tree { self.new.tree ≡ self.old.tree }
+        ensures says { AskedPrev self.old.tree.layout tries key self.old.worker self.new.worker
+            result }
+        ensures finds { FindsValue self.old.worker.pass self.new.worker.pass value.new result }
+    {
+        if self.sealed.worker.held().is_some() {
+            return Err(CallFault::Pinned);
+        }
+        self.home
+            .tree()
+            .prev_with_value(&mut self.sealed.worker, key, value, tries)
     }
 
     /// Returns the value that the map has under the key, under the caller's pin: `Tree::get_pinned` of

@@ -16,7 +16,7 @@ ghost use Rattle.nm_tree.specs.Workers.{WorkerView, IsBetweenCalls, IsLedger, wa
 ghost use Rattle.nm_set.specs.Asked.{Asked, AskedToPin, AskedToUnpin, SaysTryInsert, SaysTryRemove, SaysGoOn};
 ghost use Rattle.nm_set.specs.InTurns.{AskedMany};
 ghost use Rattle.nm_set.specs.Managed.{SaysManaged};
-ghost use Rattle.nm_set.specs.Maps.{HandsInto, SaysPinnedGet};
+ghost use Rattle.nm_set.specs.Maps.{FindsValue, HandsInto, SaysPinnedGet};
 ghost use Rattle.nm_set.specs.NextKeys.{AskedNext, AskedPrev};
 ghost use Rattle.nm_set.specs.Posts.{IsReturned, IsSentBack, IsTallyOf, ReadsNote};
 ghost use Rattle.nm_set.specs.Scanning.{AskedScan};
@@ -196,6 +196,43 @@ impl MapMember {
         self.member.prev(key, tries)
     }
 
+    /// Returns the least key of the map that is not below `key`, like `next`, and writes its value to
+    /// `value`: `Tree::next_with_value` of `nm_tree`. Proved (`finds`): the map had the key that is
+    /// returned with this value at a moment of the call. After any other result `value` may be anything.
+    ///
+    /// Errors: those of `next`.
+    pub fn next_with_value(
+        &mut self,
+        key: Key,
+        value: &mut u64,
+        tries: u32,
+    ) -> Result<Option<Key>, CallFault>
+        ensures tree { self.new.tree ≡ self.old.tree }
+        ensures says { AskedNext self.old.tree.layout tries key self.old.worker self.new.worker
+            result }
+        ensures finds { FindsValue self.old.worker.pass self.new.worker.pass value.new result }
+    {
+        self.member.next_value(key, value, tries)
+    }
+
+    /// Returns the greatest key of the map that is not above `key`, like `prev`, and writes its value
+    /// to `value`, like `next_with_value`.
+    ///
+    /// Errors: those of `prev`.
+    pub fn prev_with_value(
+        &mut self,
+        key: Key,
+        value: &mut u64,
+        tries: u32,
+    ) -> Result<Option<Key>, CallFault>
+        ensures tree { self.new.tree ≡ self.old.tree }
+        ensures says { AskedPrev self.old.tree.layout tries key self.old.worker self.new.worker
+            result }
+        ensures finds { FindsValue self.old.worker.pass self.new.worker.pass value.new result }
+    {
+        self.member.prev_value(key, value, tries)
+    }
+
     /// Writes the keys of the map from `from` on that are below `below` into `out`, in ascending
     /// order, and returns how many, and the key at which to continue: `Tree::scan` of `nm_tree`.
     ///
@@ -348,8 +385,9 @@ impl MapMember {
 
     /// Frees what has waited long enough at the front of each queue that the worker holds, and
     /// writes the value of each freed leaf to `out`: `Tree::collect_values` of `nm_tree`. It stops
-    /// before a leaf if `out` is full, and a later call goes on there. Each value comes back once,
-    /// after all workers that were pinned when its leaf was cut off have unpinned.
+    /// before a leaf if `out` is full, and a later call goes on there. Proved (`says`): each value is
+    /// the one that its leaf had right before the leaf was cut off, and all workers that were pinned
+    /// then have unpinned since.
     pub fn collect(&mut self, out: &mut [u64]) -> HandedOut
         ensures tree { self.new.tree ≡ self.old.tree }
         ensures says { HandsInto self.old.tree.layout.nodes out.old out.new self.old.worker

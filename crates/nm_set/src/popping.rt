@@ -1,8 +1,13 @@
 //! Managed calls that remove the least or the greatest key, of all keys or of those up to a bound.
+//! `map_popping` has those of maps.
 ghost use Rattle.std.specs.Prelude.{◌≡◌, ◌≢◌, ◌<◌, ◌≤◌, ◌+◌, ◌*◌, true, false, None, Err};
 ghost use Rattle.nm_edge.specs.Keys.{IsKey};
 ghost use Rattle.nm_calls.specs.declared.fault.CallFault.TheVariants as fault;
+ghost use Rattle.nm_steps.specs.Values.{HasValues};
+ghost use Rattle.nm_tree.specs.Answers.{IfTaken};
 ghost use Rattle.nm_tree.specs.Popping.{Finds, among, comes_before};
+ghost use Rattle.nm_set.specs.MapRounds.{SaysRemoved};
+ghost use Rattle.nm_set.specs.Maps.{PopsValue, TookMeanwhile};
 ghost use Rattle.nm_set.specs.Popping.{Pops, SaysManagedPop, SaysManagedPopOf, pop_round_bound};
 
 use crate::managed::Options;
@@ -45,7 +50,8 @@ impl Member {
         ensures says { SaysManagedPop ◌<◌ self.old.tree options.now self.old.worker self.new.worker
             result }
     {
-        self.pop(End::First, options)
+        let mut taken = 0;
+        self.pop(End::First, false, &mut taken, options)
     }
 
     /// Removes the greatest key of the set, like `pop_first`: for each greater key there was a
@@ -55,7 +61,8 @@ impl Member {
         ensures says { SaysManagedPop (λ j key. key < j) self.old.tree options.now self.old.worker
             self.new.worker result }
     {
-        self.pop(End::Last, options)
+        let mut taken = 0;
+        self.pop(End::Last, false, &mut taken, options)
     }
 
     /// Removes the least key of the set, if it is below `below`. It is like `pop_first`, but `None`
@@ -70,7 +77,8 @@ impl Member {
         ensures says { SaysManagedPopOf (λ j. IsKey j × (j < below)) ◌<◌ self.old.tree options.now
             self.old.worker self.new.worker result }
     {
-        self.pop(End::FirstBelow(below), options)
+        let mut taken = 0;
+        self.pop(End::FirstBelow(below), false, &mut taken, options)
     }
 
     /// Removes the greatest key of the set, if it is not below `from`. It is like `pop_last`, but
@@ -81,14 +89,24 @@ impl Member {
         ensures says { SaysManagedPopOf (λ j. IsKey j × (from ≤ j)) (λ j key. key < j) self.old.tree
             options.now self.old.worker self.new.worker result }
     {
-        self.pop(End::LastFrom(from), options)
+        let mut taken = 0;
+        self.pop(End::LastFrom(from), false, &mut taken, options)
     }
 
-    /// Removes the key at that end.
-    fn pop(&mut self, end: End, options: &Options) -> Result<Option<Key>, CallFault>
+    /// Removes the key at that end. In a map it writes the value of the key to `taken`.
+    pub(crate) fn pop(
+        &mut self,
+        end: End,
+        in_map: bool,
+        taken: &mut u64,
+        options: &Options,
+    ) -> Result<Option<Key>, CallFault>
+        requires values { in_map ≡ true → HasValues self.old.tree }
         ensures tree { self.new.tree ≡ self.old.tree }
         ensures says { SaysManagedPopOf (among end) (comes_before end) self.old.tree options.now
             self.old.worker self.new.worker result }
+        ensures takes { in_map ≡ true → PopsValue self.old.worker.pass self.new.worker.pass taken.new
+            result }
     {
         if self.pinned().is_some() {
             return Err(CallFault::Pinned);
@@ -96,34 +114,52 @@ impl Member {
         let Ok(_done) = self.finish_with_retries(options) else {
             return Err(CallFault::Pending);
         };
-        self.pop_with_retries(end, options)
+        self.pop_with_retries(end, in_map, taken, options)
     }
 
     /// Makes rounds until one does not come to nothing: at most `rounds` and one.
-    fn pop_with_retries(&mut self, end: End, options: &Options) -> Result<Option<Key>, CallFault>
+    fn pop_with_retries(
+        &mut self,
+        end: End,
+        in_map: bool,
+        taken: &mut u64,
+        options: &Options,
+    ) -> Result<Option<Key>, CallFault>
+        requires values { in_map ≡ true → HasValues self.old.tree }
         requires free { self.old.worker.held ≡ None }
         requires none { self.old.worker.pending ≡ None }
         ensures tree { self.new.tree ≡ self.old.tree }
         ensures says { Pops (among end) (comes_before end)
             ((options.now.rounds + 1) * pop_round_bound options.now self.old.tree.layout)
             options.now.tries (options.now.rounds + 1) self.old.worker self.new.worker result }
+        ensures takes { in_map ≡ true → PopsValue self.old.worker.pass self.new.worker.pass taken.new
+            result }
     {
         for _round in 0..options.rounds {
-            let told = self.pop_once(end, options);
+            let told = self.pop_once(end, in_map, taken, options);
             if !is_busy(&told) {
                 return told;
             }
         }
-        self.pop_once(end, options)
+        self.pop_once(end, in_map, taken, options)
     }
 
     /// Finds the key at that end, and removes it if it may.
-    fn pop_once(&mut self, end: End, options: &Options) -> Result<Option<Key>, CallFault>
+    fn pop_once(
+        &mut self,
+        end: End,
+        in_map: bool,
+        taken: &mut u64,
+        options: &Options,
+    ) -> Result<Option<Key>, CallFault>
+        requires values { in_map ≡ true → HasValues self.old.tree }
         requires free { self.old.worker.held ≡ None }
         requires none { self.old.worker.pending ≡ None }
         ensures tree { self.new.tree ≡ self.old.tree }
         ensures says { Pops (among end) (comes_before end) (pop_round_bound options.now self.old.tree.layout)
             options.now.tries 1 self.old.worker self.new.worker result }
+        ensures takes { in_map ≡ true → PopsValue self.old.worker.pass self.new.worker.pass taken.new
+            result }
     {
         self.know_run();
         let Some(key) = self.key_at(end, options.tries)? else {
@@ -132,11 +168,34 @@ impl Member {
         if !end.has(key) {
             return Ok(None);
         }
-        if self.remove(key, options)? {
+        if self.remove_popped(key, in_map, taken, options)? {
             Ok(Some(key))
         } else {
             self.know_run();
             Err(CallFault::Busy)
+        }
+    }
+
+    /// Removes the key: in a map it writes its value to `taken`, and otherwise it may collect first.
+    #[inline(always)]
+    fn remove_popped(
+        &mut self,
+        key: Key,
+        in_map: bool,
+        taken: &mut u64,
+        options: &Options,
+    ) -> Result<bool, CallFault>
+        requires values { in_map ≡ true → HasValues self.old.tree }
+        ensures tree { self.new.tree ≡ self.old.tree }
+        ensures says { SaysRemoved self.old.tree options.now key self.old.worker self.new.worker
+            result }
+        ensures takes { in_map ≡ true → IfTaken result (TookMeanwhile self.old.worker.pass
+            self.new.worker.pass key taken.new) }
+    {
+        if in_map {
+            self.remove_managed(key, taken, options)
+        } else {
+            self.remove(key, options)
         }
     }
 

@@ -10,3 +10,5 @@ pub mod Lookups
 pub mod NextKeys
 pub mod Scanning
 pub mod Reports
+pub mod Maps
+pub mod MapEntries

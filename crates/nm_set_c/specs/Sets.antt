@@ -14,7 +14,8 @@ use Rattle.nm_set_c.specs.Handles.{Hold, Closed, Open, IsRefused, CannotOpen}
 use Rattle.nm_set_c.specs.declared.outcome.Outcome.{Outcome}
 use Rattle.nm_set_c.specs.declared.outcome.Outcome.TheVariants as outcome
 use Rattle.nm_set_c.specs.declared.owner.Owner.{Owner}
-use Rattle.nm_set_c.specs.declared.owner.Owner.TheVariants.{Set, Worker, Ended, Nothing}
+use Rattle.nm_set_c.specs.declared.owner.Owner.TheVariants.{Set, Worker, Ended}
+use Rattle.nm_set_c.specs.Owners.{ByKind}
 
 -- ---- a new set
 
@@ -32,50 +33,59 @@ pub record IsNewSet (f : Fit) (L : Layout) (s : SetView) : Type 0 where
   pub fit : s.fit ≡ f
   pub layout : s.tree.layout ≡ L
 
--- if the sizes are allowed, the handle has a new set, or memory was refused; otherwise the outcome
--- names a size that is not allowed, the nodes first
-abbrev pub IsMade : Fit → Layout → ℕ → ℕ → Hold → Outcome → Type 0
-IsMade f L nodes workers new o =
+-- if the sizes are allowed, the handle has a new set, as an owner of the kind; or memory was
+-- refused. Otherwise the outcome names a size that is not allowed, the nodes first
+abbrev pub IsMade : (SetView → Owner) → Fit → Layout → ℕ → ℕ → Hold → Outcome → Type 0
+IsMade kind f L nodes workers new o =
     ((o ≡ outcome.Done) × HasNodes nodes × HasWorkers workers × (s : SetView)
-    × (new ≡ Open (Set s)) × IsNewSet f L s)
+    × (new ≡ Open (kind s)) × IsNewSet f L s)
     ⊎ (((o ≡ outcome.NoMemory) × HasNodes nodes × HasWorkers workers × (new ≡ Closed))
     ⊎ (((o ≡ outcome.Nodes) × (HasNodes nodes → ⊥) × (new ≡ Closed))
     ⊎ ((o ≡ outcome.Workers) × HasNodes nodes × (HasWorkers workers → ⊥) × (new ≡ Closed))))
 
--- a closed handle owns a new set afterwards; one that is open already, or in use, is unchanged
+-- a closed handle owns a new set of the kind afterwards; one that is open already, or in use, is
+-- unchanged
+abbrev pub Makes : (SetView → Owner) → Fit → Layout → ℕ → ℕ → Hold → Hold → Outcome → Type 0
+Makes kind f L nodes workers old new o =
+    CannotOpen old new o ⊎ ((old ≡ Closed) × IsMade kind f L nodes workers new o)
+
 abbrev pub MakesSet : Fit → Layout → ℕ → ℕ → Hold → Hold → Outcome → Type 0
-MakesSet f L nodes workers old new o =
-    CannotOpen old new o ⊎ ((old ≡ Closed) × IsMade f L nodes workers new o)
+MakesSet = Makes Set
 
 -- ---- a worker of a set
 
--- what a set gives: a worker of its tree with its fit that has this property; or the reason for
--- which it gives none, which depends on the call
-abbrev pub GivesWorker : (SetView → WorkerView → Type 0) → (SetView → MemberFault → Type 0) → Owner
-    → Result MemberView Outcome → Type 0
-GivesWorker which faults (Set s) (Ok m) = (s.closing ≡ false) × (m.tree ≡ s.tree) × which s m.worker
-GivesWorker which faults (Set s) (Err o) =
+-- what a set gives: a worker of its tree with its fit that has this property, as an owner of the
+-- kind; or the reason for which it gives none, which depends on the call
+abbrev pub Gives : (MemberView → Owner) → (SetView → WorkerView → Type 0) → (SetView → MemberFault → Type 0)
+    → Result Owner Outcome → SetView → Type 0
+Gives kind which faults (Ok y) s = (s.closing ≡ false)
+    × (m : MemberView) × (y ≡ kind m) × (m.tree ≡ s.tree) × which s m.worker
+Gives kind which faults (Err o) s =
     (why : MemberFault) × (o ≡ of_taking why) × ((why ≡ taking.Closing) ↔ (s.closing ≡ true))
     × faults s why
-GivesWorker which faults (Worker m) r = r ≡ Err outcome.Kind
-GivesWorker which faults (Ended r) t = t ≡ Err outcome.Kind
-GivesWorker which faults Nothing r = r ≡ Err outcome.Kind
 
--- the handle has the worker that was given; or memory was refused, or none was given, for the
--- reason in the outcome, and the handle is closed
-abbrev pub Keeps : Result MemberView Outcome → Hold → Outcome → Type 0
-Keeps (Ok m) new o = ((o ≡ outcome.Done) × (new ≡ Open (Worker m)))
+-- an owner of the one kind gives a worker as an owner of the other; the call of anything else is
+-- refused
+abbrev pub GivesOf : (SetView → Owner) → (MemberView → Owner) → (SetView → WorkerView → Type 0)
+    → (SetView → MemberFault → Type 0) → Owner → Result Owner Outcome → Type 0
+GivesOf kind worker which faults x r =
+    ByKind kind x (Gives worker which faults r) (r ≡ Err outcome.Kind)
+
+-- the handle has what was given; or memory was refused, or nothing was given, for the reason in the
+-- outcome, and the handle is closed
+abbrev pub Keeps : Result Owner Outcome → Hold → Outcome → Type 0
+Keeps (Ok y) new o = ((o ≡ outcome.Done) × (new ≡ Open y))
     ⊎ ((o ≡ outcome.NoMemory) × (new ≡ Closed))
 Keeps (Err why) new o = (o ≡ why) × (new ≡ Closed)
 
 -- the call for a worker by two handles: that of the worker, which must be closed, and that of the
 -- set, which is unchanged
-abbrev pub TakesByHandles : (Owner → Result MemberView Outcome → Type 0) → Hold → Hold → Hold
+abbrev pub TakesByHandles : (Owner → Result Owner Outcome → Type 0) → Hold → Hold → Hold
     → Outcome → Type 0
 TakesByHandles gives set old new o =
     CannotOpen old new o
     ⊎ (((old ≡ Closed) × (new ≡ Closed) × IsRefused set set o)
-    ⊎ ((old ≡ Closed) × (x : Owner) × (set ≡ Open x) × (r : Result MemberView Outcome) × gives x r
+    ⊎ ((old ≡ Closed) × (x : Owner) × (set ≡ Open x) × (r : Result Owner Outcome) × gives x r
     × Keeps r new o))
 
 -- the worker of that number
@@ -89,10 +99,13 @@ abbrev pub NumberFaults : ℕ → SetView → MemberFault → Type 0
 NumberFaults number s why = ((why ≡ taking.Number)
     ↔ ((s.closing ≡ false) × (s.tree.layout.workers ≤ number))) × (why ≡ taking.NoWorker → ⊥)
 
+abbrev pub GivesNumbered : (SetView → Owner) → (MemberView → Owner) → ℕ → Owner → Result Owner Outcome
+    → Type 0
+GivesNumbered kind worker number = GivesOf kind worker (IsNumbered number) (NumberFaults number)
+
 -- a closed handle owns the worker of that number afterwards
 abbrev pub TakesWorker : ℕ → Hold → Hold → Hold → Outcome → Type 0
-TakesWorker number set old new o =
-    TakesByHandles (GivesWorker (IsNumbered number) (NumberFaults number)) set old new o
+TakesWorker number = TakesByHandles (GivesNumbered Set Worker number)
 
 -- any worker
 abbrev pub IsAny : SetView → WorkerView → Type 0
@@ -101,9 +114,12 @@ IsAny s w = IsAnyResident s.tree s.fit w
 abbrev pub AnyFaults : SetView → MemberFault → Type 0
 AnyFaults s why = (why ≡ taking.Number → ⊥) × (why ≡ taking.Attached → ⊥)
 
+abbrev pub GivesAny : (SetView → Owner) → (MemberView → Owner) → Owner → Result Owner Outcome → Type 0
+GivesAny kind worker = GivesOf kind worker IsAny AnyFaults
+
 -- a closed handle owns a worker of any number afterwards
 abbrev pub Attaches : Hold → Hold → Hold → Outcome → Type 0
-Attaches set old new o = TakesByHandles (GivesWorker IsAny AnyFaults) set old new o
+Attaches = TakesByHandles (GivesAny Set Worker)
 
 -- ---- a worker that is not returned
 
@@ -112,61 +128,61 @@ abbrev pub of_missing : Result Bool MemberFault → Outcome
 of_missing (Ok away) = of_bool away
 of_missing (Err why) = of_taking why
 
--- what the set answers about the worker of a number
-abbrev pub MissesOwned : ℕ → Owner → Outcome → Type 0
-MissesOwned number (Set s) o =
-    (r : Result Bool MemberFault) × (o ≡ of_missing r) × TellsAttached s number r
-MissesOwned number (Worker m) o = o ≡ outcome.Kind
-MissesOwned number (Ended r) o = o ≡ outcome.Kind
-MissesOwned number Nothing o = o ≡ outcome.Kind
+-- what a set answers about the worker of a number
+abbrev pub IsMissing : ℕ → Outcome → SetView → Type 0
+IsMissing number o s = (r : Result Bool MemberFault) × (o ≡ of_missing r) × TellsAttached s number r
 
--- the same by the handle of the set
+-- what an owner of the kind answers; the call of anything else is refused
+abbrev pub MissesOwned : (SetView → Owner) → ℕ → Owner → Outcome → Type 0
+MissesOwned kind number x o = ByKind kind x (IsMissing number o) (o ≡ outcome.Kind)
+
+-- the same by a handle
+abbrev pub MissesByHandle : (SetView → Owner) → ℕ → Hold → Outcome → Type 0
+MissesByHandle kind number set o =
+    IsRefused set set o ⊎ ((x : Owner) × (set ≡ Open x) × MissesOwned kind number x o)
+
 abbrev pub Misses : ℕ → Hold → Outcome → Type 0
-Misses number set o = IsRefused set set o ⊎ ((x : Owner) × (set ≡ Open x) × MissesOwned number x o)
+Misses = MissesByHandle Set
 
 -- ---- the close of a set
 
--- the report is there; or the outcome is the reason, and the set is there as that reason leaves it
-abbrev pub IsEnded : SetView → Owner → Outcome → Type 0
-IsEnded s new o =
+-- the report is there; or the outcome is the reason, and the set is there as that reason leaves it,
+-- as an owner of the kind
+abbrev pub IsEnded : (SetView → Owner) → Owner → Outcome → SetView → Type 0
+IsEnded kind new o s =
     ((o ≡ outcome.Done) × (r : Report) × (new ≡ Ended r) × EndsSet s r)
-    ⊎ ((why : CloseReason) × (o ≡ of_reason why) × (t : SetView) × (new ≡ Set t)
+    ⊎ ((why : CloseReason) × (o ≡ of_reason why) × (t : SetView) × (new ≡ kind t)
     × IsLeftOpen s why t)
 
--- `EndsOwner`, `EndsHandle`: a set's handle owns its report afterwards, by what it owned and by the
--- handle; anything else is refused
-abbrev pub EndsOwner : Owner → Owner → Outcome → Type 0
-EndsOwner (Set s) new o = IsEnded s new o
-EndsOwner (Worker m) new o = (o ≡ outcome.Kind) × (new ≡ Worker m)
-EndsOwner (Ended r) new o = (o ≡ outcome.Kind) × (new ≡ Ended r)
-EndsOwner Nothing new o = (o ≡ outcome.Kind) × (new ≡ Nothing)
+-- what owned a set of the kind owns its report afterwards; anything else is refused
+unfoldable pub EndsOwned : (SetView → Owner) → Owner → Owner → Outcome → Type 0
+EndsOwned kind x new o = ByKind kind x (IsEnded kind new o) ((o ≡ outcome.Kind) × (new ≡ x))
+
+-- a handle owns afterwards what a call on its owner leaves
+abbrev pub EndsBy : (Owner → Owner → Outcome → Type 0) → Hold → Hold → Outcome → Type 0
+EndsBy ends old new o = IsRefused old new o
+    ⊎ ((x : Owner) × (old ≡ Open x) × (y : Owner) × (new ≡ Open y) × ends x y o)
 
 abbrev pub EndsHandle : Hold → Hold → Outcome → Type 0
-EndsHandle old new o = IsRefused old new o
-    ⊎ ((x : Owner) × (old ≡ Open x) × (y : Owner) × (new ≡ Open y) × EndsOwner x y o)
+EndsHandle = EndsBy (EndsOwned Set)
 
 -- ---- the close of a set by its last worker
 
 -- the report is there; or the worker is there, unchanged; or the outcome is the reason for which
 -- its tree was not closed, and the set is there, with the worker and those that had been returned
-abbrev pub IsEndedBy : MemberView → Owner → Outcome → Type 0
-IsEndedBy m new o =
+abbrev pub IsEndedBy : Owner → Outcome → MemberView → Type 0
+IsEndedBy new o m =
     ((o ≡ outcome.Done) × (r : Report) × (new ≡ Ended r) × EndsMember m r)
     ⊎ (((o ≡ outcome.Attached) × (new ≡ Worker m))
     ⊎ ((why : CloseReason) × (o ≡ of_reason why) × (t : SetView) × (new ≡ Set t)
     × HasGathered (set_of m) why t))
 
--- `EndsByOwner`, `EndsByHandle`: the handle of a set's last worker owns what is left afterwards, by
--- what it owned and by the handle; anything else is refused
+-- what owned a set's last worker owns what is left afterwards; anything else is refused
 abbrev pub EndsByOwner : Owner → Owner → Outcome → Type 0
-EndsByOwner (Worker m) new o = IsEndedBy m new o
-EndsByOwner (Set s) new o = (o ≡ outcome.Kind) × (new ≡ Set s)
-EndsByOwner (Ended r) new o = (o ≡ outcome.Kind) × (new ≡ Ended r)
-EndsByOwner Nothing new o = (o ≡ outcome.Kind) × (new ≡ Nothing)
+EndsByOwner x new o = ByKind Worker x (IsEndedBy new o) ((o ≡ outcome.Kind) × (new ≡ x))
 
 abbrev pub EndsByHandle : Hold → Hold → Outcome → Type 0
-EndsByHandle old new o = IsRefused old new o
-    ⊎ ((x : Owner) × (old ≡ Open x) × (y : Owner) × (new ≡ Open y) × EndsByOwner x y o)
+EndsByHandle = EndsBy EndsByOwner
 
 -- ---- what any handle owns
 

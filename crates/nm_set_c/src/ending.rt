@@ -1,7 +1,7 @@
 //! The end of a set, by its own handle or by that of its last worker.
 ghost use Rattle.nm_set_c.specs.Handles.{held_by};
 ghost use Rattle.nm_set_c.specs.Outcomes.{IsCodeOf};
-ghost use Rattle.nm_set_c.specs.Sets.{EndsHandle, EndsOwner, EndsByHandle, EndsByOwner};
+ghost use Rattle.nm_set_c.specs.Sets.{EndsHandle, EndsOwned, EndsByHandle, EndsByOwner};
 
 use crate::handle::Handle;
 use crate::outcome::Outcome;
@@ -29,8 +29,9 @@ pub extern "C" fn nm_set_close(alloc: Global, set: &mut Handle) -> i32
     outcome.code()
 }
 
+#[tactic(auto, unfolding(crate::specs::Sets::EndsOwned))]
 fn end(owner: Owner) -> (Owner, Outcome)
-    ensures { EndsOwner owner result.0 result.1 }
+    ensures { EndsOwned Owner.Set owner result.0 result.1 }
 {
     let set = match owner {
         Owner::Set(set) => set,

@@ -1,15 +1,15 @@
 //! Calls on the epoch, by the handle of a worker.
-#![tactic(auto, using(crate::proofs::Owners::asked_of_worker))]
+#![tactic(auto, using(crate::proofs::Owners::asked_of_owner))]
 
 ghost use Rattle.std.specs.Prelude.{◌≡◌, ⊤};
 ghost use Rattle.nm_set_c.specs.Handles.{held_by};
 ghost use Rattle.nm_set_c.specs.Outcomes.{IsCodeOf};
 ghost use Rattle.nm_set_c.specs.Owners.{HasDone, OfWorker};
-ghost use Rattle.nm_set_c.specs.Workers.{TellsPin, TellsUnpin, TellsAdvance, TellsBehind, TellsCollect};
+ghost use Rattle.nm_set_c.specs.Workers.{TellsPin, TellsUnpin, TellsAdvance, TellsBehind, TellsCollect, of_pin, of_unpin, pin_epoch};
 
 use crate::handle::{Handle, by_handle};
 use crate::outcome::Outcome;
-use nm_set::{Advance, Member, PinFault};
+use nm_set::{Advance, Member, NotPinned, PinFault};
 use std::alloc::Global;
 
 /// Pins the epoch for the caller, until unpin, and writes it: `Member::pin` of `nm_set`. Returns
@@ -33,7 +33,16 @@ pub extern "C" fn nm_worker_pin(
 fn pin(member: &mut Member, tries: u32, epoch: &mut u64) -> Outcome
     ensures { HasDone (TellsPin tries epoch.old epoch.new) member.old member.new result }
 {
-    match member.pin(tries) {
+    let answer = member.pin(tries);
+    tell_pin(answer, epoch)
+}
+
+/// Writes the epoch that was pinned, or that was read last, and returns the outcome.
+pub(crate) fn tell_pin(answer: Result<u64, PinFault>, epoch: &mut u64) -> Outcome
+    ensures told { result ≡ of_pin answer }
+    ensures written { epoch.new ≡ pin_epoch answer epoch.old }
+{
+    match answer {
         Ok(pinned) => {
             *epoch = pinned;
             Outcome::Done
@@ -59,7 +68,15 @@ pub extern "C" fn nm_worker_unpin(alloc: Global, worker: &mut Handle) -> i32
 fn unpin(member: &mut Member) -> Outcome
     ensures { HasDone TellsUnpin member.old member.new result }
 {
-    match member.unpin() {
+    let answer = member.unpin();
+    tell_unpin(answer)
+}
+
+/// Returns the outcome of an unpin.
+pub(crate) fn tell_unpin(answer: Result<(), NotPinned>) -> Outcome
+    ensures { result ≡ of_unpin answer }
+{
+    match answer {
         Ok(()) => Outcome::Done,
         Err(_) => Outcome::NotPinned,
     }

@@ -1,5 +1,5 @@
 //! Calls of the tree for a key, by the handle of a worker.
-#![tactic(auto, using(crate::proofs::Owners::asked_of_worker))]
+#![tactic(auto, using(crate::proofs::Owners::asked_of_owner))]
 
 ghost use Rattle.std.specs.Prelude.{⊤};
 ghost use Rattle.nm_set_c.specs.Handles.{held_by};

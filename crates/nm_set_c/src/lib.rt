@@ -1,7 +1,7 @@
 //! The set for C: `c/nm_set.h` declares what is exported here.
 //!
 //! A program in C holds handles, each two words that are zero while it is closed. An open handle
-//! owns a set, one of its workers, or the report that a set was closed with. No export requires
+//! owns a set or a map, one of its workers, or the report that it was closed with. No export requires
 //! anything of its arguments: misuse returns an error, and then nothing has changed. The header
 //! says what nobody can test, and a program must keep.
 //!
@@ -18,8 +18,14 @@ mod handle;
 mod keys;
 mod managed;
 mod many;
+mod map_entries;
+mod map_epochs;
+mod map_values;
+mod map_workers;
+mod maps;
 mod next_key;
 mod notes;
+mod opening;
 mod outcome;
 mod owner;
 mod place;

@@ -1,5 +1,5 @@
 //! Look-ups of several keys together, by the handle of a worker.
-#![tactic(auto, using(crate::proofs::Owners::asked_of_worker))]
+#![tactic(auto, using(crate::proofs::Owners::asked_of_owner))]
 
 ghost use Rattle.std.specs.Prelude.{◌≡◌, true, false, length, map, IfOk, IfErr};
 ghost use Rattle.nm_calls.specs.InTurns.{key_of};

@@ -1,6 +1,6 @@
 //! Stamps of what a worker has seen, by its handle: published by one worker, and observed by
 //! another one of its set.
-#![tactic(auto, using(crate::proofs::Owners::asked_of_worker))]
+#![tactic(auto, using(crate::proofs::Owners::asked_of_owner))]
 
 ghost use Rattle.std.specs.Prelude.{◌≡◌};
 ghost use Rattle.nm_set_c.specs.Handles.{held_by};

@@ -1,5 +1,5 @@
 //! What a handle owns.
-use nm_set::{Member, Report, Set};
+use nm_set::{Map, MapMember, Member, Report, Set};
 
 /// What a handle owns while it is open.
 #[derive(Drop)]
@@ -8,7 +8,11 @@ pub enum Owner {
     Set(Set),
     /// A worker of a set.
     Worker(Member),
-    /// The report that a set was closed with.
+    /// A map, which gives out its workers.
+    Map(Map),
+    /// A worker of a map.
+    MapWorker(MapMember),
+    /// The report that a set or a map was closed with.
     Ended(Report),
     /// Nothing, while a call has what was owned.
     Nothing,

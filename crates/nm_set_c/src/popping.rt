@@ -1,6 +1,6 @@
 //! Managed calls that remove the least or the greatest key, of all keys or of those up to a bound, by
 //! the handle of a worker.
-#![tactic(auto, using(crate::proofs::Owners::asked_of_worker))]
+#![tactic(auto, using(crate::proofs::Owners::asked_of_owner))]
 
 ghost use Rattle.std.specs.Prelude.{◌≡◌, ◌≢◌, true, false, IfSome};
 ghost use Rattle.nm_set_c.specs.Handles.{held_by};
@@ -117,7 +117,7 @@ fn pop_last_from(member: &mut Member, from: u64, options: &Options, taken: &mut 
 
 /// Writes the key that was taken, or the pending one if its remove is unfinished, and returns the
 /// outcome.
-fn tell_taken(
+pub(crate) fn tell_taken(
     answer: Result<Option<Key>, CallFault>,
     pending: Option<Key>,
     taken: &mut u64,

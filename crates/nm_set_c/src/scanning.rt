@@ -1,5 +1,5 @@
 //! Scans of a range of keys, by the handle of a worker.
-#![tactic(auto, using(crate::proofs::Owners::asked_of_worker))]
+#![tactic(auto, using(crate::proofs::Owners::asked_of_owner))]
 
 ghost use Rattle.std.specs.Prelude.{◌≡◌};
 ghost use Rattle.nm_edge.specs.declared.edge.Side.TheVariants.{Left, Right};
@@ -96,7 +96,11 @@ fn scan_back(
 
 /// Writes how many keys a scan has written, and the key at which to continue, if there is one, and
 /// returns the outcome.
-fn tell_scanned(answer: Result<Scanned, CallFault>, count: &mut u64, next: &mut u64) -> Outcome
+pub(crate) fn tell_scanned(
+    answer: Result<Scanned, CallFault>,
+    count: &mut u64,
+    next: &mut u64,
+) -> Outcome
     ensures told { result ≡ of_scan answer }
     ensures counted { count.new ≡ counted answer count.old }
     ensures written { next.new ≡ next_written answer next.old }

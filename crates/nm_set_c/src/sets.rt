@@ -1,16 +1,16 @@
 //! Calls on a set, by its handle.
-ghost use Rattle.std.specs.Prelude.{◌≡◌, ◌⊎◌, None};
+ghost use Rattle.std.specs.Prelude.{◌≡◌};
 ghost use Rattle.nm_edge.specs.Layouts.{in_radix, spaced};
 ghost use Rattle.nm_edge.specs.declared.placement.Fit.TheVariants.{FirstFit, NextFit};
 ghost use Rattle.nm_set_c.specs.Handles.{held_by};
-ghost use Rattle.nm_set_c.specs.Handles.Hold.{Closed, Open};
 ghost use Rattle.nm_set_c.specs.Outcomes.{IsCodeOf};
-ghost use Rattle.nm_set_c.specs.Sets.{MakesSet, GivesWorker, Keeps, TakesWorker, IsNumbered, NumberFaults, Attaches, IsAny, AnyFaults, Misses, MissesOwned, GivesUp};
+ghost use Rattle.nm_set_c.specs.Sets.{MakesSet, GivesNumbered, TakesWorker, Attaches, GivesAny, Misses, MissesOwned, GivesUp};
 
 use crate::handle::Handle;
+use crate::opening::{by_two_handles, open};
 use crate::outcome::Outcome;
 use crate::owner::Owner;
-use nm_set::{Fit, Member, Set};
+use nm_set::{Fit, Set};
 use std::alloc::Global;
 
 /// Makes the empty set, in a radix tree with room for `nodes` nodes, 7 to 268,435,456, for 1 to 64
@@ -86,24 +86,6 @@ pub extern "C" fn nm_set_new_first_fit(
     }
 }
 
-/// Opens a handle that was reserved for that.
-fn open(alloc: Global, handle: &mut Handle, owner: Owner) -> Outcome
-    requires closed { handle.old.place.held ≡ None }
-    ensures { ((result ≡ Outcome.Done) × (held_by handle.new ≡ Open owner))
-        ⊎ ((result ≡ Outcome.NoMemory) × (held_by handle.new ≡ Closed)) }
-{
-    match Box::new(alloc, owner) {
-        Ok(made) => {
-            handle.put(made);
-            Outcome::Done
-        }
-        Err(_) => {
-            handle.shut();
-            Outcome::NoMemory
-        }
-    }
-}
-
 /// Takes the worker of a number, with all that it held when it was returned, and not pinned:
 /// `Set::member` of `nm_set`. Returns `Done`, and the worker's handle is open.
 ///
@@ -124,45 +106,18 @@ pub extern "C" fn nm_set_worker(
         (held_by worker.new)) result }
     ensures set { held_by set.new ≡ held_by set.old }
 {
-    match worker.reserve(alloc) {
-        Ok(()) => {}
-        Err(told) => return told.code(),
-    }
-    let owner = match set.claim_soon(alloc) {
-        Ok(owner) => owner,
-        Err(told) => {
-            worker.shut();
-            return told.code();
-        }
-    };
-    let given = member_of(&owner, number);
-    set.put(owner);
-    keep(alloc, worker, given).code()
+    by_two_handles!(alloc, set, worker, owner => member_of(&owner, number))
 }
 
-fn member_of(owner: &Owner, number: u32) -> Result<Member, Outcome>
-    ensures { GivesWorker (IsNumbered number) (NumberFaults number) owner.now result }
+fn member_of(owner: &Owner, number: u32) -> Result<Owner, Outcome>
+    ensures { GivesNumbered Owner.Set Owner.Worker number owner.now result }
 {
     let Owner::Set(set) = owner else {
         return Err(Outcome::Kind);
     };
     match set.member(number) {
-        Ok(member) => Ok(member),
+        Ok(member) => Ok(Owner::Worker(member)),
         Err(fault) => Err(Outcome::of_taking(fault)),
-    }
-}
-
-/// Opens a handle that was reserved for a worker, or leaves it closed if none was given.
-fn keep(alloc: Global, worker: &mut Handle, given: Result<Member, Outcome>) -> Outcome
-    requires closed { worker.old.place.held ≡ None }
-    ensures { Keeps given (held_by worker.new) result }
-{
-    match given {
-        Ok(member) => open(alloc, worker, Owner::Worker(member)),
-        Err(why) => {
-            worker.shut();
-            why
-        }
     }
 }
 
@@ -176,30 +131,17 @@ pub extern "C" fn nm_set_attach(alloc: Global, set: &mut Handle, worker: &mut Ha
         result }
     ensures set { held_by set.new ≡ held_by set.old }
 {
-    match worker.reserve(alloc) {
-        Ok(()) => {}
-        Err(told) => return told.code(),
-    }
-    let owner = match set.claim_soon(alloc) {
-        Ok(owner) => owner,
-        Err(told) => {
-            worker.shut();
-            return told.code();
-        }
-    };
-    let given = any_of(&owner);
-    set.put(owner);
-    keep(alloc, worker, given).code()
+    by_two_handles!(alloc, set, worker, owner => any_of(&owner))
 }
 
-fn any_of(owner: &Owner) -> Result<Member, Outcome>
-    ensures { GivesWorker IsAny AnyFaults owner.now result }
+fn any_of(owner: &Owner) -> Result<Owner, Outcome>
+    ensures { GivesAny Owner.Set Owner.Worker owner.now result }
 {
     let Owner::Set(set) = owner else {
         return Err(Outcome::Kind);
     };
     match set.attach() {
-        Ok(member) => Ok(member),
+        Ok(member) => Ok(Owner::Worker(member)),
         Err(fault) => Err(Outcome::of_taking(fault)),
     }
 }
@@ -222,7 +164,7 @@ pub extern "C" fn nm_set_attached(alloc: Global, set: &mut Handle, number: u32) 
 }
 
 fn is_attached(owner: &Owner, number: u32) -> Outcome
-    ensures { MissesOwned number owner.now result }
+    ensures { MissesOwned Owner.Set number owner.now result }
 {
     let Owner::Set(set) = owner else {
         return Outcome::Kind;

@@ -6,12 +6,13 @@ ghost use Rattle.nm_tree.specs.Workers.{waiting_in};
 ghost use Rattle.nm_set_c.specs.Handles.{held_by};
 ghost use Rattle.nm_set_c.specs.Outcomes.{IsCodeOf};
 ghost use Rattle.nm_set_c.specs.Handles.Hold.{Open};
-ghost use Rattle.nm_set_c.specs.Owners.{OfWorker, OwnsWorker};
-ghost use Rattle.nm_set_c.specs.Workers.{TellsResign, TellsNumber, TellsOption, TellsStats, pending_key};
+ghost use Rattle.nm_set_c.specs.Owners.{OfWorker, Owns};
+ghost use Rattle.nm_set_c.specs.Workers.{TellsResign, TellsNumber, TellsOption, TellsStats, IsOptionTold, pending_key};
 
 use crate::handle::{Handle, by_handle};
 use crate::outcome::Outcome;
 use crate::owner::Owner;
+use nm_edge::Key;
 use nm_set::Member;
 use std::alloc::Global;
 use std::mem::replace;
@@ -73,7 +74,15 @@ fn pending(member: &mut Member, key: &mut u64) -> Outcome
     ensures { TellsOption (pending_key member.old.worker) key.old key.new member.old member.new
         result }
 {
-    match member.pending() {
+    let found = member.pending();
+    tell_pending(found, key)
+}
+
+/// Writes the key that is pending, if there is one, and returns whether there is.
+pub(crate) fn tell_pending(found: Option<Key>, key: &mut u64) -> Outcome
+    ensures { IsOptionTold found key.old key.new result }
+{
+    match found {
         Some(pending) => {
             *key = pending.get();
             Outcome::Yes
@@ -128,7 +137,7 @@ pub extern "C" fn nm_worker_stats(alloc: Global, worker: &mut Handle, stats: &mu
 /// Takes over a worker that is not attached: `Member::resign` of `nm_set`. This worker then holds
 /// all that the leaver held, and the leaver never comes back. Returns `Done`. Errors: `Number`,
 /// `Attached` and `Pending`, which are of the leaver. `Closed`, `InUse`, `Kind`.
-#[tactic(auto, using(crate::proofs::Owners::refused_worker, crate::proofs::Owners::owned_worker))]
+#[tactic(auto, using(crate::proofs::Owners::refused, crate::proofs::Owners::owned))]
 #[unsafe(no_mangle)]
 pub extern "C" fn nm_worker_resign(alloc: Global, worker: &mut Handle, leaver: u32) -> i32
     ensures { IsCodeOf (OfWorker (TellsResign leaver) ⊤ (held_by worker.old) (held_by worker.new))
@@ -144,9 +153,9 @@ pub extern "C" fn nm_worker_resign(alloc: Global, worker: &mut Handle, leaver: u
     outcome.code()
 }
 
-#[tactic(auto, using(crate::proofs::Owners::does_worker, crate::proofs::Owners::is_no_worker))]
+#[tactic(auto, using(crate::proofs::Owners::does_owned, crate::proofs::Owners::is_other))]
 fn resign(heir: Owner, leaver: u32) -> (Owner, Outcome)
-    ensures { OwnsWorker (TellsResign leaver) ⊤ heir (Open result.0) result.1 }
+    ensures { Owns Owner.Worker (TellsResign leaver) ⊤ heir (Open result.0) result.1 }
 {
     let member = match heir {
         Owner::Worker(member) => member,

@@ -141,6 +141,131 @@ fn a_member_of_a_map_takes_a_value(rt: HostRuntime) -> Result<(), Fail> {
     Ok(())
 }
 
+/// Managed calls of a map find, put and take values, and an insert of a key that is there writes the
+/// value that it has.
+#[test]
+fn managed_calls_of_a_map(rt: HostRuntime) -> Result<(), Fail> {
+    let options = Options::default();
+    let map = Map::new(rt.alloc(), 64, 1)?;
+    let mut member = map.member(0)?;
+    let five = key(&rt, 5);
+    let (mut found, mut taken) = (7, 7);
+    assert_eq!(rt; member.get(five, &options), Ok(None));
+    assert_eq!(rt; member.insert(five, 50, &mut found, &options), Ok(true));
+    assert_eq!(rt; member.get(five, &options), Ok(Some(50)));
+    assert_eq!(rt;
+        (member.insert(five, 51, &mut found, &options), found),
+        (Ok(false), 50)
+    );
+    assert_eq!(rt;
+        (member.remove(five, &mut taken, &options), taken),
+        (Ok(true), 50)
+    );
+    assert_eq!(rt; member.remove(five, &mut taken, &options), Ok(false));
+    assert_eq!(rt; member.get(five, &options), Ok(None));
+    member.pin(TRIES)?;
+    assert_eq!(rt; member.get(five, &options), Err(CallFault::Pinned));
+    assert_eq!(rt;
+        member.insert(five, 52, &mut found, &options),
+        Err(CallFault::Pinned)
+    );
+    assert_eq!(rt;
+        member.remove(five, &mut taken, &options),
+        Err(CallFault::Pinned)
+    );
+    assert_eq!(rt; member.unpin(), Ok(()));
+    Ok(())
+}
+
+/// An insert into a full map has room again after a `reclaim`, which writes the value of each key that
+/// was removed.
+#[test]
+fn a_full_map_has_room_after_a_reclaim(rt: HostRuntime) -> Result<(), Fail> {
+    let options = Options::default();
+    let map = Map::new(rt.alloc(), 9, 1)?;
+    let mut member = map.member(0)?;
+    let (five, nine, two) = (key(&rt, 5), key(&rt, 9), key(&rt, 2));
+    let (mut found, mut taken) = (0, 0);
+    assert_eq!(rt; member.insert(five, 50, &mut found, &options), Ok(true));
+    assert_eq!(rt; member.insert(nine, 90, &mut found, &options), Ok(true));
+    assert_eq!(rt; member.remove(five, &mut taken, &options), Ok(true));
+    assert_eq!(rt;
+        member.insert(two, 20, &mut found, &options),
+        Err(CallFault::Full)
+    );
+    let mut out = [0; 2];
+    let back = member.reclaim(&mut out);
+    assert_eq!(rt; (back.handed.values, out, back.behind), (1, [50, 0], None));
+    assert_eq!(rt; member.insert(two, 20, &mut found, &options), Ok(true));
+    assert_eq!(rt; keys_of_two(&rt, map, member), 2);
+    Ok(())
+}
+
+/// Closes a member and then its map; returns how many keys the map had.
+fn keys_of_two(rt: &impl Abort, map: Map, member: MapMember) -> usize {
+    member.close();
+    keys_of(rt, map)
+}
+
+/// Keys come with their values from both ends of a map, up to a bound, and next to a key.
+#[test]
+fn keys_of_a_map_come_with_their_values(rt: HostRuntime) -> Result<(), Fail> {
+    let options = Options::default();
+    let map = Map::new(rt.alloc(), 64, 1)?;
+    let mut member = map.member(0)?;
+    let mut found = 0;
+    for number in 1..6 {
+        let put = member.insert(
+            key(&rt, number),
+            number.saturating_mul(10),
+            &mut found,
+            &options,
+        );
+        assert_eq!(rt; put, Ok(true));
+    }
+    let mut value = 0;
+    let three = key(&rt, 3);
+    assert_eq!(rt;
+        (member.next_with_value(three, &mut value, TRIES), value),
+        (Ok(Some(three)), 30)
+    );
+    assert_eq!(rt;
+        (
+            member.prev_with_value(key(&rt, 9), &mut value, TRIES),
+            value
+        ),
+        (Ok(Some(key(&rt, 5))), 50)
+    );
+    assert_eq!(rt;
+        (member.pop_first(&mut value, &options), value),
+        (Ok(Some(key(&rt, 1))), 10)
+    );
+    assert_eq!(rt;
+        (member.pop_last(&mut value, &options), value),
+        (Ok(Some(key(&rt, 5))), 50)
+    );
+    assert_eq!(rt; member.pop_first_below(2, &mut value, &options), Ok(None));
+    assert_eq!(rt;
+        (member.pop_first_below(3, &mut value, &options), value),
+        (Ok(Some(key(&rt, 2))), 20)
+    );
+    assert_eq!(rt;
+        (member.pop_last_from(4, &mut value, &options), value),
+        (Ok(Some(key(&rt, 4))), 40)
+    );
+    assert_eq!(rt; member.pop_last_from(4, &mut value, &options), Ok(None));
+    member.pin(TRIES)?;
+    assert_eq!(rt;
+        member.pop_first(&mut value, &options),
+        Err(CallFault::Pinned)
+    );
+    assert_eq!(rt;
+        member.next_with_value(three, &mut value, TRIES),
+        Err(CallFault::Pinned)
+    );
+    Ok(())
+}
+
 /// A worker that was returned is taken again, and is found by its number. A stamp can be observed.
 #[test]
 fn a_worker_of_a_map_comes_back(rt: HostRuntime) -> Result<(), Fail> {

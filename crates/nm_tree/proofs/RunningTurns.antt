@@ -17,8 +17,7 @@ use Rattle.nm_steps.specs.declared.view.View.{View}
 use Rattle.nm_steps.specs.Rules.{Runs}
 use Rattle.nm_steps.specs.Steps.{HasSeen}
 use Rattle.nm_epoch.specs.declared.collecting.Entry.{Entry as Waiting}
-use Rattle.nm_epoch.specs.declared.collecting.HeldQueue.{HeldQueue}
-use Rattle.nm_epoch.specs.Collecting.{IsCollection, freeing, ripe_of}
+use Rattle.nm_epoch.specs.Collecting.{freeing}
 use Rattle.nm_model.specs.Headline.{Headline, nodes_freed_of, freed_by}
 use Rattle.nm_model.specs.Histories.{HasHistory}
 use Rattle.nm_theorem.proofs.LeftSince.{readers_have_left}

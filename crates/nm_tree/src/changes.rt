@@ -1,8 +1,8 @@
 //! Inserts, deletes, and the completion of a pending delete.
-ghost use Rattle.std.specs.Prelude.{◌≡◌, true, Ok};
+ghost use Rattle.std.specs.Prelude.{◌≡◌, false, true, Ok, Some};
 ghost use Rattle.nm_steps.specs.Steps.{IsOf};
 ghost use Rattle.nm_steps.specs.Values.{HasValues};
-ghost use Rattle.nm_calls.specs.Maps.{HasPut, HasTaken};
+ghost use Rattle.nm_calls.specs.Maps.{HasPut, HasTaken, MapGave};
 ghost use Rattle.nm_tree.specs.Calls.{MayCall, LeavesInsert, SaysInsert, LeavesDelete, SaysDelete, LeavesFinish, SaysFinish};
 ghost use Rattle.nm_tree.specs.Answers.{IfTaken};
 
@@ -33,12 +33,16 @@ impl Tree {
         ensures says { SaysInsert self.now.layout tries key worker.old worker.new result }
         ensures leaves { LeavesInsert self.now.layout tries key worker.old worker.new result }
     {
-        self.insert_with_value(worker, key, 0, tries)
+        let mut found = 0;
+        self.insert_with_value(worker, key, 0, &mut found, tries)
     }
 
     /// Inserts `key` with `value`; returns true if the key was absent. Otherwise the key keeps its
-    /// value. In a tree without values it is `insert`, and `value` is not used. Proved (`puts`): if
-    /// the result is `Ok(true)`, the map had the key with the value at a moment of the call.
+    /// value, and the call writes this value to `found`. In a tree without values it is `insert`, and
+    /// `value` is not used. Proved (`puts`): if the result is `Ok(true)`, the map had the key with the
+    /// value at a moment of the call. Proved (`finds`): if the result is `Ok(false)`, the map had the
+    /// key with the value in `found` at a moment (linearization point) of the call. If the result is
+    /// another one, or the tree has no values, `found` may be anything.
     ///
     /// Errors and cost are those of `insert`. (The insert of Natarajan and Mittal, section 3.2.)
     #[inline(always)]
@@ -47,6 +51,7 @@ impl Tree {
         worker: &mut Worker,
         key: Key,
         value: u64,
+        found: &mut u64,
         tries: u32,
     ) -> Result<bool, CallFault>
         requires { MayCall self.now worker.old }
@@ -54,6 +59,8 @@ impl Tree {
         ensures leaves { LeavesInsert self.now.layout tries key worker.old worker.new result }
         ensures puts { HasValues self.now → result ≡ Ok true
             → HasPut worker.old.pass worker.new.pass key value }
+        ensures finds { HasValues self.now → result ≡ Ok false
+            → MapGave worker.old.pass worker.new.pass key (Some found.new) }
     {
         if let Standing::Pending(_) = worker.standing {
             return Err(CallFault::Pending);
@@ -69,6 +76,7 @@ impl Tree {
             value,
             tries,
         );
+        *found = worker.workspace.found;
         worker.pass.know_run();
         answer
     }

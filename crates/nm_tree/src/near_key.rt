@@ -1,9 +1,12 @@
 //! The next and the previous key, in a set that others change.
+ghost use Rattle.std.specs.Prelude.{IfOk, IfSome, Some};
+ghost use Rattle.nm_steps.specs.Values.{HasValues};
+ghost use Rattle.nm_calls.specs.Maps.{MapGave};
 ghost use Rattle.nm_tree.specs.Calls.{MayCall, LeavesNearest, LeavesNext, LeavesPrev};
 
 use crate::tree::Tree;
 use crate::worker::{Standing, Worker};
-use nm_calls::{CallFault, nearest};
+use nm_calls::{CallFault, nearest, nearest_with_value};
 use nm_edge::{Key, Side};
 
 impl Tree {
@@ -65,6 +68,78 @@ impl Tree {
         ensures { LeavesPrev self.now.layout tries key worker.old worker.new result }
     {
         self.nearest(worker, key, Side::Left, tries)
+    }
+
+    /// Returns the least key of the map that is not below `key`, like `next`, and writes its value to
+    /// `value`. Proved (`finds`): if the result is `Some(found)`, the map had `found` with this value
+    /// at a moment (linearization point) of the call. If the result is another one, `value` may be
+    /// anything. The tree must have values.
+    ///
+    /// Errors and cost are those of `next`, and a look at the value.
+    #[inline(always)]
+    pub fn next_with_value(
+        &self,
+        worker: &mut Worker,
+        key: Key,
+        value: &mut u64,
+        tries: u32,
+    ) -> Result<Option<Key>, CallFault>
+        requires call { MayCall self.now worker.old }
+        requires values { HasValues self.now }
+        ensures leaves { LeavesNext self.now.layout tries key worker.old worker.new result }
+        ensures finds { IfOk result (λ f. IfSome f
+            (λ k. MapGave worker.old.pass worker.new.pass k (Some value.new))) }
+    {
+        self.nearest_with_value(worker, key, Side::Right, value, tries)
+    }
+
+    /// Returns the greatest key of the map that is not above `key`, like `prev`, and writes its value
+    /// to `value`. Proved (`finds`): if the result is `Some(found)`, the map had `found` with this
+    /// value at a moment (linearization point) of the call. If the result is another one, `value` may
+    /// be anything. The tree must have values.
+    ///
+    /// Errors and cost are those of `prev`, and a look at the value.
+    #[inline(always)]
+    pub fn prev_with_value(
+        &self,
+        worker: &mut Worker,
+        key: Key,
+        value: &mut u64,
+        tries: u32,
+    ) -> Result<Option<Key>, CallFault>
+        requires call { MayCall self.now worker.old }
+        requires values { HasValues self.now }
+        ensures leaves { LeavesPrev self.now.layout tries key worker.old worker.new result }
+        ensures finds { IfOk result (λ f. IfSome f
+            (λ k. MapGave worker.old.pass worker.new.pass k (Some value.new))) }
+    {
+        self.nearest_with_value(worker, key, Side::Left, value, tries)
+    }
+
+    /// Returns the key of the map nearest to `key` on that side, `key` itself included, if no key is
+    /// pending, and writes its value to `value`.
+    #[inline(always)]
+    fn nearest_with_value(
+        &self,
+        worker: &mut Worker,
+        key: Key,
+        side: Side,
+        value: &mut u64,
+        tries: u32,
+    ) -> Result<Option<Key>, CallFault>
+        requires call { MayCall self.now worker.old }
+        requires values { HasValues self.now }
+        ensures leaves { LeavesNearest side self.now.layout tries key worker.old worker.new result }
+        ensures finds { IfOk result (λ f. IfSome f
+            (λ k. MapGave worker.old.pass worker.new.pass k (Some value.new))) }
+    {
+        if let Standing::Pending(_) = worker.standing {
+            return Err(CallFault::Pending);
+        }
+        worker.pass.know_run();
+        let answer = nearest_with_value(&self.shared, &mut worker.pass, key, side, value, tries);
+        worker.pass.know_run();
+        answer
     }
 
     /// Returns the key of the set nearest to `key` on that side, `key` itself included, if no key

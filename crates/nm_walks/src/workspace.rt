@@ -25,6 +25,9 @@ pub struct Workspace {
     pub chain: ChainEdges,
     /// The nodes that the last cleanup tried to cut off.
     pub nodes: CutNodes,
+    /// The value that the last insert of a key found under the key, if it found the key in a table
+    /// with values. It is here, and no parameter, so that calls of a set pay nothing for it.
+    pub found: u64,
 }
 
 impl Workspace {
@@ -36,6 +39,7 @@ impl Workspace {
             placement,
             chain: ChainEdges::new(),
             nodes: CutNodes::new(),
+            found: 0,
         }
     }
 }

@@ -19,14 +19,14 @@ fn gets(rt: &impl Abort, shared: &Shared, worker: &mut Worker, key: Key, wanted:
     assert!(rt; found == Ok(wanted));
 }
 
-fn puts(
-    rt: &impl Abort,
+/// Inserts a key with a value, in one try; returns the result, and what the call has written of the
+/// value that was there.
+fn inserts(
     shared: &Shared,
     worker: &mut Worker,
     key: Key,
     value: u64,
-    wanted: Result<bool, CallFault>,
-)
+) -> (Result<bool, CallFault>, u64)
     requires rests { IsAtRest shared.now worker.old.pass worker.old.held }
     ensures rests { IsAtRest shared.now worker.new.pass worker.new.held }
 {
@@ -39,25 +39,35 @@ fn puts(
         value,
         1,
     );
-    assert!(rt; inserted == wanted);
+    (inserted, worker.workspace.found)
 }
 
-/// A key keeps the value with which it was inserted. Keys without a value in the map have none.
+fn puts(rt: &impl Abort, shared: &Shared, worker: &mut Worker, key: Key, value: u64)
+    requires rests { IsAtRest shared.now worker.old.pass worker.old.held }
+    ensures rests { IsAtRest shared.now worker.new.pass worker.new.held }
+{
+    let inserted = inserts(shared, worker, key, value).0;
+    assert!(rt; inserted == Ok(true));
+}
+
+/// A key keeps the value with which it was inserted, and a second insert of it returns this value. Keys without a value in the map have none.
 #[test]
 fn a_map_has_the_values_that_were_inserted(rt: HostRuntime) -> Result<(), Fail> {
     let (shared, passes) = Shared::with_values(rt.alloc(), Layout::new(13, 1)?)?;
     let pass = only(&shared, passes);
     let mut one = starting(rt.alloc(), &shared, pass);
     gets(&rt, &shared, &mut one, key(&rt, 5), None);
-    puts(&rt, &shared, &mut one, key(&rt, 5), 50, Ok(true));
-    puts(&rt, &shared, &mut one, key(&rt, 7), 70, Ok(true));
-    puts(&rt, &shared, &mut one, key(&rt, 5), 51, Ok(false));
+    puts(&rt, &shared, &mut one, key(&rt, 5), 50);
+    puts(&rt, &shared, &mut one, key(&rt, 7), 70);
+    let again = inserts(&shared, &mut one, key(&rt, 5), 51);
+    assert!(rt; again.0 == Ok(false));
+    assert_eq!(rt; again.1, 50);
     gets(&rt, &shared, &mut one, key(&rt, 5), Some(50));
     gets(&rt, &shared, &mut one, key(&rt, 6), None);
     gets(&rt, &shared, &mut one, key(&rt, 7), Some(70));
     deletes(&rt, &shared, &mut one, key(&rt, 5), true);
     gets(&rt, &shared, &mut one, key(&rt, 5), None);
-    puts(&rt, &shared, &mut one, key(&rt, 5), 52, Ok(true));
+    puts(&rt, &shared, &mut one, key(&rt, 5), 52);
     gets(&rt, &shared, &mut one, key(&rt, 5), Some(52));
     let Worker { pass, .. } = one;
     let words = shared.close(pass);

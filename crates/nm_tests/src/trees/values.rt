@@ -40,8 +40,26 @@ fn puts(
     if worker.held().is_some() {
         panic!(rt; "the worker is pinned")
     }
-    let put = tree.insert_with_value(worker, key, value, 1);
+    let mut unused = 0;
+    let put = tree.insert_with_value(worker, key, value, &mut unused, 1);
     assert!(rt; put == want);
+}
+
+/// Inserts a key that is there, and compares the value that the call has written.
+fn finds(rt: &impl Abort, tree: &Tree, worker: &mut Worker, number: u64, value: u64, want: u64)
+    requires own { IsOf tree.now worker.old.pass }
+    ensures own { IsOf tree.now worker.new.pass }
+{
+    let Some(key) = Key::new(number) else {
+        panic!(rt; "{number} is no key")
+    };
+    if worker.held().is_some() {
+        panic!(rt; "the worker is pinned")
+    }
+    let mut found = 0;
+    let put = tree.insert_with_value(worker, key, value, &mut found, 1);
+    assert!(rt; put == Ok(false));
+    assert_eq!(rt; found, want);
 }
 
 fn gets(rt: &impl Abort, tree: &Tree, worker: &mut Worker, number: u64, want: Option<u64>)
@@ -59,16 +77,18 @@ fn gets(rt: &impl Abort, tree: &Tree, worker: &mut Worker, number: u64, want: Op
     assert!(rt; found == Ok(want));
 }
 
-/// A key has the value of the insert that returned true. A plain insert puts 0 under its key.
+/// A key has the value of the insert that returned true, and an insert that returns false has written
+/// this value. A plain insert puts 0 under its key.
 #[test]
 fn a_map_of_two_workers(rt: HostRuntime) -> Result<(), Fail> {
     let (tree, mut one, mut two) = map_of(&rt, 64)?;
     gets(&rt, &tree, &mut one, 5, None);
     puts(&rt, &tree, &mut one, 5, 50, Ok(true));
-    puts(&rt, &tree, &mut two, 5, 51, Ok(false));
+    finds(&rt, &tree, &mut two, 5, 51, 50);
     gets(&rt, &tree, &mut two, 5, Some(50));
     step(&rt, &tree, &mut two, Call::Insert(6), Answer::Is(true));
     gets(&rt, &tree, &mut one, 6, Some(0));
+    finds(&rt, &tree, &mut one, 6, 61, 0);
     step(&rt, &tree, &mut two, Call::Delete(5), Answer::Is(true));
     gets(&rt, &tree, &mut one, 5, None);
     puts(&rt, &tree, &mut two, 5, 52, Ok(true));
@@ -119,6 +139,56 @@ fn values_come_back_once(rt: HostRuntime) -> Result<(), Fail> {
     assert_eq!(rt; one.queue_len(), 0);
     gets(&rt, &tree, &mut one, 7, Some(70));
     gets(&rt, &tree, &mut one, 5, None);
+    Ok(())
+}
+
+/// Returns the key from a number on, up or down, with its value; `None` if there is none.
+fn beside(
+    rt: &impl Abort,
+    tree: &Tree,
+    worker: &mut Worker,
+    number: u64,
+    up: bool,
+) -> Option<(u64, u64)>
+    requires own { IsOf tree.now worker.old.pass }
+    requires values { HasValues tree.now }
+    ensures own { IsOf tree.now worker.new.pass }
+{
+    let Some(key) = Key::new(number) else {
+        panic!(rt; "{number} is no key")
+    };
+    if worker.held().is_some() {
+        panic!(rt; "the worker is pinned")
+    }
+    let mut value = 0;
+    let found = if up {
+        tree.next_with_value(worker, key, &mut value, 2)
+    } else {
+        tree.prev_with_value(worker, key, &mut value, 2)
+    };
+    let Ok(found) = found else {
+        panic!(rt; "two tries are enough")
+    };
+    let Some(found) = found else {
+        return None;
+    };
+    Some((found.get(), value))
+}
+
+/// The next key and the previous one come with their values.
+#[test]
+fn keys_come_with_their_values(rt: HostRuntime) -> Result<(), Fail> {
+    let (tree, mut one, mut two) = map_of(&rt, 64)?;
+    puts(&rt, &tree, &mut one, 5, 50, Ok(true));
+    puts(&rt, &tree, &mut two, 7, 70, Ok(true));
+    assert!(rt; beside(&rt, &tree, &mut one, 0, true) == Some((5, 50)));
+    assert!(rt; beside(&rt, &tree, &mut one, 6, true) == Some((7, 70)));
+    assert!(rt; beside(&rt, &tree, &mut two, 6, false) == Some((5, 50)));
+    assert!(rt; beside(&rt, &tree, &mut two, 8, true) == None);
+    step(&rt, &tree, &mut one, Call::Delete(5), Answer::Is(true));
+    assert!(rt; beside(&rt, &tree, &mut two, 6, false) == None);
+    puts(&rt, &tree, &mut one, 5, 51, Ok(true));
+    assert!(rt; beside(&rt, &tree, &mut two, 5, true) == Some((5, 51)));
     Ok(())
 }
 

@@ -10,6 +10,7 @@ use Rattle.nm_walks.proofs.KeptLedgers.{holds_on}
 use Rattle.nm_calls.proofs.KeptLedgers.{holds_with_room}
 use Rattle.nm_calls.proofs.Rooms.{takes_then}
 use Rattle.nm_calls.proofs.Waiting.{may_grow_more, few_in_table}
+use Rattle.nm_calls.proofs.FoundValues.{found_was}
 use Rattle.nm_calls.proofs.MadeLeaves.{put_earlier}
 use Rattle.nm_calls.proofs.inserting.insert.Goals as goal
 
@@ -76,3 +77,7 @@ returns-clause-few c = few_in_table c.args.shared.now c.args.pass.now c.insert_p
 
 pub returns-clause-put : goal.returns-clause-put
 returns-clause-put c = λ values is. put_earlier c.args.pass.now c.pin_for.new.pass c.insert_pinned.new.pass c.args.key c.args.value c.pin_for.ensures.on.past (c.insert_pinned.ensures.put values is)
+
+pub returns-clause-finds : goal.returns-clause-finds
+returns-clause-finds c = λ values is.
+    found_was c.args.pass.now c.pin_for.new.pass c.insert_pinned.new.pass c.know_run.ensures.seen c.know_run.ensures.fits c.requires.rests.unpinned c.pin_for.ensures.on c.args.key c.insert_pinned.new.workspace.found (c.insert_pinned.ensures.finds values is)

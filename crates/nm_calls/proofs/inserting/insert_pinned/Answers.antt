@@ -14,6 +14,7 @@ use Rattle.nm_calls.specs.Inserts.{IsTry}
 use Rattle.nm_steps.specs.Steps.{PassView}
 use Rattle.nm_calls.proofs.AddingInserts.{back_adds}
 use Rattle.nm_walks.proofs.GoingOn.{goes_then, call_still}
+use Rattle.nm_walks.proofs.ShortWalks.{key_of_call}
 use Rattle.nm_walks.proofs.KeptLedgers.{holds_on}
 use Rattle.nm_calls.proofs.KeptLedgers.{holds_left, holds_with_room}
 use Rattle.nm_calls.proofs.Moments.{no_call_on}
@@ -31,18 +32,18 @@ returns-then-not-make_room_for-clause-private c =
 pub try_insert-requires-clause-call : goal.try_insert-requires-clause-call
 try_insert-requires-clause-call c = call_still Insert c.args.key c.args.pass.now c.loop-round.pass c.loop-round.invariant.on c.requires.call
 
-pub give_back-requires-in-Found-clause-ready : goal.give_back-requires-in-Found-clause-ready
-give_back-requires-in-Found-clause-ready c = if_ready c.args.pass.now c.try_insert.new.pass c.try_insert.new.new_nodes (c.try_insert.ensures.has c.args.pass.now c.loop-round.invariant.has)
+pub give_back_and_read-requires-clause-ready : goal.give_back_and_read-requires-clause-ready
+give_back_and_read-requires-clause-ready c = if_ready c.args.pass.now c.try_insert.new.pass c.try_insert.new.new_nodes (c.try_insert.ensures.has c.args.pass.now c.loop-round.invariant.has)
 
 pub answer-requires-clause-shown : goal.answer-requires-clause-shown
 answer-requires-clause-shown c =
     let shows = c.in-Found.ensures.shows in
-    found_answer c.try_insert.new.pass c.give_back-in-Found.new.pass c.args.key c.give_back-in-Found.ensures.on (ap (λ (s : Search). s.linked) c.give_back-in-Found.ensures.only.search) (shows.1 ∙ c.loop-round.invariant.unlinked)
-    (c.try_insert.ensures.on.keeps (CallIs Insert c.args.key) (c.loop-round.invariant.on.keeps (CallIs Insert c.args.key) c.requires.call.call)) shows.0
+    found_answer c.try_insert.new.pass c.give_back_and_read.new.pass c.args.key c.give_back_and_read.ensures.on (ap (λ (s : Search). s.linked) c.give_back_and_read.ensures.only.search) (shows.1 ∙ c.loop-round.invariant.unlinked)
+    (c.try_insert.ensures.on.keeps (CallIs Insert c.args.key) (c.loop-round.invariant.on.keeps (CallIs Insert c.args.key) c.requires.call.call)) (c.in-Found.leaf, shows.0)
 
 pub returns-in-Found-clause-private : goal.returns-in-Found-clause-private
 returns-in-Found-clause-private c =
-    none_left c.args.pass.now c.give_back-in-Found.new.pass c.answer.new.pass c.answer.ensures.hands.private (c.give_back-in-Found.ensures.given c.args.pass.now (c.try_insert.ensures.has c.args.pass.now c.loop-round.invariant.has))
+    none_left c.args.pass.now c.give_back_and_read.new.pass c.answer.new.pass c.answer.ensures.hands.private (c.give_back_and_read.ensures.given c.args.pass.now (c.try_insert.ensures.has c.args.pass.now c.loop-round.invariant.has))
 
 pub returns-in-Linked-clause-private : goal.returns-in-Linked-clause-private
 returns-in-Linked-clause-private c =
@@ -82,8 +83,8 @@ returns-in-Found-clause-moment c = λ o had.
     let call = CallIs Insert c.args.key in
     let round = no_call_on o c.args.pass.now c.loop-round.pass had c.loop-round.invariant.on.same c.loop-round.invariant.on.past in
     let tried = no_call_on o c.loop-round.pass c.try_insert.new.pass round c.try_insert.ensures.on.same c.try_insert.ensures.on.past in
-    c.answer.ensures.moment o Insert c.args.key (no_call_on o c.try_insert.new.pass c.give_back-in-Found.new.pass tried c.give_back-in-Found.ensures.on.same c.give_back-in-Found.ensures.on.past)
-    (c.give_back-in-Found.ensures.on.keeps call (c.try_insert.ensures.on.keeps call (c.loop-round.invariant.on.keeps call c.requires.call.call)))
+    c.answer.ensures.moment o Insert c.args.key (no_call_on o c.try_insert.new.pass c.give_back_and_read.new.pass tried c.give_back_and_read.ensures.on.same c.give_back_and_read.ensures.on.past)
+    (c.give_back_and_read.ensures.on.keeps call (c.try_insert.ensures.on.keeps call (c.loop-round.invariant.on.keeps call c.requires.call.call)))
 
 pub returns-in-Linked-clause-moment : goal.returns-in-Linked-clause-moment
 returns-in-Linked-clause-moment c = λ o had.
@@ -127,9 +128,9 @@ returns-in-Full-clause-part c =
 pub returns-in-Found-clause-on : goal.returns-in-Found-clause-on
 returns-in-Found-clause-on c =
     let o = c.args.pass.now in
-    let back = c.give_back-in-Found.new.pass in
+    let back = c.give_back_and_read.new.pass in
     let tried = goes_then o c.loop-round.pass c.try_insert.new.pass c.loop-round.invariant.on c.try_insert.ensures.on in
-    continued o back c.answer.new.pass (LeaveWith false) Departed (goes_then o c.try_insert.new.pass back tried c.give_back-in-Found.ensures.on) c.answer.ensures.took
+    continued o back c.answer.new.pass (LeaveWith false) Departed (goes_then o c.try_insert.new.pass back tried c.give_back_and_read.ensures.on) c.answer.ensures.took
 
 pub returns-in-Linked-clause-on : goal.returns-in-Linked-clause-on
 returns-in-Linked-clause-on c =
@@ -143,9 +144,9 @@ returns-in-Full-clause-on c =
 
 pub returns-in-Found-clause-part : goal.returns-in-Found-clause-part
 returns-in-Found-clause-part c =
-    let h : IsTry c.args.workspace.now.placement c.args.shared.now.layout c.args.key c.loop-round.new_nodes c.try_insert.new.new_nodes c.loop-round.pass.view.log c.try_insert.new.pass.view.log attempt.Found =
-    subst (λ (f : Fit). IsTry f c.args.shared.now.layout c.args.key c.loop-round.new_nodes c.try_insert.new.new_nodes c.loop-round.pass.view.log c.try_insert.new.pass.view.log attempt.Found) c.loop-round.invariant.fit c.in-Found.ensures.part in
-    (c.try_insert.new.new_nodes, c.try_insert.new.pass.view.log, c.give_back-in-Found.new.pass.view.log, (c.loop-round.round, c.loop-round.new_nodes, c.loop-round.pass.view.log, c.loop-round-test.true, c.loop-round.invariant.lost, h), c.give_back-in-Found.ensures.part, ap (λ (s : PassView). s.view.log) c.answer.ensures.took.step)
+    let h : IsTry c.args.workspace.now.placement c.args.shared.now.layout c.args.key c.loop-round.new_nodes c.try_insert.new.new_nodes c.loop-round.pass.view.log c.try_insert.new.pass.view.log (attempt.Found c.in-Found.leaf) =
+    subst (λ (f : Fit). IsTry f c.args.shared.now.layout c.args.key c.loop-round.new_nodes c.try_insert.new.new_nodes c.loop-round.pass.view.log c.try_insert.new.pass.view.log (attempt.Found c.in-Found.leaf)) c.loop-round.invariant.fit c.in-Found.ensures.part in
+    (c.try_insert.new.new_nodes, c.try_insert.new.pass.view.log, c.give_back_and_read.new.pass.view.log, c.in-Found.leaf, (c.loop-round.round, c.loop-round.new_nodes, c.loop-round.pass.view.log, c.loop-round-test.true, c.loop-round.invariant.lost, h), c.give_back_and_read.ensures.part, ap (λ (s : PassView). s.view.log) c.answer.ensures.took.step)
 
 pub returns-in-Linked-clause-part : goal.returns-in-Linked-clause-part
 returns-in-Linked-clause-part c =
@@ -172,8 +173,8 @@ returns-then-not-make_room_for-clause-kept c =
 
 pub returns-in-Found-clause-kept : goal.returns-in-Found-clause-kept
 returns-in-Found-clause-kept c =
-    holds_left c.give_back-in-Found.new.pass c.answer.new.pass _ (LeaveWith false) tt c.answer.ensures.took c.answer.ensures.hands (ap (λ (b : Brief). b.unlabelled) c.give_back-in-Found.ensures.only.epochs ∙ (c.try_insert.ensures.only.labelled (c.loop-round.invariant.only.labelled c.requires.unchanged.labelled)))
-    (holds_on c.try_insert.new.pass c.give_back-in-Found.new.pass _ c.give_back-in-Found.ensures.on.same c.give_back-in-Found.ensures.only.ledgers (back_adds c.try_insert.new.new_nodes c.try_insert.new.pass.view.log c.give_back-in-Found.new.pass.view.log c.give_back-in-Found.ensures.part) c.try_insert.ensures.kept)
+    holds_left c.give_back_and_read.new.pass c.answer.new.pass _ (LeaveWith false) tt c.answer.ensures.took c.answer.ensures.hands (ap (λ (b : Brief). b.unlabelled) c.give_back_and_read.ensures.only.epochs ∙ (c.try_insert.ensures.only.labelled (c.loop-round.invariant.only.labelled c.requires.unchanged.labelled)))
+    (holds_on c.try_insert.new.pass c.give_back_and_read.new.pass _ c.give_back_and_read.ensures.on.same c.give_back_and_read.ensures.only.ledgers (back_adds c.try_insert.new.new_nodes c.try_insert.new.pass.view.log c.give_back_and_read.new.pass.view.log c.give_back_and_read.ensures.part) c.try_insert.ensures.kept)
 
 pub returns-in-Linked-clause-kept : goal.returns-in-Linked-clause-kept
 returns-in-Linked-clause-kept c = holds_left c.try_insert.new.pass c.answer-in-Linked.new.pass _ (LeaveWith true) tt c.answer-in-Linked.ensures.took c.answer-in-Linked.ensures.hands (c.try_insert.ensures.only.labelled (c.loop-round.invariant.only.labelled c.requires.unchanged.labelled)) c.try_insert.ensures.kept
@@ -193,3 +194,17 @@ pub returns-in-Linked-clause-put : goal.returns-in-Linked-clause-put
 returns-in-Linked-clause-put c = λ values _.
     put_then c.args.pass.now c.try_insert.new.pass c.answer-in-Linked.new.pass (LeaveWith true) Departed c.args.key c.args.value
     (put_earlier c.args.pass.now c.loop-round.pass c.try_insert.new.pass c.args.key c.args.value c.loop-round.invariant.on.past (c.in-Linked.ensures.put values refl)) c.answer-in-Linked.ensures.took
+
+pub give_back_and_read-requires-clause-ended : goal.give_back_and_read-requires-clause-ended
+give_back_and_read-requires-clause-ended c = (c.args.key, c.in-Found.ensures.shows.0)
+
+pub returns-in-Found-clause-finds : goal.returns-in-Found-clause-finds
+returns-in-Found-clause-finds c = λ values _.
+    let tried = goes_then c.args.pass.now c.loop-round.pass c.try_insert.new.pass c.loop-round.invariant.on c.try_insert.ensures.on in
+    record {
+      at = c.give_back_and_read.new.pass;
+      since = goes_then c.args.pass.now c.try_insert.new.pass c.give_back_and_read.new.pass tried c.give_back_and_read.ensures.on;
+      is_key = key_of_call c.args.pass.now c.requires.pinned.run Insert c.args.key c.requires.call.call;
+      read = c.give_back_and_read.ensures.read values c.args.key c.in-Found.ensures.shows.0;
+      leaves = c.answer.ensures.took;
+    }

@@ -19,7 +19,10 @@ pub returns-then-end-sought-clause-shows : goal.returns-then-end-sought-clause-s
 returns-then-end-sought-clause-shows c =
     let e = c.in-Some.end in
     let ended = (rw c.get-sought.ensures.number at c.in-Some.ensures.came).found (rw c.get-sought.ensures.number at c.if-end-sought.true) ThePin (Insert, c.requires.call.call) in
-    ((e.seek_record.edge.slot, (e.seek_record.parent, e.seek_record.side, subst (λ n. Tells c.stop.new.pass (EndedAt ThePin c.args.key e.seek_record.edge.slot e.seek_record.parent e.seek_record.side n)) (rw c.get-sought.ensures.number at c.if-end-sought.true) ended)), c.stop.ensures.only.linked)
+    rw c.slot-leaf.ensures (
+      (e.seek_record.parent, e.seek_record.side, subst (λ n. Tells c.stop.new.pass (EndedAt ThePin c.args.key e.seek_record.edge.slot e.seek_record.parent e.seek_record.side n)) (rw c.get-sought.ensures.number at c.if-end-sought.true) ended),
+      c.stop.ensures.only.linked,
+    )
 
 pub returns-in_default-ready-clause-has : goal.returns-in_default-ready-clause-has
 returns-in_default-ready-clause-has c = λ o has. c.ready.ensures.has o (kept_fork o c.args.pass.now c.stop.new.pass c.args.new_nodes.now c.stop.ensures.on.same c.stop.ensures.only.private has)
@@ -119,3 +122,6 @@ pub returns-in-Ok-clause-put : goal.returns-in-Ok-clause-put
 returns-in-Ok-clause-put c = λ values _.
     put_earlier c.args.pass.now c.ready.new.pass c.grow.new.pass c.args.key c.args.value (goes_then c.args.pass.now c.stop.new.pass c.ready.new.pass c.stop.ensures.on c.ready.ensures.on).past
     (put_by_link c.ready.new.pass c.grow.new.pass c.in-Some-ready.made.leaf.slot c.args.key c.args.value c.know_run.ensures.fits c.know_run.ensures.seen (rw c.get-sought.ensures.number at c.in-Ok.ensures.leaf) (c.in-Ok.ensures.stored values))
+
+pub returns-then-end-sought-clause-part : goal.returns-then-end-sought-clause-part
+returns-then-end-sought-clause-part c = (c.in-Some.end, c.stop.new.chain.items, (rw c.get-sought.ensures.number at c.in-Some.ensures.walk), (rw c.get-sought.ensures.number at c.if-end-sought.true), sym c.slot-leaf.ensures, refl)

@@ -24,7 +24,7 @@ loop-node-init c =
     record {
       inside = omega (arith, some, size, layout);
       looks = looks_in _ o.view.log q.view.log (omega arith) (look_added o q 2 Left edge did.step);
-      under_way = subst (λ (n : ℕ). IsDescent c.args.shared.now.layout 0 o q (record { from = c.args.from; low = 0; high = infinity_0; node = n; found = 0 })) (sym c.slot-first.ensures)
+      under_way = subst (λ (n : ℕ). IsDescent c.args.shared.now.layout 0 o q (record { from = c.args.from; low = 0; high = infinity_0; node = n; leaf = 0; found = 0 })) (sym c.slot-first.ensures)
           (descent_begins c.args.shared.now.layout o q edge did.step did.told c.args.from c.requires.key);
       from = refl;
       on = did.on;

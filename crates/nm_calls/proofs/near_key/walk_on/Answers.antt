@@ -1,10 +1,11 @@
-use Rattle.std.proofs.Common.{refl}
+use Rattle.std.proofs.Common.{ℕ, refl}
+use Rattle.std.specs.Prelude.{IfSome, Option}
 use Rattle.nm_order.specs.Facts.Fact.{KnowsSlot}
 use Rattle.nm_walks.specs.Bounds.{reach}
 use Rattle.nm_calls.specs.NearKeys.{IsNearBy}
-use Rattle.nm_calls.specs.PlainWalks.{HasEndedSo, most_looks}
+use Rattle.nm_calls.specs.PlainWalks.{HasEndedAt, HasEndedSo, most_looks}
 use Rattle.nm_walks.proofs.GoingOn.{goes_then, only_then}
-use Rattle.nm_calls.proofs.NearLooks.{walks_then, walks_within, earlier_still, is_near, none_near, none_more, none_until, next_lies, next_is_key, key_made}
+use Rattle.nm_calls.proofs.NearLooks.{walks_then, walks_within, earlier_still, hit_at, is_near, none_near, none_more, none_until, next_lies, next_is_key, key_made}
 use Rattle.nm_calls.proofs.near_key.walk_on.Goals as goal
 
 pub walk_down-walk-requires-clause-known : goal.walk_down-walk-requires-clause-known
@@ -28,6 +29,18 @@ returns-then-hits-clause-near c =
     let earlier = earlier_still c.args.side c.loop-walk.pass q did.looks c.args.key c.loop-walk.from held.earlier in
     let is = is_near c.args.side c.args.shared.now.layout did.under_way.0 c.loop-walk.pass q c.args.key c.loop-walk.from walk did.under_way.1 did.from c.if-walk-ne0.false held.beyond earlier held.is_key (c.hits.ensures.yes c.if-hits.true) in
     key_made c.new.result walk.found (IsNearBy c.args.side (HasEndedSo q) c.args.key) is.1 c.new.ensures is
+
+pub returns-then-hits-clause-ended : goal.returns-then-hits-clause-ended
+returns-then-hits-clause-ended c =
+    let q = c.walk_down-walk.new.pass in
+    let walk = c.walk_down-walk.result in
+    let held = c.loop-walk.invariant in
+    let did = c.walk_down-walk.ensures in
+    let hit = c.hits.ensures.yes c.if-hits.true in
+    let earlier = earlier_still c.args.side c.loop-walk.pass q did.looks c.args.key c.loop-walk.from held.earlier in
+    let is = is_near c.args.side c.args.shared.now.layout did.under_way.0 c.loop-walk.pass q c.args.key c.loop-walk.from walk did.under_way.1 did.from c.if-walk-ne0.false held.beyond earlier held.is_key hit in
+    let at = hit_at c.args.side c.args.shared.now.layout did.under_way.0 c.loop-walk.pass q c.args.key c.loop-walk.from walk did.under_way.1 did.from c.if-walk-ne0.false held.beyond earlier hit in
+    key_made c.new.result walk.found (λ (o : Option ℕ). IfSome o (λ k. HasEndedAt q k walk.leaf)) is.1 c.new.ensures at
 
 pub returns-in_default-clause-near : goal.returns-in_default-clause-near
 returns-in_default-clause-near c =

@@ -1,4 +1,4 @@
-use Rattle.std.proofs.Common.{◌≡◌, ◌∙◌, ◌<◌, ◌≤◌, ◌+◌, ℕ, List, [], ◌∷◌, length, length-append, sym, ap, subst, arith}
+use Rattle.std.proofs.Common.{◌≡◌, ◌∙◌, ℕ, List, [], ◌∷◌, length, length-append, sym, ap, subst, arith}
 use Rattle.std.specs.Arc.{arc_value}
 use Rattle.nm_tree.specs.Workers.{WorkerView, AreNew}
 use Rattle.nm_set.specs.Seats.{AreNewMembers, HomeView, IsNewMember, MemberView}

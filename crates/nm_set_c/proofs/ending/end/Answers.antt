@@ -1,9 +1,7 @@
-use Rattle.std.proofs.Common.{refl, sym, subst, inl}
-use Rattle.nm_set_c.specs.Sets.{EndsOwner}
-use Rattle.nm_set_c.specs.declared.outcome.Outcome.TheVariants.{Done}
-use Rattle.nm_set_c.specs.declared.owner.Owner.{Owner}
-use Rattle.nm_set_c.specs.declared.owner.Owner.TheVariants.{Ended}
+use Rattle.std.proofs.Common.{refl, inl}
+use Rattle.nm_set_c.specs.Sets.{EndsOwned}
 use Rattle.nm_set_c.proofs.ending.end.Goals as goal
 
 pub returns-in-Ok : goal.returns-in-Ok
-returns-in-Ok c = subst (λ (x : Owner). EndsOwner x (Ended c.in-Ok.report) Done) (sym c.in-Set.is) (inl (refl, c.in-Ok.report, refl, c.in-Ok.ensures.closed))
+unfolding EndsOwned
+returns-in-Ok c = inl (c.in-Set.set, c.in-Set.is, inl (refl, c.in-Ok.report, refl, c.in-Ok.ensures.closed))

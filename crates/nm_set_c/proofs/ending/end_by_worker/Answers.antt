@@ -1,9 +1,12 @@
-use Rattle.std.proofs.Common.{refl, sym, subst, inl}
-use Rattle.nm_set_c.specs.Sets.{EndsByOwner}
-use Rattle.nm_set_c.specs.declared.outcome.Outcome.TheVariants.{Done}
-use Rattle.nm_set_c.specs.declared.owner.Owner.{Owner}
-use Rattle.nm_set_c.specs.declared.owner.Owner.TheVariants.{Ended}
+use Rattle.std.proofs.Common.{refl, subst, inl, inr}
+use Rattle.nm_set.specs.Ends.{IsNotEnded}
+use Rattle.nm_set.specs.declared.ending.EndError.{EndError}
 use Rattle.nm_set_c.proofs.ending.end_by_worker.Goals as goal
 
 pub returns-in-Ok : goal.returns-in-Ok
-returns-in-Ok c = subst (λ (x : Owner). EndsByOwner x (Ended c.in-Ok.report) Done) (sym c.in-Worker.is) (inl (refl, c.in-Ok.report, refl, c.in-Ok.ensures.ended))
+returns-in-Ok c = inl (c.in-Worker.member, c.in-Worker.is, inl (refl, c.in-Ok.report, refl, c.in-Ok.ensures.ended))
+
+pub returns-in-Err-Gathered : goal.returns-in-Err-Gathered
+returns-in-Err-Gathered c =
+    let left = subst (λ (e : EndError). IsNotEnded c.in-Worker.member e) c.in-Err-Gathered.field-0-is c.in-Err-Gathered.ensures.refused in
+    inl (c.in-Worker.member, c.in-Worker.is, inr (inr (c.in-Err-Gathered.error.reason, c.of_reason.ensures, c.in-Err-Gathered.error.set, refl, left)))

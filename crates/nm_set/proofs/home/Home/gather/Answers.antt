@@ -1,4 +1,4 @@
-use Rattle.std.proofs.Common.{◌≡◌, ◌∙◌, List, [], sym, ap, subst}
+use Rattle.std.proofs.Common.{◌≡◌, ◌∙◌, List, sym, ap, subst}
 use Rattle.nm_steps.specs.Steps.{TreeView}
 use Rattle.nm_tree.specs.Workers.{WorkerView}
 use Rattle.nm_set.specs.Seats.{AreOwn, HomeView}

@@ -1,4 +1,4 @@
-use Rattle.std.proofs.Common.{◌≡◌, sym, subst}
+use Rattle.std.proofs.Common.{sym, subst}
 use Rattle.nm_tree.specs.Workers.{WorkerView}
 use Rattle.nm_set.specs.Posts.{IsReturned, ReturnedView}
 use Rattle.nm_set.specs.Seats.{IsLetGo, MemberView}

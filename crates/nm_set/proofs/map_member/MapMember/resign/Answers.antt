@@ -1,4 +1,4 @@
-use Rattle.std.proofs.Common.{◌≡◌, sym, subst}
+use Rattle.std.proofs.Common.{sym, subst}
 use Rattle.nm_tree.specs.declared.resigning.ResignReason.{ResignReason}
 use Rattle.nm_set.specs.Seats.{IsStaying, MemberView}
 use Rattle.nm_set.proofs.map_member.MapMember.resign.Goals as goal

@@ -1,10 +1,10 @@
-use Rattle.std.proofs.Common.{rules, ◌≡◌, inl, inr, sym, subst, Bool}
+use Rattle.std.proofs.Common.{rules, ◌≡◌, inr, subst, Bool}
 use Rattle.std.specs.Prelude.{Result, Ok, Err, None}
 use Rattle.nm_model.specs.declared.event.Op.TheVariants.{Has}
 use Rattle.nm_steps.specs.Steps.{TreeView}
 use Rattle.nm_tree.specs.Calls.{LeavesHas}
 use Rattle.nm_tree.specs.Workers.{WorkerView}
-use Rattle.nm_set.specs.Managed.{Manages, SaysManaged}
+use Rattle.nm_set.specs.Managed.{Manages}
 use Rattle.nm_set.specs.Seats.{MemberView}
 use Rattle.nm_set.proofs.Inside.{of_member}
 use Rattle.nm_set.proofs.Managing.{answered, has_answers, had_none_has, looks_at_once}

@@ -1,5 +1,5 @@
-use Rattle.std.proofs.Common.{◌≡◌, ◌∙◌, ◌+◌, Bool, refl, sym, subst, arith}
-use Rattle.std.specs.Prelude.{Result, Ok, Err}
+use Rattle.std.proofs.Common.{◌+◌, refl, subst, arith}
+use Rattle.std.specs.Prelude.{Err}
 use Rattle.nm_model.specs.declared.event.Op.TheVariants.{Has}
 use Rattle.nm_steps.specs.Steps.{TreeView}
 use Rattle.nm_calls.specs.declared.fault.CallFault.{CallFault}

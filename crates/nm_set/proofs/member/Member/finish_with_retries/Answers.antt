@@ -1,8 +1,7 @@
-use Rattle.std.proofs.Common.{◌≡◌, ◌-◌, ◌+◌, ℕ, Bool, refl, subst, arith}
-use Rattle.std.specs.Prelude.{Result, Err}
+use Rattle.std.proofs.Common.{◌-◌, ◌+◌, ℕ, Bool, refl, subst, arith}
+use Rattle.std.specs.Prelude.{Result}
 use Rattle.nm_steps.specs.Steps.{TreeView}
 use Rattle.nm_calls.specs.declared.fault.CallFault.{CallFault}
-use Rattle.nm_calls.specs.declared.fault.CallFault.TheVariants.{Unfinished}
 use Rattle.nm_set.specs.declared.managed.Options.{Options}
 use Rattle.nm_set.specs.Rounds.{FinishesIn}
 use Rattle.nm_set.proofs.Managing.{finishes_again, finishes_more, finishes_once}

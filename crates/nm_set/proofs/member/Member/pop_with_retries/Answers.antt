@@ -4,6 +4,7 @@ use Rattle.nm_steps.specs.Steps.{TreeView}
 use Rattle.nm_calls.specs.declared.fault.CallFault.{CallFault}
 use Rattle.nm_tree.specs.Popping.{among, comes_before}
 use Rattle.nm_set.specs.Popping.{Pops, pop_round_bound}
+use Rattle.nm_set.proofs.MapManaging.{pops_earlier}
 use Rattle.nm_set.proofs.PopRounds.{last_round, no_round_yet, one_round_more}
 use Rattle.nm_set.proofs.member.Member.pop_with_retries.Goals as goal
 
@@ -60,3 +61,13 @@ returns-clause-says c =
     let r = c.pop_once.result in
     let P : TreeView → Type 0 = λ b. Pops Among Before (pop_round_bound h b.layout) h.tries 1 at.self.worker z r in
     last_round Among Before h.tries (pop_round_bound h c.args.self.now.tree.layout) at._round (h.rounds + 1) c.args.self.now.worker at.self.worker z r (omega (arith, within)) (λ is. omega (arith, past, within)) at.invariant.lost (subst P at.invariant.tree c.pop_once.ensures.says)
+
+pub returns-then-not-is_busy-clause-takes : goal.returns-then-not-is_busy-clause-takes
+returns-then-not-is_busy-clause-takes c = λ map.
+    let at = c.loop-round in
+    pops_earlier c.args.self.now.worker.pass at.self.worker.pass c.pop_once-told.new.self.worker.pass c.pop_once-told.new.taken c.pop_once-told.result at.invariant.lost.onward.on.past (c.pop_once-told.ensures.takes map)
+
+pub returns-clause-takes : goal.returns-clause-takes
+returns-clause-takes c = λ map.
+    let at = c.loop-round in
+    pops_earlier c.args.self.now.worker.pass at.self.worker.pass c.pop_once.new.self.worker.pass c.pop_once.new.taken c.pop_once.result at.invariant.lost.onward.on.past (c.pop_once.ensures.takes map)

@@ -1,4 +1,4 @@
-use Rattle.std.proofs.Common.{◌≡◌, ◌∙◌, ◌+◌, ◌≤◌, refl, subst, arith, Bool}
+use Rattle.std.proofs.Common.{◌∙◌, ◌+◌, subst, arith, Bool}
 use Rattle.std.specs.Prelude.{Result, Ok, Err}
 use Rattle.nm_steps.specs.Steps.{TreeView}
 use Rattle.nm_calls.specs.declared.fault.CallFault.{CallFault}

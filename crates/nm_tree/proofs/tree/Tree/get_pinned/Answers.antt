@@ -1,10 +1,8 @@
-use Rattle.std.proofs.Common.{rules, refl, ap, ◌∙◌, ℕ, sym, subst}
-use Rattle.std.specs.Prelude.{IsSome, Option, IfErr}
-use Rattle.std.proofs.lemmas.Result.{IfErr-weaker}
-use Rattle.nm_calls.specs.declared.fault.CallFault.TheVariants as fault
+use Rattle.std.proofs.Common.{rules, ap, ℕ, sym, subst}
+use Rattle.std.specs.Prelude.{IsSome, Option}
 use Rattle.nm_calls.proofs.Adding.{has_won}
 use Rattle.nm_calls.proofs.PlainLooks.{looks_add}
-use Rattle.nm_tree.specs.Workers.{IsHolding, WorkerView, held_in}
+use Rattle.nm_tree.specs.Workers.{WorkerView}
 use Rattle.nm_tree.proofs.Quiet.{quiet}
 use Rattle.nm_tree.proofs.Staying.{held_as, holding_as, holding_in, holds_on, stays}
 use Rattle.nm_tree.proofs.tree.Tree.get_pinned.Goals as goal

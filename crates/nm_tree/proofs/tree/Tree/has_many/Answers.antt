@@ -1,4 +1,4 @@
-use Rattle.std.proofs.Common.{rules, ◌≡◌, map, ap, sym, ◌∙◌}
+use Rattle.std.proofs.Common.{rules, map, ap, ◌∙◌}
 use Rattle.nm_steps.proofs.Seeing.{seen_all}
 use Rattle.nm_calls.specs.InTurns.{key_of}
 use Rattle.nm_progress.proofs.AloneCalls.{many_alone}

@@ -68,3 +68,9 @@ returns-in-Pending-clause-puts c = λ _ is. absurd (let no = is in cc)
 
 pub returns-clause-puts : goal.returns-clause-puts
 returns-clause-puts c = rw (← c.worker.view_is, ← c.self.view_is) c.insert-answer.ensures.put
+
+pub returns-in-Pending-clause-finds : goal.returns-in-Pending-clause-finds
+returns-in-Pending-clause-finds c = λ _ is. absurd (let no = is in cc)
+
+pub returns-clause-finds : goal.returns-clause-finds
+returns-clause-finds c = rw (← c.worker.view_is, ← c.self.view_is) c.insert-answer.ensures.finds

@@ -1,7 +1,5 @@
-use Rattle.std.proofs.Common.{rules, ◌≡◌, ap, sym, ◌∙◌}
-use Rattle.std.specs.Prelude.{IsErrOf}
+use Rattle.std.proofs.Common.{rules, ap, ◌∙◌}
 use Rattle.nm_steps.proofs.Seeing.{seen_all}
-use Rattle.nm_progress.specs.Walked.{NearWasBusy}
 use Rattle.nm_progress.proofs.AloneCalls.{near_alone}
 use Rattle.nm_calls.specs.declared.fault.CallFault.TheVariants as fault
 use Rattle.nm_tree.specs.Workers.{WorkerView}

@@ -1,10 +1,12 @@
-use Rattle.std.proofs.Common.{◌≡◌, ◌∙◌, ◌+◌, refl, subst, arith, Bool}
+use Rattle.std.proofs.Common.{◌∙◌, ◌+◌, refl, sym, subst, arith, Bool}
 use Rattle.std.specs.Prelude.{Result}
 use Rattle.nm_steps.specs.Steps.{TreeView}
 use Rattle.nm_calls.specs.declared.fault.CallFault.{CallFault}
 use Rattle.nm_set.specs.Managed.{Answers, round_bound}
+use Rattle.nm_steps.specs.Values.{HasValues}
 use Rattle.nm_set.proofs.Managing.{answers_last, busy_again, not_yet_busy}
-use Rattle.nm_set.proofs.member.Member.ask_with_retries.Goals as goal
+use Rattle.nm_set.proofs.MapManaging.{moves_earlier}
+use Rattle.nm_set.proofs.member.Member.ask_value_with_retries.Goals as goal
 
 pub ask-told-requires-clause-free : goal.ask-told-requires-clause-free
 ask-told-requires-clause-free c = c.loop-round.invariant.busy.onward.on.held
@@ -48,3 +50,13 @@ returns-clause-says c =
     let within = at.auto._round-end in
     let P : TreeView → Type 0 = λ b. Answers c.args.op c.args.key (round_bound h.tries b.layout) h.tries at.self.worker c.ask.new.self.worker c.ask.result in
     answers_last c.args.self.now.tree h c.args.op c.args.key at._round (h.rounds + 1) c.args.self.now.worker at.self.worker c.ask.new.self.worker c.ask.result (omega (arith, within)) (λ is. omega (arith, past, within)) at.invariant.busy (subst P at.invariant.tree c.ask.ensures.says)
+
+pub returns-then-not-is_busy-clause-moves : goal.returns-then-not-is_busy-clause-moves
+returns-then-not-is_busy-clause-moves c = λ has.
+    let at = c.loop-round in
+    moves_earlier c.args.op c.args.key c.args.value c.ask-told.new.found c.args.self.now.worker.pass at.self.worker.pass c.ask-told.new.self.worker.pass c.ask-told.result at.invariant.busy.onward.on.past (c.ask-told.ensures.moves (subst HasValues (sym at.invariant.tree) has))
+
+pub returns-clause-moves : goal.returns-clause-moves
+returns-clause-moves c = λ has.
+    let at = c.loop-round in
+    moves_earlier c.args.op c.args.key c.args.value c.ask.new.found c.args.self.now.worker.pass at.self.worker.pass c.ask.new.self.worker.pass c.ask.result at.invariant.busy.onward.on.past (c.ask.ensures.moves (subst HasValues (sym at.invariant.tree) has))

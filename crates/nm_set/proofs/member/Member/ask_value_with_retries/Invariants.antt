@@ -1,6 +1,6 @@
 use Rattle.std.proofs.Common.{◌≡◌}
 use Rattle.nm_set.specs.Rounds.{WereBusy}
-use Rattle.nm_set.proofs.member.Member.ask_with_retries.Given as goal
+use Rattle.nm_set.proofs.member.Member.ask_value_with_retries.Given as goal
 
 abbrev pub invariant-loop-round : goal.invariant-loop-round
 invariant-loop-round l = record {

@@ -1,0 +1,549 @@
+"""The map: objects of Python under the integers 0 to 2^64 - 4.
+
+The library keeps an integer under each key, and says when nobody can read it any more. Here that
+integer is a token: the key of a dict, in which the object is. So a reader makes two steps: it gets
+the token from the library, and the object from the dict. The lock of the interpreter does not make
+them one step, because other threads run between any two steps of Python. Without more, another
+thread might remove the key in between, and take the object out of the dict. So the reader pins its
+worker first, and unpins it after both steps. A token does not come back while a worker is pinned
+that may have got it, which is proved. This holds without the interpreter's lock too.
+
+A call that removes a key returns its object, but by then another worker may have handed the token
+back. So there are two dicts. An entry of `_read` ends when the token comes back, and an entry of
+`_left` when the call that removed the key has taken it. Each entry ends once, by one call, so no
+two calls need to agree. The object itself ends with the later one of the two, like any object of
+Python.
+"""
+
+from __future__ import annotations
+
+import itertools
+import operator
+import os
+import threading
+import time
+import weakref
+from collections import deque
+from collections.abc import Callable, ItemsView, Iterator, MutableMapping, ValuesView
+from contextlib import suppress
+from ctypes import c_uint32, c_uint64
+from types import TracebackType
+from typing import Any, Generic, Optional, SupportsIndex, TypeVar, Union, overload
+
+from . import _library as c
+from ._faults import MOST_KEY, MOST_NODES, MOST_WORKERS, SHOWN, Contention, Fault, Forked, fault
+from ._faults import key_fault
+from ._keys import ends_of, number_of
+from ._leases import Owner, drop_with
+from ._set import Options, narrow
+
+V = TypeVar("V")
+T = TypeVar("T")
+
+_ROOM = 64  # how many values one call takes back
+_SCANNED = 512  # the most keys of one scan
+_LONGEST = 10.0  # seconds: how long a close waits for calls in progress
+_MISSING: Any = object()
+
+
+class _Worker:
+    """A worker of a map, which is in one call or idle. If it is lost, because an exception came
+    between two steps, the end of this object returns it to the map."""
+
+    def __init__(self) -> None:
+        self.handle, self.owner = c.Handle(), Owner()
+        self.values, self.count = (c_uint64 * _ROOM)(), c_uint64()
+        drop_with(self.owner, self.handle)
+
+
+class _Wait:
+    """Sleeps between the parts of a call that waits: 20 microseconds, and twice as long each time,
+    up to a millisecond."""
+
+    def __init__(self, seconds: float) -> None:
+        self._end, self._pause = time.monotonic() + seconds, 0.00002
+
+    def goes_on(self) -> bool:
+        """Sleeps, and returns True; returns False if the time is over."""
+        left = self._end - time.monotonic()
+        if left <= 0:
+            return False
+        time.sleep(min(self._pause, left))
+        self._pause = min(2 * self._pause, 0.001)
+        return True
+
+
+# The maps that are open, for a forked child, which must not touch their memory.
+_maps: weakref.WeakValueDictionary[int, Map[Any]] = weakref.WeakValueDictionary()
+
+
+def _forget_all() -> None:
+    """In a forked child: gives up the handles of all maps, whose memory stays taken there."""
+    for each in list(_maps.values()):
+        each._forget()
+
+
+os.register_at_fork(after_in_child=_forget_all)
+
+
+class Map(MutableMapping, Generic[V]):  # type: ignore[type-arg]
+    """A concurrent ordered map from the integers 0 to 2^64 - 4 to objects, without locks.
+
+    Any thread may call it. Each call uses one of the map's workers that is in no other call. If
+    each is in a call, the call waits for at most the `timeout_ms` of `Options`, and then raises
+    `NoWorker`.
+
+    A call for one key has one moment at which its answer was right, except where its description
+    says that it is made of two steps. Iteration takes no snapshot: it goes over the keys in
+    ascending order, while other threads add and remove. The map refers to an object from its insert
+    until its key was removed and no call can return it any more. That is found by a later call that
+    inserts or removes, by `collect`, or by `close`.
+    """
+
+    def __init__(
+        self,
+        nodes: SupportsIndex = 65_536,
+        *,
+        workers: SupportsIndex = 16,
+        options: Options = Options(),
+    ) -> None:
+        """Makes the empty map, with room for 7 to 268,435,456 nodes, and never more: four for each
+        key are usual. `workers` is how many calls there can be at the same time, 1 to 64."""
+        self._nodes = narrow(nodes, "nodes", 7, MOST_NODES)
+        self._workers = narrow(workers, "workers", 1, MOST_WORKERS)
+        self._seconds = options.timeout_ms / 1_000
+        self._rounds, self._tries = options.rounds, options.tries
+        after = options.collect_after
+        if after is None:
+            after = int(c.quick.nm_map_collect_after(self._nodes, self._workers))
+        self._after = after
+        self._words = c.OptionsWords(options.tries, options.rounds, after)
+        self._tokens = itertools.count()
+        self._read: dict[int, V] = {}
+        self._left: dict[int, V] = {}
+        self._idle: deque[_Worker] = deque()
+        self._closer, self._is_open, self._process = threading.RLock(), True, os.getpid()
+        self._handle, self._owner = c.Handle(), Owner()
+        drop_with(self._owner, self._handle)
+        outcome = c.exports.nm_map_new(self._handle, self._nodes, self._workers)
+        if outcome < 0:
+            raise fault(outcome)
+        _maps[id(self)] = self
+
+    # ---- a worker for a call ----
+
+    def _check_open(self) -> None:
+        if self._process != os.getpid():
+            raise fault(c.FORKED, "the map was made before this process was forked")
+        if not self._is_open:
+            raise fault(c.CLOSED, "the map is closed")
+
+    def _take(self) -> _Worker:
+        """Returns a worker that is in no call, and attaches one if none is idle."""
+        self._check_open()
+        wait: Optional[_Wait] = None
+        while True:
+            with suppress(IndexError):
+                return self._idle.pop()
+            worker = _Worker()
+            outcome = c.quick.nm_map_attach(self._handle, worker.handle)
+            if outcome == c.DONE:
+                return worker
+            wait = wait or _Wait(self._seconds)
+            if outcome not in (c.NO_WORKER, c.IN_USE) or not wait.goes_on():
+                raise self._fault(outcome)
+            self._check_open()
+
+    def _fault(self, outcome: int) -> Fault:
+        """Returns the exception of an outcome below 0."""
+        keys = len(self._left)
+        texts = {
+            c.NO_WORKER: f"each of the {self._workers} workers of the map is in a call",
+            c.FULL: f"the map is full: no two of its {self._nodes:,} nodes are free; it has"
+            f" {keys:,} keys, which take {2 * keys + 5:,}, and the others wait to be freed",
+        }
+        if outcome in (c.KIND, c.CLOSED, c.CLOSING):  # the map was closed meanwhile
+            return fault(c.CLOSED, "the map is closed")
+        return fault(outcome, texts.get(outcome))
+
+    def _with_worker(self, call: Callable[[_Worker], T]) -> T:
+        """Makes a call by a worker, and takes back what came back by it."""
+        worker = self._take()
+        tokens: list[int] = []
+        try:
+            made = call(worker)
+            tokens = self._tend(worker)
+        finally:
+            self._idle.append(worker)
+        self._release(tokens)
+        return made
+
+    # ---- what comes back ----
+
+    def _taken_back(self, worker: _Worker) -> list[int]:
+        """Returns the tokens that came back by a worker."""
+        tokens: list[int] = []
+        count, behind = _ROOM, c_uint32()
+        while count == _ROOM:
+            c.quick.nm_map_reclaim(worker.handle, worker.values, _ROOM, worker.count, behind)
+            count = worker.count.value
+            tokens += worker.values[:count]
+        return tokens
+
+    def _tend(self, worker: _Worker) -> list[int]:
+        """Returns the tokens that came back by a worker, if enough nodes wait with it."""
+        waiting = c_uint64()
+        c.quick.nm_map_queue_len(worker.handle, waiting)
+        return self._taken_back(worker) if waiting.value >= self._after else []
+
+    def _release(self, tokens: list[int]) -> None:
+        """Ends the references to objects. This may run code of theirs, so the worker is idle
+        again."""
+        for token in tokens:
+            self._read.pop(token, None)
+
+    def _collected(self) -> list[int]:
+        """Returns the tokens that came back by all idle workers."""
+        tokens: list[int] = []
+        for _ in range(len(self._idle)):
+            with suppress(IndexError):
+                worker = self._idle.popleft()
+                try:
+                    tokens += self._taken_back(worker)
+                finally:
+                    self._idle.append(worker)
+        return tokens
+
+    def collect(self) -> int:
+        """Ends the map's references to all objects that no call can return any more, and returns
+        how many these are. It skips workers that are in a call, and waits for nothing."""
+        self._check_open()
+        tokens = self._collected()
+        self._release(tokens)
+        return len(tokens)
+
+    # ---- one key ----
+
+    def _found(self, worker: _Worker, key: int) -> Any:
+        """Returns the object of a key, or `_MISSING`, under a pin of the worker."""
+        token, epoch = c_uint64(), c_uint64()
+        try:
+            outcome = c.quick.nm_map_hold(worker.handle, self._words, epoch)
+            if outcome == c.DONE:
+                outcome = c.quick.nm_map_get_pinned(worker.handle, key, token)
+            if outcome < 0:
+                raise self._fault(outcome)
+            return self._read[token.value] if outcome == c.YES else _MISSING
+        finally:
+            c.quick.nm_map_unpin(worker.handle)
+
+    def _get(self, key: object) -> Any:
+        number = number_of(key)
+        if number is None:
+            self._check_open()
+            return _MISSING
+        return self._with_worker(lambda worker: self._found(worker, number))
+
+    def __getitem__(self, key: object) -> V:
+        """Returns the object of a key. Raises KeyError if the map does not have the key."""
+        found = self._get(key)
+        if found is _MISSING:
+            raise KeyError(key)
+        return found  # type: ignore[no-any-return]
+
+    def __contains__(self, key: object) -> bool:
+        """Returns whether the map has a key. A value that is no key is in no map."""
+        return self._get(key) is not _MISSING
+
+    @overload
+    def get(self, key: object) -> Optional[V]: ...
+    @overload
+    def get(self, key: object, default: T) -> Union[V, T]: ...
+    def get(self, key: object, default: Any = None) -> Any:
+        """Returns the object of a key, or the default."""
+        found = self._get(key)
+        return default if found is _MISSING else found
+
+    def insert(self, key: SupportsIndex, value: V) -> bool:
+        """Inserts a key with an object; returns True if the key was absent. Otherwise the key keeps
+        its object. If no nodes are free it collects, and waits for at most the `timeout_ms` of
+        `Options`: `Full`."""
+        number = _checked(key)
+        return self._with_worker(lambda worker: self._inserted(worker, number, value))
+
+    def _inserted(self, worker: _Worker, key: int, value: V) -> bool:
+        token = next(self._tokens)
+        self._left[token] = self._read[token] = value  # before another call can find the token
+        outcome = c.quick.nm_map_insert(worker.handle, key, token, self._words)
+        if outcome == c.FULL:
+            outcome = self._inserted_later(worker, key, token)
+        if outcome != c.YES:
+            del self._left[token], self._read[token]
+        if outcome < 0:
+            raise self._fault(outcome)
+        return bool(outcome == c.YES)
+
+    def _inserted_later(self, worker: _Worker, key: int, token: int) -> int:
+        """Repeats an insert that found no nodes, after collections; returns its outcome."""
+        wait, outcome = _Wait(self._seconds), c.FULL
+        while outcome == c.FULL:
+            self._release(self._taken_back(worker) + self._collected())
+            outcome = c.quick.nm_map_insert(worker.handle, key, token, self._words)
+            if outcome == c.FULL and not wait.goes_on():
+                break
+        return outcome
+
+    def __setitem__(self, key: SupportsIndex, value: V) -> None:
+        """Inserts a key with an object. If the map has the key, this takes two steps: it removes
+        the key, and inserts it again. Between the two, other threads find the key absent. If
+        another thread inserts the key in between, this starts again, at most `rounds` of `Options`
+        times, and then raises `Contention`."""
+        number = _checked(key)
+        for _ in range(self._rounds + 1):
+            if self.insert(number, value):
+                return
+            self._pop(number)
+        raise Contention("other threads inserted the key in each round: call again")
+
+    def setdefault(self, key: SupportsIndex, default: Any = None) -> Any:
+        """Returns the object of a key, after an insert of the default if the key was absent. If
+        another thread removes the key between the two, this starts again, at most `rounds` of
+        `Options` times, and then raises `Contention`."""
+        number = _checked(key)
+        for _ in range(self._rounds + 1):
+            found = self._get(number)
+            if found is not _MISSING:
+                return found
+            if self.insert(number, default):
+                return default
+        raise Contention("other threads changed the key in each round: call again")
+
+    def _pop(self, number: int) -> Any:
+        return self._with_worker(lambda worker: self._removed(worker, number))
+
+    def _removed(self, worker: _Worker, key: int) -> Any:
+        """Removes a key, and returns its object, or `_MISSING`. It returns the object of a key
+        whose remove is unfinished too, because this call will remove it and no other call will."""
+        token = c_uint64()
+        outcome = c.quick.nm_map_remove(worker.handle, key, self._words, token)
+        if outcome in (c.YES, c.UNFINISHED):
+            return self._left.pop(token.value)
+        if outcome < 0:
+            raise self._fault(outcome)
+        return _MISSING
+
+    def __delitem__(self, key: object) -> None:
+        """Removes a key. Raises KeyError if the map does not have it."""
+        self.pop(key)
+
+    @overload
+    def pop(self, key: object) -> V: ...
+    @overload
+    def pop(self, key: object, default: T) -> Union[V, T]: ...
+    def pop(self, key: object, default: Any = _MISSING) -> Any:
+        """Removes a key, and returns the object that it had. No two calls return one object, unless
+        it was inserted again in between. If the map does not have the key, it returns the default,
+        or raises KeyError if none is given."""
+        number = number_of(key)
+        found = self._pop(number) if number is not None else self._get(key)
+        if found is not _MISSING:
+            return found
+        if default is _MISSING:
+            raise KeyError(key)
+        return default
+
+    def popitem(self) -> tuple[int, V]:
+        """Removes the least key, and returns it with its object. It may pass over a lesser key that
+        another thread inserts meanwhile. Raises KeyError if the map is empty."""
+        for key in self:
+            found = self._pop(key)
+            if found is not _MISSING:
+                return key, found
+        raise KeyError("the map is empty")
+
+    def clear(self) -> None:
+        """Removes all keys, one by one. A key that is inserted meanwhile may remain."""
+        for key in self:
+            self._pop(key)
+
+    # ---- in order ----
+
+    def _scan(
+        self, worker: _Worker, first: int, below: int, is_back: bool
+    ) -> tuple[list[int], Optional[int]]:
+        """Returns keys of a range in an order, and where the next scan goes on, or None."""
+        keys, count, rest = (c_uint64 * _SCANNED)(), c_uint64(), c_uint64()
+        scan = c.exports.nm_map_scan_back if is_back else c.exports.nm_map_scan
+        ends = (below - 1, first) if is_back else (first, below)
+        tries = max(self._tries, 2)
+        outcome = scan(worker.handle, *ends, keys, _SCANNED, count, rest, tries)
+        if outcome < 0:
+            raise self._fault(outcome)
+        return list(keys[: count.value]), rest.value if outcome == c.YES else None
+
+    def irange(
+        self,
+        minimum: Optional[SupportsIndex] = None,
+        maximum: Optional[SupportsIndex] = None,
+        inclusive: tuple[bool, bool] = (True, True),
+        reverse: bool = False,
+    ) -> Iterator[int]:
+        """Returns an iterator over the keys from `minimum` to `maximum`, ascending or descending.
+        It reads keys ahead, in blocks of up to 512. A key that is in the map during the whole
+        iteration is returned, and a key that is absent during all of it is not."""
+        first, below = ends_of(minimum, maximum, inclusive)
+        self._check_open()
+        return self._each(first, below, reverse)
+
+    def _each(self, first: int, below: int, is_back: bool) -> Iterator[int]:
+        while first < below:
+            keys, rest = self._with_worker(
+                lambda worker: self._scan(worker, first, below, is_back)
+            )
+            yield from keys
+            if rest is None:
+                return
+            first, below = (first, rest + 1) if is_back else (rest, below)
+
+    def __iter__(self) -> Iterator[int]:
+        """Returns an iterator over the keys, ascending."""
+        return self.irange()
+
+    def __reversed__(self) -> Iterator[int]:
+        """Returns an iterator over the keys, descending."""
+        return self.irange(reverse=True)
+
+    def items(self) -> ItemsView[int, V]:
+        """Returns a view of the keys with their objects. It skips a key that is removed before it
+        gets the object."""
+        return _Items(self)
+
+    def values(self) -> ValuesView[V]:
+        """Returns a view of the objects, in the order of their keys."""
+        return _Values(self)
+
+    # ---- of itself ----
+
+    def __len__(self) -> int:
+        """Returns how many keys the map has. It is exact if no thread makes a call meanwhile, and
+        no exception of a signal handler has interrupted an insert or a remove."""
+        self._check_open()
+        return len(self._left)
+
+    @property
+    def nodes(self) -> int:
+        """The number of nodes for which it has room."""
+        return self._nodes
+
+    @property
+    def capacity(self) -> int:
+        """How many keys it can have if no removed node waits to be freed: (nodes - 5) / 2."""
+        return (self._nodes - 5) // 2
+
+    @property
+    def workers(self) -> int:
+        """How many workers it has."""
+        return self._workers
+
+    def __repr__(self) -> str:
+        """Shows the first ten keys with their objects, and how many there are."""
+        if not self._is_open or self._process != os.getpid():
+            return "Map(closed)"
+        shown = list(itertools.islice(self.items(), SHOWN + 1))
+        text = ", ".join(f"{key}: {value!r}" for key, value in shown[:SHOWN])
+        if len(shown) <= SHOWN:
+            return f"Map({{{text}}})"
+        return f"Map({{{text}, ...}}, {len(self)} keys)"
+
+    __hash__ = None  # type: ignore[assignment]
+
+    def __copy__(self) -> Any:
+        raise TypeError("a map is memory that threads share: dict(map.items()) copies what it has")
+
+    def __deepcopy__(self, memo: object) -> Any:
+        return self.__copy__()
+
+    def __reduce__(self) -> Any:
+        return self.__copy__()
+
+    # ---- the end ----
+
+    def close(self) -> None:
+        """Ends the map, and its references to all objects. A closed map is unchanged. It waits for
+        calls that other threads make at this moment, for ten seconds at most, and then raises
+        `InUse`; then the map goes on. Calls that begin meanwhile raise `Closed`, and so does each
+        later call."""
+        with self._closer:
+            if self._process != os.getpid():
+                raise fault(c.FORKED, "the map was made before this process was forked")
+            if self._handle.at is None:
+                return
+            self._is_open = False
+            outcome = self._ended()
+            if outcome < 0:
+                self._is_open = True
+                text = "calls of the map have not ended: close again"
+                raise fault(outcome, text if outcome == c.IN_USE else None)
+            c.exports.nm_drop(self._handle)
+            self._read, self._left = {}, {}
+
+    def _ended(self) -> int:
+        """Returns all workers that are in no call, and ends the map, after a wait for the others.
+        Returns the outcome."""
+        wait = _Wait(_LONGEST)
+        while True:
+            self._return_idle()
+            outcome = int(c.exports.nm_map_close(self._handle))
+            if outcome not in (c.ATTACHED, c.IN_USE):
+                return outcome
+            if not wait.goes_on():
+                return c.IN_USE
+
+    def _return_idle(self) -> None:
+        with suppress(IndexError):
+            while True:
+                c.exports.nm_drop(self._idle.pop().handle)
+
+    def _forget(self) -> None:
+        """In a forked child: gives up the handles, which belong to the parent."""
+        for worker in [*self._idle]:
+            worker.handle.at = None
+        self._handle.at, self._is_open = None, False
+
+    def __enter__(self) -> Map[V]:
+        return self
+
+    def __exit__(
+        self,
+        kind: Optional[type[BaseException]],
+        error: Optional[BaseException],
+        trace: Optional[TracebackType],
+    ) -> None:
+        """Closes the map. In a forked child this does nothing."""
+        with suppress(Forked):
+            self.close()
+
+
+class _Items(ItemsView):  # type: ignore[type-arg]
+    """The keys of a map with their objects."""
+
+    def __iter__(self) -> Iterator[tuple[int, Any]]:
+        for key in self._mapping:
+            found = self._mapping._get(key)  # type: ignore[attr-defined]
+            if found is not _MISSING:
+                yield key, found
+
+
+class _Values(ValuesView):  # type: ignore[type-arg]
+    """The objects of a map, in the order of their keys."""
+
+    def __iter__(self) -> Iterator[Any]:
+        return (value for _, value in _Items(self._mapping))
+
+
+def _checked(key: SupportsIndex) -> int:
+    """Returns the number of a key. Raises `OutOfRange` if it is none."""
+    number = operator.index(key)
+    if not 0 <= number <= MOST_KEY:
+        raise key_fault(number)
+    return number

@@ -1,0 +1,398 @@
+//! Maps, which own a value of each key.
+
+use crate::fault::{answer, Fault};
+use crate::ffi::map::{collect_after, MapHandle, Pinned, WorkerHandle};
+use crate::ffi::{CallOptions, Outcome};
+use crate::key::checked;
+use crate::options::Options;
+use crate::order::ends_of;
+use crate::place::millis;
+use std::fmt;
+use std::ops::RangeBounds;
+use std::time::Duration;
+
+/// The outcome no, and those of an attach and of the making of a map that have numbers.
+const NO: Outcome = 0;
+const NODES: Outcome = -6;
+const WORKERS: Outcome = -7;
+const BUSY: Outcome = -9;
+const PENDING: Outcome = -12;
+const NO_WORKER: Outcome = -23;
+
+/// In place of the number of a worker: none.
+const NOBODY: u32 = u32::MAX;
+
+/// A concurrent ordered map from the integers 0 to 2^64 - 4 to values of a type, without locks.
+///
+/// Threads share it by reference, and each attaches a [`MapWorker`] of its own. A reader gets a
+/// reference to a value under a [`Guard`]. A removed value is dropped exactly once: when no guard
+/// is left that could have returned it, by whichever worker finds that, or at the drop of the map.
+/// So threads share a map if `V: Send + Sync`.
+///
+/// ```
+/// # fn main() -> Result<(), Box<dyn std::error::Error>> {
+/// let map = nm_set::Map::new(4_096, 4)?;
+/// let mut worker = map.attach()?;
+/// worker.insert(5, String::from("five"))?;
+/// let guard = worker.pin()?;
+/// assert_eq!(guard.get(5)?.map(String::as_str), Some("five"));
+/// drop(guard);
+/// assert!(worker.remove(5)?);
+/// # Ok(())
+/// # }
+/// ```
+///
+/// Values that must not be shared between threads keep a map in its thread:
+///
+/// ```compile_fail,E0277
+/// let map = nm_set::Map::<std::cell::Cell<u32>>::new(64, 2).unwrap();
+/// std::thread::scope(|scope| {
+///     scope.spawn(|| map.attach().unwrap().remove(5));
+/// });
+/// ```
+///
+/// A value cannot refer to what ends before the map:
+///
+/// ```compile_fail,E0597
+/// let map = nm_set::Map::new(64, 1).unwrap();
+/// let mut worker = map.attach().unwrap();
+/// let text = String::from("five");
+/// worker.insert(5, text.as_str()).unwrap();
+/// ```
+pub struct Map<V> {
+    handle: MapHandle<V>,
+    nodes: u32,
+    workers: u32,
+}
+
+/// Why a key was not inserted. Each has the value, which the map does not have.
+#[derive(Clone, Copy, PartialEq, Eq)]
+pub enum InsertError<V> {
+    /// The map has the key, with a value of its own.
+    Present(V),
+    /// The call failed. The map is unchanged.
+    Fault(Fault, V),
+}
+
+/// The result of [`MapWorker::reclaim`].
+#[derive(Clone, Copy, Debug, PartialEq, Eq)]
+pub struct Reclaimed {
+    /// How many values were dropped.
+    pub values: u64,
+    /// The worker that holds back others, by a guard or in a call.
+    pub behind: Option<u32>,
+}
+
+/// One worker of a [`Map`], for one thread at a time. Each call takes it by `&mut`, and it may be
+/// sent to another thread between two calls.
+///
+/// When it is dropped, including by a panic, it is returned to the map, and drops the values that
+/// came back. A worker that is forgotten (`std::mem::forget`) is never returned, and the removed
+/// values that wait with it are never dropped.
+///
+/// A call that drops values may panic if the drop of a value does. Then the call was made, and all
+/// other values that came back were dropped.
+///
+/// No call waits, except [`insert`](MapWorker::insert). Each may return `Contention` (the bound
+/// of the options was reached; the map is unchanged) and `Pinned` (a guard was forgotten; drop the
+/// worker).
+pub struct MapWorker<'a, V> {
+    handle: WorkerHandle<'a, V>,
+}
+
+/// A pin of a worker, which ends when this guard is dropped: see [`MapWorker::pin`].
+///
+/// A reference that it returned cannot outlive it:
+///
+/// ```compile_fail,E0505
+/// # fn main() -> Result<(), Box<dyn std::error::Error>> {
+/// let map = nm_set::Map::<String>::new(64, 1)?;
+/// let mut worker = map.attach()?;
+/// let guard = worker.pin()?;
+/// let found = guard.get(5)?;
+/// drop(guard);
+/// println!("{found:?}");
+/// # Ok(())
+/// # }
+/// ```
+///
+/// Meanwhile its worker makes no other call:
+///
+/// ```compile_fail,E0499
+/// # fn main() -> Result<(), Box<dyn std::error::Error>> {
+/// let map = nm_set::Map::<String>::new(64, 1)?;
+/// let mut worker = map.attach()?;
+/// let guard = worker.pin()?;
+/// worker.remove(5)?;
+/// guard.get(5)?;
+/// # Ok(())
+/// # }
+/// ```
+#[must_use = "the pin ends when its guard is dropped"]
+pub struct Guard<'w, 'a, V> {
+    pinned: Pinned<'w, 'a, V>,
+}
+
+impl<V> Map<V> {
+    /// Makes an empty map, with room for 7 to 268,435,456 nodes, for 1 to 64 workers. It never
+    /// grows. Four nodes for each key are usual: a key takes two, five are fixed, and those of
+    /// removed keys wait.
+    ///
+    /// Errors: `Nodes`, `Workers`, `NoMemory`.
+    pub fn new(nodes: u32, workers: u32) -> Result<Map<V>, Fault> {
+        let options = Options {
+            workers,
+            ..Options::default()
+        };
+        Map::with_options(nodes, options)
+    }
+
+    /// Makes an empty map by options: see [`Map::new`]. A map is a radix tree: `shape` has no
+    /// effect.
+    ///
+    /// Errors: `Nodes`, `Workers`, `NoMemory`.
+    pub fn with_options(nodes: u32, options: Options) -> Result<Map<V>, Fault> {
+        let workers = options.workers;
+        let bounds = CallOptions {
+            tries: options.tries,
+            rounds: options.rounds,
+            collect_after: options
+                .collect_after
+                .unwrap_or_else(|| collect_after(nodes, workers)),
+        };
+        match MapHandle::new(nodes, workers, bounds, options.timeout_ms) {
+            Ok(handle) => Ok(Map {
+                handle,
+                nodes,
+                workers,
+            }),
+            Err(NODES) => Err(Fault::Nodes(nodes.into())),
+            Err(WORKERS) => Err(Fault::Workers(workers)),
+            Err(outcome) => Err(Fault::of(outcome)),
+        }
+    }
+
+    /// Attaches a worker to this thread, the least number first. While each worker is attached it
+    /// waits, for the [`timeout_ms`](Options::timeout_ms) of the options at most.
+    ///
+    /// Errors: `NoWorker`, `NoMemory`.
+    pub fn attach(&self) -> Result<MapWorker<'_, V>, Fault> {
+        self.attached(self.handle.timeout_ms())
+    }
+
+    /// Attaches a worker, after a wait of at most `timeout`.
+    ///
+    /// Errors: `NoWorker`, `NoMemory`.
+    pub fn attach_timeout(&self, timeout: Duration) -> Result<MapWorker<'_, V>, Fault> {
+        self.attached(millis(timeout))
+    }
+
+    fn attached(&self, timeout_ms: u32) -> Result<MapWorker<'_, V>, Fault> {
+        match self.handle.attach(timeout_ms) {
+            Ok(handle) => Ok(MapWorker { handle }),
+            Err(NO_WORKER) => Err(Fault::NoWorker {
+                workers: self.workers,
+            }),
+            Err(outcome) => Err(Fault::of(outcome)),
+        }
+    }
+
+    /// Returns the number of nodes for which it has room.
+    pub fn nodes(&self) -> u32 {
+        self.nodes
+    }
+
+    /// Returns how many keys it can have if no removed node waits: (nodes - 5) / 2.
+    pub fn capacity(&self) -> usize {
+        (self.nodes as usize - 5) / 2
+    }
+
+    /// Returns how many workers it has.
+    pub fn workers(&self) -> u32 {
+        self.workers
+    }
+}
+
+/// Returns whether the answer is not no, or the fault of an error of a managed call.
+fn managed(outcome: Outcome) -> Result<bool, Fault> {
+    match outcome {
+        BUSY | PENDING => Err(Fault::Contention),
+        _ => answer(outcome),
+    }
+}
+
+impl<'a, V> MapWorker<'a, V> {
+    /// Inserts a key with a value. If the map has the key, it keeps its value, and the error has
+    /// the new one.
+    ///
+    /// If no nodes are free, it drops the values that came back, by this worker and by those that
+    /// are not attached. Then it waits for nodes, for the [`timeout_ms`](Options::timeout_ms) of
+    /// the options at most. If another thread is stopped while it attaches a worker, this takes
+    /// some tenths of a second more.
+    ///
+    /// Errors: `Present`. `Fault` with `Key`, `NoNodes` (no nodes became free in that time),
+    /// `Contention`, `NoMemory`, `Pinned`.
+    pub fn insert(&mut self, key: u64, value: V) -> Result<(), InsertError<V>> {
+        let key = match checked(key) {
+            Ok(key) => key,
+            Err(fault) => return Err(InsertError::Fault(fault, value)),
+        };
+        match self.handle.insert(key, Box::new(value)) {
+            (_, None) => Ok(()),
+            (NO, Some(value)) => Err(InsertError::Present(*value)),
+            (outcome, Some(value)) => Err(InsertError::Fault(
+                managed(outcome).err().unwrap_or(Fault::Other(outcome)),
+                *value,
+            )),
+        }
+    }
+
+    /// Removes a key; returns true if it was present. Its value is dropped later, when no guard is
+    /// left that could have returned it.
+    ///
+    /// Errors: `Key`, `Contention`, `NoMemory`, `Pinned`. `Unfinished`: the key will be removed by
+    /// this call and no other, and the worker's next call goes on with it.
+    pub fn remove(&mut self, key: u64) -> Result<bool, Fault> {
+        let key = checked(key)?;
+        managed(self.handle.remove(key))
+    }
+
+    /// Returns whether the map has the key.
+    ///
+    /// Errors: `Key`, `Contention`, `Pinned`.
+    pub fn contains(&mut self, key: u64) -> Result<bool, Fault> {
+        let key = checked(key)?;
+        managed(self.handle.contains(key))
+    }
+
+    /// Pins the worker until the guard is dropped: no value that the guard returns is dropped
+    /// meanwhile. The map drops no value whose key was removed after the pin. So keep it short: the
+    /// nodes that wait for it are not free for inserts.
+    ///
+    /// Errors: `Contention`, `Pinned`.
+    pub fn pin(&mut self) -> Result<Guard<'_, 'a, V>, Fault> {
+        match Pinned::new(&mut self.handle) {
+            Ok(pinned) => Ok(Guard { pinned }),
+            Err(outcome) => Err(managed(outcome).err().unwrap_or(Fault::Other(outcome))),
+        }
+    }
+
+    /// Returns the keys of a range, ascending. It takes no snapshot: each key was in the map at a
+    /// moment of the call, and two keys may have different moments. A key that is in the map during
+    /// the whole call is returned.
+    ///
+    /// Errors: `Contention`, `Pinned`.
+    pub fn keys(&mut self, bounds: impl RangeBounds<u64>) -> Result<Vec<u64>, Fault> {
+        let mut keys = Vec::new();
+        let Some((mut next, last)) = ends_of(bounds) else {
+            return Ok(keys);
+        };
+        let mut block = [0; 512];
+        while next <= last {
+            let (outcome, count) = self.handle.scan(&mut next, last + 1, &mut block);
+            let has_more = managed(outcome)?;
+            keys.extend_from_slice(&block[..count]);
+            if !has_more {
+                break;
+            }
+        }
+        Ok(keys)
+    }
+
+    /// Drops the values that came back, however few nodes wait.
+    ///
+    /// Errors: none is known.
+    pub fn reclaim(&mut self) -> Result<Reclaimed, Fault> {
+        let (outcome, values, behind) = self.handle.reclaim();
+        answer(outcome)?;
+        let behind = (behind != NOBODY).then_some(behind);
+        Ok(Reclaimed { values, behind })
+    }
+
+    /// Returns the number of nodes that wait with this worker, two for each removed key.
+    pub fn waiting(&mut self) -> u64 {
+        self.handle.waiting()
+    }
+
+    /// Returns its number, which is below the number of workers.
+    pub fn number(&mut self) -> u32 {
+        self.handle.number()
+    }
+}
+
+impl<V> Guard<'_, '_, V> {
+    /// Returns the value of a key, or None if the map does not have the key. The map had it so at a
+    /// moment of this call.
+    ///
+    /// Errors: `Key`.
+    pub fn get(&self, key: u64) -> Result<Option<&V>, Fault> {
+        let key = checked(key)?;
+        let (outcome, found) = self.pinned.get(key);
+        managed(outcome).map(|_| found)
+    }
+
+    /// Returns the epoch that is pinned.
+    pub fn epoch(&self) -> u64 {
+        self.pinned.epoch()
+    }
+}
+
+impl<V> InsertError<V> {
+    /// Returns the value.
+    pub fn into_value(self) -> V {
+        match self {
+            InsertError::Present(value) | InsertError::Fault(_, value) => value,
+        }
+    }
+
+    /// Returns why the call failed, or None if the map has the key.
+    pub fn fault(&self) -> Option<Fault> {
+        match self {
+            InsertError::Present(_) => None,
+            InsertError::Fault(fault, _) => Some(*fault),
+        }
+    }
+}
+
+impl<V> fmt::Debug for InsertError<V> {
+    fn fmt(&self, f: &mut fmt::Formatter<'_>) -> fmt::Result {
+        match self {
+            InsertError::Present(_) => f.write_str("Present(..)"),
+            InsertError::Fault(fault, _) => write!(f, "Fault({fault:?}, ..)"),
+        }
+    }
+}
+
+impl<V> fmt::Display for InsertError<V> {
+    fn fmt(&self, f: &mut fmt::Formatter<'_>) -> fmt::Result {
+        match self {
+            InsertError::Present(_) => f.write_str("the map has the key, which keeps its value"),
+            InsertError::Fault(fault, _) => fault.fmt(f),
+        }
+    }
+}
+
+impl<V> std::error::Error for InsertError<V> {}
+
+impl<V> fmt::Debug for Map<V> {
+    fn fmt(&self, f: &mut fmt::Formatter<'_>) -> fmt::Result {
+        f.debug_struct("Map")
+            .field("nodes", &self.nodes)
+            .field("workers", &self.workers)
+            .finish_non_exhaustive()
+    }
+}
+
+impl<V> fmt::Debug for MapWorker<'_, V> {
+    fn fmt(&self, f: &mut fmt::Formatter<'_>) -> fmt::Result {
+        f.debug_struct("MapWorker").finish_non_exhaustive()
+    }
+}
+
+impl<V> fmt::Debug for Guard<'_, '_, V> {
+    fn fmt(&self, f: &mut fmt::Formatter<'_>) -> fmt::Result {
+        f.debug_struct("Guard")
+            .field("epoch", &self.epoch())
+            .finish_non_exhaustive()
+    }
+}

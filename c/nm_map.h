@@ -1,0 +1,100 @@
+/* Calls on a map of nm_set.h that hand each value that comes back to a function of the program. So
+ * a value may be the address of an object: that function frees the object. The calls of this header
+ * are made of the proved functions of nm_set.h, and no proof covers them. The maps of C++ and Rust
+ * are made of these calls. c/map_calls.c and the tests of each language test them.
+ *
+ *     static void give_back(void *context, uint64_t value) { free((void *)(uintptr_t)value); }
+ *
+ *     nm_map_put(&map, &worker, 5, (uint64_t)(uintptr_t)object, &nm_default_options,
+ *                give_back, NULL, 1000);               NM_YES: the map has the key and the object
+ *     nm_map_hold(&worker, &nm_default_options, &epoch);    pins the worker
+ *     nm_map_get_pinned(&worker, 5, &value);           the object exists until the unpin
+ *     nm_map_unpin(&worker);
+ *     nm_map_remove(&worker, 5, &nm_default_options, &value);    frees nothing
+ *     nm_map_tend(&worker, &nm_default_options, give_back, NULL);   frees what came back
+ *     nm_drop(&worker);
+ *     nm_map_drain(&map, give_back, NULL, 1000);       frees each object that is left
+ *     nm_drop(&map);
+ *
+ * Proved: a value comes back once for each key that was removed. It comes back when all workers
+ * have unpinned that were pinned when its leaf was cut off. So a reader may use an object from a
+ * get under a pin until the unpin. Without the caller's pin an object may be freed at any time
+ * after the get. The program that removes a key does not free the object itself, because others may
+ * be reading it.
+ *
+ * The function `release` is called between two calls of the library, by the thread whose call found
+ * the values. It may make calls by any worker, including this one. It does not leave by longjmp or
+ * an exception: then the other values that came back with it are lost.
+ */
+#ifndef NM_MAP_H
+#define NM_MAP_H
+
+#include "nm_set.h"
+
+#ifdef __cplusplus
+extern "C" {
+#endif
+
+/* Takes a value that came back. */
+typedef void (*nm_map_release)(void *context, uint64_t value);
+
+/* Returns the collect_after that is usual for a map of this size: nodes / (8 * workers), at least 8
+ * and at most 64. So all workers together leave at most an eighth of the nodes unclaimed, unless
+ * each has 8. */
+uint32_t nm_map_collect_after(uint32_t nodes, uint32_t workers);
+
+/* Makes nm_map_attach, and repeats it after NM_NO_WORKER and NM_IN_USE, for at most timeout_ms
+ * milliseconds. In between it sleeps, like nm_wait_attach of nm_wait.h. */
+nm_outcome nm_map_wait_attach(nm_handle *map, nm_handle *worker, uint32_t timeout_ms);
+
+/* Pins the worker like nm_map_pin, but finishes a remove that is pending first, and repeats a pin
+ * that lost each of its tries, at most `rounds` times. Returns NM_DONE and writes the epoch.
+ * Errors: NM_BUSY, NM_PENDING: the bounds of the options were reached. NM_PINNED. */
+nm_outcome nm_map_hold(nm_handle *worker, const nm_options *options, uint64_t *epoch);
+
+/* Makes nm_map_reclaim until no more values come back, and hands each value to `release`. Returns
+ * NM_DONE and writes which worker holds the epoch back, or NM_NOBODY; `behind` may be NULL. Errors:
+ * NM_CLOSED, NM_KIND, NM_IN_USE. */
+nm_outcome nm_map_take_back(nm_handle *worker, nm_map_release release, void *context,
+                            uint32_t *behind);
+
+/* Makes nm_map_take_back if `collect_after` nodes or more wait with the worker, and otherwise
+ * nothing. Call it after each remove: it is what a managed call of a set does by itself. Returns
+ * NM_DONE. Errors: those of nm_map_take_back. */
+nm_outcome nm_map_tend(nm_handle *worker, const nm_options *options, nm_map_release release,
+                       void *context);
+
+/* Makes nm_map_tend, and then nm_map_insert. If no nodes are free, it takes back what it can,
+ * inserts again, and repeats both for at most timeout_ms milliseconds. In between it sleeps, from
+ * 20 microseconds up to a millisecond, twice as long each time. With 0 milliseconds it inserts
+ * again once, and does not sleep.
+ *
+ * Nodes that wait with another worker are freed by that worker alone. So if `map` is not NULL, the
+ * first repetition also takes back what waits with each worker that is not attached. For this it
+ * attaches these workers, one after the other. If another thread is stopped while it takes a worker
+ * by the same handle, this takes some tenths of a second (nm_map_worker).
+ *
+ * Returns NM_YES, or NM_NO if the map has the key, which keeps its value. Errors: NM_FULL: no nodes
+ * became free in that time. The others are those of nm_map_insert. After NM_NO and an error the map
+ * does not have the value. */
+nm_outcome nm_map_put(nm_handle *map, nm_handle *worker, uint64_t key, uint64_t value,
+                      const nm_options *options, nm_map_release release, void *context,
+                      uint32_t timeout_ms);
+
+/* Empties a map before its end, when no worker is attached: removes each key, and hands each value
+ * to `release` once, including those of keys that were removed earlier. It attaches each worker in
+ * turn. Returns NM_DONE: then no node waits, and an nm_map_close or nm_drop loses no value.
+ *
+ * Errors, after which another call goes on: NM_NO_MEMORY: memory was refused, even after
+ * repetitions for timeout_ms milliseconds, with sleeps in between. NM_ATTACHED: a worker is
+ * attached. The values of all others have come back; those that wait with that worker have not.
+ * NM_BEHIND: values wait for a worker that is pinned. NM_BUSY, NM_UNFINISHED, NM_IN_USE: other
+ * calls interfered. NM_CLOSED, NM_KIND, NM_CLOSING. */
+nm_outcome nm_map_drain(nm_handle *map, nm_map_release release, void *context,
+                        uint32_t timeout_ms);
+
+#ifdef __cplusplus
+}
+#endif
+
+#endif

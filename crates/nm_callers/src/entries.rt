@@ -1,0 +1,51 @@
+//! Members of a map that handle keys with their values, proved from the clauses of `nm_set`.
+ghost use Rattle.std.specs.Prelude.{◌≡◌, ◌<◌, Some, IfSome};
+ghost use Rattle.nm_calls.specs.Maps.{MapGave};
+ghost use Rattle.nm_set.specs.Maps.{TookMeanwhile};
+ghost use Rattle.nm_callers.specs.Mapping.{HasPutOrFound};
+
+use nm_edge::Key;
+use nm_set::{MapMember, Options};
+
+/// Inserts a key with a value, and returns the value that the key then had: this one, or the one that
+/// was there. `None`: the call returned an error. Proved: otherwise the map had the key with the
+/// value that is returned, at a moment (linearization point) of the call.
+pub fn put_or_find(member: &mut MapMember, key: Key, value: u64, options: &Options) -> Option<u64>
+    ensures tree { member.new.tree ≡ member.old.tree }
+    ensures had { IfSome result (HasPutOrFound member.old.worker.pass member.new.worker.pass key value) }
+{
+    let mut found = 0;
+    match member.insert(key, value, &mut found, options) {
+        Ok(true) => Some(value),
+        Ok(false) => Some(found),
+        Err(_) => None,
+    }
+}
+
+/// Returns the least key of the map from `key` on, with its value. `None`: there is none, or the call
+/// returned an error. Proved: otherwise the map had that key with that value at a moment of the call.
+pub fn look_next(member: &mut MapMember, key: Key, tries: u32) -> Option<(Key, u64)>
+    ensures tree { member.new.tree ≡ member.old.tree }
+    ensures had { IfSome result (λ e. MapGave member.old.worker.pass member.new.worker.pass e.0 (Some e.1)) }
+{
+    let mut value = 0;
+    match member.next_with_value(key, &mut value, tries) {
+        Ok(Some(next)) => Some((next, value)),
+        _ => None,
+    }
+}
+
+/// Takes the least key of the map that is below a bound, with its value, as a timer takes a task that
+/// is due. `None`: there is none, or the call returned an error. Proved: otherwise the map had that key
+/// with that value at a moment of the call, in the slot of a leaf that this member has flagged.
+pub fn take_due(member: &mut MapMember, below: u64, options: &Options) -> Option<(Key, u64)>
+    ensures tree { member.new.tree ≡ member.old.tree }
+    ensures took { IfSome result
+        (λ e. TookMeanwhile member.old.worker.pass member.new.worker.pass e.0 e.1) }
+{
+    let mut value = 0;
+    match member.pop_first_below(below, &mut value, options) {
+        Ok(Some(due)) => Some((due, value)),
+        _ => None,
+    }
+}

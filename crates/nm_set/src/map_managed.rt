@@ -1,0 +1,231 @@
+//! Managed calls of a map: a call that lost its tries is retried, and a remove that has begun is
+//! finished. They free no leaf; `MapMember::reclaim` does, and hands out the values.
+ghost use Rattle.std.specs.Prelude.{◌≡◌, ◌≢◌, ◌+◌, true, false, None, Some, Ok, Err};
+ghost use Rattle.nm_model.specs.declared.event.Op.TheVariants.{Insert, Delete};
+ghost use Rattle.nm_steps.specs.Values.{HasValues};
+ghost use Rattle.nm_calls.specs.Maps.{HasPut, MapGave};
+ghost use Rattle.nm_calls.specs.declared.fault.CallFault.TheVariants as fault;
+ghost use Rattle.nm_tree.specs.Answers.{IfTaken};
+ghost use Rattle.nm_set.specs.MapRounds.{GetsIn};
+ghost use Rattle.nm_set.specs.Maps.{LeavesReclaim, SaysChange, SaysGet, TookMeanwhile};
+
+use crate::managed::{Options, behind_of, is_unfinished};
+use crate::map_member::MapMember;
+use crate::member::Member;
+use nm_edge::Key;
+use nm_model::Op;
+use nm_tree::{CallFault, HandedOut};
+
+/// What `MapMember::reclaim` did.
+#[derive(Clone, Copy, Debug, PartialEq, Eq)]
+pub struct Reclaimed {
+    /// The epoch, how many nodes were freed, and how many values were written.
+    pub handed: HandedOut,
+    /// The other worker that was found to hold the epoch back. `None`: no worker was found so. Then
+    /// the epoch was advanced twice during the call, or it is the last one.
+    pub behind: Option<u32>,
+}
+
+/// Returns whether a look-up lost each of its tries.
+fn is_busy(told: &Result<Option<u64>, CallFault>) -> bool
+    ensures yes { result ≡ true → told.now ≡ Err fault.Busy }
+    ensures no { result ≡ false → told.now ≢ Err fault.Busy }
+{
+    matches!(told, Err(CallFault::Busy))
+}
+
+impl MapMember {
+    /// Returns the value that the map has under `key`, or `None` if it does not have the key.
+    ///
+    /// Like `Member::contains`, it finishes the remove of an earlier call first, and retries a look-up
+    /// that lost each of its tries, at most `rounds` times. It frees no node, and takes no memory for
+    /// the look-up.
+    ///
+    /// Errors: `Pinned`: the caller has pinned the worker; nothing has changed (`get_pinned` is for
+    /// that). `Pending`, `Busy`: as of `Member::contains`. Proved (`alone`): a call with at least one
+    /// try is answered if no other worker makes a transition during it. The exception is that the room
+    /// for the earlier remove is refused.
+    #[inline(always)]
+    pub fn get(&mut self, key: Key, options: &Options) -> Result<Option<u64>, CallFault>
+        ensures tree { self.new.tree ≡ self.old.tree }
+        ensures says { SaysGet self.old.tree options.now key self.old.worker self.new.worker result }
+    {
+        self.member.get_managed(key, options)
+    }
+
+    /// Inserts `key` with `value`; returns true if the key was absent. Otherwise the key keeps its
+    /// value, and the call writes this value to `found`. Proved (`puts`): if the result is `Ok(true)`,
+    /// the map had the key with `value` at a moment of the call. Proved (`finds`): if the result is
+    /// `Ok(false)`, the map had the key with the value in `found` at a moment of the call. After an
+    /// error `found` may be anything.
+    ///
+    /// Like `get`, it finishes the remove of an earlier call first, and retries an insert that lost
+    /// each of its tries. Nothing is pending after an answer, `Busy`, `Full` and `NoMemory`.
+    ///
+    /// Errors: `Pinned`, `Pending`, `Busy`: as of `get`. `Full`: no slot was free for a new node. Call
+    /// `reclaim`, take the values that it writes, and insert again. `NoMemory`: the memory for a try
+    /// was refused. Proved (`alone`): no other error, as for `get`, if no other worker has a remove
+    /// pending.
+    #[inline(always)]
+    pub fn insert(
+        &mut self,
+        key: Key,
+        value: u64,
+        found: &mut u64,
+        options: &Options,
+    ) -> Result<bool, CallFault>
+        ensures tree { self.new.tree ≡ self.old.tree }
+        ensures says { SaysChange Insert self.old.tree options.now key self.old.worker
+            self.new.worker result }
+        ensures puts { result ≡ Ok true → HasPut self.old.worker.pass self.new.worker.pass key
+            value }
+        ensures finds { result ≡ Ok false → MapGave self.old.worker.pass self.new.worker.pass key
+            (Some found.new) }
+    {
+        self.member.insert_managed(key, value, found, options)
+    }
+
+    /// Removes `key`; returns true if it was present, after the leaf with the key was cut off. Then,
+    /// and after `Unfinished`, it has written the value that the key had to `taken`. Proved (`takes`):
+    /// the map had the key with this value at a moment of the call, in the slot of a leaf that the
+    /// worker has flagged. The value comes back by `reclaim` too, once nobody can read it.
+    ///
+    /// Like `get`, it finishes the remove of an earlier call first, and retries a remove that lost
+    /// each of its tries. One that has flagged its leaf goes on by at most `rounds` and one calls of
+    /// `finish`.
+    ///
+    /// Errors: those of `Member::remove`. After `Unfinished` the key is pending, and the next managed
+    /// call finishes it first.
+    #[inline(always)]
+    pub fn remove(
+        &mut self,
+        key: Key,
+        taken: &mut u64,
+        options: &Options,
+    ) -> Result<bool, CallFault>
+        ensures tree { self.new.tree ≡ self.old.tree }
+        ensures says { SaysChange Delete self.old.tree options.now key self.old.worker
+            self.new.worker result }
+        ensures takes { IfTaken result (TookMeanwhile self.old.worker.pass self.new.worker.pass key
+            taken.new) }
+    {
+        self.member.remove_managed(key, taken, options)
+    }
+
+    /// Tries twice to advance the epoch, and then collects: `advance` and `collect`. It writes the
+    /// value of each freed leaf to `out`, and stops before a leaf if `out` is full: if as many values
+    /// were written as `out` has room for, call again. It may be called at any time. Cost: at most
+    /// `nodes` + 2 `workers` + 2 steps, and a look for each value.
+    pub fn reclaim(&mut self, out: &mut [u64]) -> Reclaimed
+        ensures tree { self.new.tree ≡ self.old.tree }
+        ensures says { LeavesReclaim self.old.tree.layout out.old out.new self.old.worker
+            self.new.worker result.behind result.handed }
+    {
+        let first = self.advance();
+        let second = self.advance();
+        let handed = self.collect(out);
+        Reclaimed {
+            handed,
+            behind: behind_of(&first, &second),
+        }
+    }
+}
+
+impl Member {
+    /// Does `MapMember::get`.
+    #[inline(always)]
+    pub(crate) fn get_managed(
+        &mut self,
+        key: Key,
+        options: &Options,
+    ) -> Result<Option<u64>, CallFault>
+        requires values { HasValues self.old.tree }
+        ensures tree { self.new.tree ≡ self.old.tree }
+        ensures says { SaysGet self.old.tree options.now key self.old.worker self.new.worker result }
+    {
+        if self.pinned().is_some() {
+            return Err(CallFault::Pinned);
+        }
+        let Ok(_done) = self.finish_with_retries(options) else {
+            return Err(CallFault::Pending);
+        };
+        self.get_with_retries(key, options)
+    }
+
+    /// Looks up the value until a look-up does not lose each of its tries: at most `rounds` and one
+    /// times.
+    #[inline(always)]
+    fn get_with_retries(&mut self, key: Key, options: &Options) -> Result<Option<u64>, CallFault>
+        requires values { HasValues self.old.tree }
+        requires free { self.old.worker.held ≡ None }
+        requires none { self.old.worker.pending ≡ None }
+        ensures tree { self.new.tree ≡ self.old.tree }
+        ensures says { GetsIn self.old.tree options.now key (options.now.rounds + 1)
+            self.old.worker self.new.worker result }
+    {
+        for _round in 0..options.rounds {
+            let told = self.try_get_value(key, options.tries);
+            if !is_busy(&told) {
+                return told;
+            }
+        }
+        self.try_get_value(key, options.tries)
+    }
+
+    /// Does `MapMember::insert`.
+    #[inline(always)]
+    pub(crate) fn insert_managed(
+        &mut self,
+        key: Key,
+        value: u64,
+        found: &mut u64,
+        options: &Options,
+    ) -> Result<bool, CallFault>
+        requires values { HasValues self.old.tree }
+        ensures tree { self.new.tree ≡ self.old.tree }
+        ensures says { SaysChange Insert self.old.tree options.now key self.old.worker
+            self.new.worker result }
+        ensures puts { result ≡ Ok true → HasPut self.old.worker.pass self.new.worker.pass key
+            value }
+        ensures finds { result ≡ Ok false → MapGave self.old.worker.pass self.new.worker.pass key
+            (Some found.new) }
+    {
+        if self.pinned().is_some() {
+            return Err(CallFault::Pinned);
+        }
+        let Ok(_done) = self.finish_with_retries(options) else {
+            return Err(CallFault::Pending);
+        };
+        self.ask_value_with_retries(Op::Insert, key, value, found, options)
+    }
+
+    /// Does `MapMember::remove`.
+    #[inline(always)]
+    pub(crate) fn remove_managed(
+        &mut self,
+        key: Key,
+        taken: &mut u64,
+        options: &Options,
+    ) -> Result<bool, CallFault>
+        requires values { HasValues self.old.tree }
+        ensures tree { self.new.tree ≡ self.old.tree }
+        ensures says { SaysChange Delete self.old.tree options.now key self.old.worker
+            self.new.worker result }
+        ensures takes { IfTaken result (TookMeanwhile self.old.worker.pass self.new.worker.pass key
+            taken.new) }
+    {
+        if self.pinned().is_some() {
+            return Err(CallFault::Pinned);
+        }
+        let Ok(_done) = self.finish_with_retries(options) else {
+            return Err(CallFault::Pending);
+        };
+        self.know_run();
+        let told = self.ask_value_with_retries(Op::Delete, key, 0, taken, options);
+        self.know_run();
+        if !is_unfinished(&told) {
+            return told;
+        }
+        self.finish_with_retries(options)
+    }
+}

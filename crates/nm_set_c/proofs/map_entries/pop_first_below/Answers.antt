@@ -1,0 +1,19 @@
+use Rattle.std.proofs.Common.{rules}
+use Rattle.nm_set_c.specs.Owners.{HasDone}
+use Rattle.nm_set_c.proofs.map_entries.pop_first_below.Goals as goal
+
+pub returns : goal.returns
+unfolding HasDone
+returns c = record {
+  tells = record {
+    answer = c.pop_first_below-answer.result;
+    told = c.tell_taken.ensures.told;
+    written = c.tell_taken.ensures.written;
+    going = search rules;
+    tree = c.pop_first_below-answer.ensures.tree;
+    says = c.pop_first_below-answer.ensures.says;
+    there = c.pop_first_below-answer.new.taken;
+    takes = c.pop_first_below-answer.ensures.takes;
+    valued = c.write_value.ensures;
+  };
+}
