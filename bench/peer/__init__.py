@@ -1,5 +1,6 @@
 """What the benches of sets beside others share: how they build the programs here, and run them."""
 import os
+import statistics
 import subprocess
 import sys
 
@@ -64,3 +65,34 @@ def load():
     """Returns the load of the machine in the last minute."""
     with open("/proc/loadavg", encoding="ascii") as file:
         return file.read().split()[0]
+
+
+class Server:
+    """A program that answers rows until its input ends."""
+
+    def __init__(self, command):
+        self.process = subprocess.Popen(
+            command, stdin=subprocess.PIPE, stdout=subprocess.PIPE, text=True
+        )
+
+    def rate(self, *row):
+        print(*row, file=self.process.stdin, flush=True)
+        return float(self.process.stdout.readline())
+
+
+def measured(servers, asked, row):
+    """Of each server the rates of all rounds, by turns, where it can do what the row asks. The second
+    number of a row is how many of 100 calls are look-ups, and TBB's can make nothing else."""
+    found = {name: [] for name in servers if name != "tbb" or row[1] == 100}
+    for _ in range(asked.rounds):
+        for name, rates in found.items():
+            rates.append(servers[name].rate(*row, asked.millis))
+    return found
+
+
+def medians(found):
+    """The rate of the first server, and of each other one its ratio to it."""
+    (first, own), *others = found.items()
+    ratios = {name: [a / b for a, b in zip(rates, own)] for name, rates in others}
+    medians_of_ratios = {name: statistics.median(it) for name, it in ratios.items()}
+    return statistics.median(own), medians_of_ratios

@@ -4,24 +4,17 @@
 // random keys of the range, so many look-ups of 100 and of the rest as many inserts as deletes.
 #include "nm_set.h"
 #include "plain.hpp"
+#include "rates.hpp"
 
-#include <atomic>
-#include <chrono>
-#include <cstdio>
 #include <cstdlib>
 #include <malloc.h>
 #include <mutex>
 #include <set>
 #include <string>
-#include <thread>
-#include <vector>
-#if __has_include(<cds/init.h>)
-#include <cds/init.h>
-#include <cds/urcu/general_buffered.h>
+#ifdef HAS_CDS
 #include <cds/container/bronson_avltree_map_rcu.h>
 #include <cds/container/ellen_bintree_set_rcu.h>
 #include <cds/container/skip_list_set_rcu.h>
-#define HAS_CDS 1
 #endif
 #if __has_include(<tbb/concurrent_set.h>)
 #include <tbb/concurrent_set.h>
@@ -30,9 +23,7 @@
 
 namespace {
 
-using Key = std::uint64_t;
-
-std::size_t nodes_for(std::size_t keys) { return 8 * keys + 4096; }
+using namespace rates;
 
 struct ProvedSet {
     ProvedSet(std::size_t keys, unsigned threads) {
@@ -76,13 +67,6 @@ struct LockedSet {
 };
 
 #ifdef HAS_CDS
-using Reclaimer = cds::urcu::gc<cds::urcu::general_buffered<>>;
-
-struct CdsThread {
-    CdsThread() { cds::threading::Manager::attachThread(); }
-    ~CdsThread() { cds::threading::Manager::detachThread(); }
-};
-
 // Any set of libcds with insert, erase and contains.
 template <class Container> struct CdsSet {
     CdsSet(std::size_t, unsigned) {}
@@ -127,81 +111,6 @@ struct TbbSet {
         TbbSet &set;
     };
 };
-#endif
-
-struct Row {
-    std::size_t keys;
-    unsigned lookups, threads, millis;
-};
-
-Key draw(Key &seed) {
-    seed ^= seed << 13, seed ^= seed >> 7, seed ^= seed << 17;
-    return seed;
-}
-
-// Keys are scattered over the numbers, so that no set gains by their being small.
-Key scattered(Key index) { return index * 0x9E3779B97F4A7C15u >> 1; }
-
-template <class Set> double rate(const Row &row) {
-    Set set(row.keys, row.threads);
-    std::atomic<unsigned> ready{0};
-    std::atomic<bool> begins{false}, ends{false};
-    std::vector<unsigned long> calls(row.threads * 16);
-    std::vector<std::thread> threads;
-    for (unsigned number = 0; number < row.threads; number++)
-        threads.emplace_back([&, number] {
-            typename Set::Worker worker(set, number);
-            Key seed = 88172645463325252u + number * 1000003u;
-            for (std::size_t i = number; i < row.keys; i += row.threads) {
-                while (!worker.add(scattered(draw(seed) % (2 * row.keys)))) {}
-            }
-            ready++;
-            while (!begins) std::this_thread::yield();
-            unsigned long made = 0;
-            while (!ends.load(std::memory_order_relaxed)) {
-                Key drawn = draw(seed), key = scattered(drawn % (2 * row.keys));
-                unsigned kind = static_cast<unsigned>((drawn >> 40) % 200);
-                if (kind < 2 * row.lookups) worker.contains(key);
-                else if (kind & 1) worker.add(key);
-                else worker.remove(key);
-                made++;
-            }
-            calls[number * 16] = made;
-        });
-    while (ready != row.threads) std::this_thread::yield();
-    auto begun = std::chrono::steady_clock::now();
-    begins = true;
-    std::this_thread::sleep_for(std::chrono::milliseconds(row.millis));
-    ends = true;
-    double micros =
-        std::chrono::duration<double, std::micro>(std::chrono::steady_clock::now() - begun).count();
-    unsigned long all = 0;
-    for (auto &thread : threads) thread.join();
-    for (unsigned long made : calls) all += made;
-    return static_cast<double>(all) / micros;
-}
-
-template <class Set> int serve() {
-    Row row;
-    while (std::scanf("%zu %u %u %u", &row.keys, &row.lookups, &row.threads, &row.millis) == 4) {
-        std::printf("%.4f\n", rate<Set>(row));
-        std::fflush(stdout);
-    }
-    return 0;
-}
-
-#ifdef HAS_CDS
-template <class Set> int serve_cds() {
-    cds::Initialize();
-    int status;
-    {
-        Reclaimer reclaimer;
-        CdsThread main_thread;
-        status = serve<Set>();
-    }
-    cds::Terminate();
-    return status;
-}
 #endif
 
 int named(const std::string &name) {
