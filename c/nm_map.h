@@ -16,9 +16,9 @@
  *     nm_map_drain(&map, give_back, NULL, 1000);       frees each object that is left
  *     nm_drop(&map);
  *
- * Proved: a value comes back once for each key that was removed. It comes back when all workers
- * have unpinned that were pinned when its leaf was cut off. So a reader may use an object from a
- * get under a pin until the unpin. Without the caller's pin an object may be freed at any time
+ * Proved, of nm_set.h: each leaf that is freed hands out its value, and no leaf is freed twice. A leaf
+ * is freed after all workers have unpinned that were pinned when it was cut off. So a reader may use
+ * an object from a get under a pin until the unpin. Without the caller's pin an object may be freed at any time
  * after the get. The program that removes a key does not free the object itself, because others may
  * be reading it.
  *

@@ -463,8 +463,8 @@ nm_outcome nm_worker_end(nm_handle *worker);
  * is closed, and NM_KIND if it owns something else than they say; the functions of sets and of their
  * workers return NM_KIND for a map and for its workers. nm_drop gives up either.
  *
- * A value comes back when its key was removed: nm_map_reclaim writes it, once, and only after every
- * worker that was pinned when the key was cut off has unpinned. So a value may be a pointer, which
+ * A value comes back after its key was removed: nm_map_reclaim frees each leaf at most once, only after
+ * every worker that was pinned when it was cut off has unpinned, and writes its value. So a value may be a pointer, which
  * the program frees when it comes back. A thread follows such a pointer between nm_map_pin and
  * nm_map_unpin, by nm_map_get_pinned. A value that was not inserted (any outcome but NM_YES) remains
  * the caller's.
@@ -550,8 +550,9 @@ nm_outcome nm_map_pop_last_from(nm_handle *worker, uint64_t from, const nm_optio
  * writes the value of each key that is freed into values, at most `room` of them, and their number
  * to count. If count is room, there may be more: call again. Writes to behind the number of a worker
  * that holds the epoch back (its own, if the caller has pinned it), so that more values may come back
- * later, or NM_NOBODY if it found no such worker. Returns NM_DONE. A key's value waits with the worker that cut the key off,
- * so each worker reclaims, after every few dozen removes. values is not null, even if room is 0. */
+ * later, or NM_NOBODY if it found no such worker. Returns NM_DONE. A key's value waits with the worker
+ * that cut the key off, so each worker reclaims, after every few dozen removes. values is not null,
+ * even if room is 0. */
 nm_outcome nm_map_reclaim(nm_handle *worker, uint64_t *values, size_t room, uint64_t *count,
                           uint32_t *behind);
 

@@ -5,10 +5,8 @@
 #include "rates.hpp"
 
 #include <cstdlib>
-#include <malloc.h>
 #include <map>
 #include <mutex>
-#include <string>
 #ifdef HAS_CDS
 #include <cds/container/bronson_avltree_map_rcu.h>
 #include <cds/container/ellen_bintree_map_rcu.h>
@@ -23,19 +21,11 @@ namespace {
 
 using namespace rates;
 
-struct ProvedMap {
-    ProvedMap(std::size_t keys, unsigned threads) {
-        if (nm_map_new(&map, static_cast<std::uint32_t>(nodes_for(keys)), threads) != NM_DONE)
-            std::abort();
-    }
-    ~ProvedMap() { nm_drop(&map); }
-    nm_handle map = NM_CLOSED_HANDLE;
+struct ProvedMap : Proved<nm_map_new, nm_map_attach> {
+    using Proved::Proved;
 
-    struct alignas(64) Worker {
-        Worker(ProvedMap &of, unsigned) {
-            if (nm_map_attach(&of.map, &handle) != NM_DONE) std::abort();
-        }
-        ~Worker() { nm_drop(&handle); }
+    struct Worker : Attached {
+        using Attached::Attached;
         bool contains(Key key) {
             Key value;
             return nm_map_get(&handle, key, &nm_default_options, &value) == NM_YES;
@@ -50,7 +40,6 @@ struct ProvedMap {
             return nm_map_remove(&handle, key, &nm_default_options, &value) == NM_YES;
         }
         static void take(void *, Key) {}
-        nm_handle handle = NM_CLOSED_HANDLE;
     };
 };
 
@@ -143,8 +132,4 @@ int named(const std::string &name) {
 
 }  // namespace
 
-// Each map is made in blocks of its own, as peers.cpp says.
-int main(int count, char **words) {
-    mallopt(M_MMAP_THRESHOLD, 128 * 1024);
-    return count == 2 ? named(words[1]) : 2;
-}
+int main(int count, char **words) { return rates::program(count, words, named); }

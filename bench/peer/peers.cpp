@@ -7,10 +7,8 @@
 #include "rates.hpp"
 
 #include <cstdlib>
-#include <malloc.h>
 #include <mutex>
 #include <set>
-#include <string>
 #ifdef HAS_CDS
 #include <cds/container/bronson_avltree_map_rcu.h>
 #include <cds/container/ellen_bintree_set_rcu.h>
@@ -25,25 +23,16 @@ namespace {
 
 using namespace rates;
 
-struct ProvedSet {
-    ProvedSet(std::size_t keys, unsigned threads) {
-        if (nm_set_new(&set, static_cast<std::uint32_t>(nodes_for(keys)), threads) != NM_DONE)
-            std::abort();
-    }
-    ~ProvedSet() { nm_drop(&set); }
-    nm_handle set = NM_CLOSED_HANDLE;
+struct ProvedSet : Proved<nm_set_new, nm_set_attach> {
+    using Proved::Proved;
 
-    struct alignas(64) Worker {
-        Worker(ProvedSet &of, unsigned) {
-            if (nm_set_attach(&of.set, &handle) != NM_DONE) std::abort();
-        }
-        ~Worker() { nm_drop(&handle); }
+    struct Worker : Attached {
+        using Attached::Attached;
         bool contains(Key key) {
             return nm_worker_contains(&handle, key, &nm_default_options) == NM_YES;
         }
         bool add(Key key) { return nm_worker_insert(&handle, key, &nm_default_options) == NM_YES; }
         bool remove(Key key) { return nm_worker_remove(&handle, key, &nm_default_options) == NM_YES; }
-        nm_handle handle = NM_CLOSED_HANDLE;
     };
 };
 
@@ -131,10 +120,4 @@ int named(const std::string &name) {
 
 }  // namespace
 
-// Each set is made as the first one of a program is: in blocks of its own, which begin a page.
-// Without this, glibc takes large blocks from its heap once one was given back, and announcements
-// that are to have cache lines of their own may then lie in two.
-int main(int count, char **words) {
-    mallopt(M_MMAP_THRESHOLD, 128 * 1024);
-    return count == 2 ? named(words[1]) : 2;
-}
+int main(int count, char **words) { return rates::program(count, words, named); }

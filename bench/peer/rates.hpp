@@ -4,10 +4,15 @@
 #ifndef RATES_HPP
 #define RATES_HPP
 
+#include "nm_set.h"
+
 #include <atomic>
 #include <chrono>
 #include <cstdint>
 #include <cstdio>
+#include <cstdlib>
+#include <malloc.h>
+#include <string>
 #include <thread>
 #include <vector>
 #if __has_include(<cds/init.h>)
@@ -21,6 +26,24 @@ namespace rates {
 using Key = std::uint64_t;
 
 inline std::size_t nodes_for(std::size_t keys) { return 8 * keys + 4096; }
+
+// A set or a map of the library for C, and the handle of a worker of it.
+template <auto make, auto attach> struct Proved {
+    Proved(std::size_t keys, unsigned threads) {
+        if (make(&handle, static_cast<std::uint32_t>(nodes_for(keys)), threads) != NM_DONE)
+            std::abort();
+    }
+    ~Proved() { nm_drop(&handle); }
+    nm_handle handle = NM_CLOSED_HANDLE;
+
+    struct alignas(64) Attached {
+        Attached(Proved &of, unsigned) {
+            if (attach(&of.handle, &handle) != NM_DONE) std::abort();
+        }
+        ~Attached() { nm_drop(&handle); }
+        nm_handle handle = NM_CLOSED_HANDLE;
+    };
+};
 
 #ifdef HAS_CDS
 using Reclaimer = cds::urcu::gc<cds::urcu::general_buffered<>>;
@@ -105,6 +128,15 @@ template <class Set> int serve_cds() {
     return status;
 }
 #endif
+
+// Serves the rows of the type that the first word names. Each set or map is made as the first one of a
+// program is: in blocks of its own, which begin a page. Without this, glibc takes large blocks from its
+// heap once one was given back, and announcements that are to have cache lines of their own may then
+// lie in two.
+inline int program(int count, char **words, int (*named)(const std::string &)) {
+    mallopt(M_MMAP_THRESHOLD, 128 * 1024);
+    return count == 2 ? named(words[1]) : 2;
+}
 
 }  // namespace rates
 
