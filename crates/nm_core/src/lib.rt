@@ -1,7 +1,21 @@
-//! The pure core: the machine from its opening on.
+//! The pure core: all words of the tree and what every worker knows, changed by one event at a time,
+//! from the opening on.
 #![tactic(auto)]
 
+mod chain;
+mod epoch_steps;
+mod found_steps;
+mod join_steps;
+mod keys;
+mod known;
+mod machine;
+mod places;
+mod pool_steps;
 mod pure_core;
+mod search;
+mod searches;
+mod tree_steps;
+mod worker;
 
 ghost use Rattle.std.specs.Prelude.{[], ◌∷◌};
 ghost use Rattle.nm_core.specs.Schedules.{IsAsWorked, IsAsWorkedInOrder};

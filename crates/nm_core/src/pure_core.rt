@@ -15,8 +15,9 @@ ghost use Rattle.nm_order.specs.Intervals.{KeysAscend, KeysTellTheSet};
 ghost use Rattle.nm_core.specs.Pasts.{HasHeadlineBehind, HasHistoriesBehind, HasPast, StaysInOrder};
 ghost use Rattle.nm_core.specs.Stops.{WouldBeAllowed, played};
 
+use crate::machine::Machine;
+use crate::searches::Searches;
 use nm_edge::{Key, Layout, LayoutError, MOST_NODES};
-use nm_machine::{Machine, Searches};
 use nm_model::event::Event;
 use nm_model::ledger::Ledger;
 use nm_model::reply::{Refused, Reply};

@@ -1,4 +1,0 @@
-pub mod Meeting
-pub mod Joining
-pub mod FewPlaces
-pub mod ChainLemmas
