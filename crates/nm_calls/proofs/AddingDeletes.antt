@@ -14,8 +14,10 @@ use Rattle.nm_calls.specs.declared.deleting.FlaggedLeaf.{FlaggedLeaf}
 use Rattle.nm_calls.specs.declared.deleting.Injected.{Injected}
 use Rattle.nm_calls.specs.declared.deleting.Injected.TheVariants as injected
 use Rattle.nm_calls.specs.declared.deleting.Injection.TheVariants as injection
-use Rattle.nm_calls.specs.declared.deleting.Missed.{Missed}
-use Rattle.nm_calls.specs.declared.deleting.Missed.TheVariants as missed
+use Rattle.nm_calls.specs.declared.deleting.Deletion.{Deletion}
+use Rattle.nm_calls.specs.declared.deleting.Deletion.TheVariants as deletion
+use Rattle.nm_calls.specs.declared.fault.CallFault.{CallFault}
+use Rattle.nm_calls.specs.declared.fault.CallFault.TheVariants as fault
 use Rattle.nm_calls.specs.declared.deleting.Removal.{Removal}
 use Rattle.nm_calls.specs.declared.deleting.Removal.TheVariants as removal
 use Rattle.nm_walks.specs.declared.seek_record.ChainEdge.{ChainEdge}
@@ -148,21 +150,21 @@ refused_adds L k tries c old new h =
     let all = mul_below h.0 tries (most (reach L)) h.2 in
     (lost.0, adds_in _ old new (omega (arith, all)) lost.1)
 
-pub delete_adds : (L : Layout) (tries k : ℕ) (old new : List Entry) (r : Result Bool Missed) → DeleteFinishes L tries k old new r → AddsFlags (flags_of_delete r) (tries * most (reach L) + 1) old new
-delete_adds L tries k old new (Ok true) h =
+pub delete_adds : (L : Layout) (tries k : ℕ) (old new : List Entry) (r : Result Deletion CallFault) → DeleteFinishes L tries k old new r → AddsFlags (flags_of_delete r) (tries * most (reach L) + 1) old new
+delete_adds L tries k old new (Ok (deletion.Done true)) h =
     let part = flags_then_add L tries k h.0 old h.1 removal.Removed h.2 in
     (part.0 + 0, adds_then old h.1 new part.1 (adds_these _ h.1 new h.3))
-delete_adds L tries k old new (Ok false) h =
+delete_adds L tries k old new (Ok (deletion.Done false)) h =
     let part = absent_adds L k tries h.0 old h.1 h.2 in
     (part.0 + 0, adds_then old h.1 new part.1 (adds_these _ h.1 new h.3))
-delete_adds L tries k old new (Err missed.Busy) h =
+delete_adds L tries k old new (Err fault.Busy) h =
     let part = lost_flags_add L k tries old h.1 h.2 in
     (part.0 + 0, adds_then old h.1 new part.1 (adds_these _ h.1 new h.3))
-delete_adds L tries k old new (Err missed.NoMemory) h =
+delete_adds L tries k old new (Err fault.NoMemory) h =
     let part = refused_adds L k tries h.0 old h.1 h.2 in
     (part.0 + 0, adds_then old h.1 new part.1 (adds_these _ h.1 new h.3))
-delete_adds L tries k old new (Err (missed.Unfinished n)) (inl h) = let part = flags_then_add L tries k n old new removal.Refused h in (part.0, adds_in _ old new (omega arith) part.1)
-delete_adds L tries k old new (Err (missed.Unfinished n)) (inr h) = let part = flags_then_add L tries k n old new removal.Spent h in (part.0, adds_in _ old new (omega arith) part.1)
+delete_adds L tries k old new (Ok (deletion.Pending n)) (inl h) = let part = flags_then_add L tries k n old new removal.Refused h in (part.0, adds_in _ old new (omega arith) part.1)
+delete_adds L tries k old new (Ok (deletion.Pending n)) (inr h) = let part = flags_then_add L tries k n old new removal.Spent h in (part.0, adds_in _ old new (omega arith) part.1)
 
 pub finish_adds : (L : Layout) (k : ℕ) (n : NodeId) (tries : ℕ) (old new : List Entry) (b : Bool) → FinishDid L k n tries old new b → AddsFlags 0 (tries * most (reach L) + 1) old new
 finish_adds L k n tries old new true h =
@@ -171,7 +173,7 @@ finish_adds L k n tries old new true h =
 finish_adds L k n tries old new false (inl h) = let part = removal_adds L k n tries old new removal.Refused h in (part.0, adds_in _ old new (omega arith) part.1)
 finish_adds L k n tries old new false (inr h) = let part = removal_adds L k n tries old new removal.Spent h in (part.0, adds_in _ old new (omega arith) part.1)
 
-module _ (L : Layout) (tries k : ℕ) (old pinned new : List Entry) (e : ℕ) (pin : IsPinnedBy (SightFor Delete k) tries old pinned e) (r : Result Bool Missed) (h : DeleteFinishes L tries k pinned new r) where
+module _ (L : Layout) (tries k : ℕ) (old pinned new : List Entry) (e : ℕ) (pin : IsPinnedBy (SightFor Delete k) tries old pinned e) (r : Result Deletion CallFault) (h : DeleteFinishes L tries k pinned new r) where
   all : AddsFlags (flags_of_delete r) (2 * tries + 1 + (tries * most (reach L) + 1)) old new
   all = let part = delete_adds L tries k pinned new r h in (0 + part.0, adds_after old pinned new (pin_adds Delete k tries old pinned e pin) part.1)
 

@@ -20,8 +20,10 @@ use Rattle.nm_epoch.specs.Resting.{epochs, search}
 use Rattle.nm_epoch.specs.Tries.{IsPinnedBy}
 use Rattle.nm_epoch.specs.declared.collecting.Entry.{Entry as Waiting}
 use Rattle.nm_calls.specs.declared.deleting.FlaggedLeaf.{FlaggedLeaf}
-use Rattle.nm_calls.specs.declared.deleting.Missed.{Missed}
-use Rattle.nm_calls.specs.declared.deleting.Missed.TheVariants as missed
+use Rattle.nm_calls.specs.declared.deleting.Deletion.{Deletion}
+use Rattle.nm_calls.specs.declared.deleting.Deletion.TheVariants as deletion
+use Rattle.nm_calls.specs.declared.fault.CallFault.{CallFault}
+use Rattle.nm_calls.specs.declared.fault.CallFault.TheVariants as fault
 use Rattle.nm_calls.specs.declared.deleting.Removal.{Removal}
 use Rattle.nm_calls.specs.declared.deleting.Removal.TheVariants as removal
 use Rattle.nm_walks.specs.declared.seek_record.ChainEdge.{ChainEdge}
@@ -157,21 +159,24 @@ removal_after L k f c t old mid new removal.Removed is lost h = inr (t, mid, is,
 removal_after L k f c t old mid new removal.Refused is lost h = inr (t, mid, is, lost, h)
 removal_after L k f c t old mid new removal.Spent is lost h = inr (t, mid, is, lost, h)
 
-pub delete_did : (L : Layout) (tries k : ℕ) (old new : List Entry) (r : Result Bool Missed) → PinsForDelete L tries k old new r → DeleteDid L tries k old new r
-delete_did L tries k old new (Ok b) h = h
-delete_did L tries k old new (Err missed.Busy) h = inr (inr h)
-delete_did L tries k old new (Err missed.NoMemory) h = inr h
-delete_did L tries k old new (Err (missed.Unfinished n)) h = h
+pub delete_did : (L : Layout) (tries k : ℕ) (old new : List Entry) (r : Result Deletion CallFault) → PinsForDelete L tries k old new r → DeleteDid L tries k old new r
+delete_did L tries k old new (Ok d) h = h
+delete_did L tries k old new (Err fault.Busy) h = inr (inr h)
+delete_did L tries k old new (Err fault.NoMemory) h = inr h
+delete_did L tries k old new (Err fault.Full) h = h
+delete_did L tries k old new (Err fault.Unfinished) h = h
+delete_did L tries k old new (Err fault.Pending) h = h
+delete_did L tries k old new (Err fault.Pinned) h = h
 
--- why it gave up, told from before its pin
-pub lacks_room : (L : Layout) (tries k : ℕ) (old pinned new : List Entry) (epoch spare : ℕ) (m : Missed) → IsPinnedBy (SightFor Delete k) tries old pinned epoch
-    → LacksRoomOr (λ n. FlagsThen L tries k n pinned new removal.Spent) spare m → LacksRoomOr (LosesAfterFlag L tries k old new) spare m
-lacks_room L tries k old pinned new epoch spare missed.Busy pin why = why
-lacks_room L tries k old pinned new epoch spare missed.NoMemory pin why = why
-lacks_room L tries k old pinned new epoch spare (missed.Unfinished n) pin (inl less) = inl less
-lacks_room L tries k old pinned new epoch spare (missed.Unfinished n) pin (inr lost) = inr (pinned, epoch, pin, lost)
-
-pub each_lacks_room : (L : Layout) (tries k : ℕ) (old pinned new : List Entry) (epoch spare : ℕ) (r : Result Bool Missed) → IsPinnedBy (SightFor Delete k) tries old pinned epoch
-    → IfErr r (LacksRoomOr (λ n. FlagsThen L tries k n pinned new removal.Spent) spare) → IfErr r (LacksRoomOr (LosesAfterFlag L tries k old new) spare)
-each_lacks_room L tries k old pinned new epoch spare (Ok b) pin why = why
-each_lacks_room L tries k old pinned new epoch spare (Err m) pin why = lacks_room L tries k old pinned new epoch spare m pin why
+-- why it gave up, seen from before its pin
+pub lacks_room : (L : Layout) (tries k : ℕ) (old pinned new : List Entry) (epoch spare : ℕ) (r : Result Deletion CallFault) → IsPinnedBy (SightFor Delete k) tries old pinned epoch
+    → LacksRoomOr (λ n. FlagsThen L tries k n pinned new removal.Spent) spare r → LacksRoomOr (LosesAfterFlag L tries k old new) spare r
+lacks_room L tries k old pinned new epoch spare (Ok (deletion.Done answer)) pin why = why
+lacks_room L tries k old pinned new epoch spare (Ok (deletion.Pending n)) pin (inl less) = inl less
+lacks_room L tries k old pinned new epoch spare (Ok (deletion.Pending n)) pin (inr lost) = inr (pinned, epoch, pin, lost)
+lacks_room L tries k old pinned new epoch spare (Err fault.Busy) pin why = why
+lacks_room L tries k old pinned new epoch spare (Err fault.NoMemory) pin why = why
+lacks_room L tries k old pinned new epoch spare (Err fault.Full) pin why = why
+lacks_room L tries k old pinned new epoch spare (Err fault.Unfinished) pin why = why
+lacks_room L tries k old pinned new epoch spare (Err fault.Pending) pin why = why
+lacks_room L tries k old pinned new epoch spare (Err fault.Pinned) pin why = why

@@ -27,8 +27,10 @@ use Rattle.nm_steps.proofs.Seeing.{continues_then, seen_itself, stores_same}
 use Rattle.nm_epoch.specs.Resting.{epochs}
 use Rattle.nm_walks.specs.declared.seek_record.WalkEnd.{WalkEnd}
 use Rattle.nm_walks.specs.Telling.{GoesOn, Tells}
-use Rattle.nm_calls.specs.declared.deleting.Missed.{Missed}
-use Rattle.nm_calls.specs.declared.deleting.Missed.TheVariants as missed
+use Rattle.nm_calls.specs.declared.deleting.Deletion.{Deletion}
+use Rattle.nm_calls.specs.declared.deleting.Deletion.TheVariants as deletion
+use Rattle.nm_calls.specs.declared.fault.CallFault.{CallFault}
+use Rattle.nm_calls.specs.declared.fault.CallFault.TheVariants as fault
 use Rattle.nm_calls.specs.Deletes.{IfTaken, MayFlag, leaf_of, looks_and_flags}
 use Rattle.nm_calls.specs.Maps.{HasReadFlagged, HasTaken, WasTaken}
 use Rattle.nm_calls.proofs.Forks.{going_continues}
@@ -169,9 +171,8 @@ has_taken o q first_seen first_fits unpinned k v t =
     })
 
 -- the same by the result of a delete, which was pinned at a
-pub if_taken : (o a q : PassView) (k v : ℕ) → HasSeen o.view → IsLayout o.view.layout → (epochs o).pin ≡ None → Continues o a → (r : Result Bool Missed) → IfTaken r (HasReadFlagged a q k v) → IfTaken r (HasTaken o q k v)
-if_taken o a q k v seen fits unpinned pinning (Ok true) t = has_taken o q seen fits unpinned k v (read_since o a q k v pinning t)
-if_taken o a q k v seen fits unpinned pinning (Ok false) t = tt
-if_taken o a q k v seen fits unpinned pinning (Err missed.Busy) t = tt
-if_taken o a q k v seen fits unpinned pinning (Err missed.NoMemory) t = tt
-if_taken o a q k v seen fits unpinned pinning (Err (missed.Unfinished n)) t = has_taken o q seen fits unpinned k v (read_since o a q k v pinning t)
+pub if_taken : (o a q : PassView) (k v : ℕ) → HasSeen o.view → IsLayout o.view.layout → (epochs o).pin ≡ None → Continues o a → (r : Result Deletion CallFault) → IfTaken r (HasReadFlagged a q k v) → IfTaken r (HasTaken o q k v)
+if_taken o a q k v seen fits unpinned pinning (Ok (deletion.Done true)) t = has_taken o q seen fits unpinned k v (read_since o a q k v pinning t)
+if_taken o a q k v seen fits unpinned pinning (Ok (deletion.Done false)) t = tt
+if_taken o a q k v seen fits unpinned pinning (Err e) t = tt
+if_taken o a q k v seen fits unpinned pinning (Ok (deletion.Pending n)) t = has_taken o q seen fits unpinned k v (read_since o a q k v pinning t)

@@ -20,8 +20,10 @@ use Rattle.nm_calls.specs.declared.deleting.Injected.{Injected}
 use Rattle.nm_calls.specs.declared.deleting.Injected.TheVariants as injected
 use Rattle.nm_calls.specs.declared.deleting.Injection.{Injection}
 use Rattle.nm_calls.specs.declared.deleting.Injection.TheVariants as injection
-use Rattle.nm_calls.specs.declared.deleting.Missed.{Missed}
-use Rattle.nm_calls.specs.declared.deleting.Missed.TheVariants as missed
+use Rattle.nm_calls.specs.declared.deleting.Deletion.{Deletion}
+use Rattle.nm_calls.specs.declared.deleting.Deletion.TheVariants as deletion
+use Rattle.nm_calls.specs.declared.fault.CallFault.{CallFault}
+use Rattle.nm_calls.specs.declared.fault.CallFault.TheVariants as fault
 use Rattle.nm_calls.specs.declared.deleting.Removal.{Removal}
 use Rattle.nm_calls.specs.declared.deleting.Removal.TheVariants as removal
 use Rattle.nm_walks.specs.declared.seek_record.ChainEdge.{ChainEdge}
@@ -173,10 +175,15 @@ abbrev pub IfInjected : Injection → Type 0 → Type 0
 IfInjected (injection.Flagged f) P = P
 IfInjected _ P = Unit {0}
 
-abbrev pub IfTaken : Result Bool Missed → Type 0 → Type 0
-IfTaken (Ok true) P = P
-IfTaken (Err (missed.Unfinished n)) P = P
+abbrev pub IfTaken : Result Deletion CallFault → Type 0 → Type 0
+IfTaken (Ok (deletion.Done true)) P = P
+IfTaken (Ok (deletion.Pending n)) P = P
 IfTaken _ P = Unit {0}
+
+-- the property holds of the answer, if the delete has one
+abbrev pub IfDone : Result Deletion CallFault → (Bool → Type 0) → Type 0
+IfDone (Ok (deletion.Done answer)) P = P answer
+IfDone _ P = Unit {0}
 
 -- ---- the tries to flag
 
@@ -239,44 +246,43 @@ FlagsThen L tries k n old new m =
     × IsInjection L k tries c old mid (injection.Flagged f) × RemovalAfter L k f c mid new m
 
 -- a delete from its pin on, by its answer
-abbrev pub DeleteFinishes : Layout → ℕ → ℕ → List Entry → List Entry → Result Bool Missed → Type 0
-DeleteFinishes L tries k old new (Ok true) =
+abbrev pub DeleteFinishes : Layout → ℕ → ℕ → List Entry → List Entry → Result Deletion CallFault → Type 0
+DeleteFinishes L tries k old new (Ok (deletion.Done true)) =
     (n : NodeId) × (mid : List Entry) × FlagsThen L tries k n old mid removal.Removed
     × (new ≡ mid ++ (LeaveWith true, Departed) ∷ [])
-DeleteFinishes L tries k old new (Ok false) =
+DeleteFinishes L tries k old new (Ok (deletion.Done false)) =
     (c : List ChainEdge) × (mid : List Entry) × IsInjection L k tries c old mid injection.Absent
     × (new ≡ mid ++ (LeaveWith false, Departed) ∷ [])
-DeleteFinishes L tries k old new (Err missed.Busy) =
+DeleteFinishes L tries k old new (Err fault.Busy) =
     (c : List ChainEdge) × (mid : List Entry) × IsInjection L k tries c old mid injection.Spent
     × (new ≡ mid ++ (Leave, Departed) ∷ [])
-DeleteFinishes L tries k old new (Err missed.NoMemory) =
+DeleteFinishes L tries k old new (Err fault.NoMemory) =
     (c : List ChainEdge) × (mid : List Entry)
     × IsInjection L k tries c old mid injection.Refused × (new ≡ mid ++ (Leave, Departed) ∷ [])
-DeleteFinishes L tries k old new (Err (missed.Unfinished n)) =
+DeleteFinishes L tries k old new (Ok (deletion.Pending n)) =
     FlagsThen L tries k n old new removal.Refused
     ⊎ FlagsThen L tries k n old new removal.Spent
+DeleteFinishes L tries k old new (Err _) = ⊥
 
 -- a pin for the delete, and then the rest of it
-abbrev pub PinsForDelete : Layout → ℕ → ℕ → List Entry → List Entry → Result Bool Missed → Type 0
+abbrev pub PinsForDelete : Layout → ℕ → ℕ → List Entry → List Entry → Result Deletion CallFault → Type 0
 PinsForDelete L tries k old new r =
     (pinned : List Entry) × (epoch : ℕ) × IsPinnedBy (SightFor Delete k) tries old pinned epoch
     × DeleteFinishes L tries k pinned new r
 
 -- a whole delete, by its answer (Natarajan and Mittal, section 3.2, delete)
-abbrev pub DeleteDid : Layout → ℕ → ℕ → List Entry → List Entry → Result Bool Missed → Type 0
-DeleteDid L tries k old new (Err missed.Busy) =
+abbrev pub DeleteDid : Layout → ℕ → ℕ → List Entry → List Entry → Result Deletion CallFault → Type 0
+DeleteDid L tries k old new (Err fault.Busy) =
     ((tries ≡ 0) × (new ≡ old)) ⊎ ((tries ≢ 0) × IsMoved (SightFor Delete k) tries old new)
-    ⊎ PinsForDelete L tries k old new (Err missed.Busy)
-DeleteDid L tries k old new (Err missed.NoMemory) =
-    ((tries ≢ 0) × (new ≡ old)) ⊎ PinsForDelete L tries k old new (Err missed.NoMemory)
+    ⊎ PinsForDelete L tries k old new (Err fault.Busy)
+DeleteDid L tries k old new (Err fault.NoMemory) =
+    ((tries ≢ 0) × (new ≡ old)) ⊎ PinsForDelete L tries k old new (Err fault.NoMemory)
 DeleteDid L tries k old new r = PinsForDelete L tries k old new r
 
--- the worker rests; after `Unfinished` it stays pinned for the leaf that it has flagged
-abbrev pub RestsOrRemoves : ℕ → PassView → Result Bool Missed → Type 0
-RestsOrRemoves k q (Ok b) = IsResting q
-RestsOrRemoves k q (Err missed.Busy) = IsResting q
-RestsOrRemoves k q (Err missed.NoMemory) = IsResting q
-RestsOrRemoves k q (Err (missed.Unfinished n)) = IsRemoving q k n
+-- the worker rests; after `Pending` it stays pinned for the leaf that it has flagged
+abbrev pub RestsOrRemoves : ℕ → PassView → Result Deletion CallFault → Type 0
+RestsOrRemoves k q (Ok (deletion.Pending n)) = IsRemoving q k n
+RestsOrRemoves k q _ = IsResting q
 
 -- each try to remove the leaf was lost
 abbrev pub LosesEachTry : Layout → ℕ → NodeId → ℕ → List Entry → List Entry → Type 0
@@ -288,12 +294,12 @@ LosesAfterFlag L tries k old new n =
     (pinned : List Entry) × (epoch : ℕ) × IsPinnedBy (SightFor Delete k) tries old pinned epoch
     × FlagsThen L tries k n pinned new removal.Spent
 
--- why a delete gave up: after `NoMemory` the queue has less room than a try needs; after
--- `Unfinished` so it is, or each try after the flag was lost
-abbrev pub LacksRoomOr : (NodeId → Type 0) → ℕ → Missed → Type 0
-LacksRoomOr lost spare missed.Busy = Unit {0}
-LacksRoomOr lost spare missed.NoMemory = spare < cut_bound
-LacksRoomOr lost spare (missed.Unfinished n) = (spare < cut_bound) ⊎ lost n
+-- why a delete gave up: after `NoMemory` the queue has less room than a try needs; after `Pending`
+-- it has less, or each try after the flag was lost
+abbrev pub LacksRoomOr : (NodeId → Type 0) → ℕ → Result Deletion CallFault → Type 0
+LacksRoomOr lost spare (Err fault.NoMemory) = spare < cut_bound
+LacksRoomOr lost spare (Ok (deletion.Pending n)) = (spare < cut_bound) ⊎ lost n
+LacksRoomOr lost spare _ = Unit {0}
 
 -- tries to remove, and a leave with the answer true; or each try was lost, or the room of one was
 -- refused (Natarajan and Mittal, section 3.2, delete)
@@ -307,11 +313,11 @@ FinishDid L k n tries old new false =
 
 -- what a delete leaves of its pass, by its answer. It is as for an insert, except that it counts
 -- the flag that was won, and that the worker rests or stays pinned for the leaf
-pub record AfterDelete (L : Layout) (tries k : ℕ) (p q : PassView) (r : Result Bool Missed) : Type 0 where
+pub record AfterDelete (L : Layout) (tries k : ℕ) (p q : PassView) (r : Result Deletion CallFault) : Type 0 where
   pub same : IsSamePass p q
   pub past : HasSeenAllOf q p
   pub did : DeleteDid L tries k p.view.log q.view.log r
-  pub moment : IfOk r (AnswerHasMoment p q Delete k)
+  pub moment : IfDone r (AnswerHasMoment p q Delete k)
   pub won : HasWon p.view.log q.view.log 0 (flags_of_delete r)
   pub steps : IsWithinBound L tries p.view.log q.view.log
   pub run : (q ≡ p) ⊎ IsInRun q

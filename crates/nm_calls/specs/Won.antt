@@ -1,8 +1,8 @@
 -- How many exchanges a worker has won, by its log.
 use Rattle.std.specs.Prelude.{◌≡◌, ℕ, ◌+◌, Bool, true, false, List, Result, Ok, Err}
 use Rattle.nm_model.specs.Walks.{Entry}
-use Rattle.nm_calls.specs.declared.deleting.Missed.{Missed}
-use Rattle.nm_calls.specs.declared.deleting.Missed.TheVariants as missed
+use Rattle.nm_calls.specs.declared.deleting.Deletion.{Deletion}
+use Rattle.nm_calls.specs.declared.deleting.Deletion.TheVariants as deletion
 use Rattle.nm_calls.specs.declared.fault.CallFault.{CallFault}
 use Rattle.nm_walks.specs.WonCounts.{won_flags, won_links}
 
@@ -19,11 +19,8 @@ links_of_insert (Ok true) = 1
 links_of_insert (Ok false) = 0
 links_of_insert (Err fault) = 0
 
--- the flags that a delete has won, by its answer: one if it returned true or `Unfinished`, else
--- none
-abbrev pub flags_of_delete : Result Bool Missed → ℕ
-flags_of_delete (Ok true) = 1
-flags_of_delete (Ok false) = 0
-flags_of_delete (Err missed.Busy) = 0
-flags_of_delete (Err missed.NoMemory) = 0
-flags_of_delete (Err (missed.Unfinished leaf)) = 1
+-- the flags that a delete has won, by its result: one if it returned true or `Pending`, else none
+abbrev pub flags_of_delete : Result Deletion CallFault → ℕ
+flags_of_delete (Ok (deletion.Done true)) = 1
+flags_of_delete (Ok (deletion.Pending leaf)) = 1
+flags_of_delete _ = 0

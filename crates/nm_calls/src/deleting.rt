@@ -17,8 +17,9 @@ ghost use Rattle.nm_steps.specs.Values.{HasValues};
 ghost use Rattle.nm_calls.specs.Maps.{HasReadFlagged, HasTaken};
 ghost use Rattle.nm_calls.specs.Moments.{AnswerHasMoment, HadNoCall};
 ghost use Rattle.nm_walks.specs.Cleanups.{OnlyCleans, KeepsLedgers, HoldsCuts};
-ghost use Rattle.nm_calls.specs.Deletes.{IsRemoving, Removes, RemovesNothing, IsRemoval, IfRemoved, MayFlag, HasWonItsFlag, HasNotFlagged, IfFlagged, IfInjected, IfTaken, IsFlagTry, ShowsFlag, OnlyInjects, IsInjection, ShowsInjection, RemovalAfter, leaf_of, DeleteFinishes, LosesAfterFlag, LacksRoomOr, FlagsThen, LosesEachTry, AfterDelete, AfterFinish, RestsOrRemoves};
+ghost use Rattle.nm_calls.specs.Deletes.{IsRemoving, Removes, RemovesNothing, IsRemoval, IfRemoved, MayFlag, HasWonItsFlag, HasNotFlagged, IfFlagged, IfInjected, IfDone, IfTaken, IsFlagTry, ShowsFlag, OnlyInjects, IsInjection, ShowsInjection, RemovalAfter, leaf_of, DeleteFinishes, LosesAfterFlag, LacksRoomOr, FlagsThen, LosesEachTry, AfterDelete, AfterFinish, RestsOrRemoves};
 
+use crate::fault::CallFault;
 use crate::helping::{help, make_room, make_room_for};
 use crate::leaving::{answer, leave};
 use crate::values::value_of_slot;
@@ -69,15 +70,13 @@ pub struct Unfinished {
     pub leaf: NodeId,
 }
 
-/// Why a delete has no answer.
+/// How far a delete has come that found the key absent, or has flagged the leaf with it.
 #[derive(Clone, Copy, Debug, PartialEq, Eq)]
-pub enum Missed {
-    /// Each try was lost, by the pin or by the call itself, or the call had no try.
-    Busy,
-    /// There was no memory for the room of a try: the queue has less room than a try needs.
-    NoMemory,
+pub enum Deletion {
+    /// It has its answer: whether the key was present.
+    Done(bool),
     /// The worker has flagged this leaf and stays pinned; the leaf is not known to be cut off.
-    Unfinished(NodeId),
+    Pending(NodeId),
 }
 
 /// The result of tries to remove a flagged leaf.
@@ -352,7 +351,7 @@ fn delete_pinned(
     key: Key,
     value: &mut u64,
     tries: u32,
-) -> Result<bool, Missed>
+) -> Result<Deletion, CallFault>
     requires pinned { IsPinnedIn shared.now pass.old }
     requires call { IsPinnedForCall Delete key pass.old }
     requires unchanged { HasChangedNothing pass.old }
@@ -361,11 +360,10 @@ fn delete_pinned(
     ensures on { Continues pass.old pass.new }
     ensures part { DeleteFinishes shared.now.layout tries key pass.old.view.log
         pass.new.view.log result }
-    ensures refused { IfErr result
-        (LacksRoomOr (λ n. FlagsThen shared.now.layout tries key n pass.old.view.log
-        pass.new.view.log Removal.Spent) held.new.queue.spare) }
+    ensures refused { LacksRoomOr (λ n. FlagsThen shared.now.layout tries key n pass.old.view.log
+        pass.new.view.log Removal.Spent) held.new.queue.spare result }
     ensures moment { (o : PassView) → HadNoCall o pass.old
-        → IfOk result (AnswerHasMoment o pass.new Delete key) }
+        → IfDone result (AnswerHasMoment o pass.new Delete key) }
     ensures read { HasValues shared.now
         → IfTaken result (HasReadFlagged pass.old pass.new key value.new) }
     ensures stands { RestsOrRemoves key pass.new result }
@@ -378,42 +376,43 @@ fn delete_pinned(
     match inject(shared, pass, workspace, held, key, value, tries) {
         Injection::Absent => {
             answer(shared, pass, false);
-            Ok(false)
+            Ok(Deletion::Done(false))
         }
         Injection::Refused => {
             leave(shared, pass);
-            Err(Missed::NoMemory)
+            Err(CallFault::NoMemory)
         }
         Injection::Spent => {
             leave(shared, pass);
-            Err(Missed::Busy)
+            Err(CallFault::Busy)
         }
         Injection::Flagged(flagged) => {
             let leaf = leaf_at(&flagged);
             match remove_after(shared, pass, workspace, held, key, &flagged) {
                 Removal::Removed => {
                     answer(shared, pass, true);
-                    Ok(true)
+                    Ok(Deletion::Done(true))
                 }
-                Removal::Refused => Err(Missed::Unfinished(leaf)),
-                Removal::Spent => Err(Missed::Unfinished(leaf)),
+                Removal::Refused => Ok(Deletion::Pending(leaf)),
+                Removal::Spent => Ok(Deletion::Pending(leaf)),
             }
         }
     }
 }
 
-/// Deletes `key`; returns true if it was present. Then, and after `Unfinished`, it has written the value
-/// of the leaf with the key to `value`, if the table has values. The worker must rest, and it rests
-/// afterwards, except after `Unfinished`. Its queue is that of its log before and after. Before each try the
-/// call makes room for a cleanup, with as few new blocks as possible; for the first try it does so
-/// before the pin. It takes no other memory.
+/// Deletes `key`; returns whether it was present, or `Pending` if the leaf with the key is flagged and
+/// not known to be cut off. If the key was present, or the delete is pending, it has written the value
+/// of the leaf to `value`, if the table has values. The worker must rest. It rests afterwards, except
+/// after `Pending`: then it stays pinned for that leaf. Its queue is that of its log before and after.
+/// Before each try the call makes room for a cleanup, with as few new blocks as possible; for the
+/// first try it does so before the pin. It takes no other memory.
 ///
-/// Errors: `Busy`, `NoMemory`: see `Missed`. `Unfinished`: the leaf with the key is flagged and not
-/// known to be cut off. The worker stays pinned for that leaf.
+/// Errors: `Busy`, `NoMemory`: see `CallFault`.
 ///
 /// Cost: at most `tries` * (4 `reach` + 512) + 10 steps. A walk's reach is 66 nodes in a radix
-/// tree, and the number of nodes otherwise. The call wins one flag if the result is `Ok(true)` or
-/// `Unfinished`, and else none; it wins no link. (The delete of Natarajan and Mittal, section 3.2.)
+/// tree, and the number of nodes otherwise. The call wins one flag if the key was present or the
+/// delete is pending, and else none; it wins no link. (The delete of Natarajan and Mittal, section
+/// 3.2.)
 pub fn delete(
     shared: &Shared,
     pass: &mut Pass,
@@ -422,16 +421,15 @@ pub fn delete(
     key: Key,
     value: &mut u64,
     tries: u32,
-) -> Result<bool, Missed>
+) -> Result<Deletion, CallFault>
     requires own { IsOf shared.now pass.old }
     requires rests { IsResting pass.old }
     requires kept { HoldsCuts pass.old held.old }
     ensures after { AfterDelete shared.now.layout tries key pass.old pass.new result }
     ensures taken { HasValues shared.now
         → IfTaken result (HasTaken pass.old pass.new key value.new) }
-    ensures refused { IfErr result
-        (LacksRoomOr (LosesAfterFlag shared.now.layout tries key pass.old.view.log
-        pass.new.view.log) held.new.queue.spare) }
+    ensures refused { LacksRoomOr (LosesAfterFlag shared.now.layout tries key pass.old.view.log
+        pass.new.view.log) held.new.queue.spare result }
     ensures kept { HoldsCuts pass.new held.new }
     ensures blocks { TakesRoom held.old.queue held.new.queue }
     ensures few { length held.new.queue.items ≤ shared.now.layout.nodes }
@@ -439,13 +437,13 @@ pub fn delete(
 {
     pass.know_run();
     if tries == 0 {
-        return Err(Missed::Busy);
+        return Err(CallFault::Busy);
     }
     if !make_room(&mut held.queue) {
-        return Err(Missed::NoMemory);
+        return Err(CallFault::NoMemory);
     }
     let Ok(_epoch) = pin_for(shared, pass, tries, Op::Delete, key) else {
-        return Err(Missed::Busy);
+        return Err(CallFault::Busy);
     };
     delete_pinned(shared, pass, workspace, held, key, value, tries)
 }

@@ -15,7 +15,7 @@ mod near_key;
 mod scanning;
 mod values;
 
-pub use deleting::{Missed, Unfinished, delete, finish};
+pub use deleting::{Deletion, Unfinished, delete, finish};
 pub use fault::CallFault;
 pub use handing_back::collect_values;
 pub use inserting::insert;

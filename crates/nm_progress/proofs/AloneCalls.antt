@@ -47,7 +47,6 @@ use Rattle.nm_walks.specs.declared.seek_record.ChainEdge.{ChainEdge}
 use Rattle.nm_walks.specs.declared.seek_record.SeekRecord.{SeekRecord}
 use Rattle.nm_walks.specs.declared.seek_record.WalkEnd.{WalkEnd}
 use Rattle.nm_calls.specs.declared.fault.CallFault.TheVariants as fault
-use Rattle.nm_calls.specs.declared.deleting.Missed.TheVariants as missed
 use Rattle.nm_walks.specs.Walks.{Walks, IsBroken}
 use Rattle.nm_calls.specs.Inserts.{LostInserts, InsertDid}
 use Rattle.nm_calls.specs.Deletes.{LostFlags, DeleteDid}
@@ -459,7 +458,7 @@ deletes_alone_are_not_busy k tries p q seen_p seen_q enough same on runs resting
     rests : NonePends p.view.layout p.view.past
     rests = none_pends p seen_p resting runs.rests
 
-    by : DeleteDid p.view.layout tries k p.view.log q.view.log (Err missed.Busy) → tries ≡ 0
+    by : DeleteDid p.view.layout tries k p.view.log q.view.log (Err fault.Busy) → tries ≡ 0
     by (inl none) = none.0
     by (inr (inl m)) = none_moved p q tries alone (moved p q seen_p seen_q enough same on (SightFor Delete k) refl tries m.0 m.1)
     by (inr (inr (pinned, epoch, pin, (c, mid, tried, leaves)))) = none_flagged p q seen_p seen_q enough same alone rests k tries pinned mid (pin_mute Delete k tries p.view.log pinned epoch pin) tried (longer_these _ mid q.view.log leaves)

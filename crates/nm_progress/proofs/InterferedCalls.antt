@@ -12,7 +12,6 @@ use Rattle.nm_calls.specs.PlainWalks.{events_of}
 use Rattle.nm_calls.proofs.PlainLooks.{as_events}
 use Rattle.nm_epoch.specs.Tries.{IsMoved}
 use Rattle.nm_calls.specs.declared.fault.CallFault.TheVariants as fault
-use Rattle.nm_calls.specs.declared.deleting.Missed.TheVariants as missed
 use Rattle.nm_calls.specs.Inserts.{InsertDid}
 use Rattle.nm_walks.specs.Cleanups.{CleanupLost}
 use Rattle.nm_calls.specs.Deletes.{LostRemovals, DeleteDid, IsRemoving, leaf_of}
@@ -69,7 +68,7 @@ busy_inserts_were_lost fit k tries p q seen_p seen_q enough crew same on did = b
 pub busy_deletes_were_lost : BusyDeletesWereLost
 busy_deletes_were_lost k tries p q seen_p seen_q enough crew same on did = by did
   where
-    by : DeleteDid p.view.layout tries k p.view.log q.view.log (Err missed.Busy) → ChangeWasBusy p q tries
+    by : DeleteDid p.view.layout tries k p.view.log q.view.log (Err fault.Busy) → ChangeWasBusy p q tries
     by (inl none) = inl none.0
     by (inr (inl m)) = inr (inl (moved p q seen_p seen_q enough same on (SightFor Delete k) refl tries m.0 m.1))
     by (inr (inr (pinned, epoch, pin, (c, mid, tried, leaves)))) = inr (inr (lost p q seen_p seen_q enough same on tries pinned mid (pin_longer (SightFor Delete k) tries p.view.log pinned epoch pin)

@@ -8,7 +8,6 @@ use Rattle.nm_steps.specs.Steps.{PassView, IsSamePass, HasSeenAllOf, HasSeen}
 use Rattle.nm_epoch.specs.Resting.{IsResting}
 use Rattle.nm_walks.specs.Bounds.{chain_bound}
 use Rattle.nm_calls.specs.declared.fault.CallFault.TheVariants as fault
-use Rattle.nm_calls.specs.declared.deleting.Missed.TheVariants as missed
 use Rattle.nm_calls.specs.Calls.{HasMissed}
 use Rattle.nm_calls.specs.Deletes.{DeleteDid, IsRemoving, LosesAfterFlag, LosesEachTry}
 use Rattle.nm_calls.specs.InTurns.{GiveUp as GiveUpInTurns}
@@ -51,7 +50,7 @@ InsertsAloneAreAnswered = (fit : Fit) (k tries : ℕ) (p q : PassView) → HasSe
 abbrev pub DeletesAloneAreNotBusy : Type 0
 DeletesAloneAreNotBusy = (k tries : ℕ) (p q : PassView) → HasSeen p.view
     → HasSeen q.view → 5 ≤ p.view.layout.nodes → IsSamePass p q → HasSeenAllOf q p → RunsAlone p q
-    → IsResting p → DeleteDid p.view.layout tries k p.view.log q.view.log (Err missed.Busy)
+    → IsResting p → DeleteDid p.view.layout tries k p.view.log q.view.log (Err fault.Busy)
     → tries ≡ 0
 
 -- a delete that runs alone and has flagged its leaf loses no try after that: it is finished, if it

@@ -3,7 +3,7 @@ use Rattle.std.specs.Prelude.{ℕ, ◌-◌, ◌≤◌, Err}
 use Rattle.nm_edge.specs.declared.node.NodeId.{NodeId}
 use Rattle.nm_steps.specs.Steps.{PassView, IsSamePass, HasSeenAllOf, HasSeen}
 use Rattle.nm_walks.specs.Bounds.{chain_bound}
-use Rattle.nm_calls.specs.declared.deleting.Missed.TheVariants as missed
+use Rattle.nm_calls.specs.declared.fault.CallFault.TheVariants as fault
 use Rattle.nm_calls.specs.Deletes.{DeleteDid, IsRemoving, LosesAfterFlag, LosesEachTry}
 use Rattle.nm_progress.specs.Lost.{Interference, WasChanged, ChangeWasBusy}
 
@@ -11,7 +11,7 @@ use Rattle.nm_progress.specs.Lost.{Interference, WasChanged, ChangeWasBusy}
 abbrev pub BusyDeletesWereLost : Type 0
 BusyDeletesWereLost = (k tries : ℕ) (p q : PassView) → HasSeen p.view → HasSeen q.view
     → 5 ≤ p.view.layout.nodes → p.view.layout.workers ≤ chain_bound → IsSamePass p q → HasSeenAllOf q p
-    → DeleteDid p.view.layout tries k p.view.log q.view.log (Err missed.Busy)
+    → DeleteDid p.view.layout tries k p.view.log q.view.log (Err fault.Busy)
     → ChangeWasBusy p q tries
 
 -- a delete that has flagged its leaf n and lost all tries after that: its worker was interfered

@@ -7,7 +7,7 @@ use Rattle.nm_edge.specs.declared.node.NodeId.{NodeId}
 use Rattle.nm_edge.specs.declared.placement.Fit.{Fit}
 use Rattle.nm_steps.specs.Steps.{TreeView, PassView, IsOf, IsSamePass, HasSeen, HasSeenAllOf}
 use Rattle.nm_calls.specs.declared.fault.CallFault.TheVariants as lost
-use Rattle.nm_calls.specs.declared.deleting.Missed.TheVariants as missed
+use Rattle.nm_calls.specs.declared.fault.CallFault.TheVariants as fault
 use Rattle.nm_calls.specs.Calls.{HasMissed}
 use Rattle.nm_calls.specs.InTurns.{GiveUp as GiveUpInTurns}
 use Rattle.nm_calls.specs.Inserts.{InsertDid}
@@ -45,10 +45,10 @@ module _ (b d : TreeView) (o p q : PassView) (k tries : ℕ) (tree : b ≡ d) (a
       subst (λ (x : PassView). ChangeWasBusy x q tries) at
       (busy_inserts_were_lost f k tries o q seen after enough fits.few same past (subst (λ (L : Layout). InsertDid f L tries k o.view.log q.view.log (Err lost.Busy)) (sym (layouts own)) did))
 
-  pub delete_interfered : IsOf d p → DeleteDid b.layout tries k o.view.log q.view.log (Err missed.Busy) → ChangeWasBusy p q tries
+  pub delete_interfered : IsOf d p → DeleteDid b.layout tries k o.view.log q.view.log (Err fault.Busy) → ChangeWasBusy p q tries
   delete_interfered own did =
       subst (λ (x : PassView). ChangeWasBusy x q tries) at
-      (busy_deletes_were_lost k tries o q seen after enough fits.few same past (subst (λ (L : Layout). DeleteDid L tries k o.view.log q.view.log (Err missed.Busy)) (sym (layouts own)) did))
+      (busy_deletes_were_lost k tries o q seen after enough fits.few same past (subst (λ (L : Layout). DeleteDid L tries k o.view.log q.view.log (Err fault.Busy)) (sym (layouts own)) did))
 
   pub delete_lost : IsOf d p → (n : NodeId) → IsRemoving q k n → LosesAfterFlag b.layout tries k o.view.log q.view.log n → Interference p q (tries - 1)
   delete_lost own n removing did =
@@ -95,10 +95,10 @@ module _ (b d : TreeView) (o p q : PassView) (k tries : ℕ) (tree : b ≡ d) (a
       inserts_alone_are_answered f k tries o q seen after enough same past (mine_too runs) rests
       (subst (λ (L : Layout). InsertDid f L tries k o.view.log q.view.log (Err lost.Busy)) (sym (layouts own)) did)
 
-  pub delete_alone : IsOf d p → RunsAlone p q → IsResting o → DeleteDid b.layout tries k o.view.log q.view.log (Err missed.Busy) → tries < 1
+  pub delete_alone : IsOf d p → RunsAlone p q → IsResting o → DeleteDid b.layout tries k o.view.log q.view.log (Err fault.Busy) → tries < 1
   delete_alone own runs rests did =
       let none = deletes_alone_are_not_busy k tries o q seen after enough same past (mine_too runs) rests
-      (subst (λ (L : Layout). DeleteDid L tries k o.view.log q.view.log (Err missed.Busy)) (sym (layouts own)) did) in
+      (subst (λ (L : Layout). DeleteDid L tries k o.view.log q.view.log (Err fault.Busy)) (sym (layouts own)) did) in
       omega (arith, none)
 
   pub delete_finished : IsOf d p → (n : NodeId) → RunsAlone p q → IsResting o → LosesAfterFlag b.layout tries k o.view.log q.view.log n → tries < 2

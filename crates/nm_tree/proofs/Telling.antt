@@ -1,8 +1,12 @@
 -- What a call leaves, by what it answered.
-use Rattle.std.proofs.Common.{◌≡◌, ℕ, sym, subst}
-use Rattle.std.specs.Prelude.{Bool, Result}
+use Rattle.std.proofs.Common.{◌≡◌, ℕ, refl, sym, subst}
+use Rattle.std.specs.Prelude.{◌≢◌, Bool, List, Result, Err}
+use Rattle.nm_edge.specs.Layouts.{Layout}
+use Rattle.nm_model.specs.Walks.{Entry}
 use Rattle.nm_steps.specs.Steps.{TreeView}
+use Rattle.nm_calls.specs.Deletes.{DeleteDid}
 use Rattle.nm_calls.specs.declared.fault.CallFault.{CallFault}
+use Rattle.nm_calls.specs.declared.fault.CallFault.TheVariants as fault
 use Rattle.nm_tree.specs.Answers.{HasInserted, HasDeleted, HasFinished}
 use Rattle.nm_tree.specs.Workers.{WorkerView}
 
@@ -24,3 +28,12 @@ finished_so b d tries w v z r tree worker did =
     let P : TreeView → Type 0 = λ x. HasFinished x.layout tries v z r in
     let Q : WorkerView → Type 0 = λ x. HasFinished b.layout tries x z r in
     subst P tree (subst Q worker did)
+
+-- a delete with an error that is not `Busy` had no memory
+pub no_other_fault : (L : Layout) (tries k : ℕ) (old new : List Entry) (e : CallFault) → DeleteDid L tries k old new (Err e) → e ≢ fault.Busy → e ≡ fault.NoMemory
+no_other_fault L tries k old new fault.Busy did other = absurd (other refl)
+no_other_fault L tries k old new fault.NoMemory did other = refl
+no_other_fault L tries k old new fault.Full (pinned, epoch, pin, none) other = absurd none
+no_other_fault L tries k old new fault.Unfinished (pinned, epoch, pin, none) other = absurd none
+no_other_fault L tries k old new fault.Pending (pinned, epoch, pin, none) other = absurd none
+no_other_fault L tries k old new fault.Pinned (pinned, epoch, pin, none) other = absurd none

@@ -2,7 +2,6 @@
 use Rattle.std.specs.Prelude.{◌≡◌, ◌⊎◌, ◌<◌, ℕ, ◌-◌, Bool, true, false, Some, None, IsSome, Result, Ok, Err}
 use Rattle.nm_edge.specs.Layouts.{Layout}
 use Rattle.nm_edge.specs.declared.node.NodeId.{NodeId}
-use Rattle.nm_calls.specs.declared.deleting.Missed.TheVariants as missed
 use Rattle.nm_calls.specs.Calls.{HasDid, HasMissed}
 use Rattle.nm_calls.specs.Deletes.{DeleteDid, FinishDid, LosesEachTry, LosesAfterFlag}
 use Rattle.nm_calls.specs.Inserts.{InsertDid}
@@ -14,6 +13,7 @@ use Rattle.nm_model.specs.declared.event.Op.TheVariants.{Delete}
 use Rattle.nm_progress.specs.Lost.{Interference, WasChanged}
 use Rattle.nm_tree.specs.declared.fault.PinFault.{PinFault}
 use Rattle.nm_tree.specs.declared.fault.PinFault.TheVariants as pinning
+use Rattle.nm_calls.specs.declared.deleting.Deletion.TheVariants as deletion
 use Rattle.nm_calls.specs.declared.fault.CallFault.{CallFault}
 use Rattle.nm_calls.specs.declared.fault.CallFault.TheVariants as fault
 use Rattle.nm_calls.specs.declared.deleting.Unfinished.{Unfinished}
@@ -99,14 +99,14 @@ HasInserted L tries k w z (Err fault.Pinned) = ⊥
 -- what a delete leaves of its worker and its log, by its answer (Natarajan and Mittal, section 3.2)
 abbrev pub HasDeleted : Layout → ℕ → ℕ → WorkerView → WorkerView → Result Bool CallFault → Type 0
 HasDeleted L tries k w z (Ok b) =
-    IsFree w z × DeleteDid L tries k w.pass.view.log z.pass.view.log (Ok b)
+    IsFree w z × DeleteDid L tries k w.pass.view.log z.pass.view.log (Ok (deletion.Done b))
 HasDeleted L tries k w z (Err fault.Busy) =
-    IsFree w z × DeleteDid L tries k w.pass.view.log z.pass.view.log (Err missed.Busy)
+    IsFree w z × DeleteDid L tries k w.pass.view.log z.pass.view.log (Err fault.Busy)
 HasDeleted L tries k w z (Err fault.NoMemory) =
-    IsFree w z × DeleteDid L tries k w.pass.view.log z.pass.view.log (Err missed.NoMemory)
+    IsFree w z × DeleteDid L tries k w.pass.view.log z.pass.view.log (Err fault.NoMemory)
 HasDeleted L tries k w z (Err fault.Unfinished) =
     (w.pending ≡ None) × (leaf : NodeId) × (z.pending ≡ Some (record { key = k; leaf = leaf }))
-    × DeleteDid L tries k w.pass.view.log z.pass.view.log (Err (missed.Unfinished leaf))
+    × DeleteDid L tries k w.pass.view.log z.pass.view.log (Ok (deletion.Pending leaf))
 HasDeleted L tries k w z (Err fault.Pending) = IsPendingStill w z
 HasDeleted L tries k w z (Err fault.Full) = ⊥
 HasDeleted L tries k w z (Err fault.Pinned) = ⊥
@@ -133,7 +133,7 @@ links_won (Err fault) = 0
 -- the flags that a call of a tree has won, by its answer: one if a delete returned true or
 -- `Unfinished`
 abbrev pub flags_won : Result Bool CallFault → ℕ
-flags_won (Ok answer) = flags_of_delete (Ok answer)
+flags_won (Ok answer) = flags_of_delete (Ok (deletion.Done answer))
 flags_won (Err fault.Unfinished) = 1
 flags_won (Err _) = 0
 

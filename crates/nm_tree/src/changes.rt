@@ -8,7 +8,7 @@ ghost use Rattle.nm_tree.specs.Answers.{IfTaken};
 
 use crate::tree::Tree;
 use crate::worker::{Standing, Worker};
-use nm_calls::{CallFault, Missed, Unfinished, delete, finish, insert};
+use nm_calls::{CallFault, Deletion, Unfinished, delete, finish, insert};
 use nm_edge::Key;
 
 impl Tree {
@@ -141,17 +141,17 @@ impl Tree {
             taken,
             tries,
         ) {
-            Ok(answer) => Ok(answer),
-            Err(Missed::Busy) => {
-                worker.pass.know_run();
-                Err(CallFault::Busy)
-            }
-            Err(Missed::NoMemory) => Err(CallFault::NoMemory),
-            Err(Missed::Unfinished(leaf)) => {
+            Ok(Deletion::Done(answer)) => Ok(answer),
+            Ok(Deletion::Pending(leaf)) => {
                 worker.pass.know_run();
                 worker.standing = Standing::Pending(Unfinished { key, leaf });
                 Err(CallFault::Unfinished)
             }
+            Err(CallFault::Busy) => {
+                worker.pass.know_run();
+                Err(CallFault::Busy)
+            }
+            Err(fault) => Err(fault),
         }
     }
 
