@@ -49,3 +49,71 @@ pub fn take_due(member: &mut MapMember, below: u64, options: &Options) -> Option
         _ => None,
     }
 }
+
+/// Returns the greatest key of the map that is not above `key`, with its value. `None`: there is none,
+/// or the call returned an error. Proved: otherwise the map had that key with that value at a moment
+/// of the call.
+pub fn look_back(member: &mut MapMember, key: Key, tries: u32) -> Option<(Key, u64)>
+    ensures tree { member.new.tree ≡ member.old.tree }
+    ensures had { IfSome result (λ e. MapGave member.old.worker.pass member.new.worker.pass e.0 (Some e.1)) }
+{
+    let mut value = 0;
+    match member.prev_with_value(key, &mut value, tries) {
+        Ok(Some(previous)) => Some((previous, value)),
+        _ => None,
+    }
+}
+
+/// Removes a key, and returns the value that it had. `None`: the map did not have the key, or the call
+/// returned an error. Proved: otherwise the map had the key with that value at a moment of the call,
+/// in the slot of a leaf that this member has flagged.
+pub fn take_out(member: &mut MapMember, key: Key, options: &Options) -> Option<u64>
+    ensures tree { member.new.tree ≡ member.old.tree }
+    ensures took { IfSome result (TookMeanwhile member.old.worker.pass member.new.worker.pass key) }
+{
+    let mut value = 0;
+    match member.remove(key, &mut value, options) {
+        Ok(true) => Some(value),
+        _ => None,
+    }
+}
+
+/// Takes the least key of the map, with its value. Proved: as of `take_due`.
+pub fn take_first(member: &mut MapMember, options: &Options) -> Option<(Key, u64)>
+    ensures tree { member.new.tree ≡ member.old.tree }
+    ensures took { IfSome result
+        (λ e. TookMeanwhile member.old.worker.pass member.new.worker.pass e.0 e.1) }
+{
+    let mut value = 0;
+    match member.pop_first(&mut value, options) {
+        Ok(Some(first)) => Some((first, value)),
+        _ => None,
+    }
+}
+
+/// Takes the greatest key of the map, with its value. Proved: as of `take_due`.
+pub fn take_last(member: &mut MapMember, options: &Options) -> Option<(Key, u64)>
+    ensures tree { member.new.tree ≡ member.old.tree }
+    ensures took { IfSome result
+        (λ e. TookMeanwhile member.old.worker.pass member.new.worker.pass e.0 e.1) }
+{
+    let mut value = 0;
+    match member.pop_last(&mut value, options) {
+        Ok(Some(last)) => Some((last, value)),
+        _ => None,
+    }
+}
+
+/// Takes the greatest key of the map that is not below a bound, with its value. Proved: as of
+/// `take_due`.
+pub fn take_last_from(member: &mut MapMember, from: u64, options: &Options) -> Option<(Key, u64)>
+    ensures tree { member.new.tree ≡ member.old.tree }
+    ensures took { IfSome result
+        (λ e. TookMeanwhile member.old.worker.pass member.new.worker.pass e.0 e.1) }
+{
+    let mut value = 0;
+    match member.pop_last_from(from, &mut value, options) {
+        Ok(Some(last)) => Some((last, value)),
+        _ => None,
+    }
+}
