@@ -7,12 +7,13 @@ ghost use Rattle.nm_callers.specs.Mapping.{HasPutOrFound};
 use nm_edge::Key;
 use nm_set::{MapMember, Options};
 
-/// Inserts a key with a value, and returns the value that the key then had: this one, or the one that
-/// was there. `None`: the call returned an error. Proved: otherwise the map had the key with the
-/// value that is returned, at a moment (linearization point) of the call.
+/// Inserts a key with a value, and returns the value that the key then had: this one, or the one
+/// that was there. `None`: the call returned an error. Proved: otherwise the map had the key with
+/// the value that is returned, at a moment (linearization point) of the call.
 pub fn put_or_find(member: &mut MapMember, key: Key, value: u64, options: &Options) -> Option<u64>
     ensures tree { member.new.tree ≡ member.old.tree }
-    ensures had { IfSome result (HasPutOrFound member.old.worker.pass member.new.worker.pass key value) }
+    ensures had { IfSome result
+        (HasPutOrFound member.old.worker.pass member.new.worker.pass key value) }
 {
     let mut found = 0;
     match member.insert(key, value, &mut found, options) {
@@ -22,11 +23,13 @@ pub fn put_or_find(member: &mut MapMember, key: Key, value: u64, options: &Optio
     }
 }
 
-/// Returns the least key of the map from `key` on, with its value. `None`: there is none, or the call
-/// returned an error. Proved: otherwise the map had that key with that value at a moment of the call.
+/// Returns the least key of the map from `key` on, with its value. `None`: there is none, or the
+/// call returned an error. Proved: otherwise the map had that key with that value at a moment of
+/// the call.
 pub fn look_next(member: &mut MapMember, key: Key, tries: u32) -> Option<(Key, u64)>
     ensures tree { member.new.tree ≡ member.old.tree }
-    ensures had { IfSome result (λ e. MapGave member.old.worker.pass member.new.worker.pass e.0 (Some e.1)) }
+    ensures had { IfSome result
+        (λ e. MapGave member.old.worker.pass member.new.worker.pass e.0 (Some e.1)) }
 {
     let mut value = 0;
     match member.next_with_value(key, &mut value, tries) {
@@ -35,9 +38,10 @@ pub fn look_next(member: &mut MapMember, key: Key, tries: u32) -> Option<(Key, u
     }
 }
 
-/// Takes the least key of the map that is below a bound, with its value, as a timer takes a task that
-/// is due. `None`: there is none, or the call returned an error. Proved: otherwise the map had that key
-/// with that value at a moment of the call, in the slot of a leaf that this member has flagged.
+/// Takes the least key of the map that is below a bound, with its value, as a timer takes a task
+/// that is due. `None`: there is none, or the call returned an error. Proved: otherwise the map had
+/// that key with that value at a moment of the call, in the slot of a leaf that this member has
+/// flagged.
 pub fn take_due(member: &mut MapMember, below: u64, options: &Options) -> Option<(Key, u64)>
     ensures tree { member.new.tree ≡ member.old.tree }
     ensures took { IfSome result
@@ -50,12 +54,13 @@ pub fn take_due(member: &mut MapMember, below: u64, options: &Options) -> Option
     }
 }
 
-/// Returns the greatest key of the map that is not above `key`, with its value. `None`: there is none,
-/// or the call returned an error. Proved: otherwise the map had that key with that value at a moment
-/// of the call.
+/// Returns the greatest key of the map that is not above `key`, with its value. `None`: there is
+/// none, or the call returned an error. Proved: otherwise the map had that key with that value at a
+/// moment of the call.
 pub fn look_back(member: &mut MapMember, key: Key, tries: u32) -> Option<(Key, u64)>
     ensures tree { member.new.tree ≡ member.old.tree }
-    ensures had { IfSome result (λ e. MapGave member.old.worker.pass member.new.worker.pass e.0 (Some e.1)) }
+    ensures had { IfSome result
+        (λ e. MapGave member.old.worker.pass member.new.worker.pass e.0 (Some e.1)) }
 {
     let mut value = 0;
     match member.prev_with_value(key, &mut value, tries) {
@@ -64,9 +69,9 @@ pub fn look_back(member: &mut MapMember, key: Key, tries: u32) -> Option<(Key, u
     }
 }
 
-/// Removes a key, and returns the value that it had. `None`: the map did not have the key, or the call
-/// returned an error. Proved: otherwise the map had the key with that value at a moment of the call,
-/// in the slot of a leaf that this member has flagged.
+/// Removes a key, and returns the value that it had. `None`: the map did not have the key, or the
+/// call returned an error. Proved: otherwise the map had the key with that value at a moment of the
+/// call, in the slot of a leaf that this member has flagged.
 pub fn take_out(member: &mut MapMember, key: Key, options: &Options) -> Option<u64>
     ensures tree { member.new.tree ≡ member.old.tree }
     ensures took { IfSome result (TookMeanwhile member.old.worker.pass member.new.worker.pass key) }

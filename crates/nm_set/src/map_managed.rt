@@ -19,10 +19,11 @@ use nm_tree::{CallFault, HandedOut};
 /// What `MapMember::reclaim` did.
 #[derive(Clone, Copy, Debug, PartialEq, Eq)]
 pub struct Reclaimed {
-    /// The epoch, how many nodes were freed, and how many values were written.
+    /// The epoch that was read, and how many values were written.
     pub handed: HandedOut,
-    /// The other worker that was found to hold the epoch back. `None`: no worker was found so. Then
-    /// the epoch was advanced twice during the call, or it is the last one.
+    /// The worker that was found to hold the epoch back. It is the member's own if its caller has
+    /// pinned it. `None`: no worker was found so. Then the epoch was advanced twice during the call,
+    /// or it is the last one.
     pub behind: Option<u32>,
 }
 
@@ -42,9 +43,11 @@ impl MapMember {
     /// the look-up.
     ///
     /// Errors: `Pinned`: the caller has pinned the worker; nothing has changed (`get_pinned` is for
-    /// that). `Pending`, `Busy`: as of `Member::contains`. Proved (`alone`): a call with at least one
-    /// try is answered if no other worker makes a transition during it. The exception is that the room
-    /// for the earlier remove is refused.
+    /// that). `Pending`: as of `Member::contains`. `Busy`: each look-up lost each of its tries, or the
+    /// options allow none. Proved (`busy`): if they allow one, other workers have meanwhile advanced
+    /// the epoch, or linked or cut off nodes, at least `rounds` and one times. Proved (`alone`): a call
+    /// with at least one try is answered if no other worker makes a transition during it. The
+    /// exception is that the room for the earlier remove is refused.
     #[inline(always)]
     pub fn get(&mut self, key: Key, options: &Options) -> Result<Option<u64>, CallFault>
         ensures tree { self.new.tree ≡ self.old.tree }

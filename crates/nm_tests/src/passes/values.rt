@@ -50,7 +50,8 @@ fn puts(rt: &impl Abort, shared: &Shared, worker: &mut Worker, key: Key, value: 
     assert!(rt; inserted == Ok(true));
 }
 
-/// A key keeps the value with which it was inserted, and a second insert of it returns this value. Keys without a value in the map have none.
+/// A key keeps the value with which it was inserted, and a second insert of it finds this value. A key
+/// that is not in the map has none.
 #[test]
 fn a_map_has_the_values_that_were_inserted(rt: HostRuntime) -> Result<(), Fail> {
     let (shared, passes) = Shared::with_values(rt.alloc(), Layout::new(13, 1)?)?;
