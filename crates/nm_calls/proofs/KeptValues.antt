@@ -35,9 +35,8 @@ use Rattle.nm_steps.proofs.ValueStays.{value_before}
 use Rattle.std.proofs.lemmas.List.Elements.{Contains-append_left}
 use Rattle.nm_calls.specs.KeptValues.{LeavesKeepTheirValues, NoneCuts, PutValuesStay}
 use Rattle.nm_calls.specs.Maps.{HoldsStores}
-use Rattle.nm_calls.specs.PlainWalks.{events_of}
-use Rattle.nm_calls.proofs.PlainLooks.{events_go_on, events_of_trace}
 use Rattle.nm_calls.proofs.MadeLeaves.{LastEvent, last_event}
+use Rattle.nm_calls.proofs.StoresInTurns.{were_held}
 use Rattle.nm_calls.proofs.KeptLeaves.{one_holds, stays_reached, unheld_until}
 
 -- ---- stores
@@ -88,14 +87,7 @@ split_run (t ∷ ts) later (e ∷ es) c is =
       laters = r.laters;
     }
 
--- ---- a run that goes on
-
-pub held_on : (L : Layout) (turns rest : List (ℕ × Event)) (xs : List Stored) → WereHeld L turns xs → WereHeld L (turns ++ rest) xs
-held_on L turns rest [] held = tt
-held_on L turns rest (x ∷ xs) (h, hs) = (
-  record { before = h.before; since = h.since ++ rest; is_run = ap (λ (l : List (ℕ × Event)). l ++ rest) h.is_run ∙ append_assoc h.before h.since rest; at = h.at; own = h.own; private = h.private },
-  held_on L turns rest xs hs,
-)
+-- ---- the first ones of some stores
 
 held_first : (L : Layout) (turns : List (ℕ × Event)) (xs ys : List Stored) → WereHeld L turns (xs ++ ys) → WereHeld L turns xs
 held_first L turns [] ys held = tt
@@ -270,11 +262,8 @@ module _ (L : Layout) (fits : IsLayout L) (events : List (ℕ × Event)) (keys :
 -- ---- the laws
 
 -- the stores of a run are held in all that goes on from it
-held_in_all : (L : Layout) (from : List Turn) (events : List (ℕ × Event)) (stores : List Stored) → HoldsStores L from (trace_in (ordered L) events) stores → WereHeld L events stores
-held_in_all L from events stores h =
-    let whole : events ≡ h.events ++ events_of h.ends.more =
-    sym (events_of_trace (ordered L) events) ∙ (events_go_on (trace_in (ordered L) events) h.until h.ends ∙ ap (λ (ts : List (ℕ × Event)). ts ++ events_of h.ends.more) (ap events_of h.are ∙ events_of_trace (ordered L) h.events)) in
-    subst (λ (ts : List (ℕ × Event)). WereHeld L ts stores) (sym whole) (held_on L h.events (events_of h.ends.more) stores h.held)
+held_in_all : (L : Layout) → IsLayout L → (from : List Turn) (events : List (ℕ × Event)) (stores : List Stored) → HoldsStores L from (trace_in (ordered L) events) stores → WereHeld L events stores
+held_in_all L fits from events stores h = were_held L fits events h.until h.ends.more h.ends.is stores h.held
 
 pub leaves_keep_their_values : LeavesKeepTheirValues
 leaves_keep_their_values L fits events keys so_far mid rest are stores from h k v was uncut = record {
@@ -283,7 +272,7 @@ leaves_keep_their_values L fits events keys so_far mid rest are stores from h k 
     reached = reached_still L fits events keys so_far mid rest are was.slot was.reached uncut;
     leaf = leaf_still L fits events keys so_far mid rest are was.slot was.reached uncut ∙ was.leaf;
     has_key = key_still L fits events keys so_far mid rest are was.slot was.reached uncut ∙ was.has_key;
-    has_value = sym (value_still L fits events keys so_far mid rest are was.slot was.reached uncut stores (held_in_all L from events stores h)) ∙ was.has_value;
+    has_value = sym (value_still L fits events keys so_far mid rest are was.slot was.reached uncut stores (held_in_all L fits from events stores h)) ∙ was.has_value;
   };
   same = refl;
 }
@@ -294,7 +283,7 @@ put_values_stay L fits events keys was first seen stores w k v worker put on fro
     ∙ (ap (value_before (length (so_far ++ mid)) stores) same
     ∙ (ap (λ (st : List Stored). value_before (length (so_far ++ mid)) st put.is.slot) on.is
     ∙ (sym (put_still L fits events keys so_far mid rest are put.is.slot put.is.reached uncut put.so_far put.link refl w put.node worker put.own put.won seen on.more
-    (subst (WereHeld L events) on.is (held_in_all L from events stores h)) (subst (λ (st : List Stored). AllPairs ComesBefore st) on.is h.order) put.stored)
+    (subst (WereHeld L events) on.is (held_in_all L fits from events stores h)) (subst (λ (st : List Stored). AllPairs ComesBefore st) on.is h.order) put.stored)
     ∙ put.is.has_value)))
   where
     so_far : List Turn
