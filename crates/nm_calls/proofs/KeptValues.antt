@@ -21,6 +21,7 @@ use Rattle.nm_order.proofs.OrderedMoments.{Lasting, lasting}
 use Rattle.nm_order.proofs.PinNumbers.{length_trace}
 use Rattle.nm_order.proofs.RunExchanges.{first_keys}
 use Rattle.nm_order.proofs.WalksOfRuns.{trace_in-append}
+use Rattle.nm_theorem.proofs.Runs.{Parts as PartsOf, parts_of}
 use Rattle.nm_theorem.proofs.WrittenWords.{run_words}
 use Rattle.nm_walks.proofs.Looks.{enough}
 use Rattle.nm_model.specs.Ordered.{Configuration, HasKey, ordered, after_in, next_in, outcome_in, trace_in}
@@ -33,9 +34,10 @@ use Rattle.nm_steps.proofs.LinkedValues.{entries, held_at, value_since_link}
 use Rattle.nm_steps.proofs.StoreOrders.{order_of_first}
 use Rattle.nm_steps.proofs.ValueStays.{value_before}
 use Rattle.std.proofs.lemmas.List.Elements.{Contains-append_left}
-use Rattle.nm_calls.specs.KeptValues.{LeavesKeepTheirValues, NoneCuts, PutValuesStay}
+use Rattle.nm_calls.specs.KeptValues.{LeavesKeepTheirValues, NoneCuts, PutValuesStay, TakenValuesAreCut}
 use Rattle.nm_calls.specs.Maps.{HoldsStores}
 use Rattle.nm_calls.proofs.MadeLeaves.{LastEvent, last_event}
+use Rattle.nm_calls.proofs.MapMoments.{holds_longer}
 use Rattle.nm_calls.proofs.StoresInTurns.{were_held}
 use Rattle.nm_calls.proofs.KeptLeaves.{one_holds, stays_reached, unheld_until}
 
@@ -259,6 +261,17 @@ module _ (L : Layout) (fits : IsLayout L) (events : List (ℕ × Event)) (keys :
         by : LastEvent (ordered L) p.before first link → value_before (length p.before) stores s ≡ value_before (length (p.before ++ p.middle)) (stores ++ more) s
         by l = with_event l l.last.1 (l.are ∙ (λ i. l.first ++ ((ap (λ (t : Turn). t.worker) l.is ∙ own) i, l.last.1) ∷ []))
 
+-- two leaves that are reached at one moment with one key are in one slot
+pub one_slot : (L : Layout) → IsLayout L → (events : List (ℕ × Event)) → All (λ t. HasKey t.1) events → (so_far rest : List Turn) → trace_in (ordered L) events ≡ so_far ++ rest → (x y : ℕ) → Reached (words_after L so_far) x → Reached (words_after L so_far) y
+    → is_leaf (node (words_after L so_far) x) ≡ true → is_leaf (node (words_after L so_far) y) ≡ true → (node (words_after L so_far) x).key ≡ (node (words_after L so_far) y).key → x ≡ y
+one_slot L fits events keys so_far rest are x y rx ry lx ly same =
+    let p : PartsOf (ordered L) events so_far rest = parts_of (ordered L) events so_far rest are in
+    let words : words_after L so_far ≡ (after_in (ordered L) p.early).state.memory = ap (words_after L) p.first_is ∙ run_words L fits true p.early in
+    own_keys L (enough L fits) (after_in (ordered L) p.early) (each_ordered L (enough L fits) p.early (first_keys p.early p.late (subst (λ (ts : List (ℕ × Event)). All (λ t. HasKey t.1) ts) p.all keys))) x y
+    (subst (λ (m : Memory). Reached m x) words rx) (subst (λ (m : Memory). Reached m y) words ry)
+    (ap (λ (m : Memory). is_leaf (node m x)) (sym words) ∙ lx) (ap (λ (m : Memory). is_leaf (node m y)) (sym words) ∙ ly)
+    (ap (λ (m : Memory). (node m x).key) (sym words) ∙ (same ∙ ap (λ (m : Memory). (node m y).key) words))
+
 -- ---- the laws
 
 -- the stores of a run are held in all that goes on from it
@@ -291,3 +304,7 @@ put_values_stay L fits events keys was first seen stores w k v worker put on fro
 
     same : there.slot ≡ put.is.slot
     same = same_slot L fits events keys so_far mid rest are put.is.slot put.is.reached uncut put.is.leaf there.slot there.reached there.leaf (there.has_key ∙ sym put.is.has_key)
+
+pub taken_values_are_cut : TakenValuesAreCut
+taken_values_are_cut L fits events keys was now stores w k v t on mid rest cut is uncut cuts =
+    (leaves_keep_their_values L fits events keys t.so_far mid (cut ∷ rest) is t.first t.so_far (holds_longer L t.so_far now (trace_in (ordered L) events) t.first on t.stored) k v t.is (subst (NoneCuts mid) (sym t.slot) uncut)).now

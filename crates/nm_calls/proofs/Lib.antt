@@ -29,3 +29,6 @@ pub mod MadeLeaves
 pub mod TakenValues
 pub mod KeptLeaves
 pub mod KeptValues
+pub mod UncutLeaves
+pub mod PlainMaps
+pub mod MapsOfRuns

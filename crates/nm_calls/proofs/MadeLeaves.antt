@@ -1,7 +1,7 @@
 -- Right after a won link the map has the key of the new leaf, with the value that was stored for it.
 use Rattle.std.proofs.Common.{◌≡◌, ℕ, ◌<◌, ◌≤◌, ◌==◌, Bool, true, false, cond, ◌||◌, List, [], ◌∷◌, ◌++◌, append-nil, append_assoc, length, refl, sym, ap, subst, ◌∙◌, arith}
 use Rattle.std.proofs.lemmas.List.Elements.{Contains-push}
-use Rattle.std.specs.Prelude.{All, Contains, None, Some, Option, Result, Ok, Err, filter, nat_lt}
+use Rattle.std.specs.Prelude.{All, Contains, None, Some, Option, Ok, filter, nat_lt}
 use Rattle.std.proofs.lemmas.Bool.{and_from, eq-eqb, lt-ltb}
 use Rattle.std.proofs.lemmas.List.{length-append, same_from_push}
 use Rattle.nm_edge.specs.Edges.{other, to}
@@ -16,7 +16,7 @@ use Rattle.nm_model.specs.declared.reply.Reply.TheVariants.{Linked}
 use Rattle.nm_model.specs.declared.trace.Turn.{Turn}
 use Rattle.nm_model.specs.Headline.{after_turn, words_after, words_from}
 use Rattle.nm_model.specs.Knowledge.{Knowledge, draft_of}
-use Rattle.nm_model.specs.Memory.{Memory, child, edge, is_leaf, node, opening, put_edge}
+use Rattle.nm_model.specs.Memory.{Memory, child, is_leaf, node, opening, put_edge}
 use Rattle.nm_model.specs.Ordered.{Configuration, HasKey, ordered, after_in, next_in, outcome_in, trace_in}
 use Rattle.nm_model.specs.Paths.{Reached, follow}
 use Rattle.nm_model.specs.Runs.{State, of}

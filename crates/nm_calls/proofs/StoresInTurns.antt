@@ -1,10 +1,9 @@
 -- The stores of a run, by its words and turns alone.
-use Rattle.std.proofs.Common.{◌≡◌, ◌≢◌, inl, inr, ◌⊎◌, ℕ, zero, suc, List, [], ◌∷◌, ◌++◌, append_assoc, length, refl, sym, ap, subst, ◌∙◌, true, false, arith}
-use Rattle.std.specs.Prelude.{All, AllPairs, Ok}
+use Rattle.std.proofs.Common.{◌≡◌, inl, inr, ◌⊎◌, ℕ, zero, suc, List, [], ◌∷◌, ◌++◌, append_assoc, length, sym, ap, subst, ◌∙◌, true, false, arith}
+use Rattle.std.specs.Prelude.{All, Ok}
 use Rattle.nm_edge.specs.Edges.{other}
 use Rattle.nm_edge.specs.Layouts.{Layout, IsLayout}
 use Rattle.nm_edge.specs.declared.edge.Side.{Side}
-use Rattle.nm_edge.specs.declared.node.NodeId.{NodeId}
 use Rattle.nm_model.specs.declared.event.Event.{Event}
 use Rattle.nm_model.specs.declared.event.Event.TheVariants.{Link}
 use Rattle.nm_model.specs.declared.reply.Reply.TheVariants.{Linked}
@@ -12,9 +11,8 @@ use Rattle.nm_model.specs.declared.trace.Turn.{Turn}
 use Rattle.nm_model.specs.Headline.{has_after, words_after}
 use Rattle.nm_model.specs.Memory.{Memory, child, opening}
 use Rattle.nm_model.specs.Ordered.{HasKey, ordered, after_in, outcome_in, trace_in}
-use Rattle.nm_model.specs.Runs.{of}
 use Rattle.nm_order.specs.Logs.{part_of}
-use Rattle.nm_order.proofs.OrderedTrees.{Grafting, one_or_other}
+use Rattle.nm_order.proofs.OrderedTrees.{one_or_other}
 use Rattle.nm_order.proofs.PinNumbers.{length_trace}
 use Rattle.nm_order.proofs.RunExchanges.{first_keys}
 use Rattle.nm_order.proofs.WalksOfRuns.{trace_in-append}
@@ -23,7 +21,7 @@ use Rattle.nm_theorem.proofs.Runs.{Head, Parts, head_of, parts_of}
 use Rattle.nm_theorem.proofs.WrittenWords.{run_words}
 use Rattle.nm_steps.specs.declared.view.Stored.{Stored}
 use Rattle.nm_steps.specs.declared.view.View.{View}
-use Rattle.nm_steps.specs.Rules.{Extends, IsStored, LinksHaveValues, WasHeld, WereHeld, answered_turn, new_leaf}
+use Rattle.nm_steps.specs.Rules.{Extends, IsStored, LinksHaveValues, WasHeld, WereHeld, answered_turn}
 use Rattle.nm_steps.specs.Values.{HasSeenStores}
 use Rattle.nm_steps.proofs.Growing.{goes_on_itself}
 use Rattle.nm_calls.specs.Maps.{HoldsStores, LinkedLeavesHaveValues, WasInHands}
