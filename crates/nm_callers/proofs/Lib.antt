@@ -29,6 +29,7 @@ pub mod RunningAlone
 pub mod BesidePending
 pub mod Mapped
 pub mod KeptAfterPut
+pub mod OneMap
 pub mod Returned
 pub mod ArenaResets
 pub mod ArenaReads

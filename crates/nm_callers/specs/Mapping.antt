@@ -1,7 +1,14 @@
 -- A worker that inserts a key with a value, and then gets the value or takes it out; and one that gets
 -- a value under its pin.
-use Rattle.std.specs.Prelude.{◌≡◌, ◌⊎◌, ℕ, Option, Some, IsSome}
+use Rattle.std.specs.Prelude.{◌≡◌, ◌⊎◌, ◌<◌, ◌≤◌, ℕ, List, length, Option, Some, IsSome}
+use Rattle.nm_edge.specs.Layouts.{Layout}
+use Rattle.nm_model.specs.declared.trace.Turn.{Turn}
+use Rattle.nm_model.specs.Acts.{Act}
+use Rattle.nm_model.specs.Histories.{HasHistory, IsHistory}
+use Rattle.nm_steps.specs.declared.view.Stored.{Stored}
+use Rattle.nm_steps.specs.Rules.{Extends}
 use Rattle.nm_steps.specs.Steps.{HasSeenAllOf, PassView}
+use Rattle.nm_calls.specs.MapHistories.{IsMapHistory, MapAct, map_at}
 use Rattle.nm_calls.specs.Maps.{HasPut, HasTaken, MapGave, MapGivesUnderPin}
 use Rattle.nm_tree.specs.Workers.{WorkerView}
 
@@ -13,7 +20,24 @@ pub record PutsThenGets (p q : PassView) (k v : ℕ) (found : Option ℕ) : Type
   pub on : HasSeenAllOf q mid
   pub gave : MapGave mid q k found
 
--- the same, and then the worker took the key with this value out of the map
+-- up to a moment between the turns `was` and `now`, each history of the turns is one of a plain map. It
+-- has the key with v at a moment after `was`, and with `found` at a later one
+pub record AreOfOneMap (L : Layout) (was now : List Turn) (k v found : ℕ) : Type 0 where
+  pub until : List Turn
+  pub ends : Extends now until
+  pub stores : List Stored
+  pub history : HasHistory L until
+  pub put : ℕ
+  pub got : ℕ
+  pub later : length was < put
+  pub order : put < got
+  pub within : got ≤ length until
+  pub each : (acts : List Act) → IsHistory L until acts → (valued : List MapAct)
+      × IsMapHistory L until stores acts valued × (map_at valued put k ≡ Some v)
+      × (map_at valued got k ≡ Some found)
+
+-- the worker put the key into the map with v after all that p had seen. After that, and before q, it
+-- took the key with the value `taken` out of the map
 pub record PutsThenTakes (p q : PassView) (k v taken : ℕ) : Type 0 where
   pub mid : PassView
   pub put : HasPut p mid k v

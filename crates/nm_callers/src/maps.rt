@@ -5,7 +5,7 @@ ghost use Rattle.nm_progress.specs.Alone.{IsAlone};
 ghost use Rattle.nm_steps.specs.Steps.{IsOf};
 ghost use Rattle.nm_steps.specs.Values.{HasValues};
 ghost use Rattle.nm_tree.specs.Calls.{MayCall};
-ghost use Rattle.nm_callers.specs.Mapping.{PutsThenGets};
+ghost use Rattle.nm_callers.specs.Mapping.{AreOfOneMap, PutsThenGets};
 ghost use Rattle.nm_callers.specs.Meanwhile.{NoneDeleted};
 
 use nm_edge::Key;
@@ -15,7 +15,9 @@ use nm_tree::{CallFault, Tree, Worker};
 /// an error, or the key was in the map before. Proved: otherwise right after the insert's link the map
 /// had the key with the value, and the get returned what the map had at a later moment (linearization
 /// point). Proved too: the get found the value that was inserted, unless a delete of the key took
-/// effect after all that the worker had seen before.
+/// effect after all that the worker had seen before. And if the get found a value, each history of the
+/// turns is one of a plain map. Right after the link this map has the key with the value that was
+/// inserted, and at the moment of the get with the value that was found.
 pub fn insert_then_get(
     tree: &Tree,
     worker: &mut Worker,
@@ -29,6 +31,9 @@ pub fn insert_then_get(
     ensures answers { IfSome result (PutsThenGets worker.old.pass worker.new.pass key value) }
     ensures found { NoneDeleted worker.new.pass.view.layout worker.old.pass.view.past
         worker.new.pass.view.past key → IfSome result (λ found. found ≡ Some value) }
+    ensures one_map { IfSome result (λ found. IfSome found
+        (AreOfOneMap worker.new.pass.view.layout worker.old.pass.view.past
+        worker.new.pass.view.past key value)) }
 {
     let mut unused = 0;
     let Ok(true) = tree.insert_with_value(worker, key, value, &mut unused, tries) else {

@@ -40,7 +40,6 @@ use Rattle.nm_steps.specs.Rules.{knowledge, value_of}
 use Rattle.nm_steps.specs.Steps.{IsInRun, PassView}
 use Rattle.nm_steps.specs.Values.{HasSeenStores}
 use Rattle.nm_steps.proofs.AfterSteps.{apart_in_run}
-use Rattle.nm_steps.proofs.Growing.{goes_on_itself}
 use Rattle.nm_steps.proofs.Seeing.{stores_same, stores_through}
 use Rattle.nm_steps.proofs.ValueStays.{NobodyHolds, value_stays}
 use Rattle.nm_epoch.specs.declared.collecting.Entry.{Entry}
@@ -50,6 +49,7 @@ use Rattle.nm_epoch.specs.Handing.{WasRead, is_odd}
 use Rattle.nm_calls.specs.HandedBack.{WasCutWith}
 use Rattle.nm_calls.proofs.CutLeaves.{CutsFrom, Odd, OddCut, all_even, odd_cut}
 use Rattle.nm_calls.proofs.MapMoments.{holds_longer}
+use Rattle.nm_calls.proofs.StoresInTurns.{stores_in_turns}
 use Rattle.nm_calls.proofs.Unheld.{among_in, freed_longer, in_filter, not_place, not_waiting}
 
 -- ---- lists
@@ -302,16 +302,7 @@ module _ (at : PassView) (run : IsInRun at) (seen : HasSeenStores at.view) (o : 
     leaf = was_leaf;
     first = at.view.stores;
     extends = stores_same at.view.stores at.view.stores refl;
-    stored = record {
-      until = at.view.past;
-      from = record { more = c.cut ∷ c.since; is = seen.run.are ∙ c.are };
-      ends = goes_on_itself at.view.past;
-      events = events;
-      are = seen.run.are;
-      held = seen.held;
-      linked = seen.linked;
-      order = seen.order;
-    };
+    stored = stores_in_turns at.view run.fits seen c.before (record { more = c.cut ∷ c.since; is = seen.run.are ∙ c.are });
     has_value = value_stays L events at.view.stores (length c.before) e.node.slot seen.held nobody ∙ sym is;
   }
 

@@ -21,6 +21,7 @@ use Rattle.nm_order.proofs.OrderedMoments.{Lasting, lasting}
 use Rattle.nm_order.proofs.PinNumbers.{length_trace}
 use Rattle.nm_order.proofs.RunExchanges.{first_keys}
 use Rattle.nm_order.proofs.WalksOfRuns.{trace_in-append}
+use Rattle.nm_theorem.proofs.Runs.{Parts as PartsOf, parts_of}
 use Rattle.nm_theorem.proofs.WrittenWords.{run_words}
 use Rattle.nm_walks.proofs.Looks.{enough}
 use Rattle.nm_model.specs.Ordered.{Configuration, HasKey, ordered, after_in, next_in, outcome_in, trace_in}
@@ -33,11 +34,11 @@ use Rattle.nm_steps.proofs.LinkedValues.{entries, held_at, value_since_link}
 use Rattle.nm_steps.proofs.StoreOrders.{order_of_first}
 use Rattle.nm_steps.proofs.ValueStays.{value_before}
 use Rattle.std.proofs.lemmas.List.Elements.{Contains-append_left}
-use Rattle.nm_calls.specs.KeptValues.{LeavesKeepTheirValues, NoneCuts, PutValuesStay}
+use Rattle.nm_calls.specs.KeptValues.{LeavesKeepTheirValues, NoneCuts, PutValuesStay, TakenValuesAreCut}
 use Rattle.nm_calls.specs.Maps.{HoldsStores}
-use Rattle.nm_calls.specs.PlainWalks.{events_of}
-use Rattle.nm_calls.proofs.PlainLooks.{events_go_on, events_of_trace}
 use Rattle.nm_calls.proofs.MadeLeaves.{LastEvent, last_event}
+use Rattle.nm_calls.proofs.MapMoments.{holds_longer}
+use Rattle.nm_calls.proofs.StoresInTurns.{were_held}
 use Rattle.nm_calls.proofs.KeptLeaves.{one_holds, stays_reached, unheld_until}
 
 -- ---- stores
@@ -88,14 +89,7 @@ split_run (t ∷ ts) later (e ∷ es) c is =
       laters = r.laters;
     }
 
--- ---- a run that goes on
-
-pub held_on : (L : Layout) (turns rest : List (ℕ × Event)) (xs : List Stored) → WereHeld L turns xs → WereHeld L (turns ++ rest) xs
-held_on L turns rest [] held = tt
-held_on L turns rest (x ∷ xs) (h, hs) = (
-  record { before = h.before; since = h.since ++ rest; is_run = ap (λ (l : List (ℕ × Event)). l ++ rest) h.is_run ∙ append_assoc h.before h.since rest; at = h.at; own = h.own; private = h.private },
-  held_on L turns rest xs hs,
-)
+-- ---- the first ones of some stores
 
 held_first : (L : Layout) (turns : List (ℕ × Event)) (xs ys : List Stored) → WereHeld L turns (xs ++ ys) → WereHeld L turns xs
 held_first L turns [] ys held = tt
@@ -267,14 +261,22 @@ module _ (L : Layout) (fits : IsLayout L) (events : List (ℕ × Event)) (keys :
         by : LastEvent (ordered L) p.before first link → value_before (length p.before) stores s ≡ value_before (length (p.before ++ p.middle)) (stores ++ more) s
         by l = with_event l l.last.1 (l.are ∙ (λ i. l.first ++ ((ap (λ (t : Turn). t.worker) l.is ∙ own) i, l.last.1) ∷ []))
 
+-- two leaves that are reached at one moment with one key are in one slot
+pub one_slot : (L : Layout) → IsLayout L → (events : List (ℕ × Event)) → All (λ t. HasKey t.1) events → (so_far rest : List Turn) → trace_in (ordered L) events ≡ so_far ++ rest → (x y : ℕ) → Reached (words_after L so_far) x → Reached (words_after L so_far) y
+    → is_leaf (node (words_after L so_far) x) ≡ true → is_leaf (node (words_after L so_far) y) ≡ true → (node (words_after L so_far) x).key ≡ (node (words_after L so_far) y).key → x ≡ y
+one_slot L fits events keys so_far rest are x y rx ry lx ly same =
+    let p : PartsOf (ordered L) events so_far rest = parts_of (ordered L) events so_far rest are in
+    let words : words_after L so_far ≡ (after_in (ordered L) p.early).state.memory = ap (words_after L) p.first_is ∙ run_words L fits true p.early in
+    own_keys L (enough L fits) (after_in (ordered L) p.early) (each_ordered L (enough L fits) p.early (first_keys p.early p.late (subst (λ (ts : List (ℕ × Event)). All (λ t. HasKey t.1) ts) p.all keys))) x y
+    (subst (λ (m : Memory). Reached m x) words rx) (subst (λ (m : Memory). Reached m y) words ry)
+    (ap (λ (m : Memory). is_leaf (node m x)) (sym words) ∙ lx) (ap (λ (m : Memory). is_leaf (node m y)) (sym words) ∙ ly)
+    (ap (λ (m : Memory). (node m x).key) (sym words) ∙ (same ∙ ap (λ (m : Memory). (node m y).key) words))
+
 -- ---- the laws
 
 -- the stores of a run are held in all that goes on from it
-held_in_all : (L : Layout) (from : List Turn) (events : List (ℕ × Event)) (stores : List Stored) → HoldsStores L from (trace_in (ordered L) events) stores → WereHeld L events stores
-held_in_all L from events stores h =
-    let whole : events ≡ h.events ++ events_of h.ends.more =
-    sym (events_of_trace (ordered L) events) ∙ (events_go_on (trace_in (ordered L) events) h.until h.ends ∙ ap (λ (ts : List (ℕ × Event)). ts ++ events_of h.ends.more) (ap events_of h.are ∙ events_of_trace (ordered L) h.events)) in
-    subst (λ (ts : List (ℕ × Event)). WereHeld L ts stores) (sym whole) (held_on L h.events (events_of h.ends.more) stores h.held)
+held_in_all : (L : Layout) → IsLayout L → (from : List Turn) (events : List (ℕ × Event)) (stores : List Stored) → HoldsStores L from (trace_in (ordered L) events) stores → WereHeld L events stores
+held_in_all L fits from events stores h = were_held L fits events h.until h.ends.more h.ends.is stores h.held
 
 pub leaves_keep_their_values : LeavesKeepTheirValues
 leaves_keep_their_values L fits events keys so_far mid rest are stores from h k v was uncut = record {
@@ -283,7 +285,7 @@ leaves_keep_their_values L fits events keys so_far mid rest are stores from h k 
     reached = reached_still L fits events keys so_far mid rest are was.slot was.reached uncut;
     leaf = leaf_still L fits events keys so_far mid rest are was.slot was.reached uncut ∙ was.leaf;
     has_key = key_still L fits events keys so_far mid rest are was.slot was.reached uncut ∙ was.has_key;
-    has_value = sym (value_still L fits events keys so_far mid rest are was.slot was.reached uncut stores (held_in_all L from events stores h)) ∙ was.has_value;
+    has_value = sym (value_still L fits events keys so_far mid rest are was.slot was.reached uncut stores (held_in_all L fits from events stores h)) ∙ was.has_value;
   };
   same = refl;
 }
@@ -294,7 +296,7 @@ put_values_stay L fits events keys was first seen stores w k v worker put on fro
     ∙ (ap (value_before (length (so_far ++ mid)) stores) same
     ∙ (ap (λ (st : List Stored). value_before (length (so_far ++ mid)) st put.is.slot) on.is
     ∙ (sym (put_still L fits events keys so_far mid rest are put.is.slot put.is.reached uncut put.so_far put.link refl w put.node worker put.own put.won seen on.more
-    (subst (WereHeld L events) on.is (held_in_all L from events stores h)) (subst (λ (st : List Stored). AllPairs ComesBefore st) on.is h.order) put.stored)
+    (subst (WereHeld L events) on.is (held_in_all L fits from events stores h)) (subst (λ (st : List Stored). AllPairs ComesBefore st) on.is h.order) put.stored)
     ∙ put.is.has_value)))
   where
     so_far : List Turn
@@ -302,3 +304,7 @@ put_values_stay L fits events keys was first seen stores w k v worker put on fro
 
     same : there.slot ≡ put.is.slot
     same = same_slot L fits events keys so_far mid rest are put.is.slot put.is.reached uncut put.is.leaf there.slot there.reached there.leaf (there.has_key ∙ sym put.is.has_key)
+
+pub taken_values_are_cut : TakenValuesAreCut
+taken_values_are_cut L fits events keys was now stores w k v t on mid rest cut is uncut cuts =
+    (leaves_keep_their_values L fits events keys t.so_far mid (cut ∷ rest) is t.first t.so_far (holds_longer L t.so_far now (trace_in (ordered L) events) t.first on t.stored) k v t.is (subst (NoneCuts mid) (sym t.slot) uncut)).now

@@ -16,6 +16,8 @@ pub mod InTurnsLooks
 pub mod NearLooks
 pub mod ScanLooks
 pub mod Unheld
+pub mod WonLinks
+pub mod StoresInTurns
 pub mod NamedLeaves
 pub mod MapMoments
 pub mod InsertedValues
@@ -27,3 +29,6 @@ pub mod MadeLeaves
 pub mod TakenValues
 pub mod KeptLeaves
 pub mod KeptValues
+pub mod UncutLeaves
+pub mod PlainMaps
+pub mod MapsOfRuns

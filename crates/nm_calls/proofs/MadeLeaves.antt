@@ -1,42 +1,37 @@
 -- Right after a won link the map has the key of the new leaf, with the value that was stored for it.
 use Rattle.std.proofs.Common.{◌≡◌, ℕ, ◌<◌, ◌≤◌, ◌==◌, Bool, true, false, cond, ◌||◌, List, [], ◌∷◌, ◌++◌, append-nil, append_assoc, length, refl, sym, ap, subst, ◌∙◌, arith}
 use Rattle.std.proofs.lemmas.List.Elements.{Contains-push}
-use Rattle.std.specs.Prelude.{All, Contains, None, Some, Option, Result, Ok, Err, filter, nat_lt}
+use Rattle.std.specs.Prelude.{All, Contains, None, Some, Option, Ok, filter, nat_lt}
 use Rattle.std.proofs.lemmas.Bool.{and_from, eq-eqb, lt-ltb}
 use Rattle.std.proofs.lemmas.List.{length-append, same_from_push}
-use Rattle.nm_edge.specs.Edges.{Edge, is_to, other, to}
+use Rattle.nm_edge.specs.Edges.{other, to}
 use Rattle.nm_edge.specs.Layouts.{Layout, IsLayout}
 use Rattle.nm_edge.specs.declared.edge.Side.{Side}
 use Rattle.nm_edge.specs.declared.edge.Side.TheVariants.{Left, Right}
 use Rattle.nm_edge.specs.declared.node.NodeId.{NodeId}
 use Rattle.nm_model.specs.declared.event.Event.{Event}
 use Rattle.nm_model.specs.declared.event.Event.TheVariants.{Link}
-use Rattle.nm_model.specs.declared.reply.Refused.{Refused}
 use Rattle.nm_model.specs.declared.reply.Reply.{Reply}
-use Rattle.nm_model.specs.declared.reply.Reply.TheVariants.{Linked, Lost}
+use Rattle.nm_model.specs.declared.reply.Reply.TheVariants.{Linked}
 use Rattle.nm_model.specs.declared.trace.Turn.{Turn}
 use Rattle.nm_model.specs.Headline.{after_turn, words_after, words_from}
 use Rattle.nm_model.specs.Knowledge.{Knowledge, draft_of}
-use Rattle.nm_model.specs.Memory.{Memory, child, edge, is_leaf, node, opening, put_edge}
-use Rattle.nm_model.specs.Ordered.{Configuration, HasKey, ordered, after_in, next_in, outcome_in, refused_in, trace_in}
+use Rattle.nm_model.specs.Memory.{Memory, child, is_leaf, node, opening, put_edge}
+use Rattle.nm_model.specs.Ordered.{Configuration, HasKey, ordered, after_in, next_in, outcome_in, trace_in}
 use Rattle.nm_model.specs.Paths.{Reached, follow}
-use Rattle.nm_model.specs.Runs.{State, of, reply_of}
-use Rattle.nm_model.specs.Step.{node_linked, reply, write}
+use Rattle.nm_model.specs.Runs.{State, of}
+use Rattle.nm_model.specs.Step.{write}
 use Rattle.nm_model.specs.Walks.{Entry, logged_by}
-use Rattle.nm_laws.proofs.Configurations.{allowed_by_state, allowed_outcome, refused_outcome}
 use Rattle.nm_laws.proofs.KnownBirths.{each_birth_stands}
-use Rattle.nm_laws.proofs.Steps.{Allowed, allowed}
 use Rattle.nm_laws.proofs.TreeSteps.{Lawful}
 use Rattle.nm_laws.proofs.Trees.{Children, follow-append, no_longer, not_taken, rest_after, taken}
 use Rattle.nm_order.specs.Intervals.{key}
 use Rattle.nm_order.specs.Logs.{known_by, part_of}
 use Rattle.nm_order.proofs.AnswersSince.{part-append}
-use Rattle.nm_order.proofs.OrderedLaws.{IsOrdered, each_ordered, law_of_state}
-use Rattle.nm_order.proofs.OrderedLinks.{grafted}
 use Rattle.nm_order.proofs.OrderedTrees.{Grafting, unless_at}
 use Rattle.nm_order.proofs.PartsOfRuns.{logs_tell}
 use Rattle.nm_order.proofs.RunExchanges.{first_keys}
-use Rattle.nm_order.proofs.TreeChanges.{WonLink, same_keys, won_link}
+use Rattle.nm_order.proofs.TreeChanges.{WonLink, same_keys}
 use Rattle.nm_theorem.proofs.WrittenWords.{run_words}
 use Rattle.nm_steps.specs.declared.view.Stored.{Stored}
 use Rattle.nm_steps.specs.Rules.{Extends, answered_turn, new_leaf, value_from, value_of}
@@ -45,6 +40,7 @@ use Rattle.nm_steps.proofs.Seeing.{same_by_step, seen_by_turn}
 use Rattle.nm_walks.specs.Growing.{HasLinkedLeaf, HasLinkedValue}
 use Rattle.nm_walks.proofs.Looks.{enough}
 use Rattle.nm_calls.specs.Maps.{HasPut, IsInMap, WasPut, value_at}
+use Rattle.nm_calls.proofs.WonLinks.{found, graft, hold, is_ordered, law, link}
 
 -- ---- the last event of a run
 
@@ -111,88 +107,51 @@ module _ (L : Layout) (fits : IsLayout L) (events : List (ℕ × Event)) (keys :
   abbrev c : Configuration
   c = after_in (ordered L) events
 
-  abbrev event : ℕ × Event
-  event = (w, Link parent side old new)
+  abbrev h : ℕ → ℕ
+  h = hold L fits events keys w parent side old new n won
 
-  is_ordered : IsOrdered L c
-  is_ordered = each_ordered L (enough L fits) events keys
+  abbrev lawful : Lawful c.state h
+  lawful = law L fits events keys w parent side old new n won
 
-  h : ℕ → ℕ
-  h = (law_of_state L (enough L fits) c is_ordered).0
-
-  law : Lawful c.state h
-  unfolding h
-  law = (law_of_state L (enough L fits) c is_ordered).1
-
-  unrefused : refused_in c w (Link parent side old new) ≡ None
-  unrefused = go (refused_in c w (Link parent side old new)) refl
-    where
-      wrong : (r : Refused) → Err r ≡ Ok (Linked n) → ⊥
-      wrong r e = cc
-
-      go : (o : Option Refused) → refused_in c w (Link parent side old new) ≡ o → o ≡ None
-      go None is = refl
-      go (Some r) is = absurd (wrong r (sym (refused_outcome c event r is) ∙ won))
-
-  ok : Allowed c.state w (Link parent side old new)
-  ok = allowed c.state w (Link parent side old new) (allowed_by_state c w (Link parent side old new) unrefused)
-
-  replied : reply_of c.state w (Link parent side old new) ≡ Linked n
-  replied = same_ok (sym (allowed_outcome c event unrefused) ∙ won)
-    where
-      same_ok : ◌≡◌ {A = Result Reply Refused} (Ok (reply_of c.state w (Link parent side old new))) (Ok (Linked n)) → reply_of c.state w (Link parent side old new) ≡ Linked n
-      same_ok e = cc
-
-  found : is_to (edge c.state.memory parent side) old ≡ true
-  unfolding reply
-  found = by (is_to (edge c.state.memory parent side) old) refl replied
-    where
-      lost : (f : Edge) → Lost f ≡ Linked n → ⊥
-      lost f e = cc
-
-      by : (b : Bool) → is_to (edge c.state.memory parent side) old ≡ b → cond b (Linked (node_linked (of c.state w) new)) (Lost (edge c.state.memory parent side)) ≡ Linked n → b ≡ true
-      by true is r = refl
-      by false is r = absurd (lost (edge c.state.memory parent side) r)
-
-  link : WonLink c.state h law w parent side old new
-  link = won_link c.state h law w parent side old new ok found
+  abbrev won_there : WonLink c.state h lawful w parent side old new
+  won_there = link L fits events keys w parent side old new n won
 
   told : of c.state w ≡ known_by L w (part_of w (trace_in (ordered L) events))
   told = logs_tell L events w below
 
-  far_is : link.drafts.far ≡ slot
-  far_is = sym link.drafts.is_far ∙ (ap (λ (j : Knowledge). new_leaf j old new) told ∙ is_fresh)
+  far_is : won_there.drafts.far ≡ slot
+  far_is = sym won_there.drafts.is_far ∙ (ap (λ (j : Knowledge). new_leaf j old new) told ∙ is_fresh)
 
   abbrev after : Memory
   after = put_edge c.state.memory parent side (to new)
 
-  graft : Grafting (child c.state.memory) (child after) parent side old new link.drafts.far link.drafts.side
-  graft = grafted c.state h law w parent side old new link.drafts.far link.drafts.side link.link (child after) link.exchanged
+  abbrev grafting : Grafting (child c.state.memory) (child after) parent side old new won_there.drafts.far won_there.drafts.side
+  grafting = graft L fits events keys w parent side old new n won
 
   words : words_after L (trace_in (ordered L) events ++ answered_turn w (Link parent side old new) (Linked n) ∷ []) ≡ after
   words = words_push (opening L) (trace_in (ordered L) events) (answered_turn w (Link parent side old new) (Linked n)) ∙ ap (λ (m : Memory). put_edge m parent side (to new)) (run_words L fits true events)
 
   reached_after : Reached after slot
   reached_after = record {
-    path = graft.front ++ side ∷ other link.drafts.side ∷ [];
-    ends = to_far (child c.state.memory) (child after) parent side old new link.drafts.far link.drafts.side graft ∙ far_is;
+    path = grafting.front ++ side ∷ other won_there.drafts.side ∷ [];
+    ends = to_far (child c.state.memory) (child after) parent side old new won_there.drafts.far won_there.drafts.side grafting ∙ far_is;
     is_slot = λ none'. omega (arith, high, none');
   }
 
   null_after : (f : Side) → child after slot f ≡ 0
-  null_after f = subst (λ (x : ℕ). child after x f ≡ 0) far_is (far_null (child c.state.memory) (child after) parent side old new link.drafts.far link.drafts.side graft f)
+  null_after f = subst (λ (x : ℕ). child after x f ≡ 0) far_is (far_null (child c.state.memory) (child after) parent side old new won_there.drafts.far won_there.drafts.side grafting f)
 
   leaf_after : is_leaf (node after slot) ≡ true
   leaf_after = and_from ((node after slot).left.slot == 0) ((node after slot).right.slot == 0) (eq-eqb (node after slot).left.slot 0 (null_after Left)) (eq-eqb (node after slot).right.slot 0 (null_after Right))
 
   key_before : key c.state.memory slot ≡ k
   key_before =
-      let births = subst (λ (s : State). (x v : ℕ) → (draft_of (of s w) x).key ≡ Some v → (node s.memory x).key ≡ v) (sym is_ordered.leads) (each_birth_stands L (enough L fits) is_ordered.events w).key in
+      let births = subst (λ (s : State). (x v : ℕ) → (draft_of (of s w) x).key ≡ Some v → (node s.memory x).key ≡ v) (sym (is_ordered L fits events keys w parent side old new n won).leads) (each_birth_stands L (enough L fits) (is_ordered L fits events keys w parent side old new n won).events w).key in
       births slot k (ap (λ (j : Knowledge). (draft_of j slot).key) told ∙ has)
 
   key_kept : key after slot ≡ key c.state.memory slot
   unfolding write
-  key_kept = subst (λ (b : Bool). key (cond b after c.state.memory) slot ≡ key c.state.memory slot) found (same_keys c.state h law w (Link parent side old new) (λ y f v i. cc) slot)
+  key_kept = subst (λ (b : Bool). key (cond b after c.state.memory) slot ≡ key c.state.memory slot) (found L fits events keys w parent side old new n won) (same_keys c.state h lawful w (Link parent side old new) (λ y f v i. cc) slot)
 
   abbrev turn : Turn
   turn = answered_turn w (Link parent side old new) (Linked n)

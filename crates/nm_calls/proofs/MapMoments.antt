@@ -34,7 +34,7 @@ use Rattle.nm_theorem.proofs.WrittenWords.{run_words}
 use Rattle.nm_steps.specs.declared.view.Stored.{Stored}
 use Rattle.nm_steps.specs.Rules.{Extends}
 use Rattle.nm_steps.specs.Steps.{Continues, HasSeen, HasSeenAllOf, IsSamePass, PassView, TakesStep}
-use Rattle.nm_steps.proofs.Growing.{goes_on_itself, goes_on_through}
+use Rattle.nm_steps.proofs.Growing.{goes_on_through}
 use Rattle.nm_steps.proofs.Seeing.{same_by_step, same_then, seen_by_turn, seen_through, stores_same, stores_through}
 use Rattle.nm_steps.proofs.ValueStays.{NobodyHolds, value_stays}
 use Rattle.nm_epoch.specs.Resting.{IsResting, KeepsHands, epochs}
@@ -56,6 +56,7 @@ use Rattle.nm_calls.specs.PlainWalks.{HasPassed, LooksUnderPin, WasSo, events_of
 use Rattle.nm_calls.proofs.Adding.{cuts_none, has_won, plain_moved_adds}
 use Rattle.nm_calls.proofs.NamedLeaves.{leaf_has_key, leaf_is_one, leaf_was, moment_is_later, pin_not_left}
 use Rattle.nm_calls.proofs.PlainLooks.{as_events, call_adds, events_go_on, events_of_trace, pin_missed, walks_missed, was_so}
+use Rattle.nm_calls.proofs.StoresInTurns.{stores_in_turns}
 use Rattle.nm_calls.proofs.Unheld.{unheld}
 
 -- a walk ends at the leaf that it has read
@@ -70,8 +71,6 @@ holds_longer L was now later stores more s = record {
   until = s.until;
   from = s.from;
   ends = goes_on_through later now s.until more s.ends;
-  events = s.events;
-  are = s.are;
   held = s.held;
   linked = s.linked;
   order = s.order;
@@ -179,16 +178,7 @@ module _ (m : PassView) (fits : IsLayout m.view.layout) (k : ℕ) (is_key : IsKe
     in_map_slot = refl
 
     pub stores_then : HoldsStores L so_far m.view.past m.view.stores
-    stores_then = record {
-      until = m.view.past;
-      from = record { more = remaining; is = are };
-      ends = goes_on_itself m.view.past;
-      events = turns;
-      are = r.seen.run.are;
-      held = r.seen.held;
-      linked = r.seen.linked;
-      order = r.seen.order;
-    }
+    stores_then = stores_in_turns m.view fits r.seen so_far (record { more = remaining; is = are })
 
   -- what a walk and a look found was so at a moment of the pin
   pub mapped_under_pin : HasSeen m.view → (answer : Option ℕ) → HasLookedUp m k answer → WasMappedUnderPin L m.view.past m.view.stores w k answer

@@ -6,8 +6,8 @@ use Rattle.nm_model.specs.declared.trace.Turn.{Turn}
 use Rattle.nm_model.specs.Headline.{nodes_cut_of, slots_of}
 use Rattle.nm_model.specs.Ordered.{HasKey, ordered, trace_in}
 use Rattle.nm_steps.specs.declared.view.Stored.{Stored}
-use Rattle.nm_steps.specs.Rules.{ExtendsStores}
-use Rattle.nm_calls.specs.Maps.{HoldsStores, IsInMap, WasPut}
+use Rattle.nm_steps.specs.Rules.{Extends, ExtendsStores}
+use Rattle.nm_calls.specs.Maps.{HoldsStores, IsInMap, WasPut, WasTaken}
 
 -- none of these turns cuts off a node in this slot
 abbrev pub NoneCuts : List Turn → ℕ → Type 0
@@ -40,3 +40,15 @@ PutValuesStay = (L : Layout) → IsLayout L → (events : List (ℕ × Event))
     → trace_in (ordered L) events ≡ (put.so_far ++ put.link ∷ []) ++ (mid ++ rest)
     → NoneCuts mid put.is.slot → (found : ℕ)
     → IsInMap L ((put.so_far ++ put.link ∷ []) ++ mid) stores k found → found ≡ v
+
+-- in each run, the value that a delete has taken is the one that the map has under the key right before
+-- a turn cuts off the leaf which the delete has flagged
+abbrev pub TakenValuesAreCut : Type 0
+TakenValuesAreCut = (L : Layout) → IsLayout L → (events : List (ℕ × Event))
+    → All (λ t. HasKey t.1) events → (was now : List Turn) (stores : List Stored) (w k v : ℕ)
+    → (took : WasTaken L was now stores w k v) → Extends (trace_in (ordered L) events) now
+    → (mid rest : List Turn) (cut : Turn)
+    → trace_in (ordered L) events ≡ took.so_far ++ (mid ++ cut ∷ rest)
+    → NoneCuts mid took.leaf.slot
+    → Contains (slots_of (nodes_cut_of cut.outcome)) took.leaf.slot
+    → IsInMap L (took.so_far ++ mid) took.first k v

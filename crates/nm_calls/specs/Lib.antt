@@ -12,4 +12,5 @@ pub mod Inserts
 pub mod Deletes
 pub mod Maps
 pub mod KeptValues
+pub mod MapHistories
 pub mod HandedBack

@@ -1,22 +1,20 @@
 -- A map: what was stored under a key and when, and what a call for the value of a key leaves.
-use Rattle.std.specs.Prelude.{◌≡◌, ◌+◌, ◌*◌, ◌≤◌, ◌<◌, ℕ, nat_lt, Bool, true, false, List, [], ◌∷◌, ◌++◌, length, filter, AllPairs, Option, Some, None, Result, Ok, IfOk, IfErr, IfSome}
+use Rattle.std.specs.Prelude.{◌≡◌, ◌≢◌, ◌+◌, ◌*◌, ◌≤◌, ◌<◌, ℕ, nat_lt, Bool, true, false, List, [], ◌∷◌, ◌++◌, length, filter, All, AllPairs, Option, Some, None, Result, Ok, IfOk, IfErr, IfSome}
 use Rattle.nm_edge.specs.Keys.{IsKey}
 use Rattle.nm_edge.specs.Layouts.{Layout}
 use Rattle.nm_edge.specs.declared.edge.Side.{Side}
 use Rattle.nm_edge.specs.declared.node.NodeId.{NodeId}
-use Rattle.nm_model.specs.declared.event.Event.{Event}
 use Rattle.nm_model.specs.declared.event.Event.TheVariants.{LeaveWith, Link}
 use Rattle.nm_model.specs.declared.reply.Reply.TheVariants.{Departed, Linked}
 use Rattle.nm_model.specs.declared.trace.Turn.{Turn}
-use Rattle.nm_model.specs.Headline.{HasLeft, IsPinned, words_after}
+use Rattle.nm_model.specs.Headline.{HasLeft, IsPinned, has_after, words_after}
 use Rattle.nm_model.specs.Histories.{HasFlaggedOneOf}
-use Rattle.nm_model.specs.Memory.{infinity_0, is_leaf, node}
-use Rattle.nm_model.specs.Ordered.{ordered, trace_in}
+use Rattle.nm_model.specs.Memory.{child, infinity_0, is_leaf, node, opening}
 use Rattle.nm_model.specs.Paths.{Reached}
 use Rattle.nm_model.specs.Walks.{Entry, WalkEnds, since_pin}
 use Rattle.nm_steps.specs.declared.view.Stored.{Stored}
 use Rattle.nm_order.specs.Logs.{part_of}
-use Rattle.nm_steps.specs.Rules.{ComesBefore, Extends, ExtendsStores, IsStored, LinksHaveValues, WereHeld, value_of}
+use Rattle.nm_steps.specs.Rules.{ComesBefore, Extends, ExtendsStores, IsStored, answered_turn, value_of}
 use Rattle.nm_steps.specs.Steps.{Continues, HasSeenAllOf, IsSamePass, PassView, TakesStep}
 use Rattle.nm_steps.specs.Values.{HasSeenStores}
 use Rattle.nm_epoch.specs.Resting.{IsResting, KeepsHands}
@@ -52,17 +50,33 @@ abbrev pub MapGives : (ℕ → Type 0) → Option ℕ → Type 0
 MapGives has (Some v) = has v
 MapGives has None = (v : ℕ) → has v → ⊥
 
--- the stores are those of a run that ended between the turns `was` and the turns `now`, in their order.
--- So they have the store of each leaf that was linked in `was`. Each was made in a slot that was
--- private to its worker, and each worker that tried to link a new leaf had just stored its value
+-- when the value was stored, the slot was in the hands of the worker that stored it
+pub record WasInHands (L : Layout) (turns : List Turn) (x : Stored) : Type 0 where
+  pub before : List Turn
+  pub since : List Turn
+  pub are : turns ≡ before ++ since
+  pub at : length before ≡ x.at
+  pub own : length (part_of x.worker before) ≡ x.own
+  pub held : has_after (opening L) x.worker x.slot false before ≡ true
+
+-- each worker that won a link had stored a value for the new leaf after its last step before the link.
+-- The new leaf is the child of the new internal node beside the node that was there
+abbrev pub LinkedLeavesHaveValues : Layout → List Turn → List Stored → Type 0
+LinkedLeavesHaveValues L turns stores =
+    (before since : List Turn) (w p : ℕ) (side s : Side) (old new : ℕ) (n : NodeId)
+    → turns ≡ before ++ answered_turn w (Link p side old new) (Linked n) ∷ since
+    → child (words_after L before) new s ≢ old
+    → IsStored stores w (length (part_of w before)) (child (words_after L before) new s)
+
+-- the stores are those that were made until a moment between the turns `was` and the turns `now`, in
+-- their order. So they have the store of each leaf that was linked in `was`. Each was made in a slot
+-- that was in its worker's hands
 pub record HoldsStores (L : Layout) (was now : List Turn) (stores : List Stored) : Type 0 where
   pub until : List Turn
   pub from : Extends until was
   pub ends : Extends now until
-  pub events : List (ℕ × Event)
-  pub are : until ≡ trace_in (ordered L) events
-  pub held : WereHeld L events stores
-  pub linked : LinksHaveValues L events stores
+  pub held : All (WasInHands L until) stores
+  pub linked : LinkedLeavesHaveValues L until stores
   pub order : AllPairs ComesBefore stores
 
 -- at a moment after the turns `was`, at which the worker was pinned, a plain map of the reached

@@ -1,5 +1,6 @@
-//! Laws of maps: a leaf keeps its value from its link to its cut.
-ghost use Rattle.nm_calls.specs.KeptValues.{LeavesKeepTheirValues, PutValuesStay};
+//! Laws of maps: a leaf keeps its value from its link to its cut, and the map is linearizable.
+ghost use Rattle.nm_calls.specs.KeptValues.{LeavesKeepTheirValues, PutValuesStay, TakenValuesAreCut};
+ghost use Rattle.nm_calls.specs.MapHistories.{GetsAreOfTheMap, HistoriesAreOfMaps};
 
 /// Law: in every ordered run, a leaf that is in the map stays in it with its key and its value until
 /// a turn cuts it off.
@@ -12,4 +13,23 @@ pub fn leaves_keep_their_values()
 /// extend those which the worker had seen then.
 pub fn put_values_stay()
     ensures { PutValuesStay }
+{}
+
+/// Law: in every ordered run, the value that a delete has taken is the one that the map has under the
+/// key right before a turn cuts off the leaf which the delete has flagged.
+pub fn taken_values_are_cut()
+    ensures { TakenValuesAreCut }
+{}
+
+/// Law: in every ordered run, each history of the turns up to which the stores are given is one of a
+/// plain map too. Its calls have values with which one map, empty at first, gives each call its answer.
+/// At each moment this map has just the keys of the reached leaves, with their values.
+pub fn histories_are_of_maps()
+    ensures { HistoriesAreOfMaps }
+{}
+
+/// Law: a look-up of a value has the answer that the plain map of a history has at the moment of the
+/// look-up.
+pub fn gets_are_of_the_map()
+    ensures { GetsAreOfTheMap }
 {}

@@ -19,7 +19,10 @@ pub use deleting::{Deletion, Unfinished, delete, finish};
 pub use fault::CallFault;
 pub use handing_back::collect_values;
 pub use inserting::insert;
-pub use laws::{leaves_keep_their_values, put_values_stay};
+pub use laws::{
+    gets_are_of_the_map, histories_are_of_maps, leaves_keep_their_values, put_values_stay,
+    taken_values_are_cut,
+};
 pub use leaving::leave;
 pub use lookup::has;
 pub use many::{Query, has_many};

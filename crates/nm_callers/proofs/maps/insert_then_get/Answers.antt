@@ -1,13 +1,14 @@
 use Rattle.std.proofs.Common.{◌≡◌, sym, ap, subst}
-use Rattle.std.specs.Prelude.{Ok, Some}
+use Rattle.std.specs.Prelude.{IfSome, Ok, Some}
 use Rattle.nm_edge.specs.Keys.{IsKey}
 use Rattle.nm_model.specs.declared.event.Op.TheVariants.{Insert}
 use Rattle.nm_steps.specs.Steps.{PassView}
 use Rattle.nm_calls.specs.Maps.{MapGave}
 use Rattle.nm_calls.specs.Moments.{AnswerHasMoment}
-use Rattle.nm_callers.specs.Mapping.{PutsThenGets}
+use Rattle.nm_callers.specs.Mapping.{AreOfOneMap, PutsThenGets}
 use Rattle.nm_callers.proofs.KeptAfterPut.{is_kept}
 use Rattle.nm_callers.proofs.Mapped.{is_found, of_found}
+use Rattle.nm_callers.proofs.OneMap.{got_of_one_map}
 use Rattle.nm_callers.proofs.maps.insert_then_get.Goals as goal
 
 pub returns-clause-answers : goal.returns-clause-answers
@@ -28,4 +29,14 @@ returns-clause-found c none =
     (subst (λ b. AnswerHasMoment o p Insert c.args.key b) c.in-Ok-true.field-0-test c.in-Ok-true.ensures.says.moment) none in
     of_found c.get-found.result c.ok.result (MapGave p q c.args.key) (λ found. found ≡ Some c.args.value) c.ok.ensures.value
     (λ found gave. is_kept o p q c.args.key c.args.value c.know_run.ensures.seen c.know_run.ensures.fits history e.same e.past e.stores (c.in-Ok-true.ensures.puts c.requires.values (ap Ok c.in-Ok-true.field-0-test)) none found (some found gave) gave)
+    e.moment
+
+pub returns-clause-one_map : goal.returns-clause-one_map
+returns-clause-one_map c =
+    let o = c.args.worker.now.pass in
+    let p = c.insert_with_value.new.worker.pass in
+    let q = c.get-found.new.worker.pass in
+    let e = c.get-found.ensures in
+    of_found c.get-found.result c.ok.result (MapGave p q c.args.key) (λ found. IfSome found (AreOfOneMap q.view.layout o.view.past q.view.past c.args.key c.args.value)) c.ok.ensures.value
+    (got_of_one_map o p q c.args.key c.args.value (subst IsKey c.get-number.ensures.number c.get-number.ensures.fits) c.know_run.ensures.seen c.know_run.ensures.fits e.same e.past e.stores (c.in-Ok-true.ensures.puts c.requires.values (ap Ok c.in-Ok-true.field-0-test)))
     e.moment

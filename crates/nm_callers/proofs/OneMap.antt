@@ -1,0 +1,83 @@
+-- An insert and a later get of one worker are of one plain map.
+use Rattle.std.proofs.Common.{◌≡◌, ℕ, ◌<◌, ◌≤◌, List, [], ◌∷◌, ◌++◌, append-nil, append_assoc, length, refl, sym, ap, subst, ◌∙◌, arith}
+use Rattle.std.specs.Prelude.{Some, Option, None, IfSome}
+use Rattle.std.proofs.lemmas.List.{length-append}
+use Rattle.nm_edge.specs.Keys.{IsKey}
+use Rattle.nm_edge.specs.Layouts.{Layout, IsLayout}
+use Rattle.nm_model.specs.declared.trace.Turn.{Turn}
+use Rattle.nm_model.specs.Ordered.{ordered, trace_in}
+use Rattle.nm_order.proofs.RealTime.{begins_with}
+use Rattle.nm_steps.specs.Rules.{ExtendsStores}
+use Rattle.nm_steps.specs.Steps.{HasSeen, HasSeenAllOf, IsSamePass, PassView}
+use Rattle.nm_calls.specs.Maps.{HasPut, HoldsStores, IsInMap, MapGave, WasMapped, WasPut, value_at}
+use Rattle.nm_calls.proofs.KeptValues.{put_values_stay}
+use Rattle.nm_calls.proofs.MapsOfRuns.{histories_are_of_maps}
+use Rattle.nm_callers.specs.Mapping.{AreOfOneMap}
+
+no_turn : (before since : List Turn) (t : Turn) → [] ≡ before ++ t ∷ since → ⊥
+no_turn before since t is = let long = ap (λ (l : List Turn). length l) is ∙ length-append before (t ∷ since) in omega (arith, long)
+
+module _ (o p q : PassView) (k v : ℕ) (is_key : IsKey k) (seen : HasSeen q.view) (fits : IsLayout q.view.layout) (on : HasSeenAllOf q p) (more : ExtendsStores q.view.stores p.view.stores)
+    (put : WasPut q.view.layout o.view.past p.view.past p.view.stores q.view.number k v) (found : ℕ) (gave : WasMapped q.view.layout p.view.past q.view.past q.view.stores q.view.number k (Some found)) where
+  abbrev L : Layout
+  L = q.view.layout
+
+  abbrev linked : List Turn
+  linked = put.so_far ++ put.link ∷ []
+
+  held : HoldsStores L gave.so_far q.view.past q.view.stores
+  held = gave.stored
+
+  abbrev in_run : HoldsStores L gave.so_far (trace_in (ordered L) seen.events) q.view.stores
+  in_run = record {
+    until = held.until;
+    from = held.from;
+    ends = record { more = held.ends.more; is = sym seen.are ∙ held.ends.is };
+    held = held.held;
+    linked = held.linked;
+    order = held.order;
+  }
+
+  link_seen : q.view.past ≡ linked ++ (put.rest ++ on.goes_on.more)
+  link_seen = on.goes_on.is ∙ (ap (λ (ts : List Turn). ts ++ on.goes_on.more) put.are ∙ append_assoc linked put.rest on.goes_on.more)
+
+  put_first : length linked < length gave.so_far
+  put_first = let long = ap (λ (ts : List Turn). length ts) put.are ∙ length-append linked put.rest in let later = gave.later in omega (arith, later, long)
+
+  got_within : length gave.so_far ≤ length held.until
+  got_within = let long = ap (λ (ts : List Turn). length ts) held.from.is ∙ length-append gave.so_far held.from.more in omega (arith, long)
+
+  part : (mid : List Turn) × (held.until ≡ linked ++ mid)
+  part = begins_with linked (put.rest ++ on.goes_on.more) held.until held.ends.more (sym link_seen ∙ held.ends.is) (let first = put_first in let last = got_within in omega (arith, first, last))
+
+  -- the value right after the link, by all that was seen later
+  here : IsInMap L linked q.view.stores k (value_at (length linked) q.view.stores put.is.slot)
+  here = record { slot = put.is.slot; reached = put.is.reached; leaf = put.is.leaf; has_key = put.is.has_key; has_value = refl }
+
+  same_value : value_at (length linked) q.view.stores put.is.slot ≡ v
+  same_value =
+      put_values_stay L fits seen.events seen.keys o.view.past p.view.past p.view.stores q.view.stores q.view.number k v seen.worker put more gave.so_far in_run [] (put.rest ++ on.goes_on.more) (sym seen.are ∙ link_seen)
+      (λ before since t is c. no_turn before since t is) (value_at (length linked) q.view.stores put.is.slot)
+      (subst (λ (ts : List Turn). IsInMap L ts q.view.stores k (value_at (length linked) q.view.stores put.is.slot)) (sym (append-nil linked)) here)
+
+  pub of_one_map : AreOfOneMap L o.view.past q.view.past k v found
+  of_one_map =
+      let maps = histories_are_of_maps L fits seen.events seen.keys gave.so_far q.view.stores in_run in
+      record {
+        until = held.until;
+        ends = held.ends;
+        stores = q.view.stores;
+        history = maps.0;
+        put = length linked;
+        got = length gave.so_far;
+        later = (let long = length-append put.so_far (put.link ∷ []) in let later = put.later in omega (arith, long, later));
+        order = put_first;
+        within = got_within;
+        each = λ acts h. let r = maps.1 acts h in (r.0, r.1, (r.1.moments linked part.0 part.1 k v is_key).1 (subst (λ (u : ℕ). IsInMap L linked q.view.stores k u) same_value here), (r.1.moments gave.so_far held.from.more held.from.is k found is_key).1 gave.gives);
+      }
+
+-- of what a get has found
+pub got_of_one_map : (o p q : PassView) (k v : ℕ) → IsKey k → HasSeen q.view → IsLayout q.view.layout → IsSamePass p q → HasSeenAllOf q p → ExtendsStores q.view.stores p.view.stores → HasPut o p k v → (found : Option ℕ) → MapGave p q k found → IfSome found (AreOfOneMap q.view.layout o.view.past q.view.past k v)
+got_of_one_map o p q k v is_key seen fits same on more put None gave = tt
+got_of_one_map o p q k v is_key seen fits same on more put (Some found) gave =
+    of_one_map o p q k v is_key seen fits on more (subst (λ (z : PassView). WasPut z.view.layout o.view.past p.view.past p.view.stores z.view.number k v) (sym same) put) found gave
