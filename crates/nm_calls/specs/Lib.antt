@@ -11,6 +11,7 @@ pub mod Moments
 pub mod Inserts
 pub mod Deletes
 pub mod Maps
+pub mod MapScans
 pub mod KeptValues
 pub mod MapHistories
 pub mod HandedBack
