@@ -261,6 +261,59 @@ void each_object_is_popped_once() {
     CHECK(Canary::alive() == 0);
 }
 
+// What the calls of a thread returned that has one try for each.
+struct Counts {
+    std::uint64_t inserted = 0, removed = 0, unfinished = 0;
+};
+
+// Makes a call that may fail because other threads interfere.
+template <typename Call>
+bool is_answered(Counts &counts, Call call) {
+    try {
+        return call();
+    } catch (const nm::Fault &fault) {
+        CHECK(fault.outcome() == NM_BUSY || fault.outcome() == NM_PENDING ||
+              fault.outcome() == NM_UNFINISHED);
+        counts.unfinished += fault.outcome() == NM_UNFINISHED;
+        return false;
+    }
+}
+
+void change_by_one_try(Numbers &map, Counts &counts) {
+    Numbers::Worker worker = map.attach();
+    for (std::uint32_t call = 0; call < 20'000; call++) {
+        std::uint64_t key = call * 7 % 4;
+        counts.inserted += is_answered(counts, [&] { return worker.insert(key, call); });
+        counts.removed += is_answered(counts, [&] {
+            return call % 2 == 0 ? worker.pop_first().has_value() : worker.remove(key);
+        });
+        CHECK(!worker.pending() || *worker.pending() < 4);
+    }
+}
+
+// A remove or a pop that is not finished counts as done, because no other call removes its key.
+void an_unfinished_pop_counts() {
+    nm::MapOptions options;
+    options.workers = threads + 1;
+    options.tries = 1;
+    options.rounds = 0;
+    Numbers map(4096, options);
+    std::vector<Counts> each(threads);
+    std::vector<std::thread> running;
+    for (Counts &counts : each)
+        running.emplace_back(change_by_one_try, std::ref(map), std::ref(counts));
+    for (std::thread &thread : running) thread.join();
+    Counts all;
+    for (const Counts &counts : each) {
+        all.inserted += counts.inserted;
+        all.removed += counts.removed;
+        all.unfinished += counts.unfinished;
+    }
+    CHECK(map.size() == all.inserted - all.removed - all.unfinished);
+    std::printf("%llu removes and pops were unfinished\n",
+                static_cast<unsigned long long>(all.unfinished));
+}
+
 // Every third key stays. The others are inserted and removed, until a reader is done.
 void change(Objects &map, unsigned seed, const std::atomic<bool> &is_over) {
     Objects::Worker worker = map.attach();
@@ -323,6 +376,7 @@ int main() {
     objects_are_read_and_popped_under_a_guard();
     wrong_guards_are_refused();
     each_object_is_popped_once();
+    an_unfinished_pop_counts();
     a_pass_finds_what_stays();
     std::puts("a map is read, popped and counted in the order of its keys");
 }

@@ -52,11 +52,16 @@ nm_outcome nm_map_hold(nm_handle *worker, const nm_options *options, uint64_t *e
     return outcome;
 }
 
+/* The tries of a call that reads. It takes one to pin, and one or two for its walks. */
+static uint32_t reading_tries(const nm_options *options) {
+    return options->tries < 3 ? 3 : options->tries;
+}
+
 nm_outcome nm_map_at_least(nm_handle *worker, uint64_t key, const nm_options *options,
                            uint64_t *found, uint64_t *value) {
     uint32_t round = 0;
     nm_outcome outcome;
-    do outcome = nm_map_next(worker, key, options->tries, found, value);
+    do outcome = nm_map_next(worker, key, reading_tries(options), found, value);
     while (is_repeated(worker, options, outcome, &round));
     return outcome;
 }
@@ -65,14 +70,9 @@ nm_outcome nm_map_at_most(nm_handle *worker, uint64_t key, const nm_options *opt
                           uint64_t *found, uint64_t *value) {
     uint32_t round = 0;
     nm_outcome outcome;
-    do outcome = nm_map_prev(worker, key, options->tries, found, value);
+    do outcome = nm_map_prev(worker, key, reading_tries(options), found, value);
     while (is_repeated(worker, options, outcome, &round));
     return outcome;
-}
-
-/* The tries of a scan: with fewer than two it may find no key. */
-static uint32_t scan_tries(const nm_options *options) {
-    return options->tries < 2 ? 2 : options->tries;
 }
 
 static bool is_empty_range(uint64_t from, uint64_t below) {
@@ -96,7 +96,7 @@ nm_outcome nm_map_read_keys(nm_handle *worker, uint64_t from, uint64_t below, ui
     nm_outcome outcome = NM_NO;
     if (room == 0) keys = &none;
     if (!is_empty_range(from, below)) {
-        do outcome = nm_map_scan(worker, from, below, keys, room, &read, next, scan_tries(options));
+        do outcome = nm_map_scan(worker, from, below, keys, room, &read, next, reading_tries(options));
         while (is_repeated(worker, options, outcome, &round));
     }
     return read_so_many(outcome, read, count);
@@ -111,7 +111,7 @@ nm_outcome nm_map_read_keys_back(nm_handle *worker, uint64_t from, uint64_t belo
     if (room == 0) keys = &none;
     if (!is_empty_range(from, below)) {
         do outcome = nm_map_scan_back(worker, before(below), from, keys, room, &read, &rest,
-                                      scan_tries(options));
+                                      reading_tries(options));
         while (is_repeated(worker, options, outcome, &round));
     }
     if (outcome == NM_YES) *next = rest + 1;

@@ -89,7 +89,8 @@ nm_outcome nm_map_put(nm_handle *map, nm_handle *worker, uint64_t key, uint64_t 
 
 /* ---- calls that read, and are repeated ----
  * Each finishes a remove that is pending first, and repeats a call that lost each of its tries, at
- * most `rounds` times. Errors: NM_BUSY, NM_PENDING: the bounds of the options were reached.
+ * most `rounds` times. It makes three tries or more, because fewer are not enough for any call.
+ * Errors: NM_BUSY, NM_PENDING: the bounds of the options were reached.
  * NM_PINNED, NM_KEY, NM_CLOSED, NM_KIND, NM_IN_USE. After an error nothing was written that counts.
  *
  * The value that these write for a key was under that key at a moment of the call. It may come back

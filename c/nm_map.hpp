@@ -379,7 +379,7 @@ private:
             constexpr auto read = is_up ? nm_map_read_entries : nm_map_read_entries_back;
             std::vector<nm_entry> entries;
             bool has_more = worker().read(read, entries, block.room, from, below, block.next);
-            block.entries.reserve(entries.size());
+            detail::in_memory([&] { block.entries.reserve(entries.size()); });
             for (const nm_entry &each : entries) block.entries.push_back(entry_of(each));
             return has_more;
         } else {
@@ -669,13 +669,14 @@ private:
     template <typename Call>
     std::vector<detail::Found<T>> values_of(const std::vector<std::uint64_t> &wanted, Call call) const {
         std::vector<nm_map_lookup> lookups;
+        std::vector<detail::Found<T>> all;
+        detail::in_memory([&] { lookups.reserve(wanted.size()), all.reserve(wanted.size()); });
         for (std::uint64_t key : wanted) lookups.push_back({key, 0, 0});
         nm_outcome outcome =
             ask([&](nm_handle *it) { return call(it, lookups.data(), lookups.size()); });
         auto wrong = std::find_if(wanted.begin(), wanted.end(),
                                   [](std::uint64_t key) { return key > most_key; });
         detail::answered_by_map(outcome, wrong != wanted.end() ? *wrong : 0);
-        std::vector<detail::Found<T>> all;
         for (const nm_map_lookup &each : lookups)
             all.push_back(detail::found<T>(each.found != 0, each.value));
         return all;

@@ -381,9 +381,11 @@ private:
     void read() {
         std::uint64_t key = detail::key_of(*entry_);
         std::uint64_t rest = order == Order::ascending ? key + 1 : key;
-        block_ = std::make_shared<const detail::Block<Entry>>(
-            block_ == nullptr ? of_->template block<order>(8, rest, bound_)
-                              : of_->template block_after<order>(*block_, bound_));
+        detail::Block<Entry> next = block_ == nullptr
+                                        ? of_->template block<order>(8, rest, bound_)
+                                        : of_->template block_after<order>(*block_, bound_);
+        block_ = detail::in_memory(
+            [&] { return std::make_shared<const detail::Block<Entry>>(std::move(next)); });
         at_ = 0;
     }
 
@@ -718,7 +720,7 @@ private:
         constexpr auto scan = is_up ? nm_pool_scan : nm_pool_scan_back;
         std::uint64_t from = is_up ? block.next : bound, below = is_up ? bound : block.next;
         std::size_t count = 0;
-        block.entries.resize(block.room);
+        detail::in_memory([&] { block.entries.resize(block.room); });
         bool has_more = done([&](const detail::Place &to) {
             return scan(to.pool, to.worker, from, below, block.entries.data(), block.room, &count,
                         &block.next, to.timeout_ms);
