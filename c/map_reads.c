@@ -184,6 +184,7 @@ static void a_child_is_known(void) {
         int is_known = nm_map_is_forked(counts) && nm_map_counts_new(&own, 1) == NM_DONE &&
                        !nm_map_is_forked(own);
         nm_map_counts_free(counts); /* which does nothing */
+        nm_map_counts_free(own);
         _exit(is_known && nm_map_is_forked(counts) ? 0 : 1);
     }
     CHECK(waitpid(child, &status, 0) == child && WIFEXITED(status) && WEXITSTATUS(status) == 0);
