@@ -16,6 +16,14 @@ struct Told {
     std::atomic<std::uint64_t> inserted{0}, removed{0}, calls{0}, closed{0};
 };
 
+// Ends the program if a fault has another outcome or another text, and writes both.
+void ends_with(const Thrown &end, nm_outcome outcome, const char *text) {
+    if (end.outcome == outcome && end.text == text) return;
+    std::fprintf(stderr, "the outcome is %d (%s), and not %d: %s\n", static_cast<int>(end.outcome),
+                 nm_pool_text(end.outcome), static_cast<int>(outcome), end.text.c_str());
+    std::exit(1);
+}
+
 // Calls the set until it throws. Every fourth caller attaches itself for each few of its calls.
 void call_until_closed(nm::Set &set, std::uint64_t number, Told &told) {
     Thrown end = fault_of([&] {
@@ -32,7 +40,7 @@ void call_until_closed(nm::Set &set, std::uint64_t number, Told &told) {
             }
         }
     });
-    CHECK(end.outcome == NM_CLOSED && end.text == "the set is closed");
+    ends_with(end, NM_CLOSED, "the set is closed");
     told.closed++;
 }
 
@@ -42,7 +50,9 @@ nm::Report closed(nm::Set &set) {
         try {
             return set.close();
         } catch (const nm::Fault &fault) {
-            CHECK(fault.outcome() == NM_ATTACHED && set.is_open());
+            if (fault.outcome() != NM_ATTACHED)
+                ends_with({fault.outcome(), fault.what()}, NM_ATTACHED, "");
+            CHECK(set.is_open());
             std::this_thread::yield();
         }
     }

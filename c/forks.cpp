@@ -1,4 +1,7 @@
-// Tests sets and workers in a forked child, and threads that are cancelled while they wait.
+// Tests sets, maps and their workers in a forked child, and threads that are cancelled while they
+// wait.
+#include "canary.hpp"
+#include "nm_map.hpp"
 #include "thrown.hpp"
 
 #include <pthread.h>
@@ -68,6 +71,65 @@ void children_are_refused() {
     CHECK(set.close().size() == 1);
 }
 
+// What a child has of a map: the map, two workers, and a guard of the first one.
+struct Mapped {
+    nm::Map<Canary> map{4096, 8};
+    nm::Map<Canary>::Worker reader = map.attach(), worker = map.attach();
+};
+
+bool is_refused(Mapped &mapped, const nm::MapGuard<Canary> &guard) {
+    auto object = std::make_unique<Canary>(7);
+    auto calls = mapped.worker.under(guard);
+    return thrown([&] { (void)guard.get(5u); }) == NM_FORKED &&
+           thrown([&] { (void)guard.get_many({5}); }) == NM_FORKED &&
+           thrown([&] { (void)calls.first(); }) == NM_FORKED &&
+           thrown([&] { calls.pop_first(); }) == NM_FORKED &&
+           thrown([&] { (void)calls.range(0u).begin(); }) == NM_FORKED &&
+           thrown([&] { mapped.worker.insert(7u, std::move(object)); }) == NM_FORKED &&
+           thrown([&] { mapped.worker.remove(5u); }) == NM_FORKED &&
+           thrown([&] { (void)mapped.worker.pin(); }) == NM_FORKED &&
+           thrown([&] { mapped.worker.reclaim(); }) == NM_FORKED &&
+           thrown([&] { (void)mapped.map.size(); }) == NM_FORKED &&
+           fault_of([&] { (void)mapped.map.attach(); }).text ==
+               "the map was made before this process was forked: only the parent can use it" &&
+           object->is_of(7);
+}
+
+// In a forked child each call of a map throws NM_FORKED, and destructors end none of the parent's
+// objects, also beside threads that were in calls. A map of the child's own is usable.
+void children_end_no_objects() {
+    {
+        Mapped mapped;
+        CHECK(mapped.worker.emplace(5u, 5u) && mapped.worker.emplace(6u, 6u) && mapped.worker.remove(6u));
+        std::atomic<bool> is_over{false};
+        std::vector<std::thread> threads;
+        for (std::uint64_t first = 0; first < callers; first++)
+            threads.emplace_back([&, first] {
+                auto worker = mapped.map.attach();
+                while (!is_over) worker.emplace(10 + first, 10 + first), worker.remove(10 + first);
+            });
+        for (int each = 0; each < 20; each++) {
+            auto guard = mapped.reader.pin();
+            CHECK(holds_in_child([&] {
+                bool holds = is_refused(mapped, guard);
+                std::uint64_t ended = Canary::destroyed;
+                {
+                    auto moved_guard = std::move(guard);
+                    auto reader = std::move(mapped.reader), worker = std::move(mapped.worker);
+                    auto map = std::move(mapped.map);
+                }
+                nm::Map<std::string> own(64, {{7u, "seven"}});
+                return holds && Canary::destroyed == ended && own.size() == 1;
+            }));
+            CHECK(guard.get(5u)->is_of(5));
+        }
+        is_over = true;
+        for (std::thread &thread : threads) thread.join();
+        CHECK(mapped.worker.under(mapped.reader.pin()).take(5u)->is_of(5));
+    }
+    CHECK(Canary::alive() == 0);
+}
+
 #ifndef __SANITIZE_ADDRESS__  // the sanitizer does not know the stack of a cancelled thread
 // Cancels a thread in the middle of a call that waits.
 template <typename Call>
@@ -108,6 +170,7 @@ void cancelled_threads_keep_nothing() {}
 
 int main() {
     children_are_refused();
+    children_end_no_objects();
     cancelled_threads_keep_nothing();
     std::puts("a child is refused, and a cancelled thread keeps nothing");
 }

@@ -1,6 +1,7 @@
-// map_soak [THREADS [CALLS [KEYS]]]: threads insert, get and remove objects of one nm::Map, for
+// map_soak [THREADS [CALLS [KEYS]]]: threads insert, get, remove and pop objects of one nm::Map, for
 // CALLS calls in all, with keys below KEYS. A get reads the object under a guard, and now and then
-// holds the guard for a while. Each object checks that it is destroyed once, and each reader that
+// holds the guard for a while. A pop reads the object that it removed under the guard of a second
+// worker, and a pass reads some objects in order. Each object checks that it is destroyed once, and each reader that
 // it reads an object that exists. At the end each object was destroyed. Without numbers it is
 // short, for c/check; under the sanitizers and valgrind it finds a read or a free of freed memory.
 #include "canary.hpp"
@@ -27,19 +28,32 @@ struct Load {
 struct Counts {
     std::uint64_t inserts = 0, inserted = 0, full = 0;
     std::uint64_t gets = 0, found = 0, removes = 0, removed = 0;
+    std::uint64_t pops = 0, popped = 0, passes = 0, passed = 0;
 
     Counts &operator+=(const Counts &other) {
         inserts += other.inserts, inserted += other.inserted;
         gets += other.gets, found += other.found;
         removes += other.removes, removed += other.removed;
+        pops += other.pops, popped += other.popped;
+        passes += other.passes, passed += other.passed;
         full += other.full;
         return *this;
     }
+
+    [[nodiscard]] std::uint64_t calls() const { return inserts + gets + removes + pops + passes; }
+    [[nodiscard]] std::uint64_t left() const { return inserted - removed - popped; }
+};
+
+// What a thread has of the map.
+struct Workers {
+    explicit Workers(Objects &map) : reader(map.attach()), worker(map.attach()) {}
+
+    Objects::Worker reader, worker;
 };
 
 // Gets an object and reads it, and in one of 4,096 calls again after other threads have run.
-void get(Objects::Worker &worker, std::uint64_t key, Counts &counts) {
-    auto guard = worker.pin();
+void get(Workers &by, std::uint64_t key, Counts &counts) {
+    auto guard = by.reader.pin();
     const Canary *found = guard.get(key);
     counts.gets++;
     if (found == nullptr) return;
@@ -64,16 +78,43 @@ void insert(Objects::Worker &worker, std::uint64_t key, Counts &counts) {
     }
 }
 
+// Pops the least object from a key on or the greatest below it, and reads it.
+void pop(Workers &by, std::uint64_t key, Counts &counts) {
+    auto guard = by.reader.pin();
+    auto calls = by.worker.under(guard);
+    auto popped = key % 2 == 0 ? calls.pop_first(key) : calls.pop_last(key);
+    counts.pops++;
+    if (!popped) return;
+    counts.popped++;
+    CHECK((popped->key < key) == (key % 2 == 0) && popped->value->is_of(popped->key));
+    if (counts.pops % 256 == 0) std::this_thread::sleep_for(std::chrono::microseconds(100));
+    CHECK(popped->value->is_of(popped->key));
+}
+
+// Reads the objects of a range in order.
+void pass(Workers &by, std::uint64_t key, Counts &counts) {
+    auto guard = by.reader.pin();
+    counts.passes++;
+    for (auto [each, object] : by.worker.under(guard).range(key, key + 32)) {
+        CHECK(key <= each && each < key + 32 && object->is_of(each));
+        counts.passed++;
+    }
+}
+
 void work(Objects &map, const Load &load, unsigned seed, Counts &all) {
-    Objects::Worker worker = map.attach();
+    Workers by(map);
     std::minstd_rand random(seed);
     Counts counts;
     for (std::uint64_t call = 0; call < load.calls / load.threads; call++) {
         std::uint64_t key = random() % load.keys;
-        switch (random() / 16 % 3) {
-        case 0: insert(worker, key, counts); break;
-        case 1: get(worker, key, counts); break;
-        default: counts.removes++, counts.removed += worker.remove(key);
+        switch (random() / 16 % 24) {
+        case 0: pop(by, key, counts); break;
+        case 1: pass(by, key, counts); break;
+        case 2: case 3: case 4: case 5: case 6: case 7: case 8:
+            counts.removes++, counts.removed += by.worker.remove(key);
+            break;
+        case 9: case 10: case 11: case 12: case 13: case 14: case 15: get(by, key, counts); break;
+        default: insert(by.worker, key, counts);
         }
     }
     all += counts;
@@ -82,7 +123,7 @@ void work(Objects &map, const Load &load, unsigned seed, Counts &all) {
 // Runs the threads, each of which adds to counts of its own; returns their sum.
 Counts run(const Load &load) {
     std::uint64_t nodes = 4 * load.keys + 256 * load.threads;
-    Objects map(nodes, load.threads + 1);
+    Objects map(nodes, 2 * load.threads + 1);
     std::vector<Counts> each(load.threads);
     std::vector<std::thread> running;
     for (unsigned number = 0; number < load.threads; number++)
@@ -91,7 +132,7 @@ Counts run(const Load &load) {
     for (std::thread &thread : running) thread.join();
     Counts all;
     for (const Counts &counts : each) all += counts;
-    CHECK(map.attach().keys().size() == all.inserted - all.removed);
+    CHECK(map.attach().keys().size() == all.left() && map.size() == all.left());
     return all;
 }
 
@@ -100,10 +141,12 @@ void report(const Load &load, const Counts &all, double seconds) {
     std::printf("%u threads made %llu calls in %.1f seconds:\n"
                 "%llu inserts, of which %llu inserted and %llu found no nodes in time\n"
                 "%llu gets, of which %llu found an object\n%llu removes, of which %llu removed\n"
+                "%llu pops, of which %llu removed\n%llu passes, which read %llu objects\n"
                 "%llu objects were made, and %llu destroyed\n",
-                load.threads, number(all.inserts + all.gets + all.removes), seconds,
-                number(all.inserts), number(all.inserted), number(all.full), number(all.gets),
-                number(all.found), number(all.removes), number(all.removed), number(Canary::made),
+                load.threads, number(all.calls()), seconds, number(all.inserts),
+                number(all.inserted), number(all.full), number(all.gets), number(all.found),
+                number(all.removes), number(all.removed), number(all.pops), number(all.popped),
+                number(all.passes), number(all.passed), number(Canary::made),
                 number(Canary::destroyed));
 }
 
@@ -114,11 +157,11 @@ int main(int count, char **words) {
     if (count > 1) load.threads = static_cast<unsigned>(std::strtoul(words[1], nullptr, 10));
     if (count > 2) load.calls = std::strtoull(words[2], nullptr, 10);
     if (count > 3) load.keys = std::strtoull(words[3], nullptr, 10);
-    CHECK(load.threads >= 1 && load.threads < 64 && load.keys >= 1);
+    CHECK(load.threads >= 1 && load.threads < 32 && load.keys >= 1);
     Clock::time_point begin = Clock::now();
     Counts all = run(load);
     std::chrono::duration<double> took = Clock::now() - begin;
     report(load, all, took.count());
     CHECK(Canary::made == all.inserts && Canary::alive() == 0);
-    CHECK(all.inserted > 0 && all.found > 0 && all.removed > 0);
+    CHECK(all.inserted > 0 && all.found > 0 && all.removed > 0 && all.popped > 0 && all.passed > 0);
 }

@@ -2,8 +2,20 @@
 #include "nm_map.h"
 #include "nm_wait.h"
 
-/* For how many values, and how many keys, one call of the library has room. */
-enum { ROOM = 64 };
+#include <stdalign.h>
+#include <stdatomic.h>
+#include <stdbool.h>
+#include <stdlib.h>
+#include <string.h>
+
+enum {
+    ROOM = 64,     /* for how many values, and how many keys, one call of the library has room */
+    SCANNED = 512, /* how many keys a count reads in one call */
+    LINE = 64,     /* the bytes of a cache line */
+    WORKERS = 64   /* the most workers of a map */
+};
+
+#define MOST_KEY (UINT64_MAX - 3) /* the greatest key */
 
 uint32_t nm_map_collect_after(uint32_t nodes, uint32_t workers) {
     uint64_t after = workers == 0 ? nodes : nodes / (8 * (uint64_t)workers);
@@ -18,16 +30,225 @@ nm_outcome nm_map_wait_attach(nm_handle *map, nm_handle *worker, uint32_t timeou
     return outcome;
 }
 
+/* ---- calls that are repeated ---- */
+
+/* Returns whether a call is to be made again, because it lost each of its tries or a remove is
+ * pending. It finishes that remove, and counts the rounds. */
+static bool is_repeated(nm_handle *worker, const nm_options *options, nm_outcome outcome,
+                        uint32_t *round) {
+    uint64_t unused;
+    if ((outcome != NM_BUSY && outcome != NM_PENDING) || *round == options->rounds) return false;
+    ++*round;
+    /* A managed call finishes the remove that is pending first. */
+    if (outcome == NM_PENDING) (void)nm_map_get(worker, 0, options, &unused);
+    return true;
+}
+
 nm_outcome nm_map_hold(nm_handle *worker, const nm_options *options, uint64_t *epoch) {
-    nm_outcome outcome = nm_map_pin(worker, options->tries, epoch);
-    for (uint32_t round = 0; round < options->rounds; round++) {
-        uint64_t unused;
-        if (outcome != NM_BUSY && outcome != NM_PENDING) break;
-        /* A managed call finishes the remove that is pending first. */
-        if (outcome == NM_PENDING) (void)nm_map_get(worker, 0, options, &unused);
-        outcome = nm_map_pin(worker, options->tries, epoch);
+    uint32_t round = 0;
+    nm_outcome outcome;
+    do outcome = nm_map_pin(worker, options->tries, epoch);
+    while (is_repeated(worker, options, outcome, &round));
+    return outcome;
+}
+
+/* The tries of a call that reads. It takes one to pin, and one or two for its walks. */
+static uint32_t reading_tries(const nm_options *options) {
+    return options->tries < 3 ? 3 : options->tries;
+}
+
+nm_outcome nm_map_at_least(nm_handle *worker, uint64_t key, const nm_options *options,
+                           uint64_t *found, uint64_t *value) {
+    uint32_t round = 0;
+    nm_outcome outcome;
+    do outcome = nm_map_next(worker, key, reading_tries(options), found, value);
+    while (is_repeated(worker, options, outcome, &round));
+    return outcome;
+}
+
+nm_outcome nm_map_at_most(nm_handle *worker, uint64_t key, const nm_options *options,
+                          uint64_t *found, uint64_t *value) {
+    uint32_t round = 0;
+    nm_outcome outcome;
+    do outcome = nm_map_prev(worker, key, reading_tries(options), found, value);
+    while (is_repeated(worker, options, outcome, &round));
+    return outcome;
+}
+
+static bool is_empty_range(uint64_t from, uint64_t below) {
+    return from >= below || from > MOST_KEY;
+}
+
+/* Returns the greatest key below a bound. */
+static uint64_t before(uint64_t below) { return below > MOST_KEY ? MOST_KEY : below - 1; }
+
+/* Returns the outcome of a scan, and writes how many keys it has read if it was made. */
+static nm_outcome read_so_many(nm_outcome outcome, uint64_t read, size_t *count) {
+    if (outcome >= 0) *count = read;
+    return outcome;
+}
+
+nm_outcome nm_map_read_keys(nm_handle *worker, uint64_t from, uint64_t below, uint64_t *keys,
+                            size_t room, size_t *count, uint64_t *next,
+                            const nm_options *options) {
+    uint64_t none = 0, read = 0;
+    uint32_t round = 0;
+    nm_outcome outcome = NM_NO;
+    if (room == 0) keys = &none;
+    if (!is_empty_range(from, below)) {
+        do outcome = nm_map_scan(worker, from, below, keys, room, &read, next, reading_tries(options));
+        while (is_repeated(worker, options, outcome, &round));
+    }
+    return read_so_many(outcome, read, count);
+}
+
+nm_outcome nm_map_read_keys_back(nm_handle *worker, uint64_t from, uint64_t below, uint64_t *keys,
+                                 size_t room, size_t *count, uint64_t *next,
+                                 const nm_options *options) {
+    uint64_t none = 0, read = 0, rest = 0;
+    uint32_t round = 0;
+    nm_outcome outcome = NM_NO;
+    if (room == 0) keys = &none;
+    if (!is_empty_range(from, below)) {
+        do outcome = nm_map_scan_back(worker, before(below), from, keys, room, &read, &rest,
+                                      reading_tries(options));
+        while (is_repeated(worker, options, outcome, &round));
+    }
+    if (outcome == NM_YES) *next = rest + 1;
+    return read_so_many(outcome, read, count);
+}
+
+nm_outcome nm_map_read_entries(nm_handle *worker, uint64_t from, uint64_t below, nm_entry *entries,
+                               size_t room, size_t *count, uint64_t *next,
+                               const nm_options *options) {
+    uint64_t read = 0;
+    while (read < room && !is_empty_range(from, below)) {
+        nm_entry *entry = &entries[read];
+        nm_outcome outcome = nm_map_at_least(worker, from, options, &entry->key, &entry->value);
+        if (outcome < 0) return outcome;
+        if (outcome == NM_NO || entry->key >= below) return read_so_many(NM_NO, read, count);
+        from = entry->key + 1;
+        read++;
+    }
+    *next = from;
+    return read_so_many(is_empty_range(from, below) ? NM_NO : NM_YES, read, count);
+}
+
+nm_outcome nm_map_read_entries_back(nm_handle *worker, uint64_t from, uint64_t below,
+                                    nm_entry *entries, size_t room, size_t *count, uint64_t *next,
+                                    const nm_options *options) {
+    uint64_t read = 0;
+    while (read < room && !is_empty_range(from, below)) {
+        nm_entry *entry = &entries[read];
+        nm_outcome outcome =
+            nm_map_at_most(worker, before(below), options, &entry->key, &entry->value);
+        if (outcome < 0) return outcome;
+        if (outcome == NM_NO || entry->key < from) return read_so_many(NM_NO, read, count);
+        below = entry->key;
+        read++;
+    }
+    *next = below;
+    return read_so_many(is_empty_range(from, below) ? NM_NO : NM_YES, read, count);
+}
+
+nm_outcome nm_map_count(nm_handle *worker, uint64_t from, uint64_t below, uint64_t *count,
+                        const nm_options *options) {
+    uint64_t keys[SCANNED], total = 0;
+    nm_outcome outcome = NM_YES;
+    while (outcome == NM_YES) {
+        size_t some = 0;
+        outcome = nm_map_read_keys(worker, from, below, keys, SCANNED, &some, &from, options);
+        if (outcome >= 0) total += some;
+    }
+    if (outcome == NM_NO) *count = total;
+    return outcome == NM_NO ? NM_DONE : outcome;
+}
+
+nm_outcome nm_map_get_many_pinned(nm_handle *worker, nm_map_lookup *lookups, size_t count) {
+    for (size_t at = 0; at < count; at++) {
+        nm_outcome outcome = nm_map_get_pinned(worker, lookups[at].key, &lookups[at].value);
+        if (outcome < 0) return outcome;
+        lookups[at].found = outcome == NM_YES;
+    }
+    return NM_DONE;
+}
+
+nm_outcome nm_map_get_many(nm_handle *worker, nm_map_lookup *lookups, size_t count,
+                           const nm_options *options) {
+    nm_outcome outcome = NM_DONE;
+    for (size_t at = 0; at < count && outcome >= 0; at += ROOM) {
+        uint64_t epoch;
+        outcome = nm_map_hold(worker, options, &epoch);
+        if (outcome < 0) return outcome;
+        outcome = nm_map_get_many_pinned(worker, lookups + at, count - at < ROOM ? count - at : ROOM);
+        (void)nm_map_unpin(worker);
     }
     return outcome;
+}
+
+/* ---- how many keys there are, and forks ---- */
+
+/* The number of forks between the start of the program and this process, which nm_pool.c counts
+ * after the first call of nm_host_count_forks. */
+__attribute__((visibility("hidden"))) void nm_host_count_forks(void);
+__attribute__((visibility("hidden"))) unsigned long nm_host_forks(void);
+
+/* The keys that a worker has inserted, less those that it has removed. */
+struct tally {
+    alignas(LINE) _Atomic uint64_t keys;
+};
+
+struct nm_map_counts {
+    alignas(LINE) uint32_t workers;
+    unsigned long forks;
+    void *block; /* what malloc returned */
+    struct tally of[];
+};
+
+nm_outcome nm_map_counts_new(nm_map_counts **counts, uint32_t workers) {
+    if (workers < 1 || workers > WORKERS) return NM_WORKERS;
+    size_t size = sizeof(nm_map_counts) + workers * sizeof(struct tally);
+    char *block = malloc(size + LINE);
+    if (block == NULL) return NM_NO_MEMORY;
+    nm_map_counts *made = (nm_map_counts *)(block + (LINE - (uintptr_t)block % LINE));
+    memset(made, 0, size);
+    nm_host_count_forks();
+    made->workers = workers;
+    made->forks = nm_host_forks();
+    made->block = block;
+    *counts = made;
+    return NM_DONE;
+}
+
+int nm_map_is_forked(const nm_map_counts *counts) { return counts->forks != nm_host_forks(); }
+
+void nm_map_counts_free(nm_map_counts *counts) {
+    if (counts != NULL && !nm_map_is_forked(counts)) free(counts->block);
+}
+
+/* Adds to the count of a worker, to which no other thread adds at the same time. */
+static void add_to(nm_map_counts *counts, uint32_t worker, uint64_t change) {
+    if (worker >= counts->workers) return;
+    _Atomic uint64_t *keys = &counts->of[worker].keys;
+    uint64_t before = atomic_load_explicit(keys, memory_order_relaxed);
+    atomic_store_explicit(keys, before + change, memory_order_relaxed);
+}
+
+void nm_map_count_insert(nm_map_counts *counts, uint32_t worker, nm_outcome outcome) {
+    if (outcome == NM_YES) add_to(counts, worker, 1);
+}
+
+void nm_map_count_remove(nm_map_counts *counts, uint32_t worker, nm_outcome outcome) {
+    if (outcome == NM_YES || outcome == NM_UNFINISHED) add_to(counts, worker, UINT64_MAX);
+}
+
+uint64_t nm_map_counts_keys(const nm_map_counts *counts) {
+    uint64_t total = 0;
+    for (uint32_t worker = 0; worker < counts->workers; worker++)
+        total += atomic_load_explicit(&((nm_map_counts *)counts)->of[worker].keys,
+                                      memory_order_relaxed);
+    /* A remove may be counted before the insert of its key. */
+    return total > INT64_MAX ? 0 : total;
 }
 
 /* ---- values that come back ---- */

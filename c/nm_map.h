@@ -35,6 +35,12 @@
 extern "C" {
 #endif
 
+/* A key of a map with its value. */
+typedef struct nm_entry {
+    uint64_t key;
+    uint64_t value;
+} nm_entry;
+
 /* Takes a value that came back. */
 typedef void (*nm_map_release)(void *context, uint64_t value);
 
@@ -80,6 +86,96 @@ nm_outcome nm_map_tend(nm_handle *worker, const nm_options *options, nm_map_rele
 nm_outcome nm_map_put(nm_handle *map, nm_handle *worker, uint64_t key, uint64_t value,
                       const nm_options *options, nm_map_release release, void *context,
                       uint32_t timeout_ms);
+
+/* ---- calls that read, and are repeated ----
+ * Each finishes a remove that is pending first, and repeats a call that lost each of its tries, at
+ * most `rounds` times. It makes three tries or more, because fewer are not enough for any call.
+ * Errors: NM_BUSY, NM_PENDING: the bounds of the options were reached.
+ * NM_PINNED, NM_KEY, NM_CLOSED, NM_KIND, NM_IN_USE. After an error nothing was written that counts.
+ *
+ * The value that these write for a key was under that key at a moment of the call. It may come back
+ * at any time after that, unless another worker was pinned before the call and still is. So a
+ * program may use such an object until the unpin of that other worker. The same holds for the value
+ * that a pop or a remove writes. */
+
+/* Finds the least key that is not below key, or the greatest that is not above it. Returns NM_YES
+ * and writes the key and its value, or NM_NO. */
+nm_outcome nm_map_at_least(nm_handle *worker, uint64_t key, const nm_options *options,
+                           uint64_t *found, uint64_t *value);
+nm_outcome nm_map_at_most(nm_handle *worker, uint64_t key, const nm_options *options,
+                          uint64_t *found, uint64_t *value);
+
+/* Reads keys in ascending order: those that are not below `from` and are below `below`, at most
+ * `room` of them. Writes them to keys, and their number to count. Returns NM_NO if they are all of
+ * them. Returns NM_YES if there may be more, and writes to next from which key on: the next call goes
+ * on there. It takes no snapshot: two keys may have different moments. A key that the map has during
+ * the whole call is written. */
+nm_outcome nm_map_read_keys(nm_handle *worker, uint64_t from, uint64_t below, uint64_t *keys,
+                            size_t room, size_t *count, uint64_t *next, const nm_options *options);
+
+/* Reads the same keys in descending order. After NM_YES the next call goes on below next. */
+nm_outcome nm_map_read_keys_back(nm_handle *worker, uint64_t from, uint64_t below, uint64_t *keys,
+                                 size_t room, size_t *count, uint64_t *next,
+                                 const nm_options *options);
+
+/* Do the same, and write each key with its value. */
+nm_outcome nm_map_read_entries(nm_handle *worker, uint64_t from, uint64_t below, nm_entry *entries,
+                               size_t room, size_t *count, uint64_t *next,
+                               const nm_options *options);
+nm_outcome nm_map_read_entries_back(nm_handle *worker, uint64_t from, uint64_t below,
+                                    nm_entry *entries, size_t room, size_t *count, uint64_t *next,
+                                    const nm_options *options);
+
+/* Writes how many keys of the map are not below `from` and are below `below`, by scans of 512 keys.
+ * Returns NM_DONE. While others change the map, each key is counted as a scan finds it. */
+nm_outcome nm_map_count(nm_handle *worker, uint64_t from, uint64_t below, uint64_t *count,
+                        const nm_options *options);
+
+/* A look-up of nm_map_get_many: the key, whether the map had it (1 or 0), and then its value. */
+typedef struct nm_map_lookup {
+    uint64_t key;
+    uint64_t found;
+    uint64_t value;
+} nm_map_lookup;
+
+/* Looks up count keys, and writes the found and the value of each. It pins the worker for 64 keys at
+ * a time. Returns NM_DONE. */
+nm_outcome nm_map_get_many(nm_handle *worker, nm_map_lookup *lookups, size_t count,
+                           const nm_options *options);
+
+/* Does the same for a caller that has pinned the worker. No value that it writes comes back before
+ * nm_map_unpin. Errors: NM_NOT_PINNED, NM_KEY, NM_CLOSED, NM_KIND, NM_IN_USE. */
+nm_outcome nm_map_get_many_pinned(nm_handle *worker, nm_map_lookup *lookups, size_t count);
+
+/* ---- how many keys there are, and forks ----
+ * The library does not count the keys of a map, and does not know of forks. A program that owns a
+ * map may do both by these. Several threads may call them at the same time. */
+
+/* One count for each worker of a map, in a cache line of its own, and the process that made it. */
+typedef struct nm_map_counts nm_map_counts;
+
+/* Makes the counts for 1 to 64 workers, all 0. Returns NM_DONE and writes them. Errors: NM_WORKERS,
+ * NM_NO_MEMORY. */
+nm_outcome nm_map_counts_new(nm_map_counts **counts, uint32_t workers);
+
+/* Frees the counts; NULL is allowed. In a forked child it does nothing. */
+void nm_map_counts_free(nm_map_counts *counts);
+
+/* Counts the outcome of an insert by the worker of a number, or that of a remove or a pop. An
+ * unfinished remove counts at once, because its key will be removed by this call and no other. Only
+ * the thread that has the worker makes this call. */
+void nm_map_count_insert(nm_map_counts *counts, uint32_t worker, nm_outcome outcome);
+void nm_map_count_remove(nm_map_counts *counts, uint32_t worker, nm_outcome outcome);
+
+/* Returns the number of keys: it adds up the counts, and waits for nothing. It is exact if no call is
+ * in progress; otherwise it may miss the calls in progress. */
+uint64_t nm_map_counts_keys(const nm_map_counts *counts);
+
+/* Returns 1 if this process was forked after the counts were made, and else 0. A forked child must
+ * call no other function for the map, and end none of its objects: they are the parent's. */
+int nm_map_is_forked(const nm_map_counts *counts);
+
+/* ---- the end ---- */
 
 /* Empties a map before its end, when no worker is attached: removes each key, and hands each value
  * to `release` once, including those of keys that were removed earlier. It attaches each worker in

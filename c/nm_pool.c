@@ -114,10 +114,18 @@ static atomic_ulong forks;
 static pthread_once_t forks_once = PTHREAD_ONCE_INIT;
 
 static void count_fork(void) { atomic_fetch_add(&forks, 1); }
-static void count_forks(void) { (void)pthread_atfork(NULL, NULL, count_fork); }
+static void register_count(void) { (void)pthread_atfork(NULL, NULL, count_fork); }
+
+/* These two are for nm_map.c too, and for no program. */
+__attribute__((visibility("hidden"))) void nm_host_count_forks(void);
+__attribute__((visibility("hidden"))) unsigned long nm_host_forks(void);
+
+void nm_host_count_forks(void) { (void)pthread_once(&forks_once, register_count); }
+
+unsigned long nm_host_forks(void) { return atomic_load_explicit(&forks, memory_order_relaxed); }
 
 INLINE bool is_forked(const nm_pool *pool) {
-    return pool->forks != atomic_load_explicit(&forks, memory_order_relaxed);
+    return pool->forks != nm_host_forks();
 }
 
 static int phase_of(const nm_pool *pool) { return atomic_load(&((nm_pool *)pool)->phase); }
@@ -299,12 +307,13 @@ INLINE int use_of(const struct seat *seat) {
     return atomic_load_explicit(&((struct seat *)seat)->use, memory_order_acquire);
 }
 
-/* Takes a seat, and waits while a call by NM_ANY has it. Returns whether it took the seat. */
-static bool take_soon(struct seat *seat, int by, nm_pool_wait *wait, uint32_t timeout_ms) {
+/* Takes a seat, and waits while a call by NM_ANY has it. Returns FREE if it took the seat, and else
+ * what uses it. */
+static int take_soon(struct seat *seat, int by, nm_pool_wait *wait, uint32_t timeout_ms) {
     for (;;) {
-        if (take(seat, by)) return true;
+        if (take(seat, by)) return FREE;
         int use = use_of(seat);
-        if (use != FREE && (use != CALL || !pause_until(wait, timeout_ms))) return false;
+        if (use != FREE && (use != CALL || !pause_until(wait, timeout_ms))) return use;
     }
 }
 
@@ -1425,7 +1434,7 @@ nm_outcome nm_pool_new(nm_pool **pool, uint64_t nodes, const nm_pool_options *op
     if (grows) nodes = FIRST_NODES;
     if (nodes > UINT32_MAX) return NM_NODES;
     if (options->workers < 1 || options->workers > WORKERS) return NM_WORKERS;
-    (void)pthread_once(&forks_once, count_forks);
+    nm_host_count_forks();
     nm_pool *made = allocate(options->workers);
     if (made == NULL) return NM_NO_MEMORY;
     made->options = options_of(nodes, options);
@@ -1433,7 +1442,7 @@ nm_outcome nm_pool_new(nm_pool **pool, uint64_t nodes, const nm_pool_options *op
     made->shape = options->shape;
     made->grows = grows;
     atomic_init(&made->nodes, nodes);
-    made->forks = atomic_load(&forks);
+    made->forks = nm_host_forks();
     atomic_init(&made->references, 1);
     nm_outcome outcome = new_set(&made->set, nodes, options->workers, options->shape);
     if (outcome == NM_DONE)
@@ -1473,11 +1482,11 @@ static nm_outcome gather(nm_pool *pool, nm_pool_wait *wait, uint32_t timeout_ms,
     uint64_t lent = attached_for_long(pool), in_call = 0;
     for (uint32_t number = 0; lent == 0 && number < pool->count; number++) {
         struct seat *seat = &pool->seats[number];
-        bool is_taken = take_soon(seat, CLOSED, wait, timeout_ms);
+        int use = take_soon(seat, CLOSED, wait, timeout_ms);
         uint64_t bit = (uint64_t)1 << number;
-        if (!is_taken && use_of(seat) == LENT)
+        if (use == LENT)
             lent |= bit;
-        else if (!is_taken || !shut(pool, seat, wait, timeout_ms))
+        else if (use != FREE || !shut(pool, seat, wait, timeout_ms))
             in_call |= bit;
     }
     *missing = lent | in_call;
@@ -1523,8 +1532,9 @@ nm_outcome nm_pool_close(nm_pool *pool, uint32_t timeout_ms, nm_handle *report, 
 /* Takes a free seat of a pool that was given up, and gives up its worker. Returns false if a call
  * has the seat or the worker until the wait is over. */
 static bool leave_seat(nm_pool *pool, struct seat *seat, nm_pool_wait *wait) {
-    if (take_soon(seat, CLOSED, wait, END_MS)) return shut(pool, seat, wait, END_MS);
-    return use_of(seat) != CALL; /* an attached worker leaves later */
+    int use = take_soon(seat, CLOSED, wait, END_MS);
+    if (use == FREE) return shut(pool, seat, wait, END_MS);
+    return use != CALL; /* an attached worker leaves later */
 }
 
 void nm_pool_free(nm_pool *pool) {

@@ -288,38 +288,70 @@ enum class Order { ascending, descending };
 
 namespace detail {
 
-// Keys that an iterator has read ahead, in its order. The last block of a range may be empty.
+// Entries that an iterator has read ahead, in its order: the keys of a set, or the keys of a map with
+// their values. The last block of a range may be empty.
+template <typename Entry>
 struct Block {
-    std::size_t room;  // for how many keys it was asked
-    std::vector<std::uint64_t> keys;
+    std::size_t room;  // for how many entries it was asked
+    std::vector<Entry> entries;
     std::uint64_t next;  // where the next block begins
     bool is_last;
 };
 
+// Returns the key of an entry.
+template <typename Entry>
+std::uint64_t key_of(const Entry &entry) noexcept {
+    if constexpr (std::is_same_v<Entry, std::uint64_t>)
+        return entry;
+    else
+        return entry.key;
+}
+
+template <typename Entry>
+std::optional<std::uint64_t> key_of(const std::optional<Entry> &entry) noexcept {
+    return entry ? std::optional<std::uint64_t>(key_of(*entry)) : std::nullopt;
+}
+
+// How an iterator refers to what it goes over: by its address, except where a type says otherwise.
+template <typename Of>
+class Kept {
+public:
+    Kept() = default;
+    explicit Kept(const Of &of) noexcept : of_(&of) {}
+    const Of *operator->() const noexcept { return of_; }
+
+private:
+    const Of *of_ = nullptr;
+};
+
 }  // namespace detail
+
+template <typename Of, typename Entry>
+class InOrder;
 
 // An input iterator over the keys of a set that may be in use. The keys may change between two
 // passes. The iterator finds its first key by one call, and then reads keys ahead, in blocks of 8,
 // 64 and 512, each by one call that waits like any call. It may return or skip a key that is
 // inserted or removed meanwhile. It does not return a key that was removed before its block was
 // read. It must end before its set or its worker.
-template <typename Of, Order order = Order::ascending>
+template <typename Of, Order order = Order::ascending, typename Entry = std::uint64_t>
 class Iterator {
 public:
     using iterator_category = std::input_iterator_tag;
-    using value_type = std::uint64_t;
+    using value_type = Entry;
     using difference_type = std::ptrdiff_t;
-    using pointer = const std::uint64_t *;
-    using reference = std::uint64_t;
+    using pointer = const Entry *;
+    using reference = Entry;
 
     // Makes an end.
     Iterator() = default;
 
-    [[nodiscard]] reference operator*() const { return *key_; }
+    [[nodiscard]] reference operator*() const { return *entry_; }
+    [[nodiscard]] pointer operator->() const { return &*entry_; }
 
     Iterator &operator++() {
-        if (block_ == nullptr || ++at_ == block_->keys.size()) read();
-        key_ = at_ < block_->keys.size() ? std::optional(block_->keys[at_]) : std::nullopt;
+        if (block_ == nullptr || ++at_ == block_->entries.size()) read();
+        entry_ = at_ < block_->entries.size() ? std::optional(block_->entries[at_]) : std::nullopt;
         return *this;
     }
 
@@ -331,7 +363,7 @@ public:
 
     // Two iterators are equal if they are at the same key, or both at their ends.
     [[nodiscard]] friend bool operator==(const Iterator &one, const Iterator &other) {
-        return one.key_ == other.key_;
+        return detail::key_of(one.entry_) == detail::key_of(other.entry_);
     }
 
     [[nodiscard]] friend bool operator!=(const Iterator &one, const Iterator &other) {
@@ -339,52 +371,128 @@ public:
     }
 
 private:
-    template <typename>
-    friend class Keys;
-    template <typename>
-    friend class Range;
+    friend class InOrder<Of, Entry>;
 
-    // Begins with this key. An ascending iterator ends before the bound, a descending one with it.
-    Iterator(const Of &of, std::optional<std::uint64_t> key, std::uint64_t bound)
-        : of_(&of), bound_(bound), key_(key) {}
+    // Begins with this entry. An ascending iterator ends before the bound, a descending one with it.
+    Iterator(const Of &of, std::optional<Entry> entry, std::uint64_t bound)
+        : of_(of), bound_(bound), entry_(entry) {}
 
     // Reads the block after the last key.
     void read() {
-        std::uint64_t rest = order == Order::ascending ? *key_ + 1 : *key_;
-        block_ = std::make_shared<const detail::Block>(
-            block_ == nullptr ? of_->template block<order>(8, rest, bound_)
-                              : of_->template block_after<order>(*block_, bound_));
+        std::uint64_t key = detail::key_of(*entry_);
+        std::uint64_t rest = order == Order::ascending ? key + 1 : key;
+        detail::Block<Entry> next = block_ == nullptr
+                                        ? of_->template block<order>(8, rest, bound_)
+                                        : of_->template block_after<order>(*block_, bound_);
+        block_ = detail::in_memory(
+            [&] { return std::make_shared<const detail::Block<Entry>>(std::move(next)); });
         at_ = 0;
     }
 
-    const Of *of_ = nullptr;
+    detail::Kept<Of> of_;
     std::uint64_t bound_ = 0;
-    std::optional<std::uint64_t> key_;
-    std::shared_ptr<const detail::Block> block_;  // none before the second key
+    std::optional<Entry> entry_;
+    std::shared_ptr<const detail::Block<Entry>> block_;  // none before the second key
     std::size_t at_ = 0;
 };
 
 // A range of keys: those that are not below `from` and are below `below`.
-template <typename Of>
+template <typename Of, typename Entry = std::uint64_t>
 class Range {
 public:
-    [[nodiscard]] Iterator<Of> begin() const { return of_->ascending(from_, below_); }
-    [[nodiscard]] Iterator<Of> end() const noexcept { return {}; }
-    [[nodiscard]] Iterator<Of, Order::descending> rbegin() const {
-        return of_->descending(from_, below_);
-    }
-    [[nodiscard]] Iterator<Of, Order::descending> rend() const noexcept { return {}; }
+    using iterator = Iterator<Of, Order::ascending, Entry>;
+    using reverse_iterator = Iterator<Of, Order::descending, Entry>;
+
+    [[nodiscard]] iterator begin() const { return of_->ascending(from_, below_); }
+    [[nodiscard]] iterator end() const noexcept { return {}; }
+    [[nodiscard]] reverse_iterator rbegin() const { return of_->descending(from_, below_); }
+    [[nodiscard]] reverse_iterator rend() const noexcept { return {}; }
 
 private:
-    template <typename>
-    friend class Keys;
+    friend class InOrder<Of, Entry>;
 
     Range(const Of &of, std::uint64_t from, std::uint64_t below)
-        : of_(&of), from_(from), below_(below) {}
+        : of_(of), from_(from), below_(below) {}
 
-    const Of *of_;
+    detail::Kept<Of> of_;
     std::uint64_t from_;
     std::uint64_t below_;
+};
+
+// What goes over keys in order. An entry is a key; of a map it may be a key with its value. `Of` has the
+// calls `next`, `prev` and `fill`, of which these are made.
+template <typename Of, typename Entry>
+class InOrder {
+public:
+    using value_type = Entry;
+    using iterator = Iterator<Of, Order::ascending, Entry>;
+    using const_iterator = iterator;
+    using reverse_iterator = Iterator<Of, Order::descending, Entry>;
+    using const_reverse_iterator = reverse_iterator;
+
+    // Returns an iterator at the least key that is not below this one, or end().
+    [[nodiscard]] iterator lower_bound(Key key) const { return ascending(key, UINT64_MAX); }
+
+    // Returns the greatest key that is not above this one, or nothing if there is none.
+    [[nodiscard]] std::optional<Entry> at_most(Key key) const { return self().prev(key, 0); }
+
+    [[nodiscard]] iterator begin() const { return ascending(0, UINT64_MAX); }
+    [[nodiscard]] iterator end() const noexcept { return {}; }
+
+    // Returns an iterator over the keys in descending order.
+    [[nodiscard]] reverse_iterator rbegin() const { return descending(0, UINT64_MAX); }
+    [[nodiscard]] reverse_iterator rend() const noexcept { return {}; }
+
+    // Returns the range of the keys that are not below `from` and are below `below`. Without
+    // `below` it has all keys from `from` on, because each key is below UINT64_MAX.
+    [[nodiscard]] Range<Of, Entry> range(Key from, Key below = UINT64_MAX) const {
+        return Range<Of, Entry>(self(), from, below);
+    }
+
+    // Returns the least key, or nothing if there is none.
+    [[nodiscard]] std::optional<Entry> first() const { return self().next(0, UINT64_MAX); }
+
+    // Returns the greatest key, or nothing if there is none.
+    [[nodiscard]] std::optional<Entry> last() const { return self().prev(most_key, 0); }
+
+    [[nodiscard]] bool empty() const { return !first(); }
+
+protected:
+    InOrder() = default;
+
+private:
+    friend class Iterator<Of, Order::ascending, Entry>;
+    friend class Iterator<Of, Order::descending, Entry>;
+    friend class Range<Of, Entry>;
+
+    const Of &self() const noexcept { return static_cast<const Of &>(*this); }
+
+    // Returns at most `room` entries from `next` on (ascending) or below it (descending), up to the
+    // bound of the range in that order. It returns none only for the last block.
+    template <Order order>
+    detail::Block<Entry> block(std::size_t room, std::uint64_t next, std::uint64_t bound) const {
+        detail::Block<Entry> read{room, {}, next, false};
+        while (read.entries.empty() && !read.is_last)
+            read.is_last = !self().template fill<order>(read, bound);
+        return read;
+    }
+
+    // Returns the block after this one, with more room.
+    template <Order order>
+    detail::Block<Entry> block_after(const detail::Block<Entry> &before, std::uint64_t bound) const {
+        std::size_t room = before.room < 512 ? 8 * before.room : 512;
+        if (before.is_last) return {room, {}, before.next, true};
+        return block<order>(room, before.next, bound);
+    }
+
+    iterator ascending(std::uint64_t from, std::uint64_t below) const {
+        return iterator(self(), self().next(from, below), below);
+    }
+
+    reverse_iterator descending(std::uint64_t from, std::uint64_t below) const {
+        auto greatest = below == 0 ? std::nullopt : self().prev(below - 1, from);
+        return reverse_iterator(self(), greatest, from);
+    }
 };
 
 // The calls for keys of a set and of a worker. A call for one key has one moment (its linearization
@@ -401,14 +509,9 @@ private:
 // reached, and then the set is unchanged; NM_NO_MEMORY; and NM_CLOSED. A call of a pinned worker
 // throws NM_PINNED.
 template <typename Of>
-class Keys {
+class Keys : public InOrder<Of, std::uint64_t> {
 public:
     using key_type = std::uint64_t;
-    using value_type = std::uint64_t;
-    using iterator = Iterator<Of>;
-    using const_iterator = Iterator<Of>;
-    using reverse_iterator = Iterator<Of, Order::descending>;
-    using const_reverse_iterator = Iterator<Of, Order::descending>;
 
     // ---- one key ----
 
@@ -425,32 +528,7 @@ public:
     // Returns whether the set has the key.
     [[nodiscard]] bool contains(Key key) const { return done(nm_pool_contains, key); }
 
-    // Returns an iterator at the least key that is not below this one, or end().
-    [[nodiscard]] iterator lower_bound(Key key) const { return ascending(key, UINT64_MAX); }
-
-    // Returns the greatest key that is not above this one, or nothing if there is none.
-    [[nodiscard]] std::optional<std::uint64_t> at_most(Key key) const { return prev(key, 0); }
-
     // ---- in order ----
-
-    [[nodiscard]] iterator begin() const { return ascending(0, UINT64_MAX); }
-    [[nodiscard]] iterator end() const noexcept { return {}; }
-
-    // Returns an iterator over the keys in descending order.
-    [[nodiscard]] reverse_iterator rbegin() const { return descending(0, UINT64_MAX); }
-    [[nodiscard]] reverse_iterator rend() const noexcept { return {}; }
-
-    // Returns the range of the keys that are not below `from` and are below `below`. Without
-    // `below` it has all keys from `from` on, because each key is below UINT64_MAX.
-    [[nodiscard]] Range<Of> range(Key from, Key below = UINT64_MAX) const {
-        return Range<Of>(self(), from, below);
-    }
-
-    // Returns the least key, or nothing if the set is empty.
-    [[nodiscard]] std::optional<std::uint64_t> first() const { return next(0, UINT64_MAX); }
-
-    // Returns the greatest key, or nothing if the set is empty.
-    [[nodiscard]] std::optional<std::uint64_t> last() const { return prev(most_key, 0); }
 
     // Removes the least key and returns it, or nothing if the set is empty. No two calls return one
     // key, unless it was inserted again in between. No call passes over a key that was in the set
@@ -506,8 +584,6 @@ public:
             return nm_pool_wait_pop(pool, worker, bound, taken, timeout_ms);
         });
     }
-
-    [[nodiscard]] bool empty() const { return !first(); }
 
     // Returns how many keys are not below `from` and are below `below`. While others change the
     // set, it counts each key as it finds it. It reads 512 keys a call, and waits for each call.
@@ -582,12 +658,8 @@ protected:
     }
 
 private:
-    template <typename, Order>
-    friend class Iterator;
-    template <typename>
-    friend class Range;
+    friend class InOrder<Of, std::uint64_t>;
 
-    Of &self() noexcept { return static_cast<Of &>(*this); }
     const Of &self() const noexcept { return static_cast<const Of &>(*this); }
 
     // Makes a call of the pool; returns whether its answer is not NM_NO.
@@ -641,43 +713,20 @@ private:
         return is_found && found >= from ? std::optional<std::uint64_t>(found) : std::nullopt;
     }
 
-    // Returns at most `room` keys from `next` on (ascending) or below it (descending), up to the
-    // bound of the range in that order. It returns no keys only for the last block.
-    template <Order order>
-    detail::Block block(std::size_t room, std::uint64_t next, std::uint64_t bound) const {
-        detail::Block read{room, std::vector<std::uint64_t>(room), next, false};
-        std::size_t count = 0;
-        while (count == 0 && !read.is_last) read.is_last = !fill<order>(read, bound, count);
-        read.keys.resize(count);
-        return read;
-    }
-
     // Fills a block from its `next` on; returns whether there may be more keys.
     template <Order order>
-    bool fill(detail::Block &block, std::uint64_t bound, std::size_t &count) const {
+    bool fill(detail::Block<std::uint64_t> &block, std::uint64_t bound) const {
         constexpr bool is_up = order == Order::ascending;
         constexpr auto scan = is_up ? nm_pool_scan : nm_pool_scan_back;
         std::uint64_t from = is_up ? block.next : bound, below = is_up ? bound : block.next;
-        return from < below && from <= most_key && done([&](const detail::Place &to) {
-            return scan(to.pool, to.worker, from, below, block.keys.data(), block.room, &count,
+        std::size_t count = 0;
+        detail::in_memory([&] { block.entries.resize(block.room); });
+        bool has_more = done([&](const detail::Place &to) {
+            return scan(to.pool, to.worker, from, below, block.entries.data(), block.room, &count,
                         &block.next, to.timeout_ms);
         });
-    }
-
-    // Returns the block after this one, with more room.
-    template <Order order>
-    detail::Block block_after(const detail::Block &before, std::uint64_t bound) const {
-        std::size_t room = before.room < 512 ? 8 * before.room : 512;
-        if (before.is_last) return {room, {}, before.next, true};
-        return block<order>(room, before.next, bound);
-    }
-
-    iterator ascending(std::uint64_t from, std::uint64_t below) const {
-        return iterator(self(), next(from, below), below);
-    }
-
-    reverse_iterator descending(std::uint64_t from, std::uint64_t below) const {
-        return reverse_iterator(self(), below == 0 ? std::nullopt : prev(below - 1, from), from);
+        block.entries.resize(count);
+        return has_more;
     }
 
     // Removes a key by a call of the pool, and returns it. After NM_UNFINISHED it returns the key

@@ -6,6 +6,8 @@
 #include "thrown.hpp"
 
 #include <cstdio>
+#include <utility>
+#include <vector>
 
 namespace {
 
@@ -58,6 +60,45 @@ void remove(Objects &map) {
     CHECK(Canary::alive() == before);
 }
 
+// Reads and pops objects by a worker, under the guard of another one. After a refusal a pass begins
+// anew.
+void pop(Objects &map) {
+    Objects::Worker reader = at_last([&] { return map.attach(); });
+    Objects::Worker worker = at_last([&] { return map.attach(); });
+    auto guard = reader.pin();
+    auto calls = worker.under(guard);
+    std::size_t read = at_last([&] {
+        std::size_t count = 0;
+        for (auto [key, object] : calls) CHECK(object->is_of(key)), count++;
+        return count;
+    });
+    CHECK(read == map.size());
+    std::vector<std::uint64_t> keys;
+    at_last([&] { nm::detail::in_memory([&] { keys.reserve(10); }); });
+    for (int each = 0; each < 10; each++) {
+        auto popped = at_last([&] { return calls.pop_first(); });
+        CHECK(popped->value->is_of(popped->key));
+        keys.push_back(popped->key);
+    }
+    for (const Canary *found : at_last([&] { return guard.get_many(keys); })) CHECK(found == nullptr);
+}
+
+// If memory is refused while a map is made of pairs, no map and none of its objects is left, and the
+// other pairs have theirs.
+void make_of_pairs() {
+    std::uint64_t before = Canary::alive();
+    at_last([&] {
+        std::vector<std::pair<unsigned, std::unique_ptr<Canary>>> pairs;
+        nm::detail::in_memory([&] {
+            for (unsigned key = 0; key < 20; key++)
+                pairs.emplace_back(key, std::make_unique<Canary>(key));
+        });
+        Objects map(256, std::make_move_iterator(pairs.begin()), std::make_move_iterator(pairs.end()));
+        CHECK(map.size() == 20);
+    });
+    CHECK(Canary::alive() == before);
+}
+
 }  // namespace
 
 int main() {
@@ -66,6 +107,8 @@ int main() {
         Objects map = at_last([] { return Objects(nodes, workers); });
         fill(map);
         remove(map);
+        pop(map);
+        make_of_pairs();
         left = at_last([&] { return map.attach().keys(); }).size();
     }
     std::printf("keys %zu objects %llu\n", left, static_cast<unsigned long long>(Canary::alive()));
