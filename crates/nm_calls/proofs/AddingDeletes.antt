@@ -163,6 +163,10 @@ delete_adds L tries k old new (Err fault.Busy) h =
 delete_adds L tries k old new (Err fault.NoMemory) h =
     let part = refused_adds L k tries h.0 old h.1 h.2 in
     (part.0 + 0, adds_then old h.1 new part.1 (adds_these _ h.1 new h.3))
+delete_adds L tries k old new (Err fault.Full) h = elim h [ ]
+delete_adds L tries k old new (Err fault.Unfinished) h = elim h [ ]
+delete_adds L tries k old new (Err fault.Pending) h = elim h [ ]
+delete_adds L tries k old new (Err fault.Pinned) h = elim h [ ]
 delete_adds L tries k old new (Ok (deletion.Pending n)) (inl h) = let part = flags_then_add L tries k n old new removal.Refused h in (part.0, adds_in _ old new (omega arith) part.1)
 delete_adds L tries k old new (Ok (deletion.Pending n)) (inr h) = let part = flags_then_add L tries k n old new removal.Spent h in (part.0, adds_in _ old new (omega arith) part.1)
 

@@ -30,7 +30,6 @@ use Rattle.nm_walks.specs.Telling.{GoesOn, Tells}
 use Rattle.nm_calls.specs.declared.deleting.Deletion.{Deletion}
 use Rattle.nm_calls.specs.declared.deleting.Deletion.TheVariants as deletion
 use Rattle.nm_calls.specs.declared.fault.CallFault.{CallFault}
-use Rattle.nm_calls.specs.declared.fault.CallFault.TheVariants as fault
 use Rattle.nm_calls.specs.Deletes.{IfTaken, MayFlag, leaf_of, looks_and_flags}
 use Rattle.nm_calls.specs.Maps.{HasReadFlagged, HasTaken, WasTaken}
 use Rattle.nm_calls.proofs.Forks.{going_continues}

@@ -31,9 +31,9 @@ finished_so b d tries w v z r tree worker did =
 
 -- a delete with an error that is not `Busy` had no memory
 pub no_other_fault : (L : Layout) (tries k : ℕ) (old new : List Entry) (e : CallFault) → DeleteDid L tries k old new (Err e) → e ≢ fault.Busy → e ≡ fault.NoMemory
-no_other_fault L tries k old new fault.Busy did other = absurd (other refl)
+no_other_fault L tries k old new fault.Busy did other = elim (other refl) [ ]
 no_other_fault L tries k old new fault.NoMemory did other = refl
-no_other_fault L tries k old new fault.Full (pinned, epoch, pin, none) other = absurd none
-no_other_fault L tries k old new fault.Unfinished (pinned, epoch, pin, none) other = absurd none
-no_other_fault L tries k old new fault.Pending (pinned, epoch, pin, none) other = absurd none
-no_other_fault L tries k old new fault.Pinned (pinned, epoch, pin, none) other = absurd none
+no_other_fault L tries k old new fault.Full (pinned, epoch, pin, none) other = elim none [ ]
+no_other_fault L tries k old new fault.Unfinished (pinned, epoch, pin, none) other = elim none [ ]
+no_other_fault L tries k old new fault.Pending (pinned, epoch, pin, none) other = elim none [ ]
+no_other_fault L tries k old new fault.Pinned (pinned, epoch, pin, none) other = elim none [ ]

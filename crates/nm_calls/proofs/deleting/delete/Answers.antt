@@ -3,7 +3,7 @@ use Rattle.nm_steps.proofs.Seeing.{seen_all}
 use Rattle.nm_model.specs.Searches.{Search}
 use Rattle.nm_calls.specs.Moments.{HadNoCall}
 use Rattle.nm_calls.proofs.Moments.{none_begun}
-use Rattle.nm_calls.proofs.Removals.{delete_did, each_lacks_room}
+use Rattle.nm_calls.proofs.Removals.{delete_did, lacks_room}
 use Rattle.nm_model.specs.declared.event.Op.TheVariants.{Delete}
 use Rattle.nm_calls.proofs.Adding.{has_won, pin_adds, moved_adds}
 use Rattle.nm_calls.proofs.AddingDeletes.{delete_wins, delete_steps}
@@ -64,7 +64,7 @@ pub returns-clause-refused : goal.returns-clause-refused
 returns-clause-refused c =
     let a = c.pin_for.new.pass.view.log in
     let new = c.delete_pinned.new.pass.view.log in
-    each_lacks_room c.args.shared.now.layout c.args.tries c.args.key c.args.pass.now.view.log a new c.in-Ok._epoch c.delete_pinned.new.held.queue.spare c.delete_pinned.result c.in-Ok.ensures.pinned
+    lacks_room c.args.shared.now.layout c.args.tries c.args.key c.args.pass.now.view.log a new c.in-Ok._epoch c.delete_pinned.new.held.queue.spare c.delete_pinned.result c.in-Ok.ensures.pinned
     c.delete_pinned.ensures.refused
 
 pub returns-clause-blocks : goal.returns-clause-blocks
