@@ -6,7 +6,6 @@ use Rattle.nm_edge.specs.declared.edge.Side.{Side}
 use Rattle.nm_edge.specs.declared.node.NodeId.{NodeId}
 use Rattle.nm_edge.specs.declared.placement.Fit.{Fit}
 use Rattle.nm_steps.specs.Steps.{TreeView, PassView, IsOf, IsSamePass, HasSeen, HasSeenAllOf}
-use Rattle.nm_calls.specs.declared.fault.CallFault.TheVariants as lost
 use Rattle.nm_calls.specs.declared.fault.CallFault.TheVariants as fault
 use Rattle.nm_calls.specs.Calls.{HasMissed}
 use Rattle.nm_calls.specs.InTurns.{GiveUp as GiveUpInTurns}
@@ -40,10 +39,10 @@ module _ (b d : TreeView) (o p q : PassView) (k tries : ℕ) (tree : b ≡ d) (a
       subst (λ (x : PassView). WasBusy x q tries) at
       (busy_lookups_met_interference k tries o q seen after enough same past (subst (λ (L : Layout). HasMissed L tries k o.view.log q.view.log) (sym layout) did))
 
-  pub insert_interfered : IsOf d p → (f : Fit) → InsertDid f b.layout tries k o.view.log q.view.log (Err lost.Busy) → ChangeWasBusy p q tries
+  pub insert_interfered : IsOf d p → (f : Fit) → InsertDid f b.layout tries k o.view.log q.view.log (Err fault.Busy) → ChangeWasBusy p q tries
   insert_interfered own f did =
       subst (λ (x : PassView). ChangeWasBusy x q tries) at
-      (busy_inserts_were_lost f k tries o q seen after enough fits.few same past (subst (λ (L : Layout). InsertDid f L tries k o.view.log q.view.log (Err lost.Busy)) (sym (layouts own)) did))
+      (busy_inserts_were_lost f k tries o q seen after enough fits.few same past (subst (λ (L : Layout). InsertDid f L tries k o.view.log q.view.log (Err fault.Busy)) (sym (layouts own)) did))
 
   pub delete_interfered : IsOf d p → DeleteDid b.layout tries k o.view.log q.view.log (Err fault.Busy) → ChangeWasBusy p q tries
   delete_interfered own did =
@@ -90,10 +89,10 @@ module _ (b d : TreeView) (o p q : PassView) (k tries : ℕ) (tree : b ≡ d) (a
   lookup_alone own alone did =
       lookups_alone_are_answered k tries o q seen after enough same past (mine alone) (subst (λ (L : Layout). HasMissed L tries k o.view.log q.view.log) (sym (layouts own)) did)
 
-  pub insert_alone : IsOf d p → (f : Fit) → RunsAlone p q → IsResting o → InsertDid f b.layout tries k o.view.log q.view.log (Err lost.Busy) → tries ≡ 0
+  pub insert_alone : IsOf d p → (f : Fit) → RunsAlone p q → IsResting o → InsertDid f b.layout tries k o.view.log q.view.log (Err fault.Busy) → tries ≡ 0
   insert_alone own f runs rests did =
       inserts_alone_are_answered f k tries o q seen after enough same past (mine_too runs) rests
-      (subst (λ (L : Layout). InsertDid f L tries k o.view.log q.view.log (Err lost.Busy)) (sym (layouts own)) did)
+      (subst (λ (L : Layout). InsertDid f L tries k o.view.log q.view.log (Err fault.Busy)) (sym (layouts own)) did)
 
   pub delete_alone : IsOf d p → RunsAlone p q → IsResting o → DeleteDid b.layout tries k o.view.log q.view.log (Err fault.Busy) → tries < 1
   delete_alone own runs rests did =

@@ -1,6 +1,6 @@
 -- What a call leaves, by what it answered.
-use Rattle.std.proofs.Common.{◌≡◌, ℕ, refl, sym, subst}
-use Rattle.std.specs.Prelude.{◌≢◌, Bool, List, Result, Err}
+use Rattle.std.proofs.Common.{◌≡◌, ℕ, inl, inr, refl, sym, subst}
+use Rattle.std.specs.Prelude.{◌⊎◌, Bool, List, Result, Err}
 use Rattle.nm_edge.specs.Layouts.{Layout}
 use Rattle.nm_model.specs.Walks.{Entry}
 use Rattle.nm_steps.specs.Steps.{TreeView}
@@ -29,11 +29,11 @@ finished_so b d tries w v z r tree worker did =
     let Q : WorkerView → Type 0 = λ x. HasFinished b.layout tries x z r in
     subst P tree (subst Q worker did)
 
--- a delete with an error that is not `Busy` had no memory
-pub no_other_fault : (L : Layout) (tries k : ℕ) (old new : List Entry) (e : CallFault) → DeleteDid L tries k old new (Err e) → e ≢ fault.Busy → e ≡ fault.NoMemory
-no_other_fault L tries k old new fault.Busy did other = elim (other refl) [ ]
-no_other_fault L tries k old new fault.NoMemory did other = refl
-no_other_fault L tries k old new fault.Full (pinned, epoch, pin, none) other = elim none [ ]
-no_other_fault L tries k old new fault.Unfinished (pinned, epoch, pin, none) other = elim none [ ]
-no_other_fault L tries k old new fault.Pending (pinned, epoch, pin, none) other = elim none [ ]
-no_other_fault L tries k old new fault.Pinned (pinned, epoch, pin, none) other = elim none [ ]
+-- the errors of a delete
+pub two_faults : (L : Layout) (tries k : ℕ) (old new : List Entry) (e : CallFault) → DeleteDid L tries k old new (Err e) → (e ≡ fault.Busy) ⊎ (e ≡ fault.NoMemory)
+two_faults L tries k old new fault.Busy did = inl refl
+two_faults L tries k old new fault.NoMemory did = inr refl
+two_faults L tries k old new fault.Full (pinned, epoch, pin, none) = elim none [ ]
+two_faults L tries k old new fault.Unfinished (pinned, epoch, pin, none) = elim none [ ]
+two_faults L tries k old new fault.Pending (pinned, epoch, pin, none) = elim none [ ]
+two_faults L tries k old new fault.Pinned (pinned, epoch, pin, none) = elim none [ ]

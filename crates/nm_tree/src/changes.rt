@@ -147,11 +147,10 @@ impl Tree {
                 worker.standing = Standing::Pending(Unfinished { key, leaf });
                 Err(CallFault::Unfinished)
             }
-            Err(CallFault::Busy) => {
+            Err(fault) => {
                 worker.pass.know_run();
-                Err(CallFault::Busy)
+                Err(fault)
             }
-            Err(fault) => Err(fault),
         }
     }
 
