@@ -227,6 +227,18 @@ void wrong_guards_are_refused() {
 constexpr unsigned threads = 4;
 constexpr std::uint64_t keys = 20'000;
 
+// Makes a pop until other threads do not take each key that it finds.
+template <typename Call>
+auto answered(Call pop) {
+    for (;;) {
+        try {
+            return pop();
+        } catch (const nm::Fault &fault) {
+            CHECK(fault.outcome() == NM_BUSY);
+        }
+    }
+}
+
 // Each thread pops objects under a guard, until the map is empty. No object is popped twice.
 void pop_all(Objects &map, std::vector<std::atomic<unsigned>> &times) {
     Objects::Worker reader = map.attach(), worker = map.attach();
@@ -235,7 +247,8 @@ void pop_all(Objects &map, std::vector<std::atomic<unsigned>> &times) {
         auto guard = reader.pin();
         auto calls = worker.under(guard);
         for (unsigned at = 0; at < 8 && !is_empty; at++) {
-            auto popped = at % 2 == 0 ? calls.pop_first() : calls.pop_last();
+            auto popped =
+                answered([&] { return at % 2 == 0 ? calls.pop_first() : calls.pop_last(); });
             is_empty = !popped;
             CHECK(is_empty || popped->value->is_of(popped->key));
             if (!is_empty) times[popped->key]++;
