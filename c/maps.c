@@ -20,6 +20,7 @@ static const nm_options *const usual = &nm_default_options;
 static void each_call_tells(nm_handle *worker, uint64_t key, nm_outcome wanted) {
     uint64_t value = NOT_WRITTEN, keys[2] = {NOT_WRITTEN, NOT_WRITTEN};
     uint64_t count = NOT_WRITTEN, next = NOT_WRITTEN;
+    nm_entry entry = {NOT_WRITTEN, NOT_WRITTEN};
     CHECK(nm_map_get(worker, key, usual, &value) == wanted &&
           nm_map_insert(worker, key, 1, usual) == wanted &&
           nm_map_get_or_insert(worker, key, 1, usual, &value) == wanted &&
@@ -28,8 +29,11 @@ static void each_call_tells(nm_handle *worker, uint64_t key, nm_outcome wanted) 
           nm_map_prev(worker, key, TRIES, &next, &value) == wanted);
     CHECK(nm_map_scan(worker, key, UINT64_MAX, keys, 2, &count, &next, TRIES) == wanted &&
           nm_map_scan_back(worker, key, 0, keys, 2, &count, &next, TRIES) == wanted);
+    CHECK(nm_map_scan_entries(worker, key, UINT64_MAX, &entry, 1, &count, &next, TRIES) == wanted &&
+          nm_map_scan_entries_back(worker, key, 0, &entry, 1, &count, &next, TRIES) == wanted);
     CHECK(value == NOT_WRITTEN && keys[0] == NOT_WRITTEN && keys[1] == NOT_WRITTEN &&
-          count == NOT_WRITTEN && next == NOT_WRITTEN);
+          count == NOT_WRITTEN && next == NOT_WRITTEN && entry.key == NOT_WRITTEN &&
+          entry.value == NOT_WRITTEN);
 }
 
 /* Checks that each call that pops a key returns the wanted outcome, and writes nothing. */
@@ -134,6 +138,46 @@ static void entries(void) {
           value == 70);
     comes_back(&worker, back, 4, 4, NM_NOBODY);
     CHECK(back[0] == 50 && back[1] == 80 && back[2] == 60 && back[3] == 70);
+    CHECK(nm_drop(&worker) == NM_DONE && nm_drop(&map) == NM_DONE);
+}
+
+/* Checks that the entries are those of `count` keys, from `first` on, each `step` further than the one
+ * before, and that the value of each key is ten times the key. */
+static void are_entries(const nm_entry *entries, uint64_t count, uint64_t first, int step) {
+    for (uint64_t i = 0; i < count; i++) {
+        const uint64_t key = first + i * (uint64_t)step;
+        CHECK(entries[i].key == key && entries[i].value == 10 * key);
+    }
+}
+
+/* Scans of a map write keys with their values, in both directions and in parts. */
+static void scans(void) {
+    nm_handle map = NM_CLOSED_HANDLE, worker = NM_CLOSED_HANDLE;
+    nm_entry found[8] = {{NOT_WRITTEN, NOT_WRITTEN}};
+    uint64_t count = NOT_WRITTEN, next = NOT_WRITTEN, epoch;
+    CHECK(nm_map_new(&map, 64, 1) == NM_DONE && nm_map_attach(&map, &worker) == NM_DONE);
+    CHECK(nm_map_scan_entries(&worker, 0, UINT64_MAX, found, 8, &count, &next, TRIES) == NM_NO &&
+          count == 0 && next == NOT_WRITTEN && found[0].key == NOT_WRITTEN);
+    for (uint64_t key = 3; key < 9; key++)
+        CHECK(nm_map_insert(&worker, key, 10 * key, usual) == NM_YES);
+    CHECK(nm_map_scan_entries(&worker, 0, UINT64_MAX, found, 8, &count, &next, TRIES) == NM_NO &&
+          count == 6);
+    are_entries(found, 6, 3, 1);
+    CHECK(nm_map_scan_entries_back(&worker, 7, 5, found, 8, &count, &next, TRIES) == NM_NO &&
+          count == 3);
+    are_entries(found, 3, 7, -1);
+    CHECK(nm_map_scan_entries(&worker, 4, 9, found, 2, &count, &next, TRIES) == NM_YES &&
+          count == 2 && next > 5 && next <= 6);
+    are_entries(found, 2, 4, 1);
+    CHECK(nm_map_scan_entries(&worker, next, 9, found, 8, &count, &next, TRIES) == NM_NO &&
+          count == 3);
+    are_entries(found, 3, 6, 1);
+    CHECK(nm_map_scan_entries(&worker, 0, 9, found, 0, &count, &next, TRIES) == NM_YES && count == 0);
+    CHECK(nm_map_scan_entries(&worker, 0, 9, found, 8, &count, &next, 0) == NM_BUSY && count == 0);
+    CHECK(nm_map_pin(&worker, TRIES, &epoch) == NM_DONE &&
+          nm_map_scan_entries(&worker, 0, 9, found, 8, &count, &next, TRIES) == NM_PINNED &&
+          nm_map_scan_entries_back(&worker, 9, 0, found, 8, &count, &next, TRIES) == NM_PINNED);
+    are_entries(found, 3, 6, 1);
     CHECK(nm_drop(&worker) == NM_DONE && nm_drop(&map) == NM_DONE);
 }
 
@@ -419,6 +463,7 @@ int main(void) {
     sizes();
     answers();
     entries();
+    scans();
     reports();
     reclaims();
     pinned();

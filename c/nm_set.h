@@ -171,6 +171,12 @@ typedef struct nm_lookup {
     uint64_t found;  /* 1 if the set had the key, else 0 */
 } nm_lookup;
 
+/* A key of a map with its value, as nm_map_scan_entries writes them. */
+typedef struct nm_entry {
+    uint64_t key;
+    uint64_t value;
+} nm_entry;
+
 /* What a managed call may spend, and when it collects. */
 typedef struct nm_options {
     uint32_t tries;         /* the tries of each call of the tree; with fewer than 2 no remove
@@ -580,11 +586,21 @@ nm_outcome nm_map_prev(nm_handle *worker, uint64_t key, uint32_t tries, uint64_t
                        uint64_t *value);
 
 /* Writes keys of the map into keys, in ascending and in descending order, and returns like
- * nm_worker_scan and nm_worker_scan_back. Values are not read: get each by its key. */
+ * nm_worker_scan and nm_worker_scan_back. Values are not read. */
 nm_outcome nm_map_scan(nm_handle *worker, uint64_t from, uint64_t below, uint64_t *keys, size_t room,
                        uint64_t *count, uint64_t *next, uint32_t tries);
 nm_outcome nm_map_scan_back(nm_handle *worker, uint64_t from, uint64_t least, uint64_t *keys,
                             size_t room, uint64_t *count, uint64_t *next, uint32_t tries);
+
+/* Writes keys of the map with their values into entries, in ascending and in descending order of the
+ * keys, and returns like nm_map_scan and nm_map_scan_back. For each entry that it wrote there was a
+ * moment of this call at which the map had the key with this value. The moments of two entries may
+ * differ. Once the call has returned, another worker may remove a key, and its value may come back. */
+nm_outcome nm_map_scan_entries(nm_handle *worker, uint64_t from, uint64_t below, nm_entry *entries,
+                               size_t room, uint64_t *count, uint64_t *next, uint32_t tries);
+nm_outcome nm_map_scan_entries_back(nm_handle *worker, uint64_t from, uint64_t least,
+                                    nm_entry *entries, size_t room, uint64_t *count,
+                                    uint64_t *next, uint32_t tries);
 
 /* Writes the worker's number. Returns NM_DONE. */
 nm_outcome nm_map_number(nm_handle *worker, uint32_t *number);

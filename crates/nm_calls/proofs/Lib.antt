@@ -21,6 +21,7 @@ pub mod MapMoments
 pub mod InsertedValues
 pub mod FoundValues
 pub mod NearValues
+pub mod ScannedEntries
 pub mod CutLeaves
 pub mod HandedBack
 pub mod MadeLeaves

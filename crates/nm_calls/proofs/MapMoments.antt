@@ -249,20 +249,24 @@ module _ (o m : PassView) (first_seen : HasSeen o.view) (first_fits : IsLayout o
 
 -- ---- the moment of a value that was read, in its call
 
--- a step leaves a moment of the map as it was
-pub mapped_longer : (was : List Turn) (m q : PassView) (e : Event) (r : Reply) → TakesStep m q e r → (k : ℕ) (answer : Option ℕ) → WasMapped m.view.layout was m.view.past m.view.stores m.view.number k answer → WasMapped q.view.layout was q.view.past q.view.stores q.view.number k answer
-mapped_longer was m q e r step k answer so =
-    let more : Extends q.view.past m.view.past = (seen_by_turn m q e r step.past).goes_on in
-    subst (λ (st : List Stored). WasMapped q.view.layout was q.view.past st q.view.number k answer) (sym step.stores)
-    (subst (λ (s : PassView). WasMapped s.view.layout was q.view.past m.view.stores s.view.number k answer) (sym (same_by_step m q e r step.step)) (record {
+-- a moment of the map stays, by the same stores
+pub mapped_later : (was : List Turn) (m q : PassView) → IsSamePass m q → Extends q.view.past m.view.past → (stores : List Stored) (k : ℕ) (answer : Option ℕ) → WasMapped m.view.layout was m.view.past stores m.view.number k answer → WasMapped q.view.layout was q.view.past stores q.view.number k answer
+mapped_later was m q same more stores k answer so =
+    subst (λ (s : PassView). WasMapped s.view.layout was q.view.past stores s.view.number k answer) (sym same) (record {
       so_far = so.so_far;
       rest = so.rest ++ more.more;
       are = more.is ∙ (ap (λ (l : List Turn). l ++ more.more) so.are ∙ append_assoc so.so_far so.rest more.more);
       later = so.later;
       pinned = so.pinned;
       gives = so.gives;
-      stored = stored_longer answer m.view.layout so.so_far m.view.past q.view.past m.view.stores more so.stored;
-    }))
+      stored = stored_longer answer m.view.layout so.so_far m.view.past q.view.past stores more so.stored;
+    })
+
+-- a step leaves it as it was
+pub mapped_longer : (was : List Turn) (m q : PassView) (e : Event) (r : Reply) → TakesStep m q e r → (k : ℕ) (answer : Option ℕ) → WasMapped m.view.layout was m.view.past m.view.stores m.view.number k answer → WasMapped q.view.layout was q.view.past q.view.stores q.view.number k answer
+mapped_longer was m q e r step k answer so =
+    subst (λ (st : List Stored). WasMapped q.view.layout was q.view.past st q.view.number k answer) (sym step.stores)
+    (mapped_later was m q (same_by_step m q e r step.step) (seen_by_turn m q e r step.past).goes_on m.view.stores k answer so)
 
 module _ (o a m : PassView) (first_seen : HasSeen o.view) (first_fits : IsLayout o.view.layout) (unpinned : (epochs o).pin ≡ None) (pinning : Continues o a) (walked : GoesOn a m) (k : ℕ) (is_key : IsKey k) where
   same : IsSamePass o m

@@ -40,7 +40,7 @@ use Rattle.nm_epoch.proofs.Allowed.{may_leave}
 use Rattle.nm_epoch.specs.Tries.{IsPinnedBy, IsMoved}
 use Rattle.nm_walks.specs.declared.looking.Onward.{Onward}
 use Rattle.nm_walks.specs.AddedLooks.{is_look, AddsLooks}
-use Rattle.nm_calls.specs.PlainWalks.{HasPassed, HasEndedSo, LooksUnderPin, PlainMissed, WasSo, events_of, most_looks}
+use Rattle.nm_calls.specs.PlainWalks.{HasEndedAt, HasEndedSo, HasPassed, LooksUnderPin, PlainMissed, WasSo, events_of, most_looks}
 use Rattle.nm_calls.specs.NearKeys.{AfterNear, GiveUp, WasNear}
 use Rattle.nm_calls.specs.declared.fault.CallFault.{CallFault}
 use Rattle.nm_calls.specs.declared.fault.CallFault.TheVariants as fault
@@ -106,6 +106,9 @@ module _ {n : ℕ} (p q : PassView) (a : AddsLooks n p.view.log q.view.log) wher
 
   pub ended_still : (k : ℕ) (answer : Bool) → HasEndedSo p k answer → HasEndedSo q k answer
   ended_still k answer e = (e.0, e.1, e.2, e.3, record { looks = e.4.looks; leads = e.4.leads; null = e.4.null; is_null = e.4.is_null; is_part = part_still _ e.4.is_part }, e.5)
+
+  pub ended_at_still : (k leaf : ℕ) → HasEndedAt p k leaf → HasEndedAt q k leaf
+  ended_at_still k leaf e = (e.0, e.1, record { looks = e.2.looks; leads = e.2.leads; null = e.2.null; is_null = e.2.is_null; is_part = part_still _ e.2.is_part })
 
 -- ---- a walk begins
 

@@ -17,7 +17,7 @@ use Rattle.nm_model.specs.declared.event.Field.TheVariants.{Key as KeyOf, Edge a
 use Rattle.nm_model.specs.declared.reply.Reply.TheVariants.{KeyIs, EdgeIs, Departed}
 use Rattle.nm_model.specs.Memory.{infinity_0}
 use Rattle.nm_model.specs.Searches.{side_of}
-use Rattle.nm_model.specs.Walks.{Entry, since_pin, IsPart, WalkReads}
+use Rattle.nm_model.specs.Walks.{Entry, since_pin, IsPart, WalkEnds, WalkReads}
 use Rattle.nm_model.specs.Walks.IsPart.{nothing, takes, skips}
 use Rattle.nm_model.specs.Walks.Leads.{leads_on}
 use Rattle.nm_order.proofs.LogParts.{part_within}
@@ -34,7 +34,7 @@ use Rattle.nm_calls.specs.declared.fault.CallFault.TheVariants as fault
 use Rattle.nm_calls.specs.declared.scanning.Scanned.{Scanned}
 use Rattle.nm_calls.specs.declared.scanning.Stretch.{Stretch}
 use Rattle.nm_calls.specs.NearKeys.{IsPast, Lies, bound}
-use Rattle.nm_calls.specs.PlainWalks.{GivesUpUnderPin, HasEndedSo, HasPassed, LooksUnderPin, WasSo, most_looks}
+use Rattle.nm_calls.specs.PlainWalks.{GivesUpUnderPin, HasEndedAt, HasEndedSo, HasPassed, LooksUnderPin, WasSo, most_looks}
 use Rattle.nm_calls.specs.Scans.{AfterScan, Chooses, GiveUp, HasFoundNone, HasRouter, HasStoppedShort, Keeps, IsFull, IsIn, IsRangeBy, IsStretch, IsTooFar, StopsShort, beyond, count_of, end_of, entry_of, exit_of, found_in, leg_looks, most_keys, stretch_over}
 use Rattle.nm_walks.specs.AddedLooks.{AddsLooks}
 use Rattle.nm_walks.specs.Bounds.{reach}
@@ -44,6 +44,7 @@ use Rattle.nm_walks.proofs.Looks.{enough}
 use Rattle.nm_walks.proofs.PlainLooks.{looks_longer, read_added, since_grows}
 use Rattle.nm_walks.proofs.ShortWalks.{far_of}
 use Rattle.nm_calls.proofs.Adding.{cuts_none, has_won, plain_moved_adds}
+use Rattle.nm_calls.proofs.MapMoments.{ends_at}
 use Rattle.nm_calls.proofs.NearLooks.{read_alike}
 use Rattle.nm_calls.proofs.PlainLooks.{call_adds, come_still, comes_first, comes_on, ended_still, ends_so, look_added, looks_in, looks_then, part_still, pin_missed, walks_missed, was_so}
 
@@ -169,8 +170,31 @@ module _ (side : Side) (end n : ℕ) (p q : PassView) (d : Stretch) (on : Onward
   ends_here : EndsBy end q (exit_of side d)
   ends_here = ends_still end p q (read_added d.low d.next.slot p.view.log q.view.log on r) (exit_of side d) w.parts
 
-  -- all of them, or it is a leaf: then a key below the leaf's goes right where the walk goes left, and
-  -- each of both edges is null
+  -- if it is a leaf, each of its edges is null: a key below the leaf's goes right where the walk goes
+  -- left
+  reads_so : IsLeafRead d.next.slot p.view.log q.view.log on → on.next.slot ≡ 0 → (j : ℕ) → d.low ≤ j → j < d.high → (mine : Onward) × Reads j d.next.slot p.view.log q.view.log mine × (mine.found ≡ on.found) × (mine.next.slot ≡ 0)
+  reads_so leaf null j le less = by (cases_lt d.low on.found)
+    where
+      on_side : (s : Side) (left right : Edge) → left.slot ≡ 0 → right.slot ≡ 0 → (edge_on s left right).slot ≡ 0
+      on_side Left left right none null' = none
+      on_side Right left right none null' = null'
+
+      by : (d.low < on.found) ⊎ (on.found ≤ d.low) → (mine : Onward) × Reads j d.next.slot p.view.log q.view.log mine × (mine.found ≡ on.found) × (mine.next.slot ≡ 0)
+      by (inl below) =
+          let left : on.side ≡ Left = r.3 ∙ ap (λ (b : Bool). cond b Left Right) (lt-ltb d.low on.found below) in
+          let both = leaf left null in
+          let mine : Onward = record { found = on.found; side = side_of j on.found; next = edge_on (side_of j on.found) both.0 both.1 } in
+          (mine, (both.0, both.1, both.2, refl, refl), refl, on_side (side_of j on.found) both.0 both.1 both.3 both.4)
+      by (inr above) = (on, read_alike d.low j d.next.slot p.view.log q.view.log on (same_side d.low j on.found le (λ below. absurd (omega (arith, below, above)))) r, refl, null)
+
+  -- at which the walk for its key has ended, if that is one of them
+  pub leaf_on : IsLeafRead d.next.slot p.view.log q.view.log on → on.next.slot ≡ 0 → d.low ≤ on.found → on.found < d.high → HasEndedAt q on.found d.next.slot
+  leaf_on leaf null le less =
+      let m = reads_so leaf null on.found le less in
+      let c = w.comes some on.found le less in
+      (c.0, c.1, subst (WalkEnds on.found (since_pin [] q.view.log) d.next.slot c.0 c.1) m.2 (ends_at p q n on.found d.next.slot m.0 m.1 c m.3))
+
+  -- and the walks for all of them go on, or it is a leaf
   pub stretch_on : IsLeafRead d.next.slot p.view.log q.view.log on → (on.next.slot ≢ 0 → (on.found ≤ d.low) ⊎ (d.high ≤ on.found)) → IsStretch side end (n + 1) q (record { low = d.low; high = d.high; next = on.next; found = on.found })
   stretch_on leaf together = record {
     wide = w.wide;
@@ -178,26 +202,13 @@ module _ (side : Side) (end n : ℕ) (p q : PassView) (d : Stretch) (on : Onward
     stops = stops_within side end d (record { low = d.low; high = d.high; next = on.next; found = on.found }) (omega arith) (omega arith) w.stops;
     comes = λ more j le less. on_with j le less (λ below. all j le less below (together more)) more;
     known = λ more. told.learned.leads more;
-    ends = λ null j le less. by null (cases_lt d.low on.found) j le less;
+    ends = λ null j le less. (let m = reads_so leaf null j le less in subst (λ (v : ℕ). HasEndedSo q j (v == j)) m.2 (ends_so p q n j d.next.slot m.0 m.1 (w.comes some j le less) m.3));
     parts = subst (EndsBy end q) (same_exit side d (record { low = d.low; high = d.high; next = on.next; found = on.found }) refl refl) ends_here;
   }
     where
       all : (j : ℕ) → d.low ≤ j → j < d.high → d.low < on.found → (on.found ≤ d.low) ⊎ (d.high ≤ on.found) → j < on.found
       all j le less below (inl above) = absurd (omega (arith, below, above))
       all j le less below (inr high) = omega (arith, less, high)
-
-      on_side : (s : Side) (left right : Edge) → left.slot ≡ 0 → right.slot ≡ 0 → (edge_on s left right).slot ≡ 0
-      on_side Left left right none null = none
-      on_side Right left right none null = null
-
-      by : on.next.slot ≡ 0 → (d.low < on.found) ⊎ (on.found ≤ d.low) → (j : ℕ) → d.low ≤ j → j < d.high → HasEndedSo q j (on.found == j)
-      by null (inl below) j le less =
-          let left : on.side ≡ Left = r.3 ∙ ap (λ (b : Bool). cond b Left Right) (lt-ltb d.low on.found below) in
-          let both = leaf left null in
-          let mine : Onward = record { found = on.found; side = side_of j on.found; next = edge_on (side_of j on.found) both.0 both.1 } in
-          ends_so p q n j d.next.slot mine (both.0, both.1, both.2, refl, refl) (w.comes some j le less) (on_side (side_of j on.found) both.0 both.1 both.3 both.4)
-      by null (inr above) j le less =
-          ends_so p q n j d.next.slot on (read_alike d.low j d.next.slot p.view.log q.view.log on (same_side d.low j on.found le (λ below. absurd (omega (arith, below, above)))) r) (w.comes some j le less) null
 
   module _ (more : on.next.slot ≢ 0) (above : d.low < on.found) (below : on.found < d.high) where
     -- the walk passes it
@@ -269,8 +280,14 @@ module _ (side : Side) (end n : ℕ) (p q : PassView) (d : Stretch) (on : Onward
             (let many = h.3 in let more = length-append h.2.looks ((Look d.next.slot KeyOf, KeyIs on.found) ∷ (Look d.next.slot (EdgeOn (side_of j on.found)), EdgeIs e) ∷ []) in omega (arith, many, more)),
           )
 
+      right_end : e.slot ≡ 0 → (j : ℕ) → on.found ≤ j → j < d.high → (parent : ℕ) × (up : Side) × WalkEnds j (since_pin [] z.view.log) d.next.slot parent up on.found
+      right_end null j le less = let h = has_read j le less in (h.0, h.1, record { looks = h.2.looks; leads = h.2.leads; null = e; is_null = null; is_part = looks_more j le h.2.looks h.2.is_part })
+
       ends_right : e.slot ≡ 0 → (j : ℕ) → on.found ≤ j → j < d.high → HasEndedSo z j (on.found == j)
-      ends_right null j le less = let h = has_read j le less in (d.next.slot, h.0, on.found, h.1, record { looks = h.2.looks; leads = h.2.leads; null = e; is_null = null; is_part = looks_more j le h.2.looks h.2.is_part }, refl)
+      ends_right null j le less = let h = right_end null j le less in (d.next.slot, h.0, on.found, h.1, h.2, refl)
+
+      pub leaf_right : e.slot ≡ 0 → HasEndedAt z on.found d.next.slot
+      leaf_right null = right_end null on.found (omega arith) below
 
       pub upper_on : IsStretch side end (n + 1) z (record { low = on.found; high = d.high; next = e; found = on.found })
       upper_on = record {

@@ -11,5 +11,6 @@ pub mod Moments
 pub mod Inserts
 pub mod Deletes
 pub mod Maps
+pub mod MapScans
 pub mod KeptValues
 pub mod HandedBack

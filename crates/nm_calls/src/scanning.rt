@@ -13,12 +13,14 @@ ghost use Rattle.nm_steps.specs.Steps.{IsOf};
 ghost use Rattle.nm_epoch.specs.Resting.{IsResting};
 ghost use Rattle.nm_calls.specs.NearKeys.{IsPast, Lies, bound};
 ghost use Rattle.nm_calls.specs.PlainWalks.{HasEndedSo};
+ghost use Rattle.nm_calls.specs.MapScans.{EndsAt, IsLeafOf, leaf_in, leaf_of, keys_in};
 ghost use Rattle.nm_calls.specs.Scans.{AfterScan, Chooses, GiveUp, HasFoundNone, HasRouter, HasStoppedShort, IsFull, IsIn, IsRangeBy, IsStretch, IsTooFar, count_of, end_of, entry_of, exit_of, found_in, leg_looks, most_keys, stretch_over};
 ghost use Rattle.nm_walks.specs.AddedLooks.{AddsLooks};
 ghost use Rattle.nm_walks.specs.Bounds.{reach};
 ghost use Rattle.nm_walks.specs.Telling.{Tells, GoesOn, OnlyLooks, IsPinnedIn};
 
 use crate::fault::CallFault;
+use crate::map_scanning::MapEntry;
 use arrayvec::ArrayVec;
 use nm_edge::{Edge, INFINITY_0, Key, Layout, Side};
 use nm_epoch::{pin, unpin};
@@ -57,10 +59,18 @@ impl Default for Stretch {
 /// The stretches that a scan has kept for later, the next one last.
 type Stretches = ArrayVec<Stretch, MOST_STRETCHES>;
 
-/// The side to which a scan goes, the bound at which its range ends, and the largest number of keys
-/// that it returns.
+/// What a scan writes: the keys that it finds, or entries of a map with these keys.
+#[derive(Clone, Copy, Debug, PartialEq, Eq)]
+pub(crate) enum What {
+    Keys,
+    Entries,
+}
+
+/// What a scan writes, the side to which it goes, the bound at which its range ends, and the largest
+/// number of keys that it returns.
 #[derive(Clone, Copy, Debug)]
 struct Plan {
+    what: What,
     side: Side,
     end: u64,
     room: usize,
@@ -75,6 +85,8 @@ struct Progress {
     count: usize,
     // How many of its walks may still end with no key.
     spare: u32,
+    // The slot of the leaf at which its last walk has ended.
+    leaf: u32,
 }
 
 /// How far a scan has come.
@@ -133,21 +145,34 @@ pub fn scan(
     let Ok(_epoch) = pin(shared, pass, tries) else {
         return Err(CallFault::Busy);
     };
-    let scanned = scan_pinned(shared, pass, side, from.get(), to, out, tries);
+    let scanned = scan_pinned(
+        shared,
+        pass,
+        What::Keys,
+        side,
+        from.get(),
+        to,
+        out,
+        &mut [],
+        tries,
+    );
     pass.know_run();
     unpin(shared, pass);
     scanned
 }
 
-/// Scans under a pin: walks from the root for the first stretch, and goes on from there.
+/// Scans under a pin: walks from the root for the first stretch, and goes on from there. It writes
+/// keys into `out`, or entries into `entries`, with the slot of its leaf in place of each value.
 #[inline(always)]
-fn scan_pinned(
+pub(crate) fn scan_pinned(
     shared: &Shared,
     pass: &mut Pass,
+    what: What,
     side: Side,
     from: u64,
     to: u64,
     out: &mut [u64],
+    entries: &mut [MapEntry],
     tries: u32,
 ) -> Result<Scanned, CallFault>
     requires pinned { IsPinnedIn shared.now pass.old }
@@ -157,20 +182,24 @@ fn scan_pinned(
     ensures looks { AddsLooks ((count_of result + tries) * leg_looks (reach shared.now.layout))
         pass.old.view.log pass.new.view.log }
     ensures told { IfOk result (λ s. IsRangeBy side (HasEndedSo pass.new) (bound side from)
-        (end_of side to s.next) (take s.count out.new)) }
-    ensures count { IfOk result (λ s. (s.count ≤ length out.new) × (s.count ≤ most_keys)) }
-    ensures next { IfOk result (λ s. IfSome s.next
-        (λ k. IsKey k × IsIn side (bound side from) to k × (length out.new ≢ 0 → IsPast side from k))) }
-    ensures early { IfOk result (λ s. IfSome s.next (λ k. IsFull (length out.new) s.count ⊎ (tries ≤ 1)
+        (end_of side to s.next) (take s.count (keys_in what out.new entries.new))) }
+    ensures leaves { what ≡ What.Entries
+        → IfOk result (λ s. All (IsLeafOf pass.new) (take s.count entries.new)) }
+    ensures count { IfOk result (λ s. (s.count ≤ length (keys_in what out.new entries.new))
+        × (s.count ≤ most_keys)) }
+    ensures next { IfOk result (λ s. IfSome s.next (λ k. IsKey k × IsIn side (bound side from) to k
+        × (length (keys_in what out.new entries.new) ≢ 0 → IsPast side from k))) }
+    ensures early { IfOk result (λ s. IfSome s.next
+        (λ k. IsFull (length (keys_in what out.new entries.new)) s.count ⊎ (tries ≤ 1)
         ⊎ HasStoppedShort shared.now.layout pass.new.view.log)) }
     ensures given_up { IfErr result
         (λ e. GiveUp shared.now.layout from pass.old.view.log pass.new.view.log) }
     ensures busy { IfErr result (λ e. e ≡ CallFault.Busy) }
-    ensures kept { IfErr result (λ e. out.new ≡ out.old) }
+    ensures kept { IfErr result (λ e. (out.new ≡ out.old) × (entries.new ≡ entries.old)) }
     ensures on { GoesOn pass.old pass.new }
     ensures only { OnlyLooks pass.old pass.new }
 {
-    let plan = plan_of(side, to, out.len());
+    let plan = plan_of(what, side, to, places(what, out, entries));
     let start = start_at(side, from);
     if !is_before(side, start, plan.end) {
         return Ok(Scanned {
@@ -180,15 +209,37 @@ fn scan_pinned(
     }
     let mut stretches = Stretches::new();
     let begun = begin(shared, pass, &plan, start);
-    let first = walk_down(shared, pass, &plan, &mut stretches, &begun);
+    let mut leaf = 0;
+    let first = walk_down(shared, pass, &plan, &mut stretches, &begun, &mut leaf);
     if !is_null(first.next) {
         return Err(CallFault::Busy);
     }
-    Ok(write_all(shared, pass, &plan, &mut stretches, &first, out, tries))
+    Ok(write_all(
+        shared,
+        pass,
+        &plan,
+        &mut stretches,
+        &first,
+        leaf,
+        out,
+        entries,
+        tries,
+    ))
+}
+
+/// Returns the number of places for what a scan writes.
+fn places(what: What, out: &[u64], entries: &[MapEntry]) -> usize
+    ensures { result ≡ length (keys_in what out.now entries.now) }
+{
+    match what {
+        What::Keys => out.len(),
+        What::Entries => entries.len(),
+    }
 }
 
 /// Returns the plan of a scan to that side up to the bound `to`, into a slice of that length.
-fn plan_of(side: Side, to: u64, length: usize) -> Plan
+fn plan_of(what: What, side: Side, to: u64, length: usize) -> Plan
+    ensures what { result.what ≡ what }
     ensures side { result.side ≡ side }
     ensures top { result.end ≤ INFINITY_0 }
     ensures end { (result.end ≤ to) × ((result.end ≡ to) ⊎ (result.end ≡ INFINITY_0)) }
@@ -197,6 +248,7 @@ fn plan_of(side: Side, to: u64, length: usize) -> Plan
     ensures some { result.room ≡ 0 → length ≡ 0 }
 {
     Plan {
+        what,
         side,
         end: if to < INFINITY_0 { to } else { INFINITY_0 },
         room: if length < MOST_KEYS {
@@ -276,6 +328,7 @@ fn begin(shared: &Shared, pass: &mut Pass, plan: &Plan, at: u64) -> Stretch
     ensures looks { AddsLooks 1 pass.old.view.log pass.new.view.log }
     ensures walks { IsStretch plan.now.side plan.now.end 0 pass.new result }
     ensures entry { entry_of plan.now.side result ≡ at }
+    ensures some { result.next.slot ≢ 0 }
     ensures on { GoesOn pass.old pass.new }
     ensures only { OnlyLooks pass.old pass.new }
 {
@@ -306,8 +359,8 @@ fn stretch_to(plan: &Plan, at: u64, first: Edge) -> Stretch
 }
 
 /// Walks for the first keys of a stretch to the end of their walk, and keeps the other keys for
-/// later. It stops if the walk has looked at as many nodes as there are, which never happens in a
-/// radix tree.
+/// later. It writes the slot of the leaf at the end to `leaf`. It stops if the walk has looked at as
+/// many nodes as there are, which never happens in a radix tree.
 #[inline(always)]
 fn walk_down(
     shared: &Shared,
@@ -315,14 +368,17 @@ fn walk_down(
     plan: &Plan,
     stretches: &mut Stretches,
     begun: &Stretch,
+    leaf: &mut u32,
 ) -> Stretch
     requires pinned { IsPinnedIn shared.now pass.old }
     requires walks { IsStretch plan.now.side plan.now.end 0 pass.old begun.now }
+    requires some { begun.now.next.slot ≢ 0 }
     requires kept { All (IsStretch plan.now.side plan.now.end 0 pass.old) stretches.old.items }
     ensures looks { AddsLooks (reach shared.now.layout * 4) pass.old.view.log pass.new.view.log }
     ensures walks { IsStretch plan.now.side plan.now.end 0 pass.new result }
     ensures kept { All (IsStretch plan.now.side plan.now.end 0 pass.new) stretches.new.items }
     ensures entry { entry_of plan.now.side result ≡ entry_of plan.now.side begun.now }
+    ensures hit { EndsAt pass.new result leaf.new }
     ensures long { result.next.slot ≢ 0 → (k : ℕ) → result.low ≤ k → k < result.high
         → IsTooFar shared.now.layout k pass.new.view.log }
     ensures on { GoesOn pass.old pass.new }
@@ -334,6 +390,7 @@ fn walk_down(
         if is_null(stretch.next) {
             return stretch;
         }
+        *leaf = stretch.next.slot();
         let on = read_on(shared, layout, pass, plan.side, stretches, &stretch);
         stretch = on;
     }
@@ -361,6 +418,8 @@ fn read_on(
         → IsStretch side end (n + 1) pass.new result
         × All (IsStretch side end 0 pass.new) stretches.new.items }
     ensures entry { entry_of side result ≡ entry_of side stretch.now }
+    ensures hit { (end n : ℕ) → IsStretch side end n pass.old stretch.now
+        → EndsAt pass.new result stretch.now.next.slot }
     ensures on { GoesOn pass.old pass.new }
     ensures only { OnlyLooks pass.old pass.new }
 {
@@ -419,8 +478,8 @@ fn keep(stretches: &mut Stretches, stretch: &Stretch)
     stretches.push(*stretch);
 }
 
-/// Returns the stretch that begins at a bound: the one that was kept last, or one that begins a
-/// walk from slot 2. Cost: at most one look.
+/// Returns the stretch that begins at a bound, whose walk has a node to read: the one that was kept
+/// last, or one that begins a walk from slot 2. Cost: at most one look.
 #[inline(always)]
 fn next_stretch(
     shared: &Shared,
@@ -438,11 +497,12 @@ fn next_stretch(
     ensures walks { IsStretch plan.now.side plan.now.end 0 pass.new result }
     ensures kept { All (IsStretch plan.now.side plan.now.end 0 pass.new) stretches.new.items }
     ensures entry { entry_of plan.now.side result ≡ at }
+    ensures some { result.next.slot ≢ 0 }
     ensures on { GoesOn pass.old pass.new }
     ensures only { OnlyLooks pass.old pass.new }
 {
     if let Some(kept) = stretches.pop() {
-        if entry(plan.side, &kept) == at {
+        if entry(plan.side, &kept) == at && !is_null(kept.next) {
             return kept;
         }
     }
@@ -450,8 +510,8 @@ fn next_stretch(
     begin(shared, pass, plan, at)
 }
 
-/// Writes the keys of a range, if the walk for its first stretch has ended. Each turn of its loop
-/// writes a key, or ends a walk with no key.
+/// Writes the keys of a range, if the walk for its first stretch has ended at this leaf. Each turn of
+/// its loop writes a key, or ends a walk with no key.
 #[inline(always)]
 fn write_all(
     shared: &Shared,
@@ -459,23 +519,33 @@ fn write_all(
     plan: &Plan,
     stretches: &mut Stretches,
     first: &Stretch,
+    leaf: u32,
     out: &mut [u64],
+    entries: &mut [MapEntry],
     tries: u32,
 ) -> Scanned
     requires pinned { IsPinnedIn shared.now pass.old }
     requires known { Tells pass.old (KnowsSlot 2) }
     requires walks { IsStretch plan.now.side plan.now.end 0 pass.old first.now }
     requires ended { first.now.next.slot ≡ 0 }
+    requires hit { EndsAt pass.old first.now leaf }
     requires kept { All (IsStretch plan.now.side plan.now.end 0 pass.old) stretches.old.items }
     requires top { plan.now.end ≤ INFINITY_0 }
-    requires room { (plan.now.room ≤ length out.old) × (plan.now.room ≤ most_keys) }
+    requires room { (plan.now.room ≤ length (keys_in plan.now.what out.old entries.old))
+        × (plan.now.room ≤ most_keys) }
     requires some { tries ≢ 0 }
     ensures looks { (legs : ℕ) × (legs + 1 ≤ result.count + tries)
         × AddsLooks (legs * leg_looks (reach shared.now.layout)) pass.old.view.log
         pass.new.view.log }
     ensures told { IsRangeBy plan.now.side (HasEndedSo pass.new) (entry_of plan.now.side first.now)
-        (end_of plan.now.side plan.now.end result.next) (take result.count out.new) }
-    ensures count { (result.count ≤ length out.new) × (result.count ≤ most_keys) }
+        (end_of plan.now.side plan.now.end result.next)
+        (take result.count (keys_in plan.now.what out.new entries.new)) }
+    ensures leaves { plan.now.what ≡ What.Entries
+        → All (IsLeafOf pass.new) (take result.count entries.new) }
+    ensures count { (result.count ≤ length (keys_in plan.now.what out.new entries.new))
+        × (result.count ≤ most_keys) }
+    ensures places { length (keys_in plan.now.what out.new entries.new)
+        ≡ length (keys_in plan.now.what out.old entries.old) }
     ensures next { IfSome result.next (λ k. IsKey k
         × Lies plan.now.side (entry_of plan.now.side first.now) (bound plan.now.side k)
         × IsPast plan.now.side (bound plan.now.side k) plan.now.end
@@ -491,6 +561,7 @@ fn write_all(
         at: entry(plan.side, first),
         count: 0,
         spare: tries,
+        leaf,
     };
     for _turn in 0..u64::from(tries) + MOST_KEYS as u64 {
         if !turn(
@@ -501,6 +572,7 @@ fn write_all(
             &mut stretch,
             &mut progress,
             out,
+            entries,
         ) {
             return so_far(plan, &progress);
         }
@@ -520,15 +592,18 @@ fn turn(
     stretch: &mut Stretch,
     progress: &mut Progress,
     out: &mut [u64],
+    entries: &mut [MapEntry],
 ) -> bool
     requires pinned { IsPinnedIn shared.now pass.old }
     requires known { Tells pass.old (KnowsSlot 2) }
     requires walks { IsStretch plan.now.side plan.now.end 0 pass.old stretch.old }
     requires ended { stretch.old.next.slot ≡ 0 }
+    requires hit { EndsAt pass.old stretch.old progress.old.leaf }
     requires at { progress.old.at ≡ entry_of plan.now.side stretch.old }
     requires kept { All (IsStretch plan.now.side plan.now.end 0 pass.old) stretches.old.items }
     requires top { plan.now.end ≤ INFINITY_0 }
-    requires room { (plan.now.room ≤ length out.old) × (progress.old.count ≤ plan.now.room) }
+    requires room { (plan.now.room ≤ length (keys_in plan.now.what out.old entries.old))
+        × (progress.old.count ≤ plan.now.room) }
     requires some { progress.old.spare ≢ 0 }
     ensures looks { (legs : ℕ) × (legs + 1 + progress.old.count ≤ progress.new.count + progress.old.spare)
         × (result ≡ true → progress.new.count + progress.old.spare ≡ progress.old.count + progress.new.spare + legs)
@@ -537,13 +612,21 @@ fn turn(
         × (stretch.new.next.slot ≡ 0) × (progress.new.at ≡ entry_of plan.now.side stretch.new)
         × (progress.new.spare ≢ 0) × IsPast plan.now.side progress.old.at progress.new.at }
     ensures kept { All (IsStretch plan.now.side plan.now.end 0 pass.new) stretches.new.items }
+    ensures hit { EndsAt pass.new stretch.new progress.new.leaf }
     ensures told { (start : ℕ) → Lies plan.now.side start progress.old.at
-        → IsRangeBy plan.now.side (HasEndedSo pass.old) start progress.old.at (take progress.old.count out.old)
-        → IsRangeBy plan.now.side (HasEndedSo pass.new) start progress.new.at (take progress.new.count out.new) }
+        → IsRangeBy plan.now.side (HasEndedSo pass.old) start progress.old.at
+        (take progress.old.count (keys_in plan.now.what out.old entries.old))
+        → IsRangeBy plan.now.side (HasEndedSo pass.new) start progress.new.at
+        (take progress.new.count (keys_in plan.now.what out.new entries.new)) }
+    ensures leaves { plan.now.what ≡ What.Entries
+        → All (IsLeafOf pass.old) (take progress.old.count entries.old)
+        → All (IsLeafOf pass.new) (take progress.new.count entries.new) }
     ensures at { Lies plan.now.side progress.new.at plan.now.end × (progress.new.at ≤ INFINITY_0) }
     ensures further { IsPast plan.now.side progress.old.at progress.new.at
         ⊎ ((progress.new.at ≡ progress.old.at) × (plan.now.room ≡ progress.old.count)) }
-    ensures count { (progress.new.count ≤ plan.now.room) × (length out.new ≡ length out.old) }
+    ensures count { (progress.new.count ≤ plan.now.room)
+        × (length (keys_in plan.now.what out.new entries.new)
+        ≡ length (keys_in plan.now.what out.old entries.old)) }
     ensures parts { result ≡ true
         → HasRouter pass.new.view.log progress.new.at × IsPast plan.now.side progress.new.at plan.now.end }
     ensures lost { IsPast plan.now.side progress.new.at plan.now.end
@@ -557,14 +640,14 @@ fn turn(
     ensures on { GoesOn pass.old pass.new }
     ensures only { OnlyLooks pass.old pass.new }
 {
-    if !write(plan, stretch, progress, out) {
+    if !write(plan, stretch, progress, out, entries) {
         return false;
     }
     if progress.spare == 0 || !is_before(plan.side, progress.at, plan.end) {
         return false;
     }
     let begun = next_stretch(shared, pass, plan, stretches, progress.at);
-    let walked = walk_down(shared, pass, plan, stretches, &begun);
+    let walked = walk_down(shared, pass, plan, stretches, &begun, &mut progress.leaf);
     let is_ended = is_null(walked.next);
     *stretch = walked;
     is_ended
@@ -572,15 +655,29 @@ fn turn(
 
 /// Writes the key of the leaf at which a walk has ended, if it is one of its stretch; else one walk
 /// fewer may end in this way. Returns false if there is no room for the key.
-fn write(plan: &Plan, stretch: &Stretch, progress: &mut Progress, out: &mut [u64]) -> bool
-    requires room { (plan.now.room ≤ length out.old) × (progress.old.count ≤ plan.now.room) }
+fn write(
+    plan: &Plan,
+    stretch: &Stretch,
+    progress: &mut Progress,
+    out: &mut [u64],
+    entries: &mut [MapEntry],
+) -> bool
+    requires room { (plan.now.room ≤ length (keys_in plan.now.what out.old entries.old))
+        × (progress.old.count ≤ plan.now.room) }
     requires some { progress.old.spare ≢ 0 }
     ensures wrote { result ≡ true → (progress.new.at ≡ exit_of plan.now.side stretch.now)
-        × (take progress.new.count out.new ≡ take progress.old.count out.old ++ found_in stretch.now)
+        × (take progress.new.count (keys_in plan.now.what out.new entries.new)
+        ≡ take progress.old.count (keys_in plan.now.what out.old entries.old) ++ found_in stretch.now)
         × (progress.new.count + progress.old.spare ≡ progress.old.count + progress.new.spare + 1) }
+    ensures slots { result ≡ true → plan.now.what ≡ What.Entries
+        → take progress.new.count entries.new
+        ≡ take progress.old.count entries.old ++ leaf_in stretch.now progress.old.leaf }
     ensures full { result ≡ false → (progress.new ≡ progress.old) × (out.new ≡ out.old)
-        × (plan.now.room ≡ progress.old.count) }
-    ensures count { (progress.new.count ≤ plan.now.room) × (length out.new ≡ length out.old) }
+        × (entries.new ≡ entries.old) × (plan.now.room ≡ progress.old.count) }
+    ensures count { (progress.new.count ≤ plan.now.room)
+        × (length (keys_in plan.now.what out.new entries.new)
+        ≡ length (keys_in plan.now.what out.old entries.old)) }
+    ensures leaf { progress.new.leaf ≡ progress.old.leaf }
 {
     if stretch.found < stretch.low || stretch.high <= stretch.found {
         progress.spare -= 1;
@@ -590,10 +687,41 @@ fn write(plan: &Plan, stretch: &Stretch, progress: &mut Progress, out: &mut [u64
     if progress.count >= plan.room {
         return false;
     }
-    out[progress.count] = stretch.found;
+    put(plan, stretch, progress, out, entries);
     progress.count += 1;
     progress.at = exit(plan.side, stretch);
     true
+}
+
+/// Writes the key of the leaf at which a walk has ended at the next place. In an entry it writes the
+/// slot of the leaf too.
+fn put(
+    plan: &Plan,
+    stretch: &Stretch,
+    progress: &Progress,
+    out: &mut [u64],
+    entries: &mut [MapEntry],
+)
+    requires room { progress.now.count < length (keys_in plan.now.what out.old entries.old) }
+    ensures keys { take (progress.now.count + 1) (keys_in plan.now.what out.new entries.new)
+        ≡ take progress.now.count (keys_in plan.now.what out.old entries.old)
+        ++ stretch.now.found ∷ [] }
+    ensures slots { plan.now.what ≡ What.Entries
+        → take (progress.now.count + 1) entries.new
+        ≡ take progress.now.count entries.old
+        ++ leaf_of stretch.now.found progress.now.leaf ∷ [] }
+    ensures places { length (keys_in plan.now.what out.new entries.new)
+        ≡ length (keys_in plan.now.what out.old entries.old) }
+{
+    match plan.what {
+        What::Keys => out[progress.count] = stretch.found,
+        What::Entries => {
+            entries[progress.count] = MapEntry {
+                key: stretch.found,
+                value: u64::from(progress.leaf),
+            };
+        }
+    }
 }
 
 /// Returns how far a scan has come.

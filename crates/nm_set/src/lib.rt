@@ -19,6 +19,7 @@ mod map_calls;
 mod map_managed;
 mod map_member;
 mod map_popping;
+mod map_scanning;
 mod member;
 mod opening;
 mod popping;
@@ -38,7 +39,7 @@ pub use map_member::{MapMember, MapResignError, ReturnedMapWorker};
 pub use member::{Member, ResignError};
 pub use nm_tree::{
     Advance, Behind, CallFault, CloseReason, Collected, Counts, Entry, Fit, HandedOut, HeldQueue,
-    NewError, PinFault, Query, Report, ResignReason, Scanned, Tally,
+    MapEntry, NewError, PinFault, Query, Report, ResignReason, Scanned, Tally,
 };
 pub use posting::{Stamp, letters_are_in_order};
 pub use returning::ReturnedWorker;

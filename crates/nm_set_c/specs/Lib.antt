@@ -12,3 +12,4 @@ pub mod Scanning
 pub mod Reports
 pub mod Maps
 pub mod MapEntries
+pub mod MapScanning

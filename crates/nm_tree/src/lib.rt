@@ -12,6 +12,7 @@ mod epochs;
 mod fault;
 mod lookup;
 mod many;
+mod map_scanning;
 mod near_key;
 mod notes;
 mod popping;
@@ -27,7 +28,7 @@ pub use closing::{
     CloseError, CloseReason, Report, closed_trees_are_accounted_for, runs_of_closed_trees_are_runs,
 };
 pub use fault::PinFault;
-pub use nm_calls::{CallFault, Query, Scanned};
+pub use nm_calls::{CallFault, MapEntry, Query, Scanned};
 pub use nm_edge::Fit;
 pub use nm_epoch::{Advance, Behind, Collected, Entry, HandedOut, HeldQueue, Tally};
 pub use nm_model::NewError;

@@ -1,3 +1,4 @@
+use Rattle.std.proofs.lemmas.Result.{IfErr-weaker}
 use Rattle.nm_calls.proofs.PlainLooks.{may_end}
 use Rattle.nm_calls.proofs.ScanLooks.{after_lost_pin, after_scan}
 use Rattle.nm_calls.proofs.scanning.scan.Goals as goal
@@ -19,4 +20,4 @@ returns c =
     let did = c.scan_pinned-scanned.ensures in
     after_scan c.args.side c.args.shared.now.layout c.args.tries c.args.from c.args.to c.get.result c.in-Ok._epoch c.args.out.now c.scan_pinned-scanned.new.out o a p q c.scan_pinned-scanned.result c.get.ensures.number
     c.pin.ensures.on c.in-Ok.ensures.pinned c.pin.ensures.hands did.on did.only did.looks c.unpin.ensures.took c.unpin.ensures.rests c.unpin.ensures.hands
-    c.know_run.ensures.seen c.know_run.ensures.fits c.requires.rests.unpinned c.know_run-2.ensures.seen did.told did.count did.next did.early did.given_up did.busy did.kept
+    c.know_run.ensures.seen c.know_run.ensures.fits c.requires.rests.unpinned c.know_run-2.ensures.seen did.told did.count did.next did.early did.given_up did.busy (IfErr-weaker c.scan_pinned-scanned.result _ _ (λ e kept. kept.0) did.kept)

@@ -3,6 +3,8 @@ use Rattle.std.specs.Prelude.{length, take}
 use Rattle.nm_edge.specs.declared.edge.Side.{Side}
 use Rattle.nm_order.specs.Facts.Fact.{KnowsSlot}
 use Rattle.nm_walks.specs.Bounds.{reach}
+use Rattle.nm_calls.specs.declared.scanning.What.{What}
+use Rattle.nm_calls.specs.MapScans.{keys_in}
 use Rattle.nm_calls.specs.NearKeys.{bound}
 use Rattle.nm_calls.specs.PlainWalks.{HasEndedSo}
 use Rattle.nm_calls.specs.Scans.{IsFull, IsRangeBy, end_of, entry_of, leg_looks}
@@ -54,14 +56,19 @@ returns-clause-told c =
     let z = c.write_all.new.pass in
     let plan = c.plan_of-plan.ensures in
     let s = c.write_all.result in
-    let keys = take s.count c.write_all.new.out in
+    let keys = take s.count (keys_in c.args.what c.write_all.new.out c.write_all.new.entries) in
     let enters = c.walk_down-first.ensures.entry ∙ c.begin-begun.ensures.entry ∙ c.start_at-start.ensures in
     end_cut c.plan_of-plan.result.end c.args.to plan.end.0 plan.end.1 c.args.side (HasEndedSo z) (bound c.args.side c.args.from) s.next keys
     (subst (λ (side : Side). IsRangeBy side (HasEndedSo z) (bound c.args.side c.args.from) (end_of side c.plan_of-plan.result.end s.next) keys) plan.side
-    (subst (λ (start : ℕ). IsRangeBy c.plan_of-plan.result.side (HasEndedSo z) start (end_of c.plan_of-plan.result.side c.plan_of-plan.result.end s.next) keys) enters c.write_all.ensures.told))
+    (subst (λ (start : ℕ). IsRangeBy c.plan_of-plan.result.side (HasEndedSo z) start (end_of c.plan_of-plan.result.side c.plan_of-plan.result.end s.next) keys) enters
+    (subst (λ (w : What). IsRangeBy c.plan_of-plan.result.side (HasEndedSo z) (entry_of c.plan_of-plan.result.side c.walk_down-first.result) (end_of c.plan_of-plan.result.side c.plan_of-plan.result.end s.next) (take s.count (keys_in w c.write_all.new.out c.write_all.new.entries))) plan.what c.write_all.ensures.told)))
+
+pub returns-clause-leaves : goal.returns-clause-leaves
+returns-clause-leaves c what = c.write_all.ensures.leaves (c.plan_of-plan.ensures.what ∙ what)
 
 pub returns-clause-early : goal.returns-clause-early
 returns-clause-early c =
-    let places = length c.write_all.new.out in
+    let places = length (keys_in c.args.what c.write_all.new.out c.write_all.new.entries) in
     let room = c.plan_of-plan.result.room in
-    early_in c.args.shared.now.layout c.write_all.new.pass c.args.tries room places c.write_all.result.count c.write_all.result.next (subst (λ (n : ℕ). IsFull n room) (sym c.write_all.auto.out) c.plan_of-plan.ensures.limit) c.write_all.ensures.early
+    let as_many = subst (λ (w : What). length (keys_in w c.write_all.new.out c.write_all.new.entries) ≡ length (keys_in w c.args.out.now c.args.entries.now)) c.plan_of-plan.ensures.what c.write_all.ensures.places in
+    early_in c.args.shared.now.layout c.write_all.new.pass c.args.tries room places c.write_all.result.count c.write_all.result.next (subst (λ (n : ℕ). IsFull n room) (c.places.ensures ∙ sym as_many) c.plan_of-plan.ensures.limit) c.write_all.ensures.early

@@ -1,17 +1,21 @@
-use Rattle.std.proofs.Common.{◌*◌, ◌∙◌, ap, inl, inr, sym, arith}
-use Rattle.std.specs.Prelude.{take}
+use Rattle.std.proofs.Common.{◌*◌, ◌∙◌, ℕ, List, ap, inl, inr, subst, sym, arith}
+use Rattle.std.specs.Prelude.{All, take}
 use Rattle.nm_walks.specs.Bounds.{reach}
 use Rattle.nm_calls.specs.declared.scanning.Progress.{Progress}
+use Rattle.nm_calls.specs.declared.map_scanning.MapEntry.{MapEntry}
+use Rattle.nm_calls.specs.MapScans.{IsLeafOf, keys_in}
 use Rattle.nm_calls.specs.Scans.{leg_looks}
+use Rattle.nm_walks.proofs.GoingOn.{goes_then}
 use Rattle.nm_calls.proofs.PlainLooks.{looks_in, looks_then}
 use Rattle.nm_calls.proofs.ScanLooks.{not_both, parts_there, range_still, router_still, shown_so, spent, spent_still}
+use Rattle.nm_calls.proofs.ScannedEntries.{leaves_more, leaves_still}
 use Rattle.nm_calls.proofs.scanning.turn.Goals as goal
 use Rattle.nm_calls.proofs.scanning.turn.Goals.{then-progress-eq0-via-then-progress-eq0, then-progress-eq0-via-else-progress-eq0+then-not-is_before}
 
 pub returns-then-progress-eq0-clause-told : goal.returns-then-progress-eq0-clause-told
 returns-then-progress-eq0-clause-told c start lies shown =
     let wrote = c.write.ensures.wrote c.if-not-write.false in
-    shown_so c.args.plan.now.side c.args.plan.now.end 0 c.args.pass.now c.args.stretch.now c.requires.walks c.requires.ended start c.args.progress.now.at c.write.new.progress.at (take c.args.progress.now.count c.args.out.now) (take c.write.new.progress.count c.write.new.out) c.requires.at wrote.0 lies wrote.1 shown
+    shown_so c.args.plan.now.side c.args.plan.now.end 0 c.args.pass.now c.args.stretch.now c.requires.walks c.requires.ended start c.args.progress.now.at c.write.new.progress.at (take c.args.progress.now.count (keys_in c.args.plan.now.what c.args.out.now c.args.entries.now)) (take c.write.new.progress.count (keys_in c.args.plan.now.what c.write.new.out c.write.new.entries)) c.requires.at wrote.0 lies wrote.1 shown
 
 pub returns-clause-looks : goal.returns-clause-looks
 returns-clause-looks c =
@@ -29,10 +33,33 @@ returns-clause-told c start lies shown =
     let p = c.args.pass.now in
     let q = c.next_stretch-begun.new.pass in
     let z = c.walk_down-walked.new.pass in
-    let keys = take c.write.new.progress.count c.write.new.out in
+    let keys = take c.write.new.progress.count (keys_in c.args.plan.now.what c.write.new.out c.write.new.entries) in
     range_still side q z c.walk_down-walked.ensures.looks start c.write.new.progress.at keys
     (range_still side p q c.next_stretch-begun.ensures.looks start c.write.new.progress.at keys
-    (shown_so side c.args.plan.now.end 0 p c.args.stretch.now c.requires.walks c.requires.ended start c.args.progress.now.at c.write.new.progress.at (take c.args.progress.now.count c.args.out.now) keys c.requires.at wrote.0 lies wrote.1 shown))
+    (shown_so side c.args.plan.now.end 0 p c.args.stretch.now c.requires.walks c.requires.ended start c.args.progress.now.at c.write.new.progress.at (take c.args.progress.now.count (keys_in c.args.plan.now.what c.args.out.now c.args.entries.now)) keys c.requires.at wrote.0 lies wrote.1 shown))
+
+pub returns-clause-on : goal.returns-clause-on
+returns-clause-on c = goes_then c.args.pass.now c.next_stretch-begun.new.pass c.walk_down-walked.new.pass c.next_stretch-begun.ensures.on c.walk_down-walked.ensures.on
+
+-- ---- the leaves with the keys
+
+pub returns-then-not-write-clause-leaves : goal.returns-then-not-write-clause-leaves
+returns-then-not-write-clause-leaves c what all =
+    let full = c.write.ensures.full c.if-not-write.true in
+    subst (λ (n : ℕ). All (IsLeafOf c.args.pass.now) (take n c.write.new.entries)) (sym (ap (λ (x : Progress). x.count) full.0))
+    (subst (λ (es : List MapEntry). All (IsLeafOf c.args.pass.now) (take c.args.progress.now.count es)) (sym full.2) all)
+
+pub returns-then-progress-eq0-clause-leaves : goal.returns-then-progress-eq0-clause-leaves
+returns-then-progress-eq0-clause-leaves c what all =
+    leaves_more c.args.plan.now.side c.args.plan.now.end 0 c.args.pass.now c.args.stretch.now c.requires.walks c.requires.ended c.args.progress.now.leaf c.requires.hit _ _ (c.write.ensures.slots c.if-not-write.false what) all
+
+pub returns-clause-leaves : goal.returns-clause-leaves
+returns-clause-leaves c what all =
+    let p = c.args.pass.now in
+    let q = c.next_stretch-begun.new.pass in
+    let z = c.walk_down-walked.new.pass in
+    leaves_still p z (looks_then p.view.log q.view.log z.view.log c.next_stretch-begun.ensures.looks c.walk_down-walked.ensures.looks) _
+    (leaves_more c.args.plan.now.side c.args.plan.now.end 0 p c.args.stretch.now c.requires.walks c.requires.ended c.args.progress.now.leaf c.requires.hit _ _ (c.write.ensures.slots c.if-not-write.false what) all)
 
 -- ---- why a scan ends early
 
@@ -40,7 +67,7 @@ pub returns-then-not-write-clause-lost : goal.returns-then-not-write-clause-lost
 returns-then-not-write-clause-lost c past = inl (ap (λ (x : Progress). x.spare) (c.write.ensures.full c.if-not-write.true).0)
 
 pub returns-then-not-write-clause-stops : goal.returns-then-not-write-clause-stops
-returns-then-not-write-clause-stops c ended past = let full = c.write.ensures.full c.if-not-write.true in inl (ap (λ (x : Progress). x.count) full.0 ∙ sym full.2)
+returns-then-not-write-clause-stops c ended past = let full = c.write.ensures.full c.if-not-write.true in inl (ap (λ (x : Progress). x.count) full.0 ∙ sym full.3)
 
 pub returns-then-progress-eq0-clause-lost : goal.returns-then-progress-eq0-clause-lost
 returns-then-progress-eq0-clause-lost c past =
@@ -51,7 +78,7 @@ returns-then-progress-eq0-clause-lost c past =
     let fits = c.requires.room.1 in
     let room' = c.write.ensures.count.0 in
     let length' = c.write.ensures.count.1 in
-    spent c.args.plan.now.side c.args.plan.now.end 0 c.args.pass.now c.args.stretch.now c.requires.walks c.requires.ended old.at new.at old.count new.count old.spare new.spare c.args.out.now c.write.new.out c.requires.at wrote.0 (omega (arith, room, fits)) (omega (arith, room, room', length')) wrote.1 wrote.2 past
+    spent c.args.plan.now.side c.args.plan.now.end 0 c.args.pass.now c.args.stretch.now c.requires.walks c.requires.ended old.at new.at old.count new.count old.spare new.spare (keys_in c.args.plan.now.what c.args.out.now c.args.entries.now) (keys_in c.args.plan.now.what c.write.new.out c.write.new.entries) c.requires.at wrote.0 (omega (arith, room, fits)) (omega (arith, room, room', length')) wrote.1 wrote.2 past
 
 pub returns-then-progress-eq0-clause-stops : goal.returns-then-progress-eq0-clause-stops
 returns-then-progress-eq0-clause-stops c ended past = elim c.then-progress-eq0.branch [
@@ -82,7 +109,7 @@ returns-clause-lost c past =
     let room' = c.write.ensures.count.0 in
     let length' = c.write.ensures.count.1 in
     spent_still p z (looks_then p.view.log q.view.log z.view.log c.next_stretch-begun.ensures.looks c.walk_down-walked.ensures.looks) old.at old.spare new.spare
-    (spent c.args.plan.now.side c.args.plan.now.end 0 p c.args.stretch.now c.requires.walks c.requires.ended old.at new.at old.count new.count old.spare new.spare c.args.out.now c.write.new.out c.requires.at wrote.0 (omega (arith, room, fits)) (omega (arith, room, room', length')) wrote.1 wrote.2 past)
+    (spent c.args.plan.now.side c.args.plan.now.end 0 p c.args.stretch.now c.requires.walks c.requires.ended old.at new.at old.count new.count old.spare new.spare (keys_in c.args.plan.now.what c.args.out.now c.args.entries.now) (keys_in c.args.plan.now.what c.write.new.out c.write.new.entries) c.requires.at wrote.0 (omega (arith, room, fits)) (omega (arith, room, room', length')) wrote.1 wrote.2 past)
 
 pub returns-clause-stops : goal.returns-clause-stops
 returns-clause-stops c ended past =

@@ -1,6 +1,7 @@
-use Rattle.std.proofs.Common.{◌+◌, ◌*◌, ◌∙◌, refl, ap, arith}
+use Rattle.std.proofs.Common.{◌+◌, ◌*◌, ◌∙◌, refl, ap, sym, subst, arith}
 use Rattle.nm_walks.specs.Bounds.{reach}
 use Rattle.nm_walks.proofs.GoingOn.{goes_then, only_then, pinned_in_still}
+use Rattle.nm_calls.specs.MapScans.{EndsAt}
 use Rattle.nm_calls.proofs.PlainLooks.{looks_in, looks_then, no_looks}
 use Rattle.nm_calls.proofs.ScanLooks.{goes_here, only_here, stretch_sooner, too_far}
 use Rattle.nm_calls.proofs.scanning.walk_down.Goals as goal
@@ -17,6 +18,7 @@ loop-node-init c =
       walks = c.requires.walks;
       kept = c.requires.kept;
       entry = refl;
+      hit = λ null. absurd (c.requires.some null);
       on = goes_here c.args.shared.now o c.requires.pinned;
       only = only_here o;
     }
@@ -44,6 +46,7 @@ loop-node-preserved c =
       walks = walked.0;
       kept = walked.1;
       entry = did.entry ∙ held.entry;
+      hit = subst (EndsAt q c.read_on-on.result) (sym c.slot.ensures) (did.hit c.args.plan.now.end c.loop-node._node held.walks);
       on = goes_then o p q held.on did.on;
       only = only_then o p q held.only did.only;
     }

@@ -1,7 +1,9 @@
 use Rattle.std.proofs.Common.{◌≡◌, ◌+◌, ◌∙◌, ◌⊎◌, ℕ, inr, subst, sym, arith}
+use Rattle.std.specs.Prelude.{All, take}
 use Rattle.nm_order.specs.Facts.Fact.{KnowsSlot}
 use Rattle.nm_walks.specs.Bounds.{reach}
 use Rattle.nm_walks.proofs.GoingOn.{goes_then, only_then}
+use Rattle.nm_calls.specs.MapScans.{IsLeafOf}
 use Rattle.nm_calls.specs.Scans.{IsTooFar, entry_of, leg_looks}
 use Rattle.nm_calls.proofs.ScanLooks.{EndsEarly, come_lies, early, early_so, legs_then, past_on, spent_more}
 use Rattle.nm_calls.proofs.scanning.write_all.Goals as goal
@@ -28,11 +30,13 @@ loop-turn-preserved c =
       legs = (held.legs.0 + did.looks.0, omega (arith, legs, more), legs_then held.legs.0 did.looks.0 (leg_looks (reach c.args.shared.now.layout)) o.view.log p.view.log q.view.log held.legs.2 did.looks.3);
       walks = going.0;
       ended = going.1;
+      hit = did.hit;
       at = going.2;
       kept = did.kept;
       some = going.3;
       count = (did.count.0, did.count.1 ∙ held.count.1);
       shown = did.told start (come_lies side start c.loop-turn._turn c.loop-turn.progress.at c.loop-turn.progress.count held.come) held.shown;
+      leaves = λ what. did.leaves what (held.leaves what);
       come = inr (past_on side start c.loop-turn.progress.at c.turn.new.progress.at (come_lies side start c.loop-turn._turn c.loop-turn.progress.at c.loop-turn.progress.count held.come) going.4);
       spent = spent_more p q did.looks.3 c.args.tries c.loop-turn._turn (c.loop-turn._turn + 1) c.loop-turn.progress.at c.turn.new.progress.at c.loop-turn.progress.spare c.turn.new.progress.spare held.spent (did.lost parts.1) parts.0;
       turns = omega (arith, turns, wrote);
@@ -51,6 +55,10 @@ returns-then-not-turn-clause-looks c =
     let few = did.looks.1 in
     let count = c.so_far.ensures.count in
     (held.legs.0 + did.looks.0, omega (arith, legs, few, count), legs_then held.legs.0 did.looks.0 (leg_looks (reach c.args.shared.now.layout)) o.view.log p.view.log q.view.log held.legs.2 did.looks.3)
+
+pub returns-then-not-turn-clause-leaves : goal.returns-then-not-turn-clause-leaves
+returns-then-not-turn-clause-leaves c what =
+    subst (λ (n : ℕ). All (IsLeafOf c.turn.new.pass) (take n c.turn.new.entries)) (sym c.so_far.ensures.count) (c.turn.ensures.leaves what (c.loop-turn.invariant.leaves what))
 
 pub returns-then-not-turn-clause-early : goal.returns-then-not-turn-clause-early
 returns-then-not-turn-clause-early c =
