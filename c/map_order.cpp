@@ -143,6 +143,8 @@ void values_need_no_default() {
     std::uint64_t next = 0;
     for (auto [key, point] : worker) CHECK(key == next++ && point.x == float(key));
     CHECK(next == 50 && worker.take(7u)->x == 7);
+    worker.clear();
+    CHECK(worker.empty() && map.size() == 0);
 }
 
 // ---- maps of keys and values ----
@@ -195,8 +197,8 @@ void objects_are_read_and_popped_under_a_guard() {
         CHECK(popped->key == 0 && popped->value == all[0]);
         CHECK(calls.pop_last(599u)->value == all[599] && !calls.pop_last(599u) && !calls.pop_first(1u));
         CHECK(calls.take(5u) == all[5] && calls.take(5u) == nullptr);
-        CHECK(worker.pop_first() == std::optional<std::uint64_t>(1));
-        while (remover.pop_last()) {}
+        CHECK(worker.pop_first() == std::optional<std::uint64_t>(1) && *remover.pop_last() == 598);
+        remover.clear();
         CHECK(map.size() == 0 && worker.reclaim().values == 0 && remover.reclaim().values == 0);
         for (std::uint64_t key = 0; key < 600; key++) CHECK(all[key]->is_of(key));
         guard.unpin();

@@ -8,7 +8,7 @@ use crate::ffi::{Order, Outcome};
 use crate::key::checked;
 use crate::map::{managed, Guard, Map, MapWorker};
 use crate::options::Options;
-use crate::order::{ends_of, Range, Scanned, Scans};
+use crate::order::{ends_of, retain, Calls, Range, Scanned, Scans};
 use crate::MOST_KEY;
 use std::fmt;
 use std::ops::RangeBounds;
@@ -182,6 +182,21 @@ impl<'a, V> MapWorker<'a, V> {
         self.range(bounds).collect()
     }
 
+    /// Removes each key for which `stays` returns false, one by one. A key that is inserted meanwhile
+    /// may be passed over. If it returns a fault, the keys before it are done.
+    ///
+    /// Errors: `Contention`, `NoMemory`, `Pinned`.
+    pub fn retain(&mut self, stays: impl FnMut(u64) -> bool) -> Result<(), Fault> {
+        retain(self, stays)
+    }
+
+    /// Removes all keys, one by one. A key that is inserted meanwhile may remain.
+    ///
+    /// Errors: those of [`retain`](MapWorker::retain).
+    pub fn clear(&mut self) -> Result<(), Fault> {
+        self.retain(|_| false)
+    }
+
     /// Returns how many keys of a range there are. While others change the map, it counts each key as
     /// it finds it.
     ///
@@ -301,6 +316,12 @@ impl<V> Scans for &mut MapWorker<'_, V> {
 
     fn scan_back(&mut self, range: (u64, u64), room: usize) -> Result<Scanned<u64>, Fault> {
         scanned(self.handle.read_keys(Order::Descending, range, room))
+    }
+}
+
+impl<V> Calls for &mut MapWorker<'_, V> {
+    fn take(&mut self, key: u64) -> Result<bool, Fault> {
+        self.remove(key)
     }
 }
 

@@ -29,7 +29,7 @@ pub trait Scans {
     fn scan_back(&mut self, range: (u64, u64), room: usize) -> Result<Scanned<Self::Entry>, Fault>;
 }
 
-/// What makes the calls for a set: the set, or a worker of it.
+/// What makes the calls for keys: a set, or a worker of a set or a map.
 pub trait Calls: Scans<Entry = u64> {
     /// Removes a key; returns whether it was present.
     fn take(&mut self, key: u64) -> Result<bool, Fault>;

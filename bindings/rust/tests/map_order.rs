@@ -190,6 +190,11 @@ fn maps_are_made_of_entries() {
     );
     let map: Map<u64> = (0..5_000).map(|key| (key, key)).collect();
     assert_eq!((map.len(), map.nodes()), (Ok(5_000), 20_000));
+    let mut worker = map.attach().unwrap();
+    assert_eq!(worker.retain(|key| key % 1_000 == 7), Ok(()));
+    assert_eq!(worker.keys(..).unwrap(), [7, 1_007, 2_007, 3_007, 4_007]);
+    assert_eq!((worker.clear(), map.len()), (Ok(()), Ok(0)));
+    drop(worker);
     let few = Options {
         workers: 1,
         timeout_ms: 0,
