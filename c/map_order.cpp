@@ -143,6 +143,8 @@ void values_need_no_default() {
     std::uint64_t next = 0;
     for (auto [key, point] : worker) CHECK(key == next++ && point.x == float(key));
     CHECK(next == 50 && worker.take(7u)->x == 7);
+    worker.clear();
+    CHECK(worker.empty() && map.size() == 0);
 }
 
 // ---- maps of keys and values ----
@@ -195,8 +197,8 @@ void objects_are_read_and_popped_under_a_guard() {
         CHECK(popped->key == 0 && popped->value == all[0]);
         CHECK(calls.pop_last(599u)->value == all[599] && !calls.pop_last(599u) && !calls.pop_first(1u));
         CHECK(calls.take(5u) == all[5] && calls.take(5u) == nullptr);
-        CHECK(worker.pop_first() == std::optional<std::uint64_t>(1));
-        while (remover.pop_last()) {}
+        CHECK(worker.pop_first() == std::optional<std::uint64_t>(1) && *remover.pop_last() == 598);
+        remover.clear();
         CHECK(map.size() == 0 && worker.reclaim().values == 0 && remover.reclaim().values == 0);
         for (std::uint64_t key = 0; key < 600; key++) CHECK(all[key]->is_of(key));
         guard.unpin();
@@ -227,6 +229,18 @@ void wrong_guards_are_refused() {
 constexpr unsigned threads = 4;
 constexpr std::uint64_t keys = 20'000;
 
+// Makes a pop until other threads do not take each key that it finds.
+template <typename Call>
+auto answered(Call pop) {
+    for (;;) {
+        try {
+            return pop();
+        } catch (const nm::Fault &fault) {
+            CHECK(fault.outcome() == NM_BUSY);
+        }
+    }
+}
+
 // Each thread pops objects under a guard, until the map is empty. No object is popped twice.
 void pop_all(Objects &map, std::vector<std::atomic<unsigned>> &times) {
     Objects::Worker reader = map.attach(), worker = map.attach();
@@ -235,7 +249,8 @@ void pop_all(Objects &map, std::vector<std::atomic<unsigned>> &times) {
         auto guard = reader.pin();
         auto calls = worker.under(guard);
         for (unsigned at = 0; at < 8 && !is_empty; at++) {
-            auto popped = at % 2 == 0 ? calls.pop_first() : calls.pop_last();
+            auto popped =
+                answered([&] { return at % 2 == 0 ? calls.pop_first() : calls.pop_last(); });
             is_empty = !popped;
             CHECK(is_empty || popped->value->is_of(popped->key));
             if (!is_empty) times[popped->key]++;

@@ -78,11 +78,21 @@ void insert(Objects::Worker &worker, std::uint64_t key, Counts &counts) {
     }
 }
 
-// Pops the least object from a key on or the greatest below it, and reads it.
+// Pops the least object below a key, or the greatest from it on, or none if other threads take each
+// key that it finds.
+std::optional<nm::MapEntry<Canary *>> popped_by(nm::GuardedWorker<Canary> calls, std::uint64_t key) {
+    try {
+        return key % 2 == 0 ? calls.pop_first(key) : calls.pop_last(key);
+    } catch (const nm::Fault &fault) {
+        CHECK(fault.outcome() == NM_BUSY);
+        return std::nullopt;
+    }
+}
+
+// Pops an object, and reads it.
 void pop(Workers &by, std::uint64_t key, Counts &counts) {
     auto guard = by.reader.pin();
-    auto calls = by.worker.under(guard);
-    auto popped = key % 2 == 0 ? calls.pop_first(key) : calls.pop_last(key);
+    auto popped = popped_by(by.worker.under(guard), key);
     counts.pops++;
     if (!popped) return;
     counts.popped++;

@@ -96,7 +96,8 @@ nm_outcome nm_map_read_keys(nm_handle *worker, uint64_t from, uint64_t below, ui
     nm_outcome outcome = NM_NO;
     if (room == 0) keys = &none;
     if (!is_empty_range(from, below)) {
-        do outcome = nm_map_scan(worker, from, below, keys, room, &read, next, reading_tries(options));
+        do outcome = nm_map_scan(worker, from, below, keys, room, &read, next,
+                                 reading_tries(options));
         while (is_repeated(worker, options, outcome, &round));
     }
     return read_so_many(outcome, read, count);
@@ -121,34 +122,34 @@ nm_outcome nm_map_read_keys_back(nm_handle *worker, uint64_t from, uint64_t belo
 nm_outcome nm_map_read_entries(nm_handle *worker, uint64_t from, uint64_t below, nm_entry *entries,
                                size_t room, size_t *count, uint64_t *next,
                                const nm_options *options) {
+    nm_entry none = {0, 0};
     uint64_t read = 0;
-    while (read < room && !is_empty_range(from, below)) {
-        nm_entry *entry = &entries[read];
-        nm_outcome outcome = nm_map_at_least(worker, from, options, &entry->key, &entry->value);
-        if (outcome < 0) return outcome;
-        if (outcome == NM_NO || entry->key >= below) return read_so_many(NM_NO, read, count);
-        from = entry->key + 1;
-        read++;
+    uint32_t round = 0;
+    nm_outcome outcome = NM_NO;
+    if (room == 0) entries = &none;
+    if (!is_empty_range(from, below)) {
+        do outcome = nm_map_scan_entries(worker, from, below, entries, room, &read, next,
+                                         reading_tries(options));
+        while (is_repeated(worker, options, outcome, &round));
     }
-    *next = from;
-    return read_so_many(is_empty_range(from, below) ? NM_NO : NM_YES, read, count);
+    return read_so_many(outcome, read, count);
 }
 
 nm_outcome nm_map_read_entries_back(nm_handle *worker, uint64_t from, uint64_t below,
                                     nm_entry *entries, size_t room, size_t *count, uint64_t *next,
                                     const nm_options *options) {
-    uint64_t read = 0;
-    while (read < room && !is_empty_range(from, below)) {
-        nm_entry *entry = &entries[read];
-        nm_outcome outcome =
-            nm_map_at_most(worker, before(below), options, &entry->key, &entry->value);
-        if (outcome < 0) return outcome;
-        if (outcome == NM_NO || entry->key < from) return read_so_many(NM_NO, read, count);
-        below = entry->key;
-        read++;
+    nm_entry none = {0, 0};
+    uint64_t read = 0, rest = 0;
+    uint32_t round = 0;
+    nm_outcome outcome = NM_NO;
+    if (room == 0) entries = &none;
+    if (!is_empty_range(from, below)) {
+        do outcome = nm_map_scan_entries_back(worker, before(below), from, entries, room, &read,
+                                              &rest, reading_tries(options));
+        while (is_repeated(worker, options, outcome, &round));
     }
-    *next = below;
-    return read_so_many(is_empty_range(from, below) ? NM_NO : NM_YES, read, count);
+    if (outcome == NM_YES) *next = rest + 1;
+    return read_so_many(outcome, read, count);
 }
 
 nm_outcome nm_map_count(nm_handle *worker, uint64_t from, uint64_t below, uint64_t *count,

@@ -35,12 +35,6 @@
 extern "C" {
 #endif
 
-/* A key of a map with its value. */
-typedef struct nm_entry {
-    uint64_t key;
-    uint64_t value;
-} nm_entry;
-
 /* Takes a value that came back. */
 typedef void (*nm_map_release)(void *context, uint64_t value);
 

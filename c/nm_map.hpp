@@ -103,12 +103,12 @@ std::uint64_t word_of_object(T *object) noexcept {
 
 // What a map returns for the value of a key: a copy of a value in place, or a pointer to an object.
 template <typename T>
-using Returned = std::conditional_t<is_in_place<T>, T, T *>;
+using Returned = std::conditional_t<is_in_place<T>, std::remove_cv_t<T>, T *>;
 
 template <typename T>
 Returned<T> returned(std::uint64_t word) noexcept {
     if constexpr (is_in_place<T>)
-        return value_of<T>(word);
+        return value_of<std::remove_cv_t<T>>(word);
     else
         return object_of<T>(word);
 }
@@ -120,7 +120,8 @@ using Found = std::conditional_t<is_in_place<T>, std::optional<T>, T *>;
 
 // What the calls of a worker in order return: see MapCalls.
 template <typename T>
-using EntryOfWorker = std::conditional_t<is_in_place<T>, MapEntry<T>, std::uint64_t>;
+using EntryOfWorker =
+    std::conditional_t<is_in_place<T>, MapEntry<Returned<T>>, std::uint64_t>;
 
 template <typename T>
 Found<T> found(bool is_found, std::uint64_t word) noexcept {
@@ -519,6 +520,11 @@ public:
         std::uint64_t word = 0;
         bool is_taken = takes(key, word);
         return detail::found<T>(is_taken, word);
+    }
+
+    // Removes all keys. A key that is inserted meanwhile may remain.
+    void clear() {
+        for (const auto &entry : *this) remove(detail::key_of(entry));
     }
 
     // Returns whether the map has a key.

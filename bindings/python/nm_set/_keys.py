@@ -88,7 +88,7 @@ def _copied(keys: Iterable[SupportsIndex]) -> memoryview:
     return memoryview(array("Q", each()))
 
 
-def _bound(number: SupportsIndex) -> int:
+def bound_of(number: SupportsIndex) -> int:
     """Returns a bound of keys as the library takes it."""
     return min(max(operator.index(number), 0), _NO_BOUND)
 
@@ -282,19 +282,19 @@ class Keys(MutableSet):  # type: ignore[type-arg]
         between. No call passes over a key that was in the set during the whole call."""
         if below is None:
             return _popped(self._calls.pop_first())
-        return _popped(self._calls.pop_first_below(_bound(below)))
+        return _popped(self._calls.pop_first_below(bound_of(below)))
 
     def pop_last(self, minimum: Optional[SupportsIndex] = None) -> int:
         """Removes the greatest key and returns it, in the way of `pop_first`: of all keys, or of
         those that are not below `minimum`."""
         if minimum is None:
             return _popped(self._calls.pop_last())
-        return _popped(self._calls.pop_last_from(_bound(minimum)))
+        return _popped(self._calls.pop_last_from(bound_of(minimum)))
 
     def pop_first_many(self, count: int, below: Optional[SupportsIndex] = None) -> list[int]:
         """Removes the least keys one by one, at most `count` and 512, and returns them: of all
         keys, or of those below a bound. It raises only if it has removed no key."""
-        bound = _bound(below) if below is not None else _NO_BOUND
+        bound = bound_of(below) if below is not None else _NO_BOUND
         return self._calls.pop_some(bound, min(count, _MOST_ROOM)) if count > 0 else []
 
     def wait_pop(
@@ -305,7 +305,7 @@ class Keys(MutableSet):  # type: ignore[type-arg]
         add wakes it. Other threads run meanwhile, and the handlers of signals every 20
         milliseconds. Raises KeyError after that time, and `Closed` if the set is closed meanwhile.
         """
-        bound = _bound(below) if below is not None else _NO_BOUND
+        bound = bound_of(below) if below is not None else _NO_BOUND
         key = self._calls.pop_first_below(bound)
         if key is None:
             end = math.inf if timeout is None else time.monotonic() + timeout

@@ -88,6 +88,18 @@ class LookupWords(ctypes.Structure):
     _fields_ = [(name, c_uint64) for name in ("key", "found")]
 
 
+class EntryWords(ctypes.Structure):
+    """nm_entry."""
+
+    _fields_ = [(name, c_uint64) for name in ("key", "value")]
+
+
+class MapLookupWords(ctypes.Structure):
+    """nm_map_lookup."""
+
+    _fields_ = [(name, c_uint64) for name in ("key", "found", "value")]
+
+
 class WaitingWords(ctypes.Structure):
     """nm_waiting."""
 
@@ -95,7 +107,8 @@ class WaitingWords(ctypes.Structure):
 
 
 _H, _U32, _U64, _POOL = POINTER(Handle), POINTER(c_uint32), POINTER(c_uint64), c_void_p
-_SIZE, _BYTES = POINTER(c_size_t), POINTER(c_ubyte)
+_SIZE, _BYTES, _OPTIONS = POINTER(c_size_t), POINTER(c_ubyte), POINTER(OptionsWords)
+_ENTRIES, _LOOKUPS = POINTER(EntryWords), POINTER(MapLookupWords)
 
 # Each function that this module calls, with its parameters.
 FUNCTIONS: dict[str, list[Any]] = {
@@ -150,14 +163,24 @@ FUNCTIONS: dict[str, list[Any]] = {
     "nm_map_new": [_H, c_uint32, c_uint32],
     "nm_map_close": [_H],
     "nm_map_attach": [_H, _H],
-    "nm_map_insert": [_H, c_uint64, c_uint64, POINTER(OptionsWords)],
-    "nm_map_remove": [_H, c_uint64, POINTER(OptionsWords), _U64],
+    "nm_map_insert": [_H, c_uint64, c_uint64, _OPTIONS],
+    "nm_map_remove": [_H, c_uint64, _OPTIONS, _U64],
+    "nm_map_pop_first_below": [_H, c_uint64, _OPTIONS, _U64, _U64],
+    "nm_map_pop_last_from": [_H, c_uint64, _OPTIONS, _U64, _U64],
     "nm_map_reclaim": [_H, _U64, c_size_t, _U64, _U32],
-    "nm_map_hold": [_H, POINTER(OptionsWords), _U64],
+    "nm_map_hold": [_H, _OPTIONS, _U64],
     "nm_map_unpin": [_H],
     "nm_map_get_pinned": [_H, c_uint64, _U64],
-    "nm_map_scan": [_H, c_uint64, c_uint64, _U64, c_size_t, _U64, _U64, c_uint32],
-    "nm_map_scan_back": [_H, c_uint64, c_uint64, _U64, c_size_t, _U64, _U64, c_uint32],
+    "nm_map_get_many_pinned": [_H, _LOOKUPS, c_size_t],
+    "nm_map_at_least": [_H, c_uint64, _OPTIONS, _U64, _U64],
+    "nm_map_at_most": [_H, c_uint64, _OPTIONS, _U64, _U64],
+    "nm_map_read_keys": [_H, c_uint64, c_uint64, _U64, c_size_t, _SIZE, _U64, _OPTIONS],
+    "nm_map_read_keys_back": [_H, c_uint64, c_uint64, _U64, c_size_t, _SIZE, _U64, _OPTIONS],
+    "nm_map_read_entries": [_H, c_uint64, c_uint64, _ENTRIES, c_size_t, _SIZE, _U64, _OPTIONS],
+    "nm_map_read_entries_back": [
+        _H, c_uint64, c_uint64, _ENTRIES, c_size_t, _SIZE, _U64, _OPTIONS
+    ],
+    "nm_map_count": [_H, c_uint64, c_uint64, _U64, _OPTIONS],
     "nm_map_queue_len": [_H, _U64],
     "nm_map_collect_after": [c_uint32, c_uint32],
     "nm_report_slots": [_H, _U32, _U32],

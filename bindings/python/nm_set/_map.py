@@ -8,6 +8,10 @@ thread might remove the key in between, and take the object out of the dict. So 
 worker first, and unpins it after both steps. A token does not come back while a worker is pinned
 that may have got it, which is proved. This holds without the interpreter's lock too.
 
+No pinned worker makes any other call. So a call that finds the nearest key, or reads a range, gets
+tokens without a pin. No token is used again, so the dict has the object of the token or nothing: then
+the key was removed meanwhile, and the call looks again.
+
 A call that removes a key returns its object, but by then another worker may have handed the token
 back. So there are two dicts. An entry of `_read` ends when the token comes back, and an entry of
 `_left` when the call that removed the key has taken it. Each entry ends once, by one call, so no
@@ -24,24 +28,27 @@ import threading
 import time
 import weakref
 from collections import deque
-from collections.abc import Callable, ItemsView, Iterator, MutableMapping, ValuesView
+from collections.abc import Callable, ItemsView, Iterable, Iterator, MutableMapping, ValuesView
+from collections.abc import Mapping as AbstractMapping
 from contextlib import suppress
-from ctypes import c_uint32, c_uint64
+from ctypes import c_size_t, c_uint32, c_uint64
 from types import TracebackType
 from typing import Any, Generic, Optional, SupportsIndex, TypeVar, Union, overload
 
 from . import _library as c
 from ._faults import MOST_KEY, MOST_NODES, MOST_WORKERS, SHOWN, Contention, Fault, Forked, fault
 from ._faults import key_fault
-from ._keys import ends_of, number_of
+from ._keys import bound_of, ends_of, number_of, words_of
 from ._leases import Owner, drop_with
 from ._set import Options, narrow
 
 V = TypeVar("V")
 T = TypeVar("T")
 
-_ROOM = 64  # how many values one call takes back
-_SCANNED = 512  # the most keys of one scan
+_ROOM = 64  # how many values one call takes back, and how many keys it looks up
+_FIRST_SCANNED, _MOST_SCANNED = 8, 512  # how many keys the first scan and the last scans read
+_NODES = 65_536  # the nodes of a map for which no number is given, or four for each of its keys
+_NO_BOUND = 2**64 - 1  # above each key
 _LONGEST = 10.0  # seconds: how long a close waits for calls in progress
 _MISSING: Any = object()
 
@@ -102,17 +109,34 @@ class Map(MutableMapping, Generic[V]):  # type: ignore[type-arg]
 
     def __init__(
         self,
-        nodes: SupportsIndex = 65_536,
+        entries: Union[
+            AbstractMapping[Any, V], Iterable[tuple[SupportsIndex, V]], SupportsIndex
+        ] = (),
         *,
+        nodes: Optional[SupportsIndex] = None,
         workers: SupportsIndex = 16,
         options: Options = Options(),
     ) -> None:
-        """Makes the empty map, with room for 7 to 268,435,456 nodes, and never more: four for each
-        key are usual. `workers` is how many calls there can be at the same time, 1 to 64."""
+        """Makes the map of these keys and objects: those of a mapping such as a dict, or of pairs.
+        Or makes the empty map. It has room for 7 to 268,435,456 nodes, and never more: four for each
+        key are usual. `Map(8_192)` and `Map(nodes=8_192)` have 8,192. If no number of nodes is given,
+        there are four for each of these keys, and at least 65,536. `workers` is how many calls there
+        can be at the same time, 1 to 64."""
+        pairs: list[tuple[SupportsIndex, V]] = []
+        if isinstance(entries, AbstractMapping):
+            pairs = list(entries.items())
+        elif isinstance(entries, Iterable):
+            pairs = list(entries)
+        elif nodes is None:
+            nodes = operator.index(entries)
+        else:
+            raise TypeError("the number of nodes is given twice")
+        if nodes is None:
+            nodes = min(max(_NODES, 4 * len(pairs)), MOST_NODES)
         self._nodes = narrow(nodes, "nodes", 7, MOST_NODES)
         self._workers = narrow(workers, "workers", 1, MOST_WORKERS)
         self._seconds = options.timeout_ms / 1_000
-        self._rounds, self._tries = options.rounds, options.tries
+        self._rounds = options.rounds
         after = options.collect_after
         if after is None:
             after = int(c.quick.nm_map_collect_after(self._nodes, self._workers))
@@ -129,6 +153,8 @@ class Map(MutableMapping, Generic[V]):  # type: ignore[type-arg]
         if outcome < 0:
             raise fault(outcome)
         _maps[id(self)] = self
+        for key, value in pairs:
+            self[key] = value
 
     # ---- a worker for a call ----
 
@@ -264,6 +290,35 @@ class Map(MutableMapping, Generic[V]):  # type: ignore[type-arg]
         found = self._get(key)
         return default if found is _MISSING else found
 
+    @overload
+    def get_many(self, keys: Iterable[SupportsIndex]) -> list[Optional[V]]: ...
+    @overload
+    def get_many(self, keys: Iterable[SupportsIndex], default: T) -> list[Union[V, T]]: ...
+    def get_many(self, keys: Iterable[SupportsIndex], default: Any = None) -> Any:
+        """Returns for each of these keys, in their order, its object, or the default. It tests all
+        keys before it looks up the first one. Each key was looked up at a moment of its own. Keys in a
+        buffer, such as array.array("Q") or a numpy array, are not copied."""
+        words = words_of(keys)
+        blocks = [words[at : at + _ROOM] for at in range(0, len(words), _ROOM)]
+        self._check_open()
+        found: list[Any] = []
+        for block in blocks:
+            found += self._with_worker(lambda worker, block=block: self._found_many(worker, block))
+        return [default if each is _MISSING else each for each in found]
+
+    def _found_many(self, worker: _Worker, keys: memoryview) -> list[Any]:
+        """Returns the objects of at most `_ROOM` keys, under a pin of the worker."""
+        lookups, epoch = (c.MapLookupWords * len(keys))(*((key,) for key in keys)), c_uint64()
+        try:
+            outcome = c.quick.nm_map_hold(worker.handle, self._words, epoch)
+            if outcome == c.DONE:
+                outcome = c.quick.nm_map_get_many_pinned(worker.handle, lookups, len(keys))
+            if outcome < 0:
+                raise self._fault(outcome)
+            return [self._read[each.value] if each.found else _MISSING for each in lookups]
+        finally:
+            c.quick.nm_map_unpin(worker.handle)
+
     def insert(self, key: SupportsIndex, value: V) -> bool:
         """Inserts a key with an object; returns True if the key was absent. Otherwise the key keeps
         its object. If no nodes are free it collects, and waits for at most the `timeout_ms` of
@@ -352,14 +407,44 @@ class Map(MutableMapping, Generic[V]):  # type: ignore[type-arg]
             raise KeyError(key)
         return default
 
+    def pop_first(self, below: Optional[SupportsIndex] = None) -> tuple[int, V]:
+        """Removes the least key and returns it with its object: of all keys, or of those below a
+        bound. Raises KeyError if there is none. No two calls return one key, unless it was inserted
+        again in between. No call passes over a key that was in the map during the whole call.
+
+        Raises `Unfinished` if the bound of the call is reached after it has begun to remove a key. No
+        other call removes that key. Its object is not returned, and the map refers to it, and `len`
+        counts its key, until the map is closed."""
+        bound = _NO_BOUND if below is None else bound_of(below)
+        return self._popped(c.quick.nm_map_pop_first_below, bound)
+
+    def pop_last(self, minimum: Optional[SupportsIndex] = None) -> tuple[int, V]:
+        """Removes the greatest key and returns it with its object, in the way of `pop_first`: of all
+        keys, or of those that are not below `minimum`."""
+        return self._popped(c.quick.nm_map_pop_last_from, 0 if minimum is None else bound_of(minimum))
+
+    def _popped(self, pop: Callable[..., int], bound: int) -> tuple[int, V]:
+        entry = self._with_worker(lambda worker: self._popped_by(worker, pop, bound))
+        if entry is None:
+            raise KeyError("there is no key to pop")
+        return entry
+
+    def _popped_by(
+        self, worker: _Worker, pop: Callable[..., int], bound: int
+    ) -> Optional[tuple[int, V]]:
+        """Removes a key at one end of a range. Returns it with its object, or None."""
+        key, token = c_uint64(), c_uint64()
+        outcome = pop(worker.handle, bound, self._words, key, token)
+        if outcome == c.UNFINISHED:
+            text = "will be removed by this call and no other, but its object is not known"
+            raise fault(outcome, f"the key {key.value} {text}")
+        if outcome < 0:
+            raise self._fault(outcome)
+        return (key.value, self._left.pop(token.value)) if outcome == c.YES else None
+
     def popitem(self) -> tuple[int, V]:
-        """Removes the least key, and returns it with its object. It may pass over a lesser key that
-        another thread inserts meanwhile. Raises KeyError if the map is empty."""
-        for key in self:
-            found = self._pop(key)
-            if found is not _MISSING:
-                return key, found
-        raise KeyError("the map is empty")
+        """Removes the least key and returns it with its object, like `pop_first`."""
+        return self.pop_first()
 
     def clear(self) -> None:
         """Removes all keys, one by one. A key that is inserted meanwhile may remain."""
@@ -368,18 +453,92 @@ class Map(MutableMapping, Generic[V]):  # type: ignore[type-arg]
 
     # ---- in order ----
 
+    def _nearest(self, find: Callable[..., int], key: SupportsIndex) -> Optional[tuple[int, V]]:
+        number = _checked(key)
+        return self._with_worker(lambda worker: self._nearest_by(worker, find, number))
+
+    def _nearest_by(
+        self, worker: _Worker, find: Callable[..., int], number: int
+    ) -> Optional[tuple[int, V]]:
+        """Returns the nearest key with its object, or None. It looks again if the key is removed
+        before its object is read."""
+        key, token = c_uint64(), c_uint64()
+        for _ in range(self._rounds + 1):
+            outcome = find(worker.handle, number, self._words, key, token)
+            if outcome < 0:
+                raise self._fault(outcome)
+            if outcome == c.NO:
+                return None
+            found = self._read.get(token.value, _MISSING)
+            if found is not _MISSING:
+                return key.value, found
+        raise Contention("other threads removed the key in each round: call again")
+
+    def at_least(self, key: SupportsIndex) -> Optional[tuple[int, V]]:
+        """Returns the least key that is not below this one, with its object, or None if there is
+        none."""
+        return self._nearest(c.quick.nm_map_at_least, key)
+
+    def at_most(self, key: SupportsIndex) -> Optional[tuple[int, V]]:
+        """Returns the greatest key that is not above this one, with its object, or None if there is
+        none."""
+        return self._nearest(c.quick.nm_map_at_most, key)
+
+    def first(self) -> Optional[tuple[int, V]]:
+        """Returns the least key with its object, or None if the map is empty."""
+        return self.at_least(0)
+
+    def last(self) -> Optional[tuple[int, V]]:
+        """Returns the greatest key with its object, or None if the map is empty."""
+        return self.at_most(MOST_KEY)
+
     def _scan(
-        self, worker: _Worker, first: int, below: int, is_back: bool
+        self, worker: _Worker, ends: tuple[int, int], room: int, is_back: bool
     ) -> tuple[list[int], Optional[int]]:
         """Returns keys of a range in an order, and where the next scan goes on, or None."""
-        keys, count, rest = (c_uint64 * _SCANNED)(), c_uint64(), c_uint64()
-        scan = c.exports.nm_map_scan_back if is_back else c.exports.nm_map_scan
-        ends = (below - 1, first) if is_back else (first, below)
-        tries = max(self._tries, 2)
-        outcome = scan(worker.handle, *ends, keys, _SCANNED, count, rest, tries)
+        keys, count, rest = (c_uint64 * room)(), c_size_t(), c_uint64()
+        scan = c.exports.nm_map_read_keys_back if is_back else c.exports.nm_map_read_keys
+        outcome = scan(worker.handle, *ends, keys, room, count, rest, self._words)
         if outcome < 0:
             raise self._fault(outcome)
-        return list(keys[: count.value]), rest.value if outcome == c.YES else None
+        return keys[: count.value], rest.value if outcome == c.YES else None
+
+    def _scan_items(
+        self, worker: _Worker, ends: tuple[int, int], room: int, is_back: bool
+    ) -> tuple[list[tuple[int, V]], Optional[int]]:
+        """Returns keys with their objects, in the same way. If a key is removed before its object is
+        read, it looks it up again."""
+        entries, count, rest = (c.EntryWords * room)(), c_size_t(), c_uint64()
+        scan = c.exports.nm_map_read_entries_back if is_back else c.exports.nm_map_read_entries
+        outcome = scan(worker.handle, *ends, entries, room, count, rest, self._words)
+        if outcome < 0:
+            raise self._fault(outcome)
+        items = []
+        for entry in entries[: count.value]:
+            found = self._read.get(entry.value, _MISSING)
+            if found is _MISSING:
+                found = self._found(worker, entry.key)
+            if found is not _MISSING:
+                items.append((entry.key, found))
+        return items, rest.value if outcome == c.YES else None
+
+    def _each(
+        self,
+        scan: Callable[..., tuple[list[T], Optional[int]]],
+        ends: tuple[int, int],
+        is_back: bool,
+    ) -> Iterator[T]:
+        """Yields what the scans of a range return, block by block."""
+        (first, below), room = ends, _FIRST_SCANNED
+        while first < below:
+            read, rest = self._with_worker(
+                lambda worker: scan(worker, (first, below), room, is_back)
+            )
+            yield from read
+            if rest is None:
+                return
+            first, below = (first, rest) if is_back else (rest, below)
+            room = min(8 * room, _MOST_SCANNED)
 
     def irange(
         self,
@@ -389,21 +548,41 @@ class Map(MutableMapping, Generic[V]):  # type: ignore[type-arg]
         reverse: bool = False,
     ) -> Iterator[int]:
         """Returns an iterator over the keys from `minimum` to `maximum`, ascending or descending.
-        It reads keys ahead, in blocks of up to 512. A key that is in the map during the whole
+        It reads keys ahead, in blocks of 8, 64 and 512. A key that is in the map during the whole
         iteration is returned, and a key that is absent during all of it is not."""
-        first, below = ends_of(minimum, maximum, inclusive)
         self._check_open()
-        return self._each(first, below, reverse)
+        return self._each(self._scan, ends_of(minimum, maximum, inclusive), reverse)
 
-    def _each(self, first: int, below: int, is_back: bool) -> Iterator[int]:
-        while first < below:
-            keys, rest = self._with_worker(
-                lambda worker: self._scan(worker, first, below, is_back)
-            )
-            yield from keys
-            if rest is None:
-                return
-            first, below = (first, rest + 1) if is_back else (rest, below)
+    def items_range(
+        self,
+        minimum: Optional[SupportsIndex] = None,
+        maximum: Optional[SupportsIndex] = None,
+        inclusive: tuple[bool, bool] = (True, True),
+        reverse: bool = False,
+    ) -> Iterator[tuple[int, V]]:
+        """Returns an iterator over the keys from `minimum` to `maximum` with their objects, in the way
+        of `irange`. The key had this object at a moment at which its block was read."""
+        self._check_open()
+        return self._each(self._scan_items, ends_of(minimum, maximum, inclusive), reverse)
+
+    def count_range(
+        self,
+        minimum: Optional[SupportsIndex] = None,
+        maximum: Optional[SupportsIndex] = None,
+        inclusive: tuple[bool, bool] = (True, True),
+    ) -> int:
+        """Returns how many keys there are from `minimum` to `maximum`. While others change the map,
+        it counts each key as it finds it."""
+        first, below = ends_of(minimum, maximum, inclusive)
+        return self._with_worker(lambda worker: self._counted(worker, first, below))
+
+    def _counted(self, worker: _Worker, first: int, below: int) -> int:
+        count = c_uint64()
+        first, below = min(first, _NO_BOUND), max(below, 0)
+        outcome = c.exports.nm_map_count(worker.handle, first, below, count, self._words)
+        if outcome < 0:
+            raise self._fault(outcome)
+        return count.value
 
     def __iter__(self) -> Iterator[int]:
         """Returns an iterator over the keys, ascending."""
@@ -414,8 +593,7 @@ class Map(MutableMapping, Generic[V]):  # type: ignore[type-arg]
         return self.irange(reverse=True)
 
     def items(self) -> ItemsView[int, V]:
-        """Returns a view of the keys with their objects. It skips a key that is removed before it
-        gets the object."""
+        """Returns a view of the keys with their objects: see `items_range`."""
         return _Items(self)
 
     def values(self) -> ValuesView[V]:
@@ -527,18 +705,25 @@ class Map(MutableMapping, Generic[V]):  # type: ignore[type-arg]
 class _Items(ItemsView):  # type: ignore[type-arg]
     """The keys of a map with their objects."""
 
+    _mapping: Map[Any]
+
     def __iter__(self) -> Iterator[tuple[int, Any]]:
-        for key in self._mapping:
-            found = self._mapping._get(key)  # type: ignore[attr-defined]
-            if found is not _MISSING:
-                yield key, found
+        return self._mapping.items_range()
+
+    def __reversed__(self) -> Iterator[tuple[int, Any]]:
+        return self._mapping.items_range(reverse=True)
 
 
 class _Values(ValuesView):  # type: ignore[type-arg]
     """The objects of a map, in the order of their keys."""
 
+    _mapping: Map[Any]
+
     def __iter__(self) -> Iterator[Any]:
-        return (value for _, value in _Items(self._mapping))
+        return (value for _, value in self._mapping.items_range())
+
+    def __reversed__(self) -> Iterator[Any]:
+        return (value for _, value in self._mapping.items_range(reverse=True))
 
 
 def _checked(key: SupportsIndex) -> int:

@@ -15,6 +15,7 @@ import time
 import unittest
 import weakref
 from collections.abc import Callable
+from contextlib import suppress
 from typing import Any
 from unittest import mock
 
@@ -110,6 +111,119 @@ class Answers(unittest.TestCase):
         self.assertEqual(repr(found), "Map(closed)")
 
 
+def nearest(wanted: dict[int, int], keys: list[int]) -> Any:
+    """Returns the first of these keys with its object, or None."""
+    return (keys[0], wanted[keys[0]]) if keys else None
+
+
+class InOrder(unittest.TestCase):
+    def test_a_map_is_read_like_a_sorted_dict(self) -> None:
+        chance, wanted = random.Random(3), dict[int, int]()
+        with Map[int](4_096, workers=2) as found:
+            for value in range(3_000):
+                key, kind = chance.randrange(400), chance.randrange(8)
+                if kind < 3:
+                    found[key] = wanted[key] = value
+                elif kind == 3:
+                    self.assertEqual(found.pop(key, None), wanted.pop(key, None))
+                elif kind == 4 and wanted:
+                    self.assertEqual(found.pop_first(), (min(wanted), wanted.pop(min(wanted))))
+                elif kind == 5 and wanted:
+                    self.assertEqual(found.pop_last(), (max(wanted), wanted.pop(max(wanted))))
+                elif value % 20 == 0:
+                    self._reads_like(found, wanted, key, key + chance.randrange(200))
+            self._reads_like(found, wanted, 0, 400)
+
+    def _reads_like(self, found: Map[int], wanted: dict[int, int], low: int, high: int) -> None:
+        keys = sorted(wanted)
+        above = [key for key in keys if key >= low]
+        below = [key for key in reversed(keys) if key <= low]
+        some = [key for key in above if key < high]
+        self.assertEqual(found.at_least(low), nearest(wanted, above))
+        self.assertEqual(found.at_most(low), nearest(wanted, below))
+        self.assertEqual(found.first(), nearest(wanted, keys))
+        self.assertEqual(found.last(), nearest(wanted, keys[::-1]))
+        self.assertEqual(found.count_range(low, high, (True, False)), len(some))
+        pairs = [(key, wanted[key]) for key in some]
+        self.assertEqual(list(found.items_range(low, high, (True, False))), pairs)
+        back = found.items_range(low, high, (True, False), reverse=True)
+        self.assertEqual(list(back), pairs[::-1])
+        self.assertEqual(list(reversed(found.items())), [(key, wanted[key]) for key in keys[::-1]])
+        self.assertEqual(list(reversed(found.values())), [wanted[key] for key in keys[::-1]])
+        asked = [low, high, *some, 1_000, low]
+        self.assertEqual(found.get_many(asked), [wanted.get(key) for key in asked])
+        self.assertEqual(found.get_many(asked, -1), [wanted.get(key, -1) for key in asked])
+
+    def test_bounds_of_pops(self) -> None:
+        with Map({5: "five", 7: "seven", nm_set.MOST_KEY: "greatest"}, nodes=64) as found:
+            for call in (
+                lambda: found.pop_first(5), lambda: found.pop_first(-1), lambda: found.pop_last(2**70),
+            ):
+                self.assertRaises(KeyError, call)
+            self.assertEqual(found.pop_last(nm_set.MOST_KEY), (nm_set.MOST_KEY, "greatest"))
+            self.assertEqual((found.pop_first(6), found.pop_last(7)), ((5, "five"), (7, "seven")))
+            self.assertEqual((len(found), found.first(), found.last()), (0, None, None))
+            self.assertRaises(KeyError, found.pop_last)
+
+    def test_ends_of_ranges(self) -> None:
+        with Map([(0, "least"), (nm_set.MOST_KEY, "greatest")]) as found:
+            self.assertEqual(list(found.items_range(-5, 2**80)), list(found.items()))
+            self.assertEqual(list(found.items_range(2**80)), [])
+            self.assertEqual((found.count_range(-5, 2**80), found.count_range(2**80)), (2, 0))
+            self.assertEqual((found.count_range(5, 4), found.count_range(-9, -1)), (0, 0))
+            self.assertEqual(found.at_least(1), (nm_set.MOST_KEY, "greatest"))
+            self.assertEqual(found.at_most(nm_set.MOST_KEY - 1), (0, "least"))
+            self.assertRaises(OutOfRange, lambda: found.at_least(-1))
+            self.assertRaises(OutOfRange, lambda: found.get_many([5, 2**64 - 3]))
+            self.assertRaises(TypeError, lambda: found.get_many(["5"]))  # type: ignore[list-item]
+            self.assertEqual(found.get_many([]), [])
+
+    def test_a_map_is_made_of_a_dict_or_of_pairs(self) -> None:
+        with Map({5: "five", 7: "seven"}, workers=1) as found:
+            self.assertEqual((dict(found), found.nodes), ({5: "five", 7: "seven"}, 65_536))
+            with Map(found, nodes=9) as other:
+                self.assertEqual((other, other.nodes), (found, 9))
+        with Map(((key, -key) for key in (3, 1, 3))) as pairs:
+            self.assertEqual(list(pairs.items()), [(1, -1), (3, -3)])
+        with Map((key, key) for key in range(20_000)) as many:
+            self.assertEqual((len(many), many.nodes), (20_000, 80_000))
+        self.assertRaises(TypeError, lambda: Map(64, nodes=64))
+        self.assertRaises(Full, lambda: Map({1: 1, 2: 2}, nodes=7, options=Options(timeout_ms=0)))
+        self.assertRaises(OutOfRange, lambda: Map({-1: 1}))
+
+    def test_an_object_that_is_popped_is_referred_to_by_the_caller_alone(self) -> None:
+        with Map[Value](4_096, workers=1) as found:
+            found[5], found[6] = Value(5), Value(6)
+            reference = weakref.ref(found[5])
+            key, value = found.pop_first()
+            self.assertEqual((key, value.key, found.collect()), (5, 5, 1))
+            self.assertEqual(ended([reference]), 0)
+            del value
+            self.assertEqual((ended([reference]), len(found._read), len(found._left)), (1, 1, 1))
+
+    def test_a_key_that_is_removed_before_its_object_is_read_is_looked_up_again(self) -> None:
+        """The token of a scan or of a search comes back before the object is read."""
+        with Map[str](4_096, workers=2, options=Options(rounds=1)) as found:
+            found[5], found[6], found[7] = "five", "six", "seven"
+            lost = dict(found._read)
+            found._read.clear()
+            self.assertRaises(Contention, lambda: found.first())
+            with mock.patch.object(found, "_found", side_effect=["other", nm_set._map._MISSING, "x"]):
+                self.assertEqual(list(found.items()), [(5, "other"), (7, "x")])
+            found._read.update(lost)
+            self.assertEqual(found.first(), (5, "five"))
+
+    def test_an_unfinished_pop_says_which_key_it_removes(self) -> None:
+        def unfinished(handle: Any, bound: int, words: Any, key: Any, token: Any) -> int:
+            key.value = 5
+            return c.UNFINISHED
+
+        with Map[str](64, workers=1) as found:
+            with mock.patch.object(c.quick, "nm_map_pop_first_below", unfinished):
+                with self.assertRaisesRegex(nm_set.Unfinished, "the key 5 will be removed"):
+                    found.pop_first()
+
+
 class Refusals(unittest.TestCase):
     def test_wrong_numbers_are_refused(self) -> None:
         for nodes, workers in ((6, 1), (2**40, 1), (64, 0), (64, 65)):
@@ -156,6 +270,8 @@ class Refusals(unittest.TestCase):
         calls: list[Callable[[], Any]] = [
             lambda: found[5], lambda: found.insert(5, 5), lambda: 5 in found, lambda: len(found),
             lambda: list(found), lambda: found.pop(5), found.collect, lambda: found.get("5"),
+            found.pop_first, found.last, lambda: list(found.items()), lambda: found.get_many([5]),
+            lambda: found.count_range(), lambda: found.items_range(5), lambda: found.get_many([]),
         ]
         for call in calls:
             self.assertRaises(Closed, call)
@@ -261,7 +377,10 @@ class Ends(unittest.TestCase):
             child = os.fork()
             if child == 0:
                 is_refused = 0
-                for call in (lambda: found[5], lambda: found.insert(6, 6), found.close):
+                for call in (
+                    lambda: found[5], lambda: found.insert(6, 6), found.close, found.pop_first,
+                    found.last, lambda: list(found.items()), lambda: found.get_many([5]),
+                ):
                     try:
                         call()
                     except Forked:
@@ -269,7 +388,7 @@ class Ends(unittest.TestCase):
                 del found
                 gc.collect()
                 os._exit(is_refused)
-            self.assertEqual(os.waitstatus_to_exitcode(os.waitpid(child, 0)[1]), 3)
+            self.assertEqual(os.waitstatus_to_exitcode(os.waitpid(child, 0)[1]), 7)
             self.assertEqual((found[5], found.insert(6, 6)), (5, True))
 
 
@@ -286,9 +405,14 @@ class Threads(unittest.TestCase):
         try:
             for _ in range(self.CALLS):
                 key = chance.randrange(self.RANGE)
-                kind = chance.randrange(4)
+                kind = chance.randrange(6)
                 if kind == 0:
                     found.insert(key, Value(key))
+                elif kind == 4:
+                    self._pops_or_finds(found, key, chance.randrange(4))
+                elif kind == 5:
+                    for each, value in found.items_range(key, key + 4):
+                        self.assertEqual(value.key, each)
                 elif kind == 1:
                     self.assertIn(getattr(found.pop(key, None), "key", key), (key,))
                 elif kind == 2:
@@ -297,6 +421,12 @@ class Threads(unittest.TestCase):
                     self.assertIn(getattr(found.get(key), "key", key), (key,))
         except BaseException as error:  # noqa: B036
             wrong.append(error)
+
+    def _pops_or_finds(self, found: Map[Value], key: int, kind: int) -> None:
+        call = [found.pop_first, found.pop_last, found.at_least, found.at_most][kind]
+        with suppress(KeyError, Contention):
+            entry = call(key)  # type: ignore[operator]
+            self.assertTrue(entry is None or entry[1].key == entry[0])
 
     def test_threads_find_the_objects_of_their_keys(self) -> None:
         wrong: list[object] = []
@@ -325,6 +455,8 @@ class Threads(unittest.TestCase):
                 while found:
                     try:
                         mine.append(found.popitem()[1])
+                    except Contention:
+                        continue
                     except KeyError:
                         return
 

@@ -62,8 +62,10 @@ pub enum Fault {
     Attached(Numbers),
     /// The set is closed.
     Closed,
-    /// The set was made before this process was forked: only the parent can use it.
+    /// The set or the map was made before this process was forked: only the parent can use it.
     Forked,
+    /// The guard is of another map: see [`MapWorker::under`](crate::MapWorker::under).
+    OtherMap,
     /// An outcome of the library that this crate does not know. It has the number in `nm_set.h`.
     Other(i32),
 }
@@ -211,8 +213,10 @@ impl fmt::Display for Fault {
             Fault::Pinned => "the worker is pinned, and the guard of its pin was forgotten",
             Fault::Closed => "the set is closed",
             Fault::Forked => {
-                "the set was made before this process was forked: only the parent can use it"
+                "the set or the map was made before this process was forked: only the parent can use \
+                 it"
             }
+            Fault::OtherMap => "the guard is of another map: pin a worker of this one",
         })
     }
 }

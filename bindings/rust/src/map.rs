@@ -5,10 +5,9 @@ use crate::ffi::map::{collect_after, MapHandle, Pinned, WorkerHandle};
 use crate::ffi::{CallOptions, Outcome};
 use crate::key::checked;
 use crate::options::Options;
-use crate::order::ends_of;
 use crate::place::millis;
+use std::collections::BTreeMap;
 use std::fmt;
-use std::ops::RangeBounds;
 use std::time::Duration;
 
 /// The outcome no, and those of an attach and of the making of a map that have numbers.
@@ -25,7 +24,8 @@ const NOBODY: u32 = u32::MAX;
 /// A concurrent ordered map from the integers 0 to 2^64 - 4 to values of a type, without locks.
 ///
 /// Threads share it by reference, and each attaches a [`MapWorker`] of its own. A reader gets a
-/// reference to a value under a [`Guard`]. A removed value is dropped exactly once: when no guard
+/// reference to a value under a [`Guard`], and by a second worker it goes over values in order and pops
+/// them ([`MapWorker::under`]). A removed value is dropped exactly once: when no guard
 /// is left that could have returned it, by whichever worker finds that, or at the drop of the map.
 /// So threads share a map if `V: Send + Sync`.
 ///
@@ -94,10 +94,13 @@ pub struct Reclaimed {
 /// other values that came back were dropped.
 ///
 /// No call waits, except [`insert`](MapWorker::insert). Each may return `Contention` (the bound
-/// of the options was reached; the map is unchanged) and `Pinned` (a guard was forgotten; drop the
-/// worker).
+/// of the options was reached; the map is unchanged), `Pinned` (a guard was forgotten; drop the
+/// worker), and in a forked child `Forked`.
+///
+/// Its calls in order return keys. [`under`](MapWorker::under) makes the same calls with references to
+/// the values, under the guard of another worker.
 pub struct MapWorker<'a, V> {
-    handle: WorkerHandle<'a, V>,
+    pub(crate) handle: WorkerHandle<'a, V>,
 }
 
 /// A pin of a worker, which ends when this guard is dropped: see [`MapWorker::pin`].
@@ -130,7 +133,7 @@ pub struct MapWorker<'a, V> {
 /// ```
 #[must_use = "the pin ends when its guard is dropped"]
 pub struct Guard<'w, 'a, V> {
-    pinned: Pinned<'w, 'a, V>,
+    pub(crate) pinned: Pinned<'w, 'a, V>,
 }
 
 impl<V> Map<V> {
@@ -172,6 +175,33 @@ impl<V> Map<V> {
         }
     }
 
+    /// Makes a map of these keys and values, like [`Map::with_options`]. Of several values for one key
+    /// it keeps the last one.
+    ///
+    /// Errors: `Nodes`, `Workers`, `NoMemory`; `Key`, `NoNodes`: then all values are dropped.
+    ///
+    /// ```
+    /// # fn main() -> Result<(), nm_set::Fault> {
+    /// use nm_set::{Map, Options};
+    /// let map = Map::from_entries(64, Options::default(), [(5, "five"), (7, "seven")])?;
+    /// assert_eq!((map.len()?, map.attach()?.first()?), (2, Some(5)));
+    /// # Ok(())
+    /// # }
+    /// ```
+    pub fn from_entries(
+        nodes: u32,
+        options: Options,
+        entries: impl IntoIterator<Item = (u64, V)>,
+    ) -> Result<Map<V>, Fault> {
+        let map = Map::with_options(nodes, options)?;
+        let entries: BTreeMap<u64, V> = entries.into_iter().collect();
+        let made = map.attach()?.extend(entries);
+        match made {
+            Err(InsertError::Fault(fault, _)) => Err(fault),
+            _ => Ok(map),
+        }
+    }
+
     /// Attaches a worker to this thread, the least number first. While each worker is attached it
     /// waits, for the [`timeout_ms`](Options::timeout_ms) of the options at most.
     ///
@@ -197,6 +227,23 @@ impl<V> Map<V> {
         }
     }
 
+    /// Returns the number of keys: it adds up one count for each worker, and waits for nothing. It is
+    /// exact if no call is in progress; otherwise it may miss the calls in progress. An unfinished
+    /// remove counts as done.
+    ///
+    /// Errors: `Forked`.
+    pub fn len(&self) -> Result<usize, Fault> {
+        let keys = self.handle.keys().map_err(Fault::of)?;
+        Ok(usize::try_from(keys).unwrap_or(usize::MAX))
+    }
+
+    /// Returns whether [`len`](Map::len) is 0.
+    ///
+    /// Errors: `Forked`.
+    pub fn is_empty(&self) -> Result<bool, Fault> {
+        self.len().map(|keys| keys == 0)
+    }
+
     /// Returns the number of nodes for which it has room.
     pub fn nodes(&self) -> u32 {
         self.nodes
@@ -214,7 +261,7 @@ impl<V> Map<V> {
 }
 
 /// Returns whether the answer is not no, or the fault of an error of a managed call.
-fn managed(outcome: Outcome) -> Result<bool, Fault> {
+pub(crate) fn managed(outcome: Outcome) -> Result<bool, Fault> {
     match outcome {
         BUSY | PENDING => Err(Fault::Contention),
         _ => answer(outcome),
@@ -247,8 +294,31 @@ impl<'a, V> MapWorker<'a, V> {
         }
     }
 
+    /// Inserts these keys with their values, one by one; returns how many were absent. A key that the
+    /// map has keeps its value, and the new one is dropped. It waits for each key like
+    /// [`insert`](MapWorker::insert).
+    ///
+    /// Errors: those of `insert` except `Present`, with the value of that key. The entries before it
+    /// are inserted. Those after it remain in the iterator, if that is passed by
+    /// [`by_ref`](Iterator::by_ref).
+    pub fn extend(
+        &mut self,
+        entries: impl IntoIterator<Item = (u64, V)>,
+    ) -> Result<usize, InsertError<V>> {
+        let mut added = 0;
+        for (key, value) in entries {
+            match self.insert(key, value) {
+                Ok(()) => added += 1,
+                Err(InsertError::Present(_)) => {}
+                Err(error) => return Err(error),
+            }
+        }
+        Ok(added)
+    }
+
     /// Removes a key; returns true if it was present. Its value is dropped later, when no guard is
-    /// left that could have returned it.
+    /// left that could have returned it. [`GuardedWorker::take`](crate::GuardedWorker::take) returns a
+    /// reference to it.
     ///
     /// Errors: `Key`, `Contention`, `NoMemory`, `Pinned`. `Unfinished`: the key will be removed by
     /// this call and no other, and the worker's next call goes on with it.
@@ -277,28 +347,6 @@ impl<'a, V> MapWorker<'a, V> {
         }
     }
 
-    /// Returns the keys of a range, ascending. It takes no snapshot: each key was in the map at a
-    /// moment of the call, and two keys may have different moments. A key that is in the map during
-    /// the whole call is returned.
-    ///
-    /// Errors: `Contention`, `Pinned`.
-    pub fn keys(&mut self, bounds: impl RangeBounds<u64>) -> Result<Vec<u64>, Fault> {
-        let mut keys = Vec::new();
-        let Some((mut next, last)) = ends_of(bounds) else {
-            return Ok(keys);
-        };
-        let mut block = [0; 512];
-        while next <= last {
-            let (outcome, count) = self.handle.scan(&mut next, last + 1, &mut block);
-            let has_more = managed(outcome)?;
-            keys.extend_from_slice(&block[..count]);
-            if !has_more {
-                break;
-            }
-        }
-        Ok(keys)
-    }
-
     /// Drops the values that came back, however few nodes wait.
     ///
     /// Errors: none is known.
@@ -314,8 +362,15 @@ impl<'a, V> MapWorker<'a, V> {
         self.handle.waiting()
     }
 
+    /// Returns the key of an unfinished remove, or None. The worker's next call finishes it first.
+    pub fn pending(&mut self) -> Result<Option<u64>, Fault> {
+        let mut key = 0;
+        let is_pending = managed(self.handle.pending(&mut key))?;
+        Ok(is_pending.then_some(key))
+    }
+
     /// Returns its number, which is below the number of workers.
-    pub fn number(&mut self) -> u32 {
+    pub fn number(&self) -> u32 {
         self.handle.number()
     }
 }
@@ -328,6 +383,18 @@ impl<V> Guard<'_, '_, V> {
     pub fn get(&self, key: u64) -> Result<Option<&V>, Fault> {
         let key = checked(key)?;
         let (outcome, found) = self.pinned.get(key);
+        managed(outcome).map(|_| found)
+    }
+
+    /// Returns for each of these keys its value, or None if the map does not have it. The map had each
+    /// of them so at a moment of this call.
+    ///
+    /// Errors: `Key`.
+    pub fn get_many(&self, keys: &[u64]) -> Result<Vec<Option<&V>>, Fault> {
+        for &key in keys {
+            checked(key)?;
+        }
+        let (outcome, found) = self.pinned.get_many(keys);
         managed(outcome).map(|_| found)
     }
 

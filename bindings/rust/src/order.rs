@@ -1,4 +1,5 @@
-//! The keys in order, and the calls that are made of several calls for single keys.
+//! The keys in order, of a set and of a map, and the calls that are made of several calls for single
+//! keys.
 
 use crate::fault::Fault;
 use crate::ffi::Order;
@@ -13,16 +14,23 @@ use std::ops::{Bound, RangeBounds};
 /// The most keys that a range reads in one call.
 const MOST_ROOM: usize = 512;
 
-/// Keys in the order of a scan, and where the next scan goes on, or None if they are all.
-type Scanned = (Vec<u64>, Option<u64>);
+/// Keys in the order of a scan, or keys with their values, and where the next scan goes on, or None if
+/// they are all.
+pub(crate) type Scanned<E> = (Vec<E>, Option<u64>);
 
-/// What makes the calls: a set, or a worker of a set.
-pub trait Calls {
-    /// Returns keys of a range, ascending, at most `room` of them. The next scan goes on at a key.
-    fn scan(&mut self, range: (u64, u64), room: usize) -> Result<Scanned, Fault>;
-    /// Returns keys of a range, descending, at most `room` of them. The next scan goes on below a
+/// What makes the scans of a [`Range`]: a set or a map, by a worker of it or by any.
+pub trait Scans {
+    /// What a scan returns for a key: the key, or the key with its value.
+    type Entry;
+    /// Returns what is in a range, ascending, at most `room` keys. The next scan goes on at a key.
+    fn scan(&mut self, range: (u64, u64), room: usize) -> Result<Scanned<Self::Entry>, Fault>;
+    /// Returns what is in a range, descending, at most `room` keys. The next scan goes on below a
     /// key.
-    fn scan_back(&mut self, range: (u64, u64), room: usize) -> Result<Scanned, Fault>;
+    fn scan_back(&mut self, range: (u64, u64), room: usize) -> Result<Scanned<Self::Entry>, Fault>;
+}
+
+/// What makes the calls for keys: a set, or a worker of a set or a map.
+pub trait Calls: Scans<Entry = u64> {
     /// Removes a key; returns whether it was present.
     fn take(&mut self, key: u64) -> Result<bool, Fault>;
 }
@@ -30,15 +38,19 @@ pub trait Calls {
 /// Implements `Calls` by the calls that have the same names for a set and for a worker.
 macro_rules! calls_of {
     ($($whose:ty),*) => {$(
-        impl Calls for $whose {
-            fn scan(&mut self, range: (u64, u64), room: usize) -> Result<Scanned, Fault> {
+        impl Scans for $whose {
+            type Entry = u64;
+
+            fn scan(&mut self, range: (u64, u64), room: usize) -> Result<Scanned<u64>, Fault> {
                 self.place().scan(Order::Ascending, range, room)
             }
 
-            fn scan_back(&mut self, range: (u64, u64), room: usize) -> Result<Scanned, Fault> {
+            fn scan_back(&mut self, range: (u64, u64), room: usize) -> Result<Scanned<u64>, Fault> {
                 self.place().scan(Order::Descending, range, room)
             }
+        }
 
+        impl Calls for $whose {
             fn take(&mut self, key: u64) -> Result<bool, Fault> {
                 self.remove(key)
             }
@@ -90,21 +102,22 @@ pub(crate) fn ends_of(bounds: impl RangeBounds<u64>) -> Option<(u64, u64)> {
 }
 
 /// The keys of a range, ascending by [`next`](Iterator::next) and descending by
-/// [`next_back`](DoubleEndedIterator::next_back), while the set is in use: see
-/// [`Set::range`](crate::Set::range). It ends after the first fault.
-pub struct Range<C> {
+/// [`next_back`](DoubleEndedIterator::next_back), while the set or the map is in use: see
+/// [`Set::range`](crate::Set::range) and [`GuardedWorker::range`](crate::GuardedWorker::range). It
+/// ends after the first fault.
+pub struct Range<C: Scans> {
     calls: C,
     /// The least and the greatest key that it may still read; None after the last scan.
     rest: Option<(u64, u64)>,
-    /// The keys below `rest` that were read and not returned, ascending.
-    low: VecDeque<u64>,
-    /// The keys above `rest` that were read and not returned, ascending.
-    high: VecDeque<u64>,
+    /// What was read below `rest` and not returned, ascending.
+    low: VecDeque<C::Entry>,
+    /// What was read above `rest` and not returned, ascending.
+    high: VecDeque<C::Entry>,
     /// How many keys the next scan reads.
     room: usize,
 }
 
-impl<C> Range<C> {
+impl<C: Scans> Range<C> {
     pub(crate) fn of(calls: C, bounds: impl RangeBounds<u64>) -> Range<C> {
         Range {
             calls,
@@ -123,15 +136,13 @@ impl<C> Range<C> {
     }
 
     /// Ends the range after a fault.
-    fn end(&mut self, fault: Fault) -> Option<Result<u64, Fault>> {
+    fn end(&mut self, fault: Fault) -> Option<Result<C::Entry, Fault>> {
         self.rest = None;
         self.low.clear();
         self.high.clear();
         Some(Err(fault))
     }
-}
 
-impl<C: Calls> Range<C> {
     /// Reads the next keys upward, until there is one or no key is left to read.
     fn read(&mut self) -> Result<(), Fault> {
         while let (true, Some((low, high))) = (self.low.is_empty(), self.rest) {
@@ -155,10 +166,10 @@ impl<C: Calls> Range<C> {
     }
 }
 
-impl<C: Calls> Iterator for Range<C> {
-    type Item = Result<u64, Fault>;
+impl<C: Scans> Iterator for Range<C> {
+    type Item = Result<C::Entry, Fault>;
 
-    fn next(&mut self) -> Option<Result<u64, Fault>> {
+    fn next(&mut self) -> Option<Result<C::Entry, Fault>> {
         if let Err(fault) = self.read() {
             return self.end(fault);
         }
@@ -168,13 +179,13 @@ impl<C: Calls> Iterator for Range<C> {
             .map(Ok)
     }
 
-    fn last(mut self) -> Option<Result<u64, Fault>> {
+    fn last(mut self) -> Option<Result<C::Entry, Fault>> {
         self.next_back()
     }
 }
 
-impl<C: Calls> DoubleEndedIterator for Range<C> {
-    fn next_back(&mut self) -> Option<Result<u64, Fault>> {
+impl<C: Scans> DoubleEndedIterator for Range<C> {
+    fn next_back(&mut self) -> Option<Result<C::Entry, Fault>> {
         if let Err(fault) = self.read_back() {
             return self.end(fault);
         }
@@ -182,9 +193,9 @@ impl<C: Calls> DoubleEndedIterator for Range<C> {
     }
 }
 
-impl<C: Calls> FusedIterator for Range<C> {}
+impl<C: Scans> FusedIterator for Range<C> {}
 
-impl<C> fmt::Debug for Range<C> {
+impl<C: Scans> fmt::Debug for Range<C> {
     fn fmt(&self, f: &mut fmt::Formatter<'_>) -> fmt::Result {
         f.debug_struct("Range")
             .field("rest", &self.rest)
@@ -194,26 +205,34 @@ impl<C> fmt::Debug for Range<C> {
 
 #[cfg(test)]
 mod tests {
-    use super::{retain, Calls, Fault, Range, Scanned};
+    use super::{retain, Calls, Fault, Range, Scanned, Scans};
     use std::collections::BTreeSet;
 
     /// A set in which each remove returns `Unfinished`.
     struct Unfinished(BTreeSet<u64>);
 
-    impl Calls for &mut Unfinished {
-        fn scan(&mut self, (low, high): (u64, u64), room: usize) -> Result<Scanned, Fault> {
+    impl Scans for &mut Unfinished {
+        type Entry = u64;
+
+        fn scan(&mut self, (low, high): (u64, u64), room: usize) -> Result<Scanned<u64>, Fault> {
             let keys: Vec<u64> = self.0.range(low..=high).take(room).copied().collect();
             let next = (keys.len() == room).then(|| keys[room - 1] + 1);
             Ok((keys, next))
         }
 
-        fn scan_back(&mut self, (low, high): (u64, u64), room: usize) -> Result<Scanned, Fault> {
+        fn scan_back(
+            &mut self,
+            (low, high): (u64, u64),
+            room: usize,
+        ) -> Result<Scanned<u64>, Fault> {
             let down = self.0.range(low..=high).rev();
             let keys: Vec<u64> = down.take(room).copied().collect();
             let next = (keys.len() == room).then(|| keys[room - 1]);
             Ok((keys, next))
         }
+    }
 
+    impl Calls for &mut Unfinished {
         fn take(&mut self, key: u64) -> Result<bool, Fault> {
             self.0.remove(&key);
             Err(Fault::Unfinished)

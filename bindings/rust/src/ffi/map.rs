@@ -10,22 +10,70 @@
 //!   library
 //!   is proved for. A [`Pinned`] has its worker borrowed, and a reference that it returned has the
 //!   `Pinned` borrowed. So the pin ends after the last use of the reference.
+//! - *A call by another worker returns a pointer that does not come back while this one is pinned*, if
+//!   it was pinned before that call: the value was in the map at a moment of the call, so it is cut off
+//!   later. A [`Guarded`](guarded::Guarded) borrows the `Pinned` for as long as its references exist,
+//!   and tests that both workers are of one map.
+//! - *In a forked child nothing is called*, and no box is dropped: the boxes are the parent's.
 //! - *Boxes are dropped by whichever thread finds that they come back*, and several threads have
 //!   references to one at the same time. So what a thread may share asks for `V: Send + Sync`.
 
-use super::{CallOptions, Outcome, Word};
+pub(crate) mod guarded;
+
+use super::{CallOptions, Order, Outcome, Word};
 use std::any::Any;
 use std::cell::UnsafeCell;
 use std::ffi::{c_int, c_void};
 use std::marker::PhantomData;
 use std::panic::{catch_unwind, resume_unwind, AssertUnwindSafe, RefUnwindSafe, UnwindSafe};
-use std::ptr::{addr_of_mut, null_mut};
+use std::ptr::{addr_of_mut, null_mut, NonNull};
 
 /// Takes a value that came back: `nm_map_release`.
 type Release = unsafe extern "C" fn(context: *mut c_void, value: u64);
 
-/// The outcome yes.
+/// The outcome yes, and that of each call in a forked child.
 const YES: Outcome = 1;
+const FORKED: Outcome = -30;
+
+/// A key with the word of its value: `nm_entry`.
+#[repr(C)]
+#[derive(Clone, Copy, Default)]
+pub(crate) struct Entry {
+    pub key: u64,
+    value: u64,
+}
+
+/// A look-up beside others: `nm_map_lookup`.
+#[repr(C)]
+#[derive(Clone, Copy)]
+struct Lookup {
+    key: u64,
+    /// 1 if the map had the key, else 0.
+    found: u64,
+    value: u64,
+}
+
+/// `nm_map_counts`, of which only the library knows the fields.
+#[repr(C)]
+struct RawCounts {
+    _private: [u8; 0],
+}
+
+/// A call that finds a key from another one on.
+type Nearest =
+    unsafe extern "C" fn(*mut Word, u64, *const CallOptions, *mut u64, *mut u64) -> c_int;
+
+/// A call that reads a range into a block.
+type Read<T> = unsafe extern "C" fn(
+    *mut Word,
+    u64,
+    u64,
+    *mut T,
+    usize,
+    *mut usize,
+    *mut u64,
+    *const CallOptions,
+) -> c_int;
 
 extern "C" {
     fn nm_drop(handle: *mut Word) -> c_int;
@@ -44,16 +92,69 @@ extern "C" {
     ) -> c_int;
     fn nm_map_unpin(worker: *mut Word) -> c_int;
     fn nm_map_get_pinned(worker: *mut Word, key: u64, value: *mut u64) -> c_int;
-    fn nm_map_scan(
+    fn nm_map_pop_first_below(
+        worker: *mut Word,
+        below: u64,
+        options: *const CallOptions,
+        taken: *mut u64,
+        value: *mut u64,
+    ) -> c_int;
+    fn nm_map_pop_last_from(
+        worker: *mut Word,
+        from: u64,
+        options: *const CallOptions,
+        taken: *mut u64,
+        value: *mut u64,
+    ) -> c_int;
+    fn nm_map_at_least(
+        worker: *mut Word,
+        key: u64,
+        options: *const CallOptions,
+        found: *mut u64,
+        value: *mut u64,
+    ) -> c_int;
+    fn nm_map_at_most(
+        worker: *mut Word,
+        key: u64,
+        options: *const CallOptions,
+        found: *mut u64,
+        value: *mut u64,
+    ) -> c_int;
+    fn nm_map_read_keys(
         worker: *mut Word,
         from: u64,
         below: u64,
         keys: *mut u64,
         room: usize,
-        count: *mut u64,
+        count: *mut usize,
         next: *mut u64,
-        tries: u32,
+        options: *const CallOptions,
     ) -> c_int;
+    fn nm_map_read_keys_back(
+        worker: *mut Word,
+        from: u64,
+        below: u64,
+        keys: *mut u64,
+        room: usize,
+        count: *mut usize,
+        next: *mut u64,
+        options: *const CallOptions,
+    ) -> c_int;
+    fn nm_map_count(
+        worker: *mut Word,
+        from: u64,
+        below: u64,
+        count: *mut u64,
+        options: *const CallOptions,
+    ) -> c_int;
+    fn nm_map_get_many_pinned(worker: *mut Word, lookups: *mut Lookup, count: usize) -> c_int;
+    fn nm_map_counts_new(counts: *mut *mut RawCounts, workers: u32) -> c_int;
+    fn nm_map_counts_free(counts: *mut RawCounts);
+    fn nm_map_count_insert(counts: *mut RawCounts, worker: u32, outcome: c_int);
+    fn nm_map_count_remove(counts: *mut RawCounts, worker: u32, outcome: c_int);
+    fn nm_map_counts_keys(counts: *const RawCounts) -> u64;
+    fn nm_map_is_forked(counts: *const RawCounts) -> c_int;
+    fn nm_map_pending(worker: *mut Word, key: *mut u64) -> c_int;
     fn nm_map_number(worker: *mut Word, number: *mut u32) -> c_int;
     fn nm_map_queue_len(worker: *mut Word, nodes: *mut u64) -> c_int;
     fn nm_map_collect_after(nodes: u32, workers: u32) -> u32;
@@ -143,9 +244,57 @@ fn object<V>(value: u64) -> *mut V {
     value as usize as *mut V
 }
 
+/// How many keys the workers of a map have inserted and not removed, and in which process it was made.
+struct Counts(NonNull<RawCounts>);
+
+// SAFETY: several threads may call the functions of counts at the same time.
+unsafe impl Send for Counts {}
+// SAFETY: the same.
+unsafe impl Sync for Counts {}
+
+impl Counts {
+    /// Makes the counts, or returns the outcome of an error.
+    fn new(workers: u32) -> Result<Counts, Outcome> {
+        let mut counts = null_mut();
+        // SAFETY: the place is borrowed for this call.
+        let outcome = unsafe { nm_map_counts_new(&mut counts, workers) };
+        NonNull::new(counts).map(Counts).ok_or(outcome)
+    }
+
+    fn keys(&self) -> u64 {
+        // SAFETY: the counts exist as long as `self`.
+        unsafe { nm_map_counts_keys(self.0.as_ptr()) }
+    }
+
+    fn is_forked(&self) -> bool {
+        // SAFETY: the counts exist as long as `self`.
+        unsafe { nm_map_is_forked(self.0.as_ptr()) != 0 }
+    }
+
+    /// Counts the outcome of an insert by the worker of a number. One thread has that worker.
+    fn insert(&self, worker: u32, outcome: Outcome) {
+        // SAFETY: the counts exist as long as `self`.
+        unsafe { nm_map_count_insert(self.0.as_ptr(), worker, outcome) }
+    }
+
+    /// Counts the outcome of a remove or a pop.
+    fn remove(&self, worker: u32, outcome: Outcome) {
+        // SAFETY: the counts exist as long as `self`.
+        unsafe { nm_map_count_remove(self.0.as_ptr(), worker, outcome) }
+    }
+}
+
+impl Drop for Counts {
+    fn drop(&mut self) {
+        // SAFETY: nothing has the counts any more. In a forked child the function does nothing.
+        unsafe { nm_map_counts_free(self.0.as_ptr()) }
+    }
+}
+
 /// The handle of a map, which owns a value of each key. Its drop empties the map.
 pub(crate) struct MapHandle<V> {
     handle: UnsafeCell<Word>,
+    counts: Counts,
     options: CallOptions,
     timeout_ms: u32,
     // A `V` goes in and out by shared references, so no lifetime in it may grow or shrink.
@@ -172,6 +321,7 @@ impl<V> MapHandle<V> {
     ) -> Result<MapHandle<V>, Outcome> {
         let map = MapHandle {
             handle: UnsafeCell::new(Word::closed()),
+            counts: Counts::new(workers)?,
             options,
             timeout_ms,
             of: PhantomData,
@@ -190,18 +340,31 @@ impl<V> MapHandle<V> {
         self.timeout_ms
     }
 
+    /// Returns how many keys there are, or the outcome of an error.
+    pub(crate) fn keys(&self) -> Result<u64, Outcome> {
+        if self.counts.is_forked() {
+            return Err(FORKED);
+        }
+        Ok(self.counts.keys())
+    }
+
     /// Attaches a worker, or returns the outcome of an error.
     pub(crate) fn attach(&self, timeout_ms: u32) -> Result<WorkerHandle<'_, V>, Outcome> {
-        let worker = WorkerHandle {
+        let mut worker = WorkerHandle {
             map: self,
             handle: UnsafeCell::new(Word::closed()),
+            number: u32::MAX,
         };
         // SAFETY: the worker's handle is closed, and no other call has it. That of the map may be
         // used by several calls at the same time.
-        match unsafe { nm_map_wait_attach(self.handle.get(), worker.handle.get(), timeout_ms) } {
-            0.. => Ok(worker),
-            outcome => Err(outcome),
+        let outcome = worker
+            .by(|handle, _| unsafe { nm_map_wait_attach(self.handle.get(), handle, timeout_ms) });
+        if outcome < 0 {
+            return Err(outcome);
         }
+        // SAFETY: the handle exists, and the number is borrowed for this call.
+        unsafe { nm_map_number(worker.handle.get(), &mut worker.number) };
+        Ok(worker)
     }
 }
 
@@ -210,6 +373,9 @@ impl<V> Drop for MapHandle<V> {
         // No worker is attached, unless it was forgotten: each has the map borrowed. So only a lack
         // of memory is waited for.
         const LONGEST: u32 = 10_000;
+        if self.counts.is_forked() {
+            return;
+        }
         let mut taken = Taken::default();
         // SAFETY: the handle is borrowed for these calls. `release` gets boxes of this `V`.
         taken.by(|context| unsafe {
@@ -226,111 +392,201 @@ pub(crate) struct WorkerHandle<'a, V> {
     // Calls by a shared reference write it. No two of them run at the same time, because it is not
     // `Sync`.
     handle: UnsafeCell<Word>,
+    number: u32,
 }
 
 // SAFETY: the library's handle may move between threads. By the map's reference it shares values.
 unsafe impl<V: Send + Sync> Send for WorkerHandle<'_, V> {}
 
 impl<V> WorkerHandle<'_, V> {
+    /// Makes a call of C with the handle and the options, which exist during the call. In a forked
+    /// child it makes none.
+    fn by(&self, call: impl FnOnce(*mut Word, *const CallOptions) -> c_int) -> Outcome {
+        if self.map.counts.is_forked() {
+            return FORKED;
+        }
+        call(self.handle.get(), &self.map.options)
+    }
+
     /// Inserts a box. Returns the outcome, and the box unless the map owns it now.
     pub(crate) fn insert(&mut self, key: u64, value: Box<V>) -> (Outcome, Option<Box<V>>) {
         let pointer = Box::into_raw(value);
         let mut taken = Taken::default();
-        let (map, worker) = (self.map.handle.get(), self.handle.get());
-        let (options, timeout_ms) = (&self.map.options, self.map.timeout_ms);
+        let (map, timeout_ms) = (self.map.handle.get(), self.map.timeout_ms);
         // SAFETY: both handles exist, and `self` is borrowed. `release` gets boxes of this `V`.
-        let outcome = taken.by(|context| unsafe {
-            let word = pointer as usize as u64;
-            nm_map_put(
-                map,
-                worker,
-                key,
-                word,
-                options,
-                release::<V>,
-                context,
-                timeout_ms,
-            )
+        let outcome = taken.by(|context| {
+            self.by(|worker, options| unsafe {
+                let word = pointer as usize as u64;
+                nm_map_put(
+                    map,
+                    worker,
+                    key,
+                    word,
+                    options,
+                    release::<V>,
+                    context,
+                    timeout_ms,
+                )
+            })
         });
+        self.map.counts.insert(self.number, outcome);
         // SAFETY: after any other outcome than yes the map does not have the pointer.
         let left = (outcome != YES).then(|| unsafe { Box::from_raw(pointer) });
         taken.resume();
         (outcome, left)
     }
 
-    /// Frees what came back if enough nodes wait, and removes a key.
-    pub(crate) fn remove(&mut self, key: u64) -> Outcome {
+    /// Frees what came back if enough nodes wait, and removes a key by a call of C.
+    fn removed(&mut self, remove: impl FnOnce(*mut Word, *const CallOptions) -> c_int) -> Outcome {
         let mut taken = Taken::default();
-        let (worker, options) = (self.handle.get(), &self.map.options);
-        let mut removed = 0;
         // SAFETY: the handle exists, and `self` is borrowed. `release` gets boxes of this `V`. What
         // is removed is not dropped here: its pointer comes back later.
-        let outcome = taken.by(|context| unsafe {
-            nm_map_tend(worker, options, release::<V>, context);
-            nm_map_remove(worker, key, options, &mut removed)
+        let outcome = taken.by(|context| {
+            self.by(|worker, options| {
+                unsafe { nm_map_tend(worker, options, release::<V>, context) };
+                remove(worker, options)
+            })
         });
+        self.map.counts.remove(self.number, outcome);
         taken.resume();
         outcome
     }
 
-    /// Returns whether the map has a key.
+    /// Removes a key, and writes the word of its value.
+    fn take(&mut self, key: u64, value: &mut u64) -> Outcome {
+        // SAFETY: the handle exists during the call, and the place is borrowed for it.
+        self.removed(|worker, options| unsafe { nm_map_remove(worker, key, options, value) })
+    }
+
+    /// Removes a key.
+    pub(crate) fn remove(&mut self, key: u64) -> Outcome {
+        self.take(key, &mut 0)
+    }
+
+    /// Removes the least key that is below a bound, or the greatest one that is not below it.
+    pub(crate) fn pop(&mut self, order: Order, bound: u64) -> (Outcome, Entry) {
+        let mut entry = Entry::default();
+        let pop = match order {
+            Order::Ascending => nm_map_pop_first_below,
+            Order::Descending => nm_map_pop_last_from,
+        };
+        // SAFETY: the handle exists during the call, and the places are borrowed for it.
+        let outcome = self.removed(|worker, options| unsafe {
+            pop(worker, bound, options, &mut entry.key, &mut entry.value)
+        });
+        (outcome, entry)
+    }
+
+    /// Returns whether a key is in the map.
     pub(crate) fn contains(&mut self, key: u64) -> Outcome {
-        let mut unused = 0;
-        // SAFETY: the handle exists, and `self` is borrowed. The pointer is not used.
-        unsafe { nm_map_get(self.handle.get(), key, &self.map.options, &mut unused) }
+        self.get(key, &mut 0)
+    }
+
+    /// Looks up a key, and writes the word of its value.
+    fn get(&mut self, key: u64, value: &mut u64) -> Outcome {
+        // SAFETY: the handle exists, and `self` and the place are borrowed. The pointer is not used.
+        self.by(|worker, options| unsafe { nm_map_get(worker, key, options, value) })
+    }
+
+    /// Finds the least key that is not below a key, or the greatest that is not above it.
+    pub(crate) fn nearest(&mut self, order: Order, key: u64) -> (Outcome, Entry) {
+        let mut entry = Entry::default();
+        let nearest: Nearest = match order {
+            Order::Ascending => nm_map_at_least,
+            Order::Descending => nm_map_at_most,
+        };
+        // SAFETY: the handle exists, and `self` and the places are borrowed for this call.
+        let outcome = self.by(|worker, options| unsafe {
+            nearest(worker, key, options, &mut entry.key, &mut entry.value)
+        });
+        (outcome, entry)
+    }
+
+    /// Reads at most `room` keys from `low` to `high`, in an order. Returns the outcome, the keys, and
+    /// where the next call goes on: at a key, or in descending order below one.
+    pub(crate) fn read_keys(
+        &mut self,
+        order: Order,
+        range: (u64, u64),
+        room: usize,
+    ) -> (Outcome, Vec<u64>, u64) {
+        self.read(
+            match order {
+                Order::Ascending => nm_map_read_keys,
+                Order::Descending => nm_map_read_keys_back,
+            },
+            range,
+            room,
+        )
+    }
+
+    /// Reads a range by a call of C.
+    fn read<T: Copy + Default>(
+        &mut self,
+        read: Read<T>,
+        (low, high): (u64, u64),
+        room: usize,
+    ) -> (Outcome, Vec<T>, u64) {
+        let mut block = vec![T::default(); room];
+        let (mut count, mut next) = (0, low);
+        let first = block.as_mut_ptr();
+        // SAFETY: the handle exists, and all is borrowed for this call. `first` has room for so many.
+        let outcome = self.by(|worker, options| unsafe {
+            read(
+                worker,
+                low,
+                high + 1,
+                first,
+                room,
+                &mut count,
+                &mut next,
+                options,
+            )
+        });
+        block.truncate(count);
+        (outcome, block, next)
+    }
+
+    /// Counts the keys from `low` to `high`.
+    pub(crate) fn count(&mut self, (low, high): (u64, u64)) -> (Outcome, u64) {
+        let mut count = 0;
+        // SAFETY: the handle exists, and `self` and the place are borrowed for this call.
+        let outcome = self.by(|worker, options| unsafe {
+            nm_map_count(worker, low, high + 1, &mut count, options)
+        });
+        (outcome, count)
     }
 
     /// Frees what came back. Returns the outcome, how many values these are, and the number of the
     /// worker that holds back others, or `u32::MAX`.
     pub(crate) fn reclaim(&mut self) -> (Outcome, u64, u32) {
         let (mut taken, mut behind) = (Taken::default(), u32::MAX);
-        let worker = self.handle.get();
         // SAFETY: the handle exists, and `self` is borrowed. `release` gets boxes of this `V`.
-        let outcome = taken
-            .by(|context| unsafe { nm_map_take_back(worker, release::<V>, context, &mut behind) });
+        let outcome = taken.by(|context| {
+            self.by(|worker, _| unsafe {
+                nm_map_take_back(worker, release::<V>, context, &mut behind)
+            })
+        });
         let values = taken.values;
         taken.resume();
         (outcome, values, behind)
     }
 
-    /// Reads keys that are not below `next` and are below `below`. Returns the outcome and how many
-    /// keys it wrote, and writes where the next call goes on.
-    pub(crate) fn scan(
-        &mut self,
-        next: &mut u64,
-        below: u64,
-        keys: &mut [u64],
-    ) -> (Outcome, usize) {
-        let (from, mut count, tries) = (*next, 0, self.map.options.tries.max(2));
-        let (first, room) = (keys.as_mut_ptr(), keys.len());
-        // SAFETY: the handle exists, and all is borrowed for this call. `first` is not null.
-        let outcome = unsafe {
-            nm_map_scan(
-                self.handle.get(),
-                from,
-                below,
-                first,
-                room,
-                &mut count,
-                next,
-                tries,
-            )
-        };
-        (outcome, count as usize)
+    /// Writes the key of a remove that is pending.
+    pub(crate) fn pending(&mut self, key: &mut u64) -> Outcome {
+        // SAFETY: the handle exists, and `self` and the place are borrowed for this call.
+        self.by(|worker, _| unsafe { nm_map_pending(worker, key) })
     }
 
-    pub(crate) fn number(&mut self) -> u32 {
-        let mut number = u32::MAX;
-        // SAFETY: the handle exists, and `self` is borrowed.
-        unsafe { nm_map_number(self.handle.get(), &mut number) };
-        number
+    pub(crate) fn number(&self) -> u32 {
+        self.number
     }
 
     /// Returns how many nodes wait with the worker.
     pub(crate) fn waiting(&mut self) -> u64 {
         let mut nodes = 0;
         // SAFETY: the handle exists, and `self` is borrowed.
-        unsafe { nm_map_queue_len(self.handle.get(), &mut nodes) };
+        self.by(|worker, _| unsafe { nm_map_queue_len(worker, &mut nodes) });
         nodes
     }
 }
@@ -338,13 +594,14 @@ impl<V> WorkerHandle<'_, V> {
 impl<V> Drop for WorkerHandle<'_, V> {
     fn drop(&mut self) {
         let mut taken = Taken::default();
-        let worker = self.handle.get();
         // SAFETY: the handle exists, and no other call has it. `release` gets boxes of this `V`.
         // The pin is one whose `Pinned` was forgotten; nothing that it returned is used any more.
-        taken.by(|context| unsafe {
-            nm_map_unpin(worker);
-            nm_map_take_back(worker, release::<V>, context, null_mut());
-            nm_drop(worker)
+        taken.by(|context| {
+            self.by(|worker, _| unsafe {
+                nm_map_unpin(worker);
+                nm_map_take_back(worker, release::<V>, context, null_mut());
+                nm_drop(worker)
+            })
         });
         taken.resume();
     }
@@ -361,13 +618,8 @@ impl<'w, 'a, V> Pinned<'w, 'a, V> {
     pub(crate) fn new(worker: &'w mut WorkerHandle<'a, V>) -> Result<Pinned<'w, 'a, V>, Outcome> {
         let mut epoch = 0;
         // SAFETY: the handle exists, and the worker is borrowed.
-        let outcome = unsafe {
-            nm_map_hold(
-                worker.handle.get(),
-                &worker.map.options,
-                addr_of_mut!(epoch),
-            )
-        };
+        let outcome = worker
+            .by(|handle, options| unsafe { nm_map_hold(handle, options, addr_of_mut!(epoch)) });
         if outcome < 0 {
             return Err(outcome);
         }
@@ -383,17 +635,108 @@ impl<'w, 'a, V> Pinned<'w, 'a, V> {
         let mut value = 0;
         // SAFETY: the handle exists. No other call has it, because neither `Pinned` nor the worker
         // is `Sync`.
-        let outcome = unsafe { nm_map_get_pinned(self.worker.handle.get(), key, &mut value) };
+        let outcome = self
+            .worker
+            .by(|handle, _| unsafe { nm_map_get_pinned(handle, key, &mut value) });
         // SAFETY: the pointer is of a box that the map owns. It does not come back before the
         // unpin, which is in the drop of `self`, and the reference has `self` borrowed.
         let found = (outcome == YES).then(|| unsafe { &*object::<V>(value) });
         (outcome, found)
     }
+
+    /// Looks up several keys. Returns the outcome, and for each key its value if the map has it.
+    pub(crate) fn get_many(&self, keys: &[u64]) -> (Outcome, Vec<Option<&V>>) {
+        let of = |&key| Lookup {
+            key,
+            found: 0,
+            value: 0,
+        };
+        let mut lookups: Vec<Lookup> = keys.iter().map(of).collect();
+        let (first, count) = (lookups.as_mut_ptr(), lookups.len());
+        // SAFETY: as in `get`. The lookups are borrowed for this call.
+        let outcome = self
+            .worker
+            .by(|handle, _| unsafe { nm_map_get_many_pinned(handle, first, count) });
+        // SAFETY: as in `get`. A lookup that was not made has not found its key.
+        let found =
+            |lookup: &Lookup| (lookup.found == 1).then(|| unsafe { &*object::<V>(lookup.value) });
+        (outcome, lookups.iter().map(found).collect())
+    }
 }
 
 impl<V> Drop for Pinned<'_, '_, V> {
     fn drop(&mut self) {
-        // SAFETY: the handle exists, and the worker is borrowed. No reference of `get` is left.
-        unsafe { nm_map_unpin(self.worker.handle.get()) };
+        // SAFETY: the handle exists, and the worker is borrowed. No reference of `get` is left, nor of
+        // a `Guarded`.
+        self.worker.by(|handle, _| unsafe { nm_map_unpin(handle) });
+    }
+}
+
+#[cfg(test)]
+mod tests {
+    use crate::{Fault, InsertError, Map};
+    use std::ffi::c_int;
+    use std::sync::atomic::{AtomicU64, Ordering::SeqCst};
+    use std::sync::Arc;
+
+    extern "C" {
+        fn fork() -> c_int;
+        fn waitpid(child: c_int, status: *mut c_int, options: c_int) -> c_int;
+        fn _exit(status: c_int) -> !;
+    }
+
+    /// A value that counts its drop.
+    struct Counted(Arc<AtomicU64>);
+
+    impl Drop for Counted {
+        fn drop(&mut self) {
+            self.0.fetch_add(1, SeqCst);
+        }
+    }
+
+    #[test]
+    fn a_forked_child_makes_no_call_and_drops_no_value() {
+        let dropped = Arc::new(AtomicU64::new(0));
+        let map = Map::new(256, 3).unwrap();
+        let (mut reader, mut worker) = (map.attach().unwrap(), map.attach().unwrap());
+        for key in 0..10 {
+            assert!(worker.insert(key, Counted(Arc::clone(&dropped))).is_ok());
+        }
+        assert_eq!(worker.remove(3), Ok(true));
+        let guard = reader.pin().unwrap();
+        // SAFETY: the child only makes calls that are refused, and ends.
+        let child = unsafe { fork() };
+        if child == 0 {
+            let error = worker
+                .insert(20, Counted(Arc::clone(&dropped)))
+                .unwrap_err();
+            let mut is_right = map.attach().err() == Some(Fault::Forked)
+                && map.len() == Err(Fault::Forked)
+                && error.fault() == Some(Fault::Forked)
+                && guard.get(5).err() == Some(Fault::Forked)
+                && guard.get_many(&[5]).err() == Some(Fault::Forked)
+                && worker.remove(5) == Err(Fault::Forked)
+                && worker.pop_first() == Err(Fault::Forked)
+                && worker.reclaim().err() == Some(Fault::Forked)
+                && worker.range(..).next() == Some(Err(Fault::Forked))
+                && worker.under(&guard).unwrap().first().err() == Some(Fault::Forked);
+            std::mem::forget::<InsertError<Counted>>(error);
+            drop((guard, worker));
+            drop(reader);
+            drop(map);
+            is_right &= dropped.load(SeqCst) == 0;
+            // SAFETY: the child has nothing left to do.
+            unsafe { _exit(c_int::from(!is_right)) }
+        }
+        let mut status = -1;
+        // SAFETY: the place is borrowed for this call.
+        assert_eq!(unsafe { waitpid(child, &mut status, 0) }, child);
+        assert_eq!(status, 0);
+        assert!(guard.get(5).unwrap().is_some());
+        drop(guard);
+        assert_eq!((worker.remove(5), map.len()), (Ok(true), Ok(8)));
+        drop((reader, worker));
+        drop(map);
+        assert_eq!(dropped.load(SeqCst), 10);
     }
 }

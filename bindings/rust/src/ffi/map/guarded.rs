@@ -1,0 +1,109 @@
+//! Calls by a worker that return references, under the pin of another worker of the same map.
+
+use super::{object, Entry, Pinned, Read, WorkerHandle, YES};
+use crate::ffi::{CallOptions, Order, Outcome, Word};
+use std::ffi::c_int;
+use std::marker::PhantomData;
+
+/// The outcome of a remove that is not finished.
+const UNFINISHED: Outcome = -11;
+
+extern "C" {
+    fn nm_map_read_entries(
+        worker: *mut Word,
+        from: u64,
+        below: u64,
+        entries: *mut Entry,
+        room: usize,
+        count: *mut usize,
+        next: *mut u64,
+        options: *const CallOptions,
+    ) -> c_int;
+    fn nm_map_read_entries_back(
+        worker: *mut Word,
+        from: u64,
+        below: u64,
+        entries: *mut Entry,
+        room: usize,
+        count: *mut usize,
+        next: *mut u64,
+        options: *const CallOptions,
+    ) -> c_int;
+}
+
+/// A key with its value.
+pub(crate) type Found<'g, V> = (u64, &'g V);
+
+/// A worker that makes calls while another one is pinned, whose [`Pinned`] is borrowed for `'g`.
+pub(crate) struct Guarded<'w, 'a, 'g, V> {
+    worker: &'w mut WorkerHandle<'a, V>,
+    under: PhantomData<&'g V>,
+}
+
+impl<'w, 'a, 'g, V> Guarded<'w, 'a, 'g, V> {
+    /// Returns a guarded worker, or None if the two workers are of different maps.
+    pub(crate) fn new(
+        worker: &'w mut WorkerHandle<'a, V>,
+        pinned: &'g Pinned<'_, '_, V>,
+    ) -> Option<Guarded<'w, 'a, 'g, V>> {
+        std::ptr::eq(worker.map, pinned.worker.map).then_some(Guarded {
+            worker,
+            under: PhantomData,
+        })
+    }
+
+    /// Returns the value of a word that a call of this worker has written.
+    fn value(word: u64) -> &'g V {
+        // SAFETY: the pointer is of a box that the map had at a moment of that call. The other worker
+        // was pinned before the call and is until the end of `'g`, so the pointer does not come back
+        // before.
+        unsafe { &*object::<V>(word) }
+    }
+
+    fn found(is_there: bool, entry: Entry) -> Option<Found<'g, V>> {
+        is_there.then(|| (entry.key, Self::value(entry.value)))
+    }
+
+    /// Looks up a key.
+    pub(crate) fn get(&mut self, key: u64) -> (Outcome, Option<&'g V>) {
+        let mut word = 0;
+        let outcome = self.worker.get(key, &mut word);
+        (outcome, (outcome == YES).then(|| Self::value(word)))
+    }
+
+    /// Removes a key, and returns its value, also if the remove is not finished.
+    pub(crate) fn take(&mut self, key: u64) -> (Outcome, Option<&'g V>) {
+        let mut word = 0;
+        let outcome = self.worker.take(key, &mut word);
+        let is_taken = outcome == YES || outcome == UNFINISHED;
+        (outcome, is_taken.then(|| Self::value(word)))
+    }
+
+    /// Finds the nearest key: see [`WorkerHandle::nearest`].
+    pub(crate) fn nearest(&mut self, order: Order, key: u64) -> (Outcome, Option<Found<'g, V>>) {
+        let (outcome, entry) = self.worker.nearest(order, key);
+        (outcome, Self::found(outcome == YES, entry))
+    }
+
+    /// Removes a key at one end: see [`WorkerHandle::pop`]. The value of an unfinished one is unknown.
+    pub(crate) fn pop(&mut self, order: Order, bound: u64) -> (Outcome, Option<Found<'g, V>>) {
+        let (outcome, entry) = self.worker.pop(order, bound);
+        (outcome, Self::found(outcome == YES, entry))
+    }
+
+    /// Reads keys with their values: see [`WorkerHandle::read_keys`].
+    pub(crate) fn read(
+        &mut self,
+        order: Order,
+        range: (u64, u64),
+        room: usize,
+    ) -> (Outcome, Vec<Found<'g, V>>, u64) {
+        let read: Read<Entry> = match order {
+            Order::Ascending => nm_map_read_entries,
+            Order::Descending => nm_map_read_entries_back,
+        };
+        let (outcome, entries, next) = self.worker.read(read, range, room);
+        let found = |entry: Entry| (entry.key, Self::value(entry.value));
+        (outcome, entries.into_iter().map(found).collect(), next)
+    }
+}
