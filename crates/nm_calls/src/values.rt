@@ -38,7 +38,6 @@ pub(crate) struct Leaf {
 ///   never happens.
 ///
 /// (The search of Natarajan and Mittal, section 3.2.)
-#[inline(always)]
 pub fn get(shared: &Shared, pass: &mut Pass, key: Key, tries: u32) -> Result<Option<u64>, CallFault>
     requires own { IsOf shared.now pass.old }
     requires values { HasValues shared.now }

@@ -183,27 +183,22 @@ module _ (b : TreeView) (h : Options) where
         stores = stores_through w.pass.view.stores x.pass.view.stores z.pass.view.stores first.stores more;
       }
 
-  -- m look-ups, after n that were busy: at most `rounds` in all
-  pub looked_then : (k n m most rounds : ℕ) (w x z : WorkerView) (r : Result (Option ℕ) CallFault) → n * one + most ≤ rounds * one → (r ≡ Err fault.Busy → n + m ≡ rounds) → LooksWereBusy b h n w x → AnswersGet k most m h.tries x z r → KeepsStores x z → GetsIn b h k rounds w z r
-  looked_then k n m most rounds w x z r few all first a more =
-      record {
-        answers = record {
-          moment = gave_if w.pass x.pass z.pass k r first.onward.on.past a.moment;
-          left = left_since Has k w x z r first.onward.none a.left;
-          won = wins_after 0 0 w x z first.onward.won a.won;
-          on = goes_more (n * one + most) (rounds * one) w z few (goes_then w x z first.onward.on a.on);
-          busy = λ is some. subst (MetInterference Has w.pass z.pass) (all is) (met_then Has n m w.pass x.pass z.pass (number_of_pass w.pass x.pass first.onward.on.same) (first.met some) (a.busy is some));
-          alone = λ mine is. a.alone (alone_later w.pass x.pass z.pass first.onward.on.same first.onward.on.past a.on.past mine) is;
-        };
-        stores = stores_through w.pass.view.stores x.pass.view.stores z.pass.view.stores first.stores more;
-      }
-
   -- the last of at most `rounds` look-ups, after n that were busy
   pub looked_last : (k n rounds : ℕ) (w x z : WorkerView) (r : Result (Option ℕ) CallFault) → n + 1 ≤ rounds → (r ≡ Err fault.Busy → n + 1 ≡ rounds) → LooksWereBusy b h n w x → GetsOnce b.layout h.tries k x z r → GetsIn b h k rounds w z r
   looked_last k n rounds w x z r few all first (a, more) =
       let steps = add-mul n 1 one in
       let le = mul-le-mul_right one few in
-      looked_then k n 1 one rounds w x z r (omega (arith, steps, le)) all first a more
+      record {
+        answers = record {
+          moment = gave_if w.pass x.pass z.pass k r first.onward.on.past a.moment;
+          left = left_since Has k w x z r first.onward.none a.left;
+          won = wins_after 0 0 w x z first.onward.won a.won;
+          on = goes_more (n * one + one) (rounds * one) w z (omega (arith, steps, le)) (goes_then w x z first.onward.on a.on);
+          busy = λ is some. subst (MetInterference Has w.pass z.pass) (all is) (met_then Has n 1 w.pass x.pass z.pass (number_of_pass w.pass x.pass first.onward.on.same) (first.met some) (a.busy is some));
+          alone = λ mine is. a.alone (alone_later w.pass x.pass z.pass first.onward.on.same first.onward.on.past a.on.past mine) is;
+        };
+        stores = stores_through w.pass.view.stores x.pass.view.stores z.pass.view.stores first.stores more;
+      }
 
 -- ---- the three calls
 

@@ -114,7 +114,7 @@ fn with_fullness(
 }
 
 /// Returns the options with one round less.
-pub(crate) fn without_one(options: &Options) -> Options
+fn without_one(options: &Options) -> Options
     requires { 1 ≤ options.now.rounds }
     ensures { result ≡ record options.now { rounds = options.now.rounds - 1 } }
 {

@@ -9,7 +9,7 @@ ghost use Rattle.nm_tree.specs.Answers.{IfTaken};
 ghost use Rattle.nm_set.specs.MapRounds.{GetsIn};
 ghost use Rattle.nm_set.specs.Maps.{LeavesReclaim, SaysChange, SaysGet, TookMeanwhile};
 
-use crate::managed::{Options, behind_of, is_unfinished, without_one};
+use crate::managed::{Options, behind_of, is_unfinished};
 use crate::map_member::MapMember;
 use crate::member::Member;
 use nm_edge::Key;
@@ -156,28 +156,9 @@ impl Member {
     }
 
     /// Looks up the value until a look-up does not lose each of its tries: at most `rounds` and one
-    /// times. Nearly always the first one answers.
+    /// times.
     #[inline(always)]
     fn get_with_retries(&mut self, key: Key, options: &Options) -> Result<Option<u64>, CallFault>
-        requires values { HasValues self.old.tree }
-        requires free { self.old.worker.held ≡ None }
-        requires none { self.old.worker.pending ≡ None }
-        ensures tree { self.new.tree ≡ self.old.tree }
-        ensures says { GetsIn self.old.tree options.now key (options.now.rounds + 1)
-            self.old.worker self.new.worker result }
-    {
-        let told = self.try_get_value(key, options.tries);
-        if !is_busy(&told) || options.rounds == 0 {
-            return told;
-        }
-        self.retry_get(key, &without_one(options))
-    }
-
-    /// Looks up the value until a look-up does not lose each of its tries: at most `rounds` and one
-    /// times.
-    #[cold]
-    #[inline(never)]
-    fn retry_get(&mut self, key: Key, options: &Options) -> Result<Option<u64>, CallFault>
         requires values { HasValues self.old.tree }
         requires free { self.old.worker.held ≡ None }
         requires none { self.old.worker.pending ≡ None }
