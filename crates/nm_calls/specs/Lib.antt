@@ -14,3 +14,4 @@ pub mod Maps
 pub mod KeptValues
 pub mod MapHistories
 pub mod HandedBack
+pub mod ComingBack
