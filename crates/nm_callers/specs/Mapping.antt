@@ -28,8 +28,8 @@ HasInsert acts w moment k v = (a : MapAct) × Contains acts a × (a.act.worker �
     × (a.value ≡ v)
 
 -- up to a moment between the turns `was` and `now`, each history of the turns is one of a plain
--- map. An insert of the worker puts v under the key at a moment after `was`, and the map has the key
--- with `found` at a later one
+-- map. An insert of the worker puts v under the key at a moment after `was`, and the map has the
+-- key with `found` at a later one
 pub record AreOfOneMap (L : Layout) (was now : List Turn) (w k v found : ℕ) : Type 0 where
   pub until : List Turn
   pub ends : Extends now until

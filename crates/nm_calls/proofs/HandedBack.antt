@@ -1,5 +1,5 @@
--- While a node that was cut off waits, nobody stores a value for its slot. So the value that is read
--- then is the one that the slot had right before the cut.
+-- While a node that was cut off waits, nobody stores a value for its slot. So the value that is
+-- read then is the one that the slot had right before the cut.
 use Rattle.std.proofs.Common.{◌≡◌, inl, ℕ, zero, suc, ◌+◌, ◌≤◌, ◌==◌, Bool, true, false, cond, not, List, [], ◌∷◌, ◌++◌, map, append_assoc, length, append-nil, ◌&&◌, ◌||◌, refl, sym, ap, subst, ◌∙◌, arith, true≢false}
 use Rattle.std.specs.Prelude.{All, Contains, Option, None, Some, filter, option_map, slice_get, slice_index_or, take, drop, ◌%◌, ◌/◌}
 use Rattle.std.proofs.lemmas.Bool.{eqb-true, eq-eqb}

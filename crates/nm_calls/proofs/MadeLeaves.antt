@@ -1,4 +1,5 @@
--- Right after a won link the map has the key of the new leaf, with the value that was stored for it.
+-- Right after a won link the map has the key of the new leaf, with the value that was stored for
+-- it.
 use Rattle.std.proofs.Common.{◌≡◌, ℕ, ◌<◌, ◌==◌, Bool, true, false, cond, ◌||◌, List, [], ◌∷◌, ◌++◌, append-nil, append_assoc, length, refl, sym, ap, subst, ◌∙◌, arith}
 use Rattle.std.proofs.lemmas.List.Elements.{Contains-push}
 use Rattle.std.specs.Prelude.{All, Contains, Some, Ok, filter, nat_lt}

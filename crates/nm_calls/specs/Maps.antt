@@ -69,9 +69,9 @@ LinkedLeavesHaveValues L turns stores =
     → child (words_after L before) new s ≢ old
     → IsStored stores w (length (part_of w before)) (child (words_after L before) new s)
 
--- the stores were made up to a moment (`until`) between the turns `was` and the turns `now`. They are
--- in their order, and each was made in a slot that was in its worker's hands. They have the store of
--- each leaf that was linked up to that moment
+-- the stores were made up to a moment (`until`) between the turns `was` and the turns `now`. They
+-- are in their order, and each was made in a slot that was in its worker's hands. They have the
+-- store of each leaf that was linked up to that moment
 pub record HoldsStores (L : Layout) (was now : List Turn) (stores : List Stored) : Type 0 where
   pub until : List Turn
   pub from : Extends until was

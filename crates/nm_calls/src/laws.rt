@@ -47,8 +47,8 @@ pub fn pinned_values_stay_out()
     ensures { PinnedValuesStayOut }
 {}
 
-/// Law: what the plain map of a history has under a key at a moment was put by an insert of the key,
-/// which returned true and took effect by that moment.
+/// Law: what the plain map of a history has under a key at a moment was put by an insert of the
+/// key, which returned true and took effect by that moment.
 pub fn values_were_put()
     ensures { ValuesWerePut }
 {}
