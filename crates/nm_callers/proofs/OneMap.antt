@@ -1,18 +1,26 @@
 -- An insert and a later get of one worker are of one plain map.
-use Rattle.std.proofs.Common.{◌≡◌, ℕ, ◌<◌, ◌≤◌, List, [], ◌∷◌, ◌++◌, append-nil, append_assoc, length, refl, sym, ap, subst, ◌∙◌, arith}
+use Rattle.std.proofs.Common.{◌≡◌, ℕ, ◌+◌, ◌<◌, ◌≤◌, List, [], ◌∷◌, ◌++◌, append-nil, append_assoc, length, refl, sym, ap, subst, ◌∙◌, arith}
 use Rattle.std.specs.Prelude.{Some, Option, None, IfSome}
 use Rattle.std.proofs.lemmas.List.{length-append}
+use Rattle.std.proofs.lemmas.Option.{same_Some}
 use Rattle.nm_edge.specs.Keys.{IsKey}
 use Rattle.nm_edge.specs.Layouts.{Layout, IsLayout}
+use Rattle.nm_model.specs.declared.event.Event.TheVariants.{Link}
+use Rattle.nm_model.specs.declared.event.Op.TheVariants.{Insert}
+use Rattle.nm_model.specs.declared.reply.Reply.TheVariants.{Linked}
 use Rattle.nm_model.specs.declared.trace.Turn.{Turn}
+use Rattle.nm_model.specs.Acts.{Act, IsAmong}
+use Rattle.nm_model.specs.Histories.{Called, IsHistory, IsInCall, call_begun, called_in}
 use Rattle.nm_model.specs.Ordered.{ordered, trace_in}
 use Rattle.nm_order.proofs.RealTime.{begins_with}
-use Rattle.nm_steps.specs.Rules.{ExtendsStores}
+use Rattle.nm_steps.specs.Rules.{ExtendsStores, answered_turn}
 use Rattle.nm_steps.specs.Steps.{HasSeen, HasSeenAllOf, IsSamePass, PassView}
+use Rattle.nm_calls.specs.MapHistories.{IsMapHistory, MapAct, PutsItsValue}
 use Rattle.nm_calls.specs.Maps.{HasPut, HoldsStores, IsInMap, MapGave, WasMapped, WasPut, value_at}
 use Rattle.nm_calls.proofs.KeptValues.{put_values_stay}
 use Rattle.nm_calls.proofs.MapsOfRuns.{histories_are_of_maps}
-use Rattle.nm_callers.specs.Mapping.{AreOfOneMap}
+use Rattle.nm_calls.proofs.PlainMaps.{In, contains_in, in_act, in_all}
+use Rattle.nm_callers.specs.Mapping.{AreOfOneMap, HasInsert}
 
 no_turn : (before since : List Turn) (t : Turn) → [] ≡ before ++ t ∷ since → ⊥
 no_turn before since t is = let long = ap (λ (l : List Turn). length l) is ∙ length-append before (t ∷ since) in omega (arith, long)
@@ -60,7 +68,36 @@ module _ (o p q : PassView) (k v : ℕ) (is_key : IsKey k) (seen : HasSeen q.vie
       (λ before since t is c. no_turn before since t is) (value_at (length linked) q.view.stores put.is.slot)
       (subst (λ (ts : List Turn). IsInMap L ts q.view.stores k (value_at (length linked) q.view.stores put.is.slot)) (sym (append-nil linked)) here)
 
-  pub of_one_map : AreOfOneMap L o.view.past q.view.past k v found
+  -- the insert among the acts of a history
+  inserted : (acts : List Act) → IsHistory L held.until acts → (valued : List MapAct) → IsMapHistory L held.until q.view.stores acts valued → HasInsert valued q.view.number (length linked) k v
+  inserted acts h valued m = by (h.links put.so_far part.0 q.view.number put.won.parent put.won.side put.won.old put.won.new put.won.node link_is)
+    where
+      link_is : held.until ≡ put.so_far ++ answered_turn q.view.number (Link put.won.parent put.won.side put.won.old put.won.new) (Linked put.won.node) ∷ part.0
+      link_is = part.1 ∙ (append_assoc put.so_far (put.link ∷ []) part.0 ∙ ap (λ (t : Turn). put.so_far ++ t ∷ part.0) put.won.is)
+
+      by : (a : Act) × IsAmong acts a × (a.worker ≡ q.view.number) × (a.moment ≡ length put.so_far + 1) × IsInCall put.so_far Insert a → HasInsert valued q.view.number (length linked) k v
+      by (a, among, own, moment, call) = of_act (in_act valued a (subst (λ (l : List Act). IsAmong l a) (sym m.are) among))
+        where
+          has_key : a.key ≡ k
+          has_key = ap (λ (c : Called). c.key) (same_Some (called_in a) (record { pin = put.pin; op = Insert; key = k }) (sym call.0 ∙ (ap (λ (u : ℕ). call_begun u put.so_far) own ∙ put.call)))
+
+          of_act : (y : MapAct) × In valued y × (y.act ≡ a) → HasInsert valued q.view.number (length linked) k v
+          of_act (y, at, same) =
+              let long = length-append put.so_far (put.link ∷ []) in
+              let then' = ap (λ (b : Act). b.moment) same in
+              let when : y.act.moment ≡ length linked = omega (arith, long, moment, then') in (
+                y,
+                contains_in valued y at,
+                ap (λ (b : Act). b.worker) same ∙ own,
+                when,
+                ap (λ (b : Act). b.op) same ∙ call.1,
+                ap (λ (b : Act). b.key) same ∙ has_key,
+                ap (λ (b : Act). b.answer) same ∙ call.2,
+                in_all (PutsItsValue L held.until q.view.stores) valued m.puts y at (ap (λ (b : Act). b.op) same ∙ call.1) (ap (λ (b : Act). b.answer) same ∙ call.2) linked part.0 part.1 (sym when) v
+                    (subst (λ (j : ℕ). IsInMap L linked q.view.stores j v) (sym (ap (λ (b : Act). b.key) same ∙ has_key)) (subst (λ (u : ℕ). IsInMap L linked q.view.stores k u) same_value here)),
+              )
+
+  pub of_one_map : AreOfOneMap L o.view.past q.view.past q.view.number k v found
   of_one_map =
       let maps = histories_are_of_maps L fits seen.events seen.keys gave.so_far q.view.stores in_run in
       record {
@@ -73,11 +110,17 @@ module _ (o p q : PassView) (k v : ℕ) (is_key : IsKey k) (seen : HasSeen q.vie
         later = (let long = length-append put.so_far (put.link ∷ []) in let later = put.later in omega (arith, long, later));
         order = put_first;
         within = got_within;
-        each = λ acts h. let r = maps.1 acts h in (r.0, r.1, (r.1.moments linked part.0 part.1 k v is_key).1 (subst (λ (u : ℕ). IsInMap L linked q.view.stores k u) same_value here), (r.1.moments gave.so_far held.from.more held.from.is k found is_key).1 gave.gives);
+        each = λ acts h. let r = maps.1 acts h in (
+          r.0,
+          r.1,
+          inserted acts h r.0 r.1,
+          (r.1.moments linked part.0 part.1 k v is_key).1 (subst (λ (u : ℕ). IsInMap L linked q.view.stores k u) same_value here),
+          (r.1.moments gave.so_far held.from.more held.from.is k found is_key).1 gave.gives,
+        );
       }
 
 -- of what a get has found
-pub got_of_one_map : (o p q : PassView) (k v : ℕ) → IsKey k → HasSeen q.view → IsLayout q.view.layout → IsSamePass p q → HasSeenAllOf q p → ExtendsStores q.view.stores p.view.stores → HasPut o p k v → (found : Option ℕ) → MapGave p q k found → IfSome found (AreOfOneMap q.view.layout o.view.past q.view.past k v)
+pub got_of_one_map : (o p q : PassView) (k v : ℕ) → IsKey k → HasSeen q.view → IsLayout q.view.layout → IsSamePass p q → HasSeenAllOf q p → ExtendsStores q.view.stores p.view.stores → HasPut o p k v → (found : Option ℕ) → MapGave p q k found → IfSome found (AreOfOneMap q.view.layout o.view.past q.view.past q.view.number k v)
 got_of_one_map o p q k v is_key seen fits same on more put None gave = tt
 got_of_one_map o p q k v is_key seen fits same on more put (Some found) gave =
     of_one_map o p q k v is_key seen fits on more (subst (λ (z : PassView). WasPut z.view.layout o.view.past p.view.past p.view.stores z.view.number k v) (sym same) put) found gave

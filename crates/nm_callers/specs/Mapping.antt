@@ -1,7 +1,8 @@
--- A worker that inserts a key with a value, and then gets the value or takes it out; and one that gets
--- a value under its pin.
-use Rattle.std.specs.Prelude.{◌≡◌, ◌⊎◌, ◌<◌, ◌≤◌, ℕ, List, length, Option, Some, IsSome}
+-- A worker that inserts a key with a value, and then gets the value or takes it out; and one that
+-- gets a value under its pin.
+use Rattle.std.specs.Prelude.{◌≡◌, ◌⊎◌, ◌<◌, ◌≤◌, ℕ, true, List, length, Contains, Option, Some, IsSome}
 use Rattle.nm_edge.specs.Layouts.{Layout}
+use Rattle.nm_model.specs.declared.event.Op.TheVariants.{Insert}
 use Rattle.nm_model.specs.declared.trace.Turn.{Turn}
 use Rattle.nm_model.specs.Acts.{Act}
 use Rattle.nm_model.specs.Histories.{HasHistory, IsHistory}
@@ -12,17 +13,24 @@ use Rattle.nm_calls.specs.MapHistories.{IsMapHistory, MapAct, map_at}
 use Rattle.nm_calls.specs.Maps.{HasPut, HasTaken, MapGave, MapGivesUnderPin}
 use Rattle.nm_tree.specs.Workers.{WorkerView}
 
--- the worker put the key into the map with this value after all that p had seen. After that, and before
--- q, the map gave this answer to a look-up of the key
+-- the worker put the key into the map with this value after all that p had seen. After that, and
+-- before q, the map gave this answer to a look-up of the key
 pub record PutsThenGets (p q : PassView) (k v : ℕ) (found : Option ℕ) : Type 0 where
   pub mid : PassView
   pub put : HasPut p mid k v
   pub on : HasSeenAllOf q mid
   pub gave : MapGave mid q k found
 
--- up to a moment between the turns `was` and `now`, each history of the turns is one of a plain map. It
--- has the key with v at a moment after `was`, and with `found` at a later one
-pub record AreOfOneMap (L : Layout) (was now : List Turn) (k v found : ℕ) : Type 0 where
+-- one of these acts is a true insert of the key by the worker, with this moment and this value
+abbrev pub HasInsert : List MapAct → ℕ → ℕ → ℕ → ℕ → Type 0
+HasInsert acts w moment k v = (a : MapAct) × Contains acts a × (a.act.worker ≡ w)
+    × (a.act.moment ≡ moment) × (a.act.op ≡ Insert) × (a.act.key ≡ k) × (a.act.answer ≡ true)
+    × (a.value ≡ v)
+
+-- up to a moment between the turns `was` and `now`, each history of the turns is one of a plain
+-- map. An insert of the worker puts v under the key at a moment after `was`, and the map has the
+-- key with `found` at a later one
+pub record AreOfOneMap (L : Layout) (was now : List Turn) (w k v found : ℕ) : Type 0 where
   pub until : List Turn
   pub ends : Extends now until
   pub stores : List Stored
@@ -33,18 +41,19 @@ pub record AreOfOneMap (L : Layout) (was now : List Turn) (k v found : ℕ) : Ty
   pub order : put < got
   pub within : got ≤ length until
   pub each : (acts : List Act) → IsHistory L until acts → (valued : List MapAct)
-      × IsMapHistory L until stores acts valued × (map_at valued put k ≡ Some v)
-      × (map_at valued got k ≡ Some found)
+      × IsMapHistory L until stores acts valued × HasInsert valued w put k v
+      × (map_at valued put k ≡ Some v) × (map_at valued got k ≡ Some found)
 
--- the worker put the key into the map with v after all that p had seen. After that, and before q, it
--- took the key with the value `taken` out of the map
+-- the worker put the key into the map with v after all that p had seen. After that, and before q,
+-- it took the key with the value `taken` out of the map
 pub record PutsThenTakes (p q : PassView) (k v taken : ℕ) : Type 0 where
   pub mid : PassView
   pub put : HasPut p mid k v
   pub on : HasSeenAllOf q mid
   pub took : HasTaken mid q k taken
 
--- the worker is pinned, and the map gave this answer to a look-up of the key at a moment of that pin
+-- the worker is pinned, and the map gave this answer to a look-up of the key at a moment of that
+-- pin
 pub record IsHoldingAnswer (w : WorkerView) (k : ℕ) (found : Option ℕ) : Type 0 where
   pub held : IsSome w.held
   pub gave : MapGivesUnderPin w.pass k found

@@ -1,5 +1,5 @@
-//! A worker of a tree with values that inserts a key and gets the value of a key, proved from the clauses of
-//! `nm_tree` and the page alone.
+//! A worker of a tree with values that inserts a key and gets the value of a key, proved from the
+//! clauses of `nm_tree` and the page alone.
 ghost use Rattle.std.specs.Prelude.{◌≡◌, ◌≤◌, None, Some, IfSome, IsErrOf};
 ghost use Rattle.nm_progress.specs.Alone.{IsAlone};
 ghost use Rattle.nm_steps.specs.Steps.{IsOf};
@@ -11,13 +11,13 @@ ghost use Rattle.nm_callers.specs.Meanwhile.{NoneDeleted};
 use nm_edge::Key;
 use nm_tree::{CallFault, Tree, Worker};
 
-/// Inserts a key with a value, and then gets the value of the key. The outer `None`: a call returned
-/// an error, or the key was in the map before. Proved: otherwise right after the insert's link the map
-/// had the key with the value, and the get returned what the map had at a later moment (linearization
-/// point). Proved too: the get found the value that was inserted, unless a delete of the key took
-/// effect after all that the worker had seen before. And if the get found a value, each history of the
-/// turns is one of a plain map. Right after the link this map has the key with the value that was
-/// inserted, and at the moment of the get with the value that was found.
+/// Inserts a key with a value, and then gets the value of the key. The outer `None`: a call
+/// returned an error, or the key was in the map before. Proved: otherwise right after the insert's
+/// link the map had the key with the value, and the get returned what the map had at a later moment
+/// (linearization point). Proved too: the get found the value that was inserted, unless a delete of
+/// the key took effect after all that the worker had seen before. And if the get found a value,
+/// each history of the turns is one of a plain map. The insert is one of its acts, which puts the
+/// value that was inserted, and at the moment of the get this map has the value that was found.
 pub fn insert_then_get(
     tree: &Tree,
     worker: &mut Worker,
@@ -33,7 +33,7 @@ pub fn insert_then_get(
         worker.new.pass.view.past key → IfSome result (λ found. found ≡ Some value) }
     ensures one_map { IfSome result (λ found. IfSome found
         (AreOfOneMap worker.new.pass.view.layout worker.old.pass.view.past
-        worker.new.pass.view.past key value)) }
+        worker.new.pass.view.past worker.new.pass.view.number key value)) }
 {
     let mut unused = 0;
     let Ok(true) = tree.insert_with_value(worker, key, value, &mut unused, tries) else {

@@ -1,5 +1,5 @@
--- While a node that was cut off waits, nobody stores a value for its slot. So the value that is read
--- then is the one that the slot had right before the cut.
+-- While a node that was cut off waits, nobody stores a value for its slot. So the value that is
+-- read then is the one that the slot had right before the cut.
 use Rattle.std.proofs.Common.{◌≡◌, inl, ℕ, zero, suc, ◌+◌, ◌≤◌, ◌==◌, Bool, true, false, cond, not, List, [], ◌∷◌, ◌++◌, map, append_assoc, length, append-nil, ◌&&◌, ◌||◌, refl, sym, ap, subst, ◌∙◌, arith, true≢false}
 use Rattle.std.specs.Prelude.{All, Contains, Option, None, Some, filter, option_map, slice_get, slice_index_or, take, drop, ◌%◌, ◌/◌}
 use Rattle.std.proofs.lemmas.Bool.{eqb-true, eq-eqb}
@@ -131,7 +131,7 @@ module _ (L : Layout) (turns : List Turn) (h : Headline L turns) (o : ℕ) (n : 
       by true held = absurd (not_waiting w o waits.0 (one.only (InHands w) held ∙ sym (one.only (Waits o waits.0) (ap (option_map (λ (m : NodeId). m.slot)) waits.1))))
       by false none' = refl
 
-in_among : (ns : List NodeId) (n : NodeId) → Contains ns n → is_among ns n ≡ true
+pub in_among : (ns : List NodeId) (n : NodeId) → Contains ns n → is_among ns n ≡ true
 in_among [] n c = absurd (let below = c.1 in omega (arith, below))
 in_among (m ∷ ms) n (zero, below, at) = subst (λ (x : NodeId). is_among (m ∷ ms) x ≡ true) at (ap (λ (b : Bool). b || is_among ms m) (both m))
   where

@@ -295,7 +295,7 @@ put_values_stay L fits events keys was first seen stores w k v worker put on fro
     sym there.has_value
     ∙ (ap (value_before (length (so_far ++ mid)) stores) same
     ∙ (ap (λ (st : List Stored). value_before (length (so_far ++ mid)) st put.is.slot) on.is
-    ∙ (sym (put_still L fits events keys so_far mid rest are put.is.slot put.is.reached uncut put.so_far put.link refl w put.node worker put.own put.won seen on.more
+    ∙ (sym (put_still L fits events keys so_far mid rest are put.is.slot put.is.reached uncut put.so_far put.link refl w put.won.node worker (ap (λ (t : Turn). t.worker) put.won.is) (ap (λ (t : Turn). t.outcome) put.won.is) seen on.more
     (subst (WereHeld L events) on.is (held_in_all L fits from events stores h)) (subst (λ (st : List Stored). AllPairs ComesBefore st) on.is h.order) put.stored)
     ∙ put.is.has_value)))
   where

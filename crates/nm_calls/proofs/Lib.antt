@@ -17,6 +17,7 @@ pub mod NearLooks
 pub mod ScanLooks
 pub mod Unheld
 pub mod WonLinks
+pub mod LinkedLeaves
 pub mod StoresInTurns
 pub mod NamedLeaves
 pub mod MapMoments
@@ -33,3 +34,4 @@ pub mod KeptValues
 pub mod UncutLeaves
 pub mod PlainMaps
 pub mod MapsOfRuns
+pub mod ComingBack

@@ -1,38 +1,36 @@
--- Right after a won link the map has the key of the new leaf, with the value that was stored for it.
-use Rattle.std.proofs.Common.{◌≡◌, ℕ, ◌<◌, ◌≤◌, ◌==◌, Bool, true, false, cond, ◌||◌, List, [], ◌∷◌, ◌++◌, append-nil, append_assoc, length, refl, sym, ap, subst, ◌∙◌, arith}
+-- Right after a won link the map has the key of the new leaf, with the value that was stored for
+-- it.
+use Rattle.std.proofs.Common.{◌≡◌, ℕ, ◌<◌, ◌==◌, Bool, true, false, cond, ◌||◌, List, [], ◌∷◌, ◌++◌, append-nil, append_assoc, length, refl, sym, ap, subst, ◌∙◌, arith}
 use Rattle.std.proofs.lemmas.List.Elements.{Contains-push}
-use Rattle.std.specs.Prelude.{All, Contains, None, Some, Option, Ok, filter, nat_lt}
-use Rattle.std.proofs.lemmas.Bool.{and_from, eq-eqb, lt-ltb}
+use Rattle.std.specs.Prelude.{All, Contains, Some, Ok, filter, nat_lt}
+use Rattle.std.proofs.lemmas.Bool.{eq-eqb, lt-ltb}
 use Rattle.std.proofs.lemmas.List.{length-append, same_from_push}
-use Rattle.nm_edge.specs.Edges.{other, to}
+use Rattle.nm_edge.specs.Edges.{to}
 use Rattle.nm_edge.specs.Layouts.{Layout, IsLayout}
 use Rattle.nm_edge.specs.declared.edge.Side.{Side}
-use Rattle.nm_edge.specs.declared.edge.Side.TheVariants.{Left, Right}
 use Rattle.nm_edge.specs.declared.node.NodeId.{NodeId}
 use Rattle.nm_model.specs.declared.event.Event.{Event}
 use Rattle.nm_model.specs.declared.event.Event.TheVariants.{Link}
+use Rattle.nm_model.specs.declared.event.Op.TheVariants.{Insert}
 use Rattle.nm_model.specs.declared.reply.Reply.{Reply}
 use Rattle.nm_model.specs.declared.reply.Reply.TheVariants.{Linked}
 use Rattle.nm_model.specs.declared.trace.Turn.{Turn}
-use Rattle.nm_model.specs.Headline.{after_turn, words_after, words_from}
+use Rattle.nm_model.specs.Headline.{words_after}
+use Rattle.nm_model.specs.Histories.{call_begun}
 use Rattle.nm_model.specs.Knowledge.{Knowledge, draft_of}
-use Rattle.nm_model.specs.Memory.{Memory, child, is_leaf, node, opening, put_edge}
+use Rattle.nm_model.specs.Memory.{Memory, is_leaf, node, put_edge}
 use Rattle.nm_model.specs.Ordered.{Configuration, HasKey, ordered, after_in, next_in, outcome_in, trace_in}
-use Rattle.nm_model.specs.Paths.{Reached, follow}
+use Rattle.nm_model.specs.Paths.{Reached}
 use Rattle.nm_model.specs.Runs.{State, of}
-use Rattle.nm_model.specs.Step.{write}
 use Rattle.nm_model.specs.Walks.{Entry, logged_by}
 use Rattle.nm_laws.proofs.KnownBirths.{each_birth_stands}
-use Rattle.nm_laws.proofs.TreeSteps.{Lawful}
-use Rattle.nm_laws.proofs.Trees.{Children, follow-append, no_longer, not_taken, rest_after, taken}
-use Rattle.nm_order.specs.Intervals.{key}
+use Rattle.nm_order.specs.History.{pin_of}
+use Rattle.nm_order.specs.Intervals.{IsCalled, key}
 use Rattle.nm_order.specs.Logs.{known_by, part_of}
 use Rattle.nm_order.proofs.AnswersSince.{part-append}
-use Rattle.nm_order.proofs.OrderedTrees.{Grafting, unless_at}
 use Rattle.nm_order.proofs.PartsOfRuns.{logs_tell}
 use Rattle.nm_order.proofs.RunExchanges.{first_keys}
-use Rattle.nm_order.proofs.TreeChanges.{WonLink, same_keys}
-use Rattle.nm_theorem.proofs.WrittenWords.{run_words}
+use Rattle.nm_theorem.proofs.HistoriesOfRuns.{is_called}
 use Rattle.nm_steps.specs.declared.view.Stored.{Stored}
 use Rattle.nm_steps.specs.Rules.{Extends, answered_turn, new_leaf, value_from, value_of}
 use Rattle.nm_steps.specs.Steps.{HasSeen, HasSeenAllOf, PassView, TakesStep}
@@ -40,7 +38,8 @@ use Rattle.nm_steps.proofs.Seeing.{same_by_step, seen_by_turn}
 use Rattle.nm_walks.specs.Growing.{HasLinkedLeaf, HasLinkedValue}
 use Rattle.nm_walks.proofs.Looks.{enough}
 use Rattle.nm_calls.specs.Maps.{HasPut, IsInMap, WasPut, value_at}
-use Rattle.nm_calls.proofs.WonLinks.{found, graft, hold, is_ordered, law, link}
+use Rattle.nm_calls.proofs.LinkedLeaves.{far_is_leaf, far_reached, is_of_call, key_stays, words_then}
+use Rattle.nm_calls.proofs.WonLinks.{is_ordered, link}
 
 -- ---- the last event of a run
 
@@ -69,80 +68,34 @@ last_event (b ∷ bs) (e ∷ es) c t is =
       is = r.is;
     }
 
-words_push : (m : Memory) (ts : List Turn) (t : Turn) → words_from m (ts ++ t ∷ []) ≡ after_turn (words_from m ts) t
-words_push m [] t = refl
-words_push m (u ∷ ts) t = words_push (after_turn m u) ts t
-
--- ---- the path to a new leaf
-
-module _ (c c' : Children) (p : ℕ) (d : Side) (leaf new far : ℕ) (dl : Side) (g : Grafting c c' p d leaf new far dl) where
-  straight_to : rest_after c p d 1 g.front ≡ None
-  straight_to = go (rest_after c p d 1 g.front) refl
-    where
-      go : (o : Option (List Side)) → rest_after c p d 1 g.front ≡ o → o ≡ None
-      go None h = refl
-      go (Some r) h =
-          let t = taken c c' p d new g.exchanged 1 g.front r h in
-          let same : g.front ≡ t.front = g.alone g.front t.front (λ z. g.is_slot (sym g.at_front ∙ z)) (g.at_front ∙ sym t.comes) in
-          absurd (no_longer d g.front r (t.is ∙ ap (λ (y : List Side). y ++ d ∷ r) (sym same)))
-
-  at_parent : follow c' 1 g.front ≡ p
-  at_parent = not_taken c c' p d new g.exchanged 1 g.front straight_to ∙ g.at_front
-
-  to_far : follow c' 1 (g.front ++ d ∷ other dl ∷ []) ≡ far
-  to_far =
-      follow-append c' 1 g.front (d ∷ other dl ∷ [])
-      ∙ (ap (λ (y : ℕ). c' (c' y d) (other dl)) at_parent
-      ∙ (ap (λ (y : ℕ). c' y (other dl)) g.exchanged.here
-      ∙ (unless_at c c' p d new new (other dl) g.exchanged (λ i. g.off_new g.front (g.at_front ∙ sym i)) ∙ g.over_far)))
-
-  far_null : (f : Side) → c' far f ≡ 0
-  far_null f = unless_at c c' p d new far f g.exchanged (λ i. g.off_far g.front (g.at_front ∙ sym i)) ∙ g.far_null f
-
 -- ---- a won link
 
 module _ (L : Layout) (fits : IsLayout L) (events : List (ℕ × Event)) (keys : All (λ t. HasKey t.1) events) (w : ℕ) (below : w < L.workers) (parent : ℕ) (side : Side) (old new : ℕ) (n : NodeId) (slot k : ℕ)
     (won : outcome_in (after_in (ordered L) events) (w, Link parent side old new) ≡ Ok (Linked n)) (is_fresh : new_leaf (known_by L w (part_of w (trace_in (ordered L) events))) old new ≡ slot)
-    (has : (draft_of (known_by L w (part_of w (trace_in (ordered L) events))) slot).key ≡ Some k) (high : 6 ≤ slot) where
+    (has : (draft_of (known_by L w (part_of w (trace_in (ordered L) events))) slot).key ≡ Some k) where
   abbrev c : Configuration
   c = after_in (ordered L) events
 
-  abbrev h : ℕ → ℕ
-  h = hold L fits events keys w parent side old new n won
-
-  abbrev lawful : Lawful c.state h
-  lawful = law L fits events keys w parent side old new n won
-
-  abbrev won_there : WonLink c.state h lawful w parent side old new
-  won_there = link L fits events keys w parent side old new n won
+  abbrev far : ℕ
+  far = (link L fits events keys w parent side old new n won).drafts.far
 
   told : of c.state w ≡ known_by L w (part_of w (trace_in (ordered L) events))
   told = logs_tell L events w below
 
-  far_is : won_there.drafts.far ≡ slot
-  far_is = sym won_there.drafts.is_far ∙ (ap (λ (j : Knowledge). new_leaf j old new) told ∙ is_fresh)
+  far_is : far ≡ slot
+  far_is = sym (link L fits events keys w parent side old new n won).drafts.is_far ∙ (ap (λ (j : Knowledge). new_leaf j old new) told ∙ is_fresh)
 
   abbrev after : Memory
   after = put_edge c.state.memory parent side (to new)
 
-  abbrev grafting : Grafting (child c.state.memory) (child after) parent side old new won_there.drafts.far won_there.drafts.side
-  grafting = graft L fits events keys w parent side old new n won
-
   words : words_after L (trace_in (ordered L) events ++ answered_turn w (Link parent side old new) (Linked n) ∷ []) ≡ after
-  words = words_push (opening L) (trace_in (ordered L) events) (answered_turn w (Link parent side old new) (Linked n)) ∙ ap (λ (m : Memory). put_edge m parent side (to new)) (run_words L fits true events)
+  words = words_then L fits events keys w parent side old new n won
 
   reached_after : Reached after slot
-  reached_after = record {
-    path = grafting.front ++ side ∷ other won_there.drafts.side ∷ [];
-    ends = to_far (child c.state.memory) (child after) parent side old new won_there.drafts.far won_there.drafts.side grafting ∙ far_is;
-    is_slot = λ none'. omega (arith, high, none');
-  }
-
-  null_after : (f : Side) → child after slot f ≡ 0
-  null_after f = subst (λ (x : ℕ). child after x f ≡ 0) far_is (far_null (child c.state.memory) (child after) parent side old new won_there.drafts.far won_there.drafts.side grafting f)
+  reached_after = subst (Reached after) far_is (far_reached L fits events keys w parent side old new n won)
 
   leaf_after : is_leaf (node after slot) ≡ true
-  leaf_after = and_from ((node after slot).left.slot == 0) ((node after slot).right.slot == 0) (eq-eqb (node after slot).left.slot 0 (null_after Left)) (eq-eqb (node after slot).right.slot 0 (null_after Right))
+  leaf_after = subst (λ (x : ℕ). is_leaf (node after x) ≡ true) far_is (far_is_leaf L fits events keys w parent side old new n won)
 
   key_before : key c.state.memory slot ≡ k
   key_before =
@@ -150,8 +103,11 @@ module _ (L : Layout) (fits : IsLayout L) (events : List (ℕ × Event)) (keys :
       births slot k (ap (λ (j : Knowledge). (draft_of j slot).key) told ∙ has)
 
   key_kept : key after slot ≡ key c.state.memory slot
-  unfolding write
-  key_kept = subst (λ (b : Bool). key (cond b after c.state.memory) slot ≡ key c.state.memory slot) (found L fits events keys w parent side old new n won) (same_keys c.state h lawful w (Link parent side old new) (λ y f v i. cc) slot)
+  key_kept = key_stays L fits events keys w parent side old new n won slot
+
+  -- the call is for the key of the leaf
+  pub called : IsCalled c w Insert k
+  called = subst (IsCalled c w Insert) (ap (key after) far_is ∙ (key_kept ∙ key_before)) (is_of_call L fits events keys w parent side old new n won)
 
   abbrev turn : Turn
   turn = answered_turn w (Link parent side old new) (Linked n)
@@ -194,13 +150,18 @@ put_by_link p q slot k v fits seen l s = record {
   rest = [];
   are = l.past ∙ sym (append-nil (l.before ++ turn ∷ []));
   later = (let n = ap (λ (ts : List Turn). length ts) l.extends.is ∙ length-append p.view.past l.extends.more in omega (arith, n));
-  own = refl;
-  node = l.node;
-  won = refl;
-  is = linked_in_map L fits e.first (first_keys e.first (e.last ∷ []) (subst (λ (es : List (ℕ × Event)). All (λ t. HasKey t.1) es) e.are seen.keys)) w seen.worker l.parent l.side l.old l.new l.node slot k
+  pin = pin_of L e.first w;
+  call =
+      ap (call_begun w) (sym e.firsts)
+      ∙ is_called L (enough L fits) w e.first first_seen Insert k
+      (called L fits e.first first_seen w seen.worker l.parent l.side l.old l.new l.node slot k won
+      (ap (λ (log : List Entry). new_leaf (known_by L w log) l.old l.new) log_is ∙ l.fresh)
+      (ap (λ (log : List Entry). (draft_of (known_by L w log) slot).key) log_is ∙ l.has_key));
+  won = record { parent = l.parent; side = l.side; old = l.old; new = l.new; node = l.node; is = refl };
+  is = linked_in_map L fits e.first first_seen w seen.worker l.parent l.side l.old l.new l.node slot k
       won
       (ap (λ (log : List Entry). new_leaf (known_by L w log) l.old l.new) log_is ∙ l.fresh)
-      (ap (λ (log : List Entry). (draft_of (known_by L w log) slot).key) log_is ∙ l.has_key) l.pooled.0 q.view.stores v l.before e.firsts
+      (ap (λ (log : List Entry). (draft_of (known_by L w log) slot).key) log_is ∙ l.has_key) q.view.stores v l.before e.firsts
       (subst (λ (st : List Stored). value_at (length (l.before ++ turn ∷ [])) st slot ≡ v) (sym s.is) (stored_last (length (l.before ++ turn ∷ [])) slot v s.at w s.own s.earlier early));
   stored = record {
     stored = x;
@@ -227,6 +188,9 @@ put_by_link p q slot k v fits seen l s = record {
 
     e : LastEvent (ordered L) seen.events l.before turn
     e = last_event l.before seen.events (ordered L) turn (sym seen.are ∙ l.past)
+
+    first_seen : All (λ t. HasKey t.1) e.first
+    first_seen = first_keys e.first (e.last ∷ []) (subst (λ (es : List (ℕ × Event)). All (λ t. HasKey t.1) es) e.are seen.keys)
 
     last_is : e.last ≡ (w, Link l.parent l.side l.old l.new)
     last_is = (λ i. ((ap (λ (t : Turn). t.worker) e.is) i, (ap (λ (t : Turn). t.event) e.is) i))
@@ -257,8 +221,8 @@ put_earlier o p q k v seen put = record {
   rest = put.rest;
   are = put.are;
   later = (let later = put.later in let n = ap (λ (ts : List Turn). length ts) seen.goes_on.is ∙ length-append o.view.past seen.goes_on.more in omega (arith, later, n));
-  own = put.own;
-  node = put.node;
+  pin = put.pin;
+  call = put.call;
   won = put.won;
   is = put.is;
   stored = put.stored;
@@ -275,8 +239,8 @@ put_then p q z e r k v put took =
       rest = put.rest ++ on.more;
       are = on.is ∙ (ap (λ (l : List Turn). l ++ on.more) put.are ∙ append_assoc (put.so_far ++ put.link ∷ []) put.rest on.more);
       later = put.later;
-      own = put.own;
-      node = put.node;
+      pin = put.pin;
+      call = put.call;
       won = put.won;
       is = put.is;
       stored = put.stored;

@@ -1,6 +1,6 @@
 -- Each history of a run with stores is one of a plain map.
 use Rattle.std.proofs.Common.{◌≡◌, ◌⊎◌, inl, inr, ℕ, ◌≤◌, Bool, true, cond, List, [], ◌∷◌, ◌++◌, append-nil, append_assoc, length, map, take, drop, refl, sym, ap, subst, ◌∙◌, arith}
-use Rattle.std.specs.Prelude.{All, AllPairs, Option, None, Some, filter, nat_le}
+use Rattle.std.specs.Prelude.{All, AllPairs, Contains, Option, None, Some, filter, nat_le}
 use Rattle.std.proofs.lemmas.Bool.{le-leb, leb-true}
 use Rattle.std.proofs.lemmas.List.{length-append, length-take-le, take-append-drop}
 use Rattle.std.proofs.lemmas.Option.{none-some, same_Some}
@@ -21,10 +21,10 @@ use Rattle.nm_theorem.proofs.Runs.{Parts, parts_of}
 use Rattle.nm_steps.specs.declared.view.Stored.{Stored}
 use Rattle.nm_steps.proofs.Growing.{goes_on_itself}
 use Rattle.nm_calls.specs.KeptValues.{StaysInMap}
-use Rattle.nm_calls.specs.MapHistories.{GetsAreOfTheMap, HistoriesAreOfMaps, IsMapHistory, MapAct, PutsItsValue, map_after, map_at, no_map}
+use Rattle.nm_calls.specs.MapHistories.{GetsAreOfTheMap, HistoriesAreOfMaps, IsMapHistory, MapAct, PutsItsValue, ValuesWerePut, map_after, map_at, no_map}
 use Rattle.nm_calls.specs.Maps.{HoldsStores, IsInMap, value_at}
 use Rattle.nm_calls.proofs.KeptValues.{leaves_keep_their_values, one_slot}
-use Rattle.nm_calls.proofs.PlainMaps.{Agree, Changes, In, Last, NoneChanges, Sorted, Valued, act_in, act_of, agree_after, agree_empty, all_in, filter_parts, filter_twice, from_filter, in_act, in_filter, in_parts, in_right, keys_of_acts, last_of, map_filter, put_last, sorted, sorted_before, sorted_filter, untouched, valued}
+use Rattle.nm_calls.proofs.PlainMaps.{Agree, Changes, In, Last, NoneChanges, Sorted, Valued, act_in, act_of, agree_after, agree_empty, all_in, contains_in, filter_parts, filter_twice, from_filter, in_act, in_filter, in_parts, in_right, keys_of_acts, last_of, map_filter, put_last, sorted, sorted_before, sorted_filter, untouched, valued}
 use Rattle.nm_calls.proofs.PlainMaps.Last.{Put, Taken, Untouched}
 use Rattle.nm_calls.proofs.UncutLeaves.{NoneDeletes, none_cuts}
 
@@ -246,3 +246,23 @@ gets_are_of_the_map L ts stores acts valued h so_far rest is k is_key None gives
     go : (o : Option ℕ) → map_at valued (length so_far) k ≡ o → o ≡ None
     go None at = refl
     go (Some v) at = absurd (gives v ((h.moments so_far rest is k v is_key).0 at))
+
+pub values_were_put : ValuesWerePut
+values_were_put valued n k v has = by (last_of now no_map k)
+  where
+    now : List MapAct
+    now = filter (up_to n) valued
+
+    by : Last now no_map k → (a : MapAct) × Contains valued a × (a.act.op ≡ Insert) × (a.act.answer ≡ true) × (a.act.key ≡ k) × (a.value ≡ v) × (a.act.moment ≤ n)
+    by (Untouched none') = absurd (none-some v (sym (untouched now no_map k none') ∙ has))
+    by (Taken gone) = absurd (none-some v (sym gone ∙ has))
+    by (Put front back a are o t e none') =
+        let there = from_filter (up_to n) valued a (subst (λ (l : List MapAct). In l a) (sym are) (in_right front (a ∷ back) a (inl refl))) in (
+          a,
+          contains_in valued a there.0,
+          o,
+          t,
+          e,
+          same_Some a.value v (sym (put_last front back a no_map k o t e none') ∙ (ap (λ (l : List MapAct). map_after no_map l k) (sym are) ∙ has)),
+          leb-true a.act.moment n there.1,
+        )

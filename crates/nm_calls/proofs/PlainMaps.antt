@@ -1,6 +1,6 @@
 -- Plain maps beside plain sets: what calls leave under a key, and the values of calls.
 use Rattle.std.proofs.Common.{◌≡◌, ◌⊎◌, inl, inr, ℕ, zero, suc, ◌≤◌, ◌<◌, ◌==◌, get_or, Bool, true, false, cond, List, [], ◌∷◌, ◌++◌, length, map, refl, sym, ap, subst, ◌∙◌, eq-eqb, ne_eqb, true≢false, arith}
-use Rattle.std.specs.Prelude.{All, AllPairs, Option, None, Some, filter}
+use Rattle.std.specs.Prelude.{All, AllPairs, Contains, Option, None, Some, filter}
 use Rattle.std.proofs.lemmas.Bool.{eqb-true}
 use Rattle.std.proofs.lemmas.Option.{none-some}
 use Rattle.nm_edge.specs.Keys.{IsKey}
@@ -35,6 +35,11 @@ from_filter p (y ∷ ys) x at = by (p y) refl at (from_filter p ys x)
     by true is (inl same) rest = (inl same, ap p (sym same) ∙ is)
     by true is (inr there) rest = let r = rest there in (inr r.0, r.1)
     by false is there rest = let r = rest there in (inr r.0, r.1)
+
+pub contains_in : (xs : List MapAct) (x : MapAct) → In xs x → Contains xs x
+contains_in [] x at = absurd at
+contains_in (y ∷ ys) x (inl is) = (0, omega arith, is)
+contains_in (y ∷ ys) x (inr at) = let r = contains_in ys x at in let below = r.1 in (suc r.0, omega (arith, below), r.2)
 
 pub in_right : (xs ys : List MapAct) (x : MapAct) → In ys x → In (xs ++ ys) x
 in_right [] ys x at = at

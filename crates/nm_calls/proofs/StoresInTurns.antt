@@ -1,31 +1,25 @@
 -- The stores of a run, by its words and turns alone.
-use Rattle.std.proofs.Common.{◌≡◌, inl, inr, ◌⊎◌, ℕ, zero, suc, List, [], ◌∷◌, ◌++◌, append_assoc, length, sym, ap, subst, ◌∙◌, true, false, arith}
-use Rattle.std.specs.Prelude.{All, Ok}
-use Rattle.nm_edge.specs.Edges.{other}
+use Rattle.std.proofs.Common.{◌≡◌, ℕ, zero, suc, List, [], ◌∷◌, ◌++◌, append_assoc, length, sym, ap, subst, ◌∙◌, true, false, arith}
+use Rattle.std.specs.Prelude.{All}
 use Rattle.nm_edge.specs.Layouts.{Layout, IsLayout}
-use Rattle.nm_edge.specs.declared.edge.Side.{Side}
 use Rattle.nm_model.specs.declared.event.Event.{Event}
-use Rattle.nm_model.specs.declared.event.Event.TheVariants.{Link}
-use Rattle.nm_model.specs.declared.reply.Reply.TheVariants.{Linked}
 use Rattle.nm_model.specs.declared.trace.Turn.{Turn}
 use Rattle.nm_model.specs.Headline.{has_after, words_after}
-use Rattle.nm_model.specs.Memory.{Memory, child, opening}
-use Rattle.nm_model.specs.Ordered.{HasKey, ordered, after_in, outcome_in, trace_in}
+use Rattle.nm_model.specs.Memory.{child, opening}
+use Rattle.nm_model.specs.Ordered.{HasKey, ordered, after_in, trace_in}
 use Rattle.nm_order.specs.Logs.{part_of}
-use Rattle.nm_order.proofs.OrderedTrees.{one_or_other}
 use Rattle.nm_order.proofs.PinNumbers.{length_trace}
-use Rattle.nm_order.proofs.RunExchanges.{first_keys}
 use Rattle.nm_order.proofs.WalksOfRuns.{trace_in-append}
 use Rattle.nm_theorem.proofs.Hands.{run_hands}
-use Rattle.nm_theorem.proofs.Runs.{Head, Parts, head_of, parts_of}
-use Rattle.nm_theorem.proofs.WrittenWords.{run_words}
+use Rattle.nm_theorem.proofs.Runs.{Parts, parts_of}
 use Rattle.nm_steps.specs.declared.view.Stored.{Stored}
 use Rattle.nm_steps.specs.declared.view.View.{View}
-use Rattle.nm_steps.specs.Rules.{Extends, IsStored, LinksHaveValues, WasHeld, WereHeld, answered_turn}
+use Rattle.nm_steps.specs.Rules.{Extends, IsStored, LinksHaveValues, WasHeld, WereHeld}
 use Rattle.nm_steps.specs.Values.{HasSeenStores}
 use Rattle.nm_steps.proofs.Growing.{goes_on_itself}
 use Rattle.nm_calls.specs.Maps.{HoldsStores, LinkedLeavesHaveValues, WasInHands}
-use Rattle.nm_calls.proofs.WonLinks.{graft, link}
+use Rattle.nm_calls.proofs.LinkedLeaves.{LinkAt, far_is, link_at}
+use Rattle.nm_calls.proofs.WonLinks.{link}
 
 module _ (L : Layout) (fits : IsLayout L) (events : List (ℕ × Event)) where
   abbrev turns : List Turn
@@ -68,43 +62,13 @@ module _ (L : Layout) (fits : IsLayout L) (events : List (ℕ × Event)) where
   -- ---- links
 
   pub linked_leaves : All (λ t. HasKey t.1) events → (stores : List Stored) → LinksHaveValues L events stores → LinkedLeavesHaveValues L turns stores
-  linked_leaves keys stores linked before since w p side s old new n is fresh = by whole (first_keys q.early q.late (subst (λ (ts : List (ℕ × Event)). All (λ t. HasKey t.1) ts) q.all keys)) won
+  linked_leaves keys stores linked before since w p side s old new n is fresh =
+      subst (λ (m : ℕ). IsStored stores w m (child (words_after L before) new s)) (sym (ap (λ (ts : List Turn). length (part_of w ts)) x.first_is))
+      (subst (IsStored stores w (length (part_of w (trace_in (ordered L) x.early)))) ((link L fits x.early x.keyed w p side old new n x.won).drafts.is_far ∙ sym (far_is L fits events before w p side s old new n x fresh))
+      (linked x.early x.others w p side old new x.whole))
     where
-      t : Turn
-      t = answered_turn w (Link p side old new) (Linked n)
-
-      q : Parts (ordered L) events before (t ∷ since)
-      q = parts_of (ordered L) events before (t ∷ since) is
-
-      h : Head (after_in (ordered L) q.early) q.late t since
-      h = head_of (after_in (ordered L) q.early) q.late t since (sym q.rest_is)
-
-      event_is : h.event ≡ (w, Link p side old new)
-      event_is = λ i. ((sym h.turn_is i).worker, (sym h.turn_is i).event)
-
-      whole : events ≡ q.early ++ (w, Link p side old new) ∷ h.others
-      whole = q.all ∙ (ap (λ (ts : List (ℕ × Event)). q.early ++ ts) h.all ∙ ap (λ (u : ℕ × Event). q.early ++ u ∷ h.others) event_is)
-
-      won : outcome_in (after_in (ordered L) q.early) (w, Link p side old new) ≡ Ok (Linked n)
-      won = ap (outcome_in (after_in (ordered L) q.early)) (sym event_is) ∙ ap (λ (u : Turn). u.outcome) (sym h.turn_is)
-
-      words : words_after L before ≡ (after_in (ordered L) q.early).state.memory
-      words = ap (words_after L) q.first_is ∙ run_words L fits true q.early
-
-      by : events ≡ q.early ++ (w, Link p side old new) ∷ h.others → All (λ u. HasKey u.1) q.early → outcome_in (after_in (ordered L) q.early) (w, Link p side old new) ≡ Ok (Linked n) → IsStored stores w (length (part_of w before)) (child (words_after L before) new s)
-      by all first wins =
-          let l = link L fits q.early first w p side old new n wins in
-          let g = graft L fits q.early first w p side old new n wins in
-          subst (λ (m : ℕ). IsStored stores w m (child (words_after L before) new s)) (sym (ap (λ (ts : List Turn). length (part_of w ts)) q.first_is))
-          (subst (IsStored stores w (length (part_of w (trace_in (ordered L) q.early)))) (l.drafts.is_far ∙ sym (far_is l.drafts.far l.drafts.side g.over_leaf g.over_far))
-          (linked q.early h.others w p side old new all))
-        where
-          far_is : (far : ℕ) (d : Side) → child (after_in (ordered L) q.early).state.memory new d ≡ old → child (after_in (ordered L) q.early).state.memory new (other d) ≡ far → child (words_after L before) new s ≡ far
-          far_is far d over_leaf over_far = go (one_or_other s d)
-            where
-              go : (s ≡ d) ⊎ (s ≡ other d) → child (words_after L before) new s ≡ far
-              go (inl same) = absurd (fresh (ap (λ (m : Memory). child m new s) words ∙ (ap (λ (f : Side). child (after_in (ordered L) q.early).state.memory new f) same ∙ over_leaf)))
-              go (inr apart) = ap (λ (m : Memory). child m new s) words ∙ (ap (λ (f : Side). child (after_in (ordered L) q.early).state.memory new f) apart ∙ over_far)
+      x : LinkAt L events before w p side old new n
+      x = link_at L events keys before since w p side old new n is
 
 -- the stores that a view has seen, from any moment of its past on
 pub stores_in_turns : (v : View) → IsLayout v.layout → HasSeenStores v → (was : List Turn) → Extends v.past was → HoldsStores v.layout was v.past v.stores

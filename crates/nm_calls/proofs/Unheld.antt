@@ -19,11 +19,11 @@ use Rattle.nm_theorem.proofs.LeftSince.{readers_have_left}
 
 -- ---- lists
 
-or_right : (a b : Bool) → b ≡ true → (a || b) ≡ true
+pub or_right : (a b : Bool) → b ≡ true → (a || b) ≡ true
 or_right true b is = refl
 or_right false b is = is
 
-or_cases : (a b : Bool) → (a || b) ≡ true → (a ≡ true) ⊎ (b ≡ true)
+pub or_cases : (a b : Bool) → (a || b) ≡ true → (a ≡ true) ⊎ (b ≡ true)
 or_cases true b is = inl refl
 or_cases false b is = inr is
 
@@ -57,12 +57,12 @@ among_in (m ∷ ms) n is = go (or_cases ((n.slot == m.slot) && (n.birth == m.bir
     go (inl same) later = (0, omega arith, same_node n m same)
     go (inr more) later = let c = later more in let less = c.1 in (suc c.0, omega (arith, less), c.2)
 
+pub freed_by-append : (ts us : List Turn) → freed_by (ts ++ us) ≡ freed_by ts ++ freed_by us
+freed_by-append [] us = refl
+freed_by-append (t ∷ ts) us = ap (λ (ns : List NodeId). nodes_freed_of t.outcome ++ ns) (freed_by-append ts us) ∙ sym (append_assoc (nodes_freed_of t.outcome) (freed_by ts) (freed_by us))
+
 pub freed_longer : (ts us : List Turn) (n : NodeId) → Contains (freed_by ts) n → Contains (freed_by (ts ++ us)) n
-freed_longer ts us n c = subst (λ (ns : List NodeId). Contains ns n) (sym (go ts)) (Contains-append_left (freed_by ts) (freed_by us) n c)
-  where
-    go : (xs : List Turn) → freed_by (xs ++ us) ≡ freed_by xs ++ freed_by us
-    go [] = refl
-    go (t ∷ xs) = ap (λ (ns : List NodeId). nodes_freed_of t.outcome ++ ns) (go xs) ∙ sym (append_assoc (nodes_freed_of t.outcome) (freed_by xs) (freed_by us))
+freed_longer ts us n c = subst (λ (ns : List NodeId). Contains ns n) (sym (freed_by-append ts us)) (Contains-append_left (freed_by ts) (freed_by us) n c)
 
 words_push : (m : Memory) (ts : List Turn) (t : Turn) → words_from m (ts ++ t ∷ []) ≡ after_turn (words_from m ts) t
 words_push m [] t = refl
@@ -73,6 +73,22 @@ not_place w path e = cc
 
 pub not_waiting : (w v i : ℕ) → ◌≡◌ {A = Place} (InHands w) (Waits v i) → ⊥
 not_waiting w v i e = cc
+
+-- a pin lasts while the worker has not left
+pub pin_lasts : (u : ℕ) (so_far more : List Turn) → IsPinned u so_far → (HasLeft u more → ⊥) → IsPinned u (so_far ++ more)
+pin_lasts u so_far more pinned none' = record {
+  before = pinned.before;
+  sight = pinned.sight;
+  since = pinned.since ++ more;
+  are = ap (λ (ts : List Turn). ts ++ more) pinned.are ∙ append_assoc pinned.before (pinned.sight ∷ pinned.since) more;
+  own = pinned.own;
+  pins = pinned.pins;
+  stays = λ left. by (or_cases (list_any (leaves u) pinned.since) (list_any (leaves u) more) (sym (list_any-append (leaves u) pinned.since more) ∙ left));
+}
+  where
+    by : (HasLeft u pinned.since) ⊎ (HasLeft u more) → ⊥
+    by (inl early) = pinned.stays early
+    by (inr late) = none' late
 
 -- ---- places after a moment at which the slot was reached
 
@@ -137,25 +153,9 @@ module _ (L : Layout) (turns : List Turn) (h : Headline L turns) (u x : ℕ) (lo
   still : (mid late : List Turn) → rest ≡ mid ++ late → Still mid
   still mid late is = go [] mid late is (inl (subst (λ (ts : List Turn). Reached (words_after L ts) x) (sym (append-nil so_far)) reached))
 
-  -- the pin lasts
-  pinned_on : (before : List Turn) → (HasLeft u before → ⊥) → IsPinned u (so_far ++ before)
-  pinned_on before none' = record {
-    before = pinned.before;
-    sight = pinned.sight;
-    since = pinned.since ++ before;
-    are = ap (λ (ts : List Turn). ts ++ before) pinned.are ∙ append_assoc pinned.before (pinned.sight ∷ pinned.since) before;
-    own = pinned.own;
-    pins = pinned.pins;
-    stays = λ left. by (or_cases (list_any (leaves u) pinned.since) (list_any (leaves u) before) (sym (list_any-append (leaves u) pinned.since before) ∙ left));
-  }
-    where
-      by : (HasLeft u pinned.since) ⊎ (HasLeft u before) → ⊥
-      by (inl early) = pinned.stays early
-      by (inr late) = none' late
-
   -- the node that was cut is not freed
   not_freed : (mid late : List Turn) → rest ≡ mid ++ late → (c : WasCut mid) → Contains (freed_by (so_far ++ mid)) c.node → ⊥
-  not_freed mid late is c freed = stays (left_in (readers_have_left L turns h c.node all_freed (so_far ++ c.before) (c.since ++ late) c.cut run_is c.in_cut u (pinned_on c.before not_yet)))
+  not_freed mid late is c freed = stays (left_in (readers_have_left L turns h c.node all_freed (so_far ++ c.before) (c.since ++ late) c.cut run_is c.in_cut u (pin_lasts u so_far c.before pinned not_yet)))
     where
       parts : rest ≡ c.before ++ c.cut ∷ (c.since ++ late)
       parts = is ∙ (ap (λ (ts : List Turn). ts ++ late) c.is ∙ append_assoc c.before (c.cut ∷ c.since) late)

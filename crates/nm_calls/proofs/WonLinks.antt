@@ -40,7 +40,7 @@ module _ (L : Layout) (fits : IsLayout L) (events : List (ℕ × Event)) (keys :
   pub law : Lawful c.state hold
   law = (law_of_state L (enough L fits) c is_ordered).1
 
-  unrefused : refused_in c w (Link parent side old new) ≡ None
+  pub unrefused : refused_in c w (Link parent side old new) ≡ None
   unrefused = go (refused_in c w (Link parent side old new)) refl
     where
       wrong : (r : Refused) → Err r ≡ Ok (Linked n) → ⊥

@@ -29,9 +29,9 @@ LeavesKeepTheirValues = (L : Layout) → IsLayout L → (events : List (ℕ × E
     → (was : IsInMap L so_far stores k v) → NoneCuts mid was.slot
     → StaysInMap L so_far mid stores k v was
 
--- in each run, if a worker put a key into the map with a value, the map has the key with this value,
--- and with no other, until a turn cuts off the leaf. This holds by the stores that the worker had
--- seen then, and by more
+-- in each run, if a worker put a key into the map with a value, the map has the key with this
+-- value, and with no other, until a turn cuts off the leaf. This holds by the stores that the
+-- worker had seen then, and by more
 abbrev pub PutValuesStay : Type 0
 PutValuesStay = (L : Layout) → IsLayout L → (events : List (ℕ × Event))
     → All (λ t. HasKey t.1) events → (was first : List Turn) (seen stores : List Stored) (w k v : ℕ)
@@ -41,8 +41,8 @@ PutValuesStay = (L : Layout) → IsLayout L → (events : List (ℕ × Event))
     → NoneCuts mid put.is.slot → (found : ℕ)
     → IsInMap L ((put.so_far ++ put.link ∷ []) ++ mid) stores k found → found ≡ v
 
--- in each run, the value that a delete has taken is the one that the map has under the key right before
--- a turn cuts off the leaf which the delete has flagged
+-- in each run, the value that a delete has taken is the one that the map has under the key right
+-- before a turn cuts off the leaf which the delete has flagged
 abbrev pub TakenValuesAreCut : Type 0
 TakenValuesAreCut = (L : Layout) → IsLayout L → (events : List (ℕ × Event))
     → All (λ t. HasKey t.1) events → (was now : List Turn) (stores : List Stored) (w k v : ℕ)

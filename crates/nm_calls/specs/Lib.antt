@@ -15,3 +15,4 @@ pub mod MapScans
 pub mod KeptValues
 pub mod MapHistories
 pub mod HandedBack
+pub mod ComingBack

@@ -1,6 +1,6 @@
 -- The map is linearizable: a history of the turns of a run is one of a plain map too, by the words,
 -- the turns and the stores.
-use Rattle.std.specs.Prelude.{◌≡◌, ◌↔◌, ◌==◌, ℕ, nat_le, Bool, true, false, List, [], ◌∷◌, ◌++◌, length, map, filter, All, Option, Some, None, if◌then◌else◌}
+use Rattle.std.specs.Prelude.{◌≡◌, ◌≤◌, ◌↔◌, ◌==◌, ℕ, nat_le, Bool, true, false, List, [], ◌∷◌, ◌++◌, length, map, filter, All, Contains, Option, Some, None, if◌then◌else◌}
 use Rattle.nm_edge.specs.Keys.{IsKey}
 use Rattle.nm_edge.specs.Layouts.{Layout, IsLayout}
 use Rattle.nm_model.specs.declared.event.Event.{Event}
@@ -26,8 +26,8 @@ PlainMap = ℕ → Option ℕ
 abbrev pub no_map : PlainMap
 no_map k = None
 
--- what a plain map has under the key of a call right before it, by its answer and value (Herlihy and
--- Wing, section 2, sequential specification)
+-- what a plain map has under the key of a call right before it, by its answer and value (Herlihy
+-- and Wing, section 2, sequential specification)
 abbrev pub found_by : Op → Bool → ℕ → Option ℕ
 found_by Has true v = Some v
 found_by Has false v = None
@@ -59,14 +59,15 @@ map_after m (a ∷ acts) = map_after (map_changed m a.act.op a.act.key a.act.ans
 abbrev pub map_at : List MapAct → ℕ → PlainMap
 map_at acts n = map_after no_map (filter (λ (a : MapAct). nat_le a.act.moment n) acts)
 
--- if the map has the key of an insert right after its moment, it has it with the value of the insert
+-- if the map has the key of an insert right after its moment, it has it with the value of the
+-- insert
 abbrev pub PutsItsValue : Layout → List Turn → List Stored → MapAct → Type 0
 PutsItsValue L turns stores a = a.act.op ≡ Insert → a.act.answer ≡ true
     → (so_far rest : List Turn) → turns ≡ so_far ++ rest → length so_far ≡ a.act.moment
     → (v : ℕ) → IsInMap L so_far stores a.act.key v → a.value ≡ v
 
--- the acts with these values are a history of one plain map, empty at first. At each moment it has just
--- the keys of the reached leaves, with the values of their slots (Herlihy and Wing)
+-- the acts with these values are a history of one plain map, empty at first. At each moment it has
+-- just the keys of the reached leaves, with the values of their slots (Herlihy and Wing)
 pub record IsMapHistory (L : Layout) (turns : List Turn) (stores : List Stored) (acts : List Act)
     (valued : List MapAct) : Type 0 where
   pub are : map (λ (a : MapAct). a.act) valued ≡ acts
@@ -77,8 +78,8 @@ pub record IsMapHistory (L : Layout) (turns : List Turn) (stores : List Stored) 
 
 -- ---- laws
 
--- in each run, the turns up to which there are stores have a history, and each history of them is one
--- of a map
+-- in each run, the turns up to which there are stores have a history, and each history of them is
+-- one of a map
 abbrev pub HistoriesAreOfMaps : Type 0
 HistoriesAreOfMaps = (L : Layout) → IsLayout L → (events : List (ℕ × Event))
     → All (λ t. HasKey t.1) events → (was : List Turn) (stores : List Stored)
@@ -86,10 +87,17 @@ HistoriesAreOfMaps = (L : Layout) → IsLayout L → (events : List (ℕ × Even
     → HasHistory L held.until × ((acts : List Act) → IsHistory L held.until acts
     → (valued : List MapAct) × IsMapHistory L held.until stores acts valued)
 
--- a look-up whose answer a plain map of the reached leaves gives at a moment has the answer that this
--- one map has at that moment
+-- a look-up whose answer a plain map of the reached leaves gives at a moment has the answer that
+-- this one map has at that moment
 abbrev pub GetsAreOfTheMap : Type 0
 GetsAreOfTheMap = (L : Layout) (turns : List Turn) (stores : List Stored) (acts : List Act)
     (valued : List MapAct) → IsMapHistory L turns stores acts valued → (so_far rest : List Turn)
     → turns ≡ so_far ++ rest → (k : ℕ) → IsKey k → (answer : Option ℕ)
     → MapGives (IsInMap L so_far stores k) answer → map_at valued (length so_far) k ≡ answer
+
+-- what the plain map has under a key at a moment was put by a true insert of the key, with no later
+-- moment
+abbrev pub ValuesWerePut : Type 0
+ValuesWerePut = (valued : List MapAct) (n k v : ℕ) → map_at valued n k ≡ Some v
+    → (a : MapAct) × Contains valued a × (a.act.op ≡ Insert) × (a.act.answer ≡ true)
+    × (a.act.key ≡ k) × (a.value ≡ v) × (a.act.moment ≤ n)

@@ -1,14 +1,15 @@
 -- A map: what was stored under a key and when, and what a call for the value of a key leaves.
-use Rattle.std.specs.Prelude.{◌≡◌, ◌≢◌, ◌+◌, ◌*◌, ◌≤◌, ◌<◌, ℕ, nat_lt, Bool, true, false, List, [], ◌∷◌, ◌++◌, length, filter, All, AllPairs, Option, Some, None, Result, Ok, IfOk, IfErr, IfSome}
+use Rattle.std.specs.Prelude.{◌≡◌, ◌≢◌, ◌+◌, ◌*◌, ◌≤◌, ◌<◌, ℕ, nat_lt, Bool, true, false, List, [], ◌∷◌, ◌++◌, length, filter, All, AllPairs, Option, Some, None, Result, IfOk, IfErr, IfSome}
 use Rattle.nm_edge.specs.Keys.{IsKey}
 use Rattle.nm_edge.specs.Layouts.{Layout}
 use Rattle.nm_edge.specs.declared.edge.Side.{Side}
 use Rattle.nm_edge.specs.declared.node.NodeId.{NodeId}
 use Rattle.nm_model.specs.declared.event.Event.TheVariants.{LeaveWith, Link}
+use Rattle.nm_model.specs.declared.event.Op.TheVariants.{Insert}
 use Rattle.nm_model.specs.declared.reply.Reply.TheVariants.{Departed, Linked}
 use Rattle.nm_model.specs.declared.trace.Turn.{Turn}
 use Rattle.nm_model.specs.Headline.{HasLeft, IsPinned, has_after, words_after}
-use Rattle.nm_model.specs.Histories.{HasFlaggedOneOf}
+use Rattle.nm_model.specs.Histories.{HasFlaggedOneOf, call_begun}
 use Rattle.nm_model.specs.Memory.{child, infinity_0, is_leaf, node, opening}
 use Rattle.nm_model.specs.Paths.{Reached}
 use Rattle.nm_model.specs.Walks.{Entry, WalkEnds, since_pin}
@@ -59,8 +60,8 @@ pub record WasInHands (L : Layout) (turns : List Turn) (x : Stored) : Type 0 whe
   pub own : length (part_of x.worker before) ≡ x.own
   pub held : has_after (opening L) x.worker x.slot false before ≡ true
 
--- each worker that won a link had stored a value for the new leaf after its last step before the link.
--- The new leaf is the child of the new internal node beside the node that was there
+-- each worker that won a link had stored a value for the new leaf after its last step before the
+-- link. The new leaf is the child of the new internal node beside the node that was there
 abbrev pub LinkedLeavesHaveValues : Layout → List Turn → List Stored → Type 0
 LinkedLeavesHaveValues L turns stores =
     (before since : List Turn) (w p : ℕ) (side s : Side) (old new : ℕ) (n : NodeId)
@@ -68,9 +69,9 @@ LinkedLeavesHaveValues L turns stores =
     → child (words_after L before) new s ≢ old
     → IsStored stores w (length (part_of w before)) (child (words_after L before) new s)
 
--- the stores are those that were made until a moment between the turns `was` and the turns `now`, in
--- their order. So they have the store of each leaf that was linked in `was`. Each was made in a slot
--- that was in its worker's hands
+-- the stores were made up to a moment (`until`) between the turns `was` and the turns `now`. They
+-- are in their order, and each was made in a slot that was in its worker's hands. They have the
+-- store of each leaf that was linked up to that moment
 pub record HoldsStores (L : Layout) (was now : List Turn) (stores : List Stored) : Type 0 where
   pub until : List Turn
   pub from : Extends until was
@@ -80,8 +81,8 @@ pub record HoldsStores (L : Layout) (was now : List Turn) (stores : List Stored)
   pub order : AllPairs ComesBefore stores
 
 -- at a moment after the turns `was`, at which the worker was pinned, a plain map of the reached
--- leaves and their values gives this answer to a look-up of the key (O'Hearn and others). A value is
--- by stores that have the store of each leaf that was linked before that moment (`stored`)
+-- leaves and their values gives this answer to a look-up of the key (O'Hearn and others). A value
+-- is by stores that have the store of each leaf that was linked before that moment (`stored`)
 pub record WasMapped (L : Layout) (was now : List Turn) (stores : List Stored) (w k : ℕ)
     (answer : Option ℕ) : Type 0 where
   pub so_far : List Turn
@@ -103,18 +104,27 @@ pub record WasMappedUnderPin (L : Layout) (now : List Turn) (stores : List Store
   pub gives : MapGives (IsInMap L so_far stores k) answer
   pub stored : IfSome answer (λ v. HoldsStores L so_far now stores)
 
--- the worker put the key into the map with this value: it won a link after the turns `was`, and right
--- after the link the map has the key with the value. It stored a value for the leaf after its last
--- step before the link
+-- the turn is a link that the worker won
+pub record IsWonLinkOf (w : ℕ) (link : Turn) : Type 0 where
+  pub parent : ℕ
+  pub side : Side
+  pub old : ℕ
+  pub new : ℕ
+  pub node : NodeId
+  pub is : link ≡ answered_turn w (Link parent side old new) (Linked node)
+
+-- the worker put the key into the map with this value: its call to insert the key won a link after
+-- the turns `was`, and right after the link the map has the key with the value. It stored a value
+-- for the leaf after its last step before the link
 pub record WasPut (L : Layout) (was now : List Turn) (stores : List Stored) (w k v : ℕ) : Type 0 where
   pub so_far : List Turn
   pub link : Turn
   pub rest : List Turn
   pub are : now ≡ (so_far ++ link ∷ []) ++ rest
   pub later : length was ≤ length so_far
-  pub own : link.worker ≡ w
-  pub node : NodeId
-  pub won : link.outcome ≡ Ok (Linked node)
+  pub pin : ℕ
+  pub call : call_begun w so_far ≡ Some (record { pin = pin; op = Insert; key = k })
+  pub won : IsWonLinkOf w link
   pub is : IsInMap L (so_far ++ link ∷ []) stores k v
   pub stored : IsStored stores w (length (part_of w so_far)) is.slot
 
@@ -123,8 +133,8 @@ abbrev pub HasPut : PassView → PassView → ℕ → ℕ → Type 0
 HasPut p q k v =
     WasPut q.view.layout p.view.past q.view.past q.view.stores q.view.number k v
 
--- the worker has flagged a leaf, to remove it. In the slot of this leaf, at a moment after the turns
--- `was`, the map had the key with the value. It had it by the first of these stores
+-- the worker has flagged a leaf, to remove it. In the slot of this leaf, at a moment after the
+-- turns `was`, the map had the key with the value. It had it by the first of these stores
 pub record WasTaken (L : Layout) (was now : List Turn) (stores : List Stored) (w k v : ℕ) : Type 0 where
   pub so_far : List Turn
   pub rest : List Turn
@@ -213,8 +223,8 @@ pub record HasReadFlagged (p q : PassView) (k v : ℕ) : Type 0 where
   pub slot : read.slot ≡ leaf.slot
   pub flagged : HasFlaggedOneOf at.view.past at.view.number (leaf ∷ [])
 
--- after p a walk of an insert has ended at a leaf with the key, and its value was read under the same
--- pin. The next step was the leave with the answer that the key was there
+-- after p a walk of an insert has ended at a leaf with the key, and its value was read under the
+-- same pin. The next step was the leave with the answer that the key was there
 pub record HasReadFound (p q : PassView) (k v : ℕ) : Type 0 where
   pub at : PassView
   pub since : GoesOn p at

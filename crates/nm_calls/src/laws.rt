@@ -1,9 +1,10 @@
 //! Laws of maps: a leaf keeps its value from its link to its cut, and the map is linearizable.
+ghost use Rattle.nm_calls.specs.ComingBack.{NodesAreFreedOnce, PinnedValuesStayOut};
 ghost use Rattle.nm_calls.specs.KeptValues.{LeavesKeepTheirValues, PutValuesStay, TakenValuesAreCut};
-ghost use Rattle.nm_calls.specs.MapHistories.{GetsAreOfTheMap, HistoriesAreOfMaps};
+ghost use Rattle.nm_calls.specs.MapHistories.{GetsAreOfTheMap, HistoriesAreOfMaps, ValuesWerePut};
 
-/// Law: in every ordered run, a leaf that is in the map stays in it with its key and its value until
-/// a turn cuts it off.
+/// Law: in every ordered run, a leaf that is in the map stays in it with its key and its value
+/// until a turn cuts it off.
 pub fn leaves_keep_their_values()
     ensures { LeavesKeepTheirValues }
 {}
@@ -15,21 +16,39 @@ pub fn put_values_stay()
     ensures { PutValuesStay }
 {}
 
-/// Law: in every ordered run, the value that a delete has taken is the one that the map has under the
-/// key right before a turn cuts off the leaf which the delete has flagged.
+/// Law: in every ordered run, the value that a delete has taken is the one that the map has under
+/// the key right before a turn cuts off the leaf which the delete has flagged.
 pub fn taken_values_are_cut()
     ensures { TakenValuesAreCut }
 {}
 
-/// Law: in every ordered run, each history of the turns up to which the stores are given is one of a
-/// plain map too. Its calls have values with which one map, empty at first, gives each call its answer.
-/// At each moment this map has just the keys of the reached leaves, with their values.
+/// Law: in every ordered run, each history of the turns up to which the stores are given is one of
+/// a plain map too. Its calls have values with which one map, empty at first, gives each call its
+/// answer. At each moment this map has just the keys of the reached leaves, with their values.
 pub fn histories_are_of_maps()
     ensures { HistoriesAreOfMaps }
 {}
 
-/// Law: a look-up of a value has the answer that the plain map of a history has at the moment of the
-/// look-up.
+/// Law: a look-up of a value has the answer that the plain map of a history has at the moment of
+/// the look-up.
 pub fn gets_are_of_the_map()
     ensures { GetsAreOfTheMap }
+{}
+
+/// Law: in all turns that have the headline, no two turns free one node. So a leaf hands out its
+/// value once.
+pub fn nodes_are_freed_once()
+    ensures { NodesAreFreedOnce }
+{}
+
+/// Law: in all turns that have the headline, a worker that got a value under its pin has unpinned
+/// before the leaf that had the value is freed, if a later turn cuts it off.
+pub fn pinned_values_stay_out()
+    ensures { PinnedValuesStayOut }
+{}
+
+/// Law: what the plain map of a history has under a key at a moment was put by an insert of the
+/// key, which returned true and took effect by that moment.
+pub fn values_were_put()
+    ensures { ValuesWerePut }
 {}

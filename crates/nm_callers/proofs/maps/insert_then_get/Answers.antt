@@ -37,6 +37,6 @@ returns-clause-one_map c =
     let p = c.insert_with_value.new.worker.pass in
     let q = c.get-found.new.worker.pass in
     let e = c.get-found.ensures in
-    of_found c.get-found.result c.ok.result (MapGave p q c.args.key) (λ found. IfSome found (AreOfOneMap q.view.layout o.view.past q.view.past c.args.key c.args.value)) c.ok.ensures.value
+    of_found c.get-found.result c.ok.result (MapGave p q c.args.key) (λ found. IfSome found (AreOfOneMap q.view.layout o.view.past q.view.past q.view.number c.args.key c.args.value)) c.ok.ensures.value
     (got_of_one_map o p q c.args.key c.args.value (subst IsKey c.get-number.ensures.number c.get-number.ensures.fits) c.know_run.ensures.seen c.know_run.ensures.fits e.same e.past e.stores (c.in-Ok-true.ensures.puts c.requires.values (ap Ok c.in-Ok-true.field-0-test)))
     e.moment
