@@ -181,7 +181,8 @@ nm_outcome nm_map_get_many(nm_handle *worker, nm_map_lookup *lookups, size_t cou
         uint64_t epoch;
         outcome = nm_map_hold(worker, options, &epoch);
         if (outcome < 0) return outcome;
-        outcome = nm_map_get_many_pinned(worker, lookups + at, count - at < ROOM ? count - at : ROOM);
+        size_t some = count - at < ROOM ? count - at : ROOM;
+        outcome = nm_map_get_many_pinned(worker, lookups + at, some);
         (void)nm_map_unpin(worker);
     }
     return outcome;
