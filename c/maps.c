@@ -141,8 +141,8 @@ static void entries(void) {
     CHECK(nm_drop(&worker) == NM_DONE && nm_drop(&map) == NM_DONE);
 }
 
-/* Checks that the entries are those of `count` keys, from `first` on, each `step` further than the one
- * before, and that the value of each key is ten times the key. */
+/* Checks that the entries are those of `count` keys, from `first` on, each `step` further than the
+ * previous one, and that the value of each key is ten times the key. */
 static void are_entries(const nm_entry *entries, uint64_t count, uint64_t first, int step) {
     for (uint64_t i = 0; i < count; i++) {
         const uint64_t key = first + i * (uint64_t)step;
@@ -172,7 +172,8 @@ static void scans(void) {
     CHECK(nm_map_scan_entries(&worker, next, 9, found, 8, &count, &next, TRIES) == NM_NO &&
           count == 3);
     are_entries(found, 3, 6, 1);
-    CHECK(nm_map_scan_entries(&worker, 0, 9, found, 0, &count, &next, TRIES) == NM_YES && count == 0);
+    CHECK(nm_map_scan_entries(&worker, 0, 9, found, 0, &count, &next, TRIES) == NM_YES &&
+          count == 0);
     CHECK(nm_map_scan_entries(&worker, 0, 9, found, 8, &count, &next, 0) == NM_BUSY && count == 0);
     CHECK(nm_map_pin(&worker, TRIES, &epoch) == NM_DONE &&
           nm_map_scan_entries(&worker, 0, 9, found, 8, &count, &next, TRIES) == NM_PINNED &&
@@ -344,7 +345,7 @@ typedef struct payload {
 } payload;
 
 static nm_handle shared = NM_CLOSED_HANDLE;
-static atomic_uint_fast64_t inserted, back, unfinished, read_pinned;
+static atomic_uint_fast64_t inserted, back, unfinished, read_pinned, listed;
 
 static uint64_t next_random(uint64_t *state) {
     *state = *state * 6364136223846793005u + 1442695040888963407u;
@@ -412,6 +413,25 @@ static void follow(nm_handle *worker, uint64_t key) {
     CHECK(nm_map_unpin(worker) == NM_DONE);
 }
 
+/* Lists keys from one on with their values, in one direction or the other. The keys are in order,
+ * and each has a pointer that was inserted. */
+static void list(nm_handle *worker, uint64_t from, bool is_back) {
+    nm_entry found[ROOM];
+    uint64_t count = 0, next;
+    nm_outcome told;
+    if (is_back)
+        told = nm_map_scan_entries_back(worker, from, 0, found, ROOM, &count, &next, TRIES);
+    else
+        told = nm_map_scan_entries(worker, from, KEYS, found, ROOM, &count, &next, TRIES);
+    CHECK(told == NM_YES || told == NM_NO || told == NM_BUSY || told == NM_PENDING);
+    for (uint64_t i = 0; i < count; i++) {
+        CHECK(found[i].key < KEYS && (is_back ? found[i].key <= from : found[i].key >= from));
+        CHECK(i == 0 || (found[i - 1].key < found[i].key) != is_back);
+        CHECK(found[i].value > NOT_WRITTEN && found[i].value % sizeof(uint64_t) == 0);
+    }
+    atomic_fetch_add(&listed, count);
+}
+
 /* Makes calls by one worker. Half of the threads have options with which a remove may be left
  * unfinished. */
 static void *work(void *given) {
@@ -422,9 +442,10 @@ static void *work(void *given) {
     CHECK(nm_map_worker(&shared, &worker, (uint32_t)number) == NM_DONE);
     for (int call = 0; call < CALLS; call++) {
         uint64_t key = next_random(&state) % KEYS;
-        switch (next_random(&state) % 3) {
+        switch (next_random(&state) % 4) {
         case 0: put(&worker, key, options); break;
         case 1: take(&worker, key, options); break;
+        case 2: list(&worker, key, call % 2 == 0); break;
         default: follow(&worker, key);
         }
         if (call % 16 == 0) free_returned(&worker);
@@ -454,7 +475,7 @@ static void threads(void) {
         CHECK(pthread_create(&made[i], NULL, work, (void *)(uintptr_t)i) == 0);
     for (int i = 0; i < THREADS; i++) CHECK(pthread_join(made[i], NULL) == 0);
     take_the_rest();
-    CHECK(back == inserted && inserted > 0 && read_pinned > 0);
+    CHECK(back == inserted && inserted > 0 && read_pinned > 0 && listed > 0);
     CHECK(nm_map_close(&shared) == NM_DONE && nm_report_keys(&shared, &keys) == NM_DONE &&
           keys == 0 && nm_drop(&shared) == NM_DONE);
 }

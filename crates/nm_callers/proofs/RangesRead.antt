@@ -1,8 +1,10 @@
 -- A range that is read: the keys that were in the set all the time are read, and those that were absent
 -- all the time are not. Two scans agree on both.
-use Rattle.std.proofs.Common.{◌≡◌, ◌<◌, ◌≤◌, ◌⊎◌, inl, inr, ℕ, zero, suc, Bool, true, false, List, [], ◌∷◌, ◌++◌, append_assoc, length, refl, sym, ap, subst, ◌∙◌, arith}
-use Rattle.std.specs.Prelude.{Contains, Option}
+use Rattle.std.proofs.Common.{◌≡◌, ◌≢◌, ◌<◌, ◌≤◌, ◌⊎◌, inl, inr, ℕ, zero, suc, Bool, true, false, List, [], ◌∷◌, ◌++◌, append_assoc, length, get_or, refl, sym, ap, subst, ◌∙◌, arith}
+use Rattle.std.specs.Prelude.{Contains, Option, None, Some, IfSome, take}
+use Rattle.std.specs.List.{AllWithin}
 use Rattle.std.proofs.lemmas.Bool.{cases_lt}
+use Rattle.std.proofs.lemmas.List.{get_or-map, get_or-take, length-take-le}
 use Rattle.nm_edge.specs.Keys.{IsKey}
 use Rattle.nm_edge.specs.Layouts.{Layout}
 use Rattle.nm_edge.specs.declared.edge.Side.{Side}
@@ -13,7 +15,9 @@ use Rattle.nm_model.specs.Headline.{words_after}
 use Rattle.nm_steps.specs.Rules.{Extends}
 use Rattle.nm_steps.specs.Steps.{PassView, HasSeenAllOf}
 use Rattle.nm_steps.proofs.Growing.{goes_on_itself}
-use Rattle.nm_calls.specs.NearKeys.{bound}
+use Rattle.nm_calls.specs.declared.map_scanning.MapEntry.{MapEntry}
+use Rattle.nm_calls.specs.MapScans.{keys_of}
+use Rattle.nm_calls.specs.NearKeys.{IsPast, bound}
 use Rattle.nm_calls.specs.PlainWalks.{WasSo}
 use Rattle.nm_calls.specs.Scans.{IsIn, IsRangeBy, beyond, end_of}
 use Rattle.nm_tree.proofs.Taking.{no_shorter}
@@ -52,6 +56,28 @@ module _ (side : Side) (W : ℕ → Bool → Type 0) where
   told_was from to [] none j (i, less, is) = absurd (omega (arith, less))
   told_was from to (k ∷ ks) (within, is_key, was, none, rest) j (zero, less, is) = subst (λ (x : ℕ). W x true) is was
   told_was from to (k ∷ ks) (within, is_key, was, none, rest) j (suc i, less, is) = told_was (beyond side k) to ks rest j (i, (omega (arith, less)), is)
+
+  -- each is in the range
+  pub told_within : (from to : ℕ) (ks : List ℕ) → IsRangeBy side W from to ks → (i d : ℕ) → i < length ks → IsIn side from to (get_or ks i d)
+  told_within from to [] none i d less = absurd (omega (arith, less))
+  told_within from to (k ∷ ks) (within, is_key, was, none, rest) zero d less = within
+  told_within from to (k ∷ ks) (within, is_key, was, none, rest) (suc i) d less = later side (get_or ks i d) within (told_within (beyond side k) to ks rest i d (omega (arith, less)))
+    where
+      later : (s : Side) (x : ℕ) → IsIn s from to k → IsIn s (beyond s k) to x → IsIn s from to x
+      later Left x first then' = (then'.0, (let high = first.1 in let low = then'.1 in omega (arith, high, low)))
+      later Right x first then' = ((let low = first.0 in let high = then'.0 in omega (arith, low, high)), then'.1)
+
+-- so are the keys of the entries that a scan of a map wrote
+module _ (W : ℕ → Bool → Type 0) (from below n : ℕ) (out : List MapEntry) where
+  pub entries_within : (next : Option ℕ) → n ≤ length (keys_of out) → IsRangeBy Right W from (end_of Right below next) (take n (keys_of out)) → IfSome next (λ k. IsKey k × IsIn Right from below k × (length (keys_of out) ≢ 0 → IsPast Right from k)) → AllWithin (λ e. (from ≤ e.key) × (e.key < below)) out 0 n
+  entries_within next fits range before i d low less =
+      let long = length-take-le n (keys_of out) fits in
+      let within = told_within Right W from (end_of Right below next) (take n (keys_of out)) range i d.key (omega (arith, long, less)) in
+      subst (λ (x : ℕ). (from ≤ x) × (x < below)) (get_or-take n (keys_of out) i d.key less ∙ get_or-map (λ (e : MapEntry). e.key) out i d) (within.0, under next before within.1)
+    where
+      under : (o : Option ℕ) → IfSome o (λ k. IsKey k × IsIn Right from below k × (length (keys_of out) ≢ 0 → IsPast Right from k)) → {x : ℕ} → x < end_of Right below o → x < below
+      under None before' less' = less'
+      under (Some k) before' less' = let first = before'.1.1 in omega (arith, first, less')
 
 -- ---- keys that stood all the time, and keys that were absent all the time
 

@@ -1,11 +1,13 @@
 //! Members of a map that handle keys with their values, proved from the clauses of `nm_set`.
-ghost use Rattle.std.specs.Prelude.{◌≡◌, ◌<◌, Some, IfSome};
+ghost use Rattle.std.specs.Prelude.{◌≡◌, ◌<◌, ◌≤◌, Some, IfSome};
+ghost use Rattle.std.specs.List.{AllWithin};
+ghost use Rattle.nm_calls.specs.MapScans.{HadEntry};
 ghost use Rattle.nm_calls.specs.Maps.{MapGave};
 ghost use Rattle.nm_set.specs.Maps.{TookMeanwhile};
 ghost use Rattle.nm_callers.specs.Mapping.{HasPutOrFound};
 
 use nm_edge::Key;
-use nm_set::{MapMember, Options};
+use nm_set::{MapEntry, MapMember, Options};
 
 /// Inserts a key with a value, and returns the value that the key then had: this one, or the one that
 /// was there. `None`: the call returned an error. Proved: otherwise the map had the key with the
@@ -47,5 +49,27 @@ pub fn take_due(member: &mut MapMember, below: u64, options: &Options) -> Option
     match member.pop_first_below(below, &mut value, options) {
         Ok(Some(due)) => Some((due, value)),
         _ => None,
+    }
+}
+
+/// Lists the tasks of a map from `first` on that are due before `below`, in the order of their keys, as
+/// a scheduler does that looks before it takes. Returns how many it has listed; 0 after an error too.
+/// Proved, about each listed task: it is due, and the map had its key with its value at a moment of
+/// the call.
+pub fn list_due(
+    member: &mut MapMember,
+    first: Key,
+    below: u64,
+    out: &mut [MapEntry],
+    tries: u32,
+) -> usize
+    ensures tree { member.new.tree ≡ member.old.tree }
+    ensures due { AllWithin (λ e. (first ≤ e.key) × (e.key < below)) out.new 0 result }
+    ensures had { AllWithin (HadEntry member.old.worker.pass member.new.worker.pass) out.new 0
+        result }
+{
+    match member.scan_with_values(first, below, out, tries) {
+        Ok(scanned) => scanned.count,
+        Err(_) => 0,
     }
 }

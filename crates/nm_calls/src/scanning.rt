@@ -372,13 +372,13 @@ fn walk_down(
 ) -> Stretch
     requires pinned { IsPinnedIn shared.now pass.old }
     requires walks { IsStretch plan.now.side plan.now.end 0 pass.old begun.now }
-    requires some { begun.now.next.slot ≢ 0 }
+    requires some { plan.now.what ≡ What.Entries → begun.now.next.slot ≢ 0 }
     requires kept { All (IsStretch plan.now.side plan.now.end 0 pass.old) stretches.old.items }
     ensures looks { AddsLooks (reach shared.now.layout * 4) pass.old.view.log pass.new.view.log }
     ensures walks { IsStretch plan.now.side plan.now.end 0 pass.new result }
     ensures kept { All (IsStretch plan.now.side plan.now.end 0 pass.new) stretches.new.items }
     ensures entry { entry_of plan.now.side result ≡ entry_of plan.now.side begun.now }
-    ensures hit { EndsAt pass.new result leaf.new }
+    ensures hit { plan.now.what ≡ What.Entries → EndsAt pass.new result leaf.new }
     ensures long { result.next.slot ≢ 0 → (k : ℕ) → result.low ≤ k → k < result.high
         → IsTooFar shared.now.layout k pass.new.view.log }
     ensures on { GoesOn pass.old pass.new }
@@ -478,8 +478,8 @@ fn keep(stretches: &mut Stretches, stretch: &Stretch)
     stretches.push(*stretch);
 }
 
-/// Returns the stretch that begins at a bound, whose walk has a node to read: the one that was kept
-/// last, or one that begins a walk from slot 2. Cost: at most one look.
+/// Returns the stretch that begins at a bound: the one that was kept last, or one that begins a walk
+/// from slot 2. For an entry its walk has a node to read. Cost: at most one look.
 #[inline(always)]
 fn next_stretch(
     shared: &Shared,
@@ -497,17 +497,28 @@ fn next_stretch(
     ensures walks { IsStretch plan.now.side plan.now.end 0 pass.new result }
     ensures kept { All (IsStretch plan.now.side plan.now.end 0 pass.new) stretches.new.items }
     ensures entry { entry_of plan.now.side result ≡ at }
-    ensures some { result.next.slot ≢ 0 }
+    ensures some { plan.now.what ≡ What.Entries → result.next.slot ≢ 0 }
     ensures on { GoesOn pass.old pass.new }
     ensures only { OnlyLooks pass.old pass.new }
 {
     if let Some(kept) = stretches.pop() {
-        if entry(plan.side, &kept) == at && !is_null(kept.next) {
+        if entry(plan.side, &kept) == at && leads_on(plan, &kept) {
             return kept;
         }
     }
     stretches.clear();
     begin(shared, pass, plan, at)
+}
+
+/// Returns whether a scan may go on with this stretch. The leaf of a walk that has ended is not kept,
+/// and a scan for entries needs it.
+fn leads_on(plan: &Plan, kept: &Stretch) -> bool
+    ensures { result ≡ true → plan.now.what ≡ What.Entries → kept.now.next.slot ≢ 0 }
+{
+    match plan.what {
+        What::Keys => true,
+        What::Entries => !is_null(kept.next),
+    }
 }
 
 /// Writes the keys of a range, if the walk for its first stretch has ended at this leaf. Each turn of
@@ -528,7 +539,7 @@ fn write_all(
     requires known { Tells pass.old (KnowsSlot 2) }
     requires walks { IsStretch plan.now.side plan.now.end 0 pass.old first.now }
     requires ended { first.now.next.slot ≡ 0 }
-    requires hit { EndsAt pass.old first.now leaf }
+    requires hit { plan.now.what ≡ What.Entries → EndsAt pass.old first.now leaf }
     requires kept { All (IsStretch plan.now.side plan.now.end 0 pass.old) stretches.old.items }
     requires top { plan.now.end ≤ INFINITY_0 }
     requires room { (plan.now.room ≤ length (keys_in plan.now.what out.old entries.old))
@@ -598,7 +609,7 @@ fn turn(
     requires known { Tells pass.old (KnowsSlot 2) }
     requires walks { IsStretch plan.now.side plan.now.end 0 pass.old stretch.old }
     requires ended { stretch.old.next.slot ≡ 0 }
-    requires hit { EndsAt pass.old stretch.old progress.old.leaf }
+    requires hit { plan.now.what ≡ What.Entries → EndsAt pass.old stretch.old progress.old.leaf }
     requires at { progress.old.at ≡ entry_of plan.now.side stretch.old }
     requires kept { All (IsStretch plan.now.side plan.now.end 0 pass.old) stretches.old.items }
     requires top { plan.now.end ≤ INFINITY_0 }
@@ -612,7 +623,7 @@ fn turn(
         × (stretch.new.next.slot ≡ 0) × (progress.new.at ≡ entry_of plan.now.side stretch.new)
         × (progress.new.spare ≢ 0) × IsPast plan.now.side progress.old.at progress.new.at }
     ensures kept { All (IsStretch plan.now.side plan.now.end 0 pass.new) stretches.new.items }
-    ensures hit { EndsAt pass.new stretch.new progress.new.leaf }
+    ensures hit { plan.now.what ≡ What.Entries → EndsAt pass.new stretch.new progress.new.leaf }
     ensures told { (start : ℕ) → Lies plan.now.side start progress.old.at
         → IsRangeBy plan.now.side (HasEndedSo pass.old) start progress.old.at
         (take progress.old.count (keys_in plan.now.what out.old entries.old))

@@ -2,8 +2,8 @@
 //! own.
 use nm_edge::Key;
 use nm_set::{
-    CallFault, CloseReason, Map, MapEndError, MapMember, MemberFault, NotPinned, ObserveFault,
-    Options, PinFault, PinnedGetFault, ResignReason, Stamp,
+    CallFault, CloseReason, Map, MapEndError, MapEntry, MapMember, MemberFault, NotPinned,
+    ObserveFault, Options, PinFault, PinnedGetFault, ResignReason, Stamp,
 };
 use std::process::Abort;
 use std::test::Fail;
@@ -69,6 +69,56 @@ fn a_member_of_a_map_puts_and_gets(rt: HostRuntime) -> Result<(), Fail> {
     second.close();
     assert_eq!(rt; keys_of(&rt, map), 2);
     Ok(())
+}
+
+/// Scans of a map write the keys of a range with their values, in both directions and in parts. A scan
+/// that is refused writes nothing.
+#[test]
+fn a_member_of_a_map_scans(rt: HostRuntime) -> Result<(), Fail> {
+    let map = Map::new(rt.alloc(), 64, 1)?;
+    let mut member = map.attach()?;
+    let first = key(&rt, 0);
+    let none = MapEntry::default();
+    let mut out = [none; 4];
+    assert_eq!(rt;
+        member.scan_with_values(first, 100, &mut out, TRIES)?.count,
+        0
+    );
+    for number in 3..8 {
+        let inserted = member.try_insert(key(&rt, number), 10 * number, TRIES);
+        assert_eq!(rt; inserted, Ok(true));
+    }
+    assert_eq!(rt;
+        member.scan_with_values(first, 100, &mut out, 0),
+        Err(CallFault::Busy)
+    );
+    let _ = member.pin(TRIES)?;
+    assert_eq!(rt;
+        member.scan_back_with_values(first, 0, &mut out, TRIES),
+        Err(CallFault::Pinned)
+    );
+    member.unpin()?;
+    assert_eq!(rt; out, [none; 4]);
+    let found = member.scan_with_values(first, 100, &mut out, TRIES)?;
+    assert_eq!(rt; (found.count, found.next.is_some()), (4, true));
+    assert_eq!(rt; out, [entry(3), entry(4), entry(5), entry(6)]);
+    out = [none; 4];
+    let found = member.scan_back_with_values(key(&rt, 5), 4, &mut out, TRIES)?;
+    assert_eq!(rt; (found.count, found.next), (2, None));
+    assert_eq!(rt; out, [entry(5), entry(4), none, none]);
+    member.close();
+    assert_eq!(rt; keys_of(&rt, map), 5);
+    Ok(())
+}
+
+/// Returns an entry whose value is ten times its key.
+fn entry(key: u64) -> MapEntry
+    requires { key < 100 }
+{
+    MapEntry {
+        key,
+        value: 10 * key,
+    }
 }
 
 /// The value of a removed key comes back once, and not before a member that was pinned has unpinned.

@@ -51,7 +51,7 @@ returns-then-not-write-clause-leaves c what all =
 
 pub returns-then-progress-eq0-clause-leaves : goal.returns-then-progress-eq0-clause-leaves
 returns-then-progress-eq0-clause-leaves c what all =
-    leaves_more c.args.plan.now.side c.args.plan.now.end 0 c.args.pass.now c.args.stretch.now c.requires.walks c.requires.ended c.args.progress.now.leaf c.requires.hit _ _ (c.write.ensures.slots c.if-not-write.false what) all
+    leaves_more c.args.plan.now.side c.args.plan.now.end 0 c.args.pass.now c.args.stretch.now c.requires.walks c.requires.ended c.args.progress.now.leaf (c.requires.hit what) _ _ (c.write.ensures.slots c.if-not-write.false what) all
 
 pub returns-clause-leaves : goal.returns-clause-leaves
 returns-clause-leaves c what all =
@@ -59,7 +59,7 @@ returns-clause-leaves c what all =
     let q = c.next_stretch-begun.new.pass in
     let z = c.walk_down-walked.new.pass in
     leaves_still p z (looks_then p.view.log q.view.log z.view.log c.next_stretch-begun.ensures.looks c.walk_down-walked.ensures.looks) _
-    (leaves_more c.args.plan.now.side c.args.plan.now.end 0 p c.args.stretch.now c.requires.walks c.requires.ended c.args.progress.now.leaf c.requires.hit _ _ (c.write.ensures.slots c.if-not-write.false what) all)
+    (leaves_more c.args.plan.now.side c.args.plan.now.end 0 p c.args.stretch.now c.requires.walks c.requires.ended c.args.progress.now.leaf (c.requires.hit what) _ _ (c.write.ensures.slots c.if-not-write.false what) all)
 
 -- ---- why a scan ends early
 

@@ -18,7 +18,7 @@ loop-node-init c =
       walks = c.requires.walks;
       kept = c.requires.kept;
       entry = refl;
-      hit = λ null. absurd (c.requires.some null);
+      hit = λ what null. absurd (c.requires.some what null);
       on = goes_here c.args.shared.now o c.requires.pinned;
       only = only_here o;
     }
@@ -46,7 +46,7 @@ loop-node-preserved c =
       walks = walked.0;
       kept = walked.1;
       entry = did.entry ∙ held.entry;
-      hit = subst (EndsAt q c.read_on-on.result) (sym c.slot.ensures) (did.hit c.args.plan.now.end c.loop-node._node held.walks);
+      hit = λ what. subst (EndsAt q c.read_on-on.result) (sym c.slot.ensures) (did.hit c.args.plan.now.end c.loop-node._node held.walks);
       on = goes_then o p q held.on did.on;
       only = only_then o p q held.only did.only;
     }

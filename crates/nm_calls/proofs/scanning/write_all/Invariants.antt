@@ -15,7 +15,7 @@ invariant-loop-turn l = record {
   legs : (m : ℕ) × (m + l.progress.spare ≡ l.progress.count + l.tries) × AddsLooks (m * leg_looks (reach l.shared.layout)) l.fn.pass.view.log l.pass.view.log;
   walks : IsStretch l.plan.side l.plan.end 0 l.pass l.stretch;
   ended : l.stretch.next.slot ≡ 0;
-  hit : EndsAt l.pass l.stretch l.progress.leaf;
+  hit : l.plan.what ≡ Entries → EndsAt l.pass l.stretch l.progress.leaf;
   at : l.progress.at ≡ entry_of l.plan.side l.stretch;
   kept : All (IsStretch l.plan.side l.plan.end 0 l.pass) l.stretches.items;
   some : l.progress.spare ≢ 0;
