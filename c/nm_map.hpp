@@ -189,14 +189,20 @@ private:
     void (*end_)(std::uint64_t) noexcept;
 };
 
-// Returns whether the answer is not NM_NO. Throws the fault of a call of a map for a key.
-inline bool answered_by_map(nm_outcome outcome, std::uint64_t key = 0) {
-    if (outcome == NM_KEY) fail_at(Place{}, outcome, key);
+// Throws the fault of a call of a map for a key.
+[[noreturn, gnu::cold]] inline void fail_by_map(nm_outcome outcome, std::uint64_t key) {
     if (outcome == NM_FORKED)
         throw Fault(outcome, Literal{"the map was made before this process was forked: only the "
                                      "parent can use it"});
     if (outcome == NM_CLOSED) throw Fault(outcome, Literal{"the worker is closed"});
-    return answered(outcome);
+    if (outcome == NM_KEY) fail_at(Place{}, outcome, key);
+    throw Fault(outcome, words(outcome));
+}
+
+// Returns whether the answer is not NM_NO. Throws a fault if the outcome is an error.
+inline bool answered_by_map(nm_outcome outcome, std::uint64_t key = 0) {
+    if (outcome < 0) fail_by_map(outcome, key);
+    return outcome != NM_NO;
 }
 
 [[noreturn]] inline void fail_unfinished(std::uint64_t key) {
