@@ -32,6 +32,7 @@ from collections.abc import Callable, ItemsView, Iterable, Iterator, MutableMapp
 from collections.abc import Mapping as AbstractMapping
 from contextlib import suppress
 from ctypes import c_size_t, c_uint32, c_uint64
+from functools import partial
 from types import TracebackType
 from typing import Any, Generic, Optional, SupportsIndex, TypeVar, Union, overload
 
@@ -303,10 +304,10 @@ class Map(MutableMapping, Generic[V]):  # type: ignore[type-arg]
         self._check_open()
         found: list[Any] = []
         for block in blocks:
-            found += self._with_worker(lambda worker, block=block: self._found_many(worker, block))
+            found += self._with_worker(partial(self._found_many, block))
         return [default if each is _MISSING else each for each in found]
 
-    def _found_many(self, worker: _Worker, keys: memoryview) -> list[Any]:
+    def _found_many(self, keys: memoryview, worker: _Worker) -> list[Any]:
         """Returns the objects of at most `_ROOM` keys, under a pin of the worker."""
         lookups, epoch = (c.MapLookupWords * len(keys))(*((key,) for key in keys)), c_uint64()
         try:
