@@ -100,7 +100,8 @@ bool is_refused(Mapped &mapped, const nm::MapGuard<Canary> &guard) {
 void children_end_no_objects() {
     {
         Mapped mapped;
-        CHECK(mapped.worker.emplace(5u, 5u) && mapped.worker.emplace(6u, 6u) && mapped.worker.remove(6u));
+        CHECK(mapped.worker.emplace(5u, 5u) && mapped.worker.emplace(6u, 6u));
+        CHECK(mapped.worker.remove(6u));
         std::atomic<bool> is_over{false};
         std::vector<std::thread> threads;
         for (std::uint64_t first = 0; first < callers; first++)

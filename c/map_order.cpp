@@ -1,6 +1,6 @@
-// Tests the calls of nm::Map that go over several keys: neighbours, ranges, pops, look-ups of several
-// keys, sizes, and maps that are made of keys and values. Values in place are compared with a std::map.
-// Objects are read under a guard of another worker, also while threads remove them.
+// Tests the calls of nm::Map that go over several keys: neighbours, ranges, pops, look-ups of
+// several keys, sizes, and maps that are made of keys and values. Values in place are compared with
+// a std::map. Objects are read under a guard of another worker, also while threads remove them.
 #include "canary.hpp"
 #include "nm_map.hpp"
 #include "thrown.hpp"
@@ -61,9 +61,9 @@ void reads_like(Numbers &map, Numbers::Worker &worker, const Plain &plain, std::
         CHECK(back.empty() || at->key < back.begin()->first);
         back.emplace(at->key, at->value);
     }
-    Plain some(plain.lower_bound(from), from < below ? plain.lower_bound(below) : plain.lower_bound(from));
-    CHECK(read == some && back == some);
-    CHECK(worker.count(from, below) == some.size() && worker.keys(from, below).size() == some.size());
+    Plain some(wanted, from < below ? plain.lower_bound(below) : wanted);
+    CHECK(read == some && back == some && worker.count(from, below) == some.size());
+    CHECK(worker.keys(from, below).size() == some.size());
 }
 
 void pop_like(Numbers::Worker &worker, Plain &plain, std::uint64_t bound, bool is_first) {
@@ -168,8 +168,7 @@ void objects_are_moved_into_a_map() {
     std::vector<std::pair<unsigned, std::unique_ptr<Canary>>> pairs;
     for (unsigned key = 0; key < 10; key++)
         pairs.emplace_back(key / 2, std::make_unique<Canary>(key / 2));
-    auto first = std::make_move_iterator(pairs.begin()), last = std::make_move_iterator(pairs.end());
-    Objects map(64, first, last);
+    Objects map(64, std::make_move_iterator(pairs.begin()), std::make_move_iterator(pairs.end()));
     CHECK(map.size() == 5 && Canary::alive() == 10);
     for (unsigned key = 0; key < 10; key++) CHECK((pairs[key].second == nullptr) == (key % 2 == 0));
 }
@@ -192,10 +191,12 @@ void objects_are_read_and_popped_under_a_guard() {
         CHECK(all.size() == 600 && calls.get(5u) == all[5] && calls.get(600u) == nullptr);
         CHECK(calls.first()->value == all[0] && calls.last()->value == all[599]);
         CHECK(calls.lower_bound(7u)->value == all[7] && calls.at_most(9u)->value == all[9]);
-        CHECK(guard.get_many({3, 700, 4}) == std::vector<Canary *>({calls.get(3u), nullptr, calls.get(4u)}));
+        std::vector<Canary *> some{calls.get(3u), nullptr, calls.get(4u)};
+        CHECK(guard.get_many({3, 700, 4}) == some);
         auto popped = calls.pop_first();
         CHECK(popped->key == 0 && popped->value == all[0]);
-        CHECK(calls.pop_last(599u)->value == all[599] && !calls.pop_last(599u) && !calls.pop_first(1u));
+        CHECK(calls.pop_last(599u)->value == all[599]);
+        CHECK(!calls.pop_last(599u) && !calls.pop_first(1u));
         CHECK(calls.take(5u) == all[5] && calls.take(5u) == nullptr);
         CHECK(worker.pop_first() == std::optional<std::uint64_t>(1) && *remover.pop_last() == 598);
         remover.clear();

@@ -1,9 +1,10 @@
-// map_soak [THREADS [CALLS [KEYS]]]: threads insert, get, remove and pop objects of one nm::Map, for
-// CALLS calls in all, with keys below KEYS. A get reads the object under a guard, and now and then
-// holds the guard for a while. A pop reads the object that it removed under the guard of a second
-// worker, and a pass reads some objects in order. Each object checks that it is destroyed once, and each reader that
-// it reads an object that exists. At the end each object was destroyed. Without numbers it is
-// short, for c/check; under the sanitizers and valgrind it finds a read or a free of freed memory.
+// map_soak [THREADS [CALLS [KEYS]]]: threads insert, get, remove and pop objects of one nm::Map,
+// for CALLS calls in all, with keys below KEYS. A get reads the object under a guard, and now and
+// then holds the guard for a while. A pop reads the object that it removed under the guard of a
+// second worker, and a pass reads some objects in order. Each object checks that it is destroyed
+// once, and each reader that it reads an object that exists. At the end each object was destroyed.
+// Without numbers it is short, for c/check; under the sanitizers and valgrind it finds a read or a
+// free of freed memory.
 #include "canary.hpp"
 #include "nm_map.hpp"
 
@@ -80,7 +81,8 @@ void insert(Objects::Worker &worker, std::uint64_t key, Counts &counts) {
 
 // Pops the least object below a key, or the greatest from it on, or none if other threads take each
 // key that it finds.
-std::optional<nm::MapEntry<Canary *>> popped_by(nm::GuardedWorker<Canary> calls, std::uint64_t key) {
+std::optional<nm::MapEntry<Canary *>> popped_by(nm::GuardedWorker<Canary> calls,
+                                                std::uint64_t key) {
     try {
         return key % 2 == 0 ? calls.pop_first(key) : calls.pop_last(key);
     } catch (const nm::Fault &fault) {

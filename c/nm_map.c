@@ -181,7 +181,8 @@ nm_outcome nm_map_get_many(nm_handle *worker, nm_map_lookup *lookups, size_t cou
         uint64_t epoch;
         outcome = nm_map_hold(worker, options, &epoch);
         if (outcome < 0) return outcome;
-        outcome = nm_map_get_many_pinned(worker, lookups + at, count - at < ROOM ? count - at : ROOM);
+        size_t some = count - at < ROOM ? count - at : ROOM;
+        outcome = nm_map_get_many_pinned(worker, lookups + at, some);
         (void)nm_map_unpin(worker);
     }
     return outcome;
@@ -191,8 +192,8 @@ nm_outcome nm_map_get_many(nm_handle *worker, nm_map_lookup *lookups, size_t cou
 
 /* The number of forks between the start of the program and this process, which nm_pool.c counts
  * after the first call of nm_host_count_forks. */
+extern __attribute__((visibility("hidden"))) atomic_ulong nm_host_forks;
 __attribute__((visibility("hidden"))) void nm_host_count_forks(void);
-__attribute__((visibility("hidden"))) unsigned long nm_host_forks(void);
 
 /* The keys that a worker has inserted, less those that it has removed. */
 struct tally {
@@ -215,13 +216,15 @@ nm_outcome nm_map_counts_new(nm_map_counts **counts, uint32_t workers) {
     memset(made, 0, size);
     nm_host_count_forks();
     made->workers = workers;
-    made->forks = nm_host_forks();
+    made->forks = atomic_load(&nm_host_forks);
     made->block = block;
     *counts = made;
     return NM_DONE;
 }
 
-int nm_map_is_forked(const nm_map_counts *counts) { return counts->forks != nm_host_forks(); }
+int nm_map_is_forked(const nm_map_counts *counts) {
+    return counts->forks != atomic_load_explicit(&nm_host_forks, memory_order_relaxed);
+}
 
 void nm_map_counts_free(nm_map_counts *counts) {
     if (counts != NULL && !nm_map_is_forked(counts)) free(counts->block);

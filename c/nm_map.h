@@ -1,7 +1,8 @@
 /* Calls on a map of nm_set.h that hand each value that comes back to a function of the program. So
  * a value may be the address of an object: that function frees the object. The calls of this header
  * are made of the proved functions of nm_set.h, and no proof covers them. The maps of C++ and Rust
- * are made of these calls. c/map_calls.c and the tests of each language test them.
+ * are made of these calls, and that of Python of some. c/map_calls.c, c/map_reads.c and the tests of
+ * each language test them.
  *
  *     static void give_back(void *context, uint64_t value) { free((void *)(uintptr_t)value); }
  *
@@ -16,10 +17,10 @@
  *     nm_map_drain(&map, give_back, NULL, 1000);       frees each object that is left
  *     nm_drop(&map);
  *
- * Proved, of nm_set.h: each leaf that is freed hands out its value, and no leaf is freed twice. A leaf
- * is freed after all workers have unpinned that were pinned when it was cut off. So a reader may use
- * an object from a get under a pin until the unpin. Without the caller's pin an object may be freed at any time
- * after the get. The program that removes a key does not free the object itself, because others may
+ * Proved, of nm_set.h: each leaf that is freed hands out its value, and no leaf is freed twice. A
+ * leaf is freed after all workers have unpinned that were pinned when it was cut off. So a reader
+ * may use an object from a get under a pin until the unpin. Without the caller's pin an object may
+ * be freed at any time after the get. The program that removes a key does not free the object itself, because others may
  * be reading it.
  *
  * The function `release` is called between two calls of the library, by the thread whose call found
@@ -101,9 +102,9 @@ nm_outcome nm_map_at_most(nm_handle *worker, uint64_t key, const nm_options *opt
 
 /* Reads keys in ascending order: those that are not below `from` and are below `below`, at most
  * `room` of them. Writes them to keys, and their number to count. Returns NM_NO if they are all of
- * them. Returns NM_YES if there may be more, and writes to next from which key on: the next call goes
- * on there. It takes no snapshot: two keys may have different moments. A key that the map has during
- * the whole call is written. */
+ * them. Returns NM_YES if there may be more, and writes to next from which key on: the next call
+ * goes on there. It takes no snapshot: two keys may have different moments. A key that the map has
+ * during the whole call is written. */
 nm_outcome nm_map_read_keys(nm_handle *worker, uint64_t from, uint64_t below, uint64_t *keys,
                             size_t room, size_t *count, uint64_t *next, const nm_options *options);
 
@@ -132,8 +133,8 @@ typedef struct nm_map_lookup {
     uint64_t value;
 } nm_map_lookup;
 
-/* Looks up count keys, and writes the found and the value of each. It pins the worker for 64 keys at
- * a time. Returns NM_DONE. */
+/* Looks up count keys, and writes the found and the value of each. It pins the worker for 64 keys
+ * at a time. Returns NM_DONE. */
 nm_outcome nm_map_get_many(nm_handle *worker, nm_map_lookup *lookups, size_t count,
                            const nm_options *options);
 
@@ -161,8 +162,8 @@ void nm_map_counts_free(nm_map_counts *counts);
 void nm_map_count_insert(nm_map_counts *counts, uint32_t worker, nm_outcome outcome);
 void nm_map_count_remove(nm_map_counts *counts, uint32_t worker, nm_outcome outcome);
 
-/* Returns the number of keys: it adds up the counts, and waits for nothing. It is exact if no call is
- * in progress; otherwise it may miss the calls in progress. */
+/* Returns the number of keys: it adds up the counts, and waits for nothing. It is exact if no call
+ * is in progress; otherwise it may miss the calls in progress. */
 uint64_t nm_map_counts_keys(const nm_map_counts *counts);
 
 /* Returns 1 if this process was forked after the counts were made, and else 0. A forked child must

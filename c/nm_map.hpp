@@ -10,12 +10,12 @@
 //     worker.remove(5u);                       // true; the text is freed when nobody can read it
 //
 // A T of at most 8 bytes that can be copied by memcpy, like a number, is stored in place. Then all
-// calls of a worker return copies. A map holds objects of every other T by `std::unique_ptr<T>`, and
-// frees each of them exactly once: after its key was removed, when no guard is left that could have
-// returned it; or at the end of the map.
+// calls of a worker return copies. A map holds objects of every other T by `std::unique_ptr<T>`,
+// and frees each of them exactly once: after its key was removed, when no guard is left that could
+// have returned it; or at the end of the map.
 //
-// A worker that has a guard makes no other call. So calls that go over several keys, and pops, return
-// objects by a second worker, under the guard of the first one:
+// A worker that has a guard makes no other call. So calls that go over several keys, and pops,
+// return objects by a second worker, under the guard of the first one:
 //
 //     auto guard = worker.pin();
 //     auto calls = other.under(guard);         // `other` is another worker of the map
@@ -29,9 +29,9 @@
 // the end of a guard before the object is freed.
 //
 // The library is proved. What this header and nm_map.h add to it is tested by c/map_objects.cpp,
-// c/map_order.cpp, c/map_soak.cpp and c/refused_map.cpp, and not proved. In a forked child each call
-// throws NM_FORKED, and the ends of a map, a worker and a guard do nothing: so no object of the
-// parent is freed there.
+// c/map_order.cpp, c/map_soak.cpp and c/refused_map.cpp, and not proved. In a forked child each
+// call throws NM_FORKED, and the ends of a map, a worker and a guard do nothing: so no object of
+// the parent is freed there.
 #ifndef NM_MAP_HPP
 #define NM_MAP_HPP
 
@@ -113,8 +113,8 @@ Returned<T> returned(std::uint64_t word) noexcept {
         return object_of<T>(word);
 }
 
-// What a guard returns for a key: a pointer to its object, or null; or a copy of its value in place, or
-// nothing.
+// What a guard returns for a key: a pointer to its object, or null; or a copy of its value in
+// place, or nothing.
 template <typename T>
 using Found = std::conditional_t<is_in_place<T>, std::optional<T>, T *>;
 
@@ -189,20 +189,27 @@ private:
     void (*end_)(std::uint64_t) noexcept;
 };
 
-// Returns whether the answer is not NM_NO. Throws the fault of a call of a map for a key.
-inline bool answered_by_map(nm_outcome outcome, std::uint64_t key = 0) {
-    if (outcome == NM_KEY) fail_at(Place{}, outcome, key);
+// Throws the fault of a call of a map for a key.
+[[noreturn, gnu::cold]] inline void fail_by_map(nm_outcome outcome, std::uint64_t key) {
     if (outcome == NM_FORKED)
         throw Fault(outcome, Literal{"the map was made before this process was forked: only the "
                                      "parent can use it"});
     if (outcome == NM_CLOSED) throw Fault(outcome, Literal{"the worker is closed"});
-    return answered(outcome);
+    if (outcome == NM_KEY) fail_at(Place{}, outcome, key);
+    throw Fault(outcome, words(outcome));
+}
+
+// Returns whether the answer is not NM_NO. Throws a fault if the outcome is an error.
+inline bool answered_by_map(nm_outcome outcome, std::uint64_t key = 0) {
+    if (outcome < 0) fail_by_map(outcome, key);
+    return outcome != NM_NO;
 }
 
 [[noreturn]] inline void fail_unfinished(std::uint64_t key) {
     fail(NM_UNFINISHED, [=] {
-        return "the key " + std::to_string(key) + " will be removed by this call and no other, but "
-               "its value is not known, because other threads interfered with each try of each round";
+        return "the key " + std::to_string(key) +
+               " will be removed by this call and no other, but its value is not known, because "
+               "other threads interfered with each try of each round";
     });
 }
 
@@ -252,8 +259,8 @@ public:
         return detail::found<T>(is_found, word);
     }
 
-    // Returns the value of each of these keys, in their order. The map had each of them at a moment of
-    // this call. Throws NM_KEY, and NM_NOT_PINNED after `unpin`.
+    // Returns the value of each of these keys, in their order. The map had each of them at a moment
+    // of this call. Throws NM_KEY, and NM_NOT_PINNED after `unpin`.
     [[nodiscard]] std::vector<Found> get_many(const std::vector<std::uint64_t> &wanted) const {
         return open_worker().values_of(wanted, nm_map_get_many_pinned);
     }
@@ -294,22 +301,22 @@ private:
     std::uint64_t epoch_;
 };
 
-// The calls of a worker in the order of the keys. An entry is what they return: `MapEntry<T>` of values
-// in place, `MapEntry<T *>` under a guard, and otherwise the key of an object. The calls that read take
-// no snapshot: the map had each key, with its value, at a moment of the call, and two keys may have
-// different moments. A key that is in the map during the whole call is returned. An iterator reads
-// ahead in blocks, like that of nm::Set.
+// The calls of a worker in the order of the keys. An entry is what they return: `MapEntry<T>` of
+// values in place, `MapEntry<T *>` under a guard, and otherwise the key of an object. The calls
+// that read take no snapshot: the map had each key, with its value, at a moment of the call, and
+// two keys may have different moments. A key that is in the map during the whole call is returned.
+// An iterator reads ahead in blocks, like that of nm::Set.
 template <typename Of, typename Entry>
 class MapCalls : public InOrder<Of, Entry> {
 public:
-    // Removes the least key that is below a bound and returns it, or nothing if there is none. No two
-    // calls return one key, unless it was inserted again in between. No call passes over a key that
-    // was in the map during the whole call. The object is freed later, as after `remove`.
+    // Removes the least key that is below a bound and returns it, or nothing if there is none. No
+    // two calls return one key, unless it was inserted again in between. No call passes over a key
+    // that was in the map during the whole call. The object is freed later, as after `remove`.
     //
-    // If the bound of the call is reached before the key is cut off, this call removes it and no other
-    // does, and the next call by this worker finishes that. Then a pop that returns keys alone returns
-    // the key. One that returns values throws NM_UNFINISHED, with the key in the text, because the
-    // value is not known.
+    // If the bound of the call is reached before the key is cut off, this call removes it and no
+    // other does, and the next call by this worker finishes that. Then a pop that returns keys
+    // alone returns the key. One that returns values throws NM_UNFINISHED, with the key in the
+    // text, because the value is not known.
     std::optional<Entry> pop_first(Key below = UINT64_MAX) {
         return popped(nm_map_pop_first_below, below);
     }
@@ -317,8 +324,8 @@ public:
     // Removes the greatest key that is not below a bound and returns it, in the same way.
     std::optional<Entry> pop_last(Key from = 0u) { return popped(nm_map_pop_last_from, from); }
 
-    // Returns how many keys are not below `from` and are below `below`. While others change the map,
-    // it counts each key as it finds it.
+    // Returns how many keys are not below `from` and are below `below`. While others change the
+    // map, it counts each key as it finds it.
     [[nodiscard]] std::uint64_t count(Key from = 0u, Key below = UINT64_MAX) const {
         std::uint64_t found = 0;
         worker().done(from, [&](nm_handle *it, const nm_options *options) {
@@ -406,8 +413,8 @@ private:
 // moved from is closed. Its end returns it to the map, ends its pin, and frees what came back. If
 // the map ends before its workers, the last of them empties it.
 //
-// Its calls in order return copies of values in place. Of objects they return the keys: `under` makes
-// the same calls with the objects. Its iterators must end before it.
+// Its calls in order return copies of values in place. Of objects they return the keys: `under`
+// makes the same calls with the objects. Its iterators must end before it.
 //
 // Each call throws NM_KEY if the key is above 2^64 - 4; NM_BUSY if the bounds of the options were
 // reached, and then the map is unchanged; NM_PINNED while the worker has a guard; NM_IN_USE if
@@ -488,8 +495,8 @@ public:
             return insert(key, made(std::forward<Args>(args)...));
     }
 
-    // Inserts these pairs of a key and a value, one by one; returns how many keys were absent. It makes
-    // an object of a value, or takes it if it is a `unique_ptr` and the iterator moves
+    // Inserts these pairs of a key and a value, one by one; returns how many keys were absent. It
+    // makes an object of a value, or takes it if it is a `unique_ptr` and the iterator moves
     // (`std::make_move_iterator`). If it throws a fault, the pairs before that one are inserted.
     template <typename Input, typename = typename std::iterator_traits<Input>::iterator_category>
     std::uint64_t insert(Input first, Input last) {
@@ -512,8 +519,9 @@ public:
     }
 
     // Removes a key, and returns the value that it had, or nothing if it was absent. No two calls
-    // return one value, unless it was inserted again in between. It returns the value too if the bound
-    // of the call is reached before the key is cut off, because this call removes it and no other does.
+    // return one value, unless it was inserted again in between. It returns the value too if the
+    // bound of the call is reached before the key is cut off, because this call removes it and no
+    // other does.
     std::optional<T> take(Key key) {
         static_assert(detail::is_in_place<T>, "an object is taken under a guard of another worker: "
                                               "other.under(guard).take(key)");
@@ -542,8 +550,8 @@ public:
         return detail::found<T>(is_found, word);
     }
 
-    // Returns copies of the values of these keys, in their order. The worker is pinned for 64 keys at
-    // a time.
+    // Returns copies of the values of these keys, in their order. The worker is pinned for 64 keys
+    // at a time.
     [[nodiscard]] std::vector<std::optional<T>>
     get_many(const std::vector<std::uint64_t> &wanted) const {
         static_assert(detail::is_in_place<T>,
@@ -673,7 +681,8 @@ private:
 
     // Looks up keys by a call of C.
     template <typename Call>
-    std::vector<detail::Found<T>> values_of(const std::vector<std::uint64_t> &wanted, Call call) const {
+    std::vector<detail::Found<T>> values_of(const std::vector<std::uint64_t> &wanted,
+                                            Call call) const {
         std::vector<nm_map_lookup> lookups;
         std::vector<detail::Found<T>> all;
         detail::in_memory([&] { lookups.reserve(wanted.size()), all.reserve(wanted.size()); });
@@ -733,7 +742,8 @@ private:
         return detail::in_memory([&] { return std::make_unique<T>(std::forward<Args>(args)...); });
     }
 
-    // Frees what came back if enough nodes wait, and removes a key by a call of C. Returns its outcome.
+    // Frees what came back if enough nodes wait, and removes a key by a call of C. Returns its
+    // outcome.
     template <typename Call>
     nm_outcome removed(Call call) {
         detail::answered_by_map(ask([&](nm_handle *it) {
@@ -765,8 +775,8 @@ private:
 // The calls of a worker that return objects, under a guard of another worker of the same map
 // (MapWorker::under). Each object that they return exists until the end of that guard, also if this
 // call or another one has removed its key. They throw what the calls of a worker throw, and
-// NM_NOT_PINNED after `unpin` of the guard. It can be copied, and must end before its worker and the
-// guard.
+// NM_NOT_PINNED after `unpin` of the guard. It can be copied, and must end before its worker and
+// the guard.
 template <typename T>
 class GuardedWorker : public MapCalls<GuardedWorker<T>, MapEntry<detail::Returned<T>>> {
 public:
@@ -779,8 +789,8 @@ public:
         return detail::found<T>(is_found, word);
     }
 
-    // Removes a key, and returns the object that it had, or null if it was absent. No two calls return
-    // one object. The map frees it later, after the end of the guard.
+    // Removes a key, and returns the object that it had, or null if it was absent. No two calls
+    // return one object. The map frees it later, after the end of the guard.
     Found take(Key key) {
         std::uint64_t word = 0;
         bool is_taken = worker_of_calls().takes(key, word);
@@ -792,11 +802,13 @@ private:
     friend class MapCalls;
     friend class MapWorker<T>;
 
-    GuardedWorker(MapWorker<T> &worker, const MapGuard<T> &guard) : worker_(&worker), guard_(&guard) {
+    GuardedWorker(MapWorker<T> &worker, const MapGuard<T> &guard)
+        : worker_(&worker), guard_(&guard) {
         const MapWorker<T> &pinned = guard.open_worker();
         if (&pinned == &worker)
-            throw Fault(NM_PINNED, detail::Literal{"the guard is of this worker, which makes no other "
-                                                   "call: take a second worker"});
+            throw Fault(NM_PINNED,
+                        detail::Literal{"the guard is of this worker, which makes no other call: "
+                                        "take a second worker"});
         if (pinned.place_ != worker.place_ && worker.is_open())
             throw std::invalid_argument("nm::Map: the guard is of another map");
     }
@@ -854,8 +866,8 @@ public:
           })) {}
 
     // Makes the map of these keys and values: `nm::Map<int> map(64, {{5u, 50}, {7u, 70}})`. Of two
-    // values for one key it takes the first. It also throws NM_KEY, NM_FULL; then no map is left, and
-    // its objects are freed.
+    // values for one key it takes the first. It also throws NM_KEY, NM_FULL; then no map is left,
+    // and its objects are freed.
     Map(std::uint64_t nodes, std::initializer_list<std::pair<Key, T>> list,
         const MapOptions &options = {})
         : Map(nodes, list.begin(), list.end(), options) {}
@@ -893,9 +905,9 @@ public:
         return attach(std::chrono::milliseconds(place_ == nullptr ? 0 : place_->timeout_ms()));
     }
 
-    // Returns the number of keys: it adds up one count for each worker, and waits for nothing. It is
-    // exact if no call is in progress; otherwise it may miss the calls in progress. An unfinished
-    // remove counts as done.
+    // Returns the number of keys: it adds up one count for each worker, and waits for nothing. It
+    // is exact if no call is in progress; otherwise it may miss the calls in progress. An
+    // unfinished remove counts as done.
     [[nodiscard]] std::uint64_t size() const {
         check_open();
         return nm_map_counts_keys(place_->counts());

@@ -109,23 +109,23 @@ typedef nm_outcome (*call_of)(const nm_pool *, nm_handle *, const struct request
 
 /* ---- forks ---- */
 
-/* The number of forks between the start of the program and this process. */
-static atomic_ulong forks;
-static pthread_once_t forks_once = PTHREAD_ONCE_INIT;
+/* The number of forks between the start of the program and this process, and what begins to count
+ * them. Both are for nm_map.c too, and for no program. */
+extern __attribute__((visibility("hidden"))) atomic_ulong nm_host_forks;
+__attribute__((visibility("hidden"))) void nm_host_count_forks(void);
 
-static void count_fork(void) { atomic_fetch_add(&forks, 1); }
+atomic_ulong nm_host_forks;
+
+static void count_fork(void) { atomic_fetch_add(&nm_host_forks, 1); }
 static void register_count(void) { (void)pthread_atfork(NULL, NULL, count_fork); }
 
-/* These two are for nm_map.c too, and for no program. */
-__attribute__((visibility("hidden"))) void nm_host_count_forks(void);
-__attribute__((visibility("hidden"))) unsigned long nm_host_forks(void);
-
-void nm_host_count_forks(void) { (void)pthread_once(&forks_once, register_count); }
-
-unsigned long nm_host_forks(void) { return atomic_load_explicit(&forks, memory_order_relaxed); }
+void nm_host_count_forks(void) {
+    static pthread_once_t once = PTHREAD_ONCE_INIT;
+    (void)pthread_once(&once, register_count);
+}
 
 INLINE bool is_forked(const nm_pool *pool) {
-    return pool->forks != nm_host_forks();
+    return pool->forks != atomic_load_explicit(&nm_host_forks, memory_order_relaxed);
 }
 
 static int phase_of(const nm_pool *pool) { return atomic_load(&((nm_pool *)pool)->phase); }
@@ -1442,7 +1442,7 @@ nm_outcome nm_pool_new(nm_pool **pool, uint64_t nodes, const nm_pool_options *op
     made->shape = options->shape;
     made->grows = grows;
     atomic_init(&made->nodes, nodes);
-    made->forks = nm_host_forks();
+    made->forks = atomic_load(&nm_host_forks);
     atomic_init(&made->references, 1);
     nm_outcome outcome = new_set(&made->set, nodes, options->workers, options->shape);
     if (outcome == NM_DONE)

@@ -288,8 +288,8 @@ enum class Order { ascending, descending };
 
 namespace detail {
 
-// Entries that an iterator has read ahead, in its order: the keys of a set, or the keys of a map with
-// their values. The last block of a range may be empty.
+// Entries that an iterator has read ahead, in its order: the keys of a set, or the keys of a map
+// with their values. The last block of a range may be empty.
 template <typename Entry>
 struct Block {
     std::size_t room;  // for how many entries it was asked
@@ -373,7 +373,8 @@ public:
 private:
     friend class InOrder<Of, Entry>;
 
-    // Begins with this entry. An ascending iterator ends before the bound, a descending one with it.
+    // Begins with this entry. An ascending iterator ends before the bound, a descending one with
+    // it.
     Iterator(const Of &of, std::optional<Entry> entry, std::uint64_t bound)
         : of_(of), bound_(bound), entry_(entry) {}
 
@@ -419,8 +420,8 @@ private:
     std::uint64_t below_;
 };
 
-// What goes over keys in order. An entry is a key; of a map it may be a key with its value. `Of` has the
-// calls `next`, `prev` and `fill`, of which these are made.
+// What goes over keys in order. An entry is a key; of a map it may be a key with its value. `Of`
+// has the calls `next`, `prev` and `fill`, of which these are made.
 template <typename Of, typename Entry>
 class InOrder {
 public:
@@ -479,7 +480,8 @@ private:
 
     // Returns the block after this one, with more room.
     template <Order order>
-    detail::Block<Entry> block_after(const detail::Block<Entry> &before, std::uint64_t bound) const {
+    detail::Block<Entry> block_after(const detail::Block<Entry> &before,
+                                     std::uint64_t bound) const {
         std::size_t room = before.room < 512 ? 8 * before.room : 512;
         if (before.is_last) return {room, {}, before.next, true};
         return block<order>(room, before.next, bound);
@@ -556,8 +558,9 @@ public:
         });
     }
 
-    // Removes the least keys that are below a bound, one by one and at most `room`, and returns them.
-    // It waits for each key like `pop_first`. It throws a fault only if it has removed no key.
+    // Removes the least keys that are below a bound, one by one and at most `room`, and returns
+    // them. It waits for each key like `pop_first`. It throws a fault only if it has removed no
+    // key.
     std::vector<std::uint64_t> pop_first_many(Key below, std::size_t room) {
         std::vector<std::uint64_t> popped(room);
         std::size_t count = 0;
@@ -569,9 +572,9 @@ public:
         return popped;
     }
 
-    // Removes the least key and returns it, like `pop_first`. If the set is empty it waits for a key,
-    // for `most` at most, and sleeps meanwhile: an insert wakes it. Returns nothing after that time.
-    // Throws NM_CLOSED if the set is closed meanwhile.
+    // Removes the least key and returns it, like `pop_first`. If the set is empty it waits for a
+    // key, for `most` at most, and sleeps meanwhile: an insert wakes it. Returns nothing after that
+    // time. Throws NM_CLOSED if the set is closed meanwhile.
     std::optional<std::uint64_t> wait_pop(std::chrono::milliseconds most) {
         return wait_pop(UINT64_MAX, most);
     }
@@ -606,8 +609,8 @@ public:
         });
     }
 
-    // Inserts these keys, one by one, and appends to `answers` whether each was absent. A look-up of
-    // 64 of them at a time comes first: it is faster than single calls if the set is larger than
+    // Inserts these keys, one by one, and appends to `answers` whether each was absent. A look-up
+    // of 64 of them at a time comes first: it is faster than single calls if the set is larger than
     // the caches of the processor. It waits for each key like `insert`. If it throws a fault, the
     // keys that have answers are inserted.
     void insert_many(const std::vector<std::uint64_t> &wanted, std::vector<bool> &answers) {

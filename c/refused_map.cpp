@@ -5,6 +5,7 @@
 #include "nm_map.hpp"
 #include "thrown.hpp"
 
+#include <algorithm>
 #include <cstdio>
 #include <utility>
 #include <vector>
@@ -80,11 +81,12 @@ void pop(Objects &map) {
         CHECK(popped->value->is_of(popped->key));
         keys.push_back(popped->key);
     }
-    for (const Canary *found : at_last([&] { return guard.get_many(keys); })) CHECK(found == nullptr);
+    auto found = at_last([&] { return guard.get_many(keys); });
+    CHECK(std::count(found.begin(), found.end(), nullptr) == 10);
 }
 
-// If memory is refused while a map is made of pairs, no map and none of its objects is left, and the
-// other pairs have theirs.
+// If memory is refused while a map is made of pairs, no map and none of its objects is left, and
+// the other pairs have theirs.
 void make_of_pairs() {
     std::uint64_t before = Canary::alive();
     at_last([&] {
@@ -93,7 +95,8 @@ void make_of_pairs() {
             for (unsigned key = 0; key < 20; key++)
                 pairs.emplace_back(key, std::make_unique<Canary>(key));
         });
-        Objects map(256, std::make_move_iterator(pairs.begin()), std::make_move_iterator(pairs.end()));
+        auto first = std::make_move_iterator(pairs.begin());
+        Objects map(256, first, std::make_move_iterator(pairs.end()));
         CHECK(map.size() == 20);
     });
     CHECK(Canary::alive() == before);

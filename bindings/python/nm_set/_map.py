@@ -9,8 +9,8 @@ worker first, and unpins it after both steps. A token does not come back while a
 that may have got it, which is proved. This holds without the interpreter's lock too.
 
 No pinned worker makes any other call. So a call that finds the nearest key, or reads a range, gets
-tokens without a pin. No token is used again, so the dict has the object of the token or nothing: then
-the key was removed meanwhile, and the call looks again.
+tokens without a pin. No token is used again, so the dict has the object of the token or nothing:
+then the key was removed meanwhile, and the call looks again.
 
 A call that removes a key returns its object, but by then another worker may have handed the token
 back. So there are two dicts. An entry of `_read` ends when the token comes back, and an entry of
@@ -32,6 +32,7 @@ from collections.abc import Callable, ItemsView, Iterable, Iterator, MutableMapp
 from collections.abc import Mapping as AbstractMapping
 from contextlib import suppress
 from ctypes import c_size_t, c_uint32, c_uint64
+from functools import partial
 from types import TracebackType
 from typing import Any, Generic, Optional, SupportsIndex, TypeVar, Union, overload
 
@@ -118,10 +119,10 @@ class Map(MutableMapping, Generic[V]):  # type: ignore[type-arg]
         options: Options = Options(),
     ) -> None:
         """Makes the map of these keys and objects: those of a mapping such as a dict, or of pairs.
-        Or makes the empty map. It has room for 7 to 268,435,456 nodes, and never more: four for each
-        key are usual. `Map(8_192)` and `Map(nodes=8_192)` have 8,192. If no number of nodes is given,
-        there are four for each of these keys, and at least 65,536. `workers` is how many calls there
-        can be at the same time, 1 to 64."""
+        Or makes the empty map. It has room for 7 to 268,435,456 nodes, and never more: four for
+        each key are usual. `Map(8_192)` and `Map(nodes=8_192)` have 8,192. If no number of nodes is
+        given, there are four for each of these keys, and at least 65,536. `workers` is how many
+        calls there can be at the same time, 1 to 64."""
         pairs: list[tuple[SupportsIndex, V]] = []
         if isinstance(entries, AbstractMapping):
             pairs = list(entries.items())
@@ -296,17 +297,17 @@ class Map(MutableMapping, Generic[V]):  # type: ignore[type-arg]
     def get_many(self, keys: Iterable[SupportsIndex], default: T) -> list[Union[V, T]]: ...
     def get_many(self, keys: Iterable[SupportsIndex], default: Any = None) -> Any:
         """Returns for each of these keys, in their order, its object, or the default. It tests all
-        keys before it looks up the first one. Each key was looked up at a moment of its own. Keys in a
-        buffer, such as array.array("Q") or a numpy array, are not copied."""
+        keys before it looks up the first one. Each key was looked up at a moment of its own. Keys
+        in a buffer, such as array.array("Q") or a numpy array, are not copied."""
         words = words_of(keys)
         blocks = [words[at : at + _ROOM] for at in range(0, len(words), _ROOM)]
         self._check_open()
         found: list[Any] = []
         for block in blocks:
-            found += self._with_worker(lambda worker, block=block: self._found_many(worker, block))
+            found += self._with_worker(partial(self._found_many, block))
         return [default if each is _MISSING else each for each in found]
 
-    def _found_many(self, worker: _Worker, keys: memoryview) -> list[Any]:
+    def _found_many(self, keys: memoryview, worker: _Worker) -> list[Any]:
         """Returns the objects of at most `_ROOM` keys, under a pin of the worker."""
         lookups, epoch = (c.MapLookupWords * len(keys))(*((key,) for key in keys)), c_uint64()
         try:
@@ -412,16 +413,17 @@ class Map(MutableMapping, Generic[V]):  # type: ignore[type-arg]
         bound. Raises KeyError if there is none. No two calls return one key, unless it was inserted
         again in between. No call passes over a key that was in the map during the whole call.
 
-        Raises `Unfinished` if the bound of the call is reached after it has begun to remove a key. No
-        other call removes that key. Its object is not returned, and the map refers to it, and `len`
-        counts its key, until the map is closed."""
+        Raises `Unfinished` if the bound of the call is reached after it has begun to remove a key.
+        No other call removes that key. Its object is not returned, and the map refers to it, and
+        `len` counts its key, until the map is closed."""
         bound = _NO_BOUND if below is None else bound_of(below)
         return self._popped(c.quick.nm_map_pop_first_below, bound)
 
     def pop_last(self, minimum: Optional[SupportsIndex] = None) -> tuple[int, V]:
-        """Removes the greatest key and returns it with its object, in the way of `pop_first`: of all
-        keys, or of those that are not below `minimum`."""
-        return self._popped(c.quick.nm_map_pop_last_from, 0 if minimum is None else bound_of(minimum))
+        """Removes the greatest key and returns it with its object, in the way of `pop_first`: of
+        all keys, or of those that are not below `minimum`."""
+        bound = 0 if minimum is None else bound_of(minimum)
+        return self._popped(c.quick.nm_map_pop_last_from, bound)
 
     def _popped(self, pop: Callable[..., int], bound: int) -> tuple[int, V]:
         entry = self._with_worker(lambda worker: self._popped_by(worker, pop, bound))
@@ -506,8 +508,8 @@ class Map(MutableMapping, Generic[V]):  # type: ignore[type-arg]
     def _scan_items(
         self, worker: _Worker, ends: tuple[int, int], room: int, is_back: bool
     ) -> tuple[list[tuple[int, V]], Optional[int]]:
-        """Returns keys with their objects, in the same way. If a key is removed before its object is
-        read, it looks it up again."""
+        """Returns keys with their objects, in the same way. If a key is removed before its object
+        is read, it looks it up again."""
         entries, count, rest = (c.EntryWords * room)(), c_size_t(), c_uint64()
         scan = c.exports.nm_map_read_entries_back if is_back else c.exports.nm_map_read_entries
         outcome = scan(worker.handle, *ends, entries, room, count, rest, self._words)
@@ -560,8 +562,8 @@ class Map(MutableMapping, Generic[V]):  # type: ignore[type-arg]
         inclusive: tuple[bool, bool] = (True, True),
         reverse: bool = False,
     ) -> Iterator[tuple[int, V]]:
-        """Returns an iterator over the keys from `minimum` to `maximum` with their objects, in the way
-        of `irange`. The key had this object at a moment at which its block was read."""
+        """Returns an iterator over the keys from `minimum` to `maximum` with their objects, in the
+        way of `irange`. A key had this object at a moment while its block was read."""
         self._check_open()
         return self._each(self._scan_items, ends_of(minimum, maximum, inclusive), reverse)
 

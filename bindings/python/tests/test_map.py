@@ -157,7 +157,8 @@ class InOrder(unittest.TestCase):
     def test_bounds_of_pops(self) -> None:
         with Map({5: "five", 7: "seven", nm_set.MOST_KEY: "greatest"}, nodes=64) as found:
             for call in (
-                lambda: found.pop_first(5), lambda: found.pop_first(-1), lambda: found.pop_last(2**70),
+                lambda: found.pop_first(5), lambda: found.pop_first(-1),
+                lambda: found.pop_last(2**70),
             ):
                 self.assertRaises(KeyError, call)
             self.assertEqual(found.pop_last(nm_set.MOST_KEY), (nm_set.MOST_KEY, "greatest"))
@@ -208,7 +209,8 @@ class InOrder(unittest.TestCase):
             lost = dict(found._read)
             found._read.clear()
             self.assertRaises(Contention, lambda: found.first())
-            with mock.patch.object(found, "_found", side_effect=["other", nm_set._map._MISSING, "x"]):
+            again = ["other", nm_set._map._MISSING, "x"]
+            with mock.patch.object(found, "_found", side_effect=again):
                 self.assertEqual(list(found.items()), [(5, "other"), (7, "x")])
             found._read.update(lost)
             self.assertEqual(found.first(), (5, "five"))

@@ -213,8 +213,8 @@ impl fmt::Display for Fault {
             Fault::Pinned => "the worker is pinned, and the guard of its pin was forgotten",
             Fault::Closed => "the set is closed",
             Fault::Forked => {
-                "the set or the map was made before this process was forked: only the parent can use \
-                 it"
+                "the set or the map was made before this process was forked: only the parent can \
+                 use it"
             }
             Fault::OtherMap => "the guard is of another map: pin a worker of this one",
         })

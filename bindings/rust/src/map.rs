@@ -24,10 +24,10 @@ const NOBODY: u32 = u32::MAX;
 /// A concurrent ordered map from the integers 0 to 2^64 - 4 to values of a type, without locks.
 ///
 /// Threads share it by reference, and each attaches a [`MapWorker`] of its own. A reader gets a
-/// reference to a value under a [`Guard`], and by a second worker it goes over values in order and pops
-/// them ([`MapWorker::under`]). A removed value is dropped exactly once: when no guard
-/// is left that could have returned it, by whichever worker finds that, or at the drop of the map.
-/// So threads share a map if `V: Send + Sync`.
+/// reference to a value under a [`Guard`], and by a second worker it goes over values in order and
+/// pops them ([`MapWorker::under`]). A removed value is dropped exactly once: when no guard is left
+/// that could have returned it, by whichever worker finds that, or at the drop of the map. So
+/// threads share a map if `V: Send + Sync`.
 ///
 /// ```
 /// # fn main() -> Result<(), Box<dyn std::error::Error>> {
@@ -97,8 +97,8 @@ pub struct Reclaimed {
 /// of the options was reached; the map is unchanged), `Pinned` (a guard was forgotten; drop the
 /// worker), and in a forked child `Forked`.
 ///
-/// Its calls in order return keys. [`under`](MapWorker::under) makes the same calls with references to
-/// the values, under the guard of another worker.
+/// Its calls in order return keys. [`under`](MapWorker::under) makes the same calls with references
+/// to the values, under the guard of another worker.
 pub struct MapWorker<'a, V> {
     pub(crate) handle: WorkerHandle<'a, V>,
 }
@@ -175,8 +175,8 @@ impl<V> Map<V> {
         }
     }
 
-    /// Makes a map of these keys and values, like [`Map::with_options`]. Of several values for one key
-    /// it keeps the last one.
+    /// Makes a map of these keys and values, like [`Map::with_options`]. Of several values for one
+    /// key it keeps the last one.
     ///
     /// Errors: `Nodes`, `Workers`, `NoMemory`; `Key`, `NoNodes`: then all values are dropped.
     ///
@@ -227,9 +227,9 @@ impl<V> Map<V> {
         }
     }
 
-    /// Returns the number of keys: it adds up one count for each worker, and waits for nothing. It is
-    /// exact if no call is in progress; otherwise it may miss the calls in progress. An unfinished
-    /// remove counts as done.
+    /// Returns the number of keys: it adds up one count for each worker, and waits for nothing. It
+    /// is exact if no call is in progress; otherwise it may miss the calls in progress. An
+    /// unfinished remove counts as done.
     ///
     /// Errors: `Forked`.
     pub fn len(&self) -> Result<usize, Fault> {
@@ -294,12 +294,12 @@ impl<'a, V> MapWorker<'a, V> {
         }
     }
 
-    /// Inserts these keys with their values, one by one; returns how many were absent. A key that the
-    /// map has keeps its value, and the new one is dropped. It waits for each key like
+    /// Inserts these keys with their values, one by one; returns how many were absent. A key that
+    /// the map has keeps its value, and the new one is dropped. It waits for each key like
     /// [`insert`](MapWorker::insert).
     ///
-    /// Errors: those of `insert` except `Present`, with the value of that key. The entries before it
-    /// are inserted. Those after it remain in the iterator, if that is passed by
+    /// Errors: those of `insert` except `Present`, with the value of that key. The entries before
+    /// it are inserted. Those after it remain in the iterator, if that is passed by
     /// [`by_ref`](Iterator::by_ref).
     pub fn extend(
         &mut self,
@@ -317,8 +317,8 @@ impl<'a, V> MapWorker<'a, V> {
     }
 
     /// Removes a key; returns true if it was present. Its value is dropped later, when no guard is
-    /// left that could have returned it. [`GuardedWorker::take`](crate::GuardedWorker::take) returns a
-    /// reference to it.
+    /// left that could have returned it. [`GuardedWorker::take`](crate::GuardedWorker::take)
+    /// returns a reference to it.
     ///
     /// Errors: `Key`, `Contention`, `NoMemory`, `Pinned`. `Unfinished`: the key will be removed by
     /// this call and no other, and the worker's next call goes on with it.
@@ -386,8 +386,8 @@ impl<V> Guard<'_, '_, V> {
         managed(outcome).map(|_| found)
     }
 
-    /// Returns for each of these keys its value, or None if the map does not have it. The map had each
-    /// of them so at a moment of this call.
+    /// Returns for each of these keys its value, or None if the map does not have it. The map had
+    /// each of them so at a moment of this call.
     ///
     /// Errors: `Key`.
     pub fn get_many(&self, keys: &[u64]) -> Result<Vec<Option<&V>>, Fault> {

@@ -1,5 +1,5 @@
-//! The calls of a map in the order of its keys: of a worker, which return keys, and of a worker under
-//! the guard of another one, which return references to values.
+//! The calls of a map in the order of its keys: of a worker, which return keys, and of a worker
+//! under the guard of another one, which return references to values.
 
 use crate::fault::Fault;
 use crate::ffi::map::guarded::Guarded;
@@ -23,8 +23,8 @@ const MOST_NODES: usize = 268_435_456;
 const LEAST_NODES: usize = 4_096;
 
 /// A worker whose calls return references to values, under the guard of another worker of the same
-/// map: see [`MapWorker::under`]. A reference exists until that guard is dropped, also if the key is
-/// removed meanwhile, by this call or by another one.
+/// map: see [`MapWorker::under`]. A reference exists until that guard is dropped, also if the key
+/// is removed meanwhile, by this call or by another one.
 ///
 /// ```compile_fail,E0505
 /// # fn main() -> Result<(), Box<dyn std::error::Error>> {
@@ -46,8 +46,8 @@ fn key_of((outcome, entry): (Outcome, Entry)) -> Result<Option<u64>, Fault> {
     Ok(managed(outcome)?.then_some(entry.key))
 }
 
-/// Returns the key of a pop, also if its remove is unfinished: this call will remove the key, and no
-/// other call will.
+/// Returns the key of a pop, also if its remove is unfinished: this call will remove the key, and
+/// no other call will.
 fn key_of_pop((outcome, entry): (Outcome, Entry)) -> Result<Option<u64>, Fault> {
     match outcome {
         UNFINISHED => Ok(Some(entry.key)),
@@ -127,14 +127,14 @@ impl<'a, V> MapWorker<'a, V> {
         self.first().map(|key| key.is_none())
     }
 
-    /// Removes the least key and returns it, or None if the map is empty. No two calls return one key,
-    /// unless it was inserted again in between. No call passes over a key that was in the map during
-    /// the whole call. The value is dropped later, as after [`remove`](MapWorker::remove);
+    /// Removes the least key and returns it, or None if the map is empty. No two calls return one
+    /// key, unless it was inserted again in between. No call passes over a key that was in the map
+    /// during the whole call. The value is dropped later, as after [`remove`](MapWorker::remove);
     /// [`GuardedWorker::pop_first`] returns it.
     ///
     /// If the bound of the call is reached before the key is cut off, it returns the key: this call
-    /// removes it and no other does. The worker's next call finishes the remove; until then other calls
-    /// may find the key.
+    /// removes it and no other does. The worker's next call finishes the remove; until then other
+    /// calls may find the key.
     ///
     /// Errors: `Contention`, `NoMemory`, `Pinned`.
     pub fn pop_first(&mut self) -> Result<Option<u64>, Fault> {
@@ -162,8 +162,8 @@ impl<'a, V> MapWorker<'a, V> {
         key_of_pop(self.handle.pop(Order::Descending, from))
     }
 
-    /// Returns an iterator over the keys of a range, in both directions, while the map is in use: see
-    /// [`Set::range`](crate::Set::range). [`GuardedWorker::range`] returns the values too.
+    /// Returns an iterator over the keys of a range, in both directions, while the map is in use:
+    /// see [`Set::range`](crate::Set::range). [`GuardedWorker::range`] returns the values too.
     pub fn range(&mut self, bounds: impl RangeBounds<u64>) -> Range<&mut MapWorker<'a, V>> {
         Range::of(self, bounds)
     }
@@ -182,8 +182,8 @@ impl<'a, V> MapWorker<'a, V> {
         self.range(bounds).collect()
     }
 
-    /// Removes each key for which `stays` returns false, one by one. A key that is inserted meanwhile
-    /// may be passed over. If it returns a fault, the keys before it are done.
+    /// Removes each key for which `stays` returns false, one by one. A key that is inserted
+    /// meanwhile may be passed over. If it returns a fault, the keys before it are done.
     ///
     /// Errors: `Contention`, `NoMemory`, `Pinned`.
     pub fn retain(&mut self, stays: impl FnMut(u64) -> bool) -> Result<(), Fault> {
@@ -197,8 +197,8 @@ impl<'a, V> MapWorker<'a, V> {
         self.retain(|_| false)
     }
 
-    /// Returns how many keys of a range there are. While others change the map, it counts each key as
-    /// it finds it.
+    /// Returns how many keys of a range there are. While others change the map, it counts each key
+    /// as it finds it.
     ///
     /// Errors: `Contention`, `Pinned`.
     pub fn count(&mut self, bounds: impl RangeBounds<u64>) -> Result<u64, Fault> {
@@ -232,15 +232,16 @@ impl<'w, 'a, 'g, V> GuardedWorker<'w, 'a, 'g, V> {
         self.at_most(MOST_KEY)
     }
 
-    /// Returns the least key that is not below this one, with its value, or None if there is none. The
-    /// map had it so at a moment of the call.
+    /// Returns the least key that is not below this one, with its value, or None if there is none.
+    /// The map had it so at a moment of the call.
     ///
     /// Errors: `Key`, `Contention`, `Pinned`.
     pub fn at_least(&mut self, key: u64) -> Result<Option<(u64, &'g V)>, Fault> {
         found(self.handle.nearest(Order::Ascending, checked(key)?))
     }
 
-    /// Returns the greatest key that is not above this one, with its value, or None if there is none.
+    /// Returns the greatest key that is not above this one, with its value, or None if there is
+    /// none.
     ///
     /// Errors: `Key`, `Contention`, `Pinned`.
     pub fn at_most(&mut self, key: u64) -> Result<Option<(u64, &'g V)>, Fault> {
@@ -248,12 +249,12 @@ impl<'w, 'a, 'g, V> GuardedWorker<'w, 'a, 'g, V> {
     }
 
     /// Removes the least key and returns it with its value, or None if the map is empty: see
-    /// [`MapWorker::pop_first`]. No two calls return one value. It is dropped later, when the guard has
-    /// ended.
+    /// [`MapWorker::pop_first`]. No two calls return one value. It is dropped later, when the guard
+    /// has ended.
     ///
-    /// Errors: those of [`MapWorker::pop_first`]. `Unfinished`: the bound of the call was reached after
-    /// it had begun to remove a key, which [`MapWorker::pending`] returns. This call removes the key
-    /// and no other does, and its value is not returned.
+    /// Errors: those of [`MapWorker::pop_first`]. `Unfinished`: the bound of the call was reached
+    /// after it had begun to remove a key, which [`MapWorker::pending`] returns. This call removes
+    /// the key and no other does, and its value is not returned.
     pub fn pop_first(&mut self) -> Result<Option<(u64, &'g V)>, Fault> {
         self.pop_first_below(u64::MAX)
     }
@@ -280,8 +281,8 @@ impl<'w, 'a, 'g, V> GuardedWorker<'w, 'a, 'g, V> {
     }
 
     /// Removes a key, and returns its value, or None if the key was absent. No two calls return one
-    /// value. It returns the value too if the bound of the call is reached before the key is cut off,
-    /// because this call removes the key and no other does.
+    /// value. It returns the value too if the bound of the call is reached before the key is cut
+    /// off, because this call removes the key and no other does.
     ///
     /// Errors: `Key`, `Contention`, `NoMemory`, `Pinned`.
     pub fn take(&mut self, key: u64) -> Result<Option<&'g V>, Fault> {
@@ -291,11 +292,11 @@ impl<'w, 'a, 'g, V> GuardedWorker<'w, 'a, 'g, V> {
         }
     }
 
-    /// Returns an iterator over the keys of a range with their values, in both directions. It takes no
-    /// snapshot: it reads ahead in blocks of 1, 8, 64 and then 512, each by one call, and the map had
-    /// each key with its value at a moment of such a call. A key that is in the map during the whole
-    /// iteration is returned, and a key that is absent during all of it is not. Items are results; the
-    /// iterator ends after the first fault: `Contention`, `Pinned`.
+    /// Returns an iterator over the keys of a range with their values, in both directions. It takes
+    /// no snapshot: it reads ahead in blocks of 1, 8, 64 and then 512, each by one call, and the
+    /// map had each key with its value at a moment of such a call. A key that is in the map during
+    /// the whole iteration is returned, and a key that is absent during all of it is not. Items are
+    /// results; the iterator ends after the first fault: `Contention`, `Pinned`.
     pub fn range(&mut self, bounds: impl RangeBounds<u64>) -> Range<&mut Self> {
         Range::of(self, bounds)
     }
@@ -356,8 +357,8 @@ impl<'s, 'w, 'a, 'g, V> IntoIterator for &'s mut GuardedWorker<'w, 'a, 'g, V> {
 }
 
 impl<V> FromIterator<(u64, V)> for Map<V> {
-    /// Returns a map of these keys and values, for 64 workers: four nodes for each key, and at least
-    /// 4,096. Of several values for one key it keeps the last one.
+    /// Returns a map of these keys and values, for 64 workers: four nodes for each key, and at
+    /// least 4,096. Of several values for one key it keeps the last one.
     ///
     /// # Panics
     ///

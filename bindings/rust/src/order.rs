@@ -1,5 +1,5 @@
-//! The keys in order, of a set and of a map, and the calls that are made of several calls for single
-//! keys.
+//! The keys in order, of a set and of a map, and the calls that are made of several calls for
+//! single keys.
 
 use crate::fault::Fault;
 use crate::ffi::Order;
@@ -14,8 +14,8 @@ use std::ops::{Bound, RangeBounds};
 /// The most keys that a range reads in one call.
 const MOST_ROOM: usize = 512;
 
-/// Keys in the order of a scan, or keys with their values, and where the next scan goes on, or None if
-/// they are all.
+/// Keys in the order of a scan, or keys with their values, and where the next scan goes on, or None
+/// if they are all.
 pub(crate) type Scanned<E> = (Vec<E>, Option<u64>);
 
 /// What makes the scans of a [`Range`]: a set or a map, by a worker of it or by any.

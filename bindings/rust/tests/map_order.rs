@@ -1,5 +1,5 @@
-//! Tests of the calls of a map that go over several keys: they answer like those of a `BTreeMap`, and
-//! what they return under a guard exists until the guard is dropped, also beside other threads.
+//! Tests of the calls of a map that go over several keys: they answer like those of a `BTreeMap`,
+//! and what they return under a guard exists until the guard is dropped, also beside other threads.
 
 use nm_set::{Fault, InsertError, Map, MapWorker, Options, MOST_KEY};
 use std::collections::BTreeMap;

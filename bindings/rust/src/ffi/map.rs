@@ -10,10 +10,10 @@
 //!   library
 //!   is proved for. A [`Pinned`] has its worker borrowed, and a reference that it returned has the
 //!   `Pinned` borrowed. So the pin ends after the last use of the reference.
-//! - *A call by another worker returns a pointer that does not come back while this one is pinned*, if
-//!   it was pinned before that call: the value was in the map at a moment of the call, so it is cut off
-//!   later. A [`Guarded`](guarded::Guarded) borrows the `Pinned` for as long as its references exist,
-//!   and tests that both workers are of one map.
+//! - *A call by another worker returns a pointer that does not come back while this one is pinned*,
+//!   if it was pinned before that call: the value was in the map at a moment of the call, so it is
+//!   cut off later. A [`Guarded`](guarded::Guarded) borrows the `Pinned` for as long as its
+//!   references exist, and tests that both workers are of one map.
 //! - *In a forked child nothing is called*, and no box is dropped: the boxes are the parent's.
 //! - *Boxes are dropped by whichever thread finds that they come back*, and several threads have
 //!   references to one at the same time. So what a thread may share asks for `V: Send + Sync`.
@@ -244,7 +244,8 @@ fn object<V>(value: u64) -> *mut V {
     value as usize as *mut V
 }
 
-/// How many keys the workers of a map have inserted and not removed, and in which process it was made.
+/// How many keys the workers of a map have inserted and not removed, and in which process it was
+/// made.
 struct Counts(NonNull<RawCounts>);
 
 // SAFETY: several threads may call the functions of counts at the same time.
@@ -484,7 +485,8 @@ impl<V> WorkerHandle<'_, V> {
 
     /// Looks up a key, and writes the word of its value.
     fn get(&mut self, key: u64, value: &mut u64) -> Outcome {
-        // SAFETY: the handle exists, and `self` and the place are borrowed. The pointer is not used.
+        // SAFETY: the handle exists, and `self` and the place are borrowed. The pointer is not
+        // used.
         self.by(|worker, options| unsafe { nm_map_get(worker, key, options, value) })
     }
 
@@ -502,8 +504,8 @@ impl<V> WorkerHandle<'_, V> {
         (outcome, entry)
     }
 
-    /// Reads at most `room` keys from `low` to `high`, in an order. Returns the outcome, the keys, and
-    /// where the next call goes on: at a key, or in descending order below one.
+    /// Reads at most `room` keys from `low` to `high`, in an order. Returns the outcome, the keys,
+    /// and where the next call goes on: at a key, or in descending order below one.
     pub(crate) fn read_keys(
         &mut self,
         order: Order,
@@ -530,7 +532,8 @@ impl<V> WorkerHandle<'_, V> {
         let mut block = vec![T::default(); room];
         let (mut count, mut next) = (0, low);
         let first = block.as_mut_ptr();
-        // SAFETY: the handle exists, and all is borrowed for this call. `first` has room for so many.
+        // SAFETY: the handle exists, and all is borrowed for this call. `first` has room for so
+        // many.
         let outcome = self.by(|worker, options| unsafe {
             read(
                 worker,
@@ -666,8 +669,8 @@ impl<'w, 'a, V> Pinned<'w, 'a, V> {
 
 impl<V> Drop for Pinned<'_, '_, V> {
     fn drop(&mut self) {
-        // SAFETY: the handle exists, and the worker is borrowed. No reference of `get` is left, nor of
-        // a `Guarded`.
+        // SAFETY: the handle exists, and the worker is borrowed. No reference of `get` is left, nor
+        // of a `Guarded`.
         self.worker.by(|handle, _| unsafe { nm_map_unpin(handle) });
     }
 }

@@ -54,9 +54,9 @@ impl<'w, 'a, 'g, V> Guarded<'w, 'a, 'g, V> {
 
     /// Returns the value of a word that a call of this worker has written.
     fn value(word: u64) -> &'g V {
-        // SAFETY: the pointer is of a box that the map had at a moment of that call. The other worker
-        // was pinned before the call and is until the end of `'g`, so the pointer does not come back
-        // before.
+        // SAFETY: the pointer is of a box that the map had at a moment of that call. The other
+        // worker was pinned before the call and is until the end of `'g`, so the pointer does not
+        // come back before.
         unsafe { &*object::<V>(word) }
     }
 
@@ -85,7 +85,8 @@ impl<'w, 'a, 'g, V> Guarded<'w, 'a, 'g, V> {
         (outcome, Self::found(outcome == YES, entry))
     }
 
-    /// Removes a key at one end: see [`WorkerHandle::pop`]. The value of an unfinished one is unknown.
+    /// Removes a key at one end: see [`WorkerHandle::pop`]. The value of an unfinished one is
+    /// unknown.
     pub(crate) fn pop(&mut self, order: Order, bound: u64) -> (Outcome, Option<Found<'g, V>>) {
         let (outcome, entry) = self.worker.pop(order, bound);
         (outcome, Self::found(outcome == YES, entry))
