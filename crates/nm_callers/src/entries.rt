@@ -146,3 +146,23 @@ pub fn list_due(
         Err(_) => 0,
     }
 }
+
+/// Lists the tasks of a map from `last` down that are not before `least`, the latest one first. Returns
+/// how many it has listed; 0 after an error too. Proved, about each listed task: the map had its key
+/// with its value at a moment of the call.
+pub fn list_back(
+    member: &mut MapMember,
+    last: Key,
+    least: u64,
+    out: &mut [MapEntry],
+    tries: u32,
+) -> usize
+    ensures tree { member.new.tree ≡ member.old.tree }
+    ensures had { AllWithin (HadEntry member.old.worker.pass member.new.worker.pass) out.new 0
+        result }
+{
+    match member.scan_back_with_values(last, least, out, tries) {
+        Ok(scanned) => scanned.count,
+        Err(_) => 0,
+    }
+}
