@@ -39,8 +39,8 @@ pub use arena::{read_object, reset_returned};
 pub use beside::{delete_beside, insert_beside, look_many_beside, next_beside, prev_beside};
 pub use coming_back::{WorkedTasks, work_and_return};
 pub use entries::{
-    list_back, look_back, look_next, put_or_find, take_due, take_first, take_last, take_last_from,
-    take_out,
+    list_back, list_due, look_back, look_next, put_or_find, take_due, take_first, take_last,
+    take_last_from, take_out,
 };
 pub use filled::keys_then_report;
 pub use fresh::{Looked, look_first, look_in_fresh, look_in_new, look_in_new_of_one, look_only};
