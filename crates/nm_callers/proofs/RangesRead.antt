@@ -4,7 +4,7 @@ use Rattle.std.proofs.Common.{◌≡◌, ◌≢◌, ◌<◌, ◌≤◌, ◌⊎�
 use Rattle.std.specs.Prelude.{Contains, Option, None, Some, IfSome, take}
 use Rattle.std.specs.List.{AllWithin}
 use Rattle.std.proofs.lemmas.Bool.{cases_lt}
-use Rattle.std.proofs.lemmas.List.{get_or-map, get_or-take, length-take-le}
+use Rattle.std.proofs.lemmas.List.{get_or-map, get_or-take, length-map, length-take-le}
 use Rattle.nm_edge.specs.Keys.{IsKey}
 use Rattle.nm_edge.specs.Layouts.{Layout}
 use Rattle.nm_edge.specs.declared.edge.Side.{Side}
@@ -72,8 +72,9 @@ module _ (W : ℕ → Bool → Type 0) (from below n : ℕ) (out : List MapEntry
   pub entries_within : (next : Option ℕ) → n ≤ length (keys_of out) → IsRangeBy Right W from (end_of Right below next) (take n (keys_of out)) → IfSome next (λ k. IsKey k × IsIn Right from below k × (length (keys_of out) ≢ 0 → IsPast Right from k)) → AllWithin (λ e. (from ≤ e.key) × (e.key < below)) out 0 n
   entries_within next fits range before i d low less =
       let long = length-take-le n (keys_of out) fits in
+      let many = length-map out (λ (e : MapEntry). e.key) in
       let within = told_within Right W from (end_of Right below next) (take n (keys_of out)) range i d.key (omega (arith, long, less)) in
-      subst (λ (x : ℕ). (from ≤ x) × (x < below)) (get_or-take n (keys_of out) i d.key less ∙ get_or-map (λ (e : MapEntry). e.key) out i d) (within.0, under next before within.1)
+      subst (λ (x : ℕ). (from ≤ x) × (x < below)) (get_or-take n (keys_of out) i d.key less ∙ get_or-map (λ (e : MapEntry). e.key) out i d d.key (omega (arith, less, fits, many))) (within.0, under next before within.1)
     where
       under : (o : Option ℕ) → IfSome o (λ k. IsKey k × IsIn Right from below k × (length (keys_of out) ≢ 0 → IsPast Right from k)) → {x : ℕ} → x < end_of Right below o → x < below
       under None before' less' = less'

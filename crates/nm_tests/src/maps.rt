@@ -101,24 +101,22 @@ fn a_member_of_a_map_scans(rt: HostRuntime) -> Result<(), Fail> {
     assert_eq!(rt; out, [none; 4]);
     let found = member.scan_with_values(first, 100, &mut out, TRIES)?;
     assert_eq!(rt; (found.count, found.next.is_some()), (4, true));
-    assert_eq!(rt; out, [entry(3), entry(4), entry(5), entry(6)]);
+    assert_eq!(rt;
+        out,
+        [entry(3, 30), entry(4, 40), entry(5, 50), entry(6, 60)]
+    );
     out = [none; 4];
     let found = member.scan_back_with_values(key(&rt, 5), 4, &mut out, TRIES)?;
     assert_eq!(rt; (found.count, found.next), (2, None));
-    assert_eq!(rt; out, [entry(5), entry(4), none, none]);
+    assert_eq!(rt; out, [entry(5, 50), entry(4, 40), none, none]);
     member.close();
     assert_eq!(rt; keys_of(&rt, map), 5);
     Ok(())
 }
 
-/// Returns an entry whose value is ten times its key.
-fn entry(key: u64) -> MapEntry
-    requires { key < 100 }
-{
-    MapEntry {
-        key,
-        value: 10 * key,
-    }
+/// Returns the entry of a key and a value.
+fn entry(key: u64, value: u64) -> MapEntry {
+    MapEntry { key, value }
 }
 
 /// The value of a removed key comes back once, and not before a member that was pinned has unpinned.
