@@ -1,5 +1,7 @@
-// closing [ROUNDS [CALLERS]]: closes a set beside threads that call it and attach workers. Each of
-// these gets NM_CLOSED, and their answers add up to the report.
+// closing [ROUNDS [CALLERS [TIMEOUT]]]: closes a set beside threads that call it and attach
+// workers. Each of these gets NM_CLOSED, and their answers add up to the report. If there are fewer
+// workers than callers and the machine is busy, others may take each worker for all of the time
+// that a call waits: NM_NO_WORKER. Such a call is made again.
 #include "thrown.hpp"
 
 #include <atomic>
@@ -13,7 +15,7 @@ namespace {
 constexpr std::uint64_t keys = 64;
 
 struct Told {
-    std::atomic<std::uint64_t> inserted{0}, removed{0}, calls{0}, closed{0};
+    std::atomic<std::uint64_t> inserted{0}, removed{0}, calls{0}, closed{0}, late{0};
 };
 
 // Ends the program if a fault has another outcome or another text, and writes both.
@@ -25,8 +27,8 @@ void ends_with(const Thrown &end, nm_outcome outcome, const char *text) {
 }
 
 // Calls the set until it throws. Every fourth caller attaches itself for each few of its calls.
-void call_until_closed(nm::Set &set, std::uint64_t number, Told &told) {
-    Thrown end = fault_of([&] {
+Thrown call_until_thrown(nm::Set &set, std::uint64_t number, Told &told) {
+    return fault_of([&] {
         for (std::uint64_t each = number;; each++) {
             std::uint64_t key = each * 7919 % keys;
             told.calls++;
@@ -40,6 +42,11 @@ void call_until_closed(nm::Set &set, std::uint64_t number, Told &told) {
             }
         }
     });
+}
+
+void call_until_closed(nm::Set &set, std::uint64_t number, Told &told) {
+    Thrown end = call_until_thrown(set, number, told);
+    for (; end.outcome == NM_NO_WORKER; told.late++) end = call_until_thrown(set, number, told);
     ends_with(end, NM_CLOSED, "the set is closed");
     told.closed++;
 }
@@ -59,10 +66,10 @@ nm::Report closed(nm::Set &set) {
 }
 
 // As many workers as callers, or fewer by turns.
-void round(std::uint64_t number, std::uint64_t callers) {
+std::uint64_t round(std::uint64_t number, std::uint64_t callers, std::uint32_t timeout_ms) {
     nm::Options options;
     options.workers = static_cast<std::uint32_t>(number % 2 == 0 ? callers : 3);
-    options.timeout_ms = 60'000;  // a busy machine keeps a thread waiting, and a sanitizer does
+    options.timeout_ms = timeout_ms;
     nm::Set set(8192, options);
     Told told;
     std::vector<std::thread> threads;
@@ -73,6 +80,7 @@ void round(std::uint64_t number, std::uint64_t callers) {
     CHECK(!set.is_open() && thrown([&] { set.close(); }) == NM_CLOSED);
     for (std::thread &thread : threads) thread.join();
     CHECK(told.closed == callers && report.size() == told.inserted - told.removed);
+    return told.late;
 }
 
 }  // namespace
@@ -80,8 +88,13 @@ void round(std::uint64_t number, std::uint64_t callers) {
 int main(int count, char **words) {
     std::uint64_t rounds = count > 1 ? std::strtoull(words[1], nullptr, 10) : 100;
     std::uint64_t callers = count > 2 ? std::strtoull(words[2], nullptr, 10) : 16;
+    // A busy machine keeps a thread waiting, and a sanitizer does.
+    std::uint64_t timeout_ms = count > 3 ? std::strtoull(words[3], nullptr, 10) : 60'000;
+    std::uint64_t late = 0;
     CHECK(rounds > 0 && callers > 0 && callers <= 64);
-    for (std::uint64_t number = 0; number < rounds; number++) round(number, callers);
-    std::printf("%llu sets were closed beside %llu callers each\n",
-                static_cast<unsigned long long>(rounds), static_cast<unsigned long long>(callers));
+    for (std::uint64_t number = 0; number < rounds; number++)
+        late += round(number, callers, static_cast<std::uint32_t>(timeout_ms));
+    std::printf("%llu sets were closed beside %llu callers each; %llu calls found no worker\n",
+                static_cast<unsigned long long>(rounds), static_cast<unsigned long long>(callers),
+                static_cast<unsigned long long>(late));
 }

@@ -27,7 +27,9 @@
  * nothing:
  *
  * - NM_NO_WORKER: each worker was attached and pinned, or in a call. It makes no difference which
- *   threads have attached them: a thread that has attached all workers itself gets this too.
+ *   threads have attached them: a thread that has attached all workers itself gets this too. Calls
+ *   that wait are in no order. So if threads outnumber workers and processors, others may take each
+ *   worker for all of the time that a call waits, above all that of an attach.
  * - NM_IN_USE: another thread is in a call by the attached worker.
  * - NM_FULL: no nodes were free for an insert. An insert does not wait if the keys take all nodes.
  *
