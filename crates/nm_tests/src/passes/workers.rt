@@ -4,7 +4,7 @@ ghost use Rattle.nm_steps.specs.Steps.{IsOf};
 ghost use Rattle.nm_calls.specs.Fresh.{HasDoneNothing};
 ghost use Rattle.nm_tests.specs.Plays.{IsAtRest, IsPendingFor};
 
-use nm_calls::{CallFault, Missed, Unfinished, delete, finish, has, insert};
+use nm_calls::{CallFault, Deletion, Unfinished, delete, finish, has, insert};
 use nm_edge::{Fit, Key, NodeId, Placement};
 use nm_epoch::HeldQueue;
 use nm_steps::{Pass, Shared};
@@ -79,7 +79,7 @@ pub(super) fn deletes(rt: &impl Abort, shared: &Shared, worker: &mut Worker, key
     ensures rests { IsAtRest shared.now worker.new.pass worker.new.held }
 {
     let mut unused = 0;
-    let Ok(deleted) = delete(
+    let Ok(Deletion::Done(deleted)) = delete(
         shared,
         &mut worker.pass,
         &mut worker.workspace,
@@ -99,7 +99,7 @@ pub(super) fn flags(rt: &impl Abort, shared: &Shared, worker: &mut Worker, key: 
     ensures pending { IsPendingFor shared.now worker.new.pass worker.new.held key result }
 {
     let mut unused = 0;
-    let Err(Missed::Unfinished(leaf)) = delete(
+    let Ok(Deletion::Pending(leaf)) = delete(
         shared,
         &mut worker.pass,
         &mut worker.workspace,
