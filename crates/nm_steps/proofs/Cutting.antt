@@ -6,7 +6,7 @@ use Rattle.std.proofs.lemmas.Bool.Decides.{nat_tests}
 use Rattle.std.proofs.lemmas.Bool.{or_right}
 use mathlib.Core.Option.{some, some-injective, some-ne-none}
 use lib.ListN.{get_elem?}
-use Rattle.atomic_table.specs.Table.{State, Splits, Joins, opening, Final, Seen}
+use Rattle.atomic_table.specs.Table.{State, Splits, Joins, opening}
 use Rattle.atomic_table.proofs.Lists.{at_set, at_snoc, set_else}
 use Rattle.nm_edge.specs.Layouts.{Layout, IsLayout}
 use Rattle.nm_model.specs.declared.event.Event.{Event}
@@ -23,19 +23,16 @@ use Rattle.nm_steps.specs.declared.view.Held.{Held}
 use Rattle.nm_steps.specs.declared.view.Stored.{Stored}
 use Rattle.nm_steps.specs.declared.view.View.{View}
 use Rattle.nm_steps.specs.Rules.{held_log, holdings, knowledge, stands, once_below, LogsAre, IsShown, LagsBehind, LagsInStores, Runs, WereHeld, Kept, numbers_from, viewing, everybody, own_alone, the_others, nobody, passing, informed, joining_view, noted_down, answered_turn}
-use Rattle.nm_steps.specs.Steps.{HasEmptyHands, TreeView, PassView, fresh_view, AreFresh, Ends}
-use Rattle.nm_steps.proofs.Counts.{sum_after, at_most_sum, both_at_most_sum}
+use Rattle.nm_steps.specs.Steps.{HasEmptyHands, TreeView, PassView, fresh_view, AreFresh}
+use Rattle.nm_steps.proofs.Counts.{sum_after, both_at_most_sum}
 use Rattle.nm_steps.proofs.Growing.{goes_on_itself, goes_on_from_nothing, goes_on_by, behind_by}
 use Rattle.nm_steps.proofs.Presence.{gone_kept, known_push}
 use Rattle.nm_steps.proofs.Extending.{IsPartOf, words_after_join, trace_after_join}
 use Rattle.nm_steps.proofs.Keeping.{live, stands_live, once_is, part_grows, part_stays, each_set}
 use Rattle.nm_laws.proofs.Configurations.{keys_more}
-use Rattle.nm_steps.proofs.StoreOrders.{lags_for_nobody, sees_all_stores, lags_kept, none_in_order, stored_nothing}
-use Rattle.nm_steps.proofs.Valuing.{joined_links, grown_none, rewrap, run_long}
+use Rattle.nm_steps.proofs.StoreOrders.{heard_nothing, lags_for_nobody, lags_informed, sees_all_stores, none_in_order, stored_nothing, stores_from_nothing}
+use Rattle.nm_steps.proofs.Valuing.{joined_links, grown_none, rewrap}
 use Rattle.std.proofs.lemmas.List.{append-nil}
-use Rattle.std.proofs.Math.Seq.{take-append_seam}
-use Rattle.std.specs.Prelude.{take}
-use Rattle.nm_edge.specs.Words.{words}
 
 -- ---- the opening
 
@@ -67,11 +64,15 @@ once_between w k (suc n) = let e = times-cons w (held_log k []) (numbers_from (s
 
 -- at the start no value is stored, and no view has seen one
 pub no_stores_seen : (L : Layout) (i : ℕ) (v : View) → get_elem? (everybody L ∷ []) i ≡ some v → LagsInStores [] v
-no_stores_seen L zero v is = subst (LagsInStores []) (some-injective _ _ is) (sees_all_stores [] (everybody L) (no_values (numbers_from 0 L.workers)))
+no_stores_seen L zero v is = subst (LagsInStores []) (some-injective _ _ is) (sees_all_stores [] (everybody L) (no_values (numbers_from 0 L.workers)) (heard_nothing [] (everybody L) (none_heard (numbers_from 0 L.workers))))
   where
     no_values : (hs : List Held) → (viewing L hs).stores ≡ []
     no_values [] = refl
     no_values (h ∷ hs) = refl
+
+    none_heard : (hs : List Held) → (viewing L hs).heard_stores ≡ []
+    none_heard [] = refl
+    none_heard (h ∷ hs) = refl
 no_stores_seen L (suc i) v is = absurd (some-ne-none v (sym is))
 
 pub opens : (L : Layout) (words : List ℕ) → IsLayout L → words ≡ words_of L (memory.opening L) → Kept L (opening words [] (everybody L))
@@ -159,7 +160,7 @@ abbrev pub left_from : Layout → ℕ → View
 left_from L k = viewing L (numbers_from k (L.workers - k))
 
 abbrev with_others : Layout → ℕ → List Held → View
-with_others L k hs = record { layout = L; resigned = false; number = k; log = []; others = hs; past = []; heard = []; stores = [] }
+with_others L k hs = record { layout = L; resigned = false; number = k; log = []; others = hs; past = []; heard = []; stores = []; heard_stores = [] }
 
 left_has : (L : Layout) (k m : ℕ) → m ≡ suc (L.workers - suc k) → viewing L (numbers_from k m) ≡ with_others L k (numbers_from (suc k) (L.workers - suc k))
 left_has L k m e = ap (λ (n : ℕ). viewing L (numbers_from k n)) e
@@ -178,10 +179,11 @@ left_own L k v e h = ap own_alone (e ∙ left_is L k h)
 
 -- none of those that are left has stored a value
 left_seen : (L : Layout) (k n : ℕ) (turns : List (ℕ × Event)) (st : List Stored) → (1 ≤ n → k < L.workers) → WereHeld L turns st → IsShown L (trace_in (ordered L) turns) (viewing L (numbers_from k n)) → LagsInStores st (viewing L (numbers_from k n))
-left_seen L k zero turns st below held shown = lags_for_nobody st (viewing L []) refl refl
+left_seen L k zero turns st below held shown = lags_for_nobody st (viewing L []) (stores_from_nothing st) refl refl
 left_seen L k (suc n) turns st below held shown = record {
   seen = record { more = st; is = refl };
   own = λ alive. stored_nothing L turns k (below (omega arith)) (sym shown.1) st held;
+  heard = stores_from_nothing st;
 }
 
 -- the own log goes to a seat of its own
@@ -198,7 +200,7 @@ deals L id k v is below =
     (λ ts b. (nothing_seen v.layout v.others ts, record { past = b.past; heard = b.heard }))
     (λ turns st held shown h. (
       subst (LagsInStores st) (sym (left_others L k v is below)) (left_seen L (k + 1) (L.workers - (k + 1)) turns st (λ n. omega arith) held (subst (IsShown L (trace_in (ordered L) turns)) (left_others L k v is below) shown)),
-      record { seen = h.seen; own = h.own },
+      record { seen = h.seen; own = h.own; heard = h.heard },
     ))
   where
     nothing_seen : (l : Layout) (hs : List Held) (ts : List Turn) → LagsBehind ts (viewing l hs)
@@ -209,7 +211,7 @@ deals L id k v is below =
 
 -- a note stands for nobody, and has seen what the view has
 pub writes_down : (L : Layout) (id : ℕ) (v : View) → Splits (Kept L) id v v (noted_down v)
-writes_down L id v = cuts L id v v (noted_down v) (λ t a. (a, tt)) (λ h. (h, λ e. absurd (true≢false e))) (λ w. add-zero (stands w v)) (λ ts b. (b, record { past = b.past; heard = goes_on_from_nothing ts })) (λ turns st held shown h. (h, lags_for_nobody st (noted_down v) refl refl))
+writes_down L id v = cuts L id v v (noted_down v) (λ t a. (a, tt)) (λ h. (h, λ e. absurd (true≢false e))) (λ w. add-zero (stands w v)) (λ ts b. (b, record { past = b.past; heard = goes_on_from_nothing ts })) (λ turns st held shown h. (h, lags_for_nobody st (noted_down v) h.seen refl refl))
 
 -- what holds of two views that are set, and of each other, holds of each
 each_two : (P : View → Type 0) (views : List View) (id other : ℕ) (now then' : View) → P now → P then' → ((j : ℕ) (u : View) → j ≢ id → j ≢ other → get_elem? views j ≡ some u → P u)
@@ -235,7 +237,7 @@ hears L id v other w resigned s K at apart at' = rewrap L s.words (length s.home
       lags = each_two (LagsBehind (trace_in (ordered L) K.runs.turns)) s.views id other (informed v w) nobody (record { past = (K.runs.lags id v at).past; heard = (K.runs.lags other w was).past })
           (record { past = goes_on_from_nothing (trace_in (ordered L) K.runs.turns); heard = goes_on_from_nothing (trace_in (ordered L) K.runs.turns) }) (λ j u _ _. K.runs.lags j u);
     })
-    (grown_none L (length s.homes) K.stores K.runs.turns) (each_two (LagsInStores K.stores) s.views id other (informed v w) nobody (lags_kept K.stores v (informed v w) (K.valued.seen id v at) (record { stores = refl; number = refl; resigned = refl })) (lags_for_nobody K.stores nobody refl refl) (λ j u _ _. K.valued.seen j u))
+    (grown_none L (length s.homes) K.stores K.runs.turns) (each_two (LagsInStores K.stores) s.views id other (informed v w) nobody (lags_informed K.stores v w (informed v w) (K.valued.seen id v at) (K.valued.seen other w was) refl refl refl refl) (lags_for_nobody K.stores nobody (stores_from_nothing K.stores) refl refl) (λ j u _ _. K.valued.seen j u))
   where
     was : get_elem? s.views other ≡ some w
     was = sym (set_else s.views id other (informed v w) apart) ∙ at'
@@ -399,28 +401,8 @@ joins L id v other w alive alive' hands s K at apart at' =
       is = refl;
       linked = joined_links L (length s.homes) K.stores K.runs.turns v.number w.number;
     })
-    (each_two (LagsInStores K.stores) s.views id other (joining_view v w) nobody (lags_kept K.stores v (joining_view v w) (K.valued.seen id v at) (record { stores = refl; number = refl; resigned = refl })) (lags_for_nobody K.stores nobody refl refl) (λ j u _ _. K.valued.seen j u))
+    (each_two (LagsInStores K.stores) s.views id other (joining_view v w) nobody (lags_informed K.stores v w (joining_view v w) (K.valued.seen id v at) (K.valued.seen other w was) refl refl refl refl) (lags_for_nobody K.stores nobody (stores_from_nothing K.stores) refl refl) (λ j u _ _. K.valued.seen j u))
 
 pub fresh_push : (b : TreeView) (k n : ℕ) (ps : List PassView) (p : PassView) → AreFresh b k ps → k + length ps ≡ n → p.table ≡ b.table → p.view ≡ fresh_view b.layout n → AreFresh b k (ps ++ p ∷ [])
 fresh_push b k n [] p a e t v = (t, v ∙ ap (fresh_view b.layout) (omega arith), tt)
 fresh_push b k n (q ∷ ps) p a e t v = (a.0, a.1, fresh_push b (suc k) n ps p a.2 (omega arith) t v)
-
--- ---- the end
-
--- the words of the core, which come first
-pub ended : (L : Layout) (id : ℕ) (v : View) (all : List ℕ) (slots : List Unit) (count : ℕ) → count ≡ words L → Final (Seen (Kept L) id v) all slots → Ends L (take count all) v
-ended L id v all slots count is f =
-    let K = f.1.0 in
-    let k : Runs L K.core f.0.views = K.runs in
-    let first : take count all ≡ K.core =
-    (λ j. take ((is ∙ sym (run_long L K.core f.0.views k)) j) ((sym f.2 ∙ K.words_are) j))
-    ∙ take-append_seam K.core K.values in
-    record {
-      fits = k.fits;
-      turns = k.turns;
-      keys = k.keys;
-      words_are = first ∙ k.words_are;
-      shown = k.shown id v f.1.1;
-      once = λ w. omega (arith, at_most_sum (stands w) f.0.views id v f.1.1, k.once w);
-      past = (k.lags id v f.1.1).past;
-    }

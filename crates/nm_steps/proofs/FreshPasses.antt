@@ -42,5 +42,6 @@ fresh_tied L it w announcement fits below at view empty = record {
   private = subst (λ (v : View). (x : ℕ) → is_private (knowledge v) x ≡ true → IsPooled v.layout x) (sym view) (λ x h. absurd (true≢false (sym h)));
   seen = subst HasSeen (sym view) (let log = empty_log L w below in record { worker = below; events = []; keys = log.keys; are = refl; is_part = refl; here = refl });
   heard = ap (λ (v : View). v.heard) view;
+  heard_stores = ap (λ (v : View). v.heard_stores) view;
   stored = subst (λ (v : View). StoredBefore v.number (length v.log + 1) v.stores) (sym view) (All-nil (λ (x : Stored). x.worker ≡ w → x.own < 1));
 }

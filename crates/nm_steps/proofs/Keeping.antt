@@ -41,7 +41,7 @@ use Rattle.nm_steps.proofs.Growing.{goes_on_itself, goes_on_by, behind_by}
 use Rattle.nm_steps.proofs.Presence.{gone_kept, known_push}
 use Rattle.nm_steps.proofs.Extending.{IsPartOf, words_after, trace_after}
 use Rattle.nm_steps.proofs.StoreOrders.{SameStores, lags_kept}
-use Rattle.nm_steps.proofs.Valuing.{Grows, IfValued, IsPair, held_longer, last_or_earlier, reworded, run_long, still_stored}
+use Rattle.nm_steps.proofs.Valuing.{AreStoresOf, Grows, IfValued, IsPair, held_longer, last_or_earlier, reworded, run_long, still_stored}
 use Rattle.std.proofs.lemmas.List.{get_or_append_left, set-append_left}
 use Rattle.nm_laws.proofs.Configurations.{keys_more}
 
@@ -245,7 +245,7 @@ goes_on L words views id v e i m k at alive layout index may same is slots st ha
       logged v e n (trace_in (ordered L) k.turns),
       next L words views id v e i k at alive layout index may,
       record { rest = (v.number, e) ∷ []; is = refl; linked = links_on L words views id v e i k at alive layout index may slots st had stored },
-      record { stores = refl; number = refl; resigned = refl },
+      record { stores = refl; heard = refl; number = refl; resigned = refl },
       (
         found_by v.layout (sym layout) (record { fits = was.fits; worker = was.worker; turns = was.turns; keys = was.keys; is_part = was.is_part; here = was.here; word = λ h. is h ∙ was.word h }),
         (λ j. (record v { log = v.log ++ (e, sym same j) ∷ []; past = trace_in (ordered (sym layout j)) k.turns ++ answered_turn v.number e (sym same j) ∷ [] }, [])),
@@ -267,14 +267,15 @@ goes_on L words views id v e i m k at alive layout index may same is slots st ha
 
 -- where the core's words take a step, so do all
 pub lifts : (L : Layout) (slots id : ℕ) (v : View) (i : ℕ) (f : ℕ → ℕ) (then' : ℕ → Me Unit View → Type 0) → i < all_words L
-    → ((core : List ℕ) (views : List View) (k : Runs L core views) → get_elem? views id ≡ some v → slice_index core i < 18446744073709551616 → (st : List Stored) → ExtendsStores st v.stores
-    → (w : View) × (r : Runs L (slice_set core i (f (slice_index core i))) (set views id w)) × Grows L slots st k.turns r.turns × SameStores v w × then' (slice_index core i) (w, []))
+    → ((core : List ℕ) (views : List View) (k : Runs L core views) → get_elem? views id ≡ some v → slice_index core i < 18446744073709551616 → (st : List Stored) → AreStoresOf L slots k.turns st → LagsInStores st v
+    → (w : View) × (r : Runs L (slice_set core i (f (slice_index core i))) (set views id w)) × Grows L slots st k.turns r.turns × LagsInStores st w × then' (slice_index core i) (w, []))
     → Allows (Kept L) slots id (v, []) i f then'
 lifts L slots id v i f then' below go s k homes at small =
     let long = run_long L k.core s.views k.runs in
     let inside : i < length k.core = omega (arith, long, below) in
     let same : slice_index s.words i ≡ slice_index k.core i = ap (λ (l : List ℕ). slice_index l i) k.words_are ∙ get_or_append_left k.core k.values 0 i inside in
-    let g = go k.core s.views k.runs at (subst (λ (n : ℕ). n < 18446744073709551616) same small) k.stores (k.valued.seen id v at).seen in (
+    let linked : IfValued L slots k.runs.turns k.stores = subst (λ (n : ℕ). IfValued L n k.runs.turns k.stores) (k.long ∙ homes) k.valued.linked in
+    let g = go k.core s.views k.runs at (subst (λ (n : ℕ). n < 18446744073709551616) same small) k.stores (record { held = k.valued.held; linked = linked; order = k.valued.order }) (k.valued.seen id v at) in (
       g.0,
       keeps,
       tt,
@@ -288,9 +289,9 @@ lifts L slots id v i f then' below go s k homes at small =
         valued = record {
           are = k.valued.are;
           held = held_longer L slots k.stores k.runs.turns g.1.turns g.2 k.stores k.valued.held;
-          linked = subst (λ (n : ℕ). IfValued L n g.1.turns k.stores) (sym (k.long ∙ homes)) (g.2.linked (subst (λ (n : ℕ). IfValued L n k.runs.turns k.stores) (k.long ∙ homes) k.valued.linked));
+          linked = subst (λ (n : ℕ). IfValued L n g.1.turns k.stores) (sym (k.long ∙ homes)) (g.2.linked linked);
           order = k.valued.order;
-          seen = each_set (LagsInStores k.stores) s.views id g.0 (lags_kept k.stores v g.0 (k.valued.seen id v at) g.3) (λ j u _. k.valued.seen j u);
+          seen = each_set (LagsInStores k.stores) s.views id g.0 g.3 (λ j u _. k.valued.seen j u);
         };
       },
       subst (λ (n : ℕ). then' n (g.0, [])) (sym same) g.4,
@@ -306,12 +307,12 @@ pub allows : (L : Layout) (slots id : ℕ) (v : View) (e : Event) (i : ℕ) (f s
     → Allows (Kept L) slots id (v, []) i f (λ n. Did e no_step (v, []) (said n))
 allows L slots id v e i f said alive layout index may change tell below stored = lifts L slots id v i f (λ n. Did e no_step (v, []) (said n)) below by
   where
-    by : (core : List ℕ) (views : List View) (k : Runs L core views) → get_elem? views id ≡ some v → slice_index core i < 18446744073709551616 → (st : List Stored) → ExtendsStores st v.stores
-        → (w : View) × (r : Runs L (slice_set core i (f (slice_index core i))) (set views id w)) × Grows L slots st k.turns r.turns × SameStores v w × Did e no_step (v, []) (said (slice_index core i)) (w, [])
-    by core views k at small st had =
+    by : (core : List ℕ) (views : List View) (k : Runs L core views) → get_elem? views id ≡ some v → slice_index core i < 18446744073709551616 → (st : List Stored) → AreStoresOf L slots k.turns st → LagsInStores st v
+        → (w : View) × (r : Runs L (slice_set core i (f (slice_index core i))) (set views id w)) × Grows L slots st k.turns r.turns × LagsInStores st w × Did e no_step (v, []) (said (slice_index core i)) (w, [])
+    by core views k at small st are lag =
         let n : ℕ = slice_index core i in
-        let g = goes_on L core views id v e i (said n) k at alive layout index may (tell n).0 (tell n).1 slots st had stored in
-        (g.0, reworded (ap (λ (m : ℕ). slice_set core i m) (sym (change n))) g.1, g.2, g.3, g.4)
+        let g = goes_on L core views id v e i (said n) k at alive layout index may (tell n).0 (tell n).1 slots st lag.seen stored in
+        (g.0, reworded (ap (λ (m : ℕ). slice_set core i m) (sym (change n))) g.1, g.2, lags_kept st v g.0 lag g.3, g.4)
 
 -- the word that an event touches is one of the core
 pub field_below : (L : Layout) (w : ℕ) (e : Event) (i : ℕ) → i ≡ word L (touched_field w e) → IsField L (touched_field w e) → i < all_words L

@@ -230,6 +230,7 @@ tied_after it after number announcement brief new e n tied may done is =
           (private_pooled it.me.0.layout it.me.0.number (it.me.0.log ++ (e, r) ∷ []) tied.fits longer);
       seen = subst HasSeen (sym me) (seen_after it.me.0 e n done.found may);
       heard = ap (λ (v : View). v.heard) me ∙ tied.heard;
+      heard_stores = ap (λ (v : View). v.heard_stores) me ∙ tied.heard_stores;
       stored = subst (λ (v : View). StoredBefore v.number (length v.log + 1) v.stores) (sym me) (stored_longer it.me.0.number (length it.me.0.log + 1) (length (it.me.0.log ++ (e, r) ∷ []) + 1) it.me.0.stores (let long = length-append it.me.0.log ((e, r) ∷ []) in omega (arith, long)) tied.stored);
     }
 

@@ -42,7 +42,7 @@ use Rattle.nm_steps.proofs.Valuing.{Grows, grown_none, grown_then, reviewed, rew
 use Rattle.nm_steps.proofs.Noting.{standing, has_turned, has_turn, in_run_after, tied_after}
 use Rattle.nm_steps.proofs.AfterSteps.{run_of_seen}
 use Rattle.nm_steps.proofs.Seeing.{continues_then, continues_by, stores_same}
-use Rattle.nm_steps.proofs.StoreOrders.{SameStores, same_stores_then}
+use Rattle.nm_steps.proofs.StoreOrders.{SameStores, lags_kept, same_stores_then}
 use Rattle.std.proofs.lemmas.Bool.{le-ltb}
 use Rattle.std.specs.Prelude.{Option, Some, None, nat_lt, ◌||◌}
 
@@ -175,7 +175,7 @@ module _ (L : Layout) (id i from : ℕ) (v : View) (core : List ℕ) (views : Li
   n = slice_index core i
 
   reaches : (k : ℕ) → from + k ≤ L.nodes + 1 → ((j : ℕ) → j < k → i ≡ word L (touched_field v.number (Claim (from + j)))) → ((j : ℕ) → j < k → IsShownTaken n (from + j)) → Reaches L slots st core views rule.turns id n from k v
-  reaches zero high rows taken = record { view = v; keeps_rule = reviewed (sym (set_again views id v at)) rule; grows = grown_none L slots st rule.turns; same = record { stores = refl; number = refl; resigned = refl }; at = subst (λ (l : List View). get_elem? l id ≡ some v) (sym (set_again views id v at)) at; alive = alive; layout = layout; claims = refl }
+  reaches zero high rows taken = record { view = v; keeps_rule = reviewed (sym (set_again views id v at)) rule; grows = grown_none L slots st rule.turns; same = record { stores = refl; heard = refl; number = refl; resigned = refl }; at = subst (λ (l : List View). get_elem? l id ≡ some v) (sym (set_again views id v at)) at; alive = alive; layout = layout; claims = refl }
   reaches (suc k) high rows taken =
       let r = reaches k (omega (arith, high)) (λ j less. rows j (omega (arith, less))) (λ j less. taken j (omega (arith, less))) in
       let e : Event = Claim (from + k) in
@@ -218,14 +218,14 @@ asked_to_pass L z slots it first many from most i pick pick_many can = (
     same_row j less = let low = can.low in let row = can.row in omega (arith, low, row, less)
 
     passes : Allows (Kept L) slots it.id (it.me.0, []) i (λ n. n) (λ n after. DidClaims from (shown_taken n from most) (it.me.0, []) n after)
-    passes = lifts L slots it.id it.me.0 i (λ n. n) (λ n after. DidClaims from (shown_taken n from most) (it.me.0, []) n after) row_below (λ core views rule at small st had.
+    passes = lifts L slots it.id it.me.0 i (λ n. n) (λ n after. DidClaims from (shown_taken n from most) (it.me.0, []) n after) row_below (λ core views rule at small st are lag.
         let n : ℕ = slice_index core i in
         let k : ℕ = shown_taken n from most in
         let few : k ≤ most = few_shown n from most in
-        let r = reaches L it.id i from it.me.0 core views rule at can.alive can.layout small can.low slots st had k (let high = can.high in omega (arith, high, few))
+        let r = reaches L it.id i from it.me.0 core views rule at can.alive can.layout small can.low slots st lag.seen k (let high = can.high in omega (arith, high, few))
         (λ j less. can.word ∙ ap (λ (x : ℕ). pool_word L + x) (same_row j (omega (arith, less, few))))
         (λ j less. each_shown n from most j less) in
-        (r.view, reworded (sym (set-get_or core i 0)) r.keeps_rule, r.grows, r.same, r.claims))
+        (r.view, reworded (sym (set-get_or core i 0)) r.keeps_rule, r.grows, lags_kept st it.me.0 r.view lag r.same, r.claims))
 
 -- ---- what a look leaves
 
@@ -244,6 +244,7 @@ tied_same it after number announcement brief same t =
       private = subst (λ (v : View). (x : ℕ) → is_private (knowledge v) x ≡ true → IsPooled v.layout x) e t.private;
       seen = subst HasSeen e t.seen;
       heard = subst (λ (v : View). v.heard ≡ []) e t.heard;
+      heard_stores = subst (λ (v : View). v.heard_stores ≡ []) e t.heard_stores;
       stored = subst (λ (v : View). StoredBefore v.number (length v.log + 1) v.stores) e t.stored;
     }
 

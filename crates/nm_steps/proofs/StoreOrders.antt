@@ -15,8 +15,9 @@ use Rattle.nm_order.proofs.PartsOfRuns.{logs_tell}
 use Rattle.nm_order.proofs.WalksOfRuns.{trace_in-append}
 use Rattle.nm_steps.specs.declared.view.Stored.{Stored}
 use Rattle.nm_steps.specs.declared.view.View.{View}
-use Rattle.nm_steps.specs.Rules.{ComesBefore, LagsInStores, StoredBefore, WasHeld, WereHeld}
+use Rattle.nm_steps.specs.Rules.{ComesBefore, ExtendsStores, LagsInStores, StoredBefore, WasHeld, WereHeld}
 use Rattle.nm_steps.specs.Values.{HasSeenStores}
+use Rattle.nm_steps.proofs.Valuing.{stores_more}
 
 -- ---- lists
 
@@ -86,33 +87,52 @@ seen_stored v s = stored_in_log v.layout s.run.events v.number v.log (ap (part_o
 
 -- ---- what a view has seen
 
+pub stores_from_nothing : (st : List Stored) → ExtendsStores st []
+stores_from_nothing st = record { more = st; is = refl }
+
+-- a view that has heard of no stores
+pub heard_nothing : (st : List Stored) (v : View) → v.heard_stores ≡ [] → ExtendsStores st v.heard_stores
+heard_nothing st v unheard = record { more = st; is = ap (λ (l : List Stored). l ++ st) (sym unheard) }
+
 -- the other view has the same worker, and has seen the same stores
 pub record SameStores (v w : View) : Type 0 where
   pub stores : w.stores ≡ v.stores
+  pub heard : w.heard_stores ≡ v.heard_stores
   pub number : w.number ≡ v.number
   pub resigned : w.resigned ≡ v.resigned
 
 pub same_stores_then : (u v w : View) → SameStores u v → SameStores v w → SameStores u w
-same_stores_then u v w first second = record { stores = second.stores ∙ first.stores; number = second.number ∙ first.number; resigned = second.resigned ∙ first.resigned }
+same_stores_then u v w first second = record { stores = second.stores ∙ first.stores; heard = second.heard ∙ first.heard; number = second.number ∙ first.number; resigned = second.resigned ∙ first.resigned }
 
 pub lags_kept : (st : List Stored) (v w : View) → LagsInStores st v → SameStores v w → LagsInStores st w
 lags_kept st v w h s = record {
   seen = record { more = h.seen.more; is = h.seen.is ∙ ap (λ (l : List Stored). l ++ h.seen.more) (sym s.stores) };
   own = λ alive. subst (λ (n : ℕ). All (λ (x : Stored). x.worker ≢ n) h.seen.more) (sym s.number) (h.own (sym s.resigned ∙ alive));
+  heard = record { more = h.heard.more; is = h.heard.is ∙ ap (λ (l : List Stored). l ++ h.heard.more) (sym s.heard) };
 }
 
--- a view without a worker
-pub lags_for_nobody : (st : List Stored) (v : View) → v.stores ≡ [] → v.resigned ≡ true → LagsInStores st v
-lags_for_nobody st v none' spent = record {
-  seen = record { more = st; is = ap (λ (l : List Stored). l ++ st) (sym none') };
+-- a view that has heard of what another one has seen
+pub lags_informed : (st : List Stored) (v u w : View) → LagsInStores st v → LagsInStores st u → w.stores ≡ v.stores → w.heard_stores ≡ u.stores → w.number ≡ v.number → w.resigned ≡ v.resigned → LagsInStores st w
+lags_informed st v u w h other stores heard number resigned = record {
+  seen = record { more = h.seen.more; is = h.seen.is ∙ ap (λ (l : List Stored). l ++ h.seen.more) (sym stores) };
+  own = λ alive. subst (λ (n : ℕ). All (λ (x : Stored). x.worker ≢ n) h.seen.more) (sym number) (h.own (sym resigned ∙ alive));
+  heard = record { more = other.seen.more; is = other.seen.is ∙ ap (λ (l : List Stored). l ++ other.seen.more) (sym heard) };
+}
+
+-- a view without a worker that has seen what another one has
+pub lags_for_nobody : (st : List Stored) (v : View) → ExtendsStores st v.stores → v.heard_stores ≡ [] → v.resigned ≡ true → LagsInStores st v
+lags_for_nobody st v seen unheard spent = record {
+  seen = seen;
   own = λ alive. absurd (true≢false (sym spent ∙ alive));
+  heard = heard_nothing st v unheard;
 }
 
 -- a view that has seen them all
-pub sees_all_stores : (st : List Stored) (v : View) → v.stores ≡ st → LagsInStores st v
-sees_all_stores st v same = record {
+pub sees_all_stores : (st : List Stored) (v : View) → v.stores ≡ st → ExtendsStores st v.heard_stores → LagsInStores st v
+sees_all_stores st v same heard = record {
   seen = record { more = []; is = sym same ∙ sym (append-nil v.stores) };
   own = λ alive. All-nil (λ (x : Stored). x.worker ≢ v.number);
+  heard = heard;
 }
 
 -- one more, by another worker
@@ -120,6 +140,7 @@ pub lags_by_other : (st : List Stored) (v : View) (x : Stored) → (v.resigned �
 lags_by_other st v x other h = record {
   seen = record { more = h.seen.more ++ x ∷ []; is = ap (λ (l : List Stored). l ++ x ∷ []) h.seen.is ∙ append_assoc v.stores h.seen.more (x ∷ []) };
   own = λ alive. All-append (λ (y : Stored). y.worker ≢ v.number) h.seen.more (x ∷ []) (h.own alive) (All-cons (λ (y : Stored). y.worker ≢ v.number) x [] (other alive) (All-nil (λ (y : Stored). y.worker ≢ v.number)));
+  heard = stores_more st v.heard_stores x h.heard;
 }
 
 -- all stores of a view's worker were made before its log had so many entries, if those that it has

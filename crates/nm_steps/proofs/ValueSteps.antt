@@ -1,5 +1,5 @@
 -- How a value is read and stored: the rule after the step, and what the seat learns by it.
-use Rattle.std.proofs.Common.{◌≡◌, inl, inr, ℕ, ◌+◌, ◌-◌, ◌<◌, ◌≤◌, ◌==◌, ◌≢◌, eqb, true, false, List, [], ◌∷◌, ◌++◌, length, set, refl, sym, ap, ◌∙◌, subst, arith, get_or-set_same, get_or-set_other, get_or-append-add, length-set, eq-eqb, ne_eqb, append-nil}
+use Rattle.std.proofs.Common.{◌≡◌, inr, ℕ, ◌+◌, ◌-◌, ◌<◌, ◌≤◌, ◌==◌, ◌≢◌, eqb, true, false, List, [], ◌∷◌, ◌++◌, length, set, refl, sym, ap, ◌∙◌, subst, arith, get_or-set_same, get_or-set_other, get_or-append-add, length-set, eq-eqb, ne_eqb, append-nil}
 use Rattle.std.specs.Prelude.{All, AllPairs, slice_index, slice_set}
 use Rattle.std.specs.List.{count_by}
 use Rattle.std.proofs.lemmas.List.{set-get_or}
@@ -41,7 +41,7 @@ use Rattle.nm_steps.proofs.Keeping.{each_set, once_is, stands_live}
 use Rattle.nm_steps.proofs.Noting.{standing}
 use Rattle.nm_steps.proofs.StoreOrders.{lags_by_other, sees_all_stores, none_in_order, order_push, own_were_before, seen_stored, stored_by_now}
 use Rattle.nm_steps.proofs.Tying.{own_part, stands_in_run}
-use Rattle.nm_steps.proofs.Valuing.{IfValued, still_linked, held_push, run_long, stores_more, stores_themselves, value_push}
+use Rattle.nm_steps.proofs.Valuing.{IfValued, all_linked, still_linked, held_push, run_long, stores_more, stores_themselves, value_push}
 
 -- the view that has seen the run so far, and these stores
 abbrev pub up_to_stores : List Turn → List Stored → View → View
@@ -99,11 +99,6 @@ module _ (L : Layout) (s : State Unit View) (k : Kept L s) (slots slot i : ℕ) 
   pub values_written : (n : ℕ) → slice_set s.words i n ≡ k.core ++ set k.values (slot - 1) n
   values_written n = (λ j. slice_set (k.words_are j) (place j) n) ∙ set-append-add k.core k.values (slot - 1) n
 
--- a table with values has some
-all_linked : (L : Layout) (turns : List (ℕ × Event)) (values : List ℕ) (st : List Stored) → IsLayout L → length values ≡ L.nodes → IfValued L (length values) turns st → LinksHaveValues L turns st
-all_linked L turns values st fits many (inl plain) = absurd (let least = fits.least in omega (arith, least, many, plain))
-all_linked L turns values st fits many (inr l) = l
-
 -- A LOOK at a value
 pub sees : (L : Layout) (slots id : ℕ) (v : View) (slot i : ℕ) → v.resigned ≡ false → v.layout ≡ L → slots ≡ L.nodes → IsSlot L slot → i ≡ words L + (slot - 1) → Allows (Kept L) slots id (v, []) i (λ n. n) (SawValue slot no_step (v, []))
 sees L slots id v slot i alive layout many is index s k homes at small =
@@ -124,7 +119,7 @@ sees L slots id v slot i alive layout many is index s k homes at small =
           held = k.valued.held;
           linked = k.valued.linked;
           order = k.valued.order;
-          seen = each_set (LagsInStores k.stores) s.views id w (sees_all_stores k.stores w refl) (λ j u _. k.valued.seen j u);
+          seen = each_set (LagsInStores k.stores) s.views id w (sees_all_stores k.stores w refl (k.valued.seen id v at).heard) (λ j u _. k.valued.seen j u);
         };
       },
       (
@@ -190,7 +185,7 @@ stores_it L slots id v slot i new alive layout many is private once index s k ho
           held = held;
           linked = subst (λ (n : ℕ). IfValued L n k.runs.turns st) (sym (length-set k.values (slot - 1) new)) (still_linked L (length k.values) k.runs.turns st k.stores (stores_more k.stores k.stores x (stores_themselves k.stores)) k.valued.linked);
           order = order;
-          seen = each_set (LagsInStores st) s.views id w (sees_all_stores st w refl) (λ j u ne there. lags_by_other k.stores u x (λ alive' same. others_apart L k.core s.views k.runs id j v u ne at there alive alive' same) (k.valued.seen j u there));
+          seen = each_set (LagsInStores st) s.views id w (sees_all_stores st w refl (stores_more k.stores v.heard_stores x (k.valued.seen id v at).heard)) (λ j u ne there. lags_by_other k.stores u x (λ alive' same. others_apart L k.core s.views k.runs id j v u ne at there alive alive' same) (k.valued.seen j u there));
         };
       },
       (
@@ -244,6 +239,7 @@ looked_tied it after number announcement brief tied slots l = record {
   private = subst (λ (v : View). (x : ℕ) → is_private (knowledge v) x ≡ true → IsPooled v.layout x) (sym l.same) tied.private;
   seen = l.seen.run;
   heard = ap (λ (v : View). v.heard) l.same ∙ tied.heard;
+  heard_stores = ap (λ (v : View). v.heard_stores) l.same ∙ tied.heard_stores;
   stored = seen_stored after.me.0 l.seen;
 }
 

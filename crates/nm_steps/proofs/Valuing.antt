@@ -1,10 +1,10 @@
 -- Values after the words of the core: a step of the core leaves them as they are.
 use Rattle.std.proofs.Common.{◌≡◌, ◌⊎◌, inl, inr, ℕ, ◌≤◌, ◌==◌, false, cond, List, [], ◌∷◌, ◌++◌, length, refl, sym, ap, ◌∙◌, subst, arith, append-nil, append_assoc}
 use Rattle.std.proofs.lemmas.List.Elements.{Contains-append_left}
-use Rattle.std.specs.Prelude.{Contains}
+use Rattle.std.specs.Prelude.{AllPairs, Contains}
 use mathlib.Core.Option.{some}
 use lib.ListN.{get_elem?}
-use Rattle.nm_edge.specs.Layouts.{Layout}
+use Rattle.nm_edge.specs.Layouts.{Layout, IsLayout}
 use Rattle.nm_edge.specs.Words.{words}
 use Rattle.nm_model.specs.declared.event.Event.{Event}
 use Rattle.nm_model.specs.declared.event.Event.TheVariants.{Join, Link}
@@ -19,7 +19,7 @@ use Rattle.nm_steps.proofs.PackedEvents.{each_state_fits}
 use Rattle.nm_steps.proofs.PackedReads.{each_field_has_a_word}
 use Rattle.nm_steps.specs.declared.view.Stored.{Stored}
 use Rattle.nm_steps.specs.declared.view.View.{View}
-use Rattle.nm_steps.specs.Rules.{ExtendsStores, IsShown, IsStored, LinksHaveValues, new_leaf, Keeps, LagsBehind, LagsInStores, Runs, WasHeld, WereHeld, knowledge, once_below, stands, value_from}
+use Rattle.nm_steps.specs.Rules.{ComesBefore, ExtendsStores, IsShown, IsStored, LinksHaveValues, new_leaf, Keeps, LagsBehind, LagsInStores, Runs, WasHeld, WereHeld, knowledge, once_below, stands, value_from}
 use Rattle.std.specs.List.{sum_by}
 
 -- ---- runs that go on
@@ -27,6 +27,12 @@ use Rattle.std.specs.List.{sum_by}
 -- each new leaf has a store, in a table with values
 abbrev pub IfValued : Layout → ℕ → List (ℕ × Event) → List Stored → Type 0
 IfValued L slots turns st = (slots ≡ 0) ⊎ LinksHaveValues L turns st
+
+-- these are stores of the run, in their order: each was in a private slot
+pub record AreStoresOf (L : Layout) (slots : ℕ) (turns : List (ℕ × Event)) (st : List Stored) : Type 0 where
+  pub held : WereHeld L turns st
+  pub linked : IfValued L slots turns st
+  pub order : AllPairs ComesBefore st
 
 -- more turns, by which each new leaf still has a store
 pub record Grows (L : Layout) (slots : ℕ) (st : List Stored) (turns more : List (ℕ × Event)) : Type 0 where
@@ -86,6 +92,11 @@ still_stored st was w own slot h s = record {
 pub still_linked : (L : Layout) (slots : ℕ) (turns : List (ℕ × Event)) (st was : List Stored) → ExtendsStores st was → IfValued L slots turns was → IfValued L slots turns st
 still_linked L slots turns st was h (inl plain) = inl plain
 still_linked L slots turns st was h (inr l) = inr (λ before since w p side leaf new is. still_stored st was w _ _ h (l before since w p side leaf new is))
+
+-- a table with values has some
+pub all_linked : (L : Layout) (turns : List (ℕ × Event)) (values : List ℕ) (st : List Stored) → IsLayout L → length values ≡ L.nodes → IfValued L (length values) turns st → LinksHaveValues L turns st
+all_linked L turns values st fits many (inl plain) = absurd (let least = fits.least in omega (arith, least, many, plain))
+all_linked L turns values st fits many (inr l) = l
 
 -- the same run, of the same words and of the same views
 abbrev pub reworded : {L : Layout} {core new : List ℕ} {views : List View} → core ≡ new → Runs L core views → Runs L new views

@@ -100,6 +100,7 @@ viewing L [] = record {
   past = [];
   heard = [];
   stores = [];
+  heard_stores = [];
 }
 viewing L (h ∷ hs) = record {
   layout = L;
@@ -110,6 +111,7 @@ viewing L (h ∷ hs) = record {
   past = [];
   heard = [];
   stores = [];
+  heard_stores = [];
 }
 
 -- `everybody`, `own_alone`, `the_others`: the view of all workers; of its own worker only; of those
@@ -141,7 +143,7 @@ joined v w = record v {
 
 -- a view that has heard what another one has seen
 abbrev pub informed : View → View → View
-informed v w = record v { heard = w.past }
+informed v w = record v { heard = w.past; heard_stores = w.stores }
 
 -- the joined view, which has heard what the other one had seen; its next step adds that to what it
 -- has seen
@@ -150,7 +152,7 @@ joining_view v w = informed (joined v w) w
 
 -- a view without a worker that has seen what this one has
 abbrev pub noted_down : View → View
-noted_down v = record nobody { past = v.past }
+noted_down v = record nobody { past = v.past; stores = v.stores }
 
 -- ---- a step
 
@@ -264,11 +266,12 @@ LinkHasValue slots v e = Unit {0}
 abbrev pub HasNotStored : View → Type 0
 HasNotStored v = StoredBefore v.number (length v.log) v.stores
 
--- what a view has seen of these stores is a beginning of them. All those that its worker made are in
--- it
+-- what a view has seen of these stores, and what it has heard of them, are beginnings of them. All
+-- those that its worker made are in what it has seen
 pub record LagsInStores (stores : List Stored) (v : View) : Type 0 where
   pub seen : ExtendsStores stores v.stores
   pub own : v.resigned ≡ false → All (λ (x : Stored). x.worker ≢ v.number) seen.more
+  pub heard : ExtendsStores stores v.heard_stores
 
 -- the words after those of the core are the values of slots 1 and on by these stores, which are in
 -- their order. Each slot was private at its store, and each new leaf has a store. Each view has seen

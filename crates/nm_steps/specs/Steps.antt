@@ -29,6 +29,7 @@ use Rattle.nm_steps.specs.Told.{told, known_as, BirthsAreKnown}
 use Rattle.nm_steps.specs.declared.answers.Sighted.{Sighted}
 use Rattle.nm_steps.specs.declared.answers.Sighted.TheVariants as seeing
 use Rattle.nm_steps.specs.declared.tree_steps.FrozenChain.{FrozenChain}
+use Rattle.nm_steps.specs.declared.view.Stored.{Stored}
 use Rattle.nm_steps.specs.declared.view.View.{View}
 use Rattle.nm_model.specs.declared.trace.Turn.{Turn}
 use Rattle.nm_steps.specs.Rules.{held_log, knowledge, known_births, viewing, joined, answered_turn, logged, is_store, stands, once_below, Extends, IsShown, IsFound, LinkHasValue, ExtendsStores, StoredBefore}
@@ -180,6 +181,7 @@ pub record Tied (it : Seat Unit View) (number announcement : ℕ) (brief : Brief
   pub private : (x : ℕ) → is_private (knowledge it.me.0) x ≡ true → IsPooled it.me.0.layout x
   pub seen : HasSeen it.me.0
   pub heard : it.me.0.heard ≡ []
+  pub heard_stores : it.me.0.heard_stores ≡ []
   pub stored : StoredBefore it.me.0.number (length it.me.0.log + 1) it.me.0.stores
 
 -- what a table always satisfies
@@ -199,9 +201,10 @@ AreFresh b k [] = Unit {0}
 AreFresh b k (p ∷ ps) = (p.table ≡ b.table) × (p.view ≡ fresh_view b.layout k)
     × AreFresh b (suc k) ps
 
--- the first pass represents the workers of both
+-- the first pass represents the workers of both, and may have seen more
 abbrev pub HasJoined : PassView → PassView → PassView → Type 0
-HasJoined p q all = all ≡ record p { view = record (joined p.view q.view) { past = all.view.past } }
+HasJoined p q all = all ≡ record p
+    { view = record (joined p.view q.view) { past = all.view.past; stores = all.view.stores } }
 
 -- what a pass has seen extends what another one had seen
 pub record HasSeenAllOf (later earlier : PassView) : Type 0 where
@@ -211,14 +214,21 @@ pub record HasSeenAllOf (later earlier : PassView) : Type 0 where
 pub record Notice : Type 0 where
   pub table : TableId
   pub past : List Turn
+  pub stores : List Stored
 
--- a note has what a pass had seen
+-- a note has what a pass had seen, of turns and of stores
 abbrev pub IsNoteOf : PassView → Notice → Type 0
-IsNoteOf p note = note ≡ record { table = p.table; past = p.view.past }
+IsNoteOf p note = note ≡ record { table = p.table; past = p.view.past; stores = p.view.stores }
 
 -- a pass that has heard a note may have seen more, and has taken no step
 abbrev pub HasHeard : PassView → PassView → Type 0
-HasHeard p q = q ≡ record p { view = record p.view { past = q.view.past } }
+HasHeard p q = q ≡ record p { view = record p.view { past = q.view.past; stores = q.view.stores } }
+
+-- what clauses see of the words of a tree that is no longer shared: those of the core, and the values
+-- of slots 1 and on. A tree without values has none
+pub record EndedWords : Type 0 where
+  pub core : List ℕ
+  pub values : List ℕ
 
 -- some ordered run ends with these words, and extends what the view has seen; the view's logs are
 -- parts of it, at most one of each worker

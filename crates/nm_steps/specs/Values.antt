@@ -1,5 +1,5 @@
 -- Steps on values, whose words come after those of the core.
-use Rattle.std.specs.Prelude.{◌≡◌, ◌+◌, ◌-◌, ℕ, Bool, true, false, List, [], ◌∷◌, ◌++◌, length, AllPairs}
+use Rattle.std.specs.Prelude.{◌≡◌, ◌+◌, ◌-◌, ◌<◌, ℕ, Bool, true, false, List, [], ◌∷◌, ◌++◌, length, slice_index, AllPairs}
 use mathlib.Core.Option.{none}
 use Rattle.atomic_table.specs.Seated.{TableId}
 use Rattle.atomic_table.specs.Table.{Me, Step, step}
@@ -10,7 +10,7 @@ use Rattle.nm_model.specs.Knowledge.{is_private}
 use Rattle.nm_steps.specs.declared.view.Stored.{Stored}
 use Rattle.nm_steps.specs.declared.view.View.{View}
 use Rattle.nm_steps.specs.Rules.{ComesBefore, Extends, ExtendsStores, LinksHaveValues, WereHeld, knowledge, value_of}
-use Rattle.nm_steps.specs.Steps.{HasSeen, Laid, PassView, TreeView}
+use Rattle.nm_steps.specs.Steps.{EndedWords, Ends, HasSeen, Laid, PassView, TreeView}
 
 -- a table with a value for each slot
 pub record HasValues (b : TreeView) : Type 0 where
@@ -109,3 +109,18 @@ pub record OnlySees (p q : PassView) : Type 0 where
 pub record HasStoredFor (p q : PassView) (slot value : ℕ) : Type 0 where
   pub earlier : List Stored
   pub is : q.view.stores ≡ own_store p.view slot value earlier (length q.view.past)
+
+-- ---- closing
+
+-- some ordered run ends with these words, which extends what the view has seen. Each slot has the
+-- value that was stored last for it. The stores extend those that the view has seen, and are in their
+-- order. Each slot was private at its store, and each new leaf has a store
+pub record EndsWithValues (L : Layout) (left : EndedWords) (view : View) : Type 0 where
+  pub ends : Ends L left.core view
+  pub long : length left.values ≡ L.nodes
+  pub stores : List Stored
+  pub extends : ExtendsStores stores view.stores
+  pub are : (i : ℕ) → i < L.nodes → slice_index left.values i ≡ value_of stores (i + 1)
+  pub held : WereHeld L ends.turns stores
+  pub linked : LinksHaveValues L ends.turns stores
+  pub order : AllPairs ComesBefore stores

@@ -22,8 +22,9 @@ pub struct Stored {
 }
 
 /// The knowledge of a seat: the logs of the workers that it represents, its own apart from the
-/// others; the turns of the run up to its last step; the turns of a note that it has heard; and the
-/// stores of values up to its last step on a value. Proof only: no value of it is made.
+/// others; the turns of the run up to its last step; the stores of values up to its last step on a
+/// value; and the turns and the stores of a note that it has heard. Proof only: no value of it is
+/// made.
 pub struct View {
     pub layout: Layout,
     pub resigned: bool,
@@ -33,6 +34,7 @@ pub struct View {
     pub past: LinkedList<Turn>,
     pub heard: LinkedList<Turn>,
     pub stores: LinkedList<Stored>,
+    pub heard_stores: LinkedList<Stored>,
 }
 
 pub struct Law;

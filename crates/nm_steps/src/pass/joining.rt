@@ -1,7 +1,8 @@
 //! The join of two passes into one.
-ghost use Rattle.nm_steps.specs.Rules.{knowledge};
+ghost use Rattle.nm_steps.specs.Rules.{ExtendsStores, knowledge};
 ghost use Rattle.nm_steps.specs.Steps.{IsOf, HasEmptyHands, HasJoined, HasSeenAllOf};
 ghost use Rattle.nm_steps.specs.Ties.{StandsInRun};
+ghost use Rattle.nm_steps.specs.Values.{HasSeenStores, HasValues};
 
 use crate::pass::{Pass, Shared};
 use crate::view::{Ties, View};
@@ -22,7 +23,8 @@ impl Shared {
     /// Joins two passes, in one step that is in both logs. The first pass represents the workers of
     /// both, and takes over the ledgers that the second one's worker holds. That worker resigns; it
     /// must have no private slot and no cut without a label. The step reads the epoch's word and
-    /// changes no word. What the result has seen extends what both had seen. Each worker's number
+    /// changes no word. What the result has seen of turns and of stores extends what both had seen.
+    /// Each worker's number
     /// is in the result at most once, so no ledger was held by both passes.
     pub fn join(&self, pass: Pass, other: Pass) -> Pass
         requires first { IsOf self.now pass }
@@ -32,6 +34,9 @@ impl Shared {
         ensures run { StandsInRun result.view }
         ensures past { HasSeenAllOf result pass }
         ensures heard { HasSeenAllOf result other }
+        ensures stores { ExtendsStores result.view.stores pass.view.stores }
+        ensures heard_stores { ExtendsStores result.view.stores other.view.stores }
+        ensures values { HasValues self.now → HasSeenStores result.view }
     {
         let Pass {
             mut seat,

@@ -1,7 +1,8 @@
 //! Notes, by which one worker shows another what it has seen.
 ghost use Rattle.std.specs.Prelude.{◌≡◌};
-ghost use Rattle.nm_steps.specs.Rules.{Extends};
+ghost use Rattle.nm_steps.specs.Rules.{Extends, ExtendsStores};
 ghost use Rattle.nm_steps.specs.Steps.{IsOf, HasHeard, HasSeenAllOf, IsNoteOf};
+ghost use Rattle.nm_steps.specs.Values.{HasSeenStores, HasValues};
 
 use crate::pass::{Pass, Shared};
 use crate::view::{Ties, View, WorkerSeat};
@@ -21,7 +22,11 @@ impl Model for Note {
 
     ghost Value = { Notice };
 
-    ghost view = { λ n. record { table = n.seat.table_id; past = n.seat.me.0.past } };
+    ghost view = { λ n. record {
+      table = n.seat.table_id;
+      past = n.seat.me.0.past;
+      stores = n.seat.me.0.stores;
+    } };
 
     ghost invariant = { λ n. (n.seat.me.0.resigned ≡ true) × (n.seat.me.1 ≡ []) };
 }
@@ -60,9 +65,9 @@ impl Shared {
         }
     }
 
-    /// Lets the pass hear a note: from now on, what it has seen extends what the note has seen and
-    /// what the pass itself had seen. So in the one run, all later turns of the pass come after all
-    /// turns that the note's pass had seen. It reads the epoch's word once; it is no step, and no
+    /// Lets the pass hear a note: from now on, what it has seen of turns and of stores extends what
+    /// the note has seen and what the pass itself had seen. So in the one run, all later turns of the
+    /// pass come after all turns that the note's pass had seen. It reads the epoch's word once; it is no step, and no
     /// log records it.
     pub fn hear(&self, pass: &mut Pass, note: Note)
         requires own { IsOf self.now pass.old }
@@ -70,6 +75,9 @@ impl Shared {
         ensures same { HasHeard pass.old pass.new }
         ensures past { HasSeenAllOf pass.new pass.old }
         ensures heard { Extends pass.new.view.past note.past }
+        ensures stores { ExtendsStores pass.new.view.stores pass.old.view.stores }
+        ensures heard_stores { ExtendsStores pass.new.view.stores note.stores }
+        ensures values { HasValues self.now → HasSeenStores pass.new.view }
     {
         let Note { seat: told } = note;
         self.table.shared.join_seat::<Hear>(&mut pass.seat, told);

@@ -1,9 +1,10 @@
-use Rattle.std.proofs.Common.{rules, sym, ap, subst, arith, ◌∙◌}
+use Rattle.std.proofs.Common.{rules, sym, ap, subst, arith, ◌∙◌, ◌≡◌}
+use Rattle.nm_edge.specs.Layouts.{IsLayout}
 use Rattle.nm_steps.specs.Rules.{knowledge}
 use Rattle.nm_steps.specs.Steps.{PassView, HasEmptyHands}
 use Rattle.nm_steps.proofs.Cutting.{joins}
-use Rattle.nm_steps.proofs.JoinedPasses.{joined_tied, joined_view, joined_past, joined_heard}
-use Rattle.nm_steps.proofs.Tying.{may_tie}
+use Rattle.nm_steps.proofs.JoinedPasses.{joined_tied, joined_view, joined_past, joined_heard, joined_stored, joined_of_stores}
+use Rattle.nm_steps.proofs.Tying.{may_tie, seen_with_values}
 use Rattle.nm_steps.proofs.pass.Shared.join.Goals as goal
 
 pub join_seat-requires : goal.join_seat-requires
@@ -22,7 +23,7 @@ load-requires c =
     (ap (λ m. m.0.layout) c.join_seat.ensures.2 ∙ search rules) c.epoch-epoch.ensures
 
 pub invariant_of-result : goal.invariant_of-result
-invariant_of-result c = joined_tied c.pass.inside.seat c.join_seat.new.seat c.load.new.seat _ _ _ c.other.inside.seat.me.0 c.pass.invariant c.join_seat.ensures.2 c.load.ensures.2.0 c.load.ensures.2.1 c.load.ensures.2.2
+invariant_of-result c = joined_tied c.pass.inside.seat c.join_seat.new.seat c.load.new.seat _ _ _ c.other.inside.seat.me.0 c.pass.invariant c.join_seat.ensures.2 c.load.ensures.2.0 c.load.ensures.2.1 c.load.ensures.2.2 c.load.ensures.2.4
 
 pub returns-clause-joined : goal.returns-clause-joined
 returns-clause-joined c = rw (← c.pass.view_is, ← c.other.view_is) (λ i. record {
@@ -36,3 +37,12 @@ returns-clause-past c = record { goes_on = rw (← c.pass.view_is) (joined_past 
 
 pub returns-clause-heard : goal.returns-clause-heard
 returns-clause-heard c = record { goes_on = rw (← c.other.view_is) (joined_heard c.pass.inside.seat c.join_seat.new.seat c.load.new.seat _ _ _ c.other.inside.seat.me.0 c.pass.invariant c.join_seat.ensures.2 c.load.ensures.2.0 c.load.ensures.2.1) }
+
+pub returns-clause-stores : goal.returns-clause-stores
+returns-clause-stores c = rw (← c.pass.view_is) (joined_stored c.pass.inside.seat c.join_seat.new.seat c.load.new.seat _ _ _ c.other.inside.seat.me.0 c.pass.invariant c.join_seat.ensures.2 c.load.ensures.2.0 c.load.ensures.2.1)
+
+pub returns-clause-heard_stores : goal.returns-clause-heard_stores
+returns-clause-heard_stores c = rw (← c.other.view_is) (joined_of_stores c.pass.inside.seat c.join_seat.new.seat c.load.new.seat _ _ _ c.other.inside.seat.me.0 c.pass.invariant c.join_seat.ensures.2 c.load.ensures.2.0 c.load.ensures.2.1)
+
+pub returns-clause-values : goal.returns-clause-values
+returns-clause-values c = rw (← c.self.view_is) (λ values. seen_with_values _ _ (subst IsLayout (let same : c.pass.inside.seat.me.0.layout ≡ c.self.inside.layout = search rules in same) c.pass.invariant.fits) values c.load.ensures.2.5)
