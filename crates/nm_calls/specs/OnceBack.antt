@@ -1,16 +1,20 @@
 -- A stored value comes back once: by the free of the leaf for which it was stored.
-use Rattle.std.specs.Prelude.{◌≡◌, ◌≢◌, ℕ, List, ◌∷◌, ◌++◌, length, Contains}
-use Rattle.nm_edge.specs.Layouts.{Layout}
+use Rattle.std.specs.Prelude.{◌≡◌, ◌≢◌, ℕ, List, ◌∷◌, ◌++◌, length, All, Contains}
+use Rattle.nm_edge.specs.Layouts.{Layout, IsLayout}
 use Rattle.nm_edge.specs.declared.edge.Side.{Side}
 use Rattle.nm_edge.specs.declared.node.NodeId.{NodeId}
+use Rattle.nm_model.specs.declared.event.Event.{Event}
 use Rattle.nm_model.specs.declared.event.Event.TheVariants.{Link}
 use Rattle.nm_model.specs.declared.reply.Reply.TheVariants.{Linked}
 use Rattle.nm_model.specs.declared.trace.Turn.{Turn}
 use Rattle.nm_model.specs.Headline.{Headline, nodes_freed_of, words_after}
 use Rattle.nm_model.specs.Memory.{child, named}
+use Rattle.nm_model.specs.Ordered.{HasKey, ordered, trace_in}
 use Rattle.nm_order.specs.Logs.{part_of}
 use Rattle.nm_steps.specs.declared.view.Stored.{Stored}
 use Rattle.nm_steps.specs.Rules.{answered_turn}
+use Rattle.nm_calls.specs.HandedBack.{WasCutWith}
+use Rattle.nm_calls.specs.Maps.{HoldsStores}
 
 -- the worker has won a link of this leaf: the child of the new internal node beside the node that was
 -- there, with the birth in its word
@@ -49,3 +53,12 @@ pub record ComesBack (L : Layout) (turns : List Turn) (x : Stored) : Type 0 wher
 abbrev pub ValuesComeBackOnce : Type 0
 ValuesComeBackOnce = (L : Layout) (turns : List Turn) → Headline L turns → (x : Stored)
     → (one other : ComesBack L turns x) → (one.so_far ≡ other.so_far) × (one.leaf ≡ other.leaf)
+
+-- in each run, with stores that hold, the value that a leaf had right before its cut is the one that
+-- was stored for the leaf. A collection hands out the former
+abbrev pub ValuesComeBackAsStored : Type 0
+ValuesComeBackAsStored = (L : Layout) → IsLayout L → (events : List (ℕ × Event))
+    → All (λ t. HasKey t.1) events → (from : List Turn) (stores : List Stored)
+    → HoldsStores L from (trace_in (ordered L) events) stores → (n : NodeId) (v : ℕ)
+    → WasCutWith L (trace_in (ordered L) events) stores n v → (x : Stored) → Contains stores x
+    → IsStoreOf L (trace_in (ordered L) events) x n → v ≡ x.value
