@@ -37,3 +37,6 @@ pub mod UncutLeaves
 pub mod PlainMaps
 pub mod MapsOfRuns
 pub mod ComingBack
+pub mod OnceBack
+pub mod UnderPins
+pub mod ReachedNodes

@@ -1,7 +1,9 @@
 //! Laws of maps: a leaf keeps its value from its link to its cut, and the map is linearizable.
 ghost use Rattle.nm_calls.specs.ComingBack.{NodesAreFreedOnce, PinnedValuesStayOut};
+ghost use Rattle.nm_calls.specs.GotValues.{GotLeavesAreNotFreed, GotValuesStayOut};
 ghost use Rattle.nm_calls.specs.KeptValues.{LeavesKeepTheirValues, PutValuesStay, TakenValuesAreCut, ValuesAreByAllStores};
 ghost use Rattle.nm_calls.specs.MapHistories.{GetsAreOfTheMap, HistoriesAreOfMaps, ValuesWerePut};
+ghost use Rattle.nm_calls.specs.OnceBack.{ValuesComeBackOnce};
 
 /// Law: in every ordered run, a leaf that is in the map stays in it with its key and its value
 /// until a turn cuts it off.
@@ -52,6 +54,20 @@ pub fn nodes_are_freed_once()
 /// before the leaf that had the value is freed, if a later turn cuts it off.
 pub fn pinned_values_stay_out()
     ensures { PinnedValuesStayOut }
+{}
+
+/// Law: in all turns that have the headline, each stored value comes back at most once. One turn
+/// frees the leaf for which it was stored, and no other turn does.
+pub fn values_come_back_once()
+    ensures { ValuesComeBackOnce }
+{}
+
+/// Law: in all turns that have the headline, if a worker got a value under its pin and has not
+/// unpinned since, no turn has freed the leaf that had the value, whichever worker collects. So the
+/// value that was stored for this leaf has not come back.
+pub fn got_values_stay_out()
+    ensures leaves { GotLeavesAreNotFreed }
+    ensures values { GotValuesStayOut }
 {}
 
 /// Law: what the plain map of a history has under a key at a moment was put by an insert of the

@@ -1,0 +1,90 @@
+-- A leaf that a pinned worker reached is freed by no turn until the worker unpins.
+use Rattle.std.proofs.Common.{◌≡◌, ◌⊎◌, inl, inr, ℕ, zero, suc, ◌==◌, ◌||◌, Bool, true, false, cond, List, [], ◌∷◌, ◌++◌, append-nil, append_assoc, refl, sym, ap, subst, ◌∙◌, arith}
+use Rattle.std.specs.Prelude.{Contains}
+use Rattle.std.specs.List.{list_any}
+use Rattle.std.proofs.lemmas.Bool.{eqb-true}
+use Rattle.std.proofs.lemmas.List.Folds.{list_any-append}
+use Rattle.std.proofs.lemmas.List.Elements.{Contains-append_cases, Contains-append_left, Contains-append_right}
+use Rattle.nm_edge.specs.Layouts.{Layout}
+use Rattle.nm_edge.specs.declared.node.NodeId.{NodeId}
+use Rattle.nm_model.specs.declared.trace.Turn.{Turn}
+use Rattle.nm_model.specs.Headline.{Headline, HasLeft, IsPinned, cuts_of, freed_by, leaves, nodes_cut_of, nodes_freed_of, words_after}
+use Rattle.nm_model.specs.Memory.{named}
+use Rattle.nm_model.specs.Paths.{Reached}
+use Rattle.nm_theorem.proofs.FreedOfRuns.{cuts-append}
+use Rattle.nm_theorem.proofs.LeftSince.{readers_have_left}
+use Rattle.nm_calls.specs.GotValues.{GotLeavesAreNotFreed, GotValuesStayOut, got_leaf}
+use Rattle.nm_calls.proofs.OnceBack.{one_leaf}
+use Rattle.nm_calls.proofs.Unheld.{freed_by-append, or_right, pin_lasts}
+
+-- ---- the turn that cut a node
+
+pub record CutIn (ts : List Turn) (n : NodeId) : Type 0 where
+  pub before : List Turn
+  pub cut : Turn
+  pub since : List Turn
+  pub are : ts ≡ before ++ cut ∷ since
+  pub there : Contains (nodes_cut_of cut.outcome) n
+
+none_there : (n : NodeId) → Contains [] n → ⊥
+none_there n c = let below = c.1 in omega (arith, below)
+
+pub cut_in : (w : ℕ) (ts : List Turn) (n : NodeId) → Contains (cuts_of w ts) n → CutIn ts n
+cut_in w [] n c = absurd (none_there n c)
+cut_in w (t ∷ ts) n c = by (Contains-append_cases (cond (t.worker == w) (nodes_cut_of t.outcome) []) (cuts_of w ts) n c) (cut_in w ts n)
+  where
+    here : (b : Bool) → Contains (cond b (nodes_cut_of t.outcome) []) n → Contains (nodes_cut_of t.outcome) n
+    here true at = at
+    here false at = absurd (none_there n at)
+
+    by : Contains (cond (t.worker == w) (nodes_cut_of t.outcome) []) n ⊎ Contains (cuts_of w ts) n → (Contains (cuts_of w ts) n → CutIn ts n) → CutIn (t ∷ ts) n
+    by (inl at) later = record { before = []; cut = t; since = ts; are = refl; there = here (t.worker == w) at }
+    by (inr at) later = let r = later at in record { before = t ∷ r.before; cut = r.cut; since = r.since; are = ap (λ (l : List Turn). t ∷ l) r.are; there = r.there }
+
+-- ---- a leave
+
+left_later : (w : ℕ) (xs ys : List Turn) → HasLeft w ys → HasLeft w (xs ++ ys)
+left_later w xs ys left = list_any-append (leaves w) xs ys ∙ or_right (list_any (leaves w) xs) (list_any (leaves w) ys) left
+
+left_sooner : (w : ℕ) (xs ys : List Turn) → HasLeft w xs → HasLeft w (xs ++ ys)
+left_sooner w xs ys left = list_any-append (leaves w) xs ys ∙ ap (λ (b : Bool). b || list_any (leaves w) ys) left
+
+-- ---- a node that was reached under a pin
+
+pub not_freed_under_pin : (L : Layout) (turns : List Turn) → Headline L turns → (w : ℕ) (so_far rest : List Turn) → turns ≡ so_far ++ rest → IsPinned w so_far → (HasLeft w rest → ⊥) → (x : ℕ) → Reached (words_after L so_far) x
+    → Contains (freed_by turns) (named (words_after L so_far) x) → ⊥
+not_freed_under_pin L turns h w so_far rest are pinned stays x reached freed = by (Contains-append_cases (cuts_of cut.0 so_far) (cuts_of cut.0 rest) n (subst (λ (ns : List NodeId). Contains ns n) (ap (cuts_of cut.0) are ∙ cuts-append cut.0 so_far rest) cut.1))
+  where
+    n : NodeId
+    n = named (words_after L so_far) x
+
+    cut : (u : ℕ) × Contains (cuts_of u turns) n
+    cut = (h.queues turns [] (sym (append-nil turns))).only n freed
+
+    later : CutIn rest n → ⊥
+    later c =
+        stays (subst (HasLeft w) (sym c.are) (left_later w c.before (c.cut ∷ c.since) (left_later w (c.cut ∷ []) c.since
+        (readers_have_left L turns h n freed (so_far ++ c.before) c.since c.cut
+        (are ∙ (ap (λ (ts : List Turn). so_far ++ ts) c.are ∙ sym (append_assoc so_far c.before (c.cut ∷ c.since)))) c.there w
+        (pin_lasts w so_far c.before pinned (λ left. stays (subst (HasLeft w) (sym c.are) (left_sooner w c.before (c.cut ∷ c.since) left))))))))
+
+    by : Contains (cuts_of cut.0 so_far) n ⊎ Contains (cuts_of cut.0 rest) n → ⊥
+    by (inl early) = let less = h.younger so_far rest are cut.0 n early reached in omega (arith, less)
+    by (inr late) = later (cut_in cut.0 rest n late)
+
+-- ---- the laws
+
+pub got_leaves_are_not_freed : GotLeavesAreNotFreed
+got_leaves_are_not_freed L turns h stores w k v got freed = not_freed_under_pin L turns h w got.so_far got.rest got.are got.pinned got.stays got.gives.slot got.gives.reached freed
+
+freed_there : (before rest : List Turn) (free : Turn) (n : NodeId) → Contains (nodes_freed_of free.outcome) n → Contains (freed_by (before ++ free ∷ rest)) n
+freed_there before rest free n frees =
+    subst (λ (ns : List NodeId). Contains ns n) (sym (freed_by-append before (free ∷ rest)))
+    (Contains-append_right (freed_by before) (freed_by (free ∷ rest)) n (Contains-append_left (nodes_freed_of free.outcome) (freed_by rest) n frees))
+
+pub got_values_stay_out : GotValuesStayOut
+got_values_stay_out L turns h stores w k v got x stored back =
+    got_leaves_are_not_freed L turns h stores w k v got
+    (subst (λ (ts : List Turn). Contains (freed_by ts) (got_leaf got)) (sym back.are)
+    (freed_there back.so_far back.rest back.free (got_leaf got)
+    (subst (λ (n : NodeId). Contains (nodes_freed_of back.free.outcome) n) (one_leaf L turns x back.leaf (got_leaf got) back.stored stored) back.frees)))

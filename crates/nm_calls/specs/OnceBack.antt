@@ -1,0 +1,51 @@
+-- A stored value comes back once: by the free of the leaf for which it was stored.
+use Rattle.std.specs.Prelude.{◌≡◌, ◌≢◌, ℕ, List, ◌∷◌, ◌++◌, length, Contains}
+use Rattle.nm_edge.specs.Layouts.{Layout}
+use Rattle.nm_edge.specs.declared.edge.Side.{Side}
+use Rattle.nm_edge.specs.declared.node.NodeId.{NodeId}
+use Rattle.nm_model.specs.declared.event.Event.TheVariants.{Link}
+use Rattle.nm_model.specs.declared.reply.Reply.TheVariants.{Linked}
+use Rattle.nm_model.specs.declared.trace.Turn.{Turn}
+use Rattle.nm_model.specs.Headline.{Headline, nodes_freed_of, words_after}
+use Rattle.nm_model.specs.Memory.{child, named}
+use Rattle.nm_order.specs.Logs.{part_of}
+use Rattle.nm_steps.specs.declared.view.Stored.{Stored}
+use Rattle.nm_steps.specs.Rules.{answered_turn}
+
+-- the worker has won a link of this leaf: the child of the new internal node beside the node that was
+-- there, with the birth in its word
+pub record HasLinked (L : Layout) (turns : List Turn) (w : ℕ) (leaf : NodeId) : Type 0 where
+  pub before : List Turn
+  pub since : List Turn
+  pub parent : ℕ
+  pub side : Side
+  pub old : ℕ
+  pub new : ℕ
+  pub node : NodeId
+  pub are : turns ≡ before ++ answered_turn w (Link parent side old new) (Linked node) ∷ since
+  pub on : Side
+  pub beside : child (words_after L before) new on ≢ old
+  pub is : leaf ≡ named (words_after L before) (child (words_after L before) new on)
+
+-- the value was stored for this leaf: its worker linked the leaf, and stored the value for the leaf's
+-- slot after its last step before the link
+pub record IsStoreOf (L : Layout) (turns : List Turn) (x : Stored) (leaf : NodeId) : Type 0 where
+  pub link : HasLinked L turns x.worker leaf
+  pub own : x.own ≡ length (part_of x.worker link.before)
+  pub slot : x.slot ≡ leaf.slot
+
+-- the stored value comes back: a turn frees the leaf for which it was stored
+pub record ComesBack (L : Layout) (turns : List Turn) (x : Stored) : Type 0 where
+  pub leaf : NodeId
+  pub stored : IsStoreOf L turns x leaf
+  pub so_far : List Turn
+  pub free : Turn
+  pub rest : List Turn
+  pub are : turns ≡ so_far ++ free ∷ rest
+  pub frees : Contains (nodes_freed_of free.outcome) leaf
+
+-- in all turns with the headline, each stored value comes back at most once: by one turn, which frees
+-- one leaf
+abbrev pub ValuesComeBackOnce : Type 0
+ValuesComeBackOnce = (L : Layout) (turns : List Turn) → Headline L turns → (x : Stored)
+    → (one other : ComesBack L turns x) → (one.so_far ≡ other.so_far) × (one.leaf ≡ other.leaf)
