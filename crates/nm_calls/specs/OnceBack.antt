@@ -1,16 +1,19 @@
 -- A stored value comes back once: by the free of the leaf for which it was stored.
-use Rattle.std.specs.Prelude.{◌≡◌, ◌≢◌, ℕ, List, ◌∷◌, ◌++◌, length, Contains}
-use Rattle.nm_edge.specs.Layouts.{Layout}
+use Rattle.std.specs.Prelude.{◌≡◌, ◌≢◌, ℕ, List, ◌∷◌, ◌++◌, length, All, Contains}
+use Rattle.nm_edge.specs.Layouts.{Layout, IsLayout}
 use Rattle.nm_edge.specs.declared.edge.Side.{Side}
 use Rattle.nm_edge.specs.declared.node.NodeId.{NodeId}
+use Rattle.nm_model.specs.declared.event.Event.{Event}
 use Rattle.nm_model.specs.declared.event.Event.TheVariants.{Link}
 use Rattle.nm_model.specs.declared.reply.Reply.TheVariants.{Linked}
 use Rattle.nm_model.specs.declared.trace.Turn.{Turn}
 use Rattle.nm_model.specs.Headline.{Headline, nodes_freed_of, words_after}
 use Rattle.nm_model.specs.Memory.{child, named}
+use Rattle.nm_model.specs.Ordered.{HasKey, ordered, trace_in}
 use Rattle.nm_order.specs.Logs.{part_of}
 use Rattle.nm_steps.specs.declared.view.Stored.{Stored}
 use Rattle.nm_steps.specs.Rules.{answered_turn}
+use Rattle.nm_calls.specs.HandedBack.{WasCutWith}
 
 -- the worker has won a link of this leaf: the child of the new internal node beside the node that was
 -- there, with the birth in its word
@@ -49,3 +52,17 @@ pub record ComesBack (L : Layout) (turns : List Turn) (x : Stored) : Type 0 wher
 abbrev pub ValuesComeBackOnce : Type 0
 ValuesComeBackOnce = (L : Layout) (turns : List Turn) → Headline L turns → (x : Stored)
     → (one other : ComesBack L turns x) → (one.so_far ≡ other.so_far) × (one.leaf ≡ other.leaf)
+
+-- one of these values was stored for this leaf, and it is v
+pub record WasStoredFor (L : Layout) (turns : List Turn) (stores : List Stored) (leaf : NodeId) (v : ℕ) : Type 0 where
+  pub stored : Stored
+  pub there : Contains stores stored
+  pub of : IsStoreOf L turns stored leaf
+  pub is : stored.value ≡ v
+
+-- in each run, the value that a leaf had when it was cut off is one that was stored for this leaf
+abbrev pub CutValuesWereStored : Type 0
+CutValuesWereStored = (L : Layout) → IsLayout L → (events : List (ℕ × Event))
+    → All (λ t. HasKey t.1) events → (stores : List Stored) (n : NodeId) (v : ℕ)
+    → WasCutWith L (trace_in (ordered L) events) stores n v
+    → WasStoredFor L (trace_in (ordered L) events) stores n v

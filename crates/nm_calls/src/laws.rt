@@ -3,7 +3,7 @@ ghost use Rattle.nm_calls.specs.ComingBack.{NodesAreFreedOnce, PinnedValuesStayO
 ghost use Rattle.nm_calls.specs.GotValues.{GotLeavesAreNotFreed, GotValuesStayOut};
 ghost use Rattle.nm_calls.specs.KeptValues.{LeavesKeepTheirValues, PutValuesStay, TakenValuesAreCut, ValuesAreByAllStores};
 ghost use Rattle.nm_calls.specs.MapHistories.{GetsAreOfTheMap, HistoriesAreOfMaps, ValuesWerePut};
-ghost use Rattle.nm_calls.specs.OnceBack.{ValuesComeBackOnce};
+ghost use Rattle.nm_calls.specs.OnceBack.{CutValuesWereStored, ValuesComeBackOnce};
 
 /// Law: in every ordered run, a leaf that is in the map stays in it with its key and its value
 /// until a turn cuts it off.
@@ -60,6 +60,12 @@ pub fn pinned_values_stay_out()
 /// frees the leaf for which it was stored, and no other turn does.
 pub fn values_come_back_once()
     ensures { ValuesComeBackOnce }
+{}
+
+/// Law: in every ordered run, the value that a leaf had when it was cut off is one that a worker
+/// stored for this leaf. So each value that comes back was stored, and comes back once.
+pub fn cut_values_were_stored()
+    ensures { CutValuesWereStored }
 {}
 
 /// Law: in all turns that have the headline, if a worker got a value under its pin and has not
