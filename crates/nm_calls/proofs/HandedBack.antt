@@ -298,6 +298,7 @@ module _ (at : PassView) (run : IsInRun at) (seen : HasSeenStores at.view) (o : 
     since = c.since;
     are = seen.run.are ∙ c.are;
     cuts = c.there;
+    high = pooled.0;
     reached = reached L turns h o e.node pooled.0 pooled.1 c kept;
     leaf = was_leaf;
     first = at.view.stores;
@@ -317,6 +318,7 @@ read_is_cut p q o e v r =
       since = was.since ++ more.more;
       are = more.is ∙ (ap (λ (l : List Turn). l ++ more.more) was.are ∙ append_assoc was.before (was.cut ∷ was.since) more.more);
       cuts = was.cuts;
+      high = was.high;
       reached = was.reached;
       leaf = was.leaf;
       first = was.first;

@@ -24,6 +24,7 @@ use Rattle.nm_order.proofs.StaleRuns.{layout_is}
 use Rattle.nm_order.proofs.WalksOfRuns.{trace_in-append}
 use Rattle.nm_theorem.proofs.FreedOfRuns.{cuts-append}
 use Rattle.nm_theorem.proofs.HeadlineOfRuns.{each_run_has_it}
+use Rattle.nm_theorem.proofs.Runs.{Parts, parts_of}
 use Rattle.nm_theorem.proofs.StaysOfRuns.{was_allowed}
 use Rattle.nm_theorem.proofs.WrittenWords.{run_words}
 use Rattle.nm_steps.specs.declared.view.Stored.{Stored}
@@ -36,7 +37,6 @@ use Rattle.nm_calls.specs.KeptValues.{NoneCuts}
 use Rattle.nm_calls.specs.Maps.{HoldsStores, WasInHands}
 use Rattle.nm_calls.specs.OnceBack.{HasLinked, IsStoreOf, ValuesComeBackAsStored}
 use Rattle.nm_calls.proofs.KeptLeaves.{one_holds, unheld_until}
-use Rattle.nm_calls.proofs.KeptValues.{SplitRun, split_run}
 use Rattle.nm_calls.proofs.LeavesInHands.{in_hands_then, leaf_high, leaf_low, leaf_reached}
 use Rattle.nm_calls.proofs.MadeLeaves.{LastEvent, last_event}
 use Rattle.nm_calls.proofs.OnceBack.{TwoPlaces, one_entry, part_append, two_places}
@@ -72,14 +72,14 @@ module _ (L : Layout) (fits : IsLayout L) (events : List (ℕ × Event)) (keys :
   abbrev its : Turn
   its = answered_turn w (Link p side old new) (Linked node)
 
-  a : SplitRun (ordered L) events (before ++ its ∷ []) (mid ++ rest)
-  a = split_run (before ++ its ∷ []) (mid ++ rest) events (ordered L) are
+  a : Parts (ordered L) events (before ++ its ∷ []) (mid ++ rest)
+  a = parts_of (ordered L) events (before ++ its ∷ []) (mid ++ rest) are
 
-  b : SplitRun (after_in (ordered L) a.before) a.since mid rest
-  b = split_run mid rest a.since (after_in (ordered L) a.before) a.laters
+  b : Parts (after_in (ordered L) a.early) a.late mid rest
+  b = parts_of (after_in (ordered L) a.early) a.late mid rest (sym a.rest_is)
 
-  l : LastEvent (ordered L) a.before before its
-  l = last_event before a.before (ordered L) its a.firsts
+  l : LastEvent (ordered L) a.early before its
+  l = last_event before a.early (ordered L) its (sym a.first_is)
 
   abbrev event : ℕ × Event
   event = (w, Link p side old new)
@@ -90,36 +90,36 @@ module _ (L : Layout) (fits : IsLayout L) (events : List (ℕ × Event)) (keys :
   abbrev linked : List (ℕ × Event)
   linked = l.first ++ event ∷ []
 
-  linked_is : a.before ≡ linked
+  linked_is : a.early ≡ linked
   linked_is = l.are ∙ ap (λ (e : ℕ × Event). l.first ++ e ∷ []) last_is
 
-  all : events ≡ linked ++ (b.before ++ b.since)
-  all = a.are ∙ (λ i. linked_is i ++ b.are i)
+  all : events ≡ linked ++ (b.early ++ b.late)
+  all = a.all ∙ (λ i. linked_is i ++ b.all i)
 
-  whole : events ≡ l.first ++ event ∷ (b.before ++ b.since)
-  whole = all ∙ append_assoc l.first (event ∷ []) (b.before ++ b.since)
+  whole : events ≡ l.first ++ event ∷ (b.early ++ b.late)
+  whole = all ∙ append_assoc l.first (event ∷ []) (b.early ++ b.late)
 
-  all_keys : All (λ t. HasKey t.1) (linked ++ (b.before ++ b.since))
+  all_keys : All (λ t. HasKey t.1) (linked ++ (b.early ++ b.late))
   all_keys = subst (λ (ts : List (ℕ × Event)). All (λ t. HasKey t.1) ts) all keys
 
   traced : trace_in (ordered L) linked ≡ before ++ its ∷ []
-  traced = ap (trace_in (ordered L)) (sym linked_is) ∙ a.firsts
+  traced = ap (trace_in (ordered L)) (sym linked_is) ∙ sym a.first_is
 
-  middle : trace_in (after_in (ordered L) linked) b.before ≡ mid
-  middle = ap (λ (ts : List (ℕ × Event)). trace_in (after_in (ordered L) ts) b.before) (sym linked_is) ∙ b.firsts
+  middle : trace_in (after_in (ordered L) linked) b.early ≡ mid
+  middle = ap (λ (ts : List (ℕ × Event)). trace_in (after_in (ordered L) ts) b.early) (sym linked_is) ∙ sym b.first_is
 
-  long : length (linked ++ b.before) ≡ length ((before ++ its ∷ []) ++ mid)
+  long : length (linked ++ b.early) ≡ length ((before ++ its ∷ []) ++ mid)
   long =
-      sym (length_trace (ordered L) (linked ++ b.before))
-      ∙ ap (λ (ts : List Turn). length ts) (trace_in-append (ordered L) linked b.before ∙ (λ i. traced i ++ middle i))
+      sym (length_trace (ordered L) (linked ++ b.early))
+      ∙ ap (λ (ts : List Turn). length ts) (trace_in-append (ordered L) linked b.early ∙ (λ i. traced i ++ middle i))
 
   reached_here : Reached (after_in (ordered L) linked).state.memory s
   reached_here = subst (λ (m : Memory). Reached m s) (ap (words_after L) (sym traced) ∙ run_words L fits true linked) reached
 
-  free : NobodyHoldsUntil L events (length linked) (length (linked ++ b.before) + 1) s
+  free : NobodyHoldsUntil L events (length linked) (length (linked ++ b.early) + 1) s
   free =
-      subst (λ (ts : List (ℕ × Event)). NobodyHoldsUntil L ts (length linked) (length (linked ++ b.before) + 1) s) (sym all)
-      (unheld_until L (enough L fits) linked b.before b.since all_keys s reached_here (subst (λ (ts : List Turn). NoneCuts ts s) (sym middle) uncut))
+      subst (λ (ts : List (ℕ × Event)). NobodyHoldsUntil L ts (length linked) (length (linked ++ b.early) + 1) s) (sym all)
+      (unheld_until L (enough L fits) linked b.early b.late all_keys s reached_here (subst (λ (ts : List Turn). NoneCuts ts s) (sym middle) uncut))
 
   grows : entries L w l.first < entries L w linked
   grows =
@@ -143,15 +143,15 @@ module _ (L : Layout) (fits : IsLayout L) (events : List (ℕ × Event)) (keys :
   worker : w < L.workers
   worker =
       let c = after_in (ordered L) l.first in
-      subst (λ (M : Layout). w < M.workers) (layout_is L (enough L fits) l.first (first_keys l.first (event ∷ []) (first_keys linked (b.before ++ b.since) all_keys)))
+      subst (λ (M : Layout). w < M.workers) (layout_is L (enough L fits) l.first (first_keys l.first (event ∷ []) (first_keys linked (b.early ++ b.late) all_keys)))
       (allowed c.state w (Link p side old new) (allowed_by_state c w (Link p side old new) (was_allowed c event (Linked node) won))).worker
 
   pub value_until_cut : value_before (length ((before ++ its ∷ []) ++ mid)) stores s ≡ at.stored.value
   value_until_cut =
       ap (λ (n : ℕ). value_before n stores s) (sym long)
       ∙ (let size = length-append l.first (event ∷ []) in
-      let more = length-append linked b.before in
-      value_since_link L events stores held order l.first (b.before ++ b.since) w s (Link p side old new) whole worker grows (one_holds L (enough L fits) events keys s) at_event (length (linked ++ b.before)) (omega (arith, size, more))
+      let more = length-append linked b.early in
+      value_since_link L events stores held order l.first (b.early ++ b.late) w s (Link p side old new) whole worker grows (one_holds L (enough L fits) events keys s) at_event (length (linked ++ b.early)) (omega (arith, size, more))
       (λ now later is least most u. free now later is (omega (arith, least, size)) (omega (arith, most)) u))
 
 -- ---- a leaf that was cut

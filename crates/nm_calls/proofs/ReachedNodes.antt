@@ -44,7 +44,7 @@ edge_birth : (n : Node) (d : Side) (e : Edge) → (with_edge n d e).birth ≡ n.
 edge_birth n Left e = refl
 edge_birth n Right e = refl
 
-put_birth : (m : Memory) (s : ℕ) (d : Side) (e : Edge) (x : ℕ) → birth (put_edge m s d e) x ≡ birth m x
+pub put_birth : (m : Memory) (s : ℕ) (d : Side) (e : Edge) (x : ℕ) → birth (put_edge m s d e) x ≡ birth m x
 put_birth m s d e = node_birth m s (with_edge (node m s) d e) (edge_birth (node m s) d e)
 
 -- only a store of the slot's birth changes it
@@ -83,11 +83,11 @@ link_keeps_birth L before w p side old new n x =
 none_there : (n : NodeId) → Contains [] n → ⊥
 none_there n c = let below = c.1 in omega (arith, below)
 
-cut_outcome : (o : Result Reply Refused) (n : NodeId) → Contains (nodes_cut_of o) n → (ns : List NodeId) × (o ≡ Ok (Cut ns)) × Contains ns n
+pub cut_outcome : (o : Result Reply Refused) (n : NodeId) → Contains (nodes_cut_of o) n → (ns : List NodeId) × (o ≡ Ok (Cut ns)) × Contains ns n
 cut_outcome (Ok (Cut ns)) n c = (ns, refl, c)
 cut_outcome o n c = absurd (none_there n c)
 
-in_named : (m : Memory) (xs : List ℕ) (n : NodeId) → Contains (map (named m) xs) n → n ≡ named m n.slot
+pub in_named : (m : Memory) (xs : List ℕ) (n : NodeId) → Contains (map (named m) xs) n → n ≡ named m n.slot
 in_named m [] n c = absurd (none_there n c)
 in_named m (x ∷ xs) n (zero, below, at) = sym at ∙ ap (λ (k : NodeId). named m k.slot) at
 in_named m (x ∷ xs) n (suc k, below, at) = in_named m xs n (k, omega (arith, below), at)

@@ -54,8 +54,22 @@ abbrev pub ValuesComeBackOnce : Type 0
 ValuesComeBackOnce = (L : Layout) (turns : List Turn) → Headline L turns → (x : Stored)
     → (one other : ComesBack L turns x) → (one.so_far ≡ other.so_far) × (one.leaf ≡ other.leaf)
 
--- in each run, with stores that hold, the value that a leaf had right before its cut is the one that
--- was stored for the leaf. A collection hands out the former
+-- one of these values was stored for this leaf, and it is v
+pub record WasStoredFor (L : Layout) (turns : List Turn) (stores : List Stored) (leaf : NodeId) (v : ℕ) : Type 0 where
+  pub stored : Stored
+  pub there : Contains stores stored
+  pub of : IsStoreOf L turns stored leaf
+  pub is : stored.value ≡ v
+
+-- in each run, the value that a leaf had when it was cut off is one that was stored for this leaf
+abbrev pub CutValuesWereStored : Type 0
+CutValuesWereStored = (L : Layout) → IsLayout L → (events : List (ℕ × Event))
+    → All (λ t. HasKey t.1) events → (stores : List Stored) (n : NodeId) (v : ℕ)
+    → WasCutWith L (trace_in (ordered L) events) stores n v
+    → WasStoredFor L (trace_in (ordered L) events) stores n v
+
+-- in each run, with stores that hold, each value that was stored for a leaf is the one that the leaf
+-- had when it was cut off
 abbrev pub ValuesComeBackAsStored : Type 0
 ValuesComeBackAsStored = (L : Layout) → IsLayout L → (events : List (ℕ × Event))
     → All (λ t. HasKey t.1) events → (from : List Turn) (stores : List Stored)

@@ -1,9 +1,9 @@
 //! Laws of maps: a leaf keeps its value from its link to its cut, and the map is linearizable.
 ghost use Rattle.nm_calls.specs.ComingBack.{NodesAreFreedOnce, PinnedValuesStayOut};
 ghost use Rattle.nm_calls.specs.GotValues.{GotLeavesAreNotFreed, GotValuesStayOut};
-ghost use Rattle.nm_calls.specs.KeptValues.{LeavesKeepTheirValues, PutValuesStay, TakenValuesAreCut};
+ghost use Rattle.nm_calls.specs.KeptValues.{LeavesKeepTheirValues, PutValuesStay, TakenValuesAreCut, ValuesAreByAllStores};
 ghost use Rattle.nm_calls.specs.MapHistories.{GetsAreOfTheMap, HistoriesAreOfMaps, ValuesWerePut};
-ghost use Rattle.nm_calls.specs.OnceBack.{ValuesComeBackAsStored, ValuesComeBackOnce};
+ghost use Rattle.nm_calls.specs.OnceBack.{CutValuesWereStored, ValuesComeBackAsStored, ValuesComeBackOnce};
 ghost use Rattle.nm_calls.specs.StoredLeaves.{StoredValuesAreAtOnePlace};
 
 /// Law: in every ordered run, a leaf that is in the map stays in it with its key and its value
@@ -23,6 +23,13 @@ pub fn put_values_stay()
 /// the key right before a turn cuts off the leaf which the delete has flagged.
 pub fn taken_values_are_cut()
     ensures { TakenValuesAreCut }
+{}
+
+/// Law: in every ordered run, what the map has at a moment by the stores that one worker has seen, it
+/// has by all later stores. So once a worker has heard another one's note, the values that both have
+/// got are of one map.
+pub fn values_are_by_all_stores()
+    ensures { ValuesAreByAllStores }
 {}
 
 /// Law: in every ordered run, each history of the turns up to which the stores are given is one of
@@ -56,8 +63,14 @@ pub fn values_come_back_once()
     ensures { ValuesComeBackOnce }
 {}
 
-/// Law: in every ordered run, the value that a leaf has right before its cut is the one that was
-/// stored for the leaf. So what a collection hands out for a leaf is what an insert has put there.
+/// Law: in every ordered run, the value that a leaf had when it was cut off is one that a worker
+/// stored for this leaf. So each value that comes back was stored, and comes back once.
+pub fn cut_values_were_stored()
+    ensures { CutValuesWereStored }
+{}
+
+/// Law: in every ordered run, each value that was stored for a leaf is the one that the leaf has
+/// when it is cut off. So a collection hands out for a leaf what an insert has stored for it.
 pub fn values_come_back_as_stored()
     ensures { ValuesComeBackAsStored }
 {}
