@@ -1,6 +1,6 @@
 -- A stored value comes back once: its store is of one leaf, and this leaf is freed once.
-use Rattle.std.proofs.Common.{◌≡◌, ◌⊎◌, inl, inr, ℕ, zero, suc, ◌+◌, ◌==◌, ◌||◌, Bool, true, false, cond, List, [], ◌∷◌, ◌++◌, append_assoc, length, refl, sym, ap, subst, ◌∙◌, arith, true≢false}
-use Rattle.std.specs.Prelude.{Contains, Ok}
+use Rattle.std.proofs.Common.{◌≡◌, ℕ, suc, ◌+◌, ◌||◌, Bool, cond, List, [], ◌∷◌, ◌++◌, length, refl, sym, ap, subst, ◌∙◌, arith}
+use Rattle.std.specs.Prelude.{Contains}
 use Rattle.std.proofs.lemmas.Bool.{eq-eqb}
 use Rattle.std.proofs.lemmas.List.{length-append}
 use Rattle.nm_edge.specs.Layouts.{Layout}
@@ -8,13 +8,13 @@ use Rattle.nm_edge.specs.declared.node.NodeId.{NodeId}
 use Rattle.nm_model.specs.declared.event.Event.{Event}
 use Rattle.nm_model.specs.declared.reply.Reply.{Reply}
 use Rattle.nm_model.specs.declared.trace.Turn.{Turn}
-use Rattle.nm_model.specs.Headline.{Headline, nodes_freed_of, words_after}
+use Rattle.nm_model.specs.Headline.{nodes_freed_of, words_after}
 use Rattle.nm_model.specs.Memory.{named}
 use Rattle.nm_model.specs.Walks.{logged_by}
 use Rattle.nm_order.specs.Logs.{is_leaver, part_of, takes_part}
 use Rattle.nm_steps.specs.declared.view.Stored.{Stored}
 use Rattle.nm_steps.specs.Rules.{answered_turn}
-use Rattle.nm_calls.specs.OnceBack.{ComesBack, IsStoreOf, ValuesComeBackOnce}
+use Rattle.nm_calls.specs.OnceBack.{IsStoreOf, ValuesComeBackOnce}
 use Rattle.nm_calls.proofs.ComingBack.{nodes_are_freed_once}
 
 -- ---- two places in one list

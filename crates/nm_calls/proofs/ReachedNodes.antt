@@ -1,7 +1,7 @@
 -- A node that is reached stays reached, with its birth, until a turn cuts it off: by turns with the
 -- headline alone.
-use Rattle.std.proofs.Common.{◌≡◌, ◌⊎◌, inl, inr, ℕ, zero, suc, ◌≤◌, ◌==◌, Bool, true, false, cond, List, [], ◌∷◌, ◌++◌, append-nil, append_assoc, map, length, get_or, get_or-set_other, get_or-set_same, refl, sym, ap, subst, ◌∙◌, arith, true≢false}
-use Rattle.std.specs.Prelude.{Contains, Result, Ok, Err}
+use Rattle.std.proofs.Common.{◌≡◌, inl, inr, ℕ, zero, suc, ◌≤◌, Bool, true, false, cond, List, [], ◌∷◌, ◌++◌, append-nil, append_assoc, map, length, get_or, get_or-set_other, get_or-set_same, refl, sym, ap, subst, ◌∙◌, arith}
+use Rattle.std.specs.Prelude.{Contains, Result, Ok}
 use native.Mathlib.Decide.{ℕ_discrete}
 use Rattle.std.proofs.lemmas.Bool.{cases_lt, eq-eqb}
 use Rattle.std.proofs.lemmas.List.{set_past}
@@ -19,7 +19,7 @@ use Rattle.nm_model.specs.declared.reply.Reply.{Reply}
 use Rattle.nm_model.specs.declared.reply.Reply.TheVariants.{Announced, Claimed, Cut, Departed, Filled, Flagged, Freed, Linked, Moved, Returned, Was}
 use Rattle.nm_model.specs.declared.reply.Refused.{Refused}
 use Rattle.nm_model.specs.declared.trace.Turn.{Turn}
-use Rattle.nm_model.specs.Headline.{CutsItsNodes, Headline, OnePlace, Place, StandsAt, after_turn, cuts_of, has_after, nodes_cut_of, slots_of, words_after, words_from, written}
+use Rattle.nm_model.specs.Headline.{CutsItsNodes, Headline, OnePlace, Place, StandsAt, after_turn, cuts_of, nodes_cut_of, slots_of, words_after, words_from, written}
 use Rattle.nm_model.specs.Headline.Place.{InHands, InPool, OnPath, Waits}
 use Rattle.nm_model.specs.Memory.{Memory, blank, edge, named, node, opening, put_edge, put_node, with_edge}
 use Rattle.nm_model.specs.Paths.{Reached}
