@@ -40,3 +40,6 @@ pub mod ComingBack
 pub mod OnceBack
 pub mod UnderPins
 pub mod ReachedNodes
+pub mod LeavesInHands
+pub mod StoredLeaves
+pub mod HandedStores

@@ -21,7 +21,7 @@ use Rattle.nm_calls.proofs.ComingBack.{nodes_are_freed_once}
 
 -- they are one place, or the second one is after the first, or before it
 pub data TwoPlaces {X : Type 0} (first since first' since' : List X) (x y : X) : Type 0 where
-  AreOne : first ≡ first' → TwoPlaces first since first' since' x y
+  AreOne : first ≡ first' → x ≡ y → TwoPlaces first since first' since' x y
   IsLater : (between : List X) → since ≡ between ++ y ∷ since' → first' ≡ first ++ x ∷ between → TwoPlaces first since first' since' x y
   IsEarlier : (between : List X) → since' ≡ between ++ x ∷ since → first ≡ first' ++ y ∷ between → TwoPlaces first since first' since' x y
 
@@ -32,7 +32,7 @@ tail_is : {X : Type 0} (x y : X) (xs ys : List X) → x ∷ xs ≡ y ∷ ys → 
 tail_is x y xs ys e = cc
 
 pub two_places : {X : Type 0} (first since first' since' : List X) (x y : X) → first ++ x ∷ since ≡ first' ++ y ∷ since' → TwoPlaces first since first' since' x y
-two_places [] since [] since' x y e = AreOne refl
+two_places [] since [] since' x y e = AreOne refl (head_is x y since since' e)
 two_places [] since (z ∷ zs) since' x y e = IsLater zs (tail_is x z since (zs ++ y ∷ since') e) (λ i. sym (head_is x z since (zs ++ y ∷ since') e) i ∷ zs)
 two_places (z ∷ zs) since [] since' x y e = IsEarlier zs (sym (tail_is z y (zs ++ x ∷ since) since' e)) (λ i. head_is z y (zs ++ x ∷ since) since' e i ∷ zs)
 two_places (z ∷ zs) since (u ∷ us) since' x y e = further (two_places zs since us since' x y (tail_is z u (zs ++ x ∷ since) (us ++ y ∷ since') e))
@@ -41,7 +41,7 @@ two_places (z ∷ zs) since (u ∷ us) since' x y e = further (two_places zs sin
     head = head_is z u (zs ++ x ∷ since) (us ++ y ∷ since') e
 
     further : TwoPlaces zs since us since' x y → TwoPlaces (z ∷ zs) since (u ∷ us) since' x y
-    further (AreOne same) = AreOne (λ i. head i ∷ same i)
+    further (AreOne same it) = AreOne (λ i. head i ∷ same i) it
     further (IsLater between is at) = IsLater between is (λ i. sym head i ∷ at i)
     further (IsEarlier between is at) = IsEarlier between is (λ i. head i ∷ at i)
 
@@ -69,7 +69,7 @@ same_place w e e' r r' turns before since before' since' is is' same = by (two_p
         omega (arith, sum, one, long)
 
     by : TwoPlaces before since before' since' (answered_turn w e r) (answered_turn w e' r') → before ≡ before'
-    by (AreOne one) = one
+    by (AreOne one it) = one
     by (IsLater mid rest at) = absurd (longer before before' mid e r at same)
     by (IsEarlier mid rest at) = absurd (longer before' before mid e' r' at (sym same))
 
@@ -96,6 +96,6 @@ values_come_back_once L turns h x one other = (by (two_places one.so_far one.res
     frees = subst (λ (n : NodeId). Contains (nodes_freed_of other.free.outcome) n) (sym same) other.frees
 
     by : TwoPlaces one.so_far one.rest other.so_far other.rest one.free other.free → one.so_far ≡ other.so_far
-    by (AreOne is) = is
+    by (AreOne is it) = is
     by (IsLater mid rest at) = absurd (nodes_are_freed_once L turns h one.so_far mid other.rest one.free other.free one.leaf (one.are ∙ ap (λ (ts : List Turn). one.so_far ++ one.free ∷ ts) rest) one.frees frees)
     by (IsEarlier mid rest at) = absurd (nodes_are_freed_once L turns h other.so_far mid one.rest other.free one.free one.leaf (other.are ∙ ap (λ (ts : List Turn). other.so_far ++ other.free ∷ ts) rest) frees one.frees)

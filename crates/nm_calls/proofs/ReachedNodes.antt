@@ -68,6 +68,16 @@ birth_kept m w (Tag p side) (Ok (Was e)) x other = put_birth m p side (tagged e)
 birth_kept m w (Splice a side s p keep) (Ok (Cut ns)) x other = put_birth m a side (untagged (edge m p keep)) x
 birth_kept m w e o x other = refl
 
+words_push : (m : Memory) (ts : List Turn) (t : Turn) → words_from m (ts ++ t ∷ []) ≡ after_turn (words_from m ts) t
+words_push m [] t = refl
+words_push m (u ∷ ts) t = words_push (after_turn m u) ts t
+
+-- a link changes no birth
+pub link_keeps_birth : (L : Layout) (before : List Turn) (w p : ℕ) (side : Side) (old new : ℕ) (n : NodeId) (x : ℕ) → named (words_after L (before ++ record { worker = w; event = Link p side old new; outcome = Ok (Linked n) } ∷ [])) x ≡ named (words_after L before) x
+link_keeps_birth L before w p side old new n x =
+    ap (λ (m : Memory). named m x) (words_push (opening L) before (record { worker = w; event = Link p side old new; outcome = Ok (Linked n) }))
+    ∙ (λ i. record { slot = x; birth = put_birth (words_after L before) p side (to new) x i })
+
 -- ---- the node that a turn cuts
 
 none_there : (n : NodeId) → Contains [] n → ⊥
@@ -82,22 +92,27 @@ in_named m [] n c = absurd (none_there n c)
 in_named m (x ∷ xs) n (zero, below, at) = sym at ∙ ap (λ (k : NodeId). named m k.slot) at
 in_named m (x ∷ xs) n (suc k, below, at) = in_named m xs n (k, omega (arith, below), at)
 
-cut_is_named : (m : Memory) (t : Turn) → CutsItsNodes m t → (x : ℕ) → Contains (slots_of (nodes_cut_of t.outcome)) x → Contains (nodes_cut_of t.outcome) (named m x)
-cut_is_named m t cuts x c = subst (λ (n : NodeId). Contains (nodes_cut_of t.outcome) n) (is (cut_outcome t.outcome there.0 there.1)) there.1
+-- a node that a turn cuts has the birth in its word
+pub cut_has_birth : (m : Memory) (t : Turn) → CutsItsNodes m t → (n : NodeId) → Contains (nodes_cut_of t.outcome) n → n ≡ named m n.slot
+cut_has_birth m t cuts n c = by (cut_outcome t.outcome n c)
+  where
+    by : (ns : List NodeId) × (t.outcome ≡ Ok (Cut ns)) × Contains ns n → n ≡ named m n.slot
+    by (ns, o, among) = in_named m (slots_of ns) n (subst (λ (ks : List NodeId). Contains ks n) (cuts.splices ns o).births among)
+
+pub cut_is_named : (m : Memory) (t : Turn) → CutsItsNodes m t → (x : ℕ) → Contains (slots_of (nodes_cut_of t.outcome)) x → Contains (nodes_cut_of t.outcome) (named m x)
+cut_is_named m t cuts x c = subst (λ (n : NodeId). Contains (nodes_cut_of t.outcome) n) (cut_has_birth m t cuts there.0 there.1 ∙ ap (named m) there.2) there.1
   where
     there : (n : NodeId) × Contains (nodes_cut_of t.outcome) n × (n.slot ≡ x)
     there = contains_slot (nodes_cut_of t.outcome) x c
 
-    is : (ns : List NodeId) × (t.outcome ≡ Ok (Cut ns)) × Contains ns there.0 → there.0 ≡ named m x
-    is (ns, o, among) =
-        in_named m (slots_of ns) there.0 (subst (λ (ks : List NodeId). Contains ks there.0) (cuts.splices ns o).births among)
-        ∙ ap (named m) there.2
+-- it is among the cuts of the turn's worker then
+pub now_cut : (before : List Turn) (t : Turn) (n : NodeId) → Contains (nodes_cut_of t.outcome) n → Contains (cuts_of t.worker (before ++ t ∷ [])) n
+now_cut before t n c =
+    subst (λ (ns : List NodeId). Contains ns n) (sym (cuts-append t.worker before (t ∷ [])))
+    (Contains-append_right (cuts_of t.worker before) (cuts_of t.worker (t ∷ [])) n
+    (subst (λ (b : Bool). Contains (cond b (nodes_cut_of t.outcome) [] ++ []) n) (sym (eq-eqb t.worker t.worker refl)) (Contains-append_left (nodes_cut_of t.outcome) [] n c)))
 
 -- ---- from a moment at which a node is reached
-
-words_push : (m : Memory) (ts : List Turn) (t : Turn) → words_from m (ts ++ t ∷ []) ≡ after_turn (words_from m ts) t
-words_push m [] t = refl
-words_push m (u ∷ ts) t = words_push (after_turn m u) ts t
 
 -- after these turns the node is reached, with its birth, or it was cut
 pub data NodeFate (L : Layout) (turns : List Turn) (n : NodeId) : Type 0 where
@@ -123,11 +138,8 @@ module _ (L : Layout) (turns : List Turn) (h : Headline L turns) (x : ℕ) (low 
 
     cut_now : (Reached (words_after L (before ++ t ∷ [])) x → ⊥) → NodeFate L (before ++ t ∷ []) n
     cut_now gone =
-        WasCutOff t.worker (subst (λ (ns : List NodeId). Contains ns n) (sym (cuts-append t.worker before (t ∷ [])))
-        (Contains-append_right (cuts_of t.worker before) (cuts_of t.worker (t ∷ [])) n
-        (subst (λ (b : Bool). Contains (cond b (nodes_cut_of t.outcome) [] ++ []) n) (sym (eq-eqb t.worker t.worker refl))
-        (Contains-append_left (nodes_cut_of t.outcome) [] n
-        (subst (λ (k : NodeId). Contains (nodes_cut_of t.outcome) k) is_named (cut_is_named (words_after L before) t cuts x ((cuts.just x).0 (record { was = r; gone = λ after. gone (subst (λ (m : Memory). Reached m x) (sym next) after) }))))))))
+        WasCutOff t.worker
+        (now_cut before t n (subst (λ (k : NodeId). Contains (nodes_cut_of t.outcome) k) is_named (cut_is_named (words_after L before) t cuts x ((cuts.just x).0 (record { was = r; gone = λ after. gone (subst (λ (m : Memory). Reached m x) (sym next) after) })))))
       where
         cuts : CutsItsNodes (words_after L before) t
         cuts = h.cuts before late t are
@@ -155,10 +167,17 @@ module _ (L : Layout) (turns : List Turn) (h : Headline L turns) (x : ℕ) (low 
   step before late t are n slot (WasCutOff w c) = WasCutOff w (subst (λ (ns : List NodeId). Contains ns n) (sym (cuts-append w before (t ∷ []))) (Contains-append_left (cuts_of w before) (cuts_of w (t ∷ [])) n c))
   step before late t are n slot (StaysIn r born) = fate_next before late t are (subst (λ (y : ℕ). Reached (words_after L before) y) slot r) n slot (ap (birth (words_after L before)) (sym slot) ∙ born)
 
-  go : (done todo : List Turn) → turns ≡ done ++ todo → (n : NodeId) → n.slot ≡ x → NodeFate L done n → NodeFate L turns n
-  go done [] are n slot f = subst (λ (ts : List Turn). NodeFate L ts n) (sym (are ∙ append-nil done)) f
-  go done (t ∷ ts) are n slot f = go (done ++ t ∷ []) ts (are ∙ sym (append_assoc done (t ∷ []) ts)) n slot (step done ts t are n slot f)
+  go : (done todo late : List Turn) → turns ≡ (done ++ todo) ++ late → (n : NodeId) → n.slot ≡ x → NodeFate L done n → NodeFate L (done ++ todo) n
+  go done [] late are n slot f = subst (λ (ts : List Turn). NodeFate L ts n) (sym (append-nil done)) f
+  go done (t ∷ ts) late are n slot f =
+      let next : (done ++ t ∷ []) ++ ts ≡ done ++ t ∷ ts = append_assoc done (t ∷ []) ts in
+      subst (λ (us : List Turn). NodeFate L us n) next
+      (go (done ++ t ∷ []) ts late (are ∙ ap (λ (us : List Turn). us ++ late) (sym next)) n slot (step done (ts ++ late) t (are ∙ append_assoc done (t ∷ ts) late) n slot f))
 
-  -- the node that was reached at a moment
+  -- the node that was reached at a moment, at a later one
+  pub node_fate_then : (so_far mid late : List Turn) → turns ≡ (so_far ++ mid) ++ late → Reached (words_after L so_far) x → NodeFate L (so_far ++ mid) (named (words_after L so_far) x)
+  node_fate_then so_far mid late are r = go so_far mid late are (named (words_after L so_far) x) refl (StaysIn r refl)
+
+  -- and after all turns
   pub node_fate : (so_far rest : List Turn) → turns ≡ so_far ++ rest → Reached (words_after L so_far) x → NodeFate L turns (named (words_after L so_far) x)
-  node_fate so_far rest are r = go so_far rest are (named (words_after L so_far) x) refl (StaysIn r refl)
+  node_fate so_far rest are r = subst (λ (ts : List Turn). NodeFate L ts (named (words_after L so_far) x)) (sym are) (node_fate_then so_far rest [] (are ∙ sym (append-nil (so_far ++ rest))) r)

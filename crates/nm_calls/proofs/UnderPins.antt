@@ -1,20 +1,31 @@
 -- A leaf that a pinned worker reached is freed by no turn until the worker unpins.
-use Rattle.std.proofs.Common.{◌≡◌, ◌⊎◌, inl, inr, ℕ, ◌==◌, ◌||◌, Bool, true, false, cond, List, [], ◌∷◌, ◌++◌, append-nil, append_assoc, refl, sym, ap, subst, ◌∙◌, arith}
-use Rattle.std.specs.Prelude.{Contains}
+use Rattle.std.proofs.Common.{◌≡◌, ◌⊎◌, inl, inr, ℕ, ◌==◌, ◌||◌, Bool, true, false, cond, List, [], ◌∷◌, ◌++◌, append-nil, append_assoc, refl, sym, ap, subst, ◌∙◌, arith, ◌+◌, length, true≢false}
+use Rattle.std.specs.Prelude.{Contains, Err, Ok, Result, Some}
 use Rattle.std.specs.List.{list_any}
+use Rattle.std.proofs.lemmas.Bool.{and_parts}
+use Rattle.std.proofs.lemmas.List.{length-append}
 use Rattle.std.proofs.lemmas.List.Folds.{list_any-append}
 use Rattle.std.proofs.lemmas.List.Elements.{Contains-append_cases, Contains-append_left, Contains-append_right}
 use Rattle.nm_edge.specs.Layouts.{Layout}
 use Rattle.nm_edge.specs.declared.node.NodeId.{NodeId}
+use Rattle.nm_model.specs.declared.event.Event.{Event}
+use Rattle.nm_model.specs.declared.event.Event.TheVariants.{Leave, LeaveWith}
+use Rattle.nm_model.specs.declared.reply.Refused.{Refused}
+use Rattle.nm_model.specs.declared.reply.Reply.{Reply}
 use Rattle.nm_model.specs.declared.trace.Turn.{Turn}
-use Rattle.nm_model.specs.Headline.{Headline, HasLeft, IsPinned, cuts_of, freed_by, leaves, nodes_cut_of, nodes_freed_of, words_after}
+use Rattle.nm_model.specs.Headline.{Headline, HasLeft, IsPinned, cuts_of, departs, freed_by, leaves, nodes_cut_of, nodes_freed_of, words_after}
 use Rattle.nm_model.specs.Memory.{named}
 use Rattle.nm_model.specs.Paths.{Reached}
+use Rattle.nm_model.specs.Walks.{logged_by}
+use Rattle.nm_order.specs.Logs.{is_leaver, part_of, takes_part}
 use Rattle.nm_theorem.proofs.FreedOfRuns.{cuts-append}
 use Rattle.nm_theorem.proofs.LeftSince.{readers_have_left}
+use Rattle.nm_steps.specs.declared.view.Stored.{Stored}
 use Rattle.nm_calls.specs.GotValues.{GotLeavesAreNotFreed, GotValuesStayOut, got_leaf}
-use Rattle.nm_calls.proofs.OnceBack.{one_leaf}
-use Rattle.nm_calls.proofs.Unheld.{freed_by-append, or_right, pin_lasts}
+use Rattle.nm_calls.specs.Maps.{WasMappedUnderPin}
+use Rattle.nm_calls.proofs.MapMoments.{holds_longer}
+use Rattle.nm_calls.proofs.OnceBack.{one_leaf, part_append}
+use Rattle.nm_calls.proofs.Unheld.{freed_by-append, or_cases, or_right, pin_lasts}
 
 -- ---- the turn that cut a node
 
@@ -87,3 +98,48 @@ got_values_stay_out L turns h stores w k v got x stored back =
     (subst (λ (ts : List Turn). Contains (freed_by ts) (got_leaf got)) (sym back.are)
     (freed_there back.so_far back.rest back.free (got_leaf got)
     (subst (λ (n : NodeId). Contains (nodes_freed_of back.free.outcome) n) (one_leaf L turns x back.leaf (got_leaf got) back.stored stored) back.frees)))
+
+-- ---- a pin that lasts while more is seen
+
+departs_refused : (e : Event) (q : Refused) → departs e (Err q) ≡ false
+departs_refused Leave q = refl
+departs_refused (LeaveWith answer) q = refl
+departs_refused e q = refl
+
+-- a worker that makes no turn does not leave
+quiet_stays : (w : ℕ) (ts : List Turn) → length (part_of w ts) ≡ 0 → HasLeft w ts → ⊥
+quiet_stays w [] none' left = true≢false (sym left)
+quiet_stays w (t ∷ ts) none' left = by (quiet_stays w ts (let sum = sizes in omega (arith, sum, none'))) (or_cases (leaves w t) (list_any (leaves w) ts) left)
+  where
+    sizes : length (part_of w (t ∷ ts)) ≡ length (cond (takes_part w t.worker t.event) (logged_by t) []) + length (part_of w ts)
+    sizes = length-append (cond (takes_part w t.worker t.event) (logged_by t) []) (part_of w ts)
+
+    one : (r : Reply) → length (logged_by (record { worker = t.worker; event = t.event; outcome = Ok r })) ≡ 1
+    one r = refl
+
+    its : (o : Result Reply Refused) → t.outcome ≡ o → (t.worker == w) ≡ true → departs t.event t.outcome ≡ true → ⊥
+    its (Err q) is own departed = true≢false (sym departed ∙ (ap (departs t.event) is ∙ departs_refused t.event q))
+    its (Ok r) is own departed =
+        let here = ap (λ (c : Bool). length (cond (c || is_leaver w t.event) (logged_by t) [])) own ∙ (ap (λ (o : Result Reply Refused). length (logged_by (record { worker = t.worker; event = t.event; outcome = o }))) is ∙ one r) in
+        let sum = sizes in
+        omega (arith, here, sum, none')
+
+    by : (HasLeft w ts → ⊥) → (leaves w t ≡ true) ⊎ (list_any (leaves w) ts ≡ true) → ⊥
+    by rest (inl now) = let both = and_parts (t.worker == w) (departs t.event t.outcome) now in its t.outcome refl both.0 both.1
+    by rest (inr later) = rest later
+
+-- what a worker got under its pin, in more turns, by which its log has not grown
+pub got_longer : (L : Layout) (now more : List Turn) (stores : List Stored) (w k v : ℕ) → length (part_of w (now ++ more)) ≡ length (part_of w now) → WasMappedUnderPin L now stores w k (Some v) → WasMappedUnderPin L (now ++ more) stores w k (Some v)
+got_longer L now more stores w k v same got = record {
+  so_far = got.so_far;
+  rest = got.rest ++ more;
+  are = ap (λ (ts : List Turn). ts ++ more) got.are ∙ append_assoc got.so_far got.rest more;
+  pinned = got.pinned;
+  stays = λ left. by (or_cases (list_any (leaves w) got.rest) (list_any (leaves w) more) (sym (list_any-append (leaves w) got.rest more) ∙ left));
+  gives = got.gives;
+  stored = holds_longer L got.so_far now (now ++ more) stores (record { more = more; is = refl }) got.stored;
+}
+  where
+    by : (list_any (leaves w) got.rest ≡ true) ⊎ (list_any (leaves w) more ≡ true) → ⊥
+    by (inl early) = got.stays early
+    by (inr late) = quiet_stays w more (let sum = part_append w now more in omega (arith, sum, same)) late

@@ -18,3 +18,4 @@ pub mod HandedBack
 pub mod ComingBack
 pub mod OnceBack
 pub mod GotValues
+pub mod StoredLeaves

@@ -14,6 +14,7 @@ use Rattle.nm_order.specs.Logs.{part_of}
 use Rattle.nm_steps.specs.declared.view.Stored.{Stored}
 use Rattle.nm_steps.specs.Rules.{answered_turn}
 use Rattle.nm_calls.specs.HandedBack.{WasCutWith}
+use Rattle.nm_calls.specs.Maps.{HoldsStores}
 
 -- the worker has won a link of this leaf: the child of the new internal node beside the node that was
 -- there, with the birth in its word
@@ -66,3 +67,12 @@ CutValuesWereStored = (L : Layout) → IsLayout L → (events : List (ℕ × Eve
     → All (λ t. HasKey t.1) events → (stores : List Stored) (n : NodeId) (v : ℕ)
     → WasCutWith L (trace_in (ordered L) events) stores n v
     → WasStoredFor L (trace_in (ordered L) events) stores n v
+
+-- in each run, with stores that hold, the value that a leaf had right before its cut is the one that
+-- was stored for the leaf. A collection hands out the former
+abbrev pub ValuesComeBackAsStored : Type 0
+ValuesComeBackAsStored = (L : Layout) → IsLayout L → (events : List (ℕ × Event))
+    → All (λ t. HasKey t.1) events → (from : List Turn) (stores : List Stored)
+    → HoldsStores L from (trace_in (ordered L) events) stores → (n : NodeId) (v : ℕ)
+    → WasCutWith L (trace_in (ordered L) events) stores n v → (x : Stored) → Contains stores x
+    → IsStoreOf L (trace_in (ordered L) events) x n → v ≡ x.value

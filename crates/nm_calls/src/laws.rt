@@ -3,7 +3,8 @@ ghost use Rattle.nm_calls.specs.ComingBack.{NodesAreFreedOnce, PinnedValuesStayO
 ghost use Rattle.nm_calls.specs.GotValues.{GotLeavesAreNotFreed, GotValuesStayOut};
 ghost use Rattle.nm_calls.specs.KeptValues.{LeavesKeepTheirValues, PutValuesStay, TakenValuesAreCut, ValuesAreByAllStores};
 ghost use Rattle.nm_calls.specs.MapHistories.{GetsAreOfTheMap, HistoriesAreOfMaps, ValuesWerePut};
-ghost use Rattle.nm_calls.specs.OnceBack.{CutValuesWereStored, ValuesComeBackOnce};
+ghost use Rattle.nm_calls.specs.OnceBack.{CutValuesWereStored, ValuesComeBackOnce, ValuesComeBackAsStored};
+ghost use Rattle.nm_calls.specs.StoredLeaves.{StoredValuesAreAtOnePlace};
 
 /// Law: in every ordered run, a leaf that is in the map stays in it with its key and its value
 /// until a turn cuts it off.
@@ -66,6 +67,19 @@ pub fn values_come_back_once()
 /// stored for this leaf. So each value that comes back was stored, and comes back once.
 pub fn cut_values_were_stored()
     ensures { CutValuesWereStored }
+{}
+
+/// Law: in every ordered run, the value that a leaf has right before its cut is the one that was
+/// stored for the leaf. So what a collection hands out for a leaf is what an insert has put there.
+pub fn values_come_back_as_stored()
+    ensures { ValuesComeBackAsStored }
+{}
+
+/// Law: in all turns that have the headline, the leaf for which a value was stored is at exactly one
+/// place from its link on. It is on one path from the root, or it waits at one index of one worker's
+/// cuts, or it was freed once.
+pub fn stored_values_are_at_one_place()
+    ensures { StoredValuesAreAtOnePlace }
 {}
 
 /// Law: in all turns that have the headline, if a worker got a value under its pin and has not
