@@ -48,7 +48,7 @@ pub use full::add_or_blame;
 pub use least::{Taken, take_at_once, take_both, take_in_threads};
 pub use letters::{Reading, Written, insert_while_read};
 pub use mapping::{PutAndGot, put_then_get, put_then_get_in_new};
-pub use maps::{get_alone, insert_then_get};
+pub use maps::{get_alone, insert_then_get, insert_then_get_told};
 pub use members::{add_then_find, put_again, put_and_take, put_back, remove_then_miss, take_once};
 pub use others::{PutAndTaken, put_and_take_alone, put_and_take_in_new};
 pub use page::{

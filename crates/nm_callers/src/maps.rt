@@ -8,6 +8,7 @@ ghost use Rattle.nm_tree.specs.Calls.{MayCall};
 ghost use Rattle.nm_callers.specs.Mapping.{AreOfOneMap, PutsThenGets};
 ghost use Rattle.nm_callers.specs.Meanwhile.{NoneDeleted};
 
+use crate::trees::tell_worker;
 use nm_edge::Key;
 use nm_tree::{CallFault, Tree, Worker};
 
@@ -41,6 +42,43 @@ pub fn insert_then_get(
     };
     let found = tree.get(worker, key, tries);
     worker.know_run();
+    let _number = key.get();
+    found.ok()
+}
+
+/// Inserts a key with a value by one worker, and then gets the value of the key by another one, which
+/// has heard of the insert. The outer `None`: a call returned an error, or the key was in the map
+/// before. Proved: the get found the value that was inserted, unless a delete of the key took effect
+/// after all that the first worker had seen before. Proved too: if the get found a value, each history
+/// of the turns is one of a plain map, which both workers share. The insert is one of its acts, and at
+/// the moment of the get this map has the value that was found.
+pub fn insert_then_get_told(
+    tree: &Tree,
+    one: &mut Worker,
+    two: &mut Worker,
+    key: Key,
+    value: u64,
+    tries: u32,
+) -> Option<Option<u64>>
+    requires one { IsOf tree.now one.old.pass }
+    requires two { IsOf tree.now two.old.pass }
+    requires free { one.old.held ≡ None }
+    requires free_two { two.old.held ≡ None }
+    requires values { HasValues tree.now }
+    ensures found { NoneDeleted two.new.pass.view.layout one.old.pass.view.past
+        two.new.pass.view.past key → IfSome result (λ found. found ≡ Some value) }
+    ensures one_map { IfSome result (λ found. IfSome found
+        (AreOfOneMap two.new.pass.view.layout one.old.pass.view.past two.new.pass.view.past
+        one.new.pass.view.number key value)) }
+{
+    let mut unused = 0;
+    let Ok(true) = tree.insert_with_value(one, key, value, &mut unused, tries) else {
+        return None;
+    };
+    one.know_run();
+    tell_worker(tree, one, two);
+    let found = tree.get(two, key, tries);
+    two.know_run();
     let _number = key.get();
     found.ok()
 }

@@ -2,6 +2,7 @@
 //! `nm_tree` and the page alone.
 ghost use Rattle.std.specs.Prelude.{◌≡◌, ◌≢◌, true, false, None, IfOk, IfSome};
 ghost use Rattle.nm_model.specs.declared.event.Op.TheVariants.{Has, Insert, Delete};
+ghost use Rattle.nm_steps.specs.Rules.{ExtendsStores};
 ghost use Rattle.nm_steps.specs.Steps.{PassView, IsOf, IsSamePass, HasHeard, HasSeenAllOf};
 ghost use Rattle.nm_calls.specs.Moments.{AnswerHasMoment};
 ghost use Rattle.nm_walks.specs.WonCounts.{won_flags};
@@ -20,6 +21,7 @@ pub fn tell_worker(tree: &Tree, from: &mut Worker, to: &mut Worker)
     ensures held { to.new.held ≡ to.old.held }
     ensures heard { HasSeenAllOf to.new.pass from.old.pass }
     ensures past { HasSeenAllOf to.new.pass to.old.pass }
+    ensures heard_stores { ExtendsStores to.new.pass.view.stores from.old.pass.view.stores }
 {
     let note = tree.note(from);
     tree.hear(to, note);

@@ -64,31 +64,6 @@ same_value m n s was (x ∷ xs) le none' = by (λ v. same_value m n s v xs le (�
         (rest was ∙ sym (ap (λ (b : Bool). value_from (cond b x.value was) (filter (λ (y : Stored). ltb y.at n) xs) s) (ne_eqb x.slot s (λ same. none' 0 x (omega arith) same not_yet soon))))
     by rest (inr not_yet) (inr late) = both false false (le-ltb x.at m not_yet) (le-ltb x.at n late) (rest was)
 
--- ---- the events of a part of a run's turns
-
-pub record SplitRun (c : Configuration) (events : List (ℕ × Event)) (first later : List Turn) : Type 0 where
-  pub before : List (ℕ × Event)
-  pub since : List (ℕ × Event)
-  pub are : events ≡ before ++ since
-  pub firsts : trace_in c before ≡ first
-  pub laters : trace_in (after_in c before) since ≡ later
-
-pub split_run : (first later : List Turn) (events : List (ℕ × Event)) (c : Configuration) → trace_in c events ≡ first ++ later → SplitRun c events first later
-unfolding trace_in after_in
-split_run [] later events c is = record { before = []; since = events; are = refl; firsts = refl; laters = is }
-split_run (t ∷ ts) later [] c is = absurd (let long = ap (λ (l : List Turn). length l) is in omega (arith, long))
-split_run (t ∷ ts) later (e ∷ es) c is =
-    let rest : trace_in (next_in c e) es ≡ ts ++ later = cc in
-    let head : record { worker = e.0; event = e.1; outcome = outcome_in c e } ≡ t = cc in
-    let r = split_run ts later es (next_in c e) rest in
-    record {
-      before = e ∷ r.before;
-      since = r.since;
-      are = ap (λ (l : List (ℕ × Event)). e ∷ l) r.are;
-      firsts = (λ i. head i ∷ r.firsts i);
-      laters = r.laters;
-    }
-
 -- ---- the first ones of some stores
 
 held_first : (L : Layout) (turns : List (ℕ × Event)) (xs ys : List Stored) → WereHeld L turns (xs ++ ys) → WereHeld L turns xs
@@ -139,7 +114,7 @@ module _ (L : Layout) (enough : 5 ≤ L.nodes) (stores : List Stored) (s : ℕ) 
 -- ---- by turns
 
 -- the link that a worker has won makes its log longer
-won_grows : (L : Layout) (so_far : List Turn) (link : Turn) (w : ℕ) (node : NodeId) → link.worker ≡ w → link.outcome ≡ Ok (Linked node) → length (part_of w so_far) < length (part_of w (so_far ++ link ∷ []))
+pub won_grows : (L : Layout) (so_far : List Turn) (link : Turn) (w : ℕ) (node : NodeId) → link.worker ≡ w → link.outcome ≡ Ok (Linked node) → length (part_of w so_far) < length (part_of w (so_far ++ link ∷ []))
 won_grows L so_far link w node own won =
     let whole = ap (λ (l : List Entry). length l) (part-append w so_far (link ∷ [])) ∙ length-append (part_of w so_far) (part_of w (link ∷ [])) in
     let mine : length (part_of w (link ∷ [])) ≡ 1 = one link.outcome won (takes_part w link.worker link.event) (ap (λ (b : Bool). b || is_leaver w link.event) (eq-eqb link.worker w own)) in
@@ -164,20 +139,17 @@ module _ (L : Layout) (fits : IsLayout L) (events : List (ℕ × Event)) (keys :
     middles : trace_in (after_in (ordered L) before) middle ≡ mid
 
   parts : Parts
-  parts = by (split_run so_far (mid ++ rest) events (ordered L) are)
-    where
-      on : (a : SplitRun (ordered L) events so_far (mid ++ rest)) → SplitRun (after_in (ordered L) a.before) a.since mid rest → Parts
-      on a b = record {
-        before = a.before;
-        middle = b.before;
-        since = b.since;
-        all = a.are ∙ ap (λ (ts : List (ℕ × Event)). a.before ++ ts) b.are;
-        firsts = a.firsts;
-        middles = b.firsts;
+  parts =
+      let a : PartsOf (ordered L) events so_far (mid ++ rest) = parts_of (ordered L) events so_far (mid ++ rest) are in
+      let b : PartsOf (after_in (ordered L) a.early) a.late mid rest = parts_of (after_in (ordered L) a.early) a.late mid rest (sym a.rest_is) in
+      record {
+        before = a.early;
+        middle = b.early;
+        since = b.late;
+        all = a.all ∙ ap (λ (ts : List (ℕ × Event)). a.early ++ ts) b.all;
+        firsts = sym a.first_is;
+        middles = sym b.first_is;
       }
-
-      by : SplitRun (ordered L) events so_far (mid ++ rest) → Parts
-      by a = on a (split_run mid rest a.since (after_in (ordered L) a.before) a.laters)
 
   abbrev p : Parts
   p = parts
@@ -275,7 +247,7 @@ one_slot L fits events keys so_far rest are x y rx ry lx ly same =
 -- ---- the laws
 
 -- the stores of a run are held in all that goes on from it
-held_in_all : (L : Layout) → IsLayout L → (from : List Turn) (events : List (ℕ × Event)) (stores : List Stored) → HoldsStores L from (trace_in (ordered L) events) stores → WereHeld L events stores
+pub held_in_all : (L : Layout) → IsLayout L → (from : List Turn) (events : List (ℕ × Event)) (stores : List Stored) → HoldsStores L from (trace_in (ordered L) events) stores → WereHeld L events stores
 held_in_all L fits from events stores h = were_held L fits events h.until h.ends.more h.ends.is stores h.held
 
 pub leaves_keep_their_values : LeavesKeepTheirValues

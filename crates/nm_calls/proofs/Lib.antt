@@ -18,6 +18,8 @@ pub mod ScanLooks
 pub mod Unheld
 pub mod WonLinks
 pub mod LinkedLeaves
+pub mod LeafLinks
+pub mod MoreStores
 pub mod StoresInTurns
 pub mod NamedLeaves
 pub mod MapMoments

@@ -1,5 +1,5 @@
 -- The new leaf of a won link: it is reached right after the link, and has the key of the call.
-use Rattle.std.proofs.Common.{◌≡◌, ◌≢◌, ◌⊎◌, inl, inr, ℕ, ◌==◌, Bool, true, cond, List, [], ◌∷◌, ◌++◌, refl, sym, ap, subst, ◌∙◌, arith}
+use Rattle.std.proofs.Common.{◌≡◌, ◌≢◌, ◌⊎◌, inl, inr, ℕ, ◌==◌, ◌≤◌, Bool, true, cond, List, [], ◌∷◌, ◌++◌, refl, sym, ap, subst, ◌∙◌, arith}
 use Rattle.std.specs.Prelude.{All, None, Some, Option, Ok}
 use Rattle.std.proofs.lemmas.Bool.{and_from, eq-eqb}
 use Rattle.nm_edge.specs.Edges.{other, to}
@@ -119,6 +119,19 @@ module _ (L : Layout) (fits : IsLayout L) (events : List (ℕ × Event)) (keys :
     ends = to_far (child c.state.memory) (child after) parent side old new far l.drafts.side g;
     is_slot = λ none'. let low = ((law L fits events keys w parent side old new n won).tree.privates w far l.link.far_own).0 in omega (arith, low, none');
   }
+
+  -- the new node leads to the new leaf, which is not the node that was there
+  pub new_leads_to_far : child after new (other l.drafts.side) ≡ far
+  new_leads_to_far = unless_at (child c.state.memory) (child after) parent side new new (other l.drafts.side) g.exchanged (λ i. g.off_new g.front (g.at_front ∙ sym i)) ∙ g.over_far
+
+  pub far_is_high : 6 ≤ far
+  far_is_high = ((law L fits events keys w parent side old new n won).tree.privates w far l.link.far_own).0
+
+  pub far_is_other : far ≢ old
+  far_is_other same = g.off_far (g.front ++ side ∷ []) (follow-append (child c.state.memory) 1 g.front (side ∷ []) ∙ (ap (λ (y : ℕ). child c.state.memory y side) g.at_front ∙ (g.leads ∙ sym same)))
+
+  pub far_was_child : child c.state.memory new (other l.drafts.side) ≡ far
+  far_was_child = g.over_far
 
   null_after : (f : Side) → child after far f ≡ 0
   null_after f = far_null (child c.state.memory) (child after) parent side old new far l.drafts.side g f

@@ -1,5 +1,6 @@
 -- A leaf keeps its value until a turn cuts it off.
 use Rattle.std.specs.Prelude.{◌≡◌, ◌<◌, ℕ, List, [], ◌∷◌, ◌++◌, All, Contains}
+use Rattle.nm_edge.specs.Keys.{IsKey}
 use Rattle.nm_edge.specs.Layouts.{Layout, IsLayout}
 use Rattle.nm_model.specs.declared.event.Event.{Event}
 use Rattle.nm_model.specs.declared.trace.Turn.{Turn}
@@ -52,3 +53,13 @@ TakenValuesAreCut = (L : Layout) → IsLayout L → (events : List (ℕ × Event
     → NoneCuts mid took.leaf.slot
     → Contains (slots_of (nodes_cut_of cut.outcome)) took.leaf.slot
     → IsInMap L (took.so_far ++ mid) took.first k v
+
+-- in each run, what the map has at a moment by stores that hold from then on, it has by all later
+-- stores. So what several workers have seen is of one map
+abbrev pub ValuesAreByAllStores : Type 0
+ValuesAreByAllStores = (L : Layout) → IsLayout L → (events : List (ℕ × Event))
+    → All (λ t. HasKey t.1) events → (so_far rest : List Turn)
+    → trace_in (ordered L) events ≡ so_far ++ rest → (first stores : List Stored)
+    → HoldsStores L so_far (trace_in (ordered L) events) first → ExtendsStores stores first
+    → (from : List Turn) → HoldsStores L from (trace_in (ordered L) events) stores → (k v : ℕ)
+    → IsKey k → IsInMap L so_far first k v → IsInMap L so_far stores k v

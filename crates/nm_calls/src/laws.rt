@@ -1,6 +1,6 @@
 //! Laws of maps: a leaf keeps its value from its link to its cut, and the map is linearizable.
 ghost use Rattle.nm_calls.specs.ComingBack.{NodesAreFreedOnce, PinnedValuesStayOut};
-ghost use Rattle.nm_calls.specs.KeptValues.{LeavesKeepTheirValues, PutValuesStay, TakenValuesAreCut};
+ghost use Rattle.nm_calls.specs.KeptValues.{LeavesKeepTheirValues, PutValuesStay, TakenValuesAreCut, ValuesAreByAllStores};
 ghost use Rattle.nm_calls.specs.MapHistories.{GetsAreOfTheMap, HistoriesAreOfMaps, ValuesWerePut};
 
 /// Law: in every ordered run, a leaf that is in the map stays in it with its key and its value
@@ -20,6 +20,13 @@ pub fn put_values_stay()
 /// the key right before a turn cuts off the leaf which the delete has flagged.
 pub fn taken_values_are_cut()
     ensures { TakenValuesAreCut }
+{}
+
+/// Law: in every ordered run, what the map has at a moment by the stores that one worker has seen, it
+/// has by all later stores. So once a worker has heard another one's note, the values that both have
+/// got are of one map.
+pub fn values_are_by_all_stores()
+    ensures { ValuesAreByAllStores }
 {}
 
 /// Law: in every ordered run, each history of the turns up to which the stores are given is one of

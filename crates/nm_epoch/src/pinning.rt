@@ -103,6 +103,7 @@ fn pin_by(shared: &Shared, pass: &mut Pass, tries: u32, by: &Confirming) -> Resu
 ///
 /// The epoch is read again after it was announced, because it may have moved on before other
 /// workers could see the announcement (Fraser, 2004, chapter 5).
+#[inline(always)]
 pub fn pin(shared: &Shared, pass: &mut Pass, tries: u32) -> Result<u64, Moved>
     requires own { IsOf shared.now pass.old }
     requires unpinned { IsUnpinned pass.old }

@@ -17,7 +17,7 @@ use Rattle.nm_model.specs.Walks.{Entry, logged_by}
 use Rattle.nm_order.specs.Logs.{part_of, takes_part}
 use Rattle.nm_order.specs.WalksToArrivals.{is_won_flag}
 use Rattle.nm_order.proofs.AnswersSince.{part-append}
-use Rattle.nm_steps.specs.Rules.{Extends}
+use Rattle.nm_steps.specs.Rules.{Extends, ExtendsStores}
 use Rattle.nm_steps.specs.Steps.{TreeView, Notice, PassView, IsOf, HasSeen, HasHeard, HasSeenAllOf}
 use Rattle.nm_steps.proofs.Growing.{goes_on_itself, goes_on_through}
 use Rattle.nm_walks.specs.WonCounts.{won_links, won_flags, won_splices}
@@ -123,7 +123,7 @@ behind_still i t later seen on c = record { before = c.before; goes_on = goes_on
 
 -- the note of a worker in its own mailbox, which is one of its tree
 pub own_letter : (b d : TreeView) (w : WorkerView) (i : ℕ) (t : Stamp) (n : Notice) → d ≡ b → IsOf b w.pass → IsTallyOf w t → i ≡ w.pass.view.number
-    → n ≡ record { table = w.pass.table; past = w.pass.view.past } → IsLetter d i t n
+    → n ≡ record { table = w.pass.table; past = w.pass.view.past; stores = w.pass.view.stores } → IsLetter d i t n
 own_letter b d w i t n at of has number is =
     let told : ComesBehind i t w.pass.view.past = subst (λ (k : ℕ). ComesBehind k t w.pass.view.past) (sym number) (behind_itself w t has) in
     let letter : IsLetter b i t n = subst (λ (m : Notice). IsLetter b i t m) (sym is) (record { table = of.table; told = told }) in
@@ -131,17 +131,18 @@ own_letter b d w i t n at of has number is =
 
 -- the note of a worker that has heard a letter
 pub same_letter : (b d : TreeView) (p : PassView) (i : ℕ) (t : Stamp) (heard n : Notice) → d ≡ b → IsOf b p → IsLetter d i t heard → Extends p.view.past heard.past
-    → n ≡ record { table = p.table; past = p.view.past } → IsLetter d i t n
+    → n ≡ record { table = p.table; past = p.view.past; stores = p.view.stores } → IsLetter d i t n
 same_letter b d p i t heard n at of letter on is =
     let table : p.table ≡ d.table = of.table ∙ ap (λ (x : TreeView). x.table) (sym at) in
     subst (λ (m : Notice). IsLetter d i t m) (sym is) (record { table = table; told = behind_still i t p.view.past heard.past on letter.told })
 
 -- what a worker has that has heard it
 pub heard_of : (b d : TreeView) (i : ℕ) (t : Stamp) (w z : WorkerView) (heard : Notice) → d ≡ b → IsLetter d i t heard → HasHeard w.pass z.pass → HasSeenAllOf z.pass w.pass
-    → Extends z.pass.view.past heard.past → z ≡ record w { pass = z.pass } → HasHeardOf b i t w z
-heard_of b d i t w z heard at letter same past on rest = record {
+    → Extends z.pass.view.past heard.past → ExtendsStores z.pass.view.stores w.pass.view.stores → z ≡ record w { pass = z.pass } → HasHeardOf b i t w z
+heard_of b d i t w z heard at letter same past on stores rest = record {
   same = same;
   past = past;
+  stores = stores;
   told = behind_still i t z.pass.view.past heard.past on letter.told;
   rest = rest;
 }

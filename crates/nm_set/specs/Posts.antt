@@ -2,7 +2,7 @@
 use Rattle.std.specs.Prelude.{◌≡◌, ◌⊎◌, ◌<◌, ◌≤◌, ◌+◌, ℕ, List, ◌++◌, Option, Some, None, IsSome, Result, Ok, Err, is_some, if◌then◌else◌}
 use Rattle.nm_model.specs.declared.trace.Turn.{Turn}
 use Rattle.nm_order.specs.Logs.{part_of}
-use Rattle.nm_steps.specs.Rules.{Extends}
+use Rattle.nm_steps.specs.Rules.{Extends, ExtendsStores}
 use Rattle.nm_steps.specs.Steps.{TreeView, Notice, HasHeard, HasSeenAllOf, IsNoteOf}
 use Rattle.nm_progress.specs.Pending.{leaf_after}
 use Rattle.nm_walks.specs.WonCounts.{won_links, won_flags}
@@ -80,6 +80,7 @@ pub record IsLetter (b : TreeView) (i : ℕ) (p : Stamp) (note : Notice) : Type 
 pub record HasHeardOf (b : TreeView) (i : ℕ) (p : Stamp) (w z : WorkerView) : Type 0 where
   pub same : HasHeard w.pass z.pass
   pub past : HasSeenAllOf z.pass w.pass
+  pub stores : ExtendsStores z.pass.view.stores w.pass.view.stores
   pub told : ComesBehind i p z.pass.view.past
   pub rest : z ≡ record w { pass = z.pass }
 

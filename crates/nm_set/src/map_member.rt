@@ -3,9 +3,9 @@ ghost use Rattle.std.specs.Prelude.{◌≡◌, ◌++◌, ◌∷◌, length, vec_
 ghost use Rattle.nm_edge.specs.Layouts.{IsLayout};
 ghost use Rattle.nm_edge.specs.declared.edge.Side.TheVariants.{Left, Right};
 ghost use Rattle.nm_model.specs.declared.event.Op.TheVariants.{Has};
-ghost use Rattle.nm_steps.specs.Rules.{Extends};
+ghost use Rattle.nm_steps.specs.Rules.{Extends, ExtendsStores};
 ghost use Rattle.nm_steps.specs.Steps.{HasHeard, HasSeen, HasSeenAllOf, IsNoteOf, IsOfRun};
-ghost use Rattle.nm_steps.specs.Values.{HasValues};
+ghost use Rattle.nm_steps.specs.Values.{HasSeenStores, HasValues};
 ghost use Rattle.nm_calls.specs.Maps.{HasPut, HasTaken};
 ghost use Rattle.nm_tree.specs.Answers.{IfTaken};
 ghost use Rattle.nm_calls.specs.declared.deleting.Unfinished.{Unfinished as Delete};
@@ -418,6 +418,10 @@ impl MapMember {
         ensures same { HasHeard self.old.worker.pass self.new.worker.pass }
         ensures past { HasSeenAllOf self.new.worker.pass self.old.worker.pass }
         ensures heard { Extends self.new.worker.pass.view.past note.past }
+        ensures stores { ExtendsStores self.new.worker.pass.view.stores
+            self.old.worker.pass.view.stores }
+        ensures heard_stores { ExtendsStores self.new.worker.pass.view.stores note.stores }
+        ensures values { HasSeenStores self.new.worker.pass.view }
         ensures rest { self.new.worker ≡ record self.old.worker { pass = self.new.worker.pass } }
         ensures between { IsBetweenCalls self.new.worker }
     {

@@ -2,7 +2,7 @@
 ghost use Rattle.std.specs.Prelude.{◌≡◌, ◌<◌, ◌++◌, ◌∷◌, [], length, vec_capacity, option_map, IfOk, IfErr, IfSome};
 ghost use Rattle.std.specs.Arc.{arc_value};
 ghost use Rattle.nm_edge.specs.Layouts.{IsLayout};
-ghost use Rattle.nm_steps.specs.Rules.{Extends};
+ghost use Rattle.nm_steps.specs.Rules.{Extends, ExtendsStores};
 ghost use Rattle.nm_steps.specs.Steps.{HasHeard, HasSeen, HasSeenAllOf, IsNoteOf, IsOfRun};
 ghost use Rattle.nm_tree.specs.Resigning.{HasResigned};
 ghost use Rattle.nm_tree.specs.Running.{HasSeenTurns};
@@ -300,6 +300,10 @@ impl Member {
         ensures same { HasHeard self.old.worker.pass self.new.worker.pass }
         ensures past { HasSeenAllOf self.new.worker.pass self.old.worker.pass }
         ensures heard { Extends self.new.worker.pass.view.past note.past }
+        ensures stores { ExtendsStores self.new.worker.pass.view.stores
+            self.old.worker.pass.view.stores }
+        ensures heard_stores { ExtendsStores self.new.worker.pass.view.stores note.stores }
+        ensures values { HasValues self.old.tree → HasSeenStores self.new.worker.pass.view }
         ensures rest { self.new.worker ≡ record self.old.worker { pass = self.new.worker.pass } }
         ensures between { IsBetweenCalls self.new.worker }
     {

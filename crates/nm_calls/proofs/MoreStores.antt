@@ -1,0 +1,136 @@
+-- What the map has by some stores it has by more: no later store is of a leaf that is reached.
+use Rattle.std.proofs.Common.{◌≡◌, ℕ, ◌+◌, ◌<◌, ◌≤◌, true, List, [], ◌∷◌, ◌++◌, append_assoc, length, refl, sym, ap, subst, ◌∙◌, arith}
+use Rattle.std.specs.Prelude.{All, AllPairs, Contains, Ok}
+use Rattle.std.proofs.lemmas.List.{length-append}
+use Rattle.std.proofs.lemmas.List.Elements.{Contains-append_left}
+use Rattle.nm_edge.specs.Edges.{other}
+use Rattle.nm_edge.specs.Keys.{IsKey}
+use Rattle.nm_edge.specs.Layouts.{Layout, IsLayout}
+use Rattle.nm_edge.specs.declared.edge.Side.{Side}
+use Rattle.nm_model.specs.declared.event.Event.{Event}
+use Rattle.nm_model.specs.declared.event.Event.TheVariants.{Link}
+use Rattle.nm_model.specs.declared.reply.Reply.TheVariants.{Linked}
+use Rattle.nm_model.specs.declared.trace.Turn.{Turn}
+use Rattle.nm_model.specs.Headline.{words_after}
+use Rattle.nm_model.specs.Memory.{Memory, child, is_leaf, node}
+use Rattle.nm_model.specs.Ordered.{HasKey, ordered, after_in, outcome_in, trace_in}
+use Rattle.nm_model.specs.Paths.{Reached}
+use Rattle.nm_order.specs.Logs.{part_of}
+use Rattle.nm_order.proofs.RealTime.{begins_with}
+use Rattle.nm_order.proofs.RunExchanges.{first_keys}
+use Rattle.nm_order.proofs.WalksOfRuns.{trace_in-append}
+use Rattle.nm_theorem.proofs.Runs.{Parts, parts_of}
+use Rattle.nm_theorem.proofs.WrittenWords.{run_words}
+use Rattle.nm_steps.specs.declared.view.Stored.{Stored}
+use Rattle.nm_steps.specs.Rules.{ComesBefore, ExtendsStores, IsStored, WereHeld, answered_turn}
+use Rattle.nm_steps.proofs.LinkedValues.{NobodyHoldsUntil, entries, value_since_link}
+use Rattle.nm_steps.proofs.ValueStays.{value_before}
+use Rattle.nm_walks.proofs.Looks.{enough}
+use Rattle.nm_calls.specs.KeptValues.{ValuesAreByAllStores}
+use Rattle.nm_calls.specs.Maps.{HoldsStores}
+use Rattle.nm_calls.proofs.KeptLeaves.{one_holds}
+use Rattle.nm_calls.proofs.KeptValues.{held_in_all, won_grows}
+use Rattle.nm_calls.proofs.LeafLinks.{IsUserLeaf, WasLinked, was_linked}
+use Rattle.nm_calls.proofs.LinkedLeaves.{far_is_other, far_was_child}
+use Rattle.nm_calls.proofs.WonLinks.{link}
+
+module _ (L : Layout) (fits : IsLayout L) (events : List (ℕ × Event)) (keys : All (λ t. HasKey t.1) events) (so_far rest : List Turn) (are : trace_in (ordered L) events ≡ so_far ++ rest) where
+  p : Parts (ordered L) events so_far rest
+  p = parts_of (ordered L) events so_far rest are
+
+  early_keys : All (λ t. HasKey t.1) p.early
+  early_keys = first_keys p.early p.late (subst (λ (ts : List (ℕ × Event)). All (λ t. HasKey t.1) ts) p.all keys)
+
+  words : words_after L so_far ≡ (after_in (ordered L) p.early).state.memory
+  words = ap (words_after L) p.first_is ∙ run_words L fits true p.early
+
+  -- a leaf that is reached then
+  module _ (s : ℕ) (reached : Reached (words_after L so_far) s) (leaf : is_leaf (node (words_after L so_far) s) ≡ true) (is_key : IsKey (node (words_after L so_far) s).key) where
+    l : WasLinked L p.early s
+    l = was_linked L fits p.early early_keys s (subst (λ (m : Memory). IsUserLeaf m s) words (record { reached = reached; leaf = leaf; is_key = is_key }))
+
+    abbrev event : ℕ × Event
+    event = (l.worker, Link l.parent l.side l.old l.new)
+
+    before_keys : All (λ t. HasKey t.1) l.before
+    before_keys = first_keys l.before (event ∷ l.since) (subst (λ (ts : List (ℕ × Event)). All (λ t. HasKey t.1) ts) l.are early_keys)
+
+    abbrev turn : Turn
+    turn = answered_turn l.worker (Link l.parent l.side l.old l.new) (Linked l.node)
+
+    all_are : events ≡ l.before ++ event ∷ (l.since ++ p.late)
+    all_are = p.all ∙ (ap (λ (ts : List (ℕ × Event)). ts ++ p.late) l.are ∙ append_assoc l.before (event ∷ l.since) p.late)
+
+    abbrev after_link : List Turn
+    after_link = trace_in (after_in (ordered L) (l.before ++ event ∷ [])) l.since
+
+    linked_turns : trace_in (ordered L) (l.before ++ event ∷ []) ≡ trace_in (ordered L) l.before ++ turn ∷ []
+    unfolding trace_in
+    linked_turns = trace_in-append (ordered L) l.before (event ∷ []) ∙ (λ i. trace_in (ordered L) l.before ++ record { worker = l.worker; event = Link l.parent l.side l.old l.new; outcome = l.won i } ∷ [])
+
+    so_far_is : so_far ≡ trace_in (ordered L) l.before ++ turn ∷ after_link
+    so_far_is =
+        p.first_is
+        ∙ (ap (trace_in (ordered L)) (l.are ∙ sym (append_assoc l.before (event ∷ []) l.since))
+        ∙ (trace_in-append (ordered L) (l.before ++ event ∷ []) l.since
+        ∙ (ap (λ (ts : List Turn). ts ++ after_link) linked_turns ∙ append_assoc (trace_in (ordered L) l.before) (turn ∷ []) after_link)))
+
+    took : entries L l.worker l.before < entries L l.worker (l.before ++ event ∷ [])
+    took = subst (λ (ts : List Turn). length (part_of l.worker (trace_in (ordered L) l.before)) < length (part_of l.worker ts)) (sym linked_turns) (won_grows L (trace_in (ordered L) l.before) turn l.worker l.node refl refl)
+
+    long : length so_far ≡ length p.early
+    long = sym p.size
+
+    later : length l.before < length so_far
+    later = let size = ap (λ (ts : List (ℕ × Event)). length ts) l.are ∙ length-append l.before (event ∷ l.since) in omega (arith, size, long)
+
+    free : NobodyHoldsUntil L events (length l.before + 1) (length so_far) s
+    free now since is least most w =
+        let part = begins_with now since p.early p.late (sym is ∙ p.all) (omega (arith, most, long)) in
+        l.free now part.0 part.1 least (omega (arith, most, long)) w
+
+    -- it has a store by stores that hold from that moment on
+    abbrev side_of_leaf : Side
+    side_of_leaf = other (link L fits l.before before_keys l.worker l.parent l.side l.old l.new l.node l.won).drafts.side
+
+    words_before : words_after L (trace_in (ordered L) l.before) ≡ (after_in (ordered L) l.before).state.memory
+    words_before = run_words L fits true l.before
+
+    child_is : child (words_after L (trace_in (ordered L) l.before)) l.new side_of_leaf ≡ (link L fits l.before before_keys l.worker l.parent l.side l.old l.new l.node l.won).drafts.far
+    child_is = ap (λ (m : Memory). child m l.new side_of_leaf) words_before ∙ far_was_child L fits l.before before_keys l.worker l.parent l.side l.old l.new l.node l.won
+
+    stored : (first : List Stored) → HoldsStores L so_far (trace_in (ordered L) events) first → IsStored first l.worker (entries L l.worker l.before) s
+    stored first h =
+        subst (IsStored first l.worker (entries L l.worker l.before))
+        (child_is ∙ (sym (link L fits l.before before_keys l.worker l.parent l.side l.old l.new l.node l.won).drafts.is_far ∙ l.leaf))
+        (h.linked (trace_in (ordered L) l.before) (after_link ++ h.from.more) l.worker l.parent l.side side_of_leaf l.old l.new l.node
+        (h.from.is ∙ (ap (λ (ts : List Turn). ts ++ h.from.more) so_far_is ∙ append_assoc (trace_in (ordered L) l.before) (turn ∷ after_link) h.from.more))
+        (λ same. far_is_other L fits l.before before_keys l.worker l.parent l.side l.old l.new l.node l.won (sym child_is ∙ same)))
+
+    -- the value is the one of this store
+    value_is : (stores : List Stored) → WereHeld L events stores → AllPairs ComesBefore stores → (at : IsStored stores l.worker (entries L l.worker l.before) s) → value_before (length so_far) stores s ≡ at.stored.value
+    value_is stores held order at = value_since_link L events stores held order l.before (l.since ++ p.late) l.worker s (Link l.parent l.side l.old l.new) all_are l.below took (one_holds L (enough L fits) events keys s) at (length so_far) later free
+
+    pub same_by_more : (first stores : List Stored) → HoldsStores L so_far (trace_in (ordered L) events) first → ExtendsStores stores first → (from : List Turn) → HoldsStores L from (trace_in (ordered L) events) stores → value_before (length so_far) stores s ≡ value_before (length so_far) first s
+    same_by_more first stores h on from h' =
+        let at = stored first h in
+        value_is stores (held_in_all L fits from events stores h') h'.order (later_store at)
+        ∙ sym (value_is first (held_in_all L fits so_far events first h) h.order at)
+      where
+        later_store : IsStored first l.worker (entries L l.worker l.before) s → IsStored stores l.worker (entries L l.worker l.before) s
+        later_store at = record {
+          stored = at.stored;
+          there = subst (λ (st : List Stored). Contains st at.stored) (sym on.is) (Contains-append_left first on.more at.stored at.there);
+          by_worker = at.by_worker;
+          at_own = at.at_own;
+          for_slot = at.for_slot;
+        }
+
+pub values_are_by_all_stores : ValuesAreByAllStores
+values_are_by_all_stores L fits events keys so_far rest are first stores h on from h' k v is_key i = record {
+  slot = i.slot;
+  reached = i.reached;
+  leaf = i.leaf;
+  has_key = i.has_key;
+  has_value = same_by_more L fits events keys so_far rest are i.slot i.reached i.leaf (subst IsKey (sym i.has_key) is_key) first stores h on from h' ∙ i.has_value;
+}
