@@ -18,7 +18,7 @@ use Rattle.nm_model.specs.Headline.{Headline, OnePlace, cuts_of, freed_by, freed
 use Rattle.nm_model.specs.Headline.Place.{InHands, OnPath, Waits}
 use Rattle.nm_model.specs.Knowledge.{Knowledge}
 use Rattle.nm_model.specs.Laws.{node_in}
-use Rattle.nm_model.specs.Ledgers.{held}
+use Rattle.nm_model.specs.Ledgers.{held as held_ledger}
 use Rattle.nm_model.specs.Lawful.{FlaggedEdgesLeadToLeaves}
 use Rattle.nm_model.specs.Memory.{Memory, child, edge, is_leaf, node, opening}
 use Rattle.nm_laws.proofs.EachState.{each_flag_on_leaf}
@@ -36,7 +36,8 @@ use Rattle.nm_theorem.proofs.FreedOfRuns.{cuts-append, waits_is}
 use Rattle.nm_theorem.proofs.Hands.{run_hands}
 use Rattle.nm_theorem.proofs.HeadlineOfRuns.{each_run_has_it}
 use Rattle.nm_theorem.proofs.WrittenWords.{run_words}
-use Rattle.nm_steps.specs.Rules.{knowledge, value_of}
+use Rattle.nm_steps.specs.declared.view.Stored.{Stored}
+use Rattle.nm_steps.specs.Rules.{Extends, WereHeld, knowledge, value_of}
 use Rattle.nm_steps.specs.Steps.{IsInRun, PassView}
 use Rattle.nm_steps.specs.Values.{HasSeenStores}
 use Rattle.nm_steps.proofs.AfterSteps.{apart_in_run}
@@ -47,6 +48,7 @@ use Rattle.nm_epoch.specs.Collecting.{IsQueueOf, queued}
 use Rattle.nm_epoch.proofs.Fronts.{shown_queue}
 use Rattle.nm_epoch.specs.Handing.{WasRead, is_odd}
 use Rattle.nm_calls.specs.HandedBack.{WasCutWith}
+use Rattle.nm_calls.specs.Maps.{HoldsStores}
 use Rattle.nm_calls.proofs.CutLeaves.{CutsFrom, Odd, OddCut, all_even, odd_cut}
 use Rattle.nm_calls.proofs.MapMoments.{holds_longer}
 use Rattle.nm_calls.proofs.StoresInTurns.{stores_in_turns}
@@ -60,14 +62,18 @@ head_of x y xs ys e = cc
 tail_of : {X : Type 0} (x y : X) (xs ys : List X) → x ∷ xs ≡ y ∷ ys → xs ≡ ys
 tail_of x y xs ys e = cc
 
--- the first one that passes is among all, and passes
-first_passes : (p : NodeId → Bool) (ns rest : List NodeId) (n : NodeId) → filter p ns ≡ n ∷ rest → Contains ns n × (p n ≡ true)
-first_passes p [] rest n is = absurd (let e : 0 ≡ suc (length rest) = ap (λ (l : List NodeId). length l) is in omega (arith, e))
-first_passes p (m ∷ ms) rest n is = by (p m) refl is (first_passes p ms rest n)
+-- one of those that pass is among all, and passes
+passed : (p : NodeId → Bool) (ns : List NodeId) (n : NodeId) → Contains (filter p ns) n → Contains ns n × (p n ≡ true)
+passed p [] n at = absurd (let below = at.1 in omega (arith, below))
+passed p (m ∷ ms) n at = by (p m) refl at (passed p ms n)
   where
-    by : (b : Bool) → p m ≡ b → cond b (m ∷ filter p ms) (filter p ms) ≡ n ∷ rest → (filter p ms ≡ n ∷ rest → Contains ms n × (p n ≡ true)) → Contains (m ∷ ms) n × (p n ≡ true)
-    by true passes e later = let same = head_of m n (filter p ms) rest e in ((0, omega arith, same), ap p (sym same) ∙ passes)
-    by false other e later = let r = later e in let below = r.0.1 in ((suc r.0.0, omega (arith, below), r.0.2), r.1)
+    by : (b : Bool) → p m ≡ b → Contains (cond b (m ∷ filter p ms) (filter p ms)) n → (Contains (filter p ms) n → Contains ms n × (p n ≡ true)) → Contains (m ∷ ms) n × (p n ≡ true)
+    by true passes (zero, below, same) later = ((0, omega arith, same), ap p (sym same) ∙ passes)
+    by true passes (suc i, below, same) later = further (later (i, omega (arith, below), same))
+      where
+        further : Contains ms n × (p n ≡ true) → Contains (m ∷ ms) n × (p n ≡ true)
+        further r = let less = r.0.1 in ((suc r.0.0, omega (arith, less), r.0.2), r.1)
+    by false other there later = let r = later there in let below = r.0.1 in ((suc r.0.0, omega (arith, below), r.0.2), r.1)
 
 -- the turn that has cut a node off
 record CutBy (o : ℕ) (turns : List Turn) (n : NodeId) : Type 0 where
@@ -206,106 +212,126 @@ leads_to_leaf L fits events keys before rest is x side r flag = subst (λ (m : M
     words : (after_in (ordered L) start).state.memory ≡ words_after L before
     words = sym (run_words L fits true start) ∙ ap (words_after L) traced
 
--- ---- a node at the front of a queue
+-- ---- a node that waits
 
-module _ (at : PassView) (run : IsInRun at) (seen : HasSeenStores at.view) (o : ℕ) (e : Entry) (later : List Entry) (waits : IsQueueOf (knowledge at.view) o (e ∷ later)) (odd : is_odd (suc (length later)) ≡ true) where
-  abbrev L : Layout
-  L = at.view.layout
-
-  abbrev events : List (ℕ × Event)
-  events = seen.run.events
-
+module _ (L : Layout) (fits : IsLayout L) (events : List (ℕ × Event)) (keys : All (λ t. HasKey t.1) events) (o : ℕ) (early : List NodeId) (n : NodeId) (later : List NodeId) (waits : waits_of o (trace_in (ordered L) events) ≡ early ++ n ∷ later)
+    (odd : is_odd (suc (length later)) ≡ true) (pooled : IsPooled L n.slot) (stores : List Stored) (held : WereHeld L events stores) where
   abbrev turns : List Turn
   turns = trace_in (ordered L) events
 
-  ledger : (l : Ledger) × (held (knowledge at.view).ledgers o ≡ Some l) × (l.queue ≡ map queued (e ∷ later))
-  ledger = go (held (knowledge at.view).ledgers o) refl waits
-    where
-      go : (x : Option Ledger) → held (knowledge at.view).ledgers o ≡ x → option_map (λ (l : Ledger). l.queue) x ≡ Some (map queued (e ∷ later)) → (l : Ledger) × (held (knowledge at.view).ledgers o ≡ Some l) × (l.queue ≡ map queued (e ∷ later))
-      go None is w = absurd (none-some (map queued (e ∷ later)) w)
-      go (Some l) is w = (l, is, same_Some l.queue (map queued (e ∷ later)) w)
-
-  known : of (after_in (ordered L) events).state at.view.number ≡ knowledge at.view
-  known = logs_tell L events at.view.number seen.run.worker ∙ ap (known_by L at.view.number) (ap (part_of at.view.number) (sym seen.run.are) ∙ seen.run.is_part)
-
-  first_waits : waits_of o turns ≡ e.node ∷ map node_in (map queued later)
-  first_waits =
-      waits_is L run.fits true events at.view.number o ledger.0 (ap (λ (k : Knowledge). held k.ledgers o) known ∙ ledger.1)
-      ∙ ap (λ (q : List Queued). map node_in q) ledger.2
-
-  pooled : IsPooled L e.node.slot
-  pooled = (apart_in_run at run).waiting o 0 (queued e) (ap (λ (q : List Queued). slice_get q 0) (shown_queue (held (knowledge at.view).ledgers o) (map queued (e ∷ later)) waits))
-
-  passes : Contains (cuts_of o turns) e.node × (not (is_among (freed_by turns) e.node) ≡ true)
-  passes = first_passes (λ (n : NodeId). not (is_among (freed_by turns) n)) (cuts_of o turns) (map node_in (map queued later)) e.node first_waits
+  passes : Contains (cuts_of o turns) n × (not (is_among (freed_by turns) n) ≡ true)
+  passes =
+      passed (λ (m : NodeId). not (is_among (freed_by turns) m)) (cuts_of o turns) n
+      (subst (λ (ns : List NodeId). Contains ns n) (sym waits) (Contains-append_right early (n ∷ later) n (0, omega arith, refl)))
 
   h : Headline L turns
-  h = each_run_has_it L run.fits true events seen.run.keys
+  h = each_run_has_it L fits true events keys
 
   cuts : CutsFrom (words_after L) [] turns
   cuts first rest t is = h.cuts first rest t is
 
+  parts : freed_of o turns ++ (early ++ n ∷ later) ≡ cuts_of o turns
+  parts = ap (λ (ns : List NodeId). freed_of o turns ++ ns) (sym waits) ∙ (h.queues turns [] (sym (append-nil turns))).queues o
+
   -- its place among all that was cut is an odd one
-  place : Odd (length (freed_of o turns))
+  place : Odd (length (freed_of o turns ++ early))
   place =
       let even = all_even (words_after L) o [] turns cuts in
       let half = even.1 in
-      let split : length (cuts_of o turns) ≡ length (freed_of o turns ++ e.node ∷ map node_in (map queued later)) = ap (λ (ns : List NodeId). length ns) (sym ((h.queues turns [] (sym (append-nil turns))).queues o) ∙ ap (λ (ns : List NodeId). freed_of o turns ++ ns) first_waits) in
-      let sum = length-append (freed_of o turns) (e.node ∷ map node_in (map queued later)) in
-      let one = length-map (map queued later) node_in in
-      let two = length-map later queued in
-      odd_place (length (freed_of o turns)) (length later) even.0 odd (omega (arith, half, split, sum, one, two))
+      let split : length (freed_of o turns ++ (early ++ n ∷ later)) ≡ length (cuts_of o turns) = ap (λ (ns : List NodeId). length ns) parts in
+      let sum = length-append (freed_of o turns) (early ++ n ∷ later) in
+      let more = length-append early (n ∷ later) in
+      let before = length-append (freed_of o turns) early in
+      odd_place (length (freed_of o turns ++ early)) (length later) even.0 odd (omega (arith, half, split, sum, more, before))
 
-  oc : OddCut (words_after L) o [] turns e.node
-  oc = odd_cut (words_after L) o [] turns (length (freed_of o turns)) e.node cuts place at_place
+  oc : OddCut (words_after L) o [] turns n
+  oc = odd_cut (words_after L) o [] turns (length (freed_of o turns ++ early)) n cuts place at_place
     where
-      at_place : slice_get (cuts_of o turns) (length (freed_of o turns)) ≡ Some e.node
-      at_place = ap (λ (ns : List NodeId). slice_get ns (length (freed_of o turns))) (sym ((h.queues turns [] (sym (append-nil turns))).queues o) ∙ ap (λ (ns : List NodeId). freed_of o turns ++ ns) first_waits) ∙ get_first (freed_of o turns) e.node (map node_in (map queued later))
+      at_place : slice_get (cuts_of o turns) (length (freed_of o turns ++ early)) ≡ Some n
+      at_place = ap (λ (ns : List NodeId). slice_get ns (length (freed_of o turns ++ early))) (sym parts ∙ sym (append_assoc (freed_of o turns) early (n ∷ later))) ∙ get_first (freed_of o turns ++ early) n later
 
-  c : CutBy o turns e.node
+  c : CutBy o turns n
   c = record { before = oc.first; cut = oc.cut; since = oc.since; are = oc.are; own = oc.own; there = oc.there }
 
   -- right before the cut it was a leaf
-  was_leaf : is_leaf (node (words_after L c.before) e.node.slot) ≡ true
+  was_leaf : is_leaf (node (words_after L c.before) n.slot) ≡ true
   unfolding c oc
-  was_leaf = subst (λ (y : ℕ). is_leaf (node (words_after L c.before) y) ≡ true) oc.beside.frozen.2 (leads_to_leaf L run.fits events seen.run.keys c.before (c.cut ∷ c.since) c.are oc.beside.over (other oc.beside.side) over_reached oc.beside.frozen.1)
+  was_leaf = subst (λ (y : ℕ). is_leaf (node (words_after L c.before) y) ≡ true) oc.beside.frozen.2 (leads_to_leaf L fits events keys c.before (c.cut ∷ c.since) c.are oc.beside.over (other oc.beside.side) over_reached oc.beside.frozen.1)
     where
       over_reached : Reached (words_after L c.before) oc.beside.over
       over_reached = (((h.cuts c.before c.since c.cut c.are).just oc.beside.over).1 oc.beside.among).was
 
-  kept : Contains (freed_by turns) e.node → ⊥
-  kept freed = true≢false (sym passes.1 ∙ ap not (in_among (freed_by turns) e.node freed))
+  kept : Contains (freed_by turns) n → ⊥
+  kept freed = true≢false (sym passes.1 ∙ ap not (in_among (freed_by turns) n freed))
 
-  nobody : NobodyHolds L events (length c.before) e.node.slot
+  nobody : NobodyHolds L events (length c.before) n.slot
   nobody now after is le v =
       let long = length_trace (ordered L) now in
       let mid = begins_with c.before (c.cut ∷ c.since) (trace_in (ordered L) now) (trace_in (after_in (ordered L) now) after) (sym c.are ∙ traced) (omega (arith, le, long)) in
-      sym (run_hands v e.node.slot L run.fits true now) ∙ (ap (has_after (opening L) v e.node.slot false) mid.1 ∙ by mid.0 (append_cancel_left c.before (c.cut ∷ c.since) (mid.0 ++ (trace_in (after_in (ordered L) now) after)) (sym c.are ∙ (traced ∙ (ap (λ (l : List Turn). l ++ (trace_in (after_in (ordered L) now) after)) mid.1 ∙ append_assoc c.before mid.0 (trace_in (after_in (ordered L) now) after))))))
+      sym (run_hands v n.slot L fits true now) ∙ (ap (has_after (opening L) v n.slot false) mid.1 ∙ by mid.0 (append_cancel_left c.before (c.cut ∷ c.since) (mid.0 ++ (trace_in (after_in (ordered L) now) after)) (sym c.are ∙ (traced ∙ (ap (λ (l : List Turn). l ++ (trace_in (after_in (ordered L) now) after)) mid.1 ∙ append_assoc c.before mid.0 (trace_in (after_in (ordered L) now) after))))))
     where
       traced : turns ≡ trace_in (ordered L) now ++ (trace_in (after_in (ordered L) now) after)
       traced = ap (trace_in (ordered L)) is ∙ trace_in-append (ordered L) now after
 
-      by : (mid : List Turn) → c.cut ∷ c.since ≡ mid ++ (trace_in (after_in (ordered L) now) after) → has_after (opening L) v e.node.slot false (c.before ++ mid) ≡ false
-      by [] rest = subst (λ (l : List Turn). has_after (opening L) v e.node.slot false l ≡ false) (sym (append-nil c.before)) (free_before L turns h o e.node pooled.0 pooled.1 c kept v)
+      by : (mid : List Turn) → c.cut ∷ c.since ≡ mid ++ (trace_in (after_in (ordered L) now) after) → has_after (opening L) v n.slot false (c.before ++ mid) ≡ false
+      by [] rest = subst (λ (l : List Turn). has_after (opening L) v n.slot false l ≡ false) (sym (append-nil c.before)) (free_before L turns h o n pooled.0 pooled.1 c kept v)
       by (t ∷ ts) rest =
-          subst (λ (x : Turn). has_after (opening L) v e.node.slot false (c.before ++ x ∷ ts) ≡ false) (head_of c.cut t c.since (ts ++ (trace_in (after_in (ordered L) now) after)) rest)
-          (free_after L turns h o e.node pooled.0 pooled.1 c kept ts (trace_in (after_in (ordered L) now) after) (tail_of c.cut t c.since (ts ++ (trace_in (after_in (ordered L) now) after)) rest) v)
+          subst (λ (x : Turn). has_after (opening L) v n.slot false (c.before ++ x ∷ ts) ≡ false) (head_of c.cut t c.since (ts ++ (trace_in (after_in (ordered L) now) after)) rest)
+          (free_after L turns h o n pooled.0 pooled.1 c kept ts (trace_in (after_in (ordered L) now) after) (tail_of c.cut t c.since (ts ++ (trace_in (after_in (ordered L) now) after)) rest) v)
 
-  pub cut_with : (v : ℕ) → v ≡ value_of at.view.stores e.node.slot → WasCutWith L at.view.past at.view.stores e.node v
-  cut_with v is = record {
+  -- its slot has the value that it had right before the cut
+  pub waits_with_its_value : ((was : List Turn) → Extends turns was → HoldsStores L was turns stores) → WasCutWith L turns stores n (value_of stores n.slot)
+  waits_with_its_value holds = record {
     before = c.before;
     cut = c.cut;
     since = c.since;
-    are = seen.run.are ∙ c.are;
+    are = c.are;
     cuts = c.there;
     high = pooled.0;
-    reached = reached L turns h o e.node pooled.0 pooled.1 c kept;
+    reached = reached L turns h o n pooled.0 pooled.1 c kept;
     leaf = was_leaf;
-    first = at.view.stores;
-    extends = stores_same at.view.stores at.view.stores refl;
-    stored = stores_in_turns at.view run.fits seen c.before (record { more = c.cut ∷ c.since; is = seen.run.are ∙ c.are });
-    has_value = value_stays L events at.view.stores (length c.before) e.node.slot seen.held nobody ∙ sym is;
+    first = stores;
+    extends = stores_same stores stores refl;
+    stored = holds c.before (record { more = c.cut ∷ c.since; is = c.are });
+    has_value = value_stays L events stores (length c.before) n.slot held nobody;
   }
+
+-- ---- a node at the front of a queue
+
+module _ (at : PassView) (run : IsInRun at) (seen : HasSeenStores at.view) (o : ℕ) (e : Entry) (later : List Entry) (waits : IsQueueOf (knowledge at.view) o (e ∷ later)) (odd : is_odd (suc (length later)) ≡ true) where
+  abbrev L' : Layout
+  L' = at.view.layout
+
+  abbrev seen_events : List (ℕ × Event)
+  seen_events = seen.run.events
+
+  ledger : (l : Ledger) × (held_ledger (knowledge at.view).ledgers o ≡ Some l) × (l.queue ≡ map queued (e ∷ later))
+  ledger = go (held_ledger (knowledge at.view).ledgers o) refl waits
+    where
+      go : (x : Option Ledger) → held_ledger (knowledge at.view).ledgers o ≡ x → option_map (λ (l : Ledger). l.queue) x ≡ Some (map queued (e ∷ later)) → (l : Ledger) × (held_ledger (knowledge at.view).ledgers o ≡ Some l) × (l.queue ≡ map queued (e ∷ later))
+      go None is w = absurd (none-some (map queued (e ∷ later)) w)
+      go (Some l) is w = (l, is, same_Some l.queue (map queued (e ∷ later)) w)
+
+  known : of (after_in (ordered L') seen_events).state at.view.number ≡ knowledge at.view
+  known = logs_tell L' seen_events at.view.number seen.run.worker ∙ ap (known_by L' at.view.number) (ap (part_of at.view.number) (sym seen.run.are) ∙ seen.run.is_part)
+
+  first_waits : waits_of o (trace_in (ordered L') seen_events) ≡ e.node ∷ map node_in (map queued later)
+  first_waits =
+      waits_is L' run.fits true seen_events at.view.number o ledger.0 (ap (λ (k : Knowledge). held_ledger k.ledgers o) known ∙ ledger.1)
+      ∙ ap (λ (q : List Queued). map node_in q) ledger.2
+
+  first_pooled : IsPooled L' e.node.slot
+  first_pooled = (apart_in_run at run).waiting o 0 (queued e) (ap (λ (q : List Queued). slice_get q 0) (shown_queue (held_ledger (knowledge at.view).ledgers o) (map queued (e ∷ later)) waits))
+
+  as_many : length (map node_in (map queued later)) ≡ length later
+  as_many = length-map (map queued later) node_in ∙ length-map later queued
+
+  pub cut_with : (v : ℕ) → v ≡ value_of at.view.stores e.node.slot → WasCutWith L' at.view.past at.view.stores e.node v
+  cut_with v is =
+      subst (λ (ts : List Turn). WasCutWith L' ts at.view.stores e.node v) (sym seen.run.are)
+      (subst (WasCutWith L' (trace_in (ordered L') seen_events) at.view.stores e.node) (sym is)
+      (waits_with_its_value L' run.fits seen_events seen.run.keys o [] e.node (map node_in (map queued later)) first_waits (subst (λ (k : ℕ). is_odd (suc k) ≡ true) (sym as_many) odd) first_pooled at.view.stores seen.held
+      (λ was from. subst (λ (ts : List Turn). HoldsStores L' was ts at.view.stores) seen.run.are (stores_in_turns at.view run.fits seen was (subst (λ (ts : List Turn). Extends ts was) (sym seen.run.are) from)))))
 
 -- what was read of a node is what its slot had before the cut, in all that was seen later
 pub read_is_cut : (p q : PassView) (o : ℕ) (e : Entry) (v : ℕ) → WasRead o p q e v → WasCutWith q.view.layout q.view.past q.view.stores e.node v

@@ -26,6 +26,7 @@ use Rattle.nm_theorem.proofs.FreedOfRuns.{cuts-append}
 use Rattle.nm_theorem.proofs.HeadlineOfRuns.{each_run_has_it}
 use Rattle.nm_theorem.proofs.Runs.{Parts, parts_of}
 use Rattle.nm_theorem.proofs.StaysOfRuns.{was_allowed}
+use Rattle.nm_theorem.proofs.Runs.{Parts, parts_of}
 use Rattle.nm_theorem.proofs.WrittenWords.{run_words}
 use Rattle.nm_steps.specs.declared.view.Stored.{Stored}
 use Rattle.nm_steps.specs.Rules.{ComesBefore, IsStored, WereHeld, answered_turn}
@@ -103,7 +104,7 @@ module _ (L : Layout) (fits : IsLayout L) (events : List (ℕ × Event)) (keys :
   all_keys = subst (λ (ts : List (ℕ × Event)). All (λ t. HasKey t.1) ts) all keys
 
   traced : trace_in (ordered L) linked ≡ before ++ its ∷ []
-  traced = ap (trace_in (ordered L)) (sym linked_is) ∙ sym a.first_is
+  traced = ap (trace_in (ordered L)) (sym linked_is) ∙ (sym a.first_is)
 
   middle : trace_in (after_in (ordered L) linked) b.early ≡ mid
   middle = ap (λ (ts : List (ℕ × Event)). trace_in (after_in (ordered L) ts) b.early) (sym linked_is) ∙ sym b.first_is

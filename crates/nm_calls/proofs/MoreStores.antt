@@ -15,7 +15,7 @@ use Rattle.nm_model.specs.declared.reply.Reply.TheVariants.{Cut, Linked}
 use Rattle.nm_model.specs.declared.trace.Turn.{Turn}
 use Rattle.nm_model.specs.Headline.{Headline, slots_of, words_after}
 use Rattle.nm_model.specs.Memory.{Memory, child, is_leaf, named, node}
-use Rattle.nm_model.specs.Ordered.{HasKey, ordered, after_in, outcome_in, trace_in}
+use Rattle.nm_model.specs.Ordered.{HasKey, ordered, after_in, trace_in}
 use Rattle.nm_model.specs.Paths.{Reached}
 use Rattle.nm_order.specs.Logs.{part_of}
 use Rattle.nm_order.proofs.RealTime.{begins_with}

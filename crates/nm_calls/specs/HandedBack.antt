@@ -10,9 +10,10 @@ use Rattle.nm_steps.specs.declared.view.Stored.{Stored}
 use Rattle.nm_steps.specs.Rules.{ExtendsStores}
 use Rattle.nm_calls.specs.Maps.{HoldsStores, value_at}
 
--- a turn cut the node off, which is none of the fixed ones. Right before it a path from the root reached the node, which was a leaf,
--- and the map had the key of the leaf with the value v. It had it by the first of these stores,
--- which have the store of each leaf that was linked before the cut (`stored`)
+-- a turn cut the node off, which is none of the fixed ones. Right before it a path from the root
+-- reached the node, which was a leaf, and the map had the key of the leaf with the value v. It had it
+-- by the first of these stores, which have the store of each leaf that was linked before the cut
+-- (`stored`)
 pub record WasCutWith (L : Layout) (turns : List Turn) (stores : List Stored) (n : NodeId) (v : ℕ) : Type 0 where
   pub before : List Turn
   pub cut : Turn

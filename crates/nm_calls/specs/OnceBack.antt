@@ -68,8 +68,8 @@ CutValuesWereStored = (L : Layout) → IsLayout L → (events : List (ℕ × Eve
     → WasCutWith L (trace_in (ordered L) events) stores n v
     → WasStoredFor L (trace_in (ordered L) events) stores n v
 
--- in each run, with stores that hold, each value that was stored for a leaf is the one that the leaf
--- had when it was cut off
+-- in each run, with stores that hold, the value that a leaf had right before its cut is the one that
+-- was stored for the leaf. A collection hands out the former
 abbrev pub ValuesComeBackAsStored : Type 0
 ValuesComeBackAsStored = (L : Layout) → IsLayout L → (events : List (ℕ × Event))
     → All (λ t. HasKey t.1) events → (from : List Turn) (stores : List Stored)

@@ -3,7 +3,7 @@ ghost use Rattle.nm_calls.specs.ComingBack.{NodesAreFreedOnce, PinnedValuesStayO
 ghost use Rattle.nm_calls.specs.GotValues.{GotLeavesAreNotFreed, GotValuesStayOut};
 ghost use Rattle.nm_calls.specs.KeptValues.{LeavesKeepTheirValues, PutValuesStay, TakenValuesAreCut, ValuesAreByAllStores};
 ghost use Rattle.nm_calls.specs.MapHistories.{GetsAreOfTheMap, HistoriesAreOfMaps, ValuesWerePut};
-ghost use Rattle.nm_calls.specs.OnceBack.{CutValuesWereStored, ValuesComeBackAsStored, ValuesComeBackOnce};
+ghost use Rattle.nm_calls.specs.OnceBack.{CutValuesWereStored, ValuesComeBackOnce, ValuesComeBackAsStored};
 ghost use Rattle.nm_calls.specs.StoredLeaves.{StoredValuesAreAtOnePlace};
 
 /// Law: in every ordered run, a leaf that is in the map stays in it with its key and its value
@@ -69,8 +69,8 @@ pub fn cut_values_were_stored()
     ensures { CutValuesWereStored }
 {}
 
-/// Law: in every ordered run, each value that was stored for a leaf is the one that the leaf has
-/// when it is cut off. So a collection hands out for a leaf what an insert has stored for it.
+/// Law: in every ordered run, the value that a leaf has right before its cut is the one that was
+/// stored for the leaf. So what a collection hands out for a leaf is what an insert has put there.
 pub fn values_come_back_as_stored()
     ensures { ValuesComeBackAsStored }
 {}

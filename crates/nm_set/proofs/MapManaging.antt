@@ -1,8 +1,9 @@
 -- What managed calls of a map leave, by what each part of them leaves.
-use Rattle.std.proofs.Common.{◌≡◌, ◌≢◌, ◌≤◌, inl, inr, ℕ, ◌+◌, ◌*◌, Bool, true, false, List, length, refl, ap, subst, ◌∙◌, arith}
+use Rattle.std.proofs.Common.{◌≡◌, ◌≢◌, ◌≤◌, inl, inr, ℕ, ◌+◌, ◌*◌, Bool, true, false, List, length, refl, sym, ap, subst, ◌∙◌, arith}
 use Rattle.std.specs.Prelude.{Option, Some, None, Result, Ok, Err, IfOk, IfErr}
 use Rattle.std.proofs.Math.Nat.{add-mul, mul-add, zero-mul, mul-le-mul_right}
 use Rattle.std.proofs.lemmas.List.{length-append}
+use Rattle.std.proofs.lemmas.Option.{none-some}
 use Rattle.nm_edge.specs.Layouts.{Layout}
 use Rattle.nm_model.specs.declared.event.Op.{Op}
 use Rattle.nm_model.specs.declared.event.Op.TheVariants.{Has, Insert, Delete}
@@ -27,7 +28,7 @@ use Rattle.nm_set.specs.Managed.{IsLeft, ManagesIn, MetInterference, SaysManaged
 use Rattle.nm_set.specs.MapRounds.{GetsIn, KeepsStores, LooksWereBusy, MovesValue, SaysRemoved}
 use Rattle.nm_set.specs.Maps.{AnswersGet, ManagesGet, PopsValue, SaysChange, TookMeanwhile, look_bound}
 use Rattle.nm_set.specs.Rounds.{AnswersIn, FinishesIn, IsOnward, Removes, rounds_bound}
-use Rattle.nm_set.proofs.Managing.{finished, finished_nothing, finishes_first, goes_more, goes_then, left_since, lose_same, manages_in, met_nothing, met_since, met_then, never_unfinished, none_there, number_of_pass, onward_itself, onward_more, onward_then, prepares_nothing, wins_after}
+use Rattle.nm_set.proofs.Managing.{finished, finished_nothing, finishes_first, goes_more, goes_then, left_since, lose_same, manages_in, met_nothing, met_since, met_then, never_unfinished, none_there, number_of_pass, onward_itself, onward_more, onward_then, wins_after}
 
 -- ---- an earlier moment
 
@@ -306,7 +307,7 @@ gets_now b h k w z r free none gets =
         busy = a.busy;
         alone = a.alone;
       };
-      begins = λ other. (w.pass, (prepares_nothing h Has w none (λ not many. not refl)).first, a.moment);
+      begins = λ other. (w.pass, record { after = seen_itself w.pass; earlier = λ u is o had. absurd (none-some u (sym none ∙ is)) }, a.moment);
       stores = λ none'. gets.stores;
       alone = λ mine. get_fails b h k ((h.rounds + 1) * looks) w z r a mine;
       pending = λ mine is. none_there w.pending none (subst (IsLeft Has k w z) is a.left).0;

@@ -12,16 +12,19 @@ use Rattle.nm_model.specs.Reports.{counts, keys, tree_slots}
 use Rattle.nm_theorem.proofs.WrittenWords.{run_words}
 use Rattle.nm_tree.specs.Ended.{IsEndOf, end_of}
 use Rattle.nm_tree.proofs.Ends.{layout_is}
+use Rattle.nm_steps.specs.declared.view.Stored.{Stored}
 use Rattle.nm_steps.specs.declared.view.View.{View}
-use Rattle.nm_steps.specs.Rules.{Extends, IsShown, LogsAre, joined, knowledge, stands, once_below}
+use Rattle.nm_steps.specs.Rules.{Extends, ExtendsStores, IsShown, LogsAre, joined, knowledge, stands, once_below}
 use Rattle.nm_steps.specs.Steps.{TreeView, PassView, IsOf, IsInRun, Ends, HasJoined, HasSeen, HasSeenAllOf}
 use Rattle.nm_steps.proofs.Growing.{goes_on_itself, goes_on_from_nothing, goes_on_through}
 use Rattle.nm_steps.proofs.Keeping.{live, once_is}
 use Rattle.nm_steps.proofs.Cutting.{times}
+use Rattle.nm_steps.proofs.Seeing.{stores_same, stores_through}
 use Rattle.nm_epoch.specs.declared.collecting.HeldQueue.{HeldQueue}
 use Rattle.nm_epoch.specs.Collecting.{AreHeld}
 use Rattle.nm_tree.specs.Workers.{WorkerView, IsWorker, TellLedgers, HasOrigin, AreAbove, Ascend}
 use Rattle.nm_tree.specs.Closing.{AreAllOf, AreFrom, GoesOnFromAll, IsClosed, IsOfTurns, StandsForAll, all_joined, all_merged, given_in}
+use Rattle.nm_tree.specs.MapReports.{StoresGoOnFromAll}
 use Rattle.nm_tree.proofs.EndCounts.{sum_is}
 use Rattle.nm_tree.proofs.EndLaws.{ascend_of, set_of, totals_of}
 use Rattle.nm_tree.proofs.EndTheorem.{of_turns_at_end}
@@ -60,7 +63,7 @@ pub one_more_seen : (w : WorkerView) (us : List WorkerView) → HasSeen w.pass.v
 one_more_seen w us seen all = All-cons (λ (u : WorkerView). HasSeen u.pass.view) w us seen all
 
 pub stands_for_one_more : (w u : WorkerView) (us : List WorkerView) (p q : PassView) → HasJoined p w.pass q → StandsForAll (u ∷ us) p.view → StandsForAll (w ∷ u ∷ us) q.view
-stands_for_one_more w u us p q joins stands = ap (λ (x : PassView). x.view) joins ∙ ap (λ (v : View). record (joined v w.pass.view) { past = q.view.past }) stands
+stands_for_one_more w u us p q joins stands = ap (λ (x : PassView). x.view) joins ∙ ap (λ (v : View). record (joined v w.pass.view) { past = q.view.past; stores = q.view.stores }) stands
 
 -- a run goes on from what one saw from which it goes on
 pub goes_on_from_earlier : (run earlier : List Turn) (ws : List WorkerView) → Extends run earlier → GoesOnFromAll earlier ws → GoesOnFromAll run ws
@@ -74,6 +77,16 @@ goes_on_from_last : (run : List Turn) (ws : List WorkerView) → GoesOnFromAll r
 goes_on_from_last run [] all = goes_on_from_nothing run
 goes_on_from_last run (w ∷ []) all = All-head (λ (u : WorkerView). Extends run u.pass.view.past) w [] all
 goes_on_from_last run (w ∷ u ∷ ws) all = goes_on_from_last run (u ∷ ws) (All-tail (λ (v : WorkerView). Extends run v.pass.view.past) w (u ∷ ws) all)
+
+-- the same of stores
+pub stores_alone : (w : WorkerView) → StoresGoOnFromAll w.pass.view.stores (w ∷ [])
+stores_alone w = All-cons (λ (u : WorkerView). ExtendsStores w.pass.view.stores u.pass.view.stores) w [] (stores_same w.pass.view.stores w.pass.view.stores refl) (All-nil (λ (u : WorkerView). ExtendsStores w.pass.view.stores u.pass.view.stores))
+
+pub stores_from_earlier : (stores earlier : List Stored) (ws : List WorkerView) → ExtendsStores stores earlier → StoresGoOnFromAll earlier ws → StoresGoOnFromAll stores ws
+stores_from_earlier stores earlier ws more all i w less = stores_through (slice_index_or ws i w).pass.view.stores earlier stores (all i w less) more
+
+pub stores_from_one_more : (w : WorkerView) (us : List WorkerView) (p q : PassView) → ExtendsStores q.view.stores p.view.stores → ExtendsStores q.view.stores w.pass.view.stores → StoresGoOnFromAll p.view.stores us → StoresGoOnFromAll q.view.stores (w ∷ us)
+stores_from_one_more w us p q seen told all = All-cons (λ (u : WorkerView). ExtendsStores q.view.stores u.pass.view.stores) w us told (stores_from_earlier q.view.stores p.view.stores us seen all)
 
 -- as many queues as workers were given
 pub all_given : (ws : List WorkerView) → length (all_merged ws) ≡ given_in ws
@@ -190,5 +203,9 @@ module _ (b : TreeView) (w : WorkerView) (home r : ℕ) (ws : List WorkerView) (
     same_turns = refl;
     ends = ends;
     held = subst (λ (v : View). AreHeld (knowledge v) w.queues) view is.between.queues;
-    told = told_alike (all_joined ws) w.pass.view.past w.queues (subst (λ (v : View). TellLedgers v w.queues) view (all_told w.pass run w.queues is.counted is.between.queues));
+    told = told_alike (all_joined ws) w.pass.view w.queues (subst (λ (v : View). TellLedgers v w.queues) view (all_told w.pass run w.queues is.counted is.between.queues));
   }
+
+  pub turns_are : closed.says.turns ≡ trace_in (ordered b.layout) end.turns
+  unfolding closed
+  turns_are = refl

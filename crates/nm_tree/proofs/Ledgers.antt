@@ -57,8 +57,8 @@ found_for v o (h ∷ hs) are = by (h.origin == o) refl (found_for v o hs are.1)
     by false is later = onward (counts_among hs o) (λ e. eqb-false h.origin o is (sym e)) later
 
 -- it does not depend on what else was seen
-pub told_alike : (v : View) (past : List Turn) (hs : List HeldQueue) → TellLedgers (record v { past = past }) hs → TellLedgers v hs
-told_alike v past [] are = tt
-told_alike v past (h ∷ hs) are =
+pub told_alike : (v u : View) (hs : List HeldQueue) → TellLedgers (record v { past = u.past; stores = u.stores }) hs → TellLedgers v hs
+told_alike v u [] are = tt
+told_alike v u (h ∷ hs) are =
     let is = are.0 in
-    (record { links = is.links; flags = is.flags; splices = is.splices; retired = is.retired; freed = is.freed; queued = is.queued }, told_alike v past hs are.1)
+    (record { links = is.links; flags = is.flags; splices = is.splices; retired = is.retired; freed = is.freed; queued = is.queued }, told_alike v u hs are.1)

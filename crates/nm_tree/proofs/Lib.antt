@@ -26,6 +26,7 @@ pub mod EndTheorem
 pub mod Settling
 pub mod RunningTurns
 pub mod Closed
+pub mod ClosedMaps
 pub mod EndCounts
 pub mod OfClosed
 pub mod Taking
@@ -36,4 +37,5 @@ pub mod WorkedPending
 pub mod Ends
 pub mod Pools
 pub mod Parts
+pub mod LeavesFound
 pub mod Answered

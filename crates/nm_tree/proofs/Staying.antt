@@ -176,14 +176,14 @@ removing_in p s n is removing = let P : Standing → Type 0 = λ x. IsAs p (pend
 
 -- ---- a worker that has seen more
 
--- the same pass, with this as what it has seen
-abbrev pub seeing : List Turn → PassView → PassView
-seeing past p = record p { view = record p.view { past = past } }
+-- the same pass, which has seen what another one has seen
+abbrev pub seeing : PassView → PassView → PassView
+seeing q p = record p { view = record p.view { past = q.view.past; stores = q.view.stores } }
 
-as_was : (past : List Turn) (p : PassView) (n : Option Unfinished) (e : Option ℕ) → IsAs p n e → IsAs (seeing past p) n e
-as_was past p None None is = record { unpinned = is.unpinned; silent = is.silent; labelled = is.labelled; idle = is.idle }
-as_was past p None (Some e) is = record { announcement = is.announcement; pin = is.pin; labelled = is.labelled; search = is.search; known = is.known }
-as_was past p (Some n) None is = record {
+as_was : (q p : PassView) (n : Option Unfinished) (e : Option ℕ) → IsAs p n e → IsAs (seeing q p) n e
+as_was q p None None is = record { unpinned = is.unpinned; silent = is.silent; labelled = is.labelled; idle = is.idle }
+as_was q p None (Some e) is = record { announcement = is.announcement; pin = is.pin; labelled = is.labelled; search = is.search; known = is.known }
+as_was q p (Some n) None is = record {
   run = record { fits = is.run.fits; run = is.run.run };
   pinned = is.pinned;
   root = is.root;
@@ -193,12 +193,12 @@ as_was past p (Some n) None is = record {
   born = is.born;
   labelled = is.labelled;
 }
-as_was past p (Some n) (Some e) is = absurd is
+as_was q p (Some n) (Some e) is = absurd is
 
 -- it has done nothing, and is a worker as it was
-pub sees_more : {r : ℕ} (past : List Turn) (w : WorkerView) (home : ℕ) → IsWorker w home r → IsWorker (record w { pass = seeing past w.pass }) home r
-sees_more past w home is =
-    stays w home (seeing past w.pass) w.pending w.held is refl (record { links = refl; flags = refl; splices = refl }) refl refl (as_was past w.pass w.pending w.held is.between.stands)
+pub sees_more : {r : ℕ} (q : PassView) (w : WorkerView) (home : ℕ) → IsWorker w home r → IsWorker (record w { pass = seeing q w.pass }) home r
+sees_more q w home is =
+    stays w home (seeing q w.pass) w.pending w.held is refl (record { links = refl; flags = refl; splices = refl }) refl refl (as_was q w.pass w.pending w.held is.between.stands)
 
 -- a worker with no delete pending has no call
 pub no_call_open : (p : PassView) (u : Option Unfinished) (e : Option ℕ) → IsAs p u e → u ≡ None → (search p).call ≡ None

@@ -47,9 +47,9 @@ all_joined [] = nobody
 all_joined (w ∷ []) = w.pass.view
 all_joined (w ∷ u ∷ ws) = joined (all_joined (u ∷ ws)) w.pass.view
 
--- the view has the logs of all these workers, and has seen turns of its own
+-- the view has the logs of all these workers, and has seen turns and stores of its own
 abbrev pub StandsForAll : List WorkerView → View → Type 0
-StandsForAll ws v = v ≡ record (all_joined ws) { past = v.past }
+StandsForAll ws v = v ≡ record (all_joined ws) { past = v.past; stores = v.stores }
 
 -- these turns extend what each of the workers had seen
 abbrev pub GoesOnFromAll : List Turn → List WorkerView → Type 0

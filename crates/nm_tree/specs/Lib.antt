@@ -13,3 +13,4 @@ pub mod Worked
 pub mod Trees
 pub mod Ended
 pub mod Handing
+pub mod MapReports

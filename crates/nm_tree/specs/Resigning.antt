@@ -1,6 +1,7 @@
 -- What a worker that resigns leaves to its heir.
 use Rattle.std.specs.Prelude.{◌≡◌, ℕ, suc, nat_lt, if◌then◌else◌, List, [], ◌∷◌, None, IsSome}
 use Rattle.nm_epoch.specs.declared.collecting.HeldQueue.{HeldQueue}
+use Rattle.nm_steps.specs.Rules.{ExtendsStores}
 use Rattle.nm_steps.specs.Steps.{HasJoined, HasSeenAllOf}
 use Rattle.nm_tree.specs.declared.resigning.ResignReason.{ResignReason}
 use Rattle.nm_tree.specs.declared.resigning.ResignReason.TheVariants as because
@@ -23,7 +24,7 @@ merged hs [] = hs
 merged hs (g ∷ gs) = inserted g (merged hs gs)
 
 -- the leaver was not pinned and had nothing pending. By one step the heir's pass covers both, and
--- has seen all that both had seen. The heir holds the queues of both, by ascending origin, each
+-- has seen all that both had seen, of turns and of stores. The heir holds the queues of both, by ascending origin, each
 -- unchanged. What it had pending, and its caller's pin, are unchanged (Fraser, section 5.2.3, lists
 -- of nodes that are passed on; by origin ours)
 pub record HasResigned (heir leaver z : WorkerView) : Type 0 where
@@ -31,6 +32,8 @@ pub record HasResigned (heir leaver z : WorkerView) : Type 0 where
   pub joined : HasJoined heir.pass leaver.pass z.pass
   pub seen : HasSeenAllOf z.pass heir.pass
   pub told : HasSeenAllOf z.pass leaver.pass
+  pub stores : ExtendsStores z.pass.view.stores heir.pass.view.stores
+  pub told_stores : ExtendsStores z.pass.view.stores leaver.pass.view.stores
   pub queues : z.queues ≡ merged heir.queues leaver.queues
   pub place : KeepsPlace heir z
   pub fit : z.fit ≡ heir.fit

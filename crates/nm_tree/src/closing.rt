@@ -1,11 +1,13 @@
 //! The close of a tree.
 ghost use Rattle.std.specs.Prelude.{◌≡◌, ◌<◌, ◌≤◌, All, length, min, IfOk, IfErr};
 ghost use Rattle.nm_steps.specs.Steps.{HasSeen, IsOf};
+ghost use Rattle.nm_steps.specs.Values.{HasValues};
 ghost use Rattle.nm_order.specs.History.{RunHasHistory};
 ghost use Rattle.nm_order.specs.LoggedTotals.{TotalsAreInTheLogs};
 ghost use Rattle.nm_order.specs.Totals.{TotalsAgree};
 ghost use Rattle.nm_tree.specs.Closing.{AllWereGiven, AreAllOf, EachReportIsACores, EachSlotEndsOnce, GoesOnFromAll, IsClosed, IsCloseReason, SaysClosed};
 ghost use Rattle.nm_tree.specs.Closing.{OfEachClosed, OfEachClosedRun, QueuesAreTheRest, StandsForAll, all_merged, given_in};
+ghost use Rattle.nm_tree.specs.MapReports.{EndsMap, StoresGoOnFromAll};
 ghost use Rattle.nm_tree.specs.Workers.{WorkerView};
 
 use crate::reporting::{Found, ReportRoom, read};
@@ -14,7 +16,7 @@ use crate::tree::Tree;
 use crate::worker::Worker;
 use nm_edge::Key;
 use nm_epoch::HeldQueue;
-use nm_steps::Shared;
+use nm_steps::{Shared, Words};
 use thiserror::Error;
 
 /// Why a tree or a set was not closed.
@@ -55,6 +57,14 @@ pub struct Report {
     pub reached: u32,
 }
 
+/// What is left of a tree that has ended: the report, the slot of the leaf of each of its keys, and
+/// the words.
+pub(crate) struct Ended {
+    pub(crate) report: Report,
+    pub(crate) leaves: Vec<u32>,
+    pub(crate) words: Words,
+}
+
 impl Tree {
     /// Closes the tree and all its workers, and returns what is left. The workers may be given in
     /// any order. A caller may have pinned them, and keys may be pending. A worker that resigned is
@@ -71,6 +81,35 @@ impl Tree {
             (λ r. SaysClosed self workers.items r.queues.items r.keys.items r.free r.reached) }
         ensures closed { IfOk result
             (λ r. IsClosed self workers.items r.queues.items r.keys.items r.free r.reached) }
+        ensures refused { IfErr result
+            (λ e. IsCloseReason self workers.items e.reason × (e.tree ≡ self)
+            × (e.workers.items ≡ workers.items)) }
+    {
+        match self.end(workers) {
+            Ok(ended) => {
+                let Ended {
+                    report,
+                    leaves: _,
+                    words: _,
+                } = ended;
+                Ok(report)
+            }
+            Err(error) => Err(error),
+        }
+    }
+
+    /// Ends the tree and all its workers, and returns what is left, with the words.
+    ///
+    /// Errors: those of `close`.
+    pub(crate) fn end(self, workers: Vec<Worker>) -> Result<Ended, CloseError>
+        requires own { AreAllOf self workers.items }
+        ensures says { IfOk result (λ r. SaysClosed self workers.items r.report.queues.items
+            r.report.keys.items r.report.free r.report.reached) }
+        ensures closed { IfOk result (λ r. IsClosed self workers.items r.report.queues.items
+            r.report.keys.items r.report.free r.report.reached) }
+        ensures values { HasValues self → IfOk result (λ r. EndsMap self workers.items
+            r.report.queues.items r.report.keys.items r.leaves.items r.words.values
+            r.report.free r.report.reached) }
         ensures refused { IfErr result
             (λ e. IsCloseReason self workers.items e.reason × (e.tree ≡ self)
             × (e.workers.items ≡ workers.items)) }
@@ -97,14 +136,17 @@ impl Tree {
 }
 
 /// Closes the tree, given all its workers.
-fn close_all(tree: Tree, workers: Vec<Worker>, room: ReportRoom) -> Report
+fn close_all(tree: Tree, workers: Vec<Worker>, room: ReportRoom) -> Ended
     requires own { AreAllOf tree workers.items }
     requires all { tree.layout.workers ≤ given_in workers.items }
     requires room { room ≡ tree.layout }
-    ensures says { SaysClosed tree workers.items result.queues.items result.keys.items result.free
-        result.reached }
-    ensures closed { IsClosed tree workers.items result.queues.items result.keys.items result.free
-        result.reached }
+    ensures says { SaysClosed tree workers.items result.report.queues.items
+        result.report.keys.items result.report.free result.report.reached }
+    ensures closed { IsClosed tree workers.items result.report.queues.items
+        result.report.keys.items result.report.free result.report.reached }
+    ensures values { HasValues tree → EndsMap tree workers.items result.report.queues.items
+        result.report.keys.items result.leaves.items result.words.values result.report.free
+        result.report.reached }
 {
     let Tree { shared } = tree;
     let Worker {
@@ -118,14 +160,19 @@ fn close_all(tree: Tree, workers: Vec<Worker>, room: ReportRoom) -> Report
     let words = shared.close(pass);
     let Found {
         keys,
+        leaves,
         free,
         reached,
     } = read(&words, room);
-    Report {
-        queues,
-        keys,
-        free,
-        reached,
+    Ended {
+        report: Report {
+            queues,
+            keys,
+            free,
+            reached,
+        },
+        leaves,
+        words,
     }
 }
 
@@ -160,6 +207,7 @@ fn unite_all(shared: &Shared, mut workers: Vec<Worker>) -> Worker
     ensures own { IsOf shared.now result.pass }
     ensures joined { StandsForAll workers.items result.pass.view }
     ensures seen { GoesOnFromAll result.pass.view.past workers.items }
+    ensures stores { StoresGoOnFromAll result.pass.view.stores workers.items }
     ensures runs { All (λ (w : WorkerView). HasSeen w.pass.view) workers.items }
     ensures queues { result.queues ≡ all_merged workers.items }
 {

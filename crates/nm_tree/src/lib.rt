@@ -12,6 +12,7 @@ mod epochs;
 mod fault;
 mod lookup;
 mod many;
+mod map_closing;
 mod map_scanning;
 mod near_key;
 mod notes;
@@ -28,6 +29,7 @@ pub use closing::{
     CloseError, CloseReason, Report, closed_trees_are_accounted_for, runs_of_closed_trees_are_runs,
 };
 pub use fault::PinFault;
+pub use map_closing::{MapReport, MapValues};
 pub use nm_calls::{CallFault, MapEntry, Query, Scanned};
 pub use nm_edge::Fit;
 pub use nm_epoch::{Advance, Behind, Collected, Entry, HandedOut, HeldQueue, Tally};

@@ -1,6 +1,6 @@
 //! Notes of what a worker has seen, for other workers.
 ghost use Rattle.std.specs.Prelude.{◌≡◌};
-ghost use Rattle.nm_steps.specs.Rules.{Extends};
+ghost use Rattle.nm_steps.specs.Rules.{Extends, ExtendsStores};
 ghost use Rattle.nm_steps.specs.Steps.{IsOf, IsNoteOf, HasHeard, HasSeenAllOf};
 ghost use Rattle.nm_tree.specs.Workers.{IsBetweenCalls};
 
@@ -10,7 +10,7 @@ use nm_steps::Note;
 
 impl Tree {
     /// Makes a note of all that the worker has seen: its own calls, and those of others that
-    /// happened before them. The note may go to another thread, in a message or in any other way. A
+    /// happened before them, with the values that were stored. The note may go to another thread, in a message or in any other way. A
     /// note that is dropped has no effect. It may be made at any time, and the worker is unchanged.
     /// Takes no step, no lock and no memory, and writes no word.
     ///
@@ -37,6 +37,8 @@ impl Tree {
         ensures same { HasHeard worker.old.pass worker.new.pass }
         ensures past { HasSeenAllOf worker.new.pass worker.old.pass }
         ensures heard { Extends worker.new.pass.view.past note.past }
+        ensures stores { ExtendsStores worker.new.pass.view.stores worker.old.pass.view.stores }
+        ensures heard_stores { ExtendsStores worker.new.pass.view.stores note.stores }
         ensures rest { worker.new ≡ record worker.old { pass = worker.new.pass } }
         ensures between { IsBetweenCalls worker.new }
     {

@@ -1,5 +1,6 @@
 //! Workers that end before the tree is closed.
 ghost use Rattle.std.specs.Prelude.{◌≡◌, ◌+◌, ◌≤◌, ◌<◌, length, insert, vec_capacity, IfOk, IfErr};
+ghost use Rattle.nm_steps.specs.Rules.{ExtendsStores};
 ghost use Rattle.nm_steps.specs.Steps.{IsOf, HasJoined, HasSeenAllOf};
 ghost use Rattle.nm_tree.specs.Answers.{KeepsPlace};
 ghost use Rattle.nm_tree.specs.Workers.{IsBetweenCalls};
@@ -77,6 +78,8 @@ pub(crate) fn unite(shared: &Shared, heir: Worker, leaver: Worker) -> Worker
     ensures joined { HasJoined heir.pass leaver.pass result.pass }
     ensures seen { HasSeenAllOf result.pass heir.pass }
     ensures told { HasSeenAllOf result.pass leaver.pass }
+    ensures stores { ExtendsStores result.pass.view.stores heir.pass.view.stores }
+    ensures told_stores { ExtendsStores result.pass.view.stores leaver.pass.view.stores }
     ensures queues { result.queues ≡ merged heir.queues leaver.queues }
     ensures place { KeepsPlace heir result }
     ensures fit { result.fit ≡ heir.fit }

@@ -11,10 +11,10 @@ use nm_steps::Words;
 
 // Returns the edge of a slot on that side.
 fn edge(words: &Words, layout: Layout, slot: u32, side: Side) -> Edge
-    requires ended { IsEndOf layout words.now }
+    requires ended { IsEndOf layout words.now.core }
     requires slot { IsSlot layout slot }
-    ensures { (e : IsEndOf layout words.now)
-        → result ≡ edge (end_of layout words.now e).memory slot side }
+    ensures { (e : IsEndOf layout words.now.core)
+        → result ≡ edge (end_of layout words.now.core e).memory slot side }
 {
     let word = words.word(layout.edge(slot, side) as usize);
     Edge::of_word(word)
@@ -22,10 +22,10 @@ fn edge(words: &Words, layout: Layout, slot: u32, side: Side) -> Edge
 
 /// Returns the node of a slot: its four words.
 pub fn node(words: &Words, layout: Layout, slot: u32) -> Node
-    requires ended { IsEndOf layout words.now }
+    requires ended { IsEndOf layout words.now.core }
     requires slot { IsSlot layout slot }
-    ensures { (e : IsEndOf layout words.now)
-        → result ≡ node (end_of layout words.now e).memory slot }
+    ensures { (e : IsEndOf layout words.now.core)
+        → result ≡ node (end_of layout words.now.core e).memory slot }
 {
     let key = words.word(layout.key(slot) as usize);
     let birth = words.word(layout.birth(slot) as usize);
@@ -39,10 +39,10 @@ pub fn node(words: &Words, layout: Layout, slot: u32) -> Node
 
 // Returns whether a slot is in the pool.
 fn is_free(words: &Words, layout: Layout, slot: u32) -> bool
-    requires ended { IsEndOf layout words.now }
+    requires ended { IsEndOf layout words.now.core }
     requires slot { IsSlot layout slot }
-    ensures { (e : IsEndOf layout words.now)
-        → result ≡ in_pool (end_of layout words.now e).memory slot }
+    ensures { (e : IsEndOf layout words.now.core)
+        → result ≡ in_pool (end_of layout words.now.core e).memory slot }
 {
     let place = layout.pool(slot);
     let word = words.word(place.word as usize);
@@ -51,8 +51,8 @@ fn is_free(words: &Words, layout: Layout, slot: u32) -> bool
 
 /// Returns the number of slots in the pool. No fixed slot is in it.
 pub fn count_free(words: &Words, layout: Layout) -> u32
-    requires ended { IsEndOf layout words.now }
-    ensures { (e : IsEndOf layout words.now) → result ≡ (counts (end_of layout words.now e)).pool }
+    requires ended { IsEndOf layout words.now.core }
+    ensures { (e : IsEndOf layout words.now.core) → result ≡ (counts (end_of layout words.now.core e)).pool }
 {
     let nodes = layout.nodes();
     let mut free = 0;

@@ -6,8 +6,8 @@ use nm_model::keys::Subtree;
 use std::alloc::{AllocError, Global};
 use std::marker::Model;
 
-/// All memory that the report on a tree needs: room for the keys, and for the parts of the tree
-/// that wait.
+/// All memory that the report on a tree needs: room for the keys and the slots of their leaves, and
+/// for the parts of the tree that wait.
 ///
 /// It is made before the tree is closed, so that nothing can fail afterwards. A contract sees it as
 /// the layout of the tree.
@@ -15,6 +15,7 @@ use std::marker::Model;
 pub struct ReportRoom {
     pub(crate) layout: Layout,
     pub(crate) keys: Vec<Key>,
+    pub(crate) leaves: Vec<u32>,
     pub(crate) waiting: Vec<Subtree>,
 }
 
@@ -26,13 +27,14 @@ impl Model for ReportRoom {
 
     ghost view = { λ r. r.layout };
 
-    ghost invariant = { λ r. (r.keys.items ≡ []) × (r.waiting.items ≡ [])
-        × (r.layout.nodes ≤ vec_capacity r.keys) × (r.layout.nodes + 1 ≤ vec_capacity r.waiting) };
+    ghost invariant = { λ r. (r.keys.items ≡ []) × (r.leaves.items ≡ [])
+        × (r.waiting.items ≡ []) × (r.layout.nodes ≤ vec_capacity r.keys)
+        × (r.layout.nodes ≤ vec_capacity r.leaves) × (r.layout.nodes + 1 ≤ vec_capacity r.waiting) };
 }
 
 impl ReportRoom {
-    /// Returns the room for the report on a tree of that layout: for one key for each node, and one
-    /// part for each node and one more.
+    /// Returns the room for the report on a tree of that layout: for one key and one slot for each
+    /// node, and one part for each node and one more.
     ///
     /// Errors: out of memory.
     pub fn new(alloc: Global, layout: Layout) -> Result<ReportRoom, AllocError>
@@ -40,10 +42,12 @@ impl ReportRoom {
     {
         let nodes = layout.nodes() as usize;
         let keys = Vec::with_capacity(alloc, nodes)?;
+        let leaves = Vec::with_capacity(alloc, nodes)?;
         let waiting = Vec::with_capacity(alloc, nodes + 1)?;
         Ok(ReportRoom {
             layout,
             keys,
+            leaves,
             waiting,
         })
     }

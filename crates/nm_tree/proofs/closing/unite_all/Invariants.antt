@@ -3,6 +3,7 @@ use Rattle.std.specs.Prelude.{All}
 use Rattle.nm_steps.specs.Steps.{HasSeen, IsOf}
 use Rattle.nm_tree.specs.Workers.{WorkerView}
 use Rattle.nm_tree.specs.Closing.{AreAllOf, GoesOnFromAll, StandsForAll, all_merged}
+use Rattle.nm_tree.specs.MapReports.{StoresGoOnFromAll}
 use Rattle.nm_tree.proofs.closing.unite_all.Given as goal
 
 abbrev pub invariant-loop-leaver : goal.invariant-loop-leaver
@@ -13,6 +14,7 @@ invariant-loop-leaver l = record {
       × (l.fn.workers.items ≡ l.workers.items ++ u ∷ us)
       × StandsForAll (u ∷ us) l.heir.pass.view
       × GoesOnFromAll l.heir.pass.view.past (u ∷ us)
+      × StoresGoOnFromAll l.heir.pass.view.stores (u ∷ us)
       × All (λ (w : WorkerView). HasSeen w.pass.view) (u ∷ us)
       × (l.heir.queues ≡ all_merged (u ∷ us));
 }

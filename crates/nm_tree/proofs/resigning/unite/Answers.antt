@@ -19,21 +19,21 @@ layouts : (b : TreeView) (h g h' g' : WorkerView) → h ≡ h' → g ≡ g' → 
 layouts b h g h' g' first second own other = ap (λ (x : WorkerView). x.pass.view.layout) first ∙ (own.layout ∙ (sym other.layout ∙ sym (ap (λ (x : WorkerView). x.pass.view.layout) second)))
 
 -- the run of both, by the heir as one that had seen before what both have seen then
-in_run : (p o q : PassView) → HasJoined p o q → StandsInRun q.view → StandsInRun (joined (seeing q.view.past p).view o.view)
+in_run : (p o q : PassView) → HasJoined p o q → StandsInRun q.view → StandsInRun (joined (seeing q p).view o.view)
 in_run p o q is run = let P : View → Type 0 = λ v. StandsInRun v in subst P (ap (λ (x : PassView). x.view) is) run
 
 module _ {r r' : ℕ} (h g : WorkerView) (home home' : ℕ) (is : IsWorker h home r) (more : IsWorker g home' r') (same : h.pass.view.layout ≡ g.pass.view.layout)
     (q : PassView) (joins : HasJoined h.pass g.pass q) (run : StandsInRun q.view) where
-  seen : IsWorker (record h { pass = seeing q.view.past h.pass }) home r
-  seen = sees_more q.view.past h home is
+  seen : IsWorker (record h { pass = seeing q h.pass }) home r
+  seen = sees_more q h home is
 
   few_of_both : length h.queues + length g.queues ≤ h.pass.view.layout.workers
-  few_of_both = few_queues (record h { pass = seeing q.view.past h.pass }) g home home' seen more same (in_run h.pass g.pass q joins run)
+  few_of_both = few_queues (record h { pass = seeing q h.pass }) g home home' seen more same (in_run h.pass g.pass q joins run)
 
   both : IsWorker (record h { pass = q; queues = merged h.queues g.queues }) (place_in h.pass.view.number (merged h.queues g.queues)) r
   both =
       let P : PassView → Type 0 = λ x. IsWorker (record h { pass = x; queues = merged h.queues g.queues }) (place_in h.pass.view.number (merged h.queues g.queues)) r in
-      subst P (sym joins) (united (record h { pass = seeing q.view.past h.pass }) g home home' seen more same (in_run h.pass g.pass q joins run))
+      subst P (sym joins) (united (record h { pass = seeing q h.pass }) g home home' seen more same (in_run h.pass g.pass q joins run))
 
 pub take_over-requires : goal.take_over-requires
 take_over-requires c = record { room = let few = few_of_both _ _ _ _ c.heir.invariant c.leaver.invariant (layouts _ _ _ _ _ c.heir.view_is c.leaver.view_is c.requires.heir c.requires.leaver) c.join-pass.result c.join-pass.ensures.joined c.join-pass.ensures.run in let room = c.heir.invariant.room in omega (arith, few, room) }

@@ -9,7 +9,7 @@ pub invariant_of-worker : goal.invariant_of-worker
 invariant_of-worker c =
     let w = c.worker.inside in
     let P : PassView → Type 0 = λ p. IsWorker (record { pass = p; queues = w.queues.items; pending = pending_in w.standing; held = held_in w.standing; fit = w.workspace.placement }) w.home (vec_capacity w.queues) in
-    subst P (sym c.hear.ensures.same) (sees_more c.hear.new.pass.view.past _ w.home c.worker.invariant)
+    subst P (sym c.hear.ensures.same) (sees_more c.hear.new.pass _ w.home c.worker.invariant)
 
 pub returns-clause-between : goal.returns-clause-between
 returns-clause-between c = (invariant_of-worker c).between

@@ -1,0 +1,211 @@
+-- What the end of a map leaves of its values.
+use Rattle.std.proofs.Common.{◌≡◌, ℕ, zero, suc, ◌+◌, ◌-◌, ◌<◌, ◌≤◌, Bool, true, false, List, [], ◌∷◌, ◌++◌, append-nil, length, map, refl, sym, ap, subst, ◌∙◌, arith}
+use Rattle.std.specs.Prelude.{All, AllPairs, Some, if◌then◌else◌, slice_get, slice_index}
+use Rattle.std.proofs.lemmas.List.{length-append, length-map, map-append, nil_from_length}
+use Rattle.std.proofs.lemmas.List.Elements.{All-append, All-cons, All-nil}
+use Rattle.std.proofs.lemmas.Option.{none-some, same_Some}
+use Rattle.nm_edge.specs.Layouts.{Layout, IsLayout}
+use Rattle.nm_edge.specs.Words.{IsSlot}
+use Rattle.nm_edge.specs.declared.node.NodeId.{NodeId}
+use Rattle.nm_model.specs.declared.event.Event.{Event}
+use Rattle.nm_model.specs.declared.ledger.Queued.{Queued}
+use Rattle.nm_model.specs.declared.trace.Turn.{Turn}
+use Rattle.nm_model.specs.Headline.{has_after, waits_of, words_after}
+use Rattle.nm_model.specs.Knowledge.{Knowledge, is_private}
+use Rattle.nm_model.specs.Ledgers.{held}
+use Rattle.nm_model.specs.Memory.{Memory, opening}
+use Rattle.nm_model.specs.Ordered.{HasKey, after_in, ordered, trace_in}
+use Rattle.nm_model.specs.Reports.{counts, keys}
+use Rattle.nm_model.specs.Runs.{of}
+use Rattle.nm_order.specs.Hands.{IsPooled}
+use Rattle.nm_order.proofs.PinNumbers.{length_trace}
+use Rattle.nm_theorem.proofs.Hands.{run_hands}
+use Rattle.nm_theorem.proofs.WrittenWords.{run_words}
+use Rattle.nm_steps.specs.declared.view.Stored.{Stored}
+use Rattle.nm_steps.specs.declared.view.View.{View}
+use Rattle.nm_steps.specs.Rules.{ComesBefore, Extends, LinksHaveValues, WereHeld, knowledge, value_of}
+use Rattle.nm_steps.specs.Steps.{EndedWords, HasSeen, IsInRun, TreeView}
+use Rattle.nm_steps.specs.Values.{EndsWithValues}
+use Rattle.nm_steps.proofs.AfterSteps.{apart_in_run}
+use Rattle.nm_steps.proofs.Growing.{goes_on_itself}
+use Rattle.nm_steps.proofs.ValueStays.{NobodyHolds, value_stays}
+use Rattle.nm_epoch.specs.declared.collecting.Entry.{Entry}
+use Rattle.nm_epoch.specs.declared.collecting.HeldQueue.{HeldQueue}
+use Rattle.nm_epoch.specs.Collecting.{AreHeld, IsQueueOf, queued}
+use Rattle.nm_epoch.specs.Handing.{is_odd, leaves_of}
+use Rattle.nm_epoch.proofs.Fronts.{shown_queue}
+use Rattle.nm_calls.specs.HandedBack.{WasCutWith}
+use Rattle.nm_calls.specs.Maps.{HoldsStores, IsInMap}
+use Rattle.nm_calls.proofs.HandedBack.{waits_with_its_value}
+use Rattle.nm_calls.proofs.StoresInTurns.{linked_leaves, were_in_hands}
+use Rattle.nm_tree.specs.Closing.{AreFrom, GoesOnFromAll, IsClosed, StandsForAll, all_merged, given_in}
+use Rattle.nm_tree.specs.Ended.{IsEndOf, end_of}
+use Rattle.nm_tree.specs.MapReports.{AreInMap, AreLeavesOf, EndsMap, IsLeafOf, LeavesValues, StoresGoOnFromAll, WaitsWith, leaves_in, value_in}
+use Rattle.nm_tree.specs.Workers.{IsWorker, WorkerView}
+use Rattle.nm_tree.proofs.Closed.{closed, stores_from_earlier, turns_are}
+use Rattle.nm_tree.proofs.EndWorkers.{are as logs_shown}
+
+-- ---- lists
+
+-- what holds of each entry at which an odd number wait holds of all leaves
+all_leaves : (P : Entry → Type 0) (items : List Entry) → ((early later : List Entry) (e : Entry) → items ≡ early ++ e ∷ later → is_odd (suc (length later)) ≡ true → P e) → All P (leaves_of 0 items)
+all_leaves P [] each = All-nil P
+all_leaves P (e ∷ es) each =
+    by (is_odd (suc (length es + 0))) refl (all_leaves P es (λ early later x is odd. each (e ∷ early) later x (ap (λ (l : List Entry). e ∷ l) is) odd))
+  where
+    none_more : length es + 0 ≡ length es
+    none_more = omega arith
+
+    by : (b : Bool) → is_odd (suc (length es + 0)) ≡ b → All P (leaves_of 0 es) → All P (if b then e ∷ leaves_of 0 es else leaves_of 0 es)
+    by true is rest = All-cons P e (leaves_of 0 es) (each [] es e refl (subst (λ (n : ℕ). is_odd (suc n) ≡ true) none_more is)) rest
+    by false is rest = rest
+
+all_waiting : (P : Entry → Type 0) (hs : List HeldQueue) → ((u : ℕ) (h : HeldQueue) → slice_get hs u ≡ Some h → All P (leaves_of 0 h.queue.items)) → All P (leaves_in hs)
+all_waiting P [] each = All-nil P
+all_waiting P (h ∷ hs) each = All-append P (leaves_of 0 h.queue.items) (leaves_in hs) (each 0 h refl) (all_waiting P hs (λ u g at. each (suc u) g at))
+
+held_there : (k : Knowledge) (hs : List HeldQueue) (u : ℕ) (h : HeldQueue) → AreHeld k hs → slice_get hs u ≡ Some h → IsQueueOf k h.origin h.queue.items
+held_there k [] u h are at = absurd (none-some h at)
+held_there k (g ∷ hs) zero h are at = subst (λ (x : HeldQueue). IsQueueOf k x.origin x.queue.items) (same_Some g h at) are.0
+held_there k (g ∷ hs) (suc u) h are at = held_there k hs u h are.2 at
+
+-- the entry after these
+get_after : (xs : List Entry) (e : Entry) (ys : List Entry) → slice_get (map queued (xs ++ e ∷ ys)) (length xs) ≡ Some (queued e)
+get_after [] e ys = refl
+get_after (x ∷ xs) e ys = get_after xs e ys
+
+leaves_within : (L : Layout) (m : Memory) (n : ℕ) (ks xs : List ℕ) → n ≡ L.nodes → AreLeavesOf L m ks xs → All (λ (x : ℕ). (1 ≤ x) × (x ≤ n)) xs
+leaves_within L m n [] [] long are = All-nil (λ (x : ℕ). (1 ≤ x) × (x ≤ n))
+leaves_within L m n [] (x ∷ xs) long are = absurd are
+leaves_within L m n (k ∷ ks) [] long are = absurd are
+leaves_within L m n (k ∷ ks) (x ∷ xs) long are =
+    let low = are.0.slot.0 in
+    let high = are.0.slot.1 in
+    All-cons (λ (y : ℕ). (1 ≤ y) × (y ≤ n)) x xs (omega (arith, low), omega (arith, high, long)) (leaves_within L m n ks xs long are.1)
+
+-- ---- the stores at the end of a run, at which nobody has a slot in hands
+
+module _ (L : Layout) (fits : IsLayout L) (events : List (ℕ × Event)) (all_keys : All (λ t. HasKey t.1) events) (stores : List Stored) (were : WereHeld L events stores) (linked : LinksHaveValues L events stores) (order : AllPairs ComesBefore stores) (slots : List ℕ)
+    (each : (i : ℕ) → i < L.nodes → slice_index slots i ≡ value_of stores (i + 1)) (no_hands : (u x : ℕ) → has_after (opening L) u x false (trace_in (ordered L) events) ≡ false) where
+  abbrev turns : List Turn
+  turns = trace_in (ordered L) events
+
+  pub all_stores : (was : List Turn) → Extends turns was → HoldsStores L was turns stores
+  all_stores was from = record {
+    until = turns;
+    from = from;
+    ends = goes_on_itself turns;
+    held = were_in_hands L fits events stores were;
+    linked = linked_leaves L fits events all_keys stores linked;
+    order = order;
+  }
+
+  value_is : (x : ℕ) → IsSlot L x → value_in slots x ≡ value_of stores x
+  value_is x is =
+      let low = is.0 in
+      let high = is.1 in
+      let back : (x - 1) + 1 ≡ x = omega (arith, low) in
+      each (x - 1) (omega (arith, low, high)) ∙ ap (value_of stores) back
+
+  nobody : (x : ℕ) → NobodyHolds L events (length turns) x
+  nobody x before since is le v = sym (run_hands v x L fits true before) ∙ (ap (λ (es : List (ℕ × Event)). has_after (opening L) v x false (trace_in (ordered L) es)) all ∙ no_hands v x)
+    where
+      none' : since ≡ []
+      none' =
+          let long = length_trace (ordered L) events in
+          let size : length events ≡ length (before ++ since) = ap (λ (es : List (ℕ × Event)). length es) is in
+          let sum = length-append before since in
+          nil_from_length since (omega (arith, long, size, sum, le))
+
+      all : before ≡ events
+      all = sym (is ∙ (ap (λ (es : List (ℕ × Event)). before ++ es) none' ∙ append-nil before))
+
+  -- a reached leaf is in the map with its value
+  in_map : (k x : ℕ) → IsLeafOf L (words_after L turns) k x → IsInMap L turns stores k (value_in slots x)
+  in_map k x l = record {
+    slot = x;
+    reached = l.reached;
+    leaf = l.leaf;
+    has_key = l.has_key;
+    has_value = value_stays L events stores (length turns) x were (nobody x) ∙ sym (value_is x l.slot);
+  }
+
+  pub all_in_map : (ks xs : List ℕ) → AreLeavesOf L (words_after L turns) ks xs → AreInMap L turns stores ks (map (value_in slots) xs)
+  all_in_map [] [] are = tt
+  all_in_map [] (x ∷ xs) are = absurd are
+  all_in_map (k ∷ ks) [] are = absurd are
+  all_in_map (k ∷ ks) (x ∷ xs) are = (in_map k x are.0, all_in_map ks xs are.1)
+
+  -- a leaf that waits has its value
+  pub waits_with : (u : ℕ) (items early later : List Entry) (e : Entry) → map (λ (n : Entry). n.node) items ≡ waits_of u turns → items ≡ early ++ e ∷ later → is_odd (suc (length later)) ≡ true → IsPooled L e.node.slot → WaitsWith L turns stores slots e
+  waits_with u items early later e waiting are odd pooled = record {
+    slot = slot;
+    cut = subst (λ (v : ℕ). WasCutWith L turns stores e.node v) (sym (value_is e.node.slot slot))
+        (waits_with_its_value L fits events all_keys u (map (λ (n : Entry). n.node) early) e.node (map (λ (n : Entry). n.node) later)
+        (sym waiting ∙ (ap (λ (l : List Entry). map (λ (n : Entry). n.node) l) are ∙ map-append (λ (n : Entry). n.node) early (e ∷ later)))
+        (subst (λ (n : ℕ). is_odd (suc n) ≡ true) (sym (length-map later (λ (n : Entry). n.node))) odd) pooled stores were all_stores);
+  }
+    where
+      slot : IsSlot L e.node.slot
+      slot = let low = pooled.0 in let high = pooled.1 in (omega (arith, low), omega (arith, high))
+
+-- ---- the whole
+
+module _ (b : TreeView) (w : WorkerView) (home r : ℕ) (ws : List WorkerView) (kept leaves : List ℕ) (free reached : ℕ) (left : EndedWords) (is : IsWorker w home r)
+    (view : StandsForAll ws w.pass.view) (seen : GoesOnFromAll w.pass.view.past ws) (stores_seen : StoresGoOnFromAll w.pass.view.stores ws) (queues : w.queues ≡ all_merged ws) (enough : b.layout.workers ≤ given_in ws)
+    (of_runs : All (λ (u : WorkerView). HasSeen u.pass.view) ws) (v : EndsWithValues b.layout left w.pass.view) (run : IsInRun w.pass) (keys_are : (e' : IsEndOf b.layout left.core) → kept ≡ keys (end_of b.layout left.core e'))
+    (free_are : (e' : IsEndOf b.layout left.core) → free ≡ (counts (end_of b.layout left.core e')).pool) (reached_are : (e' : IsEndOf b.layout left.core) → reached ≡ (counts (end_of b.layout left.core e')).reached)
+    (leaves_are : (e' : IsEndOf b.layout left.core) → AreLeavesOf b.layout (end_of b.layout left.core e').memory kept leaves) where
+  abbrev L : Layout
+  L = b.layout
+
+  abbrev T : List Turn
+  T = trace_in (ordered L) v.ends.turns
+
+  c : IsClosed b ws w.queues kept free reached
+  c = closed b w home r ws kept free reached left.core is view seen queues enough of_runs v.ends run keys_are free_are reached_are
+
+  same : c.says.turns ≡ T
+  unfolding c
+  same = turns_are b w home r ws kept free reached left.core is view seen queues enough of_runs v.ends run keys_are free_are reached_are
+
+  the_end : IsEndOf L left.core
+  the_end = record { fits = v.ends.fits; turns = v.ends.turns; keys = v.ends.keys; words_are = v.ends.words_are }
+
+  no_hands : (u x : ℕ) → has_after (opening L) u x false T ≡ false
+  no_hands u x = ap (has_after (opening L) u x false) (sym same) ∙ c.says.headline.no_hands u x
+
+  waiting : (u : ℕ) (h : HeldQueue) → slice_get w.queues u ≡ Some h → map (λ (n : Entry). n.node) h.queue.items ≡ waits_of u T
+  waiting u h at = c.says.headline.waiting u h at ∙ ap (waits_of u) same
+
+  leaves_now : AreLeavesOf L (words_after L T) kept leaves
+  unfolding the_end
+  leaves_now = subst (λ (m : Memory). AreLeavesOf L m kept leaves) (sym (run_words L v.ends.fits true v.ends.turns)) (leaves_are the_end)
+
+  same_layout : w.pass.view.layout ≡ L
+  unfolding the_end
+  same_layout = (logs_shown L left.core the_end w home r is v.ends.shown c.says.each c.says.all).0
+
+  pooled : (u : ℕ) (h : HeldQueue) (early later : List Entry) (e : Entry) → slice_get w.queues u ≡ Some h → h.queue.items ≡ early ++ e ∷ later → IsPooled L e.node.slot
+  pooled u h early later e at are =
+      subst (λ (l : Layout). IsPooled l e.node.slot) same_layout
+      ((apart_in_run w.pass run).waiting h.origin (length early) (queued e)
+      (ap (λ (q : List Queued). slice_get q (length early)) (shown_queue (held (knowledge w.pass.view).ledgers h.origin) (map queued h.queue.items) (held_there (knowledge w.pass.view) w.queues u h is.between.queues at) ∙ ap (λ (l : List Entry). map queued l) are) ∙ get_after early e later))
+
+  values : LeavesValues L ws T w.queues kept (map (value_in left.values) leaves) left.values
+  values = record {
+    stores = v.stores;
+    go_on = stores_from_earlier v.stores w.pass.view.stores ws v.extends stores_seen;
+    holds = all_stores L v.ends.fits v.ends.turns v.ends.keys v.stores v.held v.linked v.order left.values v.are no_hands T (goes_on_itself T);
+    long = v.long;
+    each = all_in_map L v.ends.fits v.ends.turns v.ends.keys v.stores v.held v.linked v.order left.values v.are no_hands kept leaves leaves_now;
+    waiting = all_waiting (WaitsWith L T v.stores left.values) w.queues (λ u h at. all_leaves (WaitsWith L T v.stores left.values) h.queue.items (λ early later e are odd.
+        waits_with L v.ends.fits v.ends.turns v.ends.keys v.stores v.held v.linked v.order left.values v.are no_hands u h.queue.items early later e (waiting u h at) are odd (pooled u h early later e at are)));
+  }
+
+  pub ends_map : EndsMap b ws w.queues kept leaves left.values free reached
+  ends_map = record {
+    says = c.says;
+    within = leaves_within L (words_after L T) (length left.values) kept leaves v.long leaves_now;
+    values = subst (λ (ts : List Turn). LeavesValues L ws ts w.queues kept (map (value_in left.values) leaves) left.values) (sym same) values;
+  }

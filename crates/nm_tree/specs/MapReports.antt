@@ -1,0 +1,90 @@
+-- The close of a map: the value under each key that is left, and the values that wait.
+use Rattle.std.specs.Prelude.{◌≡◌, ◌-◌, ◌≤◌, ℕ, true, List, [], ◌∷◌, ◌++◌, length, map, slice_index, All}
+use Rattle.nm_edge.specs.Layouts.{Layout}
+use Rattle.nm_edge.specs.Words.{IsSlot}
+use Rattle.nm_model.specs.declared.trace.Turn.{Turn}
+use Rattle.nm_model.specs.Memory.{Memory, is_leaf, node}
+use Rattle.nm_model.specs.Paths.{Reached}
+use Rattle.nm_steps.specs.declared.view.Stored.{Stored}
+use Rattle.nm_steps.specs.Rules.{ExtendsStores}
+use Rattle.nm_steps.specs.Steps.{TreeView}
+use Rattle.nm_epoch.specs.declared.collecting.Entry.{Entry}
+use Rattle.nm_epoch.specs.declared.collecting.HeldQueue.{HeldQueue}
+use Rattle.nm_epoch.specs.Handing.{leaves_of}
+use Rattle.nm_calls.specs.HandedBack.{WasCutWith}
+use Rattle.nm_calls.specs.Maps.{HoldsStores, IsInMap}
+use Rattle.nm_tree.specs.Closing.{SaysClosed}
+use Rattle.nm_tree.specs.Workers.{WorkerView}
+
+-- ---- the leaves of a closed tree
+
+-- the slot is reached from the root, and is that of a leaf with the key
+pub record IsLeafOf (L : Layout) (m : Memory) (k x : ℕ) : Type 0 where
+  pub slot : IsSlot L x
+  pub reached : Reached m x
+  pub leaf : is_leaf (node m x) ≡ true
+  pub has_key : (node m x).key ≡ k
+
+-- each of these slots is that of a leaf with the key at its place
+abbrev pub AreLeavesOf : Layout → Memory → List ℕ → List ℕ → Type 0
+AreLeavesOf L m [] [] = Unit {0}
+AreLeavesOf L m (k ∷ ks) (x ∷ xs) = IsLeafOf L m k x × AreLeavesOf L m ks xs
+AreLeavesOf L m _ _ = ⊥
+
+-- the value of a slot, if these are the values of slots 1 and on
+abbrev pub value_in : List ℕ → ℕ → ℕ
+value_in values x = slice_index values (x - 1)
+
+-- what clauses see of the values of a closed map: the value under each key, in the order of the
+-- keys, and the value of each slot, from 1 on
+pub record MapValuesView : Type 0 where
+  pub keyed : List ℕ
+  pub slots : List ℕ
+
+-- ---- what a closed map says
+
+-- after these turns the map has each of these keys with the value at its place
+abbrev pub AreInMap : Layout → List Turn → List Stored → List ℕ → List ℕ → Type 0
+AreInMap L turns stores [] [] = Unit {0}
+AreInMap L turns stores (k ∷ ks) (v ∷ vs) =
+    IsInMap L turns stores k v × AreInMap L turns stores ks vs
+AreInMap L turns stores _ _ = ⊥
+
+-- these stores extend what each of the workers had seen of stores
+abbrev pub StoresGoOnFromAll : List Stored → List WorkerView → Type 0
+StoresGoOnFromAll stores ws = All (λ (w : WorkerView). ExtendsStores stores w.pass.view.stores) ws
+
+-- the leaf waits: it was cut off, and its slot has the value that it had right before the cut
+pub record WaitsWith (L : Layout) (turns : List Turn) (stores : List Stored) (slots : List ℕ) (e : Entry) : Type 0 where
+  pub slot : IsSlot L e.node.slot
+  pub cut : WasCutWith L turns stores e.node (value_in slots e.node.slot)
+
+-- all leaves that wait in these queues, queue by queue
+abbrev pub leaves_in : List HeldQueue → List Entry
+leaves_in [] = []
+leaves_in (h ∷ hs) = leaves_of 0 h.queue.items ++ leaves_in hs
+
+-- The values of a closed map, by all stores of its run. These extend what each worker that was given
+-- had seen of stores. Each key of the report is in the map with the value at its place. Each slot has
+-- a value. That of a leaf which waits is the one that the leaf had right before it was cut off
+pub record LeavesValues (L : Layout) (ws : List WorkerView) (turns : List Turn)
+    (queues : List HeldQueue) (kept keyed slots : List ℕ) : Type 0 where
+  pub stores : List Stored
+  pub go_on : StoresGoOnFromAll stores ws
+  pub holds : HoldsStores L turns turns stores
+  pub long : length slots ≡ L.nodes
+  pub each : AreInMap L turns stores kept keyed
+  pub waiting : All (WaitsWith L turns stores slots) (leaves_in queues)
+
+-- what the end of a map leaves, with the slot of the leaf of each key
+pub record EndsMap (b : TreeView) (ws : List WorkerView) (queues : List HeldQueue)
+    (kept leaves slots : List ℕ) (free reached : ℕ) : Type 0 where
+  pub says : SaysClosed b ws queues kept free reached
+  pub within : All (λ (x : ℕ). (1 ≤ x) × (x ≤ length slots)) leaves
+  pub values : LeavesValues b.layout ws says.turns queues kept (map (value_in slots) leaves) slots
+
+-- what a caller learns from a closed map: what it learns from a closed tree, and the values
+pub record SaysMapClosed (b : TreeView) (ws : List WorkerView) (queues : List HeldQueue)
+    (kept keyed slots : List ℕ) (free reached : ℕ) : Type 0 where
+  pub says : SaysClosed b ws queues kept free reached
+  pub values : LeavesValues b.layout ws says.turns queues kept keyed slots
