@@ -24,7 +24,6 @@ use Rattle.nm_order.proofs.StaleRuns.{layout_is}
 use Rattle.nm_order.proofs.WalksOfRuns.{trace_in-append}
 use Rattle.nm_theorem.proofs.FreedOfRuns.{cuts-append}
 use Rattle.nm_theorem.proofs.HeadlineOfRuns.{each_run_has_it}
-use Rattle.nm_theorem.proofs.Runs.{Parts, parts_of}
 use Rattle.nm_theorem.proofs.StaysOfRuns.{was_allowed}
 use Rattle.nm_theorem.proofs.Runs.{Parts, parts_of}
 use Rattle.nm_theorem.proofs.WrittenWords.{run_words}
