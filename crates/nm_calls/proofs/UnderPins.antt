@@ -21,8 +21,9 @@ use Rattle.nm_order.specs.Logs.{is_leaver, part_of, takes_part}
 use Rattle.nm_theorem.proofs.FreedOfRuns.{cuts-append}
 use Rattle.nm_theorem.proofs.LeftSince.{readers_have_left}
 use Rattle.nm_steps.specs.declared.view.Stored.{Stored}
-use Rattle.nm_calls.specs.GotValues.{GotLeavesAreNotFreed, GotValuesStayOut, got_leaf}
+use Rattle.nm_calls.specs.GotValues.{GotLeavesAreNotFreed, GotValuesStayOut, GuardedLeavesAreNotFreed, GuardedValuesStayOut, got_leaf, leaf_of}
 use Rattle.nm_calls.specs.Maps.{WasMappedUnderPin}
+use Rattle.nm_calls.specs.OnceBack.{ComesBack, IsStoreOf}
 use Rattle.nm_calls.proofs.MapMoments.{holds_longer}
 use Rattle.nm_calls.proofs.OnceBack.{one_leaf, part_append}
 use Rattle.nm_calls.proofs.Unheld.{freed_by-append, or_cases, or_right, pin_lasts}
@@ -84,20 +85,30 @@ not_freed_under_pin L turns h w so_far rest are pinned stays x reached freed = b
 
 -- ---- the laws
 
-pub got_leaves_are_not_freed : GotLeavesAreNotFreed
-got_leaves_are_not_freed L turns h stores w k v got freed = not_freed_under_pin L turns h w got.so_far got.rest got.are got.pinned got.stays got.gives.slot got.gives.reached freed
+pub guarded_leaves_are_not_freed : GuardedLeavesAreNotFreed
+guarded_leaves_are_not_freed L turns h so_far rest are guard pinned stays stores k v is freed = not_freed_under_pin L turns h guard so_far rest are pinned stays is.slot is.reached freed
 
 freed_there : (before rest : List Turn) (free : Turn) (n : NodeId) → Contains (nodes_freed_of free.outcome) n → Contains (freed_by (before ++ free ∷ rest)) n
 freed_there before rest free n frees =
     subst (λ (ns : List NodeId). Contains ns n) (sym (freed_by-append before (free ∷ rest)))
     (Contains-append_right (freed_by before) (freed_by (free ∷ rest)) n (Contains-append_left (nodes_freed_of free.outcome) (freed_by rest) n frees))
 
+-- a leaf whose value has come back is freed
+freed_if_back : (L : Layout) (turns : List Turn) (x : Stored) (n : NodeId) → IsStoreOf L turns x n → ComesBack L turns x → Contains (freed_by turns) n
+freed_if_back L turns x n stored back =
+    subst (λ (ts : List Turn). Contains (freed_by ts) n) (sym back.are)
+    (freed_there back.so_far back.rest back.free n
+    (subst (λ (m : NodeId). Contains (nodes_freed_of back.free.outcome) m) (one_leaf L turns x back.leaf n back.stored stored) back.frees))
+
+pub guarded_values_stay_out : GuardedValuesStayOut
+guarded_values_stay_out L turns h so_far rest are guard pinned stays stores k v is x stored back =
+    guarded_leaves_are_not_freed L turns h so_far rest are guard pinned stays stores k v is (freed_if_back L turns x (leaf_of is) stored back)
+
+pub got_leaves_are_not_freed : GotLeavesAreNotFreed
+got_leaves_are_not_freed L turns h stores w k v got = guarded_leaves_are_not_freed L turns h got.so_far got.rest got.are w got.pinned got.stays stores k v got.gives
+
 pub got_values_stay_out : GotValuesStayOut
-got_values_stay_out L turns h stores w k v got x stored back =
-    got_leaves_are_not_freed L turns h stores w k v got
-    (subst (λ (ts : List Turn). Contains (freed_by ts) (got_leaf got)) (sym back.are)
-    (freed_there back.so_far back.rest back.free (got_leaf got)
-    (subst (λ (n : NodeId). Contains (nodes_freed_of back.free.outcome) n) (one_leaf L turns x back.leaf (got_leaf got) back.stored stored) back.frees)))
+got_values_stay_out L turns h stores w k v got x stored back = got_leaves_are_not_freed L turns h stores w k v got (freed_if_back L turns x (got_leaf got) stored back)
 
 -- ---- a pin that lasts while more is seen
 

@@ -1,6 +1,6 @@
 //! Laws of maps: a leaf keeps its value from its link to its cut, and the map is linearizable.
 ghost use Rattle.nm_calls.specs.ComingBack.{NodesAreFreedOnce, PinnedValuesStayOut};
-ghost use Rattle.nm_calls.specs.GotValues.{GotLeavesAreNotFreed, GotValuesStayOut};
+ghost use Rattle.nm_calls.specs.GotValues.{GotLeavesAreNotFreed, GotValuesStayOut, GuardedLeavesAreNotFreed, GuardedValuesStayOut};
 ghost use Rattle.nm_calls.specs.KeptValues.{LeavesKeepTheirValues, PutValuesStay, TakenValuesAreCut, ValuesAreByAllStores};
 ghost use Rattle.nm_calls.specs.MapHistories.{GetsAreOfTheMap, HistoriesAreOfMaps, ValuesWerePut};
 ghost use Rattle.nm_calls.specs.OnceBack.{CutValuesWereStored, ValuesComeBackOnce, ValuesComeBackAsStored};
@@ -88,6 +88,14 @@ pub fn stored_values_are_at_one_place()
 pub fn got_values_stay_out()
     ensures leaves { GotLeavesAreNotFreed }
     ensures values { GotValuesStayOut }
+{}
+
+/// Law: in all turns that have the headline, while a worker is pinned, no turn frees a leaf that the
+/// map had at a moment of this pin. It does not matter which worker got the value of the leaf, removed
+/// its key, or collects. So the value that was stored for this leaf has not come back.
+pub fn guarded_values_stay_out()
+    ensures leaves { GuardedLeavesAreNotFreed }
+    ensures values { GuardedValuesStayOut }
 {}
 
 /// Law: what the plain map of a history has under a key at a moment was put by an insert of the
