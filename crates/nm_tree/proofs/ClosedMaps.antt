@@ -38,9 +38,12 @@ use Rattle.nm_calls.specs.HandedBack.{WasCutWith}
 use Rattle.nm_calls.specs.Maps.{HoldsStores, IsInMap}
 use Rattle.nm_calls.proofs.HandedBack.{waits_with_its_value}
 use Rattle.nm_calls.proofs.StoresInTurns.{linked_leaves, were_in_hands}
+use Rattle.nm_tree.specs.declared.closing.Ended.{Ended}
+use Rattle.nm_tree.specs.declared.closing.Report.{Report}
+use Rattle.nm_tree.specs.declared.map_closing.MapReport.{MapReport}
 use Rattle.nm_tree.specs.Closing.{AreFrom, GoesOnFromAll, IsClosed, StandsForAll, all_merged, given_in}
 use Rattle.nm_tree.specs.Ended.{IsEndOf, end_of}
-use Rattle.nm_tree.specs.MapReports.{AreInMap, AreLeavesOf, EndsMap, IsLeafOf, LeavesValues, StoresGoOnFromAll, WaitsWith, leaves_in, value_in}
+use Rattle.nm_tree.specs.MapReports.{AreInMap, AreLeavesOf, EndsMap, IsLeafOf, LeavesValues, SaysMapClosed, StoresGoOnFromAll, WaitsWith, leaves_in, value_in}
 use Rattle.nm_tree.specs.Workers.{IsWorker, WorkerView}
 use Rattle.nm_tree.proofs.Closed.{closed, stores_from_earlier, turns_are}
 use Rattle.nm_tree.proofs.EndWorkers.{are as logs_shown}
@@ -155,7 +158,7 @@ module _ (b : TreeView) (w : WorkerView) (home r : ℕ) (ws : List WorkerView) (
     (view : StandsForAll ws w.pass.view) (seen : GoesOnFromAll w.pass.view.past ws) (stores_seen : StoresGoOnFromAll w.pass.view.stores ws) (queues : w.queues ≡ all_merged ws) (enough : b.layout.workers ≤ given_in ws)
     (of_runs : All (λ (u : WorkerView). HasSeen u.pass.view) ws) (v : EndsWithValues b.layout left w.pass.view) (run : IsInRun w.pass) (keys_are : (e' : IsEndOf b.layout left.core) → kept ≡ keys (end_of b.layout left.core e'))
     (free_are : (e' : IsEndOf b.layout left.core) → free ≡ (counts (end_of b.layout left.core e')).pool) (reached_are : (e' : IsEndOf b.layout left.core) → reached ≡ (counts (end_of b.layout left.core e')).reached)
-    (leaves_are : (e' : IsEndOf b.layout left.core) → AreLeavesOf b.layout (end_of b.layout left.core e').memory kept leaves) where
+    (leaves_are : (e' : IsEndOf b.layout left.core) → AreLeavesOf b.layout (end_of b.layout left.core e').memory kept leaves) (nodes : ℕ) (size : nodes ≡ b.layout.nodes) where
   abbrev L : Layout
   L = b.layout
 
@@ -203,9 +206,25 @@ module _ (b : TreeView) (w : WorkerView) (home r : ℕ) (ws : List WorkerView) (
         waits_with L v.ends.fits v.ends.turns v.ends.keys v.stores v.held v.linked v.order left.values v.are no_hands u h.queue.items early later e (waiting u h at) are odd (pooled u h early later e at are)));
   }
 
-  pub ends_map : EndsMap b ws w.queues kept leaves left.values free reached
+  pub ends_map : EndsMap b ws w.queues kept leaves left.values nodes free reached
   ends_map = record {
     says = c.says;
+    all = size ∙ sym v.long;
     within = leaves_within L (words_after L T) (length left.values) kept leaves v.long leaves_now;
     values = subst (λ (ts : List Turn). LeavesValues L ws ts w.queues kept (map (value_in left.values) leaves) left.values) (sym same) values;
   }
+
+-- ---- the report of a map
+
+-- the report that is made of what the end of a map has left
+module _ (b : TreeView) (ws : List WorkerView) (e : Ended) (r : MapReport) (report : r.report ≡ e.report) (keyed : r.values.keyed ≡ map (value_in e.words.values) e.leaves.items) (slots : r.values.slots ≡ e.words.values) where
+  pub map_said : EndsMap b ws e.report.queues.items e.report.keys.items e.leaves.items e.words.values e.nodes e.report.free e.report.reached
+      → SaysMapClosed b ws r.report.queues.items r.report.keys.items r.values.keyed r.values.slots r.report.free r.report.reached
+  map_said ends =
+      let P : Report → Type 0 = λ x. SaysMapClosed b ws x.queues.items x.keys.items r.values.keyed r.values.slots x.free x.reached in
+      let Q : List ℕ → Type 0 = λ vs. SaysMapClosed b ws e.report.queues.items e.report.keys.items vs r.values.slots e.report.free e.report.reached in
+      let R : List ℕ → Type 0 = λ vs. SaysMapClosed b ws e.report.queues.items e.report.keys.items (map (value_in e.words.values) e.leaves.items) vs e.report.free e.report.reached in
+      subst P (sym report) (subst Q (sym keyed) (subst R (sym slots) (record { says = ends.says; values = ends.values })))
+
+  pub map_closed : IsClosed b ws e.report.queues.items e.report.keys.items e.report.free e.report.reached → IsClosed b ws r.report.queues.items r.report.keys.items r.report.free r.report.reached
+  map_closed closed' = let P : Report → Type 0 = λ x. IsClosed b ws x.queues.items x.keys.items x.free x.reached in subst P (sym report) closed'

@@ -1,5 +1,5 @@
 -- The close of a map: the value under each key that is left, and the values that wait.
-use Rattle.std.specs.Prelude.{◌≡◌, ◌-◌, ◌≤◌, ℕ, true, List, [], ◌∷◌, ◌++◌, length, map, slice_index, All}
+use Rattle.std.specs.Prelude.{◌≡◌, ◌-◌, ◌≤◌, ℕ, zero, suc, true, List, [], ◌∷◌, ◌++◌, length, map, slice_get, slice_index, All, Option, None}
 use Rattle.nm_edge.specs.Layouts.{Layout}
 use Rattle.nm_edge.specs.Words.{IsSlot}
 use Rattle.nm_model.specs.declared.trace.Turn.{Turn}
@@ -34,6 +34,11 @@ AreLeavesOf L m _ _ = ⊥
 -- the value of a slot, if these are the values of slots 1 and on
 abbrev pub value_in : List ℕ → ℕ → ℕ
 value_in values x = slice_index values (x - 1)
+
+-- the value of a slot, if there is such a slot
+abbrev pub value_at_slot : List ℕ → ℕ → Option ℕ
+value_at_slot values zero = None
+value_at_slot values (suc x) = slice_get values x
 
 -- what clauses see of the values of a closed map: the value under each key, in the order of the
 -- keys, and the value of each slot, from 1 on
@@ -76,10 +81,11 @@ pub record LeavesValues (L : Layout) (ws : List WorkerView) (turns : List Turn)
   pub each : AreInMap L turns stores kept keyed
   pub waiting : All (WaitsWith L turns stores slots) (leaves_in queues)
 
--- what the end of a map leaves, with the slot of the leaf of each key
+-- what the end of a map leaves, with the slot of the leaf of each key, and the number of slots
 pub record EndsMap (b : TreeView) (ws : List WorkerView) (queues : List HeldQueue)
-    (kept leaves slots : List ℕ) (free reached : ℕ) : Type 0 where
+    (kept leaves slots : List ℕ) (nodes free reached : ℕ) : Type 0 where
   pub says : SaysClosed b ws queues kept free reached
+  pub all : nodes ≡ length slots
   pub within : All (λ (x : ℕ). (1 ≤ x) × (x ≤ length slots)) leaves
   pub values : LeavesValues b.layout ws says.turns queues kept (map (value_in slots) leaves) slots
 

@@ -57,12 +57,16 @@ pub struct Report {
     pub reached: u32,
 }
 
-/// What is left of a tree that has ended: the report, the slot of the leaf of each of its keys, and
-/// the words.
-pub(crate) struct Ended {
-    pub(crate) report: Report,
-    pub(crate) leaves: Vec<u32>,
-    pub(crate) words: Words,
+/// What is left of a tree that has ended.
+#[derive(Drop)]
+pub struct Ended {
+    pub report: Report,
+    /// The slot of the leaf of each key of the report, in their order.
+    pub leaves: Vec<u32>,
+    /// The words of the tree, with the value of each slot, if it has values.
+    pub words: Words,
+    /// The number of slots of the tree.
+    pub nodes: u32,
 }
 
 impl Tree {
@@ -91,6 +95,7 @@ impl Tree {
                     report,
                     leaves: _,
                     words: _,
+                    nodes: _,
                 } = ended;
                 Ok(report)
             }
@@ -98,17 +103,18 @@ impl Tree {
         }
     }
 
-    /// Ends the tree and all its workers, and returns what is left, with the words.
+    /// Closes the tree and all its workers, like `close`, and returns its words too. The values of a
+    /// map are among them: `Ended::into_map_report`.
     ///
-    /// Errors: those of `close`.
-    pub(crate) fn end(self, workers: Vec<Worker>) -> Result<Ended, CloseError>
+    /// Errors and cost: those of `close`.
+    pub fn end(self, workers: Vec<Worker>) -> Result<Ended, CloseError>
         requires own { AreAllOf self workers.items }
         ensures says { IfOk result (λ r. SaysClosed self workers.items r.report.queues.items
             r.report.keys.items r.report.free r.report.reached) }
         ensures closed { IfOk result (λ r. IsClosed self workers.items r.report.queues.items
             r.report.keys.items r.report.free r.report.reached) }
         ensures values { HasValues self → IfOk result (λ r. EndsMap self workers.items
-            r.report.queues.items r.report.keys.items r.leaves.items r.words.values
+            r.report.queues.items r.report.keys.items r.leaves.items r.words.values r.nodes
             r.report.free r.report.reached) }
         ensures refused { IfErr result
             (λ e. IsCloseReason self workers.items e.reason × (e.tree ≡ self)
@@ -145,7 +151,7 @@ fn close_all(tree: Tree, workers: Vec<Worker>, room: ReportRoom) -> Ended
     ensures closed { IsClosed tree workers.items result.report.queues.items
         result.report.keys.items result.report.free result.report.reached }
     ensures values { HasValues tree → EndsMap tree workers.items result.report.queues.items
-        result.report.keys.items result.leaves.items result.words.values result.report.free
+        result.report.keys.items result.leaves.items result.words.values result.nodes result.report.free
         result.report.reached }
 {
     let Tree { shared } = tree;
@@ -157,6 +163,7 @@ fn close_all(tree: Tree, workers: Vec<Worker>, room: ReportRoom) -> Ended
         workspace: _,
     } = unite_all(&shared, workers);
     pass.know_run();
+    let nodes = shared.layout().nodes();
     let words = shared.close(pass);
     let Found {
         keys,
@@ -173,6 +180,7 @@ fn close_all(tree: Tree, workers: Vec<Worker>, room: ReportRoom) -> Ended
         },
         leaves,
         words,
+        nodes,
     }
 }
 

@@ -26,7 +26,8 @@ mod values;
 mod worker;
 
 pub use closing::{
-    CloseError, CloseReason, Report, closed_trees_are_accounted_for, runs_of_closed_trees_are_runs,
+    CloseError, CloseReason, Ended, Report, closed_trees_are_accounted_for,
+    runs_of_closed_trees_are_runs,
 };
 pub use fault::PinFault;
 pub use map_closing::{MapReport, MapValues};

@@ -1,8 +1,8 @@
 //! The close of a map, which hands out its values.
-ghost use Rattle.std.specs.Prelude.{◌≡◌, ◌<◌, ◌≤◌, length, slice_index, IfOk, IfErr};
+ghost use Rattle.std.specs.Prelude.{◌≡◌, ◌≤◌, ℕ, All, length, map, slice_get, IfOk, IfErr};
 ghost use Rattle.nm_steps.specs.Values.{HasValues};
 ghost use Rattle.nm_tree.specs.Closing.{AreAllOf, IsClosed, IsCloseReason};
-ghost use Rattle.nm_tree.specs.MapReports.{SaysMapClosed, value_in};
+ghost use Rattle.nm_tree.specs.MapReports.{SaysMapClosed, value_at_slot, value_in};
 
 use crate::closing::{CloseError, Ended, Report};
 use crate::tree::Tree;
@@ -26,10 +26,12 @@ pub struct MapValues {
     words: Words,
     // The slot of the leaf of each key.
     leaves: Vec<u32>,
+    // The number of slots.
+    nodes: u32,
 }
 
 impl Model for MapValues {
-    ghost use Rattle.std.specs.Prelude.{◌≤◌, ℕ, All, length, map};
+    ghost use Rattle.std.specs.Prelude.{◌≡◌, ◌≤◌, ℕ, All, length, map};
     ghost use Rattle.nm_tree.specs.MapReports.{MapValuesView, value_in};
 
     ghost Value = { MapValuesView };
@@ -39,26 +41,58 @@ impl Model for MapValues {
       slots = v.words.values;
     } };
 
-    ghost invariant = { λ v. All (λ (x : ℕ). (1 ≤ x) × (x ≤ length v.words.values)) v.leaves.items };
+    ghost invariant = { λ v. (v.nodes ≡ length v.words.values)
+        × All (λ (x : ℕ). (1 ≤ x) × (x ≤ length v.words.values)) v.leaves.items };
 }
 
 impl MapValues {
-    /// Returns the value under the key at that index of the report.
-    pub fn of_key(&self, index: usize) -> u64
-        requires { index < length self.now.keyed }
-        ensures { result ≡ slice_index self.now.keyed index }
+    /// Returns the value under the key at that index of the report, or `None` if it has no such key.
+    pub fn of_key(&self, index: usize) -> Option<u64>
+        ensures { result ≡ slice_get self.now.keyed index }
     {
-        self.words.value(self.leaves[index])
+        match self.leaves.get(index) {
+            Some(slot) => Some(self.words.value(*slot)),
+            None => None,
+        }
     }
 
-    /// Returns the value of a slot. If the slot is that of a leaf which waits in a queue of the
-    /// report, it is the value that the leaf had right before it was cut off.
-    pub fn of_slot(&self, slot: u32) -> u64
-        requires low { 1 ≤ slot }
-        requires high { slot ≤ length self.now.slots }
-        ensures { result ≡ value_in self.now.slots slot }
+    /// Returns the value of a slot, or `None` if there is no such slot. If the slot is that of a
+    /// leaf which waits in a queue of the report, it is the value that the leaf had right before it
+    /// was cut off.
+    pub fn of_slot(&self, slot: u32) -> Option<u64>
+        ensures { result ≡ value_at_slot self.now.slots slot }
     {
-        self.words.value(slot)
+        if slot == 0 || slot > self.nodes {
+            return None;
+        }
+        Some(self.words.value(slot))
+    }
+}
+
+impl Ended {
+    /// Returns the report of a map: this one, with its values.
+    pub fn into_map_report(self) -> MapReport
+        requires all { self.nodes ≡ length self.words.values }
+        requires within { All (λ (x : ℕ). (1 ≤ x) × (x ≤ length self.words.values))
+            self.leaves.items }
+        ensures report { result.report ≡ self.report }
+        ensures keyed { result.values.keyed ≡ map (value_in self.words.values) self.leaves.items }
+        ensures slots { result.values.slots ≡ self.words.values }
+    {
+        let Self {
+            report,
+            leaves,
+            words,
+            nodes,
+        } = self;
+        MapReport {
+            report,
+            values: MapValues {
+                words,
+                leaves,
+                nodes,
+            },
+        }
     }
 }
 
@@ -83,17 +117,7 @@ impl Tree {
             × (e.workers.items ≡ workers.items)) }
     {
         match self.end(workers) {
-            Ok(ended) => {
-                let Ended {
-                    report,
-                    leaves,
-                    words,
-                } = ended;
-                Ok(MapReport {
-                    report,
-                    values: MapValues { words, leaves },
-                })
-            }
+            Ok(ended) => Ok(ended.into_map_report()),
             Err(error) => Err(error),
         }
     }

@@ -2,6 +2,7 @@
 ghost use Rattle.std.specs.Prelude.{◌≡◌};
 ghost use Rattle.nm_steps.specs.Rules.{Extends, ExtendsStores};
 ghost use Rattle.nm_steps.specs.Steps.{IsOf, IsNoteOf, HasHeard, HasSeenAllOf};
+ghost use Rattle.nm_steps.specs.Values.{HasSeenStores, HasValues};
 ghost use Rattle.nm_tree.specs.Workers.{IsBetweenCalls};
 
 use crate::tree::Tree;
@@ -39,6 +40,7 @@ impl Tree {
         ensures heard { Extends worker.new.pass.view.past note.past }
         ensures stores { ExtendsStores worker.new.pass.view.stores worker.old.pass.view.stores }
         ensures heard_stores { ExtendsStores worker.new.pass.view.stores note.stores }
+        ensures values { HasValues self.now → HasSeenStores worker.new.pass.view }
         ensures rest { worker.new ≡ record worker.old { pass = worker.new.pass } }
         ensures between { IsBetweenCalls worker.new }
     {

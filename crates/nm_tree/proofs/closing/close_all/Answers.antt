@@ -55,3 +55,5 @@ returns-clause-values c = λ has.
     (subst Q room c.read-keys.ensures.free)
     (subst R room c.read-keys.ensures.reached)
     (subst S room c.read-keys.ensures.leaves)
+    c.nodes-nodes.result
+    (c.nodes-nodes.ensures.nodes ∙ (ap (λ (L : Layout). L.nodes) c.layout.ensures ∙ ap (λ (b : TreeView). b.layout.nodes) c.tree.view_is))
