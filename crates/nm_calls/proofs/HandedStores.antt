@@ -1,8 +1,7 @@
 -- The value that a leaf has right before its cut is the one that was stored for the leaf.
-use Rattle.std.proofs.Common.{◌≡◌, ◌⊎◌, inl, inr, ℕ, ◌+◌, ◌<◌, ◌≤◌, true, List, [], ◌∷◌, ◌++◌, append_assoc, length, get_or, sym, ap, subst, ◌∙◌, arith}
+use Rattle.std.proofs.Common.{◌≡◌, ℕ, ◌+◌, ◌<◌, true, List, [], ◌∷◌, ◌++◌, append_assoc, length, sym, ap, subst, ◌∙◌, arith}
 use Rattle.std.specs.Prelude.{All, AllPairs, Contains, Ok}
-use Rattle.std.proofs.lemmas.Bool.{cases_lt}
-use Rattle.std.proofs.lemmas.List.{get_or_default, length-append}
+use Rattle.std.proofs.lemmas.List.{length-append}
 use Rattle.std.proofs.lemmas.List.Elements.{Contains-append_left}
 use Rattle.nm_edge.specs.Layouts.{IsLayout, Layout}
 use Rattle.nm_edge.specs.declared.edge.Side.{Side}
@@ -37,32 +36,14 @@ use Rattle.nm_calls.specs.KeptValues.{NoneCuts}
 use Rattle.nm_calls.specs.Maps.{HoldsStores, WasInHands}
 use Rattle.nm_calls.specs.OnceBack.{HasLinked, IsStoreOf, ValuesComeBackAsStored}
 use Rattle.nm_calls.proofs.KeptLeaves.{one_holds, unheld_until}
-use Rattle.nm_calls.proofs.LeavesInHands.{in_hands_then, leaf_high, leaf_low, leaf_reached}
+use Rattle.nm_calls.proofs.LeavesInHands.{in_hands_then, leaf_high, leaf_low, leaf_named, leaf_reached}
 use Rattle.nm_calls.proofs.MadeLeaves.{LastEvent, last_event}
+use Rattle.nm_calls.proofs.OneStore.{one_store}
 use Rattle.nm_calls.proofs.OnceBack.{TwoPlaces, one_entry, part_append, two_places}
 use Rattle.nm_calls.proofs.OnceBack.TwoPlaces.{AreOne, IsEarlier, IsLater}
-use Rattle.nm_calls.proofs.ReachedNodes.{NodeFate, cut_has_birth, cut_is_named, link_keeps_birth, node_fate_then, now_cut}
+use Rattle.nm_calls.proofs.ReachedNodes.{NodeFate, cut_has_birth, cut_is_named, node_fate_then, now_cut}
 use Rattle.nm_calls.proofs.ReachedNodes.NodeFate.{StaysIn, WasCutOff}
 use Rattle.nm_calls.proofs.StoresInTurns.{were_held}
-
--- ---- stores
-
--- in their order two stores of one worker, made when its log had as many entries, are one
-pub one_store : (stores : List Stored) → AllPairs ComesBefore stores → (x y : Stored) → Contains stores x → Contains stores y → x.worker ≡ y.worker → x.own ≡ y.own → x ≡ y
-one_store stores order x y (i, below, at) (j, below', at') who own = by (cases_lt i j) (cases_lt j i)
-  where
-    later : (a b : Stored) (k l : ℕ) → k < l → l < length stores → get_or stores k a ≡ a → get_or stores l b ≡ b → a.worker ≡ b.worker → a.own ≡ b.own → ⊥
-    later a b k l less inside is is' same mine =
-        let first : get_or stores k b ≡ a = get_or_default stores k b a (omega (arith, less, inside)) ∙ is in
-        let c : ComesBefore a b = subst (λ (z : Stored). ComesBefore z b) first (subst (ComesBefore (get_or stores k b)) is' (order k l b less inside)) in
-        let least = c.1 same in omega (arith, least, mine)
-
-    by : (i < j) ⊎ (j ≤ i) → (j < i) ⊎ (i ≤ j) → x ≡ y
-    by (inl less) other = absurd (later x y i j less below' at at' who own)
-    by (inr most) (inl less) = absurd (later y x j i less below at' at (sym who) (sym own))
-    by (inr most) (inr least) =
-        let same : i ≡ j = omega (arith, most, least) in
-        sym at ∙ (ap (λ (k : ℕ). get_or stores k x) same ∙ (get_or_default stores j x y below' ∙ at'))
 
 -- ---- from a link until a moment before which no turn cuts the leaf
 
@@ -180,7 +161,7 @@ module _ (L : Layout) (fits : IsLayout L) (events : List (ℕ × Event)) (keys :
   reached_then = leaf_reached L turns h x n is hands
 
   named_then : named (words_after L so_far) n.slot ≡ n
-  named_then = link_keeps_birth L lk.before x.worker lk.parent lk.side lk.old lk.new lk.node n.slot ∙ (ap (named (words_after L lk.before)) (ap (λ (m : NodeId). m.slot) lk.is) ∙ sym lk.is)
+  named_then = leaf_named L turns x n is
 
   cuts : CutsItsNodes (words_after L was.before) was.cut
   cuts = h.cuts was.before was.since was.cut was.are

@@ -18,7 +18,7 @@ use Rattle.nm_model.specs.declared.reply.Refused.{Refused}
 use Rattle.nm_model.specs.declared.trace.Turn.{Turn}
 use Rattle.nm_model.specs.Headline.{Headline, OnePlace, Place, StandsAt, TellsWhatStands, after_turn, cuts_of, freed_by, has_after, is_among, lets_go, takes, waits_of, words_after, words_from, written}
 use Rattle.nm_model.specs.Headline.Place.{InHands, InPool, OnPath, Waits}
-use Rattle.nm_model.specs.Memory.{Memory, child, in_pool, opening}
+use Rattle.nm_model.specs.Memory.{Memory, child, in_pool, opening, named}
 use Rattle.nm_model.specs.Paths.{Reached}
 use Rattle.nm_model.specs.Walks.{logged_by}
 use Rattle.nm_order.specs.Logs.{is_leaver, part_of, takes_part}
@@ -29,6 +29,7 @@ use Rattle.nm_steps.specs.Rules.{answered_turn}
 use Rattle.nm_calls.specs.Maps.{HoldsStores, WasInHands}
 use Rattle.nm_calls.specs.OnceBack.{HasLinked, IsStoreOf}
 use Rattle.nm_calls.proofs.OnceBack.{one_entry, part_append}
+use Rattle.nm_calls.proofs.ReachedNodes.{link_keeps_birth}
 use Rattle.nm_calls.proofs.Unheld.{freed_by-append, or_right}
 
 -- ---- hands
@@ -285,3 +286,9 @@ module _ (L : Layout) (turns : List Turn) (h : Headline L turns) (x : Stored) (l
   leaf_reached =
       subst (λ (s : ℕ). Reached (words_after L (link.before ++ its ∷ [])) s) (slot_is ∙ is.slot)
       (reached_after_link L turns h link.before link.since x.worker link.parent link.side link.on link.old link.new link.node link.are held_child)
+
+-- right after its link its slot has its birth
+pub leaf_named : (L : Layout) (turns : List Turn) (x : Stored) (leaf : NodeId) (is : IsStoreOf L turns x leaf) → named (words_after L (is.link.before ++ answered_turn x.worker (Link is.link.parent is.link.side is.link.old is.link.new) (Linked is.link.node) ∷ [])) leaf.slot ≡ leaf
+leaf_named L turns x leaf is =
+    link_keeps_birth L is.link.before x.worker is.link.parent is.link.side is.link.old is.link.new is.link.node leaf.slot
+    ∙ (ap (named (words_after L is.link.before)) (ap (λ (n : NodeId). n.slot) is.link.is) ∙ sym is.link.is)

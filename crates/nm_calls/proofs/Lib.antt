@@ -42,4 +42,5 @@ pub mod UnderPins
 pub mod ReachedNodes
 pub mod LeavesInHands
 pub mod StoredLeaves
+pub mod OneStore
 pub mod HandedStores

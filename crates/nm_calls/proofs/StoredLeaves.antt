@@ -20,8 +20,8 @@ use Rattle.nm_calls.specs.StoredLeaves.{IsAtOnePlace, LeafIsAt, LeafPlace, Store
 use Rattle.nm_calls.specs.StoredLeaves.LeafPlace.{IsFreed, OnPath, Waits}
 use Rattle.nm_calls.proofs.ComingBack.{IsTwice, not_freed_twice}
 use Rattle.nm_calls.proofs.HandedBack.{in_among}
-use Rattle.nm_calls.proofs.LeavesInHands.{in_hands_then, leaf_high, leaf_low, leaf_reached}
-use Rattle.nm_calls.proofs.ReachedNodes.{NodeFate, link_keeps_birth, node_fate}
+use Rattle.nm_calls.proofs.LeavesInHands.{in_hands_then, leaf_high, leaf_low, leaf_named, leaf_reached}
+use Rattle.nm_calls.proofs.ReachedNodes.{NodeFate, node_fate}
 use Rattle.nm_calls.proofs.ReachedNodes.NodeFate.{StaysIn, WasCutOff}
 use Rattle.nm_calls.proofs.Unheld.{among_in, in_filter}
 
@@ -154,7 +154,7 @@ reached_node_is_placed L turns h so_far rest are x low most reached = placed L t
 
 pub stored_values_are_at_one_place : StoredValuesAreAtOnePlace
 stored_values_are_at_one_place L turns h was stores s x there leaf is =
-    subst (IsAtOnePlace L turns) named_is
+    subst (IsAtOnePlace L turns) (leaf_named L turns x leaf is)
     (reached_node_is_placed L turns h (link.before ++ its ∷ []) link.since (link.are ∙ sym (append_assoc link.before (its ∷ []) link.since)) leaf.slot
     (leaf_low L turns h x leaf is hands) (leaf_high L turns h x leaf is hands) (leaf_reached L turns h x leaf is hands))
   where
@@ -166,6 +166,3 @@ stored_values_are_at_one_place L turns h was stores s x there leaf is =
 
     hands : WasInHands L turns x
     hands = in_hands_then L was turns stores s x there
-
-    named_is : named (words_after L (link.before ++ its ∷ [])) leaf.slot ≡ leaf
-    named_is = link_keeps_birth L link.before x.worker link.parent link.side link.old link.new link.node leaf.slot ∙ (ap (named (words_after L link.before)) (ap (λ (n : NodeId). n.slot) link.is) ∙ sym link.is)

@@ -36,3 +36,11 @@ abbrev pub StoredValuesAreAtOnePlace : Type 0
 StoredValuesAreAtOnePlace = (L : Layout) (turns : List Turn) → Headline L turns → (was : List Turn)
     (stores : List Stored) → HoldsStores L was turns stores → (x : Stored) → Contains stores x
     → (leaf : NodeId) → IsStoreOf L turns x leaf → IsAtOnePlace L turns leaf
+
+-- in all turns with the headline and with stores that hold, a leaf has one store. So one free gives back
+-- one stored value
+abbrev pub LeavesHaveOneStore : Type 0
+LeavesHaveOneStore = (L : Layout) (turns : List Turn) → Headline L turns → (was : List Turn)
+    (stores : List Stored) → HoldsStores L was turns stores → (leaf : NodeId) (x y : Stored)
+    → Contains stores x → Contains stores y → IsStoreOf L turns x leaf → IsStoreOf L turns y leaf
+    → x ≡ y

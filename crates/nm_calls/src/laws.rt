@@ -4,7 +4,7 @@ ghost use Rattle.nm_calls.specs.GotValues.{GotLeavesAreNotFreed, GotValuesStayOu
 ghost use Rattle.nm_calls.specs.KeptValues.{LeavesKeepTheirValues, PutValuesStay, TakenValuesAreCut, ValuesAreByAllStores};
 ghost use Rattle.nm_calls.specs.MapHistories.{GetsAreOfTheMap, HistoriesAreOfMaps, ValuesWerePut};
 ghost use Rattle.nm_calls.specs.OnceBack.{CutValuesWereStored, ValuesComeBackOnce, ValuesComeBackAsStored};
-ghost use Rattle.nm_calls.specs.StoredLeaves.{StoredValuesAreAtOnePlace};
+ghost use Rattle.nm_calls.specs.StoredLeaves.{LeavesHaveOneStore, StoredValuesAreAtOnePlace};
 
 /// Law: in every ordered run, a leaf that is in the map stays in it with its key and its value
 /// until a turn cuts it off.
@@ -73,6 +73,12 @@ pub fn cut_values_were_stored()
 /// stored for the leaf. So what a collection hands out for a leaf is what an insert has put there.
 pub fn values_come_back_as_stored()
     ensures { ValuesComeBackAsStored }
+{}
+
+/// Law: in all turns that have the headline, a leaf has one store. So a free gives back one stored
+/// value.
+pub fn leaves_have_one_store()
+    ensures { LeavesHaveOneStore }
 {}
 
 /// Law: in all turns that have the headline, the leaf for which a value was stored is at exactly one
