@@ -37,7 +37,8 @@ pub record EndsMapSet (s : SetView) (e : Ended) : Type 0 where
   pub ends : EndsMap s.tree (s.kept ++ home) e.report.queues.items e.report.keys.items
       e.leaves.items e.words.values e.nodes e.report.free e.report.reached
 
--- what a closed set accounts for, with the run that ends with the tree's words, for those who change this project
+-- what a closed set accounts for, with the run that ends with the tree's words, for those who change
+-- this project
 pub record EndsSet (s : SetView) (r : Report) : Type 0 where
   pub home : List WorkerView
   pub own : AreOwn s.tree (s.kept ++ home)

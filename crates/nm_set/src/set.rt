@@ -165,8 +165,9 @@ impl Set {
     }
 
     /// Gives out any worker that is not attached, with all that it held when it was returned. The
-    /// caller has not pinned it. If it was never returned, it has done nothing yet. It looks at each seat once, in the order of their numbers, and
-    /// takes the first worker that it finds (tested: which one that is).
+    /// caller has not pinned it. If it was never returned, it has done nothing yet. It looks at each
+    /// seat once, in the order of their numbers, and takes the first worker that it finds (tested:
+    /// which one that is).
     ///
     /// Errors: `NoWorker`: each seat was empty when it was looked at, one after the other. That no
     /// worker was free at one moment is not said: one may have been returned to a seat after the
