@@ -6,23 +6,20 @@ use Rattle.std.proofs.lemmas.List.Elements.{All-append, All-cons, All-nil}
 use Rattle.std.proofs.lemmas.Option.{none-some, same_Some}
 use Rattle.nm_edge.specs.Layouts.{Layout, IsLayout}
 use Rattle.nm_edge.specs.Words.{IsSlot}
-use Rattle.nm_edge.specs.declared.node.NodeId.{NodeId}
 use Rattle.nm_model.specs.declared.event.Event.{Event}
 use Rattle.nm_model.specs.declared.ledger.Queued.{Queued}
 use Rattle.nm_model.specs.declared.trace.Turn.{Turn}
 use Rattle.nm_model.specs.Headline.{has_after, waits_of, words_after}
-use Rattle.nm_model.specs.Knowledge.{Knowledge, is_private}
+use Rattle.nm_model.specs.Knowledge.{Knowledge}
 use Rattle.nm_model.specs.Ledgers.{held}
 use Rattle.nm_model.specs.Memory.{Memory, opening}
-use Rattle.nm_model.specs.Ordered.{HasKey, after_in, ordered, trace_in}
+use Rattle.nm_model.specs.Ordered.{HasKey, ordered, trace_in}
 use Rattle.nm_model.specs.Reports.{counts, keys}
-use Rattle.nm_model.specs.Runs.{of}
 use Rattle.nm_order.specs.Hands.{IsPooled}
 use Rattle.nm_order.proofs.PinNumbers.{length_trace}
 use Rattle.nm_theorem.proofs.Hands.{run_hands}
 use Rattle.nm_theorem.proofs.WrittenWords.{run_words}
 use Rattle.nm_steps.specs.declared.view.Stored.{Stored}
-use Rattle.nm_steps.specs.declared.view.View.{View}
 use Rattle.nm_steps.specs.Rules.{ComesBefore, Extends, LinksHaveValues, WereHeld, knowledge, value_of}
 use Rattle.nm_steps.specs.Steps.{EndedWords, HasSeen, IsInRun, TreeView}
 use Rattle.nm_steps.specs.Values.{EndsWithValues}
@@ -41,7 +38,7 @@ use Rattle.nm_calls.proofs.StoresInTurns.{linked_leaves, were_in_hands}
 use Rattle.nm_tree.specs.declared.closing.Ended.{Ended}
 use Rattle.nm_tree.specs.declared.closing.Report.{Report}
 use Rattle.nm_tree.specs.declared.map_closing.MapReport.{MapReport}
-use Rattle.nm_tree.specs.Closing.{AreFrom, GoesOnFromAll, IsClosed, StandsForAll, all_merged, given_in}
+use Rattle.nm_tree.specs.Closing.{GoesOnFromAll, IsClosed, StandsForAll, all_merged, given_in}
 use Rattle.nm_tree.specs.Ended.{IsEndOf, end_of}
 use Rattle.nm_tree.specs.MapReports.{AreInMap, AreLeavesOf, EndsMap, IsLeafOf, LeavesValues, SaysMapClosed, StoresGoOnFromAll, WaitsWith, leaves_in, value_in}
 use Rattle.nm_tree.specs.Workers.{IsWorker, WorkerView}

@@ -1,4 +1,4 @@
-use Rattle.std.proofs.Common.{rules, ◌≡◌, inl, inr, None, Some, ap, refl, subst, ◌∙◌, arith}
+use Rattle.std.proofs.Common.{rules, inl, inr, None, Some, ap, refl, subst, ◌∙◌, arith}
 use Rattle.std.specs.Prelude.{Ok, Err, slice_set}
 use Rattle.nm_model.specs.Maps.{get}
 use Rattle.nm_steps.proofs.Seeing.{seen_all}
