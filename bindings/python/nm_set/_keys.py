@@ -7,7 +7,7 @@ import math
 import operator
 import time
 from array import array
-from collections.abc import Iterable, Iterator, MutableSet, Sized
+from collections.abc import Callable, Iterable, Iterator, MutableSet, Sized
 from collections.abc import Set as AbstractSet
 from contextlib import suppress
 from ctypes import c_uint32, c_void_p
@@ -23,7 +23,7 @@ from ._faults import MOST_KEY, SHOWN, Closed, fault, key_fault, shortened
 _T = TypeVar("_T")
 _Out = TypeVar("_Out", bound=Sized)  # a buffer, for which Python has a type only from 3.12 on
 _UNSIGNED, _SIGNED = frozenset("QLN"), frozenset("qln")  # the formats of words of 64 bits
-_NO_BOUND = 2**64 - 1  # above each key
+NO_BOUND = 2**64 - 1  # above each key
 _FIRST_ROOM, _MOST_ROOM = 8, 512  # how many keys the first scan and the last scans of a loop read
 
 
@@ -90,7 +90,7 @@ def _copied(keys: Iterable[SupportsIndex]) -> memoryview:
 
 def bound_of(number: SupportsIndex) -> int:
     """Returns a bound of keys as the library takes it."""
-    return min(max(operator.index(number), 0), _NO_BOUND)
+    return min(max(operator.index(number), 0), NO_BOUND)
 
 
 def _popped(key: Optional[int]) -> int:
@@ -106,6 +106,25 @@ def ends_of(
     first = 0 if minimum is None else operator.index(minimum) + (not inclusive[0])
     last = MOST_KEY if maximum is None else operator.index(maximum) - (not inclusive[1])
     return max(first, 0), min(last, MOST_KEY) + 1
+
+
+def each_scanned(
+    scan: Callable[[int, int, int, bool], tuple[list[_T], Optional[int]]],
+    first: int,
+    below: int,
+    is_back: bool,
+) -> Iterator[_T]:
+    """Yields what the scans of a range return, block by block. A scan gets the ends of the range
+    that is left, how much it may read, and whether it goes back. It also returns where the next
+    scan goes on, or None."""
+    room = _FIRST_ROOM
+    while first < below:
+        read, rest = scan(first, below, room, is_back)
+        yield from read
+        if rest is None:
+            return
+        first, below = (first, rest) if is_back else (rest, below)
+        room = min(8 * room, _MOST_ROOM)
 
 
 def _as_set(other: Iterable[Any]) -> AbstractSet[Any]:
@@ -241,21 +260,7 @@ class Keys(MutableSet):  # type: ignore[type-arg]
         """Returns an iterator over the keys from `minimum` to `maximum`, in the way of `__iter__`:
         ascending, or descending if `reverse`."""
         first, below = ends_of(minimum, maximum, inclusive)
-        return self._descending(first, below) if reverse else self._ascending(first, below)
-
-    def _ascending(self, first: Optional[int], below: int) -> Iterator[int]:
-        room = _FIRST_ROOM
-        while first is not None and first < below:
-            keys, first = self._calls.scan(first, below, room, False)
-            yield from keys
-            room = min(8 * room, _MOST_ROOM)
-
-    def _descending(self, first: int, below: Optional[int]) -> Iterator[int]:
-        room = _FIRST_ROOM
-        while below is not None and first < below:
-            keys, below = self._calls.scan(first, below, room, True)
-            yield from keys
-            room = min(8 * room, _MOST_ROOM)
+        return each_scanned(self._calls.scan, first, below, reverse)
 
     def count_range(
         self,
@@ -294,7 +299,7 @@ class Keys(MutableSet):  # type: ignore[type-arg]
     def pop_first_many(self, count: int, below: Optional[SupportsIndex] = None) -> list[int]:
         """Removes the least keys one by one, at most `count` and 512, and returns them: of all
         keys, or of those below a bound. It raises only if it has removed no key."""
-        bound = bound_of(below) if below is not None else _NO_BOUND
+        bound = bound_of(below) if below is not None else NO_BOUND
         return self._calls.pop_some(bound, min(count, _MOST_ROOM)) if count > 0 else []
 
     def wait_pop(
@@ -305,7 +310,7 @@ class Keys(MutableSet):  # type: ignore[type-arg]
         add wakes it. Other threads run meanwhile, and the handlers of signals every 20
         milliseconds. Raises KeyError after that time, and `Closed` if the set is closed meanwhile.
         """
-        bound = bound_of(below) if below is not None else _NO_BOUND
+        bound = bound_of(below) if below is not None else NO_BOUND
         key = self._calls.pop_first_below(bound)
         if key is None:
             end = math.inf if timeout is None else time.monotonic() + timeout

@@ -39,7 +39,7 @@ from typing import Any, Generic, Optional, SupportsIndex, TypeVar, Union, overlo
 from . import _library as c
 from ._faults import MOST_KEY, MOST_NODES, MOST_WORKERS, SHOWN, Contention, Fault, Forked, fault
 from ._faults import key_fault
-from ._keys import bound_of, ends_of, number_of, words_of
+from ._keys import NO_BOUND, bound_of, each_scanned, ends_of, number_of, words_of
 from ._leases import Owner, drop_with
 from ._set import Options, narrow
 
@@ -47,9 +47,7 @@ V = TypeVar("V")
 T = TypeVar("T")
 
 _ROOM = 64  # how many values one call takes back, and how many keys it looks up
-_FIRST_SCANNED, _MOST_SCANNED = 8, 512  # how many keys the first scan and the last scans read
 _NODES = 65_536  # the nodes of a map for which no number is given, or four for each of its keys
-_NO_BOUND = 2**64 - 1  # above each key
 _LONGEST = 10.0  # seconds: how long a close waits for calls in progress
 _MISSING: Any = object()
 
@@ -416,7 +414,7 @@ class Map(MutableMapping, Generic[V]):  # type: ignore[type-arg]
         Raises `Unfinished` if the bound of the call is reached after it has begun to remove a key.
         No other call removes that key. Its object is not returned, and the map refers to it, and
         `len` counts its key, until the map is closed."""
-        bound = _NO_BOUND if below is None else bound_of(below)
+        bound = NO_BOUND if below is None else bound_of(below)
         return self._popped(c.quick.nm_map_pop_first_below, bound)
 
     def pop_last(self, minimum: Optional[SupportsIndex] = None) -> tuple[int, V]:
@@ -530,17 +528,14 @@ class Map(MutableMapping, Generic[V]):  # type: ignore[type-arg]
         ends: tuple[int, int],
         is_back: bool,
     ) -> Iterator[T]:
-        """Yields what the scans of a range return, block by block."""
-        (first, below), room = ends, _FIRST_SCANNED
-        while first < below:
-            read, rest = self._with_worker(
-                lambda worker: scan(worker, (first, below), room, is_back)
-            )
-            yield from read
-            if rest is None:
-                return
-            first, below = (first, rest) if is_back else (rest, below)
-            room = min(8 * room, _MOST_SCANNED)
+        """Returns an iterator over what the scans of a range return."""
+
+        def scanned(
+            first: int, below: int, room: int, is_back: bool
+        ) -> tuple[list[T], Optional[int]]:
+            return self._with_worker(lambda worker: scan(worker, (first, below), room, is_back))
+
+        return each_scanned(scanned, *ends, is_back)
 
     def irange(
         self,
@@ -580,7 +575,7 @@ class Map(MutableMapping, Generic[V]):  # type: ignore[type-arg]
 
     def _counted(self, worker: _Worker, first: int, below: int) -> int:
         count = c_uint64()
-        first, below = min(first, _NO_BOUND), max(below, 0)
+        first, below = min(first, NO_BOUND), max(below, 0)
         outcome = c.exports.nm_map_count(worker.handle, first, below, count, self._words)
         if outcome < 0:
             raise self._fault(outcome)

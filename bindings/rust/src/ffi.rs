@@ -597,9 +597,9 @@ impl Drop for ReportHandle {
     }
 }
 
+/// Forked children of a test.
 #[cfg(test)]
-mod tests {
-    use crate::{Fault, Set};
+mod forking {
     use std::ffi::c_int;
 
     extern "C" {
@@ -608,12 +608,43 @@ mod tests {
         fn _exit(status: c_int) -> !;
     }
 
+    /// Forks this process. Returns the number of the child, or 0 in the child, which ends by
+    /// [`end`].
+    ///
+    /// # Safety
+    ///
+    /// The child only makes calls that are refused, and ends.
+    pub unsafe fn child() -> c_int {
+        // SAFETY: by the condition.
+        unsafe { fork() }
+    }
+
+    /// Ends the child, and tells its parent whether all was right.
+    pub fn end(is_right: bool) -> ! {
+        // SAFETY: the child has nothing left to do.
+        unsafe { _exit(c_int::from(!is_right)) }
+    }
+
+    /// Waits for the child, and panics unless all was right there.
+    pub fn must_be_right(child: c_int) {
+        let mut status = -1;
+        // SAFETY: the place is borrowed for this call.
+        assert_eq!(unsafe { waitpid(child, &mut status, 0) }, child);
+        assert_eq!(status, 0);
+    }
+}
+
+#[cfg(test)]
+mod tests {
+    use super::forking;
+    use crate::{Fault, Set};
+
     #[test]
     fn each_call_in_a_forked_child_is_refused() {
         let set = Set::from([5, 7]);
         let mut worker = set.attach().unwrap();
         // SAFETY: the child only makes calls that are refused, and ends.
-        let child = unsafe { fork() };
+        let child = unsafe { forking::child() };
         if child == 0 {
             let is_refused = set.contains(5) == Err(Fault::Forked)
                 && worker.insert(6) == Err(Fault::Forked)
@@ -622,13 +653,9 @@ mod tests {
                 && set.close().err() == Some(Fault::Forked);
             drop(worker);
             drop(set);
-            // SAFETY: the child has nothing left to do.
-            unsafe { _exit(c_int::from(!is_refused)) }
+            forking::end(is_refused);
         }
-        let mut status = -1;
-        // SAFETY: the place is borrowed for this call.
-        assert_eq!(unsafe { waitpid(child, &mut status, 0) }, child);
-        assert_eq!(status, 0);
+        forking::must_be_right(child);
         assert_eq!((worker.insert(6), set.len()), (Ok(true), Ok(3)));
     }
 }

@@ -3,8 +3,9 @@ use Rattle.std.proofs.Common.{◌≡◌, ℕ, zero, suc, ◌+◌, ◌||◌, Bool
 use Rattle.std.specs.Prelude.{Contains, Some, filter, slice_get}
 use Rattle.std.specs.List.{list_any}
 use Rattle.std.proofs.lemmas.List.Folds.{list_any-append}
-use Rattle.std.proofs.lemmas.List.Elements.{Contains-append_left, Contains-append_right}
+use Rattle.std.proofs.lemmas.List.Elements.{Contains-append_right}
 use Rattle.nm_edge.specs.declared.node.NodeId.{NodeId}
+use Rattle.nm_model.specs.declared.trace.Turn.{Turn}
 use Rattle.nm_model.specs.Headline.{AreFreedInTurn, HasLeft, cuts_of, freed_by, freed_of, is_among, leaves, nodes_freed_of, waits_of}
 use Rattle.nm_calls.specs.ComingBack.{NodesAreFreedOnce, PinnedValuesStayOut}
 use Rattle.nm_calls.proofs.HandedBack.{in_among}
@@ -13,11 +14,11 @@ use Rattle.nm_calls.proofs.Unheld.{freed_by-append, or_right, pin_lasts}
 -- ---- lists
 
 -- a list in which a node is at two places
-record IsTwice (ns : List NodeId) (n : NodeId) : Type 0 where
-  first : List NodeId
-  middle : List NodeId
-  last : List NodeId
-  are : ns ≡ first ++ n ∷ (middle ++ n ∷ last)
+pub record IsTwice (ns : List NodeId) (n : NodeId) : Type 0 where
+  pub first : List NodeId
+  pub middle : List NodeId
+  pub last : List NodeId
+  pub are : ns ≡ first ++ n ∷ (middle ++ n ∷ last)
 
 record Split (ns : List NodeId) (n : NodeId) : Type 0 where
   first : List NodeId
@@ -58,16 +59,31 @@ at_second (x ∷ xs) ms ys n = let e : suc (length xs) + suc (length ms) ≡ suc
 
 -- ---- no node is freed twice
 
-pub nodes_are_freed_once : NodesAreFreedOnce
-nodes_are_freed_once L turns h before between rest one other n are in_one in_other =
+pub not_freed_twice : (turns : List Turn) → AreFreedInTurn turns → (n : NodeId) → IsTwice (freed_by turns) n → ⊥
+not_freed_twice turns q n twice =
     let same = q.once w w (length t.first) (length t.first + suc (length t.middle)) n
     (ap (λ (l : List NodeId). slice_get l (length t.first)) whole ∙ at_place t.first ((t.middle ++ n ∷ t.last) ++ waits_of w turns) n)
     (ap (λ (l : List NodeId). slice_get l (length t.first + suc (length t.middle))) (whole ∙ ap (λ (l : List NodeId). t.first ++ n ∷ l) (append_assoc t.middle (n ∷ t.last) (waits_of w turns))) ∙ at_second t.first t.middle (t.last ++ waits_of w turns) n) in
     let clash = same.1 in omega (arith, clash)
   where
-    q : AreFreedInTurn turns
-    q = h.queues turns [] (sym (append-nil turns))
+    freed : Contains (freed_by turns) n
+    freed = subst (λ (l : List NodeId). Contains l n) (sym twice.are) (Contains-append_right twice.first (n ∷ (twice.middle ++ n ∷ twice.last)) n (0, omega arith, refl))
 
+    cut : (w : ℕ) × Contains (cuts_of w turns) n
+    cut = q.only n freed
+
+    w : ℕ
+    w = cut.0
+
+    t : IsTwice (freed_of w turns) n
+    t = twice_kept (is_among (cuts_of w turns)) (freed_by turns) n (in_among (cuts_of w turns) n cut.1) twice
+
+    whole : cuts_of w turns ≡ t.first ++ n ∷ ((t.middle ++ n ∷ t.last) ++ waits_of w turns)
+    whole = sym (q.queues w) ∙ (ap (λ (l : List NodeId). l ++ waits_of w turns) t.are ∙ append_assoc t.first (n ∷ (t.middle ++ n ∷ t.last)) (waits_of w turns))
+
+pub nodes_are_freed_once : NodesAreFreedOnce
+nodes_are_freed_once L turns h before between rest one other n are in_one in_other = not_freed_twice turns (h.queues turns [] (sym (append-nil turns))) n twice
+  where
     frees : freed_by turns ≡ freed_by before ++ (nodes_freed_of one.outcome ++ (freed_by between ++ (nodes_freed_of other.outcome ++ freed_by rest)))
     frees =
         ap freed_by are
@@ -94,21 +110,6 @@ nodes_are_freed_once L turns h before between rest one other n are in_one in_oth
           ∙ (sym (append_assoc (freed_by before) a.first (n ∷ (a.last ++ (freed_by between ++ (b.first ++ n ∷ (b.last ++ freed_by rest))))))
           ∙ ap (λ (l : List NodeId). (freed_by before ++ a.first) ++ n ∷ l) (ap (λ (l : List NodeId). a.last ++ l) (sym (append_assoc (freed_by between) b.first (n ∷ (b.last ++ freed_by rest)))) ∙ sym (append_assoc a.last (freed_by between ++ b.first) (n ∷ (b.last ++ freed_by rest)))))))));
     }
-
-    freed : Contains (freed_by turns) n
-    freed = subst (λ (l : List NodeId). Contains l n) (sym frees) (Contains-append_right (freed_by before) (nodes_freed_of one.outcome ++ (freed_by between ++ (nodes_freed_of other.outcome ++ freed_by rest))) n (Contains-append_left (nodes_freed_of one.outcome) (freed_by between ++ (nodes_freed_of other.outcome ++ freed_by rest)) n in_one))
-
-    cut : (w : ℕ) × Contains (cuts_of w turns) n
-    cut = q.only n freed
-
-    w : ℕ
-    w = cut.0
-
-    t : IsTwice (freed_of w turns) n
-    t = twice_kept (is_among (cuts_of w turns)) (freed_by turns) n (in_among (cuts_of w turns) n cut.1) twice
-
-    whole : cuts_of w turns ≡ t.first ++ n ∷ ((t.middle ++ n ∷ t.last) ++ waits_of w turns)
-    whole = sym (q.queues w) ∙ (ap (λ (l : List NodeId). l ++ waits_of w turns) t.are ∙ append_assoc t.first (n ∷ (t.middle ++ n ∷ t.last)) (waits_of w turns))
 
 -- ---- nor before a worker that was pinned has unpinned
 

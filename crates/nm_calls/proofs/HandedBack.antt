@@ -287,6 +287,7 @@ module _ (L : Layout) (fits : IsLayout L) (events : List (ℕ × Event)) (keys :
     since = c.since;
     are = c.are;
     cuts = c.there;
+    high = pooled.0;
     reached = reached L turns h o n pooled.0 pooled.1 c kept;
     leaf = was_leaf;
     first = stores;
@@ -343,6 +344,7 @@ read_is_cut p q o e v r =
       since = was.since ++ more.more;
       are = more.is ∙ (ap (λ (l : List Turn). l ++ more.more) was.are ∙ append_assoc was.before (was.cut ∷ was.since) more.more);
       cuts = was.cuts;
+      high = was.high;
       reached = was.reached;
       leaf = was.leaf;
       first = was.first;

@@ -24,7 +24,7 @@ use Rattle.nm_order.proofs.WalksOfRuns.{trace_in-append}
 use Rattle.nm_theorem.proofs.Runs.{Parts as PartsOf, parts_of}
 use Rattle.nm_theorem.proofs.WrittenWords.{run_words}
 use Rattle.nm_walks.proofs.Looks.{enough}
-use Rattle.nm_model.specs.Ordered.{Configuration, HasKey, ordered, after_in, next_in, outcome_in, trace_in}
+use Rattle.nm_model.specs.Ordered.{Configuration, HasKey, ordered, after_in, trace_in}
 use Rattle.nm_steps.specs.declared.view.Stored.{Stored}
 use Rattle.nm_model.specs.Knowledge.{is_private}
 use Rattle.nm_model.specs.Paths.{Reached}

@@ -1,5 +1,5 @@
--- Each reached leaf with a key of the set was linked, and nobody has had it in hands since.
-use Rattle.std.proofs.Common.{◌≡◌, ◌≢◌, ◌⊎◌, inl, inr, ℕ, ◌+◌, ◌<◌, ◌≤◌, ◌==◌, ◌&&◌, ◌||◌, not, Bool, true, false, cond, List, [], ◌∷◌, ◌++◌, length, refl, sym, ap, subst, ◌∙◌, append-nil, append_assoc, eq-eqb, true≢false, arith}
+-- Each reached leaf but the fixed ones was linked, and nobody has had it in hands since.
+use Rattle.std.proofs.Common.{◌≡◌, ◌⊎◌, inl, inr, ℕ, ◌+◌, ◌<◌, ◌≤◌, ◌==◌, ◌&&◌, ◌||◌, not, Bool, true, false, cond, List, [], ◌∷◌, ◌++◌, length, refl, sym, ap, subst, ◌∙◌, append-nil, append_assoc, eq-eqb, true≢false, arith}
 use Rattle.std.specs.Prelude.{All, None, Some, Option, Ok, is_some}
 use Rattle.std.proofs.lemmas.Bool.{and_parts, cases_lt, eqb-true}
 use Rattle.std.proofs.lemmas.List.{length-append}
@@ -11,15 +11,16 @@ use Rattle.nm_edge.specs.declared.edge.Side.TheVariants.{Left, Right}
 use Rattle.nm_edge.specs.declared.node.NodeId.{NodeId}
 use Rattle.nm_model.specs.declared.event.Event.{Event}
 use Rattle.nm_model.specs.declared.event.Event.TheVariants.{Link}
+use Rattle.nm_model.specs.declared.memory.Node.{Node}
 use Rattle.nm_model.specs.declared.reply.Refused.{Refused}
 use Rattle.nm_model.specs.declared.reply.Reply.TheVariants.{Linked, Lost}
-use Rattle.nm_model.specs.Acts.{InSet}
 use Rattle.nm_model.specs.Knowledge.{Knowledge, is_private}
 use Rattle.nm_model.specs.Learning.{learn}
 use Rattle.nm_model.specs.Maps.{get, without}
 use Rattle.nm_model.specs.Memory.{Memory, child, edge, is_leaf, node, opening, put_edge}
 use Rattle.nm_model.specs.Ordered.{Configuration, HasKey, applied_in, ordered, after_in, next_in, outcome_in, refused_in, trace_in}
-use Rattle.nm_model.specs.Paths.{Reached}
+use Rattle.nm_model.specs.Paths.{Reached, follow}
+use Rattle.nm_laws.proofs.Trees.{follow_none}
 use Rattle.nm_model.specs.Runs.{State, of, reply_of, start}
 use Rattle.nm_model.specs.Step.{node_linked, reply}
 use Rattle.nm_model.proofs.Tables.{get-without, ascends-without}
@@ -30,7 +31,7 @@ use Rattle.nm_laws.proofs.Steps.{Allowed, allowed}
 use Rattle.nm_order.specs.Logs.{is_leaver}
 use Rattle.nm_order.proofs.EdgeOrigins.{EdgeOrigin}
 use Rattle.nm_order.proofs.EdgeOrigins.EdgeOrigin.{WasThere, IsFlaggedNow, LeadsToNew, LeadsNowhere}
-use Rattle.nm_order.proofs.OrderedLaws.{IsOrdered, each_ordered, law_of_state, ordered_next}
+use Rattle.nm_order.proofs.OrderedLaws.{IsOrdered, each_ordered, law_of_state, null_start, ordered_next}
 use Rattle.nm_order.proofs.OrderedMoments.{Lasting, lasting}
 use Rattle.nm_order.proofs.PartsOfRuns.{partaking}
 use Rattle.nm_order.proofs.RealTime.{begins_with}
@@ -43,6 +44,7 @@ use Rattle.nm_steps.specs.Rules.{new_leaf}
 use Rattle.nm_steps.proofs.LinkedValues.{NobodyHoldsUntil}
 use Rattle.nm_walks.proofs.Looks.{enough}
 use Rattle.nm_calls.proofs.KeptLeaves.{reached_unheld}
+use Rattle.nm_calls.proofs.ReachedNodes.{put_birth}
 use Rattle.nm_calls.proofs.LinkedLeaves.{far_is_high, new_leads_to_far, words_then}
 use Rattle.nm_calls.proofs.WonLinks.{link}
 use Rattle.nm_theorem.proofs.WrittenWords.{run_words}
@@ -50,14 +52,17 @@ use Rattle.nm_order.proofs.WalksOfRuns.{trace_in-append}
 use Rattle.nm_model.specs.Headline.{words_after}
 use Rattle.nm_model.specs.declared.trace.Turn.{Turn}
 
--- a reached leaf with a key of the set
+-- a reached leaf that is none of the fixed ones, by its slot or by its key
 pub record IsUserLeaf (m : Memory) (s : ℕ) : Type 0 where
   pub reached : Reached m s
   pub leaf : is_leaf (node m s) ≡ true
-  pub is_key : IsKey (node m s).key
+  pub high : (6 ≤ s) ⊎ IsKey (node m s).key
+
+abbrev node_at : Memory → ℕ → Node
+node_at m x = node m x
 
 -- after these events the slot is one that a worker won a link of as a new leaf, and nobody has had it
--- in hands since
+-- in hands since. It has the birth that it had right before the link
 pub record WasLinked (L : Layout) (events : List (ℕ × Event)) (s : ℕ) : Type 0 where
   pub before : List (ℕ × Event)
   pub since : List (ℕ × Event)
@@ -71,6 +76,7 @@ pub record WasLinked (L : Layout) (events : List (ℕ × Event)) (s : ℕ) : Typ
   pub won : outcome_in (after_in (ordered L) before) (worker, Link parent side old new) ≡ Ok (Linked node)
   pub leaf : new_leaf (of (after_in (ordered L) before).state worker) old new ≡ s
   pub below : worker < L.workers
+  pub born : (node_at (after_in (ordered L) before).state.memory s).birth ≡ (node_at (after_in (ordered L) events).state.memory s).birth
   pub free : NobodyHoldsUntil L events (length before + 1) (length events + 1) s
 
 -- ---- a slot that a turn has put into the tree
@@ -169,6 +175,22 @@ module _ (L : Layout) (fits : IsLayout L) (c : Configuration) (t : ℕ × Event)
         go false p true q = inr (eqb-true s f.new q)
         go false p false q = absurd (true≢false (sym held ∙ (sym (ap is_some (drafts p q)) ∙ let_go)))
 
+-- ---- the fixed nodes
+
+-- in the empty tree each path ends at a fixed node or nowhere
+fixed_path : (L : Layout) (path : List Side) → follow (child (opening L)) 1 path ≤ 5
+fixed_path L [] = omega arith
+fixed_path L (Left ∷ []) = omega arith
+fixed_path L (Right ∷ []) = omega arith
+fixed_path L (Left ∷ Left ∷ []) = omega arith
+fixed_path L (Left ∷ Right ∷ []) = omega arith
+fixed_path L (Right ∷ Left ∷ q) = let none = follow_none (child (opening L)) (null_start L) q in omega (arith, none)
+fixed_path L (Right ∷ Right ∷ q) = let none = follow_none (child (opening L)) (null_start L) q in omega (arith, none)
+fixed_path L (Left ∷ Left ∷ Left ∷ q) = let none = follow_none (child (opening L)) (null_start L) q in omega (arith, none)
+fixed_path L (Left ∷ Left ∷ Right ∷ q) = let none = follow_none (child (opening L)) (null_start L) q in omega (arith, none)
+fixed_path L (Left ∷ Right ∷ Left ∷ q) = let none = follow_none (child (opening L)) (null_start L) q in omega (arith, none)
+fixed_path L (Left ∷ Right ∷ Right ∷ q) = let none = follow_none (child (opening L)) (null_start L) q in omega (arith, none)
+
 -- ---- the events of a run
 
 -- a slot is in nobody's hands at the last moment of a run
@@ -226,18 +248,19 @@ module _ (L : Layout) (fits : IsLayout L) where
       r : Reached (next_in c t).state.memory s
       r = subst (λ (d : Configuration). Reached d.state.memory s) now_is is.reached
 
+      lasts : Reached c.state.memory s → lasting (memory_after (before ++ t ∷ [])) s ≡ lasting c.state.memory s
+      lasts was = ap (λ (d : Configuration). lasting d.state.memory s) now_is ∙ turn_lasts L (enough L fits) c t has o s was
+
       -- it was one before
       was_leaf : Reached c.state.memory s → IsUserLeaf c.state.memory s
-      was_leaf was =
-          let lasts : lasting (memory_after (before ++ t ∷ [])) s ≡ lasting c.state.memory s = ap (λ (d : Configuration). lasting d.state.memory s) now_is ∙ turn_lasts L (enough L fits) c t has o s was in
-          record {
-            reached = was;
-            leaf = ap (λ (l : Lasting). l.leaf) (sym lasts) ∙ is.leaf;
-            is_key = subst IsKey (ap (λ (l : Lasting). l.key) lasts) is.is_key;
-          }
+      was_leaf was = record {
+        reached = was;
+        leaf = ap (λ (l : Lasting). l.leaf) (sym (lasts was)) ∙ is.leaf;
+        high = subst (λ (k : ℕ). (6 ≤ s) ⊎ IsKey k) (ap (λ (l : Lasting). l.key) (lasts was)) is.high;
+      }
 
-      longer : WasLinked L before s → WasLinked L (before ++ t ∷ []) s
-      longer l = record {
+      longer : Reached c.state.memory s → WasLinked L before s → WasLinked L (before ++ t ∷ []) s
+      longer was l = record {
         before = l.before;
         since = l.since ++ t ∷ [];
         worker = l.worker;
@@ -250,6 +273,7 @@ module _ (L : Layout) (fits : IsLayout L) where
         won = l.won;
         leaf = l.leaf;
         below = l.below;
+        born = l.born ∙ sym (ap (λ (z : Lasting). z.birth) (lasts was));
         free = free_longer L before t (length l.before + 1) s l.free (unheld s is.reached);
       }
 
@@ -294,6 +318,7 @@ module _ (L : Layout) (fits : IsLayout L) where
           won = won;
           leaf = by (new_or_leaf L fits c t has o s r held f);
           below = subst (λ (n : ℕ). t.0 < n) workers (link_allowed L fits c t has o s r held f).worker;
+          born = sym (ap (λ (m : Memory). (node_at m s).birth) memory_is ∙ put_birth c.state.memory f.parent f.side (to f.new) s);
           free = none_at_end L before t s (unheld s is.reached);
         }
           where
@@ -308,7 +333,7 @@ module _ (L : Layout) (fits : IsLayout L) where
       linked_then known = by (reached_or_put L fits c t has o s r)
         where
           by : Reached c.state.memory s ⊎ ((is_private (of c.state t.0) s ≡ true) × IsFoundLink c t) → WasLinked L (before ++ t ∷ []) s
-          by (inl was) = longer (known (was_leaf was))
+          by (inl was) = longer was (known (was_leaf was))
           by (inr (held, f)) = linked held f
 
   -- THE LAW
@@ -326,4 +351,8 @@ module _ (L : Layout) (fits : IsLayout L) where
   was_linked events keys s is = from_there [] events keys s nothing is
     where
       nothing : (x : ℕ) → IsUserLeaf (memory_after []) x → WasLinked L [] x
-      nothing x there = absurd (empty_first L (node (opening L) x).key there.is_key (record { slot = x; reached = there.reached; leaf = there.leaf; has_key = refl }))
+      nothing x there = by there.high
+        where
+          by : (6 ≤ x) ⊎ IsKey (node (opening L) x).key → WasLinked L [] x
+          by (inl high) = let low = fixed_path L there.reached.path in let ends = there.reached.ends in absurd (omega (arith, high, low, ends))
+          by (inr is_key) = absurd (empty_first L (node (opening L) x).key is_key (record { slot = x; reached = there.reached; leaf = there.leaf; has_key = refl }))

@@ -37,3 +37,10 @@ pub mod UncutLeaves
 pub mod PlainMaps
 pub mod MapsOfRuns
 pub mod ComingBack
+pub mod OnceBack
+pub mod UnderPins
+pub mod ReachedNodes
+pub mod LeavesInHands
+pub mod StoredLeaves
+pub mod OneStore
+pub mod HandedStores

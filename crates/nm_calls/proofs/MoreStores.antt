@@ -1,5 +1,6 @@
--- What the map has by some stores it has by more: no later store is of a leaf that is reached.
-use Rattle.std.proofs.Common.{◌≡◌, ℕ, ◌+◌, ◌<◌, ◌≤◌, true, List, [], ◌∷◌, ◌++◌, append_assoc, length, refl, sym, ap, subst, ◌∙◌, arith}
+-- What the map has by some stores it has by more: no later store is of a leaf that is reached. And the
+-- value of a leaf is the one that was stored for it right before its link.
+use Rattle.std.proofs.Common.{◌≡◌, ◌≢◌, ◌⊎◌, inl, inr, ℕ, ◌+◌, ◌<◌, ◌≤◌, true, List, [], ◌∷◌, ◌++◌, append_assoc, length, refl, sym, ap, subst, ◌∙◌, arith}
 use Rattle.std.specs.Prelude.{All, AllPairs, Contains, Ok}
 use Rattle.std.proofs.lemmas.List.{length-append}
 use Rattle.std.proofs.lemmas.List.Elements.{Contains-append_left}
@@ -7,18 +8,20 @@ use Rattle.nm_edge.specs.Edges.{other}
 use Rattle.nm_edge.specs.Keys.{IsKey}
 use Rattle.nm_edge.specs.Layouts.{Layout, IsLayout}
 use Rattle.nm_edge.specs.declared.edge.Side.{Side}
+use Rattle.nm_edge.specs.declared.node.NodeId.{NodeId}
 use Rattle.nm_model.specs.declared.event.Event.{Event}
 use Rattle.nm_model.specs.declared.event.Event.TheVariants.{Link}
-use Rattle.nm_model.specs.declared.reply.Reply.TheVariants.{Linked}
+use Rattle.nm_model.specs.declared.reply.Reply.TheVariants.{Cut, Linked}
 use Rattle.nm_model.specs.declared.trace.Turn.{Turn}
-use Rattle.nm_model.specs.Headline.{words_after}
-use Rattle.nm_model.specs.Memory.{Memory, child, is_leaf, node}
-use Rattle.nm_model.specs.Ordered.{HasKey, ordered, after_in, outcome_in, trace_in}
+use Rattle.nm_model.specs.Headline.{Headline, slots_of, words_after}
+use Rattle.nm_model.specs.Memory.{Memory, child, is_leaf, named, node}
+use Rattle.nm_model.specs.Ordered.{HasKey, ordered, after_in, trace_in}
 use Rattle.nm_model.specs.Paths.{Reached}
 use Rattle.nm_order.specs.Logs.{part_of}
 use Rattle.nm_order.proofs.RealTime.{begins_with}
 use Rattle.nm_order.proofs.RunExchanges.{first_keys}
 use Rattle.nm_order.proofs.WalksOfRuns.{trace_in-append}
+use Rattle.nm_theorem.proofs.HeadlineOfRuns.{each_run_has_it}
 use Rattle.nm_theorem.proofs.Runs.{Parts, parts_of}
 use Rattle.nm_theorem.proofs.WrittenWords.{run_words}
 use Rattle.nm_steps.specs.declared.view.Stored.{Stored}
@@ -26,11 +29,14 @@ use Rattle.nm_steps.specs.Rules.{ComesBefore, ExtendsStores, IsStored, WereHeld,
 use Rattle.nm_steps.proofs.LinkedValues.{NobodyHoldsUntil, entries, value_since_link}
 use Rattle.nm_steps.proofs.ValueStays.{value_before}
 use Rattle.nm_walks.proofs.Looks.{enough}
+use Rattle.nm_calls.specs.HandedBack.{WasCutWith}
 use Rattle.nm_calls.specs.KeptValues.{ValuesAreByAllStores}
+use Rattle.nm_calls.specs.OnceBack.{CutValuesWereStored, HasLinked, WasStoredFor}
 use Rattle.nm_calls.specs.Maps.{HoldsStores}
 use Rattle.nm_calls.proofs.KeptLeaves.{one_holds}
 use Rattle.nm_calls.proofs.KeptValues.{held_in_all, won_grows}
 use Rattle.nm_calls.proofs.LeafLinks.{IsUserLeaf, WasLinked, was_linked}
+use Rattle.nm_calls.proofs.ReachedNodes.{cut_outcome, in_named}
 use Rattle.nm_calls.proofs.LinkedLeaves.{far_is_other, far_was_child}
 use Rattle.nm_calls.proofs.WonLinks.{link}
 
@@ -45,9 +51,9 @@ module _ (L : Layout) (fits : IsLayout L) (events : List (ℕ × Event)) (keys :
   words = ap (words_after L) p.first_is ∙ run_words L fits true p.early
 
   -- a leaf that is reached then
-  module _ (s : ℕ) (reached : Reached (words_after L so_far) s) (leaf : is_leaf (node (words_after L so_far) s) ≡ true) (is_key : IsKey (node (words_after L so_far) s).key) where
+  module _ (s : ℕ) (reached : Reached (words_after L so_far) s) (leaf : is_leaf (node (words_after L so_far) s) ≡ true) (high : (6 ≤ s) ⊎ IsKey (node (words_after L so_far) s).key) where
     l : WasLinked L p.early s
-    l = was_linked L fits p.early early_keys s (subst (λ (m : Memory). IsUserLeaf m s) words (record { reached = reached; leaf = leaf; is_key = is_key }))
+    l = was_linked L fits p.early early_keys s (subst (λ (m : Memory). IsUserLeaf m s) words (record { reached = reached; leaf = leaf; high = high }))
 
     abbrev event : ℕ × Event
     event = (l.worker, Link l.parent l.side l.old l.new)
@@ -99,13 +105,19 @@ module _ (L : Layout) (fits : IsLayout L) (events : List (ℕ × Event)) (keys :
     child_is : child (words_after L (trace_in (ordered L) l.before)) l.new side_of_leaf ≡ (link L fits l.before before_keys l.worker l.parent l.side l.old l.new l.node l.won).drafts.far
     child_is = ap (λ (m : Memory). child m l.new side_of_leaf) words_before ∙ far_was_child L fits l.before before_keys l.worker l.parent l.side l.old l.new l.node l.won
 
+    leaf_child : child (words_after L (trace_in (ordered L) l.before)) l.new side_of_leaf ≡ s
+    leaf_child = child_is ∙ (sym (link L fits l.before before_keys l.worker l.parent l.side l.old l.new l.node l.won).drafts.is_far ∙ l.leaf)
+
+    leaf_beside : child (words_after L (trace_in (ordered L) l.before)) l.new side_of_leaf ≢ l.old
+    leaf_beside same = far_is_other L fits l.before before_keys l.worker l.parent l.side l.old l.new l.node l.won (sym child_is ∙ same)
+
     stored : (first : List Stored) → HoldsStores L so_far (trace_in (ordered L) events) first → IsStored first l.worker (entries L l.worker l.before) s
     stored first h =
         subst (IsStored first l.worker (entries L l.worker l.before))
-        (child_is ∙ (sym (link L fits l.before before_keys l.worker l.parent l.side l.old l.new l.node l.won).drafts.is_far ∙ l.leaf))
+        leaf_child
         (h.linked (trace_in (ordered L) l.before) (after_link ++ h.from.more) l.worker l.parent l.side side_of_leaf l.old l.new l.node
         (h.from.is ∙ (ap (λ (ts : List Turn). ts ++ h.from.more) so_far_is ∙ append_assoc (trace_in (ordered L) l.before) (turn ∷ after_link) h.from.more))
-        (λ same. far_is_other L fits l.before before_keys l.worker l.parent l.side l.old l.new l.node l.won (sym child_is ∙ same)))
+        leaf_beside)
 
     -- the value is the one of this store
     value_is : (stores : List Stored) → WereHeld L events stores → AllPairs ComesBefore stores → (at : IsStored stores l.worker (entries L l.worker l.before) s) → value_before (length so_far) stores s ≡ at.stored.value
@@ -126,11 +138,79 @@ module _ (L : Layout) (fits : IsLayout L) (events : List (ℕ × Event)) (keys :
           for_slot = at.for_slot;
         }
 
+-- ---- the value that a leaf had when it was cut off
+
+module _ (L : Layout) (fits : IsLayout L) (events : List (ℕ × Event)) (keys : All (λ t. HasKey t.1) events) (stores : List Stored) (n : NodeId) (v : ℕ) (b : WasCutWith L (trace_in (ordered L) events) stores n v) where
+  abbrev turns : List Turn
+  turns = trace_in (ordered L) events
+
+  h : Headline L turns
+  h = each_run_has_it L fits true events keys
+
+  -- the node is the one that was in its slot right before the cut
+  n_is : n ≡ named (words_after L b.before) n.slot
+  n_is = by (cut_outcome b.cut.outcome n b.cuts)
+    where
+      by : (ns : List NodeId) × (b.cut.outcome ≡ Ok (Cut ns)) × Contains ns n → n ≡ named (words_after L b.before) n.slot
+      by (ns, o, among) = in_named (words_after L b.before) (slots_of ns) n (subst (λ (ks : List NodeId). Contains ks n) ((h.cuts b.before b.since b.cut b.are).splices ns o).births among)
+
+  abbrev k : WasLinked L (p L fits events keys b.before (b.cut ∷ b.since) b.are).early n.slot
+  k = l L fits events keys b.before (b.cut ∷ b.since) b.are n.slot b.reached b.leaf (inl b.high)
+
+  at : IsStored b.first k.worker (entries L k.worker k.before) n.slot
+  at = stored L fits events keys b.before (b.cut ∷ b.since) b.are n.slot b.reached b.leaf (inl b.high) b.first b.stored
+
+  abbrev on : Side
+  on = side_of_leaf L fits events keys b.before (b.cut ∷ b.since) b.are n.slot b.reached b.leaf (inl b.high)
+
+  abbrev early : List Turn
+  early = trace_in (ordered L) k.before
+
+  child_slot : child (words_after L early) k.new on ≡ n.slot
+  child_slot = leaf_child L fits events keys b.before (b.cut ∷ b.since) b.are n.slot b.reached b.leaf (inl b.high)
+
+  born : (node (words_after L early) n.slot).birth ≡ (node (words_after L b.before) n.slot).birth
+  born =
+      ap (λ (m : Memory). (node m n.slot).birth) (words_before L fits events keys b.before (b.cut ∷ b.since) b.are n.slot b.reached b.leaf (inl b.high))
+      ∙ (k.born ∙ sym (ap (λ (m : Memory). (node m n.slot).birth) (words L fits events keys b.before (b.cut ∷ b.since) b.are)))
+
+  abbrev linked : (w : ℕ) → k.worker ≡ w → HasLinked L turns w n
+  linked w own = record {
+    before = early;
+    since = after_link L fits events keys b.before (b.cut ∷ b.since) b.are n.slot b.reached b.leaf (inl b.high) ++ b.cut ∷ b.since;
+    parent = k.parent;
+    side = k.side;
+    old = k.old;
+    new = k.new;
+    node = k.node;
+    are = b.are ∙ (ap (λ (ts : List Turn). ts ++ b.cut ∷ b.since) (so_far_is L fits events keys b.before (b.cut ∷ b.since) b.are n.slot b.reached b.leaf (inl b.high)) ∙ append_assoc early (answered_turn k.worker (Link k.parent k.side k.old k.new) (Linked k.node) ∷ after_link L fits events keys b.before (b.cut ∷ b.since) b.are n.slot b.reached b.leaf (inl b.high)) (b.cut ∷ b.since) ∙ ap (λ (u : ℕ). early ++ answered_turn u (Link k.parent k.side k.old k.new) (Linked k.node) ∷ (after_link L fits events keys b.before (b.cut ∷ b.since) b.are n.slot b.reached b.leaf (inl b.high) ++ b.cut ∷ b.since)) own);
+    on = on;
+    beside = leaf_beside L fits events keys b.before (b.cut ∷ b.since) b.are n.slot b.reached b.leaf (inl b.high);
+    is = n_is ∙ ((λ i. record { slot = n.slot; birth = sym born i }) ∙ ap (named (words_after L early)) (sym child_slot));
+  }
+
+  pub was_stored_for : WasStoredFor L turns stores n v
+  was_stored_for = record {
+    stored = at.stored;
+    there = subst (λ (st : List Stored). Contains st at.stored) (sym b.extends.is) (Contains-append_left b.first b.extends.more at.stored at.there);
+    of = record {
+      link = linked at.stored.worker (sym at.by_worker);
+      own = at.at_own ∙ ap (λ (w : ℕ). length (part_of w early)) (sym at.by_worker);
+      slot = at.for_slot;
+    };
+    is = sym (value_is L fits events keys b.before (b.cut ∷ b.since) b.are n.slot b.reached b.leaf (inl b.high) b.first (held_in_all L fits b.before events b.first b.stored) b.stored.order at) ∙ b.has_value;
+  }
+
+pub cut_values_were_stored : CutValuesWereStored
+cut_values_were_stored L fits events keys stores n v b = was_stored_for L fits events keys stores n v b
+
+-- ---- the law
+
 pub values_are_by_all_stores : ValuesAreByAllStores
 values_are_by_all_stores L fits events keys so_far rest are first stores h on from h' k v is_key i = record {
   slot = i.slot;
   reached = i.reached;
   leaf = i.leaf;
   has_key = i.has_key;
-  has_value = same_by_more L fits events keys so_far rest are i.slot i.reached i.leaf (subst IsKey (sym i.has_key) is_key) first stores h on from h' ∙ i.has_value;
+  has_value = same_by_more L fits events keys so_far rest are i.slot i.reached i.leaf (inr (subst IsKey (sym i.has_key) is_key)) first stores h on from h' ∙ i.has_value;
 }

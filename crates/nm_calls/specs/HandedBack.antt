@@ -1,5 +1,5 @@
 -- Values that come back once the leaf that had them is freed.
-use Rattle.std.specs.Prelude.{◌≡◌, ℕ, true, List, ◌∷◌, ◌++◌, length, Contains}
+use Rattle.std.specs.Prelude.{◌≡◌, ◌≤◌, ℕ, true, List, ◌∷◌, ◌++◌, length, Contains}
 use Rattle.nm_edge.specs.Layouts.{Layout}
 use Rattle.nm_edge.specs.declared.node.NodeId.{NodeId}
 use Rattle.nm_model.specs.declared.trace.Turn.{Turn}
@@ -10,15 +10,17 @@ use Rattle.nm_steps.specs.declared.view.Stored.{Stored}
 use Rattle.nm_steps.specs.Rules.{ExtendsStores}
 use Rattle.nm_calls.specs.Maps.{HoldsStores, value_at}
 
--- a turn cut the node off. Right before it a path from the root reached the node, which was a leaf,
--- and the map had the key of the leaf with the value v. It had it by the first of these stores,
--- which have the store of each leaf that was linked before the cut (`stored`)
+-- a turn cut the node off, which is none of the fixed ones. Right before it a path from the root
+-- reached the node, which was a leaf, and the map had the key of the leaf with the value v. It had it
+-- by the first of these stores, which have the store of each leaf that was linked before the cut
+-- (`stored`)
 pub record WasCutWith (L : Layout) (turns : List Turn) (stores : List Stored) (n : NodeId) (v : ℕ) : Type 0 where
   pub before : List Turn
   pub cut : Turn
   pub since : List Turn
   pub are : turns ≡ before ++ cut ∷ since
   pub cuts : Contains (nodes_cut_of cut.outcome) n
+  pub high : 6 ≤ n.slot
   pub reached : Reached (words_after L before) n.slot
   pub leaf : is_leaf (node (words_after L before) n.slot) ≡ true
   pub first : List Stored

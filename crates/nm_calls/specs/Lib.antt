@@ -16,3 +16,6 @@ pub mod KeptValues
 pub mod MapHistories
 pub mod HandedBack
 pub mod ComingBack
+pub mod OnceBack
+pub mod GotValues
+pub mod StoredLeaves

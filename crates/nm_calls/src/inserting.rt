@@ -24,7 +24,7 @@ ghost use Rattle.nm_calls.specs.Maps.{HasInserted, HasPut, HasReadFound, HasRead
 use crate::fault::CallFault;
 use crate::helping::{help, make_room, make_room_for};
 use crate::leaving::{answer, leave};
-use crate::values::value_of_slot;
+use crate::values::read_value;
 use nm_edge::{Key, Placement};
 use nm_epoch::{HeldQueue, pin_for};
 use nm_model::Op;
@@ -150,8 +150,8 @@ fn try_insert(
 }
 
 /// Gives both new nodes back to the pool, like `give_back`, and then writes the value of this leaf
-/// to `workspace.found`, or 0 in a table without values. A walk of the call must have ended at the
-/// leaf, with its key. The look at the value is in no log.
+/// to `workspace.found`, in a table with values. A walk of the call must have ended at the leaf, with
+/// its key. The look at the value is in no log.
 #[inline(always)]
 fn give_back_and_read(
     shared: &Shared,
@@ -173,7 +173,7 @@ fn give_back_and_read(
 {
     pass.know_run();
     give_back(shared, pass, &mut workspace.placement, new_nodes);
-    workspace.found = value_of_slot(shared, pass, leaf);
+    read_value(shared, pass, leaf, &mut workspace.found);
 }
 
 /// Makes the tries of an insert, from its pin to its answer. The room of the first one must have

@@ -1,7 +1,10 @@
 //! Laws of maps: a leaf keeps its value from its link to its cut, and the map is linearizable.
 ghost use Rattle.nm_calls.specs.ComingBack.{NodesAreFreedOnce, PinnedValuesStayOut};
+ghost use Rattle.nm_calls.specs.GotValues.{GotLeavesAreNotFreed, GotValuesStayOut, GuardedLeavesAreNotFreed, GuardedValuesStayOut};
 ghost use Rattle.nm_calls.specs.KeptValues.{LeavesKeepTheirValues, PutValuesStay, TakenValuesAreCut, ValuesAreByAllStores};
 ghost use Rattle.nm_calls.specs.MapHistories.{GetsAreOfTheMap, HistoriesAreOfMaps, ValuesWerePut};
+ghost use Rattle.nm_calls.specs.OnceBack.{CutValuesWereStored, ValuesComeBackOnce, ValuesComeBackAsStored};
+ghost use Rattle.nm_calls.specs.StoredLeaves.{LeavesHaveOneStore, StoredValuesAreAtOnePlace};
 
 /// Law: in every ordered run, a leaf that is in the map stays in it with its key and its value
 /// until a turn cuts it off.
@@ -52,6 +55,53 @@ pub fn nodes_are_freed_once()
 /// before the leaf that had the value is freed, if a later turn cuts it off.
 pub fn pinned_values_stay_out()
     ensures { PinnedValuesStayOut }
+{}
+
+/// Law: in all turns that have the headline, each stored value comes back at most once. One turn
+/// frees the leaf for which it was stored, and no other turn does.
+pub fn values_come_back_once()
+    ensures { ValuesComeBackOnce }
+{}
+
+/// Law: in every ordered run, the value that a leaf had when it was cut off is one that a worker
+/// stored for this leaf. So each value that comes back was stored, and comes back once.
+pub fn cut_values_were_stored()
+    ensures { CutValuesWereStored }
+{}
+
+/// Law: in every ordered run, the value that a leaf has right before its cut is the one that was
+/// stored for the leaf. So what a collection hands out for a leaf is what an insert has put there.
+pub fn values_come_back_as_stored()
+    ensures { ValuesComeBackAsStored }
+{}
+
+/// Law: in all turns that have the headline, a leaf has one store. So a free gives back one stored
+/// value.
+pub fn leaves_have_one_store()
+    ensures { LeavesHaveOneStore }
+{}
+
+/// Law: in all turns that have the headline, the leaf for which a value was stored is at exactly one
+/// place from its link on. It is on one path from the root, or it waits at one index of one worker's
+/// cuts, or it was freed once.
+pub fn stored_values_are_at_one_place()
+    ensures { StoredValuesAreAtOnePlace }
+{}
+
+/// Law: in all turns that have the headline, if a worker got a value under its pin and has not
+/// unpinned since, no turn has freed the leaf that had the value, whichever worker collects. So the
+/// value that was stored for this leaf has not come back.
+pub fn got_values_stay_out()
+    ensures leaves { GotLeavesAreNotFreed }
+    ensures values { GotValuesStayOut }
+{}
+
+/// Law: in all turns that have the headline, while a worker is pinned, no turn frees a leaf that the
+/// map had at a moment of this pin. It does not matter which worker got the value of the leaf, removed
+/// its key, or collects. So the value that was stored for this leaf has not come back.
+pub fn guarded_values_stay_out()
+    ensures leaves { GuardedLeavesAreNotFreed }
+    ensures values { GuardedValuesStayOut }
 {}
 
 /// Law: what the plain map of a history has under a key at a moment was put by an insert of the

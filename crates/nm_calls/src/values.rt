@@ -38,6 +38,7 @@ pub(crate) struct Leaf {
 ///   never happens.
 ///
 /// (The search of Natarajan and Mittal, section 3.2.)
+#[inline(always)]
 pub fn get(shared: &Shared, pass: &mut Pass, key: Key, tries: u32) -> Result<Option<u64>, CallFault>
     requires own { IsOf shared.now pass.old }
     requires values { HasValues shared.now }
@@ -64,6 +65,7 @@ pub fn get(shared: &Shared, pass: &mut Pass, key: Key, tries: u32) -> Result<Opt
 /// tree this never happens.
 ///
 /// (The search of Natarajan and Mittal, section 3.2.)
+#[inline(always)]
 pub fn get_pinned(shared: &Shared, pass: &mut Pass, key: Key) -> Result<Option<u64>, CallFault>
     requires pinned { IsPinnedIn shared.now pass.old }
     requires values { HasValues shared.now }
@@ -95,6 +97,28 @@ pub(crate) fn value_of_slot(shared: &Shared, pass: &mut Pass, slot: u32) -> u64
         shared.look_value(pass, slot)
     } else {
         0
+    }
+}
+
+/// Writes the value of a slot to `found`, and nothing in a table without values. The look is in no
+/// log.
+#[inline(always)]
+pub(crate) fn read_value(shared: &Shared, pass: &mut Pass, slot: u32, found: &mut u64)
+    requires own { IsOf shared.now pass.old }
+    requires run { IsInRun pass.old }
+    requires slot { IsSlot shared.now.layout slot }
+    ensures same { pass.new ≡ record pass.old {
+      view = record pass.old.view {
+        past = pass.new.view.past;
+        stores = pass.new.view.stores;
+      };
+    } }
+    ensures on { GoesOn pass.old pass.new }
+    ensures sees { HasValues shared.now → HasSeenStores pass.new.view
+        × (found.new ≡ value_of pass.new.view.stores slot) }
+{
+    if shared.has_values() {
+        *found = shared.look_value(pass, slot);
     }
 }
 

@@ -1,8 +1,9 @@
 -- What managed calls of a map leave, by what each part of them leaves.
-use Rattle.std.proofs.Common.{◌≡◌, ◌≤◌, inl, inr, ℕ, ◌+◌, ◌*◌, Bool, true, false, List, length, refl, ap, subst, ◌∙◌, arith}
+use Rattle.std.proofs.Common.{◌≡◌, ◌≢◌, ◌≤◌, inl, inr, ℕ, ◌+◌, ◌*◌, Bool, true, false, List, length, refl, sym, ap, subst, ◌∙◌, arith}
 use Rattle.std.specs.Prelude.{Option, Some, None, Result, Ok, Err, IfOk, IfErr}
 use Rattle.std.proofs.Math.Nat.{add-mul, mul-add, zero-mul, mul-le-mul_right}
 use Rattle.std.proofs.lemmas.List.{length-append}
+use Rattle.std.proofs.lemmas.Option.{none-some}
 use Rattle.nm_edge.specs.Layouts.{Layout}
 use Rattle.nm_model.specs.declared.event.Op.{Op}
 use Rattle.nm_model.specs.declared.event.Op.TheVariants.{Has, Insert, Delete}
@@ -200,6 +201,27 @@ module _ (b : TreeView) (h : Options) where
         stores = stores_through w.pass.view.stores x.pass.view.stores z.pass.view.stores first.stores more;
       }
 
+  -- one look-up that is not busy, or the only one
+  pub gets_at_once : (k : ℕ) (w z : WorkerView) (r : Result (Option ℕ) CallFault) → w.pending ≡ None → w.held ≡ None → (r ≡ Err fault.Busy → h.rounds ≡ 0) → GetsOnce b.layout h.tries k w z r → GetsIn b h k (h.rounds + 1) w z r
+  gets_at_once k w z r none free only once = looked_last k 0 (h.rounds + 1) w w z r (omega arith) (λ is. let no = only is in omega (arith, no)) (not_yet_looked w none free) once
+
+  -- n look-ups after one that was busy
+  pub gets_at_last : (k n : ℕ) (w x z : WorkerView) (r : Result (Option ℕ) CallFault) → GetsOnce b.layout h.tries k w x (Err fault.Busy) → GetsIn b h k n x z r → GetsIn b h k (1 + n) w z r
+  gets_at_last k n w x z r (first, seen) gets =
+      let a = gets.answers in
+      let steps = add-mul 1 n one in
+      record {
+        answers = record {
+          moment = gave_if w.pass x.pass z.pass k r first.on.past a.moment;
+          left = left_since Has k w x z r first.left a.left;
+          won = wins_after 0 0 w x z first.won a.won;
+          on = goes_more (one + n * one) ((1 + n) * one) w z (omega (arith, steps)) (goes_then w x z first.on a.on);
+          busy = λ is some. met_then Has 1 n w.pass x.pass z.pass (number_of_pass w.pass x.pass first.on.same) (first.busy refl some) (a.busy is some);
+          alone = λ mine is. a.alone (alone_later w.pass x.pass z.pass first.on.same first.on.past a.on.past mine) is;
+        };
+        stores = stores_through w.pass.view.stores x.pass.view.stores z.pass.view.stores seen gets.stores;
+      }
+
 -- ---- the three calls
 
 -- why a look-up failed alone
@@ -243,6 +265,59 @@ module _ (b : TreeView) (h : Options) (k : ℕ) (w y : WorkerView) (answer : Boo
 
   pub removes_then : (z : WorkerView) (r : Result Bool CallFault) → Removes b h k y z r → ManagesIn true b h Delete k w z r
   removes_then z r a = manages_in true b h Delete k (h.rounds + 1) (2 * h.rounds + 2) w y z r (omega arith) came (finishes_first b h (h.rounds + 1) w y answer f) a.answers (λ is. tt) a.alone
+
+-- ---- a look-up with nothing to do first
+
+get_had_none : (L : Layout) (t k : ℕ) (w z : WorkerView) (r : Result (Option ℕ) CallFault) → r ≢ Err fault.Pending → LeavesGet L t k w z r → w.pending ≡ None
+get_had_none L t k w z (Ok answer) other l = l.did.0.0
+get_had_none L t k w z (Err fault.Busy) other l = l.did.0.0
+get_had_none L t k w z (Err fault.Pending) other l = absurd (other refl)
+get_had_none L t k w z (Err fault.Full) other l = absurd l.did
+get_had_none L t k w z (Err fault.NoMemory) other l = absurd l.did
+get_had_none L t k w z (Err fault.Unfinished) other l = absurd l.did
+get_had_none L t k w z (Err fault.Pinned) other l = absurd l.did
+
+pub unless_pending : (f : CallFault) → f ≢ fault.Pending → ◌≢◌ {A = Result (Option ℕ) CallFault} (Err f) (Err fault.Pending)
+unless_pending f other is = other (let same = is in cc)
+
+-- a look-up that failed for another reason than an earlier remove was busy
+pub get_failed : (L : Layout) (t k : ℕ) (w z : WorkerView) (f : CallFault) → f ≢ fault.Pending → LeavesGet L t k w z (Err f) → (f ≡ fault.Busy) × (w.pending ≡ None) × (z.pending ≡ None)
+get_failed L t k w z fault.Busy other l = (refl, l.did.0.0, l.did.0.1)
+get_failed L t k w z fault.Pending other l = absurd (other refl)
+get_failed L t k w z fault.Full other l = absurd l.did
+get_failed L t k w z fault.NoMemory other l = absurd l.did
+get_failed L t k w z fault.Unfinished other l = absurd l.did
+get_failed L t k w z fault.Pinned other l = absurd l.did
+
+pub pending_gets : (L : Layout) (t k : ℕ) (w z : WorkerView) (f : CallFault) → f ≡ fault.Pending → LeavesGet L t k w z (Err f) → z ≡ w
+pending_gets L t k w z f is l = (subst (λ (g : CallFault). LeavesGet L t k w z (Err g)) is l).did.1
+
+pub gets_now : (b : TreeView) (h : Options) (k : ℕ) (w z : WorkerView) (r : Result (Option ℕ) CallFault) → w.held ≡ None → w.pending ≡ None → GetsIn b h k (h.rounds + 1) w z r → ManagesGet b h k w z r
+gets_now b h k w z r free none gets =
+    let a = gets.answers in
+    let round = round_bound h.tries b.layout in
+    let looks = look_bound h.tries b.layout in
+    let sum = mul-add (h.rounds + 1) round looks in
+    record {
+      answers = record {
+        moment = a.moment;
+        left = a.left;
+        won = a.won;
+        on = goes_more ((h.rounds + 1) * looks) ((h.rounds + 1) * (round + looks)) w z (omega (arith, sum)) a.on;
+        busy = a.busy;
+        alone = a.alone;
+      };
+      begins = λ other. (w.pass, record { after = seen_itself w.pass; earlier = λ u is o had. absurd (none-some u (sym none ∙ is)) }, a.moment);
+      stores = λ none'. gets.stores;
+      alone = λ mine. get_fails b h k ((h.rounds + 1) * looks) w z r a mine;
+      pending = λ mine is. none_there w.pending none (subst (IsLeft Has k w z) is a.left).0;
+    }
+
+-- a look-up that was answered, or the only one, which was busy
+pub got_at_once : (b : TreeView) (h : Options) (k : ℕ) (w z : WorkerView) (r : Result (Option ℕ) CallFault) → w.held ≡ None → r ≢ Err fault.Pending → (r ≡ Err fault.Busy → h.rounds ≡ 0) → LeavesGet b.layout h.tries k w z r → ManagesGet b h k w z r
+got_at_once b h k w z r free other only l =
+    let none = get_had_none b.layout h.tries k w z r other l in
+    gets_now b h k w z r free none (gets_at_once b h k w z r none free only (gets_once b.layout h.tries k w z r free none (inr (free, l))))
 
 -- if the remove of an earlier call is not finished, nothing is looked up
 pub pending_get : (b : TreeView) (h : Options) (k : ℕ) (w z : WorkerView) → FinishesIn b h (h.rounds + 1) w z (Err fault.Unfinished) → ManagesGet b h k w z (Err fault.Pending)

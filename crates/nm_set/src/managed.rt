@@ -53,7 +53,7 @@ pub(crate) fn is_busy(told: &Result<bool, CallFault>) -> bool
 }
 
 /// Returns whether the remove of an earlier call is pending, so that nothing was done.
-fn is_pending(fault: CallFault) -> bool
+pub(crate) fn is_pending(fault: CallFault) -> bool
     ensures yes { result ≡ true → fault ≡ call.Pending }
     ensures no { result ≡ false → fault ≢ call.Pending }
 {
@@ -114,7 +114,7 @@ fn with_fullness(
 }
 
 /// Returns the options with one round less.
-fn without_one(options: &Options) -> Options
+pub(crate) fn without_one(options: &Options) -> Options
     requires { 1 ≤ options.now.rounds }
     ensures { result ≡ record options.now { rounds = options.now.rounds - 1 } }
 {

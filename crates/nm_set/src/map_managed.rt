@@ -6,10 +6,13 @@ ghost use Rattle.nm_steps.specs.Values.{HasValues};
 ghost use Rattle.nm_calls.specs.Maps.{HasPut, MapGave};
 ghost use Rattle.nm_calls.specs.declared.fault.CallFault.TheVariants as fault;
 ghost use Rattle.nm_tree.specs.Answers.{IfTaken};
+ghost use Rattle.nm_tree.specs.Calls.{LeavesGet};
+ghost use Rattle.nm_tree.specs.Workers.{WorkerView};
+ghost use Rattle.nm_set.specs.Asked.{Asked};
 ghost use Rattle.nm_set.specs.MapRounds.{GetsIn};
-ghost use Rattle.nm_set.specs.Maps.{LeavesReclaim, SaysChange, SaysGet, TookMeanwhile};
+ghost use Rattle.nm_set.specs.Maps.{LeavesReclaim, ManagesGet, SaysChange, SaysGet, TookMeanwhile};
 
-use crate::managed::{Options, behind_of, is_unfinished};
+use crate::managed::{Options, behind_of, is_pending, is_unfinished, without_one};
 use crate::map_member::MapMember;
 use crate::member::Member;
 use nm_edge::Key;
@@ -149,16 +152,64 @@ impl Member {
         if self.pinned().is_some() {
             return Err(CallFault::Pinned);
         }
+        match self
+            .home
+            .tree()
+            .get(&mut self.sealed.worker, key, options.tries)
+        {
+            Ok(found) => Ok(found),
+            Err(fault) => self.get_after(key, options, fault),
+        }
+    }
+
+    /// Goes on after a look-up that failed with this error. If the remove of an earlier call is
+    /// pending, it finishes that one, and then looks up. It makes what the cold calls keep in memory,
+    /// apart from the code of a look-up that is answered at once.
+    #[inline(always)]
+    fn get_after(
+        &mut self,
+        key: Key,
+        options: &Options,
+        fault: CallFault,
+    ) -> Result<Option<u64>, CallFault>
+        requires values { HasValues self.old.tree }
+        requires begun { (w : WorkerView) × LeavesGet self.old.tree.layout options.now.tries key w
+            self.old.worker (Err fault) }
+        ensures tree { self.new.tree ≡ self.old.tree }
+        ensures says { (w : WorkerView) → w.held ≡ None
+            → LeavesGet self.old.tree.layout options.now.tries key w self.old.worker (Err fault)
+            → ManagesGet self.old.tree options.now key w self.new.worker result }
+    {
+        if is_pending(fault) {
+            return self.finish_and_get(key, options);
+        }
+        if options.rounds == 0 {
+            return Err(fault);
+        }
+        self.get_again(key, &without_one(options))
+    }
+
+    /// Finishes the remove of an earlier call, and then looks up.
+    #[cold]
+    #[inline(never)]
+    fn finish_and_get(&mut self, key: Key, options: &Options) -> Result<Option<u64>, CallFault>
+        requires values { HasValues self.old.tree }
+        requires free { self.old.worker.held ≡ None }
+        ensures tree { self.new.tree ≡ self.old.tree }
+        ensures says { ManagesGet self.old.tree options.now key self.old.worker self.new.worker
+            result }
+    {
         let Ok(_done) = self.finish_with_retries(options) else {
             return Err(CallFault::Pending);
         };
-        self.get_with_retries(key, options)
+        self.get_again(key, options)
     }
 
     /// Looks up the value until a look-up does not lose each of its tries: at most `rounds` and one
     /// times.
-    #[inline(always)]
-    fn get_with_retries(&mut self, key: Key, options: &Options) -> Result<Option<u64>, CallFault>
+    #[cold]
+    #[inline(never)]
+    fn get_again(&mut self, key: Key, options: &Options) -> Result<Option<u64>, CallFault>
         requires values { HasValues self.old.tree }
         requires free { self.old.worker.held ≡ None }
         requires none { self.old.worker.pending ≡ None }
@@ -167,12 +218,24 @@ impl Member {
             self.old.worker self.new.worker result }
     {
         for _round in 0..options.rounds {
-            let told = self.try_get_value(key, options.tries);
+            let told = self.get_apart(key, options.tries);
             if !is_busy(&told) {
                 return told;
             }
         }
-        self.try_get_value(key, options.tries)
+        self.get_apart(key, options.tries)
+    }
+
+    /// Makes one look-up of the value, apart from the code of the first one.
+    #[cold]
+    #[inline(never)]
+    fn get_apart(&mut self, key: Key, tries: u32) -> Result<Option<u64>, CallFault>
+        requires values { HasValues self.old.tree }
+        ensures tree { self.new.tree ≡ self.old.tree }
+        ensures says { Asked (LeavesGet self.old.tree.layout tries key) self.old.worker
+            self.new.worker result }
+    {
+        self.try_get_value(key, tries)
     }
 
     /// Does `MapMember::insert`.

@@ -59,6 +59,7 @@ pub struct Onward {
 
 /// Reads the key of a known node and both of its edges, and only then compares the keys, so that no
 /// read waits for the comparison. Cost: three looks.
+#[inline(always)]
 pub fn read_node(shared: &Shared, layout: Layout, pass: &mut Pass, slot: u32, key: u64) -> Onward
     requires layout { layout ≡ shared.now.layout }
     requires pinned { IsPinnedIn shared.now pass.old }

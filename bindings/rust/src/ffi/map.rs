@@ -677,16 +677,10 @@ impl<V> Drop for Pinned<'_, '_, V> {
 
 #[cfg(test)]
 mod tests {
+    use super::super::forking;
     use crate::{Fault, InsertError, Map};
-    use std::ffi::c_int;
     use std::sync::atomic::{AtomicU64, Ordering::SeqCst};
     use std::sync::Arc;
-
-    extern "C" {
-        fn fork() -> c_int;
-        fn waitpid(child: c_int, status: *mut c_int, options: c_int) -> c_int;
-        fn _exit(status: c_int) -> !;
-    }
 
     /// A value that counts its drop.
     struct Counted(Arc<AtomicU64>);
@@ -708,7 +702,7 @@ mod tests {
         assert_eq!(worker.remove(3), Ok(true));
         let guard = reader.pin().unwrap();
         // SAFETY: the child only makes calls that are refused, and ends.
-        let child = unsafe { fork() };
+        let child = unsafe { forking::child() };
         if child == 0 {
             let error = worker
                 .insert(20, Counted(Arc::clone(&dropped)))
@@ -728,13 +722,9 @@ mod tests {
             drop(reader);
             drop(map);
             is_right &= dropped.load(SeqCst) == 0;
-            // SAFETY: the child has nothing left to do.
-            unsafe { _exit(c_int::from(!is_right)) }
+            forking::end(is_right);
         }
-        let mut status = -1;
-        // SAFETY: the place is borrowed for this call.
-        assert_eq!(unsafe { waitpid(child, &mut status, 0) }, child);
-        assert_eq!(status, 0);
+        forking::must_be_right(child);
         assert!(guard.get(5).unwrap().is_some());
         drop(guard);
         assert_eq!((worker.remove(5), map.len()), (Ok(true), Ok(8)));

@@ -1,30 +1,38 @@
-use Rattle.std.proofs.Common.{rules, ◌≡◌, ◌+◌, inr, subst}
-use Rattle.std.specs.Prelude.{None, Err}
-use Rattle.nm_calls.specs.declared.fault.CallFault.{CallFault}
+use Rattle.std.proofs.Common.{rules, ◌≡◌, inr, subst, ℕ}
+use Rattle.std.specs.Prelude.{Option, Result, Ok, Err, None}
 use Rattle.nm_steps.specs.Steps.{TreeView}
-use Rattle.nm_set.specs.MapRounds.{GetsIn}
-use Rattle.nm_set.specs.Rounds.{FinishesIn}
-use Rattle.nm_set.proofs.Managing.{finish_err}
-use Rattle.nm_set.proofs.MapManaging.{gets_then, pending_get}
+use Rattle.nm_tree.specs.Calls.{LeavesGet}
+use Rattle.nm_tree.specs.Workers.{WorkerView}
+use Rattle.nm_set.specs.Maps.{ManagesGet}
+use Rattle.nm_set.specs.Seats.{MemberView}
+use Rattle.nm_set.proofs.Inside.{of_member}
+use Rattle.nm_set.proofs.MapManaging.{got_at_once}
 use Rattle.nm_set.proofs.member.Member.get_managed.Goals as goal
 
-pub returns-in_default-clause-says : goal.returns-in_default-clause-says
-returns-in_default-clause-says c =
-    let b = c.args.self.now.tree in
-    let h = c.args.options.now in
-    let w = c.args.self.now.worker in
-    let z = c.finish_with_retries.new.self.worker in
-    let free : w.held ≡ None = search rules in
-    let f = c.in_default.ensures.says in
-    inr (free, pending_get b h c.args.key w z (subst (λ (g : CallFault). FinishesIn b h (h.rounds + 1) w z (Err g)) (finish_err b h (h.rounds + 1) w z c.in_default.field-0 f) f))
+pub get_after-requires-clause-begun : goal.get_after-requires-clause-begun
+get_after-requires-clause-begun c = (c.self.inside.sealed.worker, subst (λ (b : TreeView). LeavesGet b.layout c.args.options.now.tries c.args.key c.self.inside.sealed.worker c.get.new.worker (Err c.in-Err.fault)) c.tree.ensures c.in-Err.ensures)
 
-pub returns-clause-says : goal.returns-clause-says
-returns-clause-says c =
+pub returns-in-Ok-clause-says : goal.returns-in-Ok-clause-says
+returns-in-Ok-clause-says c =
     let b = c.args.self.now.tree in
     let h = c.args.options.now in
+    let k = c.args.key in
     let w = c.args.self.now.worker in
-    let y = c.finish_with_retries.new.self.worker in
-    let z = c.get_with_retries.new.self.worker in
-    let r = c.get_with_retries.result in
+    let z = c.get.new.worker in
+    let r : Result (Option ℕ) _ = Ok c.in-Ok.found in
     let free : w.held ≡ None = search rules in
-    inr (free, gets_then b h c.args.key w y c.in-Ok._done c.in-Ok.ensures.says z r (subst (λ (d : TreeView). GetsIn d h c.args.key (h.rounds + 1) y z r) c.finish_with_retries.ensures.tree c.get_with_retries.ensures.says))
+    let l = of_member (λ d v. LeavesGet d.layout h.tries k v z r) _ _ _ c.self.view_is c.tree.ensures c.in-Ok.ensures in
+    inr (free, got_at_once b h k w z r free (λ is. let no = is in cc) (λ is. absurd (let no = is in cc)) l)
+
+pub returns-in-Err-clause-says : goal.returns-in-Err-clause-says
+returns-in-Err-clause-says c =
+    let b = c.args.self.now.tree in
+    let h = c.args.options.now in
+    let k = c.args.key in
+    let w = c.args.self.now.worker in
+    let m = c.get.new.worker in
+    let z = c.get_after.new.self.worker in
+    let free : w.held ≡ None = search rules in
+    let l = of_member (λ d v. LeavesGet d.layout h.tries k v m (Err c.in-Err.fault)) _ _ _ c.self.view_is c.tree.ensures c.in-Err.ensures in
+    let P : MemberView → Type 0 = λ s. (v : WorkerView) → v.held ≡ None → LeavesGet s.tree.layout h.tries k v m (Err c.in-Err.fault) → ManagesGet s.tree h k v z c.get_after.result in
+    inr (free, subst P c.self.view_is c.get_after.ensures.says w free l)

@@ -1,6 +1,6 @@
 use Rattle.std.proofs.Common.{◌≡◌}
 use Rattle.nm_set.specs.MapRounds.{LooksWereBusy}
-use Rattle.nm_set.proofs.member.Member.get_with_retries.Given as goal
+use Rattle.nm_set.proofs.member.Member.get_again.Given as goal
 
 abbrev pub invariant-loop-round : goal.invariant-loop-round
 invariant-loop-round l = record {
